@@ -1,0 +1,11 @@
+pub mod ByteLemmas
+pub mod PartLemmas
+pub mod RankLemmas
+pub mod ContentLemmas
+pub mod FrontLemmas
+pub mod PutLemmas
+pub mod FrontSizes
+pub mod StepLemmas
+pub mod MergeLemmas
+pub mod PartsOfContents
+pub mod NumberKeys

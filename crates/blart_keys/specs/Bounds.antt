@@ -1,0 +1,34 @@
+-- Bounds on byte lists.
+use Rattle.std.specs.Prelude.{ℕ, Bool, true, not, List}
+use Rattle.std.specs.declared.ops.Bound.{Bound}
+use Rattle.std.specs.declared.ops.Bound.TheVariants.{Included, Excluded, Unbounded}
+use denote.Ref.{Bor}
+use Rattle.blart_keys.specs.Bytes.{less}
+
+-- b is within a start bound
+abbrev pub is_from_start : Bound (List ℕ) → List ℕ → Bool
+is_from_start (Included lo) b = not (less b lo)
+is_from_start (Excluded lo) b = less lo b
+is_from_start Unbounded b = true
+
+-- b is within an end bound
+abbrev pub is_up_to_end : Bound (List ℕ) → List ℕ → Bool
+is_up_to_end (Included hi) b = not (less hi b)
+is_up_to_end (Excluded hi) b = less b hi
+is_up_to_end Unbounded b = true
+
+-- not (both bounded and the start greater than the end), and not (both excluded and equal)
+abbrev pub in_order : Bound (List ℕ) → Bound (List ℕ) → Bool
+in_order (Included lo) (Included hi) = not (less hi lo)
+in_order (Included lo) (Excluded hi) = not (less hi lo)
+in_order (Included lo) Unbounded = true
+in_order (Excluded lo) (Included hi) = not (less hi lo)
+in_order (Excluded lo) (Excluded hi) = less lo hi
+in_order (Excluded lo) Unbounded = true
+in_order Unbounded hi = true
+
+-- the bytes of the query of a bound
+abbrev pub bound_bytes : {Q : Type 0} → (Q → List ℕ) → Bound (Bor Q) → Bound (List ℕ)
+bound_bytes bytes (Included q) = Included (bytes q.now)
+bound_bytes bytes (Excluded q) = Excluded (bytes q.now)
+bound_bytes bytes Unbounded = Unbounded

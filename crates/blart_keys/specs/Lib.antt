@@ -1,0 +1,11 @@
+pub mod Bytes
+pub mod Bounds
+pub mod Content
+pub mod Fronts
+pub mod Merges
+pub mod Walks
+pub mod Entries
+pub mod Bulk
+pub mod Steps
+pub mod Keys
+pub mod KeyLaws
