@@ -1,0 +1,5 @@
+//! The program layer.
+#![tactic(auto)]
+
+mod bytes;
+mod map;
