@@ -49,7 +49,7 @@ impl<const N: usize> AsBytes for [u8; N] {
     ghost IsValue = { λ x. record { len : length x ≡ N; small : AreBytes x } };
 
     fn as_bytes(&self) -> &[u8] {
-        self
+        &self[..]
     }
 
     fn value_law(&self) {
@@ -93,11 +93,11 @@ impl AsBytes for Vec<u8> {
     ghost IsValue = { λ v. AreBytes v.items };
 
     fn as_bytes(&self) -> &[u8] {
-        self.as_slice()
+        Vec::as_slice(self)
     }
 
     fn value_law(&self) {
-        let _value = self.as_slice();
+        let _value = same_bytes(self);
     }
 }
 
@@ -113,11 +113,11 @@ impl AsBytes for BoxedSlice<u8> {
     ghost IsValue = { λ b. AreBytes (boxed_slice_items b) };
 
     fn as_bytes(&self) -> &[u8] {
-        self.as_slice()
+        BoxedSlice::as_slice(self)
     }
 
     fn value_law(&self) {
-        let _value = same_bytes(self.as_slice());
+        let _value = same_bytes(self);
     }
 }
 
