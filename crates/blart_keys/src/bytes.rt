@@ -7,9 +7,8 @@ ghost use Rattle.std.proofs.lemmas.Slice.Eq.{bytes_eq-Decides};
 ghost use Rattle.blart_keys.specs.Keys.{AreBytes};
 ghost use Rattle.blart_keys.specs.KeyLaws.{begins_same_length, one_byte_cmp, one_byte_eq};
 
-use std::boxed::BoxedSlice;
-
 use crate::traits::{AsBytes, NoPrefixesBytes, OrderedBytes};
+use std::boxed::BoxedSlice;
 
 /// The bytes as they are, of which each is known to be one.
 pub(crate) fn same_bytes(bytes: &[u8]) -> &[u8]
@@ -96,9 +95,7 @@ impl AsBytes for Vec<u8> {
         Vec::as_slice(self)
     }
 
-    fn value_law(&self) {
-        let _value = same_bytes(self);
-    }
+    fn value_law(&self) {}
 }
 
 impl OrderedBytes for Vec<u8> {

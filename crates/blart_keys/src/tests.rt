@@ -3,6 +3,7 @@
 ghost use Rattle.std.specs.Prelude.{◌≡◌, ◌↔◌, IsTrue, IfOk};
 ghost use Rattle.std.specs.Ordering.{nat_cmp, int_cmp};
 
+use super::*;
 use std::alloc::{AllocError, Global};
 use std::boxed::BoxedSlice;
 use std::cmp::Ordering;
@@ -10,8 +11,6 @@ use std::fmt::Debug;
 use std::hash::{DefaultHasher, Hash, Hasher};
 use std::process::Abort;
 use std::test::Fail;
-
-use super::*;
 
 /// The bytes of a key, through the bound.
 fn bytes_of<K: AsBytes>(key: &K) -> &[u8]
@@ -102,7 +101,11 @@ fn assert_ordered<K: OrderedBytes + Debug>(rt: &impl Abort, low: &K, high: &K) {
 }
 
 /// Two such keys that stand for numbers, or end in a zero.
-fn assert_apart<K: OrderedBytes + NoPrefixesBytes + Debug + Hash>(rt: &impl Abort, low: &K, high: &K) {
+fn assert_apart<K: OrderedBytes + NoPrefixesBytes + Debug + Hash>(
+    rt: &impl Abort,
+    low: &K,
+    high: &K,
+) {
     assert_ordered(rt, low, high);
     assert!(rt; begins(low, low) && !begins(low, high) && !begins(high, low));
     assert_eq!(rt; hash_of(low), hash_of(low));
@@ -112,14 +115,21 @@ fn assert_apart<K: OrderedBytes + NoPrefixesBytes + Debug + Hash>(rt: &impl Abor
 #[test]
 fn number_keys_are_big_endian(rt: HostRuntime) {
     assert_eq!(rt; bytes_of(&U32Key::new(258)), [0, 0, 1, 2].as_slice());
-    assert_eq!(rt; bytes_of(&U64Key::new(1)), [0, 0, 0, 0, 0, 0, 0, 1].as_slice());
+    assert_eq!(rt;
+        bytes_of(&U64Key::new(1)),
+        [0, 0, 0, 0, 0, 0, 0, 1].as_slice()
+    );
     for (number, bytes) in [
         (0, [0x80, 0, 0, 0]),
         (-1, [0x7f, 0xff, 0xff, 0xff]),
         (i32::MIN, [0, 0, 0, 0]),
         (i32::MAX, [0xff, 0xff, 0xff, 0xff]),
     ] {
-        assert_eq!(rt; bytes_of(&I32Key::new(number)), bytes.as_slice(), "at {number}");
+        assert_eq!(rt;
+            bytes_of(&I32Key::new(number)),
+            bytes.as_slice(),
+            "at {number}"
+        );
         assert_eq!(rt; through_i32_key(number), number);
     }
     assert_eq!(rt; through_u32_key(258), 258);
@@ -140,7 +150,10 @@ fn number_keys_compare_as_numbers(rt: HostRuntime) -> Result<(), Fail> {
     assert_eq!(rt; U32Key::new(7).clone()?.get(), 7);
     assert_eq!(rt; U64Key::new(7).clone()?.get(), 7);
     let text = format!(in rt.alloc(); "{:?} {:?} {:?}", U32Key::new(258), U64Key::new(1), key)?;
-    assert_eq!(rt; text.as_str(), "U32Key { bytes: [0, 0, 1, 2] } U64Key { bytes: [0, 0, 0, 0, 0, 0, 0, 1] } I32Key { bytes: [128, 0, 0, 7] }");
+    assert_eq!(rt;
+        text.as_str(),
+        "U32Key { bytes: [0, 0, 1, 2] } U64Key { bytes: [0, 0, 0, 0, 0, 0, 0, 1] } I32Key { bytes: [128, 0, 0, 7] }"
+    );
     Ok(())
 }
 
@@ -155,9 +168,15 @@ fn zkeys_end_in_a_zero(rt: HostRuntime) -> Result<(), Fail> {
         assert!(rt; through_zkey(alloc, bytes)?);
     }
     for bytes in [[1, 0, 2], [0, 1, 2], [1, 2, 0]] {
-        assert_eq!(rt; ZKey::from_bytes(alloc, &bytes).err(), Some(ZKeyError::InnerZero));
+        assert_eq!(rt;
+            ZKey::from_bytes(alloc, &bytes).err(),
+            Some(ZKeyError::InnerZero)
+        );
     }
-    let (low, high) = (ZKey::from_bytes(alloc, b"ab")?, ZKey::from_bytes(alloc, b"abc")?);
+    let (low, high) = (
+        ZKey::from_bytes(alloc, b"ab")?,
+        ZKey::from_bytes(alloc, b"abc")?,
+    );
     assert_apart(&rt, &low, &high);
     let text = format!(in alloc; "{low:?}")?;
     assert_eq!(rt; text.as_str(), "ZKey { bytes: [97, 98, 0] }");
@@ -169,11 +188,23 @@ fn errors_have_texts(rt: HostRuntime) -> Result<(), Fail> {
     let alloc = rt.alloc();
     let zkey = format!(in alloc; "{}, {}", ZKeyError::InnerZero, ZKeyError::Memory)?;
     assert_eq!(rt; zkey.as_str(), "zero byte in key, out of memory");
-    let shown = format!(in alloc; "{:?} {:?}", ZKeyError::InnerZero.clone()?, ZKeyError::Memory)?;
+    let shown = format!(in alloc;
+        "{:?} {:?}",
+        ZKeyError::InnerZero.clone()?,
+        ZKeyError::Memory
+    )?;
     assert_eq!(rt; shown.as_str(), "InnerZero Memory");
     let conflict = TryInsertError::Prefix(InsertPrefixError);
-    let insert = format!(in alloc; "{}, {}, {}", InsertPrefixError, conflict, TryInsertError::Memory(AllocError))?;
-    assert_eq!(rt; insert.as_str(), "key conflicts, key conflicts, out of memory");
+    let insert = format!(in alloc;
+        "{}, {}, {}",
+        InsertPrefixError,
+        conflict,
+        TryInsertError::Memory(AllocError)
+    )?;
+    assert_eq!(rt;
+        insert.as_str(),
+        "key conflicts, key conflicts, out of memory"
+    );
     Ok(())
 }
 
@@ -187,10 +218,16 @@ fn other_keys_are_their_bytes(rt: HostRuntime) -> Result<(), Fail> {
     let (low, high): (&[u8], &[u8]) = (b"ab", b"abc");
     assert_eq!(rt; bytes_of(&low), b"ab".as_slice());
     assert_ordered(&rt, &low, &high);
-    let (low, high) = (Vec::from_slice(alloc, b"ab")?, Vec::from_slice(alloc, b"abc")?);
+    let (low, high) = (
+        Vec::from_slice(alloc, b"ab")?,
+        Vec::from_slice(alloc, b"abc")?,
+    );
     assert_eq!(rt; bytes_of(&low), b"ab".as_slice());
     assert_ordered(&rt, &low, &high);
-    let (low, high) = (BoxedSlice::from_slice(alloc, b"ab")?, BoxedSlice::from_slice(alloc, b"abc")?);
+    let (low, high) = (
+        BoxedSlice::from_slice(alloc, b"ab")?,
+        BoxedSlice::from_slice(alloc, b"abc")?,
+    );
     assert_eq!(rt; bytes_of(&low), b"ab".as_slice());
     assert_ordered(&rt, &low, &high);
     assert_eq!(rt; bytes_of(&"ab"), b"ab".as_slice());
@@ -207,9 +244,15 @@ fn references_are_keys(rt: HostRuntime) -> Result<(), Fail> {
     assert_apart(&rt, &&7u8, &&8u8);
     assert_apart(&rt, &&[1u8, 2], &&[1, 3]);
     assert_apart(&rt, &&U32Key::new(255), &&U32Key::new(256));
-    let (low, high) = (ZKey::from_bytes(alloc, b"ab")?, ZKey::from_bytes(alloc, b"abc")?);
+    let (low, high) = (
+        ZKey::from_bytes(alloc, b"ab")?,
+        ZKey::from_bytes(alloc, b"abc")?,
+    );
     assert_apart(&rt, &&low, &&high);
-    let (low, high) = (Vec::from_slice(alloc, b"ab")?, Vec::from_slice(alloc, b"abc")?);
+    let (low, high) = (
+        Vec::from_slice(alloc, b"ab")?,
+        Vec::from_slice(alloc, b"abc")?,
+    );
     assert_ordered(&rt, &&low, &&high);
     let (low, high) = ("ab".to_string(alloc)?, "abc".to_string(alloc)?);
     assert_ordered(&rt, &&low, &&high);

@@ -5,10 +5,9 @@ ghost use Rattle.std.proofs.lemmas.Slice.Eq.{bytes_eq-Decides};
 ghost use Rattle.blart_keys.specs.Keys.{AreBytes, EndsInZero};
 ghost use Rattle.blart_keys.specs.KeyLaws.{zero_no_fronts};
 
+use crate::traits::{AsBytes, NoPrefixesBytes, OrderedBytes};
 use std::alloc::Global;
 use thiserror::Error;
-
-use crate::traits::{AsBytes, NoPrefixesBytes, OrderedBytes};
 
 /// Why bytes make no [`ZKey`].
 #[derive(Debug, Clone, Copy, PartialEq, Eq, Error)]

@@ -8,9 +8,8 @@ ghost use Rattle.blart_keys.specs.Keys.{AreBytesOf, flipped, unflipped};
 ghost use Rattle.blart_keys.specs.KeyLaws.{begins_same_length};
 ghost use Rattle.blart_keys.specs.NumberLaws.{flipped_back};
 
-use std::marker::Model;
-
 use crate::traits::{AsBytes, NoPrefixesBytes, OrderedBytes};
+use std::marker::Model;
 
 /// The top bit of 32.
 const TOP_BIT: u32 = 1 << 31;
@@ -38,6 +37,12 @@ impl Model for I32Key {
 
 impl I32Key {
     /// The key of a number.
+    ///
+    /// ```
+    /// let key = I32Key::new(-1);
+    /// assert_eq!(rt; key.as_bytes(), [0x7f, 0xff, 0xff, 0xff].as_slice());
+    /// assert_eq!(rt; key.get(), -1);
+    /// ```
     pub fn new(number: i32) -> Self
         ensures number { result ≡ number }
         ensures bytes { ⟦<I32Key as AsBytes>⟧.bytes result ≡ to_be_bytes w32 (flipped number) }

@@ -8,9 +8,8 @@ ghost use Rattle.blart_keys.specs.Keys.{AreBytesOf};
 ghost use Rattle.blart_keys.specs.KeyLaws.{begins_same_length};
 ghost use Rattle.blart_keys.specs.NumberLaws.{be_back_4};
 
-use std::marker::Model;
-
 use crate::traits::{AsBytes, NoPrefixesBytes, OrderedBytes};
+use std::marker::Model;
 
 /// An unsigned number of 32 bits by its four big-endian bytes.
 ///
@@ -34,6 +33,12 @@ impl Model for U32Key {
 
 impl U32Key {
     /// The key of a number.
+    ///
+    /// ```
+    /// let key = U32Key::new(258);
+    /// assert_eq!(rt; key.as_bytes(), [0, 0, 1, 2].as_slice());
+    /// assert_eq!(rt; key.get(), 258);
+    /// ```
     pub fn new(number: u32) -> Self
         ensures number { result ≡ number }
         ensures bytes { ⟦<U32Key as AsBytes>⟧.bytes result ≡ to_be_bytes w32 number }

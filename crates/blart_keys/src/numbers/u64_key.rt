@@ -8,9 +8,8 @@ ghost use Rattle.blart_keys.specs.Keys.{AreBytesOf};
 ghost use Rattle.blart_keys.specs.KeyLaws.{begins_same_length};
 ghost use Rattle.blart_keys.specs.NumberLaws.{be_back_8};
 
-use std::marker::Model;
-
 use crate::traits::{AsBytes, NoPrefixesBytes, OrderedBytes};
+use std::marker::Model;
 
 /// An unsigned number of 64 bits by its eight big-endian bytes.
 ///
@@ -34,6 +33,12 @@ impl Model for U64Key {
 
 impl U64Key {
     /// The key of a number.
+    ///
+    /// ```
+    /// let key = U64Key::new(1);
+    /// assert_eq!(rt; key.as_bytes(), [0, 0, 0, 0, 0, 0, 0, 1].as_slice());
+    /// assert_eq!(rt; key.get(), 1);
+    /// ```
     pub fn new(number: u64) -> Self
         ensures number { result ≡ number }
         ensures bytes { ⟦<U64Key as AsBytes>⟧.bytes result ≡ to_be_bytes w64 number }
