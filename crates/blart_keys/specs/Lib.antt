@@ -9,3 +9,4 @@ pub mod Bulk
 pub mod Steps
 pub mod Keys
 pub mod KeyLaws
+pub mod NumberLaws

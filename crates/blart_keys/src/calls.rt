@@ -22,25 +22,42 @@ pub enum TryInsertError {
 /// One call of a map, with its arguments.
 #[derive(Drop)]
 pub enum Call<K, V> {
+    /// Put the pair in place of the one with its bytes, or insert it, unless its key conflicts. The
+    /// answer has the old value.
     TryInsert(K, V),
+    /// The same, and the answer has the old pair.
     ReplaceEntry(K, V),
+    /// Insert the pair in place of all pairs whose keys are related to its key.
     PrefixInsert(K, V),
+    /// Take out the pair with the bytes of this key.
     RemoveEntry(K),
+    /// Ask whether a pair has the bytes of this key.
     ContainsKey(K),
+    /// Take out the first pair.
     PopFirst,
+    /// Take out the last pair.
     PopLast,
+    /// Take out all pairs.
     Clear,
 }
 
 /// What a call answered.
 #[derive(Drop)]
 pub enum Reply<K, V> {
+    /// The old value, if a pair with these bytes was stored, or why the insertion was refused.
     TryInsert(Result<Option<V>, TryInsertError>),
+    /// The old pair, if one with these bytes was stored, or why the insertion was refused.
     ReplaceEntry(Result<Option<(K, V)>, TryInsertError>),
+    /// That the pair is stored, or that there was no memory.
     PrefixInsert(Result<(), AllocError>),
+    /// The pair that was taken out, if there was one.
     RemoveEntry(Option<(K, V)>),
+    /// Whether a pair has these bytes.
     ContainsKey(bool),
+    /// The first pair, if there was one.
     PopFirst(Option<(K, V)>),
+    /// The last pair, if there was one.
     PopLast(Option<(K, V)>),
+    /// That the map is empty.
     Clear,
 }

@@ -1,0 +1,63 @@
+//! What a key type is, and the same for references to keys.
+
+ghost use Rattle.std.specs.Prelude.{◌≡◌, ℕ, List};
+ghost use Rattle.blart_keys.specs.Keys.{NoFronts, OrderedAs, EqualAs};
+
+/// A key that stands for a list of bytes.
+pub trait AsBytes {
+    /// The bytes of a value.
+    ghost bytes: { Self → List ℕ };
+
+    /// Holds of the values of the type.
+    ghost IsValue: { Self → Type 0 };
+
+    /// The bytes of the key.
+    fn as_bytes(&self) -> &[u8]
+        ensures { result.now ≡ bytes self.now };
+
+    /// Answers nothing. Its contract says that the key in hand is a value of its type, as the laws
+    /// of the other traits ask.
+    fn value_law(&self)
+        ensures { IsValue self.now };
+}
+
+/// A key type of which no value's bytes are a proper front of another's.
+///
+/// Two keys of such a type are related only where they are equal, so no insertion of one conflicts.
+pub trait NoPrefixesBytes: AsBytes {
+    /// Of two values, if one's bytes begin the other's, the bytes are equal.
+    ghost no_fronts: { NoFronts Self.bytes Self.IsValue };
+}
+
+/// A key type whose order is that of the bytes.
+pub trait OrderedBytes: AsBytes + Ord {
+    /// Two values compare as their bytes do.
+    ghost ordered: { OrderedAs Self.bytes Self.IsValue Self.cmp };
+
+    /// Two values are equal exactly where their bytes are.
+    ghost equal_bytes: { EqualAs Self.bytes Self.IsValue Self.eq };
+}
+
+impl<T: AsBytes> AsBytes for &T {
+    ghost bytes = { λ s. T.bytes s.now };
+
+    ghost IsValue = { λ s. T.IsValue s.now };
+
+    fn as_bytes(&self) -> &[u8] {
+        (*self).as_bytes()
+    }
+
+    fn value_law(&self) {
+        (*self).value_law()
+    }
+}
+
+impl<T: NoPrefixesBytes> NoPrefixesBytes for &T {
+    ghost no_fronts = { λ x y a b h. T.no_fronts x.now y.now a b h };
+}
+
+impl<T: OrderedBytes> OrderedBytes for &T {
+    ghost ordered = { λ x y a b. T.ordered x.now y.now a b };
+
+    ghost equal_bytes = { λ x y a b. T.equal_bytes x.now y.now a b };
+}

@@ -1,0 +1,92 @@
+//! Bytes with one zero behind them, so that no key begins another.
+
+ghost use Rattle.std.specs.Prelude.{◌≡◌, ◌∷◌, [], ◌++◌, IfOk, IsErrOf, Contains, ◌↔◌, refl};
+ghost use Rattle.std.proofs.lemmas.Slice.Eq.{bytes_eq-Decides};
+ghost use Rattle.blart_keys.specs.Keys.{AreBytes, EndsInZero};
+ghost use Rattle.blart_keys.specs.KeyLaws.{zero_no_fronts};
+
+use crate::traits::{AsBytes, NoPrefixesBytes, OrderedBytes};
+use std::alloc::Global;
+use thiserror::Error;
+
+/// Why bytes make no [`ZKey`].
+#[derive(Debug, Clone, Copy, PartialEq, Eq, Error)]
+pub enum ZKeyError {
+    /// One of the bytes is zero.
+    #[error("zero byte in key")]
+    InnerZero,
+    /// There was no memory.
+    #[error("out of memory")]
+    Memory,
+}
+
+/// Bytes without a zero, and one zero behind them.
+///
+/// No key of this type begins another, and keys compare as the bytes without the zero do.
+#[derive(Debug, PartialEq, Eq, PartialOrd, Ord, Hash, Drop)]
+pub struct ZKey {
+    bytes: Vec<u8>,
+    ghost ends_in_zero: { EndsInZero bytes.items },
+}
+
+impl ZKey {
+    /// The key of these bytes followed by one zero.
+    ///
+    /// Answers `InnerZero` exactly where one of the bytes is zero. Takes memory for the copy, and
+    /// answers `Memory` where there is none.
+    ///
+    /// ```
+    /// let key = ZKey::from_bytes(rt.alloc(), b"ab")?;
+    /// assert_eq!(rt; key.as_bytes(), b"ab\0".as_slice());
+    /// assert_eq!(rt; key.to_bytes(), b"ab".as_slice());
+    /// ```
+    pub fn from_bytes(alloc: Global, bytes: &[u8]) -> Result<Self, ZKeyError>
+        ensures ok { IfOk result (λ k. ⟦<ZKey as AsBytes>⟧.bytes k ≡ bytes.now ++ 0 ∷ []) }
+        ensures inner_zero { IsErrOf result ZKeyError.InnerZero ↔ Contains bytes.now 0 }
+        ensures memory { IsErrOf result ZKeyError.Memory → ¬ Contains bytes.now 0 }
+    {
+        if bytes.contains(&0) {
+            return Err(ZKeyError::InnerZero);
+        }
+        let mut all = Vec::new(alloc);
+        if all.extend_from_slice(bytes).is_err() {
+            return Err(ZKeyError::Memory);
+        }
+        if all.push(0).is_err() {
+            return Err(ZKeyError::Memory);
+        }
+        Ok(ZKey { bytes: all })
+    }
+
+    /// The bytes without the zero: those that the key was made from.
+    pub fn to_bytes(&self) -> &[u8]
+        ensures { result.now ++ 0 ∷ [] ≡ ⟦<ZKey as AsBytes>⟧.bytes self.now }
+    {
+        let all = self.bytes.as_slice();
+        &all[..all.len() - 1]
+    }
+}
+
+impl AsBytes for ZKey {
+    ghost bytes = { λ k. k.bytes.items };
+
+    ghost IsValue = { λ k. record { zero : EndsInZero k.bytes.items; small : AreBytes k.bytes.items } };
+
+    fn as_bytes(&self) -> &[u8] {
+        self.bytes.as_slice()
+    }
+
+    fn value_law(&self) {
+        self.bytes.value_law()
+    }
+}
+
+impl NoPrefixesBytes for ZKey {
+    ghost no_fronts = { λ x y a b h. zero_no_fronts x.bytes.items y.bytes.items a.zero b.zero h };
+}
+
+impl OrderedBytes for ZKey {
+    ghost ordered = { λ x y a b. refl };
+
+    ghost equal_bytes = { λ x y a b. bytes_eq-Decides x.bytes.items y.bytes.items };
+}
