@@ -16,3 +16,6 @@ mod watched;
 pub use error::{RunError, fault_line};
 pub use program::run;
 pub use watched::Watched;
+
+#[cfg(test)]
+mod tests;

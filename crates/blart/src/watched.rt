@@ -48,9 +48,7 @@ impl<R: Read> Read for Watched<R> {
         ensures mark { watched_failed self.new ≡ (watched_failed self.old || is_err result) }
     {
         let result = self.inner.read(buf);
-        if result.is_err() {
-            self.failed = true;
-        }
+        self.failed |= result.is_err();
         result
     }
 }
@@ -69,9 +67,7 @@ impl<W: Write> Write for Watched<W> {
             Ok(count) => *count == 0 && !buf.is_empty(),
             Err(_) => true,
         };
-        if took_nothing {
-            self.failed = true;
-        }
+        self.failed |= took_nothing;
         result
     }
 
