@@ -7,11 +7,13 @@ use Rattle.hex.specs.Hex.{encode_lower, encode_with, lower_digits}
 abbrev pub digits_of : ℕ → List ℕ
 digits_of byte = slice_index lower_digits (byte / 16) ∷ slice_index lower_digits (byte % 16) ∷ []
 
+-- the digits of two lists joined
 pub encode-append : (a b : List ℕ) → encode_lower (a ++ b) ≡ encode_lower a ++ encode_lower b
 unfolding encode_with
 encode-append [] b = refl
 encode-append (x ∷ a) b = ap (λ l. slice_index lower_digits (x / 16) ∷ slice_index lower_digits (x % 16) ∷ l) (encode-append a b)
 
+-- no bytes have no digits
 pub encode-none : encode_lower [] ≡ []
 unfolding encode_with
 encode-none = refl

@@ -28,6 +28,7 @@ with_last_some lines (b ∷ bs) some = refl
 sent_all : {a b : Option (List ℕ)} {bytes : List ℕ} (left : List ℕ) → left ≡ [] → Sends a b bytes left → Sends a b bytes []
 sent_all {a} {b} {bytes} left e s = subst (Sends a b bytes) e s
 
+-- no bytes came after the last line feed
 pub last_none : (before after : Option (List ℕ)) (mark : Bool) (r : Result (Unit {0}) RunError) (old : State) (left : List ℕ) → old.line ≡ []
     → IsSent r before after mark old.waiting left → OnOk r (left ≡ []) → IsFinished r before after mark old
 last_none before after mark (Ok done) old left e h none =
@@ -47,6 +48,7 @@ last_answered {before} {after} {rest} {content} old some h = record {
   sent = h.sent;
 }
 
+-- the last line was not answered in full
 pub last_stops : (before after : Option (List ℕ)) (mark : Bool) (error : RunError) (old new : State) → (old.line ≢ [])
     → IsAnswered (Err error) before after mark old new → IsFinished (Err error) before after mark old
 last_stops before after mark Read old new some h = absurd h
@@ -61,6 +63,7 @@ goes_out {a} {b} {c} {old} {content} {waiting} {rest} h s =
     let sent = Sends-trans [] h.sent more in
     record { out = h.out; reply = h.reply; sent = rw append-nil at sent }
 
+-- the last line was answered, and what waits is sent
 pub last_sent : (before mid after : Option (List ℕ)) (mark : Bool) (r : Result (Unit {0}) RunError) (old : State) (content : Pairs) (waiting left : List ℕ) → (old.line ≢ [])
     → IsAnswering before mid old content waiting → IsSent r mid after mark waiting left → OnOk r (left ≡ []) → IsFinished r before after mark old
 last_sent before mid after mark (Ok done) old content waiting left some h s none =
@@ -112,6 +115,7 @@ tail_nil : (xs ys : List ℕ) → xs ++ ys ≡ [] → ys ≡ []
 tail_nil [] ys e = e
 tail_nil (x ∷ xs) ys e = absurd (cc)
 
+-- before the first byte
 abbrev pub begun : State
 begun = record { line = []; content = []; waiting = [] }
 
@@ -182,10 +186,11 @@ starved was is rm before after wm read came unmarked h = λ input held e short f
 
 -- ---- the two parts of a run
 
+-- an error ended the reading
 pub run_stops : (was is : Option (List ℕ)) (rm : Bool) (before after : Option (List ℕ)) (wm : Bool) (error : RunError) (new : State)
     → IsReadAll (Err error) was is rm before after wm begun new → Told (Err error) was is rm before after wm
 run_stops was is rm before after wm Read new h = λ input held e short f.
-    let (read, came, last, s, none, marked) = h in
+    let (read, came, last, s, none, marked, unmarked) = h in
     let (rest, split, left) = known_read was is read input came e in (
       read,
       rest,
@@ -206,6 +211,7 @@ last_joined {a} {b} {c} {read} {left} {mid} s l =
     let same = sym (with_last-append s.lines [] mid.line) ∙ ap (λ ls. with_last ls mid.line) (append-nil s.lines) in
     (subst (λ ls. AnswersInTurn [] ls (s.out ++ l.out) l.content) same all, Sends-trans l.out s.sent l.sent)
 
+-- all was read
 pub run_ends : (was is : Option (List ℕ)) (rm : Bool) (before mid after : Option (List ℕ)) (was_wm wm : Bool) (r : Result (Unit {0}) RunError) (new : State) (u : Unit {0})
     → IsReadAll (Ok u) was is rm before mid was_wm begun new → IsFinished r mid after wm new → Told r was is rm before after wm
 run_ends was is rm before mid after was_wm wm (Ok done) new u h k = λ input held e short f.
@@ -253,16 +259,20 @@ run_ends was is rm before mid after was_wm wm (Err Write) new u h k = λ input h
 
 -- ---- what the code tells
 
+-- a length of zero
 pub no_bytes : (xs : List ℕ) (n : ℕ) → n ≡ length xs → true ≡ (n == 0) → xs ≡ []
 no_bytes [] n e t = refl
 no_bytes (x ∷ xs) n e t = let z : n ≡ 0 = eqb-true n 0 (sym t) in let m : n ≡ suc (length xs) = e in absurd (omega arith)
 
+-- another length
 pub some_bytes_left : (xs : List ℕ) (n : ℕ) → n ≡ length xs → false ≡ (n == 0) → xs ≢ []
 some_bytes_left xs n e t none = let z : n ≡ 0 = e ∙ ap length none in let yes : (n == 0) ≡ true = eq-eqb n 0 z in cc
 
+-- a read that answered no error left no mark
 pub unmarked_read : (a b : Bool) → a ≡ false → b ≡ (a || false) → b ≡ false
 unmarked_read a b e h = h ∙ rw e refl
 
+-- serving a piece that was read ended the reading
 pub served_stops : (was mid is : Option (List ℕ)) (rm : Bool) (before between after : Option (List ℕ)) (wm : Bool) (error : RunError) (read front piece : List ℕ) (s t u : State)
     → Consumes was mid read → Consumes mid is front → piece ≡ front → Serves before between read s t → Stops error between after wm piece t → rm ≡ false
     → IsReadAll (Err error) was is rm before after wm s u
@@ -274,15 +284,17 @@ served_stops was mid is rm before between after wm Memory read front piece s t u
 
 -- ---- the marks
 
+-- the marks after an error
 pub marked_stop : (was is : Option (List ℕ)) (rm : Bool) (before after : Option (List ℕ)) (wm : Bool) (error : RunError) (old new : State)
     → IsReadAll (Err error) was is rm before after wm old new → IsMarked (Err error) rm wm
-marked_stop was is rm before after wm Read old new h = let (read, came, last, s, none, marked) = h in marked
-marked_stop was is rm before after wm Write old new h = let (read, came, stops, unmarked) = h in stops.0
+marked_stop was is rm before after wm Read old new h = let (read, came, last, s, none, marked, unmarked) = h in (marked, unmarked)
+marked_stop was is rm before after wm Write old new h = let (read, came, stops, unmarked) = h in (unmarked, stops.0)
 marked_stop was is rm before after wm Memory old new h = let (read, came, stops, unmarked) = h in (unmarked, stops.0)
 
+-- the marks after all was read
 pub marked_end : (was is : Option (List ℕ)) (rm : Bool) (before mid after : Option (List ℕ)) (was_wm wm : Bool) (r : Result (Unit {0}) RunError) (old new : State) (u : Unit {0})
     → IsReadAll (Ok u) was is rm before mid was_wm old new → IsFinished r mid after wm new → IsMarked r rm wm
 marked_end was is rm before mid after was_wm wm (Ok done) old new u h k = let (read, came, s, none, unmarked, w) = h in (unmarked, k.1)
 marked_end was is rm before mid after was_wm wm (Err Read) old new u h k = absurd k
 marked_end was is rm before mid after was_wm wm (Err Memory) old new u h k = absurd k
-marked_end was is rm before mid after was_wm wm (Err Write) old new u h k = k.1
+marked_end was is rm before mid after was_wm wm (Err Write) old new u h k = let (read, came, s, none, unmarked, w) = h in (unmarked, k.1)

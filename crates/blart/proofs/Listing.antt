@@ -16,6 +16,7 @@ use Rattle.blart.specs.Sent.{IsSent}
 abbrev pub lines_text : Pairs → List ℕ
 lines_text pairs = flat_map (λ pair. ended (pair_text pair)) pairs
 
+-- the lines of two lists joined
 pub lines_text-append : (a b : List (Vec ℕ Global × ℕ)) → lines_text (pairs_of (a ++ b)) ≡ lines_text (pairs_of a) ++ lines_text (pairs_of b)
 lines_text-append a b = ap lines_text (map-append pair_of a b) ∙ flat_map-append (λ pair. ended (pair_text pair)) (pairs_of a) (pairs_of b)
 

@@ -17,6 +17,7 @@ use Rattle.blart.specs.Command.{words_of, from_ok, key_of, below_limit}
 
 -- ---- words
 
+-- a byte between words
 abbrev is_space : ℕ → Bool
 is_space b = b == 32
 
@@ -84,15 +85,19 @@ decoded word key (Err e) other h ok = λ none.
 
 -- ---- numbers
 
+-- what is refused is too large
 pub below_limit_none : (n : ℕ) → None ≡ below_limit n → 18446744073709551615 < n
 below_limit_none n h = grind (arith, nat_tests)
 
+-- what is kept is the number
 pub below_limit_some : (n v : ℕ) → Some v ≡ below_limit n → (v ≡ n) × (v ≤ 18446744073709551615)
 below_limit_some n v h = (grind (arith, nat_tests), grind (arith, nat_tests))
 
+-- a number too large is refused
 pub below_limit_large : (n : ℕ) → 18446744073709551615 < n → None ≡ below_limit n
 below_limit_large n h = grind (arith, nat_tests)
 
+-- a number that fits is kept
 pub below_limit_small : (n : ℕ) → n ≤ 18446744073709551615 → Some n ≡ below_limit n
 below_limit_small n h = grind (arith, nat_tests)
 

@@ -7,6 +7,7 @@ use Rattle.std.proofs.lemmas.Bool.Decides.{nat_tests}
 use Rattle.blart.specs.declared.error.RunError.{RunError}
 use Rattle.blart.specs.Sent.{Sends, IsSent}
 
+-- nothing was sent so far
 pub Sends-none : (a : Option (List ℕ)) (bs : List ℕ) → Sends a a bs bs
 Sends-none a bs = record { front = []; taken = Appends-nil a; whole = refl }
 

@@ -132,6 +132,7 @@ Splits-exist (b ∷ bytes) =
     let (lines, open_bytes, s) = Splits-exist bytes in
     split_byte b (b == 10) refl bytes lines open_bytes s
 
+-- no bytes came
 pub Serves-none : (a : Option (List ℕ)) (s : State) → IsLine s.line → Serves a a [] s s
 Serves-none a s h = record {
   lines = [];
@@ -143,6 +144,7 @@ Serves-none a s h = record {
   sent = rw append-nil (Sends-none a s.waiting);
 }
 
+-- bytes came, and then more
 pub Serves-trans : {a b c : Option (List ℕ)} {x y : List ℕ} {s t u : State} → Serves a b x s t → Serves b c y t u → Serves a c (x ++ y) s u
 Serves-trans {a} {b} {c} {x} {y} {s} {t} {u} h k = record {
   lines = h.lines ++ k.lines;

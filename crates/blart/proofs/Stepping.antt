@@ -69,7 +69,7 @@ Serves-line {a} {b} {content} {rest} bytes s h k answering = record {
   sent = answering.sent;
 }
 
--- the line didn't grow by the first of these bytes
+-- the line did not grow by the first of these bytes
 pub grow_stops : (before after : Option (List ℕ)) (mark : Bool) (error : RunError) (piece bytes : List ℕ) (old mid : State) → IsLine old.line → (bytes ≢ [])
     → IsGrown (Err error) before after mark piece old mid → Stops error before after mark bytes old
 grow_stops before after mark Read piece bytes old mid line some h = absurd h
@@ -81,7 +81,7 @@ grow_stops before after mark Memory piece bytes old mid line some h =
     let s : State = record { line = old.line; content = old.content; waiting = [] } in
     (h.1, [], bytes, refl, some, s, Serves-sent old line h.0, refl)
 
--- the answer to the line wasn't sent
+-- the answer to the line was not sent
 pub step_stops : (before after : Option (List ℕ)) (mark : Bool) (error : RunError) (piece rest bytes : List ℕ) (old new : State) → IsLine old.line → IsLine piece
     → bytes ≡ ended piece ++ rest
     → IsAnswered (Err error) before after mark (record { line = old.line ++ piece; content = old.content; waiting = old.waiting }) new
@@ -113,10 +113,12 @@ Stops-sending {a} {b} c mark {x} left {s} {t} error h k =
     let served : Serves a c (x ++ []) s u = Serves-trans h (Serves-sent t h.last sent) in
     subst (λ e. Stops e a c mark x s) (sym is) (marked, u, rw append-nil at served)
 
+-- bytes came, and then something was sent
 pub Serves-all_sent : {a b c : Option (List ℕ)} {x left : List ℕ} {s t : State}
     → Serves a b x s t → Sends b c t.waiting left → Serves a c x s (record { line = t.line; content = t.content; waiting = left })
 Serves-all_sent {t = t} h k = rw append-nil at (Serves-trans h (Serves-sent t h.last k))
 
+-- bytes of some length are some
 pub some_bytes : (bytes : List ℕ) → 0 < length bytes → bytes ≢ []
 some_bytes bytes h e = let none : length bytes ≡ 0 = ap length e in absurd (omega arith)
 
@@ -124,7 +126,7 @@ some_bytes bytes h e = let none : length bytes ≡ 0 = ap length e in absurd (om
 feed_at : (at : ℕ) (piece bytes : List ℕ) → piece ≡ take at bytes → at < length bytes → get_or bytes at 0 ≡ 10 → take (at + 1) bytes ≡ ended piece
 feed_at at piece bytes is lt feed = take_more bytes at 0 lt ∙ ap (λ b. take at bytes ++ b ∷ []) feed ∙ ap ended (sym is)
 
--- the line grew and its answer wasn't sent
+-- the line grew and its answer was not sent
 pub feed_stops : (before mid after : Option (List ℕ)) (mark : Bool) (error : RunError) (at : ℕ) (piece bytes : List ℕ) (old grown new : State)
     → piece ≡ take at bytes → (grown ≡ record { line = old.line ++ piece; content = old.content; waiting = old.waiting }) → mid ≡ before
     → at < length bytes → get_or bytes at 0 ≡ 10 → IsLine (take at bytes) → IsLine old.line
@@ -156,17 +158,20 @@ rest_serves before mid bytes old grown grew same part line =
     let s2 = subst (λ s. Serves before mid bytes old s) (sym grew) s1 in
     subst (λ x. Serves before mid x old grown) (sym (take-length bytes)) s2
 
+-- a part of the rest was served
 pub serves_more : (a b c : Option (List ℕ)) (done n : ℕ) (piece bytes : List ℕ) (s t u : State) → piece ≡ drop done bytes
     → Serves a b (take done bytes) s t → Serves b c (take n piece) t u → Serves a c (take (done + n) bytes) s u
 serves_more a b c done n piece bytes s t u is h k =
     let k1 = subst (λ p. Serves b c (take n p) t u) is k in
     subst (λ x. Serves a c x s u) (sym (take-add done n bytes)) (Serves-trans h k1)
 
+-- serving a part of the rest stopped
 pub serves_stops : (a b c : Option (List ℕ)) (mark : Bool) (error : RunError) (done : ℕ) (piece bytes : List ℕ) (s t : State) → piece ≡ drop done bytes
     → Serves a b (take done bytes) s t → Stops error b c mark piece t → Stops error a c mark bytes s
 serves_stops a b c mark error done piece bytes s t is h k =
     Stops-after c mark error piece bytes (sym (take-append-drop done bytes) ∙ ap (λ p. take done bytes ++ p) (sym is)) h k
 
+-- all was served, and what waits is sent
 pub flushed : (a b c : Option (List ℕ)) (mark : Bool) (r : Result (Unit {0}) RunError) (done : ℕ) (bytes : List ℕ) (s t : State) (left : List ℕ) → length bytes ≤ done
     → Serves a b (take done bytes) s t → IsSent r b c mark t.waiting left → IsServed r a c mark bytes s (record { line = t.line; content = t.content; waiting = left })
 flushed a b c mark (Ok done') done bytes s t left le h k = (subst (λ x. Serves a c x s (record { line = t.line; content = t.content; waiting = left })) (take_all done bytes le) (Serves-all_sent h k.0), k.1)

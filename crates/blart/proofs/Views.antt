@@ -17,6 +17,7 @@ module _ {X Y : Type 0} (view : X → Y) where
   cond_some x true o p e = refl
   cond_some x false o p e = e
 
+  -- the first item that passes
   pub find-map : (p : Y → Bool) (xs : List X) → find p (map view xs) ≡ option_map view (find (λ x. p (view x)) xs)
   find-map p [] = refl
   find-map p (x ∷ xs) = cond_some x (p (view x)) _ _ (find-map p xs)
@@ -25,14 +26,17 @@ module _ {X Y : Type 0} (view : X → Y) where
   cond_cons x true ys xs e = ap (λ l. view x ∷ l) e
   cond_cons x false ys xs e = e
 
+  -- the items that pass
   pub filter-map : (p : Y → Bool) (xs : List X) → filter p (map view xs) ≡ map view (filter (λ x. p (view x)) xs)
   filter-map p [] = refl
   filter-map p (x ∷ xs) = cond_cons x (p (view x)) _ _ (filter-map p xs)
 
+  -- whether some item passes
   pub list_any-map : (p : Y → Bool) (xs : List X) → list_any p (map view xs) ≡ list_any (λ x. p (view x)) xs
   list_any-map p [] = refl
   list_any-map p (x ∷ xs) = ap (λ t. p (view x) || t) (list_any-map p xs)
 
+  -- each item and each later one
   pub AllPairs-map : (R : Y → Y → Type 0) (xs : List X) → AllPairs (λ x y. R (view x) (view y)) xs → AllPairs R (map view xs)
   AllPairs-map R [] h = λ i j d lt within. absurd (omega arith)
   AllPairs-map R (x ∷ xs) h =
@@ -44,6 +48,7 @@ module _ {X Y : Type 0} (view : X → Y) where
   there (y ∷ xs) zero x lt e = (zero, omega arith, ap view e)
   there (y ∷ xs) (suc k) x lt e = let (j, within, same) = there xs k x (omega arith) e in (suc j, omega arith, same)
 
+  -- an item of the one is one of the other
   pub Contains-map : (xs : List X) (x : X) → Contains xs x → Contains (map view xs) (view x)
   Contains-map xs x h = there xs h.0 x h.1 h.2
 
@@ -52,24 +57,30 @@ module _ {X Y : Type 0} (view : X → Y) where
   back (x ∷ xs) zero y lt e = (x, (zero, omega arith, refl), e)
   back (x ∷ xs) (suc k) y lt e = let (z, (j, within, same), shown) = back xs k y (omega arith) e in (z, (suc j, omega arith, same), shown)
 
+  -- and an item of the other is the view of one
   pub Contains-from_map : (xs : List X) (y : Y) → Contains (map view xs) y → (x : X) × Contains xs x × (view x ≡ y)
   Contains-from_map xs y h = back xs h.0 y h.1 h.2
 
 -- ---- contents
 
 module _ {X Y : Type 0} (view : X → Y) (bytes : Y → List ℕ) where
+  -- the item with some bytes
   pub at-view : (S : List X) (q : List ℕ) → at bytes (map view S) q ≡ option_map view (at (λ x. bytes (view x)) S q)
   at-view S q = find-map view (λ y. bytes_eq (bytes y) q) S
 
+  -- whether some item has them
   pub stores-view : (S : List X) (q : List ℕ) → stores bytes (map view S) q ≡ stores (λ x. bytes (view x)) S q
   stores-view S q = list_any-map view (λ y. bytes_eq (bytes y) q) S
 
+  -- whether some item conflicts with them
   pub conflict-view : (S : List X) (q : List ℕ) → conflict bytes (map view S) q ≡ conflict (λ x. bytes (view x)) S q
   conflict-view S q = list_any-map view (λ y. conflicts (bytes y) q) S
 
+  -- the items with other bytes
   pub without-view : (S : List X) (q : List ℕ) → without bytes (map view S) q ≡ map view (without (λ x. bytes (view x)) S q)
   without-view S q = filter-map view (λ y. not (bytes_eq (bytes y) q)) S
 
+  -- a content is one through a view
   pub content-view : (S : List X) → IsContent (λ x. bytes (view x)) S → IsContent bytes (map view S)
   content-view S h = record {
     ascends = AllPairs-map view (λ x y. less (bytes x) (bytes y) ≡ true) S h.ascends;
@@ -84,6 +95,7 @@ module _ {X Y : Type 0} (view : X → Y) (bytes : Y → List ℕ) where
       let far : bytes (view x) ≢ q = λ e. apart (sym (ap bytes shown) ∙ e) in
       subst (Contains (map view T)) shown (Contains-map view T x (h x far inside))
 
+  -- so is a content with an item put
   pub put-view : (S : List X) (x : X) (S' : List X) → IsPut (λ z. bytes (view z)) S x S' → IsPut bytes (map view S) (view x) (map view S')
   put-view S x S' h = record {
     content = content-view S' h.content;
@@ -97,9 +109,11 @@ module _ {X Y : Type 0} (view : X → Y) (bytes : Y → List ℕ) where
 -- ---- keys by their bytes
 
 module _ {K V : Type 0} (key_bytes : K → List ℕ) where
+  -- a pair by its key's bytes
   abbrev shown : K × V → List ℕ × V
   shown pair = (key_bytes pair.0, pair.1)
 
+  -- the bytes of such a pair
   abbrev first : List ℕ × V → List ℕ
   first pair = pair.0
 
@@ -107,10 +121,12 @@ module _ {K V : Type 0} (key_bytes : K → List ℕ) where
   same_value (Some pair) = refl
   same_value None = refl
 
+  -- the value of a key
   pub value-view : (S : List (K × V)) (q : List ℕ)
       → option_map (λ (pair : List ℕ × V). pair.1) (at first (map shown S) q) ≡ option_map (λ (pair : K × V). pair.1) (at (λ pair. key_bytes pair.0) S q)
   value-view S q = ap (option_map (λ (pair : List ℕ × V). pair.1)) (at-view shown first S q) ∙ same_value (at (λ pair. key_bytes pair.0) S q)
 
+  -- a put and its answer
   pub Puts-view : (S : List (K × V)) (key : K) (value : V) (r : Result (Option V) TryInsertError) (S' : List (K × V))
       → Puts key_bytes (option_map (λ pair. pair.1)) S (key, value) r S' → Puts (λ k. k) (option_map (λ pair. pair.1)) (map shown S) (key_bytes key, value) r (map shown S')
   Puts-view S key value (Ok answer) S' h =

@@ -18,7 +18,7 @@ abbrev pub IsReadAll : Result (Unit {0}) RunError → Option (List ℕ) → Opti
 IsReadAll (Ok done) was is reader_mark before after writer_mark old new =
     (read : List ℕ) × CameAll was is read × Serves before after read old new × (new.waiting ≡ []) × (reader_mark ≡ false) × (writer_mark ≡ false)
 IsReadAll (Err Read) was is reader_mark before after writer_mark old new =
-    (read : List ℕ) × Consumes was is read × (last : State) × Serves before after read old last × (last.waiting ≡ []) × (reader_mark ≡ true)
+    (read : List ℕ) × Consumes was is read × (last : State) × Serves before after read old last × (last.waiting ≡ []) × (reader_mark ≡ true) × (writer_mark ≡ false)
 IsReadAll (Err Write) was is reader_mark before after writer_mark old new =
     (read : List ℕ) × Consumes was is read × Stops Write before after writer_mark read old × (reader_mark ≡ false)
 IsReadAll (Err Memory) was is reader_mark before after writer_mark old new =

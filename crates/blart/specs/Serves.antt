@@ -28,7 +28,7 @@ pub record Serves (before after : Option (List ℕ)) (bytes : List ℕ) (old new
 abbrev pub Stops : RunError → Option (List ℕ) → Option (List ℕ) → Bool → List ℕ → State → Type 0
 -- the writer failed within the answers to the lines that they ended
 Stops Write before after mark bytes old = (mark ≡ true) × (new : State) × Serves before after bytes old new
--- the lines that a front of them ended are answered, and the next line didn't fit
+-- the lines that a front of them ended are answered, and the next line did not fit
 Stops Memory before after mark bytes old =
     (mark ≡ false) × (front : List ℕ) × (rest : List ℕ) × (bytes ≡ front ++ rest) × (rest ≢ []) × (new : State) × Serves before after front old new × (new.waiting ≡ [])
 Stops Read before after mark bytes old = ⊥
