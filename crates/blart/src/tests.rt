@@ -108,7 +108,10 @@ fn run_over(rt: &impl AllocGlobal, text: &[u8], ends: Ends) -> Outcome {
 #[test]
 fn tables_of_lines(rt: HostRuntime) -> Result<(), Fail> {
     let tables = [
-        ("insert 0102 7\nget 0102\nlist\n", "none\n7\n0102 7\nend 1\n"),
+        (
+            "insert 0102 7\nget 0102\nlist\n",
+            "none\n7\n0102 7\nend 1\n",
+        ),
         (
             "insert 0102 7\ninsert 01 8\ninsert 0102 9\nremove 0102\nremove 0102\ninsert 01 8\nlist\n",
             "none\nrefused prefix\nold 7\n9\nnone\nnone\n01 8\nend 1\n",
@@ -129,9 +132,18 @@ fn tables_of_lines(rt: HostRuntime) -> Result<(), Fail> {
             "insert 00ffAB 00000000000000000001\ninsert 00 000000000000000000001\nlist\n",
             "none\nrefused line\n00ffab 1\nend 1\n",
         ),
-        ("list\r\nlist \n list\nlist\n", "refused line\nrefused line\nrefused line\nend 0\n"),
-        ("get\nremove\ninsert\nget \nget - -\nlist -\n", "refused line\nrefused line\nrefused line\nrefused line\nrefused line\nrefused line\n"),
-        ("insert 01 +1\ninsert 01 -1\ninsert 01 \ninsert 01 1 \n", "refused line\nrefused line\nrefused line\nrefused line\n"),
+        (
+            "list\r\nlist \n list\nlist\n",
+            "refused line\nrefused line\nrefused line\nend 0\n",
+        ),
+        (
+            "get\nremove\ninsert\nget \nget - -\nlist -\n",
+            "refused line\nrefused line\nrefused line\nrefused line\nrefused line\nrefused line\n",
+        ),
+        (
+            "insert 01 +1\ninsert 01 -1\ninsert 01 \ninsert 01 1 \n",
+            "refused line\nrefused line\nrefused line\nrefused line\n",
+        ),
         ("", ""),
     ];
     for (text, answers) in tables {
@@ -150,11 +162,22 @@ fn writers_take_a_byte_a_call_or_fail(rt: HostRuntime) -> Result<(), Fail> {
     for most in [1, 4, 100] {
         let got = run_over(&rt, b"insert 01 5\nlist\nlast", Ends { most, ..SOUND });
         assert_eq!(rt; got.result, Ok(()));
-        assert_eq!(rt; got.written.as_slice(), b"none\n01 5\nend 1\nrefused line\n".as_slice());
+        assert_eq!(rt;
+            got.written.as_slice(),
+            b"none\n01 5\nend 1\nrefused line\n".as_slice()
+        );
     }
     for full in [Full::Fails, Full::TakesNothing] {
         for text in ["insert 01 5", "insert 01 5\n", "insert 01 5\nlist\n"] {
-            let got = run_over(&rt, text.as_bytes(), Ends { room: 4, full, ..SOUND });
+            let got = run_over(
+                &rt,
+                text.as_bytes(),
+                Ends {
+                    room: 4,
+                    full,
+                    ..SOUND
+                },
+            );
             assert_eq!(rt; got.result, Err(RunError::Write));
             assert_eq!(rt; got.marks, (false, true));
             assert_eq!(rt; got.written.as_slice(), b"none".as_slice());
@@ -166,7 +189,15 @@ fn writers_take_a_byte_a_call_or_fail(rt: HostRuntime) -> Result<(), Fail> {
 #[test]
 fn a_read_fails_in_mid_stream(rt: HostRuntime) -> Result<(), Fail> {
     for piece in [1, 2, 3, 100] {
-        let got = run_over(&rt, b"insert 01 5\nget 01", Ends { piece, read_fails: true, ..SOUND });
+        let got = run_over(
+            &rt,
+            b"insert 01 5\nget 01",
+            Ends {
+                piece,
+                read_fails: true,
+                ..SOUND
+            },
+        );
         assert_eq!(rt; got.result, Err(RunError::Read));
         assert_eq!(rt; got.marks, (true, false));
         assert_eq!(rt; got.written.as_slice(), b"none\n".as_slice());
@@ -178,7 +209,14 @@ fn a_read_fails_in_mid_stream(rt: HostRuntime) -> Result<(), Fail> {
 fn a_line_of_many_letters_is_one_line(rt: HostRuntime) -> Result<(), Fail> {
     let mut text = vec![in rt.alloc(); b'a'; 100_000]?;
     text.extend_from_slice(b"\nlist")?;
-    let got = run_over(&rt, &text, Ends { piece: 5000, ..SOUND });
+    let got = run_over(
+        &rt,
+        &text,
+        Ends {
+            piece: 5000,
+            ..SOUND
+        },
+    );
     assert_eq!(rt; got.result, Ok(()));
     assert_eq!(rt; got.written.as_slice(), b"refused line\nend 0\n".as_slice());
     Ok(())
@@ -205,7 +243,15 @@ fn answers_are_longer_than_the_room_that_waits(rt: HostRuntime) -> Result<(), Fa
     }
     answers.extend_from_slice(b"end 2\n")?;
     for most in [7, AMPLE] {
-        let got = run_over(&rt, &text, Ends { piece: 3000, most, ..SOUND });
+        let got = run_over(
+            &rt,
+            &text,
+            Ends {
+                piece: 3000,
+                most,
+                ..SOUND
+            },
+        );
         assert_eq!(rt; got.result, Ok(()));
         assert_eq!(rt; got.written.as_slice(), answers.as_slice());
     }
@@ -228,14 +274,23 @@ fn texts_of_errors(rt: HostRuntime) -> Result<(), Fail> {
 
 #[test]
 fn an_end_remembers_that_it_failed(rt: HostRuntime) -> Result<(), Fail> {
-    let mut reader = Watched::new(Pieces { text: b"ab", most: 1, fails: true });
+    let mut reader = Watched::new(Pieces {
+        text: b"ab",
+        most: 1,
+        fails: true,
+    });
     let mut buf = [0; 4];
     assert_eq!(rt; reader.read(&mut buf)?, 1);
     assert_eq!(rt; reader.read(&mut buf)?, 1);
     assert!(rt; !reader.failed());
     assert!(rt; reader.read(&mut buf).is_err());
     assert!(rt; reader.failed());
-    let mut writer = Watched::new(Sink { taken: Vec::new(rt.alloc()), most: 2, room: 3, full: Full::TakesNothing });
+    let mut writer = Watched::new(Sink {
+        taken: Vec::new(rt.alloc()),
+        most: 2,
+        room: 3,
+        full: Full::TakesNothing,
+    });
     assert_eq!(rt; writer.write(b"xyz")?, 2);
     assert_eq!(rt; writer.write(b"z")?, 1);
     assert_eq!(rt; writer.write(b"")?, 0);
