@@ -21,6 +21,13 @@ use std::io::{Read, Write};
 /// An error ends the run. `RunError::Read`: each line that a line feed ended is answered.
 /// `RunError::Write`: what was written is a beginning of the answers. `RunError::Memory`: a line
 /// did not fit, and the lines before it are answered.
+///
+/// ```
+/// let mut reader = Watched::new(b"insert 0102 7\nget 0102\n".as_slice());
+/// let mut writer = Watched::new(Vec::new(rt.alloc()));
+/// run(rt.alloc(), &mut reader, &mut writer)?;
+/// // `none` and `7` were written, each on a line
+/// ```
 pub fn run<R: Read, W: Write>(
     alloc: Global,
     reader: &mut Watched<R>,

@@ -15,6 +15,7 @@ pub struct Watched<T> {
 }
 
 impl<T> Watched<T> {
+    /// The reader or writer, not marked.
     pub fn new(inner: T) -> Self
         ensures inner { watched_inner result ≡ inner }
         ensures mark { watched_failed result ≡ false }
@@ -25,12 +26,14 @@ impl<T> Watched<T> {
         }
     }
 
+    /// Whether a read or a write answered an error, or a write took no byte of a piece that is not empty.
     pub fn failed(&self) -> bool
         ensures { result ≡ watched_failed self.now }
     {
         self.failed
     }
 
+    /// The reader or writer, without its mark.
     pub fn into_inner(self) -> T
         ensures { result ≡ watched_inner self }
     {
