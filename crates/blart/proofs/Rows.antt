@@ -1,0 +1,102 @@
+-- Some lines and what they mean, computed, and a whole run.
+use Rattle.std.proofs.Common.{◌≡◌, [], ◌∷◌, Some, None, Ok, refl, inl, codes}
+use Rattle.std.specs.Fmt.{digits}
+use Rattle.hex.proofs.OnLiterals.{hex_on_literals}
+use Rattle.blart_keys.specs.Content.{IsPut}
+use Rattle.blart_keys.proofs.ContentLemmas.{empty_content, put_between}
+use Rattle.blart.specs.Command.{words_of, command_of, Insert, Get, Remove, ListAll}
+use Rattle.blart.specs.Answers.{pair_bytes}
+use Rattle.blart.specs.Replies.{Replies}
+
+inserts : command_of (words_of (codes "insert 01Ff 18446744073709551615")) ≡ Some (Insert (1 ∷ 255 ∷ []) 18446744073709551615)
+unfolding hex_on_literals
+inserts = refl
+
+inserts_leading_zeros : command_of (words_of (codes "insert 00 00000000000000000007")) ≡ Some (Insert (0 ∷ []) 7)
+unfolding hex_on_literals
+inserts_leading_zeros = refl
+
+inserts_empty : command_of (words_of (codes "insert - 5")) ≡ Some (Insert [] 5)
+unfolding hex_on_literals
+inserts_empty = refl
+
+gets : command_of (words_of (codes "get 0a")) ≡ Some (Get (10 ∷ []))
+unfolding hex_on_literals
+gets = refl
+
+removes : command_of (words_of (codes "remove 0A")) ≡ Some (Remove (10 ∷ []))
+unfolding hex_on_literals
+removes = refl
+
+lists : command_of (words_of (codes "list")) ≡ Some ListAll
+unfolding hex_on_literals
+lists = refl
+
+too_large : command_of (words_of (codes "insert 00 18446744073709551616")) ≡ None
+unfolding hex_on_literals
+too_large = refl
+
+too_long : command_of (words_of (codes "insert 00 000000000000000000007")) ≡ None
+unfolding hex_on_literals
+too_long = refl
+
+no_number : command_of (words_of (codes "insert 00 ")) ≡ None
+unfolding hex_on_literals
+no_number = refl
+
+odd_key : command_of (words_of (codes "get 0")) ≡ None
+unfolding hex_on_literals
+odd_key = refl
+
+no_digit : command_of (words_of (codes "get 0g")) ≡ None
+unfolding hex_on_literals
+no_digit = refl
+
+two_spaces : command_of (words_of (codes "insert 01  2")) ≡ None
+unfolding hex_on_literals
+two_spaces = refl
+
+space_behind : command_of (words_of (codes "list ")) ≡ None
+unfolding hex_on_literals
+space_behind = refl
+
+return_behind : command_of (words_of (codes "list\r")) ≡ None
+unfolding hex_on_literals
+return_behind = refl
+
+empty_line : command_of (words_of []) ≡ None
+unfolding hex_on_literals
+empty_line = refl
+
+-- a pair put into nothing
+one_put : IsPut pair_bytes [] (1 ∷ 2 ∷ [], 7) ((1 ∷ 2 ∷ [], 7) ∷ [])
+one_put = put_between pair_bytes [] [] (1 ∷ 2 ∷ [], 7) (empty_content pair_bytes) (λ y m. absurd m) (λ y m. absurd m)
+
+-- three lines and their answers
+a_run : Replies (codes "insert 0102 7" ∷ codes "get 0102" ∷ codes "list" ∷ []) (codes "none\n7\n0102 7\nend 1\n")
+unfolding hex_on_literals digits
+a_run = (
+  (1 ∷ 2 ∷ [], 7) ∷ [],
+  (
+    codes "none\n",
+    (1 ∷ 2 ∷ [], 7) ∷ [],
+    codes "7\n0102 7\nend 1\n",
+    record { lines = codes "none" ∷ []; meets = inl (Ok None, (refl, one_put, refl), refl); whole = refl },
+    (
+      codes "7\n",
+      (1 ∷ 2 ∷ [], 7) ∷ [],
+      codes "0102 7\nend 1\n",
+      record { lines = codes "7" ∷ []; meets = inl (refl, refl); whole = refl },
+      (
+        codes "0102 7\nend 1\n",
+        (1 ∷ 2 ∷ [], 7) ∷ [],
+        [],
+        record { lines = codes "0102 7" ∷ codes "end 1" ∷ []; meets = inl (refl, refl); whole = refl },
+        (refl, refl),
+        refl,
+      ),
+      refl,
+    ),
+    refl,
+  ),
+)

@@ -1,0 +1,78 @@
+-- What may be answered to a command.
+use Rattle.std.specs.Prelude.{◌≡◌, ◌≢◌, ◌⊎◌, ℕ, List, [], ◌∷◌, ◌++◌, map, length, Option, Some, None, Result, Ok, Err, option_map, codes, decimal}
+use Rattle.std.specs.List.{flat_map}
+use Rattle.hex.specs.Hex.{encode_lower}
+use Rattle.blart_keys.specs.declared.calls.TryInsertError.{TryInsertError}
+use Rattle.blart_keys.specs.declared.calls.TryInsertError.TheVariants.{Prefix, Memory}
+use Rattle.blart_keys.specs.Content.{at, without}
+use Rattle.blart_keys.specs.Steps.{Puts}
+use Rattle.blart.specs.Lines.{ended}
+use Rattle.blart.specs.Command.{Command, Insert, Get, Remove, ListAll, words_of, command_of}
+
+-- keys and their values
+abbrev pub Pairs : Type 0
+Pairs = List (List ℕ × ℕ)
+
+-- the bytes of a pair are its key
+abbrev pub pair_bytes : List ℕ × ℕ → List ℕ
+pair_bytes pair = pair.0
+
+-- a key in lower case digits, or `-`
+abbrev pub key_text : List ℕ → List ℕ
+key_text [] = codes "-"
+key_text (b ∷ key) = encode_lower (b ∷ key)
+
+-- a key, a space and a number
+abbrev pub pair_text : List ℕ × ℕ → List ℕ
+pair_text pair = key_text pair.0 ++ 32 ∷ decimal pair.1
+
+-- a line a pair, and then how many there were
+abbrev pub listing : Pairs → List (List ℕ)
+listing pairs = map pair_text pairs ++ (codes "end " ++ decimal (length pairs)) ∷ []
+
+-- a number, or `none`
+abbrev pub value_text : Option ℕ → List ℕ
+value_text (Some n) = decimal n
+value_text None = codes "none"
+
+-- what is said of an insertion
+abbrev pub inserted_text : Result (Option ℕ) TryInsertError → List ℕ
+inserted_text (Ok (Some n)) = codes "old " ++ decimal n
+inserted_text (Ok None) = codes "none"
+inserted_text (Err (Prefix e)) = codes "refused prefix"
+inserted_text (Err (Memory e)) = codes "refused memory"
+
+-- the value of the pair with this key
+abbrev pub value_at : Pairs → List ℕ → Option ℕ
+value_at S key = option_map (λ pair. pair.1) (at pair_bytes S key)
+
+-- from S, the command may be answered by these lines, and leave S'
+abbrev pub Answers : Pairs → Command → List (List ℕ) → Pairs → Type 0
+Answers S (Insert key n) lines S' =
+    (r : Result (Option ℕ) TryInsertError) × Puts (λ k. k) (option_map (λ pair. pair.1)) S (key, n) r S' × (lines ≡ inserted_text r ∷ [])
+Answers S (Get key) lines S' = (S' ≡ S) × (lines ≡ value_text (value_at S key) ∷ [])
+Answers S (Remove key) lines S' = (S' ≡ without pair_bytes S key) × (lines ≡ value_text (value_at S key) ∷ [])
+Answers S ListAll lines S' = (S' ≡ S) × (lines ≡ listing S)
+
+-- the command has a key other than `-`, which takes memory to decode
+abbrev pub Decodes : Command → Type 0
+Decodes (Insert key n) = key ≢ []
+Decodes (Get key) = key ≢ []
+Decodes (Remove key) = key ≢ []
+Decodes ListAll = ⊥
+
+-- a command is answered, or refused for want of memory where it decodes a key, and then S stays
+abbrev pub AnswersOrRefuses : Pairs → Command → List (List ℕ) → Pairs → Type 0
+AnswersOrRefuses S command lines S' =
+    Answers S command lines S' ⊎ (Decodes command × (S' ≡ S) × (lines ≡ codes "refused memory" ∷ []))
+
+-- a line that is a command is answered as that, and any other is refused
+abbrev pub Meets : Pairs → Option Command → List (List ℕ) → Pairs → Type 0
+Meets S (Some command) lines S' = AnswersOrRefuses S command lines S'
+Meets S None lines S' = (S' ≡ S) × (lines ≡ codes "refused line" ∷ [])
+
+-- from S, the line may be answered by these bytes, and leave S'
+pub record Reply (S : Pairs) (line out : List ℕ) (S' : Pairs) : Type 0 where
+  pub lines : List (List ℕ)
+  pub meets : Meets S (command_of (words_of line)) lines S'
+  pub whole : out ≡ flat_map ended lines

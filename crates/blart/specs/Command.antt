@@ -1,0 +1,53 @@
+-- The commands that a line may be.
+use Rattle.std.specs.Prelude.{ℕ, Bool, ◌==◌, ◌&&◌, nat_le, if◌then◌else◌, List, [], ◌∷◌, length, Option, Some, None, Result, Ok, Err, option_map, bytes_eq, codes}
+use Rattle.std.specs.List.{slice_split, list_all}
+use Rattle.std.specs.Char.{is_ascii_digit}
+use Rattle.std.specs.Str.Parse.{digits_value}
+use Rattle.hex.specs.Hex.{decode_of}
+
+-- the parts of a line that single spaces part
+abbrev pub words_of : List ℕ → List (List ℕ)
+words_of line = slice_split (λ b. b == 32) line
+
+-- the value of an `Ok`
+abbrev pub from_ok : {A E : Type 0} → Result A E → Option A
+from_ok (Ok x) = Some x
+from_ok (Err e) = None
+
+-- `-` is the empty key; else an even number, at least two, of hexadecimal digits
+abbrev pub key_of : List ℕ → Option (List ℕ)
+key_of word = if bytes_eq word (codes "-") then Some [] else if length word == 0 then None else from_ok (decode_of word)
+
+-- 1 to 20 decimal digits
+abbrev pub is_numeral : List ℕ → Bool
+is_numeral word = nat_le 1 (length word) && nat_le (length word) 20 && list_all is_ascii_digit word
+
+-- a number, if it is at most 18446744073709551615
+abbrev pub below_limit : ℕ → Option ℕ
+below_limit n = if nat_le n 18446744073709551615 then Some n else None
+
+-- the value of 1 to 20 decimal digits, if it is not too large
+abbrev pub number_of : List ℕ → Option ℕ
+number_of word = if is_numeral word then below_limit (digits_value 10 word) else None
+
+-- a command, with the bytes of its key
+pub data Command : Type 0 where
+  Insert : List ℕ → ℕ → Command
+  Get : List ℕ → Command
+  Remove : List ℕ → Command
+  ListAll : Command
+
+-- an insertion, where the key and the number are some
+abbrev pub insert_of : Option (List ℕ) → Option ℕ → Option Command
+insert_of (Some key) (Some n) = Some (Insert key n)
+insert_of _ _ = None
+
+-- the command that the words of a line are, if they are one
+abbrev pub command_of : List (List ℕ) → Option Command
+command_of (name ∷ []) = if bytes_eq name (codes "list") then Some ListAll else None
+command_of (name ∷ key ∷ []) =
+    if bytes_eq name (codes "get") then option_map Get (key_of key)
+    else if bytes_eq name (codes "remove") then option_map Remove (key_of key)
+    else None
+command_of (name ∷ key ∷ value ∷ []) = if bytes_eq name (codes "insert") then insert_of (key_of key) (number_of value) else None
+command_of _ = None

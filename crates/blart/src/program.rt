@@ -1,0 +1,75 @@
+//! The program over any reader and writer.
+ghost use Rattle.std.specs.Prelude.{◌≡◌, ◌<◌, ◌-◌, ◌^◌, ℕ, List, [], ◌++◌, length, false, Some};
+ghost use Rattle.blart.specs.Watched.{watched_inner, watched_failed};
+ghost use Rattle.blart.specs.Lines.{IsLine};
+ghost use Rattle.blart.specs.Session.{state_of};
+ghost use Rattle.blart.specs.Ends.{Ends, IsMarked};
+ghost use Rattle.blart.specs.Ran.{IsReadAll};
+
+use crate::error::RunError;
+use crate::pieces::front;
+use crate::session::Session;
+use crate::watched::Watched;
+use std::alloc::Global;
+use std::io::{Read, Write};
+
+/// Answers the lines of the reader, in turn, over a map from byte lists to numbers.
+///
+/// A line is the bytes up to a line feed, and the bytes after the last line feed if there are any.
+/// The answers are sent whenever the reader is asked for more. The writer is not flushed.
+///
+/// An error ends the run. `RunError::Read`: each line that a line feed ended is answered.
+/// `RunError::Write`: what was written is a beginning of the answers. `RunError::Memory`: a line
+/// did not fit, and the lines before it are answered.
+///
+/// ```
+/// let mut reader = Watched::new(b"insert 0102 7\nget 0102\n".as_slice());
+/// let mut writer = Watched::new(Vec::new(rt.alloc()));
+/// run(rt.alloc(), &mut reader, &mut writer)?;
+/// // `none` and `7` were written, each on a line
+/// ```
+pub fn run<R: Read, W: Write>(
+    alloc: Global,
+    reader: &mut Watched<R>,
+    writer: &mut Watched<W>,
+) -> Result<(), RunError>
+    requires reader { watched_failed reader.old ≡ false }
+    requires writer { watched_failed writer.old ≡ false }
+    // Where both tell their bytes, and the input is short enough for the reads that there are.
+    ensures answered { (input before : List ℕ) → R.remaining (watched_inner reader.old) ≡ Some input → length input < 2 ^ 64 - 1
+        → W.contents (watched_inner writer.old) ≡ Some before
+        → (read rest written : List ℕ) × (input ≡ read ++ rest)
+        × (R.remaining (watched_inner reader.new) ≡ Some rest)
+        × (W.contents (watched_inner writer.new) ≡ Some (before ++ written))
+        × Ends result (watched_failed reader.new) (watched_failed writer.new) read rest written }
+    ensures marks { IsMarked result (watched_failed reader.new) (watched_failed writer.new) }
+{
+    let mut session = Session::new(alloc);
+    read_all(&mut session, reader, writer)?;
+    session.finish(writer)
+}
+
+// Serves all that the reader gives.
+fn read_all<R: Read, W: Write>(
+    session: &mut Session,
+    reader: &mut Watched<R>,
+    writer: &mut Watched<W>,
+) -> Result<(), RunError>
+    requires reader { watched_failed reader.old ≡ false }
+    requires writer { watched_failed writer.old ≡ false }
+    requires line { IsLine session.old.line.items }
+    requires none { session.old.outbox ≡ [] }
+    ensures { IsReadAll result (R.remaining (watched_inner reader.old)) (R.remaining (watched_inner reader.new)) (watched_failed reader.new)
+        (W.contents (watched_inner writer.old)) (W.contents (watched_inner writer.new)) (watched_failed writer.new)
+        (state_of session.old) (state_of session.new) }
+{
+    let mut chunk = [0; 8192];
+    for _turn in 0..u64::MAX {
+        match reader.read(&mut chunk) {
+            Ok(0) => return Ok(()),
+            Ok(count) => session.serve(writer, front(&chunk, count))?,
+            Err(_) => return Err(RunError::Read),
+        }
+    }
+    Ok(())
+}

@@ -1,0 +1,83 @@
+//! An end of a run that remembers whether it failed.
+ghost use Rattle.std.specs.Prelude.{◌≡◌, ◌||◌, false, is_err};
+ghost use Rattle.std.specs.Io.{ReadsAtMost, WritesAtMost};
+ghost use Rattle.std.specs.Io.KnownBytes.{Keeps, ReadConsumes, WriteAppends};
+ghost use Rattle.blart.specs.Watched.{watched_inner, watched_failed, takes_nothing};
+
+use std::io;
+use std::io::{Read, Write};
+
+/// A reader or a writer with a mark: whether a call of it failed.
+#[derive(Drop)]
+pub struct Watched<T> {
+    inner: T,
+    failed: bool,
+}
+
+impl<T> Watched<T> {
+    /// The reader or writer, not marked.
+    pub fn new(inner: T) -> Self
+        ensures inner { watched_inner result ≡ inner }
+        ensures mark { watched_failed result ≡ false }
+    {
+        Watched {
+            inner,
+            failed: false,
+        }
+    }
+
+    /// Whether a read or a write answered an error, or a write took no byte of a piece that is not empty.
+    pub fn failed(&self) -> bool
+        ensures { result ≡ watched_failed self.now }
+    {
+        self.failed
+    }
+
+    /// The reader or writer, without its mark.
+    pub fn into_inner(self) -> T
+        ensures { result ≡ watched_inner self }
+    {
+        self.inner
+    }
+}
+
+impl<R: Read> Read for Watched<R> {
+    ghost remaining = { λ w. R.remaining (watched_inner w) };
+
+    fn read(&mut self, buf: &mut [u8]) -> io::Result<usize>
+        ensures bound { ReadsAtMost result buf.new }
+        ensures bytes { ReadConsumes (R.remaining (watched_inner self.old))
+            (R.remaining (watched_inner self.new)) result buf.new }
+        ensures mark { watched_failed self.new ≡ (watched_failed self.old || is_err result) }
+    {
+        let result = self.inner.read(buf);
+        self.failed |= result.is_err();
+        result
+    }
+}
+
+impl<W: Write> Write for Watched<W> {
+    ghost contents = { λ w. W.contents (watched_inner w) };
+
+    fn write(&mut self, buf: &[u8]) -> io::Result<usize>
+        ensures bound { WritesAtMost result buf.now }
+        ensures bytes { WriteAppends (W.contents (watched_inner self.old))
+            (W.contents (watched_inner self.new)) result buf.now }
+        ensures mark { watched_failed self.new ≡ (watched_failed self.old || takes_nothing result buf.now) }
+    {
+        let result = self.inner.write(buf);
+        let took_nothing = match &result {
+            Ok(count) => *count == 0 && !buf.is_empty(),
+            Err(_) => true,
+        };
+        self.failed |= took_nothing;
+        result
+    }
+
+    fn flush(&mut self) -> io::Result<()>
+        ensures bytes { Keeps (W.contents (watched_inner self.old)) (W.contents (watched_inner self.new)) }
+        ensures mark { watched_failed self.new ≡ watched_failed self.old }
+    {
+        self.inner.flush()
+    }
+}
