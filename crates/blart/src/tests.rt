@@ -1,4 +1,5 @@
 //! Runs over readers and writers that fail, and tables of lines.
+use crate::map::TreeMap;
 use crate::{RunError, Watched, fault_line, run};
 use std::io;
 use std::io::{ErrorKind, Read, Write};
@@ -299,5 +300,36 @@ fn an_end_remembers_that_it_failed(rt: HostRuntime) -> Result<(), Fail> {
     writer.flush()?;
     assert!(rt; writer.failed());
     assert_eq!(rt; writer.into_inner().taken.as_slice(), b"xyz".as_slice());
+    Ok(())
+}
+
+#[test]
+fn a_map_of_short_keys(rt: HostRuntime) -> Result<(), Fail> {
+    let mut map = TreeMap::new(rt.alloc());
+    let calls: [(&[u8], u8, Result<Option<u8>, &str>); 4] = [
+        (&[1, 2, 3], b'a', Ok(None)),
+        (&[2, 3, 4], b'b', Ok(None)),
+        (&[2, 3, 4, 5], b'c', Err("key conflicts")),
+        (&[2, 3, 4], b'd', Ok(Some(b'b'))),
+    ];
+    for (key, value, want) in calls {
+        match map.try_insert(Vec::from_slice(rt.alloc(), key)?, value) {
+            Ok(old) => assert_eq!(rt; Ok(old), want),
+            Err(error) => {
+                let text = error.to_string(rt.alloc())?;
+                assert_eq!(rt; Err(text.as_str()), want);
+            }
+        }
+    }
+    assert_eq!(rt; map.len(), 2);
+    assert_eq!(rt; map.get(&[1u8, 2, 3]).copied(), Some(b'a'));
+    assert_eq!(rt; map.get(&[1u8, 2]).copied(), None);
+    let mut values = map.iter().map(|(_, value)| *value);
+    assert_eq!(rt; values.next(), Some(b'a'));
+    assert_eq!(rt; values.next(), Some(b'd'));
+    assert_eq!(rt; values.next(), None);
+    assert!(rt; map.remove_entry(&[2u8, 3]).is_none());
+    assert_eq!(rt; map.remove(&[2u8, 3, 4]), Some(b'd'));
+    assert_eq!(rt; map.len(), 1);
     Ok(())
 }
