@@ -1,0 +1,572 @@
+-- One key more, on an edge that is split for it.
+use Rattle.std.proofs.Common.{◌≡◌, ◌≢◌, ℕ, ◌+◌, ◌<◌, ◌≤◌, List, [], ◌∷◌, ◌++◌, length, refl, ap, arith, sym, subst, Option, Some, None, IsSome, ◌∙◌, ◌⊎◌, inl, inr, cond, eqb, eq-eqb}
+use Rattle.std.proofs.lemmas.Bool.{cases_lt, ne_eqb}
+use Rattle.std.proofs.lemmas.Bool.Decides.{eqb_tells}
+use Rattle.art_tree.specs.Begins.{Bytes, Begins, next_byte}
+use Rattle.blart_keys.specs.Bytes.{common}
+use Rattle.art_tree.specs.Above.{LeadsTo, TurnsTo, edge_front}
+use Rattle.art_tree.specs.Spots.{PastLength}
+use Rattle.art_tree.specs.Nodes.{Node, Makes, Redirects}
+use Rattle.art_tree.specs.Kids.{kid_at, Ascends}
+use Rattle.art_tree.specs.Shape.{Shape, Covers, CoversLeaf, CoversNode, NodeFits, RootFits, Parts}
+use Rattle.art_tree.specs.declared.records.ids.Edge.{Edge}
+use Rattle.art_tree.specs.declared.records.ids.Child.{Child}
+use Rattle.art_tree.specs.declared.records.ids.Child.TheVariants.{Leaf, Inner}
+use Rattle.art_tree.proofs.BeginsLemmas.{Begins-length, Begins-more, Begins-trans, Begins-itself, Begins-next, edge_same, edge_some, Begins-linear, length-edge, Begins-past, next_byte-front, Begins-equal, Begins-edge_front, Begins-cases, common_same, common_at, common_comm, Bytes-cases}
+use Rattle.art_tree.proofs.Options.{is_some, some_of}
+use Rattle.art_tree.proofs.Growing.{covers_above, Departs, Gains, kept, kept_cases, within, Parts-within, Parts-two, Parts-kept}
+
+-- the child stands for a front longer than t
+abbrev pub Past : (ℕ → Bytes) → Bytes → Child → Type 0
+Past front_of t c = PastLength front_of (length t) c
+
+-- what became of an old node: the edge at g0 leads to n now
+pub record EdgeLed (x x' : Node) (f g0 : Bytes) (c0 : Child) (n : ℕ) : Type 0 where
+  pub depth : x'.depth ≡ x.depth
+  pub ascends : Ascends x.kids → Ascends x'.kids
+  pub rest : (b : ℕ) → f ++ b ∷ [] ≢ g0 → kid_at x'.kids b ≡ kid_at x.kids b
+  pub was : (b : ℕ) → f ++ b ∷ [] ≡ g0 → kid_at x.kids b ≡ Some c0
+  pub now : (b : ℕ) → f ++ b ∷ [] ≡ g0 → kid_at x'.kids b ≡ Some (Inner n)
+
+-- the new node n stands on the edge at g0, above the child c0 and the leaf i
+pub record Splits (old new : ℕ → Option Node) (front_of : ℕ → Bytes) (root root' : Option Child) (g0 : Bytes) (c0 : Child) (n i : ℕ) (t : Bytes) (bc bk : ℕ) : Type 0 where
+  pub fresh : old n ≡ None
+  pub made : Node
+  pub made_is : new n ≡ Some made
+  pub depth : made.depth ≡ length t
+  pub ascends : Ascends made.kids
+  pub low : kid_at made.kids bk ≡ Some (Leaf i)
+  pub high : kid_at made.kids bc ≡ Some c0
+  pub only : (b : ℕ) (c : Child) → kid_at made.kids b ≡ Some c → ((b ≡ bk) × (c ≡ Leaf i)) ⊎ ((b ≡ bc) × (c ≡ c0))
+  pub above : ((g0 ≡ []) × (root ≡ Some c0) × (root' ≡ Some (Inner n))) ⊎ ((p : ℕ) × (b : ℕ) × IsSome (old p) × (g0 ≡ front_of p ++ b ∷ []) × (root' ≡ root))
+  pub others : (m : ℕ) (x : Node) → old m ≡ Some x → (x' : Node) × (new m ≡ Some x') × EdgeLed x x' (front_of m) g0 c0 n
+  pub no_more : (m : ℕ) → m ≢ n → old m ≡ None → new m ≡ None
+
+module _ (keys keys' : ℕ → Option Bytes) (nodes nodes' : ℕ → Option Node) (root root' : Option Child) (g0 : Bytes) (c0 : Child) (n i : ℕ) (t k : Bytes) (s : Shape keys nodes root)
+    (gains : Gains keys keys' i k) (d : Departs keys t k) (splits : Splits nodes nodes' s.front_of root root' g0 c0 n i t (next_byte t d.mate_key) (next_byte t k))
+    (g0_t : Begins g0 t) (past : Past s.front_of t c0) (covers0 : Covers keys nodes s.front_of g0 c0) where
+  -- the fronts with the new node's
+  abbrev fronts_after : ℕ → Bytes
+  fronts_after m = cond (eqb m n) t (s.front_of m)
+
+  after-new : fronts_after n ≡ t
+  after-new = rw (eq-eqb n n refl) refl
+
+  after-old : (m : ℕ) → m ≢ n → fronts_after m ≡ s.front_of m
+  after-old m h = elim (eqb_tells m n) [ inl e ↦ absurd (h e.1) | inr e ↦ rw e.0 refl ]
+
+  not_new : (m : ℕ) → IsSome (nodes m) → m ≢ n
+  not_new m h e = let x = some_of (nodes m) h in let f : nodes n ≡ Some x.0 = rw (← e) x.1 in let g : nodes n ≡ None = splits.fresh in cc
+
+  live_kept : (m : ℕ) → IsSome (nodes m) → IsSome (nodes' m)
+  live_kept m h = let x = some_of (nodes m) h in let y = splits.others m x.0 x.1 in is_some (nodes' m) y.0 y.1
+
+  live_new : IsSome (nodes' n)
+  live_new = is_some (nodes' n) splits.made splits.made_is
+
+  -- a child above a node whose front begins t is not past t
+  not_past_above : (m : ℕ) → IsSome (nodes m) → Begins (s.front_of m) t → (g : Bytes) (c : Child) → Covers keys nodes s.front_of g c → Begins g (s.front_of m) → Past s.front_of t c → ⊥
+  not_past_above m live mt g (Leaf j) cov gm far =
+      let x = some_of (nodes m) live in
+      let p = (s.node m x.0 x.1).parts in
+      Parts-two keys (s.front_of m) p j (cov.only p.i p.k p.k_is (Begins-trans g (s.front_of m) p.k gm p.k_front)) (cov.only p.j p.l p.l_is (Begins-trans g (s.front_of m) p.l gm p.l_front))
+  not_past_above m live mt g (Inner m') cov gm far =
+      let x = some_of (nodes m) live in
+      let p = (s.node m x.0 x.1).parts in
+      let w : Begins (s.front_of m') (s.front_of m) = Parts-within keys (s.front_of m) (s.front_of m') p (cov.only p.i p.k p.k_is (Begins-trans g (s.front_of m) p.k gm p.k_front)) (cov.only p.j p.l p.l_is (Begins-trans g (s.front_of m) p.l gm p.l_front)) in
+      let a : length (s.front_of m') ≤ length (s.front_of m) = Begins-length (s.front_of m') (s.front_of m) w in
+      let b : length (s.front_of m) ≤ length t = Begins-length (s.front_of m) t mt in
+      let f : length t < length (s.front_of m') = far in
+      omega arith
+
+  -- no node stood at t
+  not_front : (m : ℕ) → IsSome (nodes m) → s.front_of m ≡ t → ⊥
+  not_front m live e =
+      let mt : Begins (s.front_of m) t = rw e (Begins-itself t) in
+      not_past_above m live mt g0 c0 covers0 (rw e g0_t) past
+
+  -- an edge that is not the one that was split, at a node m
+  not_past_edge : (m : ℕ) → IsSome (nodes m) → (b : ℕ) (c : Child) → Covers keys nodes s.front_of (s.front_of m ++ b ∷ []) c → s.front_of m ++ b ∷ [] ≢ g0 → Begins (s.front_of m ++ b ∷ []) t → Past s.front_of t c → ⊥
+  not_past_edge m live b c cov other gt far =
+      let f : Bytes = s.front_of m in
+      let g : Bytes = f ++ b ∷ [] in
+      elim (cases_lt (length g0) (length g)) [
+        | inl lt ↦
+            let le : length g ≡ length f + 1 = length-edge f b in
+            let ft : Begins f t = Begins-edge_front f t b gt in
+            not_past_above m live ft g0 c0 covers0 (Begins-linear g0 f t g0_t ft (omega arith)) past
+        | inr ge ↦
+            elim splits.above [
+              | inl a ↦
+                  let z : length g0 ≡ 0 = ap length a.0 in
+                  let le : length g ≡ length f + 1 = length-edge f b in
+                  absurd (omega arith)
+              | inr a ↦
+                  let f0 : Bytes = s.front_of a.0 in
+                  let e : g0 ≡ f0 ++ a.1 ∷ [] = a.3 in
+                  let le0 : length g0 ≡ length f0 + 1 = ap length e ∙ length-edge f0 a.1 in
+                  let f0t : Begins f0 t = Begins-edge_front f0 t a.1 (rw (← e) g0_t) in
+                  elim (cases_lt (length g) (length g0)) [
+                    | inl lt ↦ not_past_above a.0 a.2 f0t g c cov (Begins-linear g f0 t gt f0t (omega arith)) far
+                    | inr same ↦ other (Begins-equal g g0 (Begins-linear g g0 t gt g0_t ge) same)
+                  ]
+            ]
+      ]
+
+  mate_at : (j : ℕ) (l : Bytes) → keys j ≡ Some l → j ≡ d.mate → l ≡ d.mate_key
+  mate_at j l is e = let f : keys d.mate ≡ Some l = rw (← e) is in let g : keys d.mate ≡ Some d.mate_key = d.mate_is in cc
+
+  mate_g0 : Begins g0 d.mate_key
+  mate_g0 = Begins-trans g0 t d.mate_key g0_t d.mate_front
+
+  -- a key below the edge that was split begins with t, and goes on as the mate does
+  below_g0 : (c : Child) → c ≡ c0 → Covers keys nodes s.front_of g0 c → Past s.front_of t c → (j : ℕ) (l : Bytes) → keys j ≡ Some l → Begins g0 l → Begins (t ++ next_byte t d.mate_key ∷ []) l
+  below_g0 (Leaf j0) e cov far j l is b =
+      let a : j ≡ j0 = cov.only j l is b in
+      let h : d.mate ≡ j0 = cov.only d.mate d.mate_key d.mate_is mate_g0 in
+      rw (mate_at j l is (a ∙ sym h)) (Begins-more t d.mate_key d.mate_front d.mate_longer)
+  below_g0 (Inner m0) e cov far j l is b =
+      let a : Begins (s.front_of m0) l = cov.only j l is b in
+      let h : Begins (s.front_of m0) d.mate_key = cov.only d.mate d.mate_key d.mate_is mate_g0 in
+      Begins-trans (t ++ next_byte t d.mate_key ∷ []) (s.front_of m0) l (Begins-past t (s.front_of m0) d.mate_key d.mate_front h far) a
+
+  under_g0 : (j : ℕ) (l : Bytes) → keys j ≡ Some l → Begins g0 l → Begins (t ++ next_byte t d.mate_key ∷ []) l
+  under_g0 j l is b = below_g0 c0 refl covers0 past j l is b
+
+  -- k goes on from t as no key does
+  not_mate : Begins (t ++ next_byte t d.mate_key ∷ []) k → ⊥
+  not_mate b =
+      let e : next_byte t k ≡ next_byte t d.mate_key = Begins-next t k (next_byte t d.mate_key) b in
+      d.alone d.mate d.mate_key d.mate_is (rw e (Begins-more t d.mate_key d.mate_front d.mate_longer))
+
+  leaf_kept : (g : Bytes) (j : ℕ) → (Begins g t → ⊥) → CoversLeaf keys g j → CoversLeaf keys' g j
+  leaf_kept g j far c = record {
+    key = c.key;
+    is = kept keys keys' i k gains j c.key c.is;
+    front = c.front;
+    only = λ j' l e b.
+        elim (kept_cases keys keys' i k gains j' l e) [
+          | inl o ↦ c.only j' l o b
+          | inr o ↦
+              let gk : Begins g k = rw (← o.1) b in
+              absurd (far (within keys nodes s.front_of t k d g j c.key c.is c.front gk))
+        ];
+  }
+
+  node_kept : (g : Bytes) (m : ℕ) → (Begins g t → length t < length (s.front_of m) → ⊥) → CoversNode keys nodes s.front_of g m → CoversNode keys' nodes' fronts_after g m
+  node_kept g m far c =
+      let e : fronts_after m ≡ s.front_of m = after-old m (not_new m c.live) in
+      record {
+        live = live_kept m c.live;
+        front = rw e c.front;
+        only = λ j' l is b. rw e (
+            elim (kept_cases keys keys' i k gains j' l is) [
+              | inl o ↦ c.only j' l o b
+              | inr o ↦
+                  let x = some_of (nodes m) c.live in
+                  let q = (s.node m x.0 x.1).parts in
+                  let gk : Begins g k = rw (← o.1) b in
+                  let gt : Begins g t = within keys nodes s.front_of t k d g q.i q.k q.k_is (Begins-trans g (s.front_of m) q.k c.front q.k_front) gk in
+                  elim (cases_lt (length t) (length (s.front_of m))) [
+                    | inl lt ↦ absurd (far gt lt)
+                    | inr le ↦
+                        let a : Begins (s.front_of m) d.mate_key = c.only d.mate d.mate_key d.mate_is (Begins-trans g t d.mate_key gt d.mate_front) in
+                        rw o.1 (Begins-trans (s.front_of m) t k (Begins-linear (s.front_of m) t d.mate_key a d.mate_front le) d.front)
+                  ]
+            ]);
+      }
+
+  edge_kept : (g : Bytes) (c : Child) → (Begins g t → Past s.front_of t c → ⊥) → Covers keys nodes s.front_of g c → Covers keys' nodes' fronts_after g c
+  edge_kept g (Leaf j) far c = leaf_kept g j (λ b. far b tt) c
+  edge_kept g (Inner m) far c = node_kept g m far c
+
+  new_node : CoversNode keys' nodes' fronts_after g0 n
+  new_node = record {
+    live = live_new;
+    front = rw after-new g0_t;
+    only = λ j l e b. rw after-new (
+        elim (kept_cases keys keys' i k gains j l e) [
+          | inl o ↦ Begins-edge_front t l (next_byte t d.mate_key) (under_g0 j l o b)
+          | inr o ↦ rw o.1 d.front
+        ]);
+  }
+
+  new_leaf : CoversLeaf keys' (t ++ next_byte t k ∷ []) i
+  new_leaf = record {
+    key = k;
+    is = gains.has;
+    front = Begins-more t k d.front d.longer;
+    only = λ j l e b. elim (kept_cases keys keys' i k gains j l e) [ inl o ↦ absurd (d.alone j l o b) | inr o ↦ o.0 ];
+  }
+
+  -- the old child, below the new node
+  old_child : (c : Child) → c ≡ c0 → Covers keys nodes s.front_of g0 c → Past s.front_of t c → Covers keys' nodes' fronts_after (t ++ next_byte t d.mate_key ∷ []) c
+  old_child (Leaf j0) e cov far = record {
+    key = cov.key;
+    is = kept keys keys' i k gains j0 cov.key cov.is;
+    front = under_g0 j0 cov.key cov.is cov.front;
+    only = λ j l is b.
+        elim (kept_cases keys keys' i k gains j l is) [
+          | inl o ↦ cov.only j l o (Begins-trans g0 t l g0_t (Begins-edge_front t l (next_byte t d.mate_key) b))
+          | inr o ↦ absurd (not_mate (rw (← o.1) b))
+        ];
+  }
+  old_child (Inner m0) e cov far =
+      let e : fronts_after m0 ≡ s.front_of m0 = after-old m0 (not_new m0 cov.live) in
+      let h : Begins (s.front_of m0) d.mate_key = cov.only d.mate d.mate_key d.mate_is mate_g0 in
+      record {
+        live = live_kept m0 cov.live;
+        front = rw e (Begins-past t (s.front_of m0) d.mate_key d.mate_front h far);
+        only = λ j l is b. rw e (
+            elim (kept_cases keys keys' i k gains j l is) [
+              | inl o ↦ cov.only j l o (Begins-trans g0 t l g0_t (Begins-edge_front t l (next_byte t d.mate_key) b))
+              | inr o ↦ absurd (not_mate (rw (← o.1) b))
+            ]);
+      }
+
+  bytes_differ : next_byte t k ≢ next_byte t d.mate_key
+  bytes_differ e = d.alone d.mate d.mate_key d.mate_is (rw e (Begins-more t d.mate_key d.mate_front d.mate_longer))
+
+  new_parts : Parts keys' t
+  new_parts = record {
+    i = i;
+    j = d.mate;
+    k = k;
+    l = d.mate_key;
+    k_is = gains.has;
+    l_is = kept keys keys' i k gains d.mate d.mate_key d.mate_is;
+    k_front = d.front;
+    l_front = d.mate_front;
+    differ = bytes_differ;
+  }
+
+  new_fits : NodeFits keys' nodes' fronts_after t splits.made
+  new_fits = record {
+    depth = splits.depth;
+    below = λ b c e.
+        elim (splits.only b c e) [
+          | inl o ↦ rw (o.0, o.1) new_leaf
+          | inr o ↦ rw (o.0, o.1) (old_child c0 refl covers0 past)
+        ];
+    longer = λ j l e b.
+        elim (kept_cases keys keys' i k gains j l e) [
+          | inl o ↦
+              let a : length (t ++ next_byte t d.mate_key ∷ []) ≤ length l = Begins-length _ l (under_g0 j l o (Begins-trans g0 t l g0_t b)) in
+              let le : length (t ++ next_byte t d.mate_key ∷ []) ≡ length t + 1 = length-edge t (next_byte t d.mate_key) in
+              omega arith
+          | inr o ↦ rw o.1 d.longer
+        ];
+    edge = λ j l e b.
+        elim (kept_cases keys keys' i k gains j l e) [
+          | inl o ↦ is_some (kid_at splits.made.kids (next_byte t l)) c0 (ap (kid_at splits.made.kids) (Begins-next t l (next_byte t d.mate_key) (under_g0 j l o (Begins-trans g0 t l g0_t b))) ∙ splits.high)
+          | inr o ↦ is_some (kid_at splits.made.kids (next_byte t l)) (Leaf i) (ap (λ (l : Bytes). kid_at splits.made.kids (next_byte t l)) o.1 ∙ splits.low)
+        ];
+    parts = new_parts;
+    ascends = splits.ascends;
+  }
+
+  -- an old front that begins k is shorter than t
+  shorter : (m : ℕ) (x : Node) → nodes m ≡ Some x → Begins (s.front_of m) k → length (s.front_of m) < length t
+  shorter m x is b =
+      let q = (s.node m x is).parts in
+      let mt : Begins (s.front_of m) t = within keys nodes s.front_of t k d (s.front_of m) q.i q.k q.k_is q.k_front b in
+      elim (cases_lt (length (s.front_of m)) (length t)) [
+        | inl h ↦ h
+        | inr h ↦ absurd (not_front m (is_some (nodes m) x is) (Begins-equal (s.front_of m) t mt h))
+      ]
+
+  old_fits : (m : ℕ) (x x' : Node) → nodes m ≡ Some x → EdgeLed x x' (s.front_of m) g0 c0 n → NodeFits keys' nodes' fronts_after (s.front_of m) x'
+  old_fits m x x' is r =
+      let f : NodeFits keys nodes s.front_of (s.front_of m) x = s.node m x is in
+      let g : Bytes = s.front_of m in
+      let live : IsSome (nodes m) = is_some (nodes m) x is in
+      record {
+        depth = r.depth ∙ f.depth;
+        below = λ b c e.
+            elim (Bytes-cases (g ++ b ∷ []) g0) [
+              | inl at ↦
+                  let a : kid_at x'.kids b ≡ Some (Inner n) = r.now b at in
+                  let h : c ≡ Inner n = cc in
+                  rw (at, h) new_node
+              | inr off ↦
+                  let a : kid_at x.kids b ≡ Some c = sym (r.rest b off) ∙ e in
+                  edge_kept (g ++ b ∷ []) c (not_past_edge m live b c (f.below b c a) off) (f.below b c a)
+            ];
+        longer = λ j l e b.
+            elim (kept_cases keys keys' i k gains j l e) [
+              | inl o ↦ f.longer j l o b
+              | inr o ↦
+                  let gk : Begins g k = rw (← o.1) b in
+                  let h : length g < length t = shorter m x is gk in
+                  let h2 : length t < length k = d.longer in
+                  rw o.1 (omega arith)
+            ];
+        edge = λ j l e b.
+            let y : IsSome (kid_at x.kids (next_byte g l)) = (elim (kept_cases keys keys' i k gains j l e) [
+              | inl o ↦ f.edge j l o b
+              | inr o ↦
+                  let gk : Begins g k = rw (← o.1) b in
+                  let h : length g < length t = shorter m x is gk in
+                  let gt : Begins g t = Begins-linear g t k gk d.front (omega arith) in
+                  let a : next_byte g t ≡ next_byte g k = next_byte-front g t k d.front h in
+                  let c : next_byte g t ≡ next_byte g d.mate_key = next_byte-front g t d.mate_key d.mate_front h in
+                  let z : IsSome (kid_at x.kids (next_byte g d.mate_key)) = f.edge d.mate d.mate_key d.mate_is (Begins-trans g t d.mate_key gt d.mate_front) in
+                  let P : ℕ → Type 0 = λ b. IsSome (kid_at x.kids b) in
+                  rw o.1 (subst P (sym c ∙ a) z)
+            ]) in
+            elim (Bytes-cases (g ++ next_byte g l ∷ []) g0) [
+              | inl at ↦ is_some (kid_at x'.kids (next_byte g l)) (Inner n) (r.now (next_byte g l) at)
+              | inr off ↦ let P : Option Child → Type 0 = λ o. IsSome o in subst P (sym (r.rest (next_byte g l) off)) y
+            ];
+        parts = Parts-kept keys keys' i k gains g f.parts;
+        ascends = r.ascends f.ascends;
+      }
+
+  was_live : (m : ℕ) (x : Node) → m ≢ n → nodes' m ≡ Some x → (o : Option Node) → nodes m ≡ o → (w : Node) × (nodes m ≡ Some w)
+  was_live m x off is None e = let h : nodes' m ≡ None = splits.no_more m off e in absurd cc
+  was_live m x off is (Some w) e = (w, e)
+
+  node_fits : (m : ℕ) (x : Node) → nodes' m ≡ Some x → NodeFits keys' nodes' fronts_after (fronts_after m) x
+  node_fits m x is =
+      elim (eqb_tells m n) [
+        | inl e ↦
+            let f : nodes' n ≡ Some splits.made = splits.made_is in
+            let g : nodes' n ≡ Some x = rw (← e.1) is in
+            let h : splits.made ≡ x = cc in
+            let z : fronts_after m ≡ t = ap fronts_after e.1 ∙ after-new in
+            subst (λ (f : Bytes). NodeFits keys' nodes' fronts_after f x) (sym z) (subst (λ (x : Node). NodeFits keys' nodes' fronts_after t x) h new_fits)
+        | inr e ↦
+            let w = was_live m x e.1 is (nodes m) refl in
+            let y = splits.others m w.0 w.1 in
+            let a : nodes' m ≡ Some y.0 = y.1 in
+            let h : y.0 ≡ x = cc in
+            let z : fronts_after m ≡ s.front_of m = after-old m e.1 in
+            subst (λ (f : Bytes). NodeFits keys' nodes' fronts_after f x) (sym z) (subst (λ (x : Node). NodeFits keys' nodes' fronts_after (s.front_of m) x) h (old_fits m w.0 y.0 w.1 y.2))
+      ]
+
+  old_joined : (a b : ℕ) (x y : Bytes) → keys a ≡ Some x → keys b ≡ Some y → a ≢ b → (m : ℕ) × IsSome (nodes' m) × (fronts_after m ≡ common x y)
+  old_joined a b x y ax by apart = let r = s.joined a b x y ax by apart in (r.0, live_kept r.0 r.1, after-old r.0 (not_new r.0 r.1) ∙ r.2)
+
+  joined_new : (j : ℕ) (l : Bytes) → keys j ≡ Some l → (m : ℕ) × IsSome (nodes' m) × (fronts_after m ≡ common k l)
+  joined_new j l is =
+      elim (Begins-cases t l) [
+        | inl b ↦ (n, live_new, after-new ∙ sym (common_at t k l d.front d.longer b (d.alone j l is)))
+        | inr b ↦
+            let apart : d.mate ≢ j = λ e. (let f : keys j ≡ Some d.mate_key = rw (← e) d.mate_is in let g : d.mate_key ≡ l = cc in b (subst (λ (l : Bytes). Begins t l) g d.mate_front)) in
+            let r = old_joined d.mate j d.mate_key l d.mate_is is apart in
+            (r.0, r.1, r.2 ∙ sym (common_same t k d.mate_key l d.front d.mate_front b))
+      ]
+
+  top_kept : (r : Option Child) → root ≡ r → 0 < length g0 → RootFits keys' nodes' fronts_after r
+  top_kept None e pos = λ j.
+      let h : RootFits keys nodes s.front_of None = subst (λ (r : Option Child). RootFits keys nodes s.front_of r) e s.top in
+      let a : keys d.mate ≡ None = h d.mate in
+      let b : keys d.mate ≡ Some d.mate_key = d.mate_is in
+      absurd cc
+  top_kept (Some c) e pos =
+      let h : Covers keys nodes s.front_of [] c = subst (λ (r : Option Child). RootFits keys nodes s.front_of r) e s.top in
+      edge_kept [] c (λ b far.
+      elim splits.above [
+        | inl a ↦ (let z : length g0 ≡ 0 = ap length a.0 in omega arith)
+        | inr a ↦ not_past_above a.0 a.2 (Begins-edge_front (s.front_of a.0) t a.1 (rw (← a.3) g0_t)) [] c h tt far
+      ]) h
+
+  top_fits : RootFits keys' nodes' fronts_after root'
+  top_fits =
+      elim splits.above [
+        | inl a ↦ rw a.2 (subst (λ (g : Bytes). CoversNode keys' nodes' fronts_after g n) a.0 new_node)
+        | inr a ↦
+            let le : length g0 ≡ length (s.front_of a.0) + 1 = ap length a.3 ∙ length-edge (s.front_of a.0) a.1 in
+            rw a.4 (top_kept root refl (omega arith))
+      ]
+
+  apart_new : (m : ℕ) → m ≢ n → IsSome (nodes' m) → fronts_after m ≡ t → ⊥
+  apart_new m off live e =
+      let x = some_of (nodes' m) live in
+      let w = was_live m x.0 off x.1 (nodes m) refl in
+      not_front m (is_some (nodes m) w.0 w.1) (sym (after-old m off) ∙ e)
+
+  -- the tree with one node more
+  pub shape_split : Shape keys' nodes' root'
+  shape_split = record {
+    front_of = fronts_after;
+    top = top_fits;
+    node = node_fits;
+    joined = λ a b x y ax by apart.
+        elim (kept_cases keys keys' i k gains a x ax) [
+          | inl o ↦
+              elim (kept_cases keys keys' i k gains b y by) [
+                | inl p ↦ old_joined a b x y o p apart
+                | inr p ↦ let r = joined_new a x o in (r.0, r.1, r.2 ∙ common_comm k x ∙ ap (common x) (sym p.1))
+              ]
+          | inr o ↦
+              elim (kept_cases keys keys' i k gains b y by) [
+                | inl p ↦ let r = joined_new b y p in (r.0, r.1, r.2 ∙ ap (λ (z : Bytes). common z y) (sym o.1))
+                | inr p ↦ absurd (apart (o.0 ∙ sym p.0))
+              ]
+        ];
+    apart = λ a b la lb e.
+        elim (eqb_tells a n) [
+          | inl p ↦
+              elim (eqb_tells b n) [
+                | inl q ↦ p.1 ∙ sym q.1
+                | inr q ↦ absurd (apart_new b q.1 lb (sym e ∙ ap fronts_after p.1 ∙ after-new))
+              ]
+          | inr p ↦
+              elim (eqb_tells b n) [
+                | inl q ↦ absurd (apart_new a p.1 la (e ∙ ap fronts_after q.1 ∙ after-new))
+                | inr q ↦
+                    let x = some_of (nodes' a) la in
+                    let w = was_live a x.0 p.1 x.1 (nodes a) refl in
+                    let y = some_of (nodes' b) lb in
+                    let v = was_live b y.0 q.1 y.1 (nodes b) refl in
+                    s.apart a b (is_some (nodes a) w.0 w.1) (is_some (nodes b) v.0 v.1) (sym (after-old a p.1) ∙ e ∙ after-old b q.1)
+              ]
+        ];
+  }
+
+-- ---- from what the store's calls say
+
+-- of the two edges of the new node, one leads to the leaf and the other to the old child
+abbrev pub HoldBoth : Edge → Edge → ℕ → ℕ → ℕ → Child → Type 0
+HoldBoth low high bk i bc c =
+    ((low ≡ record { byte = bk; to = Leaf i }) × (high ≡ record { byte = bc; to = c })) ⊎ ((low ≡ record { byte = bc; to = c }) × (high ≡ record { byte = bk; to = Leaf i }))
+
+module _ (low high : Edge) (sorted : low.byte < high.byte) where
+  -- each of two edges leads where it says
+  pub low_kid : kid_at (low ∷ high ∷ []) low.byte ≡ Some low.to
+  low_kid = rw (eq-eqb low.byte low.byte refl) refl
+
+  pub high_kid : kid_at (low ∷ high ∷ []) high.byte ≡ Some high.to
+  high_kid = rw (ne_eqb low.byte high.byte (λ e. omega arith), eq-eqb high.byte high.byte refl) refl
+
+  both_kids : (b : ℕ) (c : Child) → kid_at (low ∷ high ∷ []) b ≡ Some c → ((b ≡ low.byte) × (c ≡ low.to)) ⊎ ((b ≡ high.byte) × (c ≡ high.to))
+  both_kids b c e =
+      elim (eqb_tells low.byte b) [
+        | inl p ↦ (let f : Some low.to ≡ Some c = rw p.0 at e in let g : c ≡ low.to = cc in inl (sym p.1, g))
+        | inr p ↦
+            elim (eqb_tells high.byte b) [
+              | inl q ↦ (let f : Some high.to ≡ Some c = rw (p.0, q.0) at e in let g : c ≡ high.to = cc in inr (sym q.1, g))
+              | inr q ↦ (let g : Some c ≡ kid_at (low ∷ high ∷ []) b = sym e in let f : Some c ≡ None = rw (p.0, q.0) at g in absurd cc)
+            ]
+      ]
+
+module _ (keys keys' : ℕ → Option Bytes) (nodes mid : ℕ → Option Node) (root : Option Child) (n i depth : ℕ) (prefix : List ℕ) (low high : Edge) (c0 : Child) (t k : Bytes) (s : Shape keys nodes root)
+    (gains : Gains keys keys' i k) (d : Departs keys t k) (makes : Makes nodes mid n depth prefix low high) (deep : depth ≡ length t) (sorted : low.byte < high.byte)
+    (both : HoldBoth low high (next_byte t k) i (next_byte t d.mate_key) c0) where
+  abbrev made : Node
+  made = record { depth = depth; prefix = prefix; kids = low ∷ high ∷ [] }
+
+  leaf_kid : kid_at made.kids (next_byte t k) ≡ Some (Leaf i)
+  leaf_kid =
+      elim both [
+        | inl h ↦ ap (kid_at made.kids) (ap (λ (e : Edge). e.byte) (sym h.0)) ∙ low_kid low high sorted ∙ ap (λ (e : Edge). Some e.to) h.0
+        | inr h ↦ ap (kid_at made.kids) (ap (λ (e : Edge). e.byte) (sym h.1)) ∙ high_kid low high sorted ∙ ap (λ (e : Edge). Some e.to) h.1
+      ]
+
+  old_kid : kid_at made.kids (next_byte t d.mate_key) ≡ Some c0
+  old_kid =
+      elim both [
+        | inl h ↦ ap (kid_at made.kids) (ap (λ (e : Edge). e.byte) (sym h.1)) ∙ high_kid low high sorted ∙ ap (λ (e : Edge). Some e.to) h.1
+        | inr h ↦ ap (kid_at made.kids) (ap (λ (e : Edge). e.byte) (sym h.0)) ∙ low_kid low high sorted ∙ ap (λ (e : Edge). Some e.to) h.0
+      ]
+
+  only_kids : (b : ℕ) (c : Child) → kid_at made.kids b ≡ Some c → ((b ≡ next_byte t k) × (c ≡ Leaf i)) ⊎ ((b ≡ next_byte t d.mate_key) × (c ≡ c0))
+  only_kids b c e =
+      elim both [
+        | inl h ↦
+            elim (both_kids low high sorted b c e) [
+              | inl q ↦ inl (q.0 ∙ ap (λ (e : Edge). e.byte) h.0, q.1 ∙ ap (λ (e : Edge). e.to) h.0)
+              | inr q ↦ inr (q.0 ∙ ap (λ (e : Edge). e.byte) h.1, q.1 ∙ ap (λ (e : Edge). e.to) h.1)
+            ]
+        | inr h ↦
+            elim (both_kids low high sorted b c e) [
+              | inl q ↦ inr (q.0 ∙ ap (λ (e : Edge). e.byte) h.0, q.1 ∙ ap (λ (e : Edge). e.to) h.0)
+              | inr q ↦ inl (q.0 ∙ ap (λ (e : Edge). e.byte) h.1, q.1 ∙ ap (λ (e : Edge). e.to) h.1)
+            ]
+      ]
+
+  off_new : (m : ℕ) (x : Node) → nodes m ≡ Some x → m ≢ n
+  off_new m x is e = let f : nodes n ≡ Some x = rw (← e) is in let g : nodes n ≡ None = makes.fresh in cc
+
+  splits_of : (above : Option (ℕ × ℕ)) (new : ℕ → Option Node) (root' : Option Child) → LeadsTo nodes root above c0 → TurnsTo mid new root root' above (Inner n)
+      → Splits nodes new s.front_of root root' (edge_front s.front_of above) c0 n i t (next_byte t d.mate_key) (next_byte t k)
+  splits_of None new root' leads turns = record {
+    fresh = makes.fresh;
+    made = made;
+    made_is = turns.0 n ∙ makes.is;
+    depth = deep;
+    ascends = (sorted, tt);
+    low = leaf_kid;
+    high = old_kid;
+    only = only_kids;
+    above = inl (refl, leads, turns.1);
+    others = λ m x is. (
+      x,
+      turns.0 m ∙ makes.others m (off_new m x is) ∙ is,
+      record {
+        depth = refl;
+        ascends = λ a. a;
+        rest = λ b h. refl;
+        was = λ b h. absurd (edge_some (s.front_of m) b h);
+        now = λ b h. absurd (edge_some (s.front_of m) b h);
+      },
+    );
+    no_more = λ m off e. turns.0 m ∙ makes.others m off ∙ e;
+  }
+  splits_of (Some (p, b)) new root' leads turns =
+      let red : Redirects mid new p b (Inner n) = turns.0 in
+      let p_off : p ≢ n = off_new p leads.0 leads.1 in
+      let n_off : n ≢ p = λ e. p_off (sym e) in
+      let was_is : red.was ≡ leads.0 = (let f : mid p ≡ Some leads.0 = makes.others p p_off ∙ leads.1 in let g : mid p ≡ Some red.was = red.was_is in cc) in
+      let live : IsSome (nodes p) = is_some (nodes p) leads.0 leads.1 in
+      record {
+        fresh = makes.fresh;
+        made = made;
+        made_is = red.others n n_off ∙ makes.is;
+        depth = deep;
+        ascends = (sorted, tt);
+        low = leaf_kid;
+        high = old_kid;
+        only = only_kids;
+        above = inr (p, b, live, refl, turns.1);
+        others = λ m x is. elim (eqb_tells m p) [
+          | inl e ↦
+              let x_is : leads.0 ≡ x = (let f : nodes p ≡ Some x = rw (← e.1) is in let g : nodes p ≡ Some leads.0 = leads.1 in cc) in
+              let same : red.was ≡ x = was_is ∙ x_is in
+              let front : s.front_of m ≡ s.front_of p = ap s.front_of e.1 in (
+                red.is,
+                ap new e.1 ∙ red.is_is,
+                record {
+                  depth = red.depth ∙ ap (λ (x : Node). x.depth) same;
+                  ascends = λ a. red.ascends;
+                  rest = λ c h. red.rest c (λ z. h (λ j. front j ++ z j ∷ [])) ∙ ap (λ (x : Node). kid_at x.kids c) same;
+                  was = λ c h. (let z = edge_same (s.front_of m) (s.front_of p) c b h in ap (kid_at x.kids) z.1 ∙ ap (λ (x : Node). kid_at x.kids b) (sym x_is) ∙ leads.2);
+                  now = λ c h. (let z = edge_same (s.front_of m) (s.front_of p) c b h in ap (kid_at red.is.kids) z.1 ∙ red.now);
+                },
+              )
+          | inr e ↦
+              let apart : (c : ℕ) → s.front_of m ++ c ∷ [] ≡ s.front_of p ++ b ∷ [] → ⊥ = λ c h. e.1 (s.apart m p (is_some (nodes m) x is) live (edge_same (s.front_of m) (s.front_of p) c b h).0) in (
+                x,
+                red.others m e.1 ∙ makes.others m (off_new m x is) ∙ is,
+                record {
+                  depth = refl;
+                  ascends = λ a. a;
+                  rest = λ c h. refl;
+                  was = λ c h. absurd (apart c h);
+                  now = λ c h. absurd (apart c h);
+                },
+              )
+        ];
+        no_more = λ m off e. (let far : m ≢ p = (λ z. let f : nodes p ≡ None = rw (← z) e in let g : nodes p ≡ Some leads.0 = leads.1 in absurd cc) in red.others m far ∙ makes.others m off ∙ e);
+      }
+
+  module _ (past : Past s.front_of t c0) (above : Option (ℕ × ℕ)) (new : ℕ → Option Node) (root' : Option Child) (leads : LeadsTo nodes root above c0) (along : Begins (edge_front s.front_of above) t) (turns : TurnsTo mid new root root' above (Inner n)) where
+    -- the tree where a new node holds the old child and the new leaf, and the edge above leads to it
+    pub edge_split : Shape keys' new root'
+    edge_split = shape_split keys keys' nodes new root root' (edge_front s.front_of above) c0 n i t k s gains d (splits_of above new root' leads turns) along past (covers_above keys nodes root s above c0 leads)
+
+    -- the fronts: the new node stands where the key departs
+    pub edge_split-front : (m : ℕ) → edge_split.front_of m ≡ cond (eqb m n) t (s.front_of m)
+    unfolding edge_split shape_split
+    edge_split-front m = refl

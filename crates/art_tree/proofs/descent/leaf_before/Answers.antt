@@ -1,0 +1,30 @@
+use Rattle.std.proofs.Common.{subst, lit<}
+use Rattle.art_tree.specs.Departures.{LeavesAt}
+use Rattle.art_tree.specs.Nodes.{at}
+use Rattle.art_tree.specs.declared.descent.Spot.{Spot}
+use Rattle.art_tree.proofs.Departing.{at_node, at_edge}
+use Rattle.art_tree.proofs.descent.leaf_before.Goals as goal
+
+pub before_at_node-requires : goal.before_at_node-requires
+before_at_node-requires g c =
+    let S = c.args.leaves.now.pairs in
+    let l = subst (λ (s : Spot). LeavesAt g.K.AsBytes.bytes S (at c.args.nodes.now) s c.args.mate.now c.args.query.now c.args.depth) c.in-Node.is c.requires in
+    (lit< tt, (c.args.query.now, at_node g.K.AsBytes.bytes S (at c.args.nodes.now) c.args.mate.now c.args.query.now c.args.depth c.in-Node.field-0 c.in-Node.id l))
+
+pub before_at_edge-requires : goal.before_at_edge-requires
+before_at_edge-requires g c =
+    let S = c.args.leaves.now.pairs in
+    let l = subst (λ (s : Spot). LeavesAt g.K.AsBytes.bytes S (at c.args.nodes.now) s c.args.mate.now c.args.query.now c.args.depth) c.in-Edge.is c.requires in
+    (lit< tt, (c.args.query.now, at_edge g.K.AsBytes.bytes S (at c.args.nodes.now) c.args.mate.now c.args.query.now c.args.depth c.in-Edge.field-0 c.in-Edge.child l))
+
+pub returns-in-Node : goal.returns-in-Node
+returns-in-Node g c =
+    let S = c.args.leaves.now.pairs in
+    let l = subst (λ (s : Spot). LeavesAt g.K.AsBytes.bytes S (at c.args.nodes.now) s c.args.mate.now c.args.query.now c.args.depth) c.in-Node.is c.requires in
+    c.before_at_node.ensures c.args.query.now (at_node g.K.AsBytes.bytes S (at c.args.nodes.now) c.args.mate.now c.args.query.now c.args.depth c.in-Node.field-0 c.in-Node.id l)
+
+pub returns-in-Edge : goal.returns-in-Edge
+returns-in-Edge g c =
+    let S = c.args.leaves.now.pairs in
+    let l = subst (λ (s : Spot). LeavesAt g.K.AsBytes.bytes S (at c.args.nodes.now) s c.args.mate.now c.args.query.now c.args.depth) c.in-Edge.is c.requires in
+    c.before_at_edge.ensures c.args.query.now (at_edge g.K.AsBytes.bytes S (at c.args.nodes.now) c.args.mate.now c.args.query.now c.args.depth c.in-Edge.field-0 c.in-Edge.child l)

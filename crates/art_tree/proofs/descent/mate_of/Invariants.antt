@@ -1,0 +1,17 @@
+use Rattle.std.proofs.Common.{ℕ, Option, Some}
+use Rattle.art_tree.specs.Begins.{Bytes}
+use Rattle.art_tree.specs.Nodes.{at}
+use Rattle.art_tree.specs.Shape.{Shape}
+use Rattle.art_tree.specs.Descents.{Hangs}
+use Rattle.art_tree.proofs.Mates.{MatesBelow}
+use Rattle.art_tree.proofs.Deepest.{rank}
+use Rattle.art_tree.proofs.descent.mate_of.Given as goal
+
+abbrev pub invariant-down : goal.invariant-down
+invariant-down g l = record {
+  hangs : Hangs (at l.nodes) l.at;
+  mates : (keys : ℕ → Option Bytes) (s : Shape keys (at l.nodes) (Some l.fn.root)) → MatesBelow keys (at l.nodes) l.query s.front_of l.at;
+}
+
+abbrev pub decreases-down : goal.decreases-down
+decreases-down g l = rank l.nodes l.at

@@ -1,0 +1,18 @@
+use Rattle.std.proofs.Common.{◌≡◌, ◌-◌, ◌<◌, suc, List, length, take, subst, sym, get_or, arith}
+use Rattle.art_tree.specs.Kids.{IsGreatest, Ascends}
+use Rattle.art_tree.specs.declared.records.ids.Edge.{Edge}
+use Rattle.art_tree.proofs.KidsFills.{in_use}
+use Rattle.art_tree.proofs.KidsNexts.{last-greatest}
+use Rattle.art_tree.proofs.records.children.Children.last.Goals as goal
+
+pub returns : goal.returns
+returns c =
+    let i = c.self.inside in
+    let v = c.self.invariant in
+    let u : length (take i.count i.edges) ≡ i.count = in_use i.count i.edges i.edges v in
+    let w : 0 < length (take i.count i.edges) = rw c.self.view_is c.requires in
+    let x = c.index-self-self.result in
+    let e : suc (i.count - 1) ≡ i.count = omega arith in
+    let g = last-greatest (i.count - 1) i.edges x (subst (λ n. Ascends (take n i.edges)) (sym e) v.ascends) (omega (arith, v.within, v.long)) in
+    let h : IsGreatest (take i.count i.edges) (get_or i.edges (i.count - 1) x) = subst (λ n. IsGreatest (take n i.edges) (get_or i.edges (i.count - 1) x)) e g in
+    subst (λ (k : List Edge). IsGreatest k (get_or i.edges (i.count - 1) x)) c.self.view_is h

@@ -1,0 +1,47 @@
+-- Where a query leaves the stored keys, and what is known there.
+use Rattle.std.specs.Prelude.{◌≡◌, ◌≢◌, ℕ, false, List, [], ◌∷◌, ◌++◌, Option, Some, IsSome}
+use Rattle.blart_keys.specs.Bytes.{related}
+use Rattle.blart_keys.specs.Content.{IsContent}
+use Rattle.art_tree.specs.Begins.{Bytes, Begins}
+use Rattle.art_tree.specs.Good.{LeavesMate}
+use Rattle.art_tree.specs.Leaves.{Numbered, AreDistinct, keys_in, bytes}
+use Rattle.art_tree.specs.Nodes.{Node}
+use Rattle.art_tree.specs.Shape.{Shape, Covers}
+use Rattle.art_tree.specs.Spots.{SpotFits}
+use Rattle.art_tree.specs.declared.descent.Spot.{Spot}
+use Rattle.art_tree.specs.declared.records.ids.Child.{Child}
+
+module _ {K V : Type 0} (key_bytes : K → List ℕ) (pairs : List (Numbered K V)) (nodes : ℕ → Option Node) where
+  -- a sound tree, no key of which is related to q
+  pub record NoneRelated (q : Bytes) : Type 0 where
+    pub content : IsContent (bytes key_bytes) pairs
+    pub distinct : AreDistinct pairs
+    pub root : Option Child
+    pub shape : Shape (keys_in key_bytes pairs) nodes root
+    pub alone : (j : ℕ) (k : Bytes) → keys_in key_bytes pairs j ≡ Some k → related k q ≡ false
+
+  -- q leaves the keys at a node, and goes on by this byte
+  pub record LeavesAtNode (n byte : ℕ) (q : Bytes) : Type 0 where
+    pub apart : NoneRelated q
+    pub live : IsSome (nodes n)
+    pub goes_on : Begins (apart.shape.front_of n ++ byte ∷ []) q
+    pub none : (j : ℕ) (k : Bytes) → keys_in key_bytes pairs j ≡ Some k → Begins (apart.shape.front_of n ++ byte ∷ []) k → ⊥
+
+  -- q leaves the keys behind a front t on the way to a child: they go on by the mate's byte, and q by another
+  pub record LeavesAtEdge (child : Child) (mate_byte byte : ℕ) (q : Bytes) : Type 0 where
+    pub apart : NoneRelated q
+    pub t : Bytes
+    pub front : Bytes
+    pub covers : Covers (keys_in key_bytes pairs) nodes apart.shape.front_of front child
+    pub within : Begins front t
+    pub all : (j : ℕ) (k : Bytes) → keys_in key_bytes pairs j ≡ Some k → Begins front k → Begins (t ++ mate_byte ∷ []) k
+    pub goes_on : Begins (t ++ byte ∷ []) q
+    pub other : mate_byte ≢ byte
+
+  -- q leaves the mate at this depth, and there the spot is
+  pub record LeavesAt (spot : Spot) (mate q : Bytes) (depth : ℕ) : Type 0 where
+    pub apart : NoneRelated q
+    pub spot_fits : SpotFits nodes apart.root apart.shape.front_of mate depth spot
+    pub leaf : ℕ
+    pub is : keys_in key_bytes pairs leaf ≡ Some mate
+    pub leaves : LeavesMate (keys_in key_bytes pairs) leaf depth q

@@ -1,0 +1,84 @@
+-- What the ways down a tree find.
+use Rattle.std.specs.Prelude.{◌≡◌, ◌≢◌, ℕ, ◌+◌, ◌<◌, ◌≤◌, ◌⊎◌, length, slice_index, Option, Some, None, IsSome}
+use Rattle.blart_keys.specs.Bytes.{common, PartsBelow}
+use Rattle.art_tree.specs.Begins.{Bytes, Begins}
+use Rattle.art_tree.specs.Kids.{kid_at}
+use Rattle.art_tree.specs.Nodes.{Node}
+use Rattle.art_tree.specs.Shape.{Shape, Covers}
+use Rattle.art_tree.specs.declared.records.ids.Child.{Child}
+
+-- in some tree, the child stands for the keys that begin with some front
+pub record Hangs (nodes : ℕ → Option Node) (child : Child) : Type 0 where
+  pub keys : ℕ → Option Bytes
+  pub root : Option Child
+  pub shape : Shape keys nodes root
+  pub front : Bytes
+  pub covers : Covers keys nodes shape.front_of front child
+
+-- in some tree with this root, the mate is a stored key, at least as long as the depth
+pub record IsWayOf (nodes : ℕ → Option Node) (root : Child) (mate : Bytes) (depth : ℕ) : Type 0 where
+  pub keys : ℕ → Option Bytes
+  pub shape : Shape keys nodes (Some root)
+  pub leaf : ℕ
+  pub is : keys leaf ≡ Some mate
+  pub within : depth ≤ length mate
+
+-- the number has a node, with some edges
+pub record HasEdges (nodes : ℕ → Option Node) (n : ℕ) : Type 0 where
+  pub node : Node
+  pub is : nodes n ≡ Some node
+  pub some : 0 < length node.kids
+
+-- an edge of the node leads to the child: by the byte that follows in q, or by any where q has ended or no edge has that byte
+pub record GoesToward (nodes : ℕ → Option Node) (n : ℕ) (q : Bytes) (c : Child) : Type 0 where
+  pub node : Node
+  pub is : nodes n ≡ Some node
+  pub byte : ℕ
+  pub there : kid_at node.kids byte ≡ Some c
+  pub way : (length q ≤ node.depth) ⊎ ((byte ≡ slice_index q node.depth) ⊎ (kid_at node.kids (slice_index q node.depth) ≡ None))
+
+module _ (keys : ℕ → Option Bytes) where
+  -- the leaf has the least of the keys that begin with g
+  pub record IsLeastUnder (g : Bytes) (i : ℕ) : Type 0 where
+    pub key : Bytes
+    pub is : keys i ≡ Some key
+    pub front : Begins g key
+    pub least : (j : ℕ) (k : Bytes) → keys j ≡ Some k → Begins g k → (j ≡ i) ⊎ PartsBelow key k
+
+  -- the leaf has the greatest of the keys that begin with g
+  pub record IsGreatestUnder (g : Bytes) (i : ℕ) : Type 0 where
+    pub key : Bytes
+    pub is : keys i ≡ Some key
+    pub front : Begins g key
+    pub greatest : (j : ℕ) (k : Bytes) → keys j ≡ Some k → Begins g k → (j ≡ i) ⊎ PartsBelow k key
+
+  -- no key goes along with q for longer than that of the leaf
+  pub record IsMate (q : Bytes) (i : ℕ) : Type 0 where
+    pub key : Bytes
+    pub is : keys i ≡ Some key
+    pub best : (j : ℕ) (k : Bytes) → keys j ≡ Some k → length (common k q) ≤ length (common key q)
+
+module _ (keys : ℕ → Option Bytes) (nodes : ℕ → Option Node) (front_of : ℕ → Bytes) (f : Bytes) (old new : ℕ) where
+  -- no node stands at f
+  pub record FindsNone : Type 0 where
+    pub none : (m : ℕ) → IsSome (nodes m) → front_of m ≢ f
+    pub leaf : ℕ
+    pub key : Bytes
+    pub is : keys leaf ≡ Some key
+    pub few : new ≤ old + length key + 1
+
+  -- a node has a front as long as f, and if some node stands at f it is this one
+  pub record FindsNode (count leaf : ℕ) : Type 0 where
+    pub number : ℕ
+    pub node : Node
+    pub is : nodes number ≡ Some node
+    pub as_long : length (front_of number) ≡ length f
+    pub counted : count ≡ length node.kids
+    pub least : IsLeastUnder keys (front_of number) leaf
+    pub only : (m : ℕ) → IsSome (nodes m) → front_of m ≡ f → front_of number ≡ f
+    pub few : new ≤ old + length least.key
+
+  -- what a way down by the bytes of f finds: how many edges the node there has, and the first leaf below it
+  abbrev pub Finds : Option (ℕ × ℕ) → Type 0
+  Finds None = FindsNone
+  Finds (Some found) = FindsNode found.0 found.1

@@ -1,0 +1,101 @@
+-- Edges by their bytes.
+use Rattle.std.specs.Prelude.{◌≡◌, ◌≢◌, ◌<◌, ◌≤◌, ℕ, List, [], ◌∷◌, Option, Some, None, cond, eqb, leb, ltb, ◌+◌, length, take}
+use Rattle.art_tree.specs.declared.records.ids.Child.{Child}
+use Rattle.art_tree.specs.declared.records.ids.Edge.{Edge}
+
+-- what stands below the edge at a byte
+abbrev pub kid_at : List Edge → ℕ → Option Child
+kid_at [] b = None
+kid_at (e ∷ es) b = cond (eqb e.byte b) (Some e.to) (kid_at es b)
+
+-- each byte is less than those behind it
+abbrev pub Above : ℕ → List Edge → Type 0
+Above b [] = Unit {0}
+Above b (e ∷ es) = (b < e.byte) × Above e.byte es
+
+-- the bytes rise
+abbrev pub Ascends : List Edge → Type 0
+Ascends [] = Unit {0}
+Ascends (e ∷ es) = Above e.byte es
+
+-- the edges with one more, carried along until a greater one gives way
+abbrev pub carried : List Edge → Edge → List Edge
+carried [] e = e ∷ []
+carried (x ∷ xs) e = cond (ltb e.byte x.byte) (e ∷ carried xs x) (x ∷ carried xs e)
+
+-- the edges closed up from a byte on
+abbrev pub closed_behind : Edge → List Edge → ℕ → List Edge
+closed_behind x [] b = []
+closed_behind x (y ∷ ys) b = cond (leb b x.byte) y x ∷ closed_behind y ys b
+
+abbrev pub closed : List Edge → ℕ → List Edge
+closed [] b = []
+closed (x ∷ xs) b = closed_behind x xs b
+
+-- the edges, the first at a byte led elsewhere
+abbrev pub redirected : List Edge → ℕ → Child → List Edge
+redirected [] b to = []
+redirected (e ∷ es) b to = cond (eqb e.byte b) (record { byte = b; to = to } ∷ es) (e ∷ redirected es b to)
+
+-- one child more
+pub record AddsKid (old new : List Edge) (b : ℕ) (to : Child) : Type 0 where
+  pub added : kid_at new b ≡ Some to
+  pub rest : (c : ℕ) → c ≢ b → kid_at new c ≡ kid_at old c
+  pub longer : length new ≡ length old + 1
+  pub ascends : Ascends new
+
+-- one child less
+pub record DropsKid (old new : List Edge) (b : ℕ) : Type 0 where
+  pub gone : kid_at new b ≡ None
+  pub rest : (c : ℕ) → c ≢ b → kid_at new c ≡ kid_at old c
+  pub shorter : length new + 1 ≡ length old
+  pub ascends : Ascends new
+
+-- one child for another
+pub record RedirectsKid (old new : List Edge) (b : ℕ) (to : Child) : Type 0 where
+  pub now : kid_at new b ≡ Some to
+  pub rest : (c : ℕ) → c ≢ b → kid_at new c ≡ kid_at old c
+  pub same_length : length new ≡ length old
+  pub ascends : Ascends new
+
+-- the edge behind a byte, with none between
+abbrev pub IsNext : List Edge → ℕ → Option Edge → Type 0
+IsNext es b None = (c : ℕ) → b < c → kid_at es c ≡ None
+IsNext es b (Some e) = (b < e.byte) × (kid_at es e.byte ≡ Some e.to) × ((c : ℕ) → b < c → c < e.byte → kid_at es c ≡ None)
+
+-- so many edges of an array are used: they ascend by byte
+pub record Sorted (count room : ℕ) (edges : List Edge) : Type 0 where
+  pub within : count ≤ room
+  pub long : length edges ≡ room
+  pub ascends : Ascends (take count edges)
+  pub small : (b : ℕ) → 256 ≤ b → kid_at (take count edges) b ≡ None
+
+-- the first edge behind a byte
+abbrev pub after : List Edge → ℕ → Option Edge
+after [] b = None
+after (e ∷ es) b = cond (ltb b e.byte) (Some e) (after es b)
+
+-- the edge found behind another, or else that one
+abbrev pub later : Option Edge → Edge → Edge
+later None e = e
+later (Some x) e = x
+
+-- the last edge before a byte
+abbrev pub before : List Edge → ℕ → Option Edge
+before [] b = None
+before (e ∷ es) b = cond (ltb e.byte b) (Some (later (before es b) e)) None
+
+-- the edge before a byte, with none between
+abbrev pub IsPrevious : List Edge → ℕ → Option Edge → Type 0
+IsPrevious es b None = (c : ℕ) → c < b → kid_at es c ≡ None
+IsPrevious es b (Some e) = (e.byte < b) × (kid_at es e.byte ≡ Some e.to) × ((c : ℕ) → e.byte < c → c < b → kid_at es c ≡ None)
+
+-- the least edge of a node that has one
+pub record IsLeast (es : List Edge) (e : Edge) : Type 0 where
+  pub there : kid_at es e.byte ≡ Some e.to
+  pub least : (c : ℕ) → c < e.byte → kid_at es c ≡ None
+
+-- the greatest edge of a node that has one
+pub record IsGreatest (es : List Edge) (e : Edge) : Type 0 where
+  pub there : kid_at es e.byte ≡ Some e.to
+  pub greatest : (c : ℕ) → e.byte < c → kid_at es c ≡ None

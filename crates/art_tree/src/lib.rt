@@ -1,0 +1,22 @@
+//! An adaptive radix tree over byte keys. Its records lie in slabs under numbers, and its leaves are linked in byte order.
+//!
+//! A contract sees a [`Tree`] as the list of its pairs in byte order, each under the number of its leaf, and the room for pairs to come.
+#![tactic(auto)]
+
+mod changes;
+mod descent;
+mod lists;
+mod placing;
+mod point;
+mod records;
+mod removing;
+mod tree;
+mod visits;
+
+pub use point::{Place, Point};
+pub use records::ids::LeafId;
+pub use tree::{DEFAULT_PREFIX_LEN, Tree};
+pub use visits::Visits;
+
+#[cfg(test)]
+mod tests;

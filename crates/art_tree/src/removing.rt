@@ -1,0 +1,236 @@
+//! A leaf leaves the tree.
+ghost use Rattle.std.specs.Prelude.{◌≡◌, ◌≢◌, ℕ, ◌+◌, ◌-◌, ◌<◌, ◌^◌, length, Option, Some, None};
+ghost use Rattle.art_tree.specs.Above.{LeadsTo, TurnsTo, edge_front};
+ghost use Rattle.art_tree.specs.Begins.{Bytes, Begins};
+ghost use Rattle.art_tree.specs.Kids.{kid_at};
+ghost use Rattle.art_tree.specs.Leaves.{leaf_in, Has, OthersStand, without_number, keys_in};
+ghost use Rattle.art_tree.specs.Nodes.{at};
+ghost use Rattle.art_tree.specs.Prefixes.{KeepPrefixes, KeepsBehind, OthersKeep, StillKeep};
+ghost use Rattle.art_tree.specs.Removals.{Loses, HangsAt, HangsBelow, OtherEdge, StartsBelow, EndsBelow, Recuts};
+ghost use Rattle.art_tree.specs.Shape.{Shape, Covers};
+ghost use Rattle.art_tree.specs.Whole.{IsSound};
+ghost use Rattle.art_tree.specs.declared.records.ids.Child.{Child as Way};
+ghost use Rattle.art_tree.specs.declared.records.ids.Child.TheVariants.{Leaf, Inner};
+
+use crate::descent::{Above, Spot, first_under, locate};
+use crate::records::ids::{Child, Edge, LeafId, NodeId};
+use crate::records::leaves::Leaves;
+use crate::records::nodes::Nodes;
+use crate::tree::Tree;
+use crate::visits::Visits;
+use blart_keys::AsBytes;
+
+impl<K: AsBytes + Drop, V: Drop, const PREFIX_LEN: usize> Tree<K, V, PREFIX_LEN> {
+    /// Removes a leaf, and gives its pair. Takes no memory. The number of each other leaf stays.
+    pub fn remove(&mut self, id: LeafId) -> (K, V)
+        requires { Has self.old.pairs id }
+        ensures value { leaf_in self.old.pairs id ≡ Some result }
+        ensures rest { self.new.pairs ≡ without_number self.old.pairs id }
+        ensures others { OthersStand self.old.pairs self.new.pairs id }
+        ensures gone { leaf_in self.new.pairs id ≡ None }
+    {
+        let Some(root) = self.root else {
+            unreachable!()
+        };
+        self.leaves.law();
+        self.root = unlink(&self.leaves, &mut self.nodes, &root, &id);
+        self.leaves.remove(id)
+    }
+}
+
+// Takes away the edge to a leaf, and a node that has one edge left. Answers the root.
+fn unlink<K: AsBytes, V, const P: usize>(
+    leaves: &Leaves<K, V>,
+    nodes: &mut Nodes<P>,
+    root: &Child,
+    id: &LeafId,
+) -> Option<Child>
+    requires sound { IsSound K.bytes leaves.now nodes.old (Some root.now) }
+    requires has { Has leaves.now.pairs id.now }
+    ensures shape { (keys : ℕ → Option Bytes) (k : Bytes) → Loses (keys_in K.bytes leaves.now.pairs) keys id.now k → Shape keys (at nodes.new) result }
+    ensures kept { (keys : ℕ → Option Bytes) (k : Bytes) → Loses (keys_in K.bytes leaves.now.pairs) keys id.now k
+        → StillKeep P (keys_in K.bytes leaves.now.pairs) keys (at nodes.old) (at nodes.new) (Some root.now) result }
+{
+    match edge_to_leaf(leaves, nodes, root, id) {
+        None => None,
+        Some((node, byte)) => Some(drop_edge(leaves, nodes, root, id, &node, byte)),
+    }
+}
+
+// The edge to a leaf.
+fn edge_to_leaf<K: AsBytes, V, const P: usize>(
+    leaves: &Leaves<K, V>,
+    nodes: &Nodes<P>,
+    root: &Child,
+    id: &LeafId,
+) -> Above
+    requires sound { IsSound K.bytes leaves.now nodes.now (Some root.now) }
+    requires has { Has leaves.now.pairs id.now }
+    ensures { LeadsTo (at nodes.now) (Some root.now) result (Leaf id.now) }
+{
+    let mut visits = Visits::new();
+    let (key, _) = leaves.read(*id, &mut visits);
+    let key = key.as_bytes();
+    match locate(nodes, root, key, key.len()) {
+        Spot::Edge(above, _) => above,
+        Spot::Node(_, _) => unreachable!(),
+    }
+}
+
+// The edge to a node that has an edge to a leaf.
+fn edge_to_node<K: AsBytes, V, const P: usize>(
+    leaves: &Leaves<K, V>,
+    nodes: &Nodes<P>,
+    root: &Child,
+    id: &LeafId,
+    node: &NodeId,
+) -> Above
+    requires sound { IsSound K.bytes leaves.now nodes.now (Some root.now) }
+    requires has { Has leaves.now.pairs id.now }
+    requires leads { (b : ℕ) × LeadsTo (at nodes.now) (Some root.now) (Some (node.now, b)) (Leaf id.now) }
+    ensures { LeadsTo (at nodes.now) (Some root.now) result (Inner node.now) }
+{
+    let mut visits = Visits::new();
+    let (key, _) = leaves.read(*id, &mut visits);
+    let depth = nodes.read(*node, &mut visits).depth();
+    match locate(nodes, root, key.as_bytes(), depth) {
+        Spot::Node(above, _) => above,
+        Spot::Edge(_, _) => unreachable!(),
+    }
+}
+
+// Takes an edge to a leaf away, and its node where one edge is left. Answers the root.
+fn drop_edge<K: AsBytes, V, const P: usize>(
+    leaves: &Leaves<K, V>,
+    nodes: &mut Nodes<P>,
+    root: &Child,
+    id: &LeafId,
+    node: &NodeId,
+    byte: u8,
+) -> Child
+    requires sound { IsSound K.bytes leaves.now nodes.old (Some root.now) }
+    requires has { Has leaves.now.pairs id.now }
+    requires leads { LeadsTo (at nodes.old) (Some root.now) (Some (node.now, byte)) (Leaf id.now) }
+    ensures shape { (keys : ℕ → Option Bytes) (k : Bytes) → Loses (keys_in K.bytes leaves.now.pairs) keys id.now k → Shape keys (at nodes.new) (Some result) }
+    ensures kept { (keys : ℕ → Option Bytes) (k : Bytes) → Loses (keys_in K.bytes leaves.now.pairs) keys id.now k
+        → StillKeep P (keys_in K.bytes leaves.now.pairs) keys (at nodes.old) (at nodes.new) (Some root.now) (Some result) }
+{
+    let above = edge_to_node(leaves, nodes, root, id, node);
+    let mut visits = Visits::new();
+    let count = nodes.read(*node, &mut visits).count();
+    if count > 2 {
+        return shrink(nodes, root, &above, node, byte);
+    }
+    let other = other_edge(nodes, node, byte);
+    recut(leaves, nodes, &above, &other.to);
+    merge(nodes, root, &above, node, &other.to)
+}
+
+// Takes an edge to a leaf away from a node that has two others. Answers the root.
+fn shrink<const P: usize>(
+    nodes: &mut Nodes<P>,
+    root: &Child,
+    above: &Above,
+    node: &NodeId,
+    byte: u8,
+) -> Child
+    requires { (keys : ℕ → Option Bytes) × (i : ℕ) × HangsAt keys (at nodes.old) (Some root.now) above.now node.now byte i }
+    ensures shape { (keys keys' : ℕ → Option Bytes) (i : ℕ) (h : HangsAt keys (at nodes.old) (Some root.now) above.now node.now byte i)
+        → 2 < length h.node.kids → Loses keys keys' i h.key → Shape keys' (at nodes.new) (Some result) }
+    ensures kept { (keys keys' : ℕ → Option Bytes) (i : ℕ) (h : HangsAt keys (at nodes.old) (Some root.now) above.now node.now byte i)
+        → 2 < length h.node.kids → Loses keys keys' i h.key → StillKeep P keys keys' (at nodes.old) (at nodes.new) (Some root.now) (Some result) }
+{
+    nodes.remove_edge(*node, byte);
+    let moved = nodes.narrow(*node);
+    lead(nodes, root, above, &Child::Inner(moved))
+}
+
+// Takes away a node with two edges: the edge above it leads to the child of one of them. Answers the root.
+fn merge<const P: usize>(
+    nodes: &mut Nodes<P>,
+    root: &Child,
+    above: &Above,
+    node: &NodeId,
+    to: &Child,
+) -> Child
+    requires { (keys : ℕ → Option Bytes) × (b : ℕ) × (i : ℕ) × HangsAt keys (at nodes.old) (Some root.now) above.now node.now b i }
+    ensures shape { (keys keys' : ℕ → Option Bytes) (b : ℕ) (i : ℕ) (h : HangsAt keys (at nodes.old) (Some root.now) above.now node.now b i)
+        → length h.node.kids ≡ 2 → (b1 : ℕ) → kid_at h.node.kids b1 ≡ Some to.now → b ≢ b1 → Loses keys keys' i h.key → Shape keys' (at nodes.new) (Some result) }
+    ensures kept { (keys keys' : ℕ → Option Bytes) (b : ℕ) (i : ℕ) (h : HangsAt keys (at nodes.old) (Some root.now) above.now node.now b i)
+        → length h.node.kids ≡ 2 → (b1 : ℕ) → kid_at h.node.kids b1 ≡ Some to.now → b ≢ b1 → Loses keys keys' i h.key
+        → OthersKeep P (at nodes.old) (Some root.now) h.shape.front_of to.now → KeepsBehind P (at nodes.old) h.shape.front_of above.now to.now
+        → (s : Shape keys' (at nodes.new) (Some result)) → KeepPrefixes P (at nodes.new) (Some result) s.front_of }
+{
+    let root = lead(nodes, root, above, to);
+    nodes.free(*node);
+    root
+}
+
+// Leads the edge above a child elsewhere. Answers the root.
+fn lead<const P: usize>(nodes: &mut Nodes<P>, root: &Child, above: &Above, to: &Child) -> Child
+    requires { (c : Way) × LeadsTo (at nodes.old) (Some root.now) above.now c }
+    ensures { TurnsTo (at nodes.old) (at nodes.new) (Some root.now) (Some result) above.now to.now }
+{
+    match above {
+        None => *to,
+        Some((parent, byte)) => {
+            nodes.redirect(*parent, *byte, *to);
+            *root
+        }
+    }
+}
+
+// Another edge of a node than the one to a leaf.
+fn other_edge<const P: usize>(nodes: &Nodes<P>, node: &NodeId, byte: u8) -> Edge
+    requires { (keys : ℕ → Option Bytes) × (root : Option Way) × (above : Option (ℕ × ℕ)) × (i : ℕ) × HangsAt keys (at nodes.now) root above node.now byte i }
+    ensures { OtherEdge (at nodes.now) node.now byte result }
+{
+    let mut visits = Visits::new();
+    let node = nodes.read(*node, &mut visits);
+    match node.edge_after(byte) {
+        Some(edge) => edge,
+        None => match node.edge_before(byte) {
+            Some(edge) => edge,
+            None => unreachable!(),
+        },
+    }
+}
+
+// Cuts the compressed prefix of a node anew, from a key below it: it begins below this edge now.
+fn recut<K: AsBytes, V, const P: usize>(
+    leaves: &Leaves<K, V>,
+    nodes: &mut Nodes<P>,
+    above: &Above,
+    child: &Child,
+)
+    requires { HangsBelow (keys_in K.bytes leaves.now.pairs) (at nodes.old) above.now child.now }
+    ensures cut { Recuts (at nodes.old) (at nodes.new) child.now }
+    ensures kept { (root : Option Way) (s : Shape (keys_in K.bytes leaves.now.pairs) (at nodes.old) root) (g : Bytes) → Covers (keys_in K.bytes leaves.now.pairs) (at nodes.old) s.front_of g child.now
+        → Begins (edge_front s.front_of above.now) g → KeepsBehind P (at nodes.new) s.front_of above.now child.now }
+{
+    match child {
+        Child::Leaf(_) => {}
+        Child::Inner(id) => {
+            let mut visits = Visits::new();
+            let leaf = first_under(nodes, child, &mut visits);
+            let (key, _) = leaves.read(leaf, &mut visits);
+            let end = nodes.read(*id, &mut visits).depth();
+            let start = depth_below(nodes, above);
+            nodes.set_prefix(*id, &key.as_bytes()[start..end]);
+        }
+    }
+}
+
+// Where the compressed prefix below an edge begins.
+fn depth_below<const P: usize>(nodes: &Nodes<P>, above: &Above) -> usize
+    requires { EndsBelow (at nodes.now) above.now (2 ^ 64 - 1) }
+    ensures { StartsBelow (at nodes.now) above.now result }
+{
+    match above {
+        None => 0,
+        Some((parent, _)) => {
+            let mut visits = Visits::new();
+            nodes.read(*parent, &mut visits).depth() + 1
+        }
+    }
+}

@@ -1,0 +1,232 @@
+//! The tree.
+ghost use Rattle.std.specs.Prelude.{◌≡◌, ◌==◌, ◌+◌, ◌<◌, ◌≤◌, ℕ, [], length, option_map, Some, None, OnOk, OnErr, IfSome};
+ghost use Rattle.std.specs.Borrow.{sem};
+ghost use Rattle.std.specs.FinSet as set;
+ghost use Rattle.blart_keys.specs.Content.{at, IsContent, IsPut};
+ghost use Rattle.blart_keys.specs.Fronts.{fronts, parts};
+ghost use Rattle.art_tree.specs.Leaves.{leaf_in, Has, AreDistinct, OthersStand, first_number, last_number, number_after, number_before, bytes};
+ghost use Rattle.art_tree.specs.Content.{room, Fits, IsOpen};
+ghost use Rattle.art_tree.specs.Points.{IsGood};
+ghost use Rattle.art_tree.specs.Longest.{longest};
+
+use crate::descent::children_of;
+use crate::lists::begins;
+use crate::placing::place_at;
+use crate::point::{Point, point_below};
+use crate::records::ids::{Child, LeafId};
+use crate::records::leaves::Leaves;
+use crate::records::nodes::Nodes;
+use crate::visits::Visits;
+use blart_keys::AsBytes;
+use std::alloc::{AllocError, Global};
+use std::marker::Model;
+
+/// How many bytes of a compressed prefix an inner node keeps where nothing else is said.
+pub const DEFAULT_PREFIX_LEN: usize = 16;
+
+/// Pairs of a key and a value in the order of the keys' bytes, none of which begins another's.
+///
+/// An inner node keeps the first `PREFIX_LEN` bytes of its compressed prefix; any length is good, 0 too.
+#[derive(Drop)]
+pub struct Tree<K: AsBytes, V, const PREFIX_LEN: usize> {
+    pub(crate) leaves: Leaves<K, V>,
+    pub(crate) nodes: Nodes<PREFIX_LEN>,
+    pub(crate) root: Option<Child>,
+}
+
+impl<K: AsBytes, V, const PREFIX_LEN: usize> Model for Tree<K, V, PREFIX_LEN> {
+    ghost use Rattle.art_tree.specs.Content.{Content, content_code};
+
+    ghost Value = { Content K V };
+
+    ghost coded = { content_code K.code V.code };
+
+    ghost use Rattle.art_tree.specs.Whole.{IsWhole};
+
+    ghost view = { λ t. record { pairs = t.leaves.pairs; spares = record { leaves = t.leaves.spare; nodes = t.nodes.spare } } };
+
+    ghost invariant = { λ t. IsWhole K.bytes PREFIX_LEN t.leaves t.nodes t.root };
+}
+
+impl<K: AsBytes + Drop, V: Drop, const PREFIX_LEN: usize> Tree<K, V, PREFIX_LEN> {
+    /// A tree with no pairs. Takes no memory.
+    pub fn new(alloc: Global) -> Self
+        ensures pairs { result.pairs ≡ [] }
+        ensures room { room result ≡ 0 }
+    {
+        Tree {
+            leaves: Leaves::new(alloc),
+            nodes: Nodes::new(alloc),
+            root: None,
+        }
+    }
+
+    /// Answers nothing. Its contract says what holds of every tree: the pairs ascend by their keys' bytes, none of which begins another's, and no number comes twice.
+    pub fn law(&self)
+        ensures content { IsContent (bytes K.bytes) self.now.pairs }
+        ensures distinct { AreDistinct self.now.pairs }
+    {
+        self.leaves.law()
+    }
+
+    /// How many pairs there are.
+    pub fn len(&self) -> usize
+        ensures { result ≡ length self.now.pairs }
+    {
+        self.leaves.len()
+    }
+
+    /// Whether there are no pairs.
+    pub fn is_empty(&self) -> bool
+        ensures { result ≡ (length self.now.pairs == 0) }
+    {
+        self.len() == 0
+    }
+
+    /// The first leaf.
+    pub fn first(&self) -> Option<LeafId>
+        ensures { result ≡ first_number self.now.pairs }
+    {
+        self.leaves.first()
+    }
+
+    /// The last leaf.
+    pub fn last(&self) -> Option<LeafId>
+        ensures { result ≡ last_number self.now.pairs }
+    {
+        self.leaves.last()
+    }
+
+    /// The leaf behind a leaf.
+    pub fn next_of(&self, id: LeafId) -> Option<LeafId>
+        requires { Has self.now.pairs id }
+        ensures { result ≡ number_after self.now.pairs id }
+    {
+        self.leaves.next_of(id)
+    }
+
+    /// The leaf before a leaf.
+    pub fn prev_of(&self, id: LeafId) -> Option<LeafId>
+        requires { Has self.now.pairs id }
+        ensures { result ≡ number_before self.now.pairs id }
+    {
+        self.leaves.prev_of(id)
+    }
+
+    /// The pair of a leaf. One visit.
+    pub fn leaf(&self, id: LeafId, visits: &mut Visits) -> (&K, &V)
+        requires { Has self.now.pairs id }
+        ensures value { leaf_in self.now.pairs id ≡ Some (result.0.now, result.1.now) }
+        ensures counted { visits.new.count ≡ visits.old.count + 1 }
+    {
+        self.leaves.read(id, visits)
+    }
+
+    /// The leaf with these bytes. On n bytes at most n + 1 visits, and none where the tree has no pairs.
+    pub fn search(&self, query: &[u8], visits: &mut Visits) -> Option<LeafId>
+        ensures found { result ≡ option_map (λ p. p.0) (at (bytes K.bytes) self.now.pairs query.now) }
+        ensures counted { visits.new.count ≤ visits.old.count + length query.now + 1 }
+        ensures empty { self.now.pairs ≡ [] → visits.new.count ≡ visits.old.count }
+    {
+        self.leaves.law();
+        let mut at = self.root?;
+        'down: loop {
+            match at {
+                Child::Leaf(id) => {
+                    let (key, _) = self.leaves.read(id, visits);
+                    return if key.as_bytes() == query {
+                        Some(id)
+                    } else {
+                        None
+                    };
+                }
+                Child::Inner(id) => {
+                    let node = self.nodes.read(id, visits);
+                    let depth = node.depth();
+                    if depth >= query.len() {
+                        return None;
+                    }
+                    at = node.find(query[depth])?;
+                }
+            }
+        }
+    }
+
+    /// Where the bytes stand, or would go. The point is good for them while the tree is unchanged.
+    pub fn point(&self, query: &[u8]) -> Point
+        ensures { IsGood K.bytes self.now.pairs result query.now }
+    {
+        match self.root {
+            None => Point::Empty,
+            Some(root) => point_below(&self.leaves, &self.nodes, root, query),
+        }
+    }
+
+    /// Makes room, so that a pair may be placed at the point. Refused or not, the pairs stand, and the point stays good.
+    pub fn make_room(&mut self, point: &Point) -> Result<(), AllocError>
+        ensures pairs { self.new.pairs ≡ self.old.pairs }
+        ensures fits { OnOk result (Fits self.new point.now) }
+        ensures room { room self.old ≤ room self.new }
+        ensures refused { OnErr result (IsOpen point.now) }
+    {
+        match point {
+            Point::Exact(_) | Point::Related { .. } => Ok(()),
+            Point::Empty => self.leaves.reserve(1),
+            Point::Free(_) => {
+                self.leaves.reserve(1)?;
+                self.nodes.reserve(1)
+            }
+        }
+    }
+
+    /// Places a pair at a point that is good for its key and fits. Takes no memory. The number of each other leaf stays.
+    pub fn place(&mut self, point: Point, key: K, value: V) -> LeafId
+        requires good { IsGood K.bytes self.old.pairs point (K.bytes key) }
+        requires open { IsOpen point }
+        requires fits { Fits self.old point }
+        ensures put { IsPut (bytes K.bytes) self.old.pairs (result, (key, value)) self.new.pairs }
+        ensures fresh { leaf_in self.old.pairs result ≡ None }
+        ensures now { leaf_in self.new.pairs result ≡ Some (key, value) }
+        ensures others { OthersStand self.old.pairs self.new.pairs result }
+        ensures room { room self.old ≤ room self.new + 1 }
+    {
+        let (id, root) = place_at(
+            &mut self.leaves,
+            &mut self.nodes,
+            &self.root,
+            &point,
+            key,
+            value,
+        );
+        self.root = Some(root);
+        id
+    }
+
+    /// How many inner nodes there are: one at each front where neighbouring keys part.
+    pub fn inner_nodes(&self) -> usize
+        ensures { result ≡ set.len (fronts (bytes K.bytes) self.now.pairs) }
+    {
+        self.leaves.law();
+        self.nodes.live()
+    }
+
+    /// How many children the inner node at this front has, and 0 where none stands there. At most one visit more than the longest key has bytes.
+    pub fn children_at(&self, front: &[u8], visits: &mut Visits) -> usize
+        ensures value { result ≡ set.len (parts (bytes K.bytes) self.now.pairs front.now) }
+        ensures counted { visits.new.count ≤ visits.old.count + longest (bytes K.bytes) self.now.pairs + 1 }
+    {
+        self.leaves.law();
+        let Some(root) = self.root else {
+            return 0;
+        };
+        let Some(found) = children_of(&self.nodes, &root, front, visits) else {
+            return 0;
+        };
+        let (key, _) = self.leaves.read(found.1, visits);
+        if begins(front, key.as_bytes()) {
+            found.0
+        } else {
+            0
+        }
+    }
+}
