@@ -53,6 +53,13 @@ Begins-length [] k b = omega arith
 Begins-length (x ∷ g) [] b = absurd b
 Begins-length (x ∷ g) (y ∷ k) b = omega (arith, Begins-length g k b.1)
 
+-- a common front is no longer than either list
+pub common-in_left : (a b : Bytes) → length (common a b) ≤ length a
+common-in_left a b = Begins-length (common a b) a (common-left a b)
+
+pub common-in_right : (a b : Bytes) → length (common a b) ≤ length b
+common-in_right a b = Begins-length (common a b) b (common-right a b)
+
 -- a front of a longer key goes on by the next byte
 pub Begins-more : (g k : Bytes) → Begins g k → length g < length k → Begins (g ++ next_byte g k ∷ []) k
 Begins-more [] [] b h = omega arith

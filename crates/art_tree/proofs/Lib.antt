@@ -16,6 +16,7 @@ pub mod KidsShifts
 pub mod Leading
 pub mod LeavesLemmas
 pub mod LinksLemmas
+pub mod LookUps
 pub mod Locating
 pub mod Losing
 pub mod Mates
@@ -47,3 +48,4 @@ pub mod WaysDown
 pub mod Departing
 pub mod Pointing
 pub mod Soundness
+pub mod Seeking

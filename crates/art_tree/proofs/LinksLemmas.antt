@@ -277,6 +277,13 @@ module _ {K V : Type 0} where
       pub stored_pair : (r : Leaf K V) → slot_at s n ≡ Some r → leaf_in ps id ≡ Some (r.key, r.value)
       stored_pair r was = (record_is (slot_at s) first last (used_count s) ps l id r (rw is at was)).0
 
+      -- and leads to the leaf before it, and to the one behind
+      pub stored_prev : (r : Leaf K V) → slot_at s n ≡ Some r → r.prev ≡ number_before ps id
+      stored_prev r was = (record_is (slot_at s) first last (used_count s) ps l id r (rw is at was)).1
+
+      pub stored_next : (r : Leaf K V) → slot_at s n ≡ Some r → r.next ≡ number_after ps id
+      stored_next r was = (record_is (slot_at s) first last (used_count s) ps l id r (rw is at was)).2
+
       -- the record has another pair
       pub store_changed : (r x : Leaf K V) → slot_at s n ≡ Some r → (k : K) (v : V) → x ≡ leaf_of r.prev r.next (k, v) → Links (slot_at (with_record s n x)) first last (used_count (with_record s n x)) (with_pair ps id (k, v))
       store_changed r x was k v e =

@@ -1,6 +1,6 @@
 -- The leaves before and after a key that no stored key is related to.
 use Rattle.std.proofs.Common.{◌≡◌, ℕ, ◌<◌, true, false, List, [], ◌∷◌, ◌++◌, append_assoc, refl, ap, arith, sym, subst, Option, Some, None, IsSome, ◌∙◌, ◌⊎◌, inl, inr}
-use Rattle.std.proofs.lemmas.Bool.{cases_order, false≢true, false_from_ne_true}
+use Rattle.std.proofs.lemmas.Bool.{cases_order, cases_Bool, false≢true, false_from_ne_true}
 use Rattle.std.proofs.lemmas.Bool.Decides.{eqb_tells}
 use Rattle.blart_keys.specs.Bytes.{less, related, PartsBelow}
 use Rattle.blart_keys.specs.Content.{IsContent, IsPut}
@@ -10,7 +10,7 @@ use Rattle.blart_keys.proofs.ContentLemmas.{Before, Ranked-from_content, put_bet
 use Rattle.art_tree.specs.Begins.{Bytes, Begins, next_byte}
 use Rattle.art_tree.specs.Good.{LastBefore, FirstAfter, StandsBehind}
 use Rattle.art_tree.specs.Kids.{kid_at, IsPrevious}
-use Rattle.art_tree.specs.Leaves.{Numbered, bytes, keys_in, leaf_in, AreDistinct, placed_behind, number_before, number_before_from}
+use Rattle.art_tree.specs.Leaves.{Numbered, bytes, keys_in, leaf_in, AreDistinct, placed_behind, first_number, number_after, number_before, number_before_from}
 use Rattle.art_tree.specs.Nodes.{Node}
 use Rattle.art_tree.specs.Shape.{Shape}
 use Rattle.art_tree.specs.declared.records.ids.Child.{Child}
@@ -133,6 +133,18 @@ module _ (keys : ℕ → Option Bytes) (nodes : ℕ → Option Node) (root : Opt
         | inr (inr l) ↦ parted_less t q m b (next_byte t m) qt r.0 l
       ])
 
+-- the leaf has the least key that is not less than q
+pub record FirstFrom (keys : ℕ → Option Bytes) (q : Bytes) (i : ℕ) : Type 0 where
+  pub key : Bytes
+  pub is : keys i ≡ Some key
+  pub from : less key q ≡ false
+  pub first : (j : ℕ) (k : Bytes) → keys j ≡ Some k → less k q ≡ false → (j ≡ i) ⊎ (less key k ≡ true)
+
+-- the leaf behind q, or none where no key is greater
+abbrev pub StandsAhead : (ℕ → Option Bytes) → Bytes → Option ℕ → Type 0
+StandsAhead keys q None = (j : ℕ) (k : Bytes) → keys j ≡ Some k → less q k ≡ false
+StandsAhead keys q (Some i) = FirstAfter keys q i
+
 -- ---- in the list of pairs
 
 -- the number of the last pair, or `back` where there is none
@@ -149,6 +161,7 @@ module _ {K V : Type 0} where
     pub is : ps ≡ before ++ (i, pair) ∷ after
     pub placed : (x : Numbered K V) → placed_behind (Some i) x ps ≡ before ++ (i, pair) ∷ x ∷ after
     pub previous : (back : Option ℕ) → number_before_from back ps i ≡ last_or back before
+    pub next : number_after ps i ≡ first_number after
 
   split : (ps : List (Numbered K V)) (i : ℕ) (p : K × V) → leaf_in ps i ≡ Some p → IsSplit ps i
   split [] i p e = absurd cc
@@ -161,6 +174,7 @@ module _ {K V : Type 0} where
           is = λ j. (h.1 j, z.1) ∷ ps;
           placed = λ x. rw h.0 (λ j. (h.1 j, z.1) ∷ x ∷ ps);
           previous = λ back. rw h.0 refl;
+          next = rw h.0 refl;
         }
         | inr h ↦
             let r = split ps i p (rw h.0 at e) in
@@ -171,27 +185,13 @@ module _ {K V : Type 0} where
               is = ap (λ l. z ∷ l) r.is;
               placed = λ x. rw h.0 (ap (λ l. z ∷ l) (r.placed x));
               previous = λ back. rw h.0 (r.previous (Some z.0));
+              next = rw h.0 r.next;
             }
       ]
 
-module _ {K V : Type 0} (key_bytes : K → Bytes) (pairs : List (Numbered K V)) (content : IsContent (bytes key_bytes) pairs) (distinct : AreDistinct pairs) (q : Bytes)
-    (alone : (j : ℕ) (k : Bytes) → keys_in key_bytes pairs j ≡ Some k → related k q ≡ false) where
-  unrelated_member : (y : Numbered K V) → Member y pairs → related (bytes key_bytes y) q ≡ false
-  unrelated_member y m = alone y.0 (bytes key_bytes y) (key_of_member key_bytes pairs y distinct m)
-
+module _ {K V : Type 0} (key_bytes : K → Bytes) (pairs : List (Numbered K V)) (content : IsContent (bytes key_bytes) pairs) (distinct : AreDistinct pairs) where
   ranked : Ranked (Before (bytes key_bytes)) pairs
   ranked = Ranked-from_content (bytes key_bytes) pairs content
-
-  -- a pair before q parts below it, and one that is not parts above
-  before_q : (y : Numbered K V) → Member y pairs → less (bytes key_bytes y) q ≡ true → PartsBelow (bytes key_bytes y) q
-  before_q y m l = PartsBelow-from (bytes key_bytes y) q l (unrelated_member y m)
-
-  after_q : (y : Numbered K V) → Member y pairs → less (bytes key_bytes y) q ≡ false → PartsBelow q (bytes key_bytes y)
-  after_q y m l =
-      elim (less_cases (bytes key_bytes y) q (unrelated_member y m)) [
-        | inl h ↦ absurd (false≢true (sym l ∙ h))
-        | inr h ↦ PartsBelow-from q (bytes key_bytes y) h (unrelated_back (bytes key_bytes y) q (unrelated_member y m))
-      ]
 
   -- the pair of a number, and its place
   module _ (i : ℕ) (k : Bytes) (k_is : keys_in key_bytes pairs i ≡ Some k) where
@@ -227,37 +227,6 @@ module _ {K V : Type 0} (key_bytes : K → Bytes) (pairs : List (Numbered K V)) 
         let a : keys_in key_bytes pairs i ≡ Some (bytes key_bytes y) = ap (keys_in key_bytes pairs) (sym e) ∙ key_of_member key_bytes pairs y distinct m in
         cc
 
-  -- a new pair behind the one before it: a put
-  pub placed_put : (prev : Option ℕ) (x : Numbered K V) → bytes key_bytes x ≡ q → StandsBehind (keys_in key_bytes pairs) q prev → IsPut (bytes key_bytes) pairs x (placed_behind prev x pairs)
-  placed_put None x e st =
-      put_between (bytes key_bytes) [] pairs x content (λ y m. absurd m)
-      (λ y m. subst (λ (k : Bytes). PartsBelow k (bytes key_bytes y)) (sym e) (after_q y m (st y.0 (bytes key_bytes y) (key_of_member key_bytes pairs y distinct m))))
-  placed_put (Some i) x e st =
-      let p = place i st.key st.is in
-      let A : List (Numbered K V) = p.before ++ (i, p.pair) ∷ [] in
-      let whole : pairs ≡ A ++ p.after = p.is ∙ sym (append_assoc p.before ((i, p.pair) ∷ []) p.after) in
-      let made : placed_behind (Some i) x pairs ≡ A ++ x ∷ p.after = p.placed x ∙ sym (append_assoc p.before ((i, p.pair) ∷ []) (x ∷ p.after)) in
-      let put : IsPut (bytes key_bytes) (A ++ p.after) x (A ++ x ∷ p.after) = put_between (bytes key_bytes) A p.after x (subst (IsContent (bytes key_bytes)) whole content)
-      (λ y m. subst (λ (k : Bytes). PartsBelow (bytes key_bytes y) k) (sym e) (elim (Member-append_cases y p.before ((i, p.pair) ∷ []) m) [
-        | inl n ↦ (let h = before_here i st.key st.is y n in before_q y h.1 (less-trans (bytes key_bytes y) st.key q h.0 st.before))
-        | inr n ↦ last_one i st y n
-      ]))
-      (λ y m. subst (λ (k : Bytes). PartsBelow k (bytes key_bytes y)) (sym e) (let h = after_here i st.key st.is y m in after_q y h.1 (not_before i st y h.1 h.0))) in
-      subst (λ (l : List (Numbered K V)). IsPut (bytes key_bytes) pairs x l) (sym made) (subst (λ (l : List (Numbered K V)). IsPut (bytes key_bytes) l x (A ++ x ∷ p.after)) (sym whole) put)
-    where
-      last_one : (i : ℕ) (st : LastBefore (keys_in key_bytes pairs) q i) (y : Numbered K V) → Member y ((i, (place i st.key st.is).pair) ∷ []) → PartsBelow (bytes key_bytes y) q
-      last_one i st y (inl s) =
-          subst (λ (y : Numbered K V). PartsBelow (bytes key_bytes y) q) s
-          (before_q (i, (place i st.key st.is).pair) (here i st.key st.is) (subst (λ (k : Bytes). less k q ≡ true) (sym (key_here i st.key st.is)) st.before))
-      last_one i st y (inr n) = absurd n
-
-      not_before : (i : ℕ) (st : LastBefore (keys_in key_bytes pairs) q i) (y : Numbered K V) → Member y pairs → less st.key (bytes key_bytes y) ≡ true → less (bytes key_bytes y) q ≡ false
-      not_before i st y m l = false_from_ne_true (less (bytes key_bytes y) q) (λ h.
-          elim (st.last y.0 (bytes key_bytes y) (key_of_member key_bytes pairs y distinct m) h) [
-            | inl s ↦ (let z : bytes key_bytes y ≡ st.key = key_of_number i st.key st.is y m s in one_less st.key (bytes key_bytes y) l (subst (λ (k : Bytes). less (bytes key_bytes y) k ≡ true) z (subst (λ (k : Bytes). less k (bytes key_bytes y) ≡ true) (sym z) l)))
-            | inr k ↦ one_less st.key (bytes key_bytes y) l k
-          ])
-
   -- the last of some pairs, which are ranked, is greater than the others
   last_is : (ps : List (Numbered K V)) (z : Numbered K V) → Ranked (Before (bytes key_bytes)) (z ∷ ps)
       → (y : Numbered K V) × (last_or (Some z.0) ps ≡ Some y.0) × Member y (z ∷ ps) × ((w : Numbered K V) → Member w (z ∷ ps) → (w ≡ y) ⊎ (less (bytes key_bytes w) (bytes key_bytes y) ≡ true))
@@ -273,23 +242,23 @@ module _ {K V : Type 0} (key_bytes : K → Bytes) (pairs : List (Numbered K V)) 
         ],
       )
 
-  -- the leaf before q is the one before the first that is greater
-  pub behind_previous : (i : ℕ) → FirstAfter (keys_in key_bytes pairs) q i → StandsBehind (keys_in key_bytes pairs) q (number_before pairs i)
-  behind_previous i st = subst (λ (o : Option ℕ). StandsBehind (keys_in key_bytes pairs) q o) (sym (p.previous None)) (go p.before refl)
+  -- the leaf before q is the one before the first that is not less
+  pub behind_from : (q : Bytes) (i : ℕ) → FirstFrom (keys_in key_bytes pairs) q i → StandsBehind (keys_in key_bytes pairs) q (number_before pairs i)
+  behind_from q i st = subst (λ (o : Option ℕ). StandsBehind (keys_in key_bytes pairs) q o) (sym (p.previous None)) (go p.before refl)
     where
       p : IsSplit pairs i
       p = place i st.key st.is
 
       -- no pair from the number on is less than q
       not_late : (y : Numbered K V) → Member y ((i, p.pair) ∷ p.after) → less (bytes key_bytes y) q ≡ true → ⊥
-      not_late y (inl e) h = one_less (bytes key_bytes y) q h (subst (λ (k : Bytes). less q k ≡ true) (sym (key_here i st.key st.is) ∙ ap (bytes key_bytes) e) st.after)
-      not_late y (inr n) h = one_less (bytes key_bytes y) q h (less-trans q st.key (bytes key_bytes y) st.after (after_here i st.key st.is y n).0)
+      not_late y (inl e) h = false≢true (sym st.from ∙ subst (λ (k : Bytes). less k q ≡ true) (ap (bytes key_bytes) (sym e) ∙ key_here i st.key st.is) h)
+      not_late y (inr n) h = false≢true (sym st.from ∙ less-trans st.key (bytes key_bytes y) q (after_here i st.key st.is y n).0 h)
 
       -- each pair before it is
       early : (y : Numbered K V) → Member y p.before → less (bytes key_bytes y) q ≡ true
       early y m =
           let b = before_here i st.key st.is y m in
-          elim (less_cases (bytes key_bytes y) q (unrelated_member y b.1)) [
+          elim (cases_Bool (less (bytes key_bytes y) q)) [
             | inl h ↦ h
             | inr h ↦ elim (st.first y.0 (bytes key_bytes y) (key_of_member key_bytes pairs y distinct b.1) h) [
               | inl s ↦ absurd (one_less (bytes key_bytes y) st.key b.0 (subst (λ (k : Bytes). less k (bytes key_bytes y) ≡ true) (key_of_number i st.key st.is y b.1 s) (subst (λ (k : Bytes). less (bytes key_bytes y) k ≡ true) (sym (key_of_number i st.key st.is y b.1 s)) b.0)))
@@ -322,3 +291,91 @@ module _ {K V : Type 0} (key_bytes : K → Bytes) (pairs : List (Numbered K V)) 
               | inr l ↦ inr (subst (λ (k : Bytes). less k (bytes key_bytes y.0) ≡ true) r.3 l)
             ]);
           })
+
+  -- the leaf behind a leaf is the one behind its key
+  pub ahead_key : (i : ℕ) (q : Bytes) → keys_in key_bytes pairs i ≡ Some q → StandsAhead (keys_in key_bytes pairs) q (number_after pairs i)
+  ahead_key i q is = subst (λ (o : Option ℕ). StandsAhead (keys_in key_bytes pairs) q o) (sym p.next) (go p.after refl)
+    where
+      p : IsSplit pairs i
+      p = place i q is
+
+      -- a greater key is that of a pair behind
+      is_late : (j : ℕ) (k : Bytes) → keys_in key_bytes pairs j ≡ Some k → less q k ≡ true → (y : Numbered K V) × Member y p.after × (y.0 ≡ j) × (bytes key_bytes y ≡ k)
+      is_late j k e h =
+          let r = member_of_key key_bytes pairs j k e in
+          elim (Member-append_cases r.0 p.before ((i, p.pair) ∷ p.after) (subst (λ (l : List (Numbered K V)). Member r.0 l) p.is r.1)) [
+            | inl m ↦ absurd (one_less q k h (subst (λ (z : Bytes). less z q ≡ true) r.3 (before_here i q is r.0 m).0))
+            | inr (inl s) ↦ (let same : k ≡ q = sym r.3 ∙ ap (bytes key_bytes) (sym s) ∙ key_here i q is in absurd (false≢true (sym (less-irrefl q) ∙ subst (λ (z : Bytes). less q z ≡ true) same h)))
+            | inr (inr n) ↦ (r.0, n, r.2, r.3)
+          ]
+
+      go : (B : List (Numbered K V)) → p.after ≡ B → StandsAhead (keys_in key_bytes pairs) q (first_number B)
+      go [] a = λ j k e. false_from_ne_true (less q k) (λ h. let r = is_late j k e h in subst (λ (l : List (Numbered K V)). Member r.0 l) a r.1)
+      go (z ∷ B) a =
+          let b = after_here i q is z (subst (λ (l : List (Numbered K V)). Member z l) (sym a) (inl refl)) in
+          let ranks : Ranked (Before (bytes key_bytes)) (z ∷ B) = subst (λ (l : List (Numbered K V)). Ranked (Before (bytes key_bytes)) l) a (Ranked-right (Before (bytes key_bytes)) p.before ((i, p.pair) ∷ p.after) (ranked_here i q is)).1 in
+          record {
+            key = bytes key_bytes z;
+            is = key_of_member key_bytes pairs z distinct b.1;
+            after = b.0;
+            first = λ j k e h. (let r = is_late j k e h in elim (subst (λ (l : List (Numbered K V)). Member r.0 l) a r.1) as (λ _. (j ≡ z.0) ⊎ (less (bytes key_bytes z) k ≡ true)) [
+              | inl s ↦ inl (sym r.2 ∙ ap (λ (w : Numbered K V). w.0) (sym s))
+              | inr n ↦ inr (subst (λ (k : Bytes). less (bytes key_bytes z) k ≡ true) r.3 (less-from_PartsBelow _ _ (each_member (Before (bytes key_bytes) z) B r.0 ranks.0 n)))
+            ]);
+          }
+
+  module _ (q : Bytes) (alone : (j : ℕ) (k : Bytes) → keys_in key_bytes pairs j ≡ Some k → related k q ≡ false) where
+    unrelated_member : (y : Numbered K V) → Member y pairs → related (bytes key_bytes y) q ≡ false
+    unrelated_member y m = alone y.0 (bytes key_bytes y) (key_of_member key_bytes pairs y distinct m)
+
+    -- a pair before q parts below it, and one that is not parts above
+    before_q : (y : Numbered K V) → Member y pairs → less (bytes key_bytes y) q ≡ true → PartsBelow (bytes key_bytes y) q
+    before_q y m l = PartsBelow-from (bytes key_bytes y) q l (unrelated_member y m)
+
+    after_q : (y : Numbered K V) → Member y pairs → less (bytes key_bytes y) q ≡ false → PartsBelow q (bytes key_bytes y)
+    after_q y m l =
+        elim (less_cases (bytes key_bytes y) q (unrelated_member y m)) [
+          | inl h ↦ absurd (false≢true (sym l ∙ h))
+          | inr h ↦ PartsBelow-from q (bytes key_bytes y) h (unrelated_back (bytes key_bytes y) q (unrelated_member y m))
+        ]
+
+    -- a new pair behind the one before it: a put
+    pub placed_put : (prev : Option ℕ) (x : Numbered K V) → bytes key_bytes x ≡ q → StandsBehind (keys_in key_bytes pairs) q prev → IsPut (bytes key_bytes) pairs x (placed_behind prev x pairs)
+    placed_put None x e st =
+        put_between (bytes key_bytes) [] pairs x content (λ y m. absurd m)
+        (λ y m. subst (λ (k : Bytes). PartsBelow k (bytes key_bytes y)) (sym e) (after_q y m (st y.0 (bytes key_bytes y) (key_of_member key_bytes pairs y distinct m))))
+    placed_put (Some i) x e st =
+        let p = place i st.key st.is in
+        let A : List (Numbered K V) = p.before ++ (i, p.pair) ∷ [] in
+        let whole : pairs ≡ A ++ p.after = p.is ∙ sym (append_assoc p.before ((i, p.pair) ∷ []) p.after) in
+        let made : placed_behind (Some i) x pairs ≡ A ++ x ∷ p.after = p.placed x ∙ sym (append_assoc p.before ((i, p.pair) ∷ []) (x ∷ p.after)) in
+        let put : IsPut (bytes key_bytes) (A ++ p.after) x (A ++ x ∷ p.after) = put_between (bytes key_bytes) A p.after x (subst (IsContent (bytes key_bytes)) whole content)
+        (λ y m. subst (λ (k : Bytes). PartsBelow (bytes key_bytes y) k) (sym e) (elim (Member-append_cases y p.before ((i, p.pair) ∷ []) m) [
+          | inl n ↦ (let h = before_here i st.key st.is y n in before_q y h.1 (less-trans (bytes key_bytes y) st.key q h.0 st.before))
+          | inr n ↦ last_one i st y n
+        ]))
+        (λ y m. subst (λ (k : Bytes). PartsBelow k (bytes key_bytes y)) (sym e) (let h = after_here i st.key st.is y m in after_q y h.1 (not_before i st y h.1 h.0))) in
+        subst (λ (l : List (Numbered K V)). IsPut (bytes key_bytes) pairs x l) (sym made) (subst (λ (l : List (Numbered K V)). IsPut (bytes key_bytes) l x (A ++ x ∷ p.after)) (sym whole) put)
+      where
+        last_one : (i : ℕ) (st : LastBefore (keys_in key_bytes pairs) q i) (y : Numbered K V) → Member y ((i, (place i st.key st.is).pair) ∷ []) → PartsBelow (bytes key_bytes y) q
+        last_one i st y (inl s) =
+            subst (λ (y : Numbered K V). PartsBelow (bytes key_bytes y) q) s
+            (before_q (i, (place i st.key st.is).pair) (here i st.key st.is) (subst (λ (k : Bytes). less k q ≡ true) (sym (key_here i st.key st.is)) st.before))
+        last_one i st y (inr n) = absurd n
+
+        not_before : (i : ℕ) (st : LastBefore (keys_in key_bytes pairs) q i) (y : Numbered K V) → Member y pairs → less st.key (bytes key_bytes y) ≡ true → less (bytes key_bytes y) q ≡ false
+        not_before i st y m l = false_from_ne_true (less (bytes key_bytes y) q) (λ h.
+            elim (st.last y.0 (bytes key_bytes y) (key_of_member key_bytes pairs y distinct m) h) [
+              | inl s ↦ (let z : bytes key_bytes y ≡ st.key = key_of_number i st.key st.is y m s in one_less st.key (bytes key_bytes y) l (subst (λ (k : Bytes). less (bytes key_bytes y) k ≡ true) z (subst (λ (k : Bytes). less k (bytes key_bytes y) ≡ true) (sym z) l)))
+              | inr k ↦ one_less st.key (bytes key_bytes y) l k
+            ])
+
+    -- the leaf before q is the one before the first that is greater
+    pub behind_previous : (i : ℕ) → FirstAfter (keys_in key_bytes pairs) q i → StandsBehind (keys_in key_bytes pairs) q (number_before pairs i)
+    behind_previous i st =
+        behind_from q i (record {
+          key = st.key;
+          is = st.is;
+          from = false_from_ne_true (less st.key q) (λ h. one_less st.key q h st.after);
+          first = λ j k e h. elim (less_cases k q (alone j k e)) [ inl l ↦ absurd (false≢true (sym h ∙ l)) | inr l ↦ st.first j k e l ];
+        })

@@ -85,6 +85,13 @@ module _ {K V : Type 0} where
         )
       ]
 
+  -- a leaf among the pairs that pass a test is one of all pairs
+  pub passing_has : (ps : List (Numbered K V)) (test : Numbered K V → Bool) (i : ℕ) → AreDistinct ps → Has (filter test ps) i → Has ps i
+  passing_has ps test i d h =
+      let has = some_of (leaf_in (filter test ps) i) h in
+      let m = filter_member test ps (i, has.0) (leaf_in_member (filter test ps) i has.0 has.1) in
+      is_some (leaf_in ps i) has.0 (member_leaf_in ps (i, has.0) d m.0)
+
 module _ {K V : Type 0} (key_bytes : K → Bytes) where
   -- the pairs but one are a content
   pub content_without : (ps : List (Numbered K V)) (i : ℕ) → IsContent (bytes key_bytes) ps → IsContent (bytes key_bytes) (without_number ps i)
@@ -209,8 +216,4 @@ module _ {K V : Type 0} (key_bytes : K → Bytes) where
 
   -- the first of the pairs that are related to q has a leaf
   pub related_has : (ps : List (Numbered K V)) (q : Bytes) (i : ℕ) → AreDistinct ps → first_number (subtree (bytes key_bytes) ps q) ≡ Some i → Has ps i
-  related_has ps q i d f =
-      let test : Numbered K V → Bool = λ x. related (bytes key_bytes x) q in
-      let has = some_of (leaf_in (filter test ps) i) (Has-first (filter test ps) i f) in
-      let m = filter_member test ps (i, has.0) (leaf_in_member (filter test ps) i has.0 has.1) in
-      is_some (leaf_in ps i) has.0 (member_leaf_in ps (i, has.0) d m.0)
+  related_has ps q i d f = passing_has ps (λ x. related (bytes key_bytes x) q) i d (Has-first (subtree (bytes key_bytes) ps q) i f)

@@ -4,6 +4,7 @@ use Rattle.art_tree.specs.Begins.{Bytes, Begins, next_byte}
 use Rattle.art_tree.specs.Nodes.{Node}
 use Rattle.art_tree.specs.Kids.{kid_at}
 use Rattle.art_tree.specs.Shape.{Shape, Covers, NodeFits, RootFits}
+use Rattle.art_tree.specs.Descents.{NoFront, IsOnlyFront, GoesTo}
 use Rattle.art_tree.specs.declared.records.ids.Child.{Child}
 use Rattle.art_tree.specs.declared.records.ids.Child.TheVariants.{Leaf, Inner}
 use Rattle.art_tree.proofs.Options.{some_of, not_some, same_some}
@@ -19,16 +20,12 @@ module _ (keys : ℕ → Option Bytes) (nodes : ℕ → Option Node) (q : Bytes)
     pub short : length front ≤ length q
     pub few : spent ≤ length front
 
-  -- no key begins q
-  abbrev pub NoFront : Type 0
-  NoFront = (j : ℕ) (k : Bytes) → keys j ≡ Some k → Begins k q → ⊥
-
   -- no key has the bytes q
   abbrev pub IsAbsent : Type 0
   IsAbsent = (j : ℕ) → keys j ≡ Some q → ⊥
 
   -- where no key begins q, none has its bytes
-  pub absent : NoFront → IsAbsent
+  pub absent : NoFront keys q → IsAbsent
   absent h j e = h j q e (Begins-itself q)
 
   module _ (root : Option Child) (s : Shape keys nodes root) where
@@ -43,7 +40,7 @@ module _ (keys : ℕ → Option Bytes) (nodes : ℕ → Option Node) (q : Bytes)
     }
 
     -- with no root there is no key
-    pub root_none : root ≡ None → NoFront
+    pub root_none : root ≡ None → NoFront keys q
     root_none is j k e b =
         let h : RootFits keys nodes s.front_of None = subst (λ (r : Option Child). RootFits keys nodes s.front_of r) is s.top in
         let f : keys j ≡ None = h j in
@@ -65,7 +62,7 @@ module _ (keys : ℕ → Option Bytes) (nodes : ℕ → Option Node) (q : Bytes)
           subst (λ (c : ℕ). Begins (f ++ c ∷ []) k) (next_byte-front f k q b l) (Begins-more f k fk l)
 
       -- a node as deep as q is long has no such key below
-      pub reach_short : length q ≤ x.depth → NoFront
+      pub reach_short : length q ≤ x.depth → NoFront keys q
       reach_short h j k e b =
           let l : length (s.front_of n) < length k = fits.longer j k e (in_node j k e b) in
           let d : x.depth ≡ length (s.front_of n) = fits.depth in
@@ -73,7 +70,7 @@ module _ (keys : ℕ → Option Bytes) (nodes : ℕ → Option Node) (q : Bytes)
           omega arith
 
       -- nor has one without an edge at q's byte
-      pub reach_none : kid_at x.kids (get_or q x.depth 0) ≡ None → NoFront
+      pub reach_none : kid_at x.kids (get_or q x.depth 0) ≡ None → NoFront keys q
       reach_none h j k e b =
           let f : Bytes = s.front_of n in
           let g : next_byte f k ≡ next_byte f q = Begins-next f k (next_byte f q) (goes_on j k e b) in
@@ -100,16 +97,30 @@ module _ (keys : ℕ → Option Bytes) (nodes : ℕ → Option Node) (q : Bytes)
     pub reach_leaf : (i : ℕ) (spent : ℕ) → Reaches s.front_of (Leaf i) spent → (j : ℕ) (k : Bytes) → keys j ≡ Some k → Begins k q → j ≡ i
     reach_leaf i spent r j k e b = r.covers.only j k e (r.holds j k e b)
 
-    -- so where the leaf's key does not begin q, none does
-    pub leaf_no_front : (i : ℕ) (spent : ℕ) (l : Bytes) → Reaches s.front_of (Leaf i) spent → keys i ≡ Some l → (Begins l q → ⊥) → NoFront
-    leaf_no_front i spent l r is never j k e b =
-        let f : keys i ≡ Some k = ap keys (sym (reach_leaf i spent r j k e b)) ∙ e in
-        let h : k ≡ l = cc in
-        never (subst (λ (k : Bytes). Begins k q) h b)
+    -- so the descent comes to it
+    pub goes_leaf : (old new i spent : ℕ) → Reaches s.front_of (Leaf i) spent → new ≡ old + spent → GoesTo keys q old new (Some i)
+    goes_leaf old new i spent r e =
+        let few : spent ≤ length r.front = r.few in
+        let short : length r.front ≤ length q = r.short in
+        (record { key = r.covers.key; is = r.covers.is; only = reach_leaf i spent r }, omega arith)
 
-    -- and where it is not q, no key is
-    pub leaf_absent : (i : ℕ) (spent : ℕ) → Reaches s.front_of (Leaf i) spent → keys i ≢ Some q → IsAbsent
-    leaf_absent i spent r other j e = other (ap keys (sym (reach_leaf i spent r j q e (Begins-itself q))) ∙ e)
+    -- a descent that ends at a node
+    pub goes_none : (old new spent : ℕ) (c : Child) → Reaches s.front_of c spent → new ≡ old + spent + 1 → NoFront keys q → GoesTo keys q old new None
+    goes_none old new spent c r e absent_here =
+        let few : spent ≤ length r.front = r.few in
+        let short : length r.front ≤ length q = r.short in
+        (absent_here, omega arith)
+
+  -- where the only key that may begin q does not, none does
+  pub only_not : (i : ℕ) → IsOnlyFront keys q i → (l : Bytes) → keys i ≡ Some l → (Begins l q → ⊥) → NoFront keys q
+  only_not i o l is never j k e b =
+      let f : keys i ≡ Some k = ap keys (sym (o.only j k e b)) ∙ e in
+      let h : k ≡ l = cc in
+      never (subst (λ (k : Bytes). Begins k q) h b)
+
+  -- and where it is not q, no key is
+  pub only_absent : (i : ℕ) → IsOnlyFront keys q i → keys i ≢ Some q → IsAbsent
+  only_absent i o other j e = other (ap keys (sym (o.only j q e (Begins-itself q))) ∙ e)
 
 -- ---- a descent to the node at a front
 

@@ -82,3 +82,19 @@ module _ (keys : ℕ → Option Bytes) (nodes : ℕ → Option Node) (front_of :
   abbrev pub Finds : Option (ℕ × ℕ) → Type 0
   Finds None = FindsNone
   Finds (Some found) = FindsNode found.0 found.1
+
+module _ (keys : ℕ → Option Bytes) (q : Bytes) where
+  -- no key begins q
+  abbrev pub NoFront : Type 0
+  NoFront = (j : ℕ) (k : Bytes) → keys j ≡ Some k → Begins k q → ⊥
+
+  -- a stored key alone may begin q
+  pub record IsOnlyFront (i : ℕ) : Type 0 where
+    pub key : Bytes
+    pub is : keys i ≡ Some key
+    pub only : (j : ℕ) (k : Bytes) → keys j ≡ Some k → Begins k q → j ≡ i
+
+  -- what a way down by the bytes of q comes to: the one leaf whose key may begin q, or nothing
+  abbrev pub GoesTo : ℕ → ℕ → Option ℕ → Type 0
+  GoesTo old new None = NoFront × (new ≤ old + length q + 1)
+  GoesTo old new (Some i) = IsOnlyFront i × (new ≤ old + length q)

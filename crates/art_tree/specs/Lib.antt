@@ -24,3 +24,5 @@ pub mod Joins
 pub mod Removals
 pub mod Takes
 pub mod TreeLends
+pub mod Seeks
+pub mod Standings

@@ -65,34 +65,4 @@ impl<K: AsBytes + Drop, V: Drop, const PREFIX_LEN: usize> Tree<K, V, PREFIX_LEN>
     {
         self.leaf_mut(id).1
     }
-
-    /// The leaf whose bytes begin these. On n bytes at most n + 1 visits, and none where the tree has no pairs.
-    pub fn search_front(&self, query: &[u8], visits: &mut Visits) -> Option<LeafId>
-        ensures found { result ≡ option_map (λ p. p.0) (front_of (bytes K.bytes) self.now.pairs query.now) }
-        ensures counted { visits.new.count ≤ visits.old.count + length query.now + 1 }
-        ensures empty { self.now.pairs ≡ [] → visits.new.count ≡ visits.old.count }
-    {
-        self.leaves.law();
-        let mut at = self.root?;
-        'down: loop {
-            match at {
-                Child::Leaf(id) => {
-                    let (key, _) = self.leaves.read(id, visits);
-                    return if begins(key.as_bytes(), query) {
-                        Some(id)
-                    } else {
-                        None
-                    };
-                }
-                Child::Inner(id) => {
-                    let node = self.nodes.read(id, visits);
-                    let depth = node.depth();
-                    if depth >= query.len() {
-                        return None;
-                    }
-                    at = node.find(query[depth])?;
-                }
-            }
-        }
-    }
 }

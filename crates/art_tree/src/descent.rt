@@ -6,7 +6,8 @@ ghost use Rattle.art_tree.specs.Shape.{Shape, Covers};
 ghost use Rattle.art_tree.specs.Descents.{Hangs, HasEdges, GoesToward, IsWayOf, Finds, IsLeastUnder, IsGreatestUnder, IsMate};
 ghost use Rattle.art_tree.specs.Spots.{SpotFits};
 ghost use Rattle.art_tree.specs.Good.{StandsBehind};
-ghost use Rattle.art_tree.specs.Leaves.{keys_in};
+ghost use Rattle.art_tree.specs.Leaves.{keys_in, bytes};
+ghost use Rattle.art_tree.specs.Longest.{longest};
 ghost use Rattle.art_tree.specs.Departures.{LeavesAt, LeavesAtNode, LeavesAtEdge};
 ghost use Rattle.art_tree.specs.declared.records.ids.Child.{Child as Way};
 
@@ -42,26 +43,33 @@ impl Spot {
 }
 
 /// A leaf whose key goes along with the query as far as any stored key does.
-pub(crate) fn mate_of<const P: usize>(nodes: &Nodes<P>, root: &Child, query: &[u8]) -> LeafId
+pub(crate) fn mate_of<const P: usize>(
+    nodes: &Nodes<P>,
+    root: &Child,
+    query: &[u8],
+    visits: &mut Visits,
+) -> LeafId
     requires { Hangs (at nodes.now) root.now }
-    ensures { (keys : ℕ → Option Bytes) → Shape keys (at nodes.now) (Some root.now) → IsMate keys query.now result }
+    ensures mate { (keys : ℕ → Option Bytes) → Shape keys (at nodes.now) (Some root.now) → IsMate keys query.now result }
+    ensures counted { (keys : ℕ → Option Bytes) → Shape keys (at nodes.now) (Some root.now) → (key : Bytes) → keys result ≡ Some key
+        → visits.new.count ≤ visits.old.count + length key }
 {
     let mut at = *root;
     'down: loop {
         match at {
             Child::Leaf(id) => return id,
-            Child::Inner(id) => at = toward(nodes, id, query),
+            Child::Inner(id) => at = toward(nodes, id, query, visits),
         }
     }
 }
 
 // The child to go on to: by the query's next byte, or by any where the query has ended or no key goes on so.
-fn toward<const P: usize>(nodes: &Nodes<P>, id: NodeId, query: &[u8]) -> Child
+fn toward<const P: usize>(nodes: &Nodes<P>, id: NodeId, query: &[u8], visits: &mut Visits) -> Child
     requires { HasEdges (at nodes.now) id }
-    ensures { GoesToward (at nodes.now) id query.now result }
+    ensures child { GoesToward (at nodes.now) id query.now result }
+    ensures counted { visits.new.count ≡ visits.old.count + 1 }
 {
-    let mut visits = Visits::new();
-    let node = nodes.read(id, &mut visits);
+    let node = nodes.read(id, visits);
     let depth = node.depth();
     if depth < query.len() {
         if let Some(child) = node.find(query[depth]) {
@@ -94,17 +102,23 @@ pub(crate) fn first_under<const P: usize>(
 }
 
 /// The leaf with the greatest key below a child.
-pub(crate) fn last_under<const P: usize>(nodes: &Nodes<P>, child: &Child) -> LeafId
+pub(crate) fn last_under<const P: usize>(
+    nodes: &Nodes<P>,
+    child: &Child,
+    visits: &mut Visits,
+) -> LeafId
     requires { Hangs (at nodes.now) child.now }
-    ensures { (keys : ℕ → Option Bytes) (root : Option Way) (s : Shape keys (at nodes.now) root) (g : Bytes)
+    ensures greatest { (keys : ℕ → Option Bytes) (root : Option Way) (s : Shape keys (at nodes.now) root) (g : Bytes)
         → Covers keys (at nodes.now) s.front_of g child.now → IsGreatestUnder keys g result }
+    ensures counted { (keys : ℕ → Option Bytes) (root : Option Way) (s : Shape keys (at nodes.now) root) (g key : Bytes)
+        → Covers keys (at nodes.now) s.front_of g child.now → keys result ≡ Some key
+        → visits.new.count + length g ≤ visits.old.count + length key }
 {
-    let mut visits = Visits::new();
     let mut at = *child;
     'down: loop {
         match at {
             Child::Leaf(id) => return id,
-            Child::Inner(id) => at = nodes.read(id, &mut visits).last_edge().to,
+            Child::Inner(id) => at = nodes.read(id, visits).last_edge().to,
         }
     }
 }
@@ -115,12 +129,13 @@ pub(crate) fn locate<const P: usize>(
     root: &Child,
     mate: &[u8],
     depth: usize,
+    visits: &mut Visits,
 ) -> Spot
     requires { IsWayOf (at nodes.now) root.now mate.now depth }
-    ensures { (keys : ℕ → Option Bytes) (s : Shape keys (at nodes.now) (Some root.now)) (i : ℕ) → keys i ≡ Some mate.now
+    ensures spot { (keys : ℕ → Option Bytes) (s : Shape keys (at nodes.now) (Some root.now)) (i : ℕ) → keys i ≡ Some mate.now
         → SpotFits (at nodes.now) (Some root.now) s.front_of mate.now depth result }
+    ensures counted { visits.new.count ≤ visits.old.count + depth + 1 }
 {
-    let mut visits = Visits::new();
     let mut at = *root;
     let mut above = None;
     let mut gone = 0;
@@ -129,7 +144,7 @@ pub(crate) fn locate<const P: usize>(
             Child::Leaf(_) => return Spot::Edge(above, at),
             Child::Inner(id) => id,
         };
-        let node = nodes.read(id, &mut visits);
+        let node = nodes.read(id, visits);
         let length = node.depth();
         if length > depth {
             return Spot::Edge(above, at);
@@ -155,13 +170,17 @@ pub(crate) fn leaf_before<K: AsBytes, V, const P: usize>(
     mate: &[u8],
     query: &[u8],
     depth: usize,
+    visits: &mut Visits,
 ) -> Option<LeafId>
     requires { LeavesAt K.bytes leaves.now.pairs (at nodes.now) spot.now mate.now query.now depth }
-    ensures { StandsBehind (keys_in K.bytes leaves.now.pairs) query.now result }
+    ensures before { StandsBehind (keys_in K.bytes leaves.now.pairs) query.now result }
+    ensures counted { visits.new.count ≤ visits.old.count + longest (bytes K.bytes) leaves.now.pairs + 1 }
 {
     match spot {
-        Spot::Node(_, id) => before_at_node(leaves, nodes, id, query[depth]),
-        Spot::Edge(_, child) => before_at_edge(leaves, nodes, child, mate[depth], query[depth]),
+        Spot::Node(_, id) => before_at_node(leaves, nodes, id, query[depth], visits),
+        Spot::Edge(_, child) => {
+            before_at_edge(leaves, nodes, child, mate[depth], query[depth], visits)
+        }
     }
 }
 
@@ -171,14 +190,15 @@ fn before_at_node<K: AsBytes, V, const P: usize>(
     nodes: &Nodes<P>,
     id: &NodeId,
     byte: u8,
+    visits: &mut Visits,
 ) -> Option<LeafId>
     requires { (q : Bytes) × LeavesAtNode K.bytes leaves.now.pairs (at nodes.now) id.now byte q }
-    ensures { (q : Bytes) → LeavesAtNode K.bytes leaves.now.pairs (at nodes.now) id.now byte q → StandsBehind (keys_in K.bytes leaves.now.pairs) q result }
+    ensures before { (q : Bytes) → LeavesAtNode K.bytes leaves.now.pairs (at nodes.now) id.now byte q → StandsBehind (keys_in K.bytes leaves.now.pairs) q result }
+    ensures counted { visits.new.count ≤ visits.old.count + longest (bytes K.bytes) leaves.now.pairs + 1 }
 {
-    let mut visits = Visits::new();
-    match nodes.read(*id, &mut visits).edge_before(byte) {
-        Some(edge) => Some(last_under(nodes, &edge.to)),
-        None => leaves.prev_of(first_under(nodes, &Child::Inner(*id), &mut visits)),
+    match nodes.read(*id, visits).edge_before(byte) {
+        Some(edge) => Some(last_under(nodes, &edge.to, visits)),
+        None => leaves.prev_of(first_under(nodes, &Child::Inner(*id), visits)),
     }
 }
 
@@ -189,15 +209,16 @@ fn before_at_edge<K: AsBytes, V, const P: usize>(
     child: &Child,
     mate_byte: u8,
     byte: u8,
+    visits: &mut Visits,
 ) -> Option<LeafId>
     requires { (q : Bytes) × LeavesAtEdge K.bytes leaves.now.pairs (at nodes.now) child.now mate_byte byte q }
-    ensures { (q : Bytes) → LeavesAtEdge K.bytes leaves.now.pairs (at nodes.now) child.now mate_byte byte q → StandsBehind (keys_in K.bytes leaves.now.pairs) q result }
+    ensures before { (q : Bytes) → LeavesAtEdge K.bytes leaves.now.pairs (at nodes.now) child.now mate_byte byte q → StandsBehind (keys_in K.bytes leaves.now.pairs) q result }
+    ensures counted { visits.new.count ≤ visits.old.count + longest (bytes K.bytes) leaves.now.pairs }
 {
     if mate_byte < byte {
-        return Some(last_under(nodes, child));
+        return Some(last_under(nodes, child, visits));
     }
-    let mut visits = Visits::new();
-    leaves.prev_of(first_under(nodes, child, &mut visits))
+    leaves.prev_of(first_under(nodes, child, visits))
 }
 
 /// How many edges the node at this depth has on the way of these bytes, and the first leaf below it. None where no node is there.

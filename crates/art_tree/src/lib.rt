@@ -10,11 +10,14 @@ mod placing;
 mod point;
 mod records;
 mod removing;
+mod search;
+mod seeks;
 mod tree;
 mod visits;
 
 pub use point::{Place, Point};
 pub use records::ids::LeafId;
+pub use records::leaves::Leaves;
 pub use tree::{DEFAULT_PREFIX_LEN, Tree};
 pub use visits::Visits;
 

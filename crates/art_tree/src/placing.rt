@@ -93,7 +93,7 @@ fn place_beside<K: AsBytes + Drop, V: Drop, const P: usize>(
     leaves.law();
     let mut visits = Visits::new();
     let (mate, _) = leaves.read(place.mate, &mut visits);
-    let spot = locate(nodes, root, mate.as_bytes(), place.depth);
+    let spot = locate(nodes, root, mate.as_bytes(), place.depth, &mut visits);
     let id = leaves.insert(place.prev, key, value);
     let (own, _) = leaves.read(id, &mut visits);
     let (mate, _) = leaves.read(place.mate, &mut visits);
@@ -182,8 +182,13 @@ fn add_at_edge<const P: usize>(
     lead(nodes, root, above, &Child::Inner(made))
 }
 
-// Leads the edge above a child elsewhere. Answers the root.
-fn lead<const P: usize>(nodes: &mut Nodes<P>, root: &Child, above: &Above, to: &Child) -> Child
+/// Leads the edge above a child elsewhere. Answers the root.
+pub(crate) fn lead<const P: usize>(
+    nodes: &mut Nodes<P>,
+    root: &Child,
+    above: &Above,
+    to: &Child,
+) -> Child
     requires { (child : Way) × LeadsTo (at nodes.old) (Some root.now) above.now child }
     ensures turned { TurnsTo (at nodes.old) (at nodes.new) (Some root.now) (Some result) above.now to.now }
     ensures spares { SameSpares nodes.old nodes.new }

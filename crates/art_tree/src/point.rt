@@ -55,7 +55,7 @@ pub(crate) fn point_below<K: AsBytes, V, const P: usize>(
     requires { IsSound K.bytes leaves.now nodes.now (Some root) }
     ensures { IsGood K.bytes leaves.now.pairs result query.now }
 {
-    let mate = mate_of(nodes, &root, query);
+    let mate = mate_of(nodes, &root, query, &mut Visits::new());
     point_beside(leaves, nodes, &root, &mate, query)
 }
 
@@ -86,11 +86,11 @@ fn point_beside<K: AsBytes, V, const P: usize>(
             }
         };
     }
-    let spot = locate(nodes, root, key, depth);
+    let spot = locate(nodes, root, key, depth, &mut visits);
     if depth == query.len() {
         return related_below(nodes, &spot.child());
     }
-    let prev = leaf_before(leaves, nodes, &spot, key, query, depth);
+    let prev = leaf_before(leaves, nodes, &spot, key, query, depth, &mut visits);
     Point::Free(Place {
         mate: *mate,
         depth,
@@ -106,6 +106,6 @@ fn related_below<const P: usize>(nodes: &Nodes<P>, child: &Child) -> Point
 {
     let mut visits = Visits::new();
     let first = first_under(nodes, child, &mut visits);
-    let last = last_under(nodes, child);
+    let last = last_under(nodes, child, &mut visits);
     Point::Related { first, last }
 }

@@ -1,6 +1,6 @@
 //! A leaf leaves the tree.
 ghost use Rattle.std.specs.Prelude.{◌≡◌, ◌≢◌, ℕ, ◌+◌, ◌-◌, ◌<◌, ◌^◌, length, Option, Some, None};
-ghost use Rattle.art_tree.specs.Above.{LeadsTo, TurnsTo, edge_front};
+ghost use Rattle.art_tree.specs.Above.{LeadsTo, edge_front};
 ghost use Rattle.art_tree.specs.Begins.{Bytes, Begins};
 ghost use Rattle.art_tree.specs.Kids.{kid_at};
 ghost use Rattle.art_tree.specs.Leaves.{leaf_in, Has, OthersStand, without_number, keys_in};
@@ -13,6 +13,7 @@ ghost use Rattle.art_tree.specs.declared.records.ids.Child.{Child as Way};
 ghost use Rattle.art_tree.specs.declared.records.ids.Child.TheVariants.{Leaf, Inner};
 
 use crate::descent::{Above, Spot, first_under, locate};
+use crate::placing::lead;
 use crate::records::ids::{Child, Edge, LeafId, NodeId};
 use crate::records::leaves::Leaves;
 use crate::records::nodes::Nodes;
@@ -71,7 +72,7 @@ fn edge_to_leaf<K: AsBytes, V, const P: usize>(
     let mut visits = Visits::new();
     let (key, _) = leaves.read(*id, &mut visits);
     let key = key.as_bytes();
-    match locate(nodes, root, key, key.len()) {
+    match locate(nodes, root, key, key.len(), &mut visits) {
         Spot::Edge(above, _) => above,
         Spot::Node(_, _) => unreachable!(),
     }
@@ -93,7 +94,7 @@ fn edge_to_node<K: AsBytes, V, const P: usize>(
     let mut visits = Visits::new();
     let (key, _) = leaves.read(*id, &mut visits);
     let depth = nodes.read(*node, &mut visits).depth();
-    match locate(nodes, root, key.as_bytes(), depth) {
+    match locate(nodes, root, key.as_bytes(), depth, &mut visits) {
         Spot::Node(above, _) => above,
         Spot::Edge(_, _) => unreachable!(),
     }
@@ -164,20 +165,6 @@ fn merge<const P: usize>(
     let root = lead(nodes, root, above, to);
     nodes.free(*node);
     root
-}
-
-// Leads the edge above a child elsewhere. Answers the root.
-fn lead<const P: usize>(nodes: &mut Nodes<P>, root: &Child, above: &Above, to: &Child) -> Child
-    requires { (c : Way) × LeadsTo (at nodes.old) (Some root.now) above.now c }
-    ensures { TurnsTo (at nodes.old) (at nodes.new) (Some root.now) (Some result) above.now to.now }
-{
-    match above {
-        None => *to,
-        Some((parent, byte)) => {
-            nodes.redirect(*parent, *byte, *to);
-            *root
-        }
-    }
 }
 
 // Another edge of a node than the one to a leaf.

@@ -83,6 +83,13 @@ impl<K: AsBytes + Drop, V: Drop, const PREFIX_LEN: usize> Tree<K, V, PREFIX_LEN>
         self.len() == 0
     }
 
+    /// The leaves alone, in byte order.
+    pub fn leaves(&self) -> &Leaves<K, V>
+        ensures { result.now.pairs ≡ self.now.pairs }
+    {
+        &self.leaves
+    }
+
     /// The first leaf.
     pub fn first(&self) -> Option<LeafId>
         ensures { result ≡ first_number self.now.pairs }
@@ -120,36 +127,6 @@ impl<K: AsBytes + Drop, V: Drop, const PREFIX_LEN: usize> Tree<K, V, PREFIX_LEN>
         ensures counted { visits.new.count ≡ visits.old.count + 1 }
     {
         self.leaves.read(id, visits)
-    }
-
-    /// The leaf with these bytes. On n bytes at most n + 1 visits, and none where the tree has no pairs.
-    pub fn search(&self, query: &[u8], visits: &mut Visits) -> Option<LeafId>
-        ensures found { result ≡ option_map (λ p. p.0) (at (bytes K.bytes) self.now.pairs query.now) }
-        ensures counted { visits.new.count ≤ visits.old.count + length query.now + 1 }
-        ensures empty { self.now.pairs ≡ [] → visits.new.count ≡ visits.old.count }
-    {
-        self.leaves.law();
-        let mut at = self.root?;
-        'down: loop {
-            match at {
-                Child::Leaf(id) => {
-                    let (key, _) = self.leaves.read(id, visits);
-                    return if key.as_bytes() == query {
-                        Some(id)
-                    } else {
-                        None
-                    };
-                }
-                Child::Inner(id) => {
-                    let node = self.nodes.read(id, visits);
-                    let depth = node.depth();
-                    if depth >= query.len() {
-                        return None;
-                    }
-                    at = node.find(query[depth])?;
-                }
-            }
-        }
     }
 
     /// Where the bytes stand, or would go. The point is good for them while the tree is unchanged.

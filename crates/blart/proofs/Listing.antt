@@ -1,28 +1,63 @@
 -- The lines of a list of pairs, and of an answer.
-use Rattle.std.proofs.Common.{◌≡◌, ℕ, List, [], ◌∷◌, ◌++◌, length, map, refl, sym, ap, subst, ◌∙◌, append-nil, Bool, Vec, Global}
-use Rattle.std.specs.Prelude.{Option, Result, codes, decimal}
+use Rattle.std.proofs.Common.{◌≡◌, ℕ, List, [], ◌∷◌, ◌++◌, length, map, filter, drop, ◌<◌, ◌≤◌, ◌^◌, ◌-◌, arith, take-append-drop, append_assoc, refl, sym, ap, subst, ◌∙◌, append-nil, Bool, Vec, Global}
+use Rattle.std.specs.Prelude.{Option, None, Result, codes, decimal}
 use Rattle.std.specs.List.{flat_map}
 use Rattle.std.proofs.lemmas.List.{map-append}
+use Rattle.std.proofs.lemmas.List.Sums.{length-filter, count_by-le-length}
 use Rattle.std.proofs.lemmas.Grind.{flat_map-append}
+use Rattle.std.specs.Borrow.{Bor}
+use Rattle.std.specs.Iterator.{Yields, AlwaysYields, YieldsFirstBy}
+use Rattle.std.proofs.lemmas.Iterator.{YieldsList}
+use Rattle.std.proofs.lemmas.Iterator.Consumers.{YieldsList-from_first, YieldsList-so_far, YieldsList-end}
 use Rattle.blart.specs.declared.error.RunError.{RunError}
 use Rattle.blart.specs.Lines.{ended}
 use Rattle.blart.specs.Command.{Command, command_of, words_of}
 use Rattle.blart.specs.Answers.{Pairs, pair_text, listing, Meets}
-use Rattle.blart.specs.Content.{pair_of, pairs_of}
+use Rattle.blart.specs.Content.{Stored, pair_of, pairs_of}
 use Rattle.blart.specs.Replied.{IsReplied}
 use Rattle.blart.specs.Sent.{IsSent}
+
+-- a pair that a walk lends
+abbrev pub Lent : Type 0
+Lent = Bor (Vec ℕ Global) × Bor ℕ
+
+-- the pair itself
+abbrev pub seen : Lent → Vec ℕ Global × ℕ
+seen item = (item.0.now, item.1.now)
+
+-- what a walk gave so far begins what it gives
+pub given_first : {S : Type 0} (steps : S → Option Lent → S → Type 0) (s t : S) (items : List Lent) (pairs : Stored) → AlwaysYields steps seen s pairs → Yields steps s items t
+    → pairs ≡ map seen items ++ drop (length items) pairs
+given_first steps s t items pairs all y =
+    let e : YieldsList steps seen s pairs = record { runs = all } in
+    sym (take-append-drop (length items) pairs) ∙ ap (λ l. l ++ drop (length items) pairs) (sym (YieldsList-so_far e items t y))
+
+-- what a walk gave until its end is all that it gives
+pub given_all : {S : Type 0} (steps : S → Option Lent → S → Type 0) (s t u : S) (items : List Lent) (pairs : Stored) → AlwaysYields steps seen s pairs → Yields steps s items t
+    → steps t None u → map seen items ≡ pairs
+given_all steps s t u items pairs all y end =
+    let e : YieldsList steps seen s pairs = record { runs = all } in
+    (YieldsList-end e items t y None u refl end).0
+
+-- a walk whose value is the list of what it has still to give
+pub shown_all : (walk : Stored) → AlwaysYields (YieldsFirstBy seen (λ rest. rest)) seen walk walk
+shown_all walk = (YieldsList-from_first seen (λ (rest : Stored). rest) walk refl).runs
 
 -- a line a pair
 abbrev pub lines_text : Pairs → List ℕ
 lines_text pairs = flat_map (λ pair. ended (pair_text pair)) pairs
 
 -- the lines of two lists joined
-pub lines_text-append : (a b : List (Vec ℕ Global × ℕ)) → lines_text (pairs_of (a ++ b)) ≡ lines_text (pairs_of a) ++ lines_text (pairs_of b)
+pub lines_text-append : (a b : Stored) → lines_text (pairs_of (a ++ b)) ≡ lines_text (pairs_of a) ++ lines_text (pairs_of b)
 lines_text-append a b = ap lines_text (map-append pair_of a b) ∙ flat_map-append (λ pair. ended (pair_text pair)) (pairs_of a) (pairs_of b)
 
 -- one pair more gives its line
-pub lines_text-push : (a : List (Vec ℕ Global × ℕ)) (pair : Vec ℕ Global × ℕ) → lines_text (pairs_of (a ++ pair ∷ [])) ≡ lines_text (pairs_of a) ++ ended (pair_text (pair_of pair))
+pub lines_text-push : (a : Stored) (pair : Vec ℕ Global × ℕ) → lines_text (pairs_of (a ++ pair ∷ [])) ≡ lines_text (pairs_of a) ++ ended (pair_text (pair_of pair))
 lines_text-push a pair = lines_text-append a (pair ∷ []) ∙ ap (λ l. lines_text (pairs_of a) ++ l) (append-nil (ended (pair_text (pair_of pair))))
+
+-- the same of what a walk lends
+pub lines_text-given : (items : List Lent) (item : Lent) → lines_text (pairs_of (map seen (items ++ item ∷ []))) ≡ lines_text (pairs_of (map seen items)) ++ ended (pair_text (pair_of (seen item)))
+lines_text-given items item = ap (λ l. lines_text (pairs_of l)) (map-append seen items (item ∷ [])) ∙ lines_text-push (map seen items) (seen item)
 
 each_line : (pairs : Pairs) → flat_map ended (map pair_text pairs) ≡ lines_text pairs
 each_line [] = refl
@@ -34,6 +69,14 @@ listing_text pairs =
     flat_map-append ended (map pair_text pairs) ((codes "end " ++ decimal (length pairs)) ∷ [])
     ∙ ap (λ l. l ++ flat_map ended ((codes "end " ++ decimal (length pairs)) ∷ [])) (each_line pairs)
     ∙ ap (λ l. lines_text pairs ++ l) (append-nil (ended (codes "end " ++ decimal (length pairs))))
+
+-- the lines of the pairs of a front come first
+pub listing_front : (pairs front rest : Stored) → pairs ≡ front ++ rest
+    → flat_map ended (listing (pairs_of pairs)) ≡ lines_text (pairs_of front) ++ (lines_text (pairs_of rest) ++ ended (codes "end " ++ decimal (length (pairs_of pairs))))
+listing_front pairs front rest is =
+    let last = ended (codes "end " ++ decimal (length (pairs_of pairs))) in
+    listing_text (pairs_of pairs) ∙ ap (λ l. lines_text (pairs_of l) ++ last) is ∙ ap (λ l. l ++ last) (lines_text-append front rest)
+    ∙ append_assoc (lines_text (pairs_of front)) (lines_text (pairs_of rest)) last
 
 -- a line was answered by these lines
 pub replied : (result : Result (Unit {0}) RunError) (before after : Option (List ℕ)) (mark : Bool) (old : Pairs) (line waited waiting : List ℕ) (new : Pairs)
@@ -52,3 +95,7 @@ pub replied_one : (result : Result (Unit {0}) RunError) (before after : Option (
 replied_one result before after mark old line waited waiting new command text is meets sent =
     replied result before after mark old line waited waiting new command (text ∷ []) is meets
     (subst (λ o. IsSent result before after mark (waited ++ o) waiting) (sym (append-nil (ended text))) sent)
+
+-- a part of what the map holds can be counted if that can
+pub part_fits : (S walk : Stored) (p : Vec ℕ Global × ℕ → Bool) → walk ≡ filter p S → length S < 2 ^ 64 → length walk ≤ 2 ^ 64 - 1
+part_fits S walk p is fits = omega (arith, ap length is, length-filter p S, count_by-le-length p S, fits)

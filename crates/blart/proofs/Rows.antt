@@ -4,8 +4,8 @@ use Rattle.std.specs.Fmt.{digits}
 use Rattle.hex.proofs.OnLiterals.{hex_on_literals}
 use Rattle.blart_keys.specs.Content.{IsPut}
 use Rattle.blart_keys.proofs.ContentLemmas.{empty_content, put_between}
-use Rattle.blart.specs.Command.{words_of, command_of, Insert, Get, Remove, ListAll}
-use Rattle.blart.specs.Answers.{pair_bytes}
+use Rattle.blart.specs.Command.{words_of, command_of, Insert, Get, Remove, PrefixGet, Overwrite, ListAll, ListPrefix, ListRange}
+use Rattle.blart.specs.Answers.{pair_bytes, range_lines}
 use Rattle.blart.specs.Replies.{Replies}
 
 inserts : command_of (words_of (codes "insert 01Ff 18446744073709551615")) ≡ Some (Insert (1 ∷ 255 ∷ []) 18446744073709551615)
@@ -28,9 +28,41 @@ removes : command_of (words_of (codes "remove 0A")) ≡ Some (Remove (10 ∷ [])
 unfolding hex_on_literals
 removes = refl
 
+prefix_gets : command_of (words_of (codes "prefix-get 01020304")) ≡ Some (PrefixGet (1 ∷ 2 ∷ 3 ∷ 4 ∷ []))
+unfolding hex_on_literals
+prefix_gets = refl
+
+overwrites : command_of (words_of (codes "overwrite 0a 7")) ≡ Some (Overwrite (10 ∷ []) 7)
+unfolding hex_on_literals
+overwrites = refl
+
 lists : command_of (words_of (codes "list")) ≡ Some ListAll
 unfolding hex_on_literals
 lists = refl
+
+prefixes : command_of (words_of (codes "prefix 01")) ≡ Some (ListPrefix (1 ∷ []))
+unfolding hex_on_literals
+prefixes = refl
+
+ranges : command_of (words_of (codes "range 0102 -")) ≡ Some (ListRange (1 ∷ 2 ∷ []) [])
+unfolding hex_on_literals
+ranges = refl
+
+no_prefix : command_of (words_of (codes "prefix")) ≡ None
+unfolding hex_on_literals
+no_prefix = refl
+
+one_bound : command_of (words_of (codes "range 01")) ≡ None
+unfolding hex_on_literals
+one_bound = refl
+
+three_bounds : command_of (words_of (codes "range 01 02 03")) ≡ None
+unfolding hex_on_literals
+three_bounds = refl
+
+odd_bounds : command_of (words_of (codes "range 1 2")) ≡ None
+unfolding hex_on_literals
+odd_bounds = refl
 
 too_large : command_of (words_of (codes "insert 00 18446744073709551616")) ≡ None
 unfolding hex_on_literals
@@ -43,6 +75,10 @@ too_long = refl
 no_number : command_of (words_of (codes "insert 00 ")) ≡ None
 unfolding hex_on_literals
 no_number = refl
+
+no_number_behind : command_of (words_of (codes "overwrite 00")) ≡ None
+unfolding hex_on_literals
+no_number_behind = refl
 
 odd_key : command_of (words_of (codes "get 0")) ≡ None
 unfolding hex_on_literals
@@ -67,6 +103,19 @@ return_behind = refl
 empty_line : command_of (words_of []) ≡ None
 unfolding hex_on_literals
 empty_line = refl
+
+-- bounds that are not in order, over no pairs, and over one
+no_pairs : range_lines [] (2 ∷ []) (1 ∷ []) ≡ codes "end 0" ∷ []
+unfolding digits
+no_pairs = refl
+
+not_in_order : range_lines ((1 ∷ 2 ∷ [], 7) ∷ []) (2 ∷ []) (1 ∷ []) ≡ codes "refused bounds" ∷ []
+not_in_order = refl
+
+-- the first key is included, and the second is not
+included : range_lines ((1 ∷ 2 ∷ [], 7) ∷ (3 ∷ [], 8) ∷ []) (1 ∷ 2 ∷ []) (3 ∷ []) ≡ codes "0102 7" ∷ codes "end 1" ∷ []
+unfolding hex_on_literals digits
+included = refl
 
 -- a pair put into nothing
 one_put : IsPut pair_bytes [] (1 ∷ 2 ∷ [], 7) ((1 ∷ 2 ∷ [], 7) ∷ [])

@@ -1,19 +1,20 @@
 -- How the parts of a session join.
 use Rattle.std.proofs.Common.{◌≡◌, ◌≢◌, ℕ, List, [], ◌∷◌, ◌++◌, refl, sym, ap, subst, ◌∙◌, append_assoc, append-nil, Bool, true, false, ◌==◌, arith, eqb-true, inl, inr, suc, zero, Some, None, Ok, Err}
+use Rattle.std.proofs.lemmas.Bool.{false≢true}
 use Rattle.std.proofs.lemmas.Bool.Decides.{nat_tests}
-use Rattle.std.specs.Prelude.{Option, Contains, codes}
+use Rattle.std.specs.Prelude.{Option, Contains, codes, decimal, length}
 use Rattle.std.specs.List.{flat_map}
 use Rattle.std.proofs.lemmas.Grind.{flat_map-append}
 use Rattle.std.proofs.lemmas.List.Elements.{All-append, All-nil, All-cons, All-head, All-tail}
 use Rattle.blart_keys.specs.declared.calls.TryInsertError.TheVariants.{Prefix, Memory}
 use Rattle.blart_keys.specs.Bytes.{related}
-use Rattle.blart_keys.specs.Content.{stores, conflict, without, IsPut}
+use Rattle.blart_keys.specs.Content.{stores, conflict, front_of, without, under, IsPut, IsOver}
 use Rattle.blart_keys.proofs.RankLemmas.{Member-from_Contains}
 use Rattle.blart_keys.proofs.ContentLemmas.{one_content, related_no_conflict}
 use Rattle.blart.proofs.Sending.{Sends-none, Sends-trans}
 use Rattle.blart.specs.Lines.{IsLine, ended, Splits}
-use Rattle.blart.specs.Command.{Command, Insert, Get, Remove, ListAll, command_of, words_of}
-use Rattle.blart.specs.Answers.{Pairs, Reply, Meets, AnswersOrRefuses, listing, pair_bytes, value_text, value_at, inserted_text}
+use Rattle.blart.specs.Command.{Command, Insert, Get, Remove, PrefixGet, Overwrite, ListAll, ListPrefix, ListRange, command_of, words_of}
+use Rattle.blart.specs.Answers.{Pairs, Reply, Meets, AnswersOrRefuses, listing, range_lines, pair_bytes, value_text, value_at, found_text, inserted_text}
 use Rattle.blart.specs.Replies.{AnswersInTurn}
 use Rattle.blart.specs.Serves.{State, Serves}
 
@@ -45,13 +46,26 @@ insert_empty S n true u conflicts is = (codes "refused prefix" ∷ [], S, inl (E
 insert_empty S n false false free new = (codes "refused memory" ∷ [], S, inl (Err (Memory (record {})), (free, new, refl), refl))
 insert_empty S n false true free is = (inserted_text (Ok (value_at S [])) ∷ [], ([], n) ∷ [], inl (Ok (value_at S []), (free, stored_empty S n free, refl), refl))
 
+-- an empty key is put over all
+over_empty : (S : Pairs) (n : ℕ) → IsOver pair_bytes S ([], n) (([], n) ∷ [])
+over_empty S n = record {
+  content = one_content pair_bytes ([], n);
+  there = (0, omega arith, refl);
+  others = λ y off. absurd (false≢true (sym off ∙ related_empty y.0));
+}
+
 -- each command has an answer
 command_answer : (S : Pairs) (command : Command) → HasAnswer S command
 command_answer S (Insert [] n) = insert_empty S n (conflict pair_bytes S []) (stores pair_bytes S []) refl refl
 command_answer S (Insert (b ∷ key) n) = (codes "refused memory" ∷ [], S, inr (λ e. cc, refl, refl))
 command_answer S (Get key) = (value_text (value_at S key) ∷ [], S, inl (refl, refl))
 command_answer S (Remove key) = (value_text (value_at S key) ∷ [], without pair_bytes S key, inl (refl, refl))
+command_answer S (PrefixGet key) = (found_text (front_of pair_bytes S key) ∷ [], S, inl (refl, refl))
+command_answer S (Overwrite [] n) = let T : Pairs = ([], n) ∷ [] in ((codes "len " ++ decimal (length T)) ∷ [], T, inl (inl (over_empty S n, refl)))
+command_answer S (Overwrite (b ∷ key) n) = (codes "refused memory" ∷ [], S, inr (λ e. cc, refl, refl))
 command_answer S ListAll = (listing S, S, inl (refl, refl))
+command_answer S (ListPrefix key) = (listing (under pair_bytes S key), S, inl (refl, refl))
+command_answer S (ListRange low high) = (range_lines S low high, S, inl (refl, refl))
 
 line_answer : (S : Pairs) (command : Option Command) → (lines : List (List ℕ)) × (T : Pairs) × Meets S command lines T
 line_answer S None = (codes "refused line" ∷ [], S, (refl, refl))

@@ -1,13 +1,15 @@
 -- What may be answered to a command.
-use Rattle.std.specs.Prelude.{◌≡◌, ◌≢◌, ◌⊎◌, ℕ, List, [], ◌∷◌, ◌++◌, map, length, Option, Some, None, Result, Ok, Err, option_map, codes, decimal}
+use Rattle.std.specs.Prelude.{◌≡◌, ◌≢◌, ◌⊎◌, ◌==◌, ◌||◌, if◌then◌else◌, ℕ, List, [], ◌∷◌, ◌++◌, map, length, Option, Some, None, Result, Ok, Err, option_map, codes, decimal}
 use Rattle.std.specs.List.{flat_map}
+use Rattle.std.specs.declared.ops.Bound.TheVariants.{Included, Excluded}
 use Rattle.hex.specs.Hex.{encode_lower}
 use Rattle.blart_keys.specs.declared.calls.TryInsertError.{TryInsertError}
 use Rattle.blart_keys.specs.declared.calls.TryInsertError.TheVariants.{Prefix, Memory}
-use Rattle.blart_keys.specs.Content.{at, without}
+use Rattle.blart_keys.specs.Bounds.{in_order}
+use Rattle.blart_keys.specs.Content.{at, front_of, subtree, under, between, without, IsOver}
 use Rattle.blart_keys.specs.Steps.{Puts}
 use Rattle.blart.specs.Lines.{ended}
-use Rattle.blart.specs.Command.{Command, Insert, Get, Remove, ListAll, words_of, command_of}
+use Rattle.blart.specs.Command.{Command, Insert, Get, Remove, PrefixGet, Overwrite, ListAll, ListPrefix, ListRange, words_of, command_of}
 
 -- keys and their values
 abbrev pub Pairs : Type 0
@@ -35,6 +37,11 @@ abbrev pub value_text : Option ℕ → List ℕ
 value_text (Some n) = decimal n
 value_text None = codes "none"
 
+-- a key and its number, or `none`
+abbrev pub found_text : Option (List ℕ × ℕ) → List ℕ
+found_text (Some pair) = pair_text pair
+found_text None = codes "none"
+
 -- what is said of an insertion
 abbrev pub inserted_text : Result (Option ℕ) TryInsertError → List ℕ
 inserted_text (Ok (Some n)) = codes "old " ++ decimal n
@@ -46,20 +53,36 @@ inserted_text (Err (Memory e)) = codes "refused memory"
 abbrev pub value_at : Pairs → List ℕ → Option ℕ
 value_at S key = option_map (λ pair. pair.1) (at pair_bytes S key)
 
+-- the pairs from the first key on, below the second; refused where there are pairs and the bounds are not in order
+abbrev pub range_lines : Pairs → List ℕ → List ℕ → List (List ℕ)
+range_lines S low high =
+    if (length S == 0) || in_order (Included low) (Excluded high) then listing (between pair_bytes S (Included low) (Excluded high))
+    else codes "refused bounds" ∷ []
+
 -- from S, the command may be answered by these lines, and leave S'
 abbrev pub Answers : Pairs → Command → List (List ℕ) → Pairs → Type 0
 Answers S (Insert key n) lines S' =
     (r : Result (Option ℕ) TryInsertError) × Puts (λ k. k) (option_map (λ pair. pair.1)) S (key, n) r S' × (lines ≡ inserted_text r ∷ [])
 Answers S (Get key) lines S' = (S' ≡ S) × (lines ≡ value_text (value_at S key) ∷ [])
 Answers S (Remove key) lines S' = (S' ≡ without pair_bytes S key) × (lines ≡ value_text (value_at S key) ∷ [])
+Answers S (PrefixGet key) lines S' = (S' ≡ S) × (lines ≡ found_text (front_of pair_bytes S key) ∷ [])
+Answers S (Overwrite key n) lines S' =
+    (IsOver pair_bytes S (key, n) S' × (lines ≡ (codes "len " ++ decimal (length S')) ∷ []))
+    ⊎ ((subtree pair_bytes S key ≡ []) × (S' ≡ S) × (lines ≡ codes "refused memory" ∷ []))
 Answers S ListAll lines S' = (S' ≡ S) × (lines ≡ listing S)
+Answers S (ListPrefix key) lines S' = (S' ≡ S) × (lines ≡ listing (under pair_bytes S key))
+Answers S (ListRange low high) lines S' = (S' ≡ S) × (lines ≡ range_lines S low high)
 
 -- the command has a key other than `-`, which takes memory to decode
 abbrev pub Decodes : Command → Type 0
 Decodes (Insert key n) = key ≢ []
 Decodes (Get key) = key ≢ []
 Decodes (Remove key) = key ≢ []
+Decodes (PrefixGet key) = key ≢ []
+Decodes (Overwrite key n) = key ≢ []
 Decodes ListAll = ⊥
+Decodes (ListPrefix key) = key ≢ []
+Decodes (ListRange low high) = (low ≢ []) ⊎ (high ≢ [])
 
 -- a command is answered, or refused for want of memory where it decodes a key, and then S stays
 abbrev pub AnswersOrRefuses : Pairs → Command → List (List ℕ) → Pairs → Type 0

@@ -30,17 +30,21 @@ below_limit n = if nat_le n 18446744073709551615 then Some n else None
 abbrev pub number_of : List ℕ → Option ℕ
 number_of word = if is_numeral word then below_limit (digits_value 10 word) else None
 
--- a command, with the bytes of its key
+-- a command, with the bytes of its keys
 pub data Command : Type 0 where
   Insert : List ℕ → ℕ → Command
   Get : List ℕ → Command
   Remove : List ℕ → Command
+  PrefixGet : List ℕ → Command
+  Overwrite : List ℕ → ℕ → Command
   ListAll : Command
+  ListPrefix : List ℕ → Command
+  ListRange : List ℕ → List ℕ → Command
 
--- an insertion, where the key and the number are some
-abbrev pub insert_of : Option (List ℕ) → Option ℕ → Option Command
-insert_of (Some key) (Some n) = Some (Insert key n)
-insert_of _ _ = None
+-- f of both, where both are some
+abbrev pub option_both : {A B C : Type 0} → (A → B → C) → Option A → Option B → Option C
+option_both f (Some a) (Some b) = Some (f a b)
+option_both f _ _ = None
 
 -- the command that the words of a line are, if they are one
 abbrev pub command_of : List (List ℕ) → Option Command
@@ -48,6 +52,12 @@ command_of (name ∷ []) = if bytes_eq name (codes "list") then Some ListAll els
 command_of (name ∷ key ∷ []) =
     if bytes_eq name (codes "get") then option_map Get (key_of key)
     else if bytes_eq name (codes "remove") then option_map Remove (key_of key)
+    else if bytes_eq name (codes "prefix-get") then option_map PrefixGet (key_of key)
+    else if bytes_eq name (codes "prefix") then option_map ListPrefix (key_of key)
     else None
-command_of (name ∷ key ∷ value ∷ []) = if bytes_eq name (codes "insert") then insert_of (key_of key) (number_of value) else None
+command_of (name ∷ first ∷ second ∷ []) =
+    if bytes_eq name (codes "insert") then option_both Insert (key_of first) (number_of second)
+    else if bytes_eq name (codes "overwrite") then option_both Overwrite (key_of first) (number_of second)
+    else if bytes_eq name (codes "range") then option_both ListRange (key_of first) (key_of second)
+    else None
 command_of _ = None

@@ -1,17 +1,22 @@
 -- What the code's commands mean.
 use Rattle.std.specs.Prelude.{◌≡◌, ◌<◌, ℕ, List, [], ◌∷◌, length, Option, Some, None, MatchOption}
-use Rattle.blart.specs.Command.{Command, Insert, Get, Remove, ListAll, key_of, command_of}
+use Rattle.blart.specs.Command.{Command, Insert, Get, Remove, PrefixGet, Overwrite, ListAll, ListPrefix, ListRange, key_of, command_of}
 use Rattle.blart.specs.declared.command.Command.{Command as Parsed}
-use Rattle.blart.specs.declared.command.Command.TheVariants.{Insert as ParsedInsert, Get as ParsedGet, Remove as ParsedRemove, List as ParsedList}
+use Rattle.blart.specs.declared.command.Command.TheVariants.{Insert as ParsedInsert, Get as ParsedGet, Remove as ParsedRemove, PrefixGet as ParsedPrefixGet, Overwrite as ParsedOverwrite, List as ParsedList, Prefix as ParsedPrefix, Range as ParsedRange}
 use Rattle.blart.specs.declared.command.Words.{Words}
 use Rattle.blart.specs.declared.command.Words.TheVariants.{One, Two, Three, More}
 
--- the command, whose key is a word, is this command
+-- the command, whose keys are words, is this command
 abbrev pub Means : Parsed → Option Command → Type 0
 Means (ParsedInsert word n) command = (key : List ℕ) × (key_of word.now ≡ Some key) × (command ≡ Some (Insert key n))
 Means (ParsedGet word) command = (key : List ℕ) × (key_of word.now ≡ Some key) × (command ≡ Some (Get key))
 Means (ParsedRemove word) command = (key : List ℕ) × (key_of word.now ≡ Some key) × (command ≡ Some (Remove key))
+Means (ParsedPrefixGet word) command = (key : List ℕ) × (key_of word.now ≡ Some key) × (command ≡ Some (PrefixGet key))
+Means (ParsedOverwrite word n) command = (key : List ℕ) × (key_of word.now ≡ Some key) × (command ≡ Some (Overwrite key n))
 Means ParsedList command = command ≡ Some ListAll
+Means (ParsedPrefix word) command = (key : List ℕ) × (key_of word.now ≡ Some key) × (command ≡ Some (ListPrefix key))
+Means (ParsedRange first second) command =
+    (low high : List ℕ) × (key_of first.now ≡ Some low) × (key_of second.now ≡ Some high) × (command ≡ Some (ListRange low high))
 
 -- the command that these words are, if they are one
 abbrev pub Parses : Option Parsed → List (List ℕ) → Type 0

@@ -10,13 +10,17 @@ ghost use Rattle.blart.specs.Parsed.{Parses, AreWords};
 
 use crate::pieces::{front, rest_after};
 
-/// A command, with its key as a word.
+/// A command, with its keys as words.
 #[derive(Clone, Copy)]
 pub(crate) enum Command<'a> {
     Insert(&'a [u8], u64),
     Get(&'a [u8]),
     Remove(&'a [u8]),
+    PrefixGet(&'a [u8]),
+    Overwrite(&'a [u8], u64),
     List,
+    Prefix(&'a [u8]),
+    Range(&'a [u8], &'a [u8]),
 }
 
 // The words of a line, where there are at most three.
@@ -35,7 +39,7 @@ pub(crate) fn parse(line: &[u8]) -> Option<Command<'_>>
     match split_line(line) {
         Words::One(name) => parse_one(name),
         Words::Two(name, key) => parse_two(name, key),
-        Words::Three(name, key, value) => parse_three(name, key, value),
+        Words::Three(name, first, second) => parse_three(name, first, second),
         Words::More => None,
     }
 }
@@ -59,19 +63,27 @@ fn parse_two<'a>(name: &[u8], key: &'a [u8]) -> Option<Command<'a>>
         Some(Command::Get(key))
     } else if name == b"remove".as_slice() {
         Some(Command::Remove(key))
+    } else if name == b"prefix-get".as_slice() {
+        Some(Command::PrefixGet(key))
+    } else if name == b"prefix".as_slice() {
+        Some(Command::Prefix(key))
     } else {
         None
     }
 }
 
-fn parse_three<'a>(name: &[u8], key: &'a [u8], value: &[u8]) -> Option<Command<'a>>
-    ensures { Parses result (name.now ∷ key.now ∷ value.now ∷ []) }
+fn parse_three<'a>(name: &[u8], first: &'a [u8], second: &'a [u8]) -> Option<Command<'a>>
+    ensures { Parses result (name.now ∷ first.now ∷ second.now ∷ []) }
 {
-    if !is_key(key) {
+    if !is_key(first) {
         return None;
     }
     if name == b"insert".as_slice() {
-        Some(Command::Insert(key, number(value)?))
+        Some(Command::Insert(first, number(second)?))
+    } else if name == b"overwrite".as_slice() {
+        Some(Command::Overwrite(first, number(second)?))
+    } else if name == b"range".as_slice() && is_key(second) {
+        Some(Command::Range(first, second))
     } else {
         None
     }

@@ -1,10 +1,11 @@
-//! The program layer: what `artmap` does, over any reader and writer.
+//! An ordered map from keys that are byte lists, on an adaptive radix tree, and the program over it.
+//!
+//! [`TreeMap`] is the map; what goes with it stands in [`map`]. A key type is [`AsBytes`]. [`run`] is
+//! what the program `artmap` does, over any reader and writer.
 #![tactic(auto)]
 
-mod bytes;
 mod command;
 mod error;
-mod map;
 mod output;
 mod pieces;
 mod program;
@@ -13,6 +14,11 @@ mod session;
 mod text;
 mod watched;
 
+pub use blart_keys::{
+    AsBytes, I32Key, NoPrefixesBytes, OrderedBytes, U32Key, U64Key, ZKey, ZKeyError,
+};
+pub use blart_map as map;
+pub use blart_map::{InsertPrefixError, TreeMap, TryInsertError};
 pub use error::{RunError, fault_line};
 pub use program::run;
 pub use watched::Watched;

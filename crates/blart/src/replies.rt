@@ -1,27 +1,30 @@
 //! What the program answers to a line.
-ghost use Rattle.std.specs.Prelude.{◌≡◌, ◌≢◌, ℕ, List, [], ◌∷◌, ◌++◌, false, codes, Some, MatchOption, option_map};
+ghost use Rattle.std.specs.Prelude.{◌≡◌, ◌≢◌, ◌==◌, ◌||◌, ◌⊎◌, ◌<◌, ◌-◌, ◌^◌, ℕ, List, [], ◌∷◌, ◌++◌, length, false, codes, Some, MatchOption, option_map};
 ghost use Rattle.std.specs.List.{flat_map};
+ghost use Rattle.std.specs.Iterator.{UpTo, AlwaysYields};
+ghost use Rattle.std.specs.declared.ops.Bound.TheVariants.{Included, Excluded};
+ghost use Rattle.blart_keys.specs.Bounds.{in_order};
 ghost use Rattle.blart.specs.Watched.{watched_inner, watched_failed};
 ghost use Rattle.blart.specs.Sent.{IsSent};
 ghost use Rattle.blart.specs.Lines.{ended};
-ghost use Rattle.blart.specs.Command.{key_of, Insert, Get, Remove};
-ghost use Rattle.blart.specs.Answers.{AnswersOrRefuses, listing, pair_text, inserted_text, value_text};
+ghost use Rattle.blart.specs.Command.{key_of, Insert, Get, Remove, PrefixGet, Overwrite, ListPrefix, ListRange};
+ghost use Rattle.blart.specs.Answers.{AnswersOrRefuses, listing, range_lines, found_text, inserted_text, value_text};
 ghost use Rattle.blart.specs.Texts.{text_of};
-ghost use Rattle.blart.specs.Content.{pairs_of};
+ghost use Rattle.blart.specs.Content.{Stored, pair_of, pairs_of};
 ghost use Rattle.blart.specs.Replied.{IsReplied};
 
 use crate::command::{Command, parse};
 use crate::error::RunError;
-use crate::map::TreeMap;
 use crate::output::Outbox;
 use crate::text::{Answer, write_answer, write_pair};
 use crate::watched::Watched;
-use blart_keys::calls::TryInsertError;
+use blart_map::{DEFAULT_PREFIX_LEN, TreeMap, TryInsertError, bounds_in_order};
 use std::alloc::Global;
 use std::io::Write;
+use std::ops::Bound;
 
 /// Keys and their values.
-pub(crate) type Pairs = TreeMap<Vec<u8>, u64>;
+pub(crate) type Pairs = TreeMap<Vec<u8>, u64, DEFAULT_PREFIX_LEN>;
 
 /// Answers the line.
 pub(crate) fn reply<W: Write>(
@@ -48,7 +51,16 @@ pub(crate) fn reply<W: Write>(
             let answer = remove(map, alloc, word);
             write_answer(answer, outbox, writer)
         }
+        Some(Command::PrefixGet(word)) => write_front(map, alloc, word, outbox, writer),
+        Some(Command::Overwrite(word, value)) => {
+            let answer = overwrite(map, alloc, word, value);
+            write_answer(answer, outbox, writer)
+        }
         Some(Command::List) => write_list(map, outbox, writer),
+        Some(Command::Prefix(word)) => write_prefix(map, alloc, word, outbox, writer),
+        Some(Command::Range(first, second)) => {
+            write_range(map, alloc, first, second, outbox, writer)
+        }
         None => write_answer(Answer::RefusedLine, outbox, writer),
     }
 }
@@ -83,6 +95,19 @@ fn remove(map: &mut Pairs, alloc: Global, word: &[u8]) -> Answer
     }
 }
 
+fn overwrite(map: &mut Pairs, alloc: Global, word: &[u8], value: u64) -> Answer
+    ensures { (key : List ℕ) → key_of word.now ≡ Some key
+        → AnswersOrRefuses (pairs_of map.old) (Overwrite key value) (text_of result ∷ []) (pairs_of map.new) }
+{
+    match decode_key(alloc, word) {
+        Some(key) => match map.prefix_insert(key, value) {
+            Ok(()) => Answer::Len(map.len()),
+            Err(_) => Answer::RefusedMemory,
+        },
+        None => Answer::RefusedMemory,
+    }
+}
+
 // The word's key, if there is memory for it.
 fn decode_key(alloc: Global, word: &[u8]) -> Option<Vec<u8>>
     ensures { (key : List ℕ) → key_of word.now ≡ Some key → MatchOption result (key ≢ []) (λ found. key ≡ found.items) }
@@ -113,7 +138,43 @@ fn value_answer(value: Option<u64>) -> Answer
     }
 }
 
-// Writes a line a pair, and how many there are.
+// Writes the pair whose key begins the word's, or `none`.
+fn write_front<W: Write>(
+    map: &Pairs,
+    alloc: Global,
+    word: &[u8],
+    outbox: &mut Outbox,
+    writer: &mut Watched<W>,
+) -> Result<(), RunError>
+    requires { watched_failed writer.old ≡ false }
+    ensures { (key : List ℕ) → key_of word.now ≡ Some key
+        → (text : List ℕ) × AnswersOrRefuses (pairs_of map.now) (PrefixGet key) (text ∷ []) (pairs_of map.now)
+        × IsSent result (W.contents (watched_inner writer.old)) (W.contents (watched_inner writer.new))
+        (watched_failed writer.new) (outbox.old ++ ended text) outbox.new }
+{
+    match decode_key(alloc, word) {
+        Some(key) => write_found(map.prefix_get_key_value(&key), outbox, writer),
+        None => write_answer(Answer::RefusedMemory, outbox, writer),
+    }
+}
+
+// Writes the pair, or `none`.
+fn write_found<W: Write>(
+    found: Option<(&Vec<u8>, &u64)>,
+    outbox: &mut Outbox,
+    writer: &mut Watched<W>,
+) -> Result<(), RunError>
+    requires { watched_failed writer.old ≡ false }
+    ensures { IsSent result (W.contents (watched_inner writer.old)) (W.contents (watched_inner writer.new))
+        (watched_failed writer.new) (outbox.old ++ ended (found_text (option_map pair_of (option_map (λ pair. (pair.0.now, pair.1.now)) found.entry)))) outbox.new }
+{
+    match found {
+        Some((key, value)) => write_pair(key, *value, outbox, writer),
+        None => write_answer(Answer::None, outbox, writer),
+    }
+}
+
+// Writes all pairs.
 fn write_list<W: Write>(
     map: &Pairs,
     outbox: &mut Outbox,
@@ -123,22 +184,113 @@ fn write_list<W: Write>(
     ensures { IsSent result (W.contents (watched_inner writer.old)) (W.contents (watched_inner writer.new))
         (watched_failed writer.new) (outbox.old ++ flat_map ended (listing (pairs_of map.now))) outbox.new }
 {
-    write_pairs(map, outbox, writer)?;
-    write_answer(Answer::End(map.len()), outbox, writer)
+    count_fits(map);
+    write_listing(map.iter(), outbox, writer)
 }
 
-// Writes a line a pair.
-fn write_pairs<W: Write>(
+// Writes the pairs whose keys begin with the word's.
+fn write_prefix<W: Write>(
     map: &Pairs,
+    alloc: Global,
+    word: &[u8],
+    outbox: &mut Outbox,
+    writer: &mut Watched<W>,
+) -> Result<(), RunError>
+    requires { watched_failed writer.old ≡ false }
+    ensures { (key : List ℕ) → key_of word.now ≡ Some key
+        → (lines : List (List ℕ)) × AnswersOrRefuses (pairs_of map.now) (ListPrefix key) lines (pairs_of map.now)
+        × IsSent result (W.contents (watched_inner writer.old)) (W.contents (watched_inner writer.new))
+        (watched_failed writer.new) (outbox.old ++ flat_map ended lines) outbox.new }
+{
+    match decode_key(alloc, word) {
+        Some(key) => {
+            count_fits(map);
+            write_listing(map.prefix(&key), outbox, writer)
+        }
+        None => write_answer(Answer::RefusedMemory, outbox, writer),
+    }
+}
+
+// Writes the pairs from the first word's key on, below the second's.
+fn write_range<W: Write>(
+    map: &Pairs,
+    alloc: Global,
+    first: &[u8],
+    second: &[u8],
+    outbox: &mut Outbox,
+    writer: &mut Watched<W>,
+) -> Result<(), RunError>
+    requires { watched_failed writer.old ≡ false }
+    ensures { (low high : List ℕ) → key_of first.now ≡ Some low → key_of second.now ≡ Some high
+        → (lines : List (List ℕ)) × AnswersOrRefuses (pairs_of map.now) (ListRange low high) lines (pairs_of map.now)
+        × IsSent result (W.contents (watched_inner writer.old)) (W.contents (watched_inner writer.new))
+        (watched_failed writer.new) (outbox.old ++ flat_map ended lines) outbox.new }
+{
+    match decode_both(alloc, first, second) {
+        Some((low, high)) => write_between(map, &low, &high, outbox, writer),
+        None => write_answer(Answer::RefusedMemory, outbox, writer),
+    }
+}
+
+// The words' keys, if there is memory for both.
+fn decode_both(alloc: Global, first: &[u8], second: &[u8]) -> Option<(Vec<u8>, Vec<u8>)>
+    ensures { (low high : List ℕ) → key_of first.now ≡ Some low → key_of second.now ≡ Some high
+        → MatchOption result ((low ≢ []) ⊎ (high ≢ [])) (λ found. (low ≡ found.0.items) × (high ≡ found.1.items)) }
+{
+    Some((decode_key(alloc, first)?, decode_key(alloc, second)?))
+}
+
+// Writes the pairs from the first key on, below the second, or that the bounds are refused.
+fn write_between<W: Write>(
+    map: &Pairs,
+    low: &Vec<u8>,
+    high: &Vec<u8>,
     outbox: &mut Outbox,
     writer: &mut Watched<W>,
 ) -> Result<(), RunError>
     requires { watched_failed writer.old ≡ false }
     ensures { IsSent result (W.contents (watched_inner writer.old)) (W.contents (watched_inner writer.new))
-        (watched_failed writer.new) (outbox.old ++ flat_map (λ pair. ended (pair_text pair)) (pairs_of map.now)) outbox.new }
+        (watched_failed writer.new) (outbox.old ++ flat_map ended (range_lines (pairs_of map.now) low.now.items high.now.items)) outbox.new }
 {
-    for (key, value) in map.iter() {
-        write_pair(key, *value, outbox, writer)?;
+    if !is_range(map, low, high) {
+        return write_answer(Answer::RefusedBounds, outbox, writer);
     }
-    Ok(())
+    count_fits(map);
+    let walk = map.range(Bound::Included(low), Bound::Excluded(high));
+    write_listing(walk, outbox, writer)
+}
+
+// Whether the bounds are in order, or there are no pairs.
+fn is_range(map: &Pairs, low: &Vec<u8>, high: &Vec<u8>) -> bool
+    ensures { result ≡ ((length map.now == 0) || in_order (Included low.now.items) (Excluded high.now.items)) }
+{
+    map.is_empty() || bounds_in_order(Bound::Included(low), Bound::Excluded(high))
+}
+
+// Answers nothing. Its contract says that no count of a map's pairs is too large.
+fn count_fits(map: &Pairs)
+    ensures { length map.now < 2 ^ 64 }
+{
+    let _count = map.len();
+}
+
+// Writes a line a pair of the walk, and how many there are.
+fn write_listing<'a, I: Iterator<Item = (&'a Vec<u8>, &'a u64)> + Drop, W: Write>(
+    walk: I,
+    outbox: &mut Outbox,
+    writer: &mut Watched<W>,
+) -> Result<(), RunError>
+    requires mark { watched_failed writer.old ≡ false }
+    requires can { I.can_next walk }
+    requires ends { UpTo (I.remaining walk) (2 ^ 64 - 1) }
+    ensures { (pairs : Stored) → AlwaysYields I.next_gives (λ item. (item.0.now, item.1.now)) walk pairs
+        → IsSent result (W.contents (watched_inner writer.old)) (W.contents (watched_inner writer.new))
+        (watched_failed writer.new) (outbox.old ++ flat_map ended (listing (pairs_of pairs))) outbox.new }
+{
+    let mut count = 0;
+    for (key, value) in walk {
+        write_pair(key, *value, outbox, writer)?;
+        count += 1;
+    }
+    write_answer(Answer::End(count), outbox, writer)
 }

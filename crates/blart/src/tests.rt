@@ -1,6 +1,5 @@
 //! Runs over readers and writers that fail, and tables of lines.
-use crate::map::TreeMap;
-use crate::{RunError, Watched, fault_line, run};
+use crate::{RunError, TreeMap, Watched, fault_line, run};
 use std::io;
 use std::io::{ErrorKind, Read, Write};
 use std::test::Fail;
@@ -118,16 +117,16 @@ fn tables_of_lines(rt: HostRuntime) -> Result<(), Fail> {
             "none\nrefused prefix\nold 7\n9\nnone\nnone\n01 8\nend 1\n",
         ),
         (
-            "insert 0A 007\nget 0a\nget 0g\ninsert 01\ninsert 01  2\nprefix 01\n",
+            "insert 0A 007\nget 0a\nget 0g\ninsert 01\ninsert 01  2\nprefix\n",
             "none\n7\nrefused line\nrefused line\nrefused line\nrefused line\n",
         ),
         (
-            "insert 010203 1\ninsert 020304 2\ninsert 02030405 3\ninsert 020304 4\nlist\nget 0\n",
-            "none\nnone\nrefused prefix\nold 2\n010203 1\n020304 4\nend 2\nrefused line\n",
+            "insert 010203 1\ninsert 020304 2\ninsert 02030405 3\ninsert 020304 4\nlist\nprefix-get 0102030405\nget 0\n",
+            "none\nnone\nrefused prefix\nold 2\n010203 1\n020304 4\nend 2\n010203 1\nrefused line\n",
         ),
         (
-            "insert - 18446744073709551615\ninsert 00 18446744073709551616\nget -\nlist\n\nget 0A",
-            "none\nrefused line\n18446744073709551615\n- 18446744073709551615\nend 1\nrefused line\nnone\n",
+            "insert - 18446744073709551615\ninsert 00 18446744073709551616\nget -\nprefix-get ff\noverwrite 0a 7\n\nget 0A",
+            "none\nrefused line\n18446744073709551615\n- 18446744073709551615\nlen 1\nrefused line\n7\n",
         ),
         (
             "insert 00ffAB 00000000000000000001\ninsert 00 000000000000000000001\nlist\n",
@@ -144,6 +143,14 @@ fn tables_of_lines(rt: HostRuntime) -> Result<(), Fail> {
         (
             "insert 01 +1\ninsert 01 -1\ninsert 01 \ninsert 01 1 \n",
             "refused line\nrefused line\nrefused line\nrefused line\n",
+        ),
+        (
+            "insert 0101 1\ninsert 0102 2\ninsert 02 3\noverwrite 01 9\noverwrite 010203 4\nprefix-get 01020304\nlist\n",
+            "none\nnone\nnone\nlen 2\nlen 2\n010203 4\n010203 4\n02 3\nend 2\n",
+        ),
+        (
+            "prefix-get -\noverwrite 00\noverwrite 0 1\noverwrite 00 +1\nprefix-get 0\nprefix-get 00 1\noverwrite - 1\nprefix-get -\nlist\n",
+            "none\nrefused line\nrefused line\nrefused line\nrefused line\nrefused line\nlen 1\n- 1\n- 1\nend 1\n",
         ),
         ("", ""),
     ];
@@ -304,32 +311,81 @@ fn an_end_remembers_that_it_failed(rt: HostRuntime) -> Result<(), Fail> {
 }
 
 #[test]
-fn a_map_of_short_keys(rt: HostRuntime) -> Result<(), Fail> {
-    let mut map = TreeMap::new(rt.alloc());
-    let calls: [(&[u8], u8, Result<Option<u8>, &str>); 4] = [
-        (&[1, 2, 3], b'a', Ok(None)),
-        (&[2, 3, 4], b'b', Ok(None)),
-        (&[2, 3, 4, 5], b'c', Err("key conflicts")),
-        (&[2, 3, 4], b'd', Ok(Some(b'b'))),
+fn stars_of_films(rt: HostRuntime) -> Result<(), Fail> {
+    let mut stars = TreeMap::new(rt.alloc());
+    for (film, given) in [
+        ("Office Space", 4),
+        ("Pulp Fiction", 5),
+        ("The Godfather", 3),
+        ("The Blues Brothers", 2),
+    ] {
+        assert_eq!(rt; stars.try_insert(film, given)?, None);
+    }
+    assert!(rt; !stars.contains_key(&"Les Misérables"));
+    assert_eq!(rt; stars.len(), 4);
+    assert_eq!(rt; stars.remove(&"The Blues Brothers"), Some(2));
+    assert_eq!(rt; stars.get(&"Up!"), None);
+    assert_eq!(rt; stars.get(&"Office Space"), Some(&4));
+    assert!(rt; stars.contains_key(&"Office Space"));
+    assert_eq!(rt; stars[&"Office Space"], 4);
+    let mut films = stars.keys();
+    for film in ["Office Space", "Pulp Fiction", "The Godfather"] {
+        assert_eq!(rt; films.next(), Some(&film));
+    }
+    assert_eq!(rt; films.next(), None);
+    Ok(())
+}
+
+#[test]
+fn listings_of_a_part(rt: HostRuntime) -> Result<(), Fail> {
+    let tables = [
+        (
+            "range 02 01\ninsert 0101 1\ninsert 0102 2\ninsert 02 3\nprefix 01\nrange 0102 -\nrange - 0102\nrange 0102 0102\n",
+            "end 0\nnone\nnone\nnone\n0101 1\n0102 2\nend 2\nrefused bounds\n0101 1\nend 1\nend 0\n",
+        ),
+        (
+            "insert 010203 1\ninsert 020304 2\ninsert 02030405 3\ninsert 020304 4\nlist\nprefix-get 0102030405\nrange 03 01\nget 0\n",
+            "none\nnone\nrefused prefix\nold 2\n010203 1\n020304 4\nend 2\n010203 1\nrefused bounds\nrefused line\n",
+        ),
+        (
+            "prefix -\nrange - -\ninsert 01ff 1\ninsert 0A 2\nprefix -\nprefix 01FF\nprefix 01ff00\nprefix 0b\nrange - ff\nrange 01ff 0a\nrange 0a00 0b",
+            "end 0\nend 0\nnone\nnone\n01ff 1\n0a 2\nend 2\n01ff 1\nend 1\nend 0\nend 0\n01ff 1\n0a 2\nend 2\n01ff 1\nend 1\nend 0\n",
+        ),
+        (
+            "prefix\nprefix \nprefix 0\nprefix 01 02\nrange\nrange 01\nrange 1 2\nrange 01 2\nrange 01  02\nrange 01 02 03\nrange 01 02 ",
+            "refused line\nrefused line\nrefused line\nrefused line\nrefused line\nrefused line\nrefused line\nrefused line\nrefused line\nrefused line\nrefused line\n",
+        ),
+        (
+            "insert - 5\nprefix -\nprefix 00\nrange - 00\nrange - -\nrange 00 -\nlist\n",
+            "none\n- 5\nend 1\nend 0\n- 5\nend 1\nend 0\nrefused bounds\n- 5\nend 1\n",
+        ),
     ];
-    for (key, value, want) in calls {
-        match map.try_insert(Vec::from_slice(rt.alloc(), key)?, value) {
-            Ok(old) => assert_eq!(rt; Ok(old), want),
-            Err(error) => {
-                let text = error.to_string(rt.alloc())?;
-                assert_eq!(rt; Err(text.as_str()), want);
-            }
+    for (text, answers) in tables {
+        for piece in [1, 7, 100] {
+            let got = run_over(&rt, text.as_bytes(), Ends { piece, ..SOUND });
+            assert_eq!(rt; got.result, Ok(()));
+            assert_eq!(rt; got.written.as_slice(), answers.as_bytes());
         }
     }
-    assert_eq!(rt; map.len(), 2);
-    assert_eq!(rt; map.get(&[1u8, 2, 3]).copied(), Some(b'a'));
-    assert_eq!(rt; map.get(&[1u8, 2]).copied(), None);
-    let mut values = map.iter().map(|(_, value)| *value);
-    assert_eq!(rt; values.next(), Some(b'a'));
-    assert_eq!(rt; values.next(), Some(b'd'));
-    assert_eq!(rt; values.next(), None);
-    assert!(rt; map.remove_entry(&[2u8, 3]).is_none());
-    assert_eq!(rt; map.remove(&[2u8, 3, 4]), Some(b'd'));
-    assert_eq!(rt; map.len(), 1);
+    Ok(())
+}
+
+#[test]
+fn a_writer_fails_within_a_listing(rt: HostRuntime) -> Result<(), Fail> {
+    for (text, answers) in [
+        (
+            "insert 01 5\ninsert 02 6\nprefix -\n",
+            "none\nnone\n01 5\n02",
+        ),
+        (
+            "insert 01 5\ninsert 02 6\nrange 02 03\n",
+            "none\nnone\n02 6\nen",
+        ),
+    ] {
+        let got = run_over(&rt, text.as_bytes(), Ends { room: 17, ..SOUND });
+        assert_eq!(rt; got.result, Err(RunError::Write));
+        assert_eq!(rt; got.marks, (false, true));
+        assert_eq!(rt; got.written.as_slice(), answers.as_bytes());
+    }
     Ok(())
 }

@@ -19,8 +19,10 @@ pub(crate) enum Answer {
     Value(u64),
     Old(u64),
     End(usize),
+    Len(usize),
     RefusedPrefix,
     RefusedMemory,
+    RefusedBounds,
     RefusedLine,
 }
 
@@ -51,8 +53,10 @@ fn append_answer(answer: Answer, outbox: &mut Outbox)
         Answer::Value(number) => append_decimal(number, outbox),
         Answer::Old(number) => append_counted(b"old ", number, outbox),
         Answer::End(count) => append_counted(b"end ", count as u64, outbox),
+        Answer::Len(count) => append_counted(b"len ", count as u64, outbox),
         Answer::RefusedPrefix => outbox.append(b"refused prefix"),
         Answer::RefusedMemory => outbox.append(b"refused memory"),
+        Answer::RefusedBounds => outbox.append(b"refused bounds"),
         Answer::RefusedLine => outbox.append(b"refused line"),
     }
 }

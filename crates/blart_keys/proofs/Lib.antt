@@ -6,6 +6,7 @@ pub mod FrontLemmas
 pub mod PutLemmas
 pub mod FrontSizes
 pub mod StepLemmas
+pub mod Mapped
 pub mod MergeLemmas
 pub mod PartsOfContents
 pub mod NumberKeys

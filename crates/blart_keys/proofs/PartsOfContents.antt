@@ -1,14 +1,14 @@
 -- Which parts of a content stand in one row, and what a new item does to its fronts.
-use Rattle.std.proofs.Common.{◌≡◌, ◌≢◌, ℕ, ◌<◌, ◌≤◌, Bool, true, false, ◌&&◌, ◌⊎◌, inl, inr, List, [], ◌∷◌, ◌++◌, length, length-append, refl, sym, ◌∙◌, subst, arith}
+use Rattle.std.proofs.Common.{◌≡◌, ◌≢◌, ℕ, ◌<◌, ◌≤◌, Bool, true, false, ◌&&◌, ◌⊎◌, inl, inr, List, [], ◌∷◌, ◌++◌, length, length-append, filter, refl, sym, ◌∙◌, subst, arith}
 use Rattle.std.proofs.lemmas.Bool.{false≢true, cases_order, or_cases, or_left, or_right, and_parts, and_from, not-true, not_from_false, false_from_ne_true}
 use Rattle.std.specs.declared.ops.Bound.{Bound}
 use Rattle.std.specs.declared.ops.Bound.TheVariants.{Included, Excluded, Unbounded}
 use Rattle.blart_keys.specs.Bytes.{begins, related, less}
 use Rattle.blart_keys.specs.Bounds.{is_from_start, is_up_to_end}
-use Rattle.blart_keys.specs.Content.{IsContent, IsPut}
+use Rattle.blart_keys.specs.Content.{IsContent, IsPut, between}
 use Rattle.blart_keys.proofs.ByteLemmas.{begins-trans, begins_shorter, fronts_related, begins-append}
 use Rattle.blart_keys.proofs.PartLemmas.{less-trans, less-irrefl, less-from_PartsBelow, PartsBelow-trans, related-from_PartsBelow, begins_between, Branch, parts_at_branch}
-use Rattle.blart_keys.proofs.RankLemmas.{Member, filter_is_part, IsPart}
+use Rattle.blart_keys.proofs.RankLemmas.{Member, filter_is_part, filter_twice, IsPart}
 use Rattle.blart_keys.proofs.ContentLemmas.{Before, Ranked-from_content}
 use Rattle.blart_keys.proofs.FrontLemmas.{Branches}
 use Rattle.blart_keys.proofs.PutLemmas.{put_member}
@@ -16,12 +16,12 @@ use Rattle.blart_keys.proofs.PutLemmas.{put_member}
 -- ---- rows
 
 -- a less one of two passes an end that the greater passes, and a greater one a start
-end_down : (hi : Bound (List ℕ)) (a b : List ℕ) → less a b ≡ true → is_up_to_end hi b ≡ true → is_up_to_end hi a ≡ true
+pub end_down : (hi : Bound (List ℕ)) (a b : List ℕ) → less a b ≡ true → is_up_to_end hi b ≡ true → is_up_to_end hi a ≡ true
 end_down (Included hi) a b l h = not_from_false _ (false_from_ne_true _ (λ t. false≢true (sym (not-true _ h) ∙ less-trans hi a b t l)))
 end_down (Excluded hi) a b l h = less-trans a b hi l h
 end_down Unbounded a b l h = refl
 
-start_up : (lo : Bound (List ℕ)) (a b : List ℕ) → less a b ≡ true → is_from_start lo a ≡ true → is_from_start lo b ≡ true
+pub start_up : (lo : Bound (List ℕ)) (a b : List ℕ) → less a b ≡ true → is_from_start lo a ≡ true → is_from_start lo b ≡ true
 start_up (Included lo) a b l h = not_from_false _ (false_from_ne_true _ (λ t. false≢true (sym (not-true _ h) ∙ less-trans a b lo l t)))
 start_up (Excluded lo) a b l h = less-trans lo a b h l
 start_up Unbounded a b l h = refl
@@ -34,6 +34,28 @@ module _ {X : Type 0} (bytes : X → List ℕ) where
   -- the items between two bounds stand in one row
   pub between_is_part : (S : List X) (lo hi : Bound (List ℕ)) → IsContent bytes S → IsPart (λ x. is_from_start lo (bytes x) && is_up_to_end hi (bytes x)) S
   between_is_part S lo hi c = filter_is_part (Before bytes) (λ x. is_from_start lo (bytes x) && is_up_to_end hi (bytes x)) (within_convex lo hi) S (Ranked-from_content bytes S c)
+
+  -- the items between two bounds are those from the start that are up to the end
+  pub between_from : (S : List X) (lo hi : Bound (List ℕ)) → filter (λ x. is_up_to_end hi (bytes x)) (between bytes S lo Unbounded) ≡ between bytes S lo hi
+  between_from S lo hi =
+      filter_twice (λ x. is_from_start lo (bytes x) && true) (λ x. is_up_to_end hi (bytes x)) (λ x. is_from_start lo (bytes x) && is_up_to_end hi (bytes x))
+      (λ x. with_true (is_from_start lo (bytes x)) (is_up_to_end hi (bytes x))) S
+    where
+      with_true : (a b : Bool) → (a && b) ≡ ((a && true) && b)
+      with_true true b = refl
+      with_true false b = refl
+
+  -- and those up to the end that are from the start
+  pub between_up : (S : List X) (lo hi : Bound (List ℕ)) → filter (λ x. is_from_start lo (bytes x)) (between bytes S Unbounded hi) ≡ between bytes S lo hi
+  between_up S lo hi =
+      filter_twice (λ x. is_up_to_end hi (bytes x)) (λ x. is_from_start lo (bytes x)) (λ x. is_from_start lo (bytes x) && is_up_to_end hi (bytes x))
+      (λ x. turned (is_from_start lo (bytes x)) (is_up_to_end hi (bytes x))) S
+    where
+      turned : (a b : Bool) → (a && b) ≡ (b && a)
+      turned true true = refl
+      turned true false = refl
+      turned false true = refl
+      turned false false = refl
 
   related_convex : (q : List ℕ) (x y z : X) → Before bytes x y → Before bytes y z → related (bytes x) q ≡ true → related (bytes z) q ≡ true → related (bytes y) q ≡ true
   related_convex q x y z h k s t =

@@ -32,9 +32,9 @@ impl<K, V> Leaf<K, V> {
     }
 }
 
-/// The leaves. A contract sees the pairs in order, each under its number, and how many more leaves find a place.
+/// The leaves of a tree, linked in byte order. A contract sees the pairs in order, each under its number, and how many more leaves find a place.
 #[derive(Drop)]
-pub(crate) struct Leaves<K, V> {
+pub struct Leaves<K, V> {
     pub(super) records: Store<Leaf<K, V>>,
     pub(super) first: Option<LeafId>,
     pub(super) last: Option<LeafId>,
@@ -105,15 +105,15 @@ impl<K, V> Leaves<K, V> {
         }
     }
 
-    /// Answers nothing: it tells proofs that no number comes twice.
-    pub(crate) fn law(&self)
+    /// Answers nothing. Its contract says that no number comes twice.
+    pub fn law(&self)
         ensures distinct { AreDistinct self.now.pairs }
     {
         let _ = &self.first;
     }
 
     /// How many leaves there are.
-    pub(crate) fn len(&self) -> usize
+    pub fn len(&self) -> usize
         ensures { result ≡ length self.now.pairs }
     {
         self.records.used()
@@ -127,14 +127,14 @@ impl<K, V> Leaves<K, V> {
     }
 
     /// The first leaf.
-    pub(crate) fn first(&self) -> Option<LeafId>
+    pub fn first(&self) -> Option<LeafId>
         ensures { result ≡ first_number self.now.pairs }
     {
         self.first
     }
 
     /// The last leaf.
-    pub(crate) fn last(&self) -> Option<LeafId>
+    pub fn last(&self) -> Option<LeafId>
         ensures { result ≡ last_number self.now.pairs }
     {
         self.last
@@ -156,15 +156,48 @@ impl<K, V> Leaves<K, V> {
         self.records.read(id.number).prev
     }
 
+    // The record of a leaf.
+    fn record(&self, id: LeafId, visits: &mut Visits) -> &Leaf<K, V>
+        requires { Has self.now.pairs id }
+        ensures value { leaf_in self.now.pairs id ≡ Some (result.now.key, result.now.value) }
+        ensures next { result.now.next ≡ number_after self.now.pairs id }
+        ensures prev { result.now.prev ≡ number_before self.now.pairs id }
+        ensures counted { visits.new.count ≡ visits.old.count + 1 }
+    {
+        visits.add_one();
+        self.records.read(id.number)
+    }
+
     /// The pair of a leaf. It reads one record.
-    pub(crate) fn read(&self, id: LeafId, visits: &mut Visits) -> (&K, &V)
+    pub fn read(&self, id: LeafId, visits: &mut Visits) -> (&K, &V)
         requires { Has self.now.pairs id }
         ensures value { leaf_in self.now.pairs id ≡ Some (result.0.now, result.1.now) }
         ensures counted { visits.new.count ≡ visits.old.count + 1 }
     {
-        visits.add_one();
-        let leaf = self.records.read(id.number);
+        let leaf = self.record(id, visits);
         (&leaf.key, &leaf.value)
+    }
+
+    /// The pair of a leaf, and the leaf behind it. It reads one record.
+    pub fn read_with_next(&self, id: LeafId, visits: &mut Visits) -> (&K, &V, Option<LeafId>)
+        requires { Has self.now.pairs id }
+        ensures value { leaf_in self.now.pairs id ≡ Some (result.0.now, result.1.now) }
+        ensures next { result.2 ≡ number_after self.now.pairs id }
+        ensures counted { visits.new.count ≡ visits.old.count + 1 }
+    {
+        let leaf = self.record(id, visits);
+        (&leaf.key, &leaf.value, leaf.next)
+    }
+
+    /// The pair of a leaf, and the leaf before it. It reads one record.
+    pub fn read_with_prev(&self, id: LeafId, visits: &mut Visits) -> (&K, &V, Option<LeafId>)
+        requires { Has self.now.pairs id }
+        ensures value { leaf_in self.now.pairs id ≡ Some (result.0.now, result.1.now) }
+        ensures prev { result.2 ≡ number_before self.now.pairs id }
+        ensures counted { visits.new.count ≡ visits.old.count + 1 }
+    {
+        let leaf = self.record(id, visits);
+        (&leaf.key, &leaf.value, leaf.prev)
     }
 }
 

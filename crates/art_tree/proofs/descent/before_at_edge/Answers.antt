@@ -1,8 +1,10 @@
-use Rattle.std.proofs.Common.{ℕ, ◌≤◌, subst, sym, lit<, arith, Option}
+use Rattle.std.proofs.Common.{ℕ, ◌+◌, ◌≤◌, length, subst, sym, lit<, arith, Option}
 use Rattle.art_tree.specs.Good.{StandsBehind}
-use Rattle.art_tree.specs.Leaves.{keys_in}
+use Rattle.art_tree.specs.Leaves.{keys_in, bytes}
+use Rattle.art_tree.specs.Longest.{longest}
 use Rattle.art_tree.specs.Nodes.{at}
 use Rattle.art_tree.proofs.Departing.{behind_edge, before_edge, has_key}
+use Rattle.art_tree.proofs.Soundness.{within_longest}
 use Rattle.art_tree.proofs.descent.before_at_edge.Goals as goal
 
 pub last_under-requires : goal.last_under-requires
@@ -21,18 +23,38 @@ prev_of-requires g c =
     let u = c.first_under.ensures.least (keys_in g.K.AsBytes.bytes c.args.leaves.now.pairs) l.apart.root l.apart.shape l.front l.covers in
     has_key g.K.AsBytes.bytes c.args.leaves.now.pairs c.first_under.result u.key u.is
 
-pub returns-then-mate_byte-byte : goal.returns-then-mate_byte-byte
-returns-then-mate_byte-byte g c = λ q l.
+pub returns-then-mate_byte-byte-clause-before : goal.returns-then-mate_byte-byte-clause-before
+returns-then-mate_byte-byte-clause-before g c = λ q l.
     let kb = g.K.AsBytes.bytes in
     let S = c.args.leaves.now.pairs in
-    let u = c.last_under.ensures (keys_in kb S) l.apart.root l.apart.shape l.front l.covers in
+    let u = c.last_under.ensures.greatest (keys_in kb S) l.apart.root l.apart.shape l.front l.covers in
     behind_edge kb S (at c.args.nodes.now) c.args.child.now c.args.mate_byte c.args.byte q l c.if-mate_byte-byte.true c.last_under.result u
 
-pub returns : goal.returns
-returns g c = λ q l.
+pub returns-clause-before : goal.returns-clause-before
+returns-clause-before g c = λ q l.
     let kb = g.K.AsBytes.bytes in
     let S = c.args.leaves.now.pairs in
     let u = c.first_under.ensures.least (keys_in kb S) l.apart.root l.apart.shape l.front l.covers in
     let le : c.args.byte ≤ c.args.mate_byte = c.if-mate_byte-byte.false in
     subst (λ (o : Option ℕ). StandsBehind (keys_in kb S) q o) (sym c.prev_of.ensures)
     (before_edge kb S (at c.args.nodes.now) c.args.child.now c.args.mate_byte c.args.byte q l (λ h. absurd (omega arith)) c.first_under.result u)
+
+pub returns-then-mate_byte-byte-clause-counted : goal.returns-then-mate_byte-byte-clause-counted
+returns-then-mate_byte-byte-clause-counted g c =
+    let kb = g.K.AsBytes.bytes in
+    let S = c.args.leaves.now.pairs in
+    let l = c.requires.1 in
+    let u = c.last_under.ensures.greatest (keys_in kb S) l.apart.root l.apart.shape l.front l.covers in
+    let few : c.last_under.new.visits.count + length l.front ≤ c.args.visits.now.count + length u.key = c.last_under.ensures.counted (keys_in kb S) l.apart.root l.apart.shape l.front u.key l.covers u.is in
+    let low : length u.key ≤ longest (bytes kb) S = within_longest kb S c.last_under.result u.key u.is in
+    omega arith
+
+pub returns-clause-counted : goal.returns-clause-counted
+returns-clause-counted g c =
+    let kb = g.K.AsBytes.bytes in
+    let S = c.args.leaves.now.pairs in
+    let l = c.requires.1 in
+    let u = c.first_under.ensures.least (keys_in kb S) l.apart.root l.apart.shape l.front l.covers in
+    let few : c.first_under.new.visits.count + length l.front ≤ c.args.visits.now.count + length u.key = c.first_under.ensures.counted (keys_in kb S) l.apart.root l.apart.shape l.front u.key l.covers u.is in
+    let low : length u.key ≤ longest (bytes kb) S = within_longest kb S c.first_under.result u.key u.is in
+    omega arith

@@ -1,4 +1,4 @@
-use Rattle.std.proofs.Common.{ℕ, Option}
+use Rattle.std.proofs.Common.{ℕ, ◌-◌, ◌≤◌, Option}
 use Rattle.art_tree.specs.Begins.{Bytes}
 use Rattle.art_tree.specs.Nodes.{at}
 use Rattle.art_tree.specs.Shape.{Shape, Covers}
@@ -9,7 +9,10 @@ use Rattle.art_tree.proofs.Deepest.{rank}
 use Rattle.art_tree.proofs.descent.last_under.Given as goal
 
 abbrev pub invariant-down : goal.invariant-down
-invariant-down g l = (keys : ℕ → Option Bytes) (root : Option Child) (s : Shape keys (at l.nodes) root) (g : Bytes) → Covers keys (at l.nodes) s.front_of g l.fn.child → (spent : ℕ) × WayDown keys (at l.nodes) root s (IsGreatestUnder keys) g l.at spent
+invariant-down g l = record {
+  way : (keys : ℕ → Option Bytes) (root : Option Child) (s : Shape keys (at l.nodes) root) (g : Bytes) → Covers keys (at l.nodes) s.front_of g l.fn.child → WayDown keys (at l.nodes) root s (IsGreatestUnder keys) g l.at (l.visits.count - l.initial.visits.count);
+  rising : l.initial.visits.count ≤ l.visits.count;
+}
 
 abbrev pub decreases-down : goal.decreases-down
 decreases-down g l = rank l.nodes l.at

@@ -17,14 +17,14 @@ before_at_edge-requires g c =
     let l = subst (λ (s : Spot). LeavesAt g.K.AsBytes.bytes S (at c.args.nodes.now) s c.args.mate.now c.args.query.now c.args.depth) c.in-Edge.is c.requires in
     (lit< tt, (c.args.query.now, at_edge g.K.AsBytes.bytes S (at c.args.nodes.now) c.args.mate.now c.args.query.now c.args.depth c.in-Edge.field-0 c.in-Edge.child l))
 
-pub returns-in-Node : goal.returns-in-Node
-returns-in-Node g c =
+pub returns-in-Node-clause-before : goal.returns-in-Node-clause-before
+returns-in-Node-clause-before g c =
     let S = c.args.leaves.now.pairs in
     let l = subst (λ (s : Spot). LeavesAt g.K.AsBytes.bytes S (at c.args.nodes.now) s c.args.mate.now c.args.query.now c.args.depth) c.in-Node.is c.requires in
-    c.before_at_node.ensures c.args.query.now (at_node g.K.AsBytes.bytes S (at c.args.nodes.now) c.args.mate.now c.args.query.now c.args.depth c.in-Node.field-0 c.in-Node.id l)
+    c.before_at_node.ensures.before c.args.query.now (at_node g.K.AsBytes.bytes S (at c.args.nodes.now) c.args.mate.now c.args.query.now c.args.depth c.in-Node.field-0 c.in-Node.id l)
 
-pub returns-in-Edge : goal.returns-in-Edge
-returns-in-Edge g c =
+pub returns-in-Edge-clause-before : goal.returns-in-Edge-clause-before
+returns-in-Edge-clause-before g c =
     let S = c.args.leaves.now.pairs in
     let l = subst (λ (s : Spot). LeavesAt g.K.AsBytes.bytes S (at c.args.nodes.now) s c.args.mate.now c.args.query.now c.args.depth) c.in-Edge.is c.requires in
-    c.before_at_edge.ensures c.args.query.now (at_edge g.K.AsBytes.bytes S (at c.args.nodes.now) c.args.mate.now c.args.query.now c.args.depth c.in-Edge.field-0 c.in-Edge.child l)
+    c.before_at_edge.ensures.before c.args.query.now (at_edge g.K.AsBytes.bytes S (at c.args.nodes.now) c.args.mate.now c.args.query.now c.args.depth c.in-Edge.field-0 c.in-Edge.child l)

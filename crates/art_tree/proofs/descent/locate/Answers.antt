@@ -8,8 +8,8 @@ use Rattle.art_tree.proofs.Growing.{covers_above}
 use Rattle.art_tree.proofs.Locating.{Stands, stand_node, stand_past, stand_some, stand_deeper, stand_step}
 use Rattle.art_tree.proofs.descent.locate.Goals as goal
 
-pub returns-in-Leaf : goal.returns-in-Leaf
-returns-in-Leaf g c = λ keys s i is. ((c.down.invariant.stands keys s i is).edge, subst (λ (k : Child). PastLength s.front_of c.args.depth k) (sym c.in-Leaf.is) tt)
+pub returns-in-Leaf-clause-spot : goal.returns-in-Leaf-clause-spot
+returns-in-Leaf-clause-spot g c = λ keys s i is. ((c.down.invariant.stands keys s i is).edge, subst (λ (k : Child). PastLength s.front_of c.args.depth k) (sym c.in-Leaf.is) tt)
 
 pub read-node-requires : goal.read-node-requires
 read-node-requires g c =
@@ -18,8 +18,8 @@ read-node-requires g c =
     let r = subst (λ (k : Child). Stands w.keys nodes (Some c.args.root.now) w.shape.front_of c.args.mate.now c.args.depth c.down.above k c.down.gone) c.in-Inner.is (c.down.invariant.stands w.keys w.shape w.leaf w.is) in
     (lit< tt, (lit< tt, (covers_above w.keys nodes (Some c.args.root.now) w.shape c.down.above (Inner c.in-Inner.id) r.edge.leads).live))
 
-pub returns-then-length-depth : goal.returns-then-length-depth
-returns-then-length-depth g c = λ keys s i is.
+pub returns-then-length-depth-clause-spot : goal.returns-then-length-depth-clause-spot
+returns-then-length-depth-clause-spot g c = λ keys s i is.
     let nodes = at c.args.nodes.now in
     let r = subst (λ (k : Child). Stands keys nodes (Some c.args.root.now) s.front_of c.args.mate.now c.args.depth c.down.above k c.down.gone) c.in-Inner.is (c.down.invariant.stands keys s i is) in
     let h : c.args.depth < c.read-node.result.depth = omega (arith, c.depth-length.ensures) in (
@@ -27,8 +27,8 @@ returns-then-length-depth g c = λ keys s i is.
       (stand_past keys nodes c.args.mate.now c.args.depth c.args.root.now s i is c.requires.within c.in-Inner.id c.read-node.result c.read-node.ensures.value c.down.above c.down.gone r h),
     )
 
-pub returns-then-length-depth-2 : goal.returns-then-length-depth-2
-returns-then-length-depth-2 g c = λ keys s i is.
+pub returns-then-length-depth-2-clause-spot : goal.returns-then-length-depth-2-clause-spot
+returns-then-length-depth-2-clause-spot g c = λ keys s i is.
     let nodes = at c.args.nodes.now in
     let r = subst (λ (k : Child). Stands keys nodes (Some c.args.root.now) s.front_of c.args.mate.now c.args.depth c.down.above k c.down.gone) c.in-Inner.is (c.down.invariant.stands keys s i is) in
     let h : c.read-node.result.depth ≡ c.args.depth = omega (arith, c.depth-length.ensures) in
@@ -58,10 +58,15 @@ down-preserved g c =
     let d : c.read-node.result.depth ≡ c.depth-length.result = sym c.depth-length.ensures in
     let h : kid_at c.read-node.result.kids (get_or c.args.mate.now c.read-node.result.depth 0) ≡ Some c.in-Some.child = rw d (sym c.find.ensures ∙ c.in-Some.is) in
     let l : c.read-node.result.depth < c.args.depth = omega (arith, d) in
+    let r = subst (λ (k : Child). Stands w.keys nodes (Some c.args.root.now) w.shape.front_of c.args.mate.now c.args.depth c.down.above k c.down.gone) c.in-Inner.is (c.down.invariant.stands w.keys w.shape w.leaf w.is) in
+    let deeper : c.down.gone ≤ c.read-node.result.depth = stand_deeper w.keys nodes c.args.mate.now c.args.depth c.args.root.now w.shape w.leaf w.is w.within c.in-Inner.id c.read-node.result c.read-node.ensures.value c.down.above c.down.gone r in
+    let one : c.read-node.new.visits.count ≡ c.down.visits.count + 1 = c.read-node.ensures.counted in
+    let few : c.down.visits.count ≤ c.args.visits.now.count + c.down.gone = c.down.invariant.few in
     record {
       stands = λ keys s i is.
           let r = subst (λ (k : Child). Stands keys nodes (Some c.args.root.now) s.front_of c.args.mate.now c.args.depth c.down.above k c.down.gone) c.in-Inner.is (c.down.invariant.stands keys s i is) in
           subst (λ (n : ℕ). Stands keys nodes (Some c.args.root.now) s.front_of c.args.mate.now c.args.depth (Some (c.in-Inner.id, get_or c.args.mate.now n 0)) c.in-Some.child (n + 1)) d
           (stand_step keys nodes c.args.mate.now c.args.depth c.args.root.now s i is w.within c.in-Inner.id c.read-node.result c.read-node.ensures.value c.down.above c.down.gone r c.in-Some.child l h);
       near = omega (arith, d);
+      few = omega arith;
     }

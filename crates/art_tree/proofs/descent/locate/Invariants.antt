@@ -1,4 +1,4 @@
-use Rattle.std.proofs.Common.{◌≡◌, ◌≤◌, ℕ, ◌-◌, Option, Some}
+use Rattle.std.proofs.Common.{◌≡◌, ◌≤◌, ℕ, ◌+◌, ◌-◌, Option, Some}
 use Rattle.art_tree.specs.Begins.{Bytes}
 use Rattle.art_tree.specs.Nodes.{at}
 use Rattle.art_tree.specs.Shape.{Shape}
@@ -9,6 +9,7 @@ abbrev pub invariant-down : goal.invariant-down
 invariant-down g l = record {
   stands : (keys : ℕ → Option Bytes) (s : Shape keys (at l.nodes) (Some l.fn.root)) (i : ℕ) → keys i ≡ Some l.mate → Stands keys (at l.nodes) (Some l.fn.root) s.front_of l.mate l.depth l.above l.at l.gone;
   near : l.gone ≤ l.depth;
+  few : l.visits.count ≤ l.initial.visits.count + l.gone;
 }
 
 abbrev pub decreases-down : goal.decreases-down

@@ -1,4 +1,4 @@
-use Rattle.std.proofs.Common.{ℕ, Option, Some}
+use Rattle.std.proofs.Common.{ℕ, ◌-◌, ◌≤◌, Option, Some}
 use Rattle.art_tree.specs.Begins.{Bytes}
 use Rattle.art_tree.specs.Nodes.{at}
 use Rattle.art_tree.specs.Shape.{Shape}
@@ -10,7 +10,8 @@ use Rattle.art_tree.proofs.descent.mate_of.Given as goal
 abbrev pub invariant-down : goal.invariant-down
 invariant-down g l = record {
   hangs : Hangs (at l.nodes) l.at;
-  mates : (keys : ℕ → Option Bytes) (s : Shape keys (at l.nodes) (Some l.fn.root)) → MatesBelow keys (at l.nodes) l.query s.front_of l.at;
+  mates : (keys : ℕ → Option Bytes) (s : Shape keys (at l.nodes) (Some l.fn.root)) → MatesBelow keys (at l.nodes) l.query s.front_of l.at (l.visits.count - l.initial.visits.count);
+  rising : l.initial.visits.count ≤ l.visits.count;
 }
 
 abbrev pub decreases-down : goal.decreases-down

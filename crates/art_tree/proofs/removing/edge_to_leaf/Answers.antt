@@ -20,7 +20,7 @@ unreachable-requires g c =
     let s = c.requires.sound.shape in
     let is : keys c.args.id.now ≡ Some k = key_of_pair g.K.AsBytes.bytes c.args.leaves.now.pairs c.args.id.now (c.read.result.0.now, c.read.result.1.now) c.read.ensures.value ∙ ap Some (sym c.as_bytes-key.ensures) in
     no_node_at_key keys (at c.args.nodes.now) (Some c.args.root.now) s c.args.id.now k is c.in-Node.field-0 c.in-Node.field-1
-    (subst (λ (z : Spot). SpotFits (at c.args.nodes.now) (Some c.args.root.now) s.front_of k (length k) z) c.in-Node.is (c.locate.ensures keys s c.args.id.now is))
+    (subst (λ (z : Spot). SpotFits (at c.args.nodes.now) (Some c.args.root.now) s.front_of k (length k) z) c.in-Node.is (c.locate.ensures.spot keys s c.args.id.now is))
 
 pub returns : goal.returns
 returns g c =
@@ -29,4 +29,4 @@ returns g c =
     let s = c.requires.sound.shape in
     let is : keys c.args.id.now ≡ Some k = key_of_pair g.K.AsBytes.bytes c.args.leaves.now.pairs c.args.id.now (c.read.result.0.now, c.read.result.1.now) c.read.ensures.value ∙ ap Some (sym c.as_bytes-key.ensures) in
     way_to_leaf keys (at c.args.nodes.now) (Some c.args.root.now) s c.args.id.now k is c.in-Edge.above c.in-Edge.field-1
-    (subst (λ (z : Spot). SpotFits (at c.args.nodes.now) (Some c.args.root.now) s.front_of k (length k) z) c.in-Edge.is (c.locate.ensures keys s c.args.id.now is))
+    (subst (λ (z : Spot). SpotFits (at c.args.nodes.now) (Some c.args.root.now) s.front_of k (length k) z) c.in-Edge.is (c.locate.ensures.spot keys s c.args.id.now is))

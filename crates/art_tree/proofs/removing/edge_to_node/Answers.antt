@@ -33,7 +33,7 @@ unreachable-requires g c =
     let e : l.1.0 ≡ c.read-2.result = cc in
     let d : c.depth-depth.result ≡ l.1.0.depth = c.depth-depth.ensures ∙ ap (λ x. x.depth) (sym e) in
     no_edge_past keys nodes (Some c.args.root.now) s c.args.id.now k is c.args.node.now l.0 l.1.0 l.1.1 l.1.2 c.in-Edge.field-0 c.in-Edge.field-1
-    (rw (← d) (subst (λ (z : Spot). SpotFits nodes (Some c.args.root.now) s.front_of k c.depth-depth.result z) c.in-Edge.is (c.locate.ensures keys s c.args.id.now is)))
+    (rw (← d) (subst (λ (z : Spot). SpotFits nodes (Some c.args.root.now) s.front_of k c.depth-depth.result z) c.in-Edge.is (c.locate.ensures.spot keys s c.args.id.now is)))
 
 pub returns : goal.returns
 returns g c =
@@ -48,4 +48,4 @@ returns g c =
     let e : l.1.0 ≡ c.read-2.result = cc in
     let d : c.depth-depth.result ≡ l.1.0.depth = c.depth-depth.ensures ∙ ap (λ x. x.depth) (sym e) in
     way_to_node keys nodes (Some c.args.root.now) s c.args.id.now k is c.args.node.now l.0 l.1.0 l.1.1 l.1.2 c.in-Node.above c.in-Node.field-1
-    (rw (← d) (subst (λ (z : Spot). SpotFits nodes (Some c.args.root.now) s.front_of k c.depth-depth.result z) c.in-Node.is (c.locate.ensures keys s c.args.id.now is)))
+    (rw (← d) (subst (λ (z : Spot). SpotFits nodes (Some c.args.root.now) s.front_of k c.depth-depth.result z) c.in-Node.is (c.locate.ensures.spot keys s c.args.id.now is)))

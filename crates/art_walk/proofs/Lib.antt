@@ -1,0 +1,4 @@
+pub mod Changes
+pub mod Ranges
+pub mod Spans
+pub mod Steps

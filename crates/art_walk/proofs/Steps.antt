@@ -1,0 +1,228 @@
+-- What a cursor has left behind its first leaf, and before its last.
+use Rattle.std.proofs.Common.{◌≡◌, ◌≢◌, ℕ, List, [], ◌∷◌, ◌++◌, Option, Some, None, option_map, inl, inr, refl, sym, ap, ◌∙◌, subst, append_assoc}
+use Rattle.std.specs.Option.{option_or}
+use Rattle.std.proofs.lemmas.Bool.Decides.{eqb_tells}
+use Rattle.std.proofs.lemmas.List.{append-nil}
+use Rattle.art_tree.specs.Leaves.{Numbered, leaf_in, Has, first_number, last_number, number_after, number_before, Lacks, AreDistinct}
+use Rattle.art_tree.proofs.LeavesLemmas.{Has-last, has_other, distinct_parts, AreDistinct-parts, Lacks-parts, leaf_in-split, number_after-split, number_before-split, last_number-append}
+use Rattle.art_tree.proofs.Options.{is_some}
+use Rattle.art_walk.specs.declared.cursor.Ends.{Ends}
+use Rattle.art_walk.specs.declared.cursor.Cursor.{Cursor}
+use Rattle.art_walk.specs.Cursor.{nothing_left, left_between, span_of, IsSpan, ends_left, EndsFit, leaves_left, FitsIn, PassesFirst, PassesLast}
+use Rattle.art_walk.proofs.Spans.{Cut, ends_with, cut_span, cut_is_span, span_cut}
+
+pub some_inj : {A : Type 0} (a b : A) → Some a ≡ Some b → a ≡ b
+some_inj a b e = cc
+
+module _ {K V : Type 0} where
+  -- a row begins with the pair of its first number
+  pub record BeginsWith (row : List (Numbered K V)) (first : ℕ) : Type 0 where
+    pub pair : K × V
+    pub rest : List (Numbered K V)
+    pub is : row ≡ (first, pair) ∷ rest
+
+  pub begins_with : (row : List (Numbered K V)) (first : ℕ) → first_number row ≡ Some first → BeginsWith row first
+  begins_with [] first e = absurd cc
+  begins_with (p ∷ row) first e = let h : p.0 ≡ first = cc in record { pair = p.1; rest = row; is = ap (λ n. (n, p.1) ∷ row) h }
+
+  module _ (ps : List (Numbered K V)) (distinct : AreDistinct ps) (first last : ℕ) (row : List (Numbered K V)) (c : Cut ps first last row) where
+    row_distinct : AreDistinct (row ++ c.after)
+    row_distinct = (AreDistinct-parts c.before (row ++ c.after) (subst AreDistinct c.is distinct)).1
+
+    -- ---- from the front
+
+    module _ (x : K × V) (rest : List (Numbered K V)) (is : row ≡ (first, x) ∷ rest) where
+      front_is : ps ≡ c.before ++ (first, x) ∷ (rest ++ c.after)
+      front_is = c.is ∙ ap (λ l. c.before ++ (l ++ c.after)) is
+
+      front_lacks : Lacks c.before first × Lacks (rest ++ c.after) first
+      front_lacks = distinct_parts c.before (rest ++ c.after) (first, x) (subst AreDistinct front_is distinct)
+
+      pub first_pair : leaf_in ps first ≡ Some x
+      first_pair = ap (λ l. leaf_in l first) front_is ∙ leaf_in-split first x (rest ++ c.after) c.before front_lacks.0
+
+      pub second_number : number_after ps first ≡ first_number (rest ++ c.after)
+      second_number = ap (λ l. number_after l first) front_is ∙ number_after-split first x (rest ++ c.after) c.before front_lacks.0
+
+      -- where the ends are one, nothing else is left
+      pub first_alone : first ≡ last → rest ≡ []
+      first_alone e = go rest is
+        where
+          go : (r : List (Numbered K V)) → row ≡ (first, x) ∷ r → r ≡ []
+          go [] i = refl
+          go (q ∷ r) i =
+              let l : last_number (q ∷ r) ≡ Some last = ap last_number (sym i) ∙ c.last_is in
+              let d : AreDistinct ((first, x) ∷ ((q ∷ r) ++ c.after)) = subst (λ (l : List (Numbered K V)). AreDistinct (l ++ c.after)) i row_distinct in
+              let p = (AreDistinct-parts ((first, x) ∷ q ∷ r) c.after d).0 in
+              absurd (has_other (q ∷ r) last first (Has-last (q ∷ r) last l) p.0 (sym e))
+
+      -- where they are two, the next one begins the rest
+      pub first_more : (n : Option ℕ) → first ≢ last → n ≡ number_after ps first → (m : ℕ) × (n ≡ Some m) × Cut ps m last rest
+      first_more n ne e = go rest is
+        where
+          go : (r : List (Numbered K V)) → row ≡ (first, x) ∷ r → (m : ℕ) × (n ≡ Some m) × Cut ps m last r
+          go [] i = absurd (ne (let h : Some first ≡ Some last = ap last_number (sym i) ∙ c.last_is in cc))
+          go (q ∷ r) i =
+              let f : ps ≡ c.before ++ (first, x) ∷ ((q ∷ r) ++ c.after) = c.is ∙ ap (λ l. c.before ++ (l ++ c.after)) i in
+              let g = distinct_parts c.before ((q ∷ r) ++ c.after) (first, x) (subst AreDistinct f distinct) in (
+                q.0,
+                e ∙ ap (λ l. number_after l first) f ∙ number_after-split first x ((q ∷ r) ++ c.after) c.before g.0,
+                record {
+                  before = c.before ++ (first, x) ∷ [];
+                  after = c.after;
+                  is = f ∙ sym (append_assoc c.before ((first, x) ∷ []) ((q ∷ r) ++ c.after));
+                  first_is = refl;
+                  last_is = ap last_number (sym i) ∙ c.last_is;
+                },
+              )
+
+    -- ---- from the back
+
+    module _ (x : K × V) (front : List (Numbered K V)) (is : row ≡ front ++ (last, x) ∷ []) where
+      back_is : ps ≡ (c.before ++ front) ++ (last, x) ∷ c.after
+      back_is =
+          c.is ∙ ap (λ l. c.before ++ (l ++ c.after)) is ∙ ap (λ l. c.before ++ l) (append_assoc front ((last, x) ∷ []) c.after)
+          ∙ sym (append_assoc c.before front ((last, x) ∷ c.after))
+
+      back_lacks : Lacks (c.before ++ front) last × Lacks c.after last
+      back_lacks = distinct_parts (c.before ++ front) c.after (last, x) (subst AreDistinct back_is distinct)
+
+      pub last_pair : leaf_in ps last ≡ Some x
+      last_pair = ap (λ l. leaf_in l last) back_is ∙ leaf_in-split last x c.after (c.before ++ front) back_lacks.0
+
+      number_back : number_before ps last ≡ last_number (c.before ++ front)
+      number_back = ap (λ l. number_before l last) back_is ∙ number_before-split last x c.after (c.before ++ front) back_lacks.0
+
+      front_distinct : AreDistinct (front ++ (last, x) ∷ [])
+      front_distinct = subst AreDistinct is (AreDistinct-parts row c.after row_distinct).0
+
+      -- where the ends are one, nothing else is left
+      pub last_alone : first ≡ last → front ≡ []
+      last_alone e = go front is front_distinct
+        where
+          go : (r : List (Numbered K V)) → row ≡ r ++ (last, x) ∷ [] → AreDistinct (r ++ (last, x) ∷ []) → r ≡ []
+          go [] i d = refl
+          go (q ∷ r) i d =
+              let f : q.0 ≡ first = (let h : Some q.0 ≡ Some first = ap first_number (sym i) ∙ c.first_is in cc) in
+              absurd ((Lacks-parts r [] (last, x) q.0 d.0).1 (sym (f ∙ e)))
+
+      -- where they are two, the one before ends the rest
+      pub last_more : (n : Option ℕ) → first ≢ last → n ≡ number_before ps last → (m : ℕ) × (n ≡ Some m) × Cut ps first m front
+      last_more n ne e = go front is (e ∙ number_back)
+        where
+          some_last : (q : Numbered K V) (r : List (Numbered K V)) → (m : ℕ) × (last_number (q ∷ r) ≡ Some m)
+          some_last q [] = (q.0, refl)
+          some_last q (p ∷ r) = some_last p r
+
+          go : (r : List (Numbered K V)) → row ≡ r ++ (last, x) ∷ [] → n ≡ last_number (c.before ++ r) → (m : ℕ) × (n ≡ Some m) × Cut ps first m r
+          go [] i b = absurd (ne (let h : Some first ≡ Some last = sym c.first_is ∙ ap first_number i in cc))
+          go (q ∷ r) i b =
+              let s = some_last q r in (
+                s.0,
+                b ∙ last_number-append c.before (q ∷ r) ∙ ap (λ o. option_or o (last_number c.before)) s.1,
+                record {
+                  before = c.before;
+                  after = (last, x) ∷ c.after;
+                  is = c.is ∙ ap (λ l. c.before ++ (l ++ c.after)) i ∙ ap (λ l. c.before ++ l) (append_assoc (q ∷ r) ((last, x) ∷ []) c.after);
+                  first_is = ap first_number (sym i) ∙ c.first_is;
+                  last_is = s.1;
+                },
+              )
+
+  -- ---- what a cursor has left
+
+  module _ (ps : List (Numbered K V)) (distinct : AreDistinct ps) (ends : Option Ends) (e : Ends) (was : ends ≡ Some e) (fits : EndsFit ends ps) where
+    is_span : IsSpan ps e.first e.last
+    is_span = subst (λ (o : Option Ends). EndsFit o ps) was fits
+
+    cut : Cut ps e.first e.last (span_of ps e.first e.last)
+    cut = span_cut ps e.first e.last is_span
+
+    -- the list has the first number
+    pub has_first : Has ps e.first
+    has_first =
+        let b = begins_with (span_of ps e.first e.last) e.first cut.first_is in
+        is_some (leaf_in ps e.first) b.pair (first_pair ps distinct e.first e.last (span_of ps e.first e.last) cut b.pair b.rest b.is)
+
+    -- the list has the last number
+    pub has_last : Has ps e.last
+    has_last =
+        let b = ends_with (span_of ps e.first e.last) e.last cut.last_is in
+        is_some (leaf_in ps e.last) b.pair (last_pair ps distinct e.first e.last (span_of ps e.first e.last) cut b.pair b.front b.is)
+
+    module _ (ends' : Option Ends) (x : K × V) where
+      -- no ends, nothing left
+      none_left : ends' ≡ None → (more : List (Numbered K V) → List (Numbered K V)) → span_of ps e.first e.last ≡ more [] → EndsFit ends' ps × (ends_left ends ps ≡ more (ends_left ends' ps))
+      none_left n more is = (subst (λ (o : Option Ends). EndsFit o ps) (sym n) tt, ap (λ o. ends_left o ps) was ∙ is ∙ ap more (sym (ap (λ o. ends_left o ps) n)))
+
+      -- two ends, the pairs between them left
+      some_left : (f l : ℕ) → ends' ≡ Some (record { first = f; last = l }) → (row : List (Numbered K V)) → Cut ps f l row → (more : List (Numbered K V) → List (Numbered K V)) → span_of ps e.first e.last ≡ more row
+          → EndsFit ends' ps × (ends_left ends ps ≡ more (ends_left ends' ps))
+      some_left f l s row c more is = (
+        subst (λ (o : Option Ends). EndsFit o ps) (sym s) (cut_is_span ps distinct f l row c),
+        ap (λ o. ends_left o ps) was ∙ is ∙ ap more (sym (ap (λ o. ends_left o ps) s ∙ cut_span ps distinct f l row c)),
+      )
+
+      -- behind the first leaf the others are left
+      pub passed_first : (n : Option ℕ) → leaf_in ps e.first ≡ Some x → n ≡ number_after ps e.first
+          → (e.first ≡ e.last → ends' ≡ None) → (e.first ≢ e.last → ends' ≡ option_map (λ m. record { first = m; last = e.last }) n)
+          → EndsFit ends' ps × (ends_left ends ps ≡ (e.first, x) ∷ ends_left ends' ps)
+      passed_first n there next one two =
+          let b = begins_with (span_of ps e.first e.last) e.first cut.first_is in
+          let same : b.pair ≡ x = some_inj b.pair x (sym (first_pair ps distinct e.first e.last (span_of ps e.first e.last) cut b.pair b.rest b.is) ∙ there) in
+          let is : span_of ps e.first e.last ≡ (e.first, x) ∷ b.rest = b.is ∙ ap (λ y. (e.first, y) ∷ b.rest) same in
+          elim (eqb_tells e.first e.last) [
+            | inl t ↦ none_left (one t.1) (λ l. (e.first, x) ∷ l) (is ∙ ap (λ l. (e.first, x) ∷ l) (first_alone ps distinct e.first e.last (span_of ps e.first e.last) cut x b.rest is t.1))
+            | inr t ↦
+                let m = first_more ps distinct e.first e.last (span_of ps e.first e.last) cut x b.rest is n t.1 next in
+                some_left m.0 e.last (two t.1 ∙ ap (option_map (λ m. record { first = m; last = e.last })) m.1) b.rest m.2 (λ l. (e.first, x) ∷ l) is
+          ]
+
+      -- before the last leaf the others are left
+      pub passed_last : (n : Option ℕ) → leaf_in ps e.last ≡ Some x → n ≡ number_before ps e.last
+          → (e.first ≡ e.last → ends' ≡ None) → (e.first ≢ e.last → ends' ≡ option_map (λ m. record { first = e.first; last = m }) n)
+          → EndsFit ends' ps × (ends_left ends ps ≡ ends_left ends' ps ++ (e.last, x) ∷ [])
+      passed_last n there prev one two =
+          let b = ends_with (span_of ps e.first e.last) e.last cut.last_is in
+          let same : b.pair ≡ x = some_inj b.pair x (sym (last_pair ps distinct e.first e.last (span_of ps e.first e.last) cut b.pair b.front b.is) ∙ there) in
+          let is : span_of ps e.first e.last ≡ b.front ++ (e.last, x) ∷ [] = b.is ∙ ap (λ y. b.front ++ (e.last, y) ∷ []) same in
+          elim (eqb_tells e.first e.last) [
+            | inl t ↦ none_left (one t.1) (λ l. l ++ (e.last, x) ∷ []) (is ∙ ap (λ l. l ++ (e.last, x) ∷ []) (last_alone ps distinct e.first e.last (span_of ps e.first e.last) cut x b.front is t.1))
+            | inr t ↦
+                let m = last_more ps distinct e.first e.last (span_of ps e.first e.last) cut x b.front is n t.1 prev in
+                some_left e.first m.0 (two t.1 ∙ ap (option_map (λ m. record { first = e.first; last = m })) m.1) b.front m.2 (λ l. l ++ (e.last, x) ∷ []) is
+          ]
+
+  -- ---- new cursors
+
+  module _ (ps : List (Numbered K V)) (distinct : AreDistinct ps) (first last : ℕ) (row : List (Numbered K V)) (cut : Cut ps first last row) (c : Cursor) (is : c ≡ left_between first last) where
+    -- a cursor from the first number of a row through its last fits
+    pub cut_fits : FitsIn c ps
+    cut_fits = subst (λ (c : Cursor). FitsIn c ps) (sym is) (cut_is_span ps distinct first last row cut)
+
+    -- and has the row left
+    pub cut_left : leaves_left c ps ≡ row
+    cut_left = ap (λ c. leaves_left c ps) is ∙ cut_span ps distinct first last row cut
+
+  -- with nothing to come, nothing is left
+  pub nothing_is : (ps row : List (Numbered K V)) (c : Cursor) → c ≡ nothing_left → row ≡ [] → leaves_left c ps ≡ row
+  nothing_is ps row c is e = ap (λ c. leaves_left c ps) is ∙ sym e
+
+  -- the whole list is cut nowhere
+  pub all_cut : (ps : List (Numbered K V)) (first last : ℕ) → Some first ≡ first_number ps → Some last ≡ last_number ps → Cut ps first last ps
+  all_cut ps first last f l = record { before = []; after = []; is = sym (append-nil ps); first_is = sym f; last_is = sym l }
+
+  -- a list with no last number is empty
+  pub no_last : (ps : List (Numbered K V)) → last_number ps ≡ None → ps ≡ []
+  no_last [] e = refl
+  no_last (p ∷ []) e = absurd cc
+  no_last (p ∷ q ∷ ps) e = absurd (let h : q ∷ ps ≡ [] = no_last (q ∷ ps) e in cc)
+
+  -- ---- a pair taken is a number passed
+
+  module _ (ps qs : List (Numbered K V)) (same : qs ≡ ps) (old new : Cursor) (id : ℕ) (x : K × V) where
+    pub passed_one : leaves_left old qs ≡ (id, x) ∷ leaves_left new qs → PassesFirst (leaves_left old ps) (Some id) (leaves_left new ps)
+    passed_one e = (x, subst (λ (l : List (Numbered K V)). leaves_left old l ≡ (id, x) ∷ leaves_left new l) same e)
+
+    pub passed_one_back : leaves_left old qs ≡ leaves_left new qs ++ (id, x) ∷ [] → PassesLast (leaves_left old ps) (Some id) (leaves_left new ps)
+    passed_one_back e = (x, subst (λ (l : List (Numbered K V)). leaves_left old l ≡ leaves_left new l ++ (id, x) ∷ []) same e)

@@ -1,0 +1,60 @@
+-- What a cursor has still to come in a list of numbered pairs.
+use Rattle.std.specs.Prelude.{◌≡◌, ℕ, List, [], ◌∷◌, ◌++◌, Option, Some, None, cond, eqb}
+use Rattle.art_tree.specs.Leaves.{Numbered, Has}
+use Rattle.art_walk.specs.declared.cursor.Ends.{Ends}
+use Rattle.art_walk.specs.declared.cursor.Cursor.{Cursor}
+
+-- a cursor with nothing to come
+abbrev pub nothing_left : Cursor
+nothing_left = record { ends = None }
+
+-- a cursor from one number through another
+abbrev pub left_between : ℕ → ℕ → Cursor
+left_between first last = record { ends = Some (record { first = first; last = last }) }
+
+module _ {K V : Type 0} where
+  -- the pairs from that of a number on
+  abbrev pub from_number : List (Numbered K V) → ℕ → List (Numbered K V)
+  from_number [] i = []
+  from_number (p ∷ ps) i = cond (eqb p.0 i) (p ∷ ps) (from_number ps i)
+
+  -- the pairs through that of a number
+  abbrev pub through_number : List (Numbered K V) → ℕ → List (Numbered K V)
+  through_number [] i = []
+  through_number (p ∷ ps) i = p ∷ cond (eqb p.0 i) [] (through_number ps i)
+
+  -- the pairs from one number through another
+  abbrev pub span_of : List (Numbered K V) → ℕ → ℕ → List (Numbered K V)
+  span_of ps first last = through_number (from_number ps first) last
+
+  -- both numbers are in the list, the first not behind the last
+  abbrev pub IsSpan : List (Numbered K V) → ℕ → ℕ → Type 0
+  IsSpan ps first last = Has (from_number ps first) last
+
+  -- the pairs from the first number through the last, if there are ends
+  abbrev pub ends_left : Option Ends → List (Numbered K V) → List (Numbered K V)
+  ends_left None ps = []
+  ends_left (Some e) ps = span_of ps e.first e.last
+
+  -- the ends, if there are any, are in the list, the first not behind the last
+  abbrev pub EndsFit : Option Ends → List (Numbered K V) → Type 0
+  EndsFit None ps = Unit {0}
+  EndsFit (Some e) ps = IsSpan ps e.first e.last
+
+  -- the pairs that are still to come
+  abbrev pub leaves_left : Cursor → List (Numbered K V) → List (Numbered K V)
+  leaves_left c ps = ends_left c.ends ps
+
+  -- what is still to come is in the list, the first not behind the last
+  abbrev pub FitsIn : Cursor → List (Numbered K V) → Type 0
+  FitsIn c ps = EndsFit c.ends ps
+
+  -- the first pair, if there is one, is passed, and this is its number
+  abbrev pub PassesFirst : List (Numbered K V) → Option ℕ → List (Numbered K V) → Type 0
+  PassesFirst old None new = (old ≡ []) × (new ≡ [])
+  PassesFirst old (Some id) new = (x : K × V) × (old ≡ (id, x) ∷ new)
+
+  -- the last pair, if there is one, is passed, and this is its number
+  abbrev pub PassesLast : List (Numbered K V) → Option ℕ → List (Numbered K V) → Type 0
+  PassesLast old None new = (old ≡ []) × (new ≡ [])
+  PassesLast old (Some id) new = (x : K × V) × (old ≡ new ++ (id, x) ∷ [])

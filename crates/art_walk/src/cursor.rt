@@ -1,0 +1,152 @@
+//! A first and a last leaf that are still to come.
+ghost use Rattle.std.specs.Prelude.{◌≡◌, ◌≢◌, ◌+◌, [], option_map, MatchOption, IfSome, Some, None};
+ghost use Rattle.art_tree.specs.Leaves.{leaf_in, Has};
+ghost use Rattle.blart_keys.specs.Walks.{TakesFirst, TakesLast};
+ghost use Rattle.art_walk.specs.Cursor.{nothing_left, left_between, leaves_left, FitsIn, PassesFirst, PassesLast};
+
+use art_tree::{LeafId, Leaves, Tree, Visits};
+use blart_keys::AsBytes;
+
+/// The leaves at the ends.
+#[derive(Clone, Copy)]
+struct Ends {
+    first: LeafId,
+    last: LeafId,
+}
+
+// The ends without the first leaf, where `next` stands behind it.
+fn without_first(first: LeafId, last: LeafId, next: Option<LeafId>) -> Option<Ends>
+    ensures one { first ≡ last → result ≡ None }
+    ensures more { first ≢ last → result ≡ option_map (λ id. record { first = id; last = last }) next }
+{
+    match next {
+        Some(next) if first != last => Some(Ends { first: next, last }),
+        _ => None,
+    }
+}
+
+// The ends without the last leaf, where `prev` stands before it.
+fn without_last(first: LeafId, last: LeafId, prev: Option<LeafId>) -> Option<Ends>
+    ensures one { first ≡ last → result ≡ None }
+    ensures more { first ≢ last → result ≡ option_map (λ id. record { first = first; last = id }) prev }
+{
+    match prev {
+        Some(prev) if first != last => Some(Ends { first, last: prev }),
+        _ => None,
+    }
+}
+
+/// The leaves from one to another that are still to come, in byte order, or none. It holds no tree: each call is given the one that it goes over.
+#[derive(Clone, Copy)]
+pub struct Cursor {
+    ends: Option<Ends>,
+}
+
+impl Cursor {
+    /// Nothing to come.
+    pub fn none() -> Cursor
+        ensures { result ≡ nothing_left }
+    {
+        Cursor { ends: None }
+    }
+
+    /// The leaves from the first through the last. A tree to walk over has both, and the first does not stand behind the last.
+    pub fn between(first: LeafId, last: LeafId) -> Cursor
+        ensures { result ≡ left_between first last }
+    {
+        Cursor {
+            ends: Some(Ends { first, last }),
+        }
+    }
+
+    /// All leaves of the tree.
+    pub fn all<K: AsBytes + Drop, V: Drop, const PREFIX_LEN: usize>(
+        tree: &Tree<K, V, PREFIX_LEN>,
+    ) -> Cursor
+        ensures fits { FitsIn result tree.now.pairs }
+        ensures left { leaves_left result tree.now.pairs ≡ tree.now.pairs }
+    {
+        tree.law();
+        let Some(first) = tree.first() else {
+            return Cursor::none();
+        };
+        let Some(last) = tree.last() else {
+            return Cursor::none();
+        };
+        Cursor::between(first, last)
+    }
+
+    /// Passes the first leaf that is left, and gives its number and its pair. One visit where there is one, and else none.
+    pub fn next<'a, K, V>(
+        &mut self,
+        leaves: &'a Leaves<K, V>,
+        visits: &mut Visits,
+    ) -> Option<(LeafId, &'a K, &'a V)>
+        requires { FitsIn self.old leaves.now.pairs }
+        ensures fits { FitsIn self.new leaves.now.pairs }
+        ensures takes { TakesFirst (leaves_left self.old leaves.now.pairs) (option_map (λ r. (r.0, (r.1.now, r.2.now))) result) (leaves_left self.new leaves.now.pairs) }
+        ensures there { IfSome result (λ r. leaf_in leaves.now.pairs r.0 ≡ Some (r.1.now, r.2.now)) }
+        ensures counted { MatchOption result (visits.new.count ≡ visits.old.count) (λ _. visits.new.count ≡ visits.old.count + 1) }
+    {
+        leaves.law();
+        let Ends { first, last } = self.ends?;
+        let (key, value, next) = leaves.read_with_next(first, visits);
+        self.ends = without_first(first, last, next);
+        Some((first, key, value))
+    }
+
+    /// Passes the last leaf that is left, and gives its number and its pair. One visit where there is one, and else none.
+    pub fn next_back<'a, K, V>(
+        &mut self,
+        leaves: &'a Leaves<K, V>,
+        visits: &mut Visits,
+    ) -> Option<(LeafId, &'a K, &'a V)>
+        requires { FitsIn self.old leaves.now.pairs }
+        ensures fits { FitsIn self.new leaves.now.pairs }
+        ensures takes { TakesLast (leaves_left self.old leaves.now.pairs) (option_map (λ r. (r.0, (r.1.now, r.2.now))) result) (leaves_left self.new leaves.now.pairs) }
+        ensures there { IfSome result (λ r. leaf_in leaves.now.pairs r.0 ≡ Some (r.1.now, r.2.now)) }
+        ensures counted { MatchOption result (visits.new.count ≡ visits.old.count) (λ _. visits.new.count ≡ visits.old.count + 1) }
+    {
+        leaves.law();
+        let Ends { first, last } = self.ends?;
+        let (key, value, prev) = leaves.read_with_prev(last, visits);
+        self.ends = without_last(first, last, prev);
+        Some((last, key, value))
+    }
+
+    /// Passes the first leaf that is left, and gives its number. One visit where there is one, and else none.
+    pub fn step<K: AsBytes + Drop, V: Drop, const PREFIX_LEN: usize>(
+        &mut self,
+        tree: &Tree<K, V, PREFIX_LEN>,
+        visits: &mut Visits,
+    ) -> Option<LeafId>
+        requires { FitsIn self.old tree.now.pairs }
+        ensures fits { FitsIn self.new tree.now.pairs }
+        ensures passes { PassesFirst (leaves_left self.old tree.now.pairs) result (leaves_left self.new tree.now.pairs) }
+        ensures there { IfSome result (λ id. Has tree.now.pairs id) }
+        ensures counted { MatchOption result (visits.new.count ≡ visits.old.count) (λ _. visits.new.count ≡ visits.old.count + 1) }
+    {
+        match self.next(tree.leaves(), visits) {
+            Some(found) => Some(found.0),
+            None => None,
+        }
+    }
+
+    /// Passes the last leaf that is left, and gives its number. One visit where there is one, and else none.
+    pub fn step_back<K: AsBytes + Drop, V: Drop, const PREFIX_LEN: usize>(
+        &mut self,
+        tree: &Tree<K, V, PREFIX_LEN>,
+        visits: &mut Visits,
+    ) -> Option<LeafId>
+        requires { FitsIn self.old tree.now.pairs }
+        ensures fits { FitsIn self.new tree.now.pairs }
+        ensures passes { PassesLast (leaves_left self.old tree.now.pairs) result (leaves_left self.new tree.now.pairs) }
+        ensures there { IfSome result (λ id. Has tree.now.pairs id) }
+        ensures counted { MatchOption result (visits.new.count ≡ visits.old.count) (λ _. visits.new.count ≡ visits.old.count + 1) }
+    {
+        match self.next_back(tree.leaves(), visits) {
+            Some(found) => Some(found.0),
+            None => None,
+        }
+    }
+}

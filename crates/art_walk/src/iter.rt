@@ -1,0 +1,96 @@
+//! All pairs.
+ghost use Rattle.std.specs.Prelude.{◌≡◌, length, Some, IfSome};
+ghost use Rattle.std.specs.Iterator.{YieldsFirstBy, YieldsLastBy, UpTo, item_count};
+ghost use Rattle.std.specs.Iterator.SizeHint.{IsWithinCount};
+ghost use Rattle.art_walk.specs.Pairs.{pairs_of};
+
+use crate::cursor::Cursor;
+use art_tree::{Leaves, Tree, Visits};
+use blart_keys::AsBytes;
+use std::iter::{DoubleEndedIterator, FusedIterator, Iterator};
+use std::marker::Model;
+
+/// The pairs of a tree from both ends, in byte order of their keys. Each step reads one leaf, and where the ends have met none comes at either.
+#[derive(Drop)]
+pub struct Iter<'a, K, V, const PREFIX_LEN: usize> {
+    leaves: &'a Leaves<K, V>,
+    cursor: Cursor,
+    left: usize,
+}
+
+impl<'a, K, V, const PREFIX_LEN: usize> Model for Iter<'a, K, V, PREFIX_LEN> {
+    ghost use Rattle.std.specs.Prelude.{◌≡◌, List, length};
+
+    ghost Value = { List (K × V) };
+
+    ghost use Rattle.art_walk.specs.Cursor.{leaves_left, FitsIn};
+    ghost use Rattle.art_walk.specs.Pairs.{pairs_of};
+
+    ghost view = { λ it. pairs_of (leaves_left it.cursor it.leaves.now.pairs) };
+
+    ghost invariant = { λ it. FitsIn it.cursor it.leaves.now.pairs × (it.left ≡ length (leaves_left it.cursor it.leaves.now.pairs)) };
+}
+
+impl<'a, K: AsBytes + Drop, V: Drop, const PREFIX_LEN: usize> Iter<'a, K, V, PREFIX_LEN> {
+    /// All pairs of the tree.
+    pub fn new(tree: &'a Tree<K, V, PREFIX_LEN>) -> Self
+        ensures { result ≡ pairs_of tree.now.pairs }
+    {
+        let cursor = Cursor::all(tree);
+        Iter {
+            leaves: tree.leaves(),
+            cursor,
+            left: tree.len(),
+        }
+    }
+}
+
+impl<'a, K, V, const PREFIX_LEN: usize> Iter<'a, K, V, PREFIX_LEN> {
+    /// How many pairs are left.
+    pub fn len(&self) -> usize
+        ensures { result ≡ length self.now }
+    {
+        self.left
+    }
+}
+
+impl<'a, K, V, const PREFIX_LEN: usize> Iterator for Iter<'a, K, V, PREFIX_LEN> {
+    type Item = (&'a K, &'a V);
+
+    ghost next_gives = { YieldsFirstBy (λ item. (item.0.now, item.1.now)) (λ rest. rest) };
+
+    ghost remaining = { item_count (λ rest. rest) };
+
+    /// The first pair that is left.
+    fn next(&mut self) -> Option<(&'a K, &'a V)> {
+        let Some((_, key, value)) = self.cursor.next(self.leaves, &mut Visits::new()) else {
+            return None;
+        };
+        self.left -= 1;
+        Some((key, value))
+    }
+
+    /// Both bounds are the number of pairs that are left.
+    fn size_hint(&self) -> (usize, Option<usize>)
+        ensures lower { IsWithinCount result.0 (item_count (λ rest. rest) self.now) }
+        ensures upper { IfSome result.1 (UpTo (item_count (λ rest. rest) self.now)) }
+        ensures exact { result ≡ (length self.now, Some (length self.now)) }
+    {
+        (self.left, Some(self.left))
+    }
+}
+
+impl<'a, K, V, const PREFIX_LEN: usize> DoubleEndedIterator for Iter<'a, K, V, PREFIX_LEN> {
+    ghost next_back_gives = { YieldsLastBy (λ item. (item.0.now, item.1.now)) (λ rest. rest) };
+
+    /// The last pair that is left.
+    fn next_back(&mut self) -> Option<(&'a K, &'a V)> {
+        let Some((_, key, value)) = self.cursor.next_back(self.leaves, &mut Visits::new()) else {
+            return None;
+        };
+        self.left -= 1;
+        Some((key, value))
+    }
+}
+
+impl<'a, K, V, const PREFIX_LEN: usize> FusedIterator for Iter<'a, K, V, PREFIX_LEN> {}

@@ -1,0 +1,25 @@
+//! Walks over a tree, from both ends.
+//!
+//! A [`Cursor`] knows the first and the last leaf that are still to come. The walks are seen as the list of what they have still to give, in byte order of the keys.
+#![tactic(auto)]
+
+mod cursor;
+mod iter;
+mod keys;
+mod prefix;
+mod range;
+mod seeks;
+mod subtree_iter;
+mod values;
+mod walk;
+
+pub use cursor::Cursor;
+pub use iter::Iter;
+pub use keys::Keys;
+pub use prefix::Prefix;
+pub use range::Range;
+pub use subtree_iter::SubtreeIter;
+pub use values::Values;
+
+#[cfg(test)]
+mod tests;

@@ -1,0 +1,77 @@
+//! The pairs within bounds.
+ghost use Rattle.std.specs.Prelude.{◌≡◌, ◌+◌, ◌*◌, ◌≤◌, ◌⊎◌, max, [], true};
+ghost use Rattle.std.specs.Iterator.{YieldsFirstBy, YieldsLastBy, item_count};
+ghost use Rattle.blart_keys.specs.Bounds.{bound_bytes, in_order};
+ghost use Rattle.blart_keys.specs.Content.{between};
+ghost use Rattle.art_tree.specs.Leaves.{bytes};
+ghost use Rattle.art_tree.specs.Longest.{longest};
+ghost use Rattle.art_tree.specs.Seeks.{bound_len};
+ghost use Rattle.art_walk.specs.Pairs.{pairs_of};
+
+use crate::cursor::Cursor;
+use crate::walk::Walk;
+use art_tree::{Tree, Visits};
+use blart_keys::AsBytes;
+use std::iter::{DoubleEndedIterator, FusedIterator, Iterator};
+use std::marker::Model;
+use std::ops::Bound;
+
+/// The pairs within two bounds from both ends, in byte order of their keys. Each step reads one leaf, and where the ends have met none comes at either.
+#[derive(Drop)]
+pub struct Range<'a, K, V, const PREFIX_LEN: usize> {
+    walk: Walk<'a, K, V>,
+}
+
+impl<'a, K, V, const PREFIX_LEN: usize> Model for Range<'a, K, V, PREFIX_LEN> {
+    ghost use Rattle.std.specs.Prelude.{List};
+
+    ghost Value = { List (K × V) };
+
+    ghost view = { λ it. it.walk };
+}
+
+impl<'a, K: AsBytes + Drop, V: Drop, const PREFIX_LEN: usize> Range<'a, K, V, PREFIX_LEN> {
+    /// The pairs whose keys' bytes are within both bounds, which are in order where the tree has pairs.
+    ///
+    /// Where n is the number of bytes of the longer bound and L that of the longest key, at most 2 * (n + 2) * (L + 2) visits, and none where the tree has no pairs.
+    pub fn new(
+        tree: &'a Tree<K, V, PREFIX_LEN>,
+        start: Bound<&[u8]>,
+        end: Bound<&[u8]>,
+        visits: &mut Visits,
+    ) -> Self
+        requires { (tree.now.pairs ≡ []) ⊎ (in_order (bound_bytes (λ b. b) start) (bound_bytes (λ b. b) end) ≡ true) }
+        ensures value { result ≡ pairs_of (between (bytes K.bytes) tree.now.pairs (bound_bytes (λ b. b) start.entry) (bound_bytes (λ b. b) end.entry)) }
+        ensures counted { visits.new.count ≤ visits.old.count + 2 * (max (bound_len (bound_bytes (λ b. b) start.entry)) (bound_len (bound_bytes (λ b. b) end.entry)) + 2) * (longest (bytes K.bytes) tree.now.pairs + 2) }
+        ensures empty { tree.now.pairs ≡ [] → visits.new.count ≡ visits.old.count }
+    {
+        let cursor = Cursor::range(tree, start, end, visits);
+        Range {
+            walk: Walk::new(tree.leaves(), cursor),
+        }
+    }
+}
+
+impl<'a, K, V, const PREFIX_LEN: usize> Iterator for Range<'a, K, V, PREFIX_LEN> {
+    type Item = (&'a K, &'a V);
+
+    ghost next_gives = { YieldsFirstBy (λ item. (item.0.now, item.1.now)) (λ rest. rest) };
+
+    ghost remaining = { item_count (λ rest. rest) };
+
+    /// The first pair that is left.
+    fn next(&mut self) -> Option<(&'a K, &'a V)> {
+        self.walk.next()
+    }
+}
+
+impl<'a, K, V, const PREFIX_LEN: usize> DoubleEndedIterator for Range<'a, K, V, PREFIX_LEN> {
+    ghost next_back_gives = { YieldsLastBy (λ item. (item.0.now, item.1.now)) (λ rest. rest) };
+
+    /// The last pair that is left.
+    fn next_back(&mut self) -> Option<(&'a K, &'a V)> {
+        self.walk.next_back()
+    }
+}
+
+impl<'a, K, V, const PREFIX_LEN: usize> FusedIterator for Range<'a, K, V, PREFIX_LEN> {}

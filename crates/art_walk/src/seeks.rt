@@ -1,0 +1,83 @@
+//! Cursors over what is within bounds, or begins with some bytes.
+ghost use Rattle.std.specs.Prelude.{◌≡◌, ◌+◌, ◌*◌, ◌≤◌, max, [], length};
+ghost use Rattle.blart_keys.specs.Bounds.{bound_bytes, is_up_to_end};
+ghost use Rattle.blart_keys.specs.Bytes.{less};
+ghost use Rattle.blart_keys.specs.Content.{between, under};
+ghost use Rattle.art_tree.specs.Leaves.{bytes};
+ghost use Rattle.art_tree.specs.Longest.{longest};
+ghost use Rattle.art_tree.specs.Seeks.{bound_len};
+ghost use Rattle.art_walk.specs.Cursor.{leaves_left, FitsIn};
+
+use crate::cursor::Cursor;
+use art_tree::{Tree, Visits};
+use blart_keys::AsBytes;
+use std::ops::Bound;
+
+impl Cursor {
+    /// The leaves whose keys' bytes are within both bounds, none where the bounds are not in order.
+    ///
+    /// Where n is the number of bytes of the longer bound and L that of the longest key, at most 2 * (n + 2) * (L + 2) visits, and none where the tree has no pairs.
+    pub fn range<K: AsBytes + Drop, V: Drop, const PREFIX_LEN: usize>(
+        tree: &Tree<K, V, PREFIX_LEN>,
+        start: Bound<&[u8]>,
+        end: Bound<&[u8]>,
+        visits: &mut Visits,
+    ) -> Cursor
+        ensures fits { FitsIn result tree.now.pairs }
+        ensures left { leaves_left result tree.now.pairs ≡ between (bytes K.bytes) tree.now.pairs (bound_bytes (λ b. b) start.entry) (bound_bytes (λ b. b) end.entry) }
+        ensures counted { visits.new.count ≤ visits.old.count + 2 * (max (bound_len (bound_bytes (λ b. b) start.entry)) (bound_len (bound_bytes (λ b. b) end.entry)) + 2) * (longest (bytes K.bytes) tree.now.pairs + 2) }
+        ensures empty { tree.now.pairs ≡ [] → visits.new.count ≡ visits.old.count }
+    {
+        tree.law();
+        let Some(first) = tree.seek(start, true, visits) else {
+            return Cursor::none();
+        };
+        let Some(last) = tree.seek(end, false, visits) else {
+            return Cursor::none();
+        };
+        let (key, _) = tree.leaf(first, visits);
+        if is_within_end(key.as_bytes(), end) {
+            Cursor::between(first, last)
+        } else {
+            Cursor::none()
+        }
+    }
+
+    /// The leaves whose keys' bytes begin with these.
+    ///
+    /// On n bytes, where L is the length of the longest key, at most 2 * (n + 2) * (L + 2) visits, and none where the tree has no pairs.
+    pub fn prefix<K: AsBytes + Drop, V: Drop, const PREFIX_LEN: usize>(
+        tree: &Tree<K, V, PREFIX_LEN>,
+        front: &[u8],
+        visits: &mut Visits,
+    ) -> Cursor
+        ensures fits { FitsIn result tree.now.pairs }
+        ensures left { leaves_left result tree.now.pairs ≡ under (bytes K.bytes) tree.now.pairs front.now }
+        ensures counted { visits.new.count ≤ visits.old.count + 2 * (length front.now + 2) * (longest (bytes K.bytes) tree.now.pairs + 2) }
+        ensures empty { tree.now.pairs ≡ [] → visits.new.count ≡ visits.old.count }
+    {
+        tree.law();
+        match tree.span(front, visits) {
+            Some(ends) => Cursor::between(ends.0, ends.1),
+            None => Cursor::none(),
+        }
+    }
+}
+
+// Whether some bytes are within an end bound.
+fn is_within_end(bytes: &[u8], end: Bound<&[u8]>) -> bool
+    ensures { result ≡ is_up_to_end (bound_bytes (λ b. b) end.entry) bytes.now }
+{
+    match end {
+        Bound::Included(high) => !is_less(high, bytes),
+        Bound::Excluded(high) => is_less(bytes, high),
+        Bound::Unbounded => true,
+    }
+}
+
+// Whether the first bytes are less.
+fn is_less(a: &[u8], b: &[u8]) -> bool
+    ensures { result ≡ less a.now b.now }
+{
+    a.cmp(&b).is_lt()
+}

@@ -1,0 +1,85 @@
+//! All values.
+ghost use Rattle.std.specs.Prelude.{◌≡◌, length, map, Some, IfSome};
+ghost use Rattle.std.specs.Iterator.{YieldsFirstRef, YieldsLastRef, UpTo, item_count};
+ghost use Rattle.std.specs.Iterator.SizeHint.{IsWithinCount};
+ghost use Rattle.art_walk.specs.Pairs.{pairs_of};
+
+use crate::iter::Iter;
+use art_tree::Tree;
+use blart_keys::AsBytes;
+use std::iter::{DoubleEndedIterator, FusedIterator, Iterator};
+use std::marker::Model;
+
+/// The values of a tree from both ends, in byte order of the keys. Each step reads one leaf, and where the ends have met none comes at either.
+#[derive(Drop)]
+pub struct Values<'a, K, V, const PREFIX_LEN: usize> {
+    pairs: Iter<'a, K, V, PREFIX_LEN>,
+}
+
+impl<'a, K, V, const PREFIX_LEN: usize> Model for Values<'a, K, V, PREFIX_LEN> {
+    ghost use Rattle.std.specs.Prelude.{List, map};
+
+    ghost Value = { List V };
+
+    ghost view = { λ it. map (λ p. p.1) it.pairs };
+}
+
+impl<'a, K: AsBytes + Drop, V: Drop, const PREFIX_LEN: usize> Values<'a, K, V, PREFIX_LEN> {
+    /// All values of the tree.
+    pub fn new(tree: &'a Tree<K, V, PREFIX_LEN>) -> Self
+        ensures { result ≡ map (λ p. p.1) (pairs_of tree.now.pairs) }
+    {
+        Values {
+            pairs: Iter::new(tree),
+        }
+    }
+}
+
+impl<'a, K, V, const PREFIX_LEN: usize> Values<'a, K, V, PREFIX_LEN> {
+    /// How many values are left.
+    pub fn len(&self) -> usize
+        ensures { result ≡ length self.now }
+    {
+        self.pairs.len()
+    }
+}
+
+impl<'a, K, V, const PREFIX_LEN: usize> Iterator for Values<'a, K, V, PREFIX_LEN> {
+    type Item = &'a V;
+
+    ghost next_gives = { YieldsFirstRef (λ rest. rest) };
+
+    ghost remaining = { item_count (λ rest. rest) };
+
+    /// The first value that is left.
+    fn next(&mut self) -> Option<&'a V> {
+        match self.pairs.next() {
+            Some(pair) => Some(pair.1),
+            None => None,
+        }
+    }
+
+    /// Both bounds are the number of values that are left.
+    fn size_hint(&self) -> (usize, Option<usize>)
+        ensures lower { IsWithinCount result.0 (item_count (λ rest. rest) self.now) }
+        ensures upper { IfSome result.1 (UpTo (item_count (λ rest. rest) self.now)) }
+        ensures exact { result ≡ (length self.now, Some (length self.now)) }
+    {
+        let left = self.len();
+        (left, Some(left))
+    }
+}
+
+impl<'a, K, V, const PREFIX_LEN: usize> DoubleEndedIterator for Values<'a, K, V, PREFIX_LEN> {
+    ghost next_back_gives = { YieldsLastRef (λ rest. rest) };
+
+    /// The last value that is left.
+    fn next_back(&mut self) -> Option<&'a V> {
+        match self.pairs.next_back() {
+            Some(pair) => Some(pair.1),
+            None => None,
+        }
+    }
+}
+
+impl<'a, K, V, const PREFIX_LEN: usize> FusedIterator for Values<'a, K, V, PREFIX_LEN> {}

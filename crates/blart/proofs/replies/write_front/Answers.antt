@@ -1,0 +1,13 @@
+use Rattle.std.proofs.Common.{refl, inr, codes}
+use Rattle.blart.proofs.Answering.{finds}
+use Rattle.blart.proofs.replies.write_front.Goals as goal
+
+pub returns-in-Some : goal.returns-in-Some
+returns-in-Some g c = λ key is. (
+  _,
+  finds c.args.map.now key c.in-Some.key.items _ _ (c.in-Some.ensures key is) c.prefix_get_key_value.ensures refl,
+  c.write_found.ensures,
+)
+
+pub returns-in-None : goal.returns-in-None
+returns-in-None g c = λ key is. (codes "refused memory", inr (c.in-None.ensures key is, refl, refl), c.write_answer.ensures)

@@ -1,0 +1,5 @@
+pub mod Inserting
+pub mod Numbers
+pub mod Thinning
+pub mod Walking
+pub mod Writing

@@ -1,0 +1,149 @@
+-- What a list of numbered pairs says of the list of its pairs.
+use Rattle.std.proofs.Common.{bytes_eq, cond, ◌||◌, ◌≡◌, ℕ, suc, ◌+◌, ◌-◌, arith, slice_get, length-append, Bool, true, false, List, [], ◌∷◌, ◌++◌, length, refl, sym, ap, ◌∙◌, subst, Option, Some, None, option_map, find}
+use Rattle.std.proofs.lemmas.List.{map-append, append-nil}
+use Rattle.blart_keys.specs.Content.{IsContent, at, without}
+use Rattle.blart_keys.specs.Steps.{bytes as pair_bytes}
+use Rattle.blart_keys.proofs.RankLemmas.{find_found}
+use Rattle.std.specs.List.{list_any}
+use Rattle.std.specs.Option.{is_some}
+use Rattle.blart_keys.proofs.ContentLemmas.{at_Some}
+use Rattle.blart_keys.proofs.PutLemmas.{without_cut, without_absent}
+use Rattle.art_tree.specs.Leaves.{Numbered, leaf_in, Has, AreDistinct, Lacks, last_number, with_pair, without_number, bytes}
+use Rattle.art_tree.proofs.LeavesLemmas.{split, distinct_parts, with_pair-split, without_number-split, leaf_in-split, leaf_in-member, Has-last, has_not_lacks}
+use Rattle.art_tree.proofs.Options.{is_some as has_value}
+use Rattle.art_tree.proofs.PairLemmas.{mapped_some}
+use Rattle.art_walk.specs.Pairs.{pairs_of}
+use Rattle.blart_keys.proofs.Mapped.{find-map, content_map}
+
+module _ {K V : Type 0} where
+  -- no pairs, no numbered pairs
+  pub no_pairs : (ps : List (Numbered K V)) → pairs_of ps ≡ [] → ps ≡ []
+  no_pairs [] e = refl
+  no_pairs (p ∷ ps) e = absurd cc
+
+  -- ---- a pair under its number
+
+  -- a list of pairs, cut at that of a number
+  pub record Cut (ps : List (Numbered K V)) (id : ℕ) (x : K × V) : Type 0 where
+    pub before : List (Numbered K V)
+    pub after : List (Numbered K V)
+    pub is : ps ≡ before ++ (id, x) ∷ after
+    pub lacks : Lacks before id
+
+  -- each pair under a number cuts the list
+  pub cut_at : (ps : List (Numbered K V)) (id : ℕ) (x : K × V) → leaf_in ps id ≡ Some x → Cut ps id x
+  cut_at ps id x e =
+      let s = split ps id (has_value (leaf_in ps id) x e) in
+      let f : Some s.pair ≡ Some x = sym (leaf_in-split id s.pair s.after s.before s.lacks) ∙ ap (λ l. leaf_in l id) (sym s.is) ∙ e in
+      let g : s.pair ≡ x = cc in
+      record { before = s.before; after = s.after; is = s.is ∙ ap (λ y. s.before ++ (id, y) ∷ s.after) g; lacks = s.lacks }
+
+  module _ (ps : List (Numbered K V)) (id : ℕ) (x : K × V) (c : Cut ps id x) where
+    -- the pairs, cut alike
+    pub cut_pairs : pairs_of ps ≡ pairs_of c.before ++ x ∷ pairs_of c.after
+    cut_pairs = ap pairs_of c.is ∙ map-append (λ (p : Numbered K V). p.1) c.before ((id, x) ∷ c.after)
+
+    -- the pairs with another there
+    pub exchanged_pairs : (y : K × V) → pairs_of (with_pair ps id y) ≡ pairs_of c.before ++ y ∷ pairs_of c.after
+    exchanged_pairs y =
+        ap (λ l. pairs_of (with_pair l id y)) c.is ∙ ap pairs_of (with_pair-split id x c.after y c.before c.lacks) ∙ map-append (λ (p : Numbered K V). p.1) c.before ((id, y) ∷ c.after)
+
+    -- the pairs without it
+    pub left_pairs : pairs_of (without_number ps id) ≡ pairs_of c.before ++ pairs_of c.after
+    left_pairs =
+        ap (λ l. pairs_of (without_number l id)) c.is ∙ ap pairs_of (without_number-split id x c.after c.before c.lacks) ∙ map-append (λ (p : Numbered K V). p.1) c.before c.after
+
+  -- ---- what a test finds
+
+  -- what is found among the numbered pairs is found among the pairs, without its number
+  pub found_pairs : (test : K × V → Bool) (ps : List (Numbered K V)) (o : Option (Numbered K V)) → o ≡ find (λ (p : Numbered K V). test p.1) ps → option_map (λ (p : Numbered K V). p.1) o ≡ find test (pairs_of ps)
+  found_pairs test ps o e = ap (option_map (λ (p : Numbered K V). p.1)) e ∙ sym (find-map (λ (p : Numbered K V). p.1) test ps)
+
+  module _ (ps : List (Numbered K V)) (distinct : AreDistinct ps) (test : K × V → Bool) where
+    -- the number found has the pair found
+    pub found : (id : ℕ) → Some id ≡ option_map (λ (p : Numbered K V). p.0) (find (λ (p : Numbered K V). test p.1) ps) → (x : K × V) × (find (λ (p : Numbered K V). test p.1) ps ≡ Some (id, x)) × (leaf_in ps id ≡ Some x)
+    found id e =
+        let r = mapped_some (λ (p : Numbered K V). p.0) (find (λ (p : Numbered K V). test p.1) ps) id (sym e) in
+        let s : find (λ (p : Numbered K V). test p.1) ps ≡ Some (id, r.0.1) = r.1 ∙ ap (λ n. Some (n, r.0.1)) r.2 in
+        (r.0.1, s, leaf_in-member ps id r.0.1 distinct (find_found (λ (p : Numbered K V). test p.1) ps (id, r.0.1) s).0)
+
+    -- the number found is one of the list
+    pub found_has : (id : ℕ) → Some id ≡ option_map (λ (p : Numbered K V). p.0) (find (λ (p : Numbered K V). test p.1) ps) → Has ps id
+    found_has id e = let r = found id e in has_value (leaf_in ps id) r.0 r.2
+
+    -- the pair of the number found is found among the pairs
+    pub found_pair : (id : ℕ) (x : K × V) → Some id ≡ option_map (λ (p : Numbered K V). p.0) (find (λ (p : Numbered K V). test p.1) ps) → leaf_in ps id ≡ Some x → Some x ≡ find test (pairs_of ps)
+    found_pair id x e l =
+        let r = found id e in
+        let s : Some r.0 ≡ Some x = sym r.2 ∙ l in
+        sym s ∙ sym (find-map (λ (p : Numbered K V). p.1) test ps ∙ ap (option_map (λ (p : Numbered K V). p.1)) r.1)
+
+    -- and so is its value
+    pub found_value : (id : ℕ) → Some id ≡ option_map (λ (p : Numbered K V). p.0) (find (λ (p : Numbered K V). test p.1) ps) → option_map (λ (x : K × V). x.1) (leaf_in ps id) ≡ option_map (λ (x : K × V). x.1) (find test (pairs_of ps))
+    found_value id e = let r = found id e in ap (option_map (λ (x : K × V). x.1)) (r.2 ∙ found_pair id r.0 e r.2)
+
+    -- where nothing is found nothing is among the pairs
+    pub found_none : None ≡ option_map (λ (p : Numbered K V). p.0) (find (λ (p : Numbered K V). test p.1) ps) → None ≡ find test (pairs_of ps)
+    found_none e = sym (find-map (λ (p : Numbered K V). p.1) test ps ∙ ap (option_map (λ (p : Numbered K V). p.1)) (unmapped (find (λ (p : Numbered K V). test p.1) ps) e))
+      where
+        unmapped : (o : Option (Numbered K V)) → None ≡ option_map (λ (p : Numbered K V). p.0) o → o ≡ None
+        unmapped None e = refl
+        unmapped (Some p) e = absurd cc
+
+  -- ---- the last pair
+
+  -- the last number is that of the pair before the last
+  ends_after : (before : List (Numbered K V)) (x p : Numbered K V) (after : List (Numbered K V)) → last_number (before ++ x ∷ p ∷ after) ≡ last_number (p ∷ after)
+  ends_after [] x p after = refl
+  ends_after (b ∷ []) x p after = refl
+  ends_after (b ∷ a ∷ before) x p after = ends_after (a ∷ before) x p after
+
+  -- behind the pair of the last number there is none
+  none_after : (before after : List (Numbered K V)) (x : Numbered K V) → Lacks after x.0 → last_number (before ++ x ∷ after) ≡ Some x.0 → after ≡ []
+  none_after before [] x l e = refl
+  none_after before (p ∷ after) x l e = absurd (has_not_lacks (p ∷ after) x.0 (Has-last (p ∷ after) x.0 (sym (ends_after before x p after) ∙ e)) l)
+
+  -- the pairs are those without the last, and the last
+  pub last_pair : (ps : List (Numbered K V)) (id : ℕ) (x : K × V) → AreDistinct ps → last_number ps ≡ Some id → leaf_in ps id ≡ Some x → pairs_of ps ≡ pairs_of (without_number ps id) ++ x ∷ []
+  last_pair ps id x d e l =
+      let c = cut_at ps id x l in
+      let lacks = (distinct_parts c.before c.after (id, x) (subst AreDistinct c.is d)).1 in
+      let none : c.after ≡ [] = none_after c.before c.after (id, x) lacks (ap last_number (sym c.is) ∙ e) in
+      let a : pairs_of ps ≡ pairs_of c.before ++ x ∷ [] = cut_pairs ps id x c ∙ ap (λ l. pairs_of c.before ++ x ∷ pairs_of l) none in
+      let b : pairs_of (without_number ps id) ≡ pairs_of c.before = left_pairs ps id x c ∙ ap (λ l. pairs_of c.before ++ pairs_of l) none ∙ append-nil (pairs_of c.before) in
+      a ∙ ap (λ l. l ++ x ∷ []) (sym b)
+
+-- the last item of a list
+pub slice_get-last : {X : Type 0} (xs : List X) (x : X) → slice_get (xs ++ x ∷ []) (length (xs ++ x ∷ []) - 1) ≡ Some x
+slice_get-last [] x = refl
+slice_get-last (y ∷ xs) x =
+    let l : length (xs ++ x ∷ []) ≡ length xs + 1 = length-append xs (x ∷ []) in
+    let n : suc (length (xs ++ x ∷ []) - 1) ≡ length (y ∷ xs ++ x ∷ []) - 1 = omega arith in
+    ap (λ k. slice_get (y ∷ xs ++ x ∷ []) k) (sym n) ∙ slice_get-last xs x
+
+-- an option mapped has a value where the option has
+pub is_some-map : {A B : Type 0} (f : A → B) (o : Option A) → is_some (option_map f o) ≡ is_some o
+is_some-map f None = refl
+is_some-map f (Some x) = refl
+
+-- an item passes a test where one is found
+pub list_any-find : {X : Type 0} (test : X → Bool) (xs : List X) → list_any test xs ≡ is_some (find test xs)
+list_any-find test [] = refl
+list_any-find test (x ∷ xs) = elim (test x) as (λ b. b || list_any test xs ≡ is_some (cond b (Some x) (find test xs))) [ true ↦ refl | false ↦ list_any-find test xs ]
+
+module _ {K V : Type 0} (key_bytes : K → List ℕ) (ps : List (Numbered K V)) (q : List ℕ) where
+  -- the pairs are a content
+  pub pairs_content : IsContent (bytes key_bytes) ps → IsContent (pair_bytes key_bytes) (pairs_of ps)
+  pairs_content c = content_map (λ p. p.1) (pair_bytes key_bytes) ps c
+
+  -- without the pair found, the pairs are those with other bytes
+  pub removed_pairs : IsContent (bytes key_bytes) ps → (id : ℕ) (x : K × V) → Some x ≡ at (pair_bytes key_bytes) (pairs_of ps) q → leaf_in ps id ≡ Some x → pairs_of (without_number ps id) ≡ without (pair_bytes key_bytes) (pairs_of ps) q
+  removed_pairs content id x e l =
+      let c = cut_at ps id x l in
+      let cut = cut_pairs ps id x c in
+      let own = (at_Some (pair_bytes key_bytes) (pairs_of ps) q x (sym e)).1 in
+      left_pairs ps id x c ∙ sym (ap (λ S. without (pair_bytes key_bytes) S q) cut ∙ without_cut (pair_bytes key_bytes) (pairs_of c.before) (pairs_of c.after) x q (subst (IsContent (pair_bytes key_bytes)) cut (pairs_content content)) own)
+
+  -- where none is found all pairs have other bytes
+  pub not_removed : None ≡ at (pair_bytes key_bytes) (pairs_of ps) q → pairs_of ps ≡ without (pair_bytes key_bytes) (pairs_of ps) q
+  not_removed e = sym (without_absent (pair_bytes key_bytes) (pairs_of ps) q (list_any-find (λ x. bytes_eq (key_bytes x.0) q) (pairs_of ps) ∙ ap is_some (sym e)))

@@ -1,0 +1,12 @@
+use Rattle.std.proofs.Common.{◌≡◌, ◌∙◌, ap, sym, subst}
+use Rattle.std.specs.FinSet as set
+use Rattle.blart_keys.specs.Fronts.{fronts}
+use Rattle.blart_keys.specs.Steps.{bytes}
+use Rattle.blart_keys.proofs.Mapped.{fronts-map}
+use Rattle.blart_map.proofs.map.TreeMap.inner_nodes.Goals as goal
+
+pub returns : goal.returns
+returns g c =
+    let kb = g.K.AsBytes.bytes in
+    subst (λ S. c.inner_nodes.result ≡ set.len (fronts (bytes kb) S)) c.self.view_is
+    (c.inner_nodes.ensures ∙ ap (λ l. set.len l) (sym (fronts-map (λ p. p.1) (bytes kb) c.self.inside.tree.pairs)))

@@ -1,0 +1,18 @@
+use Rattle.std.proofs.Common.{sym, ◌∙◌}
+use Rattle.blart_keys.specs.Bytes.{begins}
+use Rattle.blart_keys.proofs.Mapped.{filter-map}
+use Rattle.blart_map.proofs.Numbers.{no_pairs}
+use Rattle.blart_map.proofs.Walking.{longest_pairs}
+use Rattle.blart_map.proofs.map.TreeMap.prefix_counted.Goals as goal
+
+pub returns-clause-value : goal.returns-clause-value
+returns-clause-value g c =
+    let kb = g.K.AsBytes.bytes in
+    let ps = c.self.inside.tree.pairs in
+    rw (← c.self.view_is) (c.new.ensures.value ∙ sym (filter-map (λ p. p.1) (λ pair. begins c.args.front.now (kb pair.0)) ps))
+
+pub returns-clause-counted : goal.returns-clause-counted
+returns-clause-counted g c = rw (← c.self.view_is, longest_pairs g.K.AsBytes.bytes c.self.inside.tree.pairs) c.new.ensures.counted
+
+pub returns-clause-empty : goal.returns-clause-empty
+returns-clause-empty g c = λ e. c.new.ensures.empty (no_pairs c.self.inside.tree.pairs (c.self.view_is ∙ e))

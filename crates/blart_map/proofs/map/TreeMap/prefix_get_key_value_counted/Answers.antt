@@ -1,0 +1,25 @@
+use Rattle.std.proofs.Common.{◌∙◌, Some, None}
+use Rattle.blart_keys.specs.Bytes.{begins}
+use Rattle.blart_map.proofs.Numbers.{no_pairs, found_pairs}
+use Rattle.blart_map.proofs.map.TreeMap.prefix_get_key_value_counted.Goals as goal
+
+pub returns-in-Some-clause-value : goal.returns-in-Some-clause-value
+returns-in-Some-clause-value g c =
+    let kb = g.K.AsBytes.bytes in
+    let q = g.Q.AsBytes.bytes c.args.query.now in
+    let found = c.in-Some.found in
+    rw (← c.self.view_is)
+    (found_pairs (λ pair. begins (kb pair.0) q) c.self.inside.tree.pairs (Some (found.0, (found.1.now, found.2.now))) (rw c.as_bytes.ensures at c.in-Some.ensures.found))
+
+pub returns-in-Some-clause-empty : goal.returns-in-Some-clause-empty
+returns-in-Some-clause-empty g c = λ e. c.in-Some.ensures.empty (no_pairs c.self.inside.tree.pairs (c.self.view_is ∙ e))
+
+pub returns-in-None-clause-value : goal.returns-in-None-clause-value
+returns-in-None-clause-value g c =
+    let kb = g.K.AsBytes.bytes in
+    let q = g.Q.AsBytes.bytes c.args.query.now in
+    rw (← c.self.view_is)
+    (found_pairs (λ pair. begins (kb pair.0) q) c.self.inside.tree.pairs None (rw c.as_bytes.ensures at c.in-None.ensures.found))
+
+pub returns-in-None-clause-empty : goal.returns-in-None-clause-empty
+returns-in-None-clause-empty g c = λ e. c.in-None.ensures.empty (no_pairs c.self.inside.tree.pairs (c.self.view_is ∙ e))

@@ -1,0 +1,45 @@
+use Rattle.std.proofs.Common.{ap, lit<}
+use Rattle.std.proofs.lemmas.Result.{err_from_is_err_and}
+use Rattle.blart_keys.specs.Steps.{bytes}
+use Rattle.art_walk.specs.Pairs.{pairs_of}
+use Rattle.blart_map.proofs.Inserting.{opens_else, open_alone, exact_has, exact_takes, placed, exchanged}
+use Rattle.blart_map.proofs.Thinning.{over_of_put, no_subtree_pairs}
+use Rattle.blart_map.proofs.map.TreeMap.prefix_insert.Goals as goal
+
+pub swap-requires : goal.swap-requires
+swap-requires g c =
+    let kb = g.K.AsBytes.bytes in
+    let ps = c.self.inside.tree.pairs in
+    let q = kb c.args.key in
+    let good = rw c.as_bytes.ensures at c.in-Exact.ensures in
+    (lit< tt, (exact_has kb ps c.law.ensures.content c.law.ensures.distinct q c.in-Exact.id good, exact_takes kb ps c.law.ensures.content c.law.ensures.distinct q c.in-Exact.id good))
+
+pub returns-in-Exact : goal.returns-in-Exact
+returns-in-Exact g c =
+    let kb = g.K.AsBytes.bytes in
+    let ps = c.self.inside.tree.pairs in
+    let good = rw c.as_bytes.ensures at c.in-Exact.ensures in
+    let x : g.row.K.Denot × g.row.V.Denot = (c.args.key, c.args.value) in
+    let put = (exchanged kb ps c.law.ensures.content c.law.ensures.distinct x c.in-Exact.id good c.swap.result c.swap.ensures.value c.swap.new.self.pairs c.swap.ensures.pairs).1 in
+    rw (← c.self.view_is) (over_of_put (bytes kb) (pairs_of ps) (pairs_of c.swap.new.self.pairs) x put)
+
+pub returns-in_err-make_room-in_default : goal.returns-in_err-make_room-in_default
+returns-in_err-make_room-in_default g c =
+    let kb = g.K.AsBytes.bytes in
+    let ps = c.self.inside.tree.pairs in
+    let q = kb c.args.key in
+    let good = rw c.as_bytes.ensures at c.point.ensures in
+    let alone = open_alone kb ps c.law.ensures.content c.law.ensures.distinct q c.point.result good (opens_else c.point.result c.in_default.not-Exact c.in_default.not-Related) in
+    let p = err_from_is_err_and c.from_residual.result c.from_residual.ensures.1 in
+    rw (p.1, ← c.self.view_is) (no_subtree_pairs kb ps q alone, ap pairs_of c.in_err-make_room-in_default.ensures.pairs)
+
+pub returns-in_ok-make_room-in_default : goal.returns-in_ok-make_room-in_default
+returns-in_ok-make_room-in_default g c =
+    let kb = g.K.AsBytes.bytes in
+    let ps = c.self.inside.tree.pairs in
+    let q = kb c.args.key in
+    let x : g.row.K.Denot × g.row.V.Denot = (c.args.key, c.args.value) in
+    let good = rw c.as_bytes.ensures at c.point.ensures in
+    let alone = open_alone kb ps c.law.ensures.content c.law.ensures.distinct q c.point.result good (opens_else c.point.result c.in_default.not-Exact c.in_default.not-Related) in
+    let put = (placed kb ps c.law.ensures.content c.law.ensures.distinct x alone c.make_room.new.self.pairs c.place.new.self.pairs c.place.result c.in_ok-make_room-in_default.ensures.pairs c.place.ensures.put).1 in
+    rw (← c.self.view_is) (over_of_put (bytes kb) (pairs_of ps) (pairs_of c.place.new.self.pairs) x put)

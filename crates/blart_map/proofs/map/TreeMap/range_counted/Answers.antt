@@ -1,0 +1,35 @@
+use Rattle.std.proofs.Common.{inl, inr, lit<, sym, ◌∙◌, ◌&&◌}
+use Rattle.blart_keys.specs.Bounds.{bound_bytes, is_from_start, is_up_to_end}
+use Rattle.blart_keys.proofs.Mapped.{filter-map}
+use Rattle.blart_map.proofs.Numbers.{no_pairs}
+use Rattle.blart_map.proofs.Walking.{longest_pairs}
+use Rattle.blart_map.proofs.map.TreeMap.range_counted.Goals as goal
+
+pub new-requires : goal.new-requires
+new-requires g c = (
+  lit< tt,
+  (
+    lit< tt,
+    elim c.requires [
+      | inl e ↦ inl (no_pairs c.self.inside.tree.pairs (c.self.view_is ∙ e))
+      | inr o ↦ inr (rw (c.as_bytes.ensures, c.as_bytes-2.ensures) o)
+    ],
+  ),
+)
+
+pub returns-clause-value : goal.returns-clause-value
+returns-clause-value g c =
+    let kb = g.K.AsBytes.bytes in
+    let start = bound_bytes g.Q.AsBytes.bytes c.args.start in
+    let end = bound_bytes g.Q.AsBytes.bytes c.args.end in
+    rw (← c.self.view_is)
+    ((rw (c.as_bytes.ensures, c.as_bytes-2.ensures) at c.new.ensures.value)
+    ∙ sym (filter-map (λ p. p.1) (λ pair. is_from_start start (kb pair.0) && is_up_to_end end (kb pair.0)) c.self.inside.tree.pairs))
+
+pub returns-clause-counted : goal.returns-clause-counted
+returns-clause-counted g c =
+    rw (← c.self.view_is, longest_pairs g.K.AsBytes.bytes c.self.inside.tree.pairs)
+    (rw (c.as_bytes.ensures, c.as_bytes-2.ensures) at c.new.ensures.counted)
+
+pub returns-clause-empty : goal.returns-clause-empty
+returns-clause-empty g c = λ e. c.new.ensures.empty (no_pairs c.self.inside.tree.pairs (c.self.view_is ∙ e))

@@ -1,0 +1,4 @@
+pub mod Driven
+pub mod Inserts
+pub mod Spans
+pub mod Written

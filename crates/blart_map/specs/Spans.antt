@@ -1,0 +1,20 @@
+-- The leaves whose keys are related to some bytes.
+use Rattle.std.specs.Prelude.{◌≡◌, ◌↔◌, ℕ, false, List, Some}
+use Rattle.blart_keys.specs.Bytes.{related}
+use Rattle.blart_keys.specs.Content.{subtree}
+use Rattle.art_tree.specs.Leaves.{Numbered, leaf_in, first_number, last_number, bytes}
+
+module _ {K V : Type 0} (key_bytes : K → List ℕ) where
+  -- the pairs related to q stand from the first leaf to the last
+  pub record Spans (pairs : List (Numbered K V)) (q : List ℕ) (first last : ℕ) : Type 0 where
+    pub first_is : first_number (subtree (bytes key_bytes) pairs q) ≡ Some first
+    pub last_is : last_number (subtree (bytes key_bytes) pairs q) ≡ Some last
+
+  -- the numbers of pairs not related to q name what they named
+  abbrev pub UnrelatedStand : List (Numbered K V) → List ℕ → List (Numbered K V) → Type 0
+  UnrelatedStand old q new = (j : ℕ) (x : K × V) → related (key_bytes x.0) q ≡ false → (leaf_in new j ≡ Some x) ↔ (leaf_in old j ≡ Some x)
+
+  -- of the pairs related to q that of the number is left, and all others stand
+  pub record LeavesOne (old : List (Numbered K V)) (q : List ℕ) (id : ℕ) (new : List (Numbered K V)) : Type 0 where
+    pub one : Spans new q id id
+    pub others : UnrelatedStand old q new

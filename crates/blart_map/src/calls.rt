@@ -1,0 +1,84 @@
+//! Calls as values, and bounds.
+ghost use Rattle.std.specs.Prelude.{◌≡◌};
+ghost use Rattle.blart_keys.specs.Bounds.{in_order, bound_bytes};
+ghost use Rattle.blart_keys.specs.Bytes.{less};
+ghost use Rattle.blart_keys.specs.Steps.{Step};
+ghost use Rattle.blart_map.specs.Driven.{Driven};
+
+use crate::map::TreeMap;
+use blart_keys::{AsBytes, Call, Reply};
+use std::alloc::AllocError;
+use std::ops::Bound;
+
+/// Whether the bounds are in order: they are unless both are bounded and the start is greater than the end, or both are excluded and equal.
+///
+/// ```
+/// assert!(bounds_in_order(Bound::Included(&3u8), Bound::Excluded(&8u8)));
+/// assert!(!bounds_in_order(Bound::Excluded(&5u8), Bound::Excluded(&5u8)));
+/// ```
+pub fn bounds_in_order<Q: AsBytes>(start: Bound<&Q>, end: Bound<&Q>) -> bool
+    ensures { result ≡ in_order (bound_bytes Q.bytes start.entry) (bound_bytes Q.bytes end.entry) }
+{
+    match (start, end) {
+        (Bound::Unbounded, _) | (_, Bound::Unbounded) => true,
+        (Bound::Excluded(low), Bound::Excluded(high)) => is_less(low.as_bytes(), high.as_bytes()),
+        (Bound::Included(low) | Bound::Excluded(low), Bound::Included(high))
+        | (Bound::Included(low), Bound::Excluded(high)) => {
+            !is_less(high.as_bytes(), low.as_bytes())
+        }
+    }
+}
+
+// Whether the first bytes are less.
+fn is_less(a: &[u8], b: &[u8]) -> bool
+    ensures { result ≡ less a.now b.now }
+{
+    a.cmp(&b).is_lt()
+}
+
+/// Makes the calls in turn, and gives one reply for each. It goes on after a refused call.
+///
+/// It takes the memory for the replies first, and where that is refused makes no call.
+///
+/// ```
+/// let calls = vec![in alloc; Call::TryInsert("ab", 1), Call::TryInsert("a", 2), Call::PopFirst]?;
+/// let replies = drive(&mut map, calls)?;
+/// assert!(matches!(replies[0], Reply::TryInsert(Ok(None))));
+/// assert!(matches!(replies[1], Reply::TryInsert(Err(TryInsertError::Prefix(_)))));
+/// assert!(matches!(replies[2], Reply::PopFirst(Some(("ab", 1)))));
+/// ```
+pub fn drive<K: AsBytes + Drop, V: Drop, const PREFIX_LEN: usize>(
+    map: &mut TreeMap<K, V, PREFIX_LEN>,
+    calls: Vec<Call<K, V>>,
+) -> Result<Vec<Reply<K, V>>, AllocError>
+    ensures { Driven K.bytes map.old calls.items result map.new }
+{
+    let mut replies = Vec::with_capacity(*calls.allocator(), calls.len())?;
+    'calls: for call in calls {
+        let reply = answer(map, call);
+        replies.push_reserved(reply);
+    }
+    Ok(replies)
+}
+
+// Makes one call.
+fn answer<K: AsBytes + Drop, V: Drop, const PREFIX_LEN: usize>(
+    map: &mut TreeMap<K, V, PREFIX_LEN>,
+    call: Call<K, V>,
+) -> Reply<K, V>
+    ensures { Step K.bytes map.old call result map.new }
+{
+    match call {
+        Call::TryInsert(key, value) => Reply::TryInsert(map.try_insert(key, value)),
+        Call::ReplaceEntry(key, value) => Reply::ReplaceEntry(map.replace_entry(key, value)),
+        Call::PrefixInsert(key, value) => Reply::PrefixInsert(map.prefix_insert(key, value)),
+        Call::RemoveEntry(key) => Reply::RemoveEntry(map.remove_entry(&key)),
+        Call::ContainsKey(key) => Reply::ContainsKey(map.contains_key(&key)),
+        Call::PopFirst => Reply::PopFirst(map.pop_first()),
+        Call::PopLast => Reply::PopLast(map.pop_last()),
+        Call::Clear => {
+            map.clear();
+            Reply::Clear
+        }
+    }
+}

@@ -1,0 +1,63 @@
+//! Removals, and values to be written.
+ghost use Rattle.std.specs.Prelude.{◌≡◌, [], option_map};
+ghost use Rattle.blart_keys.specs.Content.{at, without};
+ghost use Rattle.blart_keys.specs.Steps.{bytes};
+ghost use Rattle.blart_keys.specs.Walks.{TakesFirst, TakesLast};
+
+use crate::map::TreeMap;
+use art_tree::Visits;
+use blart_keys::AsBytes;
+
+impl<K: AsBytes + Drop, V: Drop, const PREFIX_LEN: usize> TreeMap<K, V, PREFIX_LEN> {
+    /// Removes the pair with the query's bytes, and gives it. Takes no memory.
+    pub fn remove_entry<Q: AsBytes>(&mut self, query: &Q) -> Option<(K, V)>
+        ensures removed { result ≡ at (bytes K.bytes) self.old (Q.bytes query.now) }
+        ensures rest { self.new ≡ without (bytes K.bytes) self.old (Q.bytes query.now) }
+    {
+        self.tree.law();
+        let id = self.tree.search(query.as_bytes(), &mut Visits::new())?;
+        Some(self.tree.remove(id))
+    }
+
+    /// Removes the pair with the query's bytes, and gives its value. Takes no memory.
+    ///
+    /// ```
+    /// map.try_insert("cat", 2)?;
+    /// assert_eq!(map.remove(&"cat"), Some(2));
+    /// assert_eq!(map.remove(&"cat"), None);
+    /// ```
+    pub fn remove<Q: AsBytes>(&mut self, query: &Q) -> Option<V>
+        ensures removed { result ≡ option_map (λ pair. pair.1) (at (bytes K.bytes) self.old (Q.bytes query.now)) }
+        ensures rest { self.new ≡ without (bytes K.bytes) self.old (Q.bytes query.now) }
+    {
+        match self.remove_entry(query) {
+            Some(pair) => Some(pair.1),
+            None => None,
+        }
+    }
+
+    /// Removes the pair whose key's bytes are least, and gives it. Takes no memory.
+    pub fn pop_first(&mut self) -> Option<(K, V)>
+        ensures { TakesFirst self.old result self.new }
+    {
+        self.tree.law();
+        let id = self.tree.first()?;
+        Some(self.tree.remove(id))
+    }
+
+    /// Removes the pair whose key's bytes are greatest, and gives it. Takes no memory.
+    pub fn pop_last(&mut self) -> Option<(K, V)>
+        ensures { TakesLast self.old result self.new }
+    {
+        self.tree.law();
+        let id = self.tree.last()?;
+        Some(self.tree.remove(id))
+    }
+
+    /// Drops every pair. Takes no memory.
+    pub fn clear(&mut self)
+        ensures { self.new ≡ [] }
+    {
+        self.tree.clear();
+    }
+}

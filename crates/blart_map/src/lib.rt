@@ -1,0 +1,22 @@
+//! A map in the order of its keys' bytes, on an adaptive radix tree.
+//!
+//! A contract sees a [`TreeMap`] as the list of its pairs. Their bytes strictly ascend, and no key's
+//! bytes begin another's.
+#![tactic(auto)]
+
+mod calls;
+mod changes;
+mod insertions;
+mod map;
+mod over;
+mod walks;
+mod writes;
+
+pub use art_tree::{DEFAULT_PREFIX_LEN, Visits};
+pub use art_walk::{Iter, Keys, Prefix, Range, Values};
+pub use blart_keys::{Call, InsertPrefixError, Reply, TryInsertError};
+pub use calls::{bounds_in_order, drive};
+pub use map::TreeMap;
+
+#[cfg(test)]
+mod tests;

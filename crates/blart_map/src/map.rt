@@ -1,0 +1,191 @@
+//! The map, and what can be asked of it.
+ghost use Rattle.std.specs.Prelude.{◌≡◌, ◌==◌, ◌+◌, ◌-◌, ◌≤◌, ℕ, [], length, slice_get, option_map, option_copied};
+ghost use Rattle.std.specs.FinSet as set;
+ghost use Rattle.blart_keys.specs.Steps.{bytes};
+ghost use Rattle.blart_keys.specs.Content.{at, front_of, stores, IsContent};
+ghost use Rattle.blart_keys.specs.Fronts.{fronts};
+
+use art_tree::{DEFAULT_PREFIX_LEN, Tree, Visits};
+use blart_keys::AsBytes;
+use std::alloc::Global;
+use std::marker::Model;
+
+/// Keys and their values in the order of the keys' bytes, none of which begins another's.
+///
+/// A byte list is less than another where its byte is less at the first place where they differ, or where it begins the other. Two keys are related if the bytes of one begin those of the other. A key conflicts with a map that stores a related key with other bytes.
+///
+/// An inner node keeps the first `PREFIX_LEN` bytes of its compressed prefix; any length is good, 0 too.
+///
+/// ```
+/// let mut map = TreeMap::new(alloc);
+/// map.try_insert("car", 1)?;
+/// map.try_insert("cat", 2)?;
+/// assert_eq!(map.get(&"cat"), Some(&2));
+/// assert!(map.try_insert("ca", 3).is_err());
+/// assert_eq!(map.first_key_value(), Some((&"car", &1)));
+/// ```
+#[derive(Drop)]
+pub struct TreeMap<K: AsBytes, V, const PREFIX_LEN: usize> {
+    pub(crate) tree: Tree<K, V, PREFIX_LEN>,
+}
+
+impl<K: AsBytes, V, const PREFIX_LEN: usize> Model for TreeMap<K, V, PREFIX_LEN> {
+    ghost use Rattle.std.specs.Prelude.{List};
+    ghost use Rattle.art_walk.specs.Pairs.{pairs_of};
+
+    ghost Value = { List (K × V) };
+
+    ghost view = { λ m. pairs_of m.tree.pairs };
+}
+
+impl<K: AsBytes + Drop, V: Drop> TreeMap<K, V, DEFAULT_PREFIX_LEN> {
+    /// A map with no pairs, of which an inner node keeps 16 bytes of its compressed prefix. Takes no memory.
+    pub fn new(alloc: Global) -> Self
+        ensures { result ≡ [] }
+    {
+        Self::with_prefix_len(alloc)
+    }
+}
+
+impl<K: AsBytes + Drop, V: Drop, const PREFIX_LEN: usize> TreeMap<K, V, PREFIX_LEN> {
+    /// A map with no pairs. Takes no memory.
+    pub fn with_prefix_len(alloc: Global) -> Self
+        ensures { result ≡ [] }
+    {
+        TreeMap {
+            tree: Tree::new(alloc),
+        }
+    }
+
+    /// Answers nothing. Its contract says what holds of every map: the pairs ascend by their keys' bytes, none of which begins another's.
+    pub fn law(&self)
+        ensures { IsContent (bytes K.bytes) self.now }
+    {
+        self.tree.law()
+    }
+
+    /// How many pairs there are.
+    pub fn len(&self) -> usize
+        ensures { result ≡ length self.now }
+    {
+        self.tree.len()
+    }
+
+    /// Whether there are no pairs.
+    pub fn is_empty(&self) -> bool
+        ensures { result ≡ (length self.now == 0) }
+    {
+        self.tree.is_empty()
+    }
+
+    /// The pair with the query's bytes. On n bytes it makes at most n + 1 visits, and none on an empty map.
+    pub fn get_key_value_counted<Q: AsBytes>(
+        &self,
+        query: &Q,
+        visits: &mut Visits,
+    ) -> Option<(&K, &V)>
+        ensures value { option_map (λ pair. (pair.0.now, pair.1.now)) result ≡ at (bytes K.bytes) self.now (Q.bytes query.now) }
+        ensures counted { visits.new.count ≤ visits.old.count + length (Q.bytes query.now) + 1 }
+        ensures empty { self.now ≡ [] → visits.new.count ≡ visits.old.count }
+    {
+        match self.tree.get(query.as_bytes(), visits) {
+            Some(found) => Some((found.1, found.2)),
+            None => None,
+        }
+    }
+
+    /// The pair with the query's bytes.
+    pub fn get_key_value<Q: AsBytes>(&self, query: &Q) -> Option<(&K, &V)>
+        ensures { option_map (λ pair. (pair.0.now, pair.1.now)) result ≡ at (bytes K.bytes) self.now (Q.bytes query.now) }
+    {
+        self.get_key_value_counted(query, &mut Visits::new())
+    }
+
+    /// The value of the key with the query's bytes.
+    ///
+    /// ```
+    /// map.try_insert("cat", 2)?;
+    /// assert_eq!(map.get(&"cat"), Some(&2));
+    /// assert_eq!(map.get(&b"cat"), Some(&2));
+    /// assert_eq!(map.get(&"cats"), None);
+    /// ```
+    pub fn get<Q: AsBytes>(&self, query: &Q) -> Option<&V>
+        ensures { option_copied result ≡ option_map (λ pair. pair.1) (at (bytes K.bytes) self.now (Q.bytes query.now)) }
+    {
+        match self.get_key_value(query) {
+            Some(pair) => Some(pair.1),
+            None => None,
+        }
+    }
+
+    /// Whether some key has the query's bytes.
+    pub fn contains_key<Q: AsBytes>(&self, query: &Q) -> bool
+        ensures { result ≡ stores (bytes K.bytes) self.now (Q.bytes query.now) }
+    {
+        self.get_key_value(query).is_some()
+    }
+
+    /// The pair whose key's bytes begin the query's. On n bytes it makes at most n + 1 visits, and none on an empty map.
+    pub fn prefix_get_key_value_counted<Q: AsBytes>(
+        &self,
+        query: &Q,
+        visits: &mut Visits,
+    ) -> Option<(&K, &V)>
+        ensures value { option_map (λ pair. (pair.0.now, pair.1.now)) result ≡ front_of (bytes K.bytes) self.now (Q.bytes query.now) }
+        ensures counted { visits.new.count ≤ visits.old.count + length (Q.bytes query.now) + 1 }
+        ensures empty { self.now ≡ [] → visits.new.count ≡ visits.old.count }
+    {
+        match self.tree.get_front(query.as_bytes(), visits) {
+            Some(found) => Some((found.1, found.2)),
+            None => None,
+        }
+    }
+
+    /// The pair whose key's bytes begin the query's.
+    pub fn prefix_get_key_value<Q: AsBytes>(&self, query: &Q) -> Option<(&K, &V)>
+        ensures { option_map (λ pair. (pair.0.now, pair.1.now)) result ≡ front_of (bytes K.bytes) self.now (Q.bytes query.now) }
+    {
+        self.prefix_get_key_value_counted(query, &mut Visits::new())
+    }
+
+    /// The value of the key whose bytes begin the query's. There is at most one.
+    ///
+    /// ```
+    /// map.try_insert("/static/", 7)?;
+    /// assert_eq!(map.prefix_get(&"/static/logo.png"), Some(&7));
+    /// assert_eq!(map.prefix_get(&"/stat"), None);
+    /// ```
+    pub fn prefix_get<Q: AsBytes>(&self, query: &Q) -> Option<&V>
+        ensures { option_copied result ≡ option_map (λ pair. pair.1) (front_of (bytes K.bytes) self.now (Q.bytes query.now)) }
+    {
+        match self.prefix_get_key_value(query) {
+            Some(pair) => Some(pair.1),
+            None => None,
+        }
+    }
+
+    /// The pair whose key's bytes are least.
+    pub fn first_key_value(&self) -> Option<(&K, &V)>
+        ensures { option_map (λ pair. (pair.0.now, pair.1.now)) result ≡ slice_get self.now 0 }
+    {
+        self.tree.law();
+        let id = self.tree.first()?;
+        Some(self.tree.leaf(id, &mut Visits::new()))
+    }
+
+    /// The pair whose key's bytes are greatest.
+    pub fn last_key_value(&self) -> Option<(&K, &V)>
+        ensures { option_map (λ pair. (pair.0.now, pair.1.now)) result ≡ slice_get self.now (length self.now - 1) }
+    {
+        self.tree.law();
+        let id = self.tree.last()?;
+        Some(self.tree.leaf(id, &mut Visits::new()))
+    }
+
+    /// How many inner nodes stand: one at each front where neighbouring keys part.
+    pub fn inner_nodes(&self) -> usize
+        ensures { result ≡ set.len (fronts (bytes K.bytes) self.now) }
+    {
+        self.tree.inner_nodes()
+    }
+}

@@ -1,0 +1,84 @@
+//! An insertion over all related pairs.
+ghost use Rattle.std.specs.Prelude.{length};
+ghost use Rattle.blart_keys.specs.Content.{IsOver};
+ghost use Rattle.blart_keys.specs.Steps.{bytes, PutsOver};
+ghost use Rattle.art_walk.specs.Pairs.{pairs_of};
+ghost use Rattle.blart_map.specs.Spans.{Spans, LeavesOne};
+
+use crate::map::TreeMap;
+use art_tree::{LeafId, Point, Tree};
+use blart_keys::AsBytes;
+use std::alloc::AllocError;
+
+impl<K: AsBytes + Drop, V: Drop, const PREFIX_LEN: usize> TreeMap<K, V, PREFIX_LEN> {
+    /// Puts the pair in the place of all pairs whose keys are related to its key.
+    ///
+    /// Where there are such pairs it takes no memory. An error leaves the map as it was.
+    ///
+    /// ```
+    /// map.try_insert("car", 1)?;
+    /// map.try_insert("cat", 2)?;
+    /// map.prefix_insert("ca", 3)?;
+    /// assert_eq!(map.len(), 1);
+    /// assert_eq!(map.prefix_get(&"cat"), Some(&3));
+    /// ```
+    pub fn prefix_insert(&mut self, key: K, value: V) -> Result<(), AllocError>
+        ensures { PutsOver K.bytes self.old (key, value) result self.new }
+    {
+        self.tree.law();
+        match self.tree.point(key.as_bytes()) {
+            Point::Related { first, last } => {
+                put_over(&mut self.tree, first, last, key, value);
+                Ok(())
+            }
+            Point::Exact(id) => {
+                self.tree.swap(id, key, value);
+                Ok(())
+            }
+            point => {
+                self.tree.make_room(&point)?;
+                self.tree.place(point, key, value);
+                Ok(())
+            }
+        }
+    }
+}
+
+// Puts the pair in the place of the related ones, from the first leaf to the last.
+fn put_over<K: AsBytes + Drop, V: Drop, const P: usize>(
+    tree: &mut Tree<K, V, P>,
+    first: LeafId,
+    last: LeafId,
+    key: K,
+    value: V,
+)
+    requires { Spans K.bytes tree.old.pairs (K.bytes key) first last }
+    ensures { IsOver (bytes K.bytes) (pairs_of tree.old.pairs) (key, value) (pairs_of tree.new.pairs) }
+{
+    tree.law();
+    leave_one(tree, first, last, key.as_bytes());
+    tree.law();
+    tree.swap(last, key, value);
+    tree.law();
+}
+
+// Removes the related pairs before the last.
+fn leave_one<K: AsBytes + Drop, V: Drop, const P: usize>(
+    tree: &mut Tree<K, V, P>,
+    first: LeafId,
+    last: LeafId,
+    query: &[u8],
+)
+    requires { Spans K.bytes tree.old.pairs query.now first last }
+    ensures { LeavesOne K.bytes tree.old.pairs query.now last tree.new.pairs }
+{
+    let mut id = first;
+    'thin: while id != last {
+        tree.law();
+        let Some(next) = tree.next_of(id) else {
+            unreachable!()
+        };
+        tree.remove(id);
+        id = next;
+    }
+}

@@ -1,0 +1,118 @@
+//! Walks.
+ghost use Rattle.std.specs.Prelude.{◌≡◌, ◌+◌, ◌*◌, ◌≤◌, ◌⊎◌, [], length, map, max, true};
+ghost use Rattle.blart_keys.specs.Bounds.{bound_bytes, in_order};
+ghost use Rattle.blart_keys.specs.Content.{between, under};
+ghost use Rattle.blart_keys.specs.Steps.{bytes};
+ghost use Rattle.art_tree.specs.Longest.{longest};
+ghost use Rattle.art_tree.specs.Seeks.{bound_len};
+
+use crate::map::TreeMap;
+use art_tree::Visits;
+use art_walk::{Iter, Keys, Prefix, Range, Values};
+use blart_keys::AsBytes;
+use std::iter::IntoIterator;
+use std::ops::Bound;
+
+impl<K: AsBytes + Drop, V: Drop, const PREFIX_LEN: usize> TreeMap<K, V, PREFIX_LEN> {
+    /// The pairs, ascending by their keys' bytes, from both ends. Takes no memory; each step is one visit.
+    pub fn iter(&self) -> Iter<'_, K, V, PREFIX_LEN>
+        ensures { result ≡ self.now }
+    {
+        Iter::new(&self.tree)
+    }
+
+    /// The keys, ascending by their bytes, from both ends. Takes no memory; each step is one visit.
+    pub fn keys(&self) -> Keys<'_, K, V, PREFIX_LEN>
+        ensures { result ≡ map (λ pair. pair.0) self.now }
+    {
+        Keys::new(&self.tree)
+    }
+
+    /// The values, in the order of their keys' bytes, from both ends. Takes no memory; each step is one visit.
+    pub fn values(&self) -> Values<'_, K, V, PREFIX_LEN>
+        ensures { result ≡ map (λ pair. pair.1) self.now }
+    {
+        Values::new(&self.tree)
+    }
+
+    /// The pairs whose keys' bytes begin with these, ascending, from both ends; all of them where there are no bytes. Takes no memory.
+    ///
+    /// ```
+    /// map.try_insert("car", 1)?;
+    /// map.try_insert("cat", 2)?;
+    /// map.try_insert("dog", 3)?;
+    /// let mut cats = map.prefix(b"ca");
+    /// assert_eq!(cats.next(), Some((&"car", &1)));
+    /// assert_eq!(cats.next(), Some((&"cat", &2)));
+    /// assert_eq!(cats.next(), None);
+    /// ```
+    pub fn prefix(&self, front: &[u8]) -> Prefix<'_, K, V, PREFIX_LEN>
+        ensures { result ≡ under (bytes K.bytes) self.now front.now }
+    {
+        self.prefix_counted(front, &mut Visits::new())
+    }
+
+    /// As [`TreeMap::prefix`]. On n bytes it makes at most 2 * (n + 2) * (L + 2) visits, where L is the length of the longest key, and none on an empty map; each step is one more.
+    pub fn prefix_counted(&self, front: &[u8], visits: &mut Visits) -> Prefix<'_, K, V, PREFIX_LEN>
+        ensures value { result ≡ under (bytes K.bytes) self.now front.now }
+        ensures counted { visits.new.count ≤ visits.old.count + 2 * (length front.now + 2) * (longest (bytes K.bytes) self.now + 2) }
+        ensures empty { self.now ≡ [] → visits.new.count ≡ visits.old.count }
+    {
+        Prefix::new(&self.tree, front, visits)
+    }
+
+    /// The pairs whose keys' bytes are within both bounds, ascending, from both ends. Takes no memory. The bounds are in order where the map has pairs; on an empty map any bounds give an empty walk.
+    ///
+    /// ```
+    /// let (low, high) = ("b", "d");
+    /// for (key, value) in map.range(Bound::Included(&low), Bound::Excluded(&high)) {
+    ///     // each key from "b" on that is less than "d"
+    /// }
+    /// ```
+    pub fn range<Q: AsBytes>(&self, start: Bound<&Q>, end: Bound<&Q>) -> Range<'_, K, V, PREFIX_LEN>
+        requires { (self.now ≡ []) ⊎ (in_order (bound_bytes Q.bytes start) (bound_bytes Q.bytes end) ≡ true) }
+        ensures { result ≡ between (bytes K.bytes) self.now (bound_bytes Q.bytes start.entry) (bound_bytes Q.bytes end.entry) }
+    {
+        self.range_counted(start, end, &mut Visits::new())
+    }
+
+    /// As [`TreeMap::range`]. It makes at most 2 * (n + 2) * (L + 2) visits, where n is the length of the longer bound and L that of the longest key, and none on an empty map; each step is one more.
+    pub fn range_counted<Q: AsBytes>(
+        &self,
+        start: Bound<&Q>,
+        end: Bound<&Q>,
+        visits: &mut Visits,
+    ) -> Range<'_, K, V, PREFIX_LEN>
+        requires { (self.now ≡ []) ⊎ (in_order (bound_bytes Q.bytes start) (bound_bytes Q.bytes end) ≡ true) }
+        ensures value { result ≡ between (bytes K.bytes) self.now (bound_bytes Q.bytes start.entry) (bound_bytes Q.bytes end.entry) }
+        ensures counted { visits.new.count ≤ visits.old.count + 2 * (max (bound_len (bound_bytes Q.bytes start.entry)) (bound_len (bound_bytes Q.bytes end.entry)) + 2) * (longest (bytes K.bytes) self.now + 2) }
+        ensures empty { self.now ≡ [] → visits.new.count ≡ visits.old.count }
+    {
+        Range::new(&self.tree, as_bytes(start), as_bytes(end), visits)
+    }
+}
+
+// The bound as bytes.
+fn as_bytes<Q: AsBytes>(bound: Bound<&Q>) -> Bound<&[u8]>
+    ensures { bound_bytes (λ b. b) result ≡ bound_bytes Q.bytes bound.entry }
+{
+    match bound {
+        Bound::Included(query) => Bound::Included(query.as_bytes()),
+        Bound::Excluded(query) => Bound::Excluded(query.as_bytes()),
+        Bound::Unbounded => Bound::Unbounded,
+    }
+}
+
+impl<'a, K: AsBytes + Drop, V: Drop, const PREFIX_LEN: usize> IntoIterator
+    for &'a TreeMap<K, V, PREFIX_LEN> {
+    type Item = (&'a K, &'a V);
+
+    type IntoIter = Iter<'a, K, V, PREFIX_LEN>;
+
+    ghost into_iter_gives = { λ map items. items ≡ map.now };
+
+    /// The pairs, as [`TreeMap::iter`].
+    fn into_iter(self) -> Iter<'a, K, V, PREFIX_LEN> {
+        self.iter()
+    }
+}
