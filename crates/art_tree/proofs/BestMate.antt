@@ -11,7 +11,7 @@ use Rattle.art_tree.specs.Kids.{kid_at}
 use Rattle.art_tree.specs.Shape.{Shape, Covers, CoversLeaf, CoversNode, NodeFits, RootFits}
 use Rattle.art_tree.specs.declared.records.ids.Child.{Child}
 use Rattle.art_tree.specs.declared.records.ids.Child.TheVariants.{Leaf, Inner}
-use Rattle.art_tree.proofs.Options.{not_some, same_some}
+use Rattle.blart_keys.proofs.Options.{not_some, same_some}
 use Rattle.art_tree.proofs.BeginsLemmas.{Begins-length, Begins-itself, Begins-more, Begins-next, Begins-trans, Begins-linear, Begins-equal, Begins-front_edge, Begins-past, Begins-take, length-edge, common-left, common-right, common_length, take_front, related_cases}
 use Rattle.art_tree.proofs.SmallShapes.{unrelated}
 

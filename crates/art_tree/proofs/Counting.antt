@@ -21,7 +21,7 @@ use Rattle.art_tree.specs.Nodes.{Node, Nodes, at, live}
 use Rattle.art_tree.specs.Shape.{Shape, NodeFits}
 use Rattle.art_tree.specs.declared.records.ids.Child.{Child}
 use Rattle.art_tree.specs.declared.records.ids.Edge.{Edge}
-use Rattle.art_tree.proofs.Options.{is_some as is_there, some_of, same_some, not_some}
+use Rattle.blart_keys.proofs.Options.{is_some as is_there, some_of, same_some, not_some}
 use Rattle.art_tree.proofs.BeginsLemmas.{Begins-from_begins, begins-from_Begins, Begins-more, Begins-next, Begins-edge_front}
 use Rattle.art_tree.proofs.Growing.{some_key}
 use Rattle.art_tree.proofs.PairLemmas.{key_of_member, member_of_key}

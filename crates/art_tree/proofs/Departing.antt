@@ -22,7 +22,7 @@ use Rattle.art_tree.proofs.BeginsLemmas.{Begins-itself, Begins-more, Begins-past
 use Rattle.art_tree.proofs.Growing.{covers_above, some_key}
 use Rattle.art_tree.proofs.KeyChanges.{departs_at, next_at}
 use Rattle.art_tree.proofs.Neighbours.{last_at_node, first_at_node, last_beside, first_beside, behind_previous}
-use Rattle.art_tree.proofs.Options.{is_some, some_of, none_of}
+use Rattle.blart_keys.proofs.Options.{is_some, some_of, none_of}
 use Rattle.art_tree.proofs.PairLemmas.{pair_of_key}
 use Rattle.art_tree.proofs.PlacedShapes.{along_key, bytes_apart, mate_long}
 

@@ -13,7 +13,7 @@ use Rattle.art_tree.specs.Shape.{Shape, Covers, NodeFits}
 use Rattle.art_tree.specs.declared.records.ids.Child.{Child}
 use Rattle.art_tree.specs.declared.records.ids.Child.TheVariants.{Leaf, Inner}
 use Rattle.art_tree.specs.declared.records.ids.Edge.{Edge}
-use Rattle.art_tree.proofs.Options.{not_some}
+use Rattle.blart_keys.proofs.Options.{not_some}
 use Rattle.art_tree.proofs.BeginsLemmas.{Begins-more, Begins-trans, Begins-edge_front, Begins-front_edge, begins-from_Begins}
 
 -- of two keys that part at f, that with the lesser byte is less

@@ -9,7 +9,7 @@ use Rattle.art_tree.specs.Kids.{kid_at}
 use Rattle.art_tree.specs.Shape.{Shape, Covers, CoversLeaf, CoversNode, NodeFits, RootFits, Parts}
 use Rattle.art_tree.specs.declared.records.ids.Child.{Child}
 use Rattle.art_tree.specs.declared.records.ids.Child.TheVariants.{Leaf, Inner}
-use Rattle.art_tree.proofs.Options.{some_of, same_some}
+use Rattle.blart_keys.proofs.Options.{some_of, same_some}
 use Rattle.art_tree.proofs.BeginsLemmas.{Begins-length, Begins-more, Begins-trans, Begins-linear, Begins-equal, Begins-next, Begins-edge_front, common-left, common-right, common-greatest, common_comm}
 use Rattle.art_tree.proofs.Growing.{Parts-two}
 use Rattle.art_tree.proofs.SmallShapes.{unrelated}

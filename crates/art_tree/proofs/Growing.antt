@@ -11,7 +11,7 @@ use Rattle.art_tree.specs.Shape.{Shape, Covers, CoversLeaf, CoversNode, NodeFits
 pub use Rattle.art_tree.specs.Joins.{Gains}
 use Rattle.art_tree.specs.declared.records.ids.Child.{Child}
 use Rattle.art_tree.specs.declared.records.ids.Child.TheVariants.{Leaf, Inner}
-use Rattle.art_tree.proofs.Options.{some_of}
+use Rattle.blart_keys.proofs.Options.{some_of}
 use Rattle.art_tree.proofs.BeginsLemmas.{Begins-more, Begins-trans, Begins-linear, Begins-past, next_byte-front, Begins-equal, Begins-cases, common_same, common_at, common_comm}
 
 -- the key k goes along other keys as far as t, and no key goes on as it does

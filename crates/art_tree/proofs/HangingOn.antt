@@ -7,7 +7,7 @@ use Rattle.art_tree.specs.Shape.{Shape}
 use Rattle.art_tree.specs.Descents.{Hangs, HasEdges}
 use Rattle.art_tree.specs.declared.records.ids.Child.{Child}
 use Rattle.art_tree.specs.declared.records.ids.Child.TheVariants.{Inner}
-use Rattle.art_tree.proofs.Options.{some_of}
+use Rattle.blart_keys.proofs.Options.{some_of}
 use Rattle.art_tree.proofs.WaysDown.{has_edges}
 use Rattle.art_tree.proofs.Deepest.{rank, rank_falls}
 

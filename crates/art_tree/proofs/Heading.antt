@@ -10,7 +10,7 @@ use Rattle.art_tree.specs.declared.records.ids.Child.TheVariants.{Leaf, Inner}
 use Rattle.art_tree.specs.declared.records.ids.Edge.{Edge}
 use Rattle.art_tree.proofs.BeginsLemmas.{Begins-length, Begins-trans, Begins-linear, Begins-equal, Begins-next, Begins-more, Begins-itself, next_byte-front, length-edge}
 use Rattle.art_tree.proofs.Growing.{some_key, Parts-two}
-use Rattle.art_tree.proofs.Options.{some_of, not_some}
+use Rattle.blart_keys.proofs.Options.{some_of, not_some}
 use Rattle.art_tree.proofs.Extremes.{least_step}
 
 module _ (keys : ℕ → Option Bytes) (nodes : ℕ → Option Node) (f : Bytes) where

@@ -21,7 +21,7 @@ use Rattle.art_tree.proofs.Growing.{Departs, Gains, covers_above, no_edge}
 use Rattle.art_tree.proofs.KeyChanges.{departs_at, next_at}
 use Rattle.art_tree.proofs.Leading.{leads_over, leads_stay, leads_made}
 use Rattle.art_tree.proofs.OneEdge.{node_moved}
-use Rattle.art_tree.proofs.Options.{some_of}
+use Rattle.blart_keys.proofs.Options.{some_of}
 use Rattle.art_tree.proofs.PlacedShapes.{along_key, mate_long, placed_edge, placed_edge-front}
 use Rattle.art_tree.proofs.SameShapes.{renoded, renoded-front, reprefixed, reprefixed-front}
 use Rattle.art_tree.proofs.SmallShapes.{unrelated}

@@ -1,51 +1,51 @@
-pub mod BeginsLemmas
-pub mod BestMate
-pub mod Counting
-pub mod Deepest
-pub mod Ends
-pub mod Exchanging
-pub mod Extremes
-pub mod Growing
-pub mod HangingOn
-pub mod Heading
-pub mod Joining
-pub mod KeyChanges
-pub mod KidsFills
-pub mod KidsNexts
-pub mod KidsShifts
-pub mod Leading
-pub mod LeavesLemmas
-pub mod LinksLemmas
-pub mod LookUps
-pub mod Locating
-pub mod Losing
-pub mod Mates
-pub mod Moving
-pub mod Neighbours
-pub mod NodesRecords
-pub mod OneEdge
-pub mod OneFront
-pub mod Options
-pub mod PairAnswers
-pub mod PairChanges
-pub mod PairLemmas
-pub mod PlacedPairs
-pub mod PlacedShapes
-pub mod Prefixes
-pub mod PrefixesCutting
-pub mod PrefixesJoining
-pub mod PrefixesMerging
-pub mod PrefixesMoving
-pub mod PrefixesSplitting
-pub mod Unlinking
-pub mod SameShapes
-pub mod Searching
-pub mod SmallShapes
-pub mod Splitting
-pub mod StoreSlots
-pub mod Walks
-pub mod WaysDown
-pub mod Departing
-pub mod Pointing
-pub mod Soundness
-pub mod Seeking
+pub mod CallerLemmas
+mod BeginsLemmas
+mod BestMate
+mod Counting
+mod Deepest
+mod Ends
+mod Exchanging
+mod Extremes
+mod Growing
+mod HangingOn
+mod Heading
+mod Joining
+mod KeyChanges
+mod KidsFills
+mod KidsNexts
+mod KidsShifts
+mod Leading
+mod LeavesLemmas
+mod LinksLemmas
+mod LookUps
+mod Locating
+mod Losing
+mod Mates
+mod Moving
+mod Neighbours
+mod NodesRecords
+mod OneEdge
+mod OneFront
+mod PairAnswers
+mod PairChanges
+mod PairLemmas
+mod PlacedPairs
+mod PlacedShapes
+mod Prefixes
+mod PrefixesCutting
+mod PrefixesJoining
+mod PrefixesMerging
+mod PrefixesMoving
+mod PrefixesSplitting
+mod Unlinking
+mod SameShapes
+mod Searching
+mod SmallShapes
+mod Splitting
+mod StoreSlots
+mod Walks
+mod WaysDown
+mod Departing
+mod Pointing
+mod Soundness
+mod Seeking

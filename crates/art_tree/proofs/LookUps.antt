@@ -7,7 +7,7 @@ use Rattle.art_tree.specs.Begins.{Bytes, Begins}
 use Rattle.art_tree.specs.Descents.{NoFront, IsOnlyFront}
 use Rattle.art_tree.specs.Leaves.{Numbered, AreDistinct, Has, leaf_in, keys_in, bytes}
 use Rattle.art_tree.proofs.BeginsLemmas.{begins-from_Begins}
-use Rattle.art_tree.proofs.Options.{is_some}
+use Rattle.blart_keys.proofs.Options.{is_some}
 use Rattle.art_tree.proofs.PairAnswers.{at_no_key, front_of_no_key}
 use Rattle.art_tree.proofs.PairLemmas.{leaf_in_member, pair_of_key}
 

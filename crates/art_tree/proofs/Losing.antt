@@ -15,7 +15,7 @@ use Rattle.art_tree.specs.declared.records.ids.Child.TheVariants.{Leaf, Inner}
 use Rattle.art_tree.proofs.BeginsLemmas.{Begins-length, Begins-more, Begins-trans, Begins-next, edge_same, edge_some, Begins-linear, length-edge, Begins-equal, Begins-edge_front, Bytes-cases, common-left, common-greatest, common_comm}
 use Rattle.art_tree.proofs.Growing.{Parts-within, Parts-two, covers_above}
 use Rattle.art_tree.proofs.OneEdge.{not_itself}
-use Rattle.art_tree.proofs.Options.{is_some, some_of, not_some, same_some}
+use Rattle.blart_keys.proofs.Options.{is_some, some_of, not_some, same_some}
 
 -- what became of an old node: the edge at g0 leads to another child now
 pub record Turns (x x' : Node) (f g0 : Bytes) (c0 c1 : Child) : Type 0 where

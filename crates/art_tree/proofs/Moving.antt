@@ -8,7 +8,7 @@ use Rattle.art_tree.specs.Kids.{kid_at, Ascends}
 use Rattle.art_tree.specs.Shape.{Shape, Covers, NodeFits, RootFits}
 use Rattle.art_tree.specs.declared.records.ids.Child.{Child}
 use Rattle.art_tree.specs.declared.records.ids.Child.TheVariants.{Leaf, Inner}
-use Rattle.art_tree.proofs.Options.{is_some, some_of}
+use Rattle.blart_keys.proofs.Options.{is_some, some_of}
 
 module _ (n m : ℕ) where
   -- the number m in place of n

@@ -15,7 +15,7 @@ use Rattle.art_tree.specs.Nodes.{Node}
 use Rattle.art_tree.specs.Shape.{Shape}
 use Rattle.art_tree.specs.declared.records.ids.Child.{Child}
 use Rattle.art_tree.specs.declared.records.ids.Edge.{Edge}
-use Rattle.art_tree.proofs.Options.{not_some}
+use Rattle.blart_keys.proofs.Options.{not_some}
 use Rattle.art_tree.proofs.BeginsLemmas.{Begins-more, Begins-cases, Begins-edge_front, Begins-trans, related-from_front}
 use Rattle.art_tree.proofs.Ends.{parted_less}
 use Rattle.art_tree.proofs.PairLemmas.{key_of_member, member_of_key, pair_of_key}

@@ -11,7 +11,7 @@ use Rattle.art_tree.specs.Shape.{Shape, CoversNode, RootFits}
 use Rattle.art_tree.specs.declared.records.ids.Child.{Child}
 use Rattle.art_tree.specs.declared.records.ids.Child.TheVariants.{Leaf, Inner}
 use Rattle.art_tree.proofs.BeginsLemmas.{Begins-length, Begins-trans, Begins-next, Begins-linear, Begins-equal, length-edge, Begins-edge_front}
-use Rattle.art_tree.proofs.Options.{is_some}
+use Rattle.blart_keys.proofs.Options.{is_some}
 use Rattle.art_tree.proofs.Moving.{renumbered, renamed, SameNode, Moves, shape_moved, front_of_moved}
 
 module _ (keys : ℕ → Option Bytes) (nodes : ℕ → Option Node) (root : Option Child) (s : Shape keys nodes root) where

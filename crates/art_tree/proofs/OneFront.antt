@@ -8,7 +8,7 @@ use Rattle.art_tree.specs.Kids.{kid_at}
 use Rattle.art_tree.specs.Shape.{Shape, Covers, CoversLeaf, CoversNode, RootFits, Parts}
 use Rattle.art_tree.specs.declared.records.ids.Child.{Child}
 use Rattle.art_tree.specs.declared.records.ids.Child.TheVariants.{Leaf, Inner}
-use Rattle.art_tree.proofs.Options.{is_some, some_of}
+use Rattle.blart_keys.proofs.Options.{is_some, some_of}
 use Rattle.art_tree.proofs.Growing.{Parts-within, Parts-two}
 use Rattle.art_tree.proofs.BeginsLemmas.{Begins-length, Begins-trans, Begins-linear, Begins-equal, Begins-past, length-edge, take_front}
 

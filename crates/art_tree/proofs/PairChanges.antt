@@ -11,8 +11,8 @@ use Rattle.art_tree.specs.Leaves.{Numbered, leaf_in, Has, Lacks, AreDistinct, fi
 use Rattle.art_tree.specs.Takes.{MayTake}
 use Rattle.art_tree.proofs.BeginsLemmas.{related_cases, related-from_front, related-from_begun}
 use Rattle.art_tree.proofs.LeavesLemmas.{has_not_lacks, Has-first, Has-last}
-use Rattle.art_tree.proofs.Options.{is_some, some_of}
-use Rattle.art_tree.proofs.PairLemmas.{mapped_some, leaf_in_member, member_leaf_in, member_of_key}
+use Rattle.blart_keys.proofs.Options.{is_some, some_of, mapped_some}
+use Rattle.art_tree.proofs.PairLemmas.{leaf_in_member, member_leaf_in, member_of_key}
 
 -- ---- a key that is related to another parts from all others as that does
 

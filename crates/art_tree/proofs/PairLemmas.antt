@@ -1,15 +1,11 @@
 -- Pairs under their numbers.
-use Rattle.std.proofs.Common.{◌≡◌, ◌≢◌, ℕ, List, [], ◌∷◌, refl, ap, sym, ◌∙◌, Option, Some, None, option_map, eqb, eq-eqb, inl, inr, true, false}
+use Rattle.std.proofs.Common.{◌≡◌, ◌≢◌, ℕ, List, [], ◌∷◌, refl, ap, sym, ◌∙◌, Some, option_map, eqb, eq-eqb, inl, inr, true, false}
 use Rattle.std.proofs.lemmas.Bool.{ne_eqb}
 use Rattle.std.proofs.lemmas.Bool.Decides.{eqb_tells}
+use Rattle.blart_keys.proofs.Options.{mapped_some}
 use Rattle.blart_keys.proofs.RankLemmas.{Member}
 use Rattle.art_tree.specs.Begins.{Bytes}
 use Rattle.art_tree.specs.Leaves.{Numbered, leaf_in, Lacks, AreDistinct, bytes, keys_in}
-
--- an option mapped that has a value
-pub mapped_some : {A B : Type 0} (f : A → B) (o : Option A) (y : B) → option_map f o ≡ Some y → (x : A) × (o ≡ Some x) × (f x ≡ y)
-mapped_some f None y e = absurd cc
-mapped_some f (Some x) y e = let h : f x ≡ y = cc in (x, refl, h)
 
 module _ {K V : Type 0} where
   -- what is found under a number is a pair of the list

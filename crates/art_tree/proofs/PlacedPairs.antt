@@ -22,7 +22,7 @@ use Rattle.art_tree.proofs.Joining.{leaving_unrelated}
 use Rattle.art_tree.proofs.KeyChanges.{gains_from}
 use Rattle.art_tree.proofs.LeavesLemmas.{Lacks-from_leaf_in, leaf_in-placed_now, others-placed_behind}
 use Rattle.art_tree.proofs.Neighbours.{placed_put}
-use Rattle.art_tree.proofs.Options.{is_some}
+use Rattle.blart_keys.proofs.Options.{is_some}
 use Rattle.art_tree.proofs.PairLemmas.{pair_of_key}
 use Rattle.art_tree.proofs.SameShapes.{rooted}
 use Rattle.art_tree.proofs.SmallShapes.{first_key, no_nodes}

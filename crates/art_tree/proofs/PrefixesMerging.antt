@@ -17,7 +17,7 @@ use Rattle.art_tree.proofs.Joining.{leads_turned}
 use Rattle.art_tree.proofs.Losing.{shape_dropped, shape_dropped-front, only_two, edge_merged, edge_merged-front}
 use Rattle.art_tree.proofs.OneEdge.{not_itself, node_moved}
 use Rattle.art_tree.proofs.OneFront.{front_is_take}
-use Rattle.art_tree.proofs.Options.{is_some}
+use Rattle.blart_keys.proofs.Options.{is_some}
 use Rattle.art_tree.proofs.Prefixes.{same_behind, keeps_on, keep_any, keep_dropped, node_turned, leads_beside}
 use Rattle.art_tree.proofs.PrefixesMoving.{keep_moved}
 use Rattle.art_tree.proofs.Unlinking.{leads_dropped}

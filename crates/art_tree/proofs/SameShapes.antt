@@ -7,7 +7,7 @@ use Rattle.art_tree.specs.Kids.{kid_at}
 use Rattle.art_tree.specs.Shape.{Shape, Covers, NodeFits, RootFits}
 use Rattle.art_tree.specs.declared.records.ids.Child.{Child}
 use Rattle.art_tree.specs.declared.records.ids.Child.TheVariants.{Leaf, Inner}
-use Rattle.art_tree.proofs.Options.{is_some, same_some}
+use Rattle.blart_keys.proofs.Options.{is_some, same_some}
 
 -- with an equal root
 pub rooted : (keys : ℕ → Option Bytes) (nodes : ℕ → Option Node) (root root' : Option Child) → Shape keys nodes root → root ≡ root' → Shape keys nodes root'

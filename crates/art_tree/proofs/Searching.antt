@@ -7,7 +7,7 @@ use Rattle.art_tree.specs.Shape.{Shape, Covers, NodeFits, RootFits}
 use Rattle.art_tree.specs.Descents.{NoFront, IsOnlyFront, GoesTo}
 use Rattle.art_tree.specs.declared.records.ids.Child.{Child}
 use Rattle.art_tree.specs.declared.records.ids.Child.TheVariants.{Leaf, Inner}
-use Rattle.art_tree.proofs.Options.{some_of, not_some, same_some}
+use Rattle.blart_keys.proofs.Options.{some_of, not_some, same_some}
 use Rattle.art_tree.proofs.BeginsLemmas.{Begins-length, Begins-itself, Begins-more, Begins-next, Begins-trans, Begins-equal, next_byte-front, length-edge}
 use Rattle.art_tree.proofs.Growing.{Parts-within, Parts-two}
 

@@ -24,7 +24,8 @@ use Rattle.art_tree.proofs.Neighbours.{one_less, same_side, FirstFrom, StandsAhe
 use Rattle.art_tree.proofs.LeavesLemmas.{Has-first, Has-last}
 use Rattle.art_tree.proofs.PairAnswers.{pair, at_key, first_of_test, last_of_test, first_under, last_under}
 use Rattle.art_tree.proofs.PairChanges.{passing_has}
-use Rattle.art_tree.proofs.PairLemmas.{mapped_some, key_of_member, member_of_key}
+use Rattle.art_tree.proofs.PairLemmas.{key_of_member, member_of_key}
+use Rattle.blart_keys.proofs.Options.{mapped_some}
 use Rattle.art_tree.proofs.SmallShapes.{unrelated}
 
 -- ---- a front is less

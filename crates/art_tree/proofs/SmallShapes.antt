@@ -7,7 +7,7 @@ use Rattle.blart_keys.specs.Bytes.{common}
 use Rattle.art_tree.proofs.BeginsLemmas.{Begins-length, Begins-itself, Begins-next, common-left, common-greatest, common_at, Begins-equal}
 use Rattle.art_tree.proofs.Growing.{Parts-two, Gains, kept_cases}
 use Rattle.art_tree.specs.Removals.{Loses}
-use Rattle.art_tree.proofs.Options.{some_of, not_some, none_of}
+use Rattle.blart_keys.proofs.Options.{some_of, not_some, none_of}
 use Rattle.art_tree.specs.Nodes.{Node}
 use Rattle.art_tree.specs.Shape.{Shape, Parts}
 use Rattle.art_tree.specs.declared.records.ids.Child.{Child}

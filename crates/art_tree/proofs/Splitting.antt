@@ -13,7 +13,7 @@ use Rattle.art_tree.specs.declared.records.ids.Edge.{Edge}
 use Rattle.art_tree.specs.declared.records.ids.Child.{Child}
 use Rattle.art_tree.specs.declared.records.ids.Child.TheVariants.{Leaf, Inner}
 use Rattle.art_tree.proofs.BeginsLemmas.{Begins-length, Begins-more, Begins-trans, Begins-itself, Begins-next, edge_same, edge_some, Begins-linear, length-edge, Begins-past, next_byte-front, Begins-equal, Begins-edge_front, Begins-cases, common_same, common_at, common_comm, Bytes-cases}
-use Rattle.art_tree.proofs.Options.{is_some, some_of}
+use Rattle.blart_keys.proofs.Options.{is_some, some_of}
 use Rattle.art_tree.proofs.Growing.{covers_above, Departs, Gains, kept, kept_cases, within, Parts-within, Parts-two, Parts-kept}
 
 -- the child stands for a front longer than t

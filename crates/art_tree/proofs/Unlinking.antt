@@ -20,7 +20,7 @@ use Rattle.art_tree.proofs.Growing.{Parts-within, Parts-two, covers_above}
 use Rattle.art_tree.proofs.Losing.{shape_dropped, shape_dropped-front}
 use Rattle.art_tree.proofs.OneEdge.{not_itself, kept_mid, node_moved}
 use Rattle.art_tree.proofs.OneFront.{front_is_take}
-use Rattle.art_tree.proofs.Options.{is_some, some_of, not_some}
+use Rattle.blart_keys.proofs.Options.{is_some, some_of, not_some}
 use Rattle.art_tree.proofs.PairLemmas.{key_of_pair}
 use Rattle.art_tree.proofs.SameShapes.{reprefixed, reprefixed-front, renoded, renoded-front}
 

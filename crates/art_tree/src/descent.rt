@@ -53,6 +53,7 @@ pub(crate) fn mate_of<const P: usize>(
     ensures mate { (keys : ℕ → Option Bytes) → Shape keys (at nodes.now) (Some root.now) → IsMate keys query.now result }
     ensures counted { (keys : ℕ → Option Bytes) → Shape keys (at nodes.now) (Some root.now) → (key : Bytes) → keys result ≡ Some key
         → visits.new.count ≤ visits.old.count + length key }
+    ensures grows { visits.old.count ≤ visits.new.count }
 {
     let mut at = *root;
     'down: loop {
@@ -91,6 +92,7 @@ pub(crate) fn first_under<const P: usize>(
     ensures counted { (keys : ℕ → Option Bytes) (root : Option Way) (s : Shape keys (at nodes.now) root) (g key : Bytes)
         → Covers keys (at nodes.now) s.front_of g child.now → keys result ≡ Some key
         → visits.new.count + length g ≤ visits.old.count + length key }
+    ensures grows { visits.old.count ≤ visits.new.count }
 {
     let mut at = *child;
     'down: loop {
@@ -113,6 +115,7 @@ pub(crate) fn last_under<const P: usize>(
     ensures counted { (keys : ℕ → Option Bytes) (root : Option Way) (s : Shape keys (at nodes.now) root) (g key : Bytes)
         → Covers keys (at nodes.now) s.front_of g child.now → keys result ≡ Some key
         → visits.new.count + length g ≤ visits.old.count + length key }
+    ensures grows { visits.old.count ≤ visits.new.count }
 {
     let mut at = *child;
     'down: loop {
@@ -135,6 +138,7 @@ pub(crate) fn locate<const P: usize>(
     ensures spot { (keys : ℕ → Option Bytes) (s : Shape keys (at nodes.now) (Some root.now)) (i : ℕ) → keys i ≡ Some mate.now
         → SpotFits (at nodes.now) (Some root.now) s.front_of mate.now depth result }
     ensures counted { visits.new.count ≤ visits.old.count + depth + 1 }
+    ensures grows { visits.old.count ≤ visits.new.count }
 {
     let mut at = *root;
     let mut above = None;
@@ -175,6 +179,7 @@ pub(crate) fn leaf_before<K: AsBytes, V, const P: usize>(
     requires { LeavesAt K.bytes leaves.now.pairs (at nodes.now) spot.now mate.now query.now depth }
     ensures before { StandsBehind (keys_in K.bytes leaves.now.pairs) query.now result }
     ensures counted { visits.new.count ≤ visits.old.count + longest (bytes K.bytes) leaves.now.pairs + 1 }
+    ensures grows { visits.old.count ≤ visits.new.count }
 {
     match spot {
         Spot::Node(_, id) => before_at_node(leaves, nodes, id, query[depth], visits),
@@ -195,6 +200,7 @@ fn before_at_node<K: AsBytes, V, const P: usize>(
     requires { (q : Bytes) × LeavesAtNode K.bytes leaves.now.pairs (at nodes.now) id.now byte q }
     ensures before { (q : Bytes) → LeavesAtNode K.bytes leaves.now.pairs (at nodes.now) id.now byte q → StandsBehind (keys_in K.bytes leaves.now.pairs) q result }
     ensures counted { visits.new.count ≤ visits.old.count + longest (bytes K.bytes) leaves.now.pairs + 1 }
+    ensures grows { visits.old.count ≤ visits.new.count }
 {
     match nodes.read(*id, visits).edge_before(byte) {
         Some(edge) => Some(last_under(nodes, &edge.to, visits)),
@@ -214,6 +220,7 @@ fn before_at_edge<K: AsBytes, V, const P: usize>(
     requires { (q : Bytes) × LeavesAtEdge K.bytes leaves.now.pairs (at nodes.now) child.now mate_byte byte q }
     ensures before { (q : Bytes) → LeavesAtEdge K.bytes leaves.now.pairs (at nodes.now) child.now mate_byte byte q → StandsBehind (keys_in K.bytes leaves.now.pairs) q result }
     ensures counted { visits.new.count ≤ visits.old.count + longest (bytes K.bytes) leaves.now.pairs }
+    ensures grows { visits.old.count ≤ visits.new.count }
 {
     if mate_byte < byte {
         return Some(last_under(nodes, child, visits));
@@ -229,8 +236,9 @@ pub(crate) fn children_of<const P: usize>(
     visits: &mut Visits,
 ) -> Option<(usize, LeafId)>
     requires { Hangs (at nodes.now) root.now }
-    ensures { (keys : ℕ → Option Bytes) (s : Shape keys (at nodes.now) (Some root.now))
+    ensures finds { (keys : ℕ → Option Bytes) (s : Shape keys (at nodes.now) (Some root.now))
         → Finds keys (at nodes.now) s.front_of front.now visits.old.count visits.new.count result }
+    ensures grows { visits.old.count ≤ visits.new.count }
 {
     let mut at = *root;
     'down: loop {

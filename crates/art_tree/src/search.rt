@@ -19,6 +19,7 @@ impl<K: AsBytes + Drop, V: Drop, const PREFIX_LEN: usize> Tree<K, V, PREFIX_LEN>
     pub fn get(&self, query: &[u8], visits: &mut Visits) -> Option<(LeafId, &K, &V)>
         ensures found { option_map (λ f. (f.0, (f.1.now, f.2.now))) result ≡ at (bytes K.bytes) self.now.pairs query.now }
         ensures counted { visits.new.count ≤ visits.old.count + length query.now + 1 }
+        ensures grows { visits.old.count ≤ visits.new.count }
         ensures empty { self.now.pairs ≡ [] → visits.new.count ≡ visits.old.count }
     {
         self.leaves.law();
@@ -36,6 +37,7 @@ impl<K: AsBytes + Drop, V: Drop, const PREFIX_LEN: usize> Tree<K, V, PREFIX_LEN>
     pub fn get_front(&self, query: &[u8], visits: &mut Visits) -> Option<(LeafId, &K, &V)>
         ensures found { option_map (λ f. (f.0, (f.1.now, f.2.now))) result ≡ front_of (bytes K.bytes) self.now.pairs query.now }
         ensures counted { visits.new.count ≤ visits.old.count + length query.now + 1 }
+        ensures grows { visits.old.count ≤ visits.new.count }
         ensures empty { self.now.pairs ≡ [] → visits.new.count ≡ visits.old.count }
     {
         self.leaves.law();
@@ -53,6 +55,7 @@ impl<K: AsBytes + Drop, V: Drop, const PREFIX_LEN: usize> Tree<K, V, PREFIX_LEN>
     pub fn search(&self, query: &[u8], visits: &mut Visits) -> Option<LeafId>
         ensures found { result ≡ option_map (λ p. p.0) (at (bytes K.bytes) self.now.pairs query.now) }
         ensures counted { visits.new.count ≤ visits.old.count + length query.now + 1 }
+        ensures grows { visits.old.count ≤ visits.new.count }
         ensures empty { self.now.pairs ≡ [] → visits.new.count ≡ visits.old.count }
     {
         match self.get(query, visits) {
@@ -65,6 +68,7 @@ impl<K: AsBytes + Drop, V: Drop, const PREFIX_LEN: usize> Tree<K, V, PREFIX_LEN>
     pub fn search_front(&self, query: &[u8], visits: &mut Visits) -> Option<LeafId>
         ensures found { result ≡ option_map (λ p. p.0) (front_of (bytes K.bytes) self.now.pairs query.now) }
         ensures counted { visits.new.count ≤ visits.old.count + length query.now + 1 }
+        ensures grows { visits.old.count ≤ visits.new.count }
         ensures empty { self.now.pairs ≡ [] → visits.new.count ≡ visits.old.count }
     {
         match self.get_front(query, visits) {
@@ -82,8 +86,9 @@ fn leaf_toward<const P: usize>(
     visits: &mut Visits,
 ) -> Option<LeafId>
     requires { Hangs (nodes_at nodes.now) root.now }
-    ensures { (keys : ℕ → Option Bytes) → Shape keys (nodes_at nodes.now) (Some root.now)
+    ensures goes { (keys : ℕ → Option Bytes) → Shape keys (nodes_at nodes.now) (Some root.now)
         → GoesTo keys query.now visits.old.count visits.new.count result }
+    ensures grows { visits.old.count ≤ visits.new.count }
 {
     let mut at = *root;
     'down: loop {

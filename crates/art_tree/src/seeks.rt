@@ -33,6 +33,7 @@ impl<K: AsBytes + Drop, V: Drop, const PREFIX_LEN: usize> Tree<K, V, PREFIX_LEN>
     pub fn seek(&self, bound: Bound<&[u8]>, is_start: bool, visits: &mut Visits) -> Option<LeafId>
         ensures found { result ≡ sought (bytes K.bytes) self.now.pairs (bound_bytes (λ b. b) bound.entry) is_start }
         ensures counted { visits.new.count ≤ visits.old.count + (bound_len (bound_bytes (λ b. b) bound.entry) + 2) * (longest (bytes K.bytes) self.now.pairs + 1) + 1 }
+        ensures grows { visits.old.count ≤ visits.new.count }
         ensures empty { self.now.pairs ≡ [] → visits.new.count ≡ visits.old.count }
     {
         self.law();
@@ -59,6 +60,7 @@ impl<K: AsBytes + Drop, V: Drop, const PREFIX_LEN: usize> Tree<K, V, PREFIX_LEN>
     pub fn span(&self, front: &[u8], visits: &mut Visits) -> Option<(LeafId, LeafId)>
         ensures found { result ≡ ends (under (bytes K.bytes) self.now.pairs front.now) }
         ensures counted { visits.new.count ≤ visits.old.count + (length front.now + 3) * (longest (bytes K.bytes) self.now.pairs + 1) }
+        ensures grows { visits.old.count ≤ visits.new.count }
         ensures empty { self.now.pairs ≡ [] → visits.new.count ≡ visits.old.count }
     {
         match self.root {
@@ -85,6 +87,7 @@ impl<K: AsBytes + Drop, V: Drop, const PREFIX_LEN: usize> Tree<K, V, PREFIX_LEN>
     fn standing_of(&self, query: &[u8], visits: &mut Visits) -> Standing
         ensures stands { StandsAt (keys_in K.bytes self.now.pairs) query.now result }
         ensures counted { visits.new.count ≤ visits.old.count + (length query.now + 2) * (longest (bytes K.bytes) self.now.pairs + 1) + 1 }
+        ensures grows { visits.old.count ≤ visits.new.count }
         ensures empty { self.now.pairs ≡ [] → visits.new.count ≡ visits.old.count }
     {
         match self.root {
@@ -105,6 +108,7 @@ fn span_below<K: AsBytes, V, const P: usize>(
     requires { IsSound K.bytes leaves.now nodes.now (Some root.now) }
     ensures found { result ≡ ends (under (bytes K.bytes) leaves.now.pairs front.now) }
     ensures counted { visits.new.count ≤ visits.old.count + (length front.now + 3) * (longest (bytes K.bytes) leaves.now.pairs + 1) }
+    ensures grows { visits.old.count ≤ visits.new.count }
 {
     leaves.law();
     let mate = mate_of(nodes, root, front, visits);
@@ -130,6 +134,7 @@ fn standing_below<K: AsBytes, V, const P: usize>(
     requires { IsSound K.bytes leaves.now nodes.now (Some root.now) }
     ensures stands { StandsAt (keys_in K.bytes leaves.now.pairs) query.now result }
     ensures counted { visits.new.count ≤ visits.old.count + (length query.now + 2) * (longest (bytes K.bytes) leaves.now.pairs + 1) + 1 }
+    ensures grows { visits.old.count ≤ visits.new.count }
 {
     let mate = mate_of(nodes, root, query, visits);
     standing_beside(leaves, nodes, root, &mate, query, visits)
@@ -148,6 +153,7 @@ fn standing_beside<K: AsBytes, V, const P: usize>(
     requires mate { IsMate (keys_in K.bytes leaves.now.pairs) query.now mate.now }
     ensures stands { StandsAt (keys_in K.bytes leaves.now.pairs) query.now result }
     ensures counted { visits.new.count ≤ visits.old.count + (length query.now + 1) * (longest (bytes K.bytes) leaves.now.pairs + 1) + 1 }
+    ensures grows { visits.old.count ≤ visits.new.count }
 {
     leaves.law();
     let (key, _) = leaves.read(*mate, visits);

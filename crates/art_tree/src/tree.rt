@@ -1,5 +1,5 @@
 //! The tree.
-ghost use Rattle.std.specs.Prelude.{◌≡◌, ◌==◌, ◌+◌, ◌<◌, ◌≤◌, ℕ, [], length, option_map, Some, None, OnOk, OnErr, IfSome};
+ghost use Rattle.std.specs.Prelude.{◌≡◌, ◌==◌, ◌+◌, ◌-◌, ◌<◌, ◌≤◌, ℕ, [], length, option_map, Some, None, OnOk, OnErr, IfSome};
 ghost use Rattle.std.specs.Borrow.{sem};
 ghost use Rattle.std.specs.FinSet as set;
 ghost use Rattle.blart_keys.specs.Content.{at, IsContent, IsPut};
@@ -179,9 +179,10 @@ impl<K: AsBytes + Drop, V: Drop, const PREFIX_LEN: usize> Tree<K, V, PREFIX_LEN>
         id
     }
 
-    /// How many inner nodes there are: one at each front where neighbouring keys part.
+    /// How many inner nodes there are: one at each front where neighbouring keys part. Fewer than there are pairs, and none where there are none.
     pub fn inner_nodes(&self) -> usize
-        ensures { result ≡ set.len (fronts (bytes K.bytes) self.now.pairs) }
+        ensures value { result ≡ set.len (fronts (bytes K.bytes) self.now.pairs) }
+        ensures fewer { result ≤ length self.now.pairs - 1 }
     {
         self.leaves.law();
         self.nodes.live()
@@ -191,6 +192,7 @@ impl<K: AsBytes + Drop, V: Drop, const PREFIX_LEN: usize> Tree<K, V, PREFIX_LEN>
     pub fn children_at(&self, front: &[u8], visits: &mut Visits) -> usize
         ensures value { result ≡ set.len (parts (bytes K.bytes) self.now.pairs front.now) }
         ensures counted { visits.new.count ≤ visits.old.count + longest (bytes K.bytes) self.now.pairs + 1 }
+        ensures grows { visits.old.count ≤ visits.new.count }
     {
         self.leaves.law();
         let Some(root) = self.root else {

@@ -2,7 +2,8 @@
 use Rattle.std.proofs.Common.{◌≡◌, ℕ, List, [], ◌∷◌, ◌++◌, Option, Some, None, inl, inr, refl, sym, ap, ◌∙◌, subst}
 use Rattle.std.proofs.lemmas.Bool.Decides.{eqb_tells}
 use Rattle.art_tree.specs.Leaves.{Numbered, leaf_in, Has, Lacks, AreDistinct, without_number, with_value}
-use Rattle.art_tree.proofs.LeavesLemmas.{eqb_other, Has-tail, Lacks-from_leaf_in, AreDistinct-parts, distinct_parts, AreDistinct-without_number, AreDistinct-with_value, numbers-with_value, same_first, same_last}
+use Rattle.std.proofs.lemmas.Bool.{ne_eqb}
+use Rattle.art_tree.proofs.CallerLemmas.{Has-tail, Lacks-from_leaf_in, AreDistinct-parts, distinct_parts, AreDistinct-without_number, AreDistinct-with_value, numbers-with_value, same_first, same_last}
 use Rattle.art_walk.specs.declared.cursor.Ends.{Ends}
 use Rattle.art_walk.specs.declared.cursor.Cursor.{Cursor}
 use Rattle.art_walk.specs.Cursor.{span_of, ends_left, EndsFit, leaves_left, FitsIn}
@@ -42,7 +43,7 @@ module _ {K V : Type 0} where
 
   without_right : (xs ys : List (Numbered K V)) (id : ℕ) → Lacks xs id → without_number (xs ++ ys) id ≡ xs ++ without_number ys id
   without_right [] ys id l = refl
-  without_right (x ∷ xs) ys id l = rw (eqb_other x.0 id l.0) (ap (λ l. x ∷ l) (without_right xs ys id l.1))
+  without_right (x ∷ xs) ys id l = rw (ne_eqb x.0 id l.0) (ap (λ l. x ∷ l) (without_right xs ys id l.1))
 
   cut_without : (ps : List (Numbered K V)) (first last id : ℕ) (row : List (Numbered K V)) → Lacks row id → Cut ps first last row → Cut (without_number ps id) first last row
   cut_without ps first last id row lacks c = go (leaf_in c.before id) refl
@@ -78,7 +79,7 @@ module _ {K V : Type 0} where
 
   with_value-lacking : (ps : List (Numbered K V)) (id : ℕ) (v : V) → Lacks ps id → with_value ps id v ≡ ps
   with_value-lacking [] id v l = refl
-  with_value-lacking (p ∷ ps) id v l = rw (eqb_other p.0 id l.0) (ap (λ l. p ∷ l) (with_value-lacking ps id v l.1))
+  with_value-lacking (p ∷ ps) id v l = rw (ne_eqb p.0 id l.0) (ap (λ l. p ∷ l) (with_value-lacking ps id v l.1))
 
   with_value-append : (xs ys : List (Numbered K V)) (id : ℕ) (v : V) → AreDistinct (xs ++ ys) → with_value (xs ++ ys) id v ≡ with_value xs id v ++ with_value ys id v
   with_value-append [] ys id v d = refl

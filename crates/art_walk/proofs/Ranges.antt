@@ -13,9 +13,8 @@ use Rattle.blart_keys.proofs.ContentLemmas.{Before, Ranked-from_content, under_i
 use Rattle.blart_keys.proofs.PartsOfContents.{end_down, start_up, between_is_part, between_from, between_up, subtree_is_part}
 use Rattle.art_tree.specs.Leaves.{Numbered, leaf_in, first_number, last_number, AreDistinct, bytes}
 use Rattle.art_tree.specs.Seeks.{sought, ends}
-use Rattle.art_tree.proofs.LeavesLemmas.{leaf_in-member, leaf_in-split, last_number-append, split}
-use Rattle.art_tree.proofs.Options.{is_some}
-use Rattle.art_tree.proofs.Seeking.{are_ends}
+use Rattle.art_tree.proofs.CallerLemmas.{leaf_in-member, leaf_in-split, last_number-append, split, are_ends}
+use Rattle.blart_keys.proofs.Options.{is_some}
 use Rattle.art_walk.specs.Cursor.{span_of, IsSpan}
 use Rattle.art_walk.proofs.Spans.{Cut, EndsWith, ends_with, cut_span, cut_is_span}
 use Rattle.art_walk.proofs.Steps.{BeginsWith, begins_with, some_inj, no_last}

@@ -1,8 +1,9 @@
 -- The pairs from one number through another are a part of the list.
-use Rattle.std.proofs.Common.{◌≡◌, ℕ, List, [], ◌∷◌, ◌++◌, Some, true, false, inl, inr, refl, sym, ap, ◌∙◌, subst, append_assoc}
+use Rattle.std.proofs.Common.{◌≡◌, ℕ, List, [], ◌∷◌, ◌++◌, Some, true, false, inl, inr, refl, sym, ap, ◌∙◌, subst, append_assoc, eq-eqb}
 use Rattle.std.proofs.lemmas.Bool.Decides.{eqb_tells}
 use Rattle.art_tree.specs.Leaves.{Numbered, leaf_in, Has, first_number, last_number, Lacks, AreDistinct}
-use Rattle.art_tree.proofs.LeavesLemmas.{eqb_same, eqb_other, distinct_parts, AreDistinct-parts, leaf_in-split, split}
+use Rattle.std.proofs.lemmas.Bool.{ne_eqb}
+use Rattle.art_tree.proofs.CallerLemmas.{distinct_parts, AreDistinct-parts, leaf_in-split, split}
 use Rattle.art_walk.specs.Cursor.{from_number, through_number, span_of, IsSpan}
 
 module _ {K V : Type 0} where
@@ -30,12 +31,12 @@ module _ {K V : Type 0} where
   -- ---- from a number on, and through a number
 
   pub from_split : (before after : List (Numbered K V)) (i : ℕ) (x : K × V) → Lacks before i → from_number (before ++ (i, x) ∷ after) i ≡ (i, x) ∷ after
-  from_split [] after i x l = rw (eqb_same i) refl
-  from_split (p ∷ before) after i x l = rw (eqb_other p.0 i l.0) (from_split before after i x l.1)
+  from_split [] after i x l = rw (eq-eqb i i refl) refl
+  from_split (p ∷ before) after i x l = rw (ne_eqb p.0 i l.0) (from_split before after i x l.1)
 
   pub through_split : (before after : List (Numbered K V)) (i : ℕ) (x : K × V) → Lacks before i → through_number (before ++ (i, x) ∷ after) i ≡ before ++ (i, x) ∷ []
-  through_split [] after i x l = rw (eqb_same i) refl
-  through_split (p ∷ before) after i x l = rw (eqb_other p.0 i l.0) (ap (λ l. p ∷ l) (through_split before after i x l.1))
+  through_split [] after i x l = rw (eq-eqb i i refl) refl
+  through_split (p ∷ before) after i x l = rw (ne_eqb p.0 i l.0) (ap (λ l. p ∷ l) (through_split before after i x l.1))
 
   -- ---- a part is the span of its ends
 

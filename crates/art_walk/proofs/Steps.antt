@@ -4,8 +4,8 @@ use Rattle.std.specs.Option.{option_or}
 use Rattle.std.proofs.lemmas.Bool.Decides.{eqb_tells}
 use Rattle.std.proofs.lemmas.List.{append-nil}
 use Rattle.art_tree.specs.Leaves.{Numbered, leaf_in, Has, first_number, last_number, number_after, number_before, Lacks, AreDistinct}
-use Rattle.art_tree.proofs.LeavesLemmas.{Has-last, has_other, distinct_parts, AreDistinct-parts, Lacks-parts, leaf_in-split, number_after-split, number_before-split, last_number-append}
-use Rattle.art_tree.proofs.Options.{is_some}
+use Rattle.art_tree.proofs.CallerLemmas.{Has-last, has_other, distinct_parts, AreDistinct-parts, Lacks-parts, leaf_in-split, number_after-split, number_before-split, last_number-append}
+use Rattle.blart_keys.proofs.Options.{is_some}
 use Rattle.art_walk.specs.declared.cursor.Ends.{Ends}
 use Rattle.art_walk.specs.declared.cursor.Cursor.{Cursor}
 use Rattle.art_walk.specs.Cursor.{nothing_left, left_between, span_of, IsSpan, ends_left, EndsFit, leaves_left, FitsIn, PassesFirst, PassesLast}

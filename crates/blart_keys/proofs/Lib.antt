@@ -10,3 +10,4 @@ pub mod Mapped
 pub mod MergeLemmas
 pub mod PartsOfContents
 pub mod NumberKeys
+pub mod Options

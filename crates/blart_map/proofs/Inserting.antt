@@ -17,11 +17,8 @@ use Rattle.art_tree.specs.Takes.{MayTake}
 use Rattle.art_tree.specs.declared.point.Place.{Place}
 use Rattle.art_tree.specs.declared.point.Point.{Point}
 use Rattle.art_tree.specs.declared.point.Point.TheVariants.{Empty, Exact, Related, Free}
-use Rattle.art_tree.proofs.BeginsLemmas.{Begins-linear, Begins-more, Begins-past, Begins-trans, related_cases, related-from_front}
-use Rattle.art_tree.proofs.KeyChanges.{departs_at}
-use Rattle.art_tree.proofs.LeavesLemmas.{leaf_in-member, Member-from_leaf_in}
-use Rattle.art_tree.proofs.Options.{is_some}
-use Rattle.art_tree.proofs.PairLemmas.{key_of_member, member_of_key}
+use Rattle.art_tree.proofs.CallerLemmas.{leaf_in-member, Member-from_leaf_in, free_alone}
+use Rattle.blart_keys.proofs.Options.{is_some}
 use Rattle.art_walk.specs.Pairs.{pairs_of}
 use Rattle.blart_keys.proofs.Mapped.{find-map, list_any-map, content_map, put_map}
 use Rattle.blart_map.proofs.Numbers.{cut_at, cut_pairs, exchanged_pairs}
@@ -58,33 +55,12 @@ module _ {K V : Type 0} (kb : K → Bytes) (ps : List (Numbered K V)) where
 
   module _ (content : IsContent (bytes kb) ps) where
     module _ (distinct : AreDistinct ps) (q : Bytes) where
-      -- no key is related to one whose place is free
-      free_alone : (place : Place) → IsFree kb ps place q → (y : Numbered K V) → Member y ps → related (bytes kb y) q ≡ false
-      free_alone place free y m = false_from_ne_true (related (bytes kb y) q) (λ rel.
-          let d = departs_at (keys_in kb ps) place.mate place.depth q free.leaves in
-          let k = bytes kb y in
-          let t = take place.depth q in
-          let e = key_of_member kb ps y distinct m in
-          elim (related_cases k q rel) [
-            | inl b ↦ elim (cases_lt (length t) (length k)) [
-              | inl far ↦ d.alone y.0 k e (Begins-past t k q d.front b far)
-              | inr near ↦
-                  let km : Begins k d.mate_key = Begins-trans k t d.mate_key (Begins-linear k t q b d.front near) d.mate_front in
-                  let r = member_of_key kb ps d.mate d.mate_key d.mate_is in
-                  let same = same_item (bytes kb) ps content y r.0 m r.1 (subst (λ l. related k l ≡ true) (sym r.3) (related-from_front k d.mate_key km)) in
-                  let l : length k ≡ length d.mate_key = ap (λ x. length (bytes kb x)) same ∙ ap (λ (l : Bytes). length l) r.3 in
-                  let longer : length t < length d.mate_key = d.mate_longer in
-                  omega arith
-            ]
-            | inr b ↦ d.alone y.0 k e (Begins-trans (t ++ next_byte t q ∷ []) q k (Begins-more t q d.front d.longer) b)
-          ])
-
       -- no key is related to one that has an open point
       pub open_alone : (point : Point) → IsGood kb ps point q → IsOpen point → (y : Numbered K V) → Member y ps → related (bytes kb y) q ≡ false
       open_alone Empty good able y m = absurd (subst (Member y) good m)
       open_alone (Exact id) good able y m = absurd able
       open_alone (Related first last) good able y m = absurd able
-      open_alone (Free place) good able y m = free_alone place good y m
+      open_alone (Free place) good able y m = free_alone kb ps content distinct q place good y m
 
       -- a key conflicts only at a point that says so
       pub unrelated_point : (point : Point) → IsGood kb ps point q → ((i j : ℕ) → point ≡ Related i j → ⊥) → conflict (bytes kb) ps q ≡ false

@@ -9,9 +9,8 @@ use Rattle.std.specs.Option.{is_some}
 use Rattle.blart_keys.proofs.ContentLemmas.{at_Some}
 use Rattle.blart_keys.proofs.PutLemmas.{without_cut, without_absent}
 use Rattle.art_tree.specs.Leaves.{Numbered, leaf_in, Has, AreDistinct, Lacks, last_number, with_pair, without_number, bytes}
-use Rattle.art_tree.proofs.LeavesLemmas.{split, distinct_parts, with_pair-split, without_number-split, leaf_in-split, leaf_in-member, Has-last, has_not_lacks}
-use Rattle.art_tree.proofs.Options.{is_some as has_value}
-use Rattle.art_tree.proofs.PairLemmas.{mapped_some}
+use Rattle.art_tree.proofs.CallerLemmas.{split, distinct_parts, with_pair-split, without_number-split, leaf_in-split, leaf_in-member, Has-last, has_not_lacks}
+use Rattle.blart_keys.proofs.Options.{is_some as has_value, mapped_some}
 use Rattle.art_walk.specs.Pairs.{pairs_of}
 use Rattle.blart_keys.proofs.Mapped.{find-map, content_map}
 

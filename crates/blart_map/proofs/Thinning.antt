@@ -1,5 +1,5 @@
 -- All pairs related to some bytes but one are removed.
-use Rattle.std.proofs.Common.{◌≡◌, ◌≢◌, ℕ, Bool, true, false, cond, inl, inr, List, [], ◌∷◌, ◌++◌, filter, refl, sym, ap, ◌∙◌, subst, append_assoc, Some, None, Contains}
+use Rattle.std.proofs.Common.{◌≡◌, ◌≢◌, ℕ, Bool, true, false, cond, inl, inr, List, [], ◌∷◌, ◌++◌, filter, refl, sym, ap, ◌∙◌, subst, append_assoc, Some, None, Contains, eq-eqb}
 use Rattle.std.proofs.lemmas.Bool.{false≢true, false_from_ne_true}
 use Rattle.std.proofs.lemmas.Bool.Decides.{eqb_tells}
 use Rattle.blart_keys.specs.Bytes.{related}
@@ -10,8 +10,8 @@ use Rattle.blart_keys.proofs.ContentLemmas.{related-same}
 use Rattle.blart_keys.proofs.PartsOfContents.{subtree_is_part}
 use Rattle.art_tree.specs.Leaves.{Numbered, leaf_in, Has, AreDistinct, Lacks, OthersStand, first_number, last_number, number_after, without_number, with_pair, bytes}
 use Rattle.art_tree.specs.Takes.{MayTake}
-use Rattle.art_tree.proofs.LeavesLemmas.{eqb_same, leaf_in-member, Member-from_leaf_in, Has-last, has_not_lacks, number_after-split, distinct_parts, leaf_in-with_now, others-with_pair}
-use Rattle.art_tree.proofs.Options.{is_some}
+use Rattle.art_tree.proofs.CallerLemmas.{leaf_in-member, Member-from_leaf_in, Has-last, has_not_lacks, number_after-split, distinct_parts, leaf_in-with_now, others-with_pair}
+use Rattle.blart_keys.proofs.Options.{is_some}
 use Rattle.art_walk.specs.Pairs.{pairs_of}
 use Rattle.blart_map.specs.Spans.{Spans, UnrelatedStand, LeavesOne}
 use Rattle.blart_keys.proofs.Mapped.{filter-map, Member-map, Member-from_map, content_map}
@@ -90,7 +90,7 @@ module _ {K V : Type 0} (kb : K → List ℕ) (ps : List (Numbered K V)) (conten
       let cut : ps ≡ part.before ++ (first, e.pair) ∷ e.second ∷ (e.rest ++ part.after) = part.is ∙ append_assoc part.before (subtree (bytes kb) ps q) part.after ∙ ap (λ l. part.before ++ (l ++ part.after)) e.is in
       let lacks = (distinct_parts part.before (e.second ∷ (e.rest ++ part.after)) (first, e.pair) (subst AreDistinct cut distinct)).0 in
       let left : subtree (bytes kb) (without_number ps first) q ≡ e.second ∷ e.rest =
-      filter-without (λ p. related (bytes kb p) q) ps first distinct ∙ ap (λ l. without_number l first) e.is ∙ ap (λ b. cond b (e.second ∷ e.rest) ((first, e.pair) ∷ without_number (e.second ∷ e.rest) first)) (eqb_same first) in (
+      filter-without (λ p. related (bytes kb p) q) ps first distinct ∙ ap (λ l. without_number l first) e.is ∙ ap (λ b. cond b (e.second ∷ e.rest) ((first, e.pair) ∷ without_number (e.second ∷ e.rest) first)) (eq-eqb first first refl) in (
         e.second.0,
         ap (λ l. number_after l first) cut ∙ number_after-split first e.pair (e.second ∷ (e.rest ++ part.after)) part.before lacks,
         record { first_is = ap first_number left; last_is = ap last_number left ∙ sym (ap last_number e.is) ∙ s.last_is },

@@ -9,7 +9,7 @@ use Rattle.blart_keys.proofs.ByteLemmas.{fronts_related}
 use Rattle.blart_keys.proofs.ContentLemmas.{related-same, same_item}
 use Rattle.blart_keys.proofs.RankLemmas.{Member, Member-append_left, Member-append_right, find_found}
 use Rattle.art_tree.specs.Leaves.{Numbered, leaf_in, AreDistinct, Lacks, with_value, bytes}
-use Rattle.art_tree.proofs.LeavesLemmas.{with_value-split, distinct_parts}
+use Rattle.art_tree.proofs.CallerLemmas.{with_value-split, distinct_parts}
 use Rattle.art_walk.specs.Pairs.{pairs_of}
 use Rattle.blart_map.proofs.Numbers.{cut_at, found}
 

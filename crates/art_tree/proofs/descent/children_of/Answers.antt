@@ -20,8 +20,8 @@ down-init g c =
       rising = omega arith;
     }
 
-pub returns-in-Leaf : goal.returns-in-Leaf
-returns-in-Leaf g c = λ keys s.
+pub returns-in-Leaf-clause-finds : goal.returns-in-Leaf-clause-finds
+returns-in-Leaf-clause-finds g c = λ keys s.
     let spent = c.down.visits.count - c.args.visits.now.count in
     let up : c.args.visits.now.count ≤ c.down.visits.count = c.down.invariant.rising in
     heads_leaf keys (at c.args.nodes.now) c.args.front.now (Some c.args.root.now) s c.args.visits.now.count c.down.visits.count spent c.in-Leaf.field-0
@@ -37,8 +37,8 @@ first_under-requires g c =
     let h = subst (λ (a : Child). Hangs (at c.args.nodes.now) a) c.in-Inner.is c.down.invariant.hangs in
     (lit< tt, hanging_on (at c.args.nodes.now) c.in-Inner.id c.first_edge.result.byte c.read-node.result c.first_edge.result.to h c.read-node.ensures.value c.first_edge.ensures.there)
 
-pub returns-then-depth-front : goal.returns-then-depth-front
-returns-then-depth-front g c = λ keys s.
+pub returns-then-depth-front-clause-finds : goal.returns-then-depth-front-clause-finds
+returns-then-depth-front-clause-finds g c = λ keys s.
     let nodes = at c.args.nodes.now in
     let n = c.in-Inner.id in
     let e = c.first_edge.result in
@@ -55,8 +55,8 @@ returns-then-depth-front g c = λ keys s.
     let edge : length (s.front_of n ++ e.byte ∷ []) ≡ length (s.front_of n) + 1 = length-edge (s.front_of n) e.byte in
     omega arith)
 
-pub returns-then-depth-front-2 : goal.returns-then-depth-front-2
-returns-then-depth-front-2 g c = λ keys s.
+pub returns-then-depth-front-2-clause-finds : goal.returns-then-depth-front-2-clause-finds
+returns-then-depth-front-2-clause-finds g c = λ keys s.
     let nodes = at c.args.nodes.now in
     let spent = c.down.visits.count - c.args.visits.now.count in
     let up : c.args.visits.now.count ≤ c.down.visits.count = c.down.invariant.rising in
@@ -65,8 +65,8 @@ returns-then-depth-front-2 g c = λ keys s.
     let past : length c.args.front.now < c.read-node.result.depth = omega (arith, c.depth-depth.ensures) in
     heads_past keys nodes c.args.front.now (Some c.args.root.now) s c.in-Inner.id spent c.read-node.result c.read-node.ensures.value h c.args.visits.now.count c.read-node.new.visits.count past (omega arith)
 
-pub returns-in_err-at : goal.returns-in_err-at
-returns-in_err-at g c = λ keys s.
+pub returns-in_err-at-clause-finds : goal.returns-in_err-at-clause-finds
+returns-in_err-at-clause-finds g c = λ keys s.
     let nodes = at c.args.nodes.now in
     let f = c.args.front.now in
     let x = c.read-node.result in

@@ -69,4 +69,5 @@ down-preserved g c =
           (stand_step keys nodes c.args.mate.now c.args.depth c.args.root.now s i is w.within c.in-Inner.id c.read-node.result c.read-node.ensures.value c.down.above c.down.gone r c.in-Some.child l h);
       near = omega (arith, d);
       few = omega arith;
+      rising = let up : c.args.visits.now.count ≤ c.down.visits.count = c.down.invariant.rising in omega arith;
     }

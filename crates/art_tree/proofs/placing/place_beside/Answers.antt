@@ -1,7 +1,7 @@
 use Rattle.std.proofs.Common.{Some, lit<}
 use Rattle.art_tree.specs.Leaves.{leaf_in}
 use Rattle.art_tree.specs.Nodes.{at}
-use Rattle.art_tree.proofs.Options.{is_some}
+use Rattle.blart_keys.proofs.Options.{is_some}
 use Rattle.art_tree.proofs.PlacedPairs.{placed_free, kept_pair, free_joins, free_joined, free_keep}
 use Rattle.art_tree.proofs.placing.place_beside.Goals as goal
 

@@ -5,7 +5,7 @@ use Rattle.art_tree.specs.Nodes.{at}
 use Rattle.art_tree.specs.Prefixes.{KeepsBehind}
 use Rattle.art_tree.specs.Shape.{Covers}
 use Rattle.art_tree.specs.declared.records.ids.Child.{Child}
-use Rattle.art_tree.proofs.Options.{is_some}
+use Rattle.blart_keys.proofs.Options.{is_some}
 use Rattle.art_tree.proofs.PairLemmas.{key_of_pair, pair_of_key}
 use Rattle.art_tree.proofs.PrefixesMerging.{cut_keeps}
 use Rattle.art_tree.proofs.Unlinking.{ends_below, starts_within, key_within}

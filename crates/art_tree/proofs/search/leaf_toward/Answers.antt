@@ -19,15 +19,15 @@ down-init g c =
       rising = omega arith;
     }
 
-pub returns-in-Leaf : goal.returns-in-Leaf
-returns-in-Leaf g c = λ keys s.
+pub returns-in-Leaf-clause-goes : goal.returns-in-Leaf-clause-goes
+returns-in-Leaf-clause-goes g c = λ keys s.
     let spent = c.down.visits.count - c.args.visits.now.count in
     let up : c.args.visits.now.count ≤ c.down.visits.count = c.down.invariant.rising in
     goes_leaf keys (at c.args.nodes.now) c.args.query.now (Some c.args.root.now) s c.args.visits.now.count c.down.visits.count c.in-Leaf.id spent
     (subst (λ (a : Child). Reaches keys (at c.args.nodes.now) c.args.query.now s.front_of a spent) c.in-Leaf.is (c.down.invariant.reaches keys s)) (omega arith)
 
-pub returns-then-depth-query : goal.returns-then-depth-query
-returns-then-depth-query g c = λ keys s.
+pub returns-then-depth-query-clause-goes : goal.returns-then-depth-query-clause-goes
+returns-then-depth-query-clause-goes g c = λ keys s.
     let nodes = at c.args.nodes.now in
     let q = c.args.query.now in
     let x = c.read-node.result in
@@ -39,8 +39,8 @@ returns-then-depth-query g c = λ keys s.
     goes_none keys nodes q (Some c.args.root.now) s c.args.visits.now.count c.read-node.new.visits.count spent (Inner c.in-Inner.id) r (omega arith)
     (reach_short keys nodes q (Some c.args.root.now) s c.in-Inner.id spent x c.read-node.ensures.value r h)
 
-pub returns-in_err-at : goal.returns-in_err-at
-returns-in_err-at g c = λ keys s.
+pub returns-in_err-at-clause-goes : goal.returns-in_err-at-clause-goes
+returns-in_err-at-clause-goes g c = λ keys s.
     let nodes = at c.args.nodes.now in
     let q = c.args.query.now in
     let x = c.read-node.result in

@@ -1,6 +1,6 @@
-use Rattle.std.proofs.Common.{◌≡◌, ◌≢◌, ◌∙◌, ◌+◌, arith, lit<, ap, sym, subst, not, eqb, Some, length}
+use Rattle.std.proofs.Common.{refl, ◌≡◌, ◌≢◌, ◌∙◌, ◌+◌, arith, lit<, ap, sym, subst, not, eqb, Some, length, eq-eqb}
 use Rattle.std.proofs.lemmas.Bool.{false≢true}
-use Rattle.art_tree.proofs.LeavesLemmas.{eqb_same, length-without_number}
+use Rattle.art_tree.proofs.CallerLemmas.{length-without_number}
 use Rattle.blart_map.specs.Spans.{Spans}
 use Rattle.blart_map.proofs.Thinning.{first_has, next_there, unrelated_without, stand_on}
 use Rattle.blart_map.proofs.over.leave_one.Goals as goal
@@ -10,7 +10,7 @@ next_of-requires g c = (lit< tt, first_has g.K.AsBytes.bytes c.thin.tree.pairs c
 
 pub unreachable-requires : goal.unreachable-requires
 unreachable-requires g c =
-    let off : c.thin.id ≢ c.args.last = λ e. false≢true (sym (ap not (ap (λ n. eqb c.thin.id n) (sym e) ∙ eqb_same c.thin.id)) ∙ sym c.thin-test.ensures) in
+    let off : c.thin.id ≢ c.args.last = λ e. false≢true (sym (ap not (ap (λ n. eqb c.thin.id n) (sym e) ∙ eq-eqb c.thin.id c.thin.id refl)) ∙ sym c.thin-test.ensures) in
     let n = next_there g.K.AsBytes.bytes c.thin.tree.pairs c.law.ensures.content c.law.ensures.distinct c.args.query.now c.thin.id c.args.last c.thin.invariant.spans off in
     c.in_default.not-Some n.0 (c.next_of.ensures ∙ n.1)
 
@@ -28,7 +28,7 @@ thin-preserved g c =
     let kb = g.K.AsBytes.bytes in
     let ps = c.thin.tree.pairs in
     let q = c.args.query.now in
-    let off : c.thin.id ≢ c.args.last = λ e. false≢true (sym (ap not (ap (λ n. eqb c.thin.id n) (sym e) ∙ eqb_same c.thin.id)) ∙ sym c.thin-test.ensures) in
+    let off : c.thin.id ≢ c.args.last = λ e. false≢true (sym (ap not (ap (λ n. eqb c.thin.id n) (sym e) ∙ eq-eqb c.thin.id c.thin.id refl)) ∙ sym c.thin-test.ensures) in
     let n = next_there kb ps c.law.ensures.content c.law.ensures.distinct q c.thin.id c.args.last c.thin.invariant.spans off in
     let f : Some n.0 ≡ Some c.in-Some.next = sym n.1 ∙ sym c.next_of.ensures ∙ c.in-Some.is in
     let same : n.0 ≡ c.in-Some.next = cc in

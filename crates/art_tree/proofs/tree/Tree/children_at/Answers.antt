@@ -14,7 +14,7 @@ use Rattle.art_tree.proofs.BeginsLemmas.{Begins-from_begins, begins-from_Begins,
 use Rattle.art_tree.proofs.Counting.{no_parts, edges_are_parts}
 use Rattle.art_tree.proofs.Departing.{has_key}
 use Rattle.art_tree.proofs.HangingOn.{hanging_root}
-use Rattle.art_tree.proofs.Options.{some_of}
+use Rattle.blart_keys.proofs.Options.{some_of}
 use Rattle.art_tree.proofs.PairLemmas.{key_of_pair}
 use Rattle.art_tree.proofs.SameShapes.{rooted}
 use Rattle.art_tree.proofs.Soundness.{rootless, within_longest}
@@ -88,7 +88,7 @@ returns-in_default-children_of-clause-value g c =
     let f = c.args.front.now in
     let old = c.args.visits.now.count in
     let new = c.children_of.new.visits.count in
-    let found : FindsNone (keys_in kb S) nodes s.front_of f old new = c.in_default-children_of.ensures (keys_in kb S) s in
+    let found : FindsNone (keys_in kb S) nodes s.front_of f old new = c.in_default-children_of.ensures.finds (keys_in kb S) s in
     nothing kb S c.self.invariant.sound.content c.law.ensures.distinct nodes root s f old new found ∙ ap (λ t. set.len (parts (bytes kb) t.pairs f)) c.self.view_is
 
 pub returns-in_default-children_of-clause-counted : goal.returns-in_default-children_of-clause-counted
@@ -102,7 +102,7 @@ returns-in_default-children_of-clause-counted g c =
     let f = c.args.front.now in
     let old = c.args.visits.now.count in
     let new = c.children_of.new.visits.count in
-    let found : FindsNone (keys_in kb S) nodes s.front_of f old new = c.in_default-children_of.ensures (keys_in kb S) s in
+    let found : FindsNone (keys_in kb S) nodes s.front_of f old new = c.in_default-children_of.ensures.finds (keys_in kb S) s in
     subst (λ (z : ℕ). new ≤ old + z + 1) (ap (λ t. longest (bytes kb) t.pairs) c.self.view_is) (nothing_soon kb S c.self.invariant.sound.content c.law.ensures.distinct nodes root s f old new found)
 
 pub read-requires : goal.read-requires
@@ -118,7 +118,7 @@ read-requires g c =
     let new = c.children_of.new.visits.count in
     let count = c.in-Some-children_of.found.0 in
     let leaf = c.in-Some-children_of.found.1 in
-    let found : FindsNode (keys_in kb S) nodes s.front_of f old new count leaf = c.in-Some-children_of.ensures (keys_in kb S) s in
+    let found : FindsNode (keys_in kb S) nodes s.front_of f old new count leaf = c.in-Some-children_of.ensures.finds (keys_in kb S) s in
     has_key kb S leaf found.least.key found.least.is
 
 pub returns-then-begins-clause-value : goal.returns-then-begins-clause-value
@@ -134,7 +134,7 @@ returns-then-begins-clause-value g c =
     let new = c.children_of.new.visits.count in
     let count = c.in-Some-children_of.found.0 in
     let leaf = c.in-Some-children_of.found.1 in
-    let found : FindsNode (keys_in kb S) nodes s.front_of f old new count leaf = c.in-Some-children_of.ensures (keys_in kb S) s in
+    let found : FindsNode (keys_in kb S) nodes s.front_of f old new count leaf = c.in-Some-children_of.ensures.finds (keys_in kb S) s in
     let k = kb c.read.result.0.now in
     let is : keys_in kb S leaf ≡ Some k = key_of_pair kb S leaf (c.read.result.0.now, c.read.result.1.now) c.read.ensures.value in
     subst (λ (T : List (Numbered _ _)). count ≡ set.len (parts (bytes kb) T f)) (ap (λ t. t.pairs) c.self.view_is) (counts kb S c.self.invariant.sound.content c.law.ensures.distinct nodes root s f old new count leaf found k is c.as_bytes.result.now c.if-begins.ensures c.as_bytes.ensures)
@@ -152,7 +152,7 @@ returns-then-begins-clause-counted g c =
     let new = c.children_of.new.visits.count in
     let count = c.in-Some-children_of.found.0 in
     let leaf = c.in-Some-children_of.found.1 in
-    let found : FindsNode (keys_in kb S) nodes s.front_of f old new count leaf = c.in-Some-children_of.ensures (keys_in kb S) s in
+    let found : FindsNode (keys_in kb S) nodes s.front_of f old new count leaf = c.in-Some-children_of.ensures.finds (keys_in kb S) s in
     let k = kb c.read.result.0.now in
     let is : keys_in kb S leaf ≡ Some k = key_of_pair kb S leaf (c.read.result.0.now, c.read.result.1.now) c.read.ensures.value in
     subst (λ (z : ℕ). c.read.new.visits.count ≤ old + z + 1) (ap (λ t. longest (bytes kb) t.pairs) c.self.view_is) (soon kb S c.self.invariant.sound.content c.law.ensures.distinct nodes root s f old new count leaf found k is c.read.new.visits.count c.read.ensures.counted)
@@ -170,7 +170,7 @@ returns-else-begins-clause-value g c =
     let new = c.children_of.new.visits.count in
     let count = c.in-Some-children_of.found.0 in
     let leaf = c.in-Some-children_of.found.1 in
-    let found : FindsNode (keys_in kb S) nodes s.front_of f old new count leaf = c.in-Some-children_of.ensures (keys_in kb S) s in
+    let found : FindsNode (keys_in kb S) nodes s.front_of f old new count leaf = c.in-Some-children_of.ensures.finds (keys_in kb S) s in
     let k = kb c.read.result.0.now in
     let is : keys_in kb S leaf ≡ Some k = key_of_pair kb S leaf (c.read.result.0.now, c.read.result.1.now) c.read.ensures.value in
     subst (λ (T : List (Numbered _ _)). 0 ≡ set.len (parts (bytes kb) T f)) (ap (λ t. t.pairs) c.self.view_is) (other kb S c.self.invariant.sound.content c.law.ensures.distinct nodes root s f old new count leaf found k is c.as_bytes.result.now c.if-begins.ensures c.as_bytes.ensures)
@@ -188,7 +188,7 @@ returns-else-begins-clause-counted g c =
     let new = c.children_of.new.visits.count in
     let count = c.in-Some-children_of.found.0 in
     let leaf = c.in-Some-children_of.found.1 in
-    let found : FindsNode (keys_in kb S) nodes s.front_of f old new count leaf = c.in-Some-children_of.ensures (keys_in kb S) s in
+    let found : FindsNode (keys_in kb S) nodes s.front_of f old new count leaf = c.in-Some-children_of.ensures.finds (keys_in kb S) s in
     let k = kb c.read.result.0.now in
     let is : keys_in kb S leaf ≡ Some k = key_of_pair kb S leaf (c.read.result.0.now, c.read.result.1.now) c.read.ensures.value in
     subst (λ (z : ℕ). c.read.new.visits.count ≤ old + z + 1) (ap (λ t. longest (bytes kb) t.pairs) c.self.view_is) (soon kb S c.self.invariant.sound.content c.law.ensures.distinct nodes root s f old new count leaf found k is c.read.new.visits.count c.read.ensures.counted)

@@ -40,7 +40,7 @@ returns-in_err-id-clause-found g c =
     let q = c.args.query.now in
     let keys = keys_in kb S in
     let s = rooted keys nodes i.root (Some c.in_ok-root.root) c.self.invariant.sound.shape c.in_ok-root.was in
-    let went = subst (λ (o : Option ℕ). GoesTo keys q c.args.visits.now.count c.leaf_toward.new.visits.count o) c.in_err-id.was (c.leaf_toward.ensures keys s) in
+    let went = subst (λ (o : Option ℕ). GoesTo keys q c.args.visits.now.count c.leaf_toward.new.visits.count o) c.in_err-id.was (c.leaf_toward.ensures.goes keys s) in
     rw c.from_residual-in_err-id.ensures
     (answers_none_at kb S c.self.invariant.sound.content c.law.ensures.distinct c.args.self.now.pairs (ap (λ t. t.pairs) c.self.view_is) q (absent keys nodes q went.0))
 
@@ -53,7 +53,7 @@ returns-in_err-id-clause-counted g c =
     let q = c.args.query.now in
     let keys = keys_in kb S in
     let s = rooted keys nodes i.root (Some c.in_ok-root.root) c.self.invariant.sound.shape c.in_ok-root.was in
-    let went = subst (λ (o : Option ℕ). GoesTo keys q c.args.visits.now.count c.leaf_toward.new.visits.count o) c.in_err-id.was (c.leaf_toward.ensures keys s) in
+    let went = subst (λ (o : Option ℕ). GoesTo keys q c.args.visits.now.count c.leaf_toward.new.visits.count o) c.in_err-id.was (c.leaf_toward.ensures.goes keys s) in
     went.1
 
 pub read-requires : goal.read-requires
@@ -65,7 +65,7 @@ read-requires g c =
     let q = c.args.query.now in
     let keys = keys_in kb S in
     let s = rooted keys nodes i.root (Some c.in_ok-root.root) c.self.invariant.sound.shape c.in_ok-root.was in
-    let went = subst (λ (o : Option ℕ). GoesTo keys q c.args.visits.now.count c.leaf_toward.new.visits.count o) c.in_ok-id.was (c.leaf_toward.ensures keys s) in
+    let went = subst (λ (o : Option ℕ). GoesTo keys q c.args.visits.now.count c.leaf_toward.new.visits.count o) c.in_ok-id.was (c.leaf_toward.ensures.goes keys s) in
     only_has kb S q c.in_ok-id.id went.0
 
 pub returns-then-eq-clause-found : goal.returns-then-eq-clause-found
@@ -87,7 +87,7 @@ returns-then-eq-clause-counted g c =
     let q = c.args.query.now in
     let keys = keys_in kb S in
     let s = rooted keys nodes i.root (Some c.in_ok-root.root) c.self.invariant.sound.shape c.in_ok-root.was in
-    let went = subst (λ (o : Option ℕ). GoesTo keys q c.args.visits.now.count c.leaf_toward.new.visits.count o) c.in_ok-id.was (c.leaf_toward.ensures keys s) in
+    let went = subst (λ (o : Option ℕ). GoesTo keys q c.args.visits.now.count c.leaf_toward.new.visits.count o) c.in_ok-id.was (c.leaf_toward.ensures.goes keys s) in
     let few : c.leaf_toward.new.visits.count ≤ c.args.visits.now.count + length q = went.1 in
     let one : c.read.new.visits.count ≡ c.leaf_toward.new.visits.count + 1 = c.read.ensures.counted in
     omega arith
@@ -101,7 +101,7 @@ returns-else-eq-clause-counted g c =
     let q = c.args.query.now in
     let keys = keys_in kb S in
     let s = rooted keys nodes i.root (Some c.in_ok-root.root) c.self.invariant.sound.shape c.in_ok-root.was in
-    let went = subst (λ (o : Option ℕ). GoesTo keys q c.args.visits.now.count c.leaf_toward.new.visits.count o) c.in_ok-id.was (c.leaf_toward.ensures keys s) in
+    let went = subst (λ (o : Option ℕ). GoesTo keys q c.args.visits.now.count c.leaf_toward.new.visits.count o) c.in_ok-id.was (c.leaf_toward.ensures.goes keys s) in
     let few : c.leaf_toward.new.visits.count ≤ c.args.visits.now.count + length q = went.1 in
     let one : c.read.new.visits.count ≡ c.leaf_toward.new.visits.count + 1 = c.read.ensures.counted in
     omega arith
@@ -115,6 +115,6 @@ returns-else-eq-clause-found g c =
     let q = c.args.query.now in
     let keys = keys_in kb S in
     let s = rooted keys nodes i.root (Some c.in_ok-root.root) c.self.invariant.sound.shape c.in_ok-root.was in
-    let went = subst (λ (o : Option ℕ). GoesTo keys q c.args.visits.now.count c.leaf_toward.new.visits.count o) c.in_ok-id.was (c.leaf_toward.ensures keys s) in
+    let went = subst (λ (o : Option ℕ). GoesTo keys q c.args.visits.now.count c.leaf_toward.new.visits.count o) c.in_ok-id.was (c.leaf_toward.ensures.goes keys s) in
     let is : keys c.in_ok-id.id ≡ Some (kb c.read.result.0.now) = key_of_pair kb S c.in_ok-id.id (c.read.result.0.now, c.read.result.1.now) c.read.ensures.value in
     answers_none_at kb S c.self.invariant.sound.content c.law.ensures.distinct c.args.self.now.pairs (ap (λ t. t.pairs) c.self.view_is) q (only_absent keys nodes q c.in_ok-id.id went.0 (λ e. not_text (kb c.read.result.0.now) q (sym is ∙ e) (rw c.as_bytes.ensures at c.if-eq.ensures)))

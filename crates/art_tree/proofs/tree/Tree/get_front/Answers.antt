@@ -43,7 +43,7 @@ returns-in_err-id-clause-found g c =
     let q = c.args.query.now in
     let keys = keys_in kb S in
     let s = rooted keys nodes i.root (Some c.in_ok-root.root) c.self.invariant.sound.shape c.in_ok-root.was in
-    let went = subst (λ (o : Option ℕ). GoesTo keys q c.args.visits.now.count c.leaf_toward.new.visits.count o) c.in_err-id.was (c.leaf_toward.ensures keys s) in
+    let went = subst (λ (o : Option ℕ). GoesTo keys q c.args.visits.now.count c.leaf_toward.new.visits.count o) c.in_err-id.was (c.leaf_toward.ensures.goes keys s) in
     rw c.from_residual-in_err-id.ensures
     (answers_no_front kb S c.self.invariant.sound.content c.law.ensures.distinct c.args.self.now.pairs (ap (λ t. t.pairs) c.self.view_is) q went.0)
 
@@ -56,7 +56,7 @@ returns-in_err-id-clause-counted g c =
     let q = c.args.query.now in
     let keys = keys_in kb S in
     let s = rooted keys nodes i.root (Some c.in_ok-root.root) c.self.invariant.sound.shape c.in_ok-root.was in
-    let went = subst (λ (o : Option ℕ). GoesTo keys q c.args.visits.now.count c.leaf_toward.new.visits.count o) c.in_err-id.was (c.leaf_toward.ensures keys s) in
+    let went = subst (λ (o : Option ℕ). GoesTo keys q c.args.visits.now.count c.leaf_toward.new.visits.count o) c.in_err-id.was (c.leaf_toward.ensures.goes keys s) in
     went.1
 
 pub read-requires : goal.read-requires
@@ -68,7 +68,7 @@ read-requires g c =
     let q = c.args.query.now in
     let keys = keys_in kb S in
     let s = rooted keys nodes i.root (Some c.in_ok-root.root) c.self.invariant.sound.shape c.in_ok-root.was in
-    let went = subst (λ (o : Option ℕ). GoesTo keys q c.args.visits.now.count c.leaf_toward.new.visits.count o) c.in_ok-id.was (c.leaf_toward.ensures keys s) in
+    let went = subst (λ (o : Option ℕ). GoesTo keys q c.args.visits.now.count c.leaf_toward.new.visits.count o) c.in_ok-id.was (c.leaf_toward.ensures.goes keys s) in
     only_has kb S q c.in_ok-id.id went.0
 
 pub returns-then-begins-clause-found : goal.returns-then-begins-clause-found
@@ -90,7 +90,7 @@ returns-then-begins-clause-counted g c =
     let q = c.args.query.now in
     let keys = keys_in kb S in
     let s = rooted keys nodes i.root (Some c.in_ok-root.root) c.self.invariant.sound.shape c.in_ok-root.was in
-    let went = subst (λ (o : Option ℕ). GoesTo keys q c.args.visits.now.count c.leaf_toward.new.visits.count o) c.in_ok-id.was (c.leaf_toward.ensures keys s) in
+    let went = subst (λ (o : Option ℕ). GoesTo keys q c.args.visits.now.count c.leaf_toward.new.visits.count o) c.in_ok-id.was (c.leaf_toward.ensures.goes keys s) in
     let few : c.leaf_toward.new.visits.count ≤ c.args.visits.now.count + length q = went.1 in
     let one : c.read.new.visits.count ≡ c.leaf_toward.new.visits.count + 1 = c.read.ensures.counted in
     omega arith
@@ -104,7 +104,7 @@ returns-else-begins-clause-counted g c =
     let q = c.args.query.now in
     let keys = keys_in kb S in
     let s = rooted keys nodes i.root (Some c.in_ok-root.root) c.self.invariant.sound.shape c.in_ok-root.was in
-    let went = subst (λ (o : Option ℕ). GoesTo keys q c.args.visits.now.count c.leaf_toward.new.visits.count o) c.in_ok-id.was (c.leaf_toward.ensures keys s) in
+    let went = subst (λ (o : Option ℕ). GoesTo keys q c.args.visits.now.count c.leaf_toward.new.visits.count o) c.in_ok-id.was (c.leaf_toward.ensures.goes keys s) in
     let few : c.leaf_toward.new.visits.count ≤ c.args.visits.now.count + length q = went.1 in
     let one : c.read.new.visits.count ≡ c.leaf_toward.new.visits.count + 1 = c.read.ensures.counted in
     omega arith
@@ -118,6 +118,6 @@ returns-else-begins-clause-found g c =
     let q = c.args.query.now in
     let keys = keys_in kb S in
     let s = rooted keys nodes i.root (Some c.in_ok-root.root) c.self.invariant.sound.shape c.in_ok-root.was in
-    let went = subst (λ (o : Option ℕ). GoesTo keys q c.args.visits.now.count c.leaf_toward.new.visits.count o) c.in_ok-id.was (c.leaf_toward.ensures keys s) in
+    let went = subst (λ (o : Option ℕ). GoesTo keys q c.args.visits.now.count c.leaf_toward.new.visits.count o) c.in_ok-id.was (c.leaf_toward.ensures.goes keys s) in
     let is : keys c.in_ok-id.id ≡ Some (kb c.read.result.0.now) = key_of_pair kb S c.in_ok-id.id (c.read.result.0.now, c.read.result.1.now) c.read.ensures.value in
     answers_no_front kb S c.self.invariant.sound.content c.law.ensures.distinct c.args.self.now.pairs (ap (λ t. t.pairs) c.self.view_is) q (only_not keys nodes q c.in_ok-id.id went.0 (kb c.read.result.0.now) is (λ b. false≢true (sym c.if-begins.false ∙ c.begins.ensures ∙ ap (λ (k : Bytes). begins k q) c.as_bytes.ensures ∙ begins-from_Begins (kb c.read.result.0.now) q b)))

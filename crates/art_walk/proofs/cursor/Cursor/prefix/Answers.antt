@@ -1,7 +1,7 @@
 use Rattle.std.proofs.Common.{sym}
 use Rattle.art_tree.specs.Leaves.{bytes}
 use Rattle.blart_keys.specs.Content.{under}
-use Rattle.art_tree.proofs.Seeking.{no_pairs_between}
+use Rattle.art_tree.proofs.CallerLemmas.{no_pairs_between}
 use Rattle.art_walk.proofs.Steps.{cut_fits, cut_left, nothing_is}
 use Rattle.art_walk.proofs.Ranges.{under_cut}
 use Rattle.art_walk.proofs.cursor.Cursor.prefix.Goals as goal

@@ -2,7 +2,7 @@ use Rattle.std.proofs.Common.{true, false, sym, lit<}
 use Rattle.blart_keys.specs.Bounds.{bound_bytes}
 use Rattle.blart_keys.specs.Content.{between}
 use Rattle.art_tree.specs.Leaves.{bytes}
-use Rattle.art_tree.proofs.Seeking.{sought_has}
+use Rattle.art_tree.proofs.CallerLemmas.{sought_has}
 use Rattle.art_walk.proofs.Steps.{cut_fits, cut_left, nothing_is}
 use Rattle.art_walk.proofs.Ranges.{none_from, none_up, past_end, same_end, within_cut}
 use Rattle.art_walk.proofs.cursor.Cursor.range.Goals as goal

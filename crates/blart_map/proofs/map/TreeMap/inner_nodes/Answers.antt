@@ -9,4 +9,4 @@ pub returns : goal.returns
 returns g c =
     let kb = g.K.AsBytes.bytes in
     subst (λ S. c.inner_nodes.result ≡ set.len (fronts (bytes kb) S)) c.self.view_is
-    (c.inner_nodes.ensures ∙ ap (λ l. set.len l) (sym (fronts-map (λ p. p.1) (bytes kb) c.self.inside.tree.pairs)))
+    (c.inner_nodes.ensures.value ∙ ap (λ l. set.len l) (sym (fronts-map (λ p. p.1) (bytes kb) c.self.inside.tree.pairs)))

@@ -1,6 +1,6 @@
 use Rattle.std.proofs.Common.{◌∙◌, lit<, ap, sym, Err}
 use Rattle.std.proofs.lemmas.Bool.{false≢true}
-use Rattle.art_tree.proofs.Options.{is_some}
+use Rattle.blart_keys.proofs.Options.{is_some}
 use Rattle.art_tree.specs.Leaves.{leaf_in}
 use Rattle.blart_map.proofs.Inserting.{conflict_pairs, related_first, unrelated_point, lawful}
 use Rattle.blart_map.proofs.map.TreeMap.insert.Goals as goal

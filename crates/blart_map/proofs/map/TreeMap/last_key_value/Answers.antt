@@ -1,6 +1,6 @@
 use Rattle.std.proofs.Common.{◌≡◌, ◌∙◌, [], refl, ap, sym, lit<, length, slice_get, ◌-◌}
 use Rattle.art_tree.specs.Leaves.{without_number}
-use Rattle.art_tree.proofs.LeavesLemmas.{Has-last}
+use Rattle.art_tree.proofs.CallerLemmas.{Has-last}
 use Rattle.art_walk.specs.Pairs.{pairs_of}
 use Rattle.art_walk.proofs.Steps.{no_last}
 use Rattle.blart_map.proofs.Numbers.{last_pair, slice_get-last}

@@ -1,5 +1,5 @@
 use Rattle.std.proofs.Common.{◌≡◌, ◌∙◌, [], ap, sym, lit<}
-use Rattle.art_tree.proofs.LeavesLemmas.{Has-last}
+use Rattle.art_tree.proofs.CallerLemmas.{Has-last}
 use Rattle.art_walk.specs.Pairs.{pairs_of}
 use Rattle.art_walk.proofs.Steps.{no_last}
 use Rattle.blart_map.proofs.Numbers.{last_pair}
