@@ -1,2 +1,3 @@
 pub mod Cursor
 pub mod Pairs
+pub mod Openings

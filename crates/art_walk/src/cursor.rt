@@ -1,7 +1,8 @@
 //! A first and a last leaf that are still to come.
-ghost use Rattle.std.specs.Prelude.{◌≡◌, ◌≢◌, ◌+◌, [], option_map, MatchOption, IfSome, Some, None};
+ghost use Rattle.std.specs.Prelude.{◌≡◌, ◌≢◌, ◌+◌, [], option_map, is_some, IfSome, Some, None, if◌then◌else◌};
 ghost use Rattle.art_tree.specs.Leaves.{leaf_in, Has};
 ghost use Rattle.blart_keys.specs.Walks.{TakesFirst, TakesLast};
+ghost use Rattle.art_walk.specs.Pairs.{shown_leaf};
 ghost use Rattle.art_walk.specs.Cursor.{nothing_left, left_between, leaves_left, FitsIn, PassesFirst, PassesLast};
 
 use art_tree::{LeafId, Leaves, Tree, Visits};
@@ -84,9 +85,10 @@ impl Cursor {
     ) -> Option<(LeafId, &'a K, &'a V)>
         requires { FitsIn self.old leaves.now.pairs }
         ensures fits { FitsIn self.new leaves.now.pairs }
-        ensures takes { TakesFirst (leaves_left self.old leaves.now.pairs) (option_map (λ r. (r.0, (r.1.now, r.2.now))) result) (leaves_left self.new leaves.now.pairs) }
+        ensures takes { TakesFirst (leaves_left self.old leaves.now.pairs) (shown_leaf result)
+            (leaves_left self.new leaves.now.pairs) }
         ensures there { IfSome result (λ r. leaf_in leaves.now.pairs r.0 ≡ Some (r.1.now, r.2.now)) }
-        ensures counted { MatchOption result (visits.new.count ≡ visits.old.count) (λ _. visits.new.count ≡ visits.old.count + 1) }
+        ensures counted { visits.new.count ≡ visits.old.count + (if is_some result then 1 else 0) }
     {
         leaves.law();
         let Ends { first, last } = self.ends?;
@@ -103,9 +105,10 @@ impl Cursor {
     ) -> Option<(LeafId, &'a K, &'a V)>
         requires { FitsIn self.old leaves.now.pairs }
         ensures fits { FitsIn self.new leaves.now.pairs }
-        ensures takes { TakesLast (leaves_left self.old leaves.now.pairs) (option_map (λ r. (r.0, (r.1.now, r.2.now))) result) (leaves_left self.new leaves.now.pairs) }
+        ensures takes { TakesLast (leaves_left self.old leaves.now.pairs) (shown_leaf result)
+            (leaves_left self.new leaves.now.pairs) }
         ensures there { IfSome result (λ r. leaf_in leaves.now.pairs r.0 ≡ Some (r.1.now, r.2.now)) }
-        ensures counted { MatchOption result (visits.new.count ≡ visits.old.count) (λ _. visits.new.count ≡ visits.old.count + 1) }
+        ensures counted { visits.new.count ≡ visits.old.count + (if is_some result then 1 else 0) }
     {
         leaves.law();
         let Ends { first, last } = self.ends?;
@@ -124,7 +127,7 @@ impl Cursor {
         ensures fits { FitsIn self.new tree.now.pairs }
         ensures passes { PassesFirst (leaves_left self.old tree.now.pairs) result (leaves_left self.new tree.now.pairs) }
         ensures there { IfSome result (λ id. Has tree.now.pairs id) }
-        ensures counted { MatchOption result (visits.new.count ≡ visits.old.count) (λ _. visits.new.count ≡ visits.old.count + 1) }
+        ensures counted { visits.new.count ≡ visits.old.count + (if is_some result then 1 else 0) }
     {
         match self.next(tree.leaves(), visits) {
             Some(found) => Some(found.0),
@@ -142,7 +145,7 @@ impl Cursor {
         ensures fits { FitsIn self.new tree.now.pairs }
         ensures passes { PassesLast (leaves_left self.old tree.now.pairs) result (leaves_left self.new tree.now.pairs) }
         ensures there { IfSome result (λ id. Has tree.now.pairs id) }
-        ensures counted { MatchOption result (visits.new.count ≡ visits.old.count) (λ _. visits.new.count ≡ visits.old.count + 1) }
+        ensures counted { visits.new.count ≡ visits.old.count + (if is_some result then 1 else 0) }
     {
         match self.next_back(tree.leaves(), visits) {
             Some(found) => Some(found.0),

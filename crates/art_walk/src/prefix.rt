@@ -1,9 +1,10 @@
 //! The pairs that begin with some bytes.
-ghost use Rattle.std.specs.Prelude.{◌≡◌, ◌+◌, ◌*◌, ◌≤◌, [], length};
+ghost use Rattle.std.specs.Prelude.{◌≡◌, ◌+◌, ◌≤◌, [], length};
 ghost use Rattle.std.specs.Iterator.{YieldsFirstBy, YieldsLastBy, item_count};
 ghost use Rattle.blart_keys.specs.Content.{under};
 ghost use Rattle.art_tree.specs.Leaves.{bytes};
 ghost use Rattle.art_tree.specs.Longest.{longest};
+ghost use Rattle.art_walk.specs.Openings.{opening};
 ghost use Rattle.art_walk.specs.Pairs.{pairs_of};
 
 use crate::cursor::Cursor;
@@ -33,7 +34,9 @@ impl<'a, K: AsBytes + Drop, V: Drop, const PREFIX_LEN: usize> Prefix<'a, K, V, P
     /// On n bytes, where L is the length of the longest key, at most 2 * (n + 2) * (L + 2) visits, and none where the tree has no pairs.
     pub fn new(tree: &'a Tree<K, V, PREFIX_LEN>, front: &[u8], visits: &mut Visits) -> Self
         ensures value { result ≡ pairs_of (under (bytes K.bytes) tree.now.pairs front.now) }
-        ensures counted { visits.new.count ≤ visits.old.count + 2 * (length front.now + 2) * (longest (bytes K.bytes) tree.now.pairs + 2) }
+        ensures counted { visits.new.count ≤ visits.old.count
+            + opening (length front.now) (longest (bytes K.bytes) tree.now.pairs) }
+        ensures grows { visits.old.count ≤ visits.new.count }
         ensures empty { tree.now.pairs ≡ [] → visits.new.count ≡ visits.old.count }
     {
         let cursor = Cursor::prefix(tree, front, visits);

@@ -1,11 +1,11 @@
 //! The pairs within bounds.
-ghost use Rattle.std.specs.Prelude.{◌≡◌, ◌+◌, ◌*◌, ◌≤◌, ◌⊎◌, max, [], true};
+ghost use Rattle.std.specs.Prelude.{◌≡◌, ◌+◌, ◌≤◌, []};
 ghost use Rattle.std.specs.Iterator.{YieldsFirstBy, YieldsLastBy, item_count};
-ghost use Rattle.blart_keys.specs.Bounds.{bound_bytes, in_order};
+ghost use Rattle.blart_keys.specs.Bounds.{slice_bound, CanRange};
 ghost use Rattle.blart_keys.specs.Content.{between};
 ghost use Rattle.art_tree.specs.Leaves.{bytes};
 ghost use Rattle.art_tree.specs.Longest.{longest};
-ghost use Rattle.art_tree.specs.Seeks.{bound_len};
+ghost use Rattle.art_walk.specs.Openings.{longer, opening};
 ghost use Rattle.art_walk.specs.Pairs.{pairs_of};
 
 use crate::cursor::Cursor;
@@ -40,9 +40,12 @@ impl<'a, K: AsBytes + Drop, V: Drop, const PREFIX_LEN: usize> Range<'a, K, V, PR
         end: Bound<&[u8]>,
         visits: &mut Visits,
     ) -> Self
-        requires { (tree.now.pairs ≡ []) ⊎ (in_order (bound_bytes (λ b. b) start) (bound_bytes (λ b. b) end) ≡ true) }
-        ensures value { result ≡ pairs_of (between (bytes K.bytes) tree.now.pairs (bound_bytes (λ b. b) start.entry) (bound_bytes (λ b. b) end.entry)) }
-        ensures counted { visits.new.count ≤ visits.old.count + 2 * (max (bound_len (bound_bytes (λ b. b) start.entry)) (bound_len (bound_bytes (λ b. b) end.entry)) + 2) * (longest (bytes K.bytes) tree.now.pairs + 2) }
+        requires { CanRange tree.now.pairs (slice_bound start) (slice_bound end) }
+        ensures value { result
+            ≡ pairs_of (between (bytes K.bytes) tree.now.pairs (slice_bound start.entry) (slice_bound end.entry)) }
+        ensures counted { visits.new.count ≤ visits.old.count
+            + opening (longer (slice_bound start.entry) (slice_bound end.entry)) (longest (bytes K.bytes) tree.now.pairs) }
+        ensures grows { visits.old.count ≤ visits.new.count }
         ensures empty { tree.now.pairs ≡ [] → visits.new.count ≡ visits.old.count }
     {
         let cursor = Cursor::range(tree, start, end, visits);

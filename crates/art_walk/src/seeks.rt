@@ -1,16 +1,15 @@
 //! Cursors over what is within bounds, or begins with some bytes.
-ghost use Rattle.std.specs.Prelude.{◌≡◌, ◌+◌, ◌*◌, ◌≤◌, max, [], length};
-ghost use Rattle.blart_keys.specs.Bounds.{bound_bytes, is_up_to_end};
-ghost use Rattle.blart_keys.specs.Bytes.{less};
+ghost use Rattle.std.specs.Prelude.{◌≡◌, ◌+◌, ◌≤◌, [], length};
+ghost use Rattle.blart_keys.specs.Bounds.{slice_bound, is_up_to_end};
 ghost use Rattle.blart_keys.specs.Content.{between, under};
 ghost use Rattle.art_tree.specs.Leaves.{bytes};
 ghost use Rattle.art_tree.specs.Longest.{longest};
-ghost use Rattle.art_tree.specs.Seeks.{bound_len};
 ghost use Rattle.art_walk.specs.Cursor.{leaves_left, FitsIn};
+ghost use Rattle.art_walk.specs.Openings.{longer, opening};
 
 use crate::cursor::Cursor;
 use art_tree::{Tree, Visits};
-use blart_keys::AsBytes;
+use blart_keys::{AsBytes, is_less};
 use std::ops::Bound;
 
 impl Cursor {
@@ -24,8 +23,11 @@ impl Cursor {
         visits: &mut Visits,
     ) -> Cursor
         ensures fits { FitsIn result tree.now.pairs }
-        ensures left { leaves_left result tree.now.pairs ≡ between (bytes K.bytes) tree.now.pairs (bound_bytes (λ b. b) start.entry) (bound_bytes (λ b. b) end.entry) }
-        ensures counted { visits.new.count ≤ visits.old.count + 2 * (max (bound_len (bound_bytes (λ b. b) start.entry)) (bound_len (bound_bytes (λ b. b) end.entry)) + 2) * (longest (bytes K.bytes) tree.now.pairs + 2) }
+        ensures left { leaves_left result tree.now.pairs
+            ≡ between (bytes K.bytes) tree.now.pairs (slice_bound start.entry) (slice_bound end.entry) }
+        ensures counted { visits.new.count ≤ visits.old.count
+            + opening (longer (slice_bound start.entry) (slice_bound end.entry)) (longest (bytes K.bytes) tree.now.pairs) }
+        ensures grows { visits.old.count ≤ visits.new.count }
         ensures empty { tree.now.pairs ≡ [] → visits.new.count ≡ visits.old.count }
     {
         tree.law();
@@ -53,7 +55,9 @@ impl Cursor {
     ) -> Cursor
         ensures fits { FitsIn result tree.now.pairs }
         ensures left { leaves_left result tree.now.pairs ≡ under (bytes K.bytes) tree.now.pairs front.now }
-        ensures counted { visits.new.count ≤ visits.old.count + 2 * (length front.now + 2) * (longest (bytes K.bytes) tree.now.pairs + 2) }
+        ensures counted { visits.new.count ≤ visits.old.count
+            + opening (length front.now) (longest (bytes K.bytes) tree.now.pairs) }
+        ensures grows { visits.old.count ≤ visits.new.count }
         ensures empty { tree.now.pairs ≡ [] → visits.new.count ≡ visits.old.count }
     {
         tree.law();
@@ -66,18 +70,11 @@ impl Cursor {
 
 // Whether some bytes are within an end bound.
 fn is_within_end(bytes: &[u8], end: Bound<&[u8]>) -> bool
-    ensures { result ≡ is_up_to_end (bound_bytes (λ b. b) end.entry) bytes.now }
+    ensures { result ≡ is_up_to_end (slice_bound end.entry) bytes.now }
 {
     match end {
         Bound::Included(high) => !is_less(high, bytes),
         Bound::Excluded(high) => is_less(bytes, high),
         Bound::Unbounded => true,
     }
-}
-
-// Whether the first bytes are less.
-fn is_less(a: &[u8], b: &[u8]) -> bool
-    ensures { result ≡ less a.now b.now }
-{
-    a.cmp(&b).is_lt()
 }

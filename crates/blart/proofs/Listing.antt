@@ -95,7 +95,3 @@ pub replied_one : (result : Result (Unit {0}) RunError) (before after : Option (
 replied_one result before after mark old line waited waiting new command text is meets sent =
     replied result before after mark old line waited waiting new command (text ∷ []) is meets
     (subst (λ o. IsSent result before after mark (waited ++ o) waiting) (sym (append-nil (ended text))) sent)
-
--- a part of what the map holds can be counted if that can
-pub part_fits : (S walk : Stored) (p : Vec ℕ Global × ℕ → Bool) → walk ≡ filter p S → length S < 2 ^ 64 → length walk ≤ 2 ^ 64 - 1
-part_fits S walk p is fits = omega (arith, ap length is, length-filter p S, count_by-le-length p S, fits)

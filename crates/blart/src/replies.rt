@@ -184,7 +184,6 @@ fn write_list<W: Write>(
     ensures { IsSent result (W.contents (watched_inner writer.old)) (W.contents (watched_inner writer.new))
         (watched_failed writer.new) (outbox.old ++ flat_map ended (listing (pairs_of map.now))) outbox.new }
 {
-    count_fits(map);
     write_listing(map.iter(), outbox, writer)
 }
 
@@ -203,10 +202,7 @@ fn write_prefix<W: Write>(
         (watched_failed writer.new) (outbox.old ++ flat_map ended lines) outbox.new }
 {
     match decode_key(alloc, word) {
-        Some(key) => {
-            count_fits(map);
-            write_listing(map.prefix(&key), outbox, writer)
-        }
+        Some(key) => { write_listing(map.prefix(&key), outbox, writer) }
         None => write_answer(Answer::RefusedMemory, outbox, writer),
     }
 }
@@ -255,7 +251,6 @@ fn write_between<W: Write>(
     if !is_range(map, low, high) {
         return write_answer(Answer::RefusedBounds, outbox, writer);
     }
-    count_fits(map);
     let walk = map.range(Bound::Included(low), Bound::Excluded(high));
     write_listing(walk, outbox, writer)
 }
@@ -265,13 +260,6 @@ fn is_range(map: &Pairs, low: &Vec<u8>, high: &Vec<u8>) -> bool
     ensures { result ≡ ((length map.now == 0) || in_order (Included low.now.items) (Excluded high.now.items)) }
 {
     map.is_empty() || bounds_in_order(Bound::Included(low), Bound::Excluded(high))
-}
-
-// Answers nothing. Its contract says that no count of a map's pairs is too large.
-fn count_fits(map: &Pairs)
-    ensures { length map.now < 2 ^ 64 }
-{
-    let _count = map.len();
 }
 
 // Writes a line a pair of the walk, and how many there are.

@@ -7,6 +7,8 @@ pub mod PutLemmas
 pub mod FrontSizes
 pub mod StepLemmas
 pub mod Mapped
+pub mod StoredLemmas
+pub mod WalkLemmas
 pub mod MergeLemmas
 pub mod PartsOfContents
 pub mod NumberKeys

@@ -1,5 +1,5 @@
 -- Bounds on byte lists.
-use Rattle.std.specs.Prelude.{ℕ, Bool, true, not, List}
+use Rattle.std.specs.Prelude.{◌≡◌, ◌⊎◌, ℕ, Bool, true, not, List, []}
 use Rattle.std.specs.declared.ops.Bound.{Bound}
 use Rattle.std.specs.declared.ops.Bound.TheVariants.{Included, Excluded, Unbounded}
 use denote.Ref.{Bor}
@@ -27,8 +27,16 @@ in_order (Excluded lo) (Excluded hi) = less lo hi
 in_order (Excluded lo) Unbounded = true
 in_order Unbounded hi = true
 
+-- there are no items, or the bounds are in order
+abbrev pub CanRange : {X : Type 0} → List X → Bound (List ℕ) → Bound (List ℕ) → Type 0
+CanRange S lo hi = (S ≡ []) ⊎ (in_order lo hi ≡ true)
+
 -- the bytes of the query of a bound
 abbrev pub bound_bytes : {Q : Type 0} → (Q → List ℕ) → Bound (Bor Q) → Bound (List ℕ)
 bound_bytes bytes (Included q) = Included (bytes q.now)
 bound_bytes bytes (Excluded q) = Excluded (bytes q.now)
 bound_bytes bytes Unbounded = Unbounded
+
+-- a bound of bytes, by the bytes themselves
+abbrev pub slice_bound : Bound (Bor (List ℕ)) → Bound (List ℕ)
+slice_bound b = bound_bytes (λ q. q) b

@@ -7,6 +7,7 @@ pub mod Walks
 pub mod Entries
 pub mod Bulk
 pub mod Steps
+pub mod Stored
 pub mod Keys
 pub mod KeyLaws
 pub mod NumberLaws

@@ -14,6 +14,10 @@ abbrev pub TakesLast : {X : Type 0} → List X → Option X → List X → Type 
 TakesLast old None new = (old ≡ []) × (new ≡ [])
 TakesLast old (Some x) new = old ≡ new ++ x ∷ []
 
+-- of the whole these came at the front, these at the back, one after the other, and the rest is still to come
+abbrev pub Walked : {X : Type 0} → List X → List X → List X → List X → Type 0
+Walked whole fronts backs rest = whole ≡ fronts ++ (rest ++ reverse backs)
+
 -- `R f x b y g`: in the state f, asked of x, a closure may answer b, leave y in x's place and be in the state g
 module _ {F X : Type 0} (R : F → X → Bool → X → F → Type 0) where
   -- The closure, in state f before the first item and g after the last, was asked of each item once, in order. It gave these answers and left these items

@@ -4,6 +4,7 @@ ghost use Rattle.std.specs.Prelude.{◌≡◌, ◌∷◌, [], ◌<◌, length, r
 ghost use Rattle.std.specs.Box.{boxed_slice_items};
 ghost use Rattle.std.proofs.Common.{sym, ◌∙◌};
 ghost use Rattle.std.proofs.lemmas.Slice.Eq.{bytes_eq-Decides};
+ghost use Rattle.blart_keys.specs.Bytes.{less};
 ghost use Rattle.blart_keys.specs.Keys.{AreBytes};
 ghost use Rattle.blart_keys.specs.KeyLaws.{begins_same_length, one_byte_cmp, one_byte_eq};
 
@@ -16,6 +17,13 @@ pub(crate) fn same_bytes(bytes: &[u8]) -> &[u8]
     ensures bytes { AreBytes result.now }
 {
     bytes
+}
+
+/// Whether the first bytes are less: at the first place where they differ its byte is less, or they begin the others.
+pub fn is_less(a: &[u8], b: &[u8]) -> bool
+    ensures { result ≡ less a.now b.now }
+{
+    a.cmp(&b).is_lt()
 }
 
 impl AsBytes for u8 {

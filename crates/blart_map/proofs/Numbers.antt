@@ -15,6 +15,10 @@ use Rattle.art_walk.specs.Pairs.{pairs_of}
 use Rattle.blart_keys.proofs.Mapped.{find-map, content_map}
 
 module _ {K V : Type 0} where
+  -- a map's pairs are a content, as those of its tree
+  pub whole_pairs : (kb : K → List ℕ) (ps : List (Numbered K V)) (S : List (K × V)) → pairs_of ps ≡ S → IsContent (bytes kb) ps → IsContent (pair_bytes kb) S
+  whole_pairs kb ps S view content = subst (IsContent (pair_bytes kb)) view (content_map (λ p. p.1) (pair_bytes kb) ps content)
+
   -- no pairs, no numbered pairs
   pub no_pairs : (ps : List (Numbered K V)) → pairs_of ps ≡ [] → ps ≡ []
   no_pairs [] e = refl

@@ -1,4 +1,3 @@
 pub mod Driven
-pub mod Inserts
 pub mod Spans
 pub mod Written

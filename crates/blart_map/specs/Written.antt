@@ -1,24 +1,24 @@
 -- What a map ends as, where a `&mut` to one of its values is returned.
-use Rattle.std.specs.Prelude.{ℕ, List, map, Option, bytes_eq, if◌then◌else◌}
-use Rattle.std.specs.Borrow.{LendsIf, Fml, RattleType, MutBor}
-use Rattle.blart_keys.specs.Bytes.{begins}
+use Rattle.std.specs.Prelude.{◌≡◌, ℕ, List, Option}
+use Rattle.std.specs.Borrow.{LendsSo, Fml, RattleType, MutBor}
 use Rattle.blart_keys.specs.declared.AsBytes.{Ghosts}
+use Rattle.blart_keys.specs.Stored.{written_at, written_at_front, WritesAt, WritesBefore}
 use Rattle.blart_map.specs.contracts.map.TreeMap as tree_map
 
-module _ {K V : Type 0} (key_bytes : K → List ℕ) where
-  -- the pairs, with this value at the bytes q
-  abbrev pub written_at : List (K × V) → List ℕ → V → List (K × V)
-  written_at S q v = map (λ p. if bytes_eq (key_bytes p.0) q then (p.0, v) else p) S
+module _ {K V : Type 0} (key_bytes : K → List ℕ) (S : List (K × V)) (q : List ℕ) (v : V) (S' : List (K × V)) where
+  -- S' is S with this value at the bytes q, as a list and as its users see it
+  abbrev pub IsWrittenAt : Type 0
+  IsWrittenAt = (S' ≡ written_at key_bytes S q v) × WritesAt key_bytes S q v S'
 
-  -- the pairs, with this value where the bytes begin q
-  abbrev pub written_at_front : List (K × V) → List ℕ → V → List (K × V)
-  written_at_front S q v = map (λ p. if begins (key_bytes p.0) q then (p.0, v) else p) S
+  -- S' is S with this value where the bytes begin q, as a list and as its users see it
+  abbrev pub IsWrittenBefore : Type 0
+  IsWrittenBefore = (S' ≡ written_at_front key_bytes S q v) × WritesBefore key_bytes S q v S'
 
 module _ (K V P : RattleType) (g : Ghosts K.Denot) where
   -- once the borrow r ends, the pair with the bytes q has the last value written through r
   abbrev pub lends_at : MutBor (List (K.Denot × V.Denot)) → List ℕ → Option (MutBor V.Denot) → Fml
-  lends_at s q r = LendsIf (tree_map.the_row K V P g) V s r (λ v. written_at g.bytes s.now q v) s.now
+  lends_at s q r = LendsSo (tree_map.the_row K V P g) V s r (λ n v. IsWrittenAt g.bytes s.now q v n) (λ n. n ≡ s.now)
 
   -- once the borrow r ends, the pair whose bytes begin q has the last value written through r
   abbrev pub lends_at_front : MutBor (List (K.Denot × V.Denot)) → List ℕ → Option (MutBor V.Denot) → Fml
-  lends_at_front s q r = LendsIf (tree_map.the_row K V P g) V s r (λ v. written_at_front g.bytes s.now q v) s.now
+  lends_at_front s q r = LendsSo (tree_map.the_row K V P g) V s r (λ n v. IsWrittenBefore g.bytes s.now q v n) (λ n. n ≡ s.now)

@@ -1,12 +1,11 @@
 //! Calls as values, and bounds.
-ghost use Rattle.std.specs.Prelude.{◌≡◌};
+ghost use Rattle.std.specs.Prelude.{◌≡◌, ◌≢◌, [], OnErr};
 ghost use Rattle.blart_keys.specs.Bounds.{in_order, bound_bytes};
-ghost use Rattle.blart_keys.specs.Bytes.{less};
 ghost use Rattle.blart_keys.specs.Steps.{Step};
 ghost use Rattle.blart_map.specs.Driven.{Driven};
 
 use crate::map::TreeMap;
-use blart_keys::{AsBytes, Call, Reply};
+use blart_keys::{AsBytes, Call, Reply, is_less};
 use std::alloc::AllocError;
 use std::ops::Bound;
 
@@ -29,16 +28,9 @@ pub fn bounds_in_order<Q: AsBytes>(start: Bound<&Q>, end: Bound<&Q>) -> bool
     }
 }
 
-// Whether the first bytes are less.
-fn is_less(a: &[u8], b: &[u8]) -> bool
-    ensures { result ≡ less a.now b.now }
-{
-    a.cmp(&b).is_lt()
-}
-
 /// Makes the calls in turn, and gives one reply for each. It goes on after a refused call.
 ///
-/// It takes the memory for the replies first, and where that is refused makes no call.
+/// It takes the memory for the replies first, and where that is refused makes no call. No calls take no memory.
 ///
 /// ```
 /// let calls = vec![in alloc; Call::TryInsert("ab", 1), Call::TryInsert("a", 2), Call::PopFirst]?;
@@ -51,7 +43,8 @@ pub fn drive<K: AsBytes + Drop, V: Drop, const PREFIX_LEN: usize>(
     map: &mut TreeMap<K, V, PREFIX_LEN>,
     calls: Vec<Call<K, V>>,
 ) -> Result<Vec<Reply<K, V>>, AllocError>
-    ensures { Driven K.bytes map.old calls.items result map.new }
+    ensures replies { Driven K.bytes map.old calls.items result map.new }
+    ensures refused { OnErr result (calls.items ≢ []) }
 {
     let mut replies = Vec::with_capacity(*calls.allocator(), calls.len())?;
     'calls: for call in calls {

@@ -1,7 +1,8 @@
 //! Removals, and values to be written.
-ghost use Rattle.std.specs.Prelude.{◌≡◌, [], option_map};
+ghost use Rattle.std.specs.Prelude.{◌≡◌, ◌+◌, [], length, option_map, is_some, IfSome, None, if◌then◌else◌};
 ghost use Rattle.blart_keys.specs.Content.{at, without};
 ghost use Rattle.blart_keys.specs.Steps.{bytes};
+ghost use Rattle.blart_keys.specs.Stored.{pair_at, value_at, Updates, TakesPair, HasNothing};
 ghost use Rattle.blart_keys.specs.Walks.{TakesFirst, TakesLast};
 
 use crate::map::TreeMap;
@@ -13,6 +14,10 @@ impl<K: AsBytes + Drop, V: Drop, const PREFIX_LEN: usize> TreeMap<K, V, PREFIX_L
     pub fn remove_entry<Q: AsBytes>(&mut self, query: &Q) -> Option<(K, V)>
         ensures removed { result ≡ at (bytes K.bytes) self.old (Q.bytes query.now) }
         ensures rest { self.new ≡ without (bytes K.bytes) self.old (Q.bytes query.now) }
+        ensures stored { result ≡ pair_at K.bytes self.old (Q.bytes query.now) }
+        ensures updates { Updates K.bytes self.old self.new (Q.bytes query.now) None }
+        ensures len { length self.new + (if is_some result then 1 else 0) ≡ length self.old }
+        ensures found { IfSome result (λ pair. K.bytes pair.0 ≡ Q.bytes query.now) }
     {
         self.tree.law();
         let id = self.tree.search(query.as_bytes(), &mut Visits::new())?;
@@ -29,6 +34,9 @@ impl<K: AsBytes + Drop, V: Drop, const PREFIX_LEN: usize> TreeMap<K, V, PREFIX_L
     pub fn remove<Q: AsBytes>(&mut self, query: &Q) -> Option<V>
         ensures removed { result ≡ option_map (λ pair. pair.1) (at (bytes K.bytes) self.old (Q.bytes query.now)) }
         ensures rest { self.new ≡ without (bytes K.bytes) self.old (Q.bytes query.now) }
+        ensures stored { result ≡ value_at K.bytes self.old (Q.bytes query.now) }
+        ensures updates { Updates K.bytes self.old self.new (Q.bytes query.now) None }
+        ensures len { length self.new + (if is_some result then 1 else 0) ≡ length self.old }
     {
         match self.remove_entry(query) {
             Some(pair) => Some(pair.1),
@@ -38,7 +46,9 @@ impl<K: AsBytes + Drop, V: Drop, const PREFIX_LEN: usize> TreeMap<K, V, PREFIX_L
 
     /// Removes the pair whose key's bytes are least, and gives it. Takes no memory.
     pub fn pop_first(&mut self) -> Option<(K, V)>
-        ensures { TakesFirst self.old result self.new }
+        ensures first { TakesFirst self.old result self.new }
+        ensures taken { IfSome result (λ pair. TakesPair K.bytes self.old pair self.new) }
+        ensures len { length self.new + (if is_some result then 1 else 0) ≡ length self.old }
     {
         self.tree.law();
         let id = self.tree.first()?;
@@ -47,7 +57,9 @@ impl<K: AsBytes + Drop, V: Drop, const PREFIX_LEN: usize> TreeMap<K, V, PREFIX_L
 
     /// Removes the pair whose key's bytes are greatest, and gives it. Takes no memory.
     pub fn pop_last(&mut self) -> Option<(K, V)>
-        ensures { TakesLast self.old result self.new }
+        ensures last { TakesLast self.old result self.new }
+        ensures taken { IfSome result (λ pair. TakesPair K.bytes self.old pair self.new) }
+        ensures len { length self.new + (if is_some result then 1 else 0) ≡ length self.old }
     {
         self.tree.law();
         let id = self.tree.last()?;
@@ -56,7 +68,8 @@ impl<K: AsBytes + Drop, V: Drop, const PREFIX_LEN: usize> TreeMap<K, V, PREFIX_L
 
     /// Drops every pair. Takes no memory.
     pub fn clear(&mut self)
-        ensures { self.new ≡ [] }
+        ensures empty { self.new ≡ [] }
+        ensures nothing { HasNothing K.bytes self.new }
     {
         self.tree.clear();
     }

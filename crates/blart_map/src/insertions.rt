@@ -1,8 +1,9 @@
 //! Insertions.
-ghost use Rattle.std.specs.Prelude.{option_map};
-ghost use Rattle.blart_keys.specs.Steps.{Puts};
+ghost use Rattle.std.specs.Prelude.{◌≡◌, ◌+◌, ℕ, List, true, false, length, option_map, is_some, OnOk, IfOk, OnErr, IfErr, Some, if◌then◌else◌};
+ghost use Rattle.blart_keys.specs.Bytes.{begins};
+ghost use Rattle.blart_keys.specs.Steps.{Puts, Inserts};
+ghost use Rattle.blart_keys.specs.Stored.{pair_at, pair_before, value_at, has, overlaps, Updates, Refuses};
 ghost use Rattle.art_tree.specs.Points.{IsGood};
-ghost use Rattle.blart_map.specs.Inserts.{Inserts};
 ghost use Rattle.art_walk.specs.Pairs.{pairs_of};
 
 use crate::map::TreeMap;
@@ -22,7 +23,15 @@ impl<K: AsBytes + Drop, V: Drop, const PREFIX_LEN: usize> TreeMap<K, V, PREFIX_L
     /// assert_eq!(map.get(&"cat"), Some(&2));
     /// ```
     pub fn try_insert(&mut self, key: K, value: V) -> Result<Option<V>, TryInsertError>
-        ensures { Puts K.bytes (option_map (λ pair. pair.1)) self.old (key, value) result self.new }
+        ensures put { Puts K.bytes (option_map (λ pair. pair.1)) self.old (key, value) result self.new }
+        ensures old { IfOk result (λ old. old ≡ value_at K.bytes self.old (K.bytes key)) }
+        ensures updates { OnOk result (Updates K.bytes self.old self.new (K.bytes key) (Some (key, value))) }
+        ensures len { IfOk result (λ old. length self.new ≡ length self.old + (if is_some old then 0 else 1)) }
+        ensures fronts { OnOk result ((r : List ℕ) → begins (K.bytes key) r ≡ true
+            → pair_before K.bytes self.new r ≡ Some (key, value)) }
+        ensures err { OnErr result (self.new ≡ self.old) }
+        ensures free { OnOk result (overlaps K.bytes self.old (K.bytes key) ≡ false) }
+        ensures why { IfErr result (Refuses K.bytes self.old (K.bytes key)) }
     {
         match self.replace_entry(key, value) {
             Ok(Some(old)) => Ok(Some(old.1)),
@@ -33,8 +42,17 @@ impl<K: AsBytes + Drop, V: Drop, const PREFIX_LEN: usize> TreeMap<K, V, PREFIX_L
 
     /// Puts the pair in the place of one with the same bytes, which is the answer, or adds it. Errors are as those of [`TreeMap::try_insert`].
     pub fn replace_entry(&mut self, key: K, value: V) -> Result<Option<(K, V)>, TryInsertError>
-        ensures { Puts K.bytes (λ pair. pair) self.old (key, value) result self.new }
+        ensures put { Puts K.bytes (λ pair. pair) self.old (key, value) result self.new }
+        ensures old { IfOk result (λ old. old ≡ pair_at K.bytes self.old (K.bytes key)) }
+        ensures updates { OnOk result (Updates K.bytes self.old self.new (K.bytes key) (Some (key, value))) }
+        ensures len { IfOk result (λ old. length self.new ≡ length self.old + (if is_some old then 0 else 1)) }
+        ensures fronts { OnOk result ((r : List ℕ) → begins (K.bytes key) r ≡ true
+            → pair_before K.bytes self.new r ≡ Some (key, value)) }
+        ensures err { OnErr result (self.new ≡ self.old) }
+        ensures free { OnOk result (overlaps K.bytes self.old (K.bytes key) ≡ false) }
+        ensures why { IfErr result (Refuses K.bytes self.old (K.bytes key)) }
     {
+        self.law();
         let point = self.tree.point(key.as_bytes());
         put_at(&mut self.tree, point, key, value)
     }
@@ -50,23 +68,42 @@ impl<K: NoPrefixesBytes + Drop, V: Drop, const PREFIX_LEN: usize> TreeMap<K, V, 
     /// assert_eq!(map.insert(U32Key::new(258), 'b')?, Some('a'));
     /// ```
     pub fn insert(&mut self, key: K, value: V) -> Result<Option<V>, AllocError>
-        ensures { Inserts K.bytes self.old (key, value) result self.new }
+        ensures put { Inserts K.bytes self.old (key, value) result self.new }
+        ensures old { IfOk result (λ old. old ≡ value_at K.bytes self.old (K.bytes key)) }
+        ensures updates { OnOk result (Updates K.bytes self.old self.new (K.bytes key) (Some (key, value))) }
+        ensures len { IfOk result (λ old. length self.new ≡ length self.old + (if is_some old then 0 else 1)) }
+        ensures fronts { OnOk result ((r : List ℕ) → begins (K.bytes key) r ≡ true
+            → pair_before K.bytes self.new r ≡ Some (key, value)) }
+        ensures err { OnErr result (self.new ≡ self.old) }
+        ensures absent { OnErr result (has K.bytes self.old (K.bytes key) ≡ false) }
     {
-        self.tree.law();
-        match self.tree.point(key.as_bytes()) {
-            Point::Related { first, .. } => {
-                let (other, _) = self.tree.leaf(first, &mut Visits::new());
-                other.value_law();
-                key.value_law();
-                unreachable!()
-            }
-            point => match put_at(&mut self.tree, point, key, value) {
-                Ok(Some(old)) => Ok(Some(old.1)),
-                Ok(None) => Ok(None),
-                Err(TryInsertError::Memory(refused)) => Err(refused),
-                Err(TryInsertError::Prefix(_)) => unreachable!(),
-            },
+        self.law();
+        put_lawful(&mut self.tree, key, value)
+    }
+}
+
+// Puts the pair, whose key has no conflict.
+fn put_lawful<K: NoPrefixesBytes + Drop, V: Drop, const P: usize>(
+    tree: &mut Tree<K, V, P>,
+    key: K,
+    value: V,
+) -> Result<Option<V>, AllocError>
+    ensures { Inserts K.bytes (pairs_of tree.old.pairs) (key, value) result (pairs_of tree.new.pairs) }
+{
+    tree.law();
+    match tree.point(key.as_bytes()) {
+        Point::Related { first, .. } => {
+            let (other, _) = tree.leaf(first, &mut Visits::new());
+            other.value_law();
+            key.value_law();
+            unreachable!()
         }
+        point => match put_at(tree, point, key, value) {
+            Ok(Some(old)) => Ok(Some(old.1)),
+            Ok(None) => Ok(None),
+            Err(TryInsertError::Memory(refused)) => Err(refused),
+            Err(TryInsertError::Prefix(_)) => unreachable!(),
+        },
     }
 }
 

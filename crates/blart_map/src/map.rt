@@ -1,11 +1,13 @@
 //! The map, and what can be asked of it.
-ghost use Rattle.std.specs.Prelude.{◌≡◌, ◌==◌, ◌+◌, ◌-◌, ◌≤◌, ℕ, [], length, slice_get, option_map, option_copied};
+ghost use Rattle.std.specs.Prelude.{◌≡◌, ◌==◌, ◌+◌, ◌-◌, ◌≤◌, ℕ, [], true, length, slice_get, option_map, option_copied, IfSome, Some};
 ghost use Rattle.std.specs.FinSet as set;
+ghost use Rattle.blart_keys.specs.Bytes.{begins};
 ghost use Rattle.blart_keys.specs.Steps.{bytes};
-ghost use Rattle.blart_keys.specs.Content.{at, front_of, stores, IsContent};
+ghost use Rattle.blart_keys.specs.Content.{at, conflict, front_of, stores, IsContent};
+ghost use Rattle.blart_keys.specs.Stored.{pair_at, pair_before, value_at, value_before, has, overlaps, shown, CanCount, HasNothing};
 ghost use Rattle.blart_keys.specs.Fronts.{fronts};
 
-use art_tree::{DEFAULT_PREFIX_LEN, Tree, Visits};
+use art_tree::{DEFAULT_PREFIX_LEN, Point, Tree, Visits};
 use blart_keys::AsBytes;
 use std::alloc::Global;
 use std::marker::Model;
@@ -41,7 +43,8 @@ impl<K: AsBytes, V, const PREFIX_LEN: usize> Model for TreeMap<K, V, PREFIX_LEN>
 impl<K: AsBytes + Drop, V: Drop> TreeMap<K, V, DEFAULT_PREFIX_LEN> {
     /// A map with no pairs, of which an inner node keeps 16 bytes of its compressed prefix. Takes no memory.
     pub fn new(alloc: Global) -> Self
-        ensures { result ≡ [] }
+        ensures empty { result ≡ [] }
+        ensures nothing { HasNothing K.bytes result }
     {
         Self::with_prefix_len(alloc)
     }
@@ -50,18 +53,21 @@ impl<K: AsBytes + Drop, V: Drop> TreeMap<K, V, DEFAULT_PREFIX_LEN> {
 impl<K: AsBytes + Drop, V: Drop, const PREFIX_LEN: usize> TreeMap<K, V, PREFIX_LEN> {
     /// A map with no pairs. Takes no memory.
     pub fn with_prefix_len(alloc: Global) -> Self
-        ensures { result ≡ [] }
+        ensures empty { result ≡ [] }
+        ensures nothing { HasNothing K.bytes result }
     {
         TreeMap {
             tree: Tree::new(alloc),
         }
     }
 
-    /// Answers nothing. Its contract says what holds of every map: the pairs ascend by their keys' bytes, none of which begins another's.
+    /// Answers nothing. Its contract says what holds of every map: the pairs ascend by their keys' bytes, none of which begins another's, and a count of them fits.
     pub fn law(&self)
-        ensures { IsContent (bytes K.bytes) self.now }
+        ensures content { IsContent (bytes K.bytes) self.now }
+        ensures fits { CanCount self.now }
     {
-        self.tree.law()
+        self.tree.law();
+        let _fits = self.len();
     }
 
     /// How many pairs there are.
@@ -84,8 +90,11 @@ impl<K: AsBytes + Drop, V: Drop, const PREFIX_LEN: usize> TreeMap<K, V, PREFIX_L
         query: &Q,
         visits: &mut Visits,
     ) -> Option<(&K, &V)>
-        ensures value { option_map (λ pair. (pair.0.now, pair.1.now)) result ≡ at (bytes K.bytes) self.now (Q.bytes query.now) }
+        ensures value { shown result ≡ at (bytes K.bytes) self.now (Q.bytes query.now) }
+        ensures pair { shown result ≡ pair_at K.bytes self.now (Q.bytes query.now) }
+        ensures found { IfSome result (λ pair. K.bytes pair.0.now ≡ Q.bytes query.now) }
         ensures counted { visits.new.count ≤ visits.old.count + length (Q.bytes query.now) + 1 }
+        ensures grows { visits.old.count ≤ visits.new.count }
         ensures empty { self.now ≡ [] → visits.new.count ≡ visits.old.count }
     {
         match self.tree.get(query.as_bytes(), visits) {
@@ -96,7 +105,9 @@ impl<K: AsBytes + Drop, V: Drop, const PREFIX_LEN: usize> TreeMap<K, V, PREFIX_L
 
     /// The pair with the query's bytes.
     pub fn get_key_value<Q: AsBytes>(&self, query: &Q) -> Option<(&K, &V)>
-        ensures { option_map (λ pair. (pair.0.now, pair.1.now)) result ≡ at (bytes K.bytes) self.now (Q.bytes query.now) }
+        ensures value { shown result ≡ at (bytes K.bytes) self.now (Q.bytes query.now) }
+        ensures pair { shown result ≡ pair_at K.bytes self.now (Q.bytes query.now) }
+        ensures found { IfSome result (λ pair. K.bytes pair.0.now ≡ Q.bytes query.now) }
     {
         self.get_key_value_counted(query, &mut Visits::new())
     }
@@ -110,7 +121,9 @@ impl<K: AsBytes + Drop, V: Drop, const PREFIX_LEN: usize> TreeMap<K, V, PREFIX_L
     /// assert_eq!(map.get(&"cats"), None);
     /// ```
     pub fn get<Q: AsBytes>(&self, query: &Q) -> Option<&V>
-        ensures { option_copied result ≡ option_map (λ pair. pair.1) (at (bytes K.bytes) self.now (Q.bytes query.now)) }
+        ensures value { option_copied result
+            ≡ option_map (λ pair. pair.1) (at (bytes K.bytes) self.now (Q.bytes query.now)) }
+        ensures stored { option_copied result ≡ value_at K.bytes self.now (Q.bytes query.now) }
     {
         match self.get_key_value(query) {
             Some(pair) => Some(pair.1),
@@ -120,7 +133,8 @@ impl<K: AsBytes + Drop, V: Drop, const PREFIX_LEN: usize> TreeMap<K, V, PREFIX_L
 
     /// Whether some key has the query's bytes.
     pub fn contains_key<Q: AsBytes>(&self, query: &Q) -> bool
-        ensures { result ≡ stores (bytes K.bytes) self.now (Q.bytes query.now) }
+        ensures value { result ≡ stores (bytes K.bytes) self.now (Q.bytes query.now) }
+        ensures stored { result ≡ has K.bytes self.now (Q.bytes query.now) }
     {
         self.get_key_value(query).is_some()
     }
@@ -131,8 +145,11 @@ impl<K: AsBytes + Drop, V: Drop, const PREFIX_LEN: usize> TreeMap<K, V, PREFIX_L
         query: &Q,
         visits: &mut Visits,
     ) -> Option<(&K, &V)>
-        ensures value { option_map (λ pair. (pair.0.now, pair.1.now)) result ≡ front_of (bytes K.bytes) self.now (Q.bytes query.now) }
+        ensures value { shown result ≡ front_of (bytes K.bytes) self.now (Q.bytes query.now) }
+        ensures pair { shown result ≡ pair_before K.bytes self.now (Q.bytes query.now) }
+        ensures found { IfSome result (λ pair. begins (K.bytes pair.0.now) (Q.bytes query.now) ≡ true) }
         ensures counted { visits.new.count ≤ visits.old.count + length (Q.bytes query.now) + 1 }
+        ensures grows { visits.old.count ≤ visits.new.count }
         ensures empty { self.now ≡ [] → visits.new.count ≡ visits.old.count }
     {
         match self.tree.get_front(query.as_bytes(), visits) {
@@ -143,7 +160,9 @@ impl<K: AsBytes + Drop, V: Drop, const PREFIX_LEN: usize> TreeMap<K, V, PREFIX_L
 
     /// The pair whose key's bytes begin the query's.
     pub fn prefix_get_key_value<Q: AsBytes>(&self, query: &Q) -> Option<(&K, &V)>
-        ensures { option_map (λ pair. (pair.0.now, pair.1.now)) result ≡ front_of (bytes K.bytes) self.now (Q.bytes query.now) }
+        ensures value { shown result ≡ front_of (bytes K.bytes) self.now (Q.bytes query.now) }
+        ensures pair { shown result ≡ pair_before K.bytes self.now (Q.bytes query.now) }
+        ensures found { IfSome result (λ pair. begins (K.bytes pair.0.now) (Q.bytes query.now) ≡ true) }
     {
         self.prefix_get_key_value_counted(query, &mut Visits::new())
     }
@@ -156,7 +175,9 @@ impl<K: AsBytes + Drop, V: Drop, const PREFIX_LEN: usize> TreeMap<K, V, PREFIX_L
     /// assert_eq!(map.prefix_get(&"/stat"), None);
     /// ```
     pub fn prefix_get<Q: AsBytes>(&self, query: &Q) -> Option<&V>
-        ensures { option_copied result ≡ option_map (λ pair. pair.1) (front_of (bytes K.bytes) self.now (Q.bytes query.now)) }
+        ensures value { option_copied result
+            ≡ option_map (λ pair. pair.1) (front_of (bytes K.bytes) self.now (Q.bytes query.now)) }
+        ensures stored { option_copied result ≡ value_before K.bytes self.now (Q.bytes query.now) }
     {
         match self.prefix_get_key_value(query) {
             Some(pair) => Some(pair.1),
@@ -166,7 +187,8 @@ impl<K: AsBytes + Drop, V: Drop, const PREFIX_LEN: usize> TreeMap<K, V, PREFIX_L
 
     /// The pair whose key's bytes are least.
     pub fn first_key_value(&self) -> Option<(&K, &V)>
-        ensures { option_map (λ pair. (pair.0.now, pair.1.now)) result ≡ slice_get self.now 0 }
+        ensures value { shown result ≡ slice_get self.now 0 }
+        ensures stored { IfSome (shown result) (λ pair. pair_at K.bytes self.now (K.bytes pair.0) ≡ Some pair) }
     {
         self.tree.law();
         let id = self.tree.first()?;
@@ -175,16 +197,34 @@ impl<K: AsBytes + Drop, V: Drop, const PREFIX_LEN: usize> TreeMap<K, V, PREFIX_L
 
     /// The pair whose key's bytes are greatest.
     pub fn last_key_value(&self) -> Option<(&K, &V)>
-        ensures { option_map (λ pair. (pair.0.now, pair.1.now)) result ≡ slice_get self.now (length self.now - 1) }
+        ensures value { shown result ≡ slice_get self.now (length self.now - 1) }
+        ensures stored { IfSome (shown result) (λ pair. pair_at K.bytes self.now (K.bytes pair.0) ≡ Some pair) }
     {
         self.tree.law();
         let id = self.tree.last()?;
         Some(self.tree.leaf(id, &mut Visits::new()))
     }
 
-    /// How many inner nodes stand: one at each front where neighbouring keys part.
+    /// Whether an insertion of a key with the query's bytes would be refused for a conflict: whether some key is related to them and has other bytes.
+    ///
+    /// ```
+    /// map.try_insert("/api/", 1)?;
+    /// assert!(map.conflicts(&"/api/users"));
+    /// assert!(map.conflicts(&"/"));
+    /// assert!(!map.conflicts(&"/api/"));
+    /// ```
+    pub fn conflicts<Q: AsBytes>(&self, query: &Q) -> bool
+        ensures value { result ≡ conflict (bytes K.bytes) self.now (Q.bytes query.now) }
+        ensures stored { result ≡ overlaps K.bytes self.now (Q.bytes query.now) }
+    {
+        self.tree.law();
+        matches!(self.tree.point(query.as_bytes()), Point::Related { .. })
+    }
+
+    /// How many inner nodes stand: one at each front where neighbouring keys part. So there are fewer than pairs, and none where there is no pair or one.
     pub fn inner_nodes(&self) -> usize
-        ensures { result ≡ set.len (fronts (bytes K.bytes) self.now) }
+        ensures value { result ≡ set.len (fronts (bytes K.bytes) self.now) }
+        ensures fewer { result ≤ length self.now - 1 }
     {
         self.tree.inner_nodes()
     }

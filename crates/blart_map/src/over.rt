@@ -1,7 +1,9 @@
 //! An insertion over all related pairs.
-ghost use Rattle.std.specs.Prelude.{length};
+ghost use Rattle.std.specs.Prelude.{◌≡◌, ℕ, List, true, false, OnOk, OnErr, Some};
+ghost use Rattle.blart_keys.specs.Bytes.{begins};
 ghost use Rattle.blart_keys.specs.Content.{IsOver};
 ghost use Rattle.blart_keys.specs.Steps.{bytes, PutsOver};
+ghost use Rattle.blart_keys.specs.Stored.{pair_before, has, overlaps, Overwrites};
 ghost use Rattle.art_walk.specs.Pairs.{pairs_of};
 ghost use Rattle.blart_map.specs.Spans.{Spans, LeavesOne};
 
@@ -23,7 +25,13 @@ impl<K: AsBytes + Drop, V: Drop, const PREFIX_LEN: usize> TreeMap<K, V, PREFIX_L
     /// assert_eq!(map.prefix_get(&"cat"), Some(&3));
     /// ```
     pub fn prefix_insert(&mut self, key: K, value: V) -> Result<(), AllocError>
-        ensures { PutsOver K.bytes self.old (key, value) result self.new }
+        ensures put { PutsOver K.bytes self.old (key, value) result self.new }
+        ensures over { OnOk result (Overwrites K.bytes self.old (key, value) self.new) }
+        ensures fronts { OnOk result ((r : List ℕ) → begins (K.bytes key) r ≡ true
+            → pair_before K.bytes self.new r ≡ Some (key, value)) }
+        ensures err { OnErr result (self.new ≡ self.old) }
+        ensures free { OnErr result (overlaps K.bytes self.old (K.bytes key) ≡ false) }
+        ensures absent { OnErr result (has K.bytes self.old (K.bytes key) ≡ false) }
     {
         self.tree.law();
         match self.tree.point(key.as_bytes()) {

@@ -1,10 +1,11 @@
 //! Walks.
-ghost use Rattle.std.specs.Prelude.{◌≡◌, ◌+◌, ◌*◌, ◌≤◌, ◌⊎◌, [], length, map, max, true};
-ghost use Rattle.blart_keys.specs.Bounds.{bound_bytes, in_order};
+ghost use Rattle.std.specs.Prelude.{◌≡◌, ◌+◌, ◌≤◌, [], length, map};
+ghost use Rattle.blart_keys.specs.Bounds.{bound_bytes, slice_bound, CanRange};
 ghost use Rattle.blart_keys.specs.Content.{between, under};
 ghost use Rattle.blart_keys.specs.Steps.{bytes};
+ghost use Rattle.blart_keys.specs.Stored.{CanCount};
 ghost use Rattle.art_tree.specs.Longest.{longest};
-ghost use Rattle.art_tree.specs.Seeks.{bound_len};
+ghost use Rattle.art_walk.specs.Openings.{longer, opening};
 
 use crate::map::TreeMap;
 use art_tree::Visits;
@@ -16,22 +17,28 @@ use std::ops::Bound;
 impl<K: AsBytes + Drop, V: Drop, const PREFIX_LEN: usize> TreeMap<K, V, PREFIX_LEN> {
     /// The pairs, ascending by their keys' bytes, from both ends. Takes no memory; each step is one visit.
     pub fn iter(&self) -> Iter<'_, K, V, PREFIX_LEN>
-        ensures { result ≡ self.now }
+        ensures value { result ≡ self.now }
+        ensures fits { CanCount result }
     {
+        self.law();
         Iter::new(&self.tree)
     }
 
     /// The keys, ascending by their bytes, from both ends. Takes no memory; each step is one visit.
     pub fn keys(&self) -> Keys<'_, K, V, PREFIX_LEN>
-        ensures { result ≡ map (λ pair. pair.0) self.now }
+        ensures value { result ≡ map (λ pair. pair.0) self.now }
+        ensures fits { CanCount result }
     {
+        self.law();
         Keys::new(&self.tree)
     }
 
     /// The values, in the order of their keys' bytes, from both ends. Takes no memory; each step is one visit.
     pub fn values(&self) -> Values<'_, K, V, PREFIX_LEN>
-        ensures { result ≡ map (λ pair. pair.1) self.now }
+        ensures value { result ≡ map (λ pair. pair.1) self.now }
+        ensures fits { CanCount result }
     {
+        self.law();
         Values::new(&self.tree)
     }
 
@@ -47,7 +54,8 @@ impl<K: AsBytes + Drop, V: Drop, const PREFIX_LEN: usize> TreeMap<K, V, PREFIX_L
     /// assert_eq!(cats.next(), None);
     /// ```
     pub fn prefix(&self, front: &[u8]) -> Prefix<'_, K, V, PREFIX_LEN>
-        ensures { result ≡ under (bytes K.bytes) self.now front.now }
+        ensures value { result ≡ under (bytes K.bytes) self.now front.now }
+        ensures fits { CanCount result }
     {
         self.prefix_counted(front, &mut Visits::new())
     }
@@ -55,13 +63,19 @@ impl<K: AsBytes + Drop, V: Drop, const PREFIX_LEN: usize> TreeMap<K, V, PREFIX_L
     /// As [`TreeMap::prefix`]. On n bytes it makes at most 2 * (n + 2) * (L + 2) visits, where L is the length of the longest key, and none on an empty map; each step is one more.
     pub fn prefix_counted(&self, front: &[u8], visits: &mut Visits) -> Prefix<'_, K, V, PREFIX_LEN>
         ensures value { result ≡ under (bytes K.bytes) self.now front.now }
-        ensures counted { visits.new.count ≤ visits.old.count + 2 * (length front.now + 2) * (longest (bytes K.bytes) self.now + 2) }
+        ensures fits { CanCount result }
+        ensures counted { visits.new.count ≤ visits.old.count
+            + opening (length front.now) (longest (bytes K.bytes) self.now) }
+        ensures grows { visits.old.count ≤ visits.new.count }
         ensures empty { self.now ≡ [] → visits.new.count ≡ visits.old.count }
     {
+        self.law();
         Prefix::new(&self.tree, front, visits)
     }
 
-    /// The pairs whose keys' bytes are within both bounds, ascending, from both ends. Takes no memory. The bounds are in order where the map has pairs; on an empty map any bounds give an empty walk.
+    /// The pairs whose keys' bytes are within both bounds, ascending, from both ends: a key with an included bound's bytes is within it, one with an excluded bound's is not. Takes no memory.
+    ///
+    /// The bounds are in order where the map has pairs, of which [`bounds_in_order`](crate::bounds_in_order) is the test; on an empty map any bounds give an empty walk.
     ///
     /// ```
     /// let (low, high) = ("b", "d");
@@ -70,8 +84,11 @@ impl<K: AsBytes + Drop, V: Drop, const PREFIX_LEN: usize> TreeMap<K, V, PREFIX_L
     /// }
     /// ```
     pub fn range<Q: AsBytes>(&self, start: Bound<&Q>, end: Bound<&Q>) -> Range<'_, K, V, PREFIX_LEN>
-        requires { (self.now ≡ []) ⊎ (in_order (bound_bytes Q.bytes start) (bound_bytes Q.bytes end) ≡ true) }
-        ensures { result ≡ between (bytes K.bytes) self.now (bound_bytes Q.bytes start.entry) (bound_bytes Q.bytes end.entry) }
+        requires { CanRange self.now (bound_bytes Q.bytes start) (bound_bytes Q.bytes end) }
+        ensures value { result
+            ≡ between (bytes K.bytes) self.now
+            (bound_bytes Q.bytes start.entry) (bound_bytes Q.bytes end.entry) }
+        ensures fits { CanCount result }
     {
         self.range_counted(start, end, &mut Visits::new())
     }
@@ -83,18 +100,25 @@ impl<K: AsBytes + Drop, V: Drop, const PREFIX_LEN: usize> TreeMap<K, V, PREFIX_L
         end: Bound<&Q>,
         visits: &mut Visits,
     ) -> Range<'_, K, V, PREFIX_LEN>
-        requires { (self.now ≡ []) ⊎ (in_order (bound_bytes Q.bytes start) (bound_bytes Q.bytes end) ≡ true) }
-        ensures value { result ≡ between (bytes K.bytes) self.now (bound_bytes Q.bytes start.entry) (bound_bytes Q.bytes end.entry) }
-        ensures counted { visits.new.count ≤ visits.old.count + 2 * (max (bound_len (bound_bytes Q.bytes start.entry)) (bound_len (bound_bytes Q.bytes end.entry)) + 2) * (longest (bytes K.bytes) self.now + 2) }
+        requires { CanRange self.now (bound_bytes Q.bytes start) (bound_bytes Q.bytes end) }
+        ensures value { result
+            ≡ between (bytes K.bytes) self.now
+            (bound_bytes Q.bytes start.entry) (bound_bytes Q.bytes end.entry) }
+        ensures fits { CanCount result }
+        ensures counted { visits.new.count ≤ visits.old.count
+            + opening (longer (bound_bytes Q.bytes start.entry) (bound_bytes Q.bytes end.entry))
+            (longest (bytes K.bytes) self.now) }
+        ensures grows { visits.old.count ≤ visits.new.count }
         ensures empty { self.now ≡ [] → visits.new.count ≡ visits.old.count }
     {
+        self.law();
         Range::new(&self.tree, as_bytes(start), as_bytes(end), visits)
     }
 }
 
 // The bound as bytes.
 fn as_bytes<Q: AsBytes>(bound: Bound<&Q>) -> Bound<&[u8]>
-    ensures { bound_bytes (λ b. b) result ≡ bound_bytes Q.bytes bound.entry }
+    ensures { slice_bound result ≡ bound_bytes Q.bytes bound.entry }
 {
     match bound {
         Bound::Included(query) => Bound::Included(query.as_bytes()),

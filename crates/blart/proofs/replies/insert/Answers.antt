@@ -3,4 +3,4 @@ use Rattle.blart.proofs.replies.insert.Goals as goal
 
 pub returns-in-Some : goal.returns-in-Some
 returns-in-Some c = λ key is.
-    inserts c.args.map.now c.try_insert.new.self key _ c.in-Some.key c.args.value c.try_insert.result (c.in-Some.ensures key is) c.try_insert.ensures c.inserted_answer.ensures
+    inserts c.args.map.now c.try_insert.new.self key _ c.in-Some.key c.args.value c.try_insert.result (c.in-Some.ensures key is) c.try_insert.ensures.put c.inserted_answer.ensures

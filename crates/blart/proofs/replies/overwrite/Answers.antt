@@ -3,8 +3,8 @@ use Rattle.blart.proofs.replies.overwrite.Goals as goal
 
 pub returns-in-Ok : goal.returns-in-Ok
 returns-in-Ok c = λ key is.
-    overwrites c.args.map.now c.prefix_insert.new.self key c.in-Some.key c.args.value c.len.result (c.in-Some.ensures key is) c.in-Ok.ensures c.len.ensures
+    overwrites c.args.map.now c.prefix_insert.new.self key c.in-Some.key c.args.value c.len.result (c.in-Some.ensures key is) c.in-Ok.ensures.put c.len.ensures
 
 pub returns-in-Err : goal.returns-in-Err
 returns-in-Err c = λ key is.
-    overwrites_refused c.args.map.now c.prefix_insert.new.self key c.in-Some.key c.args.value (c.in-Some.ensures key is) c.in-Err.ensures.0 c.in-Err.ensures.1
+    overwrites_refused c.args.map.now c.prefix_insert.new.self key c.in-Some.key c.args.value (c.in-Some.ensures key is) c.in-Err.ensures.put.0 c.in-Err.ensures.put.1

@@ -5,7 +5,7 @@ use Rattle.blart.proofs.replies.write_front.Goals as goal
 pub returns-in-Some : goal.returns-in-Some
 returns-in-Some g c = λ key is. (
   _,
-  finds c.args.map.now key c.in-Some.key.items _ _ (c.in-Some.ensures key is) c.prefix_get_key_value.ensures refl,
+  finds c.args.map.now key c.in-Some.key.items _ _ (c.in-Some.ensures key is) c.prefix_get_key_value.ensures.value refl,
   c.write_found.ensures,
 )
 

@@ -1,17 +1,17 @@
-use Rattle.std.proofs.Common.{refl, sym, inr, codes, ◌∙◌, ◌∷◌, [], append-nil}
+use Rattle.std.proofs.Common.{refl, arith, sym, inr, codes, ◌∙◌, ◌∷◌, [], append-nil}
 use Rattle.blart.specs.Answers.{listing}
 use Rattle.blart.specs.Content.{pairs_of}
 use Rattle.blart.proofs.Answering.{lists_under}
-use Rattle.blart.proofs.Listing.{shown_all, part_fits}
+use Rattle.blart.proofs.Listing.{shown_all}
 use Rattle.blart.proofs.replies.write_prefix.Goals as goal
 
 pub write_listing-requires : goal.write_listing-requires
-write_listing-requires g c κs = ((refl, tt), (c.requires, (tt, (tt, part_fits c.args.map.now c.prefix.result _ c.prefix.ensures c.count_fits.ensures))))
+write_listing-requires g c κs = ((refl, tt), (c.requires, (tt, (tt, omega (arith, c.prefix.ensures.fits)))))
 
 pub returns-in-Some : goal.returns-in-Some
 returns-in-Some g c = λ key is. (
   listing (pairs_of c.prefix.result),
-  lists_under c.args.map.now c.prefix.result key c.deref.result.now (c.in-Some.ensures key is ∙ sym c.deref.ensures.value) c.prefix.ensures,
+  lists_under c.args.map.now c.prefix.result key c.deref.result.now (c.in-Some.ensures key is ∙ sym c.deref.ensures.value) c.prefix.ensures.value,
   c.write_listing.ensures c.prefix.result (shown_all c.prefix.result),
 )
 

@@ -45,8 +45,8 @@ calls-preserved g c =
       room = omega arith;
     }
 
-pub returns : goal.returns
-returns g c =
+pub returns-clause-replies : goal.returns-clause-replies
+returns-clause-replies g c =
     let i = c.calls.invariant in
     let kb = g.K.AsBytes.bytes in
     let none = no_items (into_iter_items c.calls.call-iterator) (sym i.counted ∙ c.in-None.ensures.steps.0) in

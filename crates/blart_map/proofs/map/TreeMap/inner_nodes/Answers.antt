@@ -5,8 +5,8 @@ use Rattle.blart_keys.specs.Steps.{bytes}
 use Rattle.blart_keys.proofs.Mapped.{fronts-map}
 use Rattle.blart_map.proofs.map.TreeMap.inner_nodes.Goals as goal
 
-pub returns : goal.returns
-returns g c =
+pub returns-clause-value : goal.returns-clause-value
+returns-clause-value g c =
     let kb = g.K.AsBytes.bytes in
     subst (λ S. c.inner_nodes.result ≡ set.len (fronts (bytes kb) S)) c.self.view_is
     (c.inner_nodes.ensures.value ∙ ap (λ l. set.len l) (sym (fronts-map (λ p. p.1) (bytes kb) c.self.inside.tree.pairs)))

@@ -1,35 +1,21 @@
-use Rattle.std.proofs.Common.{◌∙◌, lit<, ap, sym, Err}
-use Rattle.std.proofs.lemmas.Bool.{false≢true}
-use Rattle.blart_keys.proofs.Options.{is_some}
-use Rattle.art_tree.specs.Leaves.{leaf_in}
-use Rattle.blart_map.proofs.Inserting.{conflict_pairs, related_first, unrelated_point, lawful}
+use Rattle.blart_keys.proofs.StoredLemmas.{inserts_old, inserts_updates, inserts_len, inserts_fronts, inserts_err, inserts_absent}
+use Rattle.art_walk.specs.Pairs.{pairs_of}
 use Rattle.blart_map.proofs.map.TreeMap.insert.Goals as goal
 
-pub leaf-requires : goal.leaf-requires
-leaf-requires g c =
-    let kb = g.K.AsBytes.bytes in
-    let ps = c.self.inside.tree.pairs in
-    let q = kb c.args.key in
-    let good = rw c.as_bytes.ensures at c.in-Related.ensures in
-    let r = related_first kb ps c.law.ensures.content c.law.ensures.distinct q c.in-Related.first c.in-Related.last good in
-    (lit< tt, is_some (leaf_in ps c.in-Related.first) r.0 r.1)
+pub returns-clause-old : goal.returns-clause-old
+returns-clause-old g c = inserts_old g.K.AsBytes.bytes c.args.self.now (c.args.key, c.args.value) (pairs_of c.put_lawful.new.tree.pairs) c.put_lawful.result (rw (← c.self.view_is) c.put_lawful.ensures)
 
-pub unreachable-requires : goal.unreachable-requires
-unreachable-requires g c =
-    let kb = g.K.AsBytes.bytes in
-    let ps = c.self.inside.tree.pairs in
-    let x : g.row.K.Denot × g.row.V.Denot = (c.args.key, c.args.value) in
-    let y : g.row.K.Denot × g.row.V.Denot = (c.leaf.result.0.now, c.leaf.result.1.now) in
-    let good = rw c.as_bytes.ensures at c.in-Related.ensures in
-    lawful kb ps c.law.ensures.content c.law.ensures.distinct x g.K.AsBytes.IsValue g.met.K.NoPrefixesBytes.no_fronts c.value_law-in-Related.ensures c.in-Related.first c.in-Related.last good y c.leaf.ensures.value c.value_law.ensures
+pub returns-clause-updates : goal.returns-clause-updates
+returns-clause-updates g c = inserts_updates g.K.AsBytes.bytes c.args.self.now (c.args.key, c.args.value) (pairs_of c.put_lawful.new.tree.pairs) c.put_lawful.result c.law.ensures.content (rw (← c.self.view_is) c.put_lawful.ensures)
 
-pub unreachable-requires-in-Err-Prefix : goal.unreachable-requires-in-Err-Prefix
-unreachable-requires-in-Err-Prefix g c =
-    let kb = g.K.AsBytes.bytes in
-    let ps = c.self.inside.tree.pairs in
-    let q = kb c.args.key in
-    let good = rw c.as_bytes.ensures at c.point.ensures in
-    let no = unrelated_point kb ps c.law.ensures.content c.law.ensures.distinct q c.point.result good c.in_default.not-Related in
-    let is = c.in-Err-Prefix.is ∙ ap Err c.in-Err-Prefix.field-0-is in
-    let puts = rw is at c.put_at.ensures in
-    false≢true (sym (conflict_pairs kb ps q ∙ no) ∙ puts.0)
+pub returns-clause-len : goal.returns-clause-len
+returns-clause-len g c = inserts_len g.K.AsBytes.bytes c.args.self.now (c.args.key, c.args.value) (pairs_of c.put_lawful.new.tree.pairs) c.put_lawful.result c.law.ensures.content (rw (← c.self.view_is) c.put_lawful.ensures)
+
+pub returns-clause-fronts : goal.returns-clause-fronts
+returns-clause-fronts g c = inserts_fronts g.K.AsBytes.bytes c.args.self.now (c.args.key, c.args.value) (pairs_of c.put_lawful.new.tree.pairs) c.put_lawful.result (rw (← c.self.view_is) c.put_lawful.ensures)
+
+pub returns-clause-err : goal.returns-clause-err
+returns-clause-err g c = inserts_err g.K.AsBytes.bytes c.args.self.now (c.args.key, c.args.value) (pairs_of c.put_lawful.new.tree.pairs) c.put_lawful.result (rw (← c.self.view_is) c.put_lawful.ensures)
+
+pub returns-clause-absent : goal.returns-clause-absent
+returns-clause-absent g c = inserts_absent g.K.AsBytes.bytes c.args.self.now (c.args.key, c.args.value) (pairs_of c.put_lawful.new.tree.pairs) c.put_lawful.result (rw (← c.self.view_is) c.put_lawful.ensures)

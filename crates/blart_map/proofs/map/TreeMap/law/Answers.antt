@@ -4,7 +4,7 @@ use Rattle.blart_keys.specs.Steps.{bytes}
 use Rattle.blart_keys.proofs.Mapped.{content_map}
 use Rattle.blart_map.proofs.map.TreeMap.law.Goals as goal
 
-pub returns : goal.returns
-returns g c =
+pub returns-clause-content : goal.returns-clause-content
+returns-clause-content g c =
     let kb = g.K.AsBytes.bytes in
     subst (IsContent (bytes kb)) c.self.view_is (content_map (λ p. p.1) (bytes kb) c.self.inside.tree.pairs c.law.ensures.content)

@@ -1,6 +1,8 @@
-use Rattle.std.proofs.Common.{sym, ◌∙◌}
+use Rattle.std.proofs.Common.{sym, ◌∙◌, subst}
 use Rattle.blart_keys.specs.Bytes.{begins}
+use Rattle.blart_keys.specs.Stored.{CanCount}
 use Rattle.blart_keys.proofs.Mapped.{filter-map}
+use Rattle.blart_keys.proofs.StoredLemmas.{can_count_filter}
 use Rattle.blart_map.proofs.Numbers.{no_pairs}
 use Rattle.blart_map.proofs.Walking.{longest_pairs}
 use Rattle.blart_map.proofs.map.TreeMap.prefix_counted.Goals as goal
@@ -16,3 +18,8 @@ returns-clause-counted g c = rw (← c.self.view_is, longest_pairs g.K.AsBytes.b
 
 pub returns-clause-empty : goal.returns-clause-empty
 returns-clause-empty g c = λ e. c.new.ensures.empty (no_pairs c.self.inside.tree.pairs (c.self.view_is ∙ e))
+
+pub returns-clause-fits : goal.returns-clause-fits
+returns-clause-fits g c =
+    let kb = g.K.AsBytes.bytes in
+    subst CanCount (sym (returns-clause-value g c)) (can_count_filter (λ pair. begins c.args.front.now (kb pair.0)) c.args.self.now c.law.ensures.fits)

@@ -1,5 +1,7 @@
-use Rattle.std.proofs.Common.{◌∙◌, Some, None}
+use Rattle.std.proofs.Common.{sym, ◌∙◌, Some, None}
 use Rattle.blart_keys.specs.Bytes.{begins}
+use Rattle.blart_keys.specs.Stored.{pair_before}
+use Rattle.blart_keys.proofs.StoredLemmas.{pair_before-begins}
 use Rattle.blart_map.proofs.Numbers.{no_pairs, found_pairs}
 use Rattle.blart_map.proofs.map.TreeMap.prefix_get_key_value_counted.Goals as goal
 
@@ -23,3 +25,16 @@ returns-in-None-clause-value g c =
 
 pub returns-in-None-clause-empty : goal.returns-in-None-clause-empty
 returns-in-None-clause-empty g c = λ e. c.in-None.ensures.empty (no_pairs c.self.inside.tree.pairs (c.self.view_is ∙ e))
+
+pub returns-in-Some-clause-pair : goal.returns-in-Some-clause-pair
+unfolding pair_before
+returns-in-Some-clause-pair g c = returns-in-Some-clause-value g c
+
+pub returns-in-None-clause-pair : goal.returns-in-None-clause-pair
+unfolding pair_before
+returns-in-None-clause-pair g c = returns-in-None-clause-value g c
+
+pub returns-in-Some-clause-found : goal.returns-in-Some-clause-found
+returns-in-Some-clause-found g c =
+    let found = c.in-Some.found in
+    pair_before-begins g.K.AsBytes.bytes c.args.self.now (g.Q.AsBytes.bytes c.args.query.now) (found.1.now, found.2.now) (sym (returns-in-Some-clause-pair g c))

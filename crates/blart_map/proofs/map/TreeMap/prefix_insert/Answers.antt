@@ -1,7 +1,10 @@
-use Rattle.std.proofs.Common.{ap, lit<}
+use Rattle.std.proofs.Common.{ap, lit<, subst}
 use Rattle.std.proofs.lemmas.Result.{err_from_is_err_and}
+use Rattle.blart_keys.specs.Content.{IsOver}
 use Rattle.blart_keys.specs.Steps.{bytes}
 use Rattle.art_walk.specs.Pairs.{pairs_of}
+use Rattle.blart_keys.proofs.StoredLemmas.{overwrites_over, before_over, alone_free, alone_absent}
+use Rattle.blart_map.proofs.Numbers.{whole_pairs}
 use Rattle.blart_map.proofs.Inserting.{opens_else, open_alone, exact_has, exact_takes, placed, exchanged}
 use Rattle.blart_map.proofs.Thinning.{over_of_put, no_subtree_pairs}
 use Rattle.blart_map.proofs.map.TreeMap.prefix_insert.Goals as goal
@@ -21,7 +24,15 @@ returns-in-Exact g c =
     let good = rw c.as_bytes.ensures at c.in-Exact.ensures in
     let x : g.row.K.Denot × g.row.V.Denot = (c.args.key, c.args.value) in
     let put = (exchanged kb ps c.law.ensures.content c.law.ensures.distinct x c.in-Exact.id good c.swap.result c.swap.ensures.value c.swap.new.self.pairs c.swap.ensures.pairs).1 in
-    rw (← c.self.view_is) (over_of_put (bytes kb) (pairs_of ps) (pairs_of c.swap.new.self.pairs) x put)
+    let over = subst (λ S. IsOver (bytes kb) S x (pairs_of c.swap.new.self.pairs)) c.self.view_is (over_of_put (bytes kb) (pairs_of ps) (pairs_of c.swap.new.self.pairs) x put) in
+    record {
+      put = over;
+      over = overwrites_over kb c.args.self.now (pairs_of c.swap.new.self.pairs) x (whole_pairs kb ps c.args.self.now c.self.view_is c.law.ensures.content) over;
+      fronts = before_over kb c.args.self.now (pairs_of c.swap.new.self.pairs) x over;
+      err = tt;
+      free = tt;
+      absent = tt;
+    }
 
 pub returns-in_err-make_room-in_default : goal.returns-in_err-make_room-in_default
 returns-in_err-make_room-in_default g c =
@@ -31,7 +42,16 @@ returns-in_err-make_room-in_default g c =
     let good = rw c.as_bytes.ensures at c.point.ensures in
     let alone = open_alone kb ps c.law.ensures.content c.law.ensures.distinct q c.point.result good (opens_else c.point.result c.in_default.not-Exact c.in_default.not-Related) in
     let p = err_from_is_err_and c.from_residual.result c.from_residual.ensures.1 in
-    rw (p.1, ← c.self.view_is) (no_subtree_pairs kb ps q alone, ap pairs_of c.in_err-make_room-in_default.ensures.pairs)
+    let none = no_subtree_pairs kb ps q alone in
+    let same = ap pairs_of c.in_err-make_room-in_default.ensures.pairs in
+    rw (p.1, ← c.self.view_is) (record {
+      put = (none, same);
+      over = tt;
+      fronts = tt;
+      err = same;
+      free = alone_free kb (pairs_of ps) q none;
+      absent = alone_absent kb (pairs_of ps) q none;
+    })
 
 pub returns-in_ok-make_room-in_default : goal.returns-in_ok-make_room-in_default
 returns-in_ok-make_room-in_default g c =
@@ -42,4 +62,25 @@ returns-in_ok-make_room-in_default g c =
     let good = rw c.as_bytes.ensures at c.point.ensures in
     let alone = open_alone kb ps c.law.ensures.content c.law.ensures.distinct q c.point.result good (opens_else c.point.result c.in_default.not-Exact c.in_default.not-Related) in
     let put = (placed kb ps c.law.ensures.content c.law.ensures.distinct x alone c.make_room.new.self.pairs c.place.new.self.pairs c.place.result c.in_ok-make_room-in_default.ensures.pairs c.place.ensures.put).1 in
-    rw (← c.self.view_is) (over_of_put (bytes kb) (pairs_of ps) (pairs_of c.place.new.self.pairs) x put)
+    let over = subst (λ S. IsOver (bytes kb) S x (pairs_of c.place.new.self.pairs)) c.self.view_is (over_of_put (bytes kb) (pairs_of ps) (pairs_of c.place.new.self.pairs) x put) in
+    record {
+      put = over;
+      over = overwrites_over kb c.args.self.now (pairs_of c.place.new.self.pairs) x (whole_pairs kb ps c.args.self.now c.self.view_is c.law.ensures.content) over;
+      fronts = before_over kb c.args.self.now (pairs_of c.place.new.self.pairs) x over;
+      err = tt;
+      free = tt;
+      absent = tt;
+    }
+
+pub returns-in-Related-clause-over : goal.returns-in-Related-clause-over
+returns-in-Related-clause-over g c =
+    let kb = g.K.AsBytes.bytes in
+    let ps = c.self.inside.tree.pairs in
+    let x : g.row.K.Denot × g.row.V.Denot = (c.args.key, c.args.value) in
+    overwrites_over kb c.args.self.now (pairs_of c.put_over.new.tree.pairs) x (whole_pairs kb ps c.args.self.now c.self.view_is c.law.ensures.content) (rw (← c.self.view_is) c.put_over.ensures)
+
+pub returns-in-Related-clause-fronts : goal.returns-in-Related-clause-fronts
+returns-in-Related-clause-fronts g c =
+    let kb = g.K.AsBytes.bytes in
+    let x : g.row.K.Denot × g.row.V.Denot = (c.args.key, c.args.value) in
+    before_over kb c.args.self.now (pairs_of c.put_over.new.tree.pairs) x (rw (← c.self.view_is) c.put_over.ensures)

@@ -1,6 +1,8 @@
-use Rattle.std.proofs.Common.{inl, inr, lit<, sym, ◌∙◌, ◌&&◌}
+use Rattle.std.proofs.Common.{inl, inr, lit<, sym, ◌∙◌, ◌&&◌, subst}
 use Rattle.blart_keys.specs.Bounds.{bound_bytes, is_from_start, is_up_to_end}
+use Rattle.blart_keys.specs.Stored.{CanCount}
 use Rattle.blart_keys.proofs.Mapped.{filter-map}
+use Rattle.blart_keys.proofs.StoredLemmas.{can_count_filter}
 use Rattle.blart_map.proofs.Numbers.{no_pairs}
 use Rattle.blart_map.proofs.Walking.{longest_pairs}
 use Rattle.blart_map.proofs.map.TreeMap.range_counted.Goals as goal
@@ -33,3 +35,10 @@ returns-clause-counted g c =
 
 pub returns-clause-empty : goal.returns-clause-empty
 returns-clause-empty g c = λ e. c.new.ensures.empty (no_pairs c.self.inside.tree.pairs (c.self.view_is ∙ e))
+
+pub returns-clause-fits : goal.returns-clause-fits
+returns-clause-fits g c =
+    let kb = g.K.AsBytes.bytes in
+    let start = bound_bytes g.Q.AsBytes.bytes c.args.start in
+    let end = bound_bytes g.Q.AsBytes.bytes c.args.end in
+    subst CanCount (sym (returns-clause-value g c)) (can_count_filter (λ pair. is_from_start start (kb pair.0) && is_up_to_end end (kb pair.0)) c.args.self.now c.law.ensures.fits)

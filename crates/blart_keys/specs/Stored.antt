@@ -1,0 +1,83 @@
+-- What a map has at some bytes, in the words that its users cite. The first three stay closed in their proofs.
+use Rattle.std.specs.Prelude.{◌≡◌, ◌≢◌, ℕ, ◌^◌, ◌<◌, Bool, true, false, List, length, map, Option, None, Some, option_map, is_some, bytes_eq, if◌then◌else◌}
+use denote.Ref.{Bor}
+use Rattle.blart_keys.specs.declared.calls.TryInsertError.{TryInsertError}
+use Rattle.blart_keys.specs.declared.calls.TryInsertError.TheVariants.{Prefix, Memory}
+use Rattle.blart_keys.specs.Bytes.{begins, related}
+use Rattle.blart_keys.specs.Content.{at, conflict, front_of}
+use Rattle.blart_keys.specs.Steps.{bytes}
+
+module _ {K V : Type 0} (kb : K → List ℕ) where
+  -- the pair whose key has the bytes q
+  unfoldable pub pair_at : List (K × V) → List ℕ → Option (K × V)
+  pair_at S q = at (bytes kb) S q
+
+  -- the pair whose key's bytes begin q
+  unfoldable pub pair_before : List (K × V) → List ℕ → Option (K × V)
+  pair_before S q = front_of (bytes kb) S q
+
+  -- some key is related to q and has other bytes
+  unfoldable pub overlaps : List (K × V) → List ℕ → Bool
+  overlaps S q = conflict (bytes kb) S q
+
+  -- the value of the key with the bytes q
+  abbrev pub value_at : List (K × V) → List ℕ → Option V
+  value_at S q = option_map (λ p. p.1) (pair_at S q)
+
+  -- the value of the key whose bytes begin q
+  abbrev pub value_before : List (K × V) → List ℕ → Option V
+  value_before S q = option_map (λ p. p.1) (pair_before S q)
+
+  -- some key has the bytes q
+  abbrev pub has : List (K × V) → List ℕ → Bool
+  has S q = is_some (pair_at S q)
+
+  -- S' has w at the bytes q, and at all others what S has
+  abbrev pub Updates : List (K × V) → List (K × V) → List ℕ → Option (K × V) → Type 0
+  Updates S S' q w = (pair_at S' q ≡ w) × ((r : List ℕ) → r ≢ q → pair_at S' r ≡ pair_at S r)
+
+  -- S has nothing
+  abbrev pub HasNothing : List (K × V) → Type 0
+  HasNothing S = (q : List ℕ) → pair_at S q ≡ None
+
+  -- the pair p of S goes, and no other
+  abbrev pub TakesPair : List (K × V) → K × V → List (K × V) → Type 0
+  TakesPair S p S' = (pair_at S (kb p.0) ≡ Some p) × Updates S S' (kb p.0) None
+
+  -- S' has p, nothing else that is related to it, and of all others what S has
+  pub record Overwrites (S : List (K × V)) (p : K × V) (S' : List (K × V)) : Type 0 where
+    pub there : pair_at S' (kb p.0) ≡ Some p
+    pub gone : (r : List ℕ) → related r (kb p.0) ≡ true → r ≢ kb p.0 → pair_at S' r ≡ None
+    pub others : (r : List ℕ) → related r (kb p.0) ≡ false → pair_at S' r ≡ pair_at S r
+
+  -- the pairs, with this value at the bytes q
+  abbrev pub written_at : List (K × V) → List ℕ → V → List (K × V)
+  written_at S q v = map (λ p. if bytes_eq (kb p.0) q then (p.0, v) else p) S
+
+  -- the pairs, with this value where the bytes begin q
+  abbrev pub written_at_front : List (K × V) → List ℕ → V → List (K × V)
+  written_at_front S q v = map (λ p. if begins (kb p.0) q then (p.0, v) else p) S
+
+  -- S' is S with the value v at the bytes q, if they are stored
+  abbrev pub WritesAt : List (K × V) → List ℕ → V → List (K × V) → Type 0
+  WritesAt S q v S' = Updates S S' q (option_map (λ p. (p.0, v)) (pair_at S q)) × (length S' ≡ length S)
+
+  -- S' is S with the value v where the bytes begin q
+  pub record WritesBefore (S : List (K × V)) (q : List ℕ) (v : V) (S' : List (K × V)) : Type 0 where
+    pub front : pair_before S' q ≡ option_map (λ p. (p.0, v)) (pair_before S q)
+    pub there : (r : List ℕ) → begins r q ≡ true → pair_at S' r ≡ option_map (λ p. (p.0, v)) (pair_at S r)
+    pub others : (r : List ℕ) → begins r q ≡ false → pair_at S' r ≡ pair_at S r
+    pub len : length S' ≡ length S
+
+  -- an insertion at q is refused for a conflict, or for want of memory where the bytes are new
+  abbrev pub Refuses : List (K × V) → List ℕ → TryInsertError → Type 0
+  Refuses S q (Prefix e) = overlaps S q ≡ true
+  Refuses S q (Memory e) = (overlaps S q ≡ false) × (has S q ≡ false)
+
+-- the pair behind two references
+abbrev pub shown : {K V : Type 0} → Option (Bor K × Bor V) → Option (K × V)
+shown pair = option_map (λ p. (p.0.now, p.1.now)) pair
+
+-- so few items that a count of them fits
+abbrev pub CanCount : {X : Type 0} → List X → Type 0
+CanCount S = length S < 2 ^ 64
