@@ -87,7 +87,8 @@ impl Cursor {
         ensures fits { FitsIn self.new leaves.now.pairs }
         ensures takes { TakesFirst (leaves_left self.old leaves.now.pairs) (shown_leaf result)
             (leaves_left self.new leaves.now.pairs) }
-        ensures there { IfSome result (λ r. leaf_in leaves.now.pairs r.0 ≡ Some (r.1.now, r.2.now)) }
+        ensures there { IfSome result
+            (λ r. leaf_in leaves.now.pairs r.0 ≡ Some (r.1.now, r.2.now)) }
         ensures counted { visits.new.count ≡ visits.old.count + (if is_some result then 1 else 0) }
     {
         leaves.law();
@@ -107,7 +108,8 @@ impl Cursor {
         ensures fits { FitsIn self.new leaves.now.pairs }
         ensures takes { TakesLast (leaves_left self.old leaves.now.pairs) (shown_leaf result)
             (leaves_left self.new leaves.now.pairs) }
-        ensures there { IfSome result (λ r. leaf_in leaves.now.pairs r.0 ≡ Some (r.1.now, r.2.now)) }
+        ensures there { IfSome result
+            (λ r. leaf_in leaves.now.pairs r.0 ≡ Some (r.1.now, r.2.now)) }
         ensures counted { visits.new.count ≡ visits.old.count + (if is_some result then 1 else 0) }
     {
         leaves.law();
@@ -125,7 +127,8 @@ impl Cursor {
     ) -> Option<LeafId>
         requires { FitsIn self.old tree.now.pairs }
         ensures fits { FitsIn self.new tree.now.pairs }
-        ensures passes { PassesFirst (leaves_left self.old tree.now.pairs) result (leaves_left self.new tree.now.pairs) }
+        ensures passes { PassesFirst (leaves_left self.old tree.now.pairs) result
+            (leaves_left self.new tree.now.pairs) }
         ensures there { IfSome result (λ id. Has tree.now.pairs id) }
         ensures counted { visits.new.count ≡ visits.old.count + (if is_some result then 1 else 0) }
     {
@@ -143,7 +146,8 @@ impl Cursor {
     ) -> Option<LeafId>
         requires { FitsIn self.old tree.now.pairs }
         ensures fits { FitsIn self.new tree.now.pairs }
-        ensures passes { PassesLast (leaves_left self.old tree.now.pairs) result (leaves_left self.new tree.now.pairs) }
+        ensures passes { PassesLast (leaves_left self.old tree.now.pairs) result
+            (leaves_left self.new tree.now.pairs) }
         ensures there { IfSome result (λ id. Has tree.now.pairs id) }
         ensures counted { visits.new.count ≡ visits.old.count + (if is_some result then 1 else 0) }
     {

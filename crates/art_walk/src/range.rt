@@ -42,9 +42,11 @@ impl<'a, K: AsBytes + Drop, V: Drop, const PREFIX_LEN: usize> Range<'a, K, V, PR
     ) -> Self
         requires { CanRange tree.now.pairs (slice_bound start) (slice_bound end) }
         ensures value { result
-            ≡ pairs_of (between (bytes K.bytes) tree.now.pairs (slice_bound start.entry) (slice_bound end.entry)) }
+            ≡ pairs_of (between (bytes K.bytes) tree.now.pairs
+            (slice_bound start.entry) (slice_bound end.entry)) }
         ensures counted { visits.new.count ≤ visits.old.count
-            + opening (longer (slice_bound start.entry) (slice_bound end.entry)) (longest (bytes K.bytes) tree.now.pairs) }
+            + opening (longer (slice_bound start.entry) (slice_bound end.entry))
+            (longest (bytes K.bytes) tree.now.pairs) }
         ensures grows { visits.old.count ≤ visits.new.count }
         ensures empty { tree.now.pairs ≡ [] → visits.new.count ≡ visits.old.count }
     {

@@ -24,9 +24,11 @@ impl Cursor {
     ) -> Cursor
         ensures fits { FitsIn result tree.now.pairs }
         ensures left { leaves_left result tree.now.pairs
-            ≡ between (bytes K.bytes) tree.now.pairs (slice_bound start.entry) (slice_bound end.entry) }
+            ≡ between (bytes K.bytes) tree.now.pairs
+            (slice_bound start.entry) (slice_bound end.entry) }
         ensures counted { visits.new.count ≤ visits.old.count
-            + opening (longer (slice_bound start.entry) (slice_bound end.entry)) (longest (bytes K.bytes) tree.now.pairs) }
+            + opening (longer (slice_bound start.entry) (slice_bound end.entry))
+            (longest (bytes K.bytes) tree.now.pairs) }
         ensures grows { visits.old.count ≤ visits.new.count }
         ensures empty { tree.now.pairs ≡ [] → visits.new.count ≡ visits.old.count }
     {
@@ -54,7 +56,8 @@ impl Cursor {
         visits: &mut Visits,
     ) -> Cursor
         ensures fits { FitsIn result tree.now.pairs }
-        ensures left { leaves_left result tree.now.pairs ≡ under (bytes K.bytes) tree.now.pairs front.now }
+        ensures left { leaves_left result tree.now.pairs
+            ≡ under (bytes K.bytes) tree.now.pairs front.now }
         ensures counted { visits.new.count ≤ visits.old.count
             + opening (length front.now) (longest (bytes K.bytes) tree.now.pairs) }
         ensures grows { visits.old.count ≤ visits.new.count }

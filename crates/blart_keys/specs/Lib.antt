@@ -9,5 +9,6 @@ pub mod Bulk
 pub mod Steps
 pub mod Stored
 pub mod Keys
+pub mod KeyBytes
 pub mod KeyLaws
 pub mod NumberLaws

@@ -1,3 +1,4 @@
+pub mod CallerLemmas
 pub mod Inserting
 pub mod Numbers
 pub mod Thinning

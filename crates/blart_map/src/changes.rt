@@ -12,12 +12,12 @@ use blart_keys::AsBytes;
 impl<K: AsBytes + Drop, V: Drop, const PREFIX_LEN: usize> TreeMap<K, V, PREFIX_LEN> {
     /// Removes the pair with the query's bytes, and gives it. Takes no memory.
     pub fn remove_entry<Q: AsBytes>(&mut self, query: &Q) -> Option<(K, V)>
-        ensures removed { result ≡ at (bytes K.bytes) self.old (Q.bytes query.now) }
-        ensures rest { self.new ≡ without (bytes K.bytes) self.old (Q.bytes query.now) }
         ensures stored { result ≡ pair_at K.bytes self.old (Q.bytes query.now) }
         ensures updates { Updates K.bytes self.old self.new (Q.bytes query.now) None }
         ensures len { length self.new + (if is_some result then 1 else 0) ≡ length self.old }
         ensures found { IfSome result (λ pair. K.bytes pair.0 ≡ Q.bytes query.now) }
+        ensures removed { result ≡ at (bytes K.bytes) self.old (Q.bytes query.now) }
+        ensures rest { self.new ≡ without (bytes K.bytes) self.old (Q.bytes query.now) }
     {
         self.tree.law();
         let id = self.tree.search(query.as_bytes(), &mut Visits::new())?;
@@ -32,11 +32,12 @@ impl<K: AsBytes + Drop, V: Drop, const PREFIX_LEN: usize> TreeMap<K, V, PREFIX_L
     /// assert_eq!(map.remove(&"cat"), None);
     /// ```
     pub fn remove<Q: AsBytes>(&mut self, query: &Q) -> Option<V>
-        ensures removed { result ≡ option_map (λ pair. pair.1) (at (bytes K.bytes) self.old (Q.bytes query.now)) }
-        ensures rest { self.new ≡ without (bytes K.bytes) self.old (Q.bytes query.now) }
         ensures stored { result ≡ value_at K.bytes self.old (Q.bytes query.now) }
         ensures updates { Updates K.bytes self.old self.new (Q.bytes query.now) None }
         ensures len { length self.new + (if is_some result then 1 else 0) ≡ length self.old }
+        ensures removed { result
+            ≡ option_map (λ pair. pair.1) (at (bytes K.bytes) self.old (Q.bytes query.now)) }
+        ensures rest { self.new ≡ without (bytes K.bytes) self.old (Q.bytes query.now) }
     {
         match self.remove_entry(query) {
             Some(pair) => Some(pair.1),
@@ -46,9 +47,9 @@ impl<K: AsBytes + Drop, V: Drop, const PREFIX_LEN: usize> TreeMap<K, V, PREFIX_L
 
     /// Removes the pair whose key's bytes are least, and gives it. Takes no memory.
     pub fn pop_first(&mut self) -> Option<(K, V)>
-        ensures first { TakesFirst self.old result self.new }
         ensures taken { IfSome result (λ pair. TakesPair K.bytes self.old pair self.new) }
         ensures len { length self.new + (if is_some result then 1 else 0) ≡ length self.old }
+        ensures first { TakesFirst self.old result self.new }
     {
         self.tree.law();
         let id = self.tree.first()?;
@@ -57,9 +58,9 @@ impl<K: AsBytes + Drop, V: Drop, const PREFIX_LEN: usize> TreeMap<K, V, PREFIX_L
 
     /// Removes the pair whose key's bytes are greatest, and gives it. Takes no memory.
     pub fn pop_last(&mut self) -> Option<(K, V)>
-        ensures last { TakesLast self.old result self.new }
         ensures taken { IfSome result (λ pair. TakesPair K.bytes self.old pair self.new) }
         ensures len { length self.new + (if is_some result then 1 else 0) ≡ length self.old }
+        ensures last { TakesLast self.old result self.new }
     {
         self.tree.law();
         let id = self.tree.last()?;

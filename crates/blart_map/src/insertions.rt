@@ -23,15 +23,18 @@ impl<K: AsBytes + Drop, V: Drop, const PREFIX_LEN: usize> TreeMap<K, V, PREFIX_L
     /// assert_eq!(map.get(&"cat"), Some(&2));
     /// ```
     pub fn try_insert(&mut self, key: K, value: V) -> Result<Option<V>, TryInsertError>
-        ensures put { Puts K.bytes (option_map (λ pair. pair.1)) self.old (key, value) result self.new }
         ensures old { IfOk result (λ old. old ≡ value_at K.bytes self.old (K.bytes key)) }
-        ensures updates { OnOk result (Updates K.bytes self.old self.new (K.bytes key) (Some (key, value))) }
-        ensures len { IfOk result (λ old. length self.new ≡ length self.old + (if is_some old then 0 else 1)) }
+        ensures updates { OnOk result
+            (Updates K.bytes self.old self.new (K.bytes key) (Some (key, value))) }
+        ensures len { IfOk result
+            (λ old. length self.new ≡ length self.old + (if is_some old then 0 else 1)) }
         ensures fronts { OnOk result ((r : List ℕ) → begins (K.bytes key) r ≡ true
             → pair_before K.bytes self.new r ≡ Some (key, value)) }
         ensures err { OnErr result (self.new ≡ self.old) }
         ensures free { OnOk result (overlaps K.bytes self.old (K.bytes key) ≡ false) }
         ensures why { IfErr result (Refuses K.bytes self.old (K.bytes key)) }
+        ensures put { Puts K.bytes (option_map (λ pair. pair.1))
+            self.old (key, value) result self.new }
     {
         match self.replace_entry(key, value) {
             Ok(Some(old)) => Ok(Some(old.1)),
@@ -42,15 +45,17 @@ impl<K: AsBytes + Drop, V: Drop, const PREFIX_LEN: usize> TreeMap<K, V, PREFIX_L
 
     /// Puts the pair in the place of one with the same bytes, which is the answer, or adds it. Errors are as those of [`TreeMap::try_insert`].
     pub fn replace_entry(&mut self, key: K, value: V) -> Result<Option<(K, V)>, TryInsertError>
-        ensures put { Puts K.bytes (λ pair. pair) self.old (key, value) result self.new }
         ensures old { IfOk result (λ old. old ≡ pair_at K.bytes self.old (K.bytes key)) }
-        ensures updates { OnOk result (Updates K.bytes self.old self.new (K.bytes key) (Some (key, value))) }
-        ensures len { IfOk result (λ old. length self.new ≡ length self.old + (if is_some old then 0 else 1)) }
+        ensures updates { OnOk result
+            (Updates K.bytes self.old self.new (K.bytes key) (Some (key, value))) }
+        ensures len { IfOk result
+            (λ old. length self.new ≡ length self.old + (if is_some old then 0 else 1)) }
         ensures fronts { OnOk result ((r : List ℕ) → begins (K.bytes key) r ≡ true
             → pair_before K.bytes self.new r ≡ Some (key, value)) }
         ensures err { OnErr result (self.new ≡ self.old) }
         ensures free { OnOk result (overlaps K.bytes self.old (K.bytes key) ≡ false) }
         ensures why { IfErr result (Refuses K.bytes self.old (K.bytes key)) }
+        ensures put { Puts K.bytes (λ pair. pair) self.old (key, value) result self.new }
     {
         self.law();
         let point = self.tree.point(key.as_bytes());
@@ -68,14 +73,16 @@ impl<K: NoPrefixesBytes + Drop, V: Drop, const PREFIX_LEN: usize> TreeMap<K, V, 
     /// assert_eq!(map.insert(U32Key::new(258), 'b')?, Some('a'));
     /// ```
     pub fn insert(&mut self, key: K, value: V) -> Result<Option<V>, AllocError>
-        ensures put { Inserts K.bytes self.old (key, value) result self.new }
         ensures old { IfOk result (λ old. old ≡ value_at K.bytes self.old (K.bytes key)) }
-        ensures updates { OnOk result (Updates K.bytes self.old self.new (K.bytes key) (Some (key, value))) }
-        ensures len { IfOk result (λ old. length self.new ≡ length self.old + (if is_some old then 0 else 1)) }
+        ensures updates { OnOk result
+            (Updates K.bytes self.old self.new (K.bytes key) (Some (key, value))) }
+        ensures len { IfOk result
+            (λ old. length self.new ≡ length self.old + (if is_some old then 0 else 1)) }
         ensures fronts { OnOk result ((r : List ℕ) → begins (K.bytes key) r ≡ true
             → pair_before K.bytes self.new r ≡ Some (key, value)) }
         ensures err { OnErr result (self.new ≡ self.old) }
         ensures absent { OnErr result (has K.bytes self.old (K.bytes key) ≡ false) }
+        ensures put { Inserts K.bytes self.old (key, value) result self.new }
     {
         self.law();
         put_lawful(&mut self.tree, key, value)

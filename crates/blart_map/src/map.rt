@@ -147,7 +147,8 @@ impl<K: AsBytes + Drop, V: Drop, const PREFIX_LEN: usize> TreeMap<K, V, PREFIX_L
     ) -> Option<(&K, &V)>
         ensures value { shown result ≡ front_of (bytes K.bytes) self.now (Q.bytes query.now) }
         ensures pair { shown result ≡ pair_before K.bytes self.now (Q.bytes query.now) }
-        ensures found { IfSome result (λ pair. begins (K.bytes pair.0.now) (Q.bytes query.now) ≡ true) }
+        ensures found { IfSome result
+            (λ pair. begins (K.bytes pair.0.now) (Q.bytes query.now) ≡ true) }
         ensures counted { visits.new.count ≤ visits.old.count + length (Q.bytes query.now) + 1 }
         ensures grows { visits.old.count ≤ visits.new.count }
         ensures empty { self.now ≡ [] → visits.new.count ≡ visits.old.count }
@@ -162,7 +163,8 @@ impl<K: AsBytes + Drop, V: Drop, const PREFIX_LEN: usize> TreeMap<K, V, PREFIX_L
     pub fn prefix_get_key_value<Q: AsBytes>(&self, query: &Q) -> Option<(&K, &V)>
         ensures value { shown result ≡ front_of (bytes K.bytes) self.now (Q.bytes query.now) }
         ensures pair { shown result ≡ pair_before K.bytes self.now (Q.bytes query.now) }
-        ensures found { IfSome result (λ pair. begins (K.bytes pair.0.now) (Q.bytes query.now) ≡ true) }
+        ensures found { IfSome result
+            (λ pair. begins (K.bytes pair.0.now) (Q.bytes query.now) ≡ true) }
     {
         self.prefix_get_key_value_counted(query, &mut Visits::new())
     }
@@ -188,7 +190,8 @@ impl<K: AsBytes + Drop, V: Drop, const PREFIX_LEN: usize> TreeMap<K, V, PREFIX_L
     /// The pair whose key's bytes are least.
     pub fn first_key_value(&self) -> Option<(&K, &V)>
         ensures value { shown result ≡ slice_get self.now 0 }
-        ensures stored { IfSome (shown result) (λ pair. pair_at K.bytes self.now (K.bytes pair.0) ≡ Some pair) }
+        ensures stored { IfSome (shown result)
+            (λ pair. pair_at K.bytes self.now (K.bytes pair.0) ≡ Some pair) }
     {
         self.tree.law();
         let id = self.tree.first()?;
@@ -198,7 +201,8 @@ impl<K: AsBytes + Drop, V: Drop, const PREFIX_LEN: usize> TreeMap<K, V, PREFIX_L
     /// The pair whose key's bytes are greatest.
     pub fn last_key_value(&self) -> Option<(&K, &V)>
         ensures value { shown result ≡ slice_get self.now (length self.now - 1) }
-        ensures stored { IfSome (shown result) (λ pair. pair_at K.bytes self.now (K.bytes pair.0) ≡ Some pair) }
+        ensures stored { IfSome (shown result)
+            (λ pair. pair_at K.bytes self.now (K.bytes pair.0) ≡ Some pair) }
     {
         self.tree.law();
         let id = self.tree.last()?;

@@ -25,13 +25,13 @@ impl<K: AsBytes + Drop, V: Drop, const PREFIX_LEN: usize> TreeMap<K, V, PREFIX_L
     /// assert_eq!(map.prefix_get(&"cat"), Some(&3));
     /// ```
     pub fn prefix_insert(&mut self, key: K, value: V) -> Result<(), AllocError>
-        ensures put { PutsOver K.bytes self.old (key, value) result self.new }
         ensures over { OnOk result (Overwrites K.bytes self.old (key, value) self.new) }
         ensures fronts { OnOk result ((r : List ℕ) → begins (K.bytes key) r ≡ true
             → pair_before K.bytes self.new r ≡ Some (key, value)) }
         ensures err { OnErr result (self.new ≡ self.old) }
         ensures free { OnErr result (overlaps K.bytes self.old (K.bytes key) ≡ false) }
         ensures absent { OnErr result (has K.bytes self.old (K.bytes key) ≡ false) }
+        ensures put { PutsOver K.bytes self.old (key, value) result self.new }
     {
         self.tree.law();
         match self.tree.point(key.as_bytes()) {

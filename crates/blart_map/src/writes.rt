@@ -21,7 +21,8 @@ impl<K: AsBytes + Drop, V: Drop, const PREFIX_LEN: usize> TreeMap<K, V, PREFIX_L
     /// }
     /// ```
     pub fn get_mut<Q: AsBytes>(&mut self, query: &Q) -> Option<&mut V>
-        ensures* writes_back { sem 𝓛 (lends_at K.row V.row PREFIX_LEN.row K.AsBytes self.entry (Q.bytes query.now) result) }
+        ensures* writes_back { sem 𝓛
+            (lends_at K.row V.row PREFIX_LEN.row K.AsBytes self.entry (Q.bytes query.now) result) }
         ensures value { option_copied_mut result
             ≡ option_map (λ pair. pair.1) (at (bytes K.bytes) self.old (Q.bytes query.now)) }
         ensures stored { option_copied_mut result ≡ value_at K.bytes self.old (Q.bytes query.now) }
@@ -35,10 +36,12 @@ impl<K: AsBytes + Drop, V: Drop, const PREFIX_LEN: usize> TreeMap<K, V, PREFIX_L
 
     /// The value of the key whose bytes begin the query's, to be written. No other value changes, and no key.
     pub fn prefix_get_mut<Q: AsBytes>(&mut self, query: &Q) -> Option<&mut V>
-        ensures* writes_back { sem 𝓛 (lends_at_front K.row V.row PREFIX_LEN.row K.AsBytes self.entry (Q.bytes query.now) result) }
+        ensures* writes_back { sem 𝓛
+            (lends_at_front K.row V.row PREFIX_LEN.row K.AsBytes self.entry (Q.bytes query.now) result) }
         ensures value { option_copied_mut result
             ≡ option_map (λ pair. pair.1) (front_of (bytes K.bytes) self.old (Q.bytes query.now)) }
-        ensures stored { option_copied_mut result ≡ value_before K.bytes self.old (Q.bytes query.now) }
+        ensures stored { option_copied_mut result
+            ≡ value_before K.bytes self.old (Q.bytes query.now) }
     {
         self.tree.law();
         match self.tree.search_front(query.as_bytes(), &mut Visits::new()) {

@@ -1,0 +1,15 @@
+-- The words of the contracts of maps, and of the bytes of keys, in one module.
+-- what a key stands for
+pub use Rattle.blart_keys.specs.KeyBytes.{u8_bytes, array_bytes, slice_bytes, vec_bytes, u32_bytes, u64_bytes, i32_bytes, zkey_bytes, ref_bytes}
+pub use Rattle.std.specs.Prelude.{string_bytes}
+pub use Rattle.blart_keys.specs.Bytes.{begins, related, less, common}
+-- what a map has at some bytes; the first three stay closed in proofs
+unfoldable pub use Rattle.blart_keys.specs.Stored.{pair_at, pair_before, overlaps}
+pub use Rattle.blart_keys.specs.Stored.{value_at, value_before, has, shown, Updates, HasNothing, TakesPair, Overwrites, WritesAt, WritesBefore, Refuses, CanCount}
+-- a map as a list of pairs
+pub use Rattle.blart_keys.specs.Steps.{bytes, Puts, Inserts, PutsOver}
+pub use Rattle.blart_keys.specs.Content.{IsContent, at, stores, front_of, under, between, conflict, subtree, without, IsPut, IsOver}
+pub use Rattle.blart_keys.specs.Bounds.{bound_bytes, in_order, CanRange}
+pub use Rattle.blart_keys.specs.Fronts.{fronts}
+-- what came from a walk
+pub use Rattle.blart_keys.specs.Walks.{TakesFirst, TakesLast, Walked}

@@ -1,0 +1,16 @@
+//! Functions over maps as users write them, each with a contract that says its whole effect.
+//!
+//! They are proved from the contracts of `blart` alone.
+#![tactic(auto)]
+
+mod counts;
+mod moves;
+mod queues;
+mod routes;
+mod sums;
+
+pub use counts::{count, count_in_place, insert_if_absent, raise};
+pub use moves::{add_or_give_back, len_with, len_without, move_one, rename};
+pub use queues::{following, take_least, take_next, to_end};
+pub use routes::{AddError, Table, hit, route, take_over};
+pub use sums::{count_between, sum_below, sum_below_chain};

@@ -1,0 +1,90 @@
+//! Pairs that go from one place to another.
+ghost use Rattle.std.specs.Prelude.{◌≡◌, ◌≢◌, ◌+◌, ℕ, List, true, false, length, OnOk, IfOk, OnErr, None, Some, if◌then◌else◌};
+ghost use Rattle.blart.specs.Words.{pair_at, value_at, has, overlaps, slice_bytes};
+
+use blart::{AsBytes, Map, NoPrefixesBytes, TryInsertError};
+use std::alloc::AllocError;
+
+/// Moves the pair of a key, and answers whether there was one. A refusal leaves both maps as they were.
+pub fn move_one<K: AsBytes + Copy + Drop, V: Copy + Drop>(
+    from: &mut Map<K, V>,
+    to: &mut Map<K, V>,
+    key: &K,
+) -> Result<bool, TryInsertError>
+    ensures moved { IfOk result (λ moved. moved ≡ has K.bytes from.old (K.bytes key.now)) }
+    ensures gone { OnOk result (pair_at K.bytes from.new (K.bytes key.now) ≡ None) }
+    ensures left { (q : List ℕ) → q ≢ K.bytes key.now → pair_at K.bytes from.new q ≡ pair_at K.bytes from.old q }
+    ensures there { has K.bytes from.old (K.bytes key.now) ≡ true
+        → OnOk result (pair_at K.bytes to.new (K.bytes key.now) ≡ pair_at K.bytes from.old (K.bytes key.now)) }
+    ensures others { (q : List ℕ) → q ≢ K.bytes key.now → pair_at K.bytes to.new q ≡ pair_at K.bytes to.old q }
+    ensures refused { OnErr result ((from.new ≡ from.old) × (to.new ≡ to.old)) }
+{
+    let Some((stored, value)) = from.get_key_value(key) else {
+        return Ok(false);
+    };
+    to.try_insert(*stored, *value)?;
+    from.remove(key);
+    Ok(true)
+}
+
+/// Gives the value of one key to another. A refused value is gone with its old key.
+pub fn rename(
+    store: &mut Map<&'static str, u64>,
+    from: &str,
+    to: &'static str,
+) -> Result<bool, TryInsertError>
+    ensures renamed { IfOk result (λ renamed. renamed ≡ has slice_bytes store.old from.now) }
+    ensures put { has slice_bytes store.old from.now ≡ true
+        → OnOk result (value_at slice_bytes store.new to.now ≡ value_at slice_bytes store.old from.now) }
+    ensures gone { from.now ≢ to.now → pair_at slice_bytes store.new from.now ≡ None }
+    ensures others { (q : List ℕ) → q ≢ from.now → q ≢ to.now
+        → pair_at slice_bytes store.new q ≡ pair_at slice_bytes store.old q }
+{
+    let Some((_, value)) = store.remove_entry(&from) else {
+        return Ok(false);
+    };
+    store.try_insert(to, value)?;
+    Ok(true)
+}
+
+/// Stores a pair, or gives it back where its key conflicts.
+pub fn add_or_give_back<K: AsBytes + Drop, V: Drop>(
+    store: &mut Map<K, V>,
+    key: K,
+    value: V,
+) -> Result<Option<(K, V)>, AllocError>
+    ensures given_back { IfOk result (λ back. back ≡ (if overlaps K.bytes store.old (K.bytes key) then Some (key, value) else None)) }
+    ensures stored { overlaps K.bytes store.old (K.bytes key) ≡ false
+        → OnOk result (pair_at K.bytes store.new (K.bytes key) ≡ Some (key, value)) }
+    ensures others { (q : List ℕ) → q ≢ K.bytes key → pair_at K.bytes store.new q ≡ pair_at K.bytes store.old q }
+    ensures refused { OnErr result (store.new ≡ store.old) }
+{
+    if store.conflicts(&key) {
+        return Ok(Some((key, value)));
+    }
+    match store.try_insert(key, value) {
+        Ok(_) => Ok(None),
+        Err(TryInsertError::Memory(refused)) => Err(refused),
+        Err(TryInsertError::Prefix(_)) => unreachable!(),
+    }
+}
+
+/// The length after an insertion.
+pub fn len_with<K: NoPrefixesBytes + Drop, V: Drop>(
+    store: &mut Map<K, V>,
+    key: K,
+    value: V,
+) -> Result<usize, AllocError>
+    ensures { IfOk result (λ n. n ≡ length store.old + (if has K.bytes store.old (K.bytes key) then 0 else 1)) }
+{
+    store.insert(key, value)?;
+    Ok(store.len())
+}
+
+/// The length after a removal.
+pub fn len_without<K: AsBytes + Drop, V: Drop>(store: &mut Map<K, V>, key: &K) -> usize
+    ensures { result + (if has K.bytes store.old (K.bytes key.now) then 1 else 0) ≡ length store.old }
+{
+    store.remove(key);
+    store.len()
+}

@@ -1,0 +1,86 @@
+//! Routes of which none begins another.
+ghost use Rattle.std.specs.Prelude.{◌≡◌, ◌≢◌, ◌↔◌, ◌+◌, ◌<◌, ◌^◌, ℕ, List, true, false, option_map, unwrap_or, OnOk, OnErr, IsErrOf, Some};
+ghost use Rattle.blart.specs.Words.{pair_at, pair_before, value_at, value_before, overlaps, begins, related, slice_bytes};
+
+use blart::{AsBytes, Map, TreeMap, TryInsertError};
+use std::alloc::AllocError;
+use std::marker::Model;
+
+/// The target of the route that begins the path, or else 0.
+pub fn route(routes: &Map<&[u8], u32>, path: &[u8]) -> u32
+    ensures { result ≡ unwrap_or (value_before slice_bytes routes.now path.now) 0 }
+{
+    routes.prefix_get(&path).copied().unwrap_or(0)
+}
+
+/// Counts a path at the route that begins it, and answers whether there is one.
+pub fn hit<K: AsBytes + Drop>(hits: &mut Map<K, u64>, path: &[u8]) -> bool
+    requires { unwrap_or (value_before K.bytes hits.old path.now) 0 + 1 < 2 ^ 64 }
+    ensures counted { value_before K.bytes hits.new path.now ≡ option_map (λ n. n + 1) (value_before K.bytes hits.old path.now) }
+    ensures others { (q : List ℕ) → begins q path.now ≡ false → pair_at K.bytes hits.new q ≡ pair_at K.bytes hits.old q }
+{
+    match hits.prefix_get_mut(&path) {
+        Some(n) => {
+            *n += 1;
+            true
+        }
+        None => false,
+    }
+}
+
+/// Puts a route in the place of all that it begins or that begin it. An error leaves the routes as they were.
+pub fn take_over<K: AsBytes + Drop>(
+    routes: &mut Map<K, u32>,
+    front: K,
+    target: u32,
+) -> Result<(), AllocError>
+    ensures routed { OnOk result ((path : List ℕ) → begins (K.bytes front) path ≡ true
+        → value_before K.bytes routes.new path ≡ Some target) }
+    ensures others { (q : List ℕ) → related q (K.bytes front) ≡ false
+        → pair_at K.bytes routes.new q ≡ pair_at K.bytes routes.old q }
+    ensures refused { OnErr result (routes.new ≡ routes.old) }
+{
+    routes.prefix_insert(front, target)
+}
+
+/// Why a route was refused.
+#[derive(Debug, Drop)]
+pub enum AddError {
+    /// It overlaps one that stands.
+    Overlap,
+    /// There was no memory.
+    Memory,
+}
+
+/// Routes of which none begins another.
+#[derive(Drop)]
+pub struct Table {
+    routes: TreeMap<&'static [u8], u32, 16>,
+}
+
+impl Model for Table {
+    ghost use Rattle.std.specs.Prelude.{ℕ, List};
+    ghost use denote.Ref.{Bor};
+
+    ghost Value = { List (Bor (List ℕ) × ℕ) };
+
+    ghost view = { λ t. t.routes };
+}
+
+impl Table {
+    /// Adds a route, unless one overlaps it. A refusal leaves the table as it was.
+    pub fn add(&mut self, front: &'static [u8], target: u32) -> Result<(), AddError>
+        ensures added { OnOk result (value_at slice_bytes self.new front.now ≡ Some target) }
+        ensures others { (q : List ℕ) → q ≢ front.now → value_at slice_bytes self.new q ≡ value_at slice_bytes self.old q }
+        ensures routes { OnOk result ((path : List ℕ) → begins front.now path ≡ true
+            → value_before slice_bytes self.new path ≡ Some target) }
+        ensures overlap { IsErrOf result AddError.Overlap ↔ (overlaps slice_bytes self.old front.now ≡ true) }
+        ensures refused { OnErr result (self.new ≡ self.old) }
+    {
+        match self.routes.try_insert(front, target) {
+            Ok(_) => Ok(()),
+            Err(TryInsertError::Prefix(_)) => Err(AddError::Overlap),
+            Err(TryInsertError::Memory(_)) => Err(AddError::Memory),
+        }
+    }
+}
