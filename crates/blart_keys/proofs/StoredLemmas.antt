@@ -368,3 +368,11 @@ module _ {K V : Type 0} (kb : K → List ℕ) where
 -- so few items are so few where some are left out
 pub can_count_filter : {X : Type 0} (p : X → Bool) (S : List X) → CanCount S → CanCount (filter p S)
 can_count_filter p S h = omega (arith, length-filter p S, count_by-le-length p S)
+
+-- on stored bytes both look-ups agree
+pub before_agrees : {K V : Type 0} (kb : K → List ℕ) (S : List (K × V)) (q : List ℕ) → IsContent (bytes kb) S → has kb S q ≡ true → pair_before kb S q ≡ pair_at kb S q
+before_agrees {K} {V} kb S q content there = by (pair_at kb S q) refl
+  where
+    by : (o : Option (K × V)) → pair_at kb S q ≡ o → pair_before kb S q ≡ pair_at kb S q
+    by None e = absurd (false≢true (ap (λ o. is_some o) (sym e) ∙ there))
+    by (Some x) e = pair_before-at kb S content q x e ∙ sym e

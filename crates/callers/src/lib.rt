@@ -8,9 +8,11 @@ mod moves;
 mod queues;
 mod routes;
 mod sums;
+mod walks;
 
 pub use counts::{count, count_in_place, insert_if_absent, raise};
 pub use moves::{add_or_give_back, len_with, len_without, move_one, rename};
 pub use queues::{following, take_least, take_next, to_end};
 pub use routes::{AddError, Table, hit, route, take_over};
 pub use sums::{count_between, sum_below, sum_below_chain};
+pub use walks::{from_both_ends, get_by_front};
