@@ -1,5 +1,5 @@
 -- What a test of a list finds.
-use Rattle.std.proofs.Common.{◌≡◌, Bool, true, false, cond, ◌||◌, List, [], ◌∷◌, Some, None, refl}
+use Rattle.std.proofs.Common.{◌≡◌, Bool, true, false, cond, ◌||◌, List, [], ◌∷◌, Some, refl}
 use Rattle.std.specs.Option.{IsSome}
 use Rattle.std.specs.List.{find, list_any}
 

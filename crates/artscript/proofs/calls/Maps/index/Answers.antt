@@ -1,4 +1,4 @@
-use Rattle.std.proofs.Common.{sym, ◌∙◌, bytes_eq, arith, true, false, ◌≡◌, rules}
+use Rattle.std.proofs.Common.{sym, ◌∙◌, bytes_eq, arith, true, ◌≡◌, rules}
 use Rattle.artscript.proofs.Found.{find_some}
 use Rattle.artscript.proofs.calls.Maps.index.Goals as goal
 
