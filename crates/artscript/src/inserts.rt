@@ -1,0 +1,26 @@
+//! The calls that only keys of which none begins another have.
+use crate::calls::Maps;
+use crate::failure::Answered;
+use crate::names::Name;
+use crate::text::{Shown, Text};
+use crate::words::Words;
+
+impl<const PREFIX_LEN: usize> Maps<[u8; 3], PREFIX_LEN> {
+    /// Makes the call of this name with these words behind it, and adds its answer.
+    pub(crate) fn call_of_three(
+        &mut self,
+        name: Name,
+        words: Words<'_>,
+        text: &mut Text,
+    ) -> Answered {
+        match name {
+            Name::Insert => self.insert(words, text),
+            _ => self.call(name, words, text),
+        }
+    }
+
+    fn insert(&mut self, mut words: Words<'_>, text: &mut Text) -> Answered {
+        let (key, value) = words.last_pair()?;
+        Ok(self.first.insert(key, value).show(text)?)
+    }
+}

@@ -1,0 +1,59 @@
+//! Answers the lines of a script of calls of the map, each on a line of standard output.
+//!
+//! The script is answered over maps of six lengths of kept prefixes, which must give the same answers.
+#![tactic(auto)]
+
+mod calls;
+mod drives;
+mod failure;
+mod inserts;
+mod keys;
+mod lengths;
+mod look_ups;
+mod names;
+mod session;
+mod text;
+mod walks;
+mod words;
+
+use crate::failure::Failure;
+use crate::lengths::answers_at_each_length;
+use std::io::{Read, Write};
+use std::process::ExitCode;
+
+fn main(rt: HostRuntime) -> ExitCode {
+    match run(&rt) {
+        Ok(()) => ExitCode::SUCCESS,
+        Err(failure) => {
+            let _ = report(&rt, failure);
+            ExitCode::FAILURE
+        }
+    }
+}
+
+// Reads the script and writes its answers.
+fn run(rt: &HostRuntime) -> Result<(), Failure> {
+    let mut script = Vec::new(rt.alloc());
+    if rt.stdin().read_to_end(&mut script).is_err() {
+        return Err(Failure::Read);
+    }
+    let answers = answers_at_each_length(rt.alloc(), &script)?;
+    let mut output = rt.stdout();
+    if output.write_all(answers.as_slice()).is_err() || output.flush().is_err() {
+        return Err(Failure::Write);
+    }
+    Ok(())
+}
+
+// Writes on standard error why there are no answers.
+fn report(rt: &HostRuntime, failure: Failure) -> std::io::Result<()> {
+    let mut errors = rt.stderr();
+    errors.write_all(b"artscript: ")?;
+    match failure {
+        Failure::Read => errors.write_all(b"read failed")?,
+        Failure::Write => errors.write_all(b"write failed")?,
+        Failure::Memory(_) => errors.write_all(b"out of memory")?,
+        Failure::Differs(text) => errors.write_all(text.as_slice())?,
+    }
+    errors.write_all(b"\n")
+}

@@ -1,0 +1,76 @@
+//! A script from its lines to its answers.
+use crate::calls::Maps;
+use crate::failure::Unanswered;
+use crate::names::name_of;
+use crate::text::Text;
+use crate::words::Words;
+use std::alloc::{AllocError, Global};
+use std::iter::Iterator;
+
+/// The answers to the lines of the script, each ended by a line feed.
+pub(crate) fn answers<const PREFIX_LEN: usize>(
+    alloc: Global,
+    script: &[u8],
+) -> Result<Text, AllocError> {
+    let mut session = Session::<PREFIX_LEN>::Bytes(Maps::new(alloc));
+    let mut text = Text::new(alloc);
+    if script.is_empty() {
+        return Ok(text);
+    }
+    let lines = script.strip_suffix(b"\n").unwrap_or(script);
+    for line in lines.split(|byte| *byte == b'\n') {
+        session.reply(alloc, line, &mut text)?;
+        text.push(b"\n")?;
+    }
+    Ok(text)
+}
+
+// The maps of the part that a script is in.
+#[derive(Drop)]
+enum Session<const PREFIX_LEN: usize> {
+    Bytes(Maps<Vec<u8>, PREFIX_LEN>),
+    Three(Maps<[u8; 3], PREFIX_LEN>),
+}
+
+impl<const PREFIX_LEN: usize> Session<PREFIX_LEN> {
+    // Adds what stands for the line: itself, its answer or a question mark.
+    fn reply(&mut self, alloc: Global, line: &[u8], text: &mut Text) -> Result<(), AllocError> {
+        if is_remark(line) {
+            return text.push(line);
+        }
+        let mut answer = Text::new(alloc);
+        match self.call(alloc, line, &mut answer) {
+            Ok(()) => text.push(answer.as_slice()),
+            Err(Unanswered::NoCall) => text.push(b"?"),
+            Err(Unanswered::Memory(refused)) => Err(refused),
+        }
+    }
+
+    // Makes the call that the line is, and adds its answer.
+    fn call(&mut self, alloc: Global, line: &[u8], text: &mut Text) -> Result<(), Unanswered> {
+        if line == b"keys bytes".as_slice() {
+            *self = Session::Bytes(Maps::new(alloc));
+            return Ok(text.push(b"()")?);
+        }
+        if line == b"keys three".as_slice() {
+            *self = Session::Three(Maps::new(alloc));
+            return Ok(text.push(b"()")?);
+        }
+        let mut words = Words::new(line, b' ', alloc);
+        let Some(name) = name_of(words.word()?) else {
+            return Err(Unanswered::NoCall);
+        };
+        match self {
+            Session::Bytes(maps) => maps.call(name, words, text),
+            Session::Three(maps) => maps.call_of_three(name, words, text),
+        }
+    }
+}
+
+// Whether the line is empty or begins with `#`.
+fn is_remark(line: &[u8]) -> bool {
+    match line {
+        [] => true,
+        [first, ..] => *first == b'#',
+    }
+}
