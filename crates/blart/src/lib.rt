@@ -22,6 +22,3 @@ pub use blart_map::{InsertPrefixError, TreeMap, TryInsertError};
 pub use error::{RunError, fault_line};
 pub use program::run;
 pub use watched::Watched;
-
-#[cfg(test)]
-mod tests;
