@@ -20,6 +20,3 @@ pub use records::ids::LeafId;
 pub use records::leaves::Leaves;
 pub use tree::{DEFAULT_PREFIX_LEN, Tree};
 pub use visits::Visits;
-
-#[cfg(test)]
-mod tests;

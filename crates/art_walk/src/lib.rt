@@ -20,6 +20,3 @@ pub use prefix::Prefix;
 pub use range::Range;
 pub use subtree_iter::SubtreeIter;
 pub use values::Values;
-
-#[cfg(test)]
-mod tests;

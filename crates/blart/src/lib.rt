@@ -25,6 +25,3 @@ pub use watched::Watched;
 
 /// A [`TreeMap`] of which an inner node keeps 16 bytes of its compressed prefix.
 pub type Map<K, V> = TreeMap<K, V, { map::DEFAULT_PREFIX_LEN }>;
-
-#[cfg(test)]
-mod tests;

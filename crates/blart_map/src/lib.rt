@@ -17,6 +17,3 @@ pub use art_walk::{Cursor, Iter, Keys, Prefix, Range, SubtreeIter, Values};
 pub use blart_keys::{Call, InsertPrefixError, Reply, TryInsertError};
 pub use calls::{bounds_in_order, drive};
 pub use map::TreeMap;
-
-#[cfg(test)]
-mod tests;

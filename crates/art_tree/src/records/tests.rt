@@ -1,14 +1,12 @@
 //! Records that are put in, found and taken out.
 ghost use Rattle.std.specs.Prelude.{◌≡◌};
 
-use crate::Tree;
 use crate::records::children::Children;
 use crate::records::ids::{Child, Edge, LeafId, NodeId};
 use crate::records::leaves::{Leaf, Leaves};
 use crate::records::nodes::{Inner, Nodes};
 use crate::records::store::{Slot, Store};
-use crate::tests::add;
-use crate::visits::Visits;
+use crate::{Point, Tree, Visits};
 use std::process::Abort;
 use std::test::Fail;
 
@@ -91,6 +89,19 @@ fn a_node_gains_and_loses_edges(rt: HostRuntime) -> Result<(), Fail> {
     assert_eq!(rt; nodes.live(), 0);
     nodes.clear();
     Ok(())
+}
+
+// Adds a pair whose key is related to no other.
+fn add(tree: &mut Tree<[u8; 3], usize, 0>, key: [u8; 3], value: usize) -> Result<(), Fail> {
+    let point = tree.point(&key);
+    tree.make_room(&point)?;
+    match point {
+        Point::Exact(_) | Point::Related { .. } => Err(Fail::new("the key conflicts")),
+        Point::Empty | Point::Free(_) => {
+            tree.place(point, key, value);
+            Ok(())
+        }
+    }
 }
 
 // What a walk down from the root met, and what is still to be met.

@@ -1,0 +1,157 @@
+//! How many stored keys a look-up asks for their bytes.
+use art_tree::{Point, Tree, Visits};
+use blart_keys::AsBytes;
+use blart_map::TreeMap;
+use std::cell::Cell;
+use std::process::Abort;
+use std::test::Fail;
+
+// A key of three bytes that counts how often its bytes are asked for.
+#[derive(Drop)]
+struct Asked<'a> {
+    bytes: [u8; 3],
+    count: &'a Cell<usize>,
+}
+
+impl<'a> AsBytes for Asked<'a> {
+    ghost use Rattle.std.specs.Prelude.{⊤};
+
+    ghost bytes = { λ s. s.bytes };
+
+    ghost IsValue = { λ s. ⊤ };
+
+    fn as_bytes(&self) -> &[u8] {
+        self.count.set(self.count.get().wrapping_add(1));
+        &self.bytes
+    }
+
+    fn value_law(&self) {}
+}
+
+const TEN_BYTES: [u8; 10] = [7, 250, 0, 31, 128, 64, 3, 255, 90, 1];
+
+// The bytes of a place below 1,000.
+fn bytes_of(place: usize) -> [u8; 3] {
+    [
+        TEN_BYTES[place / 100 % 10],
+        TEN_BYTES[place / 10 % 10],
+        TEN_BYTES[place % 10],
+    ]
+}
+
+// At least one stored key was asked, and at most four.
+fn assert_few(rt: &impl Abort, count: &Cell<usize>) {
+    let asked = count.get();
+    assert!(rt; 1 <= asked && asked <= 4, "{asked} keys were asked");
+    count.set(0);
+}
+
+fn asked_in_map<const P: usize>(rt: &(impl Abort + AllocGlobal)) -> Result<(), Fail> {
+    let count = Cell::new(0);
+    let mut map = TreeMap::<Asked<'_>, usize, P>::with_prefix_len(rt.alloc());
+    for place in 0..1000 {
+        let key = Asked {
+            bytes: bytes_of(place),
+            count: &count,
+        };
+        assert_eq!(rt; map.try_insert(key, place)?, None);
+    }
+    assert_eq!(rt; map.len(), 1000);
+    assert_map_asks_few(rt, &map, &count);
+    assert_absent_asks_few(rt, &map, &count);
+    Ok(())
+}
+
+fn assert_map_asks_few<K: AsBytes + Drop, const P: usize>(
+    rt: &impl Abort,
+    map: &TreeMap<K, usize, P>,
+    count: &Cell<usize>,
+) {
+    count.set(0);
+    for place in 0..1000 {
+        let [a, b, c] = bytes_of(place);
+        assert_eq!(rt; map.get(&[a, b, c]), Some(&place));
+        assert_few(rt, count);
+        assert_eq!(rt; map.prefix_get(&[a, b, c, 7]), Some(&place));
+        assert_few(rt, count);
+    }
+}
+
+// A look-up that finds nothing asks no more: 8 is not one of the ten bytes.
+fn assert_absent_asks_few<K: AsBytes + Drop, const P: usize>(
+    rt: &impl Abort,
+    map: &TreeMap<K, usize, P>,
+    count: &Cell<usize>,
+) {
+    for place in 0..1000 {
+        let [a, b, c] = bytes_of(place);
+        count.set(0);
+        assert_eq!(rt; map.get(&[a, b, 8]), None);
+        assert!(rt; count.get() <= 4);
+        count.set(0);
+        assert_eq!(rt; map.prefix_get(&[a, 8, c]), None);
+        assert!(rt; count.get() <= 4);
+    }
+}
+
+#[test]
+fn a_map_asks_few_keys(rt: HostRuntime) -> Result<(), Fail> {
+    asked_in_map::<0>(&rt)?;
+    asked_in_map::<2>(&rt)?;
+    asked_in_map::<16>(&rt)
+}
+
+// Adds a pair whose key is related to no other.
+fn add<K: AsBytes + Drop, const P: usize>(
+    tree: &mut Tree<K, usize, P>,
+    key: K,
+    value: usize,
+) -> Result<(), Fail> {
+    let point = tree.point(key.as_bytes());
+    tree.make_room(&point)?;
+    match point {
+        Point::Exact(_) | Point::Related { .. } => Err(Fail::new("the key conflicts")),
+        Point::Empty | Point::Free(_) => {
+            tree.place(point, key, value);
+            Ok(())
+        }
+    }
+}
+
+fn asked_in_tree<const P: usize>(rt: &(impl Abort + AllocGlobal)) -> Result<(), Fail> {
+    let count = Cell::new(0);
+    let mut tree: Tree<Asked<'_>, usize, P> = Tree::new(rt.alloc());
+    for place in 0..1000 {
+        let key = Asked {
+            bytes: bytes_of(place),
+            count: &count,
+        };
+        add(&mut tree, key, place)?;
+    }
+    assert_eq!(rt; tree.len(), 1000);
+    assert_tree_asks_few(rt, &tree, &count);
+    Ok(())
+}
+
+fn assert_tree_asks_few<K: AsBytes + Drop, const P: usize>(
+    rt: &impl Abort,
+    tree: &Tree<K, usize, P>,
+    count: &Cell<usize>,
+) {
+    let mut visits = Visits::new();
+    count.set(0);
+    for place in 0..1000 {
+        let bytes = bytes_of(place);
+        assert!(rt; tree.search(&bytes, &mut visits).is_some());
+        assert_few(rt, count);
+        assert!(rt; tree.search_front(&bytes, &mut visits).is_some());
+        assert_few(rt, count);
+    }
+}
+
+#[test]
+fn a_tree_asks_few_keys(rt: HostRuntime) -> Result<(), Fail> {
+    asked_in_tree::<0>(&rt)?;
+    asked_in_tree::<2>(&rt)?;
+    asked_in_tree::<16>(&rt)
+}

@@ -1,0 +1,22 @@
+//! Keys that end in a zero.
+use super::say_refused;
+use blart_keys::{AsBytes, ZKey, ZKeyError};
+use std::process::Abort;
+
+#[test]
+fn zero_ended_keys(rt: HostRuntime) {
+    for text in [b"ab" as &[u8], b"", b"a longer text than the first"] {
+        let inner_zero = ZKey::from_bytes(rt.alloc(), &[1, 0, 2]);
+        assert!(rt; matches!(inner_zero, Err(ZKeyError::InnerZero)));
+        match ZKey::from_bytes(rt.alloc(), text) {
+            Ok(key) => {
+                assert_eq!(rt; key.to_bytes(), text);
+                assert_eq!(rt; key.as_bytes().last(), Some(&0));
+            }
+            Err(refused) => {
+                say_refused(&rt);
+                assert_eq!(rt; refused, ZKeyError::Memory);
+            }
+        }
+    }
+}

@@ -1,0 +1,78 @@
+//! Room for pairs to come.
+ghost use Rattle.std.specs.Prelude.{◌≡◌, ◌+◌, ◌≤◌, ◌<◌, length};
+ghost use Rattle.art_tree.specs.Content.{room};
+
+use super::tree_of;
+use art_tree::{Point, Tree, Visits};
+use std::process::Abort;
+use std::test::Fail;
+
+// Places a pair with no request for memory. Its key is related to no other.
+fn place_in_room<const P: usize>(
+    rt: &impl Abort,
+    tree: &mut Tree<[u8; 2], usize, P>,
+    key: [u8; 2],
+    value: usize,
+)
+    requires { 0 < room tree.old }
+    ensures { room tree.old ≤ room tree.new + 1 }
+{
+    let point = tree.point(&key);
+    match point {
+        Point::Exact(_) | Point::Related { .. } => panic!(rt; "the key conflicts"),
+        Point::Empty | Point::Free(_) => {
+            tree.place(point, key, value);
+        }
+    }
+}
+
+// Places as many pairs as there is room for, each key with its place as value.
+fn place_all<const P: usize>(rt: &impl Abort, tree: &mut Tree<[u8; 2], usize, P>, keys: &[[u8; 2]])
+    requires { length keys.now ≤ room tree.old }
+{
+    for (place, key) in keys.iter().enumerate() {
+        place_in_room(rt, tree, *key, place);
+    }
+}
+
+const KEYS: [[u8; 2]; 6] = [[2, 1], [3, 3], [1, 7], [2, 2], [9, 9], [1, 3]];
+
+fn reserves<const P: usize>(rt: &(impl Abort + AllocGlobal)) -> Result<(), Fail> {
+    let mut tree: Tree<[u8; 2], usize, P> = Tree::new(rt.alloc());
+    tree.reserve(KEYS.len())?;
+    assert_eq!(rt; tree.len(), 0);
+    assert_eq!(rt; tree.inner_nodes(), 0);
+    place_all(rt, &mut tree, &KEYS);
+    assert_eq!(rt; tree.len(), 6);
+    assert_eq!(rt; tree.inner_nodes(), 3);
+    for (place, key) in KEYS.iter().enumerate() {
+        match tree.get(key, &mut Visits::new()) {
+            Some((_, own, value)) => assert!(rt; *own == *key && *value == place),
+            None => panic!(rt; "the key of place {place} is not found"),
+        }
+    }
+    Ok(())
+}
+
+// After room for so many was made, so many placements succeed.
+#[test]
+fn placements_in_reserved_room(rt: HostRuntime) -> Result<(), Fail> {
+    reserves::<0>(&rt)?;
+    reserves::<2>(&rt)?;
+    reserves::<16>(&rt)
+}
+
+// Room that was made at a point lets the pair be placed there, and the point stays good.
+#[test]
+fn room_at_a_point(rt: HostRuntime) -> Result<(), Fail> {
+    let mut tree = tree_of::<2>(&rt, &[b"\x01", b"\x02"])?;
+    let point = tree.point(b"\x02");
+    tree.make_room(&point)?;
+    assert!(rt; matches!(point, Point::Exact(_)));
+    let point = tree.point(b"\x02\x02");
+    tree.make_room(&point)?;
+    assert!(rt; matches!(point, Point::Related { .. }));
+    assert_eq!(rt; tree.len(), 2);
+    assert_eq!(rt; tree.inner_nodes(), 1);
+    Ok(())
+}
