@@ -1,130 +1,25 @@
 -- A descent to a leaf that goes along with a query as long as any.
-use Rattle.std.proofs.Common.{◌≡◌, ℕ, ◌+◌, ◌<◌, ◌≤◌, [], ◌∷◌, ◌++◌, length, take, get_or, ap, arith, sym, subst, Option, Some, None, ◌∙◌, ◌⊎◌, inl, inr, true, false}
+use Rattle.std.proofs.Common.{◌≡◌, ℕ, ◌+◌, ◌<◌, ◌≤◌, [], ◌∷◌, ◌++◌, length, take, get_or, ap, arith, sym, subst, Option, Some, ◌∙◌, ◌⊎◌, inl, inr, true, false}
 use Rattle.std.proofs.lemmas.Bool.{cases_lt, false_from_ne_true}
 use Rattle.std.proofs.lemmas.Bool.Decides.{eqb_tells}
 use Rattle.std.proofs.lemmas.List.{length-take-le}
 use Rattle.blart_keys.specs.Bytes.{common, related}
-use Rattle.art_tree.specs.Begins.{Bytes, Begins, next_byte}
+use Rattle.art_tree.specs.Begins.{Bytes, Begins}
 use Rattle.art_tree.specs.Good.{LeavesMate}
 use Rattle.art_tree.specs.Nodes.{Node}
-use Rattle.art_tree.specs.Kids.{kid_at}
-use Rattle.art_tree.specs.Shape.{Shape, Covers, CoversLeaf, CoversNode, NodeFits, RootFits}
+use Rattle.art_tree.specs.Shape.{Shape, CoversLeaf, CoversNode}
 use Rattle.art_tree.specs.declared.records.ids.Child.{Child}
-use Rattle.art_tree.specs.declared.records.ids.Child.TheVariants.{Leaf, Inner}
-use Rattle.blart_keys.proofs.Options.{not_some, same_some}
-use Rattle.art_tree.proofs.BeginsLemmas.{Begins-length, Begins-itself, Begins-more, Begins-next, Begins-trans, Begins-linear, Begins-equal, Begins-front_edge, Begins-past, Begins-take, length-edge, common-left, common-right, common_length, take_front, related_cases}
+use Rattle.art_tree.proofs.BeginsLemmas.{Begins-itself, Begins-more, Begins-trans, Begins-linear, Begins-equal, Begins-take, length-edge, common-left, common-right, common_length, take_front, related_cases}
 use Rattle.art_tree.proofs.SmallShapes.{unrelated}
 
--- a longer front has no less in common
-pub common_grows : (g f q : Bytes) → Begins g f → length (common g q) ≤ length (common f q)
-common_grows g f q b = common_length (common g q) f q (Begins-trans (common g q) g f (common-left g q) b) (common-right g q)
-
 module _ (keys : ℕ → Option Bytes) (nodes : ℕ → Option Node) (q : Bytes) where
-  -- the descent stands at a child after so many visits, and each key goes on below it or goes along with q no longer than its front does
-  pub record Nears (front_of : ℕ → Bytes) (c : Child) (spent : ℕ) : Type 0 where
-    pub front : Bytes
-    pub covers : Covers keys nodes front_of front c
-    pub best : (j : ℕ) (k : Bytes) → keys j ≡ Some k → Begins front k ⊎ (length (common k q) ≤ length (common front q))
-    pub few : spent ≤ length front
 
   -- no key goes along with q longer
   abbrev pub IsBest : Bytes → Type 0
   IsBest mate = (j : ℕ) (k : Bytes) → keys j ≡ Some k → length (common k q) ≤ length (common mate q)
 
   module _ (root : Option Child) (s : Shape keys nodes root) where
-    -- it starts at the root
-    pub near_start : (c : Child) → root ≡ Some c → Nears s.front_of c 0
-    near_start c is = record { front = []; covers = subst (λ (r : Option Child). RootFits keys nodes s.front_of r) is s.top; best = λ j k e. inl tt; few = omega arith }
 
-    module _ (n : ℕ) (spent : ℕ) (x : Node) (is : nodes n ≡ Some x) (r : Nears s.front_of (Inner n) spent) where
-      fits : NodeFits keys nodes s.front_of (s.front_of n) x
-      fits = s.node n x is
-
-      -- below an edge, where each key of the node that goes on elsewhere goes along with q no further than the node's front
-      step_if : (b : ℕ) (c : Child) → kid_at x.kids b ≡ Some c → ((j : ℕ) (k : Bytes) → keys j ≡ Some k → Begins (s.front_of n) k → Begins (s.front_of n ++ b ∷ []) k ⊎ (length (common k q) ≤ length (common (s.front_of n) q))) → Nears s.front_of c (spent + 1)
-      step_if b c k h =
-          let f : Bytes = s.front_of n in
-          let long : length r.front ≤ length f = Begins-length r.front f r.covers.front in
-          let few : spent ≤ length r.front = r.few in
-          let l : length (f ++ b ∷ []) ≡ length f + 1 = length-edge f b in
-          let grows : length (common f q) ≤ length (common (f ++ b ∷ []) q) = common_grows f (f ++ b ∷ []) q (Begins-front_edge f b) in
-          let grew : length (common r.front q) ≤ length (common f q) = common_grows r.front f q r.covers.front in
-          record {
-            front = f ++ b ∷ [];
-            covers = fits.below b c k;
-            best = λ j k e. elim (r.best j k e) [
-              | inl under ↦ elim (h j k e (r.covers.only j k e under)) [ inl on ↦ inl on | inr le ↦ inr (omega arith) ]
-              | inr le ↦ inr (omega arith)
-            ];
-            few = omega arith;
-          }
-
-      -- a key of the node that goes along with q further goes on by q's byte
-      further : (j : ℕ) (k : Bytes) → keys j ≡ Some k → Begins (s.front_of n) k → (Begins (s.front_of n ++ next_byte (s.front_of n) k ∷ []) q × (length (s.front_of n) < length k)) ⊎ (length (common k q) ≤ length (common (s.front_of n) q))
-      further j k e fk =
-          let f : Bytes = s.front_of n in
-          let h : Bytes = common k q in
-          elim (cases_lt (length f) (length h)) [
-            | inl lt ↦
-                let hk : Begins h k = common-left k q in
-                let l : length h ≤ length k = Begins-length h k hk in
-                inl (Begins-trans (f ++ next_byte f k ∷ []) h q (Begins-past f h k fk hk lt) (common-right k q), (omega arith))
-            | inr le ↦ inr (common_length h f q (Begins-linear h f k (common-left k q) fk le) (common-right k q))
-          ]
-
-      -- the edge at q's byte
-      pub near_match : (c : Child) → x.depth < length q → kid_at x.kids (get_or q x.depth 0) ≡ Some c → Nears s.front_of c (spent + 1)
-      near_match c below k =
-          let f : Bytes = s.front_of n in
-          let at : kid_at x.kids (next_byte f q) ≡ Some c = subst (λ (d : ℕ). kid_at x.kids (get_or q d 0) ≡ Some c) fits.depth k in
-          step_if (next_byte f q) c at (λ j k e fk. elim (further j k e fk) [
-            | inl h ↦ inl (subst (λ (b : ℕ). Begins (f ++ b ∷ []) k) (sym (Begins-next f q (next_byte f k) h.0)) (Begins-more f k fk h.1))
-            | inr le ↦ inr le
-          ])
-
-      -- any edge, where q has ended or the node has no edge at its byte
-      pub near_miss : (b : ℕ) (c : Child) → (length q ≤ x.depth) ⊎ (kid_at x.kids (get_or q x.depth 0) ≡ None) → kid_at x.kids b ≡ Some c → Nears s.front_of c (spent + 1)
-      near_miss b c miss k =
-          let f : Bytes = s.front_of n in
-          step_if b c k (λ j k e fk. elim (further j k e fk) [
-            | inl h ↦ elim miss [
-              | inl ended ↦
-                  let d : x.depth ≡ length f = fits.depth in
-                  let l : length (f ++ next_byte f k ∷ []) ≤ length q = Begins-length (f ++ next_byte f k ∷ []) q h.0 in
-                  let m : length (f ++ next_byte f k ∷ []) ≡ length f + 1 = length-edge f (next_byte f k) in
-                  absurd (omega arith)
-              | inr none ↦
-                  let same : next_byte f q ≡ next_byte f k = Begins-next f q (next_byte f k) h.0 in
-                  absurd (not_some (kid_at x.kids (get_or q x.depth 0)) none (same_some (kid_at x.kids (next_byte f k)) (kid_at x.kids (get_or q x.depth 0)) (ap (kid_at x.kids) (sym same ∙ ap (λ d. get_or q d 0) (sym fits.depth))) (fits.edge j k e fk)))
-            ]
-            | inr le ↦ inr le
-          ])
-
-    -- at a leaf: its key is the best
-    pub near_leaf : (i : ℕ) (spent : ℕ) (mate : Bytes) → Nears s.front_of (Leaf i) spent → keys i ≡ Some mate → IsBest mate
-    near_leaf i spent mate r is j k e =
-        let a : keys i ≡ Some r.covers.key = r.covers.is in
-        let h : r.covers.key ≡ mate = cc in
-        let b : Begins r.front mate = rw (← h) r.covers.front in
-        elim (r.best j k e) [
-          | inl under ↦
-              let same : j ≡ i = r.covers.only j k e under in
-              let f : keys i ≡ Some k = ap keys (sym same) ∙ e in
-              let g : k ≡ mate = cc in
-              let z : length (common k q) ≡ length (common mate q) = ap (λ (k : Bytes). length (common k q)) g in
-              omega arith
-          | inr le ↦ let z : length (common r.front q) ≤ length (common mate q) = common_grows r.front mate q b in omega arith
-        ]
-
-    -- and at most so many visits were made as its key is long
-    pub near_few : (i : ℕ) (spent : ℕ) (mate : Bytes) → Nears s.front_of (Leaf i) spent → keys i ≡ Some mate → spent ≤ length mate
-    near_few i spent mate r is =
-        let a : keys i ≡ Some r.covers.key = r.covers.is in
-        let h : r.covers.key ≡ mate = cc in
-        let b : Begins r.front mate = rw (← h) r.covers.front in
-        let l : length r.front ≤ length mate = Begins-length r.front mate b in
-        let few : spent ≤ length r.front = r.few in
-        omega arith
 
     -- ---- what the best mate says, where it goes along for d bytes
 

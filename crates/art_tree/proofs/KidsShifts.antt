@@ -1,5 +1,5 @@
 -- Edges in the order of their bytes.
-use Rattle.std.proofs.Common.{◌≡◌, ◌≢◌, ℕ, zero, suc, ◌+◌, ◌<◌, ◌≤◌, List, [], ◌∷◌, ◌++◌, length, get_or, take, drop, set, Option, Some, None, IsSome, refl, arith, cond, eqb, true, false, sym, ap, ◌∙◌, inl, inr, subst, eq-eqb}
+use Rattle.std.proofs.Common.{◌≡◌, ◌≢◌, ℕ, zero, suc, ◌+◌, ◌<◌, ◌≤◌, List, [], ◌∷◌, ◌++◌, length, get_or, take, drop, set, Option, Some, None, IsSome, refl, arith, cond, eqb, true, false, sym, ap, ◌∙◌, inl, inr, subst}
 use Rattle.std.proofs.lemmas.Bool.Decides.{eqb_tells, leb_tells}
 use Rattle.std.proofs.lemmas.Bool.{lt-ltb, le-ltb, le-leb, lt-leb}
 use Rattle.std.specs.Prelude.{ltb, leb}
@@ -191,42 +191,6 @@ closed-Ascends (x ∷ y ∷ es) b a =
 pub length-closed : (x : Edge) (es : List Edge) (b : ℕ) → length (closed_behind x es b) ≡ length es
 length-closed x [] b = refl
 length-closed x (y ∷ es) b = ap suc (length-closed y es b)
-
--- edges with the same byte and child are one
-edge_same : (x y : Edge) → x.byte ≡ y.byte → x.to ≡ y.to → x ≡ y
-edge_same x y e u =
-    let f : ℕ → Edge = λ b. record { byte = b; to = x.to } in
-    let g : Child → Edge = λ t. record { byte = y.byte; to = t } in
-    ap f e ∙ ap g u
-
--- two ascending lists with the same children are one
-pub same_kids : (es fs : List Edge) → Ascends es → Ascends fs → ((b : ℕ) → kid_at es b ≡ kid_at fs b) → es ≡ fs
-same_kids [] [] a d h = refl
-same_kids [] (y ∷ fs) a d h = absurd (some_none (kid_at (y ∷ fs) y.byte) (sym (h y.byte)) (let e : eqb y.byte y.byte ≡ true = eq-eqb y.byte y.byte refl in rw e refl))
-same_kids (x ∷ es) [] a d h = absurd (some_none (kid_at (x ∷ es) x.byte) (h x.byte) (let e : eqb x.byte x.byte ≡ true = eq-eqb x.byte x.byte refl in rw e refl))
-same_kids (x ∷ es) (y ∷ fs) a d h =
-    let ex : eqb x.byte x.byte ≡ true = eq-eqb x.byte x.byte refl in
-    let ey : eqb y.byte y.byte ≡ true = eq-eqb y.byte y.byte refl in
-    let hx : Some x.to ≡ kid_at (y ∷ fs) x.byte = rw ex at (h x.byte) in
-    let hy : kid_at (x ∷ es) y.byte ≡ Some y.to = rw ey at (h y.byte) in
-    elim (eqb_tells x.byte y.byte) [
-      | inl p ↦
-          let e : x.byte ≡ y.byte = p.1 in
-          let f : eqb y.byte x.byte ≡ true = eq-eqb y.byte x.byte (sym e) in
-          let t : Some x.to ≡ Some y.to = rw f at hx in
-          let u : x.to ≡ y.to = cc in
-          let v : x ≡ y = edge_same x y e u in
-          let w : es ≡ fs = same_kids es fs (Above-Ascends x.byte es a) (Above-Ascends y.byte fs d) (λ b. elim (eqb_tells x.byte b) [
-            | inl q ↦ (let q1 : x.byte ≡ b = q.1 in Above-absent x.byte b es a (omega arith) ∙ sym (Above-absent y.byte b fs d (omega arith)))
-            | inr q ↦ (let g : eqb y.byte b ≡ false = rw e at q.0 in let hb : cond (eqb x.byte b) (Some x.to) (kid_at es b) ≡ cond (eqb y.byte b) (Some y.to) (kid_at fs b) = h b in rw (q.0, g) at hb)
-          ]) in
-          cc
-      | inr p ↦
-          elim (leb_tells (suc x.byte) y.byte) [
-            | inl q ↦ (let l : suc x.byte ≤ y.byte = q.1 in let n : kid_at (y ∷ fs) x.byte ≡ None = Above-absent x.byte x.byte (y ∷ fs) (omega arith, d) (omega arith) in let z : Some x.to ≡ None = cc in absurd cc)
-            | inr q ↦ (let l : y.byte < suc x.byte = q.1 in let off : x.byte ≢ y.byte = p.1 in let n : kid_at (x ∷ es) y.byte ≡ None = Above-absent y.byte y.byte (x ∷ es) (omega arith, a) (omega arith) in let z : Some y.to ≡ None = cc in absurd cc)
-          ]
-    ]
 
 -- within a list the default does not matter
 pub get_or-any : {X : Type 0} → (es : List X) (i : ℕ) (d e : X) → i < length es → get_or es i d ≡ get_or es i e

@@ -1,5 +1,5 @@
 -- What holds of lists of numbered pairs.
-use Rattle.std.proofs.Common.{◌≡◌, ◌≢◌, ℕ, ◌+◌, List, [], ◌∷◌, ◌++◌, length, map, refl, sym, ap, subst, append_assoc, ◌∙◌, Option, Some, None, IsSome, Bool, true, false, cond, eqb, inl, inr, arith}
+use Rattle.std.proofs.Common.{◌≡◌, ◌≢◌, ℕ, ◌+◌, List, [], ◌∷◌, ◌++◌, length, map, refl, sym, ap, subst, ◌∙◌, Option, Some, None, IsSome, Bool, true, false, cond, eqb, inl, inr, arith}
 use Rattle.std.specs.Prelude.{option_map, IfSome}
 use Rattle.std.specs.Option.{option_or}
 use Rattle.std.proofs.lemmas.Bool.Decides.{eqb_tells}
@@ -147,11 +147,6 @@ module _ {K V : Type 0} where
       let r = distinct_parts before after p d.1 in
       ((λ e. (Lacks-parts before after p q.0 d.0).1 (sym e), r.0), r.1)
 
-  -- a number that neither list has
-  pub Lacks-append : (xs ys : List (Numbered K V)) (i : ℕ) → Lacks xs i → Lacks ys i → Lacks (xs ++ ys) i
-  Lacks-append [] ys i l m = m
-  Lacks-append (x ∷ xs) ys i l m = (l.0, Lacks-append xs ys i l.1 m)
-
   -- the last number of a list that is not empty
   pub last_number-cons : (p : Numbered K V) (ps : List (Numbered K V)) → last_number (p ∷ ps) ≡ option_or (last_number ps) (Some p.0)
   last_number-cons p [] = refl
@@ -176,11 +171,6 @@ module _ {K V : Type 0} where
     -- the number before is the last of those before
     pub number_before-split : (before : List (Numbered K V)) → Lacks before i → number_before (before ++ (i, x) ∷ after) i ≡ last_number before
     number_before-split before l = number_before_from-split None before l ∙ option_or-none (last_number before)
-
-    -- another pair is placed behind the one at the split
-    pub placed_behind-split : (y : Numbered K V) (before : List (Numbered K V)) → Lacks before i → placed_behind (Some i) y (before ++ (i, x) ∷ after) ≡ before ++ (i, x) ∷ y ∷ after
-    placed_behind-split y [] l = rw (eqb_same i) refl
-    placed_behind-split y (q ∷ before) l = rw (eqb_other q.0 i l.0) (ap (λ s. q ∷ s) (placed_behind-split y before l.1))
 
     -- without the pair at the split
     pub without_number-split : (before : List (Numbered K V)) → Lacks before i → without_number (before ++ (i, x) ∷ after) i ≡ before ++ after
@@ -550,22 +540,6 @@ module _ {K V : Type 0} where
     | inr t ↦ rw t.0 (ap (λ ns. p.0 ∷ ns) (numbers-with_pair ps i y))
   ]
 
-  -- a number that was lacking is lacking still
-  pub Lacks-with_pair : (ps : List (Numbered K V)) (i : ℕ) (y : K × V) (j : ℕ) → Lacks ps j → Lacks (with_pair ps i y) j
-  Lacks-with_pair ps i y j l = same_lacks ps (with_pair ps i y) j (sym (numbers-with_pair ps i y)) l
-
-  -- the numbers are distinct still
-  pub AreDistinct-with_pair : (ps : List (Numbered K V)) (i : ℕ) (y : K × V) → AreDistinct ps → AreDistinct (with_pair ps i y)
-  AreDistinct-with_pair ps i y d = same_distinct ps (with_pair ps i y) (sym (numbers-with_pair ps i y)) d
-
-  -- the pair that it was changes nothing
-  pub with_pair-same : (ps : List (Numbered K V)) (i : ℕ) (y : K × V) → leaf_in ps i ≡ Some y → with_pair ps i y ≡ ps
-  with_pair-same [] i y e = refl
-  with_pair-same (p ∷ ps) i y e = elim (eqb_tells p.0 i) [
-    | inl t ↦ (let f : Some p.1 ≡ Some y = rw t.0 at e in let g : y ≡ p.1 = cc in rw t.0 (ap (λ (x : K × V). (p.0, x) ∷ ps) g))
-    | inr t ↦ rw t.0 (ap (λ s. p ∷ s) (with_pair-same ps i y (rw t.0 at e)))
-  ]
-
   -- another value is another pair with the same key
   pub with_value-pair : (ps : List (Numbered K V)) (i : ℕ) (k : K) (w v : V) → leaf_in ps i ≡ Some (k, w) → with_value ps i v ≡ with_pair ps i (k, v)
   with_value-pair [] i k w v e = refl
@@ -585,10 +559,6 @@ module _ {K V : Type 0} where
     ])
   ]
 
-  -- every other number names what it named
-  pub others-with_value : (ps : List (Numbered K V)) (i : ℕ) (v : V) → OthersStand ps (with_value ps i v) i
-  others-with_value ps i v j n = leaf_in-with_value ps i v j ∙ rw (eqb_other i j (λ e. n (sym e))) refl
-
   -- what does not see the value of a pair does not see another
   pub map-with_value : {X : Type 0} (f : Numbered K V → X) → ((p : Numbered K V) (v : V) → f (p.0, (p.1.0, v)) ≡ f p) → (ps : List (Numbered K V)) (i : ℕ) (v : V) → map f (with_value ps i v) ≡ map f ps
   map-with_value f same [] i v = refl
@@ -600,10 +570,6 @@ module _ {K V : Type 0} where
   -- the numbers stand
   pub numbers-with_value : (ps : List (Numbered K V)) (i : ℕ) (v : V) → map (λ p. p.0) (with_value ps i v) ≡ map (λ p. p.0) ps
   numbers-with_value ps i v = map-with_value (λ p. p.0) (λ p w. refl) ps i v
-
-  -- a number that was lacking is lacking still
-  pub Lacks-with_value : (ps : List (Numbered K V)) (i : ℕ) (v : V) (j : ℕ) → Lacks ps j → Lacks (with_value ps i v) j
-  Lacks-with_value ps i v j l = same_lacks ps (with_value ps i v) j (sym (numbers-with_value ps i v)) l
 
   -- the numbers are distinct still
   pub AreDistinct-with_value : (ps : List (Numbered K V)) (i : ℕ) (v : V) → AreDistinct ps → AreDistinct (with_value ps i v)
@@ -670,21 +636,7 @@ module _ {K V : Type 0} where
       let r = distinct_parts s.before s.after (i, s.pair) (subst (λ qs. AreDistinct qs) s.is d) in
       rw (ap (λ qs. number_after qs i) s.is ∙ number_after-split i s.pair s.after s.before s.lacks) (is_at-first s.after i r.1)
 
-  -- a pair of the list has a number that the list has
-  pub Has-member : (ps : List (Numbered K V)) (i : ℕ) (x : K × V) → AreDistinct ps → Member (i, x) ps → Has ps i
-  Has-member ps i x d m = rw (leaf_in-member ps i x d m) refl
-
   -- ---- lists put together
-
-  -- a number names what it names in the first list, or else in the second
-  pub leaf_in-append : (xs ys : List (Numbered K V)) (i : ℕ) → leaf_in (xs ++ ys) i ≡ option_or (leaf_in xs i) (leaf_in ys i)
-  leaf_in-append [] ys i = refl
-  leaf_in-append (x ∷ xs) ys i = elim (eqb_tells x.0 i) [ inl t ↦ rw t.0 refl | inr t ↦ rw t.0 (leaf_in-append xs ys i) ]
-
-  -- the first number of two lists
-  pub first_number-append : (xs ys : List (Numbered K V)) → first_number (xs ++ ys) ≡ option_or (first_number xs) (first_number ys)
-  first_number-append [] ys = refl
-  first_number-append (x ∷ xs) ys = refl
 
   -- the last number of two lists
   pub last_number-append : (xs ys : List (Numbered K V)) → last_number (xs ++ ys) ≡ option_or (last_number ys) (last_number xs)
@@ -701,40 +653,11 @@ module _ {K V : Type 0} where
       lacks_left [] ys i l = tt
       lacks_left (x ∷ xs) ys i l = (l.0, lacks_left xs ys i l.1)
 
-  -- the number behind one has that one before it
-  pub before-after : (ps : List (Numbered K V)) (i j : ℕ) → AreDistinct ps → Has ps i → number_after ps i ≡ Some j → number_before ps j ≡ Some i
-  before-after ps i j d h e =
-      let s = split ps i h in
-      let f : first_number s.after ≡ Some j = sym (number_after-split i s.pair s.after s.before s.lacks) ∙ ap (λ qs. number_after qs i) (sym s.is) ∙ e in
-      go s.after f s.is
-    where
-      go : (after : List (Numbered K V)) → first_number after ≡ Some j → ps ≡ (split ps i h).before ++ (i, (split ps i h).pair) ∷ after → number_before ps j ≡ Some i
-      go [] f is = cc
-      go (q ∷ after) f is =
-          let s = split ps i h in
-          let a : q.0 ≡ j = cc in
-          let front : List (Numbered K V) = s.before ++ (i, s.pair) ∷ [] in
-          let eq : ps ≡ front ++ q ∷ after = is ∙ sym (append_assoc s.before ((i, s.pair) ∷ []) (q ∷ after)) in
-          let l : Lacks front q.0 = (distinct_parts front after q (subst (λ qs. AreDistinct qs) eq d)).0 in
-          ap (λ qs. number_before qs j) eq ∙ ap (λ n. number_before (front ++ q ∷ after) n) (sym a) ∙ number_before-split q.0 q.1 after front l ∙ last_number-append s.before ((i, s.pair) ∷ [])
-
   -- ---- further forms
 
   -- the number that was taken out names nothing
   pub leaf_in-without_now : (ps : List (Numbered K V)) (i : ℕ) → AreDistinct ps → leaf_in (without_number ps i) i ≡ None
   leaf_in-without_now ps i d = leaf_in_lacking (without_number ps i) i (Lacks-without_now ps i d)
-
-  -- the number names its key and the new value
-  pub leaf_in-with_value_now : (ps : List (Numbered K V)) (i : ℕ) (x : K × V) (v : V) → leaf_in ps i ≡ Some x → leaf_in (with_value ps i v) i ≡ Some (x.0, v)
-  leaf_in-with_value_now ps i x v e = leaf_in-with_value ps i v i ∙ rw (eqb_same i, e) refl
-
-  -- as many pairs
-  pub length-with_pair : (ps : List (Numbered K V)) (i : ℕ) (y : K × V) → length (with_pair ps i y) ≡ length ps
-  length-with_pair ps i y = same_length (with_pair ps i y) ps (numbers-with_pair ps i y)
-
-  -- as many pairs
-  pub length-with_value : (ps : List (Numbered K V)) (i : ℕ) (v : V) → length (with_value ps i v) ≡ length ps
-  length-with_value ps i v = same_length (with_value ps i v) ps (numbers-with_value ps i v)
 
   -- another value changes no key
   pub keys_in-with_value : (key_bytes : K → List ℕ) (ps : List (Numbered K V)) (i : ℕ) (v : V) (j : ℕ) → keys_in key_bytes (with_value ps i v) j ≡ keys_in key_bytes ps j
@@ -746,37 +669,3 @@ module _ {K V : Type 0} where
       same_key false None = refl
       same_key true (Some x) = refl
       same_key false (Some x) = refl
-
-  -- a pair that is not the place is passed
-  placed_behind-pass : (o : Option ℕ) (x p : Numbered K V) (ps : List (Numbered K V)) → IsSome o → is_at o p.0 ≡ false → placed_behind o x (p ∷ ps) ≡ p ∷ placed_behind o x ps
-  placed_behind-pass None x p ps h n = absurd (let f : false ≡ true = h in cc)
-  placed_behind-pass (Some i) x p ps h n = elim (eqb_tells p.0 i) [
-    | inl t ↦ (let f : eqb i p.0 ≡ true = rw t.1 (eqb_same i) in let g : true ≡ false = sym f ∙ n in cc)
-    | inr t ↦ rw t.0 refl
-  ]
-
-  -- behind the last of those before, a pair stands between the two parts
-  pub placed_behind-between : (x : Numbered K V) (before after : List (Numbered K V)) → AreDistinct before → placed_behind (last_number before) x (before ++ after) ≡ before ++ x ∷ after
-  placed_behind-between x [] after d = refl
-  placed_behind-between x (p ∷ []) after d = rw (eqb_same p.0) refl
-  placed_behind-between x (p ∷ q ∷ before) after d =
-      placed_behind-pass (last_number (q ∷ before)) x p (q ∷ before ++ after) (last_is_some q before) (is_at-last (q ∷ before) p.0 d.0) ∙ ap (λ ps. p ∷ ps) (placed_behind-between x (q ∷ before) after d.1)
-    where
-      last_is_some : (q : Numbered K V) (ps : List (Numbered K V)) → IsSome (last_number (q ∷ ps))
-      last_is_some q [] = refl
-      last_is_some q (r ∷ ps) = last_is_some r ps
-
-  -- the number before one has that one behind it
-  pub after-before : (ps : List (Numbered K V)) (i j : ℕ) → AreDistinct ps → Has ps i → number_before ps i ≡ Some j → number_after ps j ≡ Some i
-  after-before ps i j d h e =
-      let s = split ps i h in
-      let f : last_number s.before ≡ Some j = sym (number_before-split i s.pair s.after s.before s.lacks) ∙ ap (λ qs. number_before qs i) (sym s.is) ∙ e in
-      rw s.is (after_last s.before (i, s.pair) s.after j f (AreDistinct-parts s.before ((i, s.pair) ∷ s.after) (subst (λ qs. AreDistinct qs) s.is d)).0)
-    where
-      after_last : (before : List (Numbered K V)) (p : Numbered K V) (after : List (Numbered K V)) (j : ℕ) → last_number before ≡ Some j → AreDistinct before → number_after (before ++ p ∷ after) j ≡ Some p.0
-      after_last [] p after j e d = absurd (cc)
-      after_last (q ∷ []) p after j e d = (let a : q.0 ≡ j = cc in rw (a, eqb_same j) refl)
-      after_last (q ∷ r ∷ before) p after j e d = elim (eqb_tells q.0 j) [
-        | inl t ↦ absurd (has_not_lacks (r ∷ before) j (Has-last (r ∷ before) j e) (subst (λ k. Lacks (r ∷ before) k) t.1 d.0))
-        | inr t ↦ rw t.0 (after_last (r ∷ before) p after j e d.1)
-      ]

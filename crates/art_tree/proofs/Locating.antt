@@ -19,8 +19,6 @@ pub record Stands (keys : ℕ → Option Bytes) (nodes : ℕ → Option Node) (r
 
 module _ (keys : ℕ → Option Bytes) (nodes : ℕ → Option Node) (mate : Bytes) (depth : ℕ) (root : Child) (s : Shape keys nodes (Some root)) where
   module _ (i : ℕ) (is : keys i ≡ Some mate) (lt : depth ≤ length mate) (n : ℕ) (x : Node) (at : nodes n ≡ Some x) (above : Option (ℕ × ℕ)) (gone : ℕ) (st : Stands keys nodes (Some root) s.front_of mate depth above (Inner n) gone) where
-    t : Bytes
-    t = take depth mate
 
     fits : NodeFits keys nodes s.front_of (s.front_of n) x
     fits = s.node n x at
@@ -75,10 +73,3 @@ module _ (keys : ℕ → Option Bytes) (nodes : ℕ → Option Node) (mate : Byt
           };
           deep = rw b (omega arith);
         }
-
-    -- a way down by the whole of the mate goes on from each node
-    pub stand_deep : depth ≡ length mate → x.depth < depth
-    stand_deep e =
-        let l : length (s.front_of n) < length mate = fits.longer i mate is front_mate in
-        let d : x.depth ≡ length (s.front_of n) = fits.depth in
-        omega arith

@@ -332,11 +332,6 @@ module _ (keys keys' : ℕ → Option Bytes) (nodes : ℕ → Option Node) (root
           s.apart a c (is_some (nodes a) w.0 w.1) (is_some (nodes c) v.0 v.1) e;
     }
 
-    -- the fronts stand
-    pub shape_merged-front : (m : ℕ) → shape_merged.front_of m ≡ s.front_of m
-    unfolding shape_merged
-    shape_merged-front m = refl
-
   -- ---- a node with three edges or more
 
   module _ (nodes' : ℕ → Option Node) (drops : DropsEdge nodes nodes' p b) (more : 2 < length was.kids) where

@@ -4,7 +4,7 @@ use Rattle.std.proofs.lemmas.Bool.{false_from_ne_true}
 use Rattle.blart_keys.specs.Bytes.{begins, related, less}
 use Rattle.blart_keys.specs.Content.{IsContent, at, front_of, conflict, subtree, under}
 use Rattle.blart_keys.proofs.RankLemmas.{Member, find_none}
-use Rattle.blart_keys.proofs.ContentLemmas.{Ranked-from_content, at_member, at_absent, front_of_member, conflict_member}
+use Rattle.blart_keys.proofs.ContentLemmas.{Ranked-from_content, at_member, at_absent, conflict_member}
 use Rattle.art_tree.specs.Begins.{Bytes, Begins}
 use Rattle.art_tree.specs.Leaves.{Numbered, AreDistinct, bytes, keys_in, leaf_in, first_number, last_number}
 use Rattle.art_tree.proofs.BeginsLemmas.{Begins-from_begins, begins-from_Begins}
@@ -45,10 +45,6 @@ module _ {K V : Type 0} (key_bytes : K → Bytes) (pairs : List (Numbered K V)) 
   -- no key is q
   pub at_no_key : (q : Bytes) → ((j : ℕ) → keys_in key_bytes pairs j ≡ Some q → ⊥) → at (bytes key_bytes) pairs q ≡ None
   at_no_key q h = at_absent (bytes key_bytes) pairs q (λ y m e. h y.0 (key_of_member key_bytes pairs y distinct m ∙ ap Some e))
-
-  -- a key that begins q is found under its number
-  pub front_of_key : (q : Bytes) (i : ℕ) (k : Bytes) (is : keys_in key_bytes pairs i ≡ Some k) → Begins k q → front_of (bytes key_bytes) pairs q ≡ Some (i, pair i k is)
-  front_of_key q i k is b = front_of_member (bytes key_bytes) pairs content q (i, pair i k is) (pair_there i k is) (rw (pair_key i k is) (begins-from_Begins k q b))
 
   -- no key begins q
   pub front_of_no_key : (q : Bytes) → ((j : ℕ) (k : Bytes) → keys_in key_bytes pairs j ≡ Some k → Begins k q → ⊥) → front_of (bytes key_bytes) pairs q ≡ None

@@ -5,7 +5,7 @@ use Rattle.std.proofs.lemmas.Bool.Decides.{eqb_tells}
 use Rattle.blart_keys.specs.Bytes.{related, PartsBelow}
 use Rattle.blart_keys.specs.Content.{IsContent, at, subtree}
 use Rattle.blart_keys.proofs.RankLemmas.{Member, Ranked, Contains-from_Member, Member-from_Contains, each_member, from_each_member, filter_member, member_filter}
-use Rattle.blart_keys.proofs.ContentLemmas.{Before, Ranked-from_content, content_from_Ranked, same_item, related-same, at_Some}
+use Rattle.blart_keys.proofs.ContentLemmas.{Before, Ranked-from_content, content_from_Ranked, at_Some}
 use Rattle.art_tree.specs.Begins.{Bytes, Begins}
 use Rattle.art_tree.specs.Leaves.{Numbered, leaf_in, Has, Lacks, AreDistinct, first_number, last_number, without_number, with_pair, with_value, bytes, keys_in}
 use Rattle.art_tree.specs.Takes.{MayTake}
@@ -155,18 +155,6 @@ module _ {K V : Type 0} (key_bytes : K → Bytes) where
   -- ---- which keys a leaf may take
 
   module _ (ps : List (Numbered K V)) (content : IsContent (bytes key_bytes) ps) (distinct : AreDistinct ps) (i : ℕ) (q : Bytes) where
-    -- the bytes that it has
-    pub takes_own : (x : K × V) → at (bytes key_bytes) ps q ≡ Some (i, x) → MayTake key_bytes ps i q
-    takes_own x e =
-        let m = at_Some (bytes key_bytes) ps q (i, x) e in
-        let is : leaf_in ps i ≡ Some x = member_leaf_in ps (i, x) distinct m.0 in
-        record {
-          own = λ y f. (let h : x ≡ y = cc in related-same (key_bytes y.0) q (ap (λ (z : K × V). key_bytes z.0) (sym h) ∙ m.1));
-          others = λ p there off. false_from_ne_true (related (bytes key_bytes p) q) (λ t.
-              let r : related (bytes key_bytes p) (key_bytes x.0) ≡ true = rw m.1 t in
-              let s : p ≡ (i, x) = same_item (bytes key_bytes) ps content p (i, x) (Member-from_Contains p ps there) m.0 r in
-              off (ap (λ (z : Numbered K V). z.0) s));
-        }
 
     lacks_filter : (test : Numbered K V → Bool) (qs : List (Numbered K V)) (j : ℕ) → Lacks qs j → Lacks (filter test qs) j
     lacks_filter test [] j l = tt

@@ -1,10 +1,9 @@
 -- A leaf placed where its key leaves a mate.
-use Rattle.std.proofs.Common.{◌≡◌, ◌≢◌, ℕ, ◌<◌, List, [], ◌∷◌, ◌++◌, length, take, get_or, refl, ap, arith, sym, subst, Option, Some, None, ◌∙◌, eqb, eq-eqb, true, cond}
+use Rattle.std.proofs.Common.{◌≡◌, ◌≢◌, ℕ, ◌<◌, List, [], ◌∷◌, ◌++◌, length, take, get_or, refl, ap, arith, sym, subst, Option, Some, ◌∙◌, eqb, eq-eqb, true, cond}
 use Rattle.std.proofs.lemmas.List.{length-take-le}
 use Rattle.art_tree.specs.Above.{LeadsTo, TurnsTo, edge_front}
 use Rattle.art_tree.specs.Begins.{Bytes, Begins, next_byte}
 use Rattle.art_tree.specs.Good.{LeavesMate}
-use Rattle.art_tree.specs.Kids.{kid_at}
 use Rattle.art_tree.specs.Nodes.{Node, Makes, Renames, AddsEdgeTo}
 use Rattle.art_tree.specs.Shape.{Shape}
 use Rattle.art_tree.specs.Spots.{PastLength, EdgeFits}
@@ -12,7 +11,7 @@ use Rattle.art_tree.specs.declared.records.ids.Child.{Child}
 use Rattle.art_tree.specs.declared.records.ids.Child.TheVariants.{Leaf, Inner}
 use Rattle.art_tree.specs.declared.records.ids.Edge.{Edge}
 use Rattle.art_tree.proofs.BeginsLemmas.{Begins-more}
-use Rattle.art_tree.proofs.Growing.{Departs, Gains, no_edge, leaf_added, leaf_added-front}
+use Rattle.art_tree.proofs.Growing.{Departs, Gains, leaf_added, leaf_added-front}
 use Rattle.art_tree.proofs.KeyChanges.{departs_at, next_at, mate_next_at}
 use Rattle.art_tree.proofs.OneEdge.{node_moved}
 use Rattle.art_tree.proofs.Splitting.{HoldBoth, edge_split, edge_split-front}
@@ -45,10 +44,6 @@ module _ (keys : ℕ → Option Bytes) (mate depth : ℕ) (q : Bytes) (good : Le
 
       next_here : get_or q depth 0 ≡ next_byte (s.front_of n) q
       next_here = sym (next_at keys mate depth q good) ∙ ap (λ (t : Bytes). next_byte t q) (sym (stands ∙ along_key))
-
-      -- a node there has no edge at the key's byte
-      pub edge_free : (x : Node) → nodes n ≡ Some x → kid_at x.kids (get_or q depth 0) ≡ None
-      edge_free x is = no_edge keys nodes root s n (get_or q depth 0) x q is departs_here next_here
 
       -- the leaf at the node
       pub placed_node : (nodes' : ℕ → Option Node) → AddsEdgeTo nodes nodes' n (get_or q depth 0) (Leaf i) → Shape keys' nodes' root

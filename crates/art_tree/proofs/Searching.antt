@@ -7,9 +7,8 @@ use Rattle.art_tree.specs.Shape.{Shape, Covers, NodeFits, RootFits}
 use Rattle.art_tree.specs.Descents.{NoFront, IsOnlyFront, GoesTo}
 use Rattle.art_tree.specs.declared.records.ids.Child.{Child}
 use Rattle.art_tree.specs.declared.records.ids.Child.TheVariants.{Leaf, Inner}
-use Rattle.blart_keys.proofs.Options.{some_of, not_some, same_some}
-use Rattle.art_tree.proofs.BeginsLemmas.{Begins-length, Begins-itself, Begins-more, Begins-next, Begins-trans, Begins-equal, next_byte-front, length-edge}
-use Rattle.art_tree.proofs.Growing.{Parts-within, Parts-two}
+use Rattle.blart_keys.proofs.Options.{not_some, same_some}
+use Rattle.art_tree.proofs.BeginsLemmas.{Begins-length, Begins-itself, Begins-more, Begins-next, next_byte-front, length-edge}
 
 module _ (keys : ℕ → Option Bytes) (nodes : ℕ → Option Node) (q : Bytes) where
   -- the descent stands at a child after so many visits, and any key that begins q is below it
@@ -124,90 +123,5 @@ module _ (keys : ℕ → Option Bytes) (nodes : ℕ → Option Node) (q : Bytes)
 
 -- ---- a descent to the node at a front
 
-module _ (keys : ℕ → Option Bytes) (nodes : ℕ → Option Node) (f : Bytes) where
-  -- the descent stands at a child after so many visits, and a node with the front f is below it
-  pub record ReachesFront (front_of : ℕ → Bytes) (c : Child) (spent : ℕ) : Type 0 where
-    pub front : Bytes
-    pub covers : Covers keys nodes front_of front c
-    pub holds : (n : ℕ) → IsSome (nodes n) → front_of n ≡ f → Begins front f
-    pub short : length front ≤ length f
-    pub few : spent ≤ length front
 
-  module _ (root : Option Child) (s : Shape keys nodes root) where
-    -- no node has the front f
-    abbrev pub NoNode : Type 0
-    NoNode = (n : ℕ) → IsSome (nodes n) → s.front_of n ≢ f
 
-    -- it starts at the root
-    pub front_start : (c : Child) → root ≡ Some c → ReachesFront s.front_of c 0
-    front_start c is = record {
-      front = [];
-      covers = subst (λ (r : Option Child). RootFits keys nodes s.front_of r) is s.top;
-      holds = λ n h e. tt;
-      short = omega arith;
-      few = omega arith;
-    }
-
-    -- a node's two keys go on below each front of it
-    two_below : (m : ℕ) (y : Node) → nodes m ≡ Some y → (g : Bytes) → Begins g (s.front_of m) → (n : ℕ) → ((j : ℕ) (k : Bytes) → keys j ≡ Some k → Begins g k → Begins (s.front_of n) k) → Begins (s.front_of n) (s.front_of m)
-    two_below m y is g b n only =
-        let p = (s.node m y is).parts in
-        Parts-within keys (s.front_of m) (s.front_of n) p (only p.i p.k p.k_is (Begins-trans g (s.front_of m) p.k b p.k_front)) (only p.j p.l p.l_is (Begins-trans g (s.front_of m) p.l b p.l_front))
-
-    -- at a leaf: no node has the front
-    pub front_leaf : (i : ℕ) (spent : ℕ) → ReachesFront s.front_of (Leaf i) spent → NoNode
-    front_leaf i spent r m h e =
-        let y = some_of (nodes m) h in
-        let p = (s.node m y.0 y.1).parts in
-        let b : Begins r.front (s.front_of m) = rw e (r.holds m h e) in
-        Parts-two keys (s.front_of m) p i (r.covers.only p.i p.k p.k_is (Begins-trans r.front (s.front_of m) p.k b p.k_front)) (r.covers.only p.j p.l p.l_is (Begins-trans r.front (s.front_of m) p.l b p.l_front))
-
-    module _ (n : ℕ) (spent : ℕ) (x : Node) (is : nodes n ≡ Some x) (r : ReachesFront s.front_of (Inner n) spent) where
-      shape_here : NodeFits keys nodes s.front_of (s.front_of n) x
-      shape_here = s.node n x is
-
-      begins_front : (m : ℕ) → IsSome (nodes m) → s.front_of m ≡ f → Begins (s.front_of n) f
-      begins_front m h e =
-          let y = some_of (nodes m) h in
-          subst (λ (g : Bytes). Begins (s.front_of n) g) e (two_below m y.0 y.1 r.front (rw e (r.holds m h e)) n r.covers.only)
-
-      -- a deeper node: no node has the front
-      pub front_past : length f < x.depth → NoNode
-      front_past h m live e =
-          let d : x.depth ≡ length (s.front_of n) = shape_here.depth in
-          let l : length (s.front_of n) ≤ length f = Begins-length (s.front_of n) f (begins_front m live e) in
-          omega arith
-
-      -- a node as deep as the front is long: it has the front, or none has
-      pub front_here : x.depth ≡ length f → s.front_of n ≢ f → NoNode
-      front_here h off m live e =
-          let d : x.depth ≡ length (s.front_of n) = shape_here.depth in
-          off (Begins-equal (s.front_of n) f (begins_front m live e) (omega arith))
-
-      -- no edge at the front's byte: no node has the front
-      pub front_none : x.depth < length f → kid_at x.kids (get_or f x.depth 0) ≡ None → NoNode
-      front_none h none m live e =
-          let d : x.depth ≡ length (s.front_of n) = shape_here.depth in
-          let y = some_of (nodes m) live in
-          let p = (s.node m y.0 y.1).parts in
-          let fk : Begins f p.k = subst (λ (g : Bytes). Begins g p.k) e p.k_front in
-          let nk : Begins (s.front_of n) p.k = Begins-trans (s.front_of n) f p.k (begins_front m live e) fk in
-          let same : next_byte (s.front_of n) f ≡ next_byte (s.front_of n) p.k = next_byte-front (s.front_of n) f p.k fk (omega arith) in
-          let i : IsSome (kid_at x.kids (next_byte (s.front_of n) p.k)) = shape_here.edge p.i p.k p.k_is nk in
-          not_some (kid_at x.kids (get_or f x.depth 0)) none (same_some (kid_at x.kids (next_byte (s.front_of n) p.k)) (kid_at x.kids (get_or f x.depth 0)) (ap (kid_at x.kids) (sym same ∙ ap (λ d. get_or f d 0) (sym d))) i)
-
-      -- the edge at the front's byte leads on
-      pub front_step : (c : Child) → x.depth < length f → kid_at x.kids (get_or f x.depth 0) ≡ Some c → ReachesFront s.front_of c (spent + 1)
-      front_step c below k =
-          let g : Bytes = s.front_of n in
-          let d : x.depth ≡ length g = shape_here.depth in
-          let long : length r.front ≤ length g = Begins-length r.front g r.covers.front in
-          let few : spent ≤ length r.front = r.few in
-          let l : length (g ++ next_byte g f ∷ []) ≡ length g + 1 = length-edge g (next_byte g f) in
-          record {
-            front = g ++ next_byte g f ∷ [];
-            covers = shape_here.below (next_byte g f) c (subst (λ (d : ℕ). kid_at x.kids (get_or f d 0) ≡ Some c) d k);
-            holds = λ m h e. Begins-more g f (begins_front m h e) (omega arith);
-            short = omega arith;
-            few = omega arith;
-          }

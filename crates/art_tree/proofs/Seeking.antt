@@ -135,12 +135,6 @@ module _ {K V : Type 0} where
   sought_has bytes S d b true i e = passing_has S (λ x. is_from_start b (bytes x) && is_up_to_end Unbounded (bytes x)) i d (Has-first (between bytes S b Unbounded) i e)
   sought_has bytes S d b false i e = passing_has S (λ x. is_from_start Unbounded (bytes x) && is_up_to_end b (bytes x)) i d (Has-last (between bytes S Unbounded b) i e)
 
-  -- and so are the ends of what begins with some bytes
-  pub ends_have : (bytes : Numbered K V → List ℕ) (S : List (Numbered K V)) → AreDistinct S → (q : List ℕ) (i j : ℕ) → ends (under bytes S q) ≡ Some (i, j) → Has S i × Has S j
-  ends_have bytes S d q i j e =
-      let a = are_ends (under bytes S q) i j e in
-      (passing_has S (λ x. begins q (bytes x)) i d (Has-first (under bytes S q) i a.0), passing_has S (λ x. begins q (bytes x)) j d (Has-last (under bytes S q) j a.1))
-
 module _ {K V : Type 0} (key_bytes : K → Bytes) (pairs : List (Numbered K V)) (content : IsContent (bytes key_bytes) pairs) (distinct : AreDistinct pairs) where
   abbrev keys : ℕ → Option Bytes
   keys = keys_in key_bytes pairs

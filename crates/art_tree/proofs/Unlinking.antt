@@ -1,5 +1,5 @@
 -- A leaf leaves the tree: the way to it, and what the changes to its node and the edge above keep.
-use Rattle.std.proofs.Common.{◌≡◌, ◌≢◌, ℕ, ◌+◌, ◌<◌, ◌≤◌, List, [], ◌∷◌, ◌++◌, length, take, refl, ap, arith, sym, subst, Option, Some, None, IsSome, ◌∙◌, inl, inr, cond, eqb}
+use Rattle.std.proofs.Common.{◌≡◌, ◌≢◌, ℕ, ◌+◌, ◌<◌, ◌≤◌, List, [], ◌∷◌, ◌++◌, length, take, refl, ap, arith, sym, subst, Option, Some, None, IsSome, ◌∙◌, inl, inr}
 use Rattle.std.proofs.lemmas.Bool.{cases_lt}
 use Rattle.std.proofs.lemmas.Bool.Decides.{eqb_tells}
 use Rattle.art_tree.specs.Above.{LeadsTo, TurnsTo, edge_front}
@@ -17,7 +17,7 @@ use Rattle.art_tree.specs.declared.records.ids.Edge.{Edge}
 use Rattle.art_tree.specs.declared.records.ids.Child.TheVariants.{Leaf, Inner}
 use Rattle.art_tree.proofs.BeginsLemmas.{Begins-length, Begins-trans, Begins-itself, Begins-edge_front, Begins-front_edge, length-edge, take_front}
 use Rattle.art_tree.proofs.Growing.{Parts-within, Parts-two, covers_above}
-use Rattle.art_tree.proofs.Losing.{shape_dropped, shape_dropped-front}
+use Rattle.art_tree.proofs.Losing.{shape_dropped}
 use Rattle.art_tree.proofs.OneEdge.{not_itself, kept_mid, node_moved}
 use Rattle.art_tree.proofs.OneFront.{front_is_take}
 use Rattle.blart_keys.proofs.Options.{is_some, some_of, not_some}
@@ -137,15 +137,6 @@ module _ (keys : ℕ → Option Bytes) (nodes mid wide : ℕ → Option Node) (r
   shape_shrunk keys' new root' h more loses turns =
       let s1 : Shape keys' mid root = shape_dropped keys keys' nodes root n i b h.key h.shape loses h.node h.is h.low mid drops more in
       (node_moved keys' mid wide new root root' n m above s1 ren (leads_dropped above h.shape h.leads) turns).0
-
-  -- the fronts stand, and the other number has that of the node
-  pub shape_shrunk-front : (keys' : ℕ → Option Bytes) (new : ℕ → Option Node) (root' : Option Child) (h : HangsAt keys nodes root above n b i) (more : 2 < length h.node.kids) (loses : Loses keys keys' i h.key) (turns : TurnsTo wide new root root' above (Inner m)) (k : ℕ)
-      → (shape_shrunk keys' new root' h more loses turns).front_of k ≡ cond (eqb k m) (h.shape.front_of n) (h.shape.front_of k)
-  unfolding shape_shrunk
-  shape_shrunk-front keys' new root' h more loses turns k =
-      let s1 : Shape keys' mid root = shape_dropped keys keys' nodes root n i b h.key h.shape loses h.node h.is h.low mid drops more in
-      let f : (j : ℕ) → s1.front_of j ≡ h.shape.front_of j = shape_dropped-front keys keys' nodes root n i b h.key h.shape loses h.node h.is h.low mid drops more in
-      (node_moved keys' mid wide new root root' n m above s1 ren (leads_dropped above h.shape h.leads) turns).1 k ∙ ap (λ (f : ℕ → Bytes). cond (eqb k m) (f n) (f k)) (λ z j. f j z)
 
 -- ---- a node with another prefix
 
