@@ -1,50 +1,49 @@
 -- A way down to the node at a front.
-use Rattle.std.proofs.Common.{◌≡◌, ◌≢◌, ℕ, ◌+◌, ◌<◌, ◌≤◌, [], ◌∷◌, ◌++◌, length, get_or, ap, sym, subst, ◌∙◌, Option, Some, None, IsSome, arith}
+use Rattle.std.proofs.Common.{◌≡◌, ◌≢◌, ℕ, ◌+◌, ◌<◌, ◌≤◌, [], ◌∷◌, ◌++◌, length, get_or, ap, sym, subst, ◌∙◌, Option, Some, None, IsSome, true, arith}
 use Rattle.art_tree.specs.Begins.{Bytes, Begins, next_byte}
-use Rattle.art_tree.specs.Kids.{kid_at, IsLeast}
+use Rattle.art_tree.specs.Kids.{kid_at, IsEnd}
 use Rattle.art_tree.specs.Nodes.{Node}
-use Rattle.art_tree.specs.Shape.{Shape, Covers, CoversNode, NodeFits, Parts}
-use Rattle.art_tree.specs.Descents.{IsLeastUnder, FindsNone, FindsNode}
+use Rattle.art_tree.specs.Shape.{Shape, CoversNode, NodeFits, Parts}
+use Rattle.art_tree.specs.Descents.{IsEndUnder, FindsNone, FindsNode}
 use Rattle.art_tree.specs.declared.records.ids.Child.{Child}
 use Rattle.art_tree.specs.declared.records.ids.Child.TheVariants.{Leaf, Inner}
 use Rattle.art_tree.specs.declared.records.ids.Edge.{Edge}
 use Rattle.art_tree.proofs.BeginsLemmas.{Begins-length, Begins-trans, Begins-linear, Begins-equal, Begins-next, Begins-more, Begins-itself, next_byte-front, length-edge}
 use Rattle.art_tree.proofs.Growing.{some_key, Parts-two}
 use Rattle.blart_keys.proofs.Options.{some_of, not_some}
-use Rattle.art_tree.proofs.Extremes.{least_step}
+use Rattle.art_tree.proofs.Extremes.{end_step}
+use Rattle.art_tree.proofs.WaysDown.{WayDown, way_here}
 
 module _ (keys : ℕ → Option Bytes) (nodes : ℕ → Option Node) (f : Bytes) where
-  -- the way has come to a child that a node at f, if there is one, stands at or below; each read went on by a byte at least
-  pub record Heads (front_of : ℕ → Bytes) (c : Child) (spent : ℕ) : Type 0 where
-    pub front : Bytes
-    pub covers : Covers keys nodes front_of front c
-    pub holds : (m : ℕ) → IsSome (nodes m) → front_of m ≡ f → Begins front f
-    pub few : spent ≤ length front
+  -- a node at f, if there is one, has this front
+  abbrev pub HoldsNode : (ℕ → Bytes) → Bytes → Type 0
+  HoldsNode front_of front = (m : ℕ) → IsSome (nodes m) → front_of m ≡ f → Begins front f
+
+  -- the way to a node at f has come to a child
+  abbrev pub Heads : (ℕ → Bytes) → Child → ℕ → ℕ → Type 0
+  Heads front_of = WayDown keys nodes front_of (HoldsNode front_of) []
 
   module _ (root : Option Child) (s : Shape keys nodes root) where
     -- two keys part at a node at f
     parting : (m : ℕ) → IsSome (nodes m) → s.front_of m ≡ f → Parts keys f
     parting m live e = let x = some_of (nodes m) live in subst (Parts keys) e (s.node m x.0 x.1).parts
 
-    pub heads_start : (c : Child) → Covers keys nodes s.front_of [] c → Heads s.front_of c 0
-    heads_start c h = record { front = []; covers = h; holds = λ m live e. tt; few = omega arith }
-
-    module _ (old new spent : ℕ) where
+    module _ (old now new : ℕ) where
       -- no node stands at f, and a stored key shows that the reads were few
-      no_node : (c : Child) (h : Heads s.front_of c spent) → new ≤ old + spent + 1 → ((m : ℕ) → IsSome (nodes m) → s.front_of m ≢ f) → FindsNone keys nodes s.front_of f old new
+      no_node : (c : Child) (h : Heads s.front_of c old now) → new ≤ now + 1 → ((m : ℕ) → IsSome (nodes m) → s.front_of m ≢ f) → FindsNone keys nodes s.front_of f old new
       no_node c h reads none =
           let k = some_key keys nodes root s h.front c h.covers in
           let l : length h.front ≤ length k.1 = Begins-length h.front k.1 k.3 in
-          let few : spent ≤ length h.front = h.few in
+          let few : now + 0 ≤ old + length h.front = h.few in
           record { none = none; leaf = k.0; key = k.1; is = k.2; few = omega arith }
 
-      pub heads_leaf : (i : ℕ) → Heads s.front_of (Leaf i) spent → new ≤ old + spent + 1 → FindsNone keys nodes s.front_of f old new
+      pub heads_leaf : (i : ℕ) → Heads s.front_of (Leaf i) old now → new ≤ now + 1 → FindsNone keys nodes s.front_of f old new
       heads_leaf i h reads = no_node (Leaf i) h reads (λ m live e.
           let p = parting m live e in
           let g = h.holds m live e in
           Parts-two keys f p i (h.covers.only p.i p.k p.k_is (Begins-trans h.front f p.k g p.k_front)) (h.covers.only p.j p.l p.l_is (Begins-trans h.front f p.l g p.l_front)))
 
-    module _ (n : ℕ) (spent : ℕ) (x : Node) (is : nodes n ≡ Some x) (h : Heads s.front_of (Inner n) spent) where
+    module _ (n old now : ℕ) (x : Node) (is : nodes n ≡ Some x) (h : Heads s.front_of (Inner n) old now) where
       fits : NodeFits keys nodes s.front_of (s.front_of n) x
       fits = s.node n x is
 
@@ -55,8 +54,8 @@ module _ (keys : ℕ → Option Bytes) (nodes : ℕ → Option Node) (f : Bytes)
       second_under : (m : ℕ) (live : IsSome (nodes m)) (e : s.front_of m ≡ f) → Begins (s.front_of n) (parting m live e).l
       second_under m live e = let p = parting m live e in h.covers.only p.j p.l p.l_is (Begins-trans h.front f p.l (h.holds m live e) p.l_front)
 
-      pub heads_past : (old new : ℕ) → length f < x.depth → new ≤ old + spent + 1 → FindsNone keys nodes s.front_of f old new
-      heads_past old new long reads = no_node old new spent (Inner n) h reads (λ m live e.
+      pub heads_past : (new : ℕ) → length f < x.depth → new ≤ now + 1 → FindsNone keys nodes s.front_of f old new
+      heads_past new long reads = no_node old now new (Inner n) h reads (λ m live e.
           let p = parting m live e in
           let d : x.depth ≡ length (s.front_of n) = fits.depth in
           let l : length f < length (s.front_of n) = omega arith in
@@ -72,42 +71,32 @@ module _ (keys : ℕ → Option Bytes) (nodes : ℕ → Option Node) (f : Bytes)
           let under : Begins (s.front_of n) f = Begins-linear (s.front_of n) f p.k (first_under m live e) p.k_front (omega arith) in
           Begins-more (s.front_of n) f under (omega arith)
 
-      pub heads_none : (old new : ℕ) → x.depth < length f → kid_at x.kids (get_or f x.depth 0) ≡ None → new ≤ old + spent + 1 → FindsNone keys nodes s.front_of f old new
-      heads_none old new short none reads = no_node old new spent (Inner n) h reads (λ m live e.
+      pub heads_none : (new : ℕ) → x.depth < length f → kid_at x.kids (get_or f x.depth 0) ≡ None → new ≤ now + 1 → FindsNone keys nodes s.front_of f old new
+      heads_none new short none reads = no_node old now new (Inner n) h reads (λ m live e.
           let p = parting m live e in
           let d : x.depth ≡ length (s.front_of n) = fits.depth in
           let b : next_byte (s.front_of n) p.k ≡ next_byte (s.front_of n) f = Begins-next (s.front_of n) p.k (next_byte (s.front_of n) f) (Begins-trans (s.front_of n ++ next_byte (s.front_of n) f ∷ []) f p.k (goes_on m live e short) p.k_front) in
           not_some (kid_at x.kids (next_byte (s.front_of n) p.k)) (ap (λ (z : ℕ). kid_at x.kids z) (b ∙ ap (λ (z : ℕ). get_or f z 0) (sym d)) ∙ none) (fits.edge p.i p.k p.k_is (first_under m live e)))
 
-      pub heads_on : (c : Child) → x.depth < length f → kid_at x.kids (get_or f x.depth 0) ≡ Some c → Heads s.front_of c (spent + 1)
-      heads_on c short there =
-          let d : x.depth ≡ length (s.front_of n) = fits.depth in
-          let l : length h.front ≤ length (s.front_of n) = Begins-length h.front (s.front_of n) h.covers.front in
-          let few : spent ≤ length h.front = h.few in
-          let l2 : length (s.front_of n ++ next_byte (s.front_of n) f ∷ []) ≡ length (s.front_of n) + 1 = length-edge (s.front_of n) (next_byte (s.front_of n) f) in
-          record {
-            front = s.front_of n ++ next_byte (s.front_of n) f ∷ [];
-            covers = fits.below (next_byte (s.front_of n) f) c (subst (λ (z : ℕ). kid_at x.kids (get_or f z 0) ≡ Some c) d there);
-            holds = λ m live e. goes_on m live e short;
-            few = omega arith;
-          }
+      pub heads_on : x.depth < length f → HoldsNode s.front_of (s.front_of n ++ get_or f x.depth 0 ∷ [])
+      heads_on short = λ m live e. subst (λ (z : ℕ). Begins (s.front_of n ++ get_or f z 0 ∷ []) f) (sym fits.depth) (goes_on m live e short)
 
       -- the node has a front as long as f
-      pub heads_at : (old new count leaf : ℕ) (e : Edge) → x.depth ≡ length f → count ≡ length x.kids → IsLeast x.kids e → IsLeastUnder keys (s.front_of n ++ e.byte ∷ []) leaf → ((key : Bytes) → keys leaf ≡ Some key → new + (length (s.front_of n) + 1) ≤ old + spent + 1 + length key) → FindsNode keys nodes s.front_of f old new count leaf
-      heads_at old new count leaf e same counted least u reads =
+      pub heads_at : (new count leaf : ℕ) (e : Edge) → x.depth ≡ length f → count ≡ length x.kids → IsEnd true x.kids e → IsEndUnder keys true (s.front_of n ++ e.byte ∷ []) leaf → ((key : Bytes) → keys leaf ≡ Some key → new + length (s.front_of n ++ e.byte ∷ []) ≤ now + 1 + length key) → FindsNode keys nodes s.front_of f old new count leaf
+      heads_at new count leaf e same counted least u reads =
           let d : x.depth ≡ length (s.front_of n) = fits.depth in
           let own : CoversNode keys nodes s.front_of (s.front_of n) n = record { live = h.covers.live; front = Begins-itself (s.front_of n); only = λ j k k_is b. b } in
-          let l : length h.front ≤ length (s.front_of n) = Begins-length h.front (s.front_of n) h.covers.front in
-          let few : spent ≤ length h.front = h.few in
-          let w = least_step keys nodes root s (s.front_of n) n x is own e least leaf u in
-          let r : new + (length (s.front_of n) + 1) ≤ old + spent + 1 + length w.key = reads w.key w.is in
+          let few : now + 0 ≤ old + length (s.front_of n) = way_here keys nodes root s x is h in
+          let w = end_step keys nodes root s true (s.front_of n) n x is own e least leaf u in
+          let r : new + length (s.front_of n ++ e.byte ∷ []) ≤ now + 1 + length w.key = reads w.key w.is in
+          let z : length (s.front_of n ++ e.byte ∷ []) ≡ length (s.front_of n) + 1 = length-edge (s.front_of n) e.byte in
           record {
             number = n;
             node = x;
             is = is;
             as_long = sym d ∙ same;
             counted = counted;
-            least = w;
+            first = w;
             only = λ m live at_f.
                 let p = parting m live at_f in
                 Begins-equal (s.front_of n) f (Begins-linear (s.front_of n) f p.k (first_under m live at_f) p.k_front (omega arith)) (omega arith);

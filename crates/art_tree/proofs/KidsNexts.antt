@@ -3,7 +3,7 @@ use Rattle.std.proofs.Common.{◌≡◌, ℕ, zero, length, take, get_or, ◌<�
 use Rattle.std.proofs.lemmas.Bool.{ne_eqb}
 use Rattle.std.proofs.lemmas.Bool.Decides.{leb_tells}
 use Rattle.std.specs.Prelude.{suc}
-use Rattle.art_tree.specs.Kids.{kid_at, Above, Ascends, after, IsNext, before, later, IsPrevious, IsLeast, IsGreatest}
+use Rattle.art_tree.specs.Kids.{kid_at, Above, Ascends, after, IsNext, before, later, IsPrevious, IsEnd}
 use Rattle.art_tree.specs.declared.records.ids.Child.{Child}
 use Rattle.art_tree.specs.declared.records.ids.Edge.{Edge}
 use Rattle.art_tree.proofs.KidsShifts.{Above-absent, Above-Ascends}
@@ -56,20 +56,20 @@ before-previous (x ∷ es) b a =
     ]
 
 -- the first of the edges that are in use
-pub first-least : (n : ℕ) (es : List Edge) (d : Edge) → Ascends (take n es) → 0 < n → n ≤ length es → IsLeast (take n es) (get_or es 0 d)
+pub first-least : (n : ℕ) (es : List Edge) (d : Edge) → Ascends (take n es) → 0 < n → n ≤ length es → IsEnd true (take n es) (get_or es 0 d)
 first-least n [] d a l m = absurd (omega arith)
 first-least zero (x ∷ es) d a l m = absurd (omega arith)
 first-least (suc n) (x ∷ es) d a l m = record {
   there = let t : eqb x.byte x.byte ≡ true = eq-eqb x.byte x.byte refl in rw t refl;
-  least = λ c lt. (let u : eqb x.byte c ≡ false = ne_eqb x.byte c (λ z. omega (arith, z)) in rw u (Above-absent x.byte c (take n es) a (omega arith)));
+  end = λ c lt. (let u : eqb x.byte c ≡ false = ne_eqb x.byte c (λ z. omega (arith, z)) in rw u (Above-absent x.byte c (take n es) a (omega arith)));
 }
 
 -- the last of the edges that are in use
-pub last-greatest : (n : ℕ) (es : List Edge) (d : Edge) → Ascends (take (suc n) es) → suc n ≤ length es → IsGreatest (take (suc n) es) (get_or es n d)
+pub last-greatest : (n : ℕ) (es : List Edge) (d : Edge) → Ascends (take (suc n) es) → suc n ≤ length es → IsEnd false (take (suc n) es) (get_or es n d)
 last-greatest n [] d a m = absurd (omega arith)
 last-greatest zero (x ∷ es) d a m = record {
   there = let t : eqb x.byte x.byte ≡ true = eq-eqb x.byte x.byte refl in rw t refl;
-  greatest = λ c lt. (let u : eqb x.byte c ≡ false = ne_eqb x.byte c (λ z. omega (arith, z)) in rw u refl);
+  end = λ c lt. (let u : eqb x.byte c ≡ false = ne_eqb x.byte c (λ z. omega (arith, z)) in rw u refl);
 }
 last-greatest (suc n) (x ∷ es) d a m =
     let ih = last-greatest n es d (Above-Ascends x.byte (take (suc n) es) a) (omega arith) in
@@ -77,7 +77,7 @@ last-greatest (suc n) (x ∷ es) d a m =
     let lt : x.byte < e.byte = before_kid x.byte (take (suc n) es) e.byte e.to a ih.there in
     record {
       there = let t : eqb x.byte e.byte ≡ false = ne_eqb x.byte e.byte (λ z. omega (arith, z)) in rw t ih.there;
-      greatest = λ c hi. (let u : eqb x.byte c ≡ false = ne_eqb x.byte c (λ z. omega (arith, z)) in rw u (ih.greatest c hi));
+      end = λ c hi. (let u : eqb x.byte c ≡ false = ne_eqb x.byte c (λ z. omega (arith, z)) in rw u (ih.end c hi));
     }
 
 -- the edge found in the rest, or else the one from before

@@ -1,6 +1,5 @@
 pub mod CallerLemmas
 mod BeginsLemmas
-mod BestMate
 mod Counting
 mod Deepest
 mod Ends
@@ -27,6 +26,7 @@ mod NodesRecords
 mod OneEdge
 mod OneFront
 mod PairAnswers
+mod Partings
 mod PairChanges
 mod PairLemmas
 mod PlacedPairs

@@ -19,7 +19,6 @@ pub record Stands (keys : ℕ → Option Bytes) (nodes : ℕ → Option Node) (r
 
 module _ (keys : ℕ → Option Bytes) (nodes : ℕ → Option Node) (mate : Bytes) (depth : ℕ) (root : Child) (s : Shape keys nodes (Some root)) where
   module _ (i : ℕ) (is : keys i ≡ Some mate) (lt : depth ≤ length mate) (n : ℕ) (x : Node) (at : nodes n ≡ Some x) (above : Option (ℕ × ℕ)) (gone : ℕ) (st : Stands keys nodes (Some root) s.front_of mate depth above (Inner n) gone) where
-
     fits : NodeFits keys nodes s.front_of (s.front_of n) x
     fits = s.node n x at
 

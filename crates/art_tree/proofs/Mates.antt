@@ -1,32 +1,27 @@
 -- The leaf whose key goes along with a query the furthest.
-use Rattle.std.proofs.Common.{◌≡◌, ℕ, ◌+◌, ◌<◌, ◌≤◌, [], ◌∷◌, ◌++◌, ◌⊎◌, inl, inr, length, get_or, ap, sym, subst, ◌∙◌, Option, Some, None, IsSome, arith}
+use Rattle.std.proofs.Common.{◌≡◌, ℕ, ◌<◌, ◌≤◌, [], ◌∷◌, ◌++◌, ◌⊎◌, inl, inr, length, get_or, ap, sym, subst, ◌∙◌, Option, Some, None, IsSome, arith}
 use Rattle.std.proofs.lemmas.Bool.{cases_lt}
 use Rattle.blart_keys.specs.Bytes.{common}
 use Rattle.art_tree.specs.Begins.{Bytes, Begins, next_byte}
 use Rattle.art_tree.specs.Kids.{kid_at}
 use Rattle.art_tree.specs.Nodes.{Node}
-use Rattle.art_tree.specs.Shape.{Shape, Covers, NodeFits}
+use Rattle.art_tree.specs.Shape.{Shape, CoversLeaf, CoversNode, NodeFits}
 use Rattle.art_tree.specs.Descents.{IsMate}
 use Rattle.art_tree.specs.declared.records.ids.Child.{Child}
-use Rattle.art_tree.specs.declared.records.ids.Child.TheVariants.{Leaf, Inner}
-use Rattle.art_tree.proofs.BeginsLemmas.{Begins-trans, Begins-edge_front, Begins-next, Begins-cases, Begins-equal, Begins-length, length-edge, common-in_right, common_same, common_at, common_comm, common_length}
+use Rattle.blart_keys.proofs.Options.{not_some}
+use Rattle.art_tree.proofs.BeginsLemmas.{Begins-trans, Begins-edge_front, Begins-next, Begins-cases, Begins-equal, common-in_right, common_same, common_at, common_comm, common_length}
 
-none_some : (o : Option Child) → o ≡ None → IsSome o → ⊥
-none_some o h k = let P : Option Child → Type 0 = λ o. IsSome o in let f : IsSome {T = Child} None = subst P h k in cc
+module _ (keys : ℕ → Option Bytes) (q : Bytes) where
+  -- no key but those that begin with the front goes along with q for longer than one of these
+  abbrev pub HoldsFurthest : Bytes → Type 0
+  HoldsFurthest front = (i j : ℕ) (l k : Bytes) → keys i ≡ Some l → keys j ≡ Some k → Begins front l → (Begins front k → ⊥) → length (common k q) ≤ length (common l q)
 
-module _ (keys : ℕ → Option Bytes) (nodes : ℕ → Option Node) (q : Bytes) where
-  -- the child stands for the keys that begin with a front, no other key goes along with q for longer than one of these, and each read went on by a byte at least
-  pub record MatesBelow (front_of : ℕ → Bytes) (c : Child) (spent : ℕ) : Type 0 where
-    pub front : Bytes
-    pub covers : Covers keys nodes front_of front c
-    pub best : (i j : ℕ) (l k : Bytes) → keys i ≡ Some l → keys j ≡ Some k → Begins front l → (Begins front k → ⊥) → length (common k q) ≤ length (common l q)
-    pub few : spent ≤ length front
+  -- of all keys none does
+  pub furthest_start : HoldsFurthest []
+  furthest_start = λ i j l k l_is k_is b never. absurd (never tt)
 
-  module _ (root : Option Child) (s : Shape keys nodes root) where
-    pub mates_start : (c : Child) → Covers keys nodes s.front_of [] c → MatesBelow s.front_of c 0
-    mates_start c h = record { front = []; covers = h; best = λ i j l k l_is k_is b never. absurd (never tt); few = omega arith }
-
-    module _ (n : ℕ) (spent : ℕ) (x : Node) (is : nodes n ≡ Some x) (m : MatesBelow s.front_of (Inner n) spent) where
+  module _ (nodes : ℕ → Option Node) (root : Option Child) (s : Shape keys nodes root) where
+    module _ (n : ℕ) (x : Node) (is : nodes n ≡ Some x) (front : Bytes) (covers : CoversNode keys nodes s.front_of front n) (best : HoldsFurthest front) where
       fits : NodeFits keys nodes s.front_of (s.front_of n) x
       fits = s.node n x is
 
@@ -62,41 +57,23 @@ module _ (keys : ℕ → Option Bytes) (nodes : ℕ → Option Node) (q : Bytes)
               let f : Bytes = s.front_of n in
               let e : next_byte f k ≡ next_byte f q = Begins-next f k (next_byte f q) h in
               let some : IsSome (kid_at x.kids (next_byte f k)) = fits.edge j k k_is (Begins-edge_front f k (next_byte f q) h) in
-              none_some (kid_at x.kids (next_byte f k)) (ap (λ (z : ℕ). kid_at x.kids z) (e ∙ ap (λ (z : ℕ). get_or q z 0) (sym d)) ∙ none) some
+              not_some (kid_at x.kids (next_byte f k)) (ap (λ (z : ℕ). kid_at x.kids z) (e ∙ ap (λ (z : ℕ). get_or q z 0) (sym d)) ∙ none) some
 
       -- a step down by q's next byte, or by any where q has ended or no key goes on by it
-      pub mates_step : (b : ℕ) (c : Child) → kid_at x.kids b ≡ Some c → (length q ≤ x.depth) ⊎ ((b ≡ get_or q x.depth 0) ⊎ (kid_at x.kids (get_or q x.depth 0) ≡ None)) → MatesBelow s.front_of c (spent + 1)
-      mates_step b c there way =
-          let l : length m.front ≤ length (s.front_of n) = Begins-length m.front (s.front_of n) m.covers.front in
-          let e : length (s.front_of n ++ b ∷ []) ≡ length (s.front_of n) + 1 = length-edge (s.front_of n) b in
-          let few : spent ≤ length m.front = m.few in
-          record {
-            front = s.front_of n ++ b ∷ [];
-            covers = fits.below b c there;
-            best = λ i j l k l_is k_is hl never.
-                elim (Begins-cases m.front k) [
-                  | inl under ↦ no_further b way j l k k_is hl (m.covers.only j k k_is under) never
-                  | inr off ↦ m.best i j l k l_is k_is (Begins-trans m.front (s.front_of n) l m.covers.front (Begins-edge_front (s.front_of n) l b hl)) off
-                ];
-            few = omega arith;
-          }
+      pub furthest_step : (b : ℕ) → (length q ≤ x.depth) ⊎ ((b ≡ get_or q x.depth 0) ⊎ (kid_at x.kids (get_or q x.depth 0) ≡ None)) → HoldsFurthest (s.front_of n ++ b ∷ [])
+      furthest_step b way = λ i j l k l_is k_is hl never.
+          elim (Begins-cases front k) [
+            | inl under ↦ no_further b way j l k k_is hl (covers.only j k k_is under) never
+            | inr off ↦ best i j l k l_is k_is (Begins-trans front (s.front_of n) l covers.front (Begins-edge_front (s.front_of n) l b hl)) off
+          ]
 
-    pub mates_end : (i spent : ℕ) → MatesBelow s.front_of (Leaf i) spent → IsMate keys q i
-    mates_end i spent m = record {
-      key = m.covers.key;
-      is = m.covers.is;
-      best = λ j k k_is. elim (Begins-cases m.front k) [
-        | inl under ↦ (let e : j ≡ i = m.covers.only j k k_is under in let h : keys i ≡ Some k = subst (λ (z : ℕ). keys z ≡ Some k) e k_is in let g : keys i ≡ Some m.covers.key = m.covers.is in let w : k ≡ m.covers.key = cc in let w2 : length (common k q) ≡ length (common m.covers.key q) = ap (λ (z : Bytes). length (common z q)) w in omega arith)
-        | inr off ↦ m.best i j m.covers.key k m.covers.is k_is m.covers.front off
-      ];
-    }
-
-    -- the reads of a way to a leaf are no more than the bytes of its key
-    pub mates_few : (i spent : ℕ) (key : Bytes) → MatesBelow s.front_of (Leaf i) spent → keys i ≡ Some key → spent ≤ length key
-    mates_few i spent key m is =
-        let e : keys i ≡ Some m.covers.key = m.covers.is in
-        let same : m.covers.key ≡ key = cc in
-        let l : length m.front ≤ length m.covers.key = Begins-length m.front m.covers.key m.covers.front in
-        let l2 : length m.covers.key ≡ length key = ap length same in
-        let few : spent ≤ length m.front = m.few in
-        omega arith
+  -- a leaf that stands for such a front is the mate
+  pub furthest_leaf : (i : ℕ) (front : Bytes) → CoversLeaf keys front i → HoldsFurthest front → IsMate keys q i
+  furthest_leaf i front c best = record {
+    key = c.key;
+    is = c.is;
+    best = λ j k k_is. elim (Begins-cases front k) [
+      | inl under ↦ (let e : j ≡ i = c.only j k k_is under in let h : keys i ≡ Some k = subst (λ (z : ℕ). keys z ≡ Some k) e k_is in let g : keys i ≡ Some c.key = c.is in let w : k ≡ c.key = cc in let w2 : length (common k q) ≡ length (common c.key q) = ap (λ (z : Bytes). length (common z q)) w in omega arith)
+      | inr off ↦ best i j c.key k c.is k_is c.front off
+    ];
+  }

@@ -155,7 +155,6 @@ module _ {K V : Type 0} (key_bytes : K → Bytes) where
   -- ---- which keys a leaf may take
 
   module _ (ps : List (Numbered K V)) (content : IsContent (bytes key_bytes) ps) (distinct : AreDistinct ps) (i : ℕ) (q : Bytes) where
-
     lacks_filter : (test : Numbered K V → Bool) (qs : List (Numbered K V)) (j : ℕ) → Lacks qs j → Lacks (filter test qs) j
     lacks_filter test [] j l = tt
     lacks_filter test (p ∷ qs) j l = elim (cases_Bool (test p)) [

@@ -2,10 +2,10 @@
 use Rattle.std.proofs.Common.{◌≡◌, ◌≢◌, ℕ, List, [], ◌∷◌, refl, ap, sym, ◌∙◌, Some, option_map, eqb, eq-eqb, inl, inr, true, false}
 use Rattle.std.proofs.lemmas.Bool.{ne_eqb}
 use Rattle.std.proofs.lemmas.Bool.Decides.{eqb_tells}
-use Rattle.blart_keys.proofs.Options.{mapped_some}
+use Rattle.blart_keys.proofs.Options.{mapped_some, is_some}
 use Rattle.blart_keys.proofs.RankLemmas.{Member}
 use Rattle.art_tree.specs.Begins.{Bytes}
-use Rattle.art_tree.specs.Leaves.{Numbered, leaf_in, Lacks, AreDistinct, bytes, keys_in}
+use Rattle.art_tree.specs.Leaves.{Numbered, leaf_in, Has, Lacks, AreDistinct, bytes, keys_in}
 
 module _ {K V : Type 0} where
   -- what is found under a number is a pair of the list
@@ -48,3 +48,7 @@ module _ {K V : Type 0} where
     -- the pair of the list that has a key
     pub member_of_key : (ps : List (Numbered K V)) (i : ℕ) (k : Bytes) → keys_in key_bytes ps i ≡ Some k → (x : Numbered K V) × Member x ps × (x.0 ≡ i) × (bytes key_bytes x ≡ k)
     member_of_key ps i k e = let r = pair_of_key ps i k e in ((i, r.0), leaf_in_member ps i r.0 r.1, refl, r.2)
+
+    -- a number under which there is a key is one of the list
+    pub has_key : (ps : List (Numbered K V)) (i : ℕ) (k : Bytes) → keys_in key_bytes ps i ≡ Some k → Has ps i
+    has_key ps i k e = let p = pair_of_key ps i k e in is_some (leaf_in ps i) p.0 p.1

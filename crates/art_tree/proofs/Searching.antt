@@ -3,21 +3,21 @@ use Rattle.std.proofs.Common.{◌≡◌, ◌≢◌, ℕ, ◌+◌, ◌<◌, ◌�
 use Rattle.art_tree.specs.Begins.{Bytes, Begins, next_byte}
 use Rattle.art_tree.specs.Nodes.{Node}
 use Rattle.art_tree.specs.Kids.{kid_at}
-use Rattle.art_tree.specs.Shape.{Shape, Covers, NodeFits, RootFits}
-use Rattle.art_tree.specs.Descents.{NoFront, IsOnlyFront, GoesTo}
+use Rattle.art_tree.specs.Shape.{Shape, CoversNode, NodeFits, RootFits}
+use Rattle.art_tree.specs.Descents.{NoFront, IsOnlyFront}
 use Rattle.art_tree.specs.declared.records.ids.Child.{Child}
-use Rattle.art_tree.specs.declared.records.ids.Child.TheVariants.{Leaf, Inner}
 use Rattle.blart_keys.proofs.Options.{not_some, same_some}
 use Rattle.art_tree.proofs.BeginsLemmas.{Begins-length, Begins-itself, Begins-more, Begins-next, next_byte-front, length-edge}
 
-module _ (keys : ℕ → Option Bytes) (nodes : ℕ → Option Node) (q : Bytes) where
-  -- the descent stands at a child after so many visits, and any key that begins q is below it
-  pub record Reaches (front_of : ℕ → Bytes) (c : Child) (spent : ℕ) : Type 0 where
-    pub front : Bytes
-    pub covers : Covers keys nodes front_of front c
+module _ (keys : ℕ → Option Bytes) (q : Bytes) where
+  -- each key that begins q begins with the front, which is no longer than q
+  pub record HoldsFronts (front : Bytes) : Type 0 where
     pub holds : (j : ℕ) (k : Bytes) → keys j ≡ Some k → Begins k q → Begins front k
     pub short : length front ≤ length q
-    pub few : spent ≤ length front
+
+  -- it is so of no bytes
+  pub fronts_start : HoldsFronts []
+  fronts_start = record { holds = λ j k e b. tt; short = omega arith }
 
   -- no key has the bytes q
   abbrev pub IsAbsent : Type 0
@@ -27,17 +27,7 @@ module _ (keys : ℕ → Option Bytes) (nodes : ℕ → Option Node) (q : Bytes)
   pub absent : NoFront keys q → IsAbsent
   absent h j e = h j q e (Begins-itself q)
 
-  module _ (root : Option Child) (s : Shape keys nodes root) where
-    -- it starts at the root
-    pub reach_start : (c : Child) → root ≡ Some c → Reaches s.front_of c 0
-    reach_start c is = record {
-      front = [];
-      covers = subst (λ (r : Option Child). RootFits keys nodes s.front_of r) is s.top;
-      holds = λ j k e b. tt;
-      short = omega arith;
-      few = omega arith;
-    }
-
+  module _ (nodes : ℕ → Option Node) (root : Option Child) (s : Shape keys nodes root) where
     -- with no root there is no key
     pub root_none : root ≡ None → NoFront keys q
     root_none is j k e b =
@@ -45,12 +35,12 @@ module _ (keys : ℕ → Option Bytes) (nodes : ℕ → Option Node) (q : Bytes)
         let f : keys j ≡ None = h j in
         cc
 
-    module _ (n : ℕ) (spent : ℕ) (x : Node) (is : nodes n ≡ Some x) (r : Reaches s.front_of (Inner n) spent) where
+    module _ (n : ℕ) (x : Node) (is : nodes n ≡ Some x) (front : Bytes) (covers : CoversNode keys nodes s.front_of front n) (h : HoldsFronts front) where
       fits : NodeFits keys nodes s.front_of (s.front_of n) x
       fits = s.node n x is
 
       in_node : (j : ℕ) (k : Bytes) → keys j ≡ Some k → Begins k q → Begins (s.front_of n) k
-      in_node j k e b = r.covers.only j k e (r.holds j k e b)
+      in_node j k e b = covers.only j k e (h.holds j k e b)
 
       -- a key that begins q goes on from the node by q's byte
       goes_on : (j : ℕ) (k : Bytes) → keys j ≡ Some k → Begins k q → Begins (s.front_of n ++ next_byte (s.front_of n) q ∷ []) k
@@ -61,54 +51,28 @@ module _ (keys : ℕ → Option Bytes) (nodes : ℕ → Option Node) (q : Bytes)
           subst (λ (c : ℕ). Begins (f ++ c ∷ []) k) (next_byte-front f k q b l) (Begins-more f k fk l)
 
       -- a node as deep as q is long has no such key below
-      pub reach_short : length q ≤ x.depth → NoFront keys q
-      reach_short h j k e b =
+      pub fronts_short : length q ≤ x.depth → NoFront keys q
+      fronts_short h2 j k e b =
           let l : length (s.front_of n) < length k = fits.longer j k e (in_node j k e b) in
           let d : x.depth ≡ length (s.front_of n) = fits.depth in
           let m : length k ≤ length q = Begins-length k q b in
           omega arith
 
       -- nor has one without an edge at q's byte
-      pub reach_none : kid_at x.kids (get_or q x.depth 0) ≡ None → NoFront keys q
-      reach_none h j k e b =
+      pub fronts_none : kid_at x.kids (get_or q x.depth 0) ≡ None → NoFront keys q
+      fronts_none h j k e b =
           let f : Bytes = s.front_of n in
           let g : next_byte f k ≡ next_byte f q = Begins-next f k (next_byte f q) (goes_on j k e b) in
           let i : IsSome (kid_at x.kids (next_byte f k)) = fits.edge j k e (in_node j k e b) in
           not_some (kid_at x.kids (get_or q x.depth 0)) h (same_some (kid_at x.kids (next_byte f k)) (kid_at x.kids (get_or q x.depth 0)) (ap (kid_at x.kids) (g ∙ ap (λ d. get_or q d 0) (sym fits.depth))) i)
 
       -- the edge at q's byte leads on
-      pub reach_step : (c : Child) → x.depth < length q → kid_at x.kids (get_or q x.depth 0) ≡ Some c → Reaches s.front_of c (spent + 1)
-      reach_step c below k =
+      pub fronts_step : x.depth < length q → HoldsFronts (s.front_of n ++ get_or q x.depth 0 ∷ [])
+      fronts_step below =
           let g : Bytes = s.front_of n in
           let d : x.depth ≡ length g = fits.depth in
-          let long : length r.front ≤ length g = Begins-length r.front g r.covers.front in
-          let few : spent ≤ length r.front = r.few in
           let l : length (g ++ next_byte g q ∷ []) ≡ length g + 1 = length-edge g (next_byte g q) in
-          record {
-            front = g ++ next_byte g q ∷ [];
-            covers = fits.below (next_byte g q) c (subst (λ (d : ℕ). kid_at x.kids (get_or q d 0) ≡ Some c) d k);
-            holds = goes_on;
-            short = omega arith;
-            few = omega arith;
-          }
-
-    -- at a leaf: a key that begins q is the leaf's
-    pub reach_leaf : (i : ℕ) (spent : ℕ) → Reaches s.front_of (Leaf i) spent → (j : ℕ) (k : Bytes) → keys j ≡ Some k → Begins k q → j ≡ i
-    reach_leaf i spent r j k e b = r.covers.only j k e (r.holds j k e b)
-
-    -- so the descent comes to it
-    pub goes_leaf : (old new i spent : ℕ) → Reaches s.front_of (Leaf i) spent → new ≡ old + spent → GoesTo keys q old new (Some i)
-    goes_leaf old new i spent r e =
-        let few : spent ≤ length r.front = r.few in
-        let short : length r.front ≤ length q = r.short in
-        (record { key = r.covers.key; is = r.covers.is; only = reach_leaf i spent r }, omega arith)
-
-    -- a descent that ends at a node
-    pub goes_none : (old new spent : ℕ) (c : Child) → Reaches s.front_of c spent → new ≡ old + spent + 1 → NoFront keys q → GoesTo keys q old new None
-    goes_none old new spent c r e absent_here =
-        let few : spent ≤ length r.front = r.few in
-        let short : length r.front ≤ length q = r.short in
-        (absent_here, omega arith)
+          subst (λ (z : ℕ). HoldsFronts (g ++ get_or q z 0 ∷ [])) (sym d) (record { holds = goes_on; short = omega arith })
 
   -- where the only key that may begin q does not, none does
   pub only_not : (i : ℕ) → IsOnlyFront keys q i → (l : Bytes) → keys i ≡ Some l → (Begins l q → ⊥) → NoFront keys q
@@ -120,8 +84,3 @@ module _ (keys : ℕ → Option Bytes) (nodes : ℕ → Option Node) (q : Bytes)
   -- and where it is not q, no key is
   pub only_absent : (i : ℕ) → IsOnlyFront keys q i → keys i ≢ Some q → IsAbsent
   only_absent i o other j e = other (ap keys (sym (o.only j q e (Begins-itself q))) ∙ e)
-
--- ---- a descent to the node at a front
-
-
-

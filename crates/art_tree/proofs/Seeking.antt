@@ -1,25 +1,29 @@
 -- Where bytes stand among the keys, and the ends of what is within a bound or below some bytes.
-use Rattle.std.proofs.Common.{◌≡◌, ◌≢◌, ℕ, ◌<◌, ◌≤◌, Bool, true, false, not, ◌&&◌, List, [], ◌∷◌, filter, length, refl, ap, arith, sym, subst, Option, option_map, Some, None, ◌∙◌, ◌⊎◌, inl, inr}
+use Rattle.std.proofs.Common.{◌≡◌, ℕ, ◌<◌, ◌≤◌, Bool, true, false, not, ◌&&◌, List, [], ◌∷◌, filter, length, refl, ap, arith, sym, subst, Option, option_map, Some, None, Err, ◌∙◌, ◌⊎◌, inl, inr}
 use Rattle.std.proofs.lemmas.Bool.{false≢true, false_from_ne_true, and_from, and_parts, not-true, not_from_false}
 use Rattle.std.proofs.lemmas.Bool.Decides.{eqb_tells}
 use Rattle.std.specs.declared.ops.Bound.{Bound}
 use Rattle.std.specs.declared.ops.Bound.TheVariants.{Included, Excluded, Unbounded}
-use Rattle.blart_keys.specs.Bytes.{begins, related, less, common}
+use Rattle.blart_keys.specs.Bytes.{begins, less}
 use Rattle.blart_keys.specs.Bounds.{is_from_start, is_up_to_end}
 use Rattle.blart_keys.specs.Content.{IsContent, at, under, between}
 use Rattle.blart_keys.proofs.PartLemmas.{less-from_PartsBelow, less-trans, less-irrefl, less_or, less-same}
 use Rattle.blart_keys.proofs.RankLemmas.{Member, Ranked, each_member, filter_none, filter_all}
-use Rattle.blart_keys.proofs.ContentLemmas.{Before, Ranked-from_content, related-same}
+use Rattle.blart_keys.proofs.ContentLemmas.{Before, Ranked-from_content}
 use Rattle.art_tree.specs.Begins.{Bytes, Begins}
-use Rattle.art_tree.specs.Descents.{IsLeastUnder, IsGreatestUnder, IsMate}
+use Rattle.art_tree.specs.Departures.{LeavesAt, KeyEnds, QueryEnds}
+use Rattle.art_tree.specs.Descents.{IsEndUnder}
 use Rattle.art_tree.specs.Good.{LastBefore, StandsBehind}
 use Rattle.art_tree.specs.Leaves.{Numbered, AreDistinct, Has, bytes, keys_in, first_number, last_number, number_after, number_before, behind}
 use Rattle.art_tree.specs.Nodes.{Node}
 use Rattle.art_tree.specs.Seeks.{sought, ends}
-use Rattle.art_tree.specs.Standings.{beside}
+use Rattle.art_tree.specs.Standings.{beside, StandsAt}
 use Rattle.art_tree.specs.Shape.{Shape}
+use Rattle.art_tree.specs.declared.parting.Departure.{Departure}
 use Rattle.art_tree.specs.declared.records.ids.Child.{Child}
-use Rattle.art_tree.proofs.BeginsLemmas.{Begins-itself, Begins-cases, Begins-equal, Begins-from_begins, common-left, common-right, common_length}
+use Rattle.art_tree.proofs.BeginsLemmas.{related-from_begun, Begins-length, Begins-trans, Begins-itself, Begins-cases, Begins-from_begins}
+use Rattle.art_tree.proofs.Extremes.{first_less, last_greater}
+use Rattle.art_tree.proofs.Partings.{one_key, no_key, no_key_alone}
 use Rattle.art_tree.proofs.Neighbours.{one_less, same_side, FirstFrom, StandsAhead, behind_from, ahead_key}
 use Rattle.art_tree.proofs.LeavesLemmas.{Has-first, Has-last}
 use Rattle.art_tree.proofs.PairAnswers.{pair, at_key, first_of_test, last_of_test, first_under, last_under}
@@ -46,13 +50,13 @@ front_less (x ∷ g) (y ∷ k) b l = less-same x y g k b.0 ∙ front_less g k b.
 
 module _ (keys : ℕ → Option Bytes) (q : Bytes) where
   -- the least key that begins with q is the first that is not less
-  pub least_from : (i : ℕ) → IsLeastUnder keys q i → FirstFrom keys q i
+  pub least_from : (i : ℕ) → IsEndUnder keys true q i → FirstFrom keys q i
   least_from i u = record {
     key = u.key;
     is = u.is;
     from = front_not_greater q u.key u.front;
     first = λ j k e h. elim (Begins-cases q k) [
-      | inl under ↦ elim (u.least j k e under) [ inl s ↦ inl s | inr p ↦ inr (less-from_PartsBelow u.key k p) ]
+      | inl under ↦ first_less u j k e under
       | inr off ↦
           let more : less q k ≡ true = greater k h off in
           let never : Begins k q → ⊥ = λ b. false≢true (sym (front_not_greater k q b) ∙ more) in
@@ -79,30 +83,6 @@ module _ (keys : ℕ → Option Bytes) (q : Bytes) where
         | inr off ↦ inr (sym (same_side m k q m (unrelated keys nodes root s i j m k is e (λ z. off.1 (sym z))) (unrelated keys nodes root s j i k m e is off.1) b (Begins-itself m)).0 ∙ h)
       ];
     }
-
-    -- no key is q where one begins q, or begins with it, and is not as long
-    pub no_key : Begins m q ⊎ Begins q m → length m ≢ length q → (j : ℕ) → keys j ≡ Some q → ⊥
-    no_key h ne j e = elim (eqb_tells j i) [
-      | inl s ↦ (let a : keys i ≡ Some q = ap keys (sym s.1) ∙ e in let same : m ≡ q = cc in ne (ap length same))
-      | inr off ↦ elim h [
-        | inl b ↦ unrelated keys nodes root s i j m q is e (λ z. off.1 (sym z)) b
-        | inr b ↦ unrelated keys nodes root s j i q m e is off.1 b
-      ]
-    ]
-
-  -- no key is q where none is related to it
-  pub no_key_alone : ((j : ℕ) (k : Bytes) → keys j ≡ Some k → related k q ≡ false) → (j : ℕ) → keys j ≡ Some q → ⊥
-  no_key_alone alone j e = false≢true (sym (alone j q e) ∙ related-same q q refl)
-
-  -- where the mate does not begin with q no key does
-  pub none_begins : (i : ℕ) (m : Bytes) → IsMate keys q i → keys i ≡ Some m → (Begins q m → ⊥) → (j : ℕ) (k : Bytes) → keys j ≡ Some k → Begins q k → ⊥
-  none_begins i m mate is off j k e b =
-      let own : keys i ≡ Some mate.key = mate.is in
-      let same : mate.key ≡ m = cc in
-      let a : length q ≤ length (common k q) = common_length q k q b (Begins-itself q) in
-      let c : length (common k q) ≤ length (common mate.key q) = mate.best j k e in
-      let whole : common mate.key q ≡ q = Begins-equal (common mate.key q) q (common-right mate.key q) (omega arith) in
-      off (subst (Begins q) same (subst (λ (z : Bytes). Begins z mate.key) whole (common-left mate.key q)))
 
 -- ---- the ends of a list of pairs
 
@@ -277,13 +257,48 @@ module _ {K V : Type 0} (key_bytes : K → Bytes) (pairs : List (Numbered K V)) 
 
   -- ---- what begins with some bytes
 
-  -- the leaves with the least and the greatest of the keys that begin with q
-  pub ends_under : (q : Bytes) (a b : ℕ) → IsLeastUnder keys q a → IsGreatestUnder keys q b → ends (under (bytes key_bytes) pairs q) ≡ Some (a, b)
-  ends_under q a b u w =
-      ends_are (under (bytes key_bytes) pairs q) a b
-      (first_under key_bytes pairs content distinct q a u.key u.is u.front (λ j k e h. elim (u.least j k e h) [ inl s ↦ inl s | inr p ↦ inr (less-from_PartsBelow u.key k p) ]))
-      (last_under key_bytes pairs content distinct q b w.key w.is w.front (λ j k e h. elim (w.greatest j k e h) [ inl s ↦ inl s | inr p ↦ inr (less-from_PartsBelow k w.key p) ]))
+  -- the leaves at the ends of those whose keys begin with q
+  pub ends_under : (q : Bytes) (a b : ℕ) → IsEndUnder keys true q a → IsEndUnder keys false q b → ends (under (bytes key_bytes) pairs q) ≡ Some (a, b)
+  ends_under q a b u w = ends_are (under (bytes key_bytes) pairs q) a b (first_under key_bytes pairs content distinct q a u.key u.is u.front (first_less u)) (last_under key_bytes pairs content distinct q b w.key w.is w.front (last_greater w))
 
   -- no key begins with q
-  pub no_ends : (q : Bytes) → ((j : ℕ) (k : Bytes) → keys j ≡ Some k → Begins q k → ⊥) → ends (under (bytes key_bytes) pairs q) ≡ None
+  no_ends : (q : Bytes) → ((j : ℕ) (k : Bytes) → keys j ≡ Some k → Begins q k → ⊥) → ends (under (bytes key_bytes) pairs q) ≡ None
   no_ends q never = ap ends (filter_none (λ x. begins q (bytes key_bytes x)) pairs (λ y m. false_from_ne_true (begins q (bytes key_bytes y)) (λ t. never y.0 (bytes key_bytes y) (key_of_member key_bytes pairs y distinct m) (Begins-from_begins q (bytes key_bytes y) t))))
+
+  module _ (nodes : ℕ → Option Node) (q : Bytes) where
+    -- a key is q: no other begins with it
+    pub span_same : (root : Option Child) → Shape keys nodes root → (i : ℕ) → keys i ≡ Some q → ends (under (bytes key_bytes) pairs q) ≡ Some (i, i)
+    span_same root s i is =
+        let only : (j : ℕ) (k : Bytes) → keys j ≡ Some k → Begins q k → j ≡ i = λ j k e b. one_key keys nodes root s i q is j k e (inr b) in
+        ends_under q i i (record { key = q; is = is; front = Begins-itself q; end = λ j k e b. inl (only j k e b) }) (record { key = q; is = is; front = Begins-itself q; end = λ j k e b. inl (only j k e b) })
+
+    -- a key begins q, and is shorter: none begins with q
+    pub span_shorter : (root : Option Child) → Shape keys nodes root → (i : ℕ) → KeyEnds keys i q → ends (under (bytes key_bytes) pairs q) ≡ None
+    span_shorter root s i m = no_ends q (λ j k e b.
+        (let same : j ≡ i = one_key keys nodes root s i m.key m.is j k e (inr (Begins-trans m.key q k m.begins b)) in
+        let own : keys i ≡ Some m.key = m.is in
+        let f : keys i ≡ Some k = ap keys (sym same) ∙ e in
+        let h : k ≡ m.key = cc in
+        let l : length q ≤ length m.key = subst (λ (z : Bytes). length q ≤ length z) h (Begins-length q k b) in
+        let lt : length m.key < length q = m.shorter in
+        omega arith))
+
+    -- no key is related to q
+    pub span_apart : (d : Departure) → LeavesAt key_bytes pairs nodes d q → ends (under (bytes key_bytes) pairs q) ≡ None
+    span_apart d l = no_ends q (λ j k e b. false≢true (sym (l.apart.alone j k e) ∙ related-from_begun k q b))
+
+    -- the leaf before q, and that no key is q, where a key begins q
+    pub place_shorter : (root : Option Child) → Shape keys nodes root → (i : ℕ) → KeyEnds keys i q → StandsAt keys q (Err (Some i))
+    place_shorter root s i m =
+        let l : length m.key < length q = m.shorter in
+        (last_front keys q nodes root s i m.key m.is m.begins l, no_key keys nodes root s i m.key m.is q (inl m.begins) (omega arith))
+
+    -- where q begins keys
+    pub place_longer : (c : Child) → QueryEnds key_bytes pairs nodes c q → (first : ℕ) → IsEndUnder keys true q first → (o : Option ℕ) → o ≡ number_before pairs first → StandsAt keys q (Err o)
+    place_longer c m first u o e =
+        let l : length q < length m.key = m.longer in
+        (subst (λ (o : Option ℕ). StandsBehind keys q o) (sym e) (behind_from key_bytes pairs content distinct q first (least_from keys q first u)), no_key keys nodes m.root m.shape m.leaf m.key m.is q (inr m.begun) (omega arith))
+
+    -- and where no key is related to q
+    pub place_apart : (d : Departure) → LeavesAt key_bytes pairs nodes d q → (o : Option ℕ) → StandsBehind keys q o → StandsAt keys q (Err o)
+    place_apart d l o h = (h, no_key_alone keys q l.apart.alone)

@@ -1,12 +1,12 @@
 -- A leaf leaves the tree: the way to it, and what the changes to its node and the edge above keep.
-use Rattle.std.proofs.Common.{◌≡◌, ◌≢◌, ℕ, ◌+◌, ◌<◌, ◌≤◌, List, [], ◌∷◌, ◌++◌, length, take, refl, ap, arith, sym, subst, Option, Some, None, IsSome, ◌∙◌, inl, inr}
+use Rattle.std.proofs.Common.{true, ◌≡◌, ◌≢◌, ℕ, ◌+◌, ◌<◌, ◌≤◌, List, [], ◌∷◌, ◌++◌, length, take, refl, ap, arith, sym, subst, Option, Some, None, IsSome, ◌∙◌, inl, inr}
 use Rattle.std.proofs.lemmas.Bool.{cases_lt}
 use Rattle.std.proofs.lemmas.Bool.Decides.{eqb_tells}
 use Rattle.art_tree.specs.Above.{LeadsTo, TurnsTo, edge_front}
 use Rattle.art_tree.specs.Begins.{Bytes, Begins, next_byte}
 use Rattle.art_tree.specs.Kids.{kid_at}
 use Rattle.art_tree.specs.Nodes.{Node, DropsEdge, Renames}
-use Rattle.art_tree.specs.Descents.{IsLeastUnder}
+use Rattle.art_tree.specs.Descents.{IsEndUnder}
 use Rattle.art_tree.specs.Leaves.{Numbered, leaf_in, Has, keys_in}
 use Rattle.art_tree.specs.Removals.{Loses, HangsAt, HangsBelow, OtherEdge, IsLive, StartsBelow, EndsBelow, Recuts}
 use Rattle.art_tree.specs.Shape.{Shape, CoversLeaf, CoversNode, NodeFits}
@@ -258,7 +258,7 @@ module _ (keys : ℕ → Option Bytes) (nodes : ℕ → Option Node) (root : Opt
         omega arith
 
     -- a key below is at least as long as the node's front
-    pub key_within : (i : ℕ) (k : Bytes) → IsLeastUnder keys g i → keys i ≡ Some k → x.depth ≤ length k
+    pub key_within : (i : ℕ) (k : Bytes) → IsEndUnder keys true g i → keys i ≡ Some k → x.depth ≤ length k
     key_within i k u e =
         let a : keys i ≡ Some u.key = u.is in
         let h : u.key ≡ k = cc in

@@ -1,5 +1,5 @@
 -- Where a query leaves the stored keys, and what is known there.
-use Rattle.std.specs.Prelude.{◌≡◌, ◌≢◌, ℕ, false, List, [], ◌∷◌, ◌++◌, Option, Some, IsSome}
+use Rattle.std.specs.Prelude.{◌≡◌, ◌≢◌, ℕ, false, List, [], ◌∷◌, ◌++◌, ◌<◌, length, slice_index_or, Option, Some, IsSome}
 use Rattle.blart_keys.specs.Bytes.{related}
 use Rattle.blart_keys.specs.Content.{IsContent}
 use Rattle.art_tree.specs.Begins.{Bytes, Begins}
@@ -8,8 +8,17 @@ use Rattle.art_tree.specs.Leaves.{Numbered, AreDistinct, keys_in, bytes}
 use Rattle.art_tree.specs.Nodes.{Node}
 use Rattle.art_tree.specs.Shape.{Shape, Covers}
 use Rattle.art_tree.specs.Spots.{SpotFits}
-use Rattle.art_tree.specs.declared.descent.Spot.{Spot}
+use Rattle.art_tree.specs.declared.parting.Departure.{Departure}
+use Rattle.art_tree.specs.declared.parting.Parting.{Parting}
+use Rattle.art_tree.specs.declared.parting.Parting.TheVariants.{Same, Shorter, Longer, Apart}
 use Rattle.art_tree.specs.declared.records.ids.Child.{Child}
+
+-- the key of the leaf begins q, and is shorter
+pub record KeyEnds (keys : ℕ → Option Bytes) (i : ℕ) (q : Bytes) : Type 0 where
+  pub key : Bytes
+  pub is : keys i ≡ Some key
+  pub begins : Begins key q
+  pub shorter : length key < length q
 
 module _ {K V : Type 0} (key_bytes : K → List ℕ) (pairs : List (Numbered K V)) (nodes : ℕ → Option Node) where
   -- a sound tree, no key of which is related to q
@@ -38,10 +47,29 @@ module _ {K V : Type 0} (key_bytes : K → List ℕ) (pairs : List (Numbered K V
     pub goes_on : Begins (t ++ byte ∷ []) q
     pub other : mate_byte ≢ byte
 
-  -- q leaves the mate at this depth, and there the spot is
-  pub record LeavesAt (spot : Spot) (mate q : Bytes) (depth : ℕ) : Type 0 where
+  -- q leaves a stored key, the mate, at this spot
+  pub record LeavesAt (departure : Departure) (q : Bytes) : Type 0 where
     pub apart : NoneRelated q
-    pub spot_fits : SpotFits nodes apart.root apart.shape.front_of mate depth spot
+    pub mate : Bytes
+    pub is : keys_in key_bytes pairs departure.mate ≡ Some mate
+    pub byte_is : departure.byte ≡ slice_index_or mate departure.depth 0
+    pub leaves : LeavesMate (keys_in key_bytes pairs) departure.mate departure.depth q
+    pub spot_fits : SpotFits nodes apart.root apart.shape.front_of mate departure.depth departure.spot
+
+  -- q begins a stored key, and is shorter, and the child stands for the keys that begin with q
+  pub record QueryEnds (child : Child) (q : Bytes) : Type 0 where
+    pub root : Option Child
+    pub shape : Shape (keys_in key_bytes pairs) nodes root
+    pub covers : Covers (keys_in key_bytes pairs) nodes shape.front_of q child
     pub leaf : ℕ
-    pub is : keys_in key_bytes pairs leaf ≡ Some mate
-    pub leaves : LeavesMate (keys_in key_bytes pairs) leaf depth q
+    pub key : Bytes
+    pub is : keys_in key_bytes pairs leaf ≡ Some key
+    pub begun : Begins q key
+    pub longer : length q < length key
+
+  -- how q and the key that goes along with it the furthest part
+  abbrev pub IsParting : Parting → Bytes → Type 0
+  IsParting (Same i) q = keys_in key_bytes pairs i ≡ Some q
+  IsParting (Shorter i) q = KeyEnds (keys_in key_bytes pairs) i q
+  IsParting (Longer child) q = QueryEnds child q
+  IsParting (Apart departure) q = LeavesAt departure q

@@ -1,5 +1,5 @@
 -- What the ways down a tree find.
-use Rattle.std.specs.Prelude.{◌≡◌, ◌≢◌, ℕ, ◌+◌, ◌<◌, ◌≤◌, ◌⊎◌, length, slice_index, Option, Some, None, IsSome}
+use Rattle.std.specs.Prelude.{◌≡◌, ◌≢◌, ℕ, Bool, true, false, ◌+◌, ◌<◌, ◌≤◌, ◌⊎◌, length, slice_index, Option, Some, None, IsSome}
 use Rattle.blart_keys.specs.Bytes.{common, PartsBelow}
 use Rattle.art_tree.specs.Begins.{Bytes, Begins}
 use Rattle.art_tree.specs.Kids.{kid_at}
@@ -14,6 +14,11 @@ pub record Hangs (nodes : ℕ → Option Node) (child : Child) : Type 0 where
   pub shape : Shape keys nodes root
   pub front : Bytes
   pub covers : Covers keys nodes shape.front_of front child
+
+-- the child is the root of some tree
+pub record IsRoot (nodes : ℕ → Option Node) (child : Child) : Type 0 where
+  pub keys : ℕ → Option Bytes
+  pub shape : Shape keys nodes (Some child)
 
 -- in some tree with this root, the mate is a stored key, at least as long as the depth
 pub record IsWayOf (nodes : ℕ → Option Node) (root : Child) (mate : Bytes) (depth : ℕ) : Type 0 where
@@ -37,20 +42,18 @@ pub record GoesToward (nodes : ℕ → Option Node) (n : ℕ) (q : Bytes) (c : C
   pub there : kid_at node.kids byte ≡ Some c
   pub way : (length q ≤ node.depth) ⊎ ((byte ≡ slice_index q node.depth) ⊎ (kid_at node.kids (slice_index q node.depth) ≡ None))
 
-module _ (keys : ℕ → Option Bytes) where
-  -- the leaf has the least of the keys that begin with g
-  pub record IsLeastUnder (g : Bytes) (i : ℕ) : Type 0 where
-    pub key : Bytes
-    pub is : keys i ≡ Some key
-    pub front : Begins g key
-    pub least : (j : ℕ) (k : Bytes) → keys j ≡ Some k → Begins g k → (j ≡ i) ⊎ PartsBelow key k
+-- of two keys that part, the one that comes first, or last
+abbrev pub PartsBefore : Bool → Bytes → Bytes → Type 0
+PartsBefore true k l = PartsBelow k l
+PartsBefore false k l = PartsBelow l k
 
-  -- the leaf has the greatest of the keys that begin with g
-  pub record IsGreatestUnder (g : Bytes) (i : ℕ) : Type 0 where
+module _ (keys : ℕ → Option Bytes) where
+  -- the leaf is at one end of those whose keys begin with g: it has the least key, or the greatest
+  pub record IsEndUnder (is_first : Bool) (g : Bytes) (i : ℕ) : Type 0 where
     pub key : Bytes
     pub is : keys i ≡ Some key
     pub front : Begins g key
-    pub greatest : (j : ℕ) (k : Bytes) → keys j ≡ Some k → Begins g k → (j ≡ i) ⊎ PartsBelow k key
+    pub end : (j : ℕ) (k : Bytes) → keys j ≡ Some k → Begins g k → (j ≡ i) ⊎ PartsBefore is_first key k
 
   -- no key goes along with q for longer than that of the leaf
   pub record IsMate (q : Bytes) (i : ℕ) : Type 0 where
@@ -74,9 +77,9 @@ module _ (keys : ℕ → Option Bytes) (nodes : ℕ → Option Node) (front_of :
     pub is : nodes number ≡ Some node
     pub as_long : length (front_of number) ≡ length f
     pub counted : count ≡ length node.kids
-    pub least : IsLeastUnder keys (front_of number) leaf
+    pub first : IsEndUnder keys true (front_of number) leaf
     pub only : (m : ℕ) → IsSome (nodes m) → front_of m ≡ f → front_of number ≡ f
-    pub few : new ≤ old + length least.key
+    pub few : new ≤ old + length first.key
 
   -- what a way down by the bytes of f finds: how many edges the node there has, and the first leaf below it
   abbrev pub Finds : Option (ℕ × ℕ) → Type 0

@@ -1,5 +1,5 @@
 -- Edges by their bytes.
-use Rattle.std.specs.Prelude.{◌≡◌, ◌≢◌, ◌<◌, ◌≤◌, ℕ, List, [], ◌∷◌, Option, Some, None, cond, eqb, leb, ltb, ◌+◌, length, take}
+use Rattle.std.specs.Prelude.{◌≡◌, ◌≢◌, ◌<◌, ◌≤◌, ℕ, Bool, true, false, List, [], ◌∷◌, Option, Some, None, cond, eqb, leb, ltb, ◌+◌, length, take}
 use Rattle.art_tree.specs.declared.records.ids.Child.{Child}
 use Rattle.art_tree.specs.declared.records.ids.Edge.{Edge}
 
@@ -90,12 +90,12 @@ abbrev pub IsPrevious : List Edge → ℕ → Option Edge → Type 0
 IsPrevious es b None = (c : ℕ) → c < b → kid_at es c ≡ None
 IsPrevious es b (Some e) = (e.byte < b) × (kid_at es e.byte ≡ Some e.to) × ((c : ℕ) → e.byte < c → c < b → kid_at es c ≡ None)
 
--- the least edge of a node that has one
-pub record IsLeast (es : List Edge) (e : Edge) : Type 0 where
-  pub there : kid_at es e.byte ≡ Some e.to
-  pub least : (c : ℕ) → c < e.byte → kid_at es c ≡ None
+-- of two bytes, the one that comes first, or last
+abbrev pub Precedes : Bool → ℕ → ℕ → Type 0
+Precedes true b c = b < c
+Precedes false b c = c < b
 
--- the greatest edge of a node that has one
-pub record IsGreatest (es : List Edge) (e : Edge) : Type 0 where
+-- the edge at one end of a node that has some: the least, or the greatest
+pub record IsEnd (is_first : Bool) (es : List Edge) (e : Edge) : Type 0 where
   pub there : kid_at es e.byte ≡ Some e.to
-  pub greatest : (c : ℕ) → e.byte < c → kid_at es c ≡ None
+  pub end : (c : ℕ) → Precedes is_first c e.byte → kid_at es c ≡ None

@@ -3,19 +3,13 @@ ghost use Rattle.std.specs.Prelude.{◌≡◌, ℕ, ◌+◌, ◌<◌, ◌≤◌,
 ghost use Rattle.art_tree.specs.Begins.{Bytes};
 ghost use Rattle.art_tree.specs.Nodes.{at};
 ghost use Rattle.art_tree.specs.Shape.{Shape, Covers};
-ghost use Rattle.art_tree.specs.Descents.{Hangs, HasEdges, GoesToward, IsWayOf, Finds, IsLeastUnder, IsGreatestUnder, IsMate};
+ghost use Rattle.art_tree.specs.Descents.{Hangs, IsRoot, HasEdges, GoesToward, IsWayOf, Finds, IsEndUnder, IsMate};
 ghost use Rattle.art_tree.specs.Spots.{SpotFits};
-ghost use Rattle.art_tree.specs.Good.{StandsBehind};
-ghost use Rattle.art_tree.specs.Leaves.{keys_in, bytes};
-ghost use Rattle.art_tree.specs.Longest.{longest};
-ghost use Rattle.art_tree.specs.Departures.{LeavesAt, LeavesAtNode, LeavesAtEdge};
 ghost use Rattle.art_tree.specs.declared.records.ids.Child.{Child as Way};
 
 use crate::records::ids::{Child, LeafId, NodeId};
-use crate::records::leaves::Leaves;
 use crate::records::nodes::Nodes;
 use crate::visits::Visits;
-use blart_keys::AsBytes;
 
 /// The edge above a child: from a node by a byte. None is the way into the root.
 pub(crate) type Above = Option<(NodeId, u8)>;
@@ -49,7 +43,7 @@ pub(crate) fn mate_of<const P: usize>(
     query: &[u8],
     visits: &mut Visits,
 ) -> LeafId
-    requires { Hangs (at nodes.now) root.now }
+    requires { IsRoot (at nodes.now) root.now }
     ensures mate { (keys : ℕ → Option Bytes) → Shape keys (at nodes.now) (Some root.now) → IsMate keys query.now result }
     ensures counted { (keys : ℕ → Option Bytes) → Shape keys (at nodes.now) (Some root.now) → (key : Bytes) → keys result ≡ Some key
         → visits.new.count ≤ visits.old.count + length key }
@@ -77,18 +71,19 @@ fn toward<const P: usize>(nodes: &Nodes<P>, id: NodeId, query: &[u8], visits: &m
             return child;
         }
     }
-    node.first_edge().to
+    node.end_edge(true).to
 }
 
-/// The leaf with the least key below a child.
-pub(crate) fn first_under<const P: usize>(
+/// The leaf at one end of those below a child: that with the least key, or that with the greatest.
+pub(crate) fn end_under<const P: usize>(
     nodes: &Nodes<P>,
     child: &Child,
+    is_first: bool,
     visits: &mut Visits,
 ) -> LeafId
     requires { Hangs (at nodes.now) child.now }
-    ensures least { (keys : ℕ → Option Bytes) (root : Option Way) (s : Shape keys (at nodes.now) root) (g : Bytes)
-        → Covers keys (at nodes.now) s.front_of g child.now → IsLeastUnder keys g result }
+    ensures ends { (keys : ℕ → Option Bytes) (root : Option Way) (s : Shape keys (at nodes.now) root) (g : Bytes)
+        → Covers keys (at nodes.now) s.front_of g child.now → IsEndUnder keys is_first g result }
     ensures counted { (keys : ℕ → Option Bytes) (root : Option Way) (s : Shape keys (at nodes.now) root) (g key : Bytes)
         → Covers keys (at nodes.now) s.front_of g child.now → keys result ≡ Some key
         → visits.new.count + length g ≤ visits.old.count + length key }
@@ -98,30 +93,7 @@ pub(crate) fn first_under<const P: usize>(
     'down: loop {
         match at {
             Child::Leaf(id) => return id,
-            Child::Inner(id) => at = nodes.read(id, visits).first_edge().to,
-        }
-    }
-}
-
-/// The leaf with the greatest key below a child.
-pub(crate) fn last_under<const P: usize>(
-    nodes: &Nodes<P>,
-    child: &Child,
-    visits: &mut Visits,
-) -> LeafId
-    requires { Hangs (at nodes.now) child.now }
-    ensures greatest { (keys : ℕ → Option Bytes) (root : Option Way) (s : Shape keys (at nodes.now) root) (g : Bytes)
-        → Covers keys (at nodes.now) s.front_of g child.now → IsGreatestUnder keys g result }
-    ensures counted { (keys : ℕ → Option Bytes) (root : Option Way) (s : Shape keys (at nodes.now) root) (g key : Bytes)
-        → Covers keys (at nodes.now) s.front_of g child.now → keys result ≡ Some key
-        → visits.new.count + length g ≤ visits.old.count + length key }
-    ensures grows { visits.old.count ≤ visits.new.count }
-{
-    let mut at = *child;
-    'down: loop {
-        match at {
-            Child::Leaf(id) => return id,
-            Child::Inner(id) => at = nodes.read(id, visits).last_edge().to,
+            Child::Inner(id) => at = nodes.read(id, visits).end_edge(is_first).to,
         }
     }
 }
@@ -166,68 +138,6 @@ pub(crate) fn locate<const P: usize>(
     }
 }
 
-/// The leaf before the place of a query that leaves a stored key, the mate, at a spot.
-pub(crate) fn leaf_before<K: AsBytes, V, const P: usize>(
-    leaves: &Leaves<K, V>,
-    nodes: &Nodes<P>,
-    spot: &Spot,
-    mate: &[u8],
-    query: &[u8],
-    depth: usize,
-    visits: &mut Visits,
-) -> Option<LeafId>
-    requires { LeavesAt K.bytes leaves.now.pairs (at nodes.now) spot.now mate.now query.now depth }
-    ensures before { StandsBehind (keys_in K.bytes leaves.now.pairs) query.now result }
-    ensures counted { visits.new.count ≤ visits.old.count + longest (bytes K.bytes) leaves.now.pairs + 1 }
-    ensures grows { visits.old.count ≤ visits.new.count }
-{
-    match spot {
-        Spot::Node(_, id) => before_at_node(leaves, nodes, id, query[depth], visits),
-        Spot::Edge(_, child) => {
-            before_at_edge(leaves, nodes, child, mate[depth], query[depth], visits)
-        }
-    }
-}
-
-// The leaf before the place of a query that leaves the keys at a node, by a byte that it has no edge for.
-fn before_at_node<K: AsBytes, V, const P: usize>(
-    leaves: &Leaves<K, V>,
-    nodes: &Nodes<P>,
-    id: &NodeId,
-    byte: u8,
-    visits: &mut Visits,
-) -> Option<LeafId>
-    requires { (q : Bytes) × LeavesAtNode K.bytes leaves.now.pairs (at nodes.now) id.now byte q }
-    ensures before { (q : Bytes) → LeavesAtNode K.bytes leaves.now.pairs (at nodes.now) id.now byte q → StandsBehind (keys_in K.bytes leaves.now.pairs) q result }
-    ensures counted { visits.new.count ≤ visits.old.count + longest (bytes K.bytes) leaves.now.pairs + 1 }
-    ensures grows { visits.old.count ≤ visits.new.count }
-{
-    match nodes.read(*id, visits).edge_before(byte) {
-        Some(edge) => Some(last_under(nodes, &edge.to, visits)),
-        None => leaves.prev_of(first_under(nodes, &Child::Inner(*id), visits)),
-    }
-}
-
-// The leaf before the place of a query that leaves the keys on the way to a child, where they go on by the mate's byte.
-fn before_at_edge<K: AsBytes, V, const P: usize>(
-    leaves: &Leaves<K, V>,
-    nodes: &Nodes<P>,
-    child: &Child,
-    mate_byte: u8,
-    byte: u8,
-    visits: &mut Visits,
-) -> Option<LeafId>
-    requires { (q : Bytes) × LeavesAtEdge K.bytes leaves.now.pairs (at nodes.now) child.now mate_byte byte q }
-    ensures before { (q : Bytes) → LeavesAtEdge K.bytes leaves.now.pairs (at nodes.now) child.now mate_byte byte q → StandsBehind (keys_in K.bytes leaves.now.pairs) q result }
-    ensures counted { visits.new.count ≤ visits.old.count + longest (bytes K.bytes) leaves.now.pairs }
-    ensures grows { visits.old.count ≤ visits.new.count }
-{
-    if mate_byte < byte {
-        return Some(last_under(nodes, child, visits));
-    }
-    leaves.prev_of(first_under(nodes, child, visits))
-}
-
 /// How many edges the node at this depth has on the way of these bytes, and the first leaf below it. None where no node is there.
 pub(crate) fn children_of<const P: usize>(
     nodes: &Nodes<P>,
@@ -235,7 +145,7 @@ pub(crate) fn children_of<const P: usize>(
     front: &[u8],
     visits: &mut Visits,
 ) -> Option<(usize, LeafId)>
-    requires { Hangs (at nodes.now) root.now }
+    requires { IsRoot (at nodes.now) root.now }
     ensures finds { (keys : ℕ → Option Bytes) (s : Shape keys (at nodes.now) (Some root.now))
         → Finds keys (at nodes.now) s.front_of front.now visits.old.count visits.new.count result }
     ensures grows { visits.old.count ≤ visits.new.count }
@@ -250,7 +160,10 @@ pub(crate) fn children_of<const P: usize>(
         let depth = node.depth();
         if depth == front.len() {
             let count = node.count();
-            return Some((count, first_under(nodes, &node.first_edge().to, visits)));
+            return Some((
+                count,
+                end_under(nodes, &node.end_edge(true).to, true, visits),
+            ));
         }
         if depth > front.len() {
             return None;

@@ -6,6 +6,7 @@
 mod changes;
 mod descent;
 mod lists;
+mod parting;
 mod placing;
 mod point;
 mod records;

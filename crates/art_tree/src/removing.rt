@@ -12,7 +12,7 @@ ghost use Rattle.art_tree.specs.Whole.{IsSound};
 ghost use Rattle.art_tree.specs.declared.records.ids.Child.{Child as Way};
 ghost use Rattle.art_tree.specs.declared.records.ids.Child.TheVariants.{Leaf, Inner};
 
-use crate::descent::{Above, Spot, first_under, locate};
+use crate::descent::{Above, Spot, end_under, locate};
 use crate::placing::lead;
 use crate::records::ids::{Child, Edge, LeafId, NodeId};
 use crate::records::leaves::Leaves;
@@ -199,7 +199,7 @@ fn recut<K: AsBytes, V, const P: usize>(
         Child::Leaf(_) => {}
         Child::Inner(id) => {
             let mut visits = Visits::new();
-            let leaf = first_under(nodes, child, &mut visits);
+            let leaf = end_under(nodes, child, true, &mut visits);
             let (key, _) = leaves.read(leaf, &mut visits);
             let end = nodes.read(*id, &mut visits).depth();
             let start = depth_below(nodes, above);

@@ -2,7 +2,7 @@
 ghost use Rattle.std.specs.Prelude.{◌≡◌, ◌+◌, ◌≤◌, ℕ, [], length, option_map, Option, Some};
 ghost use Rattle.blart_keys.specs.Content.{at, front_of};
 ghost use Rattle.art_tree.specs.Begins.{Bytes};
-ghost use Rattle.art_tree.specs.Descents.{Hangs, GoesTo};
+ghost use Rattle.art_tree.specs.Descents.{IsRoot, GoesTo};
 ghost use Rattle.art_tree.specs.Leaves.{bytes};
 ghost use Rattle.art_tree.specs.Nodes.{at as nodes_at};
 ghost use Rattle.art_tree.specs.Shape.{Shape};
@@ -85,7 +85,7 @@ fn leaf_toward<const P: usize>(
     query: &[u8],
     visits: &mut Visits,
 ) -> Option<LeafId>
-    requires { Hangs (nodes_at nodes.now) root.now }
+    requires { IsRoot (nodes_at nodes.now) root.now }
     ensures goes { (keys : ℕ → Option Bytes) → Shape keys (nodes_at nodes.now) (Some root.now)
         → GoesTo keys query.now visits.old.count visits.new.count result }
     ensures grows { visits.old.count ≤ visits.new.count }

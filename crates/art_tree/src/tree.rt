@@ -135,7 +135,7 @@ impl<K: AsBytes + Drop, V: Drop, const PREFIX_LEN: usize> Tree<K, V, PREFIX_LEN>
     {
         match self.root {
             None => Point::Empty,
-            Some(root) => point_below(&self.leaves, &self.nodes, root, query),
+            Some(root) => point_below(&self.leaves, &self.nodes, &root, query),
         }
     }
 

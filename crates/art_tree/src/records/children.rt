@@ -1,6 +1,6 @@
 //! The edges of a node, in the order of their bytes.
-ghost use Rattle.std.specs.Prelude.{◌≡◌, ◌+◌, ◌-◌, ◌<◌, ◌≤◌, [], ◌∷◌, length, take, None, IsSome};
-ghost use Rattle.art_tree.specs.Kids.{kid_at, Ascends, AddsKid, DropsKid, RedirectsKid, IsNext, IsPrevious, IsLeast, IsGreatest, carried, closed, redirected, after, before};
+ghost use Rattle.std.specs.Prelude.{true, false, ◌≡◌, ◌+◌, ◌-◌, ◌<◌, ◌≤◌, [], ◌∷◌, length, take, None, IsSome};
+ghost use Rattle.art_tree.specs.Kids.{kid_at, Ascends, AddsKid, DropsKid, RedirectsKid, IsNext, IsPrevious, IsEnd, carried, closed, redirected, after, before};
 
 use crate::records::ids::{Child, Edge};
 use std::marker::Model;
@@ -60,7 +60,7 @@ impl Children {
     /// The edge with the least byte.
     pub(crate) fn first(&self) -> Edge
         requires { 0 < length self.now }
-        ensures { IsLeast self.now result }
+        ensures { IsEnd true self.now result }
     {
         self.edges[0]
     }
@@ -68,7 +68,7 @@ impl Children {
     /// The edge with the greatest byte.
     pub(crate) fn last(&self) -> Edge
         requires { 0 < length self.now }
-        ensures { IsGreatest self.now result }
+        ensures { IsEnd false self.now result }
     {
         self.edges[self.count - 1]
     }

@@ -1,6 +1,6 @@
 //! The inner nodes under their numbers.
 ghost use Rattle.std.specs.Prelude.{◌≡◌, ◌≢◌, ℕ, ◌+◌, ◌<◌, ◌≤◌, ◌^◌, length, take, slice_get, None, Some, IsSome, IsSomeAnd, OnOk, OnErr};
-ghost use Rattle.art_tree.specs.Kids.{kid_at, Ascends, IsNext, IsPrevious, IsLeast, IsGreatest};
+ghost use Rattle.art_tree.specs.Kids.{kid_at, Ascends, IsNext, IsPrevious, IsEnd};
 ghost use Rattle.art_tree.specs.Nodes.{at, live, room, FitsNew, FitsMore, HasPlace, SameNodes, SameSpares, MoreSpares, Makes, Renames, AddsEdgeTo, Redirects, DropsEdge, Reprefixes, Frees};
 
 use crate::records::children::Children;
@@ -79,20 +79,16 @@ impl<'a, const P: usize> NodeRef<'a, P> {
         self.children.find(byte)
     }
 
-    /// The edge with the least byte.
-    pub(crate) fn first_edge(&self) -> Edge
+    /// The edge at one end: that with the least byte, or that with the greatest.
+    pub(crate) fn end_edge(&self, is_first: bool) -> Edge
         requires { 0 < length self.now.kids }
-        ensures { IsLeast self.now.kids result }
+        ensures { IsEnd is_first self.now.kids result }
     {
-        self.children.first()
-    }
-
-    /// The edge with the greatest byte.
-    pub(crate) fn last_edge(&self) -> Edge
-        requires { 0 < length self.now.kids }
-        ensures { IsGreatest self.now.kids result }
-    {
-        self.children.last()
+        if is_first {
+            self.children.first()
+        } else {
+            self.children.last()
+        }
     }
 
     /// The edge with the least byte above this one.

@@ -1,16 +1,15 @@
-use Rattle.std.proofs.Common.{ℕ, ◌-◌, ◌≤◌, Option, Some}
+use Rattle.std.proofs.Common.{ℕ, ◌≤◌, [], Option, Some}
 use Rattle.art_tree.specs.Begins.{Bytes}
 use Rattle.art_tree.specs.Nodes.{at}
 use Rattle.art_tree.specs.Shape.{Shape}
-use Rattle.art_tree.specs.Descents.{Hangs}
-use Rattle.art_tree.proofs.Mates.{MatesBelow}
 use Rattle.art_tree.proofs.Deepest.{rank}
+use Rattle.art_tree.proofs.Mates.{HoldsFurthest}
+use Rattle.art_tree.proofs.WaysDown.{WayDown}
 use Rattle.art_tree.proofs.descent.mate_of.Given as goal
 
 abbrev pub invariant-down : goal.invariant-down
 invariant-down g l = record {
-  hangs : Hangs (at l.nodes) l.at;
-  mates : (keys : ℕ → Option Bytes) (s : Shape keys (at l.nodes) (Some l.fn.root)) → MatesBelow keys (at l.nodes) l.query s.front_of l.at (l.visits.count - l.initial.visits.count);
+  way : (keys : ℕ → Option Bytes) (s : Shape keys (at l.nodes) (Some l.fn.root)) → WayDown keys (at l.nodes) s.front_of (HoldsFurthest keys l.query) [] l.at l.initial.visits.count l.visits.count;
   rising : l.initial.visits.count ≤ l.visits.count;
 }
 

@@ -11,8 +11,8 @@ use Rattle.art_tree.proofs.PrefixesMerging.{cut_keeps}
 use Rattle.art_tree.proofs.Unlinking.{ends_below, starts_within, key_within}
 use Rattle.art_tree.proofs.removing.recut.Goals as goal
 
-pub first_under-leaf-requires : goal.first_under-leaf-requires
-first_under-leaf-requires g c =
+pub end_under-leaf-requires : goal.end_under-leaf-requires
+end_under-leaf-requires g c =
     let r = c.requires in
     (lit< tt, record { keys = keys_in g.K.AsBytes.bytes c.args.leaves.now.pairs; root = r.root; shape = r.shape; front = r.front; covers = r.covers })
 
@@ -20,8 +20,8 @@ pub read-requires : goal.read-requires
 read-requires g c =
     let r = c.requires in
     let keys = keys_in g.K.AsBytes.bytes c.args.leaves.now.pairs in
-    let u = c.first_under-leaf.ensures.least keys r.root r.shape r.front r.covers in
-    let p = pair_of_key g.K.AsBytes.bytes c.args.leaves.now.pairs c.first_under-leaf.result u.key u.is in
+    let u = c.end_under-leaf.ensures.ends keys r.root r.shape r.front r.covers in
+    let p = pair_of_key g.K.AsBytes.bytes c.args.leaves.now.pairs c.end_under-leaf.result u.key u.is in
     is_some _ p.0 p.1
 
 pub depth_below-start-requires : goal.depth_below-start-requires
@@ -50,9 +50,9 @@ slice_bounds-set_prefix-start g c =
     let v = subst (λ (z : Child). Covers keys nodes r.shape.front_of r.front z) c.in-Inner.is r.covers in
     let w : c.depth_below-start.result ≤ c.read-in-Inner.result.depth = starts_within keys nodes r.root r.shape r.front c.in-Inner.id c.read-in-Inner.result c.read-in-Inner.ensures.value v c.args.above.now c.depth_below-start.result r.below c.depth_below-start.ensures in
     let k = c.as_bytes.result.now in
-    let u = c.first_under-leaf.ensures.least keys r.root r.shape r.front r.covers in
-    let is : keys c.first_under-leaf.result ≡ Some k = key_of_pair g.K.AsBytes.bytes c.args.leaves.now.pairs c.first_under-leaf.result (c.read.result.0.now, c.read.result.1.now) c.read.ensures.value ∙ ap (λ (z : Bytes). Some z) (sym c.as_bytes.ensures) in
-    let l : c.read-in-Inner.result.depth ≤ length k = key_within keys nodes r.root r.shape r.front c.in-Inner.id c.read-in-Inner.result c.read-in-Inner.ensures.value v c.first_under-leaf.result k u is in
+    let u = c.end_under-leaf.ensures.ends keys r.root r.shape r.front r.covers in
+    let is : keys c.end_under-leaf.result ≡ Some k = key_of_pair g.K.AsBytes.bytes c.args.leaves.now.pairs c.end_under-leaf.result (c.read.result.0.now, c.read.result.1.now) c.read.ensures.value ∙ ap (λ (z : Bytes). Some z) (sym c.as_bytes.ensures) in
+    let l : c.read-in-Inner.result.depth ≤ length k = key_within keys nodes r.root r.shape r.front c.in-Inner.id c.read-in-Inner.result c.read-in-Inner.ensures.value v c.end_under-leaf.result k u is in
     let e : c.depth-end.result ≡ c.read-in-Inner.result.depth = c.depth-end.ensures in
     omega arith
 
@@ -64,9 +64,9 @@ slice_bounds-set_prefix-end g c =
     let v = subst (λ (z : Child). Covers keys nodes r.shape.front_of r.front z) c.in-Inner.is r.covers in
     let w : c.depth_below-start.result ≤ c.read-in-Inner.result.depth = starts_within keys nodes r.root r.shape r.front c.in-Inner.id c.read-in-Inner.result c.read-in-Inner.ensures.value v c.args.above.now c.depth_below-start.result r.below c.depth_below-start.ensures in
     let k = c.as_bytes.result.now in
-    let u = c.first_under-leaf.ensures.least keys r.root r.shape r.front r.covers in
-    let is : keys c.first_under-leaf.result ≡ Some k = key_of_pair g.K.AsBytes.bytes c.args.leaves.now.pairs c.first_under-leaf.result (c.read.result.0.now, c.read.result.1.now) c.read.ensures.value ∙ ap (λ (z : Bytes). Some z) (sym c.as_bytes.ensures) in
-    let l : c.read-in-Inner.result.depth ≤ length k = key_within keys nodes r.root r.shape r.front c.in-Inner.id c.read-in-Inner.result c.read-in-Inner.ensures.value v c.first_under-leaf.result k u is in
+    let u = c.end_under-leaf.ensures.ends keys r.root r.shape r.front r.covers in
+    let is : keys c.end_under-leaf.result ≡ Some k = key_of_pair g.K.AsBytes.bytes c.args.leaves.now.pairs c.end_under-leaf.result (c.read.result.0.now, c.read.result.1.now) c.read.ensures.value ∙ ap (λ (z : Bytes). Some z) (sym c.as_bytes.ensures) in
+    let l : c.read-in-Inner.result.depth ≤ length k = key_within keys nodes r.root r.shape r.front c.in-Inner.id c.read-in-Inner.result c.read-in-Inner.ensures.value v c.end_under-leaf.result k u is in
     let e : c.depth-end.result ≡ c.read-in-Inner.result.depth = c.depth-end.ensures in
     omega arith
 
@@ -83,8 +83,8 @@ returns-in-Inner-clause-kept g c = λ root s f covers below.
     let start = c.depth_below-start.result in
     let le : start ≤ x.depth = starts_within keys nodes root s f n x c.read-in-Inner.ensures.value v c.args.above.now start below c.depth_below-start.ensures in
     let k = c.as_bytes.result.now in
-    let leaf = c.first_under-leaf.result in
-    let u = c.first_under-leaf.ensures.least keys root s f covers in
+    let leaf = c.end_under-leaf.result in
+    let u = c.end_under-leaf.ensures.ends keys root s f covers in
     let is : keys leaf ≡ Some k = key_of_pair g.K.AsBytes.bytes c.args.leaves.now.pairs leaf (c.read.result.0.now, c.read.result.1.now) c.read.ensures.value ∙ ap (λ (z : Bytes). Some z) (sym c.as_bytes.ensures) in
     let own : keys leaf ≡ Some u.key = u.is in
     let e : u.key ≡ k = cc in

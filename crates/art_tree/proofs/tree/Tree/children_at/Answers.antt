@@ -12,10 +12,9 @@ use Rattle.art_tree.specs.Shape.{Shape}
 use Rattle.art_tree.specs.declared.records.ids.Child.{Child}
 use Rattle.art_tree.proofs.BeginsLemmas.{Begins-from_begins, begins-from_Begins, Begins-linear, Begins-equal}
 use Rattle.art_tree.proofs.Counting.{no_parts, edges_are_parts}
-use Rattle.art_tree.proofs.Departing.{has_key}
-use Rattle.art_tree.proofs.HangingOn.{hanging_root}
+use Rattle.art_tree.proofs.HangingOn.{is_root}
 use Rattle.blart_keys.proofs.Options.{some_of}
-use Rattle.art_tree.proofs.PairLemmas.{key_of_pair}
+use Rattle.art_tree.proofs.PairLemmas.{has_key, key_of_pair}
 use Rattle.art_tree.proofs.SameShapes.{rooted}
 use Rattle.art_tree.proofs.Soundness.{rootless, within_longest}
 use Rattle.art_tree.proofs.tree.Tree.children_at.Goals as goal
@@ -39,18 +38,18 @@ module _ {K V : Type 0} (kb : K → List ℕ) (S : List (Numbered K V)) (content
 
   -- the leaf below the node that was found, whose key was read
   module _ (count leaf : ℕ) (h : FindsNode (keys_in kb S) nodes s.front_of f old new count leaf) (k : Bytes) (is : keys_in kb S leaf ≡ Some k) where
-    same : h.least.key ≡ k
-    same = let e : Some h.least.key ≡ Some k = sym h.least.is ∙ is in cc
+    same : h.first.key ≡ k
+    same = let e : Some h.first.key ≡ Some k = sym h.first.is ∙ is in cc
 
     soon : (last : ℕ) → last ≡ new + 1 → last ≤ old + longest (bytes kb) S + 1
-    soon last e = let l : length h.least.key ≤ longest (bytes kb) S = within_longest kb S leaf h.least.key h.least.is in let few : new ≤ old + length h.least.key = h.few in omega arith
+    soon last e = let l : length h.first.key ≤ longest (bytes kb) S = within_longest kb S leaf h.first.key h.first.is in let few : new ≤ old + length h.first.key = h.few in omega arith
 
     -- the key begins with the bytes asked for, and so the node stands there
     counts : (t : Bytes) → true ≡ begins f t → t ≡ k → count ≡ set.len (parts (bytes kb) S f)
     counts t r e' =
         let b : true ≡ begins f k = subst (λ (z : Bytes). true ≡ begins f z) e' r in
         let g : Bytes = s.front_of h.number in
-        let gk : Begins g k = subst (Begins g) same h.least.front in
+        let gk : Begins g k = subst (Begins g) same h.first.front in
         let fk : Begins f k = Begins-from_begins f k (sym b) in
         let gf : Begins g f = Begins-linear g f k gk fk (let l : length g ≡ length f = h.as_long in omega arith) in
         let e : g ≡ f = Begins-equal g f gf (let l : length g ≡ length f = h.as_long in omega arith) in
@@ -60,7 +59,7 @@ module _ {K V : Type 0} (kb : K → List ℕ) (S : List (Numbered K V)) (content
     other : (t : Bytes) → false ≡ begins f t → t ≡ k → 0 ≡ set.len (parts (bytes kb) S f)
     other t r e' = sym (no_parts kb S content distinct nodes root s f (λ m live e.
         (let b : false ≡ begins f k = subst (λ (z : Bytes). false ≡ begins f z) e' r in
-        let fk : Begins f k = subst (Begins f) same (subst (λ (z : Bytes). Begins z h.least.key) (h.only m live e) h.least.front) in
+        let fk : Begins f k = subst (Begins f) same (subst (λ (z : Bytes). Begins z h.first.key) (h.only m live e) h.first.front) in
         let u : begins f k ≡ true = begins-from_Begins f k fk in
         cc)))
 
@@ -75,7 +74,7 @@ returns-in_default-clause-value g c =
 pub children_of-requires : goal.children_of-requires
 children_of-requires g c =
     let i = c.self.inside in
-    (lit< tt, hanging_root (at i.nodes) (keys_in g.K.AsBytes.bytes i.leaves.pairs) c.in-Some.root (rooted (keys_in g.K.AsBytes.bytes i.leaves.pairs) (at i.nodes) i.root (Some c.in-Some.root) c.self.invariant.sound.shape c.in-Some.is))
+    (lit< tt, is_root (at i.nodes) (keys_in g.K.AsBytes.bytes i.leaves.pairs) c.in-Some.root (rooted (keys_in g.K.AsBytes.bytes i.leaves.pairs) (at i.nodes) i.root (Some c.in-Some.root) c.self.invariant.sound.shape c.in-Some.is))
 
 pub returns-in_default-children_of-clause-value : goal.returns-in_default-children_of-clause-value
 returns-in_default-children_of-clause-value g c =
@@ -119,7 +118,7 @@ read-requires g c =
     let count = c.in-Some-children_of.found.0 in
     let leaf = c.in-Some-children_of.found.1 in
     let found : FindsNode (keys_in kb S) nodes s.front_of f old new count leaf = c.in-Some-children_of.ensures.finds (keys_in kb S) s in
-    has_key kb S leaf found.least.key found.least.is
+    has_key kb S leaf found.first.key found.first.is
 
 pub returns-then-begins-clause-value : goal.returns-then-begins-clause-value
 returns-then-begins-clause-value g c =

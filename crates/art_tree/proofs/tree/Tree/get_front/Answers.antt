@@ -6,7 +6,7 @@ use Rattle.art_tree.specs.Begins.{Bytes, Begins}
 use Rattle.art_tree.specs.Descents.{GoesTo}
 use Rattle.art_tree.specs.Leaves.{keys_in}
 use Rattle.art_tree.specs.Nodes.{at}
-use Rattle.art_tree.proofs.HangingOn.{hanging_root}
+use Rattle.art_tree.proofs.HangingOn.{is_root}
 use Rattle.art_tree.proofs.LookUps.{only_has, answers_front, answers_no_front}
 use Rattle.art_tree.proofs.PairLemmas.{key_of_pair}
 use Rattle.art_tree.proofs.SameShapes.{rooted}
@@ -22,7 +22,7 @@ returns-in_err-root-clause-found g c =
     let q = c.args.query.now in
     let keys = keys_in kb S in
     rw c.from_residual.ensures
-    (answers_no_front kb S c.self.invariant.sound.content c.law.ensures.distinct c.args.self.now.pairs (ap (λ t. t.pairs) c.self.view_is) q (root_none keys nodes q i.root c.self.invariant.sound.shape c.in_err-root.was))
+    (answers_no_front kb S c.self.invariant.sound.content c.law.ensures.distinct c.args.self.now.pairs (ap (λ t. t.pairs) c.self.view_is) q (root_none keys q nodes i.root c.self.invariant.sound.shape c.in_err-root.was))
 
 pub leaf_toward-requires : goal.leaf_toward-requires
 leaf_toward-requires g c =
@@ -32,7 +32,7 @@ leaf_toward-requires g c =
     let nodes = at i.nodes in
     let q = c.args.query.now in
     let keys = keys_in kb S in
-    (lit< tt, hanging_root nodes keys c.in_ok-root.root (rooted keys nodes i.root (Some c.in_ok-root.root) c.self.invariant.sound.shape c.in_ok-root.was))
+    (lit< tt, is_root nodes keys c.in_ok-root.root (rooted keys nodes i.root (Some c.in_ok-root.root) c.self.invariant.sound.shape c.in_ok-root.was))
 
 pub returns-in_err-id-clause-found : goal.returns-in_err-id-clause-found
 returns-in_err-id-clause-found g c =
@@ -120,4 +120,4 @@ returns-else-begins-clause-found g c =
     let s = rooted keys nodes i.root (Some c.in_ok-root.root) c.self.invariant.sound.shape c.in_ok-root.was in
     let went = subst (λ (o : Option ℕ). GoesTo keys q c.args.visits.now.count c.leaf_toward.new.visits.count o) c.in_ok-id.was (c.leaf_toward.ensures.goes keys s) in
     let is : keys c.in_ok-id.id ≡ Some (kb c.read.result.0.now) = key_of_pair kb S c.in_ok-id.id (c.read.result.0.now, c.read.result.1.now) c.read.ensures.value in
-    answers_no_front kb S c.self.invariant.sound.content c.law.ensures.distinct c.args.self.now.pairs (ap (λ t. t.pairs) c.self.view_is) q (only_not keys nodes q c.in_ok-id.id went.0 (kb c.read.result.0.now) is (λ b. false≢true (sym c.if-begins.false ∙ c.begins.ensures ∙ ap (λ (k : Bytes). begins k q) c.as_bytes.ensures ∙ begins-from_Begins (kb c.read.result.0.now) q b)))
+    answers_no_front kb S c.self.invariant.sound.content c.law.ensures.distinct c.args.self.now.pairs (ap (λ t. t.pairs) c.self.view_is) q (only_not keys q c.in_ok-id.id went.0 (kb c.read.result.0.now) is (λ b. false≢true (sym c.if-begins.false ∙ c.begins.ensures ∙ ap (λ (k : Bytes). begins k q) c.as_bytes.ensures ∙ begins-from_Begins (kb c.read.result.0.now) q b)))
