@@ -99,7 +99,7 @@ same_bool false false f g = refl
 
 -- ---- nodes and fronts
 
-module _ {K V : Type 0} (key_bytes : K → Bytes) (pairs : List (Numbered K V)) (content : IsContent (bytes key_bytes) pairs) (distinct : AreDistinct pairs) (nodes : ℕ → Option Node) (root : Option Child) (s : Shape (keys_in key_bytes pairs) nodes root) where
+module _ {P : ℕ} {K V : Type 0} (key_bytes : K → Bytes) (pairs : List (Numbered K V)) (content : IsContent (bytes key_bytes) pairs) (distinct : AreDistinct pairs) (nodes : ℕ → Option Node) (root : Option Child) (s : Shape P (keys_in key_bytes pairs) nodes root) where
   -- two keys that part at f, the lesser first
   branch_of : (f a b : Bytes) → Begins f a → Begins f b → length f < length a → length f < length b → next_byte f a < next_byte f b → Branch f a b
   branch_of f a b fa fb la lb l = record {
@@ -191,7 +191,7 @@ module _ {K V : Type 0} (key_bytes : K → Bytes) (pairs : List (Numbered K V)) 
       sym (ap (λ (p : set.FinSet nat_cmp). set.len p) (parts_are n x is) ∙ len_of_distinct nat_cmp_total exact_unsigned (map (λ (e : Edge). e.byte) x.kids) (distinct_bytes x.kids (s.node n x is).ascends) ∙ length-map x.kids (λ (e : Edge). e.byte))
 
 -- there are as many nodes as fronts
-pub nodes_are_fronts : {K V : Type 0} (key_bytes : K → Bytes) (pairs : List (Numbered K V)) (st : Nodes) (root : Option Child) → IsContent (bytes key_bytes) pairs → AreDistinct pairs → Shape (keys_in key_bytes pairs) (at st) root
+pub nodes_are_fronts : {P : ℕ} → {K V : Type 0} (key_bytes : K → Bytes) (pairs : List (Numbered K V)) (st : Nodes) (root : Option Child) → IsContent (bytes key_bytes) pairs → AreDistinct pairs → Shape P (keys_in key_bytes pairs) (at st) root
     → live st ≡ set.len (fronts (bytes key_bytes) pairs)
 nodes_are_fronts key_bytes pairs st root content distinct s =
     sym (ap (λ (p : set.FinSet _). set.len p) same ∙ len_of_distinct nat_list_cmp_total exact_bytes (at_live s.front_of st.slots) (distinct_live s.front_of st.slots (λ n m a b e. s.apart n m a b e)) ∙ length-at_live s.front_of st.slots)

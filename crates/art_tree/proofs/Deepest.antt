@@ -28,7 +28,7 @@ depth-at_most [] i = omega arith
 depth-at_most (o ∷ slots) zero = omega arith
 depth-at_most (o ∷ slots) (suc i) = let h : depth_of (get_or slots i None) ≤ deepest slots = depth-at_most slots i in omega arith
 
-module _ (keys : ℕ → Option Bytes) (nodes : Nodes) (root : Option Child) (s : Shape keys (at nodes) root) where
+module _ {P : ℕ} (keys : ℕ → Option Bytes) (nodes : Nodes) (root : Option Child) (s : Shape P keys (at nodes) root) where
   -- a way down gets lower at each edge
   pub rank_falls : (n b : ℕ) (x : Node) (c : Child) → at nodes n ≡ Some x → kid_at x.kids b ≡ Some c → rank nodes c < rank nodes (Inner n)
   rank_falls n b x c is there = falls c ((s.node n x is).below b c there)

@@ -28,10 +28,10 @@ use Rattle.art_tree.proofs.PlacedShapes.{along_key, bytes_apart, mate_long}
 
 module _ {K V : Type 0} (key_bytes : K → List ℕ) (pairs : List (Numbered K V)) (nodes : ℕ → Option Node) where
   -- a node covers the keys that begin with its own front
-  pub covers_own : (n b : ℕ) (q : Bytes) (l : LeavesAtNode key_bytes pairs nodes n b q) → CoversNode (keys_in key_bytes pairs) nodes l.apart.shape.front_of (l.apart.shape.front_of n) n
+  pub covers_own : {P : ℕ} → (n b : ℕ) (q : Bytes) (l : LeavesAtNode key_bytes P pairs nodes n b q) → CoversNode (keys_in key_bytes pairs) nodes l.apart.shape.front_of (l.apart.shape.front_of n) n
   covers_own n b q l = record { live = l.live; front = Begins-itself (l.apart.shape.front_of n); only = λ j k is h. h }
 
-  module _ (n b : ℕ) (q : Bytes) (l : LeavesAtNode key_bytes pairs nodes n b q) (x : Node) (is : nodes n ≡ Some x) where
+  module _ {P : ℕ} (n b : ℕ) (q : Bytes) (l : LeavesAtNode key_bytes P pairs nodes n b q) (x : Node) (is : nodes n ≡ Some x) where
     -- no key goes on by q's byte, so no edge has it
     no_edge_there : kid_at x.kids b ≡ None
     no_edge_there = none_of (kid_at x.kids b) (λ h.
@@ -49,7 +49,7 @@ module _ {K V : Type 0} (key_bytes : K → List ℕ) (pairs : List (Numbered K V
         behind_previous key_bytes pairs l.apart.content l.apart.distinct q l.apart.alone i
         (first_at_node (keys_in key_bytes pairs) nodes l.apart.root l.apart.shape q l.apart.alone n x is b l.goes_on prev no_edge_there i u.key u.is u.front (first_less u))
 
-  module _ (c : Child) (a b : ℕ) (q : Bytes) (l : LeavesAtEdge key_bytes pairs nodes c a b q) where
+  module _ {P : ℕ} (c : Child) (a b : ℕ) (q : Bytes) (l : LeavesAtEdge key_bytes P pairs nodes c a b q) where
     -- the greatest key below an edge that goes on by a lesser byte
     pub behind_edge : a < b → (i : ℕ) → IsEndUnder (keys_in key_bytes pairs) false l.front i → StandsBehind (keys_in key_bytes pairs) q (Some i)
     behind_edge lt i u = last_beside (keys_in key_bytes pairs) q l.apart.alone l.t b a l.goes_on l.front l.within l.all i u.key u.is u.front lt (last_greater u)
@@ -71,7 +71,7 @@ module _ {K V : Type 0} (key_bytes : K → List ℕ) (pairs : List (Numbered K V
     abbrev departure : Spot → Departure
     departure sp = record { mate = mate; depth = depth; byte = byte; spot = sp }
 
-    pub at_node : (above : Option (ℕ × ℕ)) (n : ℕ) (l : LeavesAt key_bytes pairs nodes (departure (spot.Node above n)) q) → LeavesAtNode key_bytes pairs nodes n (get_or q depth 0) q
+    pub at_node : {P : ℕ} → (above : Option (ℕ × ℕ)) (n : ℕ) (l : LeavesAt key_bytes P pairs nodes (departure (spot.Node above n)) q) → LeavesAtNode key_bytes P pairs nodes n (get_or q depth 0) q
     at_node above n l =
         let keys = keys_in key_bytes pairs in
         let d = departs_at keys mate depth q l.leaves in
@@ -85,7 +85,7 @@ module _ {K V : Type 0} (key_bytes : K → List ℕ) (pairs : List (Numbered K V
         }
 
     -- the keys below the edge go on from there as the mate does
-    as_mate : (above : Option (ℕ × ℕ)) (c : Child) (l : LeavesAt key_bytes pairs nodes (departure (spot.Edge above c)) q) → (j : ℕ) (k : Bytes) → keys_in key_bytes pairs j ≡ Some k → Begins (edge_front l.apart.shape.front_of above) k → Begins (take depth l.mate ++ get_or l.mate depth 0 ∷ []) k
+    as_mate : {P : ℕ} → (above : Option (ℕ × ℕ)) (c : Child) (l : LeavesAt key_bytes P pairs nodes (departure (spot.Edge above c)) q) → (j : ℕ) (k : Bytes) → keys_in key_bytes pairs j ≡ Some k → Begins (edge_front l.apart.shape.front_of above) k → Begins (take depth l.mate ++ get_or l.mate depth 0 ∷ []) k
     as_mate above c l j k is h = go c (covers_above keys nodes l.apart.root l.apart.shape above c l.spot_fits.0.leads) l.spot_fits.1
       where
         keys : ℕ → Option Bytes
@@ -125,13 +125,13 @@ module _ {K V : Type 0} (key_bytes : K → List ℕ) (pairs : List (Numbered K V
             let tf = Begins-past (take depth l.mate) (l.apart.shape.front_of m) l.mate tm fm (omega arith) in
             subst (λ (b : ℕ). Begins (take depth l.mate ++ b ∷ []) k) next (Begins-trans (take depth l.mate ++ next_byte (take depth l.mate) l.mate ∷ []) (l.apart.shape.front_of m) k tf (covers.only j k is h))
 
-    pub at_edge : (above : Option (ℕ × ℕ)) (c : Child) (l : LeavesAt key_bytes pairs nodes (departure (spot.Edge above c)) q) → LeavesAtEdge key_bytes pairs nodes c byte (get_or q depth 0) q
-    at_edge above c l =
+    pub at_edge : {P : ℕ} → (above : Option (ℕ × ℕ)) (c : Child) (l : LeavesAt key_bytes P pairs nodes (departure (spot.Edge above c)) q) → LeavesAtEdge key_bytes P pairs nodes c byte (get_or q depth 0) q
+    at_edge {P} above c l =
         let keys = keys_in key_bytes pairs in
         let d = departs_at keys mate depth q l.leaves in
         let next : next_byte (take depth q) q ≡ get_or q depth 0 = next_at keys mate depth q l.leaves in
         let same : take depth q ≡ take depth l.mate = sym (along_key keys mate depth q l.leaves l.mate l.is) in
-        subst (λ (b : ℕ). LeavesAtEdge key_bytes pairs nodes c b (get_or q depth 0) q) (sym l.byte_is) (record {
+        subst (λ (b : ℕ). LeavesAtEdge key_bytes P pairs nodes c b (get_or q depth 0) q) (sym l.byte_is) (record {
           apart = l.apart;
           t = take depth l.mate;
           front = edge_front l.apart.shape.front_of above;

@@ -19,7 +19,7 @@ parted_less f l k a b fl fk lt =
     less-from_PartsBelow l k (parts_at_branch f l k (record { low = a; high = b; below = lt; first = begins-from_Begins (f ++ a ∷ []) l fl; second = begins-from_Begins (f ++ b ∷ []) k fk }))
 
 module _ (keys : ℕ → Option Bytes) (nodes : ℕ → Option Node) (top : Bytes) where
-  module _ (root : Option Child) (s : Shape keys nodes root) where
+  module _ {P : ℕ} (root : Option Child) (s : Shape P keys nodes root) where
     module _ (n : ℕ) (x : Node) (is : nodes n ≡ Some x) (e : Edge) where
       abbrev f : Bytes
       f = s.front_of n

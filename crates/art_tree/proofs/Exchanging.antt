@@ -15,7 +15,7 @@ use Rattle.art_tree.proofs.Growing.{Parts-two}
 use Rattle.art_tree.proofs.SmallShapes.{unrelated}
 use Rattle.art_tree.proofs.KeyChanges.{Exchanges}
 
-module _ (keys keys' : ℕ → Option Bytes) (nodes : ℕ → Option Node) (root : Option Child) (i : ℕ) (k k' : Bytes) (s : Shape keys nodes root) (ex : Exchanges keys keys' i k k')
+module _ {P : ℕ} (keys keys' : ℕ → Option Bytes) (nodes : ℕ → Option Node) (root : Option Child) (i : ℕ) (k k' : Bytes) (s : Shape P keys nodes root) (ex : Exchanges keys keys' i k k')
     (related : Begins k k' ⊎ Begins k' k) (apart : (j : ℕ) (l : Bytes) → keys j ≡ Some l → j ≢ i → (Begins k' l → ⊥) × (Begins l k' → ⊥)) where
   -- a front of another key begins both or none
   to_new : (f : Bytes) (j : ℕ) (l : Bytes) → keys j ≡ Some l → j ≢ i → Begins f l → Begins f k → Begins f k'
@@ -201,7 +201,7 @@ module _ (keys keys' : ℕ → Option Bytes) (nodes : ℕ → Option Node) (root
   top_kept (Some c) e = covers_kept [] c ((λ b. tt), (λ b. tt)) (subst (λ (r : Option Child). RootFits keys nodes s.front_of r) e s.top)
 
   -- the tree with the key exchanged
-  pub shape_exchanged : Shape keys' nodes root
+  pub shape_exchanged : Shape P keys' nodes root
   shape_exchanged = record {
     front_of = s.front_of;
     top = top_kept root refl;
@@ -224,9 +224,5 @@ module _ (keys keys' : ℕ → Option Bytes) (nodes : ℕ → Option Node) (root
               ]
         ];
     apart = s.apart;
+    keeps = s.keeps;
   }
-
-  -- the fronts stand
-  pub shape_exchanged-front : (m : ℕ) → shape_exchanged.front_of m ≡ s.front_of m
-  unfolding shape_exchanged
-  shape_exchanged-front m = refl

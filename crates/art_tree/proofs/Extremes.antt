@@ -17,7 +17,7 @@ use Rattle.art_tree.proofs.BeginsLemmas.{begins-from_Begins, Begins-more, Begins
 pub parts_by_next : (f k l : Bytes) (b c : ℕ) → Begins (f ++ b ∷ []) k → Begins (f ++ c ∷ []) l → b < c → PartsBelow k l
 parts_by_next f k l b c h m lt = parts_at_branch f k l (record { low = b; high = c; below = lt; first = begins-from_Begins (f ++ b ∷ []) k h; second = begins-from_Begins (f ++ c ∷ []) l m })
 
-module _ (keys : ℕ → Option Bytes) (nodes : ℕ → Option Node) (root : Option Child) (s : Shape keys nodes root) (is_first : Bool) where
+module _ {P : ℕ} (keys : ℕ → Option Bytes) (nodes : ℕ → Option Node) (root : Option Child) (s : Shape P keys nodes root) (is_first : Bool) where
   pub end_leaf : (g : Bytes) (i : ℕ) → CoversLeaf keys g i → IsEndUnder keys is_first g i
   end_leaf g i c = record { key = c.key; is = c.is; front = c.front; end = λ j k e b. inl (c.only j k e b) }
 

@@ -12,6 +12,7 @@ pub use Rattle.art_tree.specs.Joins.{Gains}
 use Rattle.art_tree.specs.declared.records.ids.Child.{Child}
 use Rattle.art_tree.specs.declared.records.ids.Child.TheVariants.{Leaf, Inner}
 use Rattle.blart_keys.proofs.Options.{some_of}
+use Rattle.art_tree.proofs.Prefixes.{keeps_changed}
 use Rattle.art_tree.proofs.BeginsLemmas.{Begins-more, Begins-trans, Begins-linear, Begins-past, next_byte-front, Begins-equal, Begins-cases, common_same, common_at, common_comm}
 
 -- the key k goes along other keys as far as t, and no key goes on as it does
@@ -88,7 +89,7 @@ module _ (old new : ℕ → Option Bytes) (i : ℕ) (k : Bytes) (gains : Gains o
     differ = p.differ;
   }
 
-module _ (keys keys' : ℕ → Option Bytes) (nodes nodes' : ℕ → Option Node) (root : Option Child) (n i : ℕ) (k : Bytes) (s : Shape keys nodes root)
+module _ {P : ℕ} (keys keys' : ℕ → Option Bytes) (nodes nodes' : ℕ → Option Node) (root : Option Child) (n i : ℕ) (k : Bytes) (s : Shape P keys nodes root)
     (gains : Gains keys keys' i k) (d : Departs keys (s.front_of n) k) (adds : AddsEdgeTo nodes nodes' n (next_byte (s.front_of n) k) (Leaf i)) where
   abbrev t : Bytes
   t = s.front_of n
@@ -266,8 +267,16 @@ module _ (keys keys' : ℕ → Option Bytes) (nodes nodes' : ℕ → Option Node
       absurd cc
   top_fits (Some c) e = covers_kept [] c (subst (λ (r : Option Child). RootFits keys nodes s.front_of r) e s.top)
 
+  -- an edge to a node is an old one
+  old_edge : (b j : ℕ) → kid_at adds.is.kids b ≡ Some (Inner j) → kid_at adds.was.kids b ≡ Some (Inner j)
+  old_edge b j e =
+      elim (eqb_tells b (next_byte t k)) [
+        | inl q ↦ (let f : kid_at adds.is.kids (next_byte t k) ≡ Some (Leaf i) = adds.kids.added in let g : kid_at adds.is.kids (next_byte t k) ≡ Some (Inner j) = ap (kid_at adds.is.kids) (sym q.1) ∙ e in absurd cc)
+        | inr q ↦ sym (adds.kids.rest b q.1) ∙ e
+      ]
+
   -- the tree with one edge more
-  pub shape_added : Shape keys' nodes' root
+  pub shape_added : Shape P keys' nodes' root
   shape_added = record {
     front_of = s.front_of;
     top = top_fits root refl;
@@ -286,14 +295,10 @@ module _ (keys keys' : ℕ → Option Bytes) (nodes nodes' : ℕ → Option Node
               ]
         ];
     apart = λ a b la lb e. s.apart a b (live_was a la) (live_was b lb) e;
+    keeps = keeps_changed nodes nodes' root n adds.was adds.is adds.was_is adds.is_is adds.others adds.prefix old_edge P s.front_of s.keeps;
   }
 
-  -- the fronts stand
-  pub shape_added-front : (m : ℕ) → shape_added.front_of m ≡ s.front_of m
-  unfolding shape_added
-  shape_added-front m = refl
-
-module _ (keys : ℕ → Option Bytes) (nodes : ℕ → Option Node) (root : Option Child) (s : Shape keys nodes root) where
+module _ {P : ℕ} (keys : ℕ → Option Bytes) (nodes : ℕ → Option Node) (root : Option Child) (s : Shape P keys nodes root) where
   -- what an edge leads to covers the edge's front
   pub covers_above : (above : Option (ℕ × ℕ)) (c : Child) → LeadsTo nodes root above c → Covers keys nodes s.front_of (edge_front s.front_of above) c
   covers_above None c l = subst (λ (r : Option Child). RootFits keys nodes s.front_of r) l s.top
@@ -318,13 +323,7 @@ module _ (keys : ℕ → Option Bytes) (nodes : ℕ → Option Node) (root : Opt
   no_edge n b x k is d e = ap (kid_at x.kids) e ∙ empty_edge n x k is d (kid_at x.kids (next_byte (s.front_of n) k)) refl
 
 -- a node where a key departs gets an edge to its leaf
-pub leaf_added : (keys keys' : ℕ → Option Bytes) (nodes nodes' : ℕ → Option Node) (root : Option Child) (n b i : ℕ) (k : Bytes) (s : Shape keys nodes root)
-    → Gains keys keys' i k → Departs keys (s.front_of n) k → b ≡ next_byte (s.front_of n) k → AddsEdgeTo nodes nodes' n b (Leaf i) → Shape keys' nodes' root
+pub leaf_added : {P : ℕ} → (keys keys' : ℕ → Option Bytes) (nodes nodes' : ℕ → Option Node) (root : Option Child) (n b i : ℕ) (k : Bytes) (s : Shape P keys nodes root)
+    → Gains keys keys' i k → Departs keys (s.front_of n) k → b ≡ next_byte (s.front_of n) k → AddsEdgeTo nodes nodes' n b (Leaf i) → Shape P keys' nodes' root
 leaf_added keys keys' nodes nodes' root n b i k s gains d e adds =
     shape_added keys keys' nodes nodes' root n i k s gains d (subst (λ (b : ℕ). AddsEdgeTo nodes nodes' n b (Leaf i)) e adds)
-
--- the fronts stand
-pub leaf_added-front : (keys keys' : ℕ → Option Bytes) (nodes nodes' : ℕ → Option Node) (root : Option Child) (n b i : ℕ) (k : Bytes) (s : Shape keys nodes root)
-    (gains : Gains keys keys' i k) (d : Departs keys (s.front_of n) k) (e : b ≡ next_byte (s.front_of n) k) (adds : AddsEdgeTo nodes nodes' n b (Leaf i)) (m : ℕ) → (leaf_added keys keys' nodes nodes' root n b i k s gains d e adds).front_of m ≡ s.front_of m
-unfolding leaf_added
-leaf_added-front keys keys' nodes nodes' root n b i k s gains d e adds m = shape_added-front keys keys' nodes nodes' root n i k s gains d (subst (λ (b : ℕ). AddsEdgeTo nodes nodes' n b (Leaf i)) e adds) m

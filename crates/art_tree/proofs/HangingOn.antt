@@ -7,5 +7,5 @@ use Rattle.art_tree.specs.Descents.{IsRoot}
 use Rattle.art_tree.specs.declared.records.ids.Child.{Child}
 
 -- the root of a tree is one
-pub is_root : (nodes : ℕ → Option Node) (keys : ℕ → Option Bytes) (c : Child) → Shape keys nodes (Some c) → IsRoot nodes c
+pub is_root : {P : ℕ} → (nodes : ℕ → Option Node) (keys : ℕ → Option Bytes) (c : Child) → Shape P keys nodes (Some c) → IsRoot P nodes c
 is_root nodes keys c s = record { keys = keys; shape = s }

@@ -23,7 +23,7 @@ module _ (keys : ℕ → Option Bytes) (nodes : ℕ → Option Node) (f : Bytes)
   abbrev pub Heads : (ℕ → Bytes) → Child → ℕ → ℕ → Type 0
   Heads front_of = WayDown keys nodes front_of (HoldsNode front_of) []
 
-  module _ (root : Option Child) (s : Shape keys nodes root) where
+  module _ {P : ℕ} (root : Option Child) (s : Shape P keys nodes root) where
     -- two keys part at a node at f
     parting : (m : ℕ) → IsSome (nodes m) → s.front_of m ≡ f → Parts keys f
     parting m live e = let x = some_of (nodes m) live in subst (Parts keys) e (s.node m x.0 x.1).parts

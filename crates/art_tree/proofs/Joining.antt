@@ -1,5 +1,5 @@
 -- A leaf joins the tree at a node, or at an edge.
-use Rattle.std.proofs.Common.{◌≡◌, ℕ, ◌+◌, ◌<◌, ◌≤◌, List, [], ◌∷◌, ◌++◌, length, take, get_or, refl, ap, arith, sym, subst, Option, Some, None, ◌∙◌, eqb, eq-eqb, true, false, inl, inr, cond}
+use Rattle.std.proofs.Common.{◌≡◌, ℕ, ◌+◌, ◌<◌, ◌≤◌, List, [], ◌∷◌, ◌++◌, length, take, slice_range, get_or, refl, ap, arith, sym, subst, Option, Some, None, ◌∙◌, eqb, eq-eqb, true, false, inl, inr}
 use Rattle.std.specs.Option.{IsSomeAnd}
 use Rattle.std.proofs.lemmas.Bool.{cases_lt, false_from_ne_true}
 use Rattle.std.proofs.lemmas.Bool.Decides.{eqb_tells}
@@ -8,10 +8,11 @@ use Rattle.blart_keys.specs.Bytes.{related}
 use Rattle.art_tree.specs.Above.{LeadsTo, TurnsTo, edge_front}
 use Rattle.art_tree.specs.Begins.{Bytes, Begins, next_byte}
 use Rattle.art_tree.specs.Good.{LeavesMate}
-use Rattle.art_tree.specs.Joins.{Forks, StandsOver, StandsWithin, Shortens}
+use Rattle.art_tree.specs.Joins.{Forks, StandsWithin}
+use Rattle.art_tree.specs.Removals.{StartsBelow, EndsBelow, Cuts, CutsBehind}
 use Rattle.art_tree.specs.Kids.{kid_at}
 use Rattle.art_tree.specs.Nodes.{Node, Renames}
-use Rattle.art_tree.specs.Shape.{Shape}
+use Rattle.art_tree.specs.Shape.{Shape, CoversNode}
 use Rattle.art_tree.specs.Spots.{PastLength, EdgeFits}
 use Rattle.art_tree.specs.declared.records.ids.Child.{Child}
 use Rattle.art_tree.specs.declared.records.ids.Child.TheVariants.{Leaf, Inner}
@@ -19,11 +20,11 @@ use Rattle.art_tree.specs.declared.records.ids.Edge.{Edge}
 use Rattle.art_tree.proofs.BeginsLemmas.{Begins-length, Begins-linear, Begins-more, Begins-past, Begins-take, Begins-trans, length-edge, related_cases}
 use Rattle.art_tree.proofs.Growing.{Departs, Gains, covers_above, no_edge}
 use Rattle.art_tree.proofs.KeyChanges.{departs_at, next_at}
-use Rattle.art_tree.proofs.Leading.{leads_over, leads_stay, leads_made}
+use Rattle.art_tree.proofs.Leading.{leads_made}
 use Rattle.art_tree.proofs.OneEdge.{node_moved}
 use Rattle.blart_keys.proofs.Options.{some_of}
-use Rattle.art_tree.proofs.PlacedShapes.{along_key, mate_long, placed_edge, placed_edge-front}
-use Rattle.art_tree.proofs.SameShapes.{renoded, renoded-front, reprefixed, reprefixed-front}
+use Rattle.art_tree.proofs.PlacedShapes.{along_key, mate_long, placed_edge}
+use Rattle.art_tree.proofs.Prefixes.{start_is, cut_front, cuts_behind, cut_leads}
 use Rattle.art_tree.proofs.SmallShapes.{unrelated}
 
 -- an edge leads to what it was turned to
@@ -31,7 +32,7 @@ pub leads_turned : (old new : ℕ → Option Node) (root root' : Option Child) (
 leads_turned old new root root' None c t = t.1
 leads_turned old new root root' (Some e) c t = (t.0.is, t.0.is_is, t.0.now)
 
-module _ (keys : ℕ → Option Bytes) (nodes : ℕ → Option Node) (root : Option Child) (s : Shape keys nodes root) where
+module _ {P : ℕ} (keys : ℕ → Option Bytes) (nodes : ℕ → Option Node) (root : Option Child) (s : Shape P keys nodes root) where
   -- no key is related to one that departs from all
   pub departs_unrelated : (t q : Bytes) → Departs keys t q → (j : ℕ) (k : Bytes) → keys j ≡ Some k → related k q ≡ false
   departs_unrelated t q d j k e = false_from_ne_true (related k q) (λ rel.
@@ -70,32 +71,9 @@ module _ (keys : ℕ → Option Bytes) (nodes : ℕ → Option Node) (root : Opt
       let p : depth < length (s.front_of n) = past in
       (x.0, x.1, omega arith, omega arith)
 
-  -- and the node above it is less deep
-  pub over_edge : (m : Bytes) (depth : ℕ) (above : Option (ℕ × ℕ)) (c : Child) → depth < length m → LeadsTo nodes root above c → Begins (edge_front s.front_of above) (take depth m) → StandsOver nodes above depth
-  over_edge m depth None c long leads along = tt
-  over_edge m depth (Some e) c long leads along =
-      let d : leads.0.depth ≡ length (s.front_of e.0) = (s.node e.0 leads.0 leads.1).depth in
-      let l : length (s.front_of e.0 ++ e.1 ∷ []) ≡ length (s.front_of e.0) + 1 = length-edge (s.front_of e.0) e.1 in
-      let k : length (s.front_of e.0 ++ e.1 ∷ []) ≤ length (take depth m) = Begins-length (s.front_of e.0 ++ e.1 ∷ []) (take depth m) along in
-      let n : length (take depth m) ≡ depth = length-take-le depth m (omega arith) in
-      (leads.0, leads.1, omega arith)
-
-  -- the tree after the prefix of a child was cut anew: the fronts stand, and so does the edge above
-  pub cut_shape : (P : ℕ) (nodes' : ℕ → Option Node) (above : Option (ℕ × ℕ)) (c : Child) (k : Bytes) (start : ℕ) → LeadsTo nodes root above c → Shortens P nodes nodes' c k start → (s' : Shape keys nodes' root) × ((j : ℕ) → s'.front_of j ≡ s.front_of j) × LeadsTo nodes' root above c
-  cut_shape P nodes' above (Leaf i) k start leads cut = (
-    renoded keys nodes nodes' root s cut,
-    renoded-front keys nodes nodes' root s cut,
-    leads_over nodes nodes' root above (Leaf i) leads (λ p b x e is. cut p ∙ is),
-  )
-  cut_shape P nodes' above (Inner n) k start leads cut = (
-    reprefixed keys nodes nodes' root n _ s cut.2,
-    reprefixed-front keys nodes nodes' root n _ s cut.2,
-    leads_stay keys nodes nodes' root s n above leads cut.2.others,
-  )
-
 module _ (keys : ℕ → Option Bytes) (leaf depth : ℕ) (q : Bytes) (good : LeavesMate keys leaf depth q) (m : Bytes) (m_is : keys leaf ≡ Some m) where
   -- where a key leaves the others at a node, the node has no edge at the key's byte, also under another number
-  pub wide_absent : (nodes mid wide : ℕ → Option Node) (root root' : Option Child) (n n' : ℕ) (above : Option (ℕ × ℕ)) (s : Shape keys nodes root) → s.front_of n ≡ take depth m
+  pub wide_absent : {P : ℕ} → (nodes mid wide : ℕ → Option Node) (root root' : Option Child) (n n' : ℕ) (above : Option (ℕ × ℕ)) (s : Shape P keys nodes root) → s.front_of n ≡ take depth m
       → Renames nodes mid n n' → LeadsTo nodes root above (Inner n) → TurnsTo mid wide root root' above (Inner n') → IsSomeAnd (wide n') (λ x. kid_at x.kids (get_or q depth 0) ≡ None)
   wide_absent nodes mid wide root root' n n' above s stands ren leads turns =
       let w = node_moved keys nodes mid wide root root' n n' above s ren leads turns in
@@ -109,34 +87,53 @@ module _ (keys : ℕ → Option Bytes) (leaf depth : ℕ) (q : Bytes) (good : Le
       let P : Option Node → Type 0 = λ o. IsSomeAnd o (λ x. kid_at x.kids (get_or q depth 0) ≡ None) in
       subst P (sym x.1) (no_edge keys wide root' w.0 n' (get_or q depth 0) x.0 q x.1 d b)
 
-  module _ (nodes cut : ℕ → Option Node) (root : Option Child) (s : Shape keys nodes root) (above : Option (ℕ × ℕ)) (c : Child) (P : ℕ) (k : Bytes) (start : ℕ)
-      (fits : EdgeFits nodes root s.front_of m depth above c) (past : PastLength s.front_of depth c) (shortens : Shortens P nodes cut c k start) where
-    t : (s' : Shape keys cut root) × ((j : ℕ) → s'.front_of j ≡ s.front_of j) × LeadsTo cut root above c
-    t = cut_shape keys nodes root s P cut above c k start fits.leads shortens
+  module _ {P : ℕ} (nodes : ℕ → Option Node) (root : Option Child) (s : Shape P keys nodes root) (above : Option (ℕ × ℕ)) (c : Child) (fits : EdgeFits nodes root s.front_of m depth above c) (past : PastLength s.front_of depth c) where
+    -- the edge's front is no longer than the depth
+    edge_within : length (edge_front s.front_of above) ≤ depth
+    edge_within =
+        let l : length (edge_front s.front_of above) ≤ length (take depth m) = Begins-length (edge_front s.front_of above) (take depth m) fits.along in
+        let far : depth < length m = mate_long keys leaf depth q good m m_is in
+        let k : length (take depth m) ≡ depth = length-take-le depth m (omega arith) in
+        omega arith
 
-    same : s.front_of ≡ t.0.front_of
-    same = λ i j. sym (t.1 j) i
+    -- so the node above it is less deep
+    pub over_edge : (end : ℕ) → depth ≤ end → EndsBelow nodes above end
+    over_edge end le = go above fits.leads edge_within
+      where
+        go : (a : Option (ℕ × ℕ)) → LeadsTo nodes root a c → length (edge_front s.front_of a) ≤ depth → EndsBelow nodes a end
+        go None l w = tt
+        go (Some e) l w =
+            let d : l.0.depth ≡ length (s.front_of e.0) = (s.node e.0 l.0 l.1).depth in
+            let k : length (s.front_of e.0 ++ e.1 ∷ []) ≡ length (s.front_of e.0) + 1 = length-edge (s.front_of e.0) e.1 in
+            (l.0, l.1, omega arith)
 
-    -- where an edge is to be split, the node above it is less deep
-    pub over_cut : StandsOver cut above depth
-    over_cut = over_edge keys cut root t.0 m depth above c (mate_long keys leaf depth q good m m_is) t.2 (subst (λ (f : ℕ → Bytes). Begins (edge_front f above) (take depth m)) same fits.along)
+    -- and what stands below the edge begins within the depth
+    pub starts_over : (start : ℕ) → StartsBelow nodes above start → start ≤ depth
+    starts_over start h = let e : start ≡ length (edge_front s.front_of above) = start_is keys nodes root s above start h in let w : length (edge_front s.front_of above) ≤ depth = edge_within in omega arith
 
-    -- and the edge stands when the node that splits it was made
-    pub leads_forked : (mid : ℕ → Option Node) (n : ℕ) (prefix : List ℕ) (one other : Edge) → Forks cut mid n depth prefix one other → LeadsTo mid root above c
-    leads_forked mid n prefix one other f = leads_made cut mid root above c n depth prefix f.low f.high t.2 f.made
+    module _ (cut : ℕ → Option Node) (cuts : Cuts nodes cut c (λ end. take P (slice_range m (depth + 1) end))) where
+      -- the child keeps what its front has behind the new node's edge
+      pub cut_child : CutsBehind P nodes cut s.front_of (take depth m ++ get_or m depth 0 ∷ []) c
+      cut_child =
+          let far : depth < length m = mate_long keys leaf depth q good m m_is in
+          let k : length (take depth m) ≡ depth = length-take-le depth m (omega arith) in
+          let d : length (take depth m ++ get_or m depth 0 ∷ []) ≡ length (take depth m) + 1 = length-edge (take depth m) (get_or m depth 0) in
+          cuts_behind P nodes cut s.front_of c m (take depth m ++ get_or m depth 0 ∷ []) (depth + 1) (omega arith)
+          (λ n x e is.
+          let v : CoversNode keys nodes s.front_of (edge_front s.front_of above) n = covers_above keys nodes root s above (Inner n) (subst (λ (c : Child). LeadsTo nodes root above c) e fits.leads) in
+          let p : depth < length (s.front_of n) = subst (λ (c : Child). PastLength s.front_of depth c) e past in
+          let w : x.depth ≡ length (s.front_of n) = (s.node n x is).depth in
+          (v.only leaf m m_is (Begins-trans (edge_front s.front_of above) (take depth m) m fits.along (Begins-take depth m)), w, omega arith)) cuts
 
-    -- the leaf at an edge, under a new node
-    pub joined_edge : (keys' : ℕ → Option Bytes) (i : ℕ) (mid new : ℕ → Option Node) (root' : Option Child) (n : ℕ) (prefix : List ℕ) → Gains keys keys' i q
-        → Forks cut mid n depth prefix (record { byte = get_or q depth 0; to = Leaf i }) (record { byte = get_or m depth 0; to = c }) → TurnsTo mid new root root' above (Inner n) → Shape keys' new root'
-    joined_edge keys' i mid new root' n prefix gains f turns =
-        placed_edge keys leaf depth q good m m_is keys' i gains cut mid new root root' above c n prefix f.low f.high t.0
-        (record { leads = t.2; along = subst (λ (f : ℕ → Bytes). Begins (edge_front f above) (take depth m)) same fits.along })
-        (subst (λ (f : ℕ → Bytes). PastLength f depth c) same past) f.made f.sorted f.both turns
+      -- the edge stands when the node that splits it was made
+      pub leads_forked : (mid : ℕ → Option Node) (n : ℕ) (prefix : List ℕ) (one other : Edge) → Forks cut mid n depth prefix one other → LeadsTo mid root above c
+      leads_forked mid n prefix one other f = leads_made cut mid root above c n depth prefix f.low f.high (cut_leads P nodes cut s.front_of (take depth m ++ get_or m depth 0 ∷ []) c cut_child root above c fits.leads) f.made
 
-    -- the fronts stand, and the new node has the key's first bytes
-    pub joined_edge-front : (keys' : ℕ → Option Bytes) (i : ℕ) (mid new : ℕ → Option Node) (root' : Option Child) (n : ℕ) (prefix : List ℕ) (gains : Gains keys keys' i q)
-        (f : Forks cut mid n depth prefix (record { byte = get_or q depth 0; to = Leaf i }) (record { byte = get_or m depth 0; to = c })) (turns : TurnsTo mid new root root' above (Inner n)) (k : ℕ)
-        → (joined_edge keys' i mid new root' n prefix gains f turns).front_of k ≡ cond (eqb k n) (take depth q) (s.front_of k)
-    unfolding joined_edge
-    joined_edge-front keys' i mid new root' n prefix gains f turns k =
-        placed_edge-front keys leaf depth q good m m_is keys' i gains cut mid new root root' above c n prefix f.low f.high t.0 _ _ f.made f.sorted f.both turns k ∙ ap (λ (g : Bytes). cond (eqb k n) (take depth q) g) (t.1 k)
+      -- the leaf at an edge, under a new node
+      pub joined_edge : (keys' : ℕ → Option Bytes) (i : ℕ) (mid new : ℕ → Option Node) (root' : Option Child) (n start : ℕ) → Gains keys keys' i q → StartsBelow nodes above start
+          → Forks cut mid n depth (take P (slice_range q start depth)) (record { byte = get_or q depth 0; to = Leaf i }) (record { byte = get_or m depth 0; to = c }) → TurnsTo mid new root root' above (Inner n) → Shape P keys' new root'
+      joined_edge keys' i mid new root' n start gains starts f turns =
+          let long : depth < length q = good.longer in
+          let deep : length (take depth q) ≡ depth = length-take-le depth q (omega arith) in
+          placed_edge keys leaf depth q good m m_is keys' i gains nodes cut mid new root root' above c n (take P (slice_range q start depth)) f.low f.high s fits past cut_child f.made
+          (cut_front P q (edge_front s.front_of above) (take depth q) start depth (Begins-take depth q) (start_is keys nodes root s above start starts) (sym deep) (starts_over start starts)) f.sorted f.both turns

@@ -1,5 +1,5 @@
 -- The edge above stays where the store changes elsewhere.
-use Rattle.std.proofs.Common.{◌≡◌, ◌≢◌, ℕ, List, refl, ap, sym, Option, Some, None, ◌∙◌}
+use Rattle.std.proofs.Common.{◌≡◌, ℕ, List, refl, ap, sym, Option, Some, None, ◌∙◌}
 use Rattle.art_tree.specs.Above.{LeadsTo}
 use Rattle.art_tree.specs.Begins.{Bytes}
 use Rattle.art_tree.specs.Nodes.{Node, Makes, Renames}
@@ -18,12 +18,7 @@ leads_over old new root (Some (p, b)) c l h = (l.0, h p b l.0 refl l.1, l.2)
 pub leads_made : (old new : ℕ → Option Node) (root : Option Child) (above : Option (ℕ × ℕ)) (c : Child) (n depth : ℕ) (prefix : List ℕ) (low high : Edge) → LeadsTo old root above c → Makes old new n depth prefix low high → LeadsTo new root above c
 leads_made old new root above c n depth prefix low high l m = leads_over old new root above c l (λ p b x e is. m.others p (λ z. let f : old n ≡ Some x = ap old (sym z) ∙ is in let g : old n ≡ None = m.fresh in cc) ∙ is)
 
-module _ (keys : ℕ → Option Bytes) (old new : ℕ → Option Node) (root : Option Child) (s : Shape keys old root) (n : ℕ) where
-  -- after something became of the node below the edge alone
-  pub leads_stay : (above : Option (ℕ × ℕ)) → LeadsTo old root above (Inner n) → ((j : ℕ) → j ≢ n → new j ≡ old j) → LeadsTo new root above (Inner n)
-  leads_stay None l h = l
-  leads_stay (Some (p, b)) l h = (l.0, h p (not_itself keys old root s p b n l.0 l.1 l.2) ∙ l.1, l.2)
-
+module _ {P : ℕ} (keys : ℕ → Option Bytes) (old new : ℕ → Option Node) (root : Option Child) (s : Shape P keys old root) (n : ℕ) where
   -- after the node below the edge went to another number
   pub leads_renamed : (above : Option (ℕ × ℕ)) (m : ℕ) → LeadsTo old root above (Inner n) → Renames old new n m → LeadsTo new root above (Inner n)
   leads_renamed None m l r = l

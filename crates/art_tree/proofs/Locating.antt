@@ -17,7 +17,7 @@ pub record Stands (keys : ℕ → Option Bytes) (nodes : ℕ → Option Node) (r
   pub edge : EdgeFits nodes root front_of mate depth above c
   pub deep : gone ≡ length (edge_front front_of above)
 
-module _ (keys : ℕ → Option Bytes) (nodes : ℕ → Option Node) (mate : Bytes) (depth : ℕ) (root : Child) (s : Shape keys nodes (Some root)) where
+module _ {P : ℕ} (keys : ℕ → Option Bytes) (nodes : ℕ → Option Node) (mate : Bytes) (depth : ℕ) (root : Child) (s : Shape P keys nodes (Some root)) where
   module _ (i : ℕ) (is : keys i ≡ Some mate) (lt : depth ≤ length mate) (n : ℕ) (x : Node) (at : nodes n ≡ Some x) (above : Option (ℕ × ℕ)) (gone : ℕ) (st : Stands keys nodes (Some root) s.front_of mate depth above (Inner n) gone) where
     fits : NodeFits keys nodes s.front_of (s.front_of n) x
     fits = s.node n x at

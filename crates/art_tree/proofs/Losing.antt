@@ -1,5 +1,5 @@
 -- One key less: a leaf goes from its node.
-use Rattle.std.proofs.Common.{◌≡◌, ◌≢◌, ℕ, ◌+◌, ◌<◌, ◌≤◌, List, [], ◌∷◌, ◌++◌, length, refl, ap, arith, sym, subst, Option, Some, None, IsSome, ◌∙◌, ◌⊎◌, inl, inr, eq-eqb}
+use Rattle.std.proofs.Common.{◌≡◌, ◌≢◌, ℕ, ◌+◌, ◌<◌, ◌≤◌, List, [], ◌∷◌, ◌++◌, length, take, drop, refl, ap, arith, sym, subst, Option, Some, None, IsSome, ◌∙◌, ◌⊎◌, inl, inr, eq-eqb}
 use Rattle.std.proofs.lemmas.Bool.{cases_lt, ne_eqb}
 use Rattle.std.proofs.lemmas.Bool.Decides.{eqb_tells}
 use Rattle.art_tree.specs.Begins.{Bytes, Begins, next_byte}
@@ -7,14 +7,16 @@ use Rattle.blart_keys.specs.Bytes.{common}
 use Rattle.art_tree.specs.Above.{LeadsTo, TurnsTo, edge_front}
 use Rattle.art_tree.specs.Nodes.{Node, DropsEdge, Redirects, Frees}
 use Rattle.art_tree.specs.Kids.{kid_at, Ascends}
-use Rattle.art_tree.specs.Removals.{Loses}
-use Rattle.art_tree.specs.Shape.{Shape, Covers, CoversLeaf, CoversNode, NodeFits, RootFits, Parts}
+use Rattle.art_tree.specs.Removals.{Loses, CutsBehind}
+use Rattle.art_tree.specs.Shape.{Shape, Keeps, first_behind, Covers, CoversLeaf, CoversNode, NodeFits, RootFits, Parts}
 use Rattle.art_tree.specs.declared.records.ids.Edge.{Edge}
 use Rattle.art_tree.specs.declared.records.ids.Child.{Child}
 use Rattle.art_tree.specs.declared.records.ids.Child.TheVariants.{Leaf, Inner}
 use Rattle.art_tree.proofs.BeginsLemmas.{Begins-length, Begins-more, Begins-trans, Begins-next, edge_same, edge_some, Begins-linear, length-edge, Begins-equal, Begins-edge_front, Bytes-cases, common-left, common-greatest, common_comm}
 use Rattle.art_tree.proofs.Growing.{Parts-within, Parts-two, covers_above}
-use Rattle.art_tree.proofs.OneEdge.{not_itself}
+use Rattle.art_tree.proofs.OneEdge.{one_above}
+use Rattle.art_tree.proofs.Prefixes.{keeps_changed, cut_node, cut_was, turned_prefix}
+use Rattle.art_tree.proofs.Splitting.{Recut}
 use Rattle.blart_keys.proofs.Options.{is_some, some_of, not_some, same_some}
 
 -- what became of an old node: the edge at g0 leads to another child now
@@ -35,7 +37,7 @@ pub record Merges (old new : ℕ → Option Node) (front_of : ℕ → Bytes) (ro
   pub others : (m : ℕ) (x : Node) → m ≢ p → old m ≡ Some x → (x' : Node) × (new m ≡ Some x') × Turns x x' (front_of m) g0 (Inner p) c1
   pub no_more : (m : ℕ) → old m ≡ None → new m ≡ None
 
-module _ (keys keys' : ℕ → Option Bytes) (nodes : ℕ → Option Node) (root : Option Child) (p i b : ℕ) (k : Bytes) (s : Shape keys nodes root)
+module _ {P : ℕ} (keys keys' : ℕ → Option Bytes) (nodes : ℕ → Option Node) (root : Option Child) (p i b : ℕ) (k : Bytes) (s : Shape P keys nodes root)
     (loses : Loses keys keys' i k) (was : Node) (was_is : nodes p ≡ Some was) (low : kid_at was.kids b ≡ Some (Leaf i)) where
   abbrev t : Bytes
   t = s.front_of p
@@ -145,7 +147,8 @@ module _ (keys keys' : ℕ → Option Bytes) (nodes : ℕ → Option Node) (root
         differ = λ e. q.differ (sym u.4 ∙ e ∙ v.4);
       }
 
-  module _ (nodes' : ℕ → Option Node) (root' : Option Child) (g0 : Bytes) (c1 : Child) (b1 : ℕ) (merges : Merges nodes nodes' s.front_of root root' g0 c1 was p b b1) (covers0 : CoversNode keys nodes s.front_of g0 p) where
+  module _ (nodes' : ℕ → Option Node) (root' : Option Child) (g0 : Bytes) (c1 : Child) (b1 : ℕ) (merges : Merges nodes nodes' s.front_of root root' g0 c1 was p b b1) (covers0 : CoversNode keys nodes s.front_of g0 p)
+      (recut : Recut P nodes nodes' s.front_of g0 c1) (one : (a : Option (ℕ × ℕ)) (j : ℕ) → LeadsTo nodes root a (Inner j) → c1 ≡ Inner j → a ≡ Some (p, b1)) where
     -- the node p hangs on one edge
     one_edge : (m : ℕ) → IsSome (nodes m) → (c : ℕ) → CoversNode keys nodes s.front_of (s.front_of m ++ c ∷ []) p → s.front_of m ++ c ∷ [] ≡ g0
     one_edge m live c cov =
@@ -317,8 +320,39 @@ module _ (keys keys' : ℕ → Option Bytes) (nodes : ℕ → Option Node) (root
           | inr a ↦ rw a.4 (top_kept root refl a.0 a.1 a.2 a.3)
         ]
 
+    -- what came up keeps what its front has behind the edge above
+    kept_up : (g : Bytes) (j : ℕ) (x' : Node) → c1 ≡ Inner j → g ≡ g0 → nodes' j ≡ Some x' → x'.prefix ≡ take P (drop (length g) (s.front_of j))
+    kept_up g j x' e same is =
+        let w = was_live j x' is (nodes j) refl in
+        recut.own j w.0 x' w.1 is e ∙ ap (λ (z : Bytes). take P (drop (length z) (s.front_of j))) (sym same)
+
+    -- and another node what it kept
+    kept_stays : (a : Option (ℕ × ℕ)) (j : ℕ) (x' : Node) → LeadsTo nodes root a (Inner j) → (a ≡ Some (p, b1) → ⊥) → nodes' j ≡ Some x' → x'.prefix ≡ first_behind P s.front_of a j
+    kept_stays a j x' l far is =
+        let w = was_live j x' is (nodes j) refl in
+        recut.others j w.0 x' w.1 is (λ z. far (one a j l z)) ∙ s.keeps a j w.0 l w.1
+
+    kept_merged : Keeps P nodes' root' s.front_of
+    kept_merged None j x' l is =
+        elim merges.above [
+          | inl a ↦ kept_up [] j x' (let e : Some c1 ≡ Some (Inner j) = sym a.2 ∙ l in cc) (sym a.0) is
+          | inr a ↦ kept_stays None j x' (sym a.4 ∙ l) (λ e. absurd cc) is
+        ]
+    kept_merged (Some (q, c)) j x' l is =
+        let off : q ≢ p = not_p q l.0 l.1 in
+        let w = was_live q l.0 l.1 (nodes q) refl in
+        let y = merges.others q w.0 off w.1 in
+        let f : nodes' q ≡ Some y.0 = y.1 in
+        let g : nodes' q ≡ Some l.0 = l.1 in
+        let z : l.0 ≡ y.0 = cc in
+        let there : kid_at y.0.kids c ≡ Some (Inner j) = ap (λ (x : Node). kid_at x.kids c) (sym z) ∙ l.2 in
+        elim (Bytes-cases (s.front_of q ++ c ∷ []) g0) [
+          | inl at ↦ kept_up (s.front_of q ++ c ∷ []) j x' (let e : kid_at y.0.kids c ≡ Some c1 = y.2.now c at in cc) at is
+          | inr far ↦ kept_stays (Some (q, c)) j x' (w.0, w.1, sym (y.2.rest c far) ∙ there) (λ e. off (let h : (q, c) ≡ (p, b1) = cc in ap (λ (w : ℕ × ℕ). w.0) h)) is
+        ]
+
     -- the tree with one node less
-    pub shape_merged : Shape keys' nodes' root'
+    pub shape_merged : Shape P keys' nodes' root'
     shape_merged = record {
       front_of = s.front_of;
       top = top_fits;
@@ -330,6 +364,7 @@ module _ (keys keys' : ℕ → Option Bytes) (nodes : ℕ → Option Node) (root
           let y = some_of (nodes' c) lc in
           let v = was_live c y.0 y.1 (nodes c) refl in
           s.apart a c (is_some (nodes a) w.0 w.1) (is_some (nodes c) v.0 v.1) e;
+      keeps = kept_merged;
     }
 
   -- ---- a node with three edges or more
@@ -461,23 +496,19 @@ module _ (keys keys' : ℕ → Option Bytes) (nodes : ℕ → Option Node) (root
     top_stays (Some (Inner n)) e = node_stays [] n (subst (λ (r : Option Child). RootFits keys nodes s.front_of r) e s.top)
 
     -- the tree where a node with three edges or more lost one, to a leaf
-    pub shape_dropped : Shape keys' nodes' root
+    pub shape_dropped : Shape P keys' nodes' root
     shape_dropped = record {
       front_of = s.front_of;
       top = top_stays root refl;
       node = all_fit;
       joined = λ a c x y ax cy off. (let r = s.joined a c x y (was_key a x ax) (was_key c y cy) off in (r.0, still_live r.0 r.1, r.2));
       apart = λ a c la lc e. s.apart a c (then_live a la) (then_live c lc) e;
+      keeps = keeps_changed nodes nodes' root p drops.was drops.is drops.was_is drops.is_is drops.others drops.prefix (λ c j e. sym (drops.kids.rest c (not_dropped c (Inner j) e)) ∙ e) P s.front_of s.keeps;
     }
-
-    -- the fronts stand
-    pub shape_dropped-front : (m : ℕ) → shape_dropped.front_of m ≡ s.front_of m
-    unfolding shape_dropped
-    shape_dropped-front m = refl
 
   -- ---- a node with two edges
 
-  module _ (mid new : ℕ → Option Node) (root' : Option Child) (b1 : ℕ) (c1 : Child) (high : kid_at was.kids b1 ≡ Some c1) (two : b ≢ b1) (just : length was.kids ≡ 2) (frees : Frees mid new p) where
+  module _ (cut mid new : ℕ → Option Node) (root' : Option Child) (b1 : ℕ) (c1 : Child) (high : kid_at was.kids b1 ≡ Some c1) (two : b ≢ b1) (just : length was.kids ≡ 2) (frees : Frees mid new p) where
     -- it has no others
     pub only_two : (es : List Edge) → length es ≡ 2 → IsSome (kid_at es b) → IsSome (kid_at es b1) → (c : ℕ) → IsSome (kid_at es c) → (c ≡ b) ⊎ (c ≡ b1)
     only_two [] l hb hb1 c hc = absurd (omega arith)
@@ -507,74 +538,92 @@ module _ (keys keys' : ℕ → Option Bytes) (nodes : ℕ → Option Node) (root
     alive_off : (m : ℕ) → nodes m ≡ None → m ≢ p
     alive_off m e z = let f : nodes p ≡ None = rw (← z) e in let g : nodes p ≡ Some was = was_is in cc
 
-    merges_of : (above : Option (ℕ × ℕ)) → LeadsTo nodes root above (Inner p) → TurnsTo nodes mid root root' above c1 → Merges nodes new s.front_of root root' (edge_front s.front_of above) c1 was p b b1
-    merges_of None leads turns = record {
-      gone = frees.gone;
-      high = high;
-      two = two;
-      only = only_two was.kids just (is_some (kid_at was.kids b) (Leaf i) low) (is_some (kid_at was.kids b1) c1 high);
-      above = inl (refl, leads, turns.1);
-      others = λ m x off is. (
-        x,
-        frees.others m off ∙ turns.0 m ∙ is,
-        record {
-          depth = refl;
-          ascends = λ a. a;
-          rest = λ c h. refl;
-          was = λ c h. absurd (edge_some (s.front_of m) c h);
-          now = λ c h. absurd (edge_some (s.front_of m) c h);
-        },
-      );
-      no_more = λ m e. frees.others m (alive_off m e) ∙ turns.0 m ∙ e;
-    }
-    merges_of (Some (q, a)) leads turns =
-        let red : Redirects nodes mid q a c1 = turns.0 in
-        let q_off : q ≢ p = not_itself keys nodes root s q a p leads.0 leads.1 leads.2 in
-        let was_q : red.was ≡ leads.0 = (let f : nodes q ≡ Some leads.0 = leads.1 in let g : nodes q ≡ Some red.was = red.was_is in cc) in
-        let live : IsSome (nodes q) = is_some (nodes q) leads.0 leads.1 in
-        record {
-          gone = frees.gone;
-          high = high;
-          two = two;
-          only = only_two was.kids just (is_some (kid_at was.kids b) (Leaf i) low) (is_some (kid_at was.kids b1) c1 high);
-          above = inr (q, a, live, refl, turns.1);
-          others = λ m x off is. elim (eqb_tells m q) [
+    module _ (above : Option (ℕ × ℕ)) (leads : LeadsTo nodes root above (Inner p)) (cuts : CutsBehind P nodes cut s.front_of (edge_front s.front_of above) c1) (turns : TurnsTo cut mid root root' above c1) where
+      abbrev g0 : Bytes
+      g0 = edge_front s.front_of above
+
+      -- what became of a node
+      turned : (above' : Option (ℕ × ℕ)) → LeadsTo nodes root above' (Inner p) → TurnsTo cut mid root root' above' c1 → CutsBehind P nodes cut s.front_of g0 c1 → (m : ℕ) (x : Node) → m ≢ p → nodes m ≡ Some x → (x' : Node) × (new m ≡ Some x') × Turns x x' (s.front_of m) (edge_front s.front_of above') (Inner p) c1
+      turned None leads turns cuts m x off is =
+          let y = cut_node P nodes cut s.front_of g0 c1 cuts m x is in (
+            y.0,
+            frees.others m off ∙ turns.0 m ∙ y.1,
+            record {
+              depth = y.2.depth;
+              ascends = λ z. subst (λ (es : List Edge). Ascends es) (sym y.2.kids) z;
+              rest = λ c h. ap (λ (es : List Edge). kid_at es c) y.2.kids;
+              was = λ c h. absurd (edge_some (s.front_of m) c h);
+              now = λ c h. absurd (edge_some (s.front_of m) c h);
+            },
+          )
+      turned (Some (q, a)) leads turns cuts m x off is =
+          let red : Redirects cut mid q a c1 = turns.0 in
+          let y = cut_node P nodes cut s.front_of g0 c1 cuts m x is in
+          elim (eqb_tells m q) [
             | inl e ↦
-                let x_is : leads.0 ≡ x = (let f : nodes q ≡ Some x = rw (← e.1) is in let g : nodes q ≡ Some leads.0 = leads.1 in cc) in
-                let same : red.was ≡ x = was_q ∙ x_is in
+                let x_is : leads.0 ≡ x = (let f : nodes q ≡ Some x = ap nodes (sym e.1) ∙ is in let g : nodes q ≡ Some leads.0 = leads.1 in cc) in
+                let same : red.was ≡ y.0 = (let f : cut q ≡ Some y.0 = ap cut (sym e.1) ∙ y.1 in let g : cut q ≡ Some red.was = red.was_is in cc) in
                 let front : s.front_of m ≡ s.front_of q = ap s.front_of e.1 in (
                   red.is,
                   frees.others m off ∙ ap mid e.1 ∙ red.is_is,
                   record {
-                    depth = red.depth ∙ ap (λ (x : Node). x.depth) same;
+                    depth = red.depth ∙ ap (λ (x : Node). x.depth) same ∙ y.2.depth;
                     ascends = λ z. red.ascends;
-                    rest = λ c h. red.rest c (λ z. h (λ j. front j ++ z j ∷ [])) ∙ ap (λ (x : Node). kid_at x.kids c) same;
+                    rest = λ c h. red.rest c (λ z. h (λ j. front j ++ z j ∷ [])) ∙ ap (λ (x : Node). kid_at x.kids c) same ∙ ap (λ (es : List Edge). kid_at es c) y.2.kids;
                     was = λ c h. (let z = edge_same (s.front_of m) (s.front_of q) c a h in ap (kid_at x.kids) z.1 ∙ ap (λ (x : Node). kid_at x.kids a) (sym x_is) ∙ leads.2);
                     now = λ c h. (let z = edge_same (s.front_of m) (s.front_of q) c a h in ap (kid_at red.is.kids) z.1 ∙ red.now);
                   },
                 )
             | inr e ↦
-                let apart : (c : ℕ) → s.front_of m ++ c ∷ [] ≡ s.front_of q ++ a ∷ [] → ⊥ = λ c h. e.1 (s.apart m q (is_some (nodes m) x is) live (edge_same (s.front_of m) (s.front_of q) c a h).0) in (
-                  x,
-                  frees.others m off ∙ red.others m e.1 ∙ is,
+                let apart : (c : ℕ) → s.front_of m ++ c ∷ [] ≡ s.front_of q ++ a ∷ [] → ⊥ = λ c h. e.1 (s.apart m q (is_some (nodes m) x is) (is_some (nodes q) leads.0 leads.1) (edge_same (s.front_of m) (s.front_of q) c a h).0) in (
+                  y.0,
+                  frees.others m off ∙ red.others m e.1 ∙ y.1,
                   record {
-                    depth = refl;
-                    ascends = λ z. z;
-                    rest = λ c h. refl;
+                    depth = y.2.depth;
+                    ascends = λ z. subst (λ (es : List Edge). Ascends es) (sym y.2.kids) z;
+                    rest = λ c h. ap (λ (es : List Edge). kid_at es c) y.2.kids;
                     was = λ c h. absurd (apart c h);
                     now = λ c h. absurd (apart c h);
                   },
                 )
-          ];
-          no_more = λ m e. (let far : m ≢ q = (λ z. let f : nodes q ≡ None = rw (← z) e in let g : nodes q ≡ Some leads.0 = leads.1 in absurd cc) in frees.others m (alive_off m e) ∙ red.others m far ∙ e);
-        }
+          ]
 
-    module _ (above : Option (ℕ × ℕ)) (leads : LeadsTo nodes root above (Inner p)) (turns : TurnsTo nodes mid root root' above c1) where
+      none_more : (above' : Option (ℕ × ℕ)) → LeadsTo nodes root above' (Inner p) → TurnsTo cut mid root root' above' c1 → (m : ℕ) → nodes m ≡ None → new m ≡ None
+      none_more None leads turns m e = frees.others m (alive_off m e) ∙ turns.0 m ∙ cut_was P nodes cut s.front_of g0 c1 cuts m e
+      none_more (Some (q, a)) leads turns m e =
+          let far : m ≢ q = (λ z. let f : nodes q ≡ None = ap nodes (sym z) ∙ e in let g : nodes q ≡ Some leads.0 = leads.1 in absurd cc) in
+          frees.others m (alive_off m e) ∙ turns.0.others m far ∙ cut_was P nodes cut s.front_of g0 c1 cuts m e
+
+      edge_above : (above' : Option (ℕ × ℕ)) → LeadsTo nodes root above' (Inner p) → TurnsTo cut mid root root' above' c1
+          → ((edge_front s.front_of above' ≡ []) × (root ≡ Some (Inner p)) × (root' ≡ Some c1)) ⊎ ((m : ℕ) × (b : ℕ) × IsSome (nodes m) × (edge_front s.front_of above' ≡ s.front_of m ++ b ∷ []) × (root' ≡ root))
+      edge_above None leads turns = inl (refl, leads, turns.1)
+      edge_above (Some (q, a)) leads turns = inr (q, a, is_some (nodes q) leads.0 leads.1, refl, turns.1)
+
+      merges : Merges nodes new s.front_of root root' g0 c1 was p b b1
+      merges = record {
+        gone = frees.gone;
+        high = high;
+        two = two;
+        only = only_two was.kids just (is_some (kid_at was.kids b) (Leaf i) low) (is_some (kid_at was.kids b1) c1 high);
+        above = edge_above above leads turns;
+        others = λ m x off is. turned above leads turns cuts m x off is;
+        no_more = none_more above leads turns;
+      }
+
+      not_freed : (m : ℕ) (x : Node) → new m ≡ Some x → m ≢ p
+      not_freed m x is e = let f : new p ≡ Some x = ap new (sym e) ∙ is in let g : new p ≡ None = frees.gone in cc
+
+      prefix_led : (m : ℕ) (x x' : Node) → cut m ≡ Some x → new m ≡ Some x' → x'.prefix ≡ x.prefix
+      prefix_led m x x' was is = turned_prefix cut mid root root' above c1 turns m x x' was (sym (frees.others m (not_freed m x' is)) ∙ is)
+
+      recut : Recut P nodes new s.front_of g0 c1
+      recut = record {
+        others = λ m x x' was is off. (let y = cut_node P nodes cut s.front_of g0 c1 cuts m x was in prefix_led m y.0 x' y.1 is ∙ y.2.other off);
+        own = λ m x x' was is same. (let y = cut_node P nodes cut s.front_of g0 c1 cuts m x was in prefix_led m y.0 x' y.1 is ∙ y.2.own same);
+      }
+
       -- the tree where the edge above a node with two edges leads to its other child, and the node is gone
-      pub edge_merged : Shape keys' new root'
-      edge_merged = shape_merged new root' (edge_front s.front_of above) c1 b1 (merges_of above leads turns) (covers_above keys nodes root s above (Inner p) leads)
-
-      -- the fronts stand
-      pub edge_merged-front : (m : ℕ) → edge_merged.front_of m ≡ s.front_of m
-      unfolding edge_merged shape_merged
-      edge_merged-front m = refl
+      pub edge_merged : Shape P keys' new root'
+      edge_merged =
+          shape_merged new root' g0 c1 b1 merges (covers_above keys nodes root s above (Inner p) leads) recut
+          (λ a j l e. one_above keys nodes root s j a (Some (p, b1)) l (was, was_is, high ∙ ap (λ (c : Child). Some c) e))

@@ -20,7 +20,7 @@ module _ (keys : ℕ → Option Bytes) (q : Bytes) where
   pub furthest_start : HoldsFurthest []
   furthest_start = λ i j l k l_is k_is b never. absurd (never tt)
 
-  module _ (nodes : ℕ → Option Node) (root : Option Child) (s : Shape keys nodes root) where
+  module _ {P : ℕ} (nodes : ℕ → Option Node) (root : Option Child) (s : Shape P keys nodes root) where
     module _ (n : ℕ) (x : Node) (is : nodes n ≡ Some x) (front : Bytes) (covers : CoversNode keys nodes s.front_of front n) (best : HoldsFurthest front) where
       fits : NodeFits keys nodes s.front_of (s.front_of n) x
       fits = s.node n x is

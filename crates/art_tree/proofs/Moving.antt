@@ -5,10 +5,13 @@ use Rattle.std.proofs.lemmas.Bool.Decides.{eqb_tells}
 use Rattle.art_tree.specs.Begins.{Bytes, Begins, next_byte}
 use Rattle.art_tree.specs.Nodes.{Node}
 use Rattle.art_tree.specs.Kids.{kid_at, Ascends}
-use Rattle.art_tree.specs.Shape.{Shape, Covers, NodeFits, RootFits}
+use Rattle.art_tree.specs.Shape.{Shape, Keeps, Covers, CoversNode, NodeFits, RootFits}
+use Rattle.art_tree.specs.Above.{LeadsTo, edge_front}
 use Rattle.art_tree.specs.declared.records.ids.Child.{Child}
 use Rattle.art_tree.specs.declared.records.ids.Child.TheVariants.{Leaf, Inner}
 use Rattle.blart_keys.proofs.Options.{is_some, some_of}
+use Rattle.art_tree.proofs.Growing.{covers_above}
+use Rattle.art_tree.proofs.Prefixes.{keeps_as}
 
 module _ (n m : ℕ) where
   -- the number m in place of n
@@ -28,6 +31,7 @@ module _ (n m : ℕ) where
   -- the node is the same but for the number
   pub record SameNode (x x' : Node) : Type 0 where
     pub depth : x'.depth ≡ x.depth
+    pub prefix : x'.prefix ≡ x.prefix
     pub kids : (b : ℕ) → kid_at x'.kids b ≡ renamed (kid_at x.kids b)
     pub ascends : Ascends x.kids → Ascends x'.kids
 
@@ -42,11 +46,16 @@ renamed_some : (n m : ℕ) (o : Option Child) (c' : Child) → renamed n m o ≡
 renamed_some n m None c' e = absurd cc
 renamed_some n m (Some c) c' e = (c, refl, (let h : child_renamed n m c ≡ c' = cc in h))
 
+-- only a node is renamed to a node
+renamed_node : (n m : ℕ) (c : Child) (k : ℕ) → child_renamed n m c ≡ Inner k → (j : ℕ) × (c ≡ Inner j) × (renumbered n m j ≡ k)
+renamed_node n m (Leaf i) k e = absurd cc
+renamed_node n m (Inner j) k e = (j, refl, cc)
+
 renamed_live : (n m : ℕ) (o : Option Child) → IsSome o → IsSome (renamed n m o)
 renamed_live n m None h = h
 renamed_live n m (Some c) h = refl
 
-module _ (keys : ℕ → Option Bytes) (nodes nodes' : ℕ → Option Node) (root : Option Child) (n m : ℕ) (s : Shape keys nodes root) (mv : Moves n m nodes nodes') where
+module _ {P : ℕ} (keys : ℕ → Option Bytes) (nodes nodes' : ℕ → Option Node) (root : Option Child) (n m : ℕ) (s : Shape P keys nodes root) (mv : Moves n m nodes nodes') where
   abbrev pub fronts_after : ℕ → Bytes
   fronts_after k = cond (eqb k m) (s.front_of n) (s.front_of k)
 
@@ -90,8 +99,30 @@ module _ (keys : ℕ → Option Bytes) (nodes nodes' : ℕ → Option Node) (roo
   top_moved None h = h
   top_moved (Some c) h = covers_moved [] c h
 
+  -- an edge to a node was one to it by the other number
+  edge_was : (a : Option (ℕ × ℕ)) (k : ℕ) → LeadsTo nodes' (renamed n m root) a (Inner k) → (a' : Option (ℕ × ℕ)) × (j : ℕ) × LeadsTo nodes root a' (Inner j) × (renumbered n m j ≡ k) × (edge_front fronts_after a ≡ edge_front s.front_of a')
+  edge_was None k l =
+      let r = renamed_some n m root (Inner k) l in
+      let c = renamed_node n m r.0 k r.2 in
+      (None, c.0, r.1 ∙ ap (λ (z : Child). Some z) c.1, c.2, refl)
+  edge_was (Some (q, b)) k l =
+      let w = mv.back q l.0 l.1 in
+      let r = renamed_some n m (kid_at w.1.kids b) (Inner k) (sym (w.4.kids b) ∙ l.2) in
+      let c = renamed_node n m r.0 k r.2 in
+      (Some (w.0, b), c.0, (w.1, w.3, r.1 ∙ ap (λ (z : Child). Some z) c.1), c.2, ap (λ (t : Bytes). t ++ b ∷ []) (ap fronts_after w.2 ∙ front_kept w.0 w.1 w.3))
+
+  kept_moved : Keeps P nodes' (renamed n m root) fronts_after
+  kept_moved a k x' l is =
+      let e = edge_was a k l in
+      let cov : CoversNode keys nodes s.front_of (edge_front s.front_of e.0) e.1 = covers_above keys nodes root s e.0 (Inner e.1) e.2 in
+      let x = some_of (nodes e.1) cov.live in
+      let y = mv.to e.1 x.0 x.1 in
+      let there : nodes' k ≡ Some y.0 = ap nodes' (sym e.3) ∙ y.1 in
+      let z : y.0 ≡ x' = cc in
+      keeps_as P s.front_of fronts_after e.0 a e.1 k x.0 x' (s.keeps e.0 e.1 x.0 e.2 x.1) (ap (λ (w : Node). w.prefix) (sym z) ∙ y.2.prefix) e.4 (ap fronts_after (sym e.3) ∙ front_kept e.1 x.0 x.1)
+
   -- the tree with a node under another number
-  pub shape_moved : Shape keys nodes' (renamed n m root)
+  pub shape_moved : Shape P keys nodes' (renamed n m root)
   shape_moved = record {
     front_of = fronts_after;
     top = top_moved root s.top;
@@ -112,6 +143,7 @@ module _ (keys : ℕ → Option Bytes) (nodes nodes' : ℕ → Option Node) (roo
         let f : s.front_of p.0 ≡ s.front_of q.0 = sym (front_kept p.0 p.1 p.3) ∙ ap fronts_after (sym p.2) ∙ e ∙ ap fronts_after q.2 ∙ front_kept q.0 q.1 q.3 in
         let h : p.0 ≡ q.0 = s.apart p.0 q.0 (is_some (nodes p.0) p.1 p.3) (is_some (nodes q.0) q.1 q.3) f in
         p.2 ∙ ap (renumbered n m) h ∙ sym q.2);
+    keeps = kept_moved;
   }
 
   -- the fronts: m has that of n

@@ -92,7 +92,7 @@ module _ (keys : ℕ → Option Bytes) (q : Bytes) (alone : (j : ℕ) (k : Bytes
 
 -- ---- at a node where q leaves
 
-module _ (keys : ℕ → Option Bytes) (nodes : ℕ → Option Node) (root : Option Child) (s : Shape keys nodes root) (q : Bytes) (alone : (j : ℕ) (k : Bytes) → keys j ≡ Some k → related k q ≡ false)
+module _ {P : ℕ} (keys : ℕ → Option Bytes) (nodes : ℕ → Option Node) (root : Option Child) (s : Shape P keys nodes root) (q : Bytes) (alone : (j : ℕ) (k : Bytes) → keys j ≡ Some k → related k q ≡ false)
     (n : ℕ) (x : Node) (x_is : nodes n ≡ Some x) (b : ℕ) (qt : Begins (s.front_of n ++ b ∷ []) q) where
   abbrev t : Bytes
   t = s.front_of n

@@ -14,7 +14,7 @@ use Rattle.art_tree.proofs.BeginsLemmas.{Begins-length, Begins-trans, Begins-nex
 use Rattle.blart_keys.proofs.Options.{is_some}
 use Rattle.art_tree.proofs.Moving.{renumbered, renamed, SameNode, Moves, shape_moved, front_of_moved}
 
-module _ (keys : ℕ → Option Bytes) (nodes : ℕ → Option Node) (root : Option Child) (s : Shape keys nodes root) where
+module _ {P : ℕ} (keys : ℕ → Option Bytes) (nodes : ℕ → Option Node) (root : Option Child) (s : Shape P keys nodes root) where
   over : (g : Bytes) (n q c : ℕ) (x : Node) → nodes q ≡ Some x → CoversNode keys nodes s.front_of g n → CoversNode keys nodes s.front_of (s.front_of q ++ c ∷ []) n → length g ≤ length (s.front_of q) → ⊥
   over g n q c x is a b l =
       let f = s.front_of q in
@@ -66,13 +66,23 @@ module _ (keys : ℕ → Option Bytes) (nodes : ℕ → Option Node) (root : Opt
       let a : CoversNode keys nodes s.front_of [] n = subst (λ (r : Option Child). RootFits keys nodes s.front_of r) e s.top in
       over [] n q c x is a (covers q c n x is ec) (omega arith)
 
+-- one edge leads to a node
+pub one_above : {P : ℕ} → (keys : ℕ → Option Bytes) (nodes : ℕ → Option Node) (root : Option Child) (s : Shape P keys nodes root) (n : ℕ) (a b : Option (ℕ × ℕ)) → LeadsTo nodes root a (Inner n) → LeadsTo nodes root b (Inner n) → a ≡ b
+one_above keys nodes root s n None None l m = refl
+one_above keys nodes root s n None (Some e) l m = absurd (no_edge_to keys nodes root s e.0 e.1 n m.0 l m.1 m.2)
+one_above keys nodes root s n (Some e) None l m = absurd (no_edge_to keys nodes root s e.0 e.1 n l.0 m l.1 l.2)
+one_above keys nodes root s n (Some d) (Some e) l m =
+    let h = one_edge keys nodes root s e.0 e.1 d.0 d.1 n m.0 l.0 m.1 l.1 m.2 l.2 in
+    let z : d ≡ e = (λ i. (h.0 i, h.1 i)) in
+    ap (λ (e : ℕ × ℕ). Some e) z
+
 renamed-off : (n m : ℕ) (o : Option Child) → (o ≡ Some (Inner n) → ⊥) → renamed n m o ≡ o
 renamed-off n m None h = refl
 renamed-off n m (Some (Leaf i)) h = refl
 renamed-off n m (Some (Inner j)) h = elim (eqb_tells j n) [ inl e ↦ absurd (h (ap (λ z. Some (Inner z)) e.1)) | inr e ↦ rw e.0 refl ]
 
 same_node : (n m : ℕ) (x : Node) → ((c : ℕ) → kid_at x.kids c ≡ Some (Inner n) → ⊥) → SameNode n m x x
-same_node n m x h = record { depth = refl; kids = λ b. sym (renamed-off n m (kid_at x.kids b) (h b)); ascends = λ a. a }
+same_node n m x h = record { depth = refl; prefix = refl; kids = λ b. sym (renamed-off n m (kid_at x.kids b) (h b)); ascends = λ a. a }
 
 -- n becomes m
 pub renumbered-at : (n m : ℕ) → renumbered n m n ≡ m
@@ -82,7 +92,7 @@ renumbered-at n m = let t : eqb n n ≡ true = eq-eqb n n refl in rw t refl
 pub renumbered-off : (n m j : ℕ) → j ≢ n → renumbered n m j ≡ j
 renumbered-off n m j h = let t : eqb j n ≡ false = ne_eqb j n h in rw t refl
 
-module _ (keys : ℕ → Option Bytes) (nodes mid : ℕ → Option Node) (r : Child) (n m : ℕ) (s : Shape keys nodes (Some r)) (ren : Renames nodes mid n m) where
+module _ {P : ℕ} (keys : ℕ → Option Bytes) (nodes mid : ℕ → Option Node) (r : Child) (n m : ℕ) (s : Shape P keys nodes (Some r)) (ren : Renames nodes mid n m) where
   -- a live number is no fresh one
   off_fresh : (j : ℕ) (x : Node) → nodes j ≡ Some x → j ≢ n → j ≢ m
   off_fresh j x is off e = elim (eqb_tells m n) [
@@ -121,7 +131,7 @@ module _ (keys : ℕ → Option Bytes) (nodes mid : ℕ → Option Node) (r : Ch
   root_renamed e = ap (λ (t : Child). renamed n m (Some t)) e ∙ ap (λ z. Some (Inner z)) (renumbered-at n m)
 
   -- where the root leads to the node
-  pub moved_root : r ≡ Inner n → Shape keys mid (Some (Inner m))
+  pub moved_root : r ≡ Inner n → Shape P keys mid (Some (Inner m))
   moved_root e = rooted keys mid (renamed n m (Some r)) (Some (Inner m)) (shape_moved keys nodes mid (Some r) n m s (root_moves e)) (root_renamed e)
 
   -- the fronts: m has that of n
@@ -143,6 +153,7 @@ module _ (keys : ℕ → Option Bytes) (nodes mid : ℕ → Option Node) (r : Ch
     above_same : SameNode n m x0 red.is
     above_same = record {
       depth = red.depth ∙ ap (λ (t : Node). t.depth) was_is;
+      prefix = red.prefix ∙ ap (λ (t : Node). t.prefix) was_is;
       kids = λ c. elim (eqb_tells c b) [
         | inl e ↦ ap (kid_at red.is.kids) e.1 ∙ red.now ∙ sym (ap (λ z. renamed n m (kid_at x0.kids z)) e.1 ∙ ap (renamed n m) leads ∙ ap (λ z. Some (Inner z)) (renumbered-at n m))
         | inr e ↦ red.rest c e.1 ∙ ap (λ (t : Node). kid_at t.kids c) was_is ∙ sym (renamed-off n m (kid_at x0.kids c) (λ z. e.1 (one_edge keys nodes (Some r) s p b p c n x0 x0 x0_is x0_is leads z).1))
@@ -202,7 +213,7 @@ module _ (keys : ℕ → Option Bytes) (nodes mid : ℕ → Option Node) (r : Ch
     root_stays = renamed-off n m (Some r) (λ e. no_edge_to keys nodes (Some r) s p b n x0 e x0_is leads)
 
     -- the tree where that edge leads to the new number
-    pub moved_edge : Shape keys new (Some r)
+    pub moved_edge : Shape P keys new (Some r)
     moved_edge = rooted keys new (renamed n m (Some r)) (Some r) (shape_moved keys nodes new (Some r) n m s edge_moves) root_stays
 
     -- the fronts: m has that of n
@@ -221,9 +232,9 @@ kept_mid nodes mid n m j x ren is off =
     ren.others j off far ∙ is
 
 -- the tree with a node under another number, to which the edge above leads now, and the front of each number
-pub node_moved : (keys : ℕ → Option Bytes) (nodes mid new : ℕ → Option Node) (root root' : Option Child) (n m : ℕ) (above : Option (ℕ × ℕ)) (s : Shape keys nodes root)
+pub node_moved : {P : ℕ} → (keys : ℕ → Option Bytes) (nodes mid new : ℕ → Option Node) (root root' : Option Child) (n m : ℕ) (above : Option (ℕ × ℕ)) (s : Shape P keys nodes root)
     → Renames nodes mid n m → LeadsTo nodes root above (Inner n) → TurnsTo mid new root root' above (Inner m)
-    → (s' : Shape keys new root') × ((k : ℕ) → s'.front_of k ≡ cond (eqb k m) (s.front_of n) (s.front_of k))
+    → (s' : Shape P keys new root') × ((k : ℕ) → s'.front_of k ≡ cond (eqb k m) (s.front_of n) (s.front_of k))
 node_moved keys nodes mid new root root' n m None s ren leads turns =
     let s0 = rooted keys nodes root (Some (Inner n)) s leads in
     let s1 = moved_root keys nodes mid (Inner n) n m s0 ren refl in

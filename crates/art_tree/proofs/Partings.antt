@@ -52,7 +52,7 @@ module _ (mate q : Bytes) (d : ℕ) (d_is : d ≡ length (common mate q)) where
   pub query_within : d ≤ length q
   query_within = let a : length (common mate q) ≤ length q = common-in_right mate q in omega arith
 
-module _ (keys : ℕ → Option Bytes) (nodes : ℕ → Option Node) (root : Option Child) (s : Shape keys nodes root) (i : ℕ) (mate : Bytes) (is : keys i ≡ Some mate) where
+module _ {P : ℕ} (keys : ℕ → Option Bytes) (nodes : ℕ → Option Node) (root : Option Child) (s : Shape P keys nodes root) (i : ℕ) (mate : Bytes) (is : keys i ≡ Some mate) where
   -- of two keys one begins the other only if they are one
   pub one_key : (j : ℕ) (k : Bytes) → keys j ≡ Some k → Begins k mate ⊎ Begins mate k → j ≡ i
   one_key j k e h =
@@ -135,12 +135,12 @@ no_key_alone keys q alone j e = false≢true (sym (alone j q e) ∙ related-same
 
 -- ---- the four ways to part
 
-module _ {K V : Type 0} (key_bytes : K → List ℕ) (pairs : List (Numbered K V)) (nodes : ℕ → Option Node) (root : Child) (s : Shape (keys_in key_bytes pairs) nodes (Some root)) (q : Bytes) (i d : ℕ) (mate : Bytes) (is : keys_in key_bytes pairs i ≡ Some mate) (d_is : d ≡ length (common mate q)) where
+module _ {P : ℕ} {K V : Type 0} (key_bytes : K → List ℕ) (pairs : List (Numbered K V)) (nodes : ℕ → Option Node) (root : Child) (s : Shape P (keys_in key_bytes pairs) nodes (Some root)) (q : Bytes) (i d : ℕ) (mate : Bytes) (is : keys_in key_bytes pairs i ≡ Some mate) (d_is : d ≡ length (common mate q)) where
   abbrev keys : ℕ → Option Bytes
   keys = keys_in key_bytes pairs
 
   -- a way down by the mate may go as far as both go along
-  pub way_of_mate : IsWayOf nodes root mate d
+  pub way_of_mate : IsWayOf P nodes root mate d
   way_of_mate = record { keys = keys; shape = s; leaf = i; is = is; within = mate_within mate q d d_is }
 
   -- they are the same
@@ -187,7 +187,7 @@ module _ {K V : Type 0} (key_bytes : K → List ℕ) (pairs : List (Numbered K V
       go (spot.Edge above c) f = edge above c f.0 f.1 (covers_above keys nodes (Some root) s above c f.0.leads)
 
   -- q ends
-  pub parts_longer : d ≡ length q → d ≢ length mate → (sp : Spot) → SpotFits nodes (Some root) s.front_of mate d sp → (c : Child) → c ≡ child_at sp → QueryEnds key_bytes pairs nodes c q
+  pub parts_longer : d ≡ length q → d ≢ length mate → (sp : Spot) → SpotFits nodes (Some root) s.front_of mate d sp → (c : Child) → c ≡ child_at sp → QueryEnds key_bytes P pairs nodes c q
   parts_longer a ne sp fits c e = record {
     root = Some root;
     shape = s;
@@ -200,7 +200,7 @@ module _ {K V : Type 0} (key_bytes : K → List ℕ) (pairs : List (Numbered K V
   }
 
   -- both go on
-  pub parts_apart : IsContent (bytes key_bytes) pairs → AreDistinct pairs → IsMate keys q i → d ≢ length q → d ≢ length mate → (sp : Spot) → SpotFits nodes (Some root) s.front_of mate d sp → LeavesAt key_bytes pairs nodes (record { mate = i; depth = d; byte = get_or mate d 0; spot = sp }) q
+  pub parts_apart : IsContent (bytes key_bytes) pairs → AreDistinct pairs → IsMate keys q i → d ≢ length q → d ≢ length mate → (sp : Spot) → SpotFits nodes (Some root) s.front_of mate d sp → LeavesAt key_bytes P pairs nodes (record { mate = i; depth = d; byte = get_or mate d 0; spot = sp }) q
   parts_apart content distinct best nq nm sp fits =
       let same : best.key ≡ mate = (let e : keys i ≡ Some best.key = best.is in cc) in
       let furthest : (j : ℕ) (k : Bytes) → keys j ≡ Some k → length (common k q) ≤ length (common mate q) = λ j k e. subst (λ (z : Bytes). length (common k q) ≤ length (common z q)) same (best.best j k e) in

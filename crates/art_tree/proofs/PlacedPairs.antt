@@ -9,10 +9,9 @@ use Rattle.art_tree.specs.Joins.{Joins, Joined, Places}
 use Rattle.art_tree.specs.Leaves.{Leaves, Numbered, leaf_in, Has, AreDistinct, placed_behind, bytes, keys_in}
 use Rattle.art_tree.specs.Nodes.{Nodes, Node, at}
 use Rattle.art_tree.specs.Points.{IsFree}
-use Rattle.art_tree.specs.Prefixes.{KeepPrefixes, JoinedKeep}
 use Rattle.art_tree.specs.Shape.{Shape}
 use Rattle.art_tree.specs.Spots.{SpotFits}
-use Rattle.art_tree.specs.Whole.{IsSound, IsWhole}
+use Rattle.art_tree.specs.Whole.{IsSound}
 use Rattle.art_tree.specs.declared.descent.Spot.{Spot}
 use Rattle.art_tree.specs.declared.point.Place.{Place}
 use Rattle.art_tree.specs.declared.records.ids.Child.{Child}
@@ -25,10 +24,10 @@ use Rattle.art_tree.proofs.Neighbours.{placed_put}
 use Rattle.blart_keys.proofs.Options.{is_some}
 use Rattle.art_tree.proofs.PairLemmas.{pair_of_key}
 use Rattle.art_tree.proofs.SameShapes.{rooted}
-use Rattle.art_tree.proofs.SmallShapes.{first_key, no_nodes}
+use Rattle.art_tree.proofs.SmallShapes.{first_key}
 
 -- a tree with no key has no root
-pub no_root : (keys : ℕ → Option Bytes) (nodes : ℕ → Option Node) (root : Option Child) → Shape keys nodes root → ((j : ℕ) → keys j ≡ None) → root ≡ None
+pub no_root : {P : ℕ} → (keys : ℕ → Option Bytes) (nodes : ℕ → Option Node) (root : Option Child) → Shape P keys nodes root → ((j : ℕ) → keys j ≡ None) → root ≡ None
 no_root keys nodes None s none = refl
 no_root keys nodes (Some c) s none =
     let k = some_key keys nodes (Some c) s [] c s.top in
@@ -67,27 +66,17 @@ module _ {K V : Type 0} (key_bytes : K → Bytes) where
   places_gain old new i x p = gains_from key_bytes old new i p.others x p.fresh p.now
 
   -- the first pair makes a tree of one leaf
-  pub first_sound : (leaves leaves' : Leaves K V) (nodes : Nodes) (root : Option Child) (i : ℕ) (x : K × V) → IsSound key_bytes leaves nodes root → leaves.pairs ≡ [] → Places key_bytes leaves.pairs leaves'.pairs i x → IsSound key_bytes leaves' nodes (Some (Leaf i))
+  pub first_sound : {P : ℕ} → (leaves leaves' : Leaves K V) (nodes : Nodes) (root : Option Child) (i : ℕ) (x : K × V) → IsSound key_bytes P leaves nodes root → leaves.pairs ≡ [] → Places key_bytes leaves.pairs leaves'.pairs i x → IsSound key_bytes P leaves' nodes (Some (Leaf i))
   first_sound leaves leaves' nodes root i x sound empty p =
       let none : (j : ℕ) → keys_in key_bytes leaves.pairs j ≡ None = λ j. ap (λ (ps : List (Numbered K V)). keys_in key_bytes ps j) empty in
-      let s : Shape (keys_in key_bytes leaves.pairs) (at nodes) None = rooted (keys_in key_bytes leaves.pairs) (at nodes) root None sound.shape (no_root (keys_in key_bytes leaves.pairs) (at nodes) root sound.shape none) in
+      let s : Shape _ (keys_in key_bytes leaves.pairs) (at nodes) None = rooted (keys_in key_bytes leaves.pairs) (at nodes) root None sound.shape (no_root (keys_in key_bytes leaves.pairs) (at nodes) root sound.shape none) in
       record {
         content = p.put.content;
         shape = first_key (keys_in key_bytes leaves.pairs) (keys_in key_bytes leaves'.pairs) (at nodes) i (key_bytes x.0) s (places_gain leaves.pairs leaves'.pairs i x p);
       }
 
-  -- and there is no node in it
-  pub first_whole : (P : ℕ) (leaves leaves' : Leaves K V) (nodes : Nodes) (root : Option Child) (i : ℕ) (x : K × V) → IsSound key_bytes leaves nodes root → leaves.pairs ≡ [] → Places key_bytes leaves.pairs leaves'.pairs i x → IsWhole key_bytes P leaves' nodes (Some (Leaf i))
-  first_whole P leaves leaves' nodes root i x sound empty p =
-      let none : (j : ℕ) → keys_in key_bytes leaves.pairs j ≡ None = λ j. ap (λ (ps : List (Numbered K V)). keys_in key_bytes ps j) empty in
-      let s : Shape (keys_in key_bytes leaves.pairs) (at nodes) None = rooted (keys_in key_bytes leaves.pairs) (at nodes) root None sound.shape (no_root (keys_in key_bytes leaves.pairs) (at nodes) root sound.shape none) in
-      record {
-        sound = first_sound leaves leaves' nodes root i x sound empty p;
-        prefixes = λ n x is. (let h : at nodes n ≡ None = no_nodes (keys_in key_bytes leaves.pairs) (at nodes) s n in absurd cc);
-      }
-
   -- a pair at a free place
-  pub placed_free : (leaves : Leaves K V) (nodes : Nodes) (root : Option Child) (place : Place) (new : List (Numbered K V)) (i : ℕ) (x : K × V) → IsSound key_bytes leaves nodes root → AreDistinct leaves.pairs → IsFree key_bytes leaves.pairs place (key_bytes x.0)
+  pub placed_free : {P : ℕ} → (leaves : Leaves K V) (nodes : Nodes) (root : Option Child) (place : Place) (new : List (Numbered K V)) (i : ℕ) (x : K × V) → IsSound key_bytes P leaves nodes root → AreDistinct leaves.pairs → IsFree key_bytes leaves.pairs place (key_bytes x.0)
       → leaf_in leaves.pairs i ≡ None → new ≡ placed_behind place.prev (i, x) leaves.pairs → Places key_bytes leaves.pairs new i x
   placed_free leaves nodes root place new i x sound distinct free fresh is =
       placed_pairs leaves.pairs new (key_bytes x.0) place.prev i x sound.content distinct
@@ -100,7 +89,7 @@ module _ {K V : Type 0} (key_bytes : K → Bytes) where
         let off : j ≢ i = λ z. (let a : leaf_in old i ≡ Some y = ap (leaf_in old) (sym z) ∙ e in let b : leaf_in old i ≡ None = p.fresh in absurd cc) in
         p.others j off ∙ e
 
-    module _ (nodes : ℕ → Option Node) (root : Child) (s : Shape (keys_in key_bytes old) nodes (Some root)) (place : Place) (free : IsFree key_bytes old place (key_bytes x.0)) (y y' z : K × V)
+    module _ {P : ℕ} (nodes : ℕ → Option Node) (root : Child) (s : Shape P (keys_in key_bytes old) nodes (Some root)) (place : Place) (free : IsFree key_bytes old place (key_bytes x.0)) (y y' z : K × V)
         (mate_was : leaf_in old place.mate ≡ Some y) (mate_is : leaf_in new place.mate ≡ Some y') (own_is : leaf_in new i ≡ Some z) (k m m' : Bytes) (k_is : k ≡ key_bytes z.0) (m_is : m ≡ key_bytes y.0) (m'_is : m' ≡ key_bytes y'.0)
         (spot : Spot) (found : (j : ℕ) → keys_in key_bytes old j ≡ Some m → SpotFits nodes (Some root) s.front_of m place.depth spot) where
       own_key : k ≡ key_bytes x.0
@@ -125,7 +114,7 @@ module _ {K V : Type 0} (key_bytes : K → Bytes) where
       fits = subst (λ (m : Bytes). SpotFits nodes (Some root) s.front_of m place.depth spot) (sym same_mate) (found place.mate mate_key)
 
       -- a key at a free place leaves the mate at the spot that was found
-      pub free_joins : Joins nodes root spot k m' place.depth
+      pub free_joins : Joins P nodes root spot k m' place.depth
       free_joins = record {
         keys = keys_in key_bytes old;
         shape = s;
@@ -136,14 +125,7 @@ module _ {K V : Type 0} (key_bytes : K → Bytes) where
       }
 
       -- and the tree has it when it was added there
-      pub free_joined : (nodes' : ℕ → Option Node) (root' : Child) → Joined nodes nodes' root root' spot k m' place.depth i → Shape (keys_in key_bytes new) nodes' (Some root')
+      pub free_joined : (nodes' : ℕ → Option Node) (root' : Child) → Joined P nodes nodes' root root' spot k m' place.depth i → Shape P (keys_in key_bytes new) nodes' (Some root')
       free_joined nodes' root' joined =
           joined (keys_in key_bytes old) (keys_in key_bytes new) s place.mate (mate_key ∙ ap Some (sym same_mate)) leaves fits
           (subst (λ (k : Bytes). Gains (keys_in key_bytes old) (keys_in key_bytes new) i k) (sym own_key) (places_gain old new i x p))
-
-      -- where the nodes keep their prefixes
-      pub free_keep : (P : ℕ) (nodes' : ℕ → Option Node) (root' : Child) → JoinedKeep P nodes nodes' root root' spot k m' place.depth i → KeepPrefixes P nodes (Some root) s.front_of
-          → (s' : Shape (keys_in key_bytes new) nodes' (Some root')) → KeepPrefixes P nodes' (Some root') s'.front_of
-      free_keep P nodes' root' joined kept s' =
-          joined (keys_in key_bytes old) (keys_in key_bytes new) s place.mate (mate_key ∙ ap Some (sym same_mate)) leaves fits
-          (subst (λ (k : Bytes). Gains (keys_in key_bytes old) (keys_in key_bytes new) i k) (sym own_key) (places_gain old new i x p)) s kept s'

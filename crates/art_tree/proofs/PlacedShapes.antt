@@ -1,20 +1,21 @@
 -- A leaf placed where its key leaves a mate.
-use Rattle.std.proofs.Common.{◌≡◌, ◌≢◌, ℕ, ◌<◌, List, [], ◌∷◌, ◌++◌, length, take, get_or, refl, ap, arith, sym, subst, Option, Some, ◌∙◌, eqb, eq-eqb, true, cond}
+use Rattle.std.proofs.Common.{◌≡◌, ◌≢◌, ℕ, ◌<◌, List, [], ◌∷◌, ◌++◌, length, take, drop, get_or, refl, ap, arith, sym, subst, Option, Some, ◌∙◌, eqb, eq-eqb, true}
 use Rattle.std.proofs.lemmas.List.{length-take-le}
 use Rattle.art_tree.specs.Above.{LeadsTo, TurnsTo, edge_front}
 use Rattle.art_tree.specs.Begins.{Bytes, Begins, next_byte}
 use Rattle.art_tree.specs.Good.{LeavesMate}
 use Rattle.art_tree.specs.Nodes.{Node, Makes, Renames, AddsEdgeTo}
+use Rattle.art_tree.specs.Removals.{CutsBehind}
 use Rattle.art_tree.specs.Shape.{Shape}
 use Rattle.art_tree.specs.Spots.{PastLength, EdgeFits}
 use Rattle.art_tree.specs.declared.records.ids.Child.{Child}
 use Rattle.art_tree.specs.declared.records.ids.Child.TheVariants.{Leaf, Inner}
 use Rattle.art_tree.specs.declared.records.ids.Edge.{Edge}
 use Rattle.art_tree.proofs.BeginsLemmas.{Begins-more}
-use Rattle.art_tree.proofs.Growing.{Departs, Gains, leaf_added, leaf_added-front}
+use Rattle.art_tree.proofs.Growing.{Departs, Gains, leaf_added}
 use Rattle.art_tree.proofs.KeyChanges.{departs_at, next_at, mate_next_at}
 use Rattle.art_tree.proofs.OneEdge.{node_moved}
-use Rattle.art_tree.proofs.Splitting.{HoldBoth, edge_split, edge_split-front}
+use Rattle.art_tree.proofs.Splitting.{HoldBoth, edge_split}
 
 module _ (keys : ℕ → Option Bytes) (mate depth : ℕ) (q : Bytes) (good : LeavesMate keys mate depth q) (m : Bytes) (m_is : keys mate ≡ Some m) where
   mate_same : m ≡ good.mate_key
@@ -38,7 +39,7 @@ module _ (keys : ℕ → Option Bytes) (mate depth : ℕ) (q : Bytes) (good : Le
       d.alone mate good.mate_key good.mate_is (subst (λ (b : ℕ). Begins (take depth q ++ b ∷ []) good.mate_key) c (Begins-more (take depth q) good.mate_key d.mate_front d.mate_longer))
 
   module _ (keys' : ℕ → Option Bytes) (i : ℕ) (gains : Gains keys keys' i q) where
-    module _ (nodes : ℕ → Option Node) (root : Option Child) (s : Shape keys nodes root) (n : ℕ) (stands : s.front_of n ≡ take depth m) where
+    module _ {P : ℕ} (nodes : ℕ → Option Node) (root : Option Child) (s : Shape P keys nodes root) (n : ℕ) (stands : s.front_of n ≡ take depth m) where
       departs_here : Departs keys (s.front_of n) q
       departs_here = subst (λ (t : Bytes). Departs keys t q) (sym (stands ∙ along_key)) (departs_at keys mate depth q good)
 
@@ -46,45 +47,30 @@ module _ (keys : ℕ → Option Bytes) (mate depth : ℕ) (q : Bytes) (good : Le
       next_here = sym (next_at keys mate depth q good) ∙ ap (λ (t : Bytes). next_byte t q) (sym (stands ∙ along_key))
 
       -- the leaf at the node
-      pub placed_node : (nodes' : ℕ → Option Node) → AddsEdgeTo nodes nodes' n (get_or q depth 0) (Leaf i) → Shape keys' nodes' root
+      pub placed_node : (nodes' : ℕ → Option Node) → AddsEdgeTo nodes nodes' n (get_or q depth 0) (Leaf i) → Shape P keys' nodes' root
       placed_node nodes' adds = leaf_added keys keys' nodes nodes' root n (get_or q depth 0) i q s gains departs_here next_here adds
 
     -- the leaf at a node that went to another number first
-    pub placed_wide : (nodes mid wide nodes' : ℕ → Option Node) (root root' : Option Child) (n n' : ℕ) (above : Option (ℕ × ℕ)) (s : Shape keys nodes root) → s.front_of n ≡ take depth m
-        → Renames nodes mid n n' → LeadsTo nodes root above (Inner n) → TurnsTo mid wide root root' above (Inner n') → AddsEdgeTo wide nodes' n' (get_or q depth 0) (Leaf i) → Shape keys' nodes' root'
+    pub placed_wide : {P : ℕ} → (nodes mid wide nodes' : ℕ → Option Node) (root root' : Option Child) (n n' : ℕ) (above : Option (ℕ × ℕ)) (s : Shape P keys nodes root) → s.front_of n ≡ take depth m
+        → Renames nodes mid n n' → LeadsTo nodes root above (Inner n) → TurnsTo mid wide root root' above (Inner n') → AddsEdgeTo wide nodes' n' (get_or q depth 0) (Leaf i) → Shape P keys' nodes' root'
     placed_wide nodes mid wide nodes' root root' n n' above s stands ren leads turns adds =
         let w = node_moved keys nodes mid wide root root' n n' above s ren leads turns in
         let e : eqb n' n' ≡ true = eq-eqb n' n' refl in
         let f : w.0.front_of n' ≡ s.front_of n = w.1 n' ∙ rw e refl in
         placed_node wide root' w.0 n' (f ∙ stands) nodes' adds
 
-    -- the fronts stand, and the other number has that of the node
-    pub placed_wide-front : (nodes mid wide nodes' : ℕ → Option Node) (root root' : Option Child) (n n' : ℕ) (above : Option (ℕ × ℕ)) (s : Shape keys nodes root) (stands : s.front_of n ≡ take depth m)
-        (ren : Renames nodes mid n n') (leads : LeadsTo nodes root above (Inner n)) (turns : TurnsTo mid wide root root' above (Inner n')) (adds : AddsEdgeTo wide nodes' n' (get_or q depth 0) (Leaf i)) (k : ℕ)
-        → (placed_wide nodes mid wide nodes' root root' n n' above s stands ren leads turns adds).front_of k ≡ cond (eqb k n') (s.front_of n) (s.front_of k)
-    unfolding placed_wide placed_node
-    placed_wide-front nodes mid wide nodes' root root' n n' above s stands ren leads turns adds k =
-        let w = node_moved keys nodes mid wide root root' n n' above s ren leads turns in
-        leaf_added-front keys keys' wide nodes' root' n' (get_or q depth 0) i q w.0 gains _ _ adds k ∙ w.1 k
-
     -- the leaf at an edge, under a new node
-    pub placed_edge : (nodes mid new : ℕ → Option Node) (root root' : Option Child) (above : Option (ℕ × ℕ)) (c : Child) (n : ℕ) (prefix : List ℕ) (low high : Edge) (s : Shape keys nodes root)
-        → EdgeFits nodes root s.front_of m depth above c → PastLength s.front_of depth c → Makes nodes mid n depth prefix low high → low.byte < high.byte → HoldBoth low high (get_or q depth 0) i (get_or m depth 0) c
-        → TurnsTo mid new root root' above (Inner n) → Shape keys' new root'
-    placed_edge nodes mid new root root' above c n prefix low high s fit past makes sorted both turns =
+    pub placed_edge : {P : ℕ} → (nodes cut mid new : ℕ → Option Node) (root root' : Option Child) (above : Option (ℕ × ℕ)) (c : Child) (n : ℕ) (prefix : List ℕ) (low high : Edge) (s : Shape P keys nodes root)
+        → EdgeFits nodes root s.front_of m depth above c → PastLength s.front_of depth c → CutsBehind P nodes cut s.front_of (take depth m ++ get_or m depth 0 ∷ []) c → Makes cut mid n depth prefix low high
+        → prefix ≡ take P (drop (length (edge_front s.front_of above)) (take depth q)) → low.byte < high.byte → HoldBoth low high (get_or q depth 0) i (get_or m depth 0) c → TurnsTo mid new root root' above (Inner n) → Shape P keys' new root'
+    placed_edge {P} nodes cut mid new root root' above c n prefix low high s fit past cuts makes prefix_is sorted both turns =
+        let t : Bytes = take depth q in
         let d : Departs keys (take depth q) q = departs_at keys mate depth q good in
         let lt : depth < length q = good.longer in
         let deep : depth ≡ length (take depth q) = sym (length-take-le depth q (omega arith)) in
         let bk : get_or q depth 0 ≡ next_byte (take depth q) q = sym (next_at keys mate depth q good) in
         let bc : get_or m depth 0 ≡ next_byte (take depth q) good.mate_key = ap (λ (m : Bytes). get_or m depth 0) mate_same ∙ sym (mate_next_at keys mate depth q good) in
         let both' : HoldBoth low high (next_byte (take depth q) q) i (next_byte (take depth q) good.mate_key) c = subst (λ (b : ℕ). HoldBoth low high (next_byte (take depth q) q) i b c) bc (subst (λ (b : ℕ). HoldBoth low high b i (get_or m depth 0) c) bk both) in
-        edge_split keys keys' nodes mid root n i depth prefix low high c (take depth q) q s gains d makes deep sorted both'
-        (subst (λ (n : ℕ). PastLength s.front_of n c) deep past) above new root' fit.leads (subst (λ (t : Bytes). Begins (edge_front s.front_of above) t) along_key fit.along) turns
-
-    -- the fronts stand, and the new node has the key's first bytes
-    pub placed_edge-front : (nodes mid new : ℕ → Option Node) (root root' : Option Child) (above : Option (ℕ × ℕ)) (c : Child) (n : ℕ) (prefix : List ℕ) (low high : Edge) (s : Shape keys nodes root)
-        (fit : EdgeFits nodes root s.front_of m depth above c) (past : PastLength s.front_of depth c) (makes : Makes nodes mid n depth prefix low high) (sorted : low.byte < high.byte) (both : HoldBoth low high (get_or q depth 0) i (get_or m depth 0) c)
-        (turns : TurnsTo mid new root root' above (Inner n)) (k : ℕ) → (placed_edge nodes mid new root root' above c n prefix low high s fit past makes sorted both turns).front_of k ≡ cond (eqb k n) (take depth q) (s.front_of k)
-    unfolding placed_edge
-    placed_edge-front nodes mid new root root' above c n prefix low high s fit past makes sorted both turns k =
-        edge_split-front keys keys' nodes mid root n i depth prefix low high c (take depth q) q s gains (departs_at keys mate depth q good) makes _ sorted _ _ above new root' fit.leads _ turns k
+        let cuts' : CutsBehind P nodes cut s.front_of (take depth q ++ next_byte (take depth q) good.mate_key ∷ []) c = subst (λ (b : ℕ). CutsBehind P nodes cut s.front_of (take depth q ++ b ∷ []) c) bc (subst (λ (t : Bytes). CutsBehind P nodes cut s.front_of (t ++ get_or m depth 0 ∷ []) c) along_key cuts) in
+        edge_split keys keys' nodes cut mid root n i depth prefix low high c (take depth q) q s gains d cuts' makes deep sorted both' above new root' fit.leads turns prefix_is
+        (subst (λ (n : ℕ). PastLength s.front_of n c) deep past) (subst (λ (t : Bytes). Begins (edge_front s.front_of above) t) along_key fit.along)

@@ -22,7 +22,7 @@ module _ {K V : Type 0} (key_bytes : K → List ℕ) (pairs : List (Numbered K V
   exact i is = (pair key_bytes pairs content distinct i q is, at_key key_bytes pairs content distinct q i is)
 
   -- a key begins the query
-  pub shorter_related : (root : Option Child) → Shape (keys_in key_bytes pairs) nodes root → (i : ℕ) → KeyEnds (keys_in key_bytes pairs) i q → IsGood key_bytes pairs (Related i i) q
+  pub shorter_related : {P : ℕ} → (root : Option Child) → Shape P (keys_in key_bytes pairs) nodes root → (i : ℕ) → KeyEnds (keys_in key_bytes pairs) i q → IsGood key_bytes pairs (Related i i) q
   shorter_related root s i k =
       let rel : related k.key q ≡ true = related-from_front k.key q k.begins in
       let l : length k.key < length q = k.shorter in
@@ -33,7 +33,7 @@ module _ {K V : Type 0} (key_bytes : K → List ℕ) (pairs : List (Numbered K V
       )
 
   -- the query begins keys: those are related to it, and no others
-  pub longer_related : (c : Child) (m : QueryEnds key_bytes pairs nodes c q) (first last : ℕ) → IsEndUnder (keys_in key_bytes pairs) true q first → IsEndUnder (keys_in key_bytes pairs) false q last → IsGood key_bytes pairs (Related first last) q
+  pub longer_related : {P : ℕ} → (c : Child) (m : QueryEnds key_bytes P pairs nodes c q) (first last : ℕ) → IsEndUnder (keys_in key_bytes pairs) true q first → IsEndUnder (keys_in key_bytes pairs) false q last → IsGood key_bytes pairs (Related first last) q
   longer_related c m first last a b =
       let starts = related_begun (keys_in key_bytes pairs) nodes m.root m.shape m.leaf m.key m.is q m.begun in
       let l : length q < length m.key = m.longer in (

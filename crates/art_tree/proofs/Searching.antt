@@ -27,7 +27,7 @@ module _ (keys : ℕ → Option Bytes) (q : Bytes) where
   pub absent : NoFront keys q → IsAbsent
   absent h j e = h j q e (Begins-itself q)
 
-  module _ (nodes : ℕ → Option Node) (root : Option Child) (s : Shape keys nodes root) where
+  module _ {P : ℕ} (nodes : ℕ → Option Node) (root : Option Child) (s : Shape P keys nodes root) where
     -- with no root there is no key
     pub root_none : root ≡ None → NoFront keys q
     root_none is j k e b =

@@ -71,7 +71,7 @@ module _ (keys : ℕ → Option Bytes) (q : Bytes) where
         | inr (inr l) ↦ l
       ]
 
-  module _ (nodes : ℕ → Option Node) (root : Option Child) (s : Shape keys nodes root) (i : ℕ) (m : Bytes) (is : keys i ≡ Some m) where
+  module _ {P : ℕ} (nodes : ℕ → Option Node) (root : Option Child) (s : Shape P keys nodes root) (i : ℕ) (m : Bytes) (is : keys i ≡ Some m) where
     -- a key that begins q, and is shorter, is the last before q
     pub last_front : Begins m q → length m < length q → LastBefore keys q i
     last_front b lt = record {
@@ -267,13 +267,13 @@ module _ {K V : Type 0} (key_bytes : K → Bytes) (pairs : List (Numbered K V)) 
 
   module _ (nodes : ℕ → Option Node) (q : Bytes) where
     -- a key is q: no other begins with it
-    pub span_same : (root : Option Child) → Shape keys nodes root → (i : ℕ) → keys i ≡ Some q → ends (under (bytes key_bytes) pairs q) ≡ Some (i, i)
+    pub span_same : {P : ℕ} → (root : Option Child) → Shape P keys nodes root → (i : ℕ) → keys i ≡ Some q → ends (under (bytes key_bytes) pairs q) ≡ Some (i, i)
     span_same root s i is =
         let only : (j : ℕ) (k : Bytes) → keys j ≡ Some k → Begins q k → j ≡ i = λ j k e b. one_key keys nodes root s i q is j k e (inr b) in
         ends_under q i i (record { key = q; is = is; front = Begins-itself q; end = λ j k e b. inl (only j k e b) }) (record { key = q; is = is; front = Begins-itself q; end = λ j k e b. inl (only j k e b) })
 
     -- a key begins q, and is shorter: none begins with q
-    pub span_shorter : (root : Option Child) → Shape keys nodes root → (i : ℕ) → KeyEnds keys i q → ends (under (bytes key_bytes) pairs q) ≡ None
+    pub span_shorter : {P : ℕ} → (root : Option Child) → Shape P keys nodes root → (i : ℕ) → KeyEnds keys i q → ends (under (bytes key_bytes) pairs q) ≡ None
     span_shorter root s i m = no_ends q (λ j k e b.
         (let same : j ≡ i = one_key keys nodes root s i m.key m.is j k e (inr (Begins-trans m.key q k m.begins b)) in
         let own : keys i ≡ Some m.key = m.is in
@@ -284,21 +284,21 @@ module _ {K V : Type 0} (key_bytes : K → Bytes) (pairs : List (Numbered K V)) 
         omega arith))
 
     -- no key is related to q
-    pub span_apart : (d : Departure) → LeavesAt key_bytes pairs nodes d q → ends (under (bytes key_bytes) pairs q) ≡ None
+    pub span_apart : {P : ℕ} → (d : Departure) → LeavesAt key_bytes P pairs nodes d q → ends (under (bytes key_bytes) pairs q) ≡ None
     span_apart d l = no_ends q (λ j k e b. false≢true (sym (l.apart.alone j k e) ∙ related-from_begun k q b))
 
     -- the leaf before q, and that no key is q, where a key begins q
-    pub place_shorter : (root : Option Child) → Shape keys nodes root → (i : ℕ) → KeyEnds keys i q → StandsAt keys q (Err (Some i))
+    pub place_shorter : {P : ℕ} → (root : Option Child) → Shape P keys nodes root → (i : ℕ) → KeyEnds keys i q → StandsAt keys q (Err (Some i))
     place_shorter root s i m =
         let l : length m.key < length q = m.shorter in
         (last_front keys q nodes root s i m.key m.is m.begins l, no_key keys nodes root s i m.key m.is q (inl m.begins) (omega arith))
 
     -- where q begins keys
-    pub place_longer : (c : Child) → QueryEnds key_bytes pairs nodes c q → (first : ℕ) → IsEndUnder keys true q first → (o : Option ℕ) → o ≡ number_before pairs first → StandsAt keys q (Err o)
+    pub place_longer : {P : ℕ} → (c : Child) → QueryEnds key_bytes P pairs nodes c q → (first : ℕ) → IsEndUnder keys true q first → (o : Option ℕ) → o ≡ number_before pairs first → StandsAt keys q (Err o)
     place_longer c m first u o e =
         let l : length q < length m.key = m.longer in
         (subst (λ (o : Option ℕ). StandsBehind keys q o) (sym e) (behind_from key_bytes pairs content distinct q first (least_from keys q first u)), no_key keys nodes m.root m.shape m.leaf m.key m.is q (inr m.begun) (omega arith))
 
     -- and where no key is related to q
-    pub place_apart : (d : Departure) → LeavesAt key_bytes pairs nodes d q → (o : Option ℕ) → StandsBehind keys q o → StandsAt keys q (Err o)
+    pub place_apart : {P : ℕ} → (d : Departure) → LeavesAt key_bytes P pairs nodes d q → (o : Option ℕ) → StandsBehind keys q o → StandsAt keys q (Err o)
     place_apart d l o h = (h, no_key_alone keys q l.apart.alone)

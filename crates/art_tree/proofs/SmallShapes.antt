@@ -14,26 +14,28 @@ use Rattle.art_tree.specs.declared.records.ids.Child.{Child}
 use Rattle.art_tree.specs.declared.records.ids.Child.TheVariants.{Leaf}
 
 module _ (keys : ℕ → Option Bytes) (nodes : ℕ → Option Node) (bare : (n : ℕ) → nodes n ≡ None) where
-  pub shape_empty : ((j : ℕ) → keys j ≡ None) → Shape keys nodes None
+  pub shape_empty : {P : ℕ} → ((j : ℕ) → keys j ≡ None) → Shape P keys nodes None
   shape_empty none = record {
     front_of = λ n. [];
     top = none;
     node = λ n x e. (let f : nodes n ≡ None = bare n in absurd cc);
     joined = λ i j k l a b off. (let f : keys i ≡ None = none i in absurd cc);
     apart = λ n m a b e. absurd (not_some (nodes n) (bare n) a);
+    keeps = λ a n x l e. (let f : nodes n ≡ None = bare n in absurd cc);
   }
 
   -- one key and no node
-  pub shape_one : (i : ℕ) (k : Bytes) → keys i ≡ Some k → ((j : ℕ) (l : Bytes) → keys j ≡ Some l → j ≡ i) → Shape keys nodes (Some (Leaf i))
+  pub shape_one : {P : ℕ} → (i : ℕ) (k : Bytes) → keys i ≡ Some k → ((j : ℕ) (l : Bytes) → keys j ≡ Some l → j ≡ i) → Shape P keys nodes (Some (Leaf i))
   shape_one i k is only = record {
     front_of = λ n. [];
     top = record { key = k; is = is; front = tt; only = λ j l e b. only j l e };
     node = λ n x e. (let f : nodes n ≡ None = bare n in absurd cc);
     joined = λ a b x y ax by off. absurd (off (let f : a ≡ i = only a x ax in let g : b ≡ i = only b y by in cc));
     apart = λ n m a b e. absurd (not_some (nodes n) (bare n) a);
+    keeps = λ a n x l e. (let f : nodes n ≡ None = bare n in absurd cc);
   }
 
-module _ (keys : ℕ → Option Bytes) (nodes : ℕ → Option Node) (root : Option Child) (s : Shape keys nodes root) where
+module _ {P : ℕ} (keys : ℕ → Option Bytes) (nodes : ℕ → Option Node) (root : Option Child) (s : Shape P keys nodes root) where
   -- no stored key begins another
   pub unrelated : (i j : ℕ) (k l : Bytes) → keys i ≡ Some k → keys j ≡ Some l → i ≢ j → Begins k l → ⊥
   unrelated i j k l a b off h =
@@ -56,7 +58,7 @@ module _ (keys : ℕ → Option Bytes) (nodes : ℕ → Option Node) (root : Opt
       ]
 
 -- a tree with no key has no node
-pub no_nodes : (keys : ℕ → Option Bytes) (nodes : ℕ → Option Node) → Shape keys nodes None → (n : ℕ) → nodes n ≡ None
+pub no_nodes : {P : ℕ} → (keys : ℕ → Option Bytes) (nodes : ℕ → Option Node) → Shape P keys nodes None → (n : ℕ) → nodes n ≡ None
 no_nodes keys nodes s n = none_of (nodes n) (λ h.
     let x = some_of (nodes n) h in
     let p = (s.node n x.0 x.1).parts in
@@ -65,19 +67,19 @@ no_nodes keys nodes s n = none_of (nodes n) (λ h.
     cc)
 
 -- a tree whose root is a leaf has no node
-pub leaf_alone : (keys : ℕ → Option Bytes) (nodes : ℕ → Option Node) (i : ℕ) → Shape keys nodes (Some (Leaf i)) → (n : ℕ) → nodes n ≡ None
+pub leaf_alone : {P : ℕ} → (keys : ℕ → Option Bytes) (nodes : ℕ → Option Node) (i : ℕ) → Shape P keys nodes (Some (Leaf i)) → (n : ℕ) → nodes n ≡ None
 leaf_alone keys nodes i s n = none_of (nodes n) (λ h.
     let x = some_of (nodes n) h in
     let p = (s.node n x.0 x.1).parts in
     Parts-two keys (s.front_of n) p i (s.top.only p.i p.k p.k_is tt) (s.top.only p.j p.l p.l_is tt))
 
 -- the first key: its leaf is the root
-pub first_key : (keys keys' : ℕ → Option Bytes) (nodes : ℕ → Option Node) (i : ℕ) (k : Bytes) → Shape keys nodes None → Gains keys keys' i k → Shape keys' nodes (Some (Leaf i))
+pub first_key : {P : ℕ} → (keys keys' : ℕ → Option Bytes) (nodes : ℕ → Option Node) (i : ℕ) (k : Bytes) → Shape P keys nodes None → Gains keys keys' i k → Shape P keys' nodes (Some (Leaf i))
 first_key keys keys' nodes i k s g = shape_one keys' nodes (no_nodes keys nodes s) i k g.has
     (λ j l e. elim (kept_cases keys keys' i k g j l e) [ inl o ↦ (let f : keys j ≡ None = s.top j in absurd cc) | inr o ↦ o.0 ])
 
 -- the last key goes: nothing is left
-pub last_key : (keys keys' : ℕ → Option Bytes) (nodes : ℕ → Option Node) (i : ℕ) (k : Bytes) → Shape keys nodes (Some (Leaf i)) → Loses keys keys' i k → Shape keys' nodes None
+pub last_key : {P : ℕ} → (keys keys' : ℕ → Option Bytes) (nodes : ℕ → Option Node) (i : ℕ) (k : Bytes) → Shape P keys nodes (Some (Leaf i)) → Loses keys keys' i k → Shape P keys' nodes None
 last_key keys keys' nodes i k s g = shape_empty keys' nodes (leaf_alone keys nodes i s) gone
   where
     gone_at : (j : ℕ) (o : Option Bytes) → keys' j ≡ o → keys' j ≡ None

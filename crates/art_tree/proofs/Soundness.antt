@@ -8,46 +8,30 @@ use Rattle.art_tree.specs.Leaves.{Numbered, Leaves, keys_in, bytes}
 use Rattle.art_tree.specs.Longest.{longest}
 use Rattle.art_tree.specs.Nodes.{Nodes, Node, at, SameNodes}
 use Rattle.art_tree.specs.Shape.{Shape}
-use Rattle.art_tree.specs.Whole.{IsSound, IsWhole}
+use Rattle.art_tree.specs.Whole.{IsSound}
 use Rattle.art_tree.specs.declared.records.ids.Child.{Child}
 use Rattle.art_tree.proofs.PairLemmas.{member_of_key}
-use Rattle.art_tree.proofs.Prefixes.{keep_through}
-use Rattle.art_tree.proofs.SameShapes.{renoded}
+use Rattle.art_tree.proofs.SameShapes.{renoded, rekeyed}
 use Rattle.art_tree.proofs.SmallShapes.{shape_empty}
 
 module _ {K V : Type 0} (key_bytes : K → List ℕ) where
   -- the same pairs and nodes are sound too
-  pub sound_same : (leaves leaves' : Leaves K V) (nodes nodes' : Nodes) (root : Option Child) → IsSound key_bytes leaves nodes root → leaves'.pairs ≡ leaves.pairs → SameNodes nodes nodes' → IsSound key_bytes leaves' nodes' root
-  sound_same leaves leaves' nodes nodes' root s e h = record {
+  pub sound_same : {P : ℕ} → (leaves leaves' : Leaves K V) (nodes nodes' : Nodes) (root : Option Child) → IsSound key_bytes P leaves nodes root → leaves'.pairs ≡ leaves.pairs → SameNodes nodes nodes' → IsSound key_bytes P leaves' nodes' root
+  sound_same {P} leaves leaves' nodes nodes' root s e h = record {
     content = subst (IsContent (bytes key_bytes)) (sym e) s.content;
-    shape = renoded (keys_in key_bytes leaves'.pairs) (at nodes) (at nodes') root (subst (λ (S : List (Numbered K V)). Shape (keys_in key_bytes S) (at nodes) root) (sym e) s.shape) h;
+    shape = renoded (keys_in key_bytes leaves'.pairs) (at nodes) (at nodes') root (subst (λ (S : List (Numbered K V)). Shape P (keys_in key_bytes S) (at nodes) root) (sym e) s.shape) h;
   }
 
   -- no pairs and no nodes are sound
-  pub sound_empty : (leaves : Leaves K V) (nodes : Nodes) → leaves.pairs ≡ [] → ((j : ℕ) → at nodes j ≡ None) → IsSound key_bytes leaves nodes None
-  sound_empty leaves nodes e bare = record {
+  pub sound_empty : {P : ℕ} → (leaves : Leaves K V) (nodes : Nodes) → leaves.pairs ≡ [] → ((j : ℕ) → at nodes j ≡ None) → IsSound key_bytes P leaves nodes None
+  sound_empty {P} leaves nodes e bare = record {
     content = subst (IsContent (bytes key_bytes)) (sym e) (empty_content (bytes key_bytes));
-    shape = subst (λ (S : List (Numbered K V)). Shape (keys_in key_bytes S) (at nodes) None) (sym e) (shape_empty (keys_in {V = V} key_bytes []) (at nodes) bare (λ j. refl));
+    shape = subst (λ (S : List (Numbered K V)). Shape P (keys_in key_bytes S) (at nodes) None) (sym e) (shape_empty (keys_in {V = V} key_bytes []) (at nodes) bare (λ j. refl));
   }
 
-  module _ (P : ℕ) (leaves leaves' : Leaves K V) (nodes nodes' : Nodes) (root : Option Child) (w : IsWhole key_bytes P leaves nodes root) where
-    -- the nodes keep their prefixes in another tree of the same keys and nodes
-    pub whole_over : IsSound key_bytes leaves' nodes' root → ((j : ℕ) → keys_in key_bytes leaves'.pairs j ≡ keys_in key_bytes leaves.pairs j) → SameNodes nodes nodes' → IsWhole key_bytes P leaves' nodes' root
-    whole_over s' same h = record {
-      sound = s';
-      prefixes = keep_through P (keys_in key_bytes leaves.pairs) (keys_in key_bytes leaves'.pairs) (at nodes) (at nodes') root w.sound.shape s'.shape same h w.prefixes;
-    }
-
-    -- the same pairs and nodes are such a tree
-    pub whole_same : leaves'.pairs ≡ leaves.pairs → SameNodes nodes nodes' → IsWhole key_bytes P leaves' nodes' root
-    whole_same e h = whole_over (sound_same leaves leaves' nodes nodes' root w.sound e h) (λ j. ap (λ (S : List (Numbered K V)). keys_in key_bytes S j) e) h
-
-  -- no pairs and no nodes are one too
-  pub whole_empty : (P : ℕ) (leaves : Leaves K V) (nodes : Nodes) → leaves.pairs ≡ [] → ((j : ℕ) → at nodes j ≡ None) → IsWhole key_bytes P leaves nodes None
-  whole_empty P leaves nodes e bare = record {
-    sound = sound_empty leaves nodes e bare;
-    prefixes = λ n x is. (let h : at nodes n ≡ None = bare n in absurd cc);
-  }
+  -- so are other values of the same keys
+  pub sound_over : {P : ℕ} → (leaves leaves' : Leaves K V) (nodes : Nodes) (root : Option Child) → IsSound key_bytes P leaves nodes root → IsContent (bytes key_bytes) leaves'.pairs → ((j : ℕ) → keys_in key_bytes leaves'.pairs j ≡ keys_in key_bytes leaves.pairs j) → IsSound key_bytes P leaves' nodes root
+  sound_over leaves leaves' nodes root s content same = record { content = content; shape = rekeyed (keys_in key_bytes leaves.pairs) (keys_in key_bytes leaves'.pairs) (at nodes) root s.shape same }
 
   -- where no number has a key there are no pairs
   pub no_pairs : (S : List (Numbered K V)) → ((j : ℕ) → keys_in key_bytes S j ≡ None) → S ≡ []
@@ -55,8 +39,8 @@ module _ {K V : Type 0} (key_bytes : K → List ℕ) where
   no_pairs (p ∷ S) h = (let e : keys_in key_bytes (p ∷ S) p.0 ≡ Some (key_bytes p.1.0) = rw (eq-eqb p.0 p.0 refl) refl in let f : None ≡ Some (key_bytes p.1.0) = sym (h p.0) ∙ e in cc)
 
   -- with no root there are no pairs
-  pub rootless : (S : List (Numbered K V)) (nodes : ℕ → Option Node) (root : Option Child) → Shape (keys_in key_bytes S) nodes root → root ≡ None → S ≡ []
-  rootless S nodes root s e = no_pairs S (λ j. (subst (λ (r : Option Child). Shape (keys_in key_bytes S) nodes r) e s).top j)
+  pub rootless : {P : ℕ} → (S : List (Numbered K V)) (nodes : ℕ → Option Node) (root : Option Child) → Shape P (keys_in key_bytes S) nodes root → root ≡ None → S ≡ []
+  rootless {P} S nodes root s e = no_pairs S (λ j. (subst (λ (r : Option Child). Shape P (keys_in key_bytes S) nodes r) e s).top j)
 
   -- no key is longer than the longest
   pub within_longest : (S : List (Numbered K V)) (i : ℕ) (k : Bytes) → keys_in key_bytes S i ≡ Some k → length k ≤ longest (bytes key_bytes) S

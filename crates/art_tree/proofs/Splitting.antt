@@ -1,5 +1,5 @@
 -- One key more, on an edge that is split for it.
-use Rattle.std.proofs.Common.{◌≡◌, ◌≢◌, ℕ, ◌+◌, ◌<◌, ◌≤◌, List, [], ◌∷◌, ◌++◌, length, refl, ap, arith, sym, subst, Option, Some, None, IsSome, ◌∙◌, ◌⊎◌, inl, inr, cond, eqb, eq-eqb}
+use Rattle.std.proofs.Common.{◌≡◌, ◌≢◌, ℕ, ◌+◌, ◌<◌, ◌≤◌, List, [], ◌∷◌, ◌++◌, length, take, drop, refl, ap, arith, sym, subst, Option, Some, None, IsSome, ◌∙◌, ◌⊎◌, inl, inr, cond, eqb, eq-eqb}
 use Rattle.std.proofs.lemmas.Bool.{cases_lt, ne_eqb}
 use Rattle.std.proofs.lemmas.Bool.Decides.{eqb_tells}
 use Rattle.art_tree.specs.Begins.{Bytes, Begins, next_byte}
@@ -8,17 +8,25 @@ use Rattle.art_tree.specs.Above.{LeadsTo, TurnsTo, edge_front}
 use Rattle.art_tree.specs.Spots.{PastLength}
 use Rattle.art_tree.specs.Nodes.{Node, Makes, Redirects}
 use Rattle.art_tree.specs.Kids.{kid_at, Ascends}
-use Rattle.art_tree.specs.Shape.{Shape, Covers, CoversLeaf, CoversNode, NodeFits, RootFits, Parts}
+use Rattle.art_tree.specs.Removals.{CutsBehind}
+use Rattle.art_tree.specs.Shape.{Shape, Keeps, first_behind, Covers, CoversLeaf, CoversNode, NodeFits, RootFits, Parts}
 use Rattle.art_tree.specs.declared.records.ids.Edge.{Edge}
 use Rattle.art_tree.specs.declared.records.ids.Child.{Child}
 use Rattle.art_tree.specs.declared.records.ids.Child.TheVariants.{Leaf, Inner}
 use Rattle.art_tree.proofs.BeginsLemmas.{Begins-length, Begins-more, Begins-trans, Begins-itself, Begins-next, edge_same, edge_some, Begins-linear, length-edge, Begins-past, next_byte-front, Begins-equal, Begins-edge_front, Begins-cases, common_same, common_at, common_comm, Bytes-cases}
 use Rattle.blart_keys.proofs.Options.{is_some, some_of}
+use Rattle.art_tree.proofs.OneEdge.{one_above}
+use Rattle.art_tree.proofs.Prefixes.{keeps_as, cut_node, cut_was, cut_free, cut_leads, turned_prefix}
 use Rattle.art_tree.proofs.Growing.{covers_above, Departs, Gains, kept, kept_cases, within, Parts-within, Parts-two, Parts-kept}
 
 -- the child stands for a front longer than t
 abbrev pub Past : (ℕ → Bytes) → Bytes → Child → Type 0
 Past front_of t c = PastLength front_of (length t) c
+
+-- each old node keeps its prefix but for the child, which keeps what its front has behind g
+pub record Recut (P : ℕ) (old new : ℕ → Option Node) (front_of : ℕ → Bytes) (g : Bytes) (child : Child) : Type 0 where
+  pub others : (m : ℕ) (x x' : Node) → old m ≡ Some x → new m ≡ Some x' → child ≢ Inner m → x'.prefix ≡ x.prefix
+  pub own : (m : ℕ) (x x' : Node) → old m ≡ Some x → new m ≡ Some x' → child ≡ Inner m → x'.prefix ≡ take P (drop (length g) (front_of m))
 
 -- what became of an old node: the edge at g0 leads to n now
 pub record EdgeLed (x x' : Node) (f g0 : Bytes) (c0 : Child) (n : ℕ) : Type 0 where
@@ -29,7 +37,7 @@ pub record EdgeLed (x x' : Node) (f g0 : Bytes) (c0 : Child) (n : ℕ) : Type 0 
   pub now : (b : ℕ) → f ++ b ∷ [] ≡ g0 → kid_at x'.kids b ≡ Some (Inner n)
 
 -- the new node n stands on the edge at g0, above the child c0 and the leaf i
-pub record Splits (old new : ℕ → Option Node) (front_of : ℕ → Bytes) (root root' : Option Child) (g0 : Bytes) (c0 : Child) (n i : ℕ) (t : Bytes) (bc bk : ℕ) : Type 0 where
+pub record Splits (P : ℕ) (old new : ℕ → Option Node) (front_of : ℕ → Bytes) (root root' : Option Child) (g0 : Bytes) (c0 : Child) (n i : ℕ) (t : Bytes) (bc bk : ℕ) : Type 0 where
   pub fresh : old n ≡ None
   pub made : Node
   pub made_is : new n ≡ Some made
@@ -37,14 +45,16 @@ pub record Splits (old new : ℕ → Option Node) (front_of : ℕ → Bytes) (ro
   pub ascends : Ascends made.kids
   pub low : kid_at made.kids bk ≡ Some (Leaf i)
   pub high : kid_at made.kids bc ≡ Some c0
+  pub prefix : made.prefix ≡ take P (drop (length g0) t)
   pub only : (b : ℕ) (c : Child) → kid_at made.kids b ≡ Some c → ((b ≡ bk) × (c ≡ Leaf i)) ⊎ ((b ≡ bc) × (c ≡ c0))
   pub above : ((g0 ≡ []) × (root ≡ Some c0) × (root' ≡ Some (Inner n))) ⊎ ((p : ℕ) × (b : ℕ) × IsSome (old p) × (g0 ≡ front_of p ++ b ∷ []) × (root' ≡ root))
   pub others : (m : ℕ) (x : Node) → old m ≡ Some x → (x' : Node) × (new m ≡ Some x') × EdgeLed x x' (front_of m) g0 c0 n
   pub no_more : (m : ℕ) → m ≢ n → old m ≡ None → new m ≡ None
 
-module _ (keys keys' : ℕ → Option Bytes) (nodes nodes' : ℕ → Option Node) (root root' : Option Child) (g0 : Bytes) (c0 : Child) (n i : ℕ) (t k : Bytes) (s : Shape keys nodes root)
-    (gains : Gains keys keys' i k) (d : Departs keys t k) (splits : Splits nodes nodes' s.front_of root root' g0 c0 n i t (next_byte t d.mate_key) (next_byte t k))
-    (g0_t : Begins g0 t) (past : Past s.front_of t c0) (covers0 : Covers keys nodes s.front_of g0 c0) where
+module _ {P : ℕ} (keys keys' : ℕ → Option Bytes) (nodes nodes' : ℕ → Option Node) (root root' : Option Child) (g0 : Bytes) (c0 : Child) (n i : ℕ) (t k : Bytes) (s : Shape P keys nodes root)
+    (gains : Gains keys keys' i k) (d : Departs keys t k) (splits : Splits P nodes nodes' s.front_of root root' g0 c0 n i t (next_byte t d.mate_key) (next_byte t k))
+    (g0_t : Begins g0 t) (past : Past s.front_of t c0) (covers0 : Covers keys nodes s.front_of g0 c0)
+    (recut : Recut P nodes nodes' s.front_of (t ++ next_byte t d.mate_key ∷ []) c0) (one : (a : Option (ℕ × ℕ)) (j : ℕ) → LeadsTo nodes root a (Inner j) → c0 ≡ Inner j → edge_front s.front_of a ≡ g0) where
   -- the fronts with the new node's
   abbrev fronts_after : ℕ → Bytes
   fronts_after m = cond (eqb m n) t (s.front_of m)
@@ -386,8 +396,64 @@ module _ (keys keys' : ℕ → Option Bytes) (nodes nodes' : ℕ → Option Node
       let w = was_live m x.0 off x.1 (nodes m) refl in
       not_front m (is_some (nodes m) w.0 w.1) (sym (after-old m off) ∙ e)
 
+  -- an old edge to a node that is not the child's: the node keeps its prefix
+  kept_old : (a : Option (ℕ × ℕ)) (j : ℕ) (x' : Node) → LeadsTo nodes root a (Inner j) → (edge_front s.front_of a ≡ g0 → ⊥) → edge_front fronts_after a ≡ edge_front s.front_of a → nodes' j ≡ Some x' → x'.prefix ≡ first_behind P fronts_after a j
+  kept_old a j x' l far e is =
+      let cov : CoversNode keys nodes s.front_of (edge_front s.front_of a) j = covers_above keys nodes root s a (Inner j) l in
+      let x = some_of (nodes j) cov.live in
+      keeps_as P s.front_of fronts_after a a j j x.0 x' (s.keeps a j x.0 l x.1) (recut.others j x.0 x' x.1 is (λ z. far (one a j l z))) e (after-old j (not_new j cov.live))
+
+  -- the new node keeps what its front has behind the edge above
+  kept_made : (x' : Node) → nodes' n ≡ Some x' → x'.prefix ≡ take P (drop (length g0) (fronts_after n))
+  kept_made x' is =
+      let f : nodes' n ≡ Some splits.made = splits.made_is in
+      let z : x' ≡ splits.made = cc in
+      ap (λ (x : Node). x.prefix) z ∙ splits.prefix ∙ ap (λ (w : Bytes). take P (drop (length g0) w)) (sym after-new)
+
+  -- what stands below an edge to another node by the same edge
+  kept_at : (g : Bytes) (j : ℕ) (x' : Node) → Inner n ≡ Inner j → g ≡ g0 → nodes' j ≡ Some x' → x'.prefix ≡ take P (drop (length g) (fronts_after j))
+  kept_at g j x' e same is =
+      let z : n ≡ j = cc in
+      subst (λ (k : ℕ). x'.prefix ≡ take P (drop (length g) (fronts_after k))) z (kept_made x' (ap nodes' z ∙ is) ∙ ap (λ (w : Bytes). take P (drop (length w) (fronts_after n))) (sym same))
+
+  kept_split : Keeps P nodes' root' fronts_after
+  kept_split None j x' l is =
+      elim splits.above [
+        | inl a ↦ kept_at [] j x' (let e : Some (Inner n) ≡ Some (Inner j) = sym a.2 ∙ l in cc) (sym a.0) is
+        | inr a ↦ kept_old None j x' (sym a.4 ∙ l) (λ e. edge_some (s.front_of a.0) a.1 (sym (e ∙ a.3))) refl is
+      ]
+  kept_split (Some (q, b)) j x' l is =
+      elim (eqb_tells q n) [
+        | inl e ↦
+            let f : nodes' n ≡ Some l.0 = ap nodes' (sym e.1) ∙ l.1 in
+            let g : nodes' n ≡ Some splits.made = splits.made_is in
+            let z : l.0 ≡ splits.made = cc in
+            let front : fronts_after q ≡ t = ap fronts_after e.1 ∙ after-new in
+            elim (splits.only b (Inner j) (ap (λ (x : Node). kid_at x.kids b) (sym z) ∙ l.2)) [
+              | inl o ↦ (let w : Inner j ≡ Leaf i = o.1 in absurd cc)
+              | inr o ↦
+                  let cov : CoversNode keys nodes s.front_of g0 j = subst (λ (c : Child). Covers keys nodes s.front_of g0 c) (sym o.1) covers0 in
+                  let x = some_of (nodes j) cov.live in
+                  let own = recut.own j x.0 x' x.1 is (sym o.1) in
+                  own ∙ ap (λ (w : Bytes). take P (drop (length (t ++ next_byte t d.mate_key ∷ [])) w)) (sym (after-old j (not_new j cov.live)))
+                  ∙ ap (λ (w : Bytes). take P (drop (length w) (fronts_after j))) (λ h. (sym front) h ++ (sym o.0) h ∷ [])
+            ]
+        | inr e ↦
+            let w = was_live q l.0 e.1 l.1 (nodes q) refl in
+            let y = splits.others q w.0 w.1 in
+            let f : nodes' q ≡ Some y.0 = y.1 in
+            let g : nodes' q ≡ Some l.0 = l.1 in
+            let z : l.0 ≡ y.0 = cc in
+            let there : kid_at y.0.kids b ≡ Some (Inner j) = ap (λ (x : Node). kid_at x.kids b) (sym z) ∙ l.2 in
+            let front : fronts_after q ++ b ∷ [] ≡ s.front_of q ++ b ∷ [] = ap (λ (u : Bytes). u ++ b ∷ []) (after-old q e.1) in
+            elim (Bytes-cases (s.front_of q ++ b ∷ []) g0) [
+              | inl at ↦ (let u : kid_at y.0.kids b ≡ Some (Inner n) = y.2.now b at in kept_at (fronts_after q ++ b ∷ []) j x' (let v : Inner n ≡ Inner j = cc in v) (front ∙ at) is)
+              | inr off ↦ kept_old (Some (q, b)) j x' (w.0, w.1, sym (y.2.rest b off) ∙ there) off front is
+            ]
+      ]
+
   -- the tree with one node more
-  pub shape_split : Shape keys' nodes' root'
+  pub shape_split : Shape P keys' nodes' root'
   shape_split = record {
     front_of = fronts_after;
     top = top_fits;
@@ -423,6 +489,7 @@ module _ (keys keys' : ℕ → Option Bytes) (nodes nodes' : ℕ → Option Node
                     s.apart a b (is_some (nodes a) w.0 w.1) (is_some (nodes b) v.0 v.1) (sym (after-old a p.1) ∙ e ∙ after-old b q.1)
               ]
         ];
+    keeps = kept_split;
   }
 
 -- ---- from what the store's calls say
@@ -451,8 +518,8 @@ module _ (low high : Edge) (sorted : low.byte < high.byte) where
             ]
       ]
 
-module _ (keys keys' : ℕ → Option Bytes) (nodes mid : ℕ → Option Node) (root : Option Child) (n i depth : ℕ) (prefix : List ℕ) (low high : Edge) (c0 : Child) (t k : Bytes) (s : Shape keys nodes root)
-    (gains : Gains keys keys' i k) (d : Departs keys t k) (makes : Makes nodes mid n depth prefix low high) (deep : depth ≡ length t) (sorted : low.byte < high.byte)
+module _ {P : ℕ} (keys keys' : ℕ → Option Bytes) (nodes cut mid : ℕ → Option Node) (root : Option Child) (n i depth : ℕ) (prefix : List ℕ) (low high : Edge) (c0 : Child) (t k : Bytes) (s : Shape P keys nodes root)
+    (gains : Gains keys keys' i k) (d : Departs keys t k) (cuts : CutsBehind P nodes cut s.front_of (t ++ next_byte t d.mate_key ∷ []) c0) (makes : Makes cut mid n depth prefix low high) (deep : depth ≡ length t) (sorted : low.byte < high.byte)
     (both : HoldBoth low high (next_byte t k) i (next_byte t d.mate_key) c0) where
   abbrev made : Node
   made = record { depth = depth; prefix = prefix; kids = low ∷ high ∷ [] }
@@ -486,87 +553,123 @@ module _ (keys keys' : ℕ → Option Bytes) (nodes mid : ℕ → Option Node) (
             ]
       ]
 
-  off_new : (m : ℕ) (x : Node) → nodes m ≡ Some x → m ≢ n
-  off_new m x is e = let f : nodes n ≡ Some x = rw (← e) is in let g : nodes n ≡ None = makes.fresh in cc
+  off_new : (m : ℕ) (x : Node) → cut m ≡ Some x → m ≢ n
+  off_new m x is e = let f : cut n ≡ Some x = ap cut (sym e) ∙ is in let g : cut n ≡ None = makes.fresh in cc
 
-  splits_of : (above : Option (ℕ × ℕ)) (new : ℕ → Option Node) (root' : Option Child) → LeadsTo nodes root above c0 → TurnsTo mid new root root' above (Inner n)
-      → Splits nodes new s.front_of root root' (edge_front s.front_of above) c0 n i t (next_byte t d.mate_key) (next_byte t k)
-  splits_of None new root' leads turns = record {
-    fresh = makes.fresh;
-    made = made;
-    made_is = turns.0 n ∙ makes.is;
-    depth = deep;
-    ascends = (sorted, tt);
-    low = leaf_kid;
-    high = old_kid;
-    only = only_kids;
-    above = inl (refl, leads, turns.1);
-    others = λ m x is. (
-      x,
-      turns.0 m ∙ makes.others m (off_new m x is) ∙ is,
-      record {
-        depth = refl;
-        ascends = λ a. a;
-        rest = λ b h. refl;
-        was = λ b h. absurd (edge_some (s.front_of m) b h);
-        now = λ b h. absurd (edge_some (s.front_of m) b h);
-      },
-    );
-    no_more = λ m off e. turns.0 m ∙ makes.others m off ∙ e;
-  }
-  splits_of (Some (p, b)) new root' leads turns =
+  -- a node that stands after the cut stood before
+  uncut_live : (m : ℕ) (x : Node) → cut m ≡ Some x → IsSome (nodes m)
+  uncut_live m x is = go (nodes m) refl
+    where
+      go : (o : Option Node) → nodes m ≡ o → IsSome (nodes m)
+      go None e = (let f : cut m ≡ None = cut_was P nodes cut s.front_of (t ++ next_byte t d.mate_key ∷ []) c0 cuts m e in absurd cc)
+      go (Some y) e = is_some (nodes m) y e
+
+  -- what became of a node after the cut
+  led_cut : (above : Option (ℕ × ℕ)) (new : ℕ → Option Node) (root' : Option Child) → LeadsTo cut root above c0 → TurnsTo mid new root root' above (Inner n) → (m : ℕ) (x : Node) → cut m ≡ Some x → (x' : Node) × (new m ≡ Some x') × EdgeLed x x' (s.front_of m) (edge_front s.front_of above) c0 n
+  led_cut None new root' leads turns m x is = (
+    x,
+    turns.0 m ∙ makes.others m (off_new m x is) ∙ is,
+    record {
+      depth = refl;
+      ascends = λ a. a;
+      rest = λ b h. refl;
+      was = λ b h. absurd (edge_some (s.front_of m) b h);
+      now = λ b h. absurd (edge_some (s.front_of m) b h);
+    },
+  )
+  led_cut (Some (p, b)) new root' leads turns m x is =
       let red : Redirects mid new p b (Inner n) = turns.0 in
       let p_off : p ≢ n = off_new p leads.0 leads.1 in
-      let n_off : n ≢ p = λ e. p_off (sym e) in
       let was_is : red.was ≡ leads.0 = (let f : mid p ≡ Some leads.0 = makes.others p p_off ∙ leads.1 in let g : mid p ≡ Some red.was = red.was_is in cc) in
-      let live : IsSome (nodes p) = is_some (nodes p) leads.0 leads.1 in
-      record {
-        fresh = makes.fresh;
-        made = made;
-        made_is = red.others n n_off ∙ makes.is;
-        depth = deep;
-        ascends = (sorted, tt);
-        low = leaf_kid;
-        high = old_kid;
-        only = only_kids;
-        above = inr (p, b, live, refl, turns.1);
-        others = λ m x is. elim (eqb_tells m p) [
-          | inl e ↦
-              let x_is : leads.0 ≡ x = (let f : nodes p ≡ Some x = rw (← e.1) is in let g : nodes p ≡ Some leads.0 = leads.1 in cc) in
-              let same : red.was ≡ x = was_is ∙ x_is in
-              let front : s.front_of m ≡ s.front_of p = ap s.front_of e.1 in (
-                red.is,
-                ap new e.1 ∙ red.is_is,
-                record {
-                  depth = red.depth ∙ ap (λ (x : Node). x.depth) same;
-                  ascends = λ a. red.ascends;
-                  rest = λ c h. red.rest c (λ z. h (λ j. front j ++ z j ∷ [])) ∙ ap (λ (x : Node). kid_at x.kids c) same;
-                  was = λ c h. (let z = edge_same (s.front_of m) (s.front_of p) c b h in ap (kid_at x.kids) z.1 ∙ ap (λ (x : Node). kid_at x.kids b) (sym x_is) ∙ leads.2);
-                  now = λ c h. (let z = edge_same (s.front_of m) (s.front_of p) c b h in ap (kid_at red.is.kids) z.1 ∙ red.now);
-                },
-              )
-          | inr e ↦
-              let apart : (c : ℕ) → s.front_of m ++ c ∷ [] ≡ s.front_of p ++ b ∷ [] → ⊥ = λ c h. e.1 (s.apart m p (is_some (nodes m) x is) live (edge_same (s.front_of m) (s.front_of p) c b h).0) in (
-                x,
-                red.others m e.1 ∙ makes.others m (off_new m x is) ∙ is,
-                record {
-                  depth = refl;
-                  ascends = λ a. a;
-                  rest = λ c h. refl;
-                  was = λ c h. absurd (apart c h);
-                  now = λ c h. absurd (apart c h);
-                },
-              )
-        ];
-        no_more = λ m off e. (let far : m ≢ p = (λ z. let f : nodes p ≡ None = rw (← z) e in let g : nodes p ≡ Some leads.0 = leads.1 in absurd cc) in red.others m far ∙ makes.others m off ∙ e);
-      }
+      elim (eqb_tells m p) [
+        | inl e ↦
+            let x_is : leads.0 ≡ x = (let f : cut p ≡ Some x = ap cut (sym e.1) ∙ is in let g : cut p ≡ Some leads.0 = leads.1 in cc) in
+            let same : red.was ≡ x = was_is ∙ x_is in
+            let front : s.front_of m ≡ s.front_of p = ap s.front_of e.1 in (
+              red.is,
+              ap new e.1 ∙ red.is_is,
+              record {
+                depth = red.depth ∙ ap (λ (x : Node). x.depth) same;
+                ascends = λ a. red.ascends;
+                rest = λ c h. red.rest c (λ z. h (λ j. front j ++ z j ∷ [])) ∙ ap (λ (x : Node). kid_at x.kids c) same;
+                was = λ c h. (let z = edge_same (s.front_of m) (s.front_of p) c b h in ap (kid_at x.kids) z.1 ∙ ap (λ (x : Node). kid_at x.kids b) (sym x_is) ∙ leads.2);
+                now = λ c h. (let z = edge_same (s.front_of m) (s.front_of p) c b h in ap (kid_at red.is.kids) z.1 ∙ red.now);
+              },
+            )
+        | inr e ↦
+            let apart : (c : ℕ) → s.front_of m ++ c ∷ [] ≡ s.front_of p ++ b ∷ [] → ⊥ = λ c h. e.1 (s.apart m p (uncut_live m x is) (uncut_live p leads.0 leads.1) (edge_same (s.front_of m) (s.front_of p) c b h).0) in (
+              x,
+              red.others m e.1 ∙ makes.others m (off_new m x is) ∙ is,
+              record {
+                depth = refl;
+                ascends = λ a. a;
+                rest = λ c h. refl;
+                was = λ c h. absurd (apart c h);
+                now = λ c h. absurd (apart c h);
+              },
+            )
+      ]
 
-  module _ (past : Past s.front_of t c0) (above : Option (ℕ × ℕ)) (new : ℕ → Option Node) (root' : Option Child) (leads : LeadsTo nodes root above c0) (along : Begins (edge_front s.front_of above) t) (turns : TurnsTo mid new root root' above (Inner n)) where
+  made_after : (above : Option (ℕ × ℕ)) (new : ℕ → Option Node) (root' : Option Child) → LeadsTo cut root above c0 → TurnsTo mid new root root' above (Inner n) → new n ≡ Some made
+  made_after None new root' leads turns = turns.0 n ∙ makes.is
+  made_after (Some (p, b)) new root' leads turns = turns.0.others n (λ e. off_new p leads.0 leads.1 (sym e)) ∙ makes.is
+
+  none_after : (above : Option (ℕ × ℕ)) (new : ℕ → Option Node) (root' : Option Child) → LeadsTo cut root above c0 → TurnsTo mid new root root' above (Inner n) → (m : ℕ) → m ≢ n → cut m ≡ None → new m ≡ None
+  none_after None new root' leads turns m off e = turns.0 m ∙ makes.others m off ∙ e
+  none_after (Some (p, b)) new root' leads turns m off e =
+      let far : m ≢ p = (λ z. let f : cut p ≡ None = ap cut (sym z) ∙ e in let g : cut p ≡ Some leads.0 = leads.1 in absurd cc) in
+      turns.0.others m far ∙ makes.others m off ∙ e
+
+  above_after : (above : Option (ℕ × ℕ)) (new : ℕ → Option Node) (root' : Option Child) → LeadsTo nodes root above c0 → TurnsTo mid new root root' above (Inner n)
+      → ((edge_front s.front_of above ≡ []) × (root ≡ Some c0) × (root' ≡ Some (Inner n))) ⊎ ((p : ℕ) × (b : ℕ) × IsSome (nodes p) × (edge_front s.front_of above ≡ s.front_of p ++ b ∷ []) × (root' ≡ root))
+  above_after None new root' leads turns = inl (refl, leads, turns.1)
+  above_after (Some (p, b)) new root' leads turns = inr (p, b, is_some (nodes p) leads.0 leads.1, refl, turns.1)
+
+  module _ (above : Option (ℕ × ℕ)) (new : ℕ → Option Node) (root' : Option Child) (leads : LeadsTo nodes root above c0) (turns : TurnsTo mid new root root' above (Inner n)) (prefix_is : prefix ≡ take P (drop (length (edge_front s.front_of above)) t)) where
+    still : LeadsTo cut root above c0
+    still = cut_leads P nodes cut s.front_of (t ++ next_byte t d.mate_key ∷ []) c0 cuts root above c0 leads
+
+    splits : Splits P nodes new s.front_of root root' (edge_front s.front_of above) c0 n i t (next_byte t d.mate_key) (next_byte t k)
+    splits = record {
+      fresh = cut_free P nodes cut s.front_of (t ++ next_byte t d.mate_key ∷ []) c0 cuts n makes.fresh;
+      made = made;
+      made_is = made_after above new root' still turns;
+      depth = deep;
+      ascends = (sorted, tt);
+      low = leaf_kid;
+      high = old_kid;
+      prefix = prefix_is;
+      only = only_kids;
+      above = above_after above new root' leads turns;
+      others = λ m x is.
+          (let y = cut_node P nodes cut s.front_of (t ++ next_byte t d.mate_key ∷ []) c0 cuts m x is in
+          let z = led_cut above new root' still turns m y.0 y.1 in (
+            z.0,
+            z.1,
+            record {
+              depth = z.2.depth ∙ y.2.depth;
+              ascends = λ a. z.2.ascends (subst (λ (es : List Edge). Ascends es) (sym y.2.kids) a);
+              rest = λ b h. z.2.rest b h ∙ ap (λ (es : List Edge). kid_at es b) y.2.kids;
+              was = λ b h. ap (λ (es : List Edge). kid_at es b) (sym y.2.kids) ∙ z.2.was b h;
+              now = z.2.now;
+            },
+          ));
+      no_more = λ m off e. none_after above new root' still turns m off (cut_was P nodes cut s.front_of (t ++ next_byte t d.mate_key ∷ []) c0 cuts m e);
+    }
+
+    prefix_led : (m : ℕ) (x x' : Node) → cut m ≡ Some x → new m ≡ Some x' → x'.prefix ≡ x.prefix
+    prefix_led m x x' was is = turned_prefix mid new root root' above (Inner n) turns m x x' (makes.others m (off_new m x was) ∙ was) is
+
+    recut : Recut P nodes new s.front_of (t ++ next_byte t d.mate_key ∷ []) c0
+    recut = record {
+      others = λ m x x' was is off. (let y = cut_node P nodes cut s.front_of (t ++ next_byte t d.mate_key ∷ []) c0 cuts m x was in prefix_led m y.0 x' y.1 is ∙ y.2.other off);
+      own = λ m x x' was is same. (let y = cut_node P nodes cut s.front_of (t ++ next_byte t d.mate_key ∷ []) c0 cuts m x was in prefix_led m y.0 x' y.1 is ∙ y.2.own same);
+    }
+
+    -- one edge leads to the child
+    one : (a : Option (ℕ × ℕ)) (j : ℕ) → LeadsTo nodes root a (Inner j) → c0 ≡ Inner j → edge_front s.front_of a ≡ edge_front s.front_of above
+    one a j l e = ap (edge_front s.front_of) (one_above keys nodes root s j a above l (subst (λ (c : Child). LeadsTo nodes root above c) e leads))
+
     -- the tree where a new node holds the old child and the new leaf, and the edge above leads to it
-    pub edge_split : Shape keys' new root'
-    edge_split = shape_split keys keys' nodes new root root' (edge_front s.front_of above) c0 n i t k s gains d (splits_of above new root' leads turns) along past (covers_above keys nodes root s above c0 leads)
-
-    -- the fronts: the new node stands where the key departs
-    pub edge_split-front : (m : ℕ) → edge_split.front_of m ≡ cond (eqb m n) t (s.front_of m)
-    unfolding edge_split shape_split
-    edge_split-front m = refl
+    pub edge_split : Past s.front_of t c0 → Begins (edge_front s.front_of above) t → Shape P keys' new root'
+    edge_split past along = shape_split keys keys' nodes new root root' (edge_front s.front_of above) c0 n i t k s gains d splits along past (covers_above keys nodes root s above c0 leads) recut one

@@ -8,7 +8,7 @@ use Rattle.art_tree.specs.Kids.{kid_at}
 use Rattle.art_tree.specs.Nodes.{Node, DropsEdge, Renames}
 use Rattle.art_tree.specs.Descents.{IsEndUnder}
 use Rattle.art_tree.specs.Leaves.{Numbered, leaf_in, Has, keys_in}
-use Rattle.art_tree.specs.Removals.{Loses, HangsAt, HangsBelow, OtherEdge, IsLive, StartsBelow, EndsBelow, Recuts}
+use Rattle.art_tree.specs.Removals.{Loses, HangsAt, HangsBelow, OtherEdge, StartsBelow, EndsBelow}
 use Rattle.art_tree.specs.Shape.{Shape, CoversLeaf, CoversNode, NodeFits}
 use Rattle.art_tree.specs.Spots.{SpotFits}
 use Rattle.art_tree.specs.declared.descent.Spot.TheVariants as spot
@@ -19,14 +19,12 @@ use Rattle.art_tree.proofs.BeginsLemmas.{Begins-length, Begins-trans, Begins-its
 use Rattle.art_tree.proofs.Growing.{Parts-within, Parts-two, covers_above}
 use Rattle.art_tree.proofs.Losing.{shape_dropped}
 use Rattle.art_tree.proofs.OneEdge.{not_itself, kept_mid, node_moved}
-use Rattle.art_tree.proofs.OneFront.{front_is_take}
-use Rattle.blart_keys.proofs.Options.{is_some, some_of, not_some}
+use Rattle.blart_keys.proofs.Options.{some_of, not_some}
 use Rattle.art_tree.proofs.PairLemmas.{key_of_pair}
-use Rattle.art_tree.proofs.SameShapes.{reprefixed, reprefixed-front, renoded, renoded-front}
 
 -- ---- the way to a leaf, and to its node
 
-module _ (keys : ℕ → Option Bytes) (nodes : ℕ → Option Node) (root : Option Child) (s : Shape keys nodes root) (i : ℕ) (k : Bytes) (is : keys i ≡ Some k) where
+module _ {P : ℕ} (keys : ℕ → Option Bytes) (nodes : ℕ → Option Node) (root : Option Child) (s : Shape P keys nodes root) (i : ℕ) (k : Bytes) (is : keys i ≡ Some k) where
   whole : take (length k) k ≡ k
   whole = take_front k k (Begins-itself k)
 
@@ -66,7 +64,7 @@ module _ (keys : ℕ → Option Bytes) (nodes : ℕ → Option Node) (root : Opt
         Begins-edge_front (s.front_of n) k b (subst (λ (z : Bytes). Begins (s.front_of n ++ b ∷ []) z) h c.front)
 
     here : s.front_of n ≡ take x.depth k
-    here = front_is_take keys nodes root s n x k n_is front_of_key
+    here = sym (take_front (s.front_of n) k front_of_key) ∙ ap (λ d. take d k) (sym fits.depth)
 
     -- the node is no deeper than the key is long
     pub depth_within : x.depth ≤ length k
@@ -102,7 +100,7 @@ module _ (keys : ℕ → Option Bytes) (nodes : ℕ → Option Node) (root : Opt
         absurd (omega arith)
 
 -- a node has two edges
-pub no_lone_edge : (keys : ℕ → Option Bytes) (nodes : ℕ → Option Node) (root : Option Child) (s : Shape keys nodes root) (n b : ℕ) (x : Node) → nodes n ≡ Some x
+pub no_lone_edge : {P : ℕ} → (keys : ℕ → Option Bytes) (nodes : ℕ → Option Node) (root : Option Child) (s : Shape P keys nodes root) (n b : ℕ) (x : Node) → nodes n ≡ Some x
     → ((c : ℕ) → b < c → kid_at x.kids c ≡ None) → ((c : ℕ) → c < b → kid_at x.kids c ≡ None) → ⊥
 no_lone_edge keys nodes root s n b x is above below =
     let f = s.node n x is in
@@ -121,74 +119,22 @@ no_lone_edge keys nodes root s n b x is above below =
 
 module _ (keys : ℕ → Option Bytes) (nodes mid wide : ℕ → Option Node) (root : Option Child) (above : Option (ℕ × ℕ)) (n m b i : ℕ) (drops : DropsEdge nodes mid n b) (ren : Renames mid wide n m) where
   -- the edge above leads to the old number still
-  pub leads_dropped : (above : Option (ℕ × ℕ)) → Shape keys nodes root → LeadsTo nodes root above (Inner n) → LeadsTo mid root above (Inner n)
+  pub leads_dropped : {P : ℕ} → (above : Option (ℕ × ℕ)) → Shape P keys nodes root → LeadsTo nodes root above (Inner n) → LeadsTo mid root above (Inner n)
   leads_dropped None s l = l
   leads_dropped (Some (p, c)) s l = (l.0, drops.others p (not_itself keys nodes root s p c n l.0 l.1 l.2) ∙ l.1, l.2)
 
   -- and where the node has gone to another
-  pub leads_narrowed : (above : Option (ℕ × ℕ)) → Shape keys nodes root → LeadsTo nodes root above (Inner n) → LeadsTo wide root above (Inner n)
+  pub leads_narrowed : {P : ℕ} → (above : Option (ℕ × ℕ)) → Shape P keys nodes root → LeadsTo nodes root above (Inner n) → LeadsTo wide root above (Inner n)
   leads_narrowed None s l = l
   leads_narrowed (Some (p, c)) s l =
       let off : p ≢ n = not_itself keys nodes root s p c n l.0 l.1 l.2 in
       (l.0, kept_mid mid wide n m p l.0 ren (drops.others p off ∙ l.1) off, l.2)
 
   -- the tree without the leaf, where the edge above leads to the node's number
-  pub shape_shrunk : (keys' : ℕ → Option Bytes) (new : ℕ → Option Node) (root' : Option Child) (h : HangsAt keys nodes root above n b i) → 2 < length h.node.kids → Loses keys keys' i h.key → TurnsTo wide new root root' above (Inner m) → Shape keys' new root'
+  pub shape_shrunk : {P : ℕ} → (keys' : ℕ → Option Bytes) (new : ℕ → Option Node) (root' : Option Child) (h : HangsAt P keys nodes root above n b i) → 2 < length h.node.kids → Loses keys keys' i h.key → TurnsTo wide new root root' above (Inner m) → Shape P keys' new root'
   shape_shrunk keys' new root' h more loses turns =
-      let s1 : Shape keys' mid root = shape_dropped keys keys' nodes root n i b h.key h.shape loses h.node h.is h.low mid drops more in
+      let s1 : Shape _ keys' mid root = shape_dropped keys keys' nodes root n i b h.key h.shape loses h.node h.is h.low mid drops more in
       (node_moved keys' mid wide new root root' n m above s1 ren (leads_dropped above h.shape h.leads) turns).0
-
--- ---- a node with another prefix
-
-module _ (old new : ℕ → Option Node) where
-  -- each node stands but for its prefix
-  pub node_recut : (c : Child) → Recuts old new c → (n : ℕ) (x : Node) → old n ≡ Some x → (x' : Node) × (new n ≡ Some x') × (x'.kids ≡ x.kids)
-  node_recut (Leaf j) r n x is = (x, r n ∙ is, refl)
-  node_recut (Inner m) r n x is =
-      elim (eqb_tells n m) [
-        | inl e ↦
-            let f : old m ≡ Some x = rw (← e.1) is in
-            let g : old m ≡ Some r.1.was = r.1.was_is in
-            let h : r.1.was ≡ x = cc in
-            (record r.1.was { prefix = r.0 }, ap new e.1 ∙ r.1.is_is, ap (λ (y : Node). y.kids) h)
-        | inr e ↦ (x, r.1.others n e.1 ∙ is, refl)
-      ]
-
-  -- the shape stands
-  pub shape_recut : (keys : ℕ → Option Bytes) (root : Option Child) (c : Child) → Recuts old new c → Shape keys old root → Shape keys new root
-  shape_recut keys root (Leaf j) r s = renoded keys old new root s r
-  shape_recut keys root (Inner m) r s = reprefixed keys old new root m r.0 s r.1
-
-  -- with its fronts
-  pub shape_recut-front : (keys : ℕ → Option Bytes) (root : Option Child) (c : Child) (r : Recuts old new c) (s : Shape keys old root) (k : ℕ) → (shape_recut keys root c r s).front_of k ≡ s.front_of k
-  unfolding shape_recut
-  shape_recut-front keys root (Leaf j) r s k = renoded-front keys old new root s r k
-  shape_recut-front keys root (Inner m) r s k = reprefixed-front keys old new root m r.0 s r.1 k
-
-  -- each edge leads where it led
-  pub leads_recut : (root : Option Child) (above : Option (ℕ × ℕ)) (c d : Child) → Recuts old new c → LeadsTo old root above d → LeadsTo new root above d
-  leads_recut root None c d r l = l
-  leads_recut root (Some e) c d r l =
-      let x = node_recut c r e.0 l.0 l.1 in
-      (x.0, x.1, ap (λ es. kid_at es e.1) x.2 ∙ l.2)
-
-  -- the leaf hangs where it hung
-  pub hangs_recut : (keys : ℕ → Option Bytes) (root : Option Child) (above : Option (ℕ × ℕ)) (n b i : ℕ) (c : Child) → Recuts old new c → (h : HangsAt keys old root above n b i)
-      → (h' : HangsAt keys new root above n b i) × (h'.node.kids ≡ h.node.kids) × (h'.key ≡ h.key)
-  hangs_recut keys root above n b i c r h =
-      let x = node_recut c r n h.node h.is in (
-        record {
-          shape = shape_recut keys root c r h.shape;
-          key = h.key;
-          key_is = h.key_is;
-          node = x.0;
-          is = x.1;
-          low = ap (λ es. kid_at es b) x.2 ∙ h.low;
-          leads = leads_recut root above c (Inner n) r h.leads;
-        },
-        x.2,
-        refl,
-      )
 
 -- ---- what the steps of a removal ask
 
@@ -209,24 +155,16 @@ two_kids (x ∷ y ∷ es) b b1 c d e f off = omega arith
 pub loses_same : (old new : ℕ → Option Bytes) (i : ℕ) (k k' : Bytes) → Loses old new i k → old i ≡ Some k' → Loses old new i k'
 loses_same old new i k k' l e = record { was = e; gone = l.gone; others = l.others }
 
-module _ (keys : ℕ → Option Bytes) (nodes : ℕ → Option Node) (root : Option Child) (s : Shape keys nodes root) where
-  -- the edge's node is there
-  live_above : (above : Option (ℕ × ℕ)) (c : Child) → LeadsTo nodes root above c → IsLive nodes above
-  live_above None c l = tt
-  live_above (Some e) c l = is_some (nodes e.0) l.0 l.1
-
+module _ {P : ℕ} (keys : ℕ → Option Bytes) (nodes : ℕ → Option Node) (root : Option Child) (s : Shape P keys nodes root) where
   -- the child of another edge hangs below the edge to the node
-  pub hangs_below : (above : Option (ℕ × ℕ)) (n b : ℕ) (e : Edge) → LeadsTo nodes root above (Inner n) → OtherEdge nodes n b e → HangsBelow keys nodes above e.to
-  hangs_below above n b e leads other =
+  abbrev pub hangs_below : (above : Option (ℕ × ℕ)) (n b : ℕ) (e : Edge) → LeadsTo nodes root above (Inner n) → OtherEdge nodes n b e → HangsBelow P keys nodes above e.to
+  hangs_below above n b e leads other = record { root = root; shape = s; number = n; leads = leads; node = other.node; is = other.is; byte = e.byte; there = other.there }
+
+  -- the front of an edge to a node begins each front below the node
+  pub begins_below : (above : Option (ℕ × ℕ)) (n b : ℕ) → LeadsTo nodes root above (Inner n) → Begins (edge_front s.front_of above) (s.front_of n ++ b ∷ [])
+  begins_below above n b leads =
       let c : CoversNode keys nodes s.front_of (edge_front s.front_of above) n = covers_above keys nodes root s above (Inner n) leads in
-      record {
-        root = root;
-        shape = s;
-        front = s.front_of n ++ e.byte ∷ [];
-        covers = (s.node n other.node other.is).below e.byte e.to other.there;
-        live = live_above above (Inner n) leads;
-        below = Begins-trans (edge_front s.front_of above) (s.front_of n) (s.front_of n ++ e.byte ∷ []) c.front (Begins-front_edge (s.front_of n) e.byte);
-      }
+      Begins-trans (edge_front s.front_of above) (s.front_of n) (s.front_of n ++ b ∷ []) c.front (Begins-front_edge (s.front_of n) b)
 
   module _ (g : Bytes) (n : ℕ) (x : Node) (is : nodes n ≡ Some x) (covers : CoversNode keys nodes s.front_of g n) where
     -- the edge above a front is no deeper than the node there
@@ -238,14 +176,13 @@ module _ (keys : ℕ → Option Bytes) (nodes : ℕ → Option Node) (root : Opt
         omega arith
 
     -- so its node is less deep
-    pub ends_below : (above : Option (ℕ × ℕ)) (end : ℕ) → IsLive nodes above → Begins (edge_front s.front_of above) g → x.depth ≤ end → EndsBelow nodes above end
-    ends_below None end live b l = tt
-    ends_below (Some e) end live b l =
-        let y = some_of (nodes e.0) live in
-        let d : y.0.depth ≡ length (s.front_of e.0) = (s.node e.0 y.0 y.1).depth in
+    pub ends_below : (above : Option (ℕ × ℕ)) (end : ℕ) (c : Child) → LeadsTo nodes root above c → Begins (edge_front s.front_of above) g → x.depth ≤ end → EndsBelow nodes above end
+    ends_below None end c leads b l = tt
+    ends_below (Some e) end c leads b l =
+        let d : leads.0.depth ≡ length (s.front_of e.0) = (s.node e.0 leads.0 leads.1).depth in
         let m : length (s.front_of e.0 ++ e.1 ∷ []) ≤ x.depth = above_within (Some e) b in
         let k : length (s.front_of e.0 ++ e.1 ∷ []) ≡ length (s.front_of e.0) + 1 = length-edge (s.front_of e.0) e.1 in
-        (y.0, y.1, omega arith)
+        (leads.0, leads.1, omega arith)
 
     -- and the prefix begins within the node's front
     pub starts_within : (above : Option (ℕ × ℕ)) (start : ℕ) → Begins (edge_front s.front_of above) g → StartsBelow nodes above start → start ≤ x.depth
@@ -268,8 +205,8 @@ module _ (keys : ℕ → Option Bytes) (nodes : ℕ → Option Node) (root : Opt
         omega arith
 
 -- a leaf's key and the two edges
-pub hangs_from : {K V : Type 0} (key_bytes : K → Bytes) (pairs : List (Numbered K V)) (nodes : ℕ → Option Node) (root : Option Child) (s : Shape (keys_in key_bytes pairs) nodes root) (i : ℕ) → Has pairs i
-    → (n b : ℕ) → LeadsTo nodes root (Some (n, b)) (Leaf i) → (above : Option (ℕ × ℕ)) → LeadsTo nodes root above (Inner n) → HangsAt (keys_in key_bytes pairs) nodes root above n b i
+abbrev pub hangs_from : {P : ℕ} → {K V : Type 0} (key_bytes : K → Bytes) (pairs : List (Numbered K V)) (nodes : ℕ → Option Node) (root : Option Child) (s : Shape P (keys_in key_bytes pairs) nodes root) (i : ℕ) → Has pairs i
+    → (n b : ℕ) → LeadsTo nodes root (Some (n, b)) (Leaf i) → (above : Option (ℕ × ℕ)) → LeadsTo nodes root above (Inner n) → HangsAt P (keys_in key_bytes pairs) nodes root above n b i
 hangs_from key_bytes pairs nodes root s i has n b low above leads =
     let p = some_of (leaf_in pairs i) has in
     record { shape = s; key = key_bytes p.0.0; key_is = key_of_pair key_bytes pairs i p.0 p.1; node = low.0; is = low.1; low = low.2; leads = leads }

@@ -37,7 +37,7 @@ module _ (keys : ℕ → Option Bytes) (nodes : ℕ → Option Node) (front_of :
       let few : now + length g ≤ old + length w.front = w.few in
       omega arith
 
-module _ (keys : ℕ → Option Bytes) (nodes : ℕ → Option Node) (root : Option Child) (s : Shape keys nodes root) where
+module _ {P : ℕ} (keys : ℕ → Option Bytes) (nodes : ℕ → Option Node) (root : Option Child) (s : Shape P keys nodes root) where
   -- each node has an edge
   pub has_edges : (n : ℕ) (x : Node) → nodes n ≡ Some x → 0 < length x.kids
   has_edges n x is = let p = (s.node n x is).parts in edges_some x.kids (next_byte (s.front_of n) p.k) ((s.node n x is).edge p.i p.k p.k_is p.k_front)

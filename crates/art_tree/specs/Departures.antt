@@ -20,13 +20,13 @@ pub record KeyEnds (keys : ℕ → Option Bytes) (i : ℕ) (q : Bytes) : Type 0 
   pub begins : Begins key q
   pub shorter : length key < length q
 
-module _ {K V : Type 0} (key_bytes : K → List ℕ) (pairs : List (Numbered K V)) (nodes : ℕ → Option Node) where
+module _ {K V : Type 0} (key_bytes : K → List ℕ) (P : ℕ) (pairs : List (Numbered K V)) (nodes : ℕ → Option Node) where
   -- a sound tree, no key of which is related to q
   pub record NoneRelated (q : Bytes) : Type 0 where
     pub content : IsContent (bytes key_bytes) pairs
     pub distinct : AreDistinct pairs
     pub root : Option Child
-    pub shape : Shape (keys_in key_bytes pairs) nodes root
+    pub shape : Shape P (keys_in key_bytes pairs) nodes root
     pub alone : (j : ℕ) (k : Bytes) → keys_in key_bytes pairs j ≡ Some k → related k q ≡ false
 
   -- q leaves the keys at a node, and goes on by this byte
@@ -59,7 +59,7 @@ module _ {K V : Type 0} (key_bytes : K → List ℕ) (pairs : List (Numbered K V
   -- q begins a stored key, and is shorter, and the child stands for the keys that begin with q
   pub record QueryEnds (child : Child) (q : Bytes) : Type 0 where
     pub root : Option Child
-    pub shape : Shape (keys_in key_bytes pairs) nodes root
+    pub shape : Shape P (keys_in key_bytes pairs) nodes root
     pub covers : Covers (keys_in key_bytes pairs) nodes shape.front_of q child
     pub leaf : ℕ
     pub key : Bytes

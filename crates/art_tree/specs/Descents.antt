@@ -8,22 +8,22 @@ use Rattle.art_tree.specs.Shape.{Shape, Covers}
 use Rattle.art_tree.specs.declared.records.ids.Child.{Child}
 
 -- in some tree, the child stands for the keys that begin with some front
-pub record Hangs (nodes : ℕ → Option Node) (child : Child) : Type 0 where
+pub record Hangs (P : ℕ) (nodes : ℕ → Option Node) (child : Child) : Type 0 where
   pub keys : ℕ → Option Bytes
   pub root : Option Child
-  pub shape : Shape keys nodes root
+  pub shape : Shape P keys nodes root
   pub front : Bytes
   pub covers : Covers keys nodes shape.front_of front child
 
 -- the child is the root of some tree
-pub record IsRoot (nodes : ℕ → Option Node) (child : Child) : Type 0 where
+pub record IsRoot (P : ℕ) (nodes : ℕ → Option Node) (child : Child) : Type 0 where
   pub keys : ℕ → Option Bytes
-  pub shape : Shape keys nodes (Some child)
+  pub shape : Shape P keys nodes (Some child)
 
 -- in some tree with this root, the mate is a stored key, at least as long as the depth
-pub record IsWayOf (nodes : ℕ → Option Node) (root : Child) (mate : Bytes) (depth : ℕ) : Type 0 where
+pub record IsWayOf (P : ℕ) (nodes : ℕ → Option Node) (root : Child) (mate : Bytes) (depth : ℕ) : Type 0 where
   pub keys : ℕ → Option Bytes
-  pub shape : Shape keys nodes (Some root)
+  pub shape : Shape P keys nodes (Some root)
   pub leaf : ℕ
   pub is : keys leaf ≡ Some mate
   pub within : depth ≤ length mate

@@ -1,11 +1,11 @@
 -- How a leaf joins the tree.
-use Rattle.std.specs.Prelude.{◌≡◌, ◌≢◌, ◌<◌, ◌≤◌, ◌+◌, ◌⊎◌, ℕ, List, take, Option, Some, None, slice_range}
+use Rattle.std.specs.Prelude.{◌≡◌, ◌≢◌, ◌<◌, ◌≤◌, ◌⊎◌, ℕ, List, Option, Some, None}
 use Rattle.blart_keys.specs.Content.{IsPut}
 use Rattle.art_tree.specs.Begins.{Bytes}
 use Rattle.art_tree.specs.Content.{Content}
 use Rattle.art_tree.specs.Good.{LeavesMate}
 use Rattle.art_tree.specs.Leaves.{Leaves, Numbered, leaf_in, OthersStand, bytes}
-use Rattle.art_tree.specs.Nodes.{Node, Nodes, Makes, Reprefixes}
+use Rattle.art_tree.specs.Nodes.{Node, Nodes, Makes}
 use Rattle.art_tree.specs.Shape.{Shape}
 use Rattle.art_tree.specs.Spots.{SpotFits}
 use Rattle.art_tree.specs.declared.records.ids.Child.{Child}
@@ -20,19 +20,19 @@ pub record Gains (old new : ℕ → Option Bytes) (i : ℕ) (k : Bytes) : Type 0
   pub others : (j : ℕ) → j ≢ i → new j ≡ old j
 
 -- in some tree with this root, the key leaves a stored key, the mate, at the spot
-pub record Joins (nodes : ℕ → Option Node) (root : Child) (spot : Spot) (key mate : Bytes) (depth : ℕ) : Type 0 where
+pub record Joins (P : ℕ) (nodes : ℕ → Option Node) (root : Child) (spot : Spot) (key mate : Bytes) (depth : ℕ) : Type 0 where
   pub keys : ℕ → Option Bytes
-  pub shape : Shape keys nodes (Some root)
+  pub shape : Shape P keys nodes (Some root)
   pub leaf : ℕ
   pub is : keys leaf ≡ Some mate
   pub leaves : LeavesMate keys leaf depth key
   pub fits : SpotFits nodes (Some root) shape.front_of mate depth spot
 
 -- each tree where the key leaves the mate at the spot is now the tree with the leaf i of that key too
-abbrev pub Joined : (ℕ → Option Node) → (ℕ → Option Node) → Child → Child → Spot → Bytes → Bytes → ℕ → ℕ → Type 0
-Joined old new root root' spot key mate depth i =
-    (keys keys' : ℕ → Option Bytes) (s : Shape keys old (Some root)) (leaf : ℕ) → keys leaf ≡ Some mate → LeavesMate keys leaf depth key → SpotFits old (Some root) s.front_of mate depth spot
-    → Gains keys keys' i key → Shape keys' new (Some root')
+abbrev pub Joined : ℕ → (ℕ → Option Node) → (ℕ → Option Node) → Child → Child → Spot → Bytes → Bytes → ℕ → ℕ → Type 0
+Joined P old new root root' spot key mate depth i =
+    (keys keys' : ℕ → Option Bytes) (s : Shape P keys old (Some root)) (leaf : ℕ) → keys leaf ≡ Some mate → LeavesMate keys leaf depth key → SpotFits old (Some root) s.front_of mate depth spot
+    → Gains keys keys' i key → Shape P keys' new (Some root')
 
 -- a node was made with these two edges, in the order of their bytes
 pub record Forks (old new : ℕ → Option Node) (n depth : ℕ) (prefix : List ℕ) (one other : Edge) : Type 0 where
@@ -42,31 +42,10 @@ pub record Forks (old new : ℕ → Option Node) (n depth : ℕ) (prefix : List 
   pub sorted : low.byte < high.byte
   pub both : ((low ≡ one) × (high ≡ other)) ⊎ ((low ≡ other) × (high ≡ one))
 
--- the node of the edge, if there is one, is less deep than this
-abbrev pub StandsOver : (ℕ → Option Node) → Option (ℕ × ℕ) → ℕ → Type 0
-StandsOver nodes None depth = Unit {0}
-StandsOver nodes (Some e) depth = (x : Node) × (nodes e.0 ≡ Some x) × (x.depth < depth)
-
--- the front of the edge has this length
-abbrev pub EdgeEnds : (ℕ → Option Node) → Option (ℕ × ℕ) → ℕ → Type 0
-EdgeEnds nodes None start = start ≡ 0
-EdgeEnds nodes (Some e) start = (x : Node) × (nodes e.0 ≡ Some x) × (start ≡ x.depth + 1)
-
--- the bytes of a key from the end of the edge's front to a depth
-pub record IsCompressed (nodes : ℕ → Option Node) (above : Option (ℕ × ℕ)) (key : Bytes) (depth : ℕ) (prefix : Bytes) : Type 0 where
-  pub start : ℕ
-  pub ends : EdgeEnds nodes above start
-  pub is : prefix ≡ slice_range key start depth
-
 -- the child is a leaf, or a node as deep as one number at least and another at most
 abbrev pub StandsWithin : (ℕ → Option Node) → Child → ℕ → ℕ → Type 0
 StandsWithin nodes (Leaf i) least most = Unit {0}
 StandsWithin nodes (Inner n) least most = (x : Node) × (nodes n ≡ Some x) × (least ≤ x.depth) × (x.depth ≤ most)
-
--- the child, if it is a node, has the bytes of a key from this place to its depth as its prefix, of which it keeps P
-abbrev pub Shortens : ℕ → (ℕ → Option Node) → (ℕ → Option Node) → Child → Bytes → ℕ → Type 0
-Shortens P old new (Leaf i) key start = (j : ℕ) → new j ≡ old j
-Shortens P old new (Inner n) key start = (x : Node) × (old n ≡ Some x) × Reprefixes old new n (take P (slice_range key start x.depth))
 
 -- what a contract sees of leaves and nodes together
 abbrev pub content_of : {K V : Type 0} → Leaves K V → Nodes → Content K V

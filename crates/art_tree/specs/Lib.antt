@@ -13,7 +13,6 @@ pub mod Shape
 pub mod Content
 pub mod Good
 pub mod Points
-pub mod Prefixes
 pub mod Whole
 pub mod Longest
 pub mod Above

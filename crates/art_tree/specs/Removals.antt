@@ -1,10 +1,10 @@
 -- What a leaf's removal finds, and what it leaves.
-use Rattle.std.specs.Prelude.{◌≡◌, ◌≢◌, ℕ, ◌+◌, ◌<◌, List, Option, Some, None, IsSome}
-use Rattle.art_tree.specs.Above.{LeadsTo, edge_front}
-use Rattle.art_tree.specs.Begins.{Bytes, Begins}
+use Rattle.std.specs.Prelude.{◌≡◌, ◌≢◌, ℕ, ◌+◌, ◌<◌, List, take, drop, length, Option, Some, None}
+use Rattle.art_tree.specs.Above.{LeadsTo, TurnsTo}
+use Rattle.art_tree.specs.Begins.{Bytes}
 use Rattle.art_tree.specs.Kids.{kid_at}
-use Rattle.art_tree.specs.Nodes.{Node, Reprefixes}
-use Rattle.art_tree.specs.Shape.{Shape, Covers}
+use Rattle.art_tree.specs.Nodes.{Node, Reprefixes, Frees}
+use Rattle.art_tree.specs.Shape.{Shape}
 use Rattle.art_tree.specs.declared.records.ids.Child.{Child}
 use Rattle.art_tree.specs.declared.records.ids.Child.TheVariants.{Leaf, Inner}
 use Rattle.art_tree.specs.declared.records.ids.Edge.{Edge}
@@ -16,8 +16,8 @@ pub record Loses (old new : ℕ → Option Bytes) (i : ℕ) (k : Bytes) : Type 0
   pub others : (j : ℕ) → j ≢ i → new j ≡ old j
 
 -- the leaf i hangs on a node by the byte b, and this edge leads to the node
-pub record HangsAt (keys : ℕ → Option Bytes) (nodes : ℕ → Option Node) (root : Option Child) (above : Option (ℕ × ℕ)) (n b i : ℕ) : Type 0 where
-  pub shape : Shape keys nodes root
+pub record HangsAt (P : ℕ) (keys : ℕ → Option Bytes) (nodes : ℕ → Option Node) (root : Option Child) (above : Option (ℕ × ℕ)) (n b i : ℕ) : Type 0 where
+  pub shape : Shape P keys nodes root
   pub key : Bytes
   pub key_is : keys i ≡ Some key
   pub node : Node
@@ -32,19 +32,16 @@ pub record OtherEdge (nodes : ℕ → Option Node) (n b : ℕ) (e : Edge) : Type
   pub there : kid_at node.kids e.byte ≡ Some e.to
   pub other : b ≢ e.byte
 
--- the edge's node is there
-abbrev pub IsLive : (ℕ → Option Node) → Option (ℕ × ℕ) → Type 0
-IsLive nodes None = Unit {0}
-IsLive nodes (Some e) = IsSome (nodes e.0)
-
--- in some tree of these keys, the child stands for those that begin with some front below the edge
-pub record HangsBelow (keys : ℕ → Option Bytes) (nodes : ℕ → Option Node) (above : Option (ℕ × ℕ)) (child : Child) : Type 0 where
+-- in some tree of these keys, the edge leads to a node, and the child hangs on it
+pub record HangsBelow (P : ℕ) (keys : ℕ → Option Bytes) (nodes : ℕ → Option Node) (above : Option (ℕ × ℕ)) (child : Child) : Type 0 where
   pub root : Option Child
-  pub shape : Shape keys nodes root
-  pub front : Bytes
-  pub covers : Covers keys nodes shape.front_of front child
-  pub live : IsLive nodes above
-  pub below : Begins (edge_front shape.front_of above) front
+  pub shape : Shape P keys nodes root
+  pub number : ℕ
+  pub leads : LeadsTo nodes root above (Inner number)
+  pub node : Node
+  pub is : nodes number ≡ Some node
+  pub byte : ℕ
+  pub there : kid_at node.kids byte ≡ Some child
 
 -- what stands below the edge begins this deep
 abbrev pub StartsBelow : (ℕ → Option Node) → Option (ℕ × ℕ) → ℕ → Type 0
@@ -56,7 +53,16 @@ abbrev pub EndsBelow : (ℕ → Option Node) → Option (ℕ × ℕ) → ℕ →
 EndsBelow nodes None end = Unit {0}
 EndsBelow nodes (Some e) end = (x : Node) × (nodes e.0 ≡ Some x) × (x.depth < end)
 
--- the child may have another prefix, and all else stands
-abbrev pub Recuts : (ℕ → Option Node) → (ℕ → Option Node) → Child → Type 0
-Recuts old new (Leaf i) = (j : ℕ) → new j ≡ old j
-Recuts old new (Inner n) = (prefix : List ℕ) × Reprefixes old new n prefix
+-- the child, if it is a node, has another prefix, and all else stands
+abbrev pub Cuts : (ℕ → Option Node) → (ℕ → Option Node) → Child → (ℕ → List ℕ) → Type 0
+Cuts old new (Leaf i) prefix = (j : ℕ) → new j ≡ old j
+Cuts old new (Inner n) prefix = (x : Node) × (old n ≡ Some x) × Reprefixes old new n (prefix x.depth)
+
+-- so is it of the child where each node keeps P bytes at most of what its front has behind g
+abbrev pub CutsBehind : ℕ → (ℕ → Option Node) → (ℕ → Option Node) → (ℕ → Bytes) → Bytes → Child → Type 0
+CutsBehind P old new front_of g (Leaf i) = (j : ℕ) → new j ≡ old j
+CutsBehind P old new front_of g (Inner n) = Reprefixes old new n (take P (drop (length g) (front_of n)))
+
+-- the edge leads to the child now, and the node is gone
+abbrev pub Merged : (ℕ → Option Node) → (ℕ → Option Node) → Option Child → Option Child → Option (ℕ × ℕ) → ℕ → Child → Type 0
+Merged old new root root' above n to = (mid : ℕ → Option Node) × TurnsTo old mid root root' above to × Frees mid new n

@@ -1,6 +1,7 @@
 -- How the inner nodes stand at the fronts where the keys part.
-use Rattle.std.specs.Prelude.{◌≡◌, ◌≢◌, ℕ, ◌<◌, [], ◌∷◌, ◌++◌, length, Option, Some, None, IsSome}
+use Rattle.std.specs.Prelude.{◌≡◌, ◌≢◌, ℕ, ◌<◌, [], ◌∷◌, ◌++◌, length, take, drop, Option, Some, None, IsSome}
 use Rattle.blart_keys.specs.Bytes.{common}
+use Rattle.art_tree.specs.Above.{LeadsTo, edge_front}
 use Rattle.art_tree.specs.Begins.{Bytes, Begins, next_byte}
 use Rattle.art_tree.specs.Kids.{kid_at, Ascends}
 use Rattle.art_tree.specs.Nodes.{Node}
@@ -51,10 +52,19 @@ abbrev pub RootFits : (ℕ → Option Bytes) → (ℕ → Option Node) → (ℕ 
 RootFits keys nodes front_of None = (j : ℕ) → keys j ≡ None
 RootFits keys nodes front_of (Some c) = Covers keys nodes front_of [] c
 
--- the nodes stand one to one at the fronts where two keys part
-pub record Shape (keys : ℕ → Option Bytes) (nodes : ℕ → Option Node) (root : Option Child) : Type 0 where
+-- what the front of a node has behind that of an edge, and of it P bytes at most
+abbrev pub first_behind : ℕ → (ℕ → Bytes) → Option (ℕ × ℕ) → ℕ → Bytes
+first_behind P front_of above n = take P (drop (length (edge_front front_of above)) (front_of n))
+
+-- each node keeps what its front has behind that of an edge to it, and of it P bytes at most
+abbrev pub Keeps : ℕ → (ℕ → Option Node) → Option Child → (ℕ → Bytes) → Type 0
+Keeps P nodes root front_of = (above : Option (ℕ × ℕ)) (n : ℕ) (x : Node) → LeadsTo nodes root above (Inner n) → nodes n ≡ Some x → x.prefix ≡ first_behind P front_of above n
+
+-- the nodes stand one to one at the fronts where two keys part, and keep P bytes of their compressed prefixes
+pub record Shape (P : ℕ) (keys : ℕ → Option Bytes) (nodes : ℕ → Option Node) (root : Option Child) : Type 0 where
   pub front_of : ℕ → Bytes
   pub top : RootFits keys nodes front_of root
   pub node : (n : ℕ) (x : Node) → nodes n ≡ Some x → NodeFits keys nodes front_of (front_of n) x
   pub joined : (i j : ℕ) (k l : Bytes) → keys i ≡ Some k → keys j ≡ Some l → i ≢ j → (n : ℕ) × IsSome (nodes n) × (front_of n ≡ common k l)
   pub apart : (n m : ℕ) → IsSome (nodes n) → IsSome (nodes m) → front_of n ≡ front_of m → n ≡ m
+  pub keeps : Keeps P nodes root front_of

@@ -3,17 +3,11 @@ use Rattle.std.specs.Prelude.{ℕ, List, Option}
 use Rattle.blart_keys.specs.Content.{IsContent}
 use Rattle.art_tree.specs.Leaves.{Leaves, keys_in, bytes}
 use Rattle.art_tree.specs.Nodes.{Nodes, at}
-use Rattle.art_tree.specs.Prefixes.{KeepPrefixes}
 use Rattle.art_tree.specs.Shape.{Shape}
 use Rattle.art_tree.specs.declared.records.ids.Child.{Child}
 
 module _ {K V : Type 0} (key_bytes : K → List ℕ) where
-  -- the pairs are a content, and the nodes stand where their keys part
-  pub record IsSound (leaves : Leaves K V) (nodes : Nodes) (root : Option Child) : Type 0 where
+  -- the pairs are a content, and the nodes stand where their keys part and keep P bytes of their compressed prefixes
+  pub record IsSound (P : ℕ) (leaves : Leaves K V) (nodes : Nodes) (root : Option Child) : Type 0 where
     pub content : IsContent (bytes key_bytes) leaves.pairs
-    pub shape : Shape (keys_in key_bytes leaves.pairs) (at nodes) root
-
-  -- and each node keeps the first P bytes of its compressed prefix
-  pub record IsWhole (P : ℕ) (leaves : Leaves K V) (nodes : Nodes) (root : Option Child) : Type 0 where
-    pub sound : IsSound leaves nodes root
-    pub prefixes : KeepPrefixes P (at nodes) root sound.shape.front_of
+    pub shape : Shape P (keys_in key_bytes leaves.pairs) (at nodes) root

@@ -43,9 +43,9 @@ pub(crate) fn mate_of<const P: usize>(
     query: &[u8],
     visits: &mut Visits,
 ) -> LeafId
-    requires { IsRoot (at nodes.now) root.now }
-    ensures mate { (keys : ℕ → Option Bytes) → Shape keys (at nodes.now) (Some root.now) → IsMate keys query.now result }
-    ensures counted { (keys : ℕ → Option Bytes) → Shape keys (at nodes.now) (Some root.now) → (key : Bytes) → keys result ≡ Some key
+    requires { IsRoot P (at nodes.now) root.now }
+    ensures mate { (keys : ℕ → Option Bytes) → Shape P keys (at nodes.now) (Some root.now) → IsMate keys query.now result }
+    ensures counted { (keys : ℕ → Option Bytes) → Shape P keys (at nodes.now) (Some root.now) → (key : Bytes) → keys result ≡ Some key
         → visits.new.count ≤ visits.old.count + length key }
     ensures grows { visits.old.count ≤ visits.new.count }
 {
@@ -81,10 +81,10 @@ pub(crate) fn end_under<const P: usize>(
     is_first: bool,
     visits: &mut Visits,
 ) -> LeafId
-    requires { Hangs (at nodes.now) child.now }
-    ensures ends { (keys : ℕ → Option Bytes) (root : Option Way) (s : Shape keys (at nodes.now) root) (g : Bytes)
+    requires { Hangs P (at nodes.now) child.now }
+    ensures ends { (keys : ℕ → Option Bytes) (root : Option Way) (s : Shape P keys (at nodes.now) root) (g : Bytes)
         → Covers keys (at nodes.now) s.front_of g child.now → IsEndUnder keys is_first g result }
-    ensures counted { (keys : ℕ → Option Bytes) (root : Option Way) (s : Shape keys (at nodes.now) root) (g key : Bytes)
+    ensures counted { (keys : ℕ → Option Bytes) (root : Option Way) (s : Shape P keys (at nodes.now) root) (g key : Bytes)
         → Covers keys (at nodes.now) s.front_of g child.now → keys result ≡ Some key
         → visits.new.count + length g ≤ visits.old.count + length key }
     ensures grows { visits.old.count ≤ visits.new.count }
@@ -106,8 +106,8 @@ pub(crate) fn locate<const P: usize>(
     depth: usize,
     visits: &mut Visits,
 ) -> Spot
-    requires { IsWayOf (at nodes.now) root.now mate.now depth }
-    ensures spot { (keys : ℕ → Option Bytes) (s : Shape keys (at nodes.now) (Some root.now)) (i : ℕ) → keys i ≡ Some mate.now
+    requires { IsWayOf P (at nodes.now) root.now mate.now depth }
+    ensures spot { (keys : ℕ → Option Bytes) (s : Shape P keys (at nodes.now) (Some root.now)) (i : ℕ) → keys i ≡ Some mate.now
         → SpotFits (at nodes.now) (Some root.now) s.front_of mate.now depth result }
     ensures counted { visits.new.count ≤ visits.old.count + depth + 1 }
     ensures grows { visits.old.count ≤ visits.new.count }
@@ -145,8 +145,8 @@ pub(crate) fn children_of<const P: usize>(
     front: &[u8],
     visits: &mut Visits,
 ) -> Option<(usize, LeafId)>
-    requires { IsRoot (at nodes.now) root.now }
-    ensures finds { (keys : ℕ → Option Bytes) (s : Shape keys (at nodes.now) (Some root.now))
+    requires { IsRoot P (at nodes.now) root.now }
+    ensures finds { (keys : ℕ → Option Bytes) (s : Shape P keys (at nodes.now) (Some root.now))
         → Finds keys (at nodes.now) s.front_of front.now visits.old.count visits.new.count result }
     ensures grows { visits.old.count ≤ visits.new.count }
 {

@@ -47,8 +47,8 @@ pub(crate) fn parting_of<K: AsBytes, V, const P: usize>(
     query: &[u8],
     visits: &mut Visits,
 ) -> Parting
-    requires { IsSound K.bytes leaves.now nodes.now (Some root.now) }
-    ensures parts { IsParting K.bytes leaves.now.pairs (at nodes.now) result query.now }
+    requires { IsSound K.bytes P leaves.now nodes.now (Some root.now) }
+    ensures parts { IsParting K.bytes P leaves.now.pairs (at nodes.now) result query.now }
     ensures counted { visits.new.count ≤ visits.old.count + longest (bytes K.bytes) leaves.now.pairs + length query.now + 2 }
     ensures grows { visits.old.count ≤ visits.new.count }
 {
@@ -85,7 +85,7 @@ pub(crate) fn leaf_before<K: AsBytes, V, const P: usize>(
     query: &[u8],
     visits: &mut Visits,
 ) -> Option<LeafId>
-    requires { LeavesAt K.bytes leaves.now.pairs (at nodes.now) departure.now query.now }
+    requires { LeavesAt K.bytes P leaves.now.pairs (at nodes.now) departure.now query.now }
     ensures before { StandsBehind (keys_in K.bytes leaves.now.pairs) query.now result }
     ensures counted { visits.new.count ≤ visits.old.count + longest (bytes K.bytes) leaves.now.pairs + 1 }
     ensures grows { visits.old.count ≤ visits.new.count }
@@ -105,8 +105,8 @@ fn before_at_node<K: AsBytes, V, const P: usize>(
     byte: u8,
     visits: &mut Visits,
 ) -> Option<LeafId>
-    requires { (q : Bytes) × LeavesAtNode K.bytes leaves.now.pairs (at nodes.now) id.now byte q }
-    ensures before { (q : Bytes) → LeavesAtNode K.bytes leaves.now.pairs (at nodes.now) id.now byte q → StandsBehind (keys_in K.bytes leaves.now.pairs) q result }
+    requires { (q : Bytes) × LeavesAtNode K.bytes P leaves.now.pairs (at nodes.now) id.now byte q }
+    ensures before { (q : Bytes) → LeavesAtNode K.bytes P leaves.now.pairs (at nodes.now) id.now byte q → StandsBehind (keys_in K.bytes leaves.now.pairs) q result }
     ensures counted { visits.new.count ≤ visits.old.count + longest (bytes K.bytes) leaves.now.pairs + 1 }
     ensures grows { visits.old.count ≤ visits.new.count }
 {
@@ -125,8 +125,8 @@ fn before_at_edge<K: AsBytes, V, const P: usize>(
     byte: u8,
     visits: &mut Visits,
 ) -> Option<LeafId>
-    requires { (q : Bytes) × LeavesAtEdge K.bytes leaves.now.pairs (at nodes.now) child.now mate_byte byte q }
-    ensures before { (q : Bytes) → LeavesAtEdge K.bytes leaves.now.pairs (at nodes.now) child.now mate_byte byte q → StandsBehind (keys_in K.bytes leaves.now.pairs) q result }
+    requires { (q : Bytes) × LeavesAtEdge K.bytes P leaves.now.pairs (at nodes.now) child.now mate_byte byte q }
+    ensures before { (q : Bytes) → LeavesAtEdge K.bytes P leaves.now.pairs (at nodes.now) child.now mate_byte byte q → StandsBehind (keys_in K.bytes leaves.now.pairs) q result }
     ensures counted { visits.new.count ≤ visits.old.count + longest (bytes K.bytes) leaves.now.pairs }
     ensures grows { visits.old.count ≤ visits.new.count }
 {

@@ -1,12 +1,12 @@
 //! A leaf joins the tree.
-ghost use Rattle.std.specs.Prelude.{◌≡◌, ◌≢◌, ◌+◌, ◌<◌, ◌≤◌, [], length, take, Some};
+ghost use Rattle.std.specs.Prelude.{◌≡◌, ◌≢◌, ◌+◌, ◌-◌, ◌^◌, ◌<◌, ◌≤◌, [], length, take, slice_range, Some};
 ghost use Rattle.art_tree.specs.Above.{LeadsTo, TurnsTo};
 ghost use Rattle.art_tree.specs.Content.{Fits, IsOpen, room as places};
-ghost use Rattle.art_tree.specs.Joins.{Joins, Joined, Forks, StandsOver, IsCompressed, StandsWithin, Shortens, Places, content_of};
+ghost use Rattle.art_tree.specs.Joins.{Joins, Joined, Forks, StandsWithin, Places, content_of};
 ghost use Rattle.art_tree.specs.Nodes.{at, room, FitsNew, SameSpares};
+ghost use Rattle.art_tree.specs.Removals.{StartsBelow, EndsBelow, Cuts};
 ghost use Rattle.art_tree.specs.Points.{IsFree, IsGood};
-ghost use Rattle.art_tree.specs.Prefixes.{JoinedKeep};
-ghost use Rattle.art_tree.specs.Whole.{IsWhole};
+ghost use Rattle.art_tree.specs.Whole.{IsSound};
 ghost use Rattle.art_tree.specs.declared.records.ids.Child.{Child as Way};
 
 use crate::descent::{Above, Spot, locate};
@@ -35,12 +35,12 @@ pub(crate) fn place_at<K: AsBytes + Drop, V: Drop, const P: usize>(
     key: K,
     value: V,
 ) -> (LeafId, Child)
-    requires whole { IsWhole K.bytes P leaves.old nodes.old root.now }
+    requires whole { IsSound K.bytes P leaves.old nodes.old root.now }
     requires good { IsGood K.bytes leaves.old.pairs point.now (K.bytes key) }
     requires open { IsOpen point.now }
     requires fits { Fits (content_of leaves.old nodes.old) point.now }
     ensures placed { Places K.bytes leaves.old.pairs leaves.new.pairs result.0 (key, value) }
-    ensures whole { IsWhole K.bytes P leaves.new nodes.new (Some result.1) }
+    ensures whole { IsSound K.bytes P leaves.new nodes.new (Some result.1) }
     ensures room { places (content_of leaves.old nodes.old) ≤ places (content_of leaves.new nodes.new) + 1 }
 {
     match point {
@@ -61,11 +61,11 @@ fn place_first<K: AsBytes + Drop, V: Drop, const P: usize>(
     key: K,
     value: V,
 ) -> (LeafId, Child)
-    requires whole { IsWhole K.bytes P leaves.old nodes.now root.now }
+    requires whole { IsSound K.bytes P leaves.old nodes.now root.now }
     requires empty { leaves.old.pairs ≡ [] }
     requires room { 0 < leaves.old.spare }
     ensures placed { Places K.bytes leaves.old.pairs leaves.new.pairs result.0 (key, value) }
-    ensures whole { IsWhole K.bytes P leaves.new nodes.now (Some result.1) }
+    ensures whole { IsSound K.bytes P leaves.new nodes.now (Some result.1) }
     ensures room { leaves.new.spare + 1 ≡ leaves.old.spare }
 {
     let id = leaves.insert(None, key, value);
@@ -81,12 +81,12 @@ fn place_beside<K: AsBytes + Drop, V: Drop, const P: usize>(
     key: K,
     value: V,
 ) -> (LeafId, Child)
-    requires whole { IsWhole K.bytes P leaves.old nodes.old (Some root.now) }
+    requires whole { IsSound K.bytes P leaves.old nodes.old (Some root.now) }
     requires free { IsFree K.bytes leaves.old.pairs place.now (K.bytes key) }
     requires leaves_room { 0 < leaves.old.spare }
     requires nodes_room { 0 < room nodes.old }
     ensures placed { Places K.bytes leaves.old.pairs leaves.new.pairs result.0 (key, value) }
-    ensures whole { IsWhole K.bytes P leaves.new nodes.new (Some result.1) }
+    ensures whole { IsSound K.bytes P leaves.new nodes.new (Some result.1) }
     ensures leaves_room { leaves.new.spare + 1 ≡ leaves.old.spare }
     ensures nodes_room { room nodes.old ≤ room nodes.new + 1 }
 {
@@ -114,11 +114,9 @@ fn add_leaf<const P: usize>(
     spot: &Spot,
     leaf: &NewLeaf<'_>,
 ) -> Child
-    requires joins { Joins (at nodes.old) root.now spot.now leaf.now.key.now leaf.now.mate.now leaf.now.depth }
+    requires joins { Joins P (at nodes.old) root.now spot.now leaf.now.key.now leaf.now.mate.now leaf.now.depth }
     requires fits { 0 < room nodes.old }
-    ensures joined { Joined (at nodes.old) (at nodes.new) root.now result
-        spot.now leaf.now.key.now leaf.now.mate.now leaf.now.depth leaf.now.id }
-    ensures kept { JoinedKeep P (at nodes.old) (at nodes.new) root.now result
+    ensures joined { Joined P (at nodes.old) (at nodes.new) root.now result
         spot.now leaf.now.key.now leaf.now.mate.now leaf.now.depth leaf.now.id }
     ensures room { room nodes.old ≤ room nodes.new + 1 }
 {
@@ -136,11 +134,9 @@ fn add_at_node<const P: usize>(
     node: &NodeId,
     leaf: &NewLeaf<'_>,
 ) -> Child
-    requires { Joins (at nodes.old) root.now
+    requires { Joins P (at nodes.old) root.now
         (Spot.Node above.now node.now) leaf.now.key.now leaf.now.mate.now leaf.now.depth }
-    ensures joined { Joined (at nodes.old) (at nodes.new) root.now result
-        (Spot.Node above.now node.now) leaf.now.key.now leaf.now.mate.now leaf.now.depth leaf.now.id }
-    ensures kept { JoinedKeep P (at nodes.old) (at nodes.new) root.now result
+    ensures joined { Joined P (at nodes.old) (at nodes.new) root.now result
         (Spot.Node above.now node.now) leaf.now.key.now leaf.now.mate.now leaf.now.depth leaf.now.id }
     ensures room { room nodes.old ≤ room nodes.new + 1 }
 {
@@ -158,17 +154,16 @@ fn add_at_edge<const P: usize>(
     child: &Child,
     leaf: &NewLeaf<'_>,
 ) -> Child
-    requires joins { Joins (at nodes.old) root.now
+    requires joins { Joins P (at nodes.old) root.now
         (Spot.Edge above.now child.now) leaf.now.key.now leaf.now.mate.now leaf.now.depth }
     requires fits { FitsNew nodes.old }
-    ensures joined { Joined (at nodes.old) (at nodes.new) root.now result
-        (Spot.Edge above.now child.now) leaf.now.key.now leaf.now.mate.now leaf.now.depth leaf.now.id }
-    ensures kept { JoinedKeep P (at nodes.old) (at nodes.new) root.now result
+    ensures joined { Joined P (at nodes.old) (at nodes.new) root.now result
         (Spot.Edge above.now child.now) leaf.now.key.now leaf.now.mate.now leaf.now.depth leaf.now.id }
     ensures room { room nodes.old ≤ room nodes.new + 1 }
 {
     let depth = leaf.depth;
-    shorten(nodes, child, leaf.mate, depth + 1);
+    let start = start_below(nodes, above);
+    cut_prefix(nodes, child, leaf.mate, depth + 1);
     let own = Edge {
         byte: leaf.key[depth],
         to: Child::Leaf(leaf.id),
@@ -177,8 +172,7 @@ fn add_at_edge<const P: usize>(
         byte: leaf.mate[depth],
         to: *child,
     };
-    let prefix = compressed(nodes, above, leaf.key, depth);
-    let made = fork(nodes, depth, prefix, &own, &other);
+    let made = fork(nodes, depth, &leaf.key[start..depth], &own, &other);
     lead(nodes, root, above, &Child::Inner(made))
 }
 
@@ -222,28 +216,26 @@ fn fork<const P: usize>(
     }
 }
 
-// The bytes of a key from an edge to a depth, which are the compressed prefix of a node there.
-fn compressed<'a, const P: usize>(
-    nodes: &Nodes<P>,
-    above: &Above,
-    key: &'a [u8],
-    depth: usize,
-) -> &'a [u8]
-    requires over { StandsOver (at nodes.now) above.now depth }
-    requires within { depth ≤ length key.now }
-    ensures { IsCompressed (at nodes.now) above.now key.now depth result.now }
+/// Where the compressed prefix below an edge begins.
+pub(crate) fn start_below<const P: usize>(nodes: &Nodes<P>, above: &Above) -> usize
+    requires { EndsBelow (at nodes.now) above.now (2 ^ 64 - 1) }
+    ensures { StartsBelow (at nodes.now) above.now result }
 {
-    let start = match above {
+    match above {
         None => 0,
         Some((parent, _)) => nodes.read(*parent, &mut Visits::new()).depth() + 1,
-    };
-    &key[start..depth]
+    }
 }
 
-// Cuts the compressed prefix of a node anew, from a key below it. It begins here now.
-fn shorten<const P: usize>(nodes: &mut Nodes<P>, child: &Child, key: &[u8], start: usize)
+/// Cuts the compressed prefix of a node anew, from a key below it. It begins here now.
+pub(crate) fn cut_prefix<const P: usize>(
+    nodes: &mut Nodes<P>,
+    child: &Child,
+    key: &[u8],
+    start: usize,
+)
     requires { StandsWithin (at nodes.old) child.now start (length key.now) }
-    ensures shortened { Shortens P (at nodes.old) (at nodes.new) child.now key.now start }
+    ensures cut { Cuts (at nodes.old) (at nodes.new) child.now (λ end. take P (slice_range key.now start end)) }
     ensures spares { SameSpares nodes.old nodes.new }
 {
     match child {

@@ -46,7 +46,7 @@ pub(crate) fn point_below<K: AsBytes, V, const P: usize>(
     root: &Child,
     query: &[u8],
 ) -> Point
-    requires { IsSound K.bytes leaves.now nodes.now (Some root.now) }
+    requires { IsSound K.bytes P leaves.now nodes.now (Some root.now) }
     ensures { IsGood K.bytes leaves.now.pairs result query.now }
 {
     leaves.law();

@@ -1,19 +1,17 @@
 //! A leaf leaves the tree.
-ghost use Rattle.std.specs.Prelude.{◌≡◌, ◌≢◌, ℕ, ◌+◌, ◌-◌, ◌<◌, ◌^◌, length, Option, Some, None};
+ghost use Rattle.std.specs.Prelude.{◌≡◌, ℕ, ◌<◌, length, Option, Some, None, IsSome};
 ghost use Rattle.art_tree.specs.Above.{LeadsTo, edge_front};
-ghost use Rattle.art_tree.specs.Begins.{Bytes, Begins};
-ghost use Rattle.art_tree.specs.Kids.{kid_at};
+ghost use Rattle.art_tree.specs.Begins.{Bytes};
 ghost use Rattle.art_tree.specs.Leaves.{leaf_in, Has, OthersStand, without_number, keys_in};
 ghost use Rattle.art_tree.specs.Nodes.{at};
-ghost use Rattle.art_tree.specs.Prefixes.{KeepPrefixes, KeepsBehind, OthersKeep, StillKeep};
-ghost use Rattle.art_tree.specs.Removals.{Loses, HangsAt, HangsBelow, OtherEdge, StartsBelow, EndsBelow, Recuts};
-ghost use Rattle.art_tree.specs.Shape.{Shape, Covers};
+ghost use Rattle.art_tree.specs.Removals.{Loses, HangsAt, HangsBelow, OtherEdge, CutsBehind, Merged};
+ghost use Rattle.art_tree.specs.Shape.{Shape};
 ghost use Rattle.art_tree.specs.Whole.{IsSound};
 ghost use Rattle.art_tree.specs.declared.records.ids.Child.{Child as Way};
 ghost use Rattle.art_tree.specs.declared.records.ids.Child.TheVariants.{Leaf, Inner};
 
 use crate::descent::{Above, Spot, end_under, locate};
-use crate::placing::lead;
+use crate::placing::{lead, start_below};
 use crate::records::ids::{Child, Edge, LeafId, NodeId};
 use crate::records::leaves::Leaves;
 use crate::records::nodes::Nodes;
@@ -46,11 +44,9 @@ fn unlink<K: AsBytes, V, const P: usize>(
     root: &Child,
     id: &LeafId,
 ) -> Option<Child>
-    requires sound { IsSound K.bytes leaves.now nodes.old (Some root.now) }
+    requires sound { IsSound K.bytes P leaves.now nodes.old (Some root.now) }
     requires has { Has leaves.now.pairs id.now }
-    ensures shape { (keys : ℕ → Option Bytes) (k : Bytes) → Loses (keys_in K.bytes leaves.now.pairs) keys id.now k → Shape keys (at nodes.new) result }
-    ensures kept { (keys : ℕ → Option Bytes) (k : Bytes) → Loses (keys_in K.bytes leaves.now.pairs) keys id.now k
-        → StillKeep P (keys_in K.bytes leaves.now.pairs) keys (at nodes.old) (at nodes.new) (Some root.now) result }
+    ensures { (keys : ℕ → Option Bytes) (k : Bytes) → Loses (keys_in K.bytes leaves.now.pairs) keys id.now k → Shape P keys (at nodes.new) result }
 {
     match edge_to_leaf(leaves, nodes, root, id) {
         None => None,
@@ -65,7 +61,7 @@ fn edge_to_leaf<K: AsBytes, V, const P: usize>(
     root: &Child,
     id: &LeafId,
 ) -> Above
-    requires sound { IsSound K.bytes leaves.now nodes.now (Some root.now) }
+    requires sound { IsSound K.bytes P leaves.now nodes.now (Some root.now) }
     requires has { Has leaves.now.pairs id.now }
     ensures { LeadsTo (at nodes.now) (Some root.now) result (Leaf id.now) }
 {
@@ -86,7 +82,7 @@ fn edge_to_node<K: AsBytes, V, const P: usize>(
     id: &LeafId,
     node: &NodeId,
 ) -> Above
-    requires sound { IsSound K.bytes leaves.now nodes.now (Some root.now) }
+    requires sound { IsSound K.bytes P leaves.now nodes.now (Some root.now) }
     requires has { Has leaves.now.pairs id.now }
     requires leads { (b : ℕ) × LeadsTo (at nodes.now) (Some root.now) (Some (node.now, b)) (Leaf id.now) }
     ensures { LeadsTo (at nodes.now) (Some root.now) result (Inner node.now) }
@@ -109,12 +105,10 @@ fn drop_edge<K: AsBytes, V, const P: usize>(
     node: &NodeId,
     byte: u8,
 ) -> Child
-    requires sound { IsSound K.bytes leaves.now nodes.old (Some root.now) }
+    requires sound { IsSound K.bytes P leaves.now nodes.old (Some root.now) }
     requires has { Has leaves.now.pairs id.now }
     requires leads { LeadsTo (at nodes.old) (Some root.now) (Some (node.now, byte)) (Leaf id.now) }
-    ensures shape { (keys : ℕ → Option Bytes) (k : Bytes) → Loses (keys_in K.bytes leaves.now.pairs) keys id.now k → Shape keys (at nodes.new) (Some result) }
-    ensures kept { (keys : ℕ → Option Bytes) (k : Bytes) → Loses (keys_in K.bytes leaves.now.pairs) keys id.now k
-        → StillKeep P (keys_in K.bytes leaves.now.pairs) keys (at nodes.old) (at nodes.new) (Some root.now) (Some result) }
+    ensures { (keys : ℕ → Option Bytes) (k : Bytes) → Loses (keys_in K.bytes leaves.now.pairs) keys id.now k → Shape P keys (at nodes.new) (Some result) }
 {
     let above = edge_to_node(leaves, nodes, root, id, node);
     let mut visits = Visits::new();
@@ -135,18 +129,16 @@ fn shrink<const P: usize>(
     node: &NodeId,
     byte: u8,
 ) -> Child
-    requires { (keys : ℕ → Option Bytes) × (i : ℕ) × HangsAt keys (at nodes.old) (Some root.now) above.now node.now byte i }
-    ensures shape { (keys keys' : ℕ → Option Bytes) (i : ℕ) (h : HangsAt keys (at nodes.old) (Some root.now) above.now node.now byte i)
-        → 2 < length h.node.kids → Loses keys keys' i h.key → Shape keys' (at nodes.new) (Some result) }
-    ensures kept { (keys keys' : ℕ → Option Bytes) (i : ℕ) (h : HangsAt keys (at nodes.old) (Some root.now) above.now node.now byte i)
-        → 2 < length h.node.kids → Loses keys keys' i h.key → StillKeep P keys keys' (at nodes.old) (at nodes.new) (Some root.now) (Some result) }
+    requires { (keys : ℕ → Option Bytes) × (i : ℕ) × HangsAt P keys (at nodes.old) (Some root.now) above.now node.now byte i }
+    ensures { (keys keys' : ℕ → Option Bytes) (i : ℕ) (h : HangsAt P keys (at nodes.old) (Some root.now) above.now node.now byte i)
+        → 2 < length h.node.kids → Loses keys keys' i h.key → Shape P keys' (at nodes.new) (Some result) }
 {
     nodes.remove_edge(*node, byte);
     let moved = nodes.narrow(*node);
     lead(nodes, root, above, &Child::Inner(moved))
 }
 
-// Takes away a node with two edges: the edge above it leads to the child of one of them. Answers the root.
+// Takes away a node: the edge above it leads to this child now. Answers the root.
 fn merge<const P: usize>(
     nodes: &mut Nodes<P>,
     root: &Child,
@@ -154,13 +146,9 @@ fn merge<const P: usize>(
     node: &NodeId,
     to: &Child,
 ) -> Child
-    requires { (keys : ℕ → Option Bytes) × (b : ℕ) × (i : ℕ) × HangsAt keys (at nodes.old) (Some root.now) above.now node.now b i }
-    ensures shape { (keys keys' : ℕ → Option Bytes) (b : ℕ) (i : ℕ) (h : HangsAt keys (at nodes.old) (Some root.now) above.now node.now b i)
-        → length h.node.kids ≡ 2 → (b1 : ℕ) → kid_at h.node.kids b1 ≡ Some to.now → b ≢ b1 → Loses keys keys' i h.key → Shape keys' (at nodes.new) (Some result) }
-    ensures kept { (keys keys' : ℕ → Option Bytes) (b : ℕ) (i : ℕ) (h : HangsAt keys (at nodes.old) (Some root.now) above.now node.now b i)
-        → length h.node.kids ≡ 2 → (b1 : ℕ) → kid_at h.node.kids b1 ≡ Some to.now → b ≢ b1 → Loses keys keys' i h.key
-        → OthersKeep P (at nodes.old) (Some root.now) h.shape.front_of to.now → KeepsBehind P (at nodes.old) h.shape.front_of above.now to.now
-        → (s : Shape keys' (at nodes.new) (Some result)) → KeepPrefixes P (at nodes.new) (Some result) s.front_of }
+    requires leads { LeadsTo (at nodes.old) (Some root.now) above.now (Inner node.now) }
+    requires live { IsSome (at nodes.old node.now) }
+    ensures { Merged (at nodes.old) (at nodes.new) (Some root.now) (Some result) above.now node.now to.now }
 {
     let root = lead(nodes, root, above, to);
     nodes.free(*node);
@@ -169,7 +157,7 @@ fn merge<const P: usize>(
 
 // Another edge of a node than the one to a leaf.
 fn other_edge<const P: usize>(nodes: &Nodes<P>, node: &NodeId, byte: u8) -> Edge
-    requires { (keys : ℕ → Option Bytes) × (root : Option Way) × (above : Option (ℕ × ℕ)) × (i : ℕ) × HangsAt keys (at nodes.now) root above node.now byte i }
+    requires { (keys : ℕ → Option Bytes) × (root : Option Way) × (above : Option (ℕ × ℕ)) × (i : ℕ) × HangsAt P keys (at nodes.now) root above node.now byte i }
     ensures { OtherEdge (at nodes.now) node.now byte result }
 {
     let mut visits = Visits::new();
@@ -183,17 +171,16 @@ fn other_edge<const P: usize>(nodes: &Nodes<P>, node: &NodeId, byte: u8) -> Edge
     }
 }
 
-// Cuts the compressed prefix of a node anew, from a key below it: it begins below this edge now.
+// Cuts the compressed prefix of a child anew: it begins below this edge now.
 fn recut<K: AsBytes, V, const P: usize>(
     leaves: &Leaves<K, V>,
     nodes: &mut Nodes<P>,
     above: &Above,
     child: &Child,
 )
-    requires { HangsBelow (keys_in K.bytes leaves.now.pairs) (at nodes.old) above.now child.now }
-    ensures cut { Recuts (at nodes.old) (at nodes.new) child.now }
-    ensures kept { (root : Option Way) (s : Shape (keys_in K.bytes leaves.now.pairs) (at nodes.old) root) (g : Bytes) → Covers (keys_in K.bytes leaves.now.pairs) (at nodes.old) s.front_of g child.now
-        → Begins (edge_front s.front_of above.now) g → KeepsBehind P (at nodes.new) s.front_of above.now child.now }
+    requires { HangsBelow P (keys_in K.bytes leaves.now.pairs) (at nodes.old) above.now child.now }
+    ensures { (h : HangsBelow P (keys_in K.bytes leaves.now.pairs) (at nodes.old) above.now child.now)
+        → CutsBehind P (at nodes.old) (at nodes.new) h.shape.front_of (edge_front h.shape.front_of above.now) child.now }
 {
     match child {
         Child::Leaf(_) => {}
@@ -202,22 +189,8 @@ fn recut<K: AsBytes, V, const P: usize>(
             let leaf = end_under(nodes, child, true, &mut visits);
             let (key, _) = leaves.read(leaf, &mut visits);
             let end = nodes.read(*id, &mut visits).depth();
-            let start = depth_below(nodes, above);
+            let start = start_below(nodes, above);
             nodes.set_prefix(*id, &key.as_bytes()[start..end]);
-        }
-    }
-}
-
-// Where the compressed prefix below an edge begins.
-fn depth_below<const P: usize>(nodes: &Nodes<P>, above: &Above) -> usize
-    requires { EndsBelow (at nodes.now) above.now (2 ^ 64 - 1) }
-    ensures { StartsBelow (at nodes.now) above.now result }
-{
-    match above {
-        None => 0,
-        Some((parent, _)) => {
-            let mut visits = Visits::new();
-            nodes.read(*parent, &mut visits).depth() + 1
         }
     }
 }

@@ -85,8 +85,8 @@ fn leaf_toward<const P: usize>(
     query: &[u8],
     visits: &mut Visits,
 ) -> Option<LeafId>
-    requires { IsRoot (nodes_at nodes.now) root.now }
-    ensures goes { (keys : ℕ → Option Bytes) → Shape keys (nodes_at nodes.now) (Some root.now)
+    requires { IsRoot P (nodes_at nodes.now) root.now }
+    ensures goes { (keys : ℕ → Option Bytes) → Shape P keys (nodes_at nodes.now) (Some root.now)
         → GoesTo keys query.now visits.old.count visits.new.count result }
     ensures grows { visits.old.count ≤ visits.new.count }
 {

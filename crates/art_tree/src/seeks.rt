@@ -95,7 +95,7 @@ fn place_below<K: AsBytes, V, const P: usize>(
     query: &[u8],
     visits: &mut Visits,
 ) -> Result<LeafId, Option<LeafId>>
-    requires { IsSound K.bytes leaves.now nodes.now (Some root.now) }
+    requires { IsSound K.bytes P leaves.now nodes.now (Some root.now) }
     ensures stands { StandsAt (keys_in K.bytes leaves.now.pairs) query.now result }
     ensures counted { visits.new.count ≤ visits.old.count + (length query.now + 2) * (longest (bytes K.bytes) leaves.now.pairs + 1) + 1 }
     ensures grows { visits.old.count ≤ visits.new.count }
@@ -120,7 +120,7 @@ fn span_below<K: AsBytes, V, const P: usize>(
     front: &[u8],
     visits: &mut Visits,
 ) -> Option<(LeafId, LeafId)>
-    requires { IsSound K.bytes leaves.now nodes.now (Some root.now) }
+    requires { IsSound K.bytes P leaves.now nodes.now (Some root.now) }
     ensures found { result ≡ ends (under (bytes K.bytes) leaves.now.pairs front.now) }
     ensures counted { visits.new.count ≤ visits.old.count + (length front.now + 3) * (longest (bytes K.bytes) leaves.now.pairs + 1) }
     ensures grows { visits.old.count ≤ visits.new.count }

@@ -41,11 +41,11 @@ impl<K: AsBytes, V, const PREFIX_LEN: usize> Model for Tree<K, V, PREFIX_LEN> {
 
     ghost coded = { content_code K.code V.code };
 
-    ghost use Rattle.art_tree.specs.Whole.{IsWhole};
+    ghost use Rattle.art_tree.specs.Whole.{IsSound};
 
     ghost view = { λ t. record { pairs = t.leaves.pairs; spares = record { leaves = t.leaves.spare; nodes = t.nodes.spare } } };
 
-    ghost invariant = { λ t. IsWhole K.bytes PREFIX_LEN t.leaves t.nodes t.root };
+    ghost invariant = { λ t. IsSound K.bytes PREFIX_LEN t.leaves t.nodes t.root };
 }
 
 impl<K: AsBytes + Drop, V: Drop, const PREFIX_LEN: usize> Tree<K, V, PREFIX_LEN> {

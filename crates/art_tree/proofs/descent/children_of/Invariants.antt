@@ -8,7 +8,7 @@ use Rattle.art_tree.proofs.descent.children_of.Given as goal
 
 abbrev pub invariant-down : goal.invariant-down
 invariant-down g l = record {
-  way : (keys : ℕ → Option Bytes) (s : Shape keys (at l.nodes) (Some l.fn.root)) → Heads keys (at l.nodes) l.front s.front_of l.at l.initial.visits.count l.visits.count;
+  way : (keys : ℕ → Option Bytes) (s : Shape g.row.P keys (at l.nodes) (Some l.fn.root)) → Heads keys (at l.nodes) l.front s.front_of l.at l.initial.visits.count l.visits.count;
   rising : l.initial.visits.count ≤ l.visits.count;
 }
 

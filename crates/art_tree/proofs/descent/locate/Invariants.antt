@@ -7,7 +7,7 @@ use Rattle.art_tree.proofs.descent.locate.Given as goal
 
 abbrev pub invariant-down : goal.invariant-down
 invariant-down g l = record {
-  stands : (keys : ℕ → Option Bytes) (s : Shape keys (at l.nodes) (Some l.fn.root)) (i : ℕ) → keys i ≡ Some l.mate → Stands keys (at l.nodes) (Some l.fn.root) s.front_of l.mate l.depth l.above l.at l.gone;
+  stands : (keys : ℕ → Option Bytes) (s : Shape g.row.P keys (at l.nodes) (Some l.fn.root)) (i : ℕ) → keys i ≡ Some l.mate → Stands keys (at l.nodes) (Some l.fn.root) s.front_of l.mate l.depth l.above l.at l.gone;
   near : l.gone ≤ l.depth;
   few : l.visits.count ≤ l.initial.visits.count + l.gone;
   rising : l.initial.visits.count ≤ l.visits.count;

@@ -12,7 +12,7 @@ use Rattle.art_tree.proofs.Soundness.{within_longest}
 use Rattle.art_tree.proofs.parting.parting_of.Goals as goal
 
 -- the visits on the way to the mate are no more than the longest key has bytes
-mate_few : {K V : Type 0} (kb : K → List ℕ) (S : List (Numbered K V)) (nodes : ℕ → Option Node) (root : Option Child) (s : Shape (keys_in kb S) nodes root) (q : Bytes) (i : ℕ) → IsMate (keys_in kb S) q i → (old new : ℕ) → ((key : Bytes) → keys_in kb S i ≡ Some key → new ≤ old + length key) → new ≤ old + longest (bytes kb) S
+mate_few : {P : ℕ} → {K V : Type 0} (kb : K → List ℕ) (S : List (Numbered K V)) (nodes : ℕ → Option Node) (root : Option Child) (s : Shape P (keys_in kb S) nodes root) (q : Bytes) (i : ℕ) → IsMate (keys_in kb S) q i → (old new : ℕ) → ((key : Bytes) → keys_in kb S i ≡ Some key → new ≤ old + length key) → new ≤ old + longest (bytes kb) S
 mate_few kb S nodes root s q i m old new counted =
     let low : length m.key ≤ longest (bytes kb) S = within_longest kb S i m.key m.is in
     let few : new ≤ old + length m.key = counted m.key m.is in

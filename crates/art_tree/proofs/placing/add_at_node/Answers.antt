@@ -5,7 +5,6 @@ use Rattle.art_tree.proofs.Growing.{covers_above}
 use Rattle.art_tree.proofs.Joining.{wide_absent}
 use Rattle.art_tree.proofs.Leading.{leads_renamed}
 use Rattle.art_tree.proofs.PlacedShapes.{placed_wide}
-use Rattle.art_tree.proofs.PrefixesJoining.{keep_at_node}
 use Rattle.art_tree.proofs.placing.add_at_node.Goals as goal
 
 pub widen-wide-requires : goal.widen-wide-requires
@@ -33,8 +32,3 @@ pub returns-clause-joined : goal.returns-clause-joined
 returns-clause-joined g c keys keys' s leaf is leaves fits gains =
     placed_wide keys leaf c.args.leaf.now.depth c.args.leaf.now.key.now leaves c.args.leaf.now.mate.now is keys' c.args.leaf.now.id gains (at c.args.nodes.now) (at c.widen-wide.new.self) (at c.lead-top.new.nodes) (at c.add_edge.new.self) (Some c.args.root.now) (Some c.lead-top.result) c.args.node.now c.widen-wide.result c.args.above.now s fits.1
     c.widen-wide.ensures.moved fits.0.leads c.lead-top.ensures.turned c.add_edge.ensures.added
-
-pub returns-clause-kept : goal.returns-clause-kept
-returns-clause-kept g c keys keys' s leaf is leaves fits gains =
-    keep_at_node g.row.P keys keys' leaf c.args.leaf.now.depth c.args.leaf.now.id c.args.leaf.now.key.now leaves c.args.leaf.now.mate.now is gains (Some c.args.root.now) (Some c.lead-top.result) c.args.above.now (at c.args.nodes.now) (at c.widen-wide.new.self) (at c.lead-top.new.nodes) (at c.add_edge.new.self)
-    c.args.node.now c.widen-wide.result s fits.1 c.widen-wide.ensures.moved fits.0.leads c.lead-top.ensures.turned c.add_edge.ensures.added

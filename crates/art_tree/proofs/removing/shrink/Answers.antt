@@ -1,7 +1,6 @@
 use Rattle.std.proofs.Common.{Some, lit<}
 use Rattle.art_tree.specs.Nodes.{at}
 use Rattle.art_tree.specs.declared.records.ids.Child.TheVariants.{Inner}
-use Rattle.art_tree.proofs.PrefixesMerging.{keep_shrunk}
 use Rattle.art_tree.proofs.Unlinking.{leads_narrowed, shape_shrunk}
 use Rattle.art_tree.proofs.removing.shrink.Goals as goal
 
@@ -15,10 +14,6 @@ lead-requires g c =
       ),
     )
 
-pub returns-clause-shape : goal.returns-clause-shape
-returns-clause-shape g c = λ keys keys' i h more loses.
+pub returns : goal.returns
+returns g c = λ keys keys' i h more loses.
     shape_shrunk keys (at c.args.nodes.now) (at c.remove_edge.new.self) (at c.narrow-moved.new.self) (Some c.args.root.now) c.args.above.now c.args.node.now c.narrow-moved.result c.args.byte i c.remove_edge.ensures.removed c.narrow-moved.ensures.moved keys' (at c.lead.new.nodes) (Some c.lead.result) h more loses c.lead.ensures.turned
-
-pub returns-clause-kept : goal.returns-clause-kept
-returns-clause-kept g c = λ keys keys' i h more loses s kept s'.
-    keep_shrunk keys (at c.args.nodes.now) (at c.remove_edge.new.self) (at c.narrow-moved.new.self) (Some c.args.root.now) c.args.above.now c.args.node.now c.narrow-moved.result c.args.byte i c.remove_edge.ensures.removed c.narrow-moved.ensures.moved g.row.P keys' (at c.lead.new.nodes) (Some c.lead.result) h more loses c.lead.ensures.turned s kept s'

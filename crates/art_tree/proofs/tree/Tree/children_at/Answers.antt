@@ -19,7 +19,7 @@ use Rattle.art_tree.proofs.SameShapes.{rooted}
 use Rattle.art_tree.proofs.Soundness.{rootless, within_longest}
 use Rattle.art_tree.proofs.tree.Tree.children_at.Goals as goal
 
-module _ {K V : Type 0} (kb : K → List ℕ) (S : List (Numbered K V)) (content : IsContent (bytes kb) S) (distinct : AreDistinct S) (nodes : ℕ → Option Node) (root : Option Child) (s : Shape (keys_in kb S) nodes root) (f : Bytes) (old new : ℕ) where
+module _ {P : ℕ} {K V : Type 0} (kb : K → List ℕ) (S : List (Numbered K V)) (content : IsContent (bytes kb) S) (distinct : AreDistinct S) (nodes : ℕ → Option Node) (root : Option Child) (s : Shape P (keys_in kb S) nodes root) (f : Bytes) (old new : ℕ) where
   -- no node stands there, and so nothing parts there
   nothing : FindsNone (keys_in kb S) nodes s.front_of f old new → 0 ≡ set.len (parts (bytes kb) S f)
   nothing h = sym (no_parts kb S content distinct nodes root s f h.none)
@@ -67,14 +67,14 @@ pub returns-in_default-clause-value : goal.returns-in_default-clause-value
 returns-in_default-clause-value g c =
     let kb = g.K.AsBytes.bytes in
     let i = c.self.inside in
-    let s = c.self.invariant.sound.shape in
-    rootless_value kb i.leaves.pairs c.self.invariant.sound.content c.law.ensures.distinct (at i.nodes) i.root s c.args.front.now 0 0 c.in_default.is
+    let s = c.self.invariant.shape in
+    rootless_value kb i.leaves.pairs c.self.invariant.content c.law.ensures.distinct (at i.nodes) i.root s c.args.front.now 0 0 c.in_default.is
     ∙ ap (λ t. set.len (parts (bytes kb) t.pairs c.args.front.now)) c.self.view_is
 
 pub children_of-requires : goal.children_of-requires
 children_of-requires g c =
     let i = c.self.inside in
-    (lit< tt, is_root (at i.nodes) (keys_in g.K.AsBytes.bytes i.leaves.pairs) c.in-Some.root (rooted (keys_in g.K.AsBytes.bytes i.leaves.pairs) (at i.nodes) i.root (Some c.in-Some.root) c.self.invariant.sound.shape c.in-Some.is))
+    (lit< tt, is_root (at i.nodes) (keys_in g.K.AsBytes.bytes i.leaves.pairs) c.in-Some.root (rooted (keys_in g.K.AsBytes.bytes i.leaves.pairs) (at i.nodes) i.root (Some c.in-Some.root) c.self.invariant.shape c.in-Some.is))
 
 pub returns-in_default-children_of-clause-value : goal.returns-in_default-children_of-clause-value
 returns-in_default-children_of-clause-value g c =
@@ -83,12 +83,12 @@ returns-in_default-children_of-clause-value g c =
     let S = i.leaves.pairs in
     let nodes = at i.nodes in
     let root = Some c.in-Some.root in
-    let s = rooted (keys_in kb S) nodes i.root root c.self.invariant.sound.shape c.in-Some.is in
+    let s = rooted (keys_in kb S) nodes i.root root c.self.invariant.shape c.in-Some.is in
     let f = c.args.front.now in
     let old = c.args.visits.now.count in
     let new = c.children_of.new.visits.count in
     let found : FindsNone (keys_in kb S) nodes s.front_of f old new = c.in_default-children_of.ensures.finds (keys_in kb S) s in
-    nothing kb S c.self.invariant.sound.content c.law.ensures.distinct nodes root s f old new found ∙ ap (λ t. set.len (parts (bytes kb) t.pairs f)) c.self.view_is
+    nothing kb S c.self.invariant.content c.law.ensures.distinct nodes root s f old new found ∙ ap (λ t. set.len (parts (bytes kb) t.pairs f)) c.self.view_is
 
 pub returns-in_default-children_of-clause-counted : goal.returns-in_default-children_of-clause-counted
 returns-in_default-children_of-clause-counted g c =
@@ -97,12 +97,12 @@ returns-in_default-children_of-clause-counted g c =
     let S = i.leaves.pairs in
     let nodes = at i.nodes in
     let root = Some c.in-Some.root in
-    let s = rooted (keys_in kb S) nodes i.root root c.self.invariant.sound.shape c.in-Some.is in
+    let s = rooted (keys_in kb S) nodes i.root root c.self.invariant.shape c.in-Some.is in
     let f = c.args.front.now in
     let old = c.args.visits.now.count in
     let new = c.children_of.new.visits.count in
     let found : FindsNone (keys_in kb S) nodes s.front_of f old new = c.in_default-children_of.ensures.finds (keys_in kb S) s in
-    subst (λ (z : ℕ). new ≤ old + z + 1) (ap (λ t. longest (bytes kb) t.pairs) c.self.view_is) (nothing_soon kb S c.self.invariant.sound.content c.law.ensures.distinct nodes root s f old new found)
+    subst (λ (z : ℕ). new ≤ old + z + 1) (ap (λ t. longest (bytes kb) t.pairs) c.self.view_is) (nothing_soon kb S c.self.invariant.content c.law.ensures.distinct nodes root s f old new found)
 
 pub read-requires : goal.read-requires
 read-requires g c =
@@ -111,7 +111,7 @@ read-requires g c =
     let S = i.leaves.pairs in
     let nodes = at i.nodes in
     let root = Some c.in-Some.root in
-    let s = rooted (keys_in kb S) nodes i.root root c.self.invariant.sound.shape c.in-Some.is in
+    let s = rooted (keys_in kb S) nodes i.root root c.self.invariant.shape c.in-Some.is in
     let f = c.args.front.now in
     let old = c.args.visits.now.count in
     let new = c.children_of.new.visits.count in
@@ -127,7 +127,7 @@ returns-then-begins-clause-value g c =
     let S = i.leaves.pairs in
     let nodes = at i.nodes in
     let root = Some c.in-Some.root in
-    let s = rooted (keys_in kb S) nodes i.root root c.self.invariant.sound.shape c.in-Some.is in
+    let s = rooted (keys_in kb S) nodes i.root root c.self.invariant.shape c.in-Some.is in
     let f = c.args.front.now in
     let old = c.args.visits.now.count in
     let new = c.children_of.new.visits.count in
@@ -136,7 +136,7 @@ returns-then-begins-clause-value g c =
     let found : FindsNode (keys_in kb S) nodes s.front_of f old new count leaf = c.in-Some-children_of.ensures.finds (keys_in kb S) s in
     let k = kb c.read.result.0.now in
     let is : keys_in kb S leaf ≡ Some k = key_of_pair kb S leaf (c.read.result.0.now, c.read.result.1.now) c.read.ensures.value in
-    subst (λ (T : List (Numbered _ _)). count ≡ set.len (parts (bytes kb) T f)) (ap (λ t. t.pairs) c.self.view_is) (counts kb S c.self.invariant.sound.content c.law.ensures.distinct nodes root s f old new count leaf found k is c.as_bytes.result.now c.if-begins.ensures c.as_bytes.ensures)
+    subst (λ (T : List (Numbered _ _)). count ≡ set.len (parts (bytes kb) T f)) (ap (λ t. t.pairs) c.self.view_is) (counts kb S c.self.invariant.content c.law.ensures.distinct nodes root s f old new count leaf found k is c.as_bytes.result.now c.if-begins.ensures c.as_bytes.ensures)
 
 pub returns-then-begins-clause-counted : goal.returns-then-begins-clause-counted
 returns-then-begins-clause-counted g c =
@@ -145,7 +145,7 @@ returns-then-begins-clause-counted g c =
     let S = i.leaves.pairs in
     let nodes = at i.nodes in
     let root = Some c.in-Some.root in
-    let s = rooted (keys_in kb S) nodes i.root root c.self.invariant.sound.shape c.in-Some.is in
+    let s = rooted (keys_in kb S) nodes i.root root c.self.invariant.shape c.in-Some.is in
     let f = c.args.front.now in
     let old = c.args.visits.now.count in
     let new = c.children_of.new.visits.count in
@@ -154,7 +154,7 @@ returns-then-begins-clause-counted g c =
     let found : FindsNode (keys_in kb S) nodes s.front_of f old new count leaf = c.in-Some-children_of.ensures.finds (keys_in kb S) s in
     let k = kb c.read.result.0.now in
     let is : keys_in kb S leaf ≡ Some k = key_of_pair kb S leaf (c.read.result.0.now, c.read.result.1.now) c.read.ensures.value in
-    subst (λ (z : ℕ). c.read.new.visits.count ≤ old + z + 1) (ap (λ t. longest (bytes kb) t.pairs) c.self.view_is) (soon kb S c.self.invariant.sound.content c.law.ensures.distinct nodes root s f old new count leaf found k is c.read.new.visits.count c.read.ensures.counted)
+    subst (λ (z : ℕ). c.read.new.visits.count ≤ old + z + 1) (ap (λ t. longest (bytes kb) t.pairs) c.self.view_is) (soon kb S c.self.invariant.content c.law.ensures.distinct nodes root s f old new count leaf found k is c.read.new.visits.count c.read.ensures.counted)
 
 pub returns-else-begins-clause-value : goal.returns-else-begins-clause-value
 returns-else-begins-clause-value g c =
@@ -163,7 +163,7 @@ returns-else-begins-clause-value g c =
     let S = i.leaves.pairs in
     let nodes = at i.nodes in
     let root = Some c.in-Some.root in
-    let s = rooted (keys_in kb S) nodes i.root root c.self.invariant.sound.shape c.in-Some.is in
+    let s = rooted (keys_in kb S) nodes i.root root c.self.invariant.shape c.in-Some.is in
     let f = c.args.front.now in
     let old = c.args.visits.now.count in
     let new = c.children_of.new.visits.count in
@@ -172,7 +172,7 @@ returns-else-begins-clause-value g c =
     let found : FindsNode (keys_in kb S) nodes s.front_of f old new count leaf = c.in-Some-children_of.ensures.finds (keys_in kb S) s in
     let k = kb c.read.result.0.now in
     let is : keys_in kb S leaf ≡ Some k = key_of_pair kb S leaf (c.read.result.0.now, c.read.result.1.now) c.read.ensures.value in
-    subst (λ (T : List (Numbered _ _)). 0 ≡ set.len (parts (bytes kb) T f)) (ap (λ t. t.pairs) c.self.view_is) (other kb S c.self.invariant.sound.content c.law.ensures.distinct nodes root s f old new count leaf found k is c.as_bytes.result.now c.if-begins.ensures c.as_bytes.ensures)
+    subst (λ (T : List (Numbered _ _)). 0 ≡ set.len (parts (bytes kb) T f)) (ap (λ t. t.pairs) c.self.view_is) (other kb S c.self.invariant.content c.law.ensures.distinct nodes root s f old new count leaf found k is c.as_bytes.result.now c.if-begins.ensures c.as_bytes.ensures)
 
 pub returns-else-begins-clause-counted : goal.returns-else-begins-clause-counted
 returns-else-begins-clause-counted g c =
@@ -181,7 +181,7 @@ returns-else-begins-clause-counted g c =
     let S = i.leaves.pairs in
     let nodes = at i.nodes in
     let root = Some c.in-Some.root in
-    let s = rooted (keys_in kb S) nodes i.root root c.self.invariant.sound.shape c.in-Some.is in
+    let s = rooted (keys_in kb S) nodes i.root root c.self.invariant.shape c.in-Some.is in
     let f = c.args.front.now in
     let old = c.args.visits.now.count in
     let new = c.children_of.new.visits.count in
@@ -190,4 +190,4 @@ returns-else-begins-clause-counted g c =
     let found : FindsNode (keys_in kb S) nodes s.front_of f old new count leaf = c.in-Some-children_of.ensures.finds (keys_in kb S) s in
     let k = kb c.read.result.0.now in
     let is : keys_in kb S leaf ≡ Some k = key_of_pair kb S leaf (c.read.result.0.now, c.read.result.1.now) c.read.ensures.value in
-    subst (λ (z : ℕ). c.read.new.visits.count ≤ old + z + 1) (ap (λ t. longest (bytes kb) t.pairs) c.self.view_is) (soon kb S c.self.invariant.sound.content c.law.ensures.distinct nodes root s f old new count leaf found k is c.read.new.visits.count c.read.ensures.counted)
+    subst (λ (z : ℕ). c.read.new.visits.count ≤ old + z + 1) (ap (λ t. longest (bytes kb) t.pairs) c.self.view_is) (soon kb S c.self.invariant.content c.law.ensures.distinct nodes root s f old new count leaf found k is c.read.new.visits.count c.read.ensures.counted)
