@@ -1,5 +1,5 @@
 use Rattle.std.proofs.Common.{sym, ◌∙◌}
-use Rattle.art_tree.proofs.PairChanges.{found_has}
+use Rattle.art_tree.proofs.Pairs.Changes.{found_has}
 use Rattle.art_tree.proofs.tests.find.Goals as goal
 
 pub returns : goal.returns

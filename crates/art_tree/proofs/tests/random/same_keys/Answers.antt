@@ -1,6 +1,6 @@
 use Rattle.std.proofs.Common.{lit<, ◌∙◌, sym}
 use Rattle.art_tree.specs.Leaves.{Has}
-use Rattle.art_tree.proofs.LeavesLemmas.{Has-first, Has-after}
+use Rattle.art_tree.proofs.Pairs.Numbers.{Has-first, Has-after}
 use Rattle.blart_keys.proofs.Options.{if_some, if_some_at}
 use Rattle.art_tree.proofs.tests.random.same_keys.Goals as goal
 

@@ -4,19 +4,19 @@ use Rattle.blart_keys.specs.Bytes.{begins}
 use Rattle.blart_keys.specs.Content.{IsContent}
 use Rattle.blart_keys.specs.Fronts.{parts}
 use Rattle.art_tree.specs.Begins.{Bytes, Begins}
-use Rattle.art_tree.specs.Descents.{FindsNone, FindsNode}
+use Rattle.art_tree.specs.Calls.Descents.{FindsNone, FindsNode}
 use Rattle.art_tree.specs.Leaves.{Numbered, AreDistinct, keys_in, bytes}
 use Rattle.art_tree.specs.Longest.{longest}
-use Rattle.art_tree.specs.Nodes.{Node, at}
-use Rattle.art_tree.specs.Shape.{Shape}
+use Rattle.art_tree.specs.Slabs.Nodes.{Node, at}
+use Rattle.art_tree.specs.Invariant.Shape.{Shape}
 use Rattle.art_tree.specs.declared.records.ids.Child.{Child}
 use Rattle.art_tree.proofs.BeginsLemmas.{Begins-from_begins, begins-from_Begins, Begins-linear, Begins-equal}
-use Rattle.art_tree.proofs.Counting.{no_parts, edges_are_parts}
-use Rattle.art_tree.proofs.HangingOn.{is_root}
+use Rattle.art_tree.proofs.Invariant.Counting.{no_parts, edges_are_parts}
+use Rattle.art_tree.proofs.Ways.Roots.{is_root}
 use Rattle.blart_keys.proofs.Options.{some_of}
-use Rattle.art_tree.proofs.PairLemmas.{has_key, key_of_pair}
-use Rattle.art_tree.proofs.SameShapes.{rooted}
-use Rattle.art_tree.proofs.Soundness.{rootless, within_longest}
+use Rattle.art_tree.proofs.Pairs.Keys.{has_key, key_of_pair}
+use Rattle.art_tree.proofs.Invariant.SameShapes.{rooted}
+use Rattle.art_tree.proofs.Invariant.Soundness.{rootless, within_longest}
 use Rattle.art_tree.proofs.tree.Tree.children_at.Goals as goal
 
 module _ {P : ℕ} {K V : Type 0} (kb : K → List ℕ) (S : List (Numbered K V)) (content : IsContent (bytes kb) S) (distinct : AreDistinct S) (nodes : ℕ → Option Node) (root : Option Child) (s : Shape P (keys_in kb S) nodes root) (f : Bytes) (old new : ℕ) where

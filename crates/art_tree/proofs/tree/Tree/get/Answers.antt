@@ -1,13 +1,13 @@
 use Rattle.std.proofs.Common.{◌≡◌, ℕ, ◌+◌, ◌≤◌, length, lit<, subst, sym, ap, ◌∙◌, arith, Some, Option}
 use Rattle.std.specs.Cmp.Lexicographic.{same_text}
-use Rattle.art_tree.specs.Descents.{GoesTo}
+use Rattle.art_tree.specs.Calls.Descents.{GoesTo}
 use Rattle.art_tree.specs.Leaves.{keys_in}
-use Rattle.art_tree.specs.Nodes.{at}
-use Rattle.art_tree.proofs.HangingOn.{is_root}
-use Rattle.art_tree.proofs.LookUps.{only_has, answers_at, answers_none_at, not_text}
-use Rattle.art_tree.proofs.PairLemmas.{key_of_pair}
-use Rattle.art_tree.proofs.SameShapes.{rooted}
-use Rattle.art_tree.proofs.Searching.{root_none, absent, only_absent}
+use Rattle.art_tree.specs.Slabs.Nodes.{at}
+use Rattle.art_tree.proofs.Ways.Roots.{is_root}
+use Rattle.art_tree.proofs.Pairs.LookUps.{only_has, answers_at, answers_none_at, not_text}
+use Rattle.art_tree.proofs.Pairs.Keys.{key_of_pair}
+use Rattle.art_tree.proofs.Invariant.SameShapes.{rooted}
+use Rattle.art_tree.proofs.Ways.ToQuery.{root_none, absent, only_absent}
 use Rattle.art_tree.proofs.tree.Tree.get.Goals as goal
 
 pub returns-in_err-root-clause-found : goal.returns-in_err-root-clause-found

@@ -3,14 +3,14 @@ use Rattle.std.proofs.lemmas.Bool.{false≢true}
 use Rattle.blart_keys.specs.Bytes.{begins}
 use Rattle.art_tree.proofs.BeginsLemmas.{Begins-from_begins, begins-from_Begins}
 use Rattle.art_tree.specs.Begins.{Bytes, Begins}
-use Rattle.art_tree.specs.Descents.{GoesTo}
+use Rattle.art_tree.specs.Calls.Descents.{GoesTo}
 use Rattle.art_tree.specs.Leaves.{keys_in}
-use Rattle.art_tree.specs.Nodes.{at}
-use Rattle.art_tree.proofs.HangingOn.{is_root}
-use Rattle.art_tree.proofs.LookUps.{only_has, answers_front, answers_no_front}
-use Rattle.art_tree.proofs.PairLemmas.{key_of_pair}
-use Rattle.art_tree.proofs.SameShapes.{rooted}
-use Rattle.art_tree.proofs.Searching.{root_none, only_not}
+use Rattle.art_tree.specs.Slabs.Nodes.{at}
+use Rattle.art_tree.proofs.Ways.Roots.{is_root}
+use Rattle.art_tree.proofs.Pairs.LookUps.{only_has, answers_front, answers_no_front}
+use Rattle.art_tree.proofs.Pairs.Keys.{key_of_pair}
+use Rattle.art_tree.proofs.Invariant.SameShapes.{rooted}
+use Rattle.art_tree.proofs.Ways.ToQuery.{root_none, only_not}
 use Rattle.art_tree.proofs.tree.Tree.get_front.Goals as goal
 
 pub returns-in_err-root-clause-found : goal.returns-in_err-root-clause-found

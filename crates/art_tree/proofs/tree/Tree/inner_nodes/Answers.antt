@@ -3,7 +3,7 @@ use Rattle.std.specs.FinSet as set
 use Rattle.blart_keys.specs.Fronts.{fronts}
 use Rattle.blart_keys.proofs.FrontSizes.{front_count}
 use Rattle.art_tree.specs.Leaves.{bytes}
-use Rattle.art_tree.proofs.Counting.{nodes_are_fronts}
+use Rattle.art_tree.proofs.Invariant.Counting.{nodes_are_fronts}
 use Rattle.art_tree.proofs.tree.Tree.inner_nodes.Goals as goal
 
 pub returns-clause-value : goal.returns-clause-value

@@ -1,6 +1,6 @@
-use Rattle.art_tree.proofs.LeavesLemmas.{keys_in-with_value}
-use Rattle.art_tree.proofs.PairChanges.{content_with_value}
-use Rattle.art_tree.proofs.Soundness.{sound_over}
+use Rattle.art_tree.proofs.Pairs.Numbers.{keys_in-with_value}
+use Rattle.art_tree.proofs.Pairs.Changes.{content_with_value}
+use Rattle.art_tree.proofs.Invariant.Soundness.{sound_over}
 use Rattle.art_tree.proofs.tree.Tree.leaf_mut.Goals as goal
 
 pub invariant_of-self-lent : goal.invariant_of-self-lent

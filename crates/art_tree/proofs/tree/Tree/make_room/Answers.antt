@@ -1,5 +1,5 @@
 use Rattle.std.proofs.Common.{refl}
-use Rattle.art_tree.proofs.Soundness.{sound_same}
+use Rattle.art_tree.proofs.Invariant.Soundness.{sound_same}
 use Rattle.art_tree.proofs.tree.Tree.make_room.Goals as goal
 
 pub invariant_of-self-in-Free-1 : goal.invariant_of-self-in-Free-1

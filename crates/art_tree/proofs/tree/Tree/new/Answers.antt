@@ -1,4 +1,4 @@
-use Rattle.art_tree.proofs.Soundness.{sound_empty}
+use Rattle.art_tree.proofs.Invariant.Soundness.{sound_empty}
 use Rattle.art_tree.proofs.tree.Tree.new.Goals as goal
 
 pub invariant_of-result : goal.invariant_of-result

@@ -1,6 +1,6 @@
 use Rattle.std.proofs.Common.{◌∙◌, ap, sym}
-use Rattle.art_tree.specs.Nodes.{at}
-use Rattle.art_tree.proofs.Soundness.{rootless}
+use Rattle.art_tree.specs.Slabs.Nodes.{at}
+use Rattle.art_tree.proofs.Invariant.Soundness.{rootless}
 use Rattle.art_tree.proofs.tree.Tree.point.Goals as goal
 
 pub returns-in-None : goal.returns-in-None

@@ -1,9 +1,9 @@
 use Rattle.std.proofs.Common.{refl}
 use Rattle.art_tree.specs.Leaves.{without_number, keys_in}
-use Rattle.art_tree.proofs.KeyChanges.{loses_from}
-use Rattle.art_tree.proofs.LeavesLemmas.{others-without_number, leaf_in-without_now}
-use Rattle.art_tree.proofs.PairChanges.{content_without}
-use Rattle.art_tree.proofs.Soundness.{sound_same}
+use Rattle.art_tree.proofs.Pairs.KeyChanges.{loses_from}
+use Rattle.art_tree.proofs.Pairs.Numbers.{others-without_number, leaf_in-without_now}
+use Rattle.art_tree.proofs.Pairs.Changes.{content_without}
+use Rattle.art_tree.proofs.Invariant.Soundness.{sound_same}
 use Rattle.art_tree.proofs.tree.Tree.remove.Goals as goal
 
 pub invariant_of-self : goal.invariant_of-self

@@ -1,5 +1,5 @@
 use Rattle.std.proofs.Common.{refl}
-use Rattle.art_tree.proofs.Soundness.{sound_same}
+use Rattle.art_tree.proofs.Invariant.Soundness.{sound_same}
 use Rattle.art_tree.proofs.tree.Tree.reserve.Goals as goal
 
 pub invariant_of-self-2 : goal.invariant_of-self-2

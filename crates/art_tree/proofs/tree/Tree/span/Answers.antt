@@ -1,9 +1,9 @@
 use Rattle.std.proofs.Common.{◌∙◌, ap, sym}
 use Rattle.blart_keys.specs.Content.{under}
 use Rattle.art_tree.specs.Leaves.{bytes}
-use Rattle.art_tree.specs.Nodes.{at}
+use Rattle.art_tree.specs.Slabs.Nodes.{at}
 use Rattle.art_tree.specs.Seeks.{ends}
-use Rattle.art_tree.proofs.Soundness.{rootless}
+use Rattle.art_tree.proofs.Invariant.Soundness.{rootless}
 use Rattle.art_tree.proofs.tree.Tree.span.Goals as goal
 
 pub returns-in-None-clause-found : goal.returns-in-None-clause-found

@@ -1,13 +1,13 @@
 use Rattle.std.proofs.Common.{sym, subst, refl}
 use Rattle.art_tree.specs.Content.{Content}
 use Rattle.art_tree.specs.Leaves.{Has, keys_in, with_pair}
-use Rattle.art_tree.specs.Nodes.{at}
+use Rattle.art_tree.specs.Slabs.Nodes.{at}
 use Rattle.art_tree.specs.Takes.{MayTake}
-use Rattle.art_tree.proofs.Exchanging.{shape_exchanged}
-use Rattle.art_tree.proofs.KeyChanges.{exchanges_from}
-use Rattle.art_tree.proofs.LeavesLemmas.{others-with_pair, leaf_in-with_now}
-use Rattle.art_tree.proofs.PairChanges.{content_with, near_new, apart_key}
-use Rattle.art_tree.proofs.Soundness.{sound_same}
+use Rattle.art_tree.proofs.Invariant.Exchanging.{shape_exchanged}
+use Rattle.art_tree.proofs.Pairs.KeyChanges.{exchanges_from}
+use Rattle.art_tree.proofs.Pairs.Numbers.{others-with_pair, leaf_in-with_now}
+use Rattle.art_tree.proofs.Pairs.Changes.{content_with, near_new, apart_key}
+use Rattle.art_tree.proofs.Invariant.Soundness.{sound_same}
 use Rattle.art_tree.proofs.tree.Tree.swap.Goals as goal
 
 pub invariant_of-self : goal.invariant_of-self

@@ -1,8 +1,8 @@
 use Rattle.std.proofs.Common.{true, ◌≡◌, ◌<◌, List, length, take, subst, get_or, arith}
-use Rattle.art_tree.specs.Kids.{IsEnd}
+use Rattle.art_tree.specs.Slabs.Edges.{IsEnd}
 use Rattle.art_tree.specs.declared.records.ids.Edge.{Edge}
-use Rattle.art_tree.proofs.KidsFills.{in_use}
-use Rattle.art_tree.proofs.KidsNexts.{first-least}
+use Rattle.art_tree.proofs.Slabs.EdgeFills.{in_use}
+use Rattle.art_tree.proofs.Slabs.EdgeNexts.{first-least}
 use Rattle.art_tree.proofs.records.children.Children.first.Goals as goal
 
 pub returns : goal.returns

@@ -1,8 +1,8 @@
 use Rattle.std.proofs.Common.{false, ◌≡◌, ◌-◌, ◌<◌, suc, List, length, take, subst, sym, get_or, arith}
-use Rattle.art_tree.specs.Kids.{IsEnd, Ascends}
+use Rattle.art_tree.specs.Slabs.Edges.{IsEnd, Ascends}
 use Rattle.art_tree.specs.declared.records.ids.Edge.{Edge}
-use Rattle.art_tree.proofs.KidsFills.{in_use}
-use Rattle.art_tree.proofs.KidsNexts.{last-greatest}
+use Rattle.art_tree.proofs.Slabs.EdgeFills.{in_use}
+use Rattle.art_tree.proofs.Slabs.EdgeNexts.{last-greatest}
 use Rattle.art_tree.proofs.records.children.Children.last.Goals as goal
 
 pub returns : goal.returns
