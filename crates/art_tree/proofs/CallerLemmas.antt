@@ -8,19 +8,21 @@ use Rattle.blart_keys.proofs.ContentLemmas.{same_item}
 use Rattle.art_tree.specs.Begins.{Bytes, Begins, next_byte}
 use Rattle.art_tree.specs.Leaves.{Numbered, AreDistinct, bytes, keys_in}
 use Rattle.art_tree.specs.Points.{IsFree}
-use Rattle.art_tree.specs.declared.point.Place.{Place}
+use Rattle.art_tree.specs.declared.tree.point.Place.{Place}
 use Rattle.art_tree.proofs.BeginsLemmas.{Begins-linear, Begins-more, Begins-past, Begins-trans, related_cases, related-from_front}
-use Rattle.art_tree.proofs.KeyChanges.{departs_at}
+use Rattle.art_tree.proofs.Pairs.KeyChanges.{departs_at}
 -- which numbers there are, and what they name
-pub use Rattle.art_tree.proofs.LeavesLemmas.{leaf_in-member, Member-from_leaf_in, has_not_lacks, has_other, Has-tail, Has-last, Lacks-parts, Lacks-from_leaf_in, distinct_parts, AreDistinct-parts, last_number-append}
+pub use Rattle.art_tree.proofs.Pairs.Numbers.{leaf_in-member, Member-from_leaf_in, has_not_lacks, has_other, Has-tail, Has-last, Lacks-parts, Lacks-from_leaf_in, distinct_parts, AreDistinct-parts, last_number-append}
 -- the list split at a number
-pub use Rattle.art_tree.proofs.LeavesLemmas.{split, leaf_in-split, number_after-split, number_before-split, without_number-split, with_pair-split, with_value-split}
+pub use Rattle.art_tree.proofs.Pairs.Numbers.{split, leaf_in-split, number_after-split, number_before-split, without_number-split, with_pair-split, with_value-split}
 -- a pair less, or with another key or value
-pub use Rattle.art_tree.proofs.LeavesLemmas.{length-without_number, AreDistinct-without_number, AreDistinct-with_value, numbers-with_value, same_first, same_last, leaf_in-with_now, others-with_pair}
+pub use Rattle.art_tree.proofs.Pairs.Numbers.{length-without_number, AreDistinct-without_number, AreDistinct-with_value, numbers-with_value, same_first, same_last, leaf_in-with_now, others-with_pair}
 -- the keys of the pairs
-pub use Rattle.art_tree.proofs.PairLemmas.{key_of_member, member_of_key}
+pub use Rattle.art_tree.proofs.Pairs.Keys.{key_of_member, member_of_key}
+-- a key that is related to one alone
+pub use Rattle.art_tree.proofs.Pairs.Changes.{takes_alone, related_has}
 -- the ends of what is within a bound, or below some bytes
-pub use Rattle.art_tree.proofs.Seeking.{are_ends, no_pairs_between, sought_has}
+pub use Rattle.art_tree.proofs.Pairs.Bounds.{are_ends, no_pairs_between, number_within_has}
 
 module _ {K V : Type 0} (kb : K → Bytes) (ps : List (Numbered K V)) (content : IsContent (bytes kb) ps) (distinct : AreDistinct ps) (q : Bytes) where
   -- no key is related to one whose place is free

@@ -2,8 +2,8 @@
 use Rattle.std.specs.Prelude.{ℕ, ◌<◌, List, min, refl}
 use Rattle.std.specs.Coded.{Coded, code_by, coded×, coded_ℕ, coded_list}
 use Rattle.art_tree.specs.Leaves.{Numbered}
-use Rattle.art_tree.specs.declared.point.Point.{Point}
-use Rattle.art_tree.specs.declared.point.Point.TheVariants.{Empty, Exact, Related, Free}
+use Rattle.art_tree.specs.declared.tree.point.Point.{Point}
+use Rattle.art_tree.specs.declared.tree.point.Point.TheVariants.{Empty, Exact, Related, Free}
 
 -- the spare records of each kind
 pub record Spares : Type 0 where

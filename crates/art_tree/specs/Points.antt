@@ -1,18 +1,17 @@
 -- Which point is good for some bytes.
-use Rattle.std.specs.Prelude.{◌≡◌, ℕ, true, List, [], Option, Some}
+use Rattle.std.specs.Prelude.{◌≡◌, ℕ, true, List, [], Some}
 use Rattle.blart_keys.specs.Content.{at, conflict, subtree}
-use Rattle.art_tree.specs.Descents.{IsLeastUnder, IsGreatestUnder}
-use Rattle.art_tree.specs.Good.{LeavesMate, StandsBehind}
+use Rattle.art_tree.specs.Places.{LeavesMate, IsLeafBefore}
 use Rattle.art_tree.specs.Leaves.{Numbered, first_number, last_number, keys_in, bytes}
-use Rattle.art_tree.specs.declared.point.Place.{Place}
-use Rattle.art_tree.specs.declared.point.Point.{Point}
-use Rattle.art_tree.specs.declared.point.Point.TheVariants.{Empty, Exact, Related, Free}
+use Rattle.art_tree.specs.declared.tree.point.Place.{Place}
+use Rattle.art_tree.specs.declared.tree.point.Point.{Point}
+use Rattle.art_tree.specs.declared.tree.point.Point.TheVariants.{Empty, Exact, Related, Free}
 
 module _ {K V : Type 0} (key_bytes : K → List ℕ) (pairs : List (Numbered K V)) where
   -- the place is free for q, and behind the right leaf
   pub record IsFree (place : Place) (q : List ℕ) : Type 0 where
     pub leaves : LeavesMate (keys_in key_bytes pairs) place.mate place.depth q
-    pub behind : StandsBehind (keys_in key_bytes pairs) q place.prev
+    pub behind : IsLeafBefore (keys_in key_bytes pairs) q place.prev
 
   -- where q stands in the pairs, or would go
   abbrev pub IsGood : Point → List ℕ → Type 0
@@ -23,10 +22,3 @@ module _ {K V : Type 0} (key_bytes : K → List ℕ) (pairs : List (Numbered K V
       × (first_number (subtree (bytes key_bytes) pairs q) ≡ Some first)
       × (last_number (subtree (bytes key_bytes) pairs q) ≡ Some last)
   IsGood (Free place) q = IsFree place q
-
--- the point says that the keys that begin with g stand from its first leaf to its last
-abbrev pub RelatesUnder : (ℕ → Option (List ℕ)) → List ℕ → Point → Type 0
-RelatesUnder keys g (Related first last) = IsLeastUnder keys g first × IsGreatestUnder keys g last
-RelatesUnder keys g Empty = ⊥
-RelatesUnder keys g (Exact id) = ⊥
-RelatesUnder keys g (Free place) = ⊥

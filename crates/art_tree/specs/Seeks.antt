@@ -13,9 +13,9 @@ bound_len Unbounded = 0
 
 module _ {K V : Type 0} where
   -- the number of the first pair within a start bound, or of the last within an end bound
-  abbrev pub sought : (Numbered K V → List ℕ) → List (Numbered K V) → Bound (List ℕ) → Bool → Option ℕ
-  sought bytes S b true = first_number (between bytes S b Unbounded)
-  sought bytes S b false = last_number (between bytes S Unbounded b)
+  abbrev pub number_within : (Numbered K V → List ℕ) → List (Numbered K V) → Bound (List ℕ) → Bool → Option ℕ
+  number_within bytes S b true = first_number (between bytes S b Unbounded)
+  number_within bytes S b false = last_number (between bytes S Unbounded b)
 
   -- the numbers of the first pair and of the last, if there are pairs
   abbrev pub ends : List (Numbered K V) → Option (ℕ × ℕ)

@@ -3,20 +3,13 @@
 //! A contract sees a [`Tree`] as the list of its pairs in byte order, each under the number of its leaf, and the room for pairs to come.
 #![tactic(auto)]
 
-mod changes;
-mod descent;
 mod lists;
-mod placing;
-mod point;
 mod records;
-mod removing;
-mod search;
-mod seeks;
 mod tree;
 mod visits;
 
-pub use point::{Place, Point};
 pub use records::ids::LeafId;
 pub use records::leaves::Leaves;
+pub use tree::point::{Place, Point};
 pub use tree::{DEFAULT_PREFIX_LEN, Tree};
 pub use visits::Visits;

@@ -9,13 +9,22 @@ ghost use Rattle.art_tree.specs.Content.{room, Fits, IsOpen};
 ghost use Rattle.art_tree.specs.Points.{IsGood};
 ghost use Rattle.art_tree.specs.Longest.{longest};
 
-use crate::descent::children_of;
+mod change;
+mod descent;
+mod parting;
+mod place;
+pub mod point;
+mod remove;
+mod search;
+mod seek;
+
 use crate::lists::begins;
-use crate::placing::place_at;
-use crate::point::{Point, point_below};
 use crate::records::ids::{Child, LeafId};
 use crate::records::leaves::Leaves;
 use crate::records::nodes::Nodes;
+use crate::tree::descent::children_of;
+use crate::tree::place::place_at;
+use crate::tree::point::{Point, point_below};
 use crate::visits::Visits;
 use blart_keys::AsBytes;
 use std::alloc::{AllocError, Global};
@@ -41,11 +50,11 @@ impl<K: AsBytes, V, const PREFIX_LEN: usize> Model for Tree<K, V, PREFIX_LEN> {
 
     ghost coded = { content_code K.code V.code };
 
-    ghost use Rattle.art_tree.specs.Whole.{IsWhole};
+    ghost use Rattle.art_tree.specs.Invariant.Sound.{IsSound};
 
     ghost view = { λ t. record { pairs = t.leaves.pairs; spares = record { leaves = t.leaves.spare; nodes = t.nodes.spare } } };
 
-    ghost invariant = { λ t. IsWhole K.bytes PREFIX_LEN t.leaves t.nodes t.root };
+    ghost invariant = { λ t. IsSound K.bytes PREFIX_LEN t.leaves t.nodes t.root };
 }
 
 impl<K: AsBytes + Drop, V: Drop, const PREFIX_LEN: usize> Tree<K, V, PREFIX_LEN> {
@@ -135,7 +144,7 @@ impl<K: AsBytes + Drop, V: Drop, const PREFIX_LEN: usize> Tree<K, V, PREFIX_LEN>
     {
         match self.root {
             None => Point::Empty,
-            Some(root) => point_below(&self.leaves, &self.nodes, root, query),
+            Some(root) => point_below(&self.leaves, &self.nodes, &root, query),
         }
     }
 

@@ -12,7 +12,7 @@ use Rattle.blart_keys.proofs.RankLemmas.{Member, IsPart, each_member, filter_mem
 use Rattle.blart_keys.proofs.ContentLemmas.{Before, Ranked-from_content, under_is_part}
 use Rattle.blart_keys.proofs.PartsOfContents.{end_down, start_up, between_is_part, between_from, between_up, subtree_is_part}
 use Rattle.art_tree.specs.Leaves.{Numbered, leaf_in, first_number, last_number, AreDistinct, bytes}
-use Rattle.art_tree.specs.Seeks.{sought, ends}
+use Rattle.art_tree.specs.Seeks.{number_within, ends}
 use Rattle.art_tree.proofs.CallerLemmas.{leaf_in-member, leaf_in-split, last_number-append, split, are_ends}
 use Rattle.blart_keys.proofs.Options.{is_some}
 use Rattle.art_walk.specs.Cursor.{span_of, IsSpan}
@@ -70,7 +70,7 @@ module _ {K V : Type 0} (key_bytes : K → List ℕ) (ps : List (Numbered K V)) 
     within = between (bytes key_bytes) ps lo hi
 
     -- where no pair is from the start, none is within
-    pub none_from : None ≡ sought (bytes key_bytes) ps lo true → within ≡ []
+    pub none_from : None ≡ number_within (bytes key_bytes) ps lo true → within ≡ []
     none_from e = sym (between_from (bytes key_bytes) ps lo hi) ∙ ap (filter (λ x. is_up_to_end hi (bytes key_bytes x))) (no_first from e)
       where
         no_first : (l : List (Numbered K V)) → None ≡ first_number l → l ≡ []
@@ -78,10 +78,10 @@ module _ {K V : Type 0} (key_bytes : K → List ℕ) (ps : List (Numbered K V)) 
         no_first (p ∷ l) e = absurd cc
 
     -- where no pair is up to the end, none is within
-    pub none_up : None ≡ sought (bytes key_bytes) ps hi false → within ≡ []
+    pub none_up : None ≡ number_within (bytes key_bytes) ps hi false → within ≡ []
     none_up e = sym (between_up (bytes key_bytes) ps lo hi) ∙ ap (filter (λ x. is_from_start lo (bytes key_bytes x))) (no_last up (sym e))
 
-    module _ (distinct : AreDistinct ps) (first : ℕ) (f : Some first ≡ sought (bytes key_bytes) ps lo true) (x : K × V) (is : leaf_in ps first ≡ Some x) where
+    module _ (distinct : AreDistinct ps) (first : ℕ) (f : Some first ≡ number_within (bytes key_bytes) ps lo true) (x : K × V) (is : leaf_in ps first ≡ Some x) where
       begun : BeginsWith from first
       begun = begins_with from first (sym f)
 
@@ -116,7 +116,7 @@ module _ {K V : Type 0} (key_bytes : K → List ℕ) (ps : List (Numbered K V)) 
             ap first_number (sym (between_from (bytes key_bytes) ps lo hi) ∙ ap (filter (λ x. is_up_to_end hi (bytes key_bytes x))) from_is)
             ∙ ap first_number (cond-true (is_up_to_end hi (key_bytes x.0)) _ (filter (λ x. is_up_to_end hi (bytes key_bytes x)) begun.rest) (sym h))
 
-        module _ (last : ℕ) (l : Some last ≡ sought (bytes key_bytes) ps hi false) where
+        module _ (last : ℕ) (l : Some last ≡ number_within (bytes key_bytes) ps hi false) where
           ended : EndsWith up last
           ended = ends_with up last (sym l)
 

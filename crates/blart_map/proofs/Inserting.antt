@@ -1,6 +1,6 @@
 -- What a point says of an insertion there.
-use Rattle.std.proofs.Common.{◌≡◌, ℕ, ◌<◌, arith, true, false, ◌⊎◌, inl, inr, List, [], ◌∷◌, ◌++◌, length, take, refl, sym, ap, ◌∙◌, subst, Option, Some, None, Ok, Err, option_map, bytes_eq, subst₂}
-use Rattle.std.proofs.lemmas.Bool.{false≢true, false_from_ne_true, cases_lt, or_cases}
+use Rattle.std.proofs.Common.{◌≡◌, ℕ, true, false, ◌⊎◌, inl, inr, List, [], ◌∷◌, refl, sym, ap, ◌∙◌, subst, Option, Some, None, Ok, Err, option_map, bytes_eq, subst₂}
+use Rattle.std.proofs.lemmas.Bool.{false≢true, false_from_ne_true, or_cases}
 use Rattle.blart_keys.specs.declared.calls.TryInsertError.TheVariants.{Memory}
 use Rattle.blart_keys.specs.Bytes.{begins, related, conflicts}
 use Rattle.blart_keys.specs.Content.{IsContent, IsPut, at, stores, conflict, subtree}
@@ -9,14 +9,14 @@ use Rattle.blart_keys.specs.Steps.{bytes as pair_bytes, Puts}
 use Rattle.blart_keys.proofs.RankLemmas.{Member, Member-from_Contains, filter_member}
 use Rattle.blart_keys.proofs.ContentLemmas.{at_Some, at_absent, same_item, related-same, conflict_found, stores_found, stored_no_conflict}
 use Rattle.blart_keys.proofs.PutLemmas.{put_at}
-use Rattle.art_tree.specs.Begins.{Bytes, Begins, next_byte}
+use Rattle.art_tree.specs.Begins.{Bytes}
 use Rattle.art_tree.specs.Content.{IsOpen}
-use Rattle.art_tree.specs.Leaves.{Numbered, leaf_in, Has, AreDistinct, first_number, with_pair, bytes, keys_in}
-use Rattle.art_tree.specs.Points.{IsGood, IsFree}
+use Rattle.art_tree.specs.Leaves.{Numbered, leaf_in, Has, AreDistinct, first_number, with_pair, bytes}
+use Rattle.art_tree.specs.Points.{IsGood}
 use Rattle.art_tree.specs.Takes.{MayTake}
-use Rattle.art_tree.specs.declared.point.Place.{Place}
-use Rattle.art_tree.specs.declared.point.Point.{Point}
-use Rattle.art_tree.specs.declared.point.Point.TheVariants.{Empty, Exact, Related, Free}
+use Rattle.art_tree.specs.declared.tree.point.Place.{Place}
+use Rattle.art_tree.specs.declared.tree.point.Point.{Point}
+use Rattle.art_tree.specs.declared.tree.point.Point.TheVariants.{Empty, Exact, Related, Free}
 use Rattle.art_tree.proofs.CallerLemmas.{leaf_in-member, Member-from_leaf_in, free_alone}
 use Rattle.blart_keys.proofs.Options.{is_some}
 use Rattle.art_walk.specs.Pairs.{pairs_of}

@@ -1,6 +1,6 @@
 //! The edges of a node, in the order of their bytes.
-ghost use Rattle.std.specs.Prelude.{◌≡◌, ◌+◌, ◌-◌, ◌<◌, ◌≤◌, [], ◌∷◌, length, take, None, IsSome};
-ghost use Rattle.art_tree.specs.Kids.{kid_at, Ascends, AddsKid, DropsKid, RedirectsKid, IsNext, IsPrevious, IsLeast, IsGreatest, carried, closed, redirected, after, before};
+ghost use Rattle.std.specs.Prelude.{true, false, ◌≡◌, ◌+◌, ◌-◌, ◌<◌, ◌≤◌, [], ◌∷◌, length, take, None, IsSome};
+ghost use Rattle.art_tree.specs.Slabs.Edges.{child_at, Ascends, AddsChild, DropsChild, RedirectsChild, IsNext, IsPrevious, IsEnd, edges_with, edges_without, edges_with_child, after, before};
 
 use crate::records::ids::{Child, Edge};
 use std::marker::Model;
@@ -16,9 +16,9 @@ pub(crate) struct Children {
 impl Model for Children {
     ghost use Rattle.std.specs.Prelude.{List, take};
     ghost use Rattle.art_tree.specs.declared.records.ids.Edge.{Edge};
-    ghost use Rattle.art_tree.specs.Codes.{edge_code};
+    ghost use Rattle.art_tree.specs.Slabs.Codes.{edge_code};
     ghost use Rattle.std.specs.Coded.{coded_list};
-    ghost use Rattle.art_tree.specs.Kids.{Sorted};
+    ghost use Rattle.art_tree.specs.Slabs.Edges.{Sorted};
 
     ghost Value = { List Edge };
 
@@ -52,7 +52,7 @@ impl Children {
 
     /// What stands below the edge at a byte.
     pub(crate) fn find(&self, byte: u8) -> Option<Child>
-        ensures { result ≡ kid_at self.now byte }
+        ensures { result ≡ child_at self.now byte }
     {
         find_in(&self.edges[..self.count], byte)
     }
@@ -60,7 +60,7 @@ impl Children {
     /// The edge with the least byte.
     pub(crate) fn first(&self) -> Edge
         requires { 0 < length self.now }
-        ensures { IsLeast self.now result }
+        ensures { IsEnd true self.now result }
     {
         self.edges[0]
     }
@@ -68,7 +68,7 @@ impl Children {
     /// The edge with the greatest byte.
     pub(crate) fn last(&self) -> Edge
         requires { 0 < length self.now }
-        ensures { IsGreatest self.now result }
+        ensures { IsEnd false self.now result }
     {
         self.edges[self.count - 1]
     }
@@ -89,8 +89,8 @@ impl Children {
 
     /// Adds an edge, at a byte that has none.
     pub(crate) fn insert(&mut self, byte: u8, to: Child)
-        requires { kid_at self.old byte ≡ None }
-        ensures { AddsKid self.old self.new byte to }
+        requires { child_at self.old byte ≡ None }
+        ensures { AddsChild self.old self.new byte to }
     {
         insert_in(&mut self.edges, self.count, byte, to);
         self.count += 1;
@@ -98,8 +98,8 @@ impl Children {
 
     /// Removes the edge at a byte.
     pub(crate) fn remove(&mut self, byte: u8)
-        requires { IsSome (kid_at self.old byte) }
-        ensures { DropsKid self.old self.new byte }
+        requires { IsSome (child_at self.old byte) }
+        ensures { DropsChild self.old self.new byte }
     {
         remove_in(&mut self.edges, self.count, byte);
         self.count -= 1;
@@ -107,8 +107,8 @@ impl Children {
 
     /// Leads the edge at a byte elsewhere.
     pub(crate) fn redirect(&mut self, byte: u8, to: Child)
-        requires { IsSome (kid_at self.old byte) }
-        ensures { RedirectsKid self.old self.new byte to }
+        requires { IsSome (child_at self.old byte) }
+        ensures { RedirectsChild self.old self.new byte to }
     {
         redirect_in(&mut self.edges, self.count, byte, to);
     }
@@ -116,7 +116,7 @@ impl Children {
 
 // What stands below the edge at a byte.
 fn find_in(edges: &[Edge], byte: u8) -> Option<Child>
-    ensures { result ≡ kid_at edges.now byte }
+    ensures { result ≡ child_at edges.now byte }
 {
     for edge in edges {
         if edge.byte == byte {
@@ -155,7 +155,7 @@ fn before_in(edges: &[Edge], byte: u8) -> Option<Edge>
 // Puts an edge among the first so many.
 fn insert_in(edges: &mut [Edge], count: usize, byte: u8, to: Child)
     requires { count < length edges.old }
-    ensures { take (count + 1) edges.new ≡ carried (take count edges.old) (record { byte = byte; to = to }) }
+    ensures { take (count + 1) edges.new ≡ edges_with (take count edges.old) (record { byte = byte; to = to }) }
 {
     let mut fresh = Edge { byte, to };
     for i in 0..count {
@@ -170,7 +170,7 @@ fn insert_in(edges: &mut [Edge], count: usize, byte: u8, to: Child)
 fn remove_in(edges: &mut [Edge], count: usize, byte: u8)
     requires some { 0 < count }
     requires within { count ≤ length edges.old }
-    ensures { take (count - 1) edges.new ≡ closed (take count edges.old) byte }
+    ensures { take (count - 1) edges.new ≡ edges_without (take count edges.old) byte }
 {
     for i in 0..count - 1 {
         if byte <= edges[i].byte {
@@ -182,7 +182,7 @@ fn remove_in(edges: &mut [Edge], count: usize, byte: u8)
 // Leads the first edge at a byte elsewhere, among the first so many.
 fn redirect_in(edges: &mut [Edge], count: usize, byte: u8, to: Child)
     requires { count ≤ length edges.old }
-    ensures { take count edges.new ≡ redirected (take count edges.old) byte to }
+    ensures { take count edges.new ≡ edges_with_child (take count edges.old) byte to }
 {
     for i in 0..count {
         if edges[i].byte == byte {

@@ -1,10 +1,10 @@
 //! The leaf records, linked in the order of their keys.
 ghost use Rattle.std.specs.Prelude.{◌≡◌, ◌+◌, ◌<◌, ◌≤◌, ℕ, [], length, option_map, Some, None, IsSome, IfSome, OnOk, OnErr};
 ghost use Rattle.std.specs.Borrow.{sem};
-ghost use Rattle.art_tree.specs.Store.{slot_at, used_count};
+ghost use Rattle.art_tree.specs.Slabs.Store.{slot_at, used_count};
 ghost use Rattle.art_tree.specs.Leaves.{leaf_in, Has, AreDistinct, first_number, last_number, number_after, number_before, placed_behind, without_number, with_pair};
-ghost use Rattle.art_tree.specs.Links.{with_next, with_prev, end_with};
-ghost use Rattle.art_tree.specs.LeafLends.{lends_value, lends_leaf};
+ghost use Rattle.art_tree.specs.Slabs.Links.{with_next, with_prev, end_with};
+ghost use Rattle.art_tree.specs.Slabs.LeafLends.{lends_value, lends_leaf};
 
 use crate::records::ids::LeafId;
 use crate::records::store::Store;
@@ -47,7 +47,7 @@ impl<K, V> Model for Leaves<K, V> {
 
     ghost coded = { leaves_code K.code V.code };
 
-    ghost use Rattle.art_tree.specs.Links.{content, AllLinked};
+    ghost use Rattle.art_tree.specs.Slabs.Links.{content, AllLinked};
 
     ghost view = { λ t. content t.records t.first };
 

@@ -1,7 +1,7 @@
 //! The inner nodes under their numbers.
 ghost use Rattle.std.specs.Prelude.{◌≡◌, ◌≢◌, ℕ, ◌+◌, ◌<◌, ◌≤◌, ◌^◌, length, take, slice_get, None, Some, IsSome, IsSomeAnd, OnOk, OnErr};
-ghost use Rattle.art_tree.specs.Kids.{kid_at, Ascends, IsNext, IsPrevious, IsLeast, IsGreatest};
-ghost use Rattle.art_tree.specs.Nodes.{at, live, room, FitsNew, FitsMore, HasPlace, SameNodes, SameSpares, MoreSpares, Makes, Renames, AddsEdgeTo, Redirects, DropsEdge, Reprefixes, Frees};
+ghost use Rattle.art_tree.specs.Slabs.Edges.{child_at, Ascends, IsNext, IsPrevious, IsEnd};
+ghost use Rattle.art_tree.specs.Slabs.Nodes.{at, live, room, FitsNew, FitsMore, HasPlace, SameNodes, SameSpares, MoreSpares, Makes, Renames, AddsEdgeTo, Redirects, DropsEdge, Reprefixes, Frees};
 
 use crate::records::children::Children;
 use crate::records::ids::{Child, Edge, NodeId};
@@ -34,13 +34,13 @@ pub(crate) struct NodeRef<'a, const P: usize> {
 
 impl<'a, const P: usize> Model for NodeRef<'a, P> {
     ghost use Rattle.std.specs.Prelude.{take, length, ◌≤◌, ◌≡◌};
-    ghost use Rattle.art_tree.specs.Nodes.{Node, node_code};
+    ghost use Rattle.art_tree.specs.Slabs.Nodes.{Node, node_code};
 
     ghost Value = { Node };
 
     ghost coded = { node_code };
 
-    ghost view = { λ r. record { depth = r.depth; prefix = take r.used r.prefix.now; kids = r.children.now } };
+    ghost view = { λ r. record { depth = r.depth; prefix = take r.used r.prefix.now; edges = r.children.now } };
 
     ghost invariant = { λ r. (r.used ≤ P) × (length r.prefix.now ≡ P) };
 }
@@ -55,8 +55,8 @@ impl<'a, const P: usize> NodeRef<'a, P> {
 
     /// How many edges the node has.
     pub(crate) fn count(&self) -> usize
-        ensures count { result ≡ length self.now.kids }
-        ensures ascends { Ascends self.now.kids }
+        ensures count { result ≡ length self.now.edges }
+        ensures ascends { Ascends self.now.edges }
     {
         self.children.count()
     }
@@ -74,37 +74,33 @@ impl<'a, const P: usize> NodeRef<'a, P> {
 
     /// What stands below the edge at a byte.
     pub(crate) fn find(&self, byte: u8) -> Option<Child>
-        ensures { result ≡ kid_at self.now.kids byte }
+        ensures { result ≡ child_at self.now.edges byte }
     {
         self.children.find(byte)
     }
 
-    /// The edge with the least byte.
-    pub(crate) fn first_edge(&self) -> Edge
-        requires { 0 < length self.now.kids }
-        ensures { IsLeast self.now.kids result }
+    /// The edge at one end: that with the least byte, or that with the greatest.
+    pub(crate) fn end_edge(&self, is_first: bool) -> Edge
+        requires { 0 < length self.now.edges }
+        ensures { IsEnd is_first self.now.edges result }
     {
-        self.children.first()
-    }
-
-    /// The edge with the greatest byte.
-    pub(crate) fn last_edge(&self) -> Edge
-        requires { 0 < length self.now.kids }
-        ensures { IsGreatest self.now.kids result }
-    {
-        self.children.last()
+        if is_first {
+            self.children.first()
+        } else {
+            self.children.last()
+        }
     }
 
     /// The edge with the least byte above this one.
     pub(crate) fn edge_after(&self, byte: u8) -> Option<Edge>
-        ensures { IsNext self.now.kids byte result }
+        ensures { IsNext self.now.edges byte result }
     {
         self.children.edge_after(byte)
     }
 
     /// The edge with the greatest byte below this one.
     pub(crate) fn edge_before(&self, byte: u8) -> Option<Edge>
-        ensures { IsPrevious self.now.kids byte result }
+        ensures { IsPrevious self.now.edges byte result }
     {
         self.children.edge_before(byte)
     }
@@ -117,14 +113,14 @@ pub(crate) struct Nodes<const P: usize> {
 }
 
 impl<const P: usize> Model for Nodes<P> {
-    ghost use Rattle.art_tree.specs.Nodes.{Nodes as NodeList, node_code};
-    ghost use Rattle.art_tree.specs.Store.{store_code};
+    ghost use Rattle.art_tree.specs.Slabs.Nodes.{Nodes as NodeList, node_code};
+    ghost use Rattle.art_tree.specs.Slabs.Store.{store_code};
 
     ghost Value = { NodeList };
 
     ghost coded = { store_code node_code };
 
-    ghost use Rattle.art_tree.specs.Inners.{nodes_in, AllUsed, IsSmall};
+    ghost use Rattle.art_tree.specs.Slabs.NodeRecords.{nodes_in, AllUsed, IsSmall};
 
     ghost view = { λ s. nodes_in s.records };
 
@@ -155,7 +151,7 @@ impl<const P: usize> Nodes<P> {
         requires { IsSome (at self.now id) }
         ensures value { at self.now id ≡ Some result }
         ensures counted { visits.new.count ≡ visits.old.count + 1 }
-        ensures ascends { Ascends result.kids }
+        ensures ascends { Ascends result.edges }
     {
         visits.add_one();
         let record = self.records.read(id.number);
@@ -207,7 +203,7 @@ impl<const P: usize> Nodes<P> {
     /// Adds an edge to a node that has a place for it.
     pub(crate) fn add_edge(&mut self, id: NodeId, byte: u8, to: Child)
         requires place { HasPlace self.old id }
-        requires absent { IsSomeAnd (at self.old id) (λ x. kid_at x.kids byte ≡ None) }
+        requires absent { IsSomeAnd (at self.old id) (λ x. child_at x.edges byte ≡ None) }
         ensures added { AddsEdgeTo (at self.old) (at self.new) id byte to }
         ensures spares { SameSpares self.old self.new }
         ensures live { live self.new ≡ live self.old }
@@ -217,8 +213,8 @@ impl<const P: usize> Nodes<P> {
 
     /// Leads an edge elsewhere.
     pub(crate) fn redirect(&mut self, id: NodeId, byte: u8, to: Child)
-        requires { IsSomeAnd (at self.old id) (λ x. IsSome (kid_at x.kids byte)) }
-        ensures redirected { Redirects (at self.old) (at self.new) id byte to }
+        requires { IsSomeAnd (at self.old id) (λ x. IsSome (child_at x.edges byte)) }
+        ensures edges_with_child { Redirects (at self.old) (at self.new) id byte to }
         ensures spares { SameSpares self.old self.new }
         ensures live { live self.new ≡ live self.old }
     {
@@ -227,7 +223,7 @@ impl<const P: usize> Nodes<P> {
 
     /// Removes an edge.
     pub(crate) fn remove_edge(&mut self, id: NodeId, byte: u8)
-        requires { IsSomeAnd (at self.old id) (λ x. IsSome (kid_at x.kids byte)) }
+        requires { IsSomeAnd (at self.old id) (λ x. IsSome (child_at x.edges byte)) }
         ensures removed { DropsEdge (at self.old) (at self.new) id byte }
         ensures spares { SameSpares self.old self.new }
         ensures live { live self.new ≡ live self.old }

@@ -1,7 +1,7 @@
 //! Records under numbers.
 ghost use Rattle.std.specs.Prelude.{◌≡◌, ◌≢◌, ℕ, ◌+◌, ◌<◌, ◌≤◌, [], Some, None, IsSome, OnOk, OnErr};
-ghost use Rattle.art_tree.specs.Store.{slot_at, used_count, SameRecords};
-ghost use Rattle.art_tree.specs.Slots.{used_of};
+ghost use Rattle.art_tree.specs.Slabs.Store.{slot_at, used_count, SameRecords};
+ghost use Rattle.art_tree.specs.Slabs.Slots.{used_of};
 ghost use Rattle.std.specs.Borrow.{Lends, sem};
 
 use slab::Slab;
@@ -42,13 +42,13 @@ pub(crate) struct Store<T> {
 
 impl<T> Model for Store<T> {
     ghost use Rattle.std.specs.Prelude.{map};
-    ghost use Rattle.art_tree.specs.Store.{Store as Records, store_code};
+    ghost use Rattle.art_tree.specs.Slabs.Store.{Store as Records, store_code};
 
     ghost Value = { Records T };
 
     ghost coded = { store_code T.code };
 
-    ghost use Rattle.art_tree.specs.Slots.{used_of, HasSpares};
+    ghost use Rattle.art_tree.specs.Slabs.Slots.{used_of, HasSpares};
 
     ghost view = { λ s. record { slots = map used_of s.slots.slots; spare = s.spare } };
 
@@ -56,7 +56,7 @@ impl<T> Model for Store<T> {
 }
 
 impl<T> Store<T> {
-    ghost use Rattle.art_tree.specs.Lends.{lends_record};
+    ghost use Rattle.art_tree.specs.Slabs.RecordLends.{lends_record};
 
     /// A store with no records, which asks for no memory.
     pub(crate) fn new(alloc: Global) -> Self

@@ -1,5 +1,5 @@
 use Rattle.std.proofs.Common.{◌≡◌, drop}
-use Rattle.art_tree.specs.Kids.{after}
+use Rattle.art_tree.specs.Slabs.Edges.{after}
 use Rattle.art_tree.proofs.records.children.after_in.Given as goal
 
 abbrev pub invariant-loop-edge : goal.invariant-loop-edge

@@ -1,6 +1,6 @@
 use Rattle.std.proofs.Common.{◌≡◌, drop}
-use Rattle.art_tree.specs.Kids.{before}
-use Rattle.art_tree.proofs.KidsNexts.{laid}
+use Rattle.art_tree.specs.Slabs.Edges.{before}
+use Rattle.art_tree.proofs.Slabs.EdgeNexts.{laid}
 use Rattle.art_tree.proofs.records.children.before_in.Given as goal
 
 abbrev pub invariant-loop-edge : goal.invariant-loop-edge

@@ -1,6 +1,6 @@
 use Rattle.std.proofs.Common.{◌≡◌, add-one, ◌∙◌, sym, arith, ◌<◌, ◌≤◌, length, get_or, subst}
 use Rattle.art_tree.specs.declared.records.ids.Edge.{Edge}
-use Rattle.art_tree.proofs.KidsShifts.{mixed-swap, mixed-keep, get_or-any}
+use Rattle.art_tree.proofs.Slabs.EdgeShifts.{mixed-swap, mixed-keep, get_or-any}
 use Rattle.art_tree.proofs.records.children.insert_in.Goals as goal
 use Rattle.art_tree.proofs.records.children.insert_in.Goals.{then-fresh-edges, else-fresh-edges}
 

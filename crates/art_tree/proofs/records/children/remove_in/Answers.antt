@@ -1,6 +1,6 @@
 use Rattle.std.proofs.Common.{◌≡◌, ◌-◌, add-one, ap, ◌∙◌, sym, arith, ◌<◌, ◌≤◌, length, get_or, suc, set}
 use Rattle.art_tree.specs.declared.records.ids.Edge.{Edge}
-use Rattle.art_tree.proofs.KidsShifts.{shut, shut-move, shut-keep, shut-end, get_or-any}
+use Rattle.art_tree.proofs.Slabs.EdgeShifts.{shut, shut-move, shut-keep, shut-end, get_or-any}
 use Rattle.art_tree.proofs.records.children.remove_in.Goals as goal
 use Rattle.art_tree.proofs.records.children.remove_in.Goals.{then-byte-edges, else-byte-edges}
 

@@ -4,23 +4,22 @@ use Rattle.blart_keys.specs.Bytes.{begins}
 use Rattle.blart_keys.specs.Content.{IsContent}
 use Rattle.blart_keys.specs.Fronts.{parts}
 use Rattle.art_tree.specs.Begins.{Bytes, Begins}
-use Rattle.art_tree.specs.Descents.{FindsNone, FindsNode}
+use Rattle.art_tree.specs.Calls.Descents.{FindsNone, FindsNode}
 use Rattle.art_tree.specs.Leaves.{Numbered, AreDistinct, keys_in, bytes}
 use Rattle.art_tree.specs.Longest.{longest}
-use Rattle.art_tree.specs.Nodes.{Node, at}
-use Rattle.art_tree.specs.Shape.{Shape}
+use Rattle.art_tree.specs.Slabs.Nodes.{Node, at}
+use Rattle.art_tree.specs.Invariant.Shape.{Shape}
 use Rattle.art_tree.specs.declared.records.ids.Child.{Child}
 use Rattle.art_tree.proofs.BeginsLemmas.{Begins-from_begins, begins-from_Begins, Begins-linear, Begins-equal}
-use Rattle.art_tree.proofs.Counting.{no_parts, edges_are_parts}
-use Rattle.art_tree.proofs.Departing.{has_key}
-use Rattle.art_tree.proofs.HangingOn.{hanging_root}
+use Rattle.art_tree.proofs.Invariant.Counting.{no_parts, edges_are_parts}
+use Rattle.art_tree.proofs.Ways.Roots.{is_root}
 use Rattle.blart_keys.proofs.Options.{some_of}
-use Rattle.art_tree.proofs.PairLemmas.{key_of_pair}
-use Rattle.art_tree.proofs.SameShapes.{rooted}
-use Rattle.art_tree.proofs.Soundness.{rootless, within_longest}
+use Rattle.art_tree.proofs.Pairs.Keys.{has_key, key_of_pair}
+use Rattle.art_tree.proofs.Invariant.SameShapes.{rooted}
+use Rattle.art_tree.proofs.Invariant.Soundness.{rootless, within_longest}
 use Rattle.art_tree.proofs.tree.Tree.children_at.Goals as goal
 
-module _ {K V : Type 0} (kb : K → List ℕ) (S : List (Numbered K V)) (content : IsContent (bytes kb) S) (distinct : AreDistinct S) (nodes : ℕ → Option Node) (root : Option Child) (s : Shape (keys_in kb S) nodes root) (f : Bytes) (old new : ℕ) where
+module _ {P : ℕ} {K V : Type 0} (kb : K → List ℕ) (S : List (Numbered K V)) (content : IsContent (bytes kb) S) (distinct : AreDistinct S) (nodes : ℕ → Option Node) (root : Option Child) (s : Shape P (keys_in kb S) nodes root) (f : Bytes) (old new : ℕ) where
   -- no node stands there, and so nothing parts there
   nothing : FindsNone (keys_in kb S) nodes s.front_of f old new → 0 ≡ set.len (parts (bytes kb) S f)
   nothing h = sym (no_parts kb S content distinct nodes root s f h.none)
@@ -39,18 +38,18 @@ module _ {K V : Type 0} (kb : K → List ℕ) (S : List (Numbered K V)) (content
 
   -- the leaf below the node that was found, whose key was read
   module _ (count leaf : ℕ) (h : FindsNode (keys_in kb S) nodes s.front_of f old new count leaf) (k : Bytes) (is : keys_in kb S leaf ≡ Some k) where
-    same : h.least.key ≡ k
-    same = let e : Some h.least.key ≡ Some k = sym h.least.is ∙ is in cc
+    same : h.first.key ≡ k
+    same = let e : Some h.first.key ≡ Some k = sym h.first.is ∙ is in cc
 
     soon : (last : ℕ) → last ≡ new + 1 → last ≤ old + longest (bytes kb) S + 1
-    soon last e = let l : length h.least.key ≤ longest (bytes kb) S = within_longest kb S leaf h.least.key h.least.is in let few : new ≤ old + length h.least.key = h.few in omega arith
+    soon last e = let l : length h.first.key ≤ longest (bytes kb) S = within_longest kb S leaf h.first.key h.first.is in let few : new ≤ old + length h.first.key = h.few in omega arith
 
     -- the key begins with the bytes asked for, and so the node stands there
     counts : (t : Bytes) → true ≡ begins f t → t ≡ k → count ≡ set.len (parts (bytes kb) S f)
     counts t r e' =
         let b : true ≡ begins f k = subst (λ (z : Bytes). true ≡ begins f z) e' r in
         let g : Bytes = s.front_of h.number in
-        let gk : Begins g k = subst (Begins g) same h.least.front in
+        let gk : Begins g k = subst (Begins g) same h.first.front in
         let fk : Begins f k = Begins-from_begins f k (sym b) in
         let gf : Begins g f = Begins-linear g f k gk fk (let l : length g ≡ length f = h.as_long in omega arith) in
         let e : g ≡ f = Begins-equal g f gf (let l : length g ≡ length f = h.as_long in omega arith) in
@@ -60,7 +59,7 @@ module _ {K V : Type 0} (kb : K → List ℕ) (S : List (Numbered K V)) (content
     other : (t : Bytes) → false ≡ begins f t → t ≡ k → 0 ≡ set.len (parts (bytes kb) S f)
     other t r e' = sym (no_parts kb S content distinct nodes root s f (λ m live e.
         (let b : false ≡ begins f k = subst (λ (z : Bytes). false ≡ begins f z) e' r in
-        let fk : Begins f k = subst (Begins f) same (subst (λ (z : Bytes). Begins z h.least.key) (h.only m live e) h.least.front) in
+        let fk : Begins f k = subst (Begins f) same (subst (λ (z : Bytes). Begins z h.first.key) (h.only m live e) h.first.front) in
         let u : begins f k ≡ true = begins-from_Begins f k fk in
         cc)))
 
@@ -68,14 +67,14 @@ pub returns-in_default-clause-value : goal.returns-in_default-clause-value
 returns-in_default-clause-value g c =
     let kb = g.K.AsBytes.bytes in
     let i = c.self.inside in
-    let s = c.self.invariant.sound.shape in
-    rootless_value kb i.leaves.pairs c.self.invariant.sound.content c.law.ensures.distinct (at i.nodes) i.root s c.args.front.now 0 0 c.in_default.is
+    let s = c.self.invariant.shape in
+    rootless_value kb i.leaves.pairs c.self.invariant.content c.law.ensures.distinct (at i.nodes) i.root s c.args.front.now 0 0 c.in_default.is
     ∙ ap (λ t. set.len (parts (bytes kb) t.pairs c.args.front.now)) c.self.view_is
 
 pub children_of-requires : goal.children_of-requires
 children_of-requires g c =
     let i = c.self.inside in
-    (lit< tt, hanging_root (at i.nodes) (keys_in g.K.AsBytes.bytes i.leaves.pairs) c.in-Some.root (rooted (keys_in g.K.AsBytes.bytes i.leaves.pairs) (at i.nodes) i.root (Some c.in-Some.root) c.self.invariant.sound.shape c.in-Some.is))
+    (lit< tt, is_root (at i.nodes) (keys_in g.K.AsBytes.bytes i.leaves.pairs) c.in-Some.root (rooted (keys_in g.K.AsBytes.bytes i.leaves.pairs) (at i.nodes) i.root (Some c.in-Some.root) c.self.invariant.shape c.in-Some.is))
 
 pub returns-in_default-children_of-clause-value : goal.returns-in_default-children_of-clause-value
 returns-in_default-children_of-clause-value g c =
@@ -84,12 +83,12 @@ returns-in_default-children_of-clause-value g c =
     let S = i.leaves.pairs in
     let nodes = at i.nodes in
     let root = Some c.in-Some.root in
-    let s = rooted (keys_in kb S) nodes i.root root c.self.invariant.sound.shape c.in-Some.is in
+    let s = rooted (keys_in kb S) nodes i.root root c.self.invariant.shape c.in-Some.is in
     let f = c.args.front.now in
     let old = c.args.visits.now.count in
     let new = c.children_of.new.visits.count in
     let found : FindsNone (keys_in kb S) nodes s.front_of f old new = c.in_default-children_of.ensures.finds (keys_in kb S) s in
-    nothing kb S c.self.invariant.sound.content c.law.ensures.distinct nodes root s f old new found ∙ ap (λ t. set.len (parts (bytes kb) t.pairs f)) c.self.view_is
+    nothing kb S c.self.invariant.content c.law.ensures.distinct nodes root s f old new found ∙ ap (λ t. set.len (parts (bytes kb) t.pairs f)) c.self.view_is
 
 pub returns-in_default-children_of-clause-counted : goal.returns-in_default-children_of-clause-counted
 returns-in_default-children_of-clause-counted g c =
@@ -98,12 +97,12 @@ returns-in_default-children_of-clause-counted g c =
     let S = i.leaves.pairs in
     let nodes = at i.nodes in
     let root = Some c.in-Some.root in
-    let s = rooted (keys_in kb S) nodes i.root root c.self.invariant.sound.shape c.in-Some.is in
+    let s = rooted (keys_in kb S) nodes i.root root c.self.invariant.shape c.in-Some.is in
     let f = c.args.front.now in
     let old = c.args.visits.now.count in
     let new = c.children_of.new.visits.count in
     let found : FindsNone (keys_in kb S) nodes s.front_of f old new = c.in_default-children_of.ensures.finds (keys_in kb S) s in
-    subst (λ (z : ℕ). new ≤ old + z + 1) (ap (λ t. longest (bytes kb) t.pairs) c.self.view_is) (nothing_soon kb S c.self.invariant.sound.content c.law.ensures.distinct nodes root s f old new found)
+    subst (λ (z : ℕ). new ≤ old + z + 1) (ap (λ t. longest (bytes kb) t.pairs) c.self.view_is) (nothing_soon kb S c.self.invariant.content c.law.ensures.distinct nodes root s f old new found)
 
 pub read-requires : goal.read-requires
 read-requires g c =
@@ -112,14 +111,14 @@ read-requires g c =
     let S = i.leaves.pairs in
     let nodes = at i.nodes in
     let root = Some c.in-Some.root in
-    let s = rooted (keys_in kb S) nodes i.root root c.self.invariant.sound.shape c.in-Some.is in
+    let s = rooted (keys_in kb S) nodes i.root root c.self.invariant.shape c.in-Some.is in
     let f = c.args.front.now in
     let old = c.args.visits.now.count in
     let new = c.children_of.new.visits.count in
     let count = c.in-Some-children_of.found.0 in
     let leaf = c.in-Some-children_of.found.1 in
     let found : FindsNode (keys_in kb S) nodes s.front_of f old new count leaf = c.in-Some-children_of.ensures.finds (keys_in kb S) s in
-    has_key kb S leaf found.least.key found.least.is
+    has_key kb S leaf found.first.key found.first.is
 
 pub returns-then-begins-clause-value : goal.returns-then-begins-clause-value
 returns-then-begins-clause-value g c =
@@ -128,7 +127,7 @@ returns-then-begins-clause-value g c =
     let S = i.leaves.pairs in
     let nodes = at i.nodes in
     let root = Some c.in-Some.root in
-    let s = rooted (keys_in kb S) nodes i.root root c.self.invariant.sound.shape c.in-Some.is in
+    let s = rooted (keys_in kb S) nodes i.root root c.self.invariant.shape c.in-Some.is in
     let f = c.args.front.now in
     let old = c.args.visits.now.count in
     let new = c.children_of.new.visits.count in
@@ -137,7 +136,7 @@ returns-then-begins-clause-value g c =
     let found : FindsNode (keys_in kb S) nodes s.front_of f old new count leaf = c.in-Some-children_of.ensures.finds (keys_in kb S) s in
     let k = kb c.read.result.0.now in
     let is : keys_in kb S leaf ≡ Some k = key_of_pair kb S leaf (c.read.result.0.now, c.read.result.1.now) c.read.ensures.value in
-    subst (λ (T : List (Numbered _ _)). count ≡ set.len (parts (bytes kb) T f)) (ap (λ t. t.pairs) c.self.view_is) (counts kb S c.self.invariant.sound.content c.law.ensures.distinct nodes root s f old new count leaf found k is c.as_bytes.result.now c.if-begins.ensures c.as_bytes.ensures)
+    subst (λ (T : List (Numbered _ _)). count ≡ set.len (parts (bytes kb) T f)) (ap (λ t. t.pairs) c.self.view_is) (counts kb S c.self.invariant.content c.law.ensures.distinct nodes root s f old new count leaf found k is c.as_bytes.result.now c.if-begins.ensures c.as_bytes.ensures)
 
 pub returns-then-begins-clause-counted : goal.returns-then-begins-clause-counted
 returns-then-begins-clause-counted g c =
@@ -146,7 +145,7 @@ returns-then-begins-clause-counted g c =
     let S = i.leaves.pairs in
     let nodes = at i.nodes in
     let root = Some c.in-Some.root in
-    let s = rooted (keys_in kb S) nodes i.root root c.self.invariant.sound.shape c.in-Some.is in
+    let s = rooted (keys_in kb S) nodes i.root root c.self.invariant.shape c.in-Some.is in
     let f = c.args.front.now in
     let old = c.args.visits.now.count in
     let new = c.children_of.new.visits.count in
@@ -155,7 +154,7 @@ returns-then-begins-clause-counted g c =
     let found : FindsNode (keys_in kb S) nodes s.front_of f old new count leaf = c.in-Some-children_of.ensures.finds (keys_in kb S) s in
     let k = kb c.read.result.0.now in
     let is : keys_in kb S leaf ≡ Some k = key_of_pair kb S leaf (c.read.result.0.now, c.read.result.1.now) c.read.ensures.value in
-    subst (λ (z : ℕ). c.read.new.visits.count ≤ old + z + 1) (ap (λ t. longest (bytes kb) t.pairs) c.self.view_is) (soon kb S c.self.invariant.sound.content c.law.ensures.distinct nodes root s f old new count leaf found k is c.read.new.visits.count c.read.ensures.counted)
+    subst (λ (z : ℕ). c.read.new.visits.count ≤ old + z + 1) (ap (λ t. longest (bytes kb) t.pairs) c.self.view_is) (soon kb S c.self.invariant.content c.law.ensures.distinct nodes root s f old new count leaf found k is c.read.new.visits.count c.read.ensures.counted)
 
 pub returns-else-begins-clause-value : goal.returns-else-begins-clause-value
 returns-else-begins-clause-value g c =
@@ -164,7 +163,7 @@ returns-else-begins-clause-value g c =
     let S = i.leaves.pairs in
     let nodes = at i.nodes in
     let root = Some c.in-Some.root in
-    let s = rooted (keys_in kb S) nodes i.root root c.self.invariant.sound.shape c.in-Some.is in
+    let s = rooted (keys_in kb S) nodes i.root root c.self.invariant.shape c.in-Some.is in
     let f = c.args.front.now in
     let old = c.args.visits.now.count in
     let new = c.children_of.new.visits.count in
@@ -173,7 +172,7 @@ returns-else-begins-clause-value g c =
     let found : FindsNode (keys_in kb S) nodes s.front_of f old new count leaf = c.in-Some-children_of.ensures.finds (keys_in kb S) s in
     let k = kb c.read.result.0.now in
     let is : keys_in kb S leaf ≡ Some k = key_of_pair kb S leaf (c.read.result.0.now, c.read.result.1.now) c.read.ensures.value in
-    subst (λ (T : List (Numbered _ _)). 0 ≡ set.len (parts (bytes kb) T f)) (ap (λ t. t.pairs) c.self.view_is) (other kb S c.self.invariant.sound.content c.law.ensures.distinct nodes root s f old new count leaf found k is c.as_bytes.result.now c.if-begins.ensures c.as_bytes.ensures)
+    subst (λ (T : List (Numbered _ _)). 0 ≡ set.len (parts (bytes kb) T f)) (ap (λ t. t.pairs) c.self.view_is) (other kb S c.self.invariant.content c.law.ensures.distinct nodes root s f old new count leaf found k is c.as_bytes.result.now c.if-begins.ensures c.as_bytes.ensures)
 
 pub returns-else-begins-clause-counted : goal.returns-else-begins-clause-counted
 returns-else-begins-clause-counted g c =
@@ -182,7 +181,7 @@ returns-else-begins-clause-counted g c =
     let S = i.leaves.pairs in
     let nodes = at i.nodes in
     let root = Some c.in-Some.root in
-    let s = rooted (keys_in kb S) nodes i.root root c.self.invariant.sound.shape c.in-Some.is in
+    let s = rooted (keys_in kb S) nodes i.root root c.self.invariant.shape c.in-Some.is in
     let f = c.args.front.now in
     let old = c.args.visits.now.count in
     let new = c.children_of.new.visits.count in
@@ -191,4 +190,4 @@ returns-else-begins-clause-counted g c =
     let found : FindsNode (keys_in kb S) nodes s.front_of f old new count leaf = c.in-Some-children_of.ensures.finds (keys_in kb S) s in
     let k = kb c.read.result.0.now in
     let is : keys_in kb S leaf ≡ Some k = key_of_pair kb S leaf (c.read.result.0.now, c.read.result.1.now) c.read.ensures.value in
-    subst (λ (z : ℕ). c.read.new.visits.count ≤ old + z + 1) (ap (λ t. longest (bytes kb) t.pairs) c.self.view_is) (soon kb S c.self.invariant.sound.content c.law.ensures.distinct nodes root s f old new count leaf found k is c.read.new.visits.count c.read.ensures.counted)
+    subst (λ (z : ℕ). c.read.new.visits.count ≤ old + z + 1) (ap (λ t. longest (bytes kb) t.pairs) c.self.view_is) (soon kb S c.self.invariant.content c.law.ensures.distinct nodes root s f old new count leaf found k is c.read.new.visits.count c.read.ensures.counted)

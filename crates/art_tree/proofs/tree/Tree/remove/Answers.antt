@@ -1,12 +1,9 @@
 use Rattle.std.proofs.Common.{refl}
 use Rattle.art_tree.specs.Leaves.{without_number, keys_in}
-use Rattle.art_tree.specs.Nodes.{at}
-use Rattle.art_tree.proofs.KeyChanges.{loses_from}
-use Rattle.art_tree.proofs.LeavesLemmas.{others-without_number, leaf_in-without_now}
-use Rattle.art_tree.proofs.PairChanges.{content_without}
-use Rattle.art_tree.proofs.Prefixes.{keep_rooted}
-use Rattle.art_tree.proofs.SameShapes.{rooted}
-use Rattle.art_tree.proofs.Soundness.{whole_same}
+use Rattle.art_tree.proofs.Pairs.KeyChanges.{loses_from}
+use Rattle.art_tree.proofs.Pairs.Numbers.{others-without_number, leaf_in-without_now}
+use Rattle.art_tree.proofs.Pairs.Changes.{content_without}
+use Rattle.art_tree.proofs.Invariant.Soundness.{sound_same}
 use Rattle.art_tree.proofs.tree.Tree.remove.Goals as goal
 
 pub invariant_of-self : goal.invariant_of-self
@@ -19,15 +16,8 @@ invariant_of-self g c =
     let k = key_bytes c.remove.result.0 in
     let loses = loses_from key_bytes old new c.args.id (others-without_number old c.args.id c.law.ensures.distinct) c.remove.result c.remove.ensures.value (leaf_in-without_now old c.args.id c.law.ensures.distinct) in
     let u = c.unlink-self-inside in
-    let shape = u.ensures.shape (keys_in key_bytes new) k loses in
-    let root = rooted (keys_in key_bytes old) (at i.nodes) i.root _ w.sound.shape c.in-Some.is in
-    let kept = keep_rooted g.row.PREFIX_LEN (keys_in key_bytes old) (at i.nodes) i.root _ w.sound.shape c.in-Some.is w.prefixes in
-    whole_same key_bytes g.row.PREFIX_LEN (record i.leaves { pairs = new }) c.remove.new.self u.new.nodes u.new.nodes u.result
-    (record {
-      sound = record { content = content_without key_bytes old c.args.id w.sound.content; shape = shape };
-      prefixes = u.ensures.kept (keys_in key_bytes new) k loses root kept shape;
-    })
-    c.remove.ensures.rest (λ j. refl)
+    sound_same key_bytes (record i.leaves { pairs = new }) c.remove.new.self u.new.nodes u.new.nodes u.result
+    (record { content = content_without key_bytes old c.args.id w.content; shape = u.ensures (keys_in key_bytes new) k loses }) c.remove.ensures.rest (λ j. refl)
 
 pub returns-clause-others : goal.returns-clause-others
 returns-clause-others g c =

@@ -1,14 +1,13 @@
 use Rattle.std.proofs.Common.{sym, subst, refl}
 use Rattle.art_tree.specs.Content.{Content}
 use Rattle.art_tree.specs.Leaves.{Has, keys_in, with_pair}
-use Rattle.art_tree.specs.Nodes.{at}
+use Rattle.art_tree.specs.Slabs.Nodes.{at}
 use Rattle.art_tree.specs.Takes.{MayTake}
-use Rattle.art_tree.proofs.Exchanging.{shape_exchanged, shape_exchanged-front}
-use Rattle.art_tree.proofs.KeyChanges.{exchanges_from}
-use Rattle.art_tree.proofs.LeavesLemmas.{others-with_pair, leaf_in-with_now}
-use Rattle.art_tree.proofs.PairChanges.{content_with, near_new, apart_key}
-use Rattle.art_tree.proofs.Prefixes.{keep_same}
-use Rattle.art_tree.proofs.Soundness.{whole_same}
+use Rattle.art_tree.proofs.Invariant.Exchanging.{shape_exchanged}
+use Rattle.art_tree.proofs.Pairs.KeyChanges.{exchanges_from}
+use Rattle.art_tree.proofs.Pairs.Numbers.{others-with_pair, leaf_in-with_now}
+use Rattle.art_tree.proofs.Pairs.Changes.{content_with, near_new, apart_key}
+use Rattle.art_tree.proofs.Invariant.Soundness.{sound_same}
 use Rattle.art_tree.proofs.tree.Tree.swap.Goals as goal
 
 pub invariant_of-self : goal.invariant_of-self
@@ -24,16 +23,12 @@ invariant_of-self g c =
     let may = subst (λ (t : Content g.row.K.Denot g.row.V.Denot). MayTake key_bytes t.pairs id (key_bytes c.args.key)) (sym c.self.view_is) c.requires.may in
     let new = with_pair old id y in
     let ex = exchanges_from key_bytes old new id (others-with_pair old id y) x y c.exchange.ensures.value (leaf_in-with_now old id y has) in
-    let was = c.self.invariant.sound in
+    let was = c.self.invariant in
     let apart = apart_key key_bytes old id y d may in
     let near = near_new key_bytes old id y d may x c.exchange.ensures.value in
-    whole_same key_bytes g.row.PREFIX_LEN (record i.leaves { pairs = new }) c.exchange.new.self i.nodes i.nodes i.root
+    sound_same key_bytes (record i.leaves { pairs = new }) c.exchange.new.self i.nodes i.nodes i.root
     (record {
-      sound = record {
-        content = content_with key_bytes old id y d may was.content;
-        shape = shape_exchanged (keys_in key_bytes old) (keys_in key_bytes new) (at i.nodes) i.root id (key_bytes x.0) (key_bytes c.args.key) was.shape ex near apart;
-      };
-      prefixes = keep_same g.row.PREFIX_LEN (at i.nodes) (at i.nodes) i.root was.shape.front_of _
-          (shape_exchanged-front (keys_in key_bytes old) (keys_in key_bytes new) (at i.nodes) i.root id (key_bytes x.0) (key_bytes c.args.key) was.shape ex near apart) (λ j. refl) c.self.invariant.prefixes;
+      content = content_with key_bytes old id y d may was.content;
+      shape = shape_exchanged (keys_in key_bytes old) (keys_in key_bytes new) (at i.nodes) i.root id (key_bytes x.0) (key_bytes c.args.key) was.shape ex near apart;
     })
     c.exchange.ensures.pairs (λ j. refl)

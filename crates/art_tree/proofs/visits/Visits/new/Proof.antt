@@ -23,7 +23,7 @@ use denote.Triple.Entry.{alive}
 use denote.Triple.Spec.{Meets, triple_of}
 use denote.Triple.Table.{entered}
 use denote.Triple.Walked.{says, Stays, walk_of, ends_at, walk_Meets}
-use Rattle.art_tree.proofs.Walks.{none, none_made}
+use Rattle.art_tree.proofs.Slabs.NoBytes.{none, none_made}
 use Rattle.art_tree.specs.contracts.visits.Visits as Visits
 use Rattle.art_tree.specs.contracts.visits.Visits.new as F
 use Rattle.art_tree.specs.contracts.visits.Visits.new.Key.{name as #self}

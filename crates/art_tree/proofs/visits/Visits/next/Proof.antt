@@ -25,7 +25,7 @@ use denote.Triple.Entry.{alive}
 use denote.Triple.Spec.{Meets, triple_of}
 use denote.Triple.Table.{entered}
 use denote.Triple.Walked.{says, Stays, stay_dropped, walk_of, ends_at, walk_Meets, Goes-dropped}
-use Rattle.art_tree.proofs.Walks.{none, none_made}
+use Rattle.art_tree.proofs.Slabs.NoBytes.{none, none_made}
 use Rattle.art_tree.specs.contracts.visits.Visits as Visits
 use Rattle.art_tree.specs.contracts.visits.Visits.next as F
 use Rattle.art_tree.specs.contracts.visits.Visits.next.Key.{name as #self}

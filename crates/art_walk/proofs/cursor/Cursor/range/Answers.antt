@@ -2,7 +2,7 @@ use Rattle.std.proofs.Common.{true, false, sym, lit<}
 use Rattle.blart_keys.specs.Bounds.{bound_bytes}
 use Rattle.blart_keys.specs.Content.{between}
 use Rattle.art_tree.specs.Leaves.{bytes}
-use Rattle.art_tree.proofs.CallerLemmas.{sought_has}
+use Rattle.art_tree.proofs.CallerLemmas.{number_within_has}
 use Rattle.art_walk.proofs.Steps.{cut_fits, cut_left, nothing_is}
 use Rattle.art_walk.proofs.Ranges.{none_from, none_up, past_end, same_end, within_cut}
 use Rattle.art_walk.proofs.cursor.Cursor.range.Goals as goal
@@ -24,7 +24,7 @@ returns-in_default-seek-clause-left g c =
 
 pub leaf-requires : goal.leaf-requires
 leaf-requires g c =
-    (lit< tt, sought_has (bytes g.K.AsBytes.bytes) c.args.tree.now.pairs c.law.ensures.distinct (bound_bytes (λ b. b) c.args.start) true c.in-Some.first (sym c.in-Some.ensures.found))
+    (lit< tt, number_within_has (bytes g.K.AsBytes.bytes) c.args.tree.now.pairs c.law.ensures.distinct (bound_bytes (λ b. b) c.args.start) true c.in-Some.first (sym c.in-Some.ensures.found))
 
 pub returns-then-is_within_end-clause-fits : goal.returns-then-is_within_end-clause-fits
 returns-then-is_within_end-clause-fits g c =

@@ -3,7 +3,7 @@ use Rattle.std.proofs.lemmas.Bool.Decides.{eqb_tells}
 use Rattle.blart_keys.specs.Content.{subtree}
 use Rattle.std.proofs.Common.{Some}
 use Rattle.art_tree.specs.Leaves.{last_number, bytes}
-use Rattle.art_tree.proofs.PairChanges.{takes_alone, related_has}
+use Rattle.art_tree.proofs.CallerLemmas.{takes_alone, related_has}
 use Rattle.tree_tests.proofs.tests.changing.exchange.Goals as goal
 
 same_of : (i j : ℕ) → false ≡ not (eqb i j) → i ≡ j

@@ -1,7 +1,7 @@
 use Rattle.std.proofs.Common.{take, sym, subst, Option, List}
-use Rattle.art_tree.specs.Kids.{IsNext}
+use Rattle.art_tree.specs.Slabs.Edges.{IsNext}
 use Rattle.art_tree.specs.declared.records.ids.Edge.{Edge}
-use Rattle.art_tree.proofs.KidsNexts.{after-next}
+use Rattle.art_tree.proofs.Slabs.EdgeNexts.{after-next}
 use Rattle.art_tree.proofs.records.children.Children.edge_after.Goals as goal
 
 pub returns : goal.returns

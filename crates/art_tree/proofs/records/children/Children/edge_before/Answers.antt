@@ -1,7 +1,7 @@
 use Rattle.std.proofs.Common.{take, sym, subst, Option, List}
-use Rattle.art_tree.specs.Kids.{IsPrevious}
+use Rattle.art_tree.specs.Slabs.Edges.{IsPrevious}
 use Rattle.art_tree.specs.declared.records.ids.Edge.{Edge}
-use Rattle.art_tree.proofs.KidsNexts.{before-previous}
+use Rattle.art_tree.proofs.Slabs.EdgeNexts.{before-previous}
 use Rattle.art_tree.proofs.records.children.Children.edge_before.Goals as goal
 
 pub returns : goal.returns

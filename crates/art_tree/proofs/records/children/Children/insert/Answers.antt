@@ -1,5 +1,5 @@
 use Rattle.std.proofs.Common.{arith, ◌<◌}
-use Rattle.art_tree.proofs.KidsFills.{has_place, sorted_adds, sorted_more}
+use Rattle.art_tree.proofs.Slabs.EdgeFills.{has_place, sorted_adds, sorted_more}
 use Rattle.art_tree.proofs.records.children.Children.insert.Goals as goal
 
 pub insert_in-requires : goal.insert_in-requires

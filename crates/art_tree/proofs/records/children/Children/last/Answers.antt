@@ -1,8 +1,8 @@
-use Rattle.std.proofs.Common.{◌≡◌, ◌-◌, ◌<◌, suc, List, length, take, subst, sym, get_or, arith}
-use Rattle.art_tree.specs.Kids.{IsGreatest, Ascends}
+use Rattle.std.proofs.Common.{false, ◌≡◌, ◌-◌, ◌<◌, suc, List, length, take, subst, sym, get_or, arith}
+use Rattle.art_tree.specs.Slabs.Edges.{IsEnd, Ascends}
 use Rattle.art_tree.specs.declared.records.ids.Edge.{Edge}
-use Rattle.art_tree.proofs.KidsFills.{in_use}
-use Rattle.art_tree.proofs.KidsNexts.{last-greatest}
+use Rattle.art_tree.proofs.Slabs.EdgeFills.{in_use}
+use Rattle.art_tree.proofs.Slabs.EdgeNexts.{last-greatest}
 use Rattle.art_tree.proofs.records.children.Children.last.Goals as goal
 
 pub returns : goal.returns
@@ -14,5 +14,5 @@ returns c =
     let x = c.index-self-self.result in
     let e : suc (i.count - 1) ≡ i.count = omega arith in
     let g = last-greatest (i.count - 1) i.edges x (subst (λ n. Ascends (take n i.edges)) (sym e) v.ascends) (omega (arith, v.within, v.long)) in
-    let h : IsGreatest (take i.count i.edges) (get_or i.edges (i.count - 1) x) = subst (λ n. IsGreatest (take n i.edges) (get_or i.edges (i.count - 1) x)) e g in
-    subst (λ (k : List Edge). IsGreatest k (get_or i.edges (i.count - 1) x)) c.self.view_is h
+    let h : IsEnd false (take i.count i.edges) (get_or i.edges (i.count - 1) x) = subst (λ n. IsEnd false (take n i.edges) (get_or i.edges (i.count - 1) x)) e g in
+    subst (λ (k : List Edge). IsEnd false k (get_or i.edges (i.count - 1) x)) c.self.view_is h

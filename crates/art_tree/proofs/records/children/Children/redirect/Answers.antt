@@ -1,4 +1,4 @@
-use Rattle.art_tree.proofs.KidsFills.{sorted_redirects, sorted_same}
+use Rattle.art_tree.proofs.Slabs.EdgeFills.{sorted_redirects, sorted_same}
 use Rattle.art_tree.proofs.records.children.Children.redirect.Goals as goal
 
 pub invariant_of-self : goal.invariant_of-self

@@ -1,4 +1,4 @@
-use Rattle.art_tree.proofs.KidsFills.{sorted_drops, sorted_less}
+use Rattle.art_tree.proofs.Slabs.EdgeFills.{sorted_drops, sorted_less}
 use Rattle.art_tree.proofs.records.children.Children.remove.Goals as goal
 
 pub invariant_of-self : goal.invariant_of-self

@@ -1,6 +1,6 @@
 use Rattle.std.proofs.Common.{refl}
-use Rattle.art_tree.specs.Store.{with_record}
-use Rattle.art_tree.proofs.LinksLemmas.{seen, all_linked, pairs_are, store_changed}
+use Rattle.art_tree.specs.Slabs.Store.{with_record}
+use Rattle.art_tree.proofs.Slabs.Links.{seen, all_linked, pairs_are, store_changed}
 use Rattle.art_tree.proofs.records.leaves.Leaves.exchange.Goals as goal
 
 pub invariant_of-self : goal.invariant_of-self

@@ -1,7 +1,7 @@
 use Rattle.std.proofs.Common.{List, refl, ap, ◌∙◌}
-use Rattle.art_tree.specs.Store.{with_record}
+use Rattle.art_tree.specs.Slabs.Store.{with_record}
 use Rattle.art_tree.specs.Leaves.{Leaves, Numbered, with_value}
-use Rattle.art_tree.proofs.LinksLemmas.{seen, all_linked, pairs_are, stored_pair, store_revalued}
+use Rattle.art_tree.proofs.Slabs.Links.{seen, all_linked, pairs_are, stored_pair, store_revalued}
 use Rattle.art_tree.proofs.records.leaves.Leaves.get_mut.Goals as goal
 
 pub invariant_of-self-lent : goal.invariant_of-self-lent

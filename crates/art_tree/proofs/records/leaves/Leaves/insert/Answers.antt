@@ -1,8 +1,8 @@
 use Rattle.std.proofs.Common.{◌≡◌}
 use Rattle.std.specs.Prelude.{IfSome}
 use Rattle.art_tree.specs.Leaves.{Has, behind}
-use Rattle.art_tree.specs.Store.{slot_at}
-use Rattle.art_tree.proofs.LinksLemmas.{seen, all_linked, pairs_are, still_linked, made_before, made_behind, store_inserted}
+use Rattle.art_tree.specs.Slabs.Store.{slot_at}
+use Rattle.art_tree.proofs.Slabs.Links.{seen, all_linked, pairs_are, still_linked, made_before, made_behind, store_inserted}
 use Rattle.art_tree.proofs.records.leaves.Leaves.insert.Goals.{in-None, in-Some}
 use Rattle.art_tree.proofs.records.leaves.Leaves.insert.Goals as goal
 

@@ -1,4 +1,4 @@
-use Rattle.art_tree.proofs.LinksLemmas.{seen}
+use Rattle.art_tree.proofs.Slabs.Links.{seen}
 use Rattle.art_tree.proofs.records.leaves.Leaves.law.Goals as goal
 
 pub returns : goal.returns

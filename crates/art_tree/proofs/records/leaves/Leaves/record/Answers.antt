@@ -1,4 +1,4 @@
-use Rattle.art_tree.proofs.LinksLemmas.{seen, stored, stored_pair, stored_next, stored_prev}
+use Rattle.art_tree.proofs.Slabs.Links.{seen, stored, stored_pair, stored_next, stored_prev}
 use Rattle.art_tree.proofs.records.leaves.Leaves.record.Goals as goal
 
 pub read-requires : goal.read-requires

@@ -1,5 +1,5 @@
-use Rattle.art_tree.specs.Store.{slot_at}
-use Rattle.art_tree.proofs.LinksLemmas.{seen, all_linked, pairs_are, still_linked, taken_before, taken_after, store_removed}
+use Rattle.art_tree.specs.Slabs.Store.{slot_at}
+use Rattle.art_tree.proofs.Slabs.Links.{seen, all_linked, pairs_are, still_linked, taken_before, taken_after, store_removed}
 use Rattle.art_tree.proofs.records.leaves.Leaves.remove.Goals as goal
 
 pub set_next-requires : goal.set_next-requires

@@ -1,4 +1,4 @@
-use Rattle.art_tree.proofs.LinksLemmas.{seen, all_linked, pairs_are, store_same}
+use Rattle.art_tree.proofs.Slabs.Links.{seen, all_linked, pairs_are, store_same}
 use Rattle.art_tree.proofs.records.leaves.Leaves.reserve.Goals as goal
 
 pub invariant_of-self : goal.invariant_of-self

@@ -1,5 +1,5 @@
 use Rattle.std.proofs.Common.{◌≡◌, ◌∙◌, sym, Some, arith}
-use Rattle.art_tree.proofs.NodesRecords.{all_used, frees}
+use Rattle.art_tree.proofs.Slabs.NodeRecords.{all_used, frees}
 use Rattle.art_tree.proofs.records.nodes.Nodes.free.Goals as goal
 
 pub invariant_of-self : goal.invariant_of-self

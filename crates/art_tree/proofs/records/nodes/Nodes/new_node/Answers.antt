@@ -1,9 +1,9 @@
 use Rattle.std.proofs.Common.{◌≡◌, ◌≤◌, ◌∙◌, ℕ, List, ap, take, length, replicate, arith}
 use Rattle.std.proofs.lemmas.List.{length-replicate}
-use Rattle.art_tree.specs.Nodes.{Node}
+use Rattle.art_tree.specs.Slabs.Nodes.{Node}
 use Rattle.art_tree.specs.declared.records.ids.Edge.{Edge}
 use Rattle.art_tree.specs.declared.records.nodes.Inner.{Inner}
-use Rattle.art_tree.proofs.NodesRecords.{all_written, makes}
+use Rattle.art_tree.proofs.Slabs.NodeRecords.{all_written, makes}
 use Rattle.art_tree.proofs.records.nodes.Nodes.new_node.Goals as goal
 
 pub invariant_of-self : goal.invariant_of-self
@@ -25,6 +25,6 @@ returns-clause-made g c =
     let bytes = c.args.prefix.now in
     let y : Inner P = record { depth = c.args.depth; used = c.copy_front.result; children = c.new.result; prefix = c.copy_front.new.to } in
     let e : take y.used y.prefix ≡ take P bytes = c.copy_front.ensures.copied ∙ ap (λ n. take n bytes) (length-replicate P 0) in
-    let f : List ℕ → List Edge → Node = λ p k. record { depth = c.args.depth; prefix = p; kids = k } in
+    let f : List ℕ → List Edge → Node = λ p k. record { depth = c.args.depth; prefix = p; edges = k } in
     rw (← c.self.view_is) (makes c.self.inside.records c.fill.new.self c.fill.result t.others c.args.depth (take P bytes) c.args.low c.args.high y t.fresh t.now
     (ap (λ p. f p c.new.result) e ∙ ap (f (take P bytes)) c.new.ensures))

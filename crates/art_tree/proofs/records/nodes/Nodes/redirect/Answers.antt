@@ -1,5 +1,5 @@
 use Rattle.std.proofs.Common.{refl}
-use Rattle.art_tree.proofs.NodesRecords.{kept, live-with, redirects}
+use Rattle.art_tree.proofs.Slabs.NodeRecords.{kept, live-with, redirects}
 use Rattle.art_tree.proofs.records.nodes.Nodes.redirect.Goals as goal
 
 pub invariant_of-self : goal.invariant_of-self
@@ -7,8 +7,8 @@ invariant_of-self g c =
     let v = c.self.invariant in
     kept c.self.inside.records c.id.inside.number c.get_mut.result.now _ c.get_mut.ensures.value v (v.0 c.id.inside.number c.get_mut.result.now c.get_mut.ensures.value)
 
-pub returns-clause-redirected : goal.returns-clause-redirected
-returns-clause-redirected g c =
+pub returns-clause-edges_with_child : goal.returns-clause-edges_with_child
+returns-clause-edges_with_child g c =
     let s = c.self.inside.records in
     let n = c.id.inside.number in
     let x = c.get_mut.result.now in

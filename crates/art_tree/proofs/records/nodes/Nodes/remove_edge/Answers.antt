@@ -1,5 +1,5 @@
 use Rattle.std.proofs.Common.{refl}
-use Rattle.art_tree.proofs.NodesRecords.{kept, live-with, drops}
+use Rattle.art_tree.proofs.Slabs.NodeRecords.{kept, live-with, drops}
 use Rattle.art_tree.proofs.records.nodes.Nodes.remove_edge.Goals as goal
 
 pub invariant_of-self : goal.invariant_of-self

@@ -1,6 +1,6 @@
 use Rattle.std.proofs.Common.{◌∙◌, ap}
-use Rattle.art_tree.specs.Nodes.{Nodes, at}
-use Rattle.art_tree.proofs.NodesRecords.{same_nodes}
+use Rattle.art_tree.specs.Slabs.Nodes.{Nodes, at}
+use Rattle.art_tree.proofs.Slabs.NodeRecords.{same_nodes}
 use Rattle.art_tree.proofs.records.nodes.Nodes.reserve.Goals as goal
 
 pub returns-clause-same : goal.returns-clause-same

@@ -1,6 +1,6 @@
 use Rattle.std.proofs.Common.{◌≡◌, ◌∙◌, List, ℕ, ap, arith, take}
-use Rattle.art_tree.specs.Inners.{seen}
-use Rattle.art_tree.proofs.NodesRecords.{kept, live-with, reprefixes}
+use Rattle.art_tree.specs.Slabs.NodeRecords.{seen}
+use Rattle.art_tree.proofs.Slabs.NodeRecords.{kept, live-with, reprefixes}
 use Rattle.art_tree.proofs.records.nodes.Nodes.set_prefix.Goals as goal
 
 pub invariant_of-self : goal.invariant_of-self

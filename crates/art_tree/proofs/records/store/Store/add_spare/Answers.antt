@@ -1,9 +1,9 @@
 use Rattle.std.proofs.Common.{◌≡◌, ap, ◌∙◌, sym, subst, Option, None, List, get_or, map, arith}
 use Rattle.slab.specs.Slab.{Slab}
-use Rattle.art_tree.specs.Slots.{used_of, HasSpares}
-use Rattle.art_tree.specs.Store.{Store, slot_at}
+use Rattle.art_tree.specs.Slabs.Slots.{used_of, HasSpares}
+use Rattle.art_tree.specs.Slabs.Store.{Store, slot_at}
 use Rattle.art_tree.specs.declared.records.store.Slot.{Slot}
-use Rattle.art_tree.proofs.StoreSlots.{spares-add, same-add, count-same}
+use Rattle.art_tree.proofs.Slabs.Slots.{spares-add, same-add, count-same}
 use Rattle.art_tree.proofs.records.store.Store.add_spare.Goals as goal
 
 pub invariant_of-self-2 : goal.invariant_of-self-2

@@ -1,7 +1,7 @@
 use Rattle.std.proofs.Common.{refl, ap, ◌∙◌}
 use Rattle.std.proofs.lemmas.List.{map-set}
-use Rattle.art_tree.specs.Slots.{used_of}
-use Rattle.art_tree.proofs.StoreSlots.{at-map, used_at, spares-rewrite}
+use Rattle.art_tree.specs.Slabs.Slots.{used_of}
+use Rattle.art_tree.proofs.Slabs.Slots.{at-map, used_at, spares-rewrite}
 use Rattle.art_tree.proofs.records.store.Store.get_mut.Goals as goal
 
 pub invariant_of-self-lent : goal.invariant_of-self-lent

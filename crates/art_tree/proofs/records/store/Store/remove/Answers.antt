@@ -1,6 +1,6 @@
 use Rattle.std.proofs.Common.{arith}
 use Rattle.art_tree.specs.declared.records.store.Slot.TheVariants.{Used, Spare}
-use Rattle.art_tree.proofs.StoreSlots.{used_at, spares-take, counts-set, now-set, others-set}
+use Rattle.art_tree.proofs.Slabs.Slots.{used_at, spares-take, counts-set, now-set, others-set}
 use Rattle.art_tree.proofs.records.store.Store.remove.Goals as goal
 
 pub invariant_of-self : goal.invariant_of-self

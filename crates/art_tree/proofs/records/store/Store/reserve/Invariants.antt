@@ -1,5 +1,5 @@
 use Rattle.std.proofs.Common.{◌≡◌, ◌≤◌}
-use Rattle.art_tree.specs.Store.{used_count, SameRecords}
+use Rattle.art_tree.specs.Slabs.Store.{used_count, SameRecords}
 use Rattle.art_tree.proofs.records.store.Store.reserve.Given as goal
 
 abbrev pub invariant-loop : goal.invariant-loop

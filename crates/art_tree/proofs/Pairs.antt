@@ -1,0 +1,10 @@
+pub mod Answers
+pub mod Bounds
+pub mod Changes
+pub mod KeyChanges
+pub mod Keys
+pub mod LookUps
+pub mod Neighbours
+pub mod Numbers
+pub mod Passing
+pub mod Placed

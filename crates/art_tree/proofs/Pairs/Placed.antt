@@ -1,0 +1,131 @@
+-- The pairs with one more.
+use Rattle.std.proofs.Common.{◌≡◌, ◌≢◌, ℕ, List, [], refl, ap, sym, subst, Option, Some, None, ◌∙◌, false, option_map}
+use Rattle.std.specs.Prelude.{IfSome}
+use Rattle.blart_keys.specs.Bytes.{related}
+use Rattle.blart_keys.specs.Content.{IsContent}
+use Rattle.art_tree.specs.Begins.{Bytes}
+use Rattle.art_tree.specs.Places.{LeavesMate, IsLeafBefore}
+use Rattle.art_tree.specs.Calls.Placing.{Joins, Joined, Places}
+use Rattle.art_tree.specs.Leaves.{Leaves, Numbered, leaf_in, Has, AreDistinct, placed_behind, bytes, keys_in}
+use Rattle.art_tree.specs.Slabs.Nodes.{Nodes, Node, at}
+use Rattle.art_tree.specs.Points.{IsFree}
+use Rattle.art_tree.specs.Invariant.Shape.{Shape}
+use Rattle.art_tree.specs.Calls.Spots.{SpotFits}
+use Rattle.art_tree.specs.Invariant.Sound.{IsSound}
+use Rattle.art_tree.specs.declared.tree.descent.Spot.{Spot}
+use Rattle.art_tree.specs.declared.tree.point.Place.{Place}
+use Rattle.art_tree.specs.declared.records.ids.Child.{Child}
+use Rattle.art_tree.specs.declared.records.ids.Child.TheVariants.{Leaf}
+use Rattle.art_tree.proofs.Invariant.Growing.{Gains, some_key}
+use Rattle.art_tree.proofs.Calls.Joining.{leaving_unrelated}
+use Rattle.art_tree.proofs.Pairs.KeyChanges.{gains_from}
+use Rattle.art_tree.proofs.Pairs.Numbers.{Lacks-from_leaf_in, leaf_in-placed_now, others-placed_behind}
+use Rattle.art_tree.proofs.Pairs.Neighbours.{placed_put}
+use Rattle.blart_keys.proofs.Options.{is_some}
+use Rattle.art_tree.proofs.Pairs.Keys.{pair_of_key}
+use Rattle.art_tree.proofs.Invariant.SameShapes.{rooted}
+use Rattle.art_tree.proofs.Invariant.SmallShapes.{first_key}
+
+-- a tree with no key has no root
+pub no_root : {P : ℕ} → (keys : ℕ → Option Bytes) (nodes : ℕ → Option Node) (root : Option Child) → Shape P keys nodes root → ((j : ℕ) → keys j ≡ None) → root ≡ None
+no_root keys nodes None s none = refl
+no_root keys nodes (Some c) s none =
+    let k = some_key keys nodes (Some c) s [] c s.top in
+    let a : keys k.0 ≡ Some k.1 = k.2 in
+    let b : keys k.0 ≡ None = none k.0 in
+    absurd cc
+
+module _ {K V : Type 0} (key_bytes : K → Bytes) where
+  -- the leaf before a place is one of the pairs'
+  pub has_behind : (pairs : List (Numbered K V)) (q : Bytes) (prev : Option ℕ) → IsLeafBefore (keys_in key_bytes pairs) q prev → IfSome prev (Has pairs)
+  has_behind pairs q None st = tt
+  has_behind pairs q (Some i) st = let p = pair_of_key key_bytes pairs i st.key st.is in is_some (leaf_in pairs i) p.0 p.1
+
+  -- a pair behind the leaf before its place
+  pub placed_pairs : (old new : List (Numbered K V)) (q : Bytes) (prev : Option ℕ) (i : ℕ) (x : K × V) → IsContent (bytes key_bytes) old → AreDistinct old → ((j : ℕ) (k : Bytes) → keys_in key_bytes old j ≡ Some k → related k q ≡ false)
+      → IsLeafBefore (keys_in key_bytes old) q prev → leaf_in old i ≡ None → key_bytes x.0 ≡ q → new ≡ placed_behind prev (i, x) old → Places key_bytes old new i x
+  placed_pairs old new q prev i x content distinct alone st fresh own is =
+      let has = has_behind old q prev st in
+      let lacks = Lacks-from_leaf_in old i fresh in
+      subst (λ (ps : List (Numbered K V)). Places key_bytes old ps i x) (sym is) (record {
+        put = placed_put key_bytes old content distinct q alone prev (i, x) own st;
+        fresh = fresh;
+        now = leaf_in-placed_now prev (i, x) old has lacks;
+        others = others-placed_behind prev (i, x) old has lacks;
+      })
+
+  -- the first pair
+  pub placed_first : (old new : List (Numbered K V)) (i : ℕ) (x : K × V) → IsContent (bytes key_bytes) old → old ≡ [] → leaf_in old i ≡ None → new ≡ placed_behind None (i, x) old → Places key_bytes old new i x
+  placed_first old new i x content empty fresh is =
+      let none : (j : ℕ) (k : Bytes) → keys_in key_bytes old j ≡ Some k → ⊥ = λ j k e. (let a : keys_in key_bytes old j ≡ None = ap (λ (ps : List (Numbered K V)). keys_in key_bytes ps j) empty in cc) in
+      let distinct : AreDistinct old = subst (λ (ps : List (Numbered K V)). AreDistinct ps) (sym empty) tt in
+      placed_pairs old new (key_bytes x.0) None i x content distinct (λ j k e. absurd (none j k e)) (λ j k e. absurd (none j k e)) fresh refl is
+
+  -- the keys after that
+  pub places_gain : (old new : List (Numbered K V)) (i : ℕ) (x : K × V) → Places key_bytes old new i x → Gains (keys_in key_bytes old) (keys_in key_bytes new) i (key_bytes x.0)
+  places_gain old new i x p = gains_from key_bytes old new i p.others x p.fresh p.now
+
+  -- the first pair makes a tree of one leaf
+  pub first_sound : {P : ℕ} → (leaves leaves' : Leaves K V) (nodes : Nodes) (root : Option Child) (i : ℕ) (x : K × V) → IsSound key_bytes P leaves nodes root → leaves.pairs ≡ [] → Places key_bytes leaves.pairs leaves'.pairs i x → IsSound key_bytes P leaves' nodes (Some (Leaf i))
+  first_sound leaves leaves' nodes root i x sound empty p =
+      let none : (j : ℕ) → keys_in key_bytes leaves.pairs j ≡ None = λ j. ap (λ (ps : List (Numbered K V)). keys_in key_bytes ps j) empty in
+      let s : Shape _ (keys_in key_bytes leaves.pairs) (at nodes) None = rooted (keys_in key_bytes leaves.pairs) (at nodes) root None sound.shape (no_root (keys_in key_bytes leaves.pairs) (at nodes) root sound.shape none) in
+      record {
+        content = p.put.content;
+        shape = first_key (keys_in key_bytes leaves.pairs) (keys_in key_bytes leaves'.pairs) (at nodes) i (key_bytes x.0) s (places_gain leaves.pairs leaves'.pairs i x p);
+      }
+
+  -- a pair at a free place
+  pub placed_free : {P : ℕ} → (leaves : Leaves K V) (nodes : Nodes) (root : Option Child) (place : Place) (new : List (Numbered K V)) (i : ℕ) (x : K × V) → IsSound key_bytes P leaves nodes root → AreDistinct leaves.pairs → IsFree key_bytes leaves.pairs place (key_bytes x.0)
+      → leaf_in leaves.pairs i ≡ None → new ≡ placed_behind place.prev (i, x) leaves.pairs → Places key_bytes leaves.pairs new i x
+  placed_free leaves nodes root place new i x sound distinct free fresh is =
+      placed_pairs leaves.pairs new (key_bytes x.0) place.prev i x sound.content distinct
+      (leaving_unrelated (keys_in key_bytes leaves.pairs) (at nodes) root sound.shape place.mate place.depth (key_bytes x.0) free.leaves) free.behind fresh refl is
+
+  module _ (old new : List (Numbered K V)) (i : ℕ) (x : K × V) (p : Places key_bytes old new i x) where
+    -- what a number names it names then
+    pub kept_pair : (j : ℕ) (y : K × V) → leaf_in old j ≡ Some y → leaf_in new j ≡ Some y
+    kept_pair j y e =
+        let off : j ≢ i = λ z. (let a : leaf_in old i ≡ Some y = ap (leaf_in old) (sym z) ∙ e in let b : leaf_in old i ≡ None = p.fresh in absurd cc) in
+        p.others j off ∙ e
+
+    module _ {P : ℕ} (nodes : ℕ → Option Node) (root : Child) (s : Shape P (keys_in key_bytes old) nodes (Some root)) (place : Place) (free : IsFree key_bytes old place (key_bytes x.0)) (y y' z : K × V)
+        (mate_was : leaf_in old place.mate ≡ Some y) (mate_is : leaf_in new place.mate ≡ Some y') (own_is : leaf_in new i ≡ Some z) (k m m' : Bytes) (k_is : k ≡ key_bytes z.0) (m_is : m ≡ key_bytes y.0) (m'_is : m' ≡ key_bytes y'.0)
+        (spot : Spot) (found : (j : ℕ) → keys_in key_bytes old j ≡ Some m → SpotFits nodes (Some root) s.front_of m place.depth spot) where
+      own_key : k ≡ key_bytes x.0
+      own_key =
+          let a : leaf_in new i ≡ Some x = p.now in
+          let b : z ≡ x = cc in
+          k_is ∙ ap (λ (z : K × V). key_bytes z.0) b
+
+      same_mate : m' ≡ m
+      same_mate =
+          let a : leaf_in new place.mate ≡ Some y = kept_pair place.mate y mate_was in
+          let b : y' ≡ y = cc in
+          m'_is ∙ ap (λ (y : K × V). key_bytes y.0) b ∙ sym m_is
+
+      mate_key : keys_in key_bytes old place.mate ≡ Some m
+      mate_key = ap (option_map (λ (x : K × V). key_bytes x.0)) mate_was ∙ ap Some (sym m_is)
+
+      leaves : LeavesMate (keys_in key_bytes old) place.mate place.depth k
+      leaves = subst (λ (k : Bytes). LeavesMate (keys_in key_bytes old) place.mate place.depth k) (sym own_key) free.leaves
+
+      fits : SpotFits nodes (Some root) s.front_of m' place.depth spot
+      fits = subst (λ (m : Bytes). SpotFits nodes (Some root) s.front_of m place.depth spot) (sym same_mate) (found place.mate mate_key)
+
+      -- a key at a free place leaves the mate at the spot that was found
+      pub free_joins : Joins P nodes root spot k m' place.depth
+      free_joins = record {
+        keys = keys_in key_bytes old;
+        shape = s;
+        leaf = place.mate;
+        is = mate_key ∙ ap Some (sym same_mate);
+        leaves = leaves;
+        fits = fits;
+      }
+
+      -- and the tree has it when it was added there
+      pub free_joined : (nodes' : ℕ → Option Node) (root' : Child) → Joined P nodes nodes' root root' spot k m' place.depth i → Shape P (keys_in key_bytes new) nodes' (Some root')
+      free_joined nodes' root' joined =
+          joined (keys_in key_bytes old) (keys_in key_bytes new) s place.mate (mate_key ∙ ap Some (sym same_mate)) leaves fits
+          (subst (λ (k : Bytes). Gains (keys_in key_bytes old) (keys_in key_bytes new) i k) (sym own_key) (places_gain old new i x p))

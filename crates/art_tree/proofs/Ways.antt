@@ -1,0 +1,11 @@
+pub mod Departures
+pub mod Depths
+pub mod Ends
+pub mod Mates
+pub mod Partings
+pub mod Points
+pub mod Roots
+pub mod ToFront
+pub mod ToQuery
+pub mod ToSpot
+pub mod WaysDown

@@ -1,0 +1,143 @@
+-- The leaf before the place where a query leaves the stored keys.
+use Rattle.std.proofs.Common.{false, ◌≡◌, ◌≢◌, ℕ, ◌<◌, true, List, [], ◌∷◌, ◌++◌, inl, inr, length, take, get_or, ap, sym, subst, ◌∙◌, Option, Some, None, arith}
+use Rattle.std.proofs.lemmas.List.{length-take-le}
+use Rattle.std.proofs.lemmas.Bool.{cases_order}
+use Rattle.art_tree.specs.Invariant.EdgesAbove.{edge_front}
+use Rattle.art_tree.specs.Begins.{Bytes, Begins, next_byte}
+use Rattle.art_tree.specs.Calls.Partings.{LeavesAt, LeavesAtNode, LeavesAtEdge}
+use Rattle.art_tree.specs.Calls.Descents.{IsEndUnder}
+use Rattle.art_tree.specs.Places.{IsLeafBefore}
+use Rattle.art_tree.specs.Slabs.Edges.{child_at, IsPrevious}
+use Rattle.art_tree.specs.Leaves.{Numbered, keys_in, number_before}
+use Rattle.art_tree.specs.Slabs.Nodes.{Node}
+use Rattle.art_tree.specs.Invariant.Shape.{Covers, CoversNode}
+use Rattle.art_tree.specs.Calls.Spots.{PastLength}
+use Rattle.art_tree.specs.declared.records.ids.Child.{Child}
+use Rattle.art_tree.specs.declared.records.ids.Child.TheVariants.{Leaf, Inner}
+use Rattle.art_tree.specs.declared.records.ids.Edge.{Edge}
+use Rattle.art_tree.specs.declared.tree.descent.Spot.{Spot}
+use Rattle.art_tree.specs.declared.tree.descent.Spot.TheVariants as spot
+use Rattle.art_tree.specs.declared.tree.parting.Departure.{Departure}
+use Rattle.art_tree.proofs.BeginsLemmas.{Begins-itself, Begins-more, Begins-past, Begins-trans, Begins-take}
+use Rattle.art_tree.proofs.Ways.Ends.{first_less, last_greater}
+use Rattle.art_tree.proofs.Invariant.Growing.{covers_above, some_key}
+use Rattle.art_tree.proofs.Pairs.KeyChanges.{departs_at, next_at}
+use Rattle.art_tree.proofs.Pairs.Neighbours.{last_at_node, first_at_node, last_beside, first_beside, behind_previous}
+use Rattle.blart_keys.proofs.Options.{some_of, none_of}
+use Rattle.art_tree.proofs.Calls.PlacedShapes.{along_key, bytes_apart, mate_long}
+
+module _ {K V : Type 0} (key_bytes : K → List ℕ) (pairs : List (Numbered K V)) (nodes : ℕ → Option Node) where
+  -- a node covers the keys that begin with its own front
+  pub covers_own : {P : ℕ} → (n b : ℕ) (q : Bytes) (l : LeavesAtNode key_bytes P pairs nodes n b q) → CoversNode (keys_in key_bytes pairs) nodes l.apart.shape.front_of (l.apart.shape.front_of n) n
+  covers_own n b q l = record { live = l.live; front = Begins-itself (l.apart.shape.front_of n); only = λ j k is h. h }
+
+  module _ {P : ℕ} (n b : ℕ) (q : Bytes) (l : LeavesAtNode key_bytes P pairs nodes n b q) (x : Node) (is : nodes n ≡ Some x) where
+    -- no key goes on by q's byte, so no edge has it
+    no_edge_there : child_at x.edges b ≡ None
+    no_edge_there = none_of (child_at x.edges b) (λ h.
+        let c = some_of (child_at x.edges b) h in
+        let k = some_key (keys_in key_bytes pairs) nodes l.apart.root l.apart.shape (l.apart.shape.front_of n ++ b ∷ []) c.0 ((l.apart.shape.node n x is).below b c.0 c.1) in
+        l.none k.0 k.1 k.2 k.3)
+
+    -- the greatest key below the edge before
+    pub behind_lower : (e : Edge) → IsPrevious x.edges b (Some e) → (i : ℕ) → IsEndUnder (keys_in key_bytes pairs) false (l.apart.shape.front_of n ++ e.byte ∷ []) i → IsLeafBefore (keys_in key_bytes pairs) q (Some i)
+    behind_lower e prev i u = last_at_node (keys_in key_bytes pairs) nodes l.apart.root l.apart.shape q l.apart.alone n x is b l.goes_on e prev no_edge_there i u.key u.is u.front (last_greater u)
+
+    -- or the leaf before the least key of the node
+    pub before_all : IsPrevious x.edges b None → (i : ℕ) → IsEndUnder (keys_in key_bytes pairs) true (l.apart.shape.front_of n) i → IsLeafBefore (keys_in key_bytes pairs) q (number_before pairs i)
+    before_all prev i u =
+        behind_previous key_bytes pairs l.apart.content l.apart.distinct q l.apart.alone i
+        (first_at_node (keys_in key_bytes pairs) nodes l.apart.root l.apart.shape q l.apart.alone n x is b l.goes_on prev no_edge_there i u.key u.is u.front (first_less u))
+
+  module _ {P : ℕ} (c : Child) (a b : ℕ) (q : Bytes) (l : LeavesAtEdge key_bytes P pairs nodes c a b q) where
+    -- the greatest key below an edge that goes on by a lesser byte
+    pub behind_edge : a < b → (i : ℕ) → IsEndUnder (keys_in key_bytes pairs) false l.front i → IsLeafBefore (keys_in key_bytes pairs) q (Some i)
+    behind_edge lt i u = last_beside (keys_in key_bytes pairs) q l.apart.alone l.t b a l.goes_on l.front l.within l.all i u.key u.is u.front lt (last_greater u)
+
+    -- or the leaf before the least key below an edge that goes on by a greater one
+    pub before_edge : (a < b → ⊥) → (i : ℕ) → IsEndUnder (keys_in key_bytes pairs) true l.front i → IsLeafBefore (keys_in key_bytes pairs) q (number_before pairs i)
+    before_edge never i u =
+        let apart : a ≢ b = l.other in
+        let lt : b < a = above a b never apart in
+        behind_previous key_bytes pairs l.apart.content l.apart.distinct q l.apart.alone i
+        (first_beside (keys_in key_bytes pairs) q l.apart.alone l.t b a l.goes_on l.front l.within l.all i u.key u.is u.front lt (first_less u))
+      where
+        above : (a b : ℕ) → (a < b → ⊥) → a ≢ b → b < a
+        above a b never apart = elim (cases_order a b) [ inl e ↦ absurd (apart e) | inr (inl h) ↦ absurd (never h) | inr (inr h) ↦ h ]
+
+  -- ---- where a spot shows that
+
+  module _ (mate depth byte : ℕ) (q : Bytes) where
+    abbrev departure : Spot → Departure
+    departure sp = record { mate = mate; depth = depth; byte = byte; spot = sp }
+
+    pub at_node : {P : ℕ} → (above : Option (ℕ × ℕ)) (n : ℕ) (l : LeavesAt key_bytes P pairs nodes (departure (spot.Node above n)) q) → LeavesAtNode key_bytes P pairs nodes n (get_or q depth 0) q
+    at_node above n l =
+        let keys = keys_in key_bytes pairs in
+        let d = departs_at keys mate depth q l.leaves in
+        let next : next_byte (take depth q) q ≡ get_or q depth 0 = next_at keys mate depth q l.leaves in
+        let same : take depth q ≡ l.apart.shape.front_of n = sym (l.spot_fits.1 ∙ along_key keys mate depth q l.leaves l.mate l.is) in
+        record {
+          apart = l.apart;
+          live = (covers_above keys nodes l.apart.root l.apart.shape above (Inner n) l.spot_fits.0.leads).live;
+          goes_on = subst (λ (f : Bytes). Begins (f ++ get_or q depth 0 ∷ []) q) same (subst (λ (b : ℕ). Begins (take depth q ++ b ∷ []) q) next (Begins-more (take depth q) q d.front d.longer));
+          none = λ j k is h. l.leaves.alone j k is (subst (λ (f : Bytes). Begins (f ++ get_or q depth 0 ∷ []) k) (sym same) h);
+        }
+
+    -- the keys below the edge go on from there as the mate does
+    as_mate : {P : ℕ} → (above : Option (ℕ × ℕ)) (c : Child) (l : LeavesAt key_bytes P pairs nodes (departure (spot.Edge above c)) q) → (j : ℕ) (k : Bytes) → keys_in key_bytes pairs j ≡ Some k → Begins (edge_front l.apart.shape.front_of above) k → Begins (take depth l.mate ++ get_or l.mate depth 0 ∷ []) k
+    as_mate above c l j k is h = go c (covers_above keys nodes l.apart.root l.apart.shape above c l.spot_fits.0.leads) l.spot_fits.1
+      where
+        keys : ℕ → Option Bytes
+        keys = keys_in key_bytes pairs
+
+        t : Bytes
+        t = take depth l.mate
+
+        long : depth < length l.mate
+        long = mate_long keys mate depth q l.leaves l.mate l.is
+
+        tm : Begins (take depth l.mate) l.mate
+        tm = Begins-take depth l.mate
+
+        gm : Begins (edge_front l.apart.shape.front_of above) l.mate
+        gm = Begins-trans (edge_front l.apart.shape.front_of above) (take depth l.mate) l.mate l.spot_fits.0.along tm
+
+        as_long : length (take depth l.mate) ≡ depth
+        as_long = let h : depth < length l.mate = long in length-take-le depth l.mate (omega arith)
+
+        next : next_byte (take depth l.mate) l.mate ≡ get_or l.mate depth 0
+        next = ap (λ (n : ℕ). get_or l.mate n 0) as_long
+
+        go : (c : Child) → Covers keys nodes l.apart.shape.front_of (edge_front l.apart.shape.front_of above) c → PastLength l.apart.shape.front_of depth c → Begins (take depth l.mate ++ get_or l.mate depth 0 ∷ []) k
+        go (Leaf i) covers past =
+            let mine : mate ≡ i = covers.only mate l.mate l.is gm in
+            let its : j ≡ i = covers.only j k is h in
+            let e : keys j ≡ Some l.mate = subst (λ (z : ℕ). keys z ≡ Some l.mate) (mine ∙ sym its) l.is in
+            let same : l.mate ≡ k = (let f : Some l.mate ≡ Some k = sym e ∙ is in cc) in
+            let d : length (take depth l.mate) ≡ depth = as_long in
+            let lt : depth < length l.mate = long in
+            subst (λ (z : Bytes). Begins (take depth l.mate ++ get_or l.mate depth 0 ∷ []) z) same (subst (λ (b : ℕ). Begins (take depth l.mate ++ b ∷ []) l.mate) next (Begins-more (take depth l.mate) l.mate tm (omega arith)))
+        go (Inner m) covers past =
+            let fm : Begins (l.apart.shape.front_of m) l.mate = covers.only mate l.mate l.is gm in
+            let d : length (take depth l.mate) ≡ depth = as_long in
+            let p : depth < length (l.apart.shape.front_of m) = past in
+            let tf = Begins-past (take depth l.mate) (l.apart.shape.front_of m) l.mate tm fm (omega arith) in
+            subst (λ (b : ℕ). Begins (take depth l.mate ++ b ∷ []) k) next (Begins-trans (take depth l.mate ++ next_byte (take depth l.mate) l.mate ∷ []) (l.apart.shape.front_of m) k tf (covers.only j k is h))
+
+    pub at_edge : {P : ℕ} → (above : Option (ℕ × ℕ)) (c : Child) (l : LeavesAt key_bytes P pairs nodes (departure (spot.Edge above c)) q) → LeavesAtEdge key_bytes P pairs nodes c byte (get_or q depth 0) q
+    at_edge {P} above c l =
+        let keys = keys_in key_bytes pairs in
+        let d = departs_at keys mate depth q l.leaves in
+        let next : next_byte (take depth q) q ≡ get_or q depth 0 = next_at keys mate depth q l.leaves in
+        let same : take depth q ≡ take depth l.mate = sym (along_key keys mate depth q l.leaves l.mate l.is) in
+        subst (λ (b : ℕ). LeavesAtEdge key_bytes P pairs nodes c b (get_or q depth 0) q) (sym l.byte_is) (record {
+          apart = l.apart;
+          t = take depth l.mate;
+          front = edge_front l.apart.shape.front_of above;
+          covers = covers_above keys nodes l.apart.root l.apart.shape above c l.spot_fits.0.leads;
+          within = l.spot_fits.0.along;
+          all = as_mate above c l;
+          goes_on = subst (λ (f : Bytes). Begins (f ++ get_or q depth 0 ∷ []) q) same (subst (λ (b : ℕ). Begins (take depth q ++ b ∷ []) q) next (Begins-more (take depth q) q d.front d.longer));
+          other = λ e. bytes_apart keys mate depth q l.leaves l.mate l.is (sym e);
+        })

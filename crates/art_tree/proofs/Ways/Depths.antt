@@ -1,0 +1,57 @@
+-- How far down a way can go.
+use Rattle.std.proofs.Common.{◌≡◌, ℕ, zero, suc, ◌+◌, ◌-◌, ◌<◌, ◌≤◌, List, [], ◌∷◌, ◌++◌, length, max, get_or, refl, ap, Option, Some, None, IsSome, true, false, arith}
+use Rattle.art_tree.specs.Begins.{Bytes}
+use Rattle.art_tree.specs.Slabs.Edges.{child_at}
+use Rattle.art_tree.specs.Slabs.Nodes.{Node, Nodes, at}
+use Rattle.art_tree.specs.Invariant.Shape.{Shape, Covers}
+use Rattle.art_tree.specs.declared.records.ids.Child.{Child}
+use Rattle.art_tree.specs.declared.records.ids.Child.TheVariants.{Leaf, Inner}
+use Rattle.art_tree.proofs.BeginsLemmas.{Begins-length, length-edge}
+
+-- the depth of a node, or 0
+abbrev pub depth_of : Option Node → ℕ
+depth_of None = 0
+depth_of (Some x) = x.depth
+
+-- the greatest depth of a node
+abbrev pub deepest : List (Option Node) → ℕ
+deepest [] = 0
+deepest (o ∷ slots) = max (depth_of o) (deepest slots)
+
+-- how many bytes more a way down from a child may pass
+abbrev pub rank : Nodes → Child → ℕ
+rank s (Leaf i) = 0
+rank s (Inner n) = suc (deepest s.slots) - depth_of (at s n)
+
+pub depth-at_most : (slots : List (Option Node)) (i : ℕ) → depth_of (get_or slots i None) ≤ deepest slots
+depth-at_most [] i = omega arith
+depth-at_most (o ∷ slots) zero = omega arith
+depth-at_most (o ∷ slots) (suc i) = let h : depth_of (get_or slots i None) ≤ deepest slots = depth-at_most slots i in omega arith
+
+module _ {P : ℕ} (keys : ℕ → Option Bytes) (nodes : Nodes) (root : Option Child) (s : Shape P keys (at nodes) root) where
+  -- a way down gets lower at each edge
+  pub rank_falls : (n b : ℕ) (x : Node) (c : Child) → at nodes n ≡ Some x → child_at x.edges b ≡ Some c → rank nodes c < rank nodes (Inner n)
+  rank_falls n b x c is there = falls c ((s.node n x is).below b c there)
+    where
+      own : depth_of (at nodes n) ≡ x.depth
+      own = ap depth_of is
+
+      low : depth_of (at nodes n) ≤ deepest nodes.slots
+      low = depth-at_most nodes.slots n
+
+      falls : (c : Child) → Covers keys (at nodes) s.front_of (s.front_of n ++ b ∷ []) c → rank nodes c < rank nodes (Inner n)
+      falls (Leaf i) h = let l : depth_of (at nodes n) ≤ deepest nodes.slots = low in omega arith
+      falls (Inner m) h = go (at nodes m) refl h.live
+        where
+          go : (o : Option Node) → at nodes m ≡ o → IsSome o → rank nodes (Inner m) < rank nodes (Inner n)
+          go None e k = absurd (let f : false ≡ true = k in cc)
+          go (Some y) e k =
+              let d : x.depth ≡ length (s.front_of n) = (s.node n x is).depth in
+              let d2 : y.depth ≡ length (s.front_of m) = (s.node m y e).depth in
+              let l : length (s.front_of n ++ b ∷ []) ≤ length (s.front_of m) = Begins-length (s.front_of n ++ b ∷ []) (s.front_of m) h.front in
+              let l2 : length (s.front_of n ++ b ∷ []) ≡ length (s.front_of n) + 1 = length-edge (s.front_of n) b in
+              let mine : depth_of (at nodes m) ≡ y.depth = ap depth_of e in
+              let o : depth_of (at nodes n) ≡ x.depth = own in
+              let w : depth_of (at nodes n) ≤ deepest nodes.slots = low in
+              let w2 : depth_of (at nodes m) ≤ deepest nodes.slots = depth-at_most nodes.slots m in
+              omega arith

@@ -1,0 +1,42 @@
+use Rattle.std.proofs.Common.{◌+◌, ◌≤◌, length, lit<, arith, Some}
+use Rattle.art_tree.specs.Leaves.{keys_in, bytes}
+use Rattle.art_tree.specs.Longest.{longest}
+use Rattle.art_tree.specs.Slabs.Nodes.{at}
+use Rattle.art_tree.proofs.Pairs.Keys.{has_key}
+use Rattle.art_tree.proofs.Pairs.Bounds.{place_shorter, place_longer, place_apart}
+use Rattle.art_tree.proofs.Invariant.Soundness.{within_longest}
+use Rattle.art_tree.proofs.tree.seek.place_below.Goals as goal
+
+pub end_under-first-requires : goal.end_under-first-requires
+end_under-first-requires g c = let m = c.in-Longer.ensures.parts in (lit< tt, record { keys = keys_in g.K.AsBytes.bytes c.args.leaves.now.pairs; root = m.root; shape = m.shape; front = c.args.query.now; covers = m.covers })
+
+pub prev_of-requires : goal.prev_of-requires
+prev_of-requires g c =
+    let m = c.in-Longer.ensures.parts in
+    let u = c.end_under-first.ensures.ends (keys_in g.K.AsBytes.bytes c.args.leaves.now.pairs) m.root m.shape c.args.query.now m.covers in
+    has_key g.K.AsBytes.bytes c.args.leaves.now.pairs c.end_under-first.result u.key u.is
+
+pub returns-in-Shorter-clause-stands : goal.returns-in-Shorter-clause-stands
+returns-in-Shorter-clause-stands g c = place_shorter g.K.AsBytes.bytes c.args.leaves.now.pairs c.requires.content c.law.ensures.distinct (at c.args.nodes.now) c.args.query.now (Some c.args.root.now) c.requires.shape c.in-Shorter.id c.in-Shorter.ensures.parts
+
+pub returns-in-Longer-clause-stands : goal.returns-in-Longer-clause-stands
+returns-in-Longer-clause-stands g c =
+    let m = c.in-Longer.ensures.parts in
+    let u = c.end_under-first.ensures.ends (keys_in g.K.AsBytes.bytes c.args.leaves.now.pairs) m.root m.shape c.args.query.now m.covers in
+    place_longer g.K.AsBytes.bytes c.args.leaves.now.pairs c.requires.content c.law.ensures.distinct (at c.args.nodes.now) c.args.query.now c.in-Longer.child m c.end_under-first.result u c.prev_of.result c.prev_of.ensures
+
+pub returns-in-Apart-clause-stands : goal.returns-in-Apart-clause-stands
+returns-in-Apart-clause-stands g c = place_apart g.K.AsBytes.bytes c.args.leaves.now.pairs c.requires.content c.law.ensures.distinct (at c.args.nodes.now) c.args.query.now c.in-Apart.departure c.in-Apart.ensures.parts c.leaf_before.result c.leaf_before.ensures.before
+
+pub returns-in-Longer-clause-counted : goal.returns-in-Longer-clause-counted
+returns-in-Longer-clause-counted g c =
+    let kb = g.K.AsBytes.bytes in
+    let S = c.args.leaves.now.pairs in
+    let q = c.args.query.now in
+    let L = longest (bytes kb) S in
+    let m = c.in-Longer.ensures.parts in
+    let u = c.end_under-first.ensures.ends (keys_in kb S) m.root m.shape q m.covers in
+    let low : length u.key ≤ L = within_longest kb S c.end_under-first.result u.key u.is in
+    let way : c.parting_of.new.visits.count ≤ c.args.visits.now.count + L + length q + 2 = c.in-Longer.ensures.counted in
+    let first : c.end_under-first.new.visits.count + length q ≤ c.parting_of.new.visits.count + length u.key = c.end_under-first.ensures.counted (keys_in kb S) m.root m.shape q u.key m.covers u.is in
+    omega arith

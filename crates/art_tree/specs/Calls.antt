@@ -1,0 +1,6 @@
+pub mod Descents
+pub mod Partings
+pub mod Placing
+pub mod Removing
+pub mod Seeking
+pub mod Spots

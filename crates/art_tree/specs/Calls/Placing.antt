@@ -1,0 +1,59 @@
+-- How a leaf joins the tree.
+use Rattle.std.specs.Prelude.{◌≡◌, ◌≢◌, ◌<◌, ◌≤◌, ◌⊎◌, ℕ, List, Option, Some, None}
+use Rattle.blart_keys.specs.Content.{IsPut}
+use Rattle.art_tree.specs.Begins.{Bytes}
+use Rattle.art_tree.specs.Content.{Content}
+use Rattle.art_tree.specs.Places.{LeavesMate}
+use Rattle.art_tree.specs.Leaves.{Leaves, Numbered, leaf_in, OthersStand, bytes}
+use Rattle.art_tree.specs.Slabs.Nodes.{Node, Nodes, Makes}
+use Rattle.art_tree.specs.Invariant.Shape.{Shape}
+use Rattle.art_tree.specs.Calls.Spots.{SpotFits}
+use Rattle.art_tree.specs.declared.records.ids.Child.{Child}
+use Rattle.art_tree.specs.declared.records.ids.Child.TheVariants.{Leaf, Inner}
+use Rattle.art_tree.specs.declared.records.ids.Edge.{Edge}
+use Rattle.art_tree.specs.declared.tree.descent.Spot.{Spot}
+
+-- the leaf i was added, with the key k
+pub record Gains (old new : ℕ → Option Bytes) (i : ℕ) (k : Bytes) : Type 0 where
+  pub fresh : old i ≡ None
+  pub has : new i ≡ Some k
+  pub others : (j : ℕ) → j ≢ i → new j ≡ old j
+
+-- in some tree with this root, the key leaves a stored key, the mate, at the spot
+pub record Joins (P : ℕ) (nodes : ℕ → Option Node) (root : Child) (spot : Spot) (key mate : Bytes) (depth : ℕ) : Type 0 where
+  pub keys : ℕ → Option Bytes
+  pub shape : Shape P keys nodes (Some root)
+  pub leaf : ℕ
+  pub is : keys leaf ≡ Some mate
+  pub leaves : LeavesMate keys leaf depth key
+  pub fits : SpotFits nodes (Some root) shape.front_of mate depth spot
+
+-- each tree where the key leaves the mate at the spot is now the tree with the leaf i of that key too
+abbrev pub Joined : ℕ → (ℕ → Option Node) → (ℕ → Option Node) → Child → Child → Spot → Bytes → Bytes → ℕ → ℕ → Type 0
+Joined P old new root root' spot key mate depth i =
+    (keys keys' : ℕ → Option Bytes) (s : Shape P keys old (Some root)) (leaf : ℕ) → keys leaf ≡ Some mate → LeavesMate keys leaf depth key → SpotFits old (Some root) s.front_of mate depth spot
+    → Gains keys keys' i key → Shape P keys' new (Some root')
+
+-- a node was made with these two edges, in the order of their bytes
+pub record Forks (old new : ℕ → Option Node) (n depth : ℕ) (prefix : List ℕ) (one other : Edge) : Type 0 where
+  pub low : Edge
+  pub high : Edge
+  pub made : Makes old new n depth prefix low high
+  pub sorted : low.byte < high.byte
+  pub both : ((low ≡ one) × (high ≡ other)) ⊎ ((low ≡ other) × (high ≡ one))
+
+-- the child is a leaf, or a node as deep as one number at least and another at most
+abbrev pub StandsWithin : (ℕ → Option Node) → Child → ℕ → ℕ → Type 0
+StandsWithin nodes (Leaf i) least most = Unit {0}
+StandsWithin nodes (Inner n) least most = (x : Node) × (nodes n ≡ Some x) × (least ≤ x.depth) × (x.depth ≤ most)
+
+-- what a contract sees of leaves and nodes together
+abbrev pub content_of : {K V : Type 0} → Leaves K V → Nodes → Content K V
+content_of leaves nodes = record { pairs = leaves.pairs; spares = record { leaves = leaves.spare; nodes = nodes.spare } }
+
+-- the pair was put under a fresh number, and each other number names what it named
+pub record Places {K V : Type 0} (key_bytes : K → List ℕ) (old new : List (Numbered K V)) (i : ℕ) (x : K × V) : Type 0 where
+  pub put : IsPut (bytes key_bytes) old (i, x) new
+  pub fresh : leaf_in old i ≡ None
+  pub now : leaf_in new i ≡ Some x
+  pub others : OthersStand old new i

@@ -1,0 +1,29 @@
+-- Places in the tree where a key leaves the others.
+use Rattle.std.specs.Prelude.{◌≡◌, ℕ, ◌<◌, length, take, Option}
+use Rattle.art_tree.specs.Invariant.EdgesAbove.{LeadsTo, edge_front}
+use Rattle.art_tree.specs.Begins.{Bytes, Begins}
+use Rattle.art_tree.specs.Slabs.Nodes.{Node}
+use Rattle.art_tree.specs.declared.records.ids.Child.{Child}
+use Rattle.art_tree.specs.declared.records.ids.Child.TheVariants.{Leaf, Inner}
+use Rattle.art_tree.specs.declared.tree.descent.Spot.{Spot}
+use Rattle.art_tree.specs.declared.tree.descent.Spot.TheVariants as spot
+
+-- the child stands for a front longer than n
+abbrev pub PastLength : (ℕ → Bytes) → ℕ → Child → Type 0
+PastLength front_of n (Leaf j) = Unit {0}
+PastLength front_of n (Inner m) = n < length (front_of m)
+
+-- the edge to the child is one that the first bytes of the mate lead through
+pub record EdgeFits (nodes : ℕ → Option Node) (root : Option Child) (front_of : ℕ → Bytes) (mate : Bytes) (depth : ℕ) (above : Option (ℕ × ℕ)) (child : Child) : Type 0 where
+  pub leads : LeadsTo nodes root above child
+  pub along : Begins (edge_front front_of above) (take depth mate)
+
+-- the spot is where a key would leave the mate at this depth: a node with this front, or an edge that goes past it
+abbrev pub SpotFits : (ℕ → Option Node) → Option Child → (ℕ → Bytes) → Bytes → ℕ → Spot → Type 0
+SpotFits nodes root front_of mate depth (spot.Node above n) = EdgeFits nodes root front_of mate depth above (Inner n) × (front_of n ≡ take depth mate)
+SpotFits nodes root front_of mate depth (spot.Edge above c) = EdgeFits nodes root front_of mate depth above c × PastLength front_of depth c
+
+-- what stands at the spot or below it
+abbrev pub child_under : Spot → Child
+child_under (spot.Node above n) = Inner n
+child_under (spot.Edge above c) = c

@@ -1,0 +1,3 @@
+pub mod EdgesAbove
+pub mod Shape
+pub mod Sound

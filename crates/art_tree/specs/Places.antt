@@ -1,0 +1,32 @@
+-- A place that is free for a key, and the leaf before it.
+use Rattle.std.specs.Prelude.{◌≡◌, ℕ, [], ◌∷◌, ◌++◌, ◌<◌, length, take, Option, Some, None, true, false, ◌⊎◌, slice_index_or}
+use Rattle.blart_keys.specs.Bytes.{less}
+use Rattle.art_tree.specs.Begins.{Bytes, Begins}
+
+-- the key q goes along with that of the leaf `mate` for so many bytes, and with no key for one more
+pub record LeavesMate (keys : ℕ → Option Bytes) (mate depth : ℕ) (q : Bytes) : Type 0 where
+  pub mate_key : Bytes
+  pub mate_is : keys mate ≡ Some mate_key
+  pub along : take depth mate_key ≡ take depth q
+  pub longer : depth < length q
+  pub mate_longer : depth < length mate_key
+  pub alone : (j : ℕ) (l : Bytes) → keys j ≡ Some l → Begins (take depth q ++ slice_index_or q depth 0 ∷ []) l → ⊥
+
+-- the leaf has the greatest key less than q
+pub record LastBefore (keys : ℕ → Option Bytes) (q : Bytes) (i : ℕ) : Type 0 where
+  pub key : Bytes
+  pub is : keys i ≡ Some key
+  pub before : less key q ≡ true
+  pub last : (j : ℕ) (k : Bytes) → keys j ≡ Some k → less k q ≡ true → (j ≡ i) ⊎ (less k key ≡ true)
+
+-- the leaf has the least key greater than q
+pub record FirstAfter (keys : ℕ → Option Bytes) (q : Bytes) (i : ℕ) : Type 0 where
+  pub key : Bytes
+  pub is : keys i ≡ Some key
+  pub after : less q key ≡ true
+  pub first : (j : ℕ) (k : Bytes) → keys j ≡ Some k → less q k ≡ true → (j ≡ i) ⊎ (less key k ≡ true)
+
+-- the leaf before q, or none where no key is less
+abbrev pub IsLeafBefore : (ℕ → Option Bytes) → Bytes → Option ℕ → Type 0
+IsLeafBefore keys q None = (j : ℕ) (k : Bytes) → keys j ≡ Some k → less k q ≡ false
+IsLeafBefore keys q (Some i) = LastBefore keys q i

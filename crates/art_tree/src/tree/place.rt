@@ -1,0 +1,248 @@
+//! A leaf joins the tree.
+ghost use Rattle.std.specs.Prelude.{◌≡◌, ◌≢◌, ◌+◌, ◌-◌, ◌^◌, ◌<◌, ◌≤◌, [], length, take, slice_range, Some};
+ghost use Rattle.art_tree.specs.Invariant.EdgesAbove.{LeadsTo, TurnsTo};
+ghost use Rattle.art_tree.specs.Content.{Fits, IsOpen, room as places};
+ghost use Rattle.art_tree.specs.Calls.Placing.{Joins, Joined, Forks, StandsWithin, Places, content_of};
+ghost use Rattle.art_tree.specs.Slabs.Nodes.{at, room, FitsNew, SameSpares};
+ghost use Rattle.art_tree.specs.Calls.Removing.{StartsBelow, EndsBelow, Cuts};
+ghost use Rattle.art_tree.specs.Points.{IsFree, IsGood};
+ghost use Rattle.art_tree.specs.Invariant.Sound.{IsSound};
+ghost use Rattle.art_tree.specs.declared.records.ids.Child.{Child as Way};
+
+use crate::records::ids::{Child, Edge, LeafId, NodeId};
+use crate::records::leaves::Leaves;
+use crate::records::nodes::Nodes;
+use crate::tree::descent::{EdgeAbove, Spot, locate};
+use crate::tree::point::{Place, Point};
+use crate::visits::Visits;
+use blart_keys::AsBytes;
+
+// A leaf that joins the tree. Its key leaves that of another, the mate, at this depth.
+#[derive(Clone, Copy)]
+struct NewLeaf<'a> {
+    id: LeafId,
+    key: &'a [u8],
+    mate: &'a [u8],
+    depth: usize,
+}
+
+/// Places a pair at a point that is good for its key. Answers its leaf, and the root.
+pub(crate) fn place_at<K: AsBytes + Drop, V: Drop, const P: usize>(
+    leaves: &mut Leaves<K, V>,
+    nodes: &mut Nodes<P>,
+    root: &Option<Child>,
+    point: &Point,
+    key: K,
+    value: V,
+) -> (LeafId, Child)
+    requires whole { IsSound K.bytes P leaves.old nodes.old root.now }
+    requires good { IsGood K.bytes leaves.old.pairs point.now (K.bytes key) }
+    requires open { IsOpen point.now }
+    requires fits { Fits (content_of leaves.old nodes.old) point.now }
+    ensures placed { Places K.bytes leaves.old.pairs leaves.new.pairs result.0 (key, value) }
+    ensures whole { IsSound K.bytes P leaves.new nodes.new (Some result.1) }
+    ensures room { places (content_of leaves.old nodes.old) ≤ places (content_of leaves.new nodes.new) + 1 }
+{
+    match point {
+        Point::Empty => place_first(leaves, nodes, root, key, value),
+        Point::Free(place) => match root {
+            Some(root) => place_beside(leaves, nodes, root, place, key, value),
+            None => unreachable!(),
+        },
+        _ => unreachable!(),
+    }
+}
+
+// Places the first pair. Answers its leaf, and the root.
+fn place_first<K: AsBytes + Drop, V: Drop, const P: usize>(
+    leaves: &mut Leaves<K, V>,
+    nodes: &Nodes<P>,
+    root: &Option<Child>,
+    key: K,
+    value: V,
+) -> (LeafId, Child)
+    requires whole { IsSound K.bytes P leaves.old nodes.now root.now }
+    requires empty { leaves.old.pairs ≡ [] }
+    requires room { 0 < leaves.old.spare }
+    ensures placed { Places K.bytes leaves.old.pairs leaves.new.pairs result.0 (key, value) }
+    ensures whole { IsSound K.bytes P leaves.new nodes.now (Some result.1) }
+    ensures room { leaves.new.spare + 1 ≡ leaves.old.spare }
+{
+    let id = leaves.insert(None, key, value);
+    (id, Child::Leaf(id))
+}
+
+// Places a pair where others stand. Answers its leaf, and the root.
+fn place_beside<K: AsBytes + Drop, V: Drop, const P: usize>(
+    leaves: &mut Leaves<K, V>,
+    nodes: &mut Nodes<P>,
+    root: &Child,
+    place: &Place,
+    key: K,
+    value: V,
+) -> (LeafId, Child)
+    requires whole { IsSound K.bytes P leaves.old nodes.old (Some root.now) }
+    requires free { IsFree K.bytes leaves.old.pairs place.now (K.bytes key) }
+    requires leaves_room { 0 < leaves.old.spare }
+    requires nodes_room { 0 < room nodes.old }
+    ensures placed { Places K.bytes leaves.old.pairs leaves.new.pairs result.0 (key, value) }
+    ensures whole { IsSound K.bytes P leaves.new nodes.new (Some result.1) }
+    ensures leaves_room { leaves.new.spare + 1 ≡ leaves.old.spare }
+    ensures nodes_room { room nodes.old ≤ room nodes.new + 1 }
+{
+    leaves.law();
+    let mut visits = Visits::new();
+    let (mate, _) = leaves.read(place.mate, &mut visits);
+    let spot = locate(nodes, root, mate.as_bytes(), place.depth, &mut visits);
+    let id = leaves.insert(place.prev, key, value);
+    let (own, _) = leaves.read(id, &mut visits);
+    let (mate, _) = leaves.read(place.mate, &mut visits);
+    let leaf = NewLeaf {
+        id,
+        key: own.as_bytes(),
+        mate: mate.as_bytes(),
+        depth: place.depth,
+    };
+    let top = add_leaf(nodes, root, &spot, &leaf);
+    (id, top)
+}
+
+// Adds a leaf where its key leaves the mate's. Answers the root.
+fn add_leaf<const P: usize>(
+    nodes: &mut Nodes<P>,
+    root: &Child,
+    spot: &Spot,
+    leaf: &NewLeaf<'_>,
+) -> Child
+    requires joins { Joins P (at nodes.old) root.now spot.now leaf.now.key.now leaf.now.mate.now leaf.now.depth }
+    requires fits { 0 < room nodes.old }
+    ensures joined { Joined P (at nodes.old) (at nodes.new) root.now result
+        spot.now leaf.now.key.now leaf.now.mate.now leaf.now.depth leaf.now.id }
+    ensures room { room nodes.old ≤ room nodes.new + 1 }
+{
+    match spot {
+        Spot::Node(above, node) => add_at_node(nodes, root, above, node, leaf),
+        Spot::Edge(above, child) => add_at_edge(nodes, root, above, child, leaf),
+    }
+}
+
+// Adds a leaf to a node where its key leaves the others. Answers the root.
+fn add_at_node<const P: usize>(
+    nodes: &mut Nodes<P>,
+    root: &Child,
+    above: &EdgeAbove,
+    node: &NodeId,
+    leaf: &NewLeaf<'_>,
+) -> Child
+    requires { Joins P (at nodes.old) root.now
+        (Spot.Node above.now node.now) leaf.now.key.now leaf.now.mate.now leaf.now.depth }
+    ensures joined { Joined P (at nodes.old) (at nodes.new) root.now result
+        (Spot.Node above.now node.now) leaf.now.key.now leaf.now.mate.now leaf.now.depth leaf.now.id }
+    ensures room { room nodes.old ≤ room nodes.new + 1 }
+{
+    let wide = nodes.widen(*node);
+    let top = lead(nodes, root, above, &Child::Inner(wide));
+    nodes.add_edge(wide, leaf.key[leaf.depth], Child::Leaf(leaf.id));
+    top
+}
+
+// Adds a leaf at an edge where its key leaves those below, under a new node. Answers the root.
+fn add_at_edge<const P: usize>(
+    nodes: &mut Nodes<P>,
+    root: &Child,
+    above: &EdgeAbove,
+    child: &Child,
+    leaf: &NewLeaf<'_>,
+) -> Child
+    requires joins { Joins P (at nodes.old) root.now
+        (Spot.Edge above.now child.now) leaf.now.key.now leaf.now.mate.now leaf.now.depth }
+    requires fits { FitsNew nodes.old }
+    ensures joined { Joined P (at nodes.old) (at nodes.new) root.now result
+        (Spot.Edge above.now child.now) leaf.now.key.now leaf.now.mate.now leaf.now.depth leaf.now.id }
+    ensures room { room nodes.old ≤ room nodes.new + 1 }
+{
+    let depth = leaf.depth;
+    let start = start_below(nodes, above);
+    cut_prefix(nodes, child, leaf.mate, depth + 1);
+    let own = Edge {
+        byte: leaf.key[depth],
+        to: Child::Leaf(leaf.id),
+    };
+    let other = Edge {
+        byte: leaf.mate[depth],
+        to: *child,
+    };
+    let made = fork(nodes, depth, &leaf.key[start..depth], &own, &other);
+    lead(nodes, root, above, &Child::Inner(made))
+}
+
+/// Leads the edge above a child elsewhere. Answers the root.
+pub(crate) fn lead<const P: usize>(
+    nodes: &mut Nodes<P>,
+    root: &Child,
+    above: &EdgeAbove,
+    to: &Child,
+) -> Child
+    requires { (child : Way) × LeadsTo (at nodes.old) (Some root.now) above.now child }
+    ensures turned { TurnsTo (at nodes.old) (at nodes.new) (Some root.now) (Some result) above.now to.now }
+    ensures spares { SameSpares nodes.old nodes.new }
+{
+    match above {
+        None => *to,
+        Some((parent, byte)) => {
+            nodes.redirect(*parent, *byte, *to);
+            *root
+        }
+    }
+}
+
+// Makes a node with two edges.
+fn fork<const P: usize>(
+    nodes: &mut Nodes<P>,
+    depth: usize,
+    prefix: &[u8],
+    one: &Edge,
+    other: &Edge,
+) -> NodeId
+    requires fits { FitsNew nodes.old }
+    requires apart { one.now.byte ≢ other.now.byte }
+    ensures made { Forks (at nodes.old) (at nodes.new) result depth (take P prefix.now) one.now other.now }
+    ensures room { room nodes.old ≤ room nodes.new + 1 }
+{
+    if one.byte < other.byte {
+        nodes.new_node(depth, prefix, *one, *other)
+    } else {
+        nodes.new_node(depth, prefix, *other, *one)
+    }
+}
+
+/// Where the compressed prefix below an edge begins.
+pub(crate) fn start_below<const P: usize>(nodes: &Nodes<P>, above: &EdgeAbove) -> usize
+    requires { EndsBelow (at nodes.now) above.now (2 ^ 64 - 1) }
+    ensures { StartsBelow (at nodes.now) above.now result }
+{
+    match above {
+        None => 0,
+        Some((parent, _)) => nodes.read(*parent, &mut Visits::new()).depth() + 1,
+    }
+}
+
+/// Cuts the compressed prefix of a node anew, from a key below it. It begins here now.
+pub(crate) fn cut_prefix<const P: usize>(
+    nodes: &mut Nodes<P>,
+    child: &Child,
+    key: &[u8],
+    start: usize,
+)
+    requires { StandsWithin (at nodes.old) child.now start (length key.now) }
+    ensures cut { Cuts (at nodes.old) (at nodes.new) child.now (λ end. take P (slice_range key.now start end)) }
+    ensures spares { SameSpares nodes.old nodes.new }
+{
+    match child {
+        Child::Leaf(_) => {}
+        Child::Inner(id) => {
+            let end = nodes.read(*id, &mut Visits::new()).depth();
+            nodes.set_prefix(*id, &key[start..end]);
+        }
+    }
+}

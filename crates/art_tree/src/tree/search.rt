@@ -1,0 +1,106 @@
+//! Look-ups by bytes.
+ghost use Rattle.std.specs.Prelude.{◌≡◌, ◌+◌, ◌≤◌, ℕ, [], length, option_map, Option, Some};
+ghost use Rattle.blart_keys.specs.Content.{at, front_of};
+ghost use Rattle.art_tree.specs.Begins.{Bytes};
+ghost use Rattle.art_tree.specs.Calls.Descents.{IsRoot, GoesTo};
+ghost use Rattle.art_tree.specs.Leaves.{bytes};
+ghost use Rattle.art_tree.specs.Slabs.Nodes.{at as nodes_at};
+ghost use Rattle.art_tree.specs.Invariant.Shape.{Shape};
+
+use crate::lists::begins;
+use crate::records::ids::{Child, LeafId};
+use crate::records::nodes::Nodes;
+use crate::tree::Tree;
+use crate::visits::Visits;
+use blart_keys::AsBytes;
+
+impl<K: AsBytes + Drop, V: Drop, const PREFIX_LEN: usize> Tree<K, V, PREFIX_LEN> {
+    /// The pair with these bytes, and its leaf. On n bytes at most n + 1 visits, and none where the tree has no pairs.
+    pub fn get(&self, query: &[u8], visits: &mut Visits) -> Option<(LeafId, &K, &V)>
+        ensures found { option_map (λ f. (f.0, (f.1.now, f.2.now))) result ≡ at (bytes K.bytes) self.now.pairs query.now }
+        ensures counted { visits.new.count ≤ visits.old.count + length query.now + 1 }
+        ensures grows { visits.old.count ≤ visits.new.count }
+        ensures empty { self.now.pairs ≡ [] → visits.new.count ≡ visits.old.count }
+    {
+        self.leaves.law();
+        let root = self.root?;
+        let id = leaf_toward(&self.nodes, &root, query, visits)?;
+        let (key, value) = self.leaves.read(id, visits);
+        if key.as_bytes() == query {
+            Some((id, key, value))
+        } else {
+            None
+        }
+    }
+
+    /// The pair whose bytes begin these, and its leaf. On n bytes at most n + 1 visits, and none where the tree has no pairs.
+    pub fn get_front(&self, query: &[u8], visits: &mut Visits) -> Option<(LeafId, &K, &V)>
+        ensures found { option_map (λ f. (f.0, (f.1.now, f.2.now))) result ≡ front_of (bytes K.bytes) self.now.pairs query.now }
+        ensures counted { visits.new.count ≤ visits.old.count + length query.now + 1 }
+        ensures grows { visits.old.count ≤ visits.new.count }
+        ensures empty { self.now.pairs ≡ [] → visits.new.count ≡ visits.old.count }
+    {
+        self.leaves.law();
+        let root = self.root?;
+        let id = leaf_toward(&self.nodes, &root, query, visits)?;
+        let (key, value) = self.leaves.read(id, visits);
+        if begins(key.as_bytes(), query) {
+            Some((id, key, value))
+        } else {
+            None
+        }
+    }
+
+    /// The leaf with these bytes. On n bytes at most n + 1 visits, and none where the tree has no pairs.
+    pub fn search(&self, query: &[u8], visits: &mut Visits) -> Option<LeafId>
+        ensures found { result ≡ option_map (λ p. p.0) (at (bytes K.bytes) self.now.pairs query.now) }
+        ensures counted { visits.new.count ≤ visits.old.count + length query.now + 1 }
+        ensures grows { visits.old.count ≤ visits.new.count }
+        ensures empty { self.now.pairs ≡ [] → visits.new.count ≡ visits.old.count }
+    {
+        match self.get(query, visits) {
+            Some(found) => Some(found.0),
+            None => None,
+        }
+    }
+
+    /// The leaf whose bytes begin these. On n bytes at most n + 1 visits, and none where the tree has no pairs.
+    pub fn search_front(&self, query: &[u8], visits: &mut Visits) -> Option<LeafId>
+        ensures found { result ≡ option_map (λ p. p.0) (front_of (bytes K.bytes) self.now.pairs query.now) }
+        ensures counted { visits.new.count ≤ visits.old.count + length query.now + 1 }
+        ensures grows { visits.old.count ≤ visits.new.count }
+        ensures empty { self.now.pairs ≡ [] → visits.new.count ≡ visits.old.count }
+    {
+        match self.get_front(query, visits) {
+            Some(found) => Some(found.0),
+            None => None,
+        }
+    }
+}
+
+// The one leaf whose key may begin the query. None where no key does.
+fn leaf_toward<const P: usize>(
+    nodes: &Nodes<P>,
+    root: &Child,
+    query: &[u8],
+    visits: &mut Visits,
+) -> Option<LeafId>
+    requires { IsRoot P (nodes_at nodes.now) root.now }
+    ensures goes { (keys : ℕ → Option Bytes) → Shape P keys (nodes_at nodes.now) (Some root.now)
+        → GoesTo keys query.now visits.old.count visits.new.count result }
+    ensures grows { visits.old.count ≤ visits.new.count }
+{
+    let mut at = *root;
+    'down: loop {
+        let id = match at {
+            Child::Leaf(id) => return Some(id),
+            Child::Inner(id) => id,
+        };
+        let node = nodes.read(id, visits);
+        let depth = node.depth();
+        if depth >= query.len() {
+            return None;
+        }
+        at = node.find(query[depth])?;
+    }
+}

@@ -1,0 +1,139 @@
+//! The ends of the pairs within a bound, and of those below some bytes.
+ghost use Rattle.std.specs.Prelude.{◌≡◌, ◌+◌, ◌*◌, ◌≤◌, [], length, IfSome};
+ghost use Rattle.blart_keys.specs.Bounds.{bound_bytes};
+ghost use Rattle.blart_keys.specs.Content.{under};
+ghost use Rattle.art_tree.specs.Leaves.{Has, keys_in, bytes};
+ghost use Rattle.art_tree.specs.Longest.{longest};
+ghost use Rattle.art_tree.specs.Seeks.{number_within, ends, bound_len};
+ghost use Rattle.art_tree.specs.Calls.Seeking.{StandsAt, beside};
+ghost use Rattle.art_tree.specs.Invariant.Sound.{IsSound};
+
+use crate::records::ids::{Child, LeafId};
+use crate::records::leaves::Leaves;
+use crate::records::nodes::Nodes;
+use crate::tree::Tree;
+use crate::tree::descent::end_under;
+use crate::tree::parting::{Parting, leaf_before, parting_of};
+use crate::visits::Visits;
+use blart_keys::AsBytes;
+use std::ops::Bound;
+
+impl<K: AsBytes + Drop, V: Drop, const PREFIX_LEN: usize> Tree<K, V, PREFIX_LEN> {
+    /// The first leaf within a start bound, or the last within an end bound. Where the bound has n bytes (0 where it is unbounded) and L is the length of the longest key, at most (n + 2) * (L + 1) + 1 visits, and none where the tree has no pairs.
+    pub fn seek(&self, bound: Bound<&[u8]>, is_start: bool, visits: &mut Visits) -> Option<LeafId>
+        ensures found { result ≡ number_within (bytes K.bytes) self.now.pairs (bound_bytes (λ b. b) bound.entry) is_start }
+        ensures counted { visits.new.count ≤ visits.old.count + (bound_len (bound_bytes (λ b. b) bound.entry) + 2) * (longest (bytes K.bytes) self.now.pairs + 1) + 1 }
+        ensures grows { visits.old.count ≤ visits.new.count }
+        ensures empty { self.now.pairs ≡ [] → visits.new.count ≡ visits.old.count }
+    {
+        self.law();
+        match bound {
+            Bound::Unbounded => { if is_start { self.first() } else { self.last() } }
+            Bound::Included(query) => match self.find_place(query, visits) {
+                Ok(id) => Some(id),
+                Err(prev) => self.side_of(prev, is_start),
+            },
+            Bound::Excluded(query) => match self.find_place(query, visits) {
+                Err(prev) => self.side_of(prev, is_start),
+                Ok(id) => {
+                    if is_start {
+                        self.next_of(id)
+                    } else {
+                        self.prev_of(id)
+                    }
+                }
+            },
+        }
+    }
+
+    /// The first and the last leaf whose bytes begin with these. On n bytes at most (n + 3) * (L + 1) visits, where L is the length of the longest key, and none where the tree has no pairs.
+    pub fn span(&self, front: &[u8], visits: &mut Visits) -> Option<(LeafId, LeafId)>
+        ensures found { result ≡ ends (under (bytes K.bytes) self.now.pairs front.now) }
+        ensures counted { visits.new.count ≤ visits.old.count + (length front.now + 3) * (longest (bytes K.bytes) self.now.pairs + 1) }
+        ensures grows { visits.old.count ≤ visits.new.count }
+        ensures empty { self.now.pairs ≡ [] → visits.new.count ≡ visits.old.count }
+    {
+        match self.root {
+            None => None,
+            Some(root) => span_below(&self.leaves, &self.nodes, &root, front, visits),
+        }
+    }
+
+    // The leaf on one side of a place: behind it, or before.
+    fn side_of(&self, prev: Option<LeafId>, is_behind: bool) -> Option<LeafId>
+        requires { IfSome prev (Has self.now.pairs) }
+        ensures { result ≡ beside prev self.now.pairs is_behind }
+    {
+        if !is_behind {
+            return prev;
+        }
+        match prev {
+            None => self.first(),
+            Some(id) => self.next_of(id),
+        }
+    }
+
+    // The leaf with these bytes, or the leaf before the place where they would go.
+    fn find_place(&self, query: &[u8], visits: &mut Visits) -> Result<LeafId, Option<LeafId>>
+        ensures stands { StandsAt (keys_in K.bytes self.now.pairs) query.now result }
+        ensures counted { visits.new.count ≤ visits.old.count + (length query.now + 2) * (longest (bytes K.bytes) self.now.pairs + 1) + 1 }
+        ensures grows { visits.old.count ≤ visits.new.count }
+        ensures empty { self.now.pairs ≡ [] → visits.new.count ≡ visits.old.count }
+    {
+        match self.root {
+            None => Err(None),
+            Some(root) => place_below(&self.leaves, &self.nodes, &root, query, visits),
+        }
+    }
+}
+
+// The leaf with these bytes, or the leaf before the place where they would go, in a tree with some pairs.
+fn place_below<K: AsBytes, V, const P: usize>(
+    leaves: &Leaves<K, V>,
+    nodes: &Nodes<P>,
+    root: &Child,
+    query: &[u8],
+    visits: &mut Visits,
+) -> Result<LeafId, Option<LeafId>>
+    requires { IsSound K.bytes P leaves.now nodes.now (Some root.now) }
+    ensures stands { StandsAt (keys_in K.bytes leaves.now.pairs) query.now result }
+    ensures counted { visits.new.count ≤ visits.old.count + (length query.now + 2) * (longest (bytes K.bytes) leaves.now.pairs + 1) + 1 }
+    ensures grows { visits.old.count ≤ visits.new.count }
+{
+    leaves.law();
+    match parting_of(leaves, nodes, root, query, visits) {
+        Parting::Same(id) => Ok(id),
+        Parting::Shorter(id) => Err(Some(id)),
+        Parting::Longer(child) => {
+            let first = end_under(nodes, &child, true, visits);
+            Err(leaves.prev_of(first))
+        }
+        Parting::Apart(departure) => Err(leaf_before(leaves, nodes, &departure, query, visits)),
+    }
+}
+
+// The first and the last leaf whose bytes begin with these, in a tree with some pairs.
+fn span_below<K: AsBytes, V, const P: usize>(
+    leaves: &Leaves<K, V>,
+    nodes: &Nodes<P>,
+    root: &Child,
+    front: &[u8],
+    visits: &mut Visits,
+) -> Option<(LeafId, LeafId)>
+    requires { IsSound K.bytes P leaves.now nodes.now (Some root.now) }
+    ensures found { result ≡ ends (under (bytes K.bytes) leaves.now.pairs front.now) }
+    ensures counted { visits.new.count ≤ visits.old.count + (length front.now + 3) * (longest (bytes K.bytes) leaves.now.pairs + 1) }
+    ensures grows { visits.old.count ≤ visits.new.count }
+{
+    leaves.law();
+    match parting_of(leaves, nodes, root, front, visits) {
+        Parting::Same(id) => Some((id, id)),
+        Parting::Longer(child) => {
+            let first = end_under(nodes, &child, true, visits);
+            let last = end_under(nodes, &child, false, visits);
+            Some((first, last))
+        }
+        Parting::Shorter(_) => None,
+        Parting::Apart(_) => None,
+    }
+}
