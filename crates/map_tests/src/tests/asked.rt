@@ -77,6 +77,21 @@ fn assert_map_asks_few<K: AsBytes + Drop, const P: usize>(
     }
 }
 
+// The bytes are not stored, and at most four stored keys were asked.
+fn assert_absent<K: AsBytes + Drop, const P: usize>(
+    rt: &impl Abort,
+    map: &TreeMap<K, usize, P>,
+    count: &Cell<usize>,
+    query: &[u8],
+) {
+    count.set(0);
+    assert_eq!(rt; map.get(&query), None);
+    assert!(rt; count.get() <= 4);
+    count.set(0);
+    assert_eq!(rt; map.prefix_get(&query), None);
+    assert!(rt; count.get() <= 4);
+}
+
 // A look-up that finds nothing asks no more: 8 is not one of the ten bytes.
 fn assert_absent_asks_few<K: AsBytes + Drop, const P: usize>(
     rt: &impl Abort,
@@ -85,12 +100,8 @@ fn assert_absent_asks_few<K: AsBytes + Drop, const P: usize>(
 ) {
     for place in 0..1000 {
         let [a, b, c] = bytes_of(place);
-        count.set(0);
-        assert_eq!(rt; map.get(&[a, b, 8]), None);
-        assert!(rt; count.get() <= 4);
-        count.set(0);
-        assert_eq!(rt; map.prefix_get(&[a, 8, c]), None);
-        assert!(rt; count.get() <= 4);
+        assert_absent(rt, map, count, &[a, b, 8]);
+        assert_absent(rt, map, count, &[a, 8, c]);
     }
 }
 

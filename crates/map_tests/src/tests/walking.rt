@@ -1,7 +1,7 @@
 //! Walks over texts that end in a zero, look-ups of no bytes, and walks in a loop.
 use super::{assert_front, assert_get, assert_values, map_of, value_of};
 use blart_keys::{AsBytes, ZKey};
-use blart_map::TreeMap;
+use blart_map::{Iter, Keys, Prefix, TreeMap, Values};
 use std::iter::{DoubleEndedIterator, Iterator};
 use std::process::Abort;
 use std::test::Fail;
@@ -17,6 +17,18 @@ fn texts<const P: usize>(
     map_of(rt, keys)
 }
 
+// The value at one step, from the front or from the back.
+fn step<K: AsBytes + Drop, const P: usize>(
+    walk: &mut Prefix<'_, K, usize, P>,
+    is_back: bool,
+) -> Option<usize> {
+    if is_back {
+        value_of(walk.next_back())
+    } else {
+        value_of(walk.next())
+    }
+}
+
 // The walk below some bytes gives these values, at each step from the front or from the back.
 fn assert_below<K: AsBytes + Drop, const P: usize>(
     rt: &impl Abort,
@@ -26,12 +38,7 @@ fn assert_below<K: AsBytes + Drop, const P: usize>(
 ) {
     let mut walk = map.prefix(front);
     for (is_back, want) in steps {
-        let got = if *is_back {
-            walk.next_back()
-        } else {
-            walk.next()
-        };
-        assert_eq!(rt; value_of(got), *want);
+        assert_eq!(rt; step(&mut walk, *is_back), *want);
     }
 }
 
@@ -98,20 +105,64 @@ fn look_ups_of_no_bytes(rt: HostRuntime) -> Result<(), Fail> {
     no_bytes::<16>(&rt)
 }
 
-// How many are left is exact at each step, of pairs, of keys and of values.
+// The length and the bounds on it of a walk over pairs, which then gives this value.
+fn assert_pair<K: AsBytes + Drop>(
+    rt: &impl Abort,
+    walk: &mut Iter<'_, K, usize, 2>,
+    left: usize,
+    value: usize,
+) {
+    assert_eq!(rt; walk.len(), left);
+    assert_eq!(rt; walk.size_hint(), (left, Some(left)));
+    assert_eq!(rt; value_of(walk.next()), Some(value));
+}
+
+// The same of a walk over values.
+fn assert_value<K: AsBytes + Drop>(
+    rt: &impl Abort,
+    walk: &mut Values<'_, K, usize, 2>,
+    left: usize,
+    value: usize,
+) {
+    assert_eq!(rt; walk.len(), left);
+    assert_eq!(rt; walk.size_hint(), (left, Some(left)));
+    assert_eq!(rt; walk.next().copied(), Some(value));
+}
+
+// The same of a walk over keys, from the back.
+fn assert_key<K: AsBytes + Drop>(
+    rt: &impl Abort,
+    walk: &mut Keys<'_, K, usize, 2>,
+    left: usize,
+    bytes: &[u8],
+) {
+    assert_eq!(rt; walk.len(), left);
+    assert_eq!(rt; walk.size_hint(), (left, Some(left)));
+    let key = walk.next_back().expect(rt, "a key");
+    assert_eq!(rt; key.as_bytes(), bytes);
+}
+
+// How many are left is exact at each step.
 fn assert_left<K: AsBytes + Drop>(rt: &impl Abort, map: &TreeMap<K, usize, 2>, want: &[usize]) {
     let mut pairs = map.iter();
+    for (place, value) in want.iter().enumerate() {
+        assert_pair(rt, &mut pairs, want.len().saturating_sub(place), *value);
+    }
+    assert_eq!(rt; pairs.len(), 0);
+    assert!(rt; pairs.next_back().is_none());
+}
+
+fn assert_values_left<K: AsBytes + Drop>(
+    rt: &impl Abort,
+    map: &TreeMap<K, usize, 2>,
+    want: &[usize],
+) {
     let mut values = map.values();
     for (place, value) in want.iter().enumerate() {
-        let left = want.len().saturating_sub(place);
-        assert_eq!(rt; (pairs.len(), values.len()), (left, left));
-        assert_eq!(rt; pairs.size_hint(), (left, Some(left)));
-        assert_eq!(rt; values.size_hint(), (left, Some(left)));
-        assert_eq!(rt; value_of(pairs.next()), Some(*value));
-        assert_eq!(rt; values.next(), Some(value));
+        assert_value(rt, &mut values, want.len().saturating_sub(place), *value);
     }
-    assert_eq!(rt; (pairs.len(), values.len()), (0, 0));
-    assert!(rt; pairs.next_back().is_none());
+    assert_eq!(rt; values.len(), 0);
+    assert!(rt; values.next_back().is_none());
 }
 
 fn assert_keys_left<K: AsBytes + Drop>(
@@ -121,11 +172,7 @@ fn assert_keys_left<K: AsBytes + Drop>(
 ) {
     let mut walk = map.keys();
     for (place, bytes) in keys.iter().enumerate() {
-        let left = keys.len().saturating_sub(place);
-        assert_eq!(rt; walk.len(), left);
-        assert_eq!(rt; walk.size_hint(), (left, Some(left)));
-        let key = walk.next_back().expect(rt, "a key");
-        assert_eq!(rt; key.as_bytes(), *bytes);
+        assert_key(rt, &mut walk, keys.len().saturating_sub(place), bytes);
     }
     assert_eq!(rt; walk.len(), 0);
     assert!(rt; walk.next().is_none());
@@ -135,6 +182,7 @@ fn assert_keys_left<K: AsBytes + Drop>(
 fn how_many_are_left(rt: HostRuntime) -> Result<(), Fail> {
     let map = map_of::<u8, 2>(&rt, vec![in rt.alloc(); 5u8, 3, 8]?)?;
     assert_left(&rt, &map, &[1, 0, 2]);
+    assert_values_left(&rt, &map, &[1, 0, 2]);
     assert_keys_left(&rt, &map, &[b"\x08", b"\x05", b"\x03"]);
     Ok(())
 }
