@@ -4,6 +4,9 @@
 #![tactic(auto)]
 
 mod cursor;
+mod into_iter;
+mod into_keys;
+mod into_values;
 mod iter;
 mod keys;
 mod prefix;
@@ -14,6 +17,9 @@ mod values;
 mod walk;
 
 pub use cursor::Cursor;
+pub use into_iter::IntoIter;
+pub use into_keys::IntoKeys;
+pub use into_values::IntoValues;
 pub use iter::Iter;
 pub use keys::Keys;
 pub use prefix::Prefix;
