@@ -3,3 +3,4 @@ pub mod Ranges
 pub mod Spans
 pub mod Steps
 pub mod Taking
+pub mod Asking

@@ -1,5 +1,5 @@
 -- A pair that a cursor has passed, and what is left once its value is written or it is removed.
-use Rattle.std.proofs.Common.{◌≡◌, ℕ, ◌+◌, ◌-◌, ◌<◌, suc, List, [], ◌∷◌, ◌++◌, length, map, Option, Some, None, inl, inr, refl, sym, ap, ◌∙◌, subst, arith, length-append}
+use Rattle.std.proofs.Common.{◌≡◌, ℕ, ◌+◌, ◌-◌, ◌<◌, suc, List, [], ◌∷◌, ◌++◌, length, Option, Some, None, inl, refl, sym, ap, ◌∙◌, subst, arith, length-append}
 use Rattle.std.proofs.lemmas.List.{map-append}
 use Rattle.blart_keys.proofs.RankLemmas.{Member, Member-append_left, Member-append_right}
 use Rattle.art_tree.specs.Leaves.{Numbered, leaf_in, AreDistinct, Lacks, without_number}

@@ -11,7 +11,7 @@ mod iter;
 mod keys;
 mod prefix;
 mod range;
-mod retain;
+mod retaining;
 mod seeks;
 mod subtree_iter;
 mod values;
@@ -25,7 +25,7 @@ pub use iter::Iter;
 pub use keys::Keys;
 pub use prefix::Prefix;
 pub use range::Range;
-pub use retain::retain;
+pub use retaining::retain;
 pub use subtree_iter::SubtreeIter;
 pub use values::Values;
 

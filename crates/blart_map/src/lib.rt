@@ -10,6 +10,7 @@ mod insertions;
 mod into_walks;
 mod map;
 mod over;
+mod retaining;
 mod walks;
 mod writes;
 

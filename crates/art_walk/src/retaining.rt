@@ -19,9 +19,9 @@ pub fn retain<
     requires { F.IsAlwaysCallable f }
     ensures { Retains (AsksPair F.FnMut) (pairs_of tree.old.pairs) f (pairs_of tree.new.pairs) }
 {
+    tree.law();
     let mut cursor = Cursor::all(tree);
     'pairs: while let Some(id) = cursor.step(tree, &mut Visits::new()) {
-        tree.law();
         let (key, value) = tree.leaf_mut(id);
         if f(key, value) {
             continue;
