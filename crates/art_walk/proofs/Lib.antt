@@ -2,3 +2,5 @@ pub mod Changes
 pub mod Ranges
 pub mod Spans
 pub mod Steps
+pub mod Taking
+pub mod Asking

@@ -4,19 +4,27 @@
 #![tactic(auto)]
 
 mod cursor;
+mod into_iter;
+mod into_keys;
+mod into_values;
 mod iter;
 mod keys;
 mod prefix;
 mod range;
+mod retaining;
 mod seeks;
 mod subtree_iter;
 mod values;
 mod walk;
 
 pub use cursor::Cursor;
+pub use into_iter::IntoIter;
+pub use into_keys::IntoKeys;
+pub use into_values::IntoValues;
 pub use iter::Iter;
 pub use keys::Keys;
 pub use prefix::Prefix;
 pub use range::Range;
+pub use retaining::retain;
 pub use subtree_iter::SubtreeIter;
 pub use values::Values;

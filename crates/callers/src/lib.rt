@@ -5,6 +5,7 @@
 
 mod counts;
 mod moves;
+mod owning;
 mod queues;
 mod routes;
 mod sums;
@@ -12,6 +13,7 @@ mod walks;
 
 pub use counts::{count, count_in_place, insert_if_absent, raise};
 pub use moves::{add_or_give_back, len_with, len_without, move_one, rename};
+pub use owning::{into_values_vec, into_vec};
 pub use queues::{following, take_least, take_next, to_end};
 pub use routes::{AddError, Table, hit, route, take_over};
 pub use sums::{count_between, sum_below, sum_below_chain};

@@ -1,0 +1,15 @@
+use Rattle.std.proofs.Common.{length}
+use Rattle.blart_keys.specs.Walks.{AsksPair}
+use Rattle.art_tree.specs.Leaves.{AreDistinct}
+use Rattle.art_walk.specs.Cursor.{leaves_left, FitsIn}
+use Rattle.art_walk.specs.Pairs.{pairs_of}
+use Rattle.art_walk.proofs.Asking.{Retaining}
+use Rattle.art_walk.proofs.retaining.retain.Given as goal
+
+abbrev pub invariant-pairs : goal.invariant-pairs
+invariant-pairs g l =
+    goal.F-IsAlwaysCallable g l.f × FitsIn l.cursor l.tree.pairs × AreDistinct l.tree.pairs
+    × Retaining (AsksPair g.F.FnMut) (pairs_of l.initial.tree.pairs) l.initial.f l.tree.pairs (leaves_left l.cursor l.tree.pairs) l.f
+
+abbrev pub decreases-pairs : goal.decreases-pairs
+decreases-pairs g l = length (leaves_left l.cursor l.tree.pairs)

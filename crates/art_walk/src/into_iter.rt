@@ -1,0 +1,91 @@
+//! All pairs, taken out of a tree.
+ghost use Rattle.std.specs.Prelude.{◌≡◌, length, Some, IfSome};
+ghost use Rattle.std.specs.Iterator.{YieldsFirst, YieldsLast, UpTo, item_count};
+ghost use Rattle.std.specs.Iterator.SizeHint.{IsWithinCount};
+ghost use Rattle.art_walk.specs.Pairs.{pairs_of};
+
+use crate::cursor::Cursor;
+use art_tree::{Tree, Visits};
+use blart_keys::AsBytes;
+use std::iter::{DoubleEndedIterator, FusedIterator, Iterator};
+use std::marker::Model;
+
+/// The pairs of a tree by value from both ends, in byte order of their keys. Each step removes one pair from the tree. What was not taken is freed where the walk is dropped, which drops the tree and its records in a loop.
+#[derive(Drop)]
+pub struct IntoIter<K: AsBytes, V, const PREFIX_LEN: usize> {
+    tree: Tree<K, V, PREFIX_LEN>,
+    cursor: Cursor,
+    left: usize,
+}
+
+impl<K: AsBytes, V, const PREFIX_LEN: usize> Model for IntoIter<K, V, PREFIX_LEN> {
+    ghost use Rattle.std.specs.Prelude.{◌≡◌, List, length};
+
+    ghost Value = { List (K × V) };
+
+    ghost use Rattle.art_walk.specs.Cursor.{leaves_left, FitsIn};
+    ghost use Rattle.art_walk.specs.Pairs.{pairs_of};
+
+    ghost view = { λ it. pairs_of (leaves_left it.cursor it.tree.pairs) };
+
+    ghost invariant = { λ it. FitsIn it.cursor it.tree.pairs × (it.left ≡ length (leaves_left it.cursor it.tree.pairs)) };
+}
+
+impl<K: AsBytes + Drop, V: Drop, const PREFIX_LEN: usize> IntoIter<K, V, PREFIX_LEN> {
+    /// All pairs of the tree.
+    pub fn new(tree: Tree<K, V, PREFIX_LEN>) -> Self
+        ensures { result ≡ pairs_of tree.pairs }
+    {
+        let cursor = Cursor::all(&tree);
+        let left = tree.len();
+        IntoIter { tree, cursor, left }
+    }
+
+    /// How many pairs are left.
+    pub fn len(&self) -> usize
+        ensures { result ≡ length self.now }
+    {
+        self.left
+    }
+}
+
+impl<K: AsBytes + Drop, V: Drop, const PREFIX_LEN: usize> Iterator for IntoIter<K, V, PREFIX_LEN> {
+    type Item = (K, V);
+
+    ghost next_gives = { YieldsFirst (λ rest. rest) };
+
+    ghost remaining = { item_count (λ rest. rest) };
+
+    /// The first pair that is left.
+    fn next(&mut self) -> Option<(K, V)> {
+        self.tree.law();
+        let id = self.cursor.step(&self.tree, &mut Visits::new())?;
+        self.left -= 1;
+        Some(self.tree.remove(id))
+    }
+
+    /// Both bounds are the number of pairs that are left.
+    fn size_hint(&self) -> (usize, Option<usize>)
+        ensures lower { IsWithinCount result.0 (item_count (λ rest. rest) self.now) }
+        ensures upper { IfSome result.1 (UpTo (item_count (λ rest. rest) self.now)) }
+        ensures exact { result ≡ (length self.now, Some (length self.now)) }
+    {
+        (self.left, Some(self.left))
+    }
+}
+
+impl<K: AsBytes + Drop, V: Drop, const PREFIX_LEN: usize> DoubleEndedIterator
+    for IntoIter<K, V, PREFIX_LEN> {
+    ghost next_back_gives = { YieldsLast (λ rest. rest) };
+
+    /// The last pair that is left.
+    fn next_back(&mut self) -> Option<(K, V)> {
+        self.tree.law();
+        let id = self.cursor.step_back(&self.tree, &mut Visits::new())?;
+        self.left -= 1;
+        Some(self.tree.remove(id))
+    }
+}
+
+impl<K: AsBytes + Drop, V: Drop, const PREFIX_LEN: usize> FusedIterator
+    for IntoIter<K, V, PREFIX_LEN> {}

@@ -1,0 +1,85 @@
+//! All keys, taken out of a tree.
+ghost use Rattle.std.specs.Prelude.{◌≡◌, length, map, Some, IfSome};
+ghost use Rattle.std.specs.Iterator.{YieldsFirst, YieldsLast, UpTo, item_count};
+ghost use Rattle.std.specs.Iterator.SizeHint.{IsWithinCount};
+ghost use Rattle.art_walk.specs.Pairs.{pairs_of};
+
+use crate::into_iter::IntoIter;
+use art_tree::Tree;
+use blart_keys::AsBytes;
+use std::iter::{DoubleEndedIterator, FusedIterator, Iterator};
+use std::marker::Model;
+
+/// The keys of a tree by value from both ends, in byte order. A step drops the value of the key that it gives; what was not taken is freed where the walk is dropped.
+#[derive(Drop)]
+pub struct IntoKeys<K: AsBytes, V, const PREFIX_LEN: usize> {
+    pairs: IntoIter<K, V, PREFIX_LEN>,
+}
+
+impl<K: AsBytes, V, const PREFIX_LEN: usize> Model for IntoKeys<K, V, PREFIX_LEN> {
+    ghost use Rattle.std.specs.Prelude.{List, map};
+
+    ghost Value = { List K };
+
+    ghost view = { λ it. map (λ p. p.0) it.pairs };
+}
+
+impl<K: AsBytes + Drop, V: Drop, const PREFIX_LEN: usize> IntoKeys<K, V, PREFIX_LEN> {
+    /// All keys of the tree.
+    pub fn new(tree: Tree<K, V, PREFIX_LEN>) -> Self
+        ensures { result ≡ map (λ p. p.0) (pairs_of tree.pairs) }
+    {
+        IntoKeys {
+            pairs: IntoIter::new(tree),
+        }
+    }
+
+    /// How many keys are left.
+    pub fn len(&self) -> usize
+        ensures { result ≡ length self.now }
+    {
+        self.pairs.len()
+    }
+}
+
+impl<K: AsBytes + Drop, V: Drop, const PREFIX_LEN: usize> Iterator for IntoKeys<K, V, PREFIX_LEN> {
+    type Item = K;
+
+    ghost next_gives = { YieldsFirst (λ rest. rest) };
+
+    ghost remaining = { item_count (λ rest. rest) };
+
+    /// The first key that is left.
+    fn next(&mut self) -> Option<K> {
+        match self.pairs.next() {
+            Some(pair) => Some(pair.0),
+            None => None,
+        }
+    }
+
+    /// Both bounds are the number of keys that are left.
+    fn size_hint(&self) -> (usize, Option<usize>)
+        ensures lower { IsWithinCount result.0 (item_count (λ rest. rest) self.now) }
+        ensures upper { IfSome result.1 (UpTo (item_count (λ rest. rest) self.now)) }
+        ensures exact { result ≡ (length self.now, Some (length self.now)) }
+    {
+        let left = self.len();
+        (left, Some(left))
+    }
+}
+
+impl<K: AsBytes + Drop, V: Drop, const PREFIX_LEN: usize> DoubleEndedIterator
+    for IntoKeys<K, V, PREFIX_LEN> {
+    ghost next_back_gives = { YieldsLast (λ rest. rest) };
+
+    /// The last key that is left.
+    fn next_back(&mut self) -> Option<K> {
+        match self.pairs.next_back() {
+            Some(pair) => Some(pair.0),
+            None => None,
+        }
+    }
+}
+
+impl<K: AsBytes + Drop, V: Drop, const PREFIX_LEN: usize> FusedIterator
+    for IntoKeys<K, V, PREFIX_LEN> {}

@@ -1,0 +1,85 @@
+//! All values, taken out of a tree.
+ghost use Rattle.std.specs.Prelude.{◌≡◌, length, map, Some, IfSome};
+ghost use Rattle.std.specs.Iterator.{YieldsFirst, YieldsLast, UpTo, item_count};
+ghost use Rattle.std.specs.Iterator.SizeHint.{IsWithinCount};
+ghost use Rattle.art_walk.specs.Pairs.{pairs_of};
+
+use crate::into_iter::IntoIter;
+use art_tree::Tree;
+use blart_keys::AsBytes;
+use std::iter::{DoubleEndedIterator, FusedIterator, Iterator};
+use std::marker::Model;
+
+/// The values of a tree from both ends, in byte order of their keys. A step drops the key of the value that it gives; what was not taken is freed where the walk is dropped.
+#[derive(Drop)]
+pub struct IntoValues<K: AsBytes, V, const PREFIX_LEN: usize> {
+    pairs: IntoIter<K, V, PREFIX_LEN>,
+}
+
+impl<K: AsBytes, V, const PREFIX_LEN: usize> Model for IntoValues<K, V, PREFIX_LEN> {
+    ghost use Rattle.std.specs.Prelude.{List, map};
+
+    ghost Value = { List V };
+
+    ghost view = { λ it. map (λ p. p.1) it.pairs };
+}
+
+impl<K: AsBytes + Drop, V: Drop, const PREFIX_LEN: usize> IntoValues<K, V, PREFIX_LEN> {
+    /// All values of the tree.
+    pub fn new(tree: Tree<K, V, PREFIX_LEN>) -> Self
+        ensures { result ≡ map (λ p. p.1) (pairs_of tree.pairs) }
+    {
+        IntoValues {
+            pairs: IntoIter::new(tree),
+        }
+    }
+
+    /// How many values are left.
+    pub fn len(&self) -> usize
+        ensures { result ≡ length self.now }
+    {
+        self.pairs.len()
+    }
+}
+
+impl<K: AsBytes + Drop, V: Drop, const PREFIX_LEN: usize> Iterator for IntoValues<K, V, PREFIX_LEN> {
+    type Item = V;
+
+    ghost next_gives = { YieldsFirst (λ rest. rest) };
+
+    ghost remaining = { item_count (λ rest. rest) };
+
+    /// The first value that is left.
+    fn next(&mut self) -> Option<V> {
+        match self.pairs.next() {
+            Some(pair) => Some(pair.1),
+            None => None,
+        }
+    }
+
+    /// Both bounds are the number of values that are left.
+    fn size_hint(&self) -> (usize, Option<usize>)
+        ensures lower { IsWithinCount result.0 (item_count (λ rest. rest) self.now) }
+        ensures upper { IfSome result.1 (UpTo (item_count (λ rest. rest) self.now)) }
+        ensures exact { result ≡ (length self.now, Some (length self.now)) }
+    {
+        let left = self.len();
+        (left, Some(left))
+    }
+}
+
+impl<K: AsBytes + Drop, V: Drop, const PREFIX_LEN: usize> DoubleEndedIterator
+    for IntoValues<K, V, PREFIX_LEN> {
+    ghost next_back_gives = { YieldsLast (λ rest. rest) };
+
+    /// The last value that is left.
+    fn next_back(&mut self) -> Option<V> {
+        match self.pairs.next_back() {
+            Some(pair) => Some(pair.1),
+            None => None,
+        }
+    }
+}
+
+impl<K: AsBytes + Drop, V: Drop, const PREFIX_LEN: usize> FusedIterator
+    for IntoValues<K, V, PREFIX_LEN> {}

@@ -1,0 +1,31 @@
+//! The pairs that a closure keeps.
+ghost use Rattle.blart_keys.specs.Walks.{Retains, AsksPair};
+ghost use Rattle.art_walk.specs.Pairs.{pairs_of};
+
+use crate::cursor::Cursor;
+use art_tree::{Tree, Visits};
+use blart_keys::AsBytes;
+
+/// Asks the closure once of each pair, in byte order of the keys, and removes those at which it answers `false`. The others stay with their values as the closure left them. Takes no memory; a pair is one visit.
+pub fn retain<
+    K: AsBytes + Drop,
+    V: Drop,
+    F: FnMut(&K, &mut V) -> bool + Drop,
+    const PREFIX_LEN: usize,
+>(
+    tree: &mut Tree<K, V, PREFIX_LEN>,
+    mut f: F,
+)
+    requires { F.IsAlwaysCallable f }
+    ensures { Retains (AsksPair F.FnMut) (pairs_of tree.old.pairs) f (pairs_of tree.new.pairs) }
+{
+    tree.law();
+    let mut cursor = Cursor::all(tree);
+    'pairs: while let Some(id) = cursor.step(tree, &mut Visits::new()) {
+        let (key, value) = tree.leaf_mut(id);
+        if f(key, value) {
+            continue;
+        }
+        let _pair = tree.remove(id);
+    }
+}

@@ -1,0 +1,50 @@
+//! Walks that take the map.
+ghost use Rattle.std.specs.Prelude.{◌≡◌, map};
+ghost use Rattle.blart_keys.specs.Stored.{CanCount};
+
+use crate::map::TreeMap;
+use art_walk::{IntoIter, IntoKeys, IntoValues};
+use blart_keys::AsBytes;
+use std::iter::IntoIterator;
+
+impl<K: AsBytes + Drop, V: Drop, const PREFIX_LEN: usize> TreeMap<K, V, PREFIX_LEN> {
+    /// The keys by value, ascending by their bytes, from both ends. Takes no memory. What was not taken is freed where the walk is dropped.
+    pub fn into_keys(self) -> IntoKeys<K, V, PREFIX_LEN>
+        ensures value { result ≡ map (λ pair. pair.0) self }
+        ensures fits { CanCount result }
+    {
+        self.law();
+        IntoKeys::new(self.tree)
+    }
+
+    /// The values by value, in the order of their keys' bytes, from both ends. Takes no memory. What was not taken is freed where the walk is dropped.
+    pub fn into_values(self) -> IntoValues<K, V, PREFIX_LEN>
+        ensures value { result ≡ map (λ pair. pair.1) self }
+        ensures fits { CanCount result }
+    {
+        self.law();
+        IntoValues::new(self.tree)
+    }
+}
+
+impl<K: AsBytes + Drop, V: Drop, const PREFIX_LEN: usize> IntoIterator
+    for TreeMap<K, V, PREFIX_LEN> {
+    type Item = (K, V);
+
+    type IntoIter = IntoIter<K, V, PREFIX_LEN>;
+
+    ghost into_iter_gives = { λ map items. items ≡ map };
+
+    /// The pairs by value, ascending by their keys' bytes, from both ends. Takes no memory. What was not taken is freed where the walk is dropped.
+    ///
+    /// ```
+    /// map.try_insert("dog", 2)?;
+    /// map.try_insert("cat", 1)?;
+    /// let mut pairs = map.into_iter();
+    /// assert_eq!(pairs.next_back(), Some(("dog", 2)));
+    /// assert_eq!(pairs.len(), 1);
+    /// ```
+    fn into_iter(self) -> IntoIter<K, V, PREFIX_LEN> {
+        IntoIter::new(self.tree)
+    }
+}

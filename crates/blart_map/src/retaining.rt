@@ -1,0 +1,26 @@
+//! The pairs that a closure keeps.
+ghost use Rattle.blart_keys.specs.Walks.{Retains, AsksPair};
+
+use crate::map::TreeMap;
+use blart_keys::AsBytes;
+
+impl<K: AsBytes + Drop, V: Drop, const PREFIX_LEN: usize> TreeMap<K, V, PREFIX_LEN> {
+    /// Asks the closure once of each pair, ascending by the keys' bytes, and removes those at which it answers `false`. The others stay with their values as the closure left them. Takes no memory; a pair is one visit.
+    ///
+    /// ```
+    /// map.try_insert("cat", 1)?;
+    /// map.try_insert("dog", 2)?;
+    /// map.retain(|_, value| {
+    ///     *value += 1;
+    ///     *value > 2
+    /// });
+    /// assert_eq!(map.get(&"cat"), None);
+    /// assert_eq!(map.get(&"dog"), Some(&3));
+    /// ```
+    pub fn retain<F: FnMut(&K, &mut V) -> bool + Drop>(&mut self, f: F)
+        requires { F.IsAlwaysCallable f }
+        ensures { Retains (AsksPair F.FnMut) self.old f self.new }
+    {
+        art_walk::retain(&mut self.tree, f)
+    }
+}

@@ -1,0 +1,34 @@
+//! Maps that are taken apart.
+ghost use Rattle.std.specs.Prelude.{◌≡◌, map, IfOk};
+
+use blart::{AsBytes, Map};
+use std::alloc::{AllocError, Global};
+use std::iter::{Iterator, IntoIterator};
+
+/// The pairs of a map in a vector, in the order of their keys' bytes.
+pub fn into_vec<K: AsBytes + Drop, V: Drop>(
+    alloc: Global,
+    map: Map<K, V>,
+) -> Result<Vec<(K, V)>, AllocError>
+    ensures { IfOk result (λ pairs. pairs.items ≡ map) }
+{
+    let mut pairs = Vec::new(alloc);
+    for (key, value) in map {
+        pairs.push((key, value))?;
+    }
+    Ok(pairs)
+}
+
+/// The values of a map in a vector, in the order of their keys' bytes.
+pub fn into_values_vec<K: AsBytes + Drop>(
+    alloc: Global,
+    scores: Map<K, u64>,
+) -> Result<Vec<u64>, AllocError>
+    ensures { IfOk result (λ values. values.items ≡ map (λ pair. pair.1) scores) }
+{
+    let mut values = Vec::new(alloc);
+    for value in scores.into_values() {
+        values.push(value)?;
+    }
+    Ok(values)
+}
