@@ -6,6 +6,7 @@ mod counting;
 mod driving;
 mod dropping;
 mod key_types;
+mod owning;
 mod walking;
 
 use blart_keys::AsBytes;

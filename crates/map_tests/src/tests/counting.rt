@@ -64,13 +64,13 @@ fn assert_prefix<K: AsBytes + Drop, const P: usize>(
     assert!(rt; walk.next().is_none());
 }
 
-fn assert_behind<K: AsBytes + Drop, const P: usize>(
+fn assert_behind<const P: usize>(
     rt: &impl Abort,
-    map: &TreeMap<K, usize, P>,
-    key: &K,
+    map: &TreeMap<[u8; 2], usize, P>,
+    key: [u8; 2],
     want: &[usize],
 ) {
-    let mut walk = map.range_counted(Bound::Excluded(key), Bound::Unbounded, &mut Visits::new());
+    let mut walk = map.range_counted(Bound::Excluded(&key), Bound::Unbounded, &mut Visits::new());
     for value in want {
         assert_eq!(rt; value_of(walk.next()), Some(*value));
     }
@@ -82,7 +82,7 @@ fn counted_walks(rt: HostRuntime) -> Result<(), Fail> {
     let map = map_of::<[u8; 2], 2>(&rt, vec![in rt.alloc(); [2u8, 1], [3, 3], [2, 2]]?)?;
     assert_prefix(&rt, &map, b"\x02", &[0, 2]);
     assert_prefix(&rt, &map, b"\x04", &[]);
-    assert_behind(&rt, &map, &[2, 1], &[2, 1]);
-    assert_behind(&rt, &map, &[3, 3], &[]);
+    assert_behind(&rt, &map, [2, 1], &[2, 1]);
+    assert_behind(&rt, &map, [3, 3], &[]);
     Ok(())
 }

@@ -1,6 +1,7 @@
 //! What is dropped, and when.
 use blart_map::TreeMap;
 use std::cell::Cell;
+use std::iter::{DoubleEndedIterator, IntoIterator, Iterator};
 use std::process::Abort;
 use std::test::Fail;
 
@@ -66,5 +67,18 @@ fn related_values_are_dropped_once(rt: HostRuntime) -> Result<(), Fail> {
     map.prefix_insert(b"\x01", Counted { drops: &drops })?;
     drop(map);
     assert_eq!(rt; drops.get(), 6);
+    Ok(())
+}
+
+// An owning walk that is dropped frees what it did not give, once.
+#[test]
+fn what_is_left_of_a_walk_is_dropped(rt: HostRuntime) -> Result<(), Fail> {
+    let drops = Cell::new(0usize);
+    let mut walk = four(&rt, &drops)?.into_iter();
+    drop(walk.next());
+    drop(walk.next_back());
+    assert_eq!(rt; drops.get(), 2);
+    drop(walk);
+    assert_eq!(rt; drops.get(), 4);
     Ok(())
 }
