@@ -201,7 +201,8 @@ impl<K: AsBytes + Drop, V: Drop, const PREFIX_LEN: usize> Tree<K, V, PREFIX_LEN>
     /// How many children the inner node at this front has, and 0 where none stands there. At most one visit more than the longest key has bytes.
     pub fn children_at(&self, front: &[u8], visits: &mut Visits) -> usize
         ensures value { result ≡ set.len (parts (bytes K.bytes) self.now.pairs front.now) }
-        ensures counted { visits.new.count ≤ visits.old.count + longest (bytes K.bytes) self.now.pairs + 1 }
+        ensures counted { visits.new.count
+            ≤ visits.old.count + longest (bytes K.bytes) self.now.pairs + 1 }
         ensures grows { visits.old.count ≤ visits.new.count }
     {
         self.leaves.law();
@@ -222,7 +223,8 @@ fn children_below<K: AsBytes, V, const P: usize>(
 ) -> usize
     requires { IsSound K.bytes P leaves.now nodes.now (Some root.now) }
     ensures value { result ≡ set.len (parts (bytes K.bytes) leaves.now.pairs front.now) }
-    ensures counted { visits.new.count ≤ visits.old.count + longest (bytes K.bytes) leaves.now.pairs + 1 }
+    ensures counted { visits.new.count
+        ≤ visits.old.count + longest (bytes K.bytes) leaves.now.pairs + 1 }
     ensures grows { visits.old.count ≤ visits.new.count }
 {
     leaves.law();

@@ -17,7 +17,8 @@ use blart_keys::AsBytes;
 impl<K: AsBytes + Drop, V: Drop, const PREFIX_LEN: usize> Tree<K, V, PREFIX_LEN> {
     /// The pair with these bytes, and its leaf. On n bytes at most n + 1 visits, and none where the tree has no pairs.
     pub fn get(&self, query: &[u8], visits: &mut Visits) -> Option<(LeafId, &K, &V)>
-        ensures found { option_map (λ f. (f.0, (f.1.now, f.2.now))) result ≡ at (bytes K.bytes) self.now.pairs query.now }
+        ensures found { option_map (λ f. (f.0, (f.1.now, f.2.now))) result
+            ≡ at (bytes K.bytes) self.now.pairs query.now }
         ensures counted { visits.new.count ≤ visits.old.count + length query.now + 1 }
         ensures grows { visits.old.count ≤ visits.new.count }
         ensures empty { self.now.pairs ≡ [] → visits.new.count ≡ visits.old.count }
@@ -35,7 +36,8 @@ impl<K: AsBytes + Drop, V: Drop, const PREFIX_LEN: usize> Tree<K, V, PREFIX_LEN>
 
     /// The pair whose bytes begin these, and its leaf. On n bytes at most n + 1 visits, and none where the tree has no pairs.
     pub fn get_front(&self, query: &[u8], visits: &mut Visits) -> Option<(LeafId, &K, &V)>
-        ensures found { option_map (λ f. (f.0, (f.1.now, f.2.now))) result ≡ front_of (bytes K.bytes) self.now.pairs query.now }
+        ensures found { option_map (λ f. (f.0, (f.1.now, f.2.now))) result
+            ≡ front_of (bytes K.bytes) self.now.pairs query.now }
         ensures counted { visits.new.count ≤ visits.old.count + length query.now + 1 }
         ensures grows { visits.old.count ≤ visits.new.count }
         ensures empty { self.now.pairs ≡ [] → visits.new.count ≡ visits.old.count }
@@ -53,7 +55,8 @@ impl<K: AsBytes + Drop, V: Drop, const PREFIX_LEN: usize> Tree<K, V, PREFIX_LEN>
 
     /// The leaf with these bytes. On n bytes at most n + 1 visits, and none where the tree has no pairs.
     pub fn search(&self, query: &[u8], visits: &mut Visits) -> Option<LeafId>
-        ensures found { result ≡ option_map (λ p. p.0) (at (bytes K.bytes) self.now.pairs query.now) }
+        ensures found { result
+            ≡ option_map (λ p. p.0) (at (bytes K.bytes) self.now.pairs query.now) }
         ensures counted { visits.new.count ≤ visits.old.count + length query.now + 1 }
         ensures grows { visits.old.count ≤ visits.new.count }
         ensures empty { self.now.pairs ≡ [] → visits.new.count ≡ visits.old.count }
@@ -66,7 +69,8 @@ impl<K: AsBytes + Drop, V: Drop, const PREFIX_LEN: usize> Tree<K, V, PREFIX_LEN>
 
     /// The leaf whose bytes begin these. On n bytes at most n + 1 visits, and none where the tree has no pairs.
     pub fn search_front(&self, query: &[u8], visits: &mut Visits) -> Option<LeafId>
-        ensures found { result ≡ option_map (λ p. p.0) (front_of (bytes K.bytes) self.now.pairs query.now) }
+        ensures found { result
+            ≡ option_map (λ p. p.0) (front_of (bytes K.bytes) self.now.pairs query.now) }
         ensures counted { visits.new.count ≤ visits.old.count + length query.now + 1 }
         ensures grows { visits.old.count ≤ visits.new.count }
         ensures empty { self.now.pairs ≡ [] → visits.new.count ≡ visits.old.count }
