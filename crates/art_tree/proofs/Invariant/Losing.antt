@@ -15,7 +15,7 @@ use Rattle.art_tree.specs.declared.records.ids.Child.TheVariants.{Leaf, Inner}
 use Rattle.art_tree.proofs.BeginsLemmas.{Begins-length, Begins-more, Begins-trans, Begins-next, edge_same, edge_some, Begins-linear, length-edge, Begins-equal, Begins-edge_front, Bytes-cases, common-left, common-greatest, common_comm}
 use Rattle.art_tree.proofs.Invariant.Growing.{Parts-within, Parts-two, covers_above}
 use Rattle.art_tree.proofs.Invariant.OneEdge.{one_above}
-use Rattle.art_tree.proofs.Invariant.Prefixes.{keeps_changed, cut_node, cut_was, turned_prefix}
+use Rattle.art_tree.proofs.Invariant.Prefixes.{keeps_changed, live_after, live_before, cut_node, cut_was, turned_prefix}
 use Rattle.art_tree.proofs.Invariant.Splitting.{Recut}
 use Rattle.blart_keys.proofs.Options.{is_some, some_of, not_some, same_some}
 
@@ -377,18 +377,10 @@ module _ {P : ℕ} (keys keys' : ℕ → Option Bytes) (nodes : ℕ → Option N
     kept_child c off = drops.edges.rest c off ∙ ap (λ (x : Node). child_at x.edges c) dropped_was
 
     still_live : (m : ℕ) → IsSome (nodes m) → IsSome (nodes' m)
-    still_live m h =
-        elim (eqb_tells m p) [
-          | inl e ↦ is_some (nodes' m) drops.is (ap nodes' e.1 ∙ drops.is_is)
-          | inr e ↦ same_some (nodes m) (nodes' m) (sym (drops.others m e.1)) h
-        ]
+    still_live = live_after nodes nodes' p drops.was drops.is drops.was_is drops.is_is drops.others
 
     then_live : (m : ℕ) → IsSome (nodes' m) → IsSome (nodes m)
-    then_live m h =
-        elim (eqb_tells m p) [
-          | inl e ↦ is_some (nodes m) was (ap nodes e.1 ∙ was_is)
-          | inr e ↦ same_some (nodes' m) (nodes m) (drops.others m e.1) h
-        ]
+    then_live = live_before nodes nodes' p drops.was drops.is drops.was_is drops.is_is drops.others
 
     node_stays : (g : Bytes) (m : ℕ) → CoversNode keys nodes s.front_of g m → CoversNode keys' nodes' s.front_of g m
     node_stays g m c = record { live = still_live m c.live; front = c.front; only = λ j l e h. c.only j l (was_key j l e) h }
