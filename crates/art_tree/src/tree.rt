@@ -6,6 +6,7 @@ ghost use Rattle.blart_keys.specs.Content.{at, IsContent, IsPut};
 ghost use Rattle.blart_keys.specs.Fronts.{fronts, parts};
 ghost use Rattle.art_tree.specs.Leaves.{leaf_in, Has, AreDistinct, OthersStand, first_number, last_number, number_after, number_before, bytes};
 ghost use Rattle.art_tree.specs.Content.{room, Fits, IsOpen};
+ghost use Rattle.art_tree.specs.Invariant.Sound.{IsSound};
 ghost use Rattle.art_tree.specs.Points.{IsGood};
 ghost use Rattle.art_tree.specs.Longest.{longest};
 
@@ -200,21 +201,40 @@ impl<K: AsBytes + Drop, V: Drop, const PREFIX_LEN: usize> Tree<K, V, PREFIX_LEN>
     /// How many children the inner node at this front has, and 0 where none stands there. At most one visit more than the longest key has bytes.
     pub fn children_at(&self, front: &[u8], visits: &mut Visits) -> usize
         ensures value { result ≡ set.len (parts (bytes K.bytes) self.now.pairs front.now) }
-        ensures counted { visits.new.count ≤ visits.old.count + longest (bytes K.bytes) self.now.pairs + 1 }
+        ensures counted { visits.new.count
+            ≤ visits.old.count + longest (bytes K.bytes) self.now.pairs + 1 }
         ensures grows { visits.old.count ≤ visits.new.count }
     {
         self.leaves.law();
-        let Some(root) = self.root else {
-            return 0;
-        };
-        let Some(found) = children_of(&self.nodes, &root, front, visits) else {
-            return 0;
-        };
-        let (key, _) = self.leaves.read(found.1, visits);
-        if begins(front, key.as_bytes()) {
-            found.0
-        } else {
-            0
+        match self.root {
+            None => 0,
+            Some(root) => children_below(&self.leaves, &self.nodes, &root, front, visits),
         }
+    }
+}
+
+// How many children the inner node at this front has, in a tree with some pairs.
+fn children_below<K: AsBytes, V, const P: usize>(
+    leaves: &Leaves<K, V>,
+    nodes: &Nodes<P>,
+    root: &Child,
+    front: &[u8],
+    visits: &mut Visits,
+) -> usize
+    requires { IsSound K.bytes P leaves.now nodes.now (Some root.now) }
+    ensures value { result ≡ set.len (parts (bytes K.bytes) leaves.now.pairs front.now) }
+    ensures counted { visits.new.count
+        ≤ visits.old.count + longest (bytes K.bytes) leaves.now.pairs + 1 }
+    ensures grows { visits.old.count ≤ visits.new.count }
+{
+    leaves.law();
+    let Some(found) = children_of(nodes, root, front, visits) else {
+        return 0;
+    };
+    let (key, _) = leaves.read(found.1, visits);
+    if begins(front, key.as_bytes()) {
+        found.0
+    } else {
+        0
     }
 }

@@ -1,5 +1,5 @@
 -- A leaf leaves the tree: the way to it, and what the changes to its node and the edge above keep.
-use Rattle.std.proofs.Common.{true, ◌≡◌, ◌≢◌, ℕ, ◌+◌, ◌<◌, ◌≤◌, List, [], ◌∷◌, ◌++◌, length, take, refl, ap, arith, sym, subst, Option, Some, None, IsSome, ◌∙◌, inl, inr}
+use Rattle.std.proofs.Common.{true, ◌≡◌, ◌≢◌, ℕ, ◌+◌, ◌<◌, ◌≤◌, List, [], ◌∷◌, ◌++◌, length, take, drop, slice_range, refl, ap, arith, sym, subst, Option, Some, None, IsSome, ◌∙◌, inl, inr}
 use Rattle.std.proofs.lemmas.Bool.{cases_lt}
 use Rattle.std.proofs.lemmas.Bool.Decides.{eqb_tells}
 use Rattle.art_tree.specs.Invariant.EdgesAbove.{LeadsTo, TurnsTo, edge_front}
@@ -20,6 +20,7 @@ use Rattle.art_tree.proofs.Invariant.Growing.{Parts-within, Parts-two, covers_ab
 use Rattle.art_tree.proofs.Invariant.Losing.{shape_dropped}
 use Rattle.art_tree.proofs.Invariant.OneEdge.{not_itself, kept_mid, node_moved}
 use Rattle.blart_keys.proofs.Options.{some_of, not_some}
+use Rattle.art_tree.proofs.Invariant.Prefixes.{cut_front, start_is}
 use Rattle.art_tree.proofs.Pairs.Keys.{key_of_pair}
 
 -- ---- the way to a leaf, and to its node
@@ -210,3 +211,35 @@ abbrev pub hangs_from : {P : ℕ} → {K V : Type 0} (key_bytes : K → Bytes) (
 hangs_from key_bytes pairs nodes root s i has n b low above leads =
     let p = some_of (leaf_in pairs i) has in
     record { shape = s; key = key_bytes p.0.0; key_is = key_of_pair key_bytes pairs i p.0 p.1; node = low.0; is = low.1; low = low.2; leads = leads }
+
+-- ---- a child's prefix that is cut anew, from a key below it
+
+module _ {P : ℕ} (keys : ℕ → Option Bytes) (nodes : ℕ → Option Node) (above : Option (ℕ × ℕ)) (n : ℕ) (h : HangsBelow P keys nodes above (Inner n)) where
+  -- the front of the edge to the child, and what that covers
+  abbrev pub child_front : Bytes
+  child_front = h.shape.front_of h.number ++ h.byte ∷ []
+
+  abbrev pub child_covers : CoversNode keys nodes h.shape.front_of child_front n
+  child_covers = (h.shape.node h.number h.node h.is).below h.byte (Inner n) h.there
+
+  begins_above : Begins (edge_front h.shape.front_of above) (h.shape.front_of h.number ++ h.byte ∷ [])
+  begins_above = begins_below keys nodes h.root h.shape above h.number h.byte h.leads
+
+  module _ (x : Node) (is : nodes n ≡ Some x) where
+    pub cut_ends : (end : ℕ) → x.depth ≤ end → EndsBelow nodes above end
+    cut_ends end le = ends_below keys nodes h.root h.shape child_front n x is child_covers above end (Inner h.number) h.leads begins_above le
+
+    -- the prefix begins and ends within the key
+    pub cut_starts : (start : ℕ) → StartsBelow nodes above start → start ≤ x.depth
+    cut_starts start s = starts_within keys nodes h.root h.shape child_front n x is child_covers above start begins_above s
+
+    pub cut_within : (i : ℕ) (k : Bytes) → IsEndUnder keys true child_front i → keys i ≡ Some k → x.depth ≤ length k
+    cut_within i k u e = key_within keys nodes h.root h.shape child_front n x is child_covers i k u e
+
+    -- the node keeps what its front has behind that of the edge
+    pub cut_is : (start end i : ℕ) (k : Bytes) → StartsBelow nodes above start → end ≡ x.depth → IsEndUnder keys true child_front i → keys i ≡ Some k → take P (slice_range k start end) ≡ take P (drop (length (edge_front h.shape.front_of above)) (h.shape.front_of n))
+    cut_is start end i k s e u is_k =
+        let own : keys i ≡ Some u.key = u.is in
+        let same : u.key ≡ k = cc in
+        let le : start ≤ x.depth = cut_starts start s in
+        cut_front P k (edge_front h.shape.front_of above) (h.shape.front_of n) start end (child_covers.only i k is_k (subst (Begins child_front) same u.front)) (start_is keys nodes h.root h.shape above start s) (e ∙ (h.shape.node n x is).depth) (omega arith)

@@ -12,7 +12,7 @@ pub use Rattle.art_tree.specs.Calls.Placing.{Gains}
 use Rattle.art_tree.specs.declared.records.ids.Child.{Child}
 use Rattle.art_tree.specs.declared.records.ids.Child.TheVariants.{Leaf, Inner}
 use Rattle.blart_keys.proofs.Options.{some_of}
-use Rattle.art_tree.proofs.Invariant.Prefixes.{keeps_changed}
+use Rattle.art_tree.proofs.Invariant.Prefixes.{keeps_changed, live_after, live_before}
 use Rattle.art_tree.proofs.BeginsLemmas.{Begins-more, Begins-trans, Begins-linear, Begins-past, next_byte-front, Begins-equal, Begins-cases, common_same, common_at, common_comm}
 
 -- the key k goes along other keys as far as t, and no key goes on as it does
@@ -98,18 +98,10 @@ module _ {P : ℕ} (keys keys' : ℕ → Option Bytes) (nodes nodes' : ℕ → O
   fits = s.node n adds.was adds.was_is
 
   live_kept : (m : ℕ) → IsSome (nodes m) → IsSome (nodes' m)
-  live_kept m h =
-      elim (eqb_tells m n) [
-        | inl e ↦ let P : Option Node → Type 0 = λ o. IsSome o in let f : nodes' m ≡ Some adds.is = rw e.1 adds.is_is in subst P (sym f) refl
-        | inr e ↦ let P : Option Node → Type 0 = λ o. IsSome o in subst P (sym (adds.others m e.1)) h
-      ]
+  live_kept = live_after nodes nodes' n adds.was adds.is adds.was_is adds.is_is adds.others
 
   live_was : (m : ℕ) → IsSome (nodes' m) → IsSome (nodes m)
-  live_was m h =
-      elim (eqb_tells m n) [
-        | inl e ↦ let P : Option Node → Type 0 = λ o. IsSome o in let f : nodes m ≡ Some adds.was = rw e.1 adds.was_is in subst P (sym f) refl
-        | inr e ↦ let P : Option Node → Type 0 = λ o. IsSome o in subst P (adds.others m e.1) h
-      ]
+  live_was = live_before nodes nodes' n adds.was adds.is adds.was_is adds.is_is adds.others
 
   leaf_kept : (g : Bytes) (j : ℕ) → CoversLeaf keys g j → CoversLeaf keys' g j
   leaf_kept g j c = record {

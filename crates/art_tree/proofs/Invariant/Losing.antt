@@ -5,27 +5,20 @@ use Rattle.std.proofs.lemmas.Bool.Decides.{eqb_tells}
 use Rattle.art_tree.specs.Begins.{Bytes, Begins, next_byte}
 use Rattle.blart_keys.specs.Bytes.{common}
 use Rattle.art_tree.specs.Invariant.EdgesAbove.{LeadsTo, TurnsTo, edge_front}
-use Rattle.art_tree.specs.Slabs.Nodes.{Node, DropsEdge, Redirects, Frees}
+use Rattle.art_tree.specs.Slabs.Nodes.{Node, DropsEdge, Frees}
 use Rattle.art_tree.specs.Slabs.Edges.{child_at, Ascends}
 use Rattle.art_tree.specs.Calls.Removing.{Loses, CutsBehind}
 use Rattle.art_tree.specs.Invariant.Shape.{Shape, Keeps, first_behind, Covers, CoversLeaf, CoversNode, NodeFits, RootFits, Parts}
 use Rattle.art_tree.specs.declared.records.ids.Edge.{Edge}
 use Rattle.art_tree.specs.declared.records.ids.Child.{Child}
 use Rattle.art_tree.specs.declared.records.ids.Child.TheVariants.{Leaf, Inner}
-use Rattle.art_tree.proofs.BeginsLemmas.{Begins-length, Begins-more, Begins-trans, Begins-next, edge_same, edge_some, Begins-linear, length-edge, Begins-equal, Begins-edge_front, Bytes-cases, common-left, common-greatest, common_comm}
+use Rattle.art_tree.proofs.BeginsLemmas.{Begins-length, Begins-more, Begins-trans, Begins-next, Begins-linear, length-edge, Begins-equal, Begins-edge_front, Bytes-cases, common-left, common-greatest, common_comm}
 use Rattle.art_tree.proofs.Invariant.Growing.{Parts-within, Parts-two, covers_above}
+use Rattle.art_tree.proofs.Invariant.EdgesAbove.{Turns, turned_node, turns_after}
 use Rattle.art_tree.proofs.Invariant.OneEdge.{one_above}
-use Rattle.art_tree.proofs.Invariant.Prefixes.{keeps_changed, cut_node, cut_was, turned_prefix}
+use Rattle.art_tree.proofs.Invariant.Prefixes.{keeps_changed, live_after, live_before, cut_node, cut_was, cut_leads, turned_prefix}
 use Rattle.art_tree.proofs.Invariant.Splitting.{Recut}
 use Rattle.blart_keys.proofs.Options.{is_some, some_of, not_some, same_some}
-
--- what became of an old node: the edge at g0 leads to another child now
-pub record Turns (x x' : Node) (f g0 : Bytes) (c0 c1 : Child) : Type 0 where
-  pub depth : x'.depth ≡ x.depth
-  pub ascends : Ascends x.edges → Ascends x'.edges
-  pub rest : (b : ℕ) → f ++ b ∷ [] ≢ g0 → child_at x'.edges b ≡ child_at x.edges b
-  pub was : (b : ℕ) → f ++ b ∷ [] ≡ g0 → child_at x.edges b ≡ Some c0
-  pub now : (b : ℕ) → f ++ b ∷ [] ≡ g0 → child_at x'.edges b ≡ Some c1
 
 -- the node p is gone, which had an edge to a leaf at b and the child c1, and the edge to it leads to c1 now
 pub record Merges (old new : ℕ → Option Node) (front_of : ℕ → Bytes) (root root' : Option Child) (g0 : Bytes) (c1 : Child) (was : Node) (p b b1 : ℕ) : Type 0 where
@@ -377,18 +370,10 @@ module _ {P : ℕ} (keys keys' : ℕ → Option Bytes) (nodes : ℕ → Option N
     kept_child c off = drops.edges.rest c off ∙ ap (λ (x : Node). child_at x.edges c) dropped_was
 
     still_live : (m : ℕ) → IsSome (nodes m) → IsSome (nodes' m)
-    still_live m h =
-        elim (eqb_tells m p) [
-          | inl e ↦ is_some (nodes' m) drops.is (ap nodes' e.1 ∙ drops.is_is)
-          | inr e ↦ same_some (nodes m) (nodes' m) (sym (drops.others m e.1)) h
-        ]
+    still_live = live_after nodes nodes' p drops.was drops.is drops.was_is drops.is_is drops.others
 
     then_live : (m : ℕ) → IsSome (nodes' m) → IsSome (nodes m)
-    then_live m h =
-        elim (eqb_tells m p) [
-          | inl e ↦ is_some (nodes m) was (ap nodes e.1 ∙ was_is)
-          | inr e ↦ same_some (nodes' m) (nodes m) (drops.others m e.1) h
-        ]
+    then_live = live_before nodes nodes' p drops.was drops.is drops.was_is drops.is_is drops.others
 
     node_stays : (g : Bytes) (m : ℕ) → CoversNode keys nodes s.front_of g m → CoversNode keys' nodes' s.front_of g m
     node_stays g m c = record { live = still_live m c.live; front = c.front; only = λ j l e h. c.only j l (was_key j l e) h }
@@ -542,51 +527,16 @@ module _ {P : ℕ} (keys keys' : ℕ → Option Bytes) (nodes : ℕ → Option N
       abbrev g0 : Bytes
       g0 = edge_front s.front_of above
 
+      above_live : (above' : Option (ℕ × ℕ)) → LeadsTo nodes root above' (Inner p) → (e : ℕ × ℕ) → above' ≡ Some e → IsSome (nodes e.0)
+      above_live None l e is = absurd cc
+      above_live (Some d) l e is = let z : d ≡ e = cc in subst (λ (w : ℕ × ℕ). IsSome (nodes w.0)) z (is_some (nodes d.0) l.0 l.1)
+
       -- what became of a node
-      turned : (above' : Option (ℕ × ℕ)) → LeadsTo nodes root above' (Inner p) → TurnsTo cut mid root root' above' c1 → CutsBehind P nodes cut s.front_of g0 c1 → (m : ℕ) (x : Node) → m ≢ p → nodes m ≡ Some x → (x' : Node) × (new m ≡ Some x') × Turns x x' (s.front_of m) (edge_front s.front_of above') (Inner p) c1
-      turned None leads turns cuts m x off is =
-          let y = cut_node P nodes cut s.front_of g0 c1 cuts m x is in (
-            y.0,
-            frees.others m off ∙ turns.0 m ∙ y.1,
-            record {
-              depth = y.2.depth;
-              ascends = λ z. subst (λ (es : List Edge). Ascends es) (sym y.2.edges) z;
-              rest = λ c h. ap (λ (es : List Edge). child_at es c) y.2.edges;
-              was = λ c h. absurd (edge_some (s.front_of m) c h);
-              now = λ c h. absurd (edge_some (s.front_of m) c h);
-            },
-          )
-      turned (Some (q, a)) leads turns cuts m x off is =
-          let red : Redirects cut mid q a c1 = turns.0 in
+      turned : (m : ℕ) (x : Node) → m ≢ p → nodes m ≡ Some x → (x' : Node) × (new m ≡ Some x') × Turns x x' (s.front_of m) g0 (Inner p) c1
+      turned m x off is =
           let y = cut_node P nodes cut s.front_of g0 c1 cuts m x is in
-          elim (eqb_tells m q) [
-            | inl e ↦
-                let x_is : leads.0 ≡ x = (let f : nodes q ≡ Some x = ap nodes (sym e.1) ∙ is in let g : nodes q ≡ Some leads.0 = leads.1 in cc) in
-                let same : red.was ≡ y.0 = (let f : cut q ≡ Some y.0 = ap cut (sym e.1) ∙ y.1 in let g : cut q ≡ Some red.was = red.was_is in cc) in
-                let front : s.front_of m ≡ s.front_of q = ap s.front_of e.1 in (
-                  red.is,
-                  frees.others m off ∙ ap mid e.1 ∙ red.is_is,
-                  record {
-                    depth = red.depth ∙ ap (λ (x : Node). x.depth) same ∙ y.2.depth;
-                    ascends = λ z. red.ascends;
-                    rest = λ c h. red.rest c (λ z. h (λ j. front j ++ z j ∷ [])) ∙ ap (λ (x : Node). child_at x.edges c) same ∙ ap (λ (es : List Edge). child_at es c) y.2.edges;
-                    was = λ c h. (let z = edge_same (s.front_of m) (s.front_of q) c a h in ap (child_at x.edges) z.1 ∙ ap (λ (x : Node). child_at x.edges a) (sym x_is) ∙ leads.2);
-                    now = λ c h. (let z = edge_same (s.front_of m) (s.front_of q) c a h in ap (child_at red.is.edges) z.1 ∙ red.now);
-                  },
-                )
-            | inr e ↦
-                let apart : (c : ℕ) → s.front_of m ++ c ∷ [] ≡ s.front_of q ++ a ∷ [] → ⊥ = λ c h. e.1 (s.apart m q (is_some (nodes m) x is) (is_some (nodes q) leads.0 leads.1) (edge_same (s.front_of m) (s.front_of q) c a h).0) in (
-                  y.0,
-                  frees.others m off ∙ red.others m e.1 ∙ y.1,
-                  record {
-                    depth = y.2.depth;
-                    ascends = λ z. subst (λ (es : List Edge). Ascends es) (sym y.2.edges) z;
-                    rest = λ c h. ap (λ (es : List Edge). child_at es c) y.2.edges;
-                    was = λ c h. absurd (apart c h);
-                    now = λ c h. absurd (apart c h);
-                  },
-                )
-          ]
+          let z = turned_node s.front_of cut mid root root' (Inner p) c1 (λ m. IsSome (nodes m)) s.apart above (cut_leads P nodes cut s.front_of g0 c1 cuts root above (Inner p) leads) (above_live above leads) turns m y.0 (is_some (nodes m) x is) y.1 in
+          (z.0, frees.others m off ∙ z.1, turns_after x y.0 z.0 (s.front_of m) g0 (Inner p) c1 y.2.depth y.2.edges z.2)
 
       none_more : (above' : Option (ℕ × ℕ)) → LeadsTo nodes root above' (Inner p) → TurnsTo cut mid root root' above' c1 → (m : ℕ) → nodes m ≡ None → new m ≡ None
       none_more None leads turns m e = frees.others m (alive_off m e) ∙ turns.0 m ∙ cut_was P nodes cut s.front_of g0 c1 cuts m e
@@ -606,7 +556,7 @@ module _ {P : ℕ} (keys keys' : ℕ → Option Bytes) (nodes : ℕ → Option N
         two = two;
         only = only_two was.edges just (is_some (child_at was.edges b) (Leaf i) low) (is_some (child_at was.edges b1) c1 high);
         above = edge_above above leads turns;
-        others = λ m x off is. turned above leads turns cuts m x off is;
+        others = turned;
         no_more = none_more above leads turns;
       }
 

@@ -1,5 +1,5 @@
 -- The bytes of their compressed prefixes that nodes keep.
-use Rattle.std.proofs.Common.{◌≡◌, ◌≢◌, ℕ, ◌+◌, ◌-◌, ◌≤◌, List, subst, take, drop, length, slice_range, ap, refl, sym, Option, Some, None, ◌∙◌, inl, inr, ◌++◌, [], ◌∷◌, arith}
+use Rattle.std.proofs.Common.{◌≡◌, ◌≢◌, ℕ, ◌+◌, ◌-◌, ◌≤◌, List, subst, take, drop, length, slice_range, ap, refl, sym, Option, Some, None, IsSome, ◌∙◌, inl, inr, ◌++◌, [], ◌∷◌, arith}
 use Rattle.std.proofs.lemmas.Bool.Decides.{eqb_tells}
 use Rattle.std.proofs.lemmas.List.{drop-take}
 use Rattle.art_tree.specs.Invariant.EdgesAbove.{LeadsTo, TurnsTo, edge_front}
@@ -10,7 +10,16 @@ use Rattle.art_tree.specs.Calls.Removing.{StartsBelow, Cuts, CutsBehind}
 use Rattle.art_tree.specs.Invariant.Shape.{Shape, Keeps, first_behind}
 use Rattle.art_tree.specs.declared.records.ids.Child.{Child}
 use Rattle.art_tree.specs.declared.records.ids.Child.TheVariants.{Leaf, Inner}
+use Rattle.blart_keys.proofs.Options.{is_some, same_some}
 use Rattle.art_tree.proofs.BeginsLemmas.{length-edge, take_front}
+
+module _ (old new : ℕ → Option Node) (n : ℕ) (was is : Node) (was_is : old n ≡ Some was) (is_is : new n ≡ Some is) (others : (j : ℕ) → j ≢ n → new j ≡ old j) where
+  -- where one node became another, the same numbers have nodes
+  pub live_after : (m : ℕ) → IsSome (old m) → IsSome (new m)
+  live_after m h = elim (eqb_tells m n) [ inl e ↦ is_some (new m) is (ap new e.1 ∙ is_is) | inr e ↦ same_some (old m) (new m) (sym (others m e.1)) h ]
+
+  pub live_before : (m : ℕ) → IsSome (new m) → IsSome (old m)
+  live_before m h = elim (eqb_tells m n) [ inl e ↦ is_some (old m) was (ap old e.1 ∙ was_is) | inr e ↦ same_some (new m) (old m) (others m e.1) h ]
 
 -- a prefix stands where the edge and the node have the same fronts
 pub keeps_as : (P : ℕ) (f f' : ℕ → Bytes) (a a' : Option (ℕ × ℕ)) (n n' : ℕ) (x x' : Node) → x.prefix ≡ first_behind P f a n → x'.prefix ≡ x.prefix → edge_front f' a' ≡ edge_front f a → f' n' ≡ f n → x'.prefix ≡ first_behind P f' a' n'

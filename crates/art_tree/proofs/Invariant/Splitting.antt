@@ -6,15 +6,16 @@ use Rattle.art_tree.specs.Begins.{Bytes, Begins, next_byte}
 use Rattle.blart_keys.specs.Bytes.{common}
 use Rattle.art_tree.specs.Invariant.EdgesAbove.{LeadsTo, TurnsTo, edge_front}
 use Rattle.art_tree.specs.Calls.Spots.{PastLength}
-use Rattle.art_tree.specs.Slabs.Nodes.{Node, Makes, Redirects}
+use Rattle.art_tree.specs.Slabs.Nodes.{Node, Makes}
 use Rattle.art_tree.specs.Slabs.Edges.{child_at, Ascends}
 use Rattle.art_tree.specs.Calls.Removing.{CutsBehind}
 use Rattle.art_tree.specs.Invariant.Shape.{Shape, Keeps, first_behind, Covers, CoversLeaf, CoversNode, NodeFits, RootFits, Parts}
 use Rattle.art_tree.specs.declared.records.ids.Edge.{Edge}
 use Rattle.art_tree.specs.declared.records.ids.Child.{Child}
 use Rattle.art_tree.specs.declared.records.ids.Child.TheVariants.{Leaf, Inner}
-use Rattle.art_tree.proofs.BeginsLemmas.{Begins-length, Begins-more, Begins-trans, Begins-itself, Begins-next, edge_same, edge_some, Begins-linear, length-edge, Begins-past, next_byte-front, Begins-equal, Begins-edge_front, Begins-cases, common_same, common_at, common_comm, Bytes-cases}
+use Rattle.art_tree.proofs.BeginsLemmas.{Begins-length, Begins-more, Begins-trans, Begins-itself, Begins-next, edge_some, Begins-linear, length-edge, Begins-past, next_byte-front, Begins-equal, Begins-edge_front, Begins-cases, common_same, common_at, common_comm, Bytes-cases}
 use Rattle.blart_keys.proofs.Options.{is_some, some_of}
+use Rattle.art_tree.proofs.Invariant.EdgesAbove.{Turns, turned_node, turns_after, leads_made}
 use Rattle.art_tree.proofs.Invariant.OneEdge.{one_above}
 use Rattle.art_tree.proofs.Invariant.Prefixes.{keeps_as, cut_node, cut_was, cut_free, cut_leads, turned_prefix}
 use Rattle.art_tree.proofs.Invariant.Growing.{covers_above, Departs, Gains, kept, kept_cases, within, Parts-within, Parts-two, Parts-kept}
@@ -28,14 +29,6 @@ pub record Recut (P : ℕ) (old new : ℕ → Option Node) (front_of : ℕ → B
   pub others : (m : ℕ) (x x' : Node) → old m ≡ Some x → new m ≡ Some x' → child ≢ Inner m → x'.prefix ≡ x.prefix
   pub own : (m : ℕ) (x x' : Node) → old m ≡ Some x → new m ≡ Some x' → child ≡ Inner m → x'.prefix ≡ take P (drop (length g) (front_of m))
 
--- what became of an old node: the edge at g0 leads to n now
-pub record EdgeLed (x x' : Node) (f g0 : Bytes) (c0 : Child) (n : ℕ) : Type 0 where
-  pub depth : x'.depth ≡ x.depth
-  pub ascends : Ascends x.edges → Ascends x'.edges
-  pub rest : (b : ℕ) → f ++ b ∷ [] ≢ g0 → child_at x'.edges b ≡ child_at x.edges b
-  pub was : (b : ℕ) → f ++ b ∷ [] ≡ g0 → child_at x.edges b ≡ Some c0
-  pub now : (b : ℕ) → f ++ b ∷ [] ≡ g0 → child_at x'.edges b ≡ Some (Inner n)
-
 -- the new node n stands on the edge at g0, above the child c0 and the leaf i
 pub record Splits (P : ℕ) (old new : ℕ → Option Node) (front_of : ℕ → Bytes) (root root' : Option Child) (g0 : Bytes) (c0 : Child) (n i : ℕ) (t : Bytes) (bc bk : ℕ) : Type 0 where
   pub fresh : old n ≡ None
@@ -48,7 +41,7 @@ pub record Splits (P : ℕ) (old new : ℕ → Option Node) (front_of : ℕ → 
   pub prefix : made.prefix ≡ take P (drop (length g0) t)
   pub only : (b : ℕ) (c : Child) → child_at made.edges b ≡ Some c → ((b ≡ bk) × (c ≡ Leaf i)) ⊎ ((b ≡ bc) × (c ≡ c0))
   pub above : ((g0 ≡ []) × (root ≡ Some c0) × (root' ≡ Some (Inner n))) ⊎ ((p : ℕ) × (b : ℕ) × IsSome (old p) × (g0 ≡ front_of p ++ b ∷ []) × (root' ≡ root))
-  pub others : (m : ℕ) (x : Node) → old m ≡ Some x → (x' : Node) × (new m ≡ Some x') × EdgeLed x x' (front_of m) g0 c0 n
+  pub others : (m : ℕ) (x : Node) → old m ≡ Some x → (x' : Node) × (new m ≡ Some x') × Turns x x' (front_of m) g0 c0 (Inner n)
   pub no_more : (m : ℕ) → m ≢ n → old m ≡ None → new m ≡ None
 
 module _ {P : ℕ} (keys keys' : ℕ → Option Bytes) (nodes nodes' : ℕ → Option Node) (root root' : Option Child) (g0 : Bytes) (c0 : Child) (n i : ℕ) (t k : Bytes) (s : Shape P keys nodes root)
@@ -285,7 +278,7 @@ module _ {P : ℕ} (keys keys' : ℕ → Option Bytes) (nodes nodes' : ℕ → O
         | inr h ↦ absurd (not_front m (is_some (nodes m) x is) (Begins-equal (s.front_of m) t mt h))
       ]
 
-  old_fits : (m : ℕ) (x x' : Node) → nodes m ≡ Some x → EdgeLed x x' (s.front_of m) g0 c0 n → NodeFits keys' nodes' fronts_after (s.front_of m) x'
+  old_fits : (m : ℕ) (x x' : Node) → nodes m ≡ Some x → Turns x x' (s.front_of m) g0 c0 (Inner n) → NodeFits keys' nodes' fronts_after (s.front_of m) x'
   old_fits m x x' is r =
       let f : NodeFits keys nodes s.front_of (s.front_of m) x = s.node m x is in
       let g : Bytes = s.front_of m in
@@ -564,51 +557,14 @@ module _ {P : ℕ} (keys keys' : ℕ → Option Bytes) (nodes cut mid : ℕ → 
       go None e = (let f : cut m ≡ None = cut_was P nodes cut s.front_of (t ++ next_byte t d.mate_key ∷ []) c0 cuts m e in absurd cc)
       go (Some y) e = is_some (nodes m) y e
 
+  above_live : (above : Option (ℕ × ℕ)) → LeadsTo cut root above c0 → (e : ℕ × ℕ) → above ≡ Some e → IsSome (nodes e.0)
+  above_live None l e is = absurd cc
+  above_live (Some d) l e is = let z : d ≡ e = cc in subst (λ (w : ℕ × ℕ). IsSome (nodes w.0)) z (uncut_live d.0 l.0 l.1)
+
   -- what became of a node after the cut
-  led_cut : (above : Option (ℕ × ℕ)) (new : ℕ → Option Node) (root' : Option Child) → LeadsTo cut root above c0 → TurnsTo mid new root root' above (Inner n) → (m : ℕ) (x : Node) → cut m ≡ Some x → (x' : Node) × (new m ≡ Some x') × EdgeLed x x' (s.front_of m) (edge_front s.front_of above) c0 n
-  led_cut None new root' leads turns m x is = (
-    x,
-    turns.0 m ∙ makes.others m (off_new m x is) ∙ is,
-    record {
-      depth = refl;
-      ascends = λ a. a;
-      rest = λ b h. refl;
-      was = λ b h. absurd (edge_some (s.front_of m) b h);
-      now = λ b h. absurd (edge_some (s.front_of m) b h);
-    },
-  )
-  led_cut (Some (p, b)) new root' leads turns m x is =
-      let red : Redirects mid new p b (Inner n) = turns.0 in
-      let p_off : p ≢ n = off_new p leads.0 leads.1 in
-      let was_is : red.was ≡ leads.0 = (let f : mid p ≡ Some leads.0 = makes.others p p_off ∙ leads.1 in let g : mid p ≡ Some red.was = red.was_is in cc) in
-      elim (eqb_tells m p) [
-        | inl e ↦
-            let x_is : leads.0 ≡ x = (let f : cut p ≡ Some x = ap cut (sym e.1) ∙ is in let g : cut p ≡ Some leads.0 = leads.1 in cc) in
-            let same : red.was ≡ x = was_is ∙ x_is in
-            let front : s.front_of m ≡ s.front_of p = ap s.front_of e.1 in (
-              red.is,
-              ap new e.1 ∙ red.is_is,
-              record {
-                depth = red.depth ∙ ap (λ (x : Node). x.depth) same;
-                ascends = λ a. red.ascends;
-                rest = λ c h. red.rest c (λ z. h (λ j. front j ++ z j ∷ [])) ∙ ap (λ (x : Node). child_at x.edges c) same;
-                was = λ c h. (let z = edge_same (s.front_of m) (s.front_of p) c b h in ap (child_at x.edges) z.1 ∙ ap (λ (x : Node). child_at x.edges b) (sym x_is) ∙ leads.2);
-                now = λ c h. (let z = edge_same (s.front_of m) (s.front_of p) c b h in ap (child_at red.is.edges) z.1 ∙ red.now);
-              },
-            )
-        | inr e ↦
-            let apart : (c : ℕ) → s.front_of m ++ c ∷ [] ≡ s.front_of p ++ b ∷ [] → ⊥ = λ c h. e.1 (s.apart m p (uncut_live m x is) (uncut_live p leads.0 leads.1) (edge_same (s.front_of m) (s.front_of p) c b h).0) in (
-              x,
-              red.others m e.1 ∙ makes.others m (off_new m x is) ∙ is,
-              record {
-                depth = refl;
-                ascends = λ a. a;
-                rest = λ c h. refl;
-                was = λ c h. absurd (apart c h);
-                now = λ c h. absurd (apart c h);
-              },
-            )
-      ]
+  led_cut : (above : Option (ℕ × ℕ)) (new : ℕ → Option Node) (root' : Option Child) → LeadsTo cut root above c0 → TurnsTo mid new root root' above (Inner n) → (m : ℕ) (x : Node) → cut m ≡ Some x → (x' : Node) × (new m ≡ Some x') × Turns x x' (s.front_of m) (edge_front s.front_of above) c0 (Inner n)
+  led_cut above new root' leads turns m x is =
+      turned_node s.front_of mid new root root' c0 (Inner n) (λ m. IsSome (nodes m)) s.apart above (leads_made cut mid root above c0 n depth prefix low high leads makes) (above_live above leads) turns m x (uncut_live m x is) (makes.others m (off_new m x is) ∙ is)
 
   made_after : (above : Option (ℕ × ℕ)) (new : ℕ → Option Node) (root' : Option Child) → LeadsTo cut root above c0 → TurnsTo mid new root root' above (Inner n) → new n ≡ Some made
   made_after None new root' leads turns = turns.0 n ∙ makes.is
@@ -643,17 +599,8 @@ module _ {P : ℕ} (keys keys' : ℕ → Option Bytes) (nodes cut mid : ℕ → 
       above = above_after above new root' leads turns;
       others = λ m x is.
           (let y = cut_node P nodes cut s.front_of (t ++ next_byte t d.mate_key ∷ []) c0 cuts m x is in
-          let z = led_cut above new root' still turns m y.0 y.1 in (
-            z.0,
-            z.1,
-            record {
-              depth = z.2.depth ∙ y.2.depth;
-              ascends = λ a. z.2.ascends (subst (λ (es : List Edge). Ascends es) (sym y.2.edges) a);
-              rest = λ b h. z.2.rest b h ∙ ap (λ (es : List Edge). child_at es b) y.2.edges;
-              was = λ b h. ap (λ (es : List Edge). child_at es b) (sym y.2.edges) ∙ z.2.was b h;
-              now = z.2.now;
-            },
-          ));
+          let z = led_cut above new root' still turns m y.0 y.1 in
+          (z.0, z.1, turns_after x y.0 z.0 (s.front_of m) (edge_front s.front_of above) c0 (Inner n) y.2.depth y.2.edges z.2));
       no_more = λ m off e. none_after above new root' still turns m off (cut_was P nodes cut s.front_of (t ++ next_byte t d.mate_key ∷ []) c0 cuts m e);
     }
 

@@ -9,7 +9,8 @@ use Rattle.art_tree.specs.Begins.{Bytes, Begins}
 use Rattle.art_tree.specs.Leaves.{Numbered, AreDistinct, bytes, keys_in, leaf_in, first_number, last_number}
 use Rattle.art_tree.proofs.BeginsLemmas.{Begins-from_begins, begins-from_Begins}
 use Rattle.art_tree.proofs.Pairs.Passing.{first_passing, last_passing}
-use Rattle.art_tree.proofs.Pairs.Keys.{key_of_member, leaf_in_member, member_leaf_in, pair_of_key}
+use Rattle.art_tree.proofs.Pairs.Keys.{key_of_member, pair_of_key}
+use Rattle.art_tree.proofs.Pairs.Numbers.{Member-from_leaf_in, leaf_in-member}
 
 module _ {K V : Type 0} (key_bytes : K → Bytes) (pairs : List (Numbered K V)) (content : IsContent (bytes key_bytes) pairs) (distinct : AreDistinct pairs) where
   -- the pair of a key
@@ -26,12 +27,12 @@ module _ {K V : Type 0} (key_bytes : K → Bytes) (pairs : List (Numbered K V)) 
     pair_key = (pair_of_key key_bytes pairs i k is).2
 
     pub pair_there : Member (i, pair) pairs
-    pair_there = leaf_in_member pairs i pair pair_is
+    pair_there = Member-from_leaf_in pairs i pair pair_is
 
   -- of one number, a pair of the list and a key's pair are one
   same_pair : (i : ℕ) (k : Bytes) (is : keys_in key_bytes pairs i ≡ Some k) (y : Numbered K V) → Member y pairs → y.0 ≡ i → y ≡ (i, pair i k is)
   same_pair i k is y m e =
-      let a : leaf_in pairs i ≡ Some y.1 = ap (leaf_in pairs) (sym e) ∙ member_leaf_in pairs y distinct m in
+      let a : leaf_in pairs i ≡ Some y.1 = ap (leaf_in pairs) (sym e) ∙ leaf_in-member pairs y.0 y.1 distinct m in
       let b : leaf_in pairs i ≡ Some (pair i k is) = pair_is i k is in
       let c : y.1 ≡ pair i k is = cc in
       λ j. (e j, c j)

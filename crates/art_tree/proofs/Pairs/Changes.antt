@@ -10,9 +10,9 @@ use Rattle.art_tree.specs.Begins.{Bytes, Begins}
 use Rattle.art_tree.specs.Leaves.{Numbered, leaf_in, Has, Lacks, AreDistinct, first_number, last_number, without_number, with_pair, with_value, bytes, keys_in}
 use Rattle.art_tree.specs.Takes.{MayTake}
 use Rattle.art_tree.proofs.BeginsLemmas.{related_cases, related-from_front, related-from_begun}
-use Rattle.art_tree.proofs.Pairs.Numbers.{has_not_lacks, Has-first, Has-last}
+use Rattle.art_tree.proofs.Pairs.Numbers.{has_not_lacks, Has-first, Has-last, Member-from_leaf_in, leaf_in-member}
 use Rattle.blart_keys.proofs.Options.{is_some, some_of, mapped_some}
-use Rattle.art_tree.proofs.Pairs.Keys.{leaf_in_member, member_leaf_in, member_of_key}
+use Rattle.art_tree.proofs.Pairs.Keys.{member_of_key}
 
 -- ---- a key that is related to another parts from all others as that does
 
@@ -89,8 +89,8 @@ module _ {K V : Type 0} where
   pub passing_has : (ps : List (Numbered K V)) (test : Numbered K V → Bool) (i : ℕ) → AreDistinct ps → Has (filter test ps) i → Has ps i
   passing_has ps test i d h =
       let has = some_of (leaf_in (filter test ps) i) h in
-      let m = filter_member test ps (i, has.0) (leaf_in_member (filter test ps) i has.0 has.1) in
-      is_some (leaf_in ps i) has.0 (member_leaf_in ps (i, has.0) d m.0)
+      let m = filter_member test ps (i, has.0) (Member-from_leaf_in (filter test ps) i has.0 has.1) in
+      is_some (leaf_in ps i) has.0 (leaf_in-member ps i has.0 d m.0)
 
 module _ {K V : Type 0} (key_bytes : K → Bytes) where
   -- the pairs but one are a content
@@ -111,7 +111,7 @@ module _ {K V : Type 0} (key_bytes : K → Bytes) where
     near_new x e = related_cases (key_bytes x.0) (key_bytes y.0) (may.own x e)
 
     near_member : (x : Numbered K V) → Member x ps → x.0 ≡ i → Begins (bytes key_bytes x) (key_bytes y.0) ⊎ Begins (key_bytes y.0) (bytes key_bytes x)
-    near_member x m e = near_new x.1 (ap (leaf_in ps) (sym e) ∙ member_leaf_in ps x distinct m)
+    near_member x m e = near_new x.1 (ap (leaf_in ps) (sym e) ∙ leaf_in-member ps x.0 x.1 distinct m)
 
     -- of a key under another number
     pub apart_key : (j : ℕ) (l : Bytes) → keys_in key_bytes ps j ≡ Some l → j ≢ i → (Begins (key_bytes y.0) l → ⊥) × (Begins l (key_bytes y.0) → ⊥)
@@ -187,8 +187,8 @@ module _ {K V : Type 0} (key_bytes : K → Bytes) where
         record {
           own = λ x e.
               let has = some_of (leaf_in (filter test ps) i) (Has-first (filter test ps) i f) in
-              let m = filter_member test ps (i, has.0) (leaf_in_member (filter test ps) i has.0 has.1) in
-              let is : leaf_in ps i ≡ Some has.0 = member_leaf_in ps (i, has.0) distinct m.0 in
+              let m = filter_member test ps (i, has.0) (Member-from_leaf_in (filter test ps) i has.0 has.1) in
+              let is : leaf_in ps i ≡ Some has.0 = leaf_in-member ps i has.0 distinct m.0 in
               let h : has.0 ≡ x = cc in
               subst (λ (z : K × V). related (key_bytes z.0) q ≡ true) h m.1;
           others = λ p there off. false_from_ne_true (related (bytes key_bytes p) q) (λ t. off (only p (member_filter test ps p (Member-from_Contains p ps there) t)));
@@ -199,7 +199,7 @@ module _ {K V : Type 0} (key_bytes : K → Bytes) where
   found_has ps q i d e =
       let x = mapped_some (λ (p : Numbered K V). p.0) (at (bytes key_bytes) ps q) i e in
       let m = at_Some (bytes key_bytes) ps q x.0 x.1 in
-      subst (λ (z : ℕ). Has ps z) x.2 (is_some (leaf_in ps x.0.0) x.0.1 (member_leaf_in ps x.0 d m.0))
+      subst (λ (z : ℕ). Has ps z) x.2 (is_some (leaf_in ps x.0.0) x.0.1 (leaf_in-member ps x.0.0 x.0.1 d m.0))
 
   -- the first of the pairs that are related to q has a leaf
   pub related_has : (ps : List (Numbered K V)) (q : Bytes) (i : ℕ) → AreDistinct ps → first_number (subtree (bytes key_bytes) ps q) ≡ Some i → Has ps i

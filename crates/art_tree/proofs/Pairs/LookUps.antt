@@ -4,34 +4,41 @@ use Rattle.std.specs.Cmp.Lexicographic.{pointwise}
 use Rattle.blart_keys.specs.Content.{IsContent, at, front_of}
 use Rattle.blart_keys.proofs.ContentLemmas.{at_member, front_of_member}
 use Rattle.art_tree.specs.Begins.{Bytes, Begins}
-use Rattle.art_tree.specs.Calls.Descents.{NoFront, IsOnlyFront}
-use Rattle.art_tree.specs.Leaves.{Numbered, AreDistinct, Has, leaf_in, keys_in, bytes}
+use Rattle.art_tree.specs.Calls.Descents.{NoFront, IsOnlyFront, IsFrontAlone}
+use Rattle.art_tree.specs.Leaves.{Numbered, AreDistinct, Has, keys_in, bytes}
 use Rattle.art_tree.proofs.BeginsLemmas.{begins-from_Begins}
 use Rattle.blart_keys.proofs.Options.{is_some}
 use Rattle.art_tree.proofs.Pairs.Answers.{at_no_key, front_of_no_key}
-use Rattle.art_tree.proofs.Pairs.Keys.{leaf_in_member, pair_of_key}
+use Rattle.art_tree.proofs.Pairs.Keys.{key_of_pair, pair_of_key}
+use Rattle.art_tree.proofs.Pairs.Numbers.{Member-from_leaf_in}
+use Rattle.art_tree.proofs.Ways.ToQuery.{absent, only_absent, only_not}
 
 module _ {K V : Type 0} (key_bytes : K → Bytes) (S : List (Numbered K V)) where
   -- the leaf that alone may begin q is there
   pub only_has : (q : Bytes) (i : ℕ) → IsOnlyFront (keys_in key_bytes S) q i → Has S i
   only_has q i o = let p = pair_of_key key_bytes S i o.key o.is in is_some _ p.0 p.1
 
-  module _ (content : IsContent (bytes key_bytes) S) (distinct : AreDistinct S) (T : List (Numbered K V)) (same : S ≡ T) (q : Bytes) where
-    -- the pair with the bytes q
-    pub answers_at : (i : ℕ) (x : K × V) → leaf_in S i ≡ Some x → key_bytes x.0 ≡ q → Some (i, x) ≡ at (bytes key_bytes) T q
-    answers_at i x is e = subst (λ (U : List (Numbered K V)). Some (i, x) ≡ at (bytes key_bytes) U q) same (sym (at_member (bytes key_bytes) S content q (i, x) (leaf_in_member S i x is) e))
+  module _ (content : IsContent (bytes key_bytes) S) (distinct : AreDistinct S) (q : Bytes) where
+    -- no key begins q: no pair is found
+    pub none_at : NoFront (keys_in key_bytes S) q → None ≡ at (bytes key_bytes) S q
+    none_at never = sym (at_no_key key_bytes S content distinct q (absent (keys_in key_bytes S) q never))
 
-    -- no key has the bytes q
-    pub answers_none_at : ((j : ℕ) → keys_in key_bytes S j ≡ Some q → ⊥) → None ≡ at (bytes key_bytes) T q
-    answers_none_at never = subst (λ (U : List (Numbered K V)). None ≡ at (bytes key_bytes) U q) same (sym (at_no_key key_bytes S content distinct q never))
+    pub none_front : NoFront (keys_in key_bytes S) q → None ≡ front_of (bytes key_bytes) S q
+    none_front never = sym (front_of_no_key key_bytes S content distinct q never)
 
-    -- the pair whose bytes begin q
-    pub answers_front : (i : ℕ) (x : K × V) → leaf_in S i ≡ Some x → Begins (key_bytes x.0) q → Some (i, x) ≡ front_of (bytes key_bytes) T q
-    answers_front i x is b = subst (λ (U : List (Numbered K V)). Some (i, x) ≡ front_of (bytes key_bytes) U q) same (sym (front_of_member (bytes key_bytes) S content q (i, x) (leaf_in_member S i x is) (begins-from_Begins (key_bytes x.0) q b)))
+    module _ (f : ℕ × (K × V)) (alone : IsFrontAlone key_bytes S q (Some f)) where
+      -- the one pair that may be found is, or none is
+      pub this_at : key_bytes f.1.0 ≡ q → Some f ≡ at (bytes key_bytes) S q
+      this_at e = sym (at_member (bytes key_bytes) S content q f (Member-from_leaf_in S f.0 f.1 alone.1) e)
 
-    -- no key begins q
-    pub answers_no_front : NoFront (keys_in key_bytes S) q → None ≡ front_of (bytes key_bytes) T q
-    answers_no_front never = subst (λ (U : List (Numbered K V)). None ≡ front_of (bytes key_bytes) U q) same (sym (front_of_no_key key_bytes S content distinct q never))
+      pub not_at : (key_bytes f.1.0 ≡ q → ⊥) → None ≡ at (bytes key_bytes) S q
+      not_at off = sym (at_no_key key_bytes S content distinct q (only_absent (keys_in key_bytes S) q f.0 alone.0 (λ e. off (let k : keys_in key_bytes S f.0 ≡ Some (key_bytes f.1.0) = key_of_pair key_bytes S f.0 f.1 alone.1 in cc))))
+
+      pub this_front : Begins (key_bytes f.1.0) q → Some f ≡ front_of (bytes key_bytes) S q
+      this_front b = sym (front_of_member (bytes key_bytes) S content q f (Member-from_leaf_in S f.0 f.1 alone.1) (begins-from_Begins (key_bytes f.1.0) q b))
+
+      pub not_front : (Begins (key_bytes f.1.0) q → ⊥) → None ≡ front_of (bytes key_bytes) S q
+      not_front off = sym (front_of_no_key key_bytes S content distinct q (only_not (keys_in key_bytes S) q f.0 alone.0 (key_bytes f.1.0) (key_of_pair key_bytes S f.0 f.1 alone.1) off))
 
 -- a list is the text that it is
 pointwise-itself : (xs : List ℕ) → pointwise eqb xs xs ≡ true

@@ -1,21 +1,12 @@
 -- What holds of lists of numbered pairs.
-use Rattle.std.proofs.Common.{◌≡◌, ◌≢◌, ℕ, ◌+◌, List, [], ◌∷◌, ◌++◌, length, map, refl, sym, ap, subst, ◌∙◌, Option, Some, None, IsSome, Bool, true, false, cond, eqb, inl, inr, arith}
+use Rattle.std.proofs.Common.{◌≡◌, ◌≢◌, ℕ, ◌+◌, List, [], ◌∷◌, ◌++◌, length, map, refl, sym, ap, subst, ◌∙◌, Option, Some, None, IsSome, Bool, true, false, cond, eqb, eq-eqb, inl, inr, arith}
 use Rattle.std.specs.Prelude.{option_map, IfSome}
 use Rattle.std.specs.Option.{option_or}
+use Rattle.std.proofs.lemmas.Bool.{ne_eqb}
 use Rattle.std.proofs.lemmas.Bool.Decides.{eqb_tells}
 use Rattle.blart_keys.proofs.RankLemmas.{Member}
 use Rattle.art_tree.specs.Leaves.{Numbered, leaf_in, Has, first_number, last_number, number_after, number_before, number_before_from, behind, placed_behind, without_number, with_pair, with_value, Lacks, AreDistinct, OthersStand, keys_in}
 use Rattle.art_tree.specs.Slabs.Links.{is_at, end_with}
-
--- ---- tests on numbers
-
--- a number is itself
-pub eqb_same : (i : ℕ) → eqb i i ≡ true
-eqb_same i = elim (eqb_tells i i) [ inl e ↦ e.0 | inr e ↦ absurd (e.1 refl) ]
-
--- of two numbers, one is not the other
-pub eqb_other : (i j : ℕ) → i ≢ j → eqb i j ≡ false
-eqb_other i j n = elim (eqb_tells i j) [ inl e ↦ absurd (n e.1) | inr e ↦ e.0 ]
 
 -- nothing in reserve changes nothing
 option_or-none : {X : Type 0} (o : Option X) → option_or o None ≡ o
@@ -40,7 +31,7 @@ option_or-assoc (Some x) b c = refl
 -- two tests for different numbers may change places
 swapped : {X : Type 0} (a b j : ℕ) (x y z : X) → a ≢ b → cond (eqb a j) x (cond (eqb b j) y z) ≡ cond (eqb b j) y (cond (eqb a j) x z)
 swapped a b j x y z n = elim (eqb_tells a j) [
-  | inl t ↦ rw (t.0, eqb_other b j (λ e. n (t.1 ∙ sym e))) refl
+  | inl t ↦ rw (t.0, ne_eqb b j (λ e. n (t.1 ∙ sym e))) refl
   | inr t ↦ rw t.0 refl
 ]
 
@@ -50,7 +41,7 @@ module _ {K V : Type 0} where
   -- a number that no pair has names nothing
   pub leaf_in_lacking : (ps : List (Numbered K V)) (i : ℕ) → Lacks ps i → leaf_in ps i ≡ None
   leaf_in_lacking [] i l = refl
-  leaf_in_lacking (p ∷ ps) i l = rw (eqb_other p.0 i l.0) (leaf_in_lacking ps i l.1)
+  leaf_in_lacking (p ∷ ps) i l = rw (ne_eqb p.0 i l.0) (leaf_in_lacking ps i l.1)
 
   -- no pair has a number that names nothing
   pub Lacks-from_leaf_in : (ps : List (Numbered K V)) (i : ℕ) → leaf_in ps i ≡ None → Lacks ps i
@@ -70,12 +61,12 @@ module _ {K V : Type 0} where
 
   -- a number that the list has behind its first pair's
   pub Has-tail : (p : Numbered K V) (ps : List (Numbered K V)) (i : ℕ) → p.0 ≢ i → Has (p ∷ ps) i → Has ps i
-  Has-tail p ps i n h = rw (eqb_other p.0 i n) at h
+  Has-tail p ps i n h = rw (ne_eqb p.0 i n) at h
 
   -- a pair of the list stands under its number
   pub leaf_in-member : (ps : List (Numbered K V)) (i : ℕ) (x : K × V) → AreDistinct ps → Member (i, x) ps → leaf_in ps i ≡ Some x
   leaf_in-member [] i x d m = absurd m
-  leaf_in-member (p ∷ ps) i x d (inl e) = rw (e, eqb_same i) refl
+  leaf_in-member (p ∷ ps) i x d (inl e) = rw (e, eq-eqb i i refl) refl
   leaf_in-member (p ∷ ps) i x d (inr m) = elim (eqb_tells p.0 i) [
     | inl t ↦ (let l : Lacks ps i = subst (λ k. Lacks ps k) t.1 d.0 in let f : Some x ≡ None = sym (leaf_in-member ps i x d.1 m) ∙ leaf_in_lacking ps i l in cc)
     | inr t ↦ rw t.0 (leaf_in-member ps i x d.1 m)
@@ -95,7 +86,7 @@ module _ {K V : Type 0} where
   -- a number that no pair has is not the first
   pub is_at-first : (ps : List (Numbered K V)) (j : ℕ) → Lacks ps j → is_at (first_number ps) j ≡ false
   is_at-first [] j l = refl
-  is_at-first (p ∷ ps) j l = eqb_other p.0 j l.0
+  is_at-first (p ∷ ps) j l = ne_eqb p.0 j l.0
 
   -- nor does it stand behind another
   pub is_at-after : (ps : List (Numbered K V)) (i j : ℕ) → Lacks ps j → is_at (number_after ps i) j ≡ false
@@ -113,7 +104,7 @@ module _ {K V : Type 0} where
   -- nor is it one that the list has
   pub is_at-has : (o : Option ℕ) (ps : List (Numbered K V)) (j : ℕ) → IfSome o (Has ps) → Lacks ps j → is_at o j ≡ false
   is_at-has None ps j h l = refl
-  is_at-has (Some i) ps j h l = eqb_other i j (has_other ps i j h l)
+  is_at-has (Some i) ps j h l = ne_eqb i j (has_other ps i j h l)
 
   -- ---- the list split at a number
 
@@ -155,18 +146,18 @@ module _ {K V : Type 0} where
   module _ (i : ℕ) (x : K × V) (after : List (Numbered K V)) where
     -- the number at the split names the pair there
     pub leaf_in-split : (before : List (Numbered K V)) → Lacks before i → leaf_in (before ++ (i, x) ∷ after) i ≡ Some x
-    leaf_in-split [] l = rw (eqb_same i) refl
-    leaf_in-split (q ∷ before) l = rw (eqb_other q.0 i l.0) (leaf_in-split before l.1)
+    leaf_in-split [] l = rw (eq-eqb i i refl) refl
+    leaf_in-split (q ∷ before) l = rw (ne_eqb q.0 i l.0) (leaf_in-split before l.1)
 
     -- the number behind is the first of those behind
     pub number_after-split : (before : List (Numbered K V)) → Lacks before i → number_after (before ++ (i, x) ∷ after) i ≡ first_number after
-    number_after-split [] l = rw (eqb_same i) refl
-    number_after-split (q ∷ before) l = rw (eqb_other q.0 i l.0) (number_after-split before l.1)
+    number_after-split [] l = rw (eq-eqb i i refl) refl
+    number_after-split (q ∷ before) l = rw (ne_eqb q.0 i l.0) (number_after-split before l.1)
 
     -- the number before is the last of those before, or else the start
     number_before_from-split : (b : Option ℕ) (before : List (Numbered K V)) → Lacks before i → number_before_from b (before ++ (i, x) ∷ after) i ≡ option_or (last_number before) b
-    number_before_from-split b [] l = rw (eqb_same i) refl
-    number_before_from-split b (q ∷ before) l = rw (eqb_other q.0 i l.0, last_number-cons q before, option_or-some (last_number before) b q.0) (number_before_from-split (Some q.0) before l.1)
+    number_before_from-split b [] l = rw (eq-eqb i i refl) refl
+    number_before_from-split b (q ∷ before) l = rw (ne_eqb q.0 i l.0, last_number-cons q before, option_or-some (last_number before) b q.0) (number_before_from-split (Some q.0) before l.1)
 
     -- the number before is the last of those before
     pub number_before-split : (before : List (Numbered K V)) → Lacks before i → number_before (before ++ (i, x) ∷ after) i ≡ last_number before
@@ -174,18 +165,18 @@ module _ {K V : Type 0} where
 
     -- without the pair at the split
     pub without_number-split : (before : List (Numbered K V)) → Lacks before i → without_number (before ++ (i, x) ∷ after) i ≡ before ++ after
-    without_number-split [] l = rw (eqb_same i) refl
-    without_number-split (q ∷ before) l = rw (eqb_other q.0 i l.0) (ap (λ s. q ∷ s) (without_number-split before l.1))
+    without_number-split [] l = rw (eq-eqb i i refl) refl
+    without_number-split (q ∷ before) l = rw (ne_eqb q.0 i l.0) (ap (λ s. q ∷ s) (without_number-split before l.1))
 
     -- with another pair at the split
     pub with_pair-split : (y : K × V) (before : List (Numbered K V)) → Lacks before i → with_pair (before ++ (i, x) ∷ after) i y ≡ before ++ (i, y) ∷ after
-    with_pair-split y [] l = rw (eqb_same i) refl
-    with_pair-split y (q ∷ before) l = rw (eqb_other q.0 i l.0) (ap (λ s. q ∷ s) (with_pair-split y before l.1))
+    with_pair-split y [] l = rw (eq-eqb i i refl) refl
+    with_pair-split y (q ∷ before) l = rw (ne_eqb q.0 i l.0) (ap (λ s. q ∷ s) (with_pair-split y before l.1))
 
     -- with another value at the split
     pub with_value-split : (v : V) (before : List (Numbered K V)) → Lacks before i → with_value (before ++ (i, x) ∷ after) i v ≡ before ++ (i, (x.0, v)) ∷ after
-    with_value-split v [] l = rw (eqb_same i) refl
-    with_value-split v (q ∷ before) l = rw (eqb_other q.0 i l.0) (ap (λ s. q ∷ s) (with_value-split v before l.1))
+    with_value-split v [] l = rw (eq-eqb i i refl) refl
+    with_value-split v (q ∷ before) l = rw (ne_eqb q.0 i l.0) (ap (λ s. q ∷ s) (with_value-split v before l.1))
 
   -- ---- a pair more
 
@@ -200,11 +191,11 @@ module _ {K V : Type 0} where
 
   -- the new pair stands under its number
   pub leaf_in-placed_now : (o : Option ℕ) (x : Numbered K V) (ps : List (Numbered K V)) → IfSome o (Has ps) → Lacks ps x.0 → leaf_in (placed_behind o x ps) x.0 ≡ Some x.1
-  leaf_in-placed_now o x ps h l = leaf_in-placed_behind o x ps x.0 h l ∙ rw (eqb_same x.0) refl
+  leaf_in-placed_now o x ps h l = leaf_in-placed_behind o x ps x.0 h l ∙ rw (eq-eqb x.0 x.0 refl) refl
 
   -- every other number names what it named
   pub others-placed_behind : (o : Option ℕ) (x : Numbered K V) (ps : List (Numbered K V)) → IfSome o (Has ps) → Lacks ps x.0 → OthersStand ps (placed_behind o x ps) x.0
-  others-placed_behind o x ps h l j n = leaf_in-placed_behind o x ps j h l ∙ rw (eqb_other x.0 j (λ e. n (sym e))) refl
+  others-placed_behind o x ps h l j n = leaf_in-placed_behind o x ps j h l ∙ rw (ne_eqb x.0 j (λ e. n (sym e))) refl
 
   -- a number that is not the new one is lacking still
   pub Lacks-placed_behind : (o : Option ℕ) (x : Numbered K V) (ps : List (Numbered K V)) (j : ℕ) → Lacks ps j → x.0 ≢ j → Lacks (placed_behind o x ps) j
@@ -261,11 +252,11 @@ module _ {K V : Type 0} where
   number_after-placed_behind (Some i) x [] j h l = absurd (let f : false ≡ true = h in cc)
   number_after-placed_behind (Some i) x (p ∷ ps) j h l = elim (eqb_tells p.0 i) [
     | inl t ↦ rw (t.0, ← t.1) (elim (eqb_tells p.0 j) [
-      | inl u ↦ rw (u.0, eqb_other x.0 j (λ e. l.0 (u.1 ∙ sym e))) refl
+      | inl u ↦ rw (u.0, ne_eqb x.0 j (λ e. l.0 (u.1 ∙ sym e))) refl
       | inr u ↦ rw u.0 refl
     ])
     | inr t ↦ rw t.0 (elim (eqb_tells p.0 j) [
-      | inl u ↦ rw (u.0, eqb_other x.0 j (λ e. l.0 (u.1 ∙ sym e)), eqb_other i j (λ e. t.1 (u.1 ∙ sym e))) (first_number-placed_behind (Some i) x ps)
+      | inl u ↦ rw (u.0, ne_eqb x.0 j (λ e. l.0 (u.1 ∙ sym e)), ne_eqb i j (λ e. t.1 (u.1 ∙ sym e))) (first_number-placed_behind (Some i) x ps)
       | inr u ↦ rw u.0 (number_after-placed_behind (Some i) x ps j (Has-tail p ps i t.1 h) l.1)
     ])
   ]
@@ -278,23 +269,23 @@ module _ {K V : Type 0} where
   -- nothing stands before a number that no pair has
   pub number_before-lacking : (b : Option ℕ) (ps : List (Numbered K V)) (j : ℕ) → Lacks ps j → number_before_from b ps j ≡ None
   number_before-lacking b [] j l = refl
-  number_before-lacking b (p ∷ ps) j l = rw (eqb_other p.0 j l.0) (number_before-lacking (Some p.0) ps j l.1)
+  number_before-lacking b (p ∷ ps) j l = rw (ne_eqb p.0 j l.0) (number_before-lacking (Some p.0) ps j l.1)
 
   -- nothing stands behind a number that no pair has
   pub number_after-lacking : (ps : List (Numbered K V)) (j : ℕ) → Lacks ps j → number_after ps j ≡ None
   number_after-lacking [] j l = refl
-  number_after-lacking (p ∷ ps) j l = rw (eqb_other p.0 j l.0) (number_after-lacking ps j l.1)
+  number_after-lacking (p ∷ ps) j l = rw (ne_eqb p.0 j l.0) (number_after-lacking ps j l.1)
 
   -- the number before each, from a start on, after a pair was placed behind a number
   before_placed : (b : Option ℕ) (i : ℕ) (x : Numbered K V) (ps : List (Numbered K V)) (j : ℕ) → Has ps i → Lacks ps x.0 → AreDistinct ps → number_before_from b (placed_behind (Some i) x ps) j ≡ cond (eqb x.0 j) (Some i) (cond (is_at (number_after ps i) j) (Some x.0) (number_before_from b ps j))
   before_placed b i x [] j h l d = absurd (let f : false ≡ true = h in cc)
   before_placed b i x (p ∷ ps) j h l d = elim (eqb_tells p.0 i) [
     | inl t ↦ rw (t.0, ← t.1) (elim (eqb_tells p.0 j) [
-      | inl u ↦ (let m : Lacks ps j = subst (λ k. Lacks ps k) u.1 d.0 in rw (u.0, eqb_other x.0 j (λ e. l.0 (u.1 ∙ sym e)), is_at-first ps j m) refl)
+      | inl u ↦ (let m : Lacks ps j = subst (λ k. Lacks ps k) u.1 d.0 in rw (u.0, ne_eqb x.0 j (λ e. l.0 (u.1 ∙ sym e)), is_at-first ps j m) refl)
       | inr u ↦ rw u.0 (ap (cond (eqb x.0 j) (Some p.0)) (number_before_from-start (Some x.0) (Some p.0) ps j))
     ])
     | inr t ↦ rw t.0 (elim (eqb_tells p.0 j) [
-      | inl u ↦ (let m : Lacks ps j = subst (λ k. Lacks ps k) u.1 d.0 in rw (u.0, eqb_other x.0 j (λ e. l.0 (u.1 ∙ sym e)), is_at-after ps i j m) refl)
+      | inl u ↦ (let m : Lacks ps j = subst (λ k. Lacks ps k) u.1 d.0 in rw (u.0, ne_eqb x.0 j (λ e. l.0 (u.1 ∙ sym e)), is_at-after ps i j m) refl)
       | inr u ↦ rw u.0 (before_placed (Some p.0) i x ps j (Has-tail p ps i t.1 h) l.1 d.1)
     ])
   ]
@@ -319,7 +310,7 @@ module _ {K V : Type 0} where
 
   -- every other number names what it named
   pub others-without_number : (ps : List (Numbered K V)) (i : ℕ) → AreDistinct ps → OthersStand ps (without_number ps i) i
-  others-without_number ps i d j n = leaf_in-without_number ps i j d ∙ rw (eqb_other i j (λ e. n (sym e))) refl
+  others-without_number ps i d j n = leaf_in-without_number ps i j d ∙ rw (ne_eqb i j (λ e. n (sym e))) refl
 
   -- a number that was lacking is lacking still
   pub Lacks-without_number : (ps : List (Numbered K V)) (i j : ℕ) → Lacks ps j → Lacks (without_number ps i) j
@@ -331,7 +322,7 @@ module _ {K V : Type 0} where
 
   -- the number is gone
   pub Lacks-without_now : (ps : List (Numbered K V)) (i : ℕ) → AreDistinct ps → Lacks (without_number ps i) i
-  Lacks-without_now ps i d = Lacks-from_leaf_in (without_number ps i) i (leaf_in-without_number ps i i d ∙ rw (eqb_same i) refl)
+  Lacks-without_now ps i d = Lacks-from_leaf_in (without_number ps i) i (leaf_in-without_number ps i i d ∙ rw (eq-eqb i i refl) refl)
 
   -- the numbers are distinct still
   pub AreDistinct-without_number : (ps : List (Numbered K V)) (i : ℕ) → AreDistinct ps → AreDistinct (without_number ps i)
@@ -393,21 +384,21 @@ module _ {K V : Type 0} where
   start_before_first : (ps : List (Numbered K V)) (i a : ℕ) → Lacks ps a → is_at (number_before_from (Some a) ps i) a ≡ is_at (first_number ps) i
   start_before_first [] i a l = refl
   start_before_first (p ∷ ps) i a l = elim (eqb_tells p.0 i) [
-    | inl t ↦ rw t.0 (eqb_same a)
+    | inl t ↦ rw t.0 (eq-eqb a a refl)
     | inr t ↦ rw t.0 (no_start p.0 ps i a l.0 l.1)
   ]
     where
       no_start : (b : ℕ) (ps : List (Numbered K V)) (i a : ℕ) → b ≢ a → Lacks ps a → is_at (number_before_from (Some b) ps i) a ≡ false
       no_start b [] i a n l = refl
       no_start b (p ∷ ps) i a n l = elim (eqb_tells p.0 i) [
-        | inl t ↦ rw t.0 (eqb_other b a n)
+        | inl t ↦ rw t.0 (ne_eqb b a n)
         | inr t ↦ rw t.0 (no_start p.0 ps i a l.0 l.1)
       ]
 
   -- another start changes no test for another number
   other_start : (ps : List (Numbered K V)) (i j a : ℕ) → a ≢ j → is_at (number_before_from (Some a) ps i) j ≡ is_at (number_before_from None ps i) j
   other_start [] i j a n = refl
-  other_start (p ∷ ps) i j a n = elim (eqb_tells p.0 i) [ inl t ↦ rw t.0 (eqb_other a j n) | inr t ↦ rw t.0 refl ]
+  other_start (p ∷ ps) i j a n = elim (eqb_tells p.0 i) [ inl t ↦ rw t.0 (ne_eqb a j n) | inr t ↦ rw t.0 refl ]
 
   -- the number behind each, after one was taken out
   pub number_after-without_number : (ps : List (Numbered K V)) (i j : ℕ) → AreDistinct ps → number_after (without_number ps i) j ≡ cond (eqb i j) None (cond (is_at (number_before ps i) j) (number_after ps i) (number_after ps j))
@@ -418,7 +409,7 @@ module _ {K V : Type 0} where
       | inr u ↦ rw u.0 refl
     ])
     | inr t ↦ rw t.0 (elim (eqb_tells p.0 j) [
-      | inl u ↦ (let m : Lacks ps p.0 = d.0 in rw (u.0, ← u.1, eqb_other i p.0 (λ e. t.1 (sym e)), start_before_first ps i p.0 m) (first_without ps i))
+      | inl u ↦ (let m : Lacks ps p.0 = d.0 in rw (u.0, ← u.1, ne_eqb i p.0 (λ e. t.1 (sym e)), start_before_first ps i p.0 m) (first_without ps i))
       | inr u ↦ rw (u.0, other_start ps i j p.0 u.1) (number_after-without_number ps i j d.1)
     ])
   ]
@@ -432,7 +423,7 @@ module _ {K V : Type 0} where
       | inr u ↦ rw u.0 (number_before_from-start b (Some p.0) ps j)
     ])
     | inr t ↦ rw t.0 (elim (eqb_tells p.0 j) [
-      | inl u ↦ (let m : Lacks ps j = subst (λ k. Lacks ps k) u.1 d.0 in rw (u.0, eqb_other i j (λ e. t.1 (u.1 ∙ sym e)), is_at-after ps i j m) refl)
+      | inl u ↦ (let m : Lacks ps j = subst (λ k. Lacks ps k) u.1 d.0 in rw (u.0, ne_eqb i j (λ e. t.1 (u.1 ∙ sym e)), is_at-after ps i j m) refl)
       | inr u ↦ rw u.0 (before_without (Some p.0) ps i j d.1)
     ])
   ]
@@ -515,14 +506,14 @@ module _ {K V : Type 0} where
   leaf_in-with_pair (p ∷ ps) i y j = elim (eqb_tells p.0 i) [
     | inl t ↦ rw (t.0, ← t.1) (elim (eqb_tells p.0 j) [ inl u ↦ rw u.0 refl | inr u ↦ rw u.0 refl ])
     | inr t ↦ rw t.0 (elim (eqb_tells p.0 j) [
-      | inl u ↦ rw (u.0, eqb_other i j (λ e. t.1 (u.1 ∙ sym e))) refl
+      | inl u ↦ rw (u.0, ne_eqb i j (λ e. t.1 (u.1 ∙ sym e))) refl
       | inr u ↦ rw u.0 (leaf_in-with_pair ps i y j)
     ])
   ]
 
   -- the number names the new pair
   pub leaf_in-with_now : (ps : List (Numbered K V)) (i : ℕ) (y : K × V) → Has ps i → leaf_in (with_pair ps i y) i ≡ Some y
-  leaf_in-with_now ps i y h = leaf_in-with_pair ps i y i ∙ rw (eqb_same i) (always y (leaf_in ps i) h)
+  leaf_in-with_now ps i y h = leaf_in-with_pair ps i y i ∙ rw (eq-eqb i i refl) (always y (leaf_in ps i) h)
     where
       always : (y : K × V) (o : Option (K × V)) → IsSome o → option_map (λ _. y) o ≡ Some y
       always y None s = absurd (let f : false ≡ true = s in cc)
@@ -530,7 +521,7 @@ module _ {K V : Type 0} where
 
   -- every other number names what it named
   pub others-with_pair : (ps : List (Numbered K V)) (i : ℕ) (y : K × V) → OthersStand ps (with_pair ps i y) i
-  others-with_pair ps i y j n = leaf_in-with_pair ps i y j ∙ rw (eqb_other i j (λ e. n (sym e))) refl
+  others-with_pair ps i y j n = leaf_in-with_pair ps i y j ∙ rw (ne_eqb i j (λ e. n (sym e))) refl
 
   -- the numbers stand
   pub numbers-with_pair : (ps : List (Numbered K V)) (i : ℕ) (y : K × V) → map (λ p. p.0) (with_pair ps i y) ≡ map (λ p. p.0) ps
@@ -554,7 +545,7 @@ module _ {K V : Type 0} where
   leaf_in-with_value (p ∷ ps) i v j = elim (eqb_tells p.0 i) [
     | inl t ↦ rw (t.0, ← t.1) (elim (eqb_tells p.0 j) [ inl u ↦ rw u.0 refl | inr u ↦ rw u.0 refl ])
     | inr t ↦ rw t.0 (elim (eqb_tells p.0 j) [
-      | inl u ↦ rw (u.0, eqb_other i j (λ e. t.1 (u.1 ∙ sym e))) refl
+      | inl u ↦ rw (u.0, ne_eqb i j (λ e. t.1 (u.1 ∙ sym e))) refl
       | inr u ↦ rw u.0 (leaf_in-with_value ps i v j)
     ])
   ]
@@ -582,13 +573,13 @@ module _ {K V : Type 0} where
   is_at-before b [] i j n l = refl
   is_at-before b (p ∷ ps) i j n l = elim (eqb_tells p.0 i) [
     | inl t ↦ rw t.0 n
-    | inr t ↦ rw t.0 (is_at-before (Some p.0) ps i j (eqb_other p.0 j l.0) l.1)
+    | inr t ↦ rw t.0 (is_at-before (Some p.0) ps i j (ne_eqb p.0 j l.0) l.1)
   ]
 
   -- nor is it the last
   is_at-last : (ps : List (Numbered K V)) (j : ℕ) → Lacks ps j → is_at (last_number ps) j ≡ false
   is_at-last [] j l = refl
-  is_at-last (p ∷ []) j l = eqb_other p.0 j l.0
+  is_at-last (p ∷ []) j l = ne_eqb p.0 j l.0
   is_at-last (p ∷ q ∷ ps) j l = is_at-last (q ∷ ps) j l.1
 
   -- a number is one that the list has, if it stands where none that is lacking does
@@ -600,7 +591,7 @@ module _ {K V : Type 0} where
       go None f =
           let g : is_at o j ≡ false = off (Lacks-from_leaf_in ps j f) in
           let k : eqb j j ≡ false = rw e at g in
-          let m : eqb j j ≡ true = eqb_same j in
+          let m : eqb j j ≡ true = eq-eqb j j refl in
           absurd (cc)
 
   -- the list has the number behind another

@@ -1,13 +1,14 @@
 -- What holds of linked leaf records.
-use Rattle.std.proofs.Common.{◌≡◌, ◌≢◌, ℕ, ◌+◌, ◌-◌, List, [], ◌∷◌, length, map, refl, sym, ap, subst, ◌∙◌, Option, Some, None, IsSome, Bool, true, false, cond, eqb, inl, inr, arith}
+use Rattle.std.proofs.Common.{eq-eqb, ◌≡◌, ◌≢◌, ℕ, ◌+◌, ◌-◌, List, [], ◌∷◌, length, map, refl, sym, ap, subst, ◌∙◌, Option, Some, None, IsSome, Bool, true, false, cond, eqb, inl, inr, arith}
 use Rattle.std.specs.Prelude.{option_map, IfSome}
 use Rattle.std.proofs.lemmas.Bool.Decides.{eqb_tells}
+use Rattle.std.proofs.lemmas.Bool.{ne_eqb}
 use Rattle.art_tree.specs.Leaves.{Numbered, Leaves, leaf_in, Has, first_number, number_after, number_before, behind, placed_behind, without_number, with_pair, with_value, Lacks, AreDistinct}
 use Rattle.art_tree.specs.Slabs.Links.{is_at, end_with, follow, leaf_record, Links, AllLinked, pairs_in, content, with_next, with_prev}
 use Rattle.art_tree.specs.Slabs.Store.{Store, slot_at, used_count, with_record}
 use Rattle.art_tree.specs.declared.records.leaves.Leaf.{Leaf}
 use Rattle.art_tree.proofs.Slabs.Slots.{with-now, with-others, with-count}
-use Rattle.art_tree.proofs.Pairs.Numbers.{eqb_same, eqb_other, has_other, Lacks-from_leaf_in, is_at-behind, is_at-has, leaf_in-placed_behind, number_after-placed_behind, number_before-placed_behind, AreDistinct-placed_behind, first_number-placed_behind, last_number-placed_behind, length-placed_behind, leaf_in-without_number, number_after-without_number, number_before-without_number, AreDistinct-without_number, first_number-without_number, last_number-without_number, length-without_number, Has-before, Has-behind, leaf_in-with_pair, leaf_in-with_now, numbers-with_pair, before_other, after_other, with_value-pair, same_first, same_last, same_after, same_before, same_distinct, same_length}
+use Rattle.art_tree.proofs.Pairs.Numbers.{has_other, Lacks-from_leaf_in, is_at-behind, is_at-has, leaf_in-placed_behind, number_after-placed_behind, number_before-placed_behind, AreDistinct-placed_behind, first_number-placed_behind, last_number-placed_behind, length-placed_behind, leaf_in-without_number, number_after-without_number, number_before-without_number, AreDistinct-without_number, first_number-without_number, last_number-without_number, length-without_number, Has-before, Has-behind, leaf_in-with_pair, leaf_in-with_now, numbers-with_pair, before_other, after_other, with_value-pair, same_first, same_last, same_after, same_before, same_distinct, same_length}
 
 module _ {K V : Type 0} (leaves : ℕ → Option (Leaf K V)) where
   -- the record of a number is that of its pair, linked to a next one
@@ -17,7 +18,7 @@ module _ {K V : Type 0} (leaves : ℕ → Option (Leaf K V)) where
   -- the same of the pairs behind the first
   IsLinked-tail : (p : Numbered K V) (ps : List (Numbered K V)) → Lacks ps p.0 → IsLinked (p ∷ ps) → IsLinked ps
   IsLinked-tail p ps l h i has =
-      let n : eqb p.0 i ≡ false = eqb_other p.0 i (λ e. has_other ps i p.0 has l (sym e)) in
+      let n : eqb p.0 i ≡ false = ne_eqb p.0 i (λ e. has_other ps i p.0 has l (sym e)) in
       let g : Has (p ∷ ps) i = rw n has in
       let y = h i g in
       (y.0, y.1, rw n at y.2, rw n at y.3)
@@ -26,7 +27,7 @@ module _ {K V : Type 0} (leaves : ℕ → Option (Leaf K V)) where
   follow_linked : (ps : List (Numbered K V)) → AreDistinct ps → IsLinked ps → follow leaves (length ps) (first_number ps) ≡ ps
   follow_linked [] d h = refl
   follow_linked (p ∷ ps) d h =
-      let s : eqb p.0 p.0 ≡ true = eqb_same p.0 in
+      let s : eqb p.0 p.0 ≡ true = eq-eqb p.0 p.0 refl in
       let g : Has (p ∷ ps) p.0 = rw s refl in
       let y = h p.0 g in
       let e : Some p.1 ≡ Some (y.0.key, y.0.value) = rw s at y.2 in
@@ -147,13 +148,13 @@ module _ {K V : Type 0} where
       -- the new record
       inserted_now : prev_set n ≡ leaf_record (placed_behind o (n, x) ps) n
       inserted_now =
-          rw (prevs n, is_at-behind o ps n lacks_new, nexts n, is_at-has o ps n has lacks_new, is_made, leaf_in-placed_behind o (n, x) ps n has lacks_new, number_after-placed_behind o (n, x) ps n has lacks_new, number_before-placed_behind o (n, x) ps n has lacks_new l.distinct, eqb_same n)
+          rw (prevs n, is_at-behind o ps n lacks_new, nexts n, is_at-has o ps n has lacks_new, is_made, leaf_in-placed_behind o (n, x) ps n has lacks_new, number_after-placed_behind o (n, x) ps n has lacks_new, number_before-placed_behind o (n, x) ps n has lacks_new l.distinct, eq-eqb n n refl)
           refl
 
       -- the other records
       inserted_other : (j : ℕ) → n ≢ j → prev_set j ≡ leaf_record (placed_behind o (n, x) ps) j
       inserted_other j ne =
-          rw (prevs j, nexts j, rest j (λ e. ne (sym e)), l.each j, leaf_in-placed_behind o (n, x) ps j has lacks_new, number_after-placed_behind o (n, x) ps j has lacks_new, number_before-placed_behind o (n, x) ps j has lacks_new l.distinct, eqb_other n j ne)
+          rw (prevs j, nexts j, rest j (λ e. ne (sym e)), l.each j, leaf_in-placed_behind o (n, x) ps j has lacks_new, number_after-placed_behind o (n, x) ps j has lacks_new, number_before-placed_behind o (n, x) ps j has lacks_new l.distinct, ne_eqb n j ne)
           (relinked (leaf_in ps j) (number_before ps j) (number_after ps j) (Some n) (Some n) (is_at (behind o ps) j) (is_at o j))
 
       -- a new record, linked to its neighbours
@@ -169,7 +170,7 @@ module _ {K V : Type 0} where
     module _ (i : ℕ) (has : Has ps i) (taken next_set prev_set : ℕ → Option (Leaf K V)) (gone : taken i ≡ None) (rest : (j : ℕ) → j ≢ i → taken j ≡ leaves j) (prev next : Option ℕ) (is_prev : prev ≡ number_before ps i) (is_next : next ≡ number_after ps i) (nexts : (j : ℕ) → next_set j ≡ with_next taken prev next j) (prevs : (j : ℕ) → prev_set j ≡ with_prev next_set next prev j) where
       -- the record that is gone
       removed_now : prev_set i ≡ leaf_record (without_number ps i) i
-      removed_now = rw (prevs i, nexts i, gone, leaf_in-without_number ps i i l.distinct, eqb_same i) (none_set (is_at next i) (is_at prev i))
+      removed_now = rw (prevs i, nexts i, gone, leaf_in-without_number ps i i l.distinct, eq-eqb i i refl) (none_set (is_at next i) (is_at prev i))
         where
           none_set : (a b : Bool) → cond a (option_map (λ (x : Leaf K V). let y : Leaf K V = record x { prev = prev } in y) (cond b None None)) (cond b None None) ≡ None
           none_set true true = refl
@@ -180,7 +181,7 @@ module _ {K V : Type 0} where
       -- the other records
       removed_other : (j : ℕ) → i ≢ j → prev_set j ≡ leaf_record (without_number ps i) j
       removed_other j ne =
-          rw (prevs j, nexts j, rest j (λ e. ne (sym e)), l.each j, leaf_in-without_number ps i j l.distinct, number_after-without_number ps i j l.distinct, number_before-without_number ps i j l.distinct, eqb_other i j ne, ← is_prev, ← is_next)
+          rw (prevs j, nexts j, rest j (λ e. ne (sym e)), l.each j, leaf_in-without_number ps i j l.distinct, number_after-without_number ps i j l.distinct, number_before-without_number ps i j l.distinct, ne_eqb i j ne, ← is_prev, ← is_next)
           (relinked (leaf_in ps j) (number_before ps j) (number_after ps j) prev next (is_at next j) (is_at prev j))
 
       -- a record gone, its neighbours linked
@@ -208,7 +209,7 @@ module _ {K V : Type 0} where
       -- the other records
       changed_other : (j : ℕ) → i ≢ j → changed j ≡ leaf_record (with_pair ps i y) j
       changed_other j ne =
-          rw (rest j (λ e. ne (sym e)), l.each j, leaf_in-with_pair ps i y j, eqb_other i j ne, same_before None (with_pair ps i y) ps j same_numbers, same_after (with_pair ps i y) ps j same_numbers) refl
+          rw (rest j (λ e. ne (sym e)), l.each j, leaf_in-with_pair ps i y j, ne_eqb i j ne, same_before None (with_pair ps i y) ps j same_numbers, same_after (with_pair ps i y) ps j same_numbers) refl
 
       -- another pair in a record
       pub links_changed : Links changed first last len (with_pair ps i y)
@@ -233,7 +234,7 @@ module _ {K V : Type 0} where
     -- a number other than the one taken out has its record
     left : (o : Option ℕ) (i : ℕ) (taken : ℕ → Option (Leaf K V)) → is_at o i ≡ false → ((j : ℕ) → j ≢ i → taken j ≡ leaves j) → IfSome o (λ j. IsSome (leaves j)) → IfSome o (λ j. IsSome (taken j))
     left None i taken n rest h = tt
-    left (Some j) i taken n rest h = rw (rest j (λ e. let a : eqb j i ≡ true = rw e (eqb_same i) in let b : true ≡ false = sym a ∙ n in cc)) h
+    left (Some j) i taken n rest h = rw (rest j (λ e. let a : eqb j i ≡ true = rw e (eq-eqb i i refl) in let b : true ≡ false = sym a ∙ n in cc)) h
 
     -- where a record is taken out, the leaf before it has its own
     pub left_before : (i : ℕ) (taken : ℕ → Option (Leaf K V)) → Has ps i → ((j : ℕ) → j ≢ i → taken j ≡ leaves j) → IfSome (number_before ps i) (λ j. IsSome (taken j))

@@ -1,7 +1,8 @@
 -- What the ways down a tree find.
-use Rattle.std.specs.Prelude.{◌≡◌, ◌≢◌, ℕ, Bool, true, false, ◌+◌, ◌<◌, ◌≤◌, ◌⊎◌, length, slice_index, Option, Some, None, IsSome}
+use Rattle.std.specs.Prelude.{◌≡◌, ◌≢◌, ℕ, Bool, true, false, ◌+◌, ◌<◌, ◌≤◌, ◌⊎◌, length, slice_index, List, Option, Some, None, IsSome}
 use Rattle.blart_keys.specs.Bytes.{common, PartsBelow}
 use Rattle.art_tree.specs.Begins.{Bytes, Begins}
+use Rattle.art_tree.specs.Leaves.{Numbered, leaf_in, keys_in}
 use Rattle.art_tree.specs.Slabs.Edges.{child_at}
 use Rattle.art_tree.specs.Slabs.Nodes.{Node}
 use Rattle.art_tree.specs.Invariant.Shape.{Shape, Covers}
@@ -101,3 +102,8 @@ module _ (keys : ℕ → Option Bytes) (q : Bytes) where
   abbrev pub GoesTo : ℕ → ℕ → Option ℕ → Type 0
   GoesTo old new None = NoFront × (new ≤ old + length q + 1)
   GoesTo old new (Some i) = IsOnlyFront i × (new ≤ old + length q)
+
+-- no key begins q, or this pair's key alone may
+abbrev pub IsFrontAlone : {K V : Type 0} → (K → List ℕ) → List (Numbered K V) → Bytes → Option (ℕ × (K × V)) → Type 0
+IsFrontAlone key_bytes pairs q None = NoFront (keys_in key_bytes pairs) q
+IsFrontAlone key_bytes pairs q (Some f) = IsOnlyFront (keys_in key_bytes pairs) q f.0 × (leaf_in pairs f.0 ≡ Some f.1)

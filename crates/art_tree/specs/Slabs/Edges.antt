@@ -18,12 +18,12 @@ abbrev pub Ascends : List Edge → Type 0
 Ascends [] = Unit {0}
 Ascends (e ∷ es) = AscendsAbove e.byte es
 
--- the edges with one more, carried along until a greater one gives way
+-- the edges with one more, before the first greater one; where they ascend, each greater one stands a place further
 abbrev pub edges_with : List Edge → Edge → List Edge
 edges_with [] e = e ∷ []
 edges_with (x ∷ xs) e = cond (ltb e.byte x.byte) (e ∷ edges_with xs x) (x ∷ edges_with xs e)
 
--- the edges closed up from a byte on
+-- the edges but the one at a byte; where they ascend, each greater one stands a place further up front
 abbrev pub edges_without_from : Edge → List Edge → ℕ → List Edge
 edges_without_from x [] b = []
 edges_without_from x (y ∷ ys) b = cond (leb b x.byte) y x ∷ edges_without_from y ys b

@@ -45,11 +45,11 @@ MoreSpares old new = old.spare ≤ new.spare
 abbrev pub FitsNew : Nodes → Type 0
 FitsNew s = 0 < s.spare
 
--- the node has a place for one child more, or there is a spare record of a larger kind
+-- the node has a place for one child more, or there is a spare record of a larger kind. Nodes of one kind have a place for every byte: so it always is
 abbrev pub FitsMore : Nodes → ℕ → Type 0
 FitsMore s id = Unit {0}
 
--- the node under a number has a place for one child more, at a byte that it lacks
+-- the node under a number has a place for one child more, at a byte that it lacks. Nodes of one kind have one for every byte
 abbrev pub HasPlace : Nodes → ℕ → Type 0
 HasPlace s id = Unit {0}
 

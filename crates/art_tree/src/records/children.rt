@@ -155,7 +155,8 @@ fn before_in(edges: &[Edge], byte: u8) -> Option<Edge>
 // Puts an edge among the first so many.
 fn insert_in(edges: &mut [Edge], count: usize, byte: u8, to: Child)
     requires { count < length edges.old }
-    ensures { take (count + 1) edges.new ≡ edges_with (take count edges.old) (record { byte = byte; to = to }) }
+    ensures { take (count + 1) edges.new
+        ≡ edges_with (take count edges.old) (record { byte = byte; to = to }) }
 {
     let mut fresh = Edge { byte, to };
     for i in 0..count {

@@ -188,7 +188,7 @@ impl<const P: usize> Nodes<P> {
         }
     }
 
-    /// Sees to a place for one edge more. Answers the number that the node has then.
+    /// Sees to a place for one edge more. Answers the number that the node has then, which is the same one while there is one kind of node.
     pub(crate) fn widen(&mut self, id: NodeId) -> NodeId
         requires live { IsSome (at self.old id) }
         requires fits { FitsMore self.old id }
@@ -274,7 +274,7 @@ impl<const P: usize> Nodes<P> {
         self.reserve(1)
     }
 
-    /// Sees to what `widen` needs for a node. The nodes stand where there is no memory.
+    /// Sees to what `widen` needs for a node. The nodes stand where there is no memory. Nodes of one kind have a place for every byte, so nothing is asked for.
     pub(crate) fn make_room_for_edge(&mut self, id: NodeId) -> Result<(), AllocError>
         requires { IsSome (at self.old id) }
         ensures same { SameNodes self.old self.new }

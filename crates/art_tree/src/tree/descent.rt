@@ -44,8 +44,10 @@ pub(crate) fn mate_of<const P: usize>(
     visits: &mut Visits,
 ) -> LeafId
     requires { IsRoot P (at nodes.now) root.now }
-    ensures mate { (keys : ℕ → Option Bytes) → Shape P keys (at nodes.now) (Some root.now) → IsMate keys query.now result }
-    ensures counted { (keys : ℕ → Option Bytes) → Shape P keys (at nodes.now) (Some root.now) → (key : Bytes) → keys result ≡ Some key
+    ensures mate { (keys : ℕ → Option Bytes) → Shape P keys (at nodes.now) (Some root.now)
+        → IsMate keys query.now result }
+    ensures counted { (keys : ℕ → Option Bytes) → Shape P keys (at nodes.now) (Some root.now)
+        → (key : Bytes) → keys result ≡ Some key
         → visits.new.count ≤ visits.old.count + length key }
     ensures grows { visits.old.count ≤ visits.new.count }
 {

@@ -49,7 +49,8 @@ pub(crate) fn parting_of<K: AsBytes, V, const P: usize>(
 ) -> Parting
     requires { IsSound K.bytes P leaves.now nodes.now (Some root.now) }
     ensures parts { IsParting K.bytes P leaves.now.pairs (at nodes.now) result query.now }
-    ensures counted { visits.new.count ≤ visits.old.count + longest (bytes K.bytes) leaves.now.pairs + length query.now + 2 }
+    ensures counted { visits.new.count
+        ≤ visits.old.count + longest (bytes K.bytes) leaves.now.pairs + length query.now + 2 }
     ensures grows { visits.old.count ≤ visits.new.count }
 {
     leaves.law();
@@ -87,7 +88,8 @@ pub(crate) fn leaf_before<K: AsBytes, V, const P: usize>(
 ) -> Option<LeafId>
     requires { LeavesAt K.bytes P leaves.now.pairs (at nodes.now) departure.now query.now }
     ensures before { IsLeafBefore (keys_in K.bytes leaves.now.pairs) query.now result }
-    ensures counted { visits.new.count ≤ visits.old.count + longest (bytes K.bytes) leaves.now.pairs + 1 }
+    ensures counted { visits.new.count
+        ≤ visits.old.count + longest (bytes K.bytes) leaves.now.pairs + 1 }
     ensures grows { visits.old.count ≤ visits.new.count }
 {
     let byte = query[departure.depth];
@@ -106,8 +108,11 @@ fn before_at_node<K: AsBytes, V, const P: usize>(
     visits: &mut Visits,
 ) -> Option<LeafId>
     requires { (q : Bytes) × LeavesAtNode K.bytes P leaves.now.pairs (at nodes.now) id.now byte q }
-    ensures before { (q : Bytes) → LeavesAtNode K.bytes P leaves.now.pairs (at nodes.now) id.now byte q → IsLeafBefore (keys_in K.bytes leaves.now.pairs) q result }
-    ensures counted { visits.new.count ≤ visits.old.count + longest (bytes K.bytes) leaves.now.pairs + 1 }
+    ensures before { (q : Bytes)
+        → LeavesAtNode K.bytes P leaves.now.pairs (at nodes.now) id.now byte q
+        → IsLeafBefore (keys_in K.bytes leaves.now.pairs) q result }
+    ensures counted { visits.new.count
+        ≤ visits.old.count + longest (bytes K.bytes) leaves.now.pairs + 1 }
     ensures grows { visits.old.count ≤ visits.new.count }
 {
     match nodes.read(*id, visits).edge_before(byte) {
@@ -125,9 +130,13 @@ fn before_at_edge<K: AsBytes, V, const P: usize>(
     byte: u8,
     visits: &mut Visits,
 ) -> Option<LeafId>
-    requires { (q : Bytes) × LeavesAtEdge K.bytes P leaves.now.pairs (at nodes.now) child.now mate_byte byte q }
-    ensures before { (q : Bytes) → LeavesAtEdge K.bytes P leaves.now.pairs (at nodes.now) child.now mate_byte byte q → IsLeafBefore (keys_in K.bytes leaves.now.pairs) q result }
-    ensures counted { visits.new.count ≤ visits.old.count + longest (bytes K.bytes) leaves.now.pairs }
+    requires { (q : Bytes)
+        × LeavesAtEdge K.bytes P leaves.now.pairs (at nodes.now) child.now mate_byte byte q }
+    ensures before { (q : Bytes)
+        → LeavesAtEdge K.bytes P leaves.now.pairs (at nodes.now) child.now mate_byte byte q
+        → IsLeafBefore (keys_in K.bytes leaves.now.pairs) q result }
+    ensures counted { visits.new.count
+        ≤ visits.old.count + longest (bytes K.bytes) leaves.now.pairs }
     ensures grows { visits.old.count ≤ visits.new.count }
 {
     if mate_byte < byte {

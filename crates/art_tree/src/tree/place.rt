@@ -41,7 +41,8 @@ pub(crate) fn place_at<K: AsBytes + Drop, V: Drop, const P: usize>(
     requires fits { Fits (content_of leaves.old nodes.old) point.now }
     ensures placed { Places K.bytes leaves.old.pairs leaves.new.pairs result.0 (key, value) }
     ensures whole { IsSound K.bytes P leaves.new nodes.new (Some result.1) }
-    ensures room { places (content_of leaves.old nodes.old) ≤ places (content_of leaves.new nodes.new) + 1 }
+    ensures room { places (content_of leaves.old nodes.old)
+        ≤ places (content_of leaves.new nodes.new) + 1 }
 {
     match point {
         Point::Empty => place_first(leaves, nodes, root, key, value),

@@ -46,7 +46,9 @@ fn unlink<K: AsBytes, V, const P: usize>(
 ) -> Option<Child>
     requires sound { IsSound K.bytes P leaves.now nodes.old (Some root.now) }
     requires has { Has leaves.now.pairs id.now }
-    ensures { (keys : ℕ → Option Bytes) (k : Bytes) → Loses (keys_in K.bytes leaves.now.pairs) keys id.now k → Shape P keys (at nodes.new) result }
+    ensures { (keys : ℕ → Option Bytes) (k : Bytes)
+        → Loses (keys_in K.bytes leaves.now.pairs) keys id.now k
+        → Shape P keys (at nodes.new) result }
 {
     match edge_to_leaf(leaves, nodes, root, id) {
         None => None,
@@ -84,7 +86,8 @@ fn edge_to_node<K: AsBytes, V, const P: usize>(
 ) -> EdgeAbove
     requires sound { IsSound K.bytes P leaves.now nodes.now (Some root.now) }
     requires has { Has leaves.now.pairs id.now }
-    requires leads { (b : ℕ) × LeadsTo (at nodes.now) (Some root.now) (Some (node.now, b)) (Leaf id.now) }
+    requires leads { (b : ℕ)
+        × LeadsTo (at nodes.now) (Some root.now) (Some (node.now, b)) (Leaf id.now) }
     ensures { LeadsTo (at nodes.now) (Some root.now) result (Inner node.now) }
 {
     let mut visits = Visits::new();
@@ -108,7 +111,9 @@ fn drop_edge<K: AsBytes, V, const P: usize>(
     requires sound { IsSound K.bytes P leaves.now nodes.old (Some root.now) }
     requires has { Has leaves.now.pairs id.now }
     requires leads { LeadsTo (at nodes.old) (Some root.now) (Some (node.now, byte)) (Leaf id.now) }
-    ensures { (keys : ℕ → Option Bytes) (k : Bytes) → Loses (keys_in K.bytes leaves.now.pairs) keys id.now k → Shape P keys (at nodes.new) (Some result) }
+    ensures { (keys : ℕ → Option Bytes) (k : Bytes)
+        → Loses (keys_in K.bytes leaves.now.pairs) keys id.now k
+        → Shape P keys (at nodes.new) (Some result) }
 {
     let above = edge_to_node(leaves, nodes, root, id, node);
     let mut visits = Visits::new();
@@ -129,9 +134,11 @@ fn shrink<const P: usize>(
     node: &NodeId,
     byte: u8,
 ) -> Child
-    requires { (keys : ℕ → Option Bytes) × (i : ℕ) × HangsAt P keys (at nodes.old) (Some root.now) above.now node.now byte i }
+    requires { (keys : ℕ → Option Bytes) × (i : ℕ)
+        × HangsAt P keys (at nodes.old) (Some root.now) above.now node.now byte i }
     ensures { (keys keys' : ℕ → Option Bytes) (i : ℕ) (h : HangsAt P keys (at nodes.old) (Some root.now) above.now node.now byte i)
-        → 2 < length h.node.edges → Loses keys keys' i h.key → Shape P keys' (at nodes.new) (Some result) }
+        → 2 < length h.node.edges → Loses keys keys' i h.key
+        → Shape P keys' (at nodes.new) (Some result) }
 {
     nodes.remove_edge(*node, byte);
     let moved = nodes.narrow(*node);
@@ -157,7 +164,8 @@ fn merge<const P: usize>(
 
 // Another edge of a node than the one to a leaf.
 fn other_edge<const P: usize>(nodes: &Nodes<P>, node: &NodeId, byte: u8) -> Edge
-    requires { (keys : ℕ → Option Bytes) × (root : Option Way) × (above : Option (ℕ × ℕ)) × (i : ℕ) × HangsAt P keys (at nodes.now) root above node.now byte i }
+    requires { (keys : ℕ → Option Bytes) × (root : Option Way) × (above : Option (ℕ × ℕ))
+        × (i : ℕ) × HangsAt P keys (at nodes.now) root above node.now byte i }
     ensures { OtherEdge (at nodes.now) node.now byte result }
 {
     let mut visits = Visits::new();

@@ -2,7 +2,7 @@
 ghost use Rattle.std.specs.Prelude.{◌≡◌, ◌+◌, ◌≤◌, ℕ, [], length, option_map, Option, Some};
 ghost use Rattle.blart_keys.specs.Content.{at, front_of};
 ghost use Rattle.art_tree.specs.Begins.{Bytes};
-ghost use Rattle.art_tree.specs.Calls.Descents.{IsRoot, GoesTo};
+ghost use Rattle.art_tree.specs.Calls.Descents.{IsRoot, GoesTo, IsFrontAlone};
 ghost use Rattle.art_tree.specs.Leaves.{bytes};
 ghost use Rattle.art_tree.specs.Slabs.Nodes.{at as nodes_at};
 ghost use Rattle.art_tree.specs.Invariant.Shape.{Shape};
@@ -17,17 +17,18 @@ use blart_keys::AsBytes;
 impl<K: AsBytes + Drop, V: Drop, const PREFIX_LEN: usize> Tree<K, V, PREFIX_LEN> {
     /// The pair with these bytes, and its leaf. On n bytes at most n + 1 visits, and none where the tree has no pairs.
     pub fn get(&self, query: &[u8], visits: &mut Visits) -> Option<(LeafId, &K, &V)>
-        ensures found { option_map (λ f. (f.0, (f.1.now, f.2.now))) result ≡ at (bytes K.bytes) self.now.pairs query.now }
+        ensures found { option_map (λ f. (f.0, (f.1.now, f.2.now))) result
+            ≡ at (bytes K.bytes) self.now.pairs query.now }
         ensures counted { visits.new.count ≤ visits.old.count + length query.now + 1 }
         ensures grows { visits.old.count ≤ visits.new.count }
         ensures empty { self.now.pairs ≡ [] → visits.new.count ≡ visits.old.count }
     {
-        self.leaves.law();
-        let root = self.root?;
-        let id = leaf_toward(&self.nodes, &root, query, visits)?;
-        let (key, value) = self.leaves.read(id, visits);
-        if key.as_bytes() == query {
-            Some((id, key, value))
+        self.law();
+        let Some(found) = self.pair_toward(query, visits) else {
+            return None;
+        };
+        if found.1.as_bytes() == query {
+            Some(found)
         } else {
             None
         }
@@ -35,17 +36,18 @@ impl<K: AsBytes + Drop, V: Drop, const PREFIX_LEN: usize> Tree<K, V, PREFIX_LEN>
 
     /// The pair whose bytes begin these, and its leaf. On n bytes at most n + 1 visits, and none where the tree has no pairs.
     pub fn get_front(&self, query: &[u8], visits: &mut Visits) -> Option<(LeafId, &K, &V)>
-        ensures found { option_map (λ f. (f.0, (f.1.now, f.2.now))) result ≡ front_of (bytes K.bytes) self.now.pairs query.now }
+        ensures found { option_map (λ f. (f.0, (f.1.now, f.2.now))) result
+            ≡ front_of (bytes K.bytes) self.now.pairs query.now }
         ensures counted { visits.new.count ≤ visits.old.count + length query.now + 1 }
         ensures grows { visits.old.count ≤ visits.new.count }
         ensures empty { self.now.pairs ≡ [] → visits.new.count ≡ visits.old.count }
     {
-        self.leaves.law();
-        let root = self.root?;
-        let id = leaf_toward(&self.nodes, &root, query, visits)?;
-        let (key, value) = self.leaves.read(id, visits);
-        if begins(key.as_bytes(), query) {
-            Some((id, key, value))
+        self.law();
+        let Some(found) = self.pair_toward(query, visits) else {
+            return None;
+        };
+        if begins(found.1.as_bytes(), query) {
+            Some(found)
         } else {
             None
         }
@@ -53,7 +55,8 @@ impl<K: AsBytes + Drop, V: Drop, const PREFIX_LEN: usize> Tree<K, V, PREFIX_LEN>
 
     /// The leaf with these bytes. On n bytes at most n + 1 visits, and none where the tree has no pairs.
     pub fn search(&self, query: &[u8], visits: &mut Visits) -> Option<LeafId>
-        ensures found { result ≡ option_map (λ p. p.0) (at (bytes K.bytes) self.now.pairs query.now) }
+        ensures found { result
+            ≡ option_map (λ p. p.0) (at (bytes K.bytes) self.now.pairs query.now) }
         ensures counted { visits.new.count ≤ visits.old.count + length query.now + 1 }
         ensures grows { visits.old.count ≤ visits.new.count }
         ensures empty { self.now.pairs ≡ [] → visits.new.count ≡ visits.old.count }
@@ -66,7 +69,8 @@ impl<K: AsBytes + Drop, V: Drop, const PREFIX_LEN: usize> Tree<K, V, PREFIX_LEN>
 
     /// The leaf whose bytes begin these. On n bytes at most n + 1 visits, and none where the tree has no pairs.
     pub fn search_front(&self, query: &[u8], visits: &mut Visits) -> Option<LeafId>
-        ensures found { result ≡ option_map (λ p. p.0) (front_of (bytes K.bytes) self.now.pairs query.now) }
+        ensures found { result
+            ≡ option_map (λ p. p.0) (front_of (bytes K.bytes) self.now.pairs query.now) }
         ensures counted { visits.new.count ≤ visits.old.count + length query.now + 1 }
         ensures grows { visits.old.count ≤ visits.new.count }
         ensures empty { self.now.pairs ≡ [] → visits.new.count ≡ visits.old.count }
@@ -75,6 +79,19 @@ impl<K: AsBytes + Drop, V: Drop, const PREFIX_LEN: usize> Tree<K, V, PREFIX_LEN>
             Some(found) => Some(found.0),
             None => None,
         }
+    }
+
+    // The one pair whose key may begin these bytes, and its leaf.
+    fn pair_toward(&self, query: &[u8], visits: &mut Visits) -> Option<(LeafId, &K, &V)>
+        ensures found { IsFrontAlone K.bytes self.now.pairs query.now (option_map (λ f. (f.0, (f.1.now, f.2.now))) result) }
+        ensures counted { visits.new.count ≤ visits.old.count + length query.now + 1 }
+        ensures grows { visits.old.count ≤ visits.new.count }
+        ensures empty { self.now.pairs ≡ [] → visits.new.count ≡ visits.old.count }
+    {
+        let root = self.root?;
+        let id = leaf_toward(&self.nodes, &root, query, visits)?;
+        let (key, value) = self.leaves.read(id, visits);
+        Some((id, key, value))
     }
 }
 

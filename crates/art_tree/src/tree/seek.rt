@@ -21,8 +21,10 @@ use std::ops::Bound;
 impl<K: AsBytes + Drop, V: Drop, const PREFIX_LEN: usize> Tree<K, V, PREFIX_LEN> {
     /// The first leaf within a start bound, or the last within an end bound. Where the bound has n bytes (0 where it is unbounded) and L is the length of the longest key, at most (n + 2) * (L + 1) + 1 visits, and none where the tree has no pairs.
     pub fn seek(&self, bound: Bound<&[u8]>, is_start: bool, visits: &mut Visits) -> Option<LeafId>
-        ensures found { result ≡ number_within (bytes K.bytes) self.now.pairs (bound_bytes (λ b. b) bound.entry) is_start }
-        ensures counted { visits.new.count ≤ visits.old.count + (bound_len (bound_bytes (λ b. b) bound.entry) + 2) * (longest (bytes K.bytes) self.now.pairs + 1) + 1 }
+        ensures found { result
+            ≡ number_within (bytes K.bytes) self.now.pairs (bound_bytes (λ b. b) bound.entry) is_start }
+        ensures counted { visits.new.count
+            ≤ visits.old.count + (bound_len (bound_bytes (λ b. b) bound.entry) + 2) * (longest (bytes K.bytes) self.now.pairs + 1) + 1 }
         ensures grows { visits.old.count ≤ visits.new.count }
         ensures empty { self.now.pairs ≡ [] → visits.new.count ≡ visits.old.count }
     {
@@ -49,7 +51,8 @@ impl<K: AsBytes + Drop, V: Drop, const PREFIX_LEN: usize> Tree<K, V, PREFIX_LEN>
     /// The first and the last leaf whose bytes begin with these. On n bytes at most (n + 3) * (L + 1) visits, where L is the length of the longest key, and none where the tree has no pairs.
     pub fn span(&self, front: &[u8], visits: &mut Visits) -> Option<(LeafId, LeafId)>
         ensures found { result ≡ ends (under (bytes K.bytes) self.now.pairs front.now) }
-        ensures counted { visits.new.count ≤ visits.old.count + (length front.now + 3) * (longest (bytes K.bytes) self.now.pairs + 1) }
+        ensures counted { visits.new.count
+            ≤ visits.old.count + (length front.now + 3) * (longest (bytes K.bytes) self.now.pairs + 1) }
         ensures grows { visits.old.count ≤ visits.new.count }
         ensures empty { self.now.pairs ≡ [] → visits.new.count ≡ visits.old.count }
     {
@@ -76,7 +79,8 @@ impl<K: AsBytes + Drop, V: Drop, const PREFIX_LEN: usize> Tree<K, V, PREFIX_LEN>
     // The leaf with these bytes, or the leaf before the place where they would go.
     fn find_place(&self, query: &[u8], visits: &mut Visits) -> Result<LeafId, Option<LeafId>>
         ensures stands { StandsAt (keys_in K.bytes self.now.pairs) query.now result }
-        ensures counted { visits.new.count ≤ visits.old.count + (length query.now + 2) * (longest (bytes K.bytes) self.now.pairs + 1) + 1 }
+        ensures counted { visits.new.count
+            ≤ visits.old.count + (length query.now + 2) * (longest (bytes K.bytes) self.now.pairs + 1) + 1 }
         ensures grows { visits.old.count ≤ visits.new.count }
         ensures empty { self.now.pairs ≡ [] → visits.new.count ≡ visits.old.count }
     {
@@ -97,7 +101,8 @@ fn place_below<K: AsBytes, V, const P: usize>(
 ) -> Result<LeafId, Option<LeafId>>
     requires { IsSound K.bytes P leaves.now nodes.now (Some root.now) }
     ensures stands { StandsAt (keys_in K.bytes leaves.now.pairs) query.now result }
-    ensures counted { visits.new.count ≤ visits.old.count + (length query.now + 2) * (longest (bytes K.bytes) leaves.now.pairs + 1) + 1 }
+    ensures counted { visits.new.count
+        ≤ visits.old.count + (length query.now + 2) * (longest (bytes K.bytes) leaves.now.pairs + 1) + 1 }
     ensures grows { visits.old.count ≤ visits.new.count }
 {
     leaves.law();
@@ -122,7 +127,8 @@ fn span_below<K: AsBytes, V, const P: usize>(
 ) -> Option<(LeafId, LeafId)>
     requires { IsSound K.bytes P leaves.now nodes.now (Some root.now) }
     ensures found { result ≡ ends (under (bytes K.bytes) leaves.now.pairs front.now) }
-    ensures counted { visits.new.count ≤ visits.old.count + (length front.now + 3) * (longest (bytes K.bytes) leaves.now.pairs + 1) }
+    ensures counted { visits.new.count
+        ≤ visits.old.count + (length front.now + 3) * (longest (bytes K.bytes) leaves.now.pairs + 1) }
     ensures grows { visits.old.count ≤ visits.new.count }
 {
     leaves.law();

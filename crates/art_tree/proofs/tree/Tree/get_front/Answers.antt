@@ -1,123 +1,21 @@
-use Rattle.std.proofs.Common.{◌≡◌, ℕ, ◌+◌, ◌≤◌, length, lit<, subst, sym, ap, ◌∙◌, arith, Some, Option}
-use Rattle.std.proofs.lemmas.Bool.{false≢true}
+use Rattle.std.proofs.Common.{◌≡◌, sym, false, true, subst}
 use Rattle.blart_keys.specs.Bytes.{begins}
-use Rattle.art_tree.proofs.BeginsLemmas.{Begins-from_begins, begins-from_Begins}
 use Rattle.art_tree.specs.Begins.{Bytes, Begins}
-use Rattle.art_tree.specs.Calls.Descents.{GoesTo}
-use Rattle.art_tree.specs.Leaves.{keys_in}
-use Rattle.art_tree.specs.Slabs.Nodes.{at}
-use Rattle.art_tree.proofs.Ways.Roots.{is_root}
-use Rattle.art_tree.proofs.Pairs.LookUps.{only_has, answers_front, answers_no_front}
-use Rattle.art_tree.proofs.Pairs.Keys.{key_of_pair}
-use Rattle.art_tree.proofs.Invariant.SameShapes.{rooted}
-use Rattle.art_tree.proofs.Ways.ToQuery.{root_none, only_not}
+use Rattle.art_tree.proofs.BeginsLemmas.{Begins-from_begins, begins-from_Begins}
+use Rattle.art_tree.proofs.Pairs.LookUps.{none_front, this_front, not_front}
 use Rattle.art_tree.proofs.tree.Tree.get_front.Goals as goal
 
-pub returns-in_err-root-clause-found : goal.returns-in_err-root-clause-found
-returns-in_err-root-clause-found g c =
-    let kb = g.K.AsBytes.bytes in
-    let i = c.self.inside in
-    let S = i.leaves.pairs in
-    let nodes = at i.nodes in
-    let q = c.args.query.now in
-    let keys = keys_in kb S in
-    rw c.from_residual.ensures
-    (answers_no_front kb S c.self.invariant.content c.law.ensures.distinct c.args.self.now.pairs (ap (λ t. t.pairs) c.self.view_is) q (root_none keys q nodes i.root c.self.invariant.shape c.in_err-root.was))
-
-pub leaf_toward-requires : goal.leaf_toward-requires
-leaf_toward-requires g c =
-    let kb = g.K.AsBytes.bytes in
-    let i = c.self.inside in
-    let S = i.leaves.pairs in
-    let nodes = at i.nodes in
-    let q = c.args.query.now in
-    let keys = keys_in kb S in
-    (lit< tt, is_root nodes keys c.in_ok-root.root (rooted keys nodes i.root (Some c.in_ok-root.root) c.self.invariant.shape c.in_ok-root.was))
-
-pub returns-in_err-id-clause-found : goal.returns-in_err-id-clause-found
-returns-in_err-id-clause-found g c =
-    let kb = g.K.AsBytes.bytes in
-    let i = c.self.inside in
-    let S = i.leaves.pairs in
-    let nodes = at i.nodes in
-    let q = c.args.query.now in
-    let keys = keys_in kb S in
-    let s = rooted keys nodes i.root (Some c.in_ok-root.root) c.self.invariant.shape c.in_ok-root.was in
-    let went = subst (λ (o : Option ℕ). GoesTo keys q c.args.visits.now.count c.leaf_toward.new.visits.count o) c.in_err-id.was (c.leaf_toward.ensures.goes keys s) in
-    rw c.from_residual-in_err-id.ensures
-    (answers_no_front kb S c.self.invariant.content c.law.ensures.distinct c.args.self.now.pairs (ap (λ t. t.pairs) c.self.view_is) q went.0)
-
-pub returns-in_err-id-clause-counted : goal.returns-in_err-id-clause-counted
-returns-in_err-id-clause-counted g c =
-    let kb = g.K.AsBytes.bytes in
-    let i = c.self.inside in
-    let S = i.leaves.pairs in
-    let nodes = at i.nodes in
-    let q = c.args.query.now in
-    let keys = keys_in kb S in
-    let s = rooted keys nodes i.root (Some c.in_ok-root.root) c.self.invariant.shape c.in_ok-root.was in
-    let went = subst (λ (o : Option ℕ). GoesTo keys q c.args.visits.now.count c.leaf_toward.new.visits.count o) c.in_err-id.was (c.leaf_toward.ensures.goes keys s) in
-    went.1
-
-pub read-requires : goal.read-requires
-read-requires g c =
-    let kb = g.K.AsBytes.bytes in
-    let i = c.self.inside in
-    let S = i.leaves.pairs in
-    let nodes = at i.nodes in
-    let q = c.args.query.now in
-    let keys = keys_in kb S in
-    let s = rooted keys nodes i.root (Some c.in_ok-root.root) c.self.invariant.shape c.in_ok-root.was in
-    let went = subst (λ (o : Option ℕ). GoesTo keys q c.args.visits.now.count c.leaf_toward.new.visits.count o) c.in_ok-id.was (c.leaf_toward.ensures.goes keys s) in
-    only_has kb S q c.in_ok-id.id went.0
+pub returns-in_default-clause-found : goal.returns-in_default-clause-found
+returns-in_default-clause-found g c = none_front g.K.AsBytes.bytes c.args.self.now.pairs c.law.ensures.content c.law.ensures.distinct c.args.query.now c.in_default.ensures.found
 
 pub returns-then-begins-clause-found : goal.returns-then-begins-clause-found
 returns-then-begins-clause-found g c =
     let kb = g.K.AsBytes.bytes in
-    let i = c.self.inside in
-    let S = i.leaves.pairs in
-    let nodes = at i.nodes in
-    let q = c.args.query.now in
-    let keys = keys_in kb S in
-    answers_front kb S c.self.invariant.content c.law.ensures.distinct c.args.self.now.pairs (ap (λ t. t.pairs) c.self.view_is) q c.in_ok-id.id (c.read.result.0.now, c.read.result.1.now) c.read.ensures.value (subst (λ (k : Bytes). Begins k q) c.as_bytes.ensures (Begins-from_begins c.as_bytes.result.now q (sym c.begins.ensures ∙ c.if-begins.true)))
-
-pub returns-then-begins-clause-counted : goal.returns-then-begins-clause-counted
-returns-then-begins-clause-counted g c =
-    let kb = g.K.AsBytes.bytes in
-    let i = c.self.inside in
-    let S = i.leaves.pairs in
-    let nodes = at i.nodes in
-    let q = c.args.query.now in
-    let keys = keys_in kb S in
-    let s = rooted keys nodes i.root (Some c.in_ok-root.root) c.self.invariant.shape c.in_ok-root.was in
-    let went = subst (λ (o : Option ℕ). GoesTo keys q c.args.visits.now.count c.leaf_toward.new.visits.count o) c.in_ok-id.was (c.leaf_toward.ensures.goes keys s) in
-    let few : c.leaf_toward.new.visits.count ≤ c.args.visits.now.count + length q = went.1 in
-    let one : c.read.new.visits.count ≡ c.leaf_toward.new.visits.count + 1 = c.read.ensures.counted in
-    omega arith
-
-pub returns-else-begins-clause-counted : goal.returns-else-begins-clause-counted
-returns-else-begins-clause-counted g c =
-    let kb = g.K.AsBytes.bytes in
-    let i = c.self.inside in
-    let S = i.leaves.pairs in
-    let nodes = at i.nodes in
-    let q = c.args.query.now in
-    let keys = keys_in kb S in
-    let s = rooted keys nodes i.root (Some c.in_ok-root.root) c.self.invariant.shape c.in_ok-root.was in
-    let went = subst (λ (o : Option ℕ). GoesTo keys q c.args.visits.now.count c.leaf_toward.new.visits.count o) c.in_ok-id.was (c.leaf_toward.ensures.goes keys s) in
-    let few : c.leaf_toward.new.visits.count ≤ c.args.visits.now.count + length q = went.1 in
-    let one : c.read.new.visits.count ≡ c.leaf_toward.new.visits.count + 1 = c.read.ensures.counted in
-    omega arith
+    let b : true ≡ begins c.as_bytes.result.now c.args.query.now = c.if-begins.ensures in
+    this_front g.K.AsBytes.bytes c.args.self.now.pairs c.law.ensures.content c.law.ensures.distinct c.args.query.now (c.in-Some.found.0, (c.in-Some.found.1.now, c.in-Some.found.2.now)) c.in-Some.ensures.found (subst (λ (z : Bytes). Begins z c.args.query.now) c.as_bytes.ensures (Begins-from_begins c.as_bytes.result.now c.args.query.now (sym b)))
 
 pub returns-else-begins-clause-found : goal.returns-else-begins-clause-found
 returns-else-begins-clause-found g c =
     let kb = g.K.AsBytes.bytes in
-    let i = c.self.inside in
-    let S = i.leaves.pairs in
-    let nodes = at i.nodes in
-    let q = c.args.query.now in
-    let keys = keys_in kb S in
-    let s = rooted keys nodes i.root (Some c.in_ok-root.root) c.self.invariant.shape c.in_ok-root.was in
-    let went = subst (λ (o : Option ℕ). GoesTo keys q c.args.visits.now.count c.leaf_toward.new.visits.count o) c.in_ok-id.was (c.leaf_toward.ensures.goes keys s) in
-    let is : keys c.in_ok-id.id ≡ Some (kb c.read.result.0.now) = key_of_pair kb S c.in_ok-id.id (c.read.result.0.now, c.read.result.1.now) c.read.ensures.value in
-    answers_no_front kb S c.self.invariant.content c.law.ensures.distinct c.args.self.now.pairs (ap (λ t. t.pairs) c.self.view_is) q (only_not keys q c.in_ok-id.id went.0 (kb c.read.result.0.now) is (λ b. false≢true (sym c.if-begins.false ∙ c.begins.ensures ∙ ap (λ (k : Bytes). begins k q) c.as_bytes.ensures ∙ begins-from_Begins (kb c.read.result.0.now) q b)))
+    let b : false ≡ begins c.as_bytes.result.now c.args.query.now = c.if-begins.ensures in
+    not_front g.K.AsBytes.bytes c.args.self.now.pairs c.law.ensures.content c.law.ensures.distinct c.args.query.now (c.in-Some.found.0, (c.in-Some.found.1.now, c.in-Some.found.2.now)) c.in-Some.ensures.found (λ h. (let t : begins c.as_bytes.result.now c.args.query.now ≡ true = begins-from_Begins c.as_bytes.result.now c.args.query.now (subst (λ (z : Bytes). Begins z c.args.query.now) (sym c.as_bytes.ensures) h) in cc))
