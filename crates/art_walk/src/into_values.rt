@@ -42,7 +42,8 @@ impl<K: AsBytes + Drop, V: Drop, const PREFIX_LEN: usize> IntoValues<K, V, PREFI
     }
 }
 
-impl<K: AsBytes + Drop, V: Drop, const PREFIX_LEN: usize> Iterator for IntoValues<K, V, PREFIX_LEN> {
+impl<K: AsBytes + Drop, V: Drop, const PREFIX_LEN: usize> Iterator
+    for IntoValues<K, V, PREFIX_LEN> {
     type Item = V;
 
     ghost next_gives = { YieldsFirst (λ rest. rest) };

@@ -12,10 +12,7 @@ pub fn retain<
     V: Drop,
     F: FnMut(&K, &mut V) -> bool + Drop,
     const PREFIX_LEN: usize,
->(
-    tree: &mut Tree<K, V, PREFIX_LEN>,
-    mut f: F,
-)
+>(tree: &mut Tree<K, V, PREFIX_LEN>, mut f: F)
     requires { F.IsAlwaysCallable f }
     ensures { Retains (AsksPair F.FnMut) (pairs_of tree.old.pairs) f (pairs_of tree.new.pairs) }
 {

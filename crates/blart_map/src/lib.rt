@@ -15,7 +15,9 @@ mod walks;
 mod writes;
 
 pub use art_tree::{DEFAULT_PREFIX_LEN, Visits};
-pub use art_walk::{Cursor, IntoIter, IntoKeys, IntoValues, Iter, Keys, Prefix, Range, SubtreeIter, Values};
+pub use art_walk::{
+    Cursor, IntoIter, IntoKeys, IntoValues, Iter, Keys, Prefix, Range, SubtreeIter, Values,
+};
 pub use blart_keys::{Call, InsertPrefixError, Reply, TryInsertError};
 pub use calls::{bounds_in_order, drive};
 pub use map::TreeMap;

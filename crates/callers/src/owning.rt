@@ -3,7 +3,7 @@ ghost use Rattle.std.specs.Prelude.{◌≡◌, map, IfOk};
 
 use blart::{AsBytes, Map};
 use std::alloc::{AllocError, Global};
-use std::iter::{Iterator, IntoIterator};
+use std::iter::{IntoIterator, Iterator};
 
 /// The pairs of a map in a vector, in the order of their keys' bytes.
 pub fn into_vec<K: AsBytes + Drop, V: Drop>(

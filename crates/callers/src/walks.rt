@@ -11,9 +11,7 @@ pub fn from_both_ends<K: AsBytes + Drop>(
     alloc: Global,
     scores: &Map<K, u64>,
 ) -> Result<(Vec<u64>, Vec<u64>), AllocError>
-    ensures {
-        IfOk result (λ ends. map (λ p. p.1) scores.now ≡ ends.0.items ++ reverse ends.1.items)
-    }
+    ensures { IfOk result (λ ends. map (λ p. p.1) scores.now ≡ ends.0.items ++ reverse ends.1.items) }
 {
     let mut fronts = Vec::new(alloc);
     let mut backs = Vec::new(alloc);

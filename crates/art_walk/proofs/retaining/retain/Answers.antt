@@ -10,13 +10,16 @@ use Rattle.art_walk.proofs.retaining.retain.Goals as goal
 
 pub pairs-init : goal.pairs-init
 pairs-init g c =
-    let left = c.all-cursor.ensures.left in
-    (search of_calls, c.all-cursor.ensures.fits, c.law.ensures.distinct,
+    let left = c.all-cursor.ensures.left in (
+      search of_calls,
+      c.all-cursor.ensures.fits,
+      c.law.ensures.distinct,
       record {
         kept = [];
         whole = sym left;
         then = λ rest r. subst (λ (l : List (Numbered g.row.K.Denot g.row.V.Denot)). Retains (AsksPair g.F.FnMut) (pairs_of l) c.args.f rest) left r;
-      })
+      },
+    )
 
 pub pairs-smaller-then-f : goal.pairs-smaller-then-f
 pairs-smaller-then-f g c =
@@ -41,10 +44,13 @@ pairs-preserved-then-f g c =
     let named = first_named ps ps d c.pairs.cursor new c.pairs.invariant.1 fits id y c.leaf_mut-value.ensures.value c.in-Some.ensures.passes in
     let asks = asks_at g.F.FnMut c.pairs.f lv.0 lv.1 _ c.f.result c.f.new.self c.f.ensures in
     let r = c.pairs.invariant.3 in
-    let row = r.whole ∙ ap (λ l. r.kept ++ l) named in
-    (search of_calls, written_fits ps d new fits id y w lacks, written_distinct ps d new fits id y w lacks,
+    let row = r.whole ∙ ap (λ l. r.kept ++ l) named in (
+      search of_calls,
+      written_fits ps d new fits id y w lacks,
+      written_distinct ps d new fits id y w lacks,
       retaining_kept (AsksPair g.F.FnMut) _ _ ps (leaves_left c.pairs.cursor ps) (leaves_left new ps) c.pairs.f c.f.new.self id y w c.f.result asks named r c.if-f.true (with_value ps id w) (leaves_left new (with_value ps id w))
-      (written_row ps d new fits id y w lacks r.kept (leaves_left new ps) row) (written_left ps d new fits id y w lacks))
+          (written_row ps d new fits id y w lacks r.kept (leaves_left new ps) row) (written_left ps d new fits id y w lacks),
+    )
 
 pub remove-pair-requires : goal.remove-pair-requires
 remove-pair-requires g c =
@@ -87,10 +93,13 @@ pairs-preserved g c =
     let named = first_named ps ps d c.pairs.cursor new c.pairs.invariant.1 fits id y c.leaf_mut-value.ensures.value c.in-Some.ensures.passes in
     let asks = asks_at g.F.FnMut c.pairs.f lv.0 lv.1 _ c.f.result c.f.new.self c.f.ensures in
     let r = c.pairs.invariant.3 in
-    let row = r.whole ∙ ap (λ l. r.kept ++ l) named in
-    (search of_calls, removed_fits ps d new fits id y w lacks rs gone, removed_distinct ps d new fits id y w lacks rs gone,
+    let row = r.whole ∙ ap (λ l. r.kept ++ l) named in (
+      search of_calls,
+      removed_fits ps d new fits id y w lacks rs gone,
+      removed_distinct ps d new fits id y w lacks rs gone,
       retaining_gone (AsksPair g.F.FnMut) _ _ ps (leaves_left c.pairs.cursor ps) (leaves_left new ps) c.pairs.f c.f.new.self id y w c.f.result asks named r c.if-f.false rs (leaves_left new rs)
-      (removed_row ps d new fits id y w lacks r.kept (leaves_left new ps) row rs gone) (removed_left ps d new fits id y w lacks rs gone))
+          (removed_row ps d new fits id y w lacks r.kept (leaves_left new ps) row rs gone) (removed_left ps d new fits id y w lacks rs gone),
+    )
 
 pub returns : goal.returns
 returns g c =
