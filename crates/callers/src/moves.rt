@@ -1,9 +1,12 @@
 //! Pairs that go from one place to another.
-ghost use Rattle.std.specs.Prelude.{◌≡◌, ◌≢◌, ◌+◌, ℕ, List, true, false, length, OnOk, IfOk, OnErr, None, Some, if◌then◌else◌};
-ghost use Rattle.blart.specs.Words.{pair_at, value_at, has, overlaps, slice_bytes};
+ghost use Rattle.std.specs.Prelude.{◌≡◌, ◌≢◌, ◌+◌, ℕ, List, true, false, length, slice_get, is_some, OnOk, IfOk, OnErr, IfSome, None, Some, if◌then◌else◌};
+ghost use Rattle.std.specs.declared.ops.Bound.TheVariants.{Included, Excluded};
+ghost use Rattle.blart.specs.Words.{bytes, between, in_order, pair_at, value_at, has, overlaps, slice_bytes, u32_bytes};
 
-use blart::{AsBytes, Map, NoPrefixesBytes, TryInsertError};
+use blart::{AsBytes, Map, NoPrefixesBytes, TryInsertError, U32Key};
 use std::alloc::AllocError;
+use std::iter::Iterator;
+use std::ops::Bound;
 
 /// Moves the pair of a key, and answers whether there was one. A refusal leaves both maps as they were.
 pub fn move_one<K: AsBytes + Copy + Drop, V: Copy + Drop>(
@@ -24,6 +27,34 @@ pub fn move_one<K: AsBytes + Copy + Drop, V: Copy + Drop>(
     };
     to.try_insert(*stored, *value)?;
     from.remove(key);
+    Ok(true)
+}
+
+/// Moves the first pair within bounds, and answers whether there was one. A refusal leaves both maps as they were.
+pub fn move_first_between<V: Copy + Drop>(
+    from: &mut Map<U32Key, V>,
+    to: &mut Map<U32Key, V>,
+    low: U32Key,
+    high: U32Key,
+) -> Result<bool, AllocError>
+    requires { in_order (Included (u32_bytes low)) (Excluded (u32_bytes high)) ≡ true }
+    ensures moved { let within = between (bytes u32_bytes) from.old (Included (u32_bytes low)) (Excluded (u32_bytes high))
+        in IfOk result (λ moved. moved ≡ is_some (slice_get within 0)) }
+    ensures there { let within = between (bytes u32_bytes) from.old (Included (u32_bytes low)) (Excluded (u32_bytes high))
+        in OnOk result (IfSome (slice_get within 0) (λ p. pair_at u32_bytes to.new (u32_bytes p.0) ≡ Some p)) }
+    ensures gone { let within = between (bytes u32_bytes) from.old (Included (u32_bytes low)) (Excluded (u32_bytes high))
+        in OnOk result (IfSome (slice_get within 0) (λ p. pair_at u32_bytes from.new (u32_bytes p.0) ≡ None)) }
+    ensures refused { OnErr result ((from.new ≡ from.old) × (to.new ≡ to.old)) }
+{
+    let walk = from
+        .range(Bound::Included(&low), Bound::Excluded(&high))
+        .next();
+    let Some((key, value)) = walk else {
+        return Ok(false);
+    };
+    let (key, value) = (*key, *value);
+    to.insert(key, value)?;
+    from.remove(&key);
     Ok(true)
 }
 
