@@ -4,3 +4,5 @@ pub mod Spans
 pub mod Steps
 pub mod Taking
 pub mod Asking
+pub mod Lending
+pub mod LentPairs

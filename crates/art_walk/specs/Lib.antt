@@ -1,3 +1,5 @@
 pub mod Cursor
 pub mod Pairs
 pub mod Openings
+pub mod Lent
+pub mod LendingWalk

@@ -9,6 +9,7 @@ mod into_keys;
 mod into_values;
 mod iter;
 mod keys;
+mod lending_walk;
 mod prefix;
 mod range;
 mod retaining;
@@ -23,6 +24,9 @@ pub use into_keys::IntoKeys;
 pub use into_values::IntoValues;
 pub use iter::Iter;
 pub use keys::Keys;
+pub use lending_walk::{
+    BelowFront, InRange, InSubtree, LendingWalk, PrefixMut, RangeMut, SubtreeIterMut,
+};
 pub use prefix::Prefix;
 pub use range::Range;
 pub use retaining::retain;
