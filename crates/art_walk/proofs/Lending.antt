@@ -3,15 +3,16 @@ use Rattle.std.proofs.Common.{◌≡◌, ◌≢◌, ℕ, ◌+◌, ◌-◌, suc, 
 use Rattle.std.specs.Option.{is_none}
 use Rattle.std.specs.Prelude.{is_some as has_value}
 use Rattle.std.proofs.lemmas.Grind.{common_steps}
-use Rattle.std.proofs.lemmas.Bool.{ne_eqb}
+use Rattle.std.proofs.lemmas.Bool.{ne_eqb, eqb-true, eq-eqb}
 use Rattle.std.proofs.lemmas.Bool.Decides.{eqb_tells}
 use Rattle.blart_keys.proofs.Options.{mapped_some, is_some, some_of}
-use Rattle.art_tree.specs.Leaves.{Numbered, leaf_in, Has, AreDistinct, Lacks, with_value}
+use Rattle.art_tree.specs.Leaves.{Numbered, leaf_in, Has, AreDistinct, Lacks, with_value, without_number}
 use Rattle.art_tree.proofs.CallerLemmas.{Lacks-from_leaf_in, AreDistinct-with_value, numbers-with_value, Lacks-parts}
 use Rattle.art_walk.specs.declared.cursor.Ends.{Ends}
 use Rattle.art_walk.specs.declared.cursor.Cursor.{Cursor}
 use Rattle.art_walk.specs.Cursor.{from_number, through_number, span_of, EndsFit, leaves_left, FitsIn, PassesFirst, PassesLast}
-use Rattle.art_walk.specs.Lent.{numbers, bare, ends_fit, lent_fits, walk_fits, written_all, IsLent, written_last, numbers_written}
+use Rattle.art_walk.specs.Lent.{numbers, bare, ends_fit, lent_fits, walk_fits, count_fits, written_all, IsLent, written_last, numbers_written}
+use Rattle.art_walk.proofs.Changes.{left_without}
 use Rattle.art_walk.proofs.Taking.{first_passed, first_named, last_passed, last_named}
 use Rattle.art_walk.proofs.Asking.{written_fits, written_left}
 
@@ -247,3 +248,45 @@ module _ {K V : Type 0} where
         go : (o : Option ℕ) → LentIn o ps (leaves_left c ps) → leaves_left c (written_last o ps w) ≡ leaves_left c ps
         go None h = refl
         go (Some i) h = written_left ps distinct c (from_test c lent ps test) i (let x = (some_of (leaf_in ps i) h.0).0 in x) w h.1
+
+  -- ---- the pair lent last is taken out, or kept
+
+  pub kept_fits : (c : Cursor) (lent : Option ℕ) (ps : List (Numbered K V)) → walk_fits c lent (numbers ps) ≡ true → walk_fits c None (numbers ps) ≡ true
+  kept_fits c lent ps test = to_test c None ps (from_test c lent ps test) tt
+
+  module _ (ps qs : List (Numbered K V)) (distinct : AreDistinct ps) (c : Cursor) (lent : Option ℕ) (test : walk_fits c lent (numbers ps) ≡ true) (id : ℕ) (is : lent ≡ Some id) (rest : qs ≡ without_number ps id) where
+    lent_lacks : Lacks (leaves_left c ps) id
+    lent_lacks = (lent_from_test c (Some id) ps (ap (λ (o : Option ℕ). walk_fits c o (numbers ps)) (sym is) ∙ test)).1
+
+    pub taken_fits : walk_fits c None (numbers qs) ≡ true
+    taken_fits = to_test c None qs (subst (λ (l : List (Numbered K V)). FitsIn c l) (sym rest) (left_without c ps id distinct (from_test c lent ps test) lent_lacks).0) tt
+
+    pub taken_left : leaves_left c qs ≡ leaves_left c ps
+    taken_left = ap (leaves_left c) rest ∙ (left_without c ps id distinct (from_test c lent ps test) lent_lacks).1
+
+  -- ---- a walk that counts
+
+  lengths : (ps : List (Numbered K V)) → length (bare (numbers ps)) ≡ length ps
+  lengths [] = refl
+  lengths (p ∷ ps) = ap suc (lengths ps)
+
+  left_lengths : (c : Cursor) (ps : List (Numbered K V)) → length (leaves_left c (bare (numbers ps))) ≡ length (leaves_left c ps)
+  left_lengths c ps = ap length (bare_left c ps) ∙ lengths (leaves_left c ps)
+
+  module _ (c : Cursor) (lent : Option ℕ) (left : ℕ) (ps : List (Numbered K V)) where
+    pub to_count : walk_fits c lent (numbers ps) ≡ true → left ≡ length (leaves_left c ps) → count_fits c lent left (numbers ps) ≡ true
+    to_count f n = both _ _ f (eq-eqb left (length (leaves_left c (bare (numbers ps)))) (n ∙ sym (left_lengths c ps)))
+
+    pub count_test : count_fits c lent left (numbers ps) ≡ true → walk_fits c lent (numbers ps) ≡ true
+    count_test h = left_of _ _ h
+
+    pub count_is : count_fits c lent left (numbers ps) ≡ true → left ≡ length (leaves_left c ps)
+    count_is h = eqb-true left (length (leaves_left c (bare (numbers ps)))) (right_of _ _ h) ∙ left_lengths c ps
+
+  -- one less is left
+  module _ (old new : Cursor) (ps : List (Numbered K V)) (id left : ℕ) (count : left ≡ length (leaves_left old ps)) where
+    pub fewer_after_first : (x : K × V) × (leaves_left old ps ≡ (id, x) ∷ leaves_left new ps) → left ≡ suc (length (leaves_left new ps))
+    fewer_after_first e = count ∙ ap length e.1
+
+    pub fewer_after_last : (x : K × V) × (leaves_left old ps ≡ leaves_left new ps ++ (id, x) ∷ []) → left ≡ suc (length (leaves_left new ps))
+    fewer_after_last e = let h : left ≡ length (leaves_left new ps) + 1 = count ∙ ap length e.1 ∙ length-append (leaves_left new ps) ((id, e.0) ∷ []) in omega arith

@@ -6,3 +6,5 @@ pub mod Taking
 pub mod Asking
 pub mod Lending
 pub mod LentPairs
+pub mod CountedPairs
+pub mod TakePairs

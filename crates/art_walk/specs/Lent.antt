@@ -1,5 +1,5 @@
 -- What a walk lent: once the loan is over, the value of one pair was written, and nothing else differs.
-use Rattle.std.specs.Prelude.{◌≡◌, ℕ, List, [], ◌∷◌, ◌++◌, Option, Some, None, Bool, true, false, cond, is_some, map}
+use Rattle.std.specs.Prelude.{◌≡◌, ℕ, List, [], ◌∷◌, ◌++◌, Option, Some, None, Bool, true, false, cond, is_some, map, eqb, length}
 use Rattle.std.specs.Option.{is_none}
 use Rattle.std.proofs.Common.{ap, refl, ◌∙◌}
 use Rattle.art_tree.proofs.CallerLemmas.{numbers-with_value}
@@ -30,6 +30,10 @@ lent_fits (Some i) ps left = cond (is_some (leaf_in ps i)) (is_none (leaf_in lef
 -- whether a walk that lends fits these numbers: its ends do, and the number that it lent last does
 abbrev pub walk_fits : Cursor → Option ℕ → List ℕ → Bool
 walk_fits c lent ns = cond (ends_fit c.ends ns) (lent_fits lent (bare ns) (leaves_left c (bare ns))) false
+
+-- whether a walk that counts fits these numbers: it does, and so many are left
+abbrev pub count_fits : Cursor → Option ℕ → ℕ → List ℕ → Bool
+count_fits c lent left ns = cond (walk_fits c lent ns) (eqb left (length (leaves_left c (bare ns)))) false
 
 module _ {K V : Type 0} where
   -- the list, once each of the pairs that are left has the value that f gives it
@@ -80,3 +84,7 @@ module _ {K V : Type 0} where
   -- so the walk fits as before
   pub fits_written : (c : Cursor) (lent : Option ℕ) (ps : List (Numbered K V)) (w : V) → walk_fits c lent (numbers ps) ≡ true → walk_fits c lent (numbers (written_last lent ps w)) ≡ true
   fits_written c lent ps w h = ap (walk_fits c lent) (numbers_written lent ps w) ∙ h
+
+  -- and counts as before
+  pub count_written : (c : Cursor) (lent : Option ℕ) (left : ℕ) (ps : List (Numbered K V)) (w : V) → count_fits c lent left (numbers ps) ≡ true → count_fits c lent left (numbers (written_last lent ps w)) ≡ true
+  count_written c lent left ps w h = ap (count_fits c lent left) (numbers_written lent ps w) ∙ h

@@ -3,3 +3,5 @@ pub mod Pairs
 pub mod Openings
 pub mod Lent
 pub mod LendingWalk
+pub mod CountedWalk
+pub mod TakeWalk
