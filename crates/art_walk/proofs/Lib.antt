@@ -4,3 +4,7 @@ pub mod Spans
 pub mod Steps
 pub mod Taking
 pub mod Asking
+pub mod Lending
+pub mod LentPairs
+pub mod CountedPairs
+pub mod TakePairs

@@ -1,0 +1,292 @@
+-- A pair that a walk has passed and lent.
+use Rattle.std.proofs.Common.{◌≡◌, ◌≢◌, ℕ, ◌+◌, ◌-◌, suc, List, [], ◌∷◌, ◌++◌, length, map, Bool, true, false, cond, eqb, Option, Some, None, IsSome, inl, inr, option_map, refl, sym, ap, ◌∙◌, subst, arith, length-append, append_assoc}
+use Rattle.std.specs.Option.{is_none}
+use Rattle.std.specs.Prelude.{is_some as has_value}
+use Rattle.std.proofs.lemmas.Grind.{common_steps}
+use Rattle.std.proofs.lemmas.Bool.{ne_eqb, eqb-true, eq-eqb}
+use Rattle.std.proofs.lemmas.Bool.Decides.{eqb_tells}
+use Rattle.blart_keys.proofs.Options.{mapped_some, is_some, some_of}
+use Rattle.art_tree.specs.Leaves.{Numbered, leaf_in, Has, AreDistinct, Lacks, with_value, without_number}
+use Rattle.art_tree.proofs.CallerLemmas.{Lacks-from_leaf_in, AreDistinct-with_value, numbers-with_value, Lacks-parts}
+use Rattle.art_walk.specs.declared.cursor.Ends.{Ends}
+use Rattle.art_walk.specs.declared.cursor.Cursor.{Cursor}
+use Rattle.art_walk.specs.Cursor.{from_number, through_number, span_of, EndsFit, leaves_left, FitsIn, PassesFirst, PassesLast}
+use Rattle.art_walk.specs.Lent.{numbers, bare, ends_fit, lent_fits, walk_fits, count_fits, written_all, IsLent, written_last, numbers_written}
+use Rattle.art_walk.proofs.Changes.{left_without}
+use Rattle.art_walk.proofs.Taking.{first_passed, first_named, last_passed, last_named}
+use Rattle.art_walk.proofs.Asking.{written_fits, written_left}
+
+-- ---- two tests
+
+both : (a b : Bool) → a ≡ true → b ≡ true → cond a b false ≡ true
+both a b h k = ap (λ x. cond x b false) h ∙ k
+
+left_of : (a b : Bool) → cond a b false ≡ true → a ≡ true
+left_of true b h = refl
+left_of false b h = h
+
+right_of : (a b : Bool) → cond a b false ≡ true → b ≡ true
+right_of true b h = h
+right_of false b h = absurd (let g : false ≡ true = h in cc)
+
+module _ {K V : Type 0} where
+  -- ---- numbers alone
+
+  pub bare_has : (ps : List (Numbered K V)) (i : ℕ) → has_value (leaf_in (bare (numbers ps)) i) ≡ has_value (leaf_in ps i)
+  bare_has [] i = refl
+  bare_has (p ∷ ps) i = grind (arith, common_steps, bare_has ps i)
+
+  pub bare_none : (ps : List (Numbered K V)) (i : ℕ) → is_none (leaf_in (bare (numbers ps)) i) ≡ is_none (leaf_in ps i)
+  bare_none [] i = refl
+  bare_none (p ∷ ps) i = grind (arith, common_steps, bare_none ps i)
+
+  pub bare_from : (ps : List (Numbered K V)) (i : ℕ) → from_number (bare (numbers ps)) i ≡ bare (numbers (from_number ps i))
+  bare_from [] i = refl
+  bare_from (p ∷ ps) i = grind (arith, common_steps, bare_from ps i)
+
+  pub bare_through : (ps : List (Numbered K V)) (i : ℕ) → through_number (bare (numbers ps)) i ≡ bare (numbers (through_number ps i))
+  bare_through [] i = refl
+  bare_through (p ∷ ps) i = grind (arith, common_steps, bare_through ps i)
+
+  ends_is : (ends : Option Ends) (ps : List (Numbered K V)) → EndsFit ends ps → ends_fit ends (numbers ps) ≡ true
+  ends_is None ps h = refl
+  ends_is (Some e) ps h = ap (λ l. has_value (leaf_in l e.last)) (bare_from ps e.first) ∙ bare_has (from_number ps e.first) e.last ∙ h
+
+  ends_was : (ends : Option Ends) (ps : List (Numbered K V)) → ends_fit ends (numbers ps) ≡ true → EndsFit ends ps
+  ends_was None ps h = tt
+  ends_was (Some e) ps h = sym (ap (λ l. has_value (leaf_in l e.last)) (bare_from ps e.first) ∙ bare_has (from_number ps e.first) e.last) ∙ h
+
+  bare_left : (c : Cursor) (ps : List (Numbered K V)) → leaves_left c (bare (numbers ps)) ≡ bare (numbers (leaves_left c ps))
+  bare_left c ps = go c.ends
+    where
+      go : (ends : Option Ends) → leaves_left (record { ends = ends }) (bare (numbers ps)) ≡ bare (numbers (leaves_left (record { ends = ends }) ps))
+      go None = refl
+      go (Some e) = ap (λ l. through_number l e.last) (bare_from ps e.first) ∙ bare_through (from_number ps e.first) e.last
+
+  -- ---- the test of a walk
+
+  -- the pair lent last is in the list, and is none of those that are left
+  abbrev pub LentIn : Option ℕ → List (Numbered K V) → List (Numbered K V) → Type 0
+  LentIn None ps left = Unit {0}
+  LentIn (Some i) ps left = Has ps i × Lacks left i
+
+  none_is : (left : List (Numbered K V)) (i : ℕ) → Lacks left i → is_none (leaf_in left i) ≡ true
+  none_is [] i l = refl
+  none_is (p ∷ left) i l = rw (ne_eqb p.0 i l.0) (none_is left i l.1)
+
+  none_was : (left : List (Numbered K V)) (i : ℕ) → is_none (leaf_in left i) ≡ true → Lacks left i
+  none_was left i h = Lacks-from_leaf_in left i (go (leaf_in left i) h)
+    where
+      go : (o : Option (K × V)) → is_none o ≡ true → o ≡ None
+      go None h = refl
+      go (Some x) h = absurd (let g : false ≡ true = h in cc)
+
+  lent_is : (lent : Option ℕ) (c : Cursor) (ps : List (Numbered K V)) → LentIn lent ps (leaves_left c ps) → lent_fits lent (bare (numbers ps)) (leaves_left c (bare (numbers ps))) ≡ true
+  lent_is None c ps h = refl
+  lent_is (Some i) c ps h = both _ _ (bare_has ps i ∙ h.0) (ap (λ l. is_none (leaf_in l i)) (bare_left c ps) ∙ bare_none (leaves_left c ps) i ∙ none_is (leaves_left c ps) i h.1)
+
+  lent_was : (lent : Option ℕ) (c : Cursor) (ps : List (Numbered K V)) → lent_fits lent (bare (numbers ps)) (leaves_left c (bare (numbers ps))) ≡ true → LentIn lent ps (leaves_left c ps)
+  lent_was None c ps h = tt
+  lent_was (Some i) c ps h = (
+    sym (bare_has ps i) ∙ left_of _ _ h,
+    none_was (leaves_left c ps) i (sym (ap (λ l. is_none (leaf_in l i)) (bare_left c ps) ∙ bare_none (leaves_left c ps) i) ∙ right_of _ _ h),
+  )
+
+  -- what fits passes the test
+  pub to_test : (c : Cursor) (lent : Option ℕ) (ps : List (Numbered K V)) → FitsIn c ps → LentIn lent ps (leaves_left c ps) → walk_fits c lent (numbers ps) ≡ true
+  to_test c lent ps f l = both _ _ (ends_is c.ends ps f) (lent_is lent c ps l)
+
+  -- what passes the test fits
+  pub from_test : (c : Cursor) (lent : Option ℕ) (ps : List (Numbered K V)) → walk_fits c lent (numbers ps) ≡ true → FitsIn c ps
+  from_test c lent ps h = ends_was c.ends ps (left_of _ _ h)
+
+  -- and so does the pair lent last
+  pub lent_from_test : (c : Cursor) (lent : Option ℕ) (ps : List (Numbered K V)) → walk_fits c lent (numbers ps) ≡ true → LentIn lent ps (leaves_left c ps)
+  lent_from_test c lent ps h = lent_was lent c ps (right_of _ _ h)
+
+  -- ---- values written one after the other
+
+  with_with : (ps : List (Numbered K V)) (i j : ℕ) (v w : V) → i ≢ j → with_value (with_value ps i v) j w ≡ with_value (with_value ps j w) i v
+  with_with [] i j v w ne = refl
+  with_with (p ∷ ps) i j v w ne = grind (arith, common_steps, with_with ps i j v w ne)
+
+  written_past : (f : K × V → V) (left ps : List (Numbered K V)) (i : ℕ) (w : V) → Lacks left i → written_all f left (with_value ps i w) ≡ with_value (written_all f left ps) i w
+  written_past f [] ps i w l = refl
+  written_past f (p ∷ left) ps i w l =
+      ap (written_all f left) (with_with ps i p.0 w (f p.1) (λ e. l.0 (sym e))) ∙ written_past f left (with_value ps p.0 (f p.1)) i w l.1
+
+  written_behind : (f : K × V → V) (left ps : List (Numbered K V)) (p : Numbered K V) → written_all f (left ++ p ∷ []) ps ≡ with_value (written_all f left ps) p.0 (f p.1)
+  written_behind f [] ps p = refl
+  written_behind f (q ∷ left) ps p = written_behind f left (with_value ps q.0 (f q.1)) p
+
+  -- ---- a cursor that is moved on
+
+  fewer_lent : (was : Option ℕ) (ps left after : List (Numbered K V)) → ((i : ℕ) → Lacks left i → Lacks after i) → LentIn was ps left → LentIn was ps after
+  fewer_lent None ps left after h l = tt
+  fewer_lent (Some i) ps left after h l = (l.0, h i l.1)
+
+  module _ (ps : List (Numbered K V)) (old new : Cursor) (was : Option ℕ) (test : walk_fits old was (numbers ps) ≡ true) (fits : FitsIn new ps) where
+    -- past the first, it still fits
+    pub moved_first : (o : Option ℕ) → PassesFirst (leaves_left old ps) o (leaves_left new ps) → walk_fits new was (numbers ps) ≡ true
+    moved_first o passes = to_test new was ps fits (fewer_lent was ps (leaves_left old ps) (leaves_left new ps) (go o passes) (lent_from_test old was ps test))
+      where
+        go : (o : Option ℕ) → PassesFirst (leaves_left old ps) o (leaves_left new ps) → (i : ℕ) → Lacks (leaves_left old ps) i → Lacks (leaves_left new ps) i
+        go None e i l = subst (λ (l : List (Numbered K V)). Lacks l i) (e.0 ∙ sym e.1) l
+        go (Some id) e i l = (subst (λ (l : List (Numbered K V)). Lacks l i) e.1 l).1
+
+    -- and past the last
+    pub moved_last : (o : Option ℕ) → PassesLast (leaves_left old ps) o (leaves_left new ps) → walk_fits new was (numbers ps) ≡ true
+    moved_last o passes = to_test new was ps fits (fewer_lent was ps (leaves_left old ps) (leaves_left new ps) (go o passes) (lent_from_test old was ps test))
+      where
+        go : (o : Option ℕ) → PassesLast (leaves_left old ps) o (leaves_left new ps) → (i : ℕ) → Lacks (leaves_left old ps) i → Lacks (leaves_left new ps) i
+        go None e i l = subst (λ (l : List (Numbered K V)). Lacks l i) (e.0 ∙ sym e.1) l
+        go (Some id) e i l = (Lacks-parts (leaves_left new ps) [] (id, e.0) i (subst (λ (l : List (Numbered K V)). Lacks l i) e.1 l)).0
+
+  -- ---- the pair that is passed
+
+  module _ (ps : List (Numbered K V)) (distinct : AreDistinct ps) (old new : Cursor) (was : Option ℕ) (test : walk_fits old was (numbers ps) ≡ true) (fits : FitsIn new ps) (id : ℕ) (there : Has ps id) where
+    pub first_fits_now : (x : K × V) × (leaves_left old ps ≡ (id, x) ∷ leaves_left new ps) → walk_fits new (Some id) (numbers ps) ≡ true
+    first_fits_now passed = let n = some_of (leaf_in ps id) there in to_test new (Some id) ps fits (there, first_passed ps ps distinct old new (from_test old was ps test) fits id n.0 n.1 passed)
+
+    pub last_fits_now : (x : K × V) × (leaves_left old ps ≡ leaves_left new ps ++ (id, x) ∷ []) → walk_fits new (Some id) (numbers ps) ≡ true
+    last_fits_now passed = let n = some_of (leaf_in ps id) there in to_test new (Some id) ps fits (there, last_passed ps ps distinct old new (from_test old was ps test) fits id n.0 n.1 passed)
+
+  -- ---- the pair that is lent
+
+  module _ (ps : List (Numbered K V)) (distinct : AreDistinct ps) (old new : Cursor) (was : Option ℕ) (test : walk_fits old was (numbers ps) ≡ true) (fits : FitsIn new ps) (id : ℕ) (v : V) (value : option_map (λ (p : K × V). p.1) (leaf_in ps id) ≡ Some v) where
+    -- its key
+    abbrev pub lent_key : K
+    lent_key = (mapped_some (λ (p : K × V). p.1) (leaf_in ps id) v value).0.0
+
+    pub lent_named : leaf_in ps id ≡ Some (lent_key, v)
+    lent_named = let m = mapped_some (λ (p : K × V). p.1) (leaf_in ps id) v value in m.1 ∙ ap (λ u. Some (m.0.0, u)) m.2
+
+    has_it : Has ps id
+    has_it = is_some (leaf_in ps id) (lent_key, v) lent_named
+
+    fits_now : Lacks (leaves_left new ps) id → walk_fits new (Some id) (numbers ps) ≡ true
+    fits_now lacks = to_test new (Some id) ps fits (has_it, lacks)
+
+    fits_with : Lacks (leaves_left new ps) id → (w : V) → walk_fits new (Some id) (numbers (with_value ps id w)) ≡ true
+    fits_with lacks w = ap (walk_fits new (Some id)) (numbers_written (Some id) ps w) ∙ fits_now lacks
+
+    module _ (passed : (x : K × V) × (leaves_left old ps ≡ (id, x) ∷ leaves_left new ps)) where
+      lacks_first : Lacks (leaves_left new ps) id
+      lacks_first = first_passed ps ps distinct old new (from_test old was ps test) fits id (lent_key, v) lent_named passed
+
+      pub first_fits_with : (w : V) → walk_fits new (Some id) (numbers (with_value ps id w)) ≡ true
+      first_fits_with = fits_with lacks_first
+
+      abbrev first_after : V → List (Numbered K V)
+      first_after w = leaves_left new (with_value ps id w)
+
+      first_same : (w : V) → first_after w ≡ leaves_left new ps
+      first_same w = written_left ps distinct new fits id (lent_key, v) w lacks_first
+
+      pub first_splits : (w : V) → leaves_left old ps ≡ (id, (lent_key, v)) ∷ first_after w
+      first_splits w =
+          first_named ps ps distinct old new (from_test old was ps test) fits id (lent_key, v) lent_named passed
+          ∙ ap (λ l. (id, (lent_key, v)) ∷ l) (sym (first_same w))
+
+      pub first_lent : (w : V) → IsLent ps (with_value ps id w) (leaves_left old ps) (first_after w) id lent_key v w
+      first_lent w = record {
+        named = lent_named;
+        written = refl;
+        passed = subst (λ (l : List (Numbered K V)). Lacks l id) (sym (first_same w)) lacks_first;
+        goes = λ f e. ap (λ u. written_all f (first_after w) (with_value ps id u)) (sym e) ∙ sym (ap (λ l. written_all f l ps) (first_splits w));
+      }
+
+      pub first_lent_count : (w : V) (n : ℕ) → n ≡ length (leaves_left old ps) → n - 1 ≡ length (first_after w)
+      first_lent_count w n e = let h : n ≡ suc (length (first_after w)) = e ∙ ap length (first_splits w) in omega arith
+
+    module _ (passed : (x : K × V) × (leaves_left old ps ≡ leaves_left new ps ++ (id, x) ∷ [])) where
+      lacks_last : Lacks (leaves_left new ps) id
+      lacks_last = last_passed ps ps distinct old new (from_test old was ps test) fits id (lent_key, v) lent_named passed
+
+      pub last_fits_with : (w : V) → walk_fits new (Some id) (numbers (with_value ps id w)) ≡ true
+      last_fits_with = fits_with lacks_last
+
+      abbrev last_after : V → List (Numbered K V)
+      last_after w = leaves_left new (with_value ps id w)
+
+      last_same : (w : V) → last_after w ≡ leaves_left new ps
+      last_same w = written_left ps distinct new fits id (lent_key, v) w lacks_last
+
+      pub last_splits : (w : V) → leaves_left old ps ≡ last_after w ++ (id, (lent_key, v)) ∷ []
+      last_splits w =
+          last_named ps ps distinct old new (from_test old was ps test) fits id (lent_key, v) lent_named passed
+          ∙ ap (λ l. l ++ (id, (lent_key, v)) ∷ []) (sym (last_same w))
+
+      pub last_lent : (w : V) → IsLent ps (with_value ps id w) (leaves_left old ps) (last_after w) id lent_key v w
+      last_lent w =
+          let lacks = subst (λ (l : List (Numbered K V)). Lacks l id) (sym (last_same w)) lacks_last in
+          record {
+            named = lent_named;
+            written = refl;
+            passed = lacks;
+            goes = λ f e.
+                written_past f (last_after w) ps id w lacks ∙ ap (λ u. with_value (written_all f (last_after w) ps) id u) (sym e)
+                ∙ sym (ap (λ l. written_all f l ps) (last_splits w) ∙ written_behind f (last_after w) ps (id, (lent_key, v)));
+          }
+
+      pub last_lent_count : (w : V) (n : ℕ) → n ≡ length (leaves_left old ps) → n - 1 ≡ length (last_after w)
+      last_lent_count w n e =
+          let h : n ≡ length (last_after w) + 1 = e ∙ ap length (last_splits w) ∙ length-append (last_after w) ((id, (lent_key, v)) ∷ []) in
+          omega arith
+
+  -- ---- the pair lent last, again
+
+  -- it is in the list
+  pub has_lent : (c : Cursor) (lent : Option ℕ) (ps : List (Numbered K V)) → walk_fits c lent (numbers ps) ≡ true → (id : ℕ) → lent ≡ Some id → Has ps id
+  has_lent c lent ps test id e = (lent_from_test c (Some id) ps (ap (λ (o : Option ℕ). walk_fits c o (numbers ps)) (sym e) ∙ test)).0
+
+  module _ (ps : List (Numbered K V)) (distinct : AreDistinct ps) (c : Cursor) (lent : Option ℕ) (test : walk_fits c lent (numbers ps) ≡ true) where
+    -- a value written leaves what is still to come
+    pub same_left : (w : V) → leaves_left c (written_last lent ps w) ≡ leaves_left c ps
+    same_left w = go lent (lent_from_test c lent ps test)
+      where
+        go : (o : Option ℕ) → LentIn o ps (leaves_left c ps) → leaves_left c (written_last o ps w) ≡ leaves_left c ps
+        go None h = refl
+        go (Some i) h = written_left ps distinct c (from_test c lent ps test) i (let x = (some_of (leaf_in ps i) h.0).0 in x) w h.1
+
+  -- ---- the pair lent last is taken out, or kept
+
+  pub kept_fits : (c : Cursor) (lent : Option ℕ) (ps : List (Numbered K V)) → walk_fits c lent (numbers ps) ≡ true → walk_fits c None (numbers ps) ≡ true
+  kept_fits c lent ps test = to_test c None ps (from_test c lent ps test) tt
+
+  module _ (ps qs : List (Numbered K V)) (distinct : AreDistinct ps) (c : Cursor) (lent : Option ℕ) (test : walk_fits c lent (numbers ps) ≡ true) (id : ℕ) (is : lent ≡ Some id) (rest : qs ≡ without_number ps id) where
+    lent_lacks : Lacks (leaves_left c ps) id
+    lent_lacks = (lent_from_test c (Some id) ps (ap (λ (o : Option ℕ). walk_fits c o (numbers ps)) (sym is) ∙ test)).1
+
+    pub taken_fits : walk_fits c None (numbers qs) ≡ true
+    taken_fits = to_test c None qs (subst (λ (l : List (Numbered K V)). FitsIn c l) (sym rest) (left_without c ps id distinct (from_test c lent ps test) lent_lacks).0) tt
+
+    pub taken_left : leaves_left c qs ≡ leaves_left c ps
+    taken_left = ap (leaves_left c) rest ∙ (left_without c ps id distinct (from_test c lent ps test) lent_lacks).1
+
+  -- ---- a walk that counts
+
+  lengths : (ps : List (Numbered K V)) → length (bare (numbers ps)) ≡ length ps
+  lengths [] = refl
+  lengths (p ∷ ps) = ap suc (lengths ps)
+
+  left_lengths : (c : Cursor) (ps : List (Numbered K V)) → length (leaves_left c (bare (numbers ps))) ≡ length (leaves_left c ps)
+  left_lengths c ps = ap length (bare_left c ps) ∙ lengths (leaves_left c ps)
+
+  module _ (c : Cursor) (lent : Option ℕ) (left : ℕ) (ps : List (Numbered K V)) where
+    pub to_count : walk_fits c lent (numbers ps) ≡ true → left ≡ length (leaves_left c ps) → count_fits c lent left (numbers ps) ≡ true
+    to_count f n = both _ _ f (eq-eqb left (length (leaves_left c (bare (numbers ps)))) (n ∙ sym (left_lengths c ps)))
+
+    pub count_test : count_fits c lent left (numbers ps) ≡ true → walk_fits c lent (numbers ps) ≡ true
+    count_test h = left_of _ _ h
+
+    pub count_is : count_fits c lent left (numbers ps) ≡ true → left ≡ length (leaves_left c ps)
+    count_is h = eqb-true left (length (leaves_left c (bare (numbers ps)))) (right_of _ _ h) ∙ left_lengths c ps
+
+  -- one less is left
+  module _ (old new : Cursor) (ps : List (Numbered K V)) (id left : ℕ) (count : left ≡ length (leaves_left old ps)) where
+    pub fewer_after_first : (x : K × V) × (leaves_left old ps ≡ (id, x) ∷ leaves_left new ps) → left ≡ suc (length (leaves_left new ps))
+    fewer_after_first e = count ∙ ap length e.1
+
+    pub fewer_after_last : (x : K × V) × (leaves_left old ps ≡ leaves_left new ps ++ (id, x) ∷ []) → left ≡ suc (length (leaves_left new ps))
+    fewer_after_last e = let h : left ≡ length (leaves_left new ps) + 1 = count ∙ ap length e.1 ∙ length-append (leaves_left new ps) ((id, e.0) ∷ []) in omega arith

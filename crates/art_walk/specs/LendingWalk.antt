@@ -1,0 +1,51 @@
+-- What contracts see of a walk over some pairs of a tree that lends their values.
+use Rattle.std.specs.Prelude.{◌≡◌, ℕ, List, [], Option, MatchOption, ⊤}
+use Rattle.std.specs.Borrow.{Fml, RattleType, Bor, MutBor, Lends, LendsSo}
+use mir.Syntax.{named}
+use Rattle.blart_keys.specs.declared.AsBytes.{Ghosts}
+use Rattle.art_tree.specs.Content.{Content}
+use Rattle.art_tree.specs.Leaves.{Numbered}
+use Rattle.art_walk.specs.Cursor.{leaves_left}
+use Rattle.art_walk.specs.Lent.{LentFirst, LentLast, NoneLent, written_last, fits_written}
+use Rattle.art_walk.specs.declared.lending_walk.LendingWalk.{LendingWalk}
+use Rattle.art_walk.specs.contracts.lending_walk.LendingWalk.{the_row}
+
+-- the same tree is lent, with the same spare records
+abbrev pub SameTree : {K V : Type 0} → MutBor (Content K V) → MutBor (Content K V) → Type 0
+SameTree old new = (new.ghost_name ≡ old.ghost_name) × (new.now.spares ≡ old.now.spares)
+
+-- the pairs whose values are still to be lent
+abbrev pub lending_left : {K V M : Type 0} {p : ℕ} {g : Ghosts K} → LendingWalk K V M p g → List (Numbered K V)
+lending_left s = leaves_left s.cursor s.tree.now.pairs
+
+-- the walk, once the pair lent last has the value w
+abbrev pub lending_with : {K V M : Type 0} {p : ℕ} {g : Ghosts K} → LendingWalk K V M p g → V → LendingWalk K V M p g
+lending_with s w = record {
+  tree = record s.tree { now = record s.tree.now { pairs = written_last s.lent s.tree.now.pairs w } };
+  cursor = s.cursor;
+  lent = s.lent;
+  kind = s.kind;
+  fits = fits_written s.cursor s.lent s.tree.now.pairs w s.fits;
+}
+
+module _ (K V M P : RattleType) (g : Ghosts K.Denot) where
+  abbrev pub walk_row : RattleType
+  walk_row = the_row (record { mir = named 1; lft = [] }) K V M P g
+
+  -- once the borrow r ends, the first value that was left is the last one written through r
+  abbrev pub lends_first : MutBor walk_row.Denot → Option (MutBor V.Denot) → Fml
+  lends_first s r =
+      LendsSo walk_row V s r
+      (λ n w. MatchOption r ⊤ (λ x. SameTree s.now.tree n.tree × LentFirst s.now.tree.now.pairs n.tree.now.pairs (lending_left s.now) (lending_left n) n.lent x.now w))
+      (λ n. MatchOption r (SameTree s.now.tree n.tree × NoneLent s.now.tree.now.pairs n.tree.now.pairs (lending_left s.now) (lending_left n) s.now.lent n.lent) (λ _. ⊤))
+
+  -- the same of the last
+  abbrev pub lends_last : MutBor walk_row.Denot → Option (MutBor V.Denot) → Fml
+  lends_last s r =
+      LendsSo walk_row V s r
+      (λ n w. MatchOption r ⊤ (λ x. SameTree s.now.tree n.tree × LentLast s.now.tree.now.pairs n.tree.now.pairs (lending_left s.now) (lending_left n) n.lent x.now w))
+      (λ n. MatchOption r (SameTree s.now.tree n.tree × NoneLent s.now.tree.now.pairs n.tree.now.pairs (lending_left s.now) (lending_left n) s.now.lent n.lent) (λ _. ⊤))
+
+  -- once the borrow r.1 ends, the pair lent last has the last value written through it
+  abbrev pub lends_pair : MutBor walk_row.Denot → Bor K.Denot × MutBor V.Denot → Fml
+  lends_pair s r = Lends walk_row V s r.1 (lending_with s.now)

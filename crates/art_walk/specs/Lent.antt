@@ -1,0 +1,90 @@
+-- What a walk lent: once the loan is over, the value of one pair was written, and nothing else differs.
+use Rattle.std.specs.Prelude.{◌≡◌, ℕ, List, [], ◌∷◌, ◌++◌, Option, Some, None, Bool, true, false, cond, is_some, map, eqb, length}
+use Rattle.std.specs.Option.{is_none}
+use Rattle.std.proofs.Common.{ap, refl, ◌∙◌}
+use Rattle.art_tree.proofs.CallerLemmas.{numbers-with_value}
+use Rattle.art_tree.specs.Leaves.{Numbered, leaf_in, Lacks, with_value}
+use Rattle.art_walk.specs.declared.cursor.Ends.{Ends}
+use Rattle.art_walk.specs.declared.cursor.Cursor.{Cursor}
+use Rattle.art_walk.specs.Cursor.{from_number, leaves_left}
+
+module _ {K V : Type 0} where
+  -- the numbers of a list of pairs
+  abbrev pub numbers : List (Numbered K V) → List ℕ
+  numbers ps = map (λ p. p.0) ps
+
+-- numbers with nothing under them
+abbrev pub bare : List ℕ → List (Numbered (Unit {0}) (Unit {0}))
+bare ns = map (λ n. (n, (tt, tt))) ns
+
+-- whether the ends, if there are any, are among these numbers, the first not behind the last
+abbrev pub ends_fit : Option Ends → List ℕ → Bool
+ends_fit None ns = true
+ends_fit (Some e) ns = is_some (leaf_in (from_number (bare ns) e.first) e.last)
+
+-- whether the number lent last, if there is one, is among these, and is none of those that are left
+abbrev pub lent_fits : Option ℕ → List (Numbered (Unit {0}) (Unit {0})) → List (Numbered (Unit {0}) (Unit {0})) → Bool
+lent_fits None ps left = true
+lent_fits (Some i) ps left = cond (is_some (leaf_in ps i)) (is_none (leaf_in left i)) false
+
+-- whether a walk that lends fits these numbers: its ends do, and the number that it lent last does
+abbrev pub walk_fits : Cursor → Option ℕ → List ℕ → Bool
+walk_fits c lent ns = cond (ends_fit c.ends ns) (lent_fits lent (bare ns) (leaves_left c (bare ns))) false
+
+-- whether a walk that counts fits these numbers: it does, and so many are left
+abbrev pub count_fits : Cursor → Option ℕ → ℕ → List ℕ → Bool
+count_fits c lent left ns = cond (walk_fits c lent ns) (eqb left (length (leaves_left c (bare ns)))) false
+
+module _ {K V : Type 0} where
+  -- the list, once each of the pairs that are left has the value that f gives it
+  abbrev pub written_all : (K × V → V) → List (Numbered K V) → List (Numbered K V) → List (Numbered K V)
+  written_all f [] ps = ps
+  written_all f (p ∷ left) ps = written_all f left (with_value ps p.0 (f p.1))
+
+  -- of the pairs that were left one was lent, which had the value v and has w now; the others are still to come
+  pub record IsLent (old new : List (Numbered K V)) (left after : List (Numbered K V)) (number : ℕ) (key : K) (v w : V) : Type 0 where
+    pub named : leaf_in old number ≡ Some (key, v)
+    pub written : new ≡ with_value old number w
+    pub passed : Lacks after number
+    pub goes : (f : K × V → V) → f (key, v) ≡ w → written_all f after new ≡ written_all f left old
+
+  -- this was the first, and it is the pair lent last
+  pub record LentFirst (old new : List (Numbered K V)) (left after : List (Numbered K V)) (last : Option ℕ) (v w : V) : Type 0 where
+    pub number : ℕ
+    pub key : K
+    pub splits : left ≡ (number, (key, v)) ∷ after
+    pub lent : IsLent old new left after number key v w
+    pub is_last : last ≡ Some number
+
+  -- this was the last, and it is the pair lent last
+  pub record LentLast (old new : List (Numbered K V)) (left after : List (Numbered K V)) (last : Option ℕ) (v w : V) : Type 0 where
+    pub number : ℕ
+    pub key : K
+    pub splits : left ≡ after ++ (number, (key, v)) ∷ []
+    pub lent : IsLent old new left after number key v w
+    pub is_last : last ≡ Some number
+
+  -- nothing was left, and nothing changed
+  pub record NoneLent (old new : List (Numbered K V)) (left after : List (Numbered K V)) (was last : Option ℕ) : Type 0 where
+    pub unchanged : new ≡ old
+    pub none : left ≡ []
+    pub still : after ≡ []
+    pub same : last ≡ was
+
+  -- the list, with this value at the pair lent last
+  abbrev pub written_last : Option ℕ → List (Numbered K V) → V → List (Numbered K V)
+  written_last None ps w = ps
+  written_last (Some i) ps w = with_value ps i w
+
+  -- a value written leaves the numbers
+  pub numbers_written : (lent : Option ℕ) (ps : List (Numbered K V)) (w : V) → numbers (written_last lent ps w) ≡ numbers ps
+  numbers_written None ps w = refl
+  numbers_written (Some i) ps w = numbers-with_value ps i w
+
+  -- so the walk fits as before
+  pub fits_written : (c : Cursor) (lent : Option ℕ) (ps : List (Numbered K V)) (w : V) → walk_fits c lent (numbers ps) ≡ true → walk_fits c lent (numbers (written_last lent ps w)) ≡ true
+  fits_written c lent ps w h = ap (walk_fits c lent) (numbers_written lent ps w) ∙ h
+
+  -- and counts as before
+  pub count_written : (c : Cursor) (lent : Option ℕ) (left : ℕ) (ps : List (Numbered K V)) (w : V) → count_fits c lent left (numbers ps) ≡ true → count_fits c lent left (numbers (written_last lent ps w)) ≡ true
+  count_written c lent left ps w h = ap (count_fits c lent left) (numbers_written lent ps w) ∙ h
