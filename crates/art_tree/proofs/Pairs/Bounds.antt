@@ -17,7 +17,7 @@ use Rattle.art_tree.specs.Places.{LastBefore, IsLeafBefore}
 use Rattle.art_tree.specs.Leaves.{Numbered, AreDistinct, Has, bytes, keys_in, first_number, last_number, number_after, number_before, behind}
 use Rattle.art_tree.specs.Slabs.Nodes.{Node}
 use Rattle.art_tree.specs.Seeks.{number_within, ends}
-use Rattle.art_tree.specs.Calls.Seeking.{beside, StandsAt}
+use Rattle.art_tree.specs.Calls.Seeking.{beside, IsPlaceOf}
 use Rattle.art_tree.specs.Invariant.Shape.{Shape}
 use Rattle.art_tree.specs.declared.tree.parting.Departure.{Departure}
 use Rattle.art_tree.specs.declared.records.ids.Child.{Child}
@@ -288,17 +288,17 @@ module _ {K V : Type 0} (key_bytes : K → Bytes) (pairs : List (Numbered K V)) 
     span_apart d l = no_ends q (λ j k e b. false≢true (sym (l.apart.alone j k e) ∙ related-from_begun k q b))
 
     -- the leaf before q, and that no key is q, where a key begins q
-    pub place_shorter : {P : ℕ} → (root : Option Child) → Shape P keys nodes root → (i : ℕ) → KeyEnds keys i q → StandsAt keys q (Err (Some i))
+    pub place_shorter : {P : ℕ} → (root : Option Child) → Shape P keys nodes root → (i : ℕ) → KeyEnds keys i q → IsPlaceOf keys q (Err (Some i))
     place_shorter root s i m =
         let l : length m.key < length q = m.shorter in
         (last_front keys q nodes root s i m.key m.is m.begins l, no_key keys nodes root s i m.key m.is q (inl m.begins) (omega arith))
 
     -- where q begins keys
-    pub place_longer : {P : ℕ} → (c : Child) → QueryEnds key_bytes P pairs nodes c q → (first : ℕ) → IsEndUnder keys true q first → (o : Option ℕ) → o ≡ number_before pairs first → StandsAt keys q (Err o)
+    pub place_longer : {P : ℕ} → (c : Child) → QueryEnds key_bytes P pairs nodes c q → (first : ℕ) → IsEndUnder keys true q first → (o : Option ℕ) → o ≡ number_before pairs first → IsPlaceOf keys q (Err o)
     place_longer c m first u o e =
         let l : length q < length m.key = m.longer in
         (subst (λ (o : Option ℕ). IsLeafBefore keys q o) (sym e) (behind_from key_bytes pairs content distinct q first (least_from keys q first u)), no_key keys nodes m.root m.shape m.leaf m.key m.is q (inr m.begun) (omega arith))
 
     -- and where no key is related to q
-    pub place_apart : {P : ℕ} → (d : Departure) → LeavesAt key_bytes P pairs nodes d q → (o : Option ℕ) → IsLeafBefore keys q o → StandsAt keys q (Err o)
+    pub place_apart : {P : ℕ} → (d : Departure) → LeavesAt key_bytes P pairs nodes d q → (o : Option ℕ) → IsLeafBefore keys q o → IsPlaceOf keys q (Err o)
     place_apart d l o h = (h, no_key_alone keys q l.apart.alone)

@@ -9,7 +9,7 @@ use Rattle.art_tree.specs.Invariant.Shape.{Shape, Covers}
 use Rattle.art_tree.specs.declared.records.ids.Child.{Child}
 
 -- in some tree, the child stands for the keys that begin with some front
-pub record Hangs (P : ℕ) (nodes : ℕ → Option Node) (child : Child) : Type 0 where
+pub record IsSubtree (P : ℕ) (nodes : ℕ → Option Node) (child : Child) : Type 0 where
   pub keys : ℕ → Option Bytes
   pub root : Option Child
   pub shape : Shape P keys nodes root
