@@ -62,6 +62,13 @@ module _ (keys : ℕ → Option Bytes) where
     pub is : keys i ≡ Some key
     pub best : (j : ℕ) (k : Bytes) → keys j ≡ Some k → length (common k q) ≤ length (common key q)
 
+module _ (keys : ℕ → Option Bytes) (q : Bytes) (i : ℕ) (key : Bytes) (n : ℕ) where
+  -- the key of the leaf has the first n bytes of q, and no key has more
+  pub record IsNearest : Type 0 where
+    pub is : keys i ≡ Some key
+    pub shared : n ≡ length (common key q)
+    pub best : (j : ℕ) (k : Bytes) → keys j ≡ Some k → length (common k q) ≤ length (common key q)
+
 module _ (keys : ℕ → Option Bytes) (nodes : ℕ → Option Node) (front_of : ℕ → Bytes) (f : Bytes) (old new : ℕ) where
   -- no node stands at f
   pub record FindsNone : Type 0 where

@@ -12,8 +12,8 @@ use crate::records::ids::{Child, LeafId};
 use crate::records::leaves::Leaves;
 use crate::records::nodes::Nodes;
 use crate::tree::Tree;
-use crate::tree::descent::end_under;
-use crate::tree::parting::{Parting, leaf_before, parting_of};
+use crate::tree::descent::{end_under, locate};
+use crate::tree::parting::{Parting, leaf_before, nearest_leaf, parting_of};
 use crate::visits::Visits;
 use blart_keys::AsBytes;
 use std::ops::Bound;
@@ -132,14 +132,12 @@ fn span_below<K: AsBytes, V, const P: usize>(
     ensures grows { visits.old.count ≤ visits.new.count }
 {
     leaves.law();
-    match parting_of(leaves, nodes, root, front, visits) {
-        Parting::Same(id) => Some((id, id)),
-        Parting::Longer(child) => {
-            let first = end_under(nodes, &child, true, visits);
-            let last = end_under(nodes, &child, false, visits);
-            Some((first, last))
-        }
-        Parting::Shorter(_) => None,
-        Parting::Apart(_) => None,
+    let (_, key, depth) = nearest_leaf(leaves, nodes, root, front, visits);
+    if depth < front.len() {
+        return None;
     }
+    let child = locate(nodes, root, key, depth, visits).child();
+    let first = end_under(nodes, &child, true, visits);
+    let last = end_under(nodes, &child, false, visits);
+    Some((first, last))
 }
