@@ -61,10 +61,10 @@ module _ {K V : Type 0} where
   behind (Some i) ps = number_after ps i
 
   -- the pairs, with another behind the one of a number, or in front
-  abbrev pub placed_behind : Option ℕ → Numbered K V → List (Numbered K V) → List (Numbered K V)
-  placed_behind None x ps = x ∷ ps
-  placed_behind (Some i) x [] = []
-  placed_behind (Some i) x (p ∷ ps) = cond (eqb p.0 i) (p ∷ x ∷ ps) (p ∷ placed_behind (Some i) x ps)
+  abbrev pub with_pair_behind : Option ℕ → Numbered K V → List (Numbered K V) → List (Numbered K V)
+  with_pair_behind None x ps = x ∷ ps
+  with_pair_behind (Some i) x [] = []
+  with_pair_behind (Some i) x (p ∷ ps) = cond (eqb p.0 i) (p ∷ x ∷ ps) (p ∷ with_pair_behind (Some i) x ps)
 
   -- the pairs but that of a number
   abbrev pub without_number : List (Numbered K V) → ℕ → List (Numbered K V)

@@ -8,7 +8,7 @@ use Rattle.blart_keys.specs.Bytes.{related}
 use Rattle.art_tree.specs.Invariant.EdgesAbove.{LeadsTo, TurnsTo, edge_front}
 use Rattle.art_tree.specs.Begins.{Bytes, Begins, next_byte}
 use Rattle.art_tree.specs.Places.{LeavesMate}
-use Rattle.art_tree.specs.Calls.Placing.{Forks, StandsWithin}
+use Rattle.art_tree.specs.Calls.Placing.{Forks, DepthWithin}
 use Rattle.art_tree.specs.Calls.Removing.{StartsBelow, EndsBelow, Cuts, CutsBehind}
 use Rattle.art_tree.specs.Slabs.Edges.{child_at}
 use Rattle.art_tree.specs.Slabs.Nodes.{Node, Renames}
@@ -60,7 +60,7 @@ module _ {P : ℕ} (keys : ℕ → Option Bytes) (nodes : ℕ → Option Node) (
   leaving_unrelated mate depth q good = departs_unrelated (take depth q) q (departs_at keys mate depth q good)
 
   -- a child on the way of a key, past a length, is no deeper than the key is long
-  pub within_key : (m : Bytes) (depth : ℕ) (above : Option (ℕ × ℕ)) (c : Child) (leaf : ℕ) → keys leaf ≡ Some m → EdgeFits nodes root s.front_of m depth above c → PastLength s.front_of depth c → StandsWithin nodes c (depth + 1) (length m)
+  pub within_key : (m : Bytes) (depth : ℕ) (above : Option (ℕ × ℕ)) (c : Child) (leaf : ℕ) → keys leaf ≡ Some m → EdgeFits nodes root s.front_of m depth above c → PastLength s.front_of depth c → DepthWithin nodes c (depth + 1) (length m)
   within_key m depth above (Leaf i) leaf is fits past = tt
   within_key m depth above (Inner n) leaf is fits past =
       let c = covers_above keys nodes root s above (Inner n) fits.leads in
@@ -130,9 +130,9 @@ module _ (keys : ℕ → Option Bytes) (leaf depth : ℕ) (q : Bytes) (good : Le
       leads_forked mid n prefix one other f = leads_made cut mid root above c n depth prefix f.low f.high (cut_leads P nodes cut s.front_of (take depth m ++ get_or m depth 0 ∷ []) c cut_child root above c fits.leads) f.made
 
       -- the leaf at an edge, under a new node
-      pub joined_edge : (keys' : ℕ → Option Bytes) (i : ℕ) (mid new : ℕ → Option Node) (root' : Option Child) (n start : ℕ) → Gains keys keys' i q → StartsBelow nodes above start
+      pub edge_gains : (keys' : ℕ → Option Bytes) (i : ℕ) (mid new : ℕ → Option Node) (root' : Option Child) (n start : ℕ) → Gains keys keys' i q → StartsBelow nodes above start
           → Forks cut mid n depth (take P (slice_range q start depth)) (record { byte = get_or q depth 0; to = Leaf i }) (record { byte = get_or m depth 0; to = c }) → TurnsTo mid new root root' above (Inner n) → Shape P keys' new root'
-      joined_edge keys' i mid new root' n start gains starts f turns =
+      edge_gains keys' i mid new root' n start gains starts f turns =
           let long : depth < length q = good.longer in
           let deep : length (take depth q) ≡ depth = length-take-le depth q (omega arith) in
           placed_edge keys leaf depth q good m m_is keys' i gains nodes cut mid new root root' above c n (take P (slice_range q start depth)) f.low f.high s fits past cut_child f.made

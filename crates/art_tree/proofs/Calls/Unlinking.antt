@@ -8,7 +8,7 @@ use Rattle.art_tree.specs.Slabs.Edges.{child_at}
 use Rattle.art_tree.specs.Slabs.Nodes.{Node, DropsEdge, Renames}
 use Rattle.art_tree.specs.Calls.Descents.{IsEndUnder}
 use Rattle.art_tree.specs.Leaves.{Numbered, leaf_in, Has, keys_in}
-use Rattle.art_tree.specs.Calls.Removing.{Loses, HangsAt, HangsBelow, OtherEdge, StartsBelow, EndsBelow}
+use Rattle.art_tree.specs.Calls.Removing.{Loses, IsLeafOf, IsChildBelow, OtherEdge, StartsBelow, EndsBelow}
 use Rattle.art_tree.specs.Invariant.Shape.{Shape, CoversLeaf, CoversNode, NodeFits}
 use Rattle.art_tree.specs.Calls.Spots.{SpotFits}
 use Rattle.art_tree.specs.declared.tree.descent.Spot.TheVariants as spot
@@ -132,7 +132,7 @@ module _ (keys : ℕ → Option Bytes) (nodes mid wide : ℕ → Option Node) (r
       (l.0, kept_mid mid wide n m p l.0 ren (drops.others p off ∙ l.1) off, l.2)
 
   -- the tree without the leaf, where the edge above leads to the node's number
-  pub shape_shrunk : {P : ℕ} → (keys' : ℕ → Option Bytes) (new : ℕ → Option Node) (root' : Option Child) (h : HangsAt P keys nodes root above n b i) → 2 < length h.node.edges → Loses keys keys' i h.key → TurnsTo wide new root root' above (Inner m) → Shape P keys' new root'
+  pub shape_shrunk : {P : ℕ} → (keys' : ℕ → Option Bytes) (new : ℕ → Option Node) (root' : Option Child) (h : IsLeafOf P keys nodes root above n b i) → 2 < length h.node.edges → Loses keys keys' i h.key → TurnsTo wide new root root' above (Inner m) → Shape P keys' new root'
   shape_shrunk keys' new root' h more loses turns =
       let s1 : Shape _ keys' mid root = shape_dropped keys keys' nodes root n i b h.key h.shape loses h.node h.is h.low mid drops more in
       (node_moved keys' mid wide new root root' n m above s1 ren (leads_dropped above h.shape h.leads) turns).0
@@ -158,8 +158,8 @@ loses_same old new i k k' l e = record { was = e; gone = l.gone; others = l.othe
 
 module _ {P : ℕ} (keys : ℕ → Option Bytes) (nodes : ℕ → Option Node) (root : Option Child) (s : Shape P keys nodes root) where
   -- the child of another edge hangs below the edge to the node
-  abbrev pub hangs_below : (above : Option (ℕ × ℕ)) (n b : ℕ) (e : Edge) → LeadsTo nodes root above (Inner n) → OtherEdge nodes n b e → HangsBelow P keys nodes above e.to
-  hangs_below above n b e leads other = record { root = root; shape = s; number = n; leads = leads; node = other.node; is = other.is; byte = e.byte; there = other.there }
+  abbrev pub child_below_edge : (above : Option (ℕ × ℕ)) (n b : ℕ) (e : Edge) → LeadsTo nodes root above (Inner n) → OtherEdge nodes n b e → IsChildBelow P keys nodes above e.to
+  child_below_edge above n b e leads other = record { root = root; shape = s; number = n; leads = leads; node = other.node; is = other.is; byte = e.byte; there = other.there }
 
   -- the front of an edge to a node begins each front below the node
   pub begins_below : (above : Option (ℕ × ℕ)) (n b : ℕ) → LeadsTo nodes root above (Inner n) → Begins (edge_front s.front_of above) (s.front_of n ++ b ∷ [])
@@ -206,15 +206,15 @@ module _ {P : ℕ} (keys : ℕ → Option Bytes) (nodes : ℕ → Option Node) (
         omega arith
 
 -- a leaf's key and the two edges
-abbrev pub hangs_from : {P : ℕ} → {K V : Type 0} (key_bytes : K → Bytes) (pairs : List (Numbered K V)) (nodes : ℕ → Option Node) (root : Option Child) (s : Shape P (keys_in key_bytes pairs) nodes root) (i : ℕ) → Has pairs i
-    → (n b : ℕ) → LeadsTo nodes root (Some (n, b)) (Leaf i) → (above : Option (ℕ × ℕ)) → LeadsTo nodes root above (Inner n) → HangsAt P (keys_in key_bytes pairs) nodes root above n b i
-hangs_from key_bytes pairs nodes root s i has n b low above leads =
+abbrev pub leaf_at_node : {P : ℕ} → {K V : Type 0} (key_bytes : K → Bytes) (pairs : List (Numbered K V)) (nodes : ℕ → Option Node) (root : Option Child) (s : Shape P (keys_in key_bytes pairs) nodes root) (i : ℕ) → Has pairs i
+    → (n b : ℕ) → LeadsTo nodes root (Some (n, b)) (Leaf i) → (above : Option (ℕ × ℕ)) → LeadsTo nodes root above (Inner n) → IsLeafOf P (keys_in key_bytes pairs) nodes root above n b i
+leaf_at_node key_bytes pairs nodes root s i has n b low above leads =
     let p = some_of (leaf_in pairs i) has in
     record { shape = s; key = key_bytes p.0.0; key_is = key_of_pair key_bytes pairs i p.0 p.1; node = low.0; is = low.1; low = low.2; leads = leads }
 
 -- ---- a child's prefix that is cut anew, from a key below it
 
-module _ {P : ℕ} (keys : ℕ → Option Bytes) (nodes : ℕ → Option Node) (above : Option (ℕ × ℕ)) (n : ℕ) (h : HangsBelow P keys nodes above (Inner n)) where
+module _ {P : ℕ} (keys : ℕ → Option Bytes) (nodes : ℕ → Option Node) (above : Option (ℕ × ℕ)) (n : ℕ) (h : IsChildBelow P keys nodes above (Inner n)) where
   -- the front of the edge to the child, and what that covers
   abbrev pub child_front : Bytes
   child_front = h.shape.front_of h.number ++ h.byte ∷ []

@@ -15,13 +15,13 @@ use Rattle.art_tree.proofs.Invariant.Prefixes.{keeps_as}
 
 module _ (n m : ℕ) where
   -- the number m in place of n
-  abbrev pub renumbered : ℕ → ℕ
-  renumbered j = cond (eqb j n) m j
+  abbrev pub new_number : ℕ → ℕ
+  new_number j = cond (eqb j n) m j
 
   -- the same for a child
   abbrev pub child_renamed : Child → Child
   child_renamed (Leaf i) = Leaf i
-  child_renamed (Inner j) = Inner (renumbered j)
+  child_renamed (Inner j) = Inner (new_number j)
 
   -- and for what an edge leads to
   abbrev pub renamed : Option Child → Option Child
@@ -39,15 +39,15 @@ module _ (n m : ℕ) where
   pub record Moves (old new : ℕ → Option Node) : Type 0 where
     pub live : IsSome (old n)
     pub fresh : m ≢ n → old m ≡ None
-    pub to : (j : ℕ) (x : Node) → old j ≡ Some x → (x' : Node) × (new (renumbered j) ≡ Some x') × SameNode x x'
-    pub back : (k : ℕ) (x' : Node) → new k ≡ Some x' → (j : ℕ) × (x : Node) × (k ≡ renumbered j) × (old j ≡ Some x) × SameNode x x'
+    pub to : (j : ℕ) (x : Node) → old j ≡ Some x → (x' : Node) × (new (new_number j) ≡ Some x') × SameNode x x'
+    pub back : (k : ℕ) (x' : Node) → new k ≡ Some x' → (j : ℕ) × (x : Node) × (k ≡ new_number j) × (old j ≡ Some x) × SameNode x x'
 
 renamed_some : (n m : ℕ) (o : Option Child) (c' : Child) → renamed n m o ≡ Some c' → (c : Child) × (o ≡ Some c) × (child_renamed n m c ≡ c')
 renamed_some n m None c' e = absurd cc
 renamed_some n m (Some c) c' e = (c, refl, (let h : child_renamed n m c ≡ c' = cc in h))
 
 -- only a node is renamed to a node
-renamed_node : (n m : ℕ) (c : Child) (k : ℕ) → child_renamed n m c ≡ Inner k → (j : ℕ) × (c ≡ Inner j) × (renumbered n m j ≡ k)
+renamed_node : (n m : ℕ) (c : Child) (k : ℕ) → child_renamed n m c ≡ Inner k → (j : ℕ) × (c ≡ Inner j) × (new_number n m j ≡ k)
 renamed_node n m (Leaf i) k e = absurd cc
 renamed_node n m (Inner j) k e = (j, refl, cc)
 
@@ -59,7 +59,7 @@ module _ {P : ℕ} (keys : ℕ → Option Bytes) (nodes nodes' : ℕ → Option 
   abbrev pub fronts_after : ℕ → Bytes
   fronts_after k = cond (eqb k m) (s.front_of n) (s.front_of k)
 
-  front_kept : (j : ℕ) (x : Node) → nodes j ≡ Some x → fronts_after (renumbered n m j) ≡ s.front_of j
+  front_kept : (j : ℕ) (x : Node) → nodes j ≡ Some x → fronts_after (new_number n m j) ≡ s.front_of j
   front_kept j x is =
       elim (eqb_tells j n) [
         | inl e ↦ let t : eqb m m ≡ true = eq-eqb m m refl in rw (e.0, t) (ap s.front_of (sym e.1))
@@ -76,9 +76,9 @@ module _ {P : ℕ} (keys : ℕ → Option Bytes) (nodes nodes' : ℕ → Option 
   covers_moved g (Inner j) c =
       let x = some_of (nodes j) c.live in
       let y = mv.to j x.0 x.1 in
-      let e : s.front_of j ≡ fronts_after (renumbered n m j) = sym (front_kept j x.0 x.1) in
+      let e : s.front_of j ≡ fronts_after (new_number n m j) = sym (front_kept j x.0 x.1) in
       record {
-        live = is_some (nodes' (renumbered n m j)) y.0 y.1;
+        live = is_some (nodes' (new_number n m j)) y.0 y.1;
         front = subst (λ (t : Bytes). Begins g t) e c.front;
         only = λ a k is b. subst (λ (t : Bytes). Begins t k) e (c.only a k is b);
       }
@@ -100,7 +100,7 @@ module _ {P : ℕ} (keys : ℕ → Option Bytes) (nodes nodes' : ℕ → Option 
   top_moved (Some c) h = covers_moved [] c h
 
   -- an edge to a node was one to it by the other number
-  edge_was : (a : Option (ℕ × ℕ)) (k : ℕ) → LeadsTo nodes' (renamed n m root) a (Inner k) → (a' : Option (ℕ × ℕ)) × (j : ℕ) × LeadsTo nodes root a' (Inner j) × (renumbered n m j ≡ k) × (edge_front fronts_after a ≡ edge_front s.front_of a')
+  edge_was : (a : Option (ℕ × ℕ)) (k : ℕ) → LeadsTo nodes' (renamed n m root) a (Inner k) → (a' : Option (ℕ × ℕ)) × (j : ℕ) × LeadsTo nodes root a' (Inner j) × (new_number n m j ≡ k) × (edge_front fronts_after a ≡ edge_front s.front_of a')
   edge_was None k l =
       let r = renamed_some n m root (Inner k) l in
       let c = renamed_node n m r.0 k r.2 in
@@ -134,7 +134,7 @@ module _ {P : ℕ} (keys : ℕ → Option Bytes) (nodes nodes' : ℕ → Option 
         (let r = s.joined i j k l a b off in
         let x = some_of (nodes r.0) r.1 in
         let y = mv.to r.0 x.0 x.1 in
-        (renumbered n m r.0, is_some (nodes' (renumbered n m r.0)) y.0 y.1, front_kept r.0 x.0 x.1 ∙ r.2));
+        (new_number n m r.0, is_some (nodes' (new_number n m r.0)) y.0 y.1, front_kept r.0 x.0 x.1 ∙ r.2));
     apart = λ a b la lb e.
         (let x = some_of (nodes' a) la in
         let y = some_of (nodes' b) lb in
@@ -142,7 +142,7 @@ module _ {P : ℕ} (keys : ℕ → Option Bytes) (nodes nodes' : ℕ → Option 
         let q = mv.back b y.0 y.1 in
         let f : s.front_of p.0 ≡ s.front_of q.0 = sym (front_kept p.0 p.1 p.3) ∙ ap fronts_after (sym p.2) ∙ e ∙ ap fronts_after q.2 ∙ front_kept q.0 q.1 q.3 in
         let h : p.0 ≡ q.0 = s.apart p.0 q.0 (is_some (nodes p.0) p.1 p.3) (is_some (nodes q.0) q.1 q.3) f in
-        p.2 ∙ ap (renumbered n m) h ∙ sym q.2);
+        p.2 ∙ ap (new_number n m) h ∙ sym q.2);
     keeps = kept_moved;
   }
 

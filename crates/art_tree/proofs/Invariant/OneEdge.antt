@@ -12,7 +12,7 @@ use Rattle.art_tree.specs.declared.records.ids.Child.{Child}
 use Rattle.art_tree.specs.declared.records.ids.Child.TheVariants.{Leaf, Inner}
 use Rattle.art_tree.proofs.BeginsLemmas.{Begins-length, Begins-trans, Begins-next, Begins-linear, Begins-equal, length-edge, Begins-edge_front}
 use Rattle.blart_keys.proofs.Options.{is_some}
-use Rattle.art_tree.proofs.Invariant.Moving.{renumbered, renamed, SameNode, Moves, shape_moved, front_of_moved}
+use Rattle.art_tree.proofs.Invariant.Moving.{new_number, renamed, SameNode, Moves, shape_moved, front_of_moved}
 
 module _ {P : ℕ} (keys : ℕ → Option Bytes) (nodes : ℕ → Option Node) (root : Option Child) (s : Shape P keys nodes root) where
   over : (g : Bytes) (n q c : ℕ) (x : Node) → nodes q ≡ Some x → CoversNode keys nodes s.front_of g n → CoversNode keys nodes s.front_of (s.front_of q ++ c ∷ []) n → length g ≤ length (s.front_of q) → ⊥
@@ -85,12 +85,12 @@ same_node : (n m : ℕ) (x : Node) → ((c : ℕ) → child_at x.edges c ≡ Som
 same_node n m x h = record { depth = refl; prefix = refl; edges = λ b. sym (renamed-off n m (child_at x.edges b) (h b)); ascends = λ a. a }
 
 -- n becomes m
-pub renumbered-at : (n m : ℕ) → renumbered n m n ≡ m
-renumbered-at n m = let t : eqb n n ≡ true = eq-eqb n n refl in rw t refl
+pub new_number-at : (n m : ℕ) → new_number n m n ≡ m
+new_number-at n m = let t : eqb n n ≡ true = eq-eqb n n refl in rw t refl
 
 -- each other number stands
-pub renumbered-off : (n m j : ℕ) → j ≢ n → renumbered n m j ≡ j
-renumbered-off n m j h = let t : eqb j n ≡ false = ne_eqb j n h in rw t refl
+pub new_number-off : (n m j : ℕ) → j ≢ n → new_number n m j ≡ j
+new_number-off n m j h = let t : eqb j n ≡ false = ne_eqb j n h in rw t refl
 
 module _ {P : ℕ} (keys : ℕ → Option Bytes) (nodes mid : ℕ → Option Node) (r : Child) (n m : ℕ) (s : Shape P keys nodes (Some r)) (ren : Renames nodes mid n m) where
   -- a live number is no fresh one
@@ -117,18 +117,18 @@ module _ {P : ℕ} (keys : ℕ → Option Bytes) (nodes mid : ℕ → Option Nod
         fresh = ren.fresh;
         to = λ j x is. elim (eqb_tells j n) [
           | inl f ↦ (let h : nodes n ≡ Some x = rw (← f.1) is in let w : nodes n ≡ Some ren.node = ren.was in let z : ren.node ≡ x = cc in
-              (x, ap (λ k. mid (renumbered n m k)) f.1 ∙ ap mid (renumbered-at n m) ∙ ren.is ∙ ap (λ (t : Node). Some t) z, same_node n m x (λ c k. none j c x is k)))
-          | inr f ↦ (x, ap mid (renumbered-off n m j f.1) ∙ ren.others j f.1 (off_fresh j x is f.1) ∙ is, same_node n m x (λ c k. none j c x is k))
+              (x, ap (λ k. mid (new_number n m k)) f.1 ∙ ap mid (new_number-at n m) ∙ ren.is ∙ ap (λ (t : Node). Some t) z, same_node n m x (λ c k. none j c x is k)))
+          | inr f ↦ (x, ap mid (new_number-off n m j f.1) ∙ ren.others j f.1 (off_fresh j x is f.1) ∙ is, same_node n m x (λ c k. none j c x is k))
         ];
         back = λ k x is. elim (eqb_tells k m) [
           | inl f ↦ (let h : mid m ≡ Some x = rw (← f.1) is in let w : mid m ≡ Some ren.node = ren.is in let z : ren.node ≡ x = cc in
-              (n, x, f.1 ∙ sym (renumbered-at n m), ren.was ∙ ap (λ (t : Node). Some t) z, same_node n m x (λ c k. none n c x (ren.was ∙ ap (λ (t : Node). Some t) z) k)))
-          | inr f ↦ (let u = was_live k x is f.1 in (k, x, sym (renumbered-off n m k u.0), u.1, same_node n m x (λ c e. none k c x u.1 e)))
+              (n, x, f.1 ∙ sym (new_number-at n m), ren.was ∙ ap (λ (t : Node). Some t) z, same_node n m x (λ c k. none n c x (ren.was ∙ ap (λ (t : Node). Some t) z) k)))
+          | inr f ↦ (let u = was_live k x is f.1 in (k, x, sym (new_number-off n m k u.0), u.1, same_node n m x (λ c e. none k c x u.1 e)))
         ];
       }
 
   root_renamed : r ≡ Inner n → renamed n m (Some r) ≡ Some (Inner m)
-  root_renamed e = ap (λ (t : Child). renamed n m (Some t)) e ∙ ap (λ z. Some (Inner z)) (renumbered-at n m)
+  root_renamed e = ap (λ (t : Child). renamed n m (Some t)) e ∙ ap (λ z. Some (Inner z)) (new_number-at n m)
 
   -- where the root leads to the node
   pub moved_root : r ≡ Inner n → Shape P keys mid (Some (Inner m))
@@ -155,7 +155,7 @@ module _ {P : ℕ} (keys : ℕ → Option Bytes) (nodes mid : ℕ → Option Nod
       depth = red.depth ∙ ap (λ (t : Node). t.depth) was_is;
       prefix = red.prefix ∙ ap (λ (t : Node). t.prefix) was_is;
       edges = λ c. elim (eqb_tells c b) [
-        | inl e ↦ ap (child_at red.is.edges) e.1 ∙ red.now ∙ sym (ap (λ z. renamed n m (child_at x0.edges z)) e.1 ∙ ap (renamed n m) leads ∙ ap (λ z. Some (Inner z)) (renumbered-at n m))
+        | inl e ↦ ap (child_at red.is.edges) e.1 ∙ red.now ∙ sym (ap (λ z. renamed n m (child_at x0.edges z)) e.1 ∙ ap (renamed n m) leads ∙ ap (λ z. Some (Inner z)) (new_number-at n m))
         | inr e ↦ red.rest c e.1 ∙ ap (λ (t : Node). child_at t.edges c) was_is ∙ sym (renamed-off n m (child_at x0.edges c) (λ z. e.1 (one_edge keys nodes (Some r) s p b p c n x0 x0 x0_is x0_is leads z).1))
       ];
       ascends = λ a. red.ascends;
@@ -167,32 +167,32 @@ module _ {P : ℕ} (keys : ℕ → Option Bytes) (nodes mid : ℕ → Option Nod
     m_off : m ≢ p
     m_off e = off_fresh p x0 x0_is p_off (sym e)
 
-    to_new : (j : ℕ) (x : Node) → nodes j ≡ Some x → (x' : Node) × (new (renumbered n m j) ≡ Some x') × SameNode n m x x'
+    to_new : (j : ℕ) (x : Node) → nodes j ≡ Some x → (x' : Node) × (new (new_number n m j) ≡ Some x') × SameNode n m x x'
     to_new j x is =
         elim (eqb_tells j n) [
           | inl f ↦
               let h : nodes n ≡ Some x = rw (← f.1) is in
               let w : nodes n ≡ Some ren.node = ren.was in
               let z : ren.node ≡ x = cc in
-              (x, ap (λ k. new (renumbered n m k)) f.1 ∙ ap new (renumbered-at n m) ∙ red.others m m_off ∙ ren.is ∙ ap (λ (t : Node). Some t) z, other_same j x is (λ e. p_off (sym e ∙ f.1)))
+              (x, ap (λ k. new (new_number n m k)) f.1 ∙ ap new (new_number-at n m) ∙ red.others m m_off ∙ ren.is ∙ ap (λ (t : Node). Some t) z, other_same j x is (λ e. p_off (sym e ∙ f.1)))
           | inr f ↦
               elim (eqb_tells j p) [
                 | inl e ↦
                     let h : nodes p ≡ Some x = rw (← e.1) is in
                     let z : x0 ≡ x = cc in
-                    (red.is, ap new (renumbered-off n m j f.1) ∙ ap new e.1 ∙ red.is_is, subst (λ (t : Node). SameNode n m t red.is) z above_same)
-                | inr e ↦ (x, ap new (renumbered-off n m j f.1) ∙ red.others j e.1 ∙ ren.others j f.1 (off_fresh j x is f.1) ∙ is, other_same j x is e.1)
+                    (red.is, ap new (new_number-off n m j f.1) ∙ ap new e.1 ∙ red.is_is, subst (λ (t : Node). SameNode n m t red.is) z above_same)
+                | inr e ↦ (x, ap new (new_number-off n m j f.1) ∙ red.others j e.1 ∙ ren.others j f.1 (off_fresh j x is f.1) ∙ is, other_same j x is e.1)
               ]
         ]
 
-    from_new : (k : ℕ) (x' : Node) → new k ≡ Some x' → (j : ℕ) × (x : Node) × (k ≡ renumbered n m j) × (nodes j ≡ Some x) × SameNode n m x x'
+    from_new : (k : ℕ) (x' : Node) → new k ≡ Some x' → (j : ℕ) × (x : Node) × (k ≡ new_number n m j) × (nodes j ≡ Some x) × SameNode n m x x'
     from_new k x' is =
         elim (eqb_tells k p) [
           | inl e ↦
               let h : new p ≡ Some x' = rw (← e.1) is in
               let w : new p ≡ Some red.is = red.is_is in
               let z : red.is ≡ x' = cc in
-              (p, x0, e.1 ∙ sym (renumbered-off n m p p_off), x0_is, subst (λ (t : Node). SameNode n m x0 t) z above_same)
+              (p, x0, e.1 ∙ sym (new_number-off n m p p_off), x0_is, subst (λ (t : Node). SameNode n m x0 t) z above_same)
           | inr e ↦
               let y : mid k ≡ Some x' = sym (red.others k e.1) ∙ is in
               elim (eqb_tells k m) [
@@ -201,8 +201,8 @@ module _ {P : ℕ} (keys : ℕ → Option Bytes) (nodes mid : ℕ → Option Nod
                     let w : mid m ≡ Some ren.node = ren.is in
                     let z : ren.node ≡ x' = cc in
                     let u : nodes n ≡ Some x' = ren.was ∙ ap (λ (t : Node). Some t) z in
-                    (n, x', f.1 ∙ sym (renumbered-at n m), u, other_same n x' u (λ g. p_off (sym g)))
-                | inr f ↦ (let u = was_live k x' y f.1 in (k, x', sym (renumbered-off n m k u.0), u.1, other_same k x' u.1 e.1))
+                    (n, x', f.1 ∙ sym (new_number-at n m), u, other_same n x' u (λ g. p_off (sym g)))
+                | inr f ↦ (let u = was_live k x' y f.1 in (k, x', sym (new_number-off n m k u.0), u.1, other_same k x' u.1 e.1))
               ]
         ]
 

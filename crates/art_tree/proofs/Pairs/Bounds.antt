@@ -4,7 +4,7 @@ use Rattle.std.proofs.lemmas.Bool.{false≢true, false_from_ne_true, and_from, a
 use Rattle.std.proofs.lemmas.Bool.Decides.{eqb_tells}
 use Rattle.std.specs.declared.ops.Bound.{Bound}
 use Rattle.std.specs.declared.ops.Bound.TheVariants.{Included, Excluded, Unbounded}
-use Rattle.blart_keys.specs.Bytes.{begins, less}
+use Rattle.blart_keys.specs.Bytes.{begins, less, common}
 use Rattle.blart_keys.specs.Bounds.{is_from_start, is_up_to_end}
 use Rattle.blart_keys.specs.Content.{IsContent, at, under, between}
 use Rattle.blart_keys.proofs.PartLemmas.{less-from_PartsBelow, less-trans, less-irrefl, less_or, less-same}
@@ -12,18 +12,18 @@ use Rattle.blart_keys.proofs.RankLemmas.{Member, Ranked, each_member, filter_non
 use Rattle.blart_keys.proofs.ContentLemmas.{Before, Ranked-from_content}
 use Rattle.art_tree.specs.Begins.{Bytes, Begins}
 use Rattle.art_tree.specs.Calls.Partings.{LeavesAt, KeyEnds, QueryEnds}
-use Rattle.art_tree.specs.Calls.Descents.{IsEndUnder}
+use Rattle.art_tree.specs.Calls.Descents.{IsEndUnder, IsNearest}
 use Rattle.art_tree.specs.Places.{LastBefore, IsLeafBefore}
 use Rattle.art_tree.specs.Leaves.{Numbered, AreDistinct, Has, bytes, keys_in, first_number, last_number, number_after, number_before, behind}
 use Rattle.art_tree.specs.Slabs.Nodes.{Node}
 use Rattle.art_tree.specs.Seeks.{number_within, ends}
-use Rattle.art_tree.specs.Calls.Seeking.{beside, StandsAt}
+use Rattle.art_tree.specs.Calls.Seeking.{beside, IsPlaceOf}
 use Rattle.art_tree.specs.Invariant.Shape.{Shape}
 use Rattle.art_tree.specs.declared.tree.parting.Departure.{Departure}
 use Rattle.art_tree.specs.declared.records.ids.Child.{Child}
-use Rattle.art_tree.proofs.BeginsLemmas.{related-from_begun, Begins-length, Begins-trans, Begins-itself, Begins-cases, Begins-from_begins}
+use Rattle.art_tree.proofs.BeginsLemmas.{common_length, Begins-itself, Begins-cases, Begins-from_begins}
 use Rattle.art_tree.proofs.Ways.Ends.{first_less, last_greater}
-use Rattle.art_tree.proofs.Ways.Partings.{one_key, no_key, no_key_alone}
+use Rattle.art_tree.proofs.Ways.Partings.{no_key, no_key_alone}
 use Rattle.art_tree.proofs.Pairs.Neighbours.{one_less, same_side, FirstFrom, IsLeafBehind, behind_from, ahead_key}
 use Rattle.art_tree.proofs.Pairs.Numbers.{Has-first, Has-last}
 use Rattle.art_tree.proofs.Pairs.Answers.{pair, at_key, first_of_test, last_of_test, first_under, last_under}
@@ -262,43 +262,30 @@ module _ {K V : Type 0} (key_bytes : K → Bytes) (pairs : List (Numbered K V)) 
   ends_under q a b u w = ends_are (under (bytes key_bytes) pairs q) a b (first_under key_bytes pairs content distinct q a u.key u.is u.front (first_less u)) (last_under key_bytes pairs content distinct q b w.key w.is w.front (last_greater w))
 
   -- no key begins with q
-  no_ends : (q : Bytes) → ((j : ℕ) (k : Bytes) → keys j ≡ Some k → Begins q k → ⊥) → ends (under (bytes key_bytes) pairs q) ≡ None
-  no_ends q never = ap ends (filter_none (λ x. begins q (bytes key_bytes x)) pairs (λ y m. false_from_ne_true (begins q (bytes key_bytes y)) (λ t. never y.0 (bytes key_bytes y) (key_of_member key_bytes pairs y distinct m) (Begins-from_begins q (bytes key_bytes y) t))))
+  none_under : (q : Bytes) → ((j : ℕ) (k : Bytes) → keys j ≡ Some k → Begins q k → ⊥) → ends (under (bytes key_bytes) pairs q) ≡ None
+  none_under q never = ap ends (filter_none (λ x. begins q (bytes key_bytes x)) pairs (λ y m. false_from_ne_true (begins q (bytes key_bytes y)) (λ t. never y.0 (bytes key_bytes y) (key_of_member key_bytes pairs y distinct m) (Begins-from_begins q (bytes key_bytes y) t))))
+
+  -- where no key has all bytes of q none begins with q
+  pub no_ends : (q : Bytes) (i : ℕ) (key : Bytes) (n : ℕ) → IsNearest keys q i key n → n < length q → ends (under (bytes key_bytes) pairs q) ≡ None
+  no_ends q i key n near short = none_under q (λ j k e b.
+      let a : length q ≤ length (common k q) = common_length q k q b (Begins-itself q) in
+      let c : length (common k q) ≤ length (common key q) = near.best j k e in
+      let d : n ≡ length (common key q) = near.shared in
+      omega arith)
 
   module _ (nodes : ℕ → Option Node) (q : Bytes) where
-    -- a key is q: no other begins with it
-    pub span_same : {P : ℕ} → (root : Option Child) → Shape P keys nodes root → (i : ℕ) → keys i ≡ Some q → ends (under (bytes key_bytes) pairs q) ≡ Some (i, i)
-    span_same root s i is =
-        let only : (j : ℕ) (k : Bytes) → keys j ≡ Some k → Begins q k → j ≡ i = λ j k e b. one_key keys nodes root s i q is j k e (inr b) in
-        ends_under q i i (record { key = q; is = is; front = Begins-itself q; end = λ j k e b. inl (only j k e b) }) (record { key = q; is = is; front = Begins-itself q; end = λ j k e b. inl (only j k e b) })
-
-    -- a key begins q, and is shorter: none begins with q
-    pub span_shorter : {P : ℕ} → (root : Option Child) → Shape P keys nodes root → (i : ℕ) → KeyEnds keys i q → ends (under (bytes key_bytes) pairs q) ≡ None
-    span_shorter root s i m = no_ends q (λ j k e b.
-        (let same : j ≡ i = one_key keys nodes root s i m.key m.is j k e (inr (Begins-trans m.key q k m.begins b)) in
-        let own : keys i ≡ Some m.key = m.is in
-        let f : keys i ≡ Some k = ap keys (sym same) ∙ e in
-        let h : k ≡ m.key = cc in
-        let l : length q ≤ length m.key = subst (λ (z : Bytes). length q ≤ length z) h (Begins-length q k b) in
-        let lt : length m.key < length q = m.shorter in
-        omega arith))
-
-    -- no key is related to q
-    pub span_apart : {P : ℕ} → (d : Departure) → LeavesAt key_bytes P pairs nodes d q → ends (under (bytes key_bytes) pairs q) ≡ None
-    span_apart d l = no_ends q (λ j k e b. false≢true (sym (l.apart.alone j k e) ∙ related-from_begun k q b))
-
     -- the leaf before q, and that no key is q, where a key begins q
-    pub place_shorter : {P : ℕ} → (root : Option Child) → Shape P keys nodes root → (i : ℕ) → KeyEnds keys i q → StandsAt keys q (Err (Some i))
+    pub place_shorter : {P : ℕ} → (root : Option Child) → Shape P keys nodes root → (i : ℕ) → KeyEnds keys i q → IsPlaceOf keys q (Err (Some i))
     place_shorter root s i m =
         let l : length m.key < length q = m.shorter in
         (last_front keys q nodes root s i m.key m.is m.begins l, no_key keys nodes root s i m.key m.is q (inl m.begins) (omega arith))
 
     -- where q begins keys
-    pub place_longer : {P : ℕ} → (c : Child) → QueryEnds key_bytes P pairs nodes c q → (first : ℕ) → IsEndUnder keys true q first → (o : Option ℕ) → o ≡ number_before pairs first → StandsAt keys q (Err o)
+    pub place_longer : {P : ℕ} → (c : Child) → QueryEnds key_bytes P pairs nodes c q → (first : ℕ) → IsEndUnder keys true q first → (o : Option ℕ) → o ≡ number_before pairs first → IsPlaceOf keys q (Err o)
     place_longer c m first u o e =
         let l : length q < length m.key = m.longer in
         (subst (λ (o : Option ℕ). IsLeafBefore keys q o) (sym e) (behind_from key_bytes pairs content distinct q first (least_from keys q first u)), no_key keys nodes m.root m.shape m.leaf m.key m.is q (inr m.begun) (omega arith))
 
     -- and where no key is related to q
-    pub place_apart : {P : ℕ} → (d : Departure) → LeavesAt key_bytes P pairs nodes d q → (o : Option ℕ) → IsLeafBefore keys q o → StandsAt keys q (Err o)
+    pub place_apart : {P : ℕ} → (d : Departure) → LeavesAt key_bytes P pairs nodes d q → (o : Option ℕ) → IsLeafBefore keys q o → IsPlaceOf keys q (Err o)
     place_apart d l o h = (h, no_key_alone keys q l.apart.alone)

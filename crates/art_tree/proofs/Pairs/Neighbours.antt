@@ -10,7 +10,7 @@ use Rattle.blart_keys.proofs.ContentLemmas.{Before, Ranked-from_content, put_bet
 use Rattle.art_tree.specs.Begins.{Bytes, Begins, next_byte}
 use Rattle.art_tree.specs.Places.{LastBefore, FirstAfter, IsLeafBefore}
 use Rattle.art_tree.specs.Slabs.Edges.{child_at, IsPrevious}
-use Rattle.art_tree.specs.Leaves.{Numbered, bytes, keys_in, leaf_in, AreDistinct, placed_behind, first_number, number_after, number_before, number_before_from}
+use Rattle.art_tree.specs.Leaves.{Numbered, bytes, keys_in, leaf_in, AreDistinct, with_pair_behind, first_number, number_after, number_before, number_before_from}
 use Rattle.art_tree.specs.Slabs.Nodes.{Node}
 use Rattle.art_tree.specs.Invariant.Shape.{Shape}
 use Rattle.art_tree.specs.declared.records.ids.Child.{Child}
@@ -159,7 +159,7 @@ module _ {K V : Type 0} where
     pub pair : K × V
     pub after : List (Numbered K V)
     pub is : ps ≡ before ++ (i, pair) ∷ after
-    pub placed : (x : Numbered K V) → placed_behind (Some i) x ps ≡ before ++ (i, pair) ∷ x ∷ after
+    pub placed : (x : Numbered K V) → with_pair_behind (Some i) x ps ≡ before ++ (i, pair) ∷ x ∷ after
     pub previous : (back : Option ℕ) → number_before_from back ps i ≡ last_or back before
     pub next : number_after ps i ≡ first_number after
 
@@ -340,7 +340,7 @@ module _ {K V : Type 0} (key_bytes : K → Bytes) (pairs : List (Numbered K V)) 
         ]
 
     -- a new pair behind the one before it: a put
-    pub placed_put : (prev : Option ℕ) (x : Numbered K V) → bytes key_bytes x ≡ q → IsLeafBefore (keys_in key_bytes pairs) q prev → IsPut (bytes key_bytes) pairs x (placed_behind prev x pairs)
+    pub placed_put : (prev : Option ℕ) (x : Numbered K V) → bytes key_bytes x ≡ q → IsLeafBefore (keys_in key_bytes pairs) q prev → IsPut (bytes key_bytes) pairs x (with_pair_behind prev x pairs)
     placed_put None x e st =
         put_between (bytes key_bytes) [] pairs x content (λ y m. absurd m)
         (λ y m. subst (λ (k : Bytes). PartsBelow k (bytes key_bytes y)) (sym e) (after_q y m (st y.0 (bytes key_bytes y) (key_of_member key_bytes pairs y distinct m))))
@@ -348,7 +348,7 @@ module _ {K V : Type 0} (key_bytes : K → Bytes) (pairs : List (Numbered K V)) 
         let p = place i st.key st.is in
         let A : List (Numbered K V) = p.before ++ (i, p.pair) ∷ [] in
         let whole : pairs ≡ A ++ p.after = p.is ∙ sym (append_assoc p.before ((i, p.pair) ∷ []) p.after) in
-        let made : placed_behind (Some i) x pairs ≡ A ++ x ∷ p.after = p.placed x ∙ sym (append_assoc p.before ((i, p.pair) ∷ []) (x ∷ p.after)) in
+        let made : with_pair_behind (Some i) x pairs ≡ A ++ x ∷ p.after = p.placed x ∙ sym (append_assoc p.before ((i, p.pair) ∷ []) (x ∷ p.after)) in
         let put : IsPut (bytes key_bytes) (A ++ p.after) x (A ++ x ∷ p.after) = put_between (bytes key_bytes) A p.after x (subst (IsContent (bytes key_bytes)) whole content)
         (λ y m. subst (λ (k : Bytes). PartsBelow (bytes key_bytes y) k) (sym e) (elim (Member-append_cases y p.before ((i, p.pair) ∷ []) m) [
           | inl n ↦ (let h = before_here i st.key st.is y n in before_q y h.1 (less-trans (bytes key_bytes y) st.key q h.0 st.before))

@@ -5,7 +5,7 @@ use Rattle.std.specs.Option.{option_or}
 use Rattle.std.proofs.lemmas.Bool.{ne_eqb}
 use Rattle.std.proofs.lemmas.Bool.Decides.{eqb_tells}
 use Rattle.blart_keys.proofs.RankLemmas.{Member}
-use Rattle.art_tree.specs.Leaves.{Numbered, leaf_in, Has, first_number, last_number, number_after, number_before, number_before_from, behind, placed_behind, without_number, with_pair, with_value, Lacks, AreDistinct, OthersStand, keys_in}
+use Rattle.art_tree.specs.Leaves.{Numbered, leaf_in, Has, first_number, last_number, number_after, number_before, number_before_from, behind, with_pair_behind, without_number, with_pair, with_value, Lacks, AreDistinct, OthersStand, keys_in}
 use Rattle.art_tree.specs.Slabs.Links.{is_at, end_with}
 
 -- nothing in reserve changes nothing
@@ -181,65 +181,65 @@ module _ {K V : Type 0} where
   -- ---- a pair more
 
   -- what each number names, after a pair was placed
-  pub leaf_in-placed_behind : (o : Option ℕ) (x : Numbered K V) (ps : List (Numbered K V)) (j : ℕ) → IfSome o (Has ps) → Lacks ps x.0 → leaf_in (placed_behind o x ps) j ≡ cond (eqb x.0 j) (Some x.1) (leaf_in ps j)
-  leaf_in-placed_behind None x ps j h l = refl
-  leaf_in-placed_behind (Some i) x [] j h l = absurd (let f : false ≡ true = h in cc)
-  leaf_in-placed_behind (Some i) x (p ∷ ps) j h l = elim (eqb_tells p.0 i) [
+  pub leaf_in-with_pair_behind : (o : Option ℕ) (x : Numbered K V) (ps : List (Numbered K V)) (j : ℕ) → IfSome o (Has ps) → Lacks ps x.0 → leaf_in (with_pair_behind o x ps) j ≡ cond (eqb x.0 j) (Some x.1) (leaf_in ps j)
+  leaf_in-with_pair_behind None x ps j h l = refl
+  leaf_in-with_pair_behind (Some i) x [] j h l = absurd (let f : false ≡ true = h in cc)
+  leaf_in-with_pair_behind (Some i) x (p ∷ ps) j h l = elim (eqb_tells p.0 i) [
     | inl t ↦ rw t.0 (swapped p.0 x.0 j (Some p.1) (Some x.1) (leaf_in ps j) l.0)
-    | inr t ↦ rw (t.0, leaf_in-placed_behind (Some i) x ps j (Has-tail p ps i t.1 h) l.1) (swapped p.0 x.0 j (Some p.1) (Some x.1) (leaf_in ps j) l.0)
+    | inr t ↦ rw (t.0, leaf_in-with_pair_behind (Some i) x ps j (Has-tail p ps i t.1 h) l.1) (swapped p.0 x.0 j (Some p.1) (Some x.1) (leaf_in ps j) l.0)
   ]
 
   -- the new pair stands under its number
-  pub leaf_in-placed_now : (o : Option ℕ) (x : Numbered K V) (ps : List (Numbered K V)) → IfSome o (Has ps) → Lacks ps x.0 → leaf_in (placed_behind o x ps) x.0 ≡ Some x.1
-  leaf_in-placed_now o x ps h l = leaf_in-placed_behind o x ps x.0 h l ∙ rw (eq-eqb x.0 x.0 refl) refl
+  pub leaf_in-placed_now : (o : Option ℕ) (x : Numbered K V) (ps : List (Numbered K V)) → IfSome o (Has ps) → Lacks ps x.0 → leaf_in (with_pair_behind o x ps) x.0 ≡ Some x.1
+  leaf_in-placed_now o x ps h l = leaf_in-with_pair_behind o x ps x.0 h l ∙ rw (eq-eqb x.0 x.0 refl) refl
 
   -- every other number names what it named
-  pub others-placed_behind : (o : Option ℕ) (x : Numbered K V) (ps : List (Numbered K V)) → IfSome o (Has ps) → Lacks ps x.0 → OthersStand ps (placed_behind o x ps) x.0
-  others-placed_behind o x ps h l j n = leaf_in-placed_behind o x ps j h l ∙ rw (ne_eqb x.0 j (λ e. n (sym e))) refl
+  pub others-with_pair_behind : (o : Option ℕ) (x : Numbered K V) (ps : List (Numbered K V)) → IfSome o (Has ps) → Lacks ps x.0 → OthersStand ps (with_pair_behind o x ps) x.0
+  others-with_pair_behind o x ps h l j n = leaf_in-with_pair_behind o x ps j h l ∙ rw (ne_eqb x.0 j (λ e. n (sym e))) refl
 
   -- a number that is not the new one is lacking still
-  pub Lacks-placed_behind : (o : Option ℕ) (x : Numbered K V) (ps : List (Numbered K V)) (j : ℕ) → Lacks ps j → x.0 ≢ j → Lacks (placed_behind o x ps) j
-  Lacks-placed_behind None x ps j l n = (n, l)
-  Lacks-placed_behind (Some i) x [] j l n = tt
-  Lacks-placed_behind (Some i) x (p ∷ ps) j l n = elim (eqb_tells p.0 i) [
+  pub Lacks-with_pair_behind : (o : Option ℕ) (x : Numbered K V) (ps : List (Numbered K V)) (j : ℕ) → Lacks ps j → x.0 ≢ j → Lacks (with_pair_behind o x ps) j
+  Lacks-with_pair_behind None x ps j l n = (n, l)
+  Lacks-with_pair_behind (Some i) x [] j l n = tt
+  Lacks-with_pair_behind (Some i) x (p ∷ ps) j l n = elim (eqb_tells p.0 i) [
     | inl t ↦ rw t.0 (l.0, (n, l.1))
-    | inr t ↦ rw t.0 (l.0, Lacks-placed_behind (Some i) x ps j l.1 n)
+    | inr t ↦ rw t.0 (l.0, Lacks-with_pair_behind (Some i) x ps j l.1 n)
   ]
 
   -- with a fresh number the numbers are distinct still
-  pub AreDistinct-placed_behind : (o : Option ℕ) (x : Numbered K V) (ps : List (Numbered K V)) → AreDistinct ps → Lacks ps x.0 → AreDistinct (placed_behind o x ps)
-  AreDistinct-placed_behind None x ps d l = (l, d)
-  AreDistinct-placed_behind (Some i) x [] d l = tt
-  AreDistinct-placed_behind (Some i) x (p ∷ ps) d l = elim (eqb_tells p.0 i) [
+  pub AreDistinct-with_pair_behind : (o : Option ℕ) (x : Numbered K V) (ps : List (Numbered K V)) → AreDistinct ps → Lacks ps x.0 → AreDistinct (with_pair_behind o x ps)
+  AreDistinct-with_pair_behind None x ps d l = (l, d)
+  AreDistinct-with_pair_behind (Some i) x [] d l = tt
+  AreDistinct-with_pair_behind (Some i) x (p ∷ ps) d l = elim (eqb_tells p.0 i) [
     | inl t ↦ rw t.0 (((λ e. l.0 (sym e)), d.0), (l.1, d.1))
-    | inr t ↦ rw t.0 (Lacks-placed_behind (Some i) x ps p.0 d.0 (λ e. l.0 (sym e)), AreDistinct-placed_behind (Some i) x ps d.1 l.1)
+    | inr t ↦ rw t.0 (Lacks-with_pair_behind (Some i) x ps p.0 d.0 (λ e. l.0 (sym e)), AreDistinct-with_pair_behind (Some i) x ps d.1 l.1)
   ]
 
   -- one pair more
-  pub length-placed_behind : (o : Option ℕ) (x : Numbered K V) (ps : List (Numbered K V)) → IfSome o (Has ps) → length (placed_behind o x ps) ≡ length ps + 1
-  length-placed_behind None x ps h = omega arith
-  length-placed_behind (Some i) x [] h = absurd (let f : false ≡ true = h in cc)
-  length-placed_behind (Some i) x (p ∷ ps) h = elim (eqb_tells p.0 i) [
+  pub length-with_pair_behind : (o : Option ℕ) (x : Numbered K V) (ps : List (Numbered K V)) → IfSome o (Has ps) → length (with_pair_behind o x ps) ≡ length ps + 1
+  length-with_pair_behind None x ps h = omega arith
+  length-with_pair_behind (Some i) x [] h = absurd (let f : false ≡ true = h in cc)
+  length-with_pair_behind (Some i) x (p ∷ ps) h = elim (eqb_tells p.0 i) [
     | inl t ↦ rw t.0 (omega arith)
-    | inr t ↦ rw t.0 (omega (arith, length-placed_behind (Some i) x ps (Has-tail p ps i t.1 h)))
+    | inr t ↦ rw t.0 (omega (arith, length-with_pair_behind (Some i) x ps (Has-tail p ps i t.1 h)))
   ]
 
   -- the first number, after a pair was placed
-  pub first_number-placed_behind : (o : Option ℕ) (x : Numbered K V) (ps : List (Numbered K V)) → first_number (placed_behind o x ps) ≡ end_with o (Some x.0) (first_number ps)
-  first_number-placed_behind None x ps = refl
-  first_number-placed_behind (Some i) x [] = refl
-  first_number-placed_behind (Some i) x (p ∷ ps) = elim (eqb_tells p.0 i) [ inl t ↦ rw t.0 refl | inr t ↦ rw t.0 refl ]
+  pub first_number-with_pair_behind : (o : Option ℕ) (x : Numbered K V) (ps : List (Numbered K V)) → first_number (with_pair_behind o x ps) ≡ end_with o (Some x.0) (first_number ps)
+  first_number-with_pair_behind None x ps = refl
+  first_number-with_pair_behind (Some i) x [] = refl
+  first_number-with_pair_behind (Some i) x (p ∷ ps) = elim (eqb_tells p.0 i) [ inl t ↦ rw t.0 refl | inr t ↦ rw t.0 refl ]
 
   -- the last number, after a pair was placed
-  pub last_number-placed_behind : (o : Option ℕ) (x : Numbered K V) (ps : List (Numbered K V)) → IfSome o (Has ps) → last_number (placed_behind o x ps) ≡ end_with (behind o ps) (Some x.0) (last_number ps)
-  last_number-placed_behind None x [] h = refl
-  last_number-placed_behind None x (p ∷ ps) h = refl
-  last_number-placed_behind (Some i) x [] h = absurd (let f : false ≡ true = h in cc)
-  last_number-placed_behind (Some i) x (p ∷ ps) h = elim (eqb_tells p.0 i) [
+  pub last_number-with_pair_behind : (o : Option ℕ) (x : Numbered K V) (ps : List (Numbered K V)) → IfSome o (Has ps) → last_number (with_pair_behind o x ps) ≡ end_with (behind o ps) (Some x.0) (last_number ps)
+  last_number-with_pair_behind None x [] h = refl
+  last_number-with_pair_behind None x (p ∷ ps) h = refl
+  last_number-with_pair_behind (Some i) x [] h = absurd (let f : false ≡ true = h in cc)
+  last_number-with_pair_behind (Some i) x (p ∷ ps) h = elim (eqb_tells p.0 i) [
     | inl t ↦ rw t.0 (last_behind p x ps)
     | inr t ↦
         rw t.0
-        (last_number-cons p (placed_behind (Some i) x ps) ∙ ap (λ o. option_or o (Some p.0)) (last_number-placed_behind (Some i) x ps (Has-tail p ps i t.1 h)) ∙ option_or-end (number_after ps i) x.0 p.0 (last_number ps) ∙ ap (end_with (number_after ps i) (Some x.0)) (sym (last_number-cons p ps)))
+        (last_number-cons p (with_pair_behind (Some i) x ps) ∙ ap (λ o. option_or o (Some p.0)) (last_number-with_pair_behind (Some i) x ps (Has-tail p ps i t.1 h)) ∙ option_or-end (number_after ps i) x.0 p.0 (last_number ps) ∙ ap (end_with (number_after ps i) (Some x.0)) (sym (last_number-cons p ps)))
   ]
     where
       last_behind : (p x : Numbered K V) (ps : List (Numbered K V)) → last_number (x ∷ ps) ≡ end_with (first_number ps) (Some x.0) (last_number (p ∷ ps))
@@ -247,17 +247,17 @@ module _ {K V : Type 0} where
       last_behind p x (q ∷ ps) = refl
 
   -- the number behind each, after a pair was placed
-  pub number_after-placed_behind : (o : Option ℕ) (x : Numbered K V) (ps : List (Numbered K V)) (j : ℕ) → IfSome o (Has ps) → Lacks ps x.0 → number_after (placed_behind o x ps) j ≡ cond (eqb x.0 j) (behind o ps) (cond (is_at o j) (Some x.0) (number_after ps j))
-  number_after-placed_behind None x ps j h l = refl
-  number_after-placed_behind (Some i) x [] j h l = absurd (let f : false ≡ true = h in cc)
-  number_after-placed_behind (Some i) x (p ∷ ps) j h l = elim (eqb_tells p.0 i) [
+  pub number_after-with_pair_behind : (o : Option ℕ) (x : Numbered K V) (ps : List (Numbered K V)) (j : ℕ) → IfSome o (Has ps) → Lacks ps x.0 → number_after (with_pair_behind o x ps) j ≡ cond (eqb x.0 j) (behind o ps) (cond (is_at o j) (Some x.0) (number_after ps j))
+  number_after-with_pair_behind None x ps j h l = refl
+  number_after-with_pair_behind (Some i) x [] j h l = absurd (let f : false ≡ true = h in cc)
+  number_after-with_pair_behind (Some i) x (p ∷ ps) j h l = elim (eqb_tells p.0 i) [
     | inl t ↦ rw (t.0, ← t.1) (elim (eqb_tells p.0 j) [
       | inl u ↦ rw (u.0, ne_eqb x.0 j (λ e. l.0 (u.1 ∙ sym e))) refl
       | inr u ↦ rw u.0 refl
     ])
     | inr t ↦ rw t.0 (elim (eqb_tells p.0 j) [
-      | inl u ↦ rw (u.0, ne_eqb x.0 j (λ e. l.0 (u.1 ∙ sym e)), ne_eqb i j (λ e. t.1 (u.1 ∙ sym e))) (first_number-placed_behind (Some i) x ps)
-      | inr u ↦ rw u.0 (number_after-placed_behind (Some i) x ps j (Has-tail p ps i t.1 h) l.1)
+      | inl u ↦ rw (u.0, ne_eqb x.0 j (λ e. l.0 (u.1 ∙ sym e)), ne_eqb i j (λ e. t.1 (u.1 ∙ sym e))) (first_number-with_pair_behind (Some i) x ps)
+      | inr u ↦ rw u.0 (number_after-with_pair_behind (Some i) x ps j (Has-tail p ps i t.1 h) l.1)
     ])
   ]
 
@@ -277,7 +277,7 @@ module _ {K V : Type 0} where
   number_after-lacking (p ∷ ps) j l = rw (ne_eqb p.0 j l.0) (number_after-lacking ps j l.1)
 
   -- the number before each, from a start on, after a pair was placed behind a number
-  before_placed : (b : Option ℕ) (i : ℕ) (x : Numbered K V) (ps : List (Numbered K V)) (j : ℕ) → Has ps i → Lacks ps x.0 → AreDistinct ps → number_before_from b (placed_behind (Some i) x ps) j ≡ cond (eqb x.0 j) (Some i) (cond (is_at (number_after ps i) j) (Some x.0) (number_before_from b ps j))
+  before_placed : (b : Option ℕ) (i : ℕ) (x : Numbered K V) (ps : List (Numbered K V)) (j : ℕ) → Has ps i → Lacks ps x.0 → AreDistinct ps → number_before_from b (with_pair_behind (Some i) x ps) j ≡ cond (eqb x.0 j) (Some i) (cond (is_at (number_after ps i) j) (Some x.0) (number_before_from b ps j))
   before_placed b i x [] j h l d = absurd (let f : false ≡ true = h in cc)
   before_placed b i x (p ∷ ps) j h l d = elim (eqb_tells p.0 i) [
     | inl t ↦ rw (t.0, ← t.1) (elim (eqb_tells p.0 j) [
@@ -291,9 +291,9 @@ module _ {K V : Type 0} where
   ]
 
   -- the number before each, after a pair was placed
-  pub number_before-placed_behind : (o : Option ℕ) (x : Numbered K V) (ps : List (Numbered K V)) (j : ℕ) → IfSome o (Has ps) → Lacks ps x.0 → AreDistinct ps → number_before (placed_behind o x ps) j ≡ cond (eqb x.0 j) o (cond (is_at (behind o ps) j) (Some x.0) (number_before ps j))
-  number_before-placed_behind None x ps j h l d = ap (cond (eqb x.0 j) None) (number_before_from-start (Some x.0) None ps j)
-  number_before-placed_behind (Some i) x ps j h l d = before_placed None i x ps j h l d
+  pub number_before-with_pair_behind : (o : Option ℕ) (x : Numbered K V) (ps : List (Numbered K V)) (j : ℕ) → IfSome o (Has ps) → Lacks ps x.0 → AreDistinct ps → number_before (with_pair_behind o x ps) j ≡ cond (eqb x.0 j) o (cond (is_at (behind o ps) j) (Some x.0) (number_before ps j))
+  number_before-with_pair_behind None x ps j h l d = ap (cond (eqb x.0 j) None) (number_before_from-start (Some x.0) None ps j)
+  number_before-with_pair_behind (Some i) x ps j h l d = before_placed None i x ps j h l d
 
   -- ---- a pair less
 

@@ -5,8 +5,8 @@ use Rattle.blart_keys.specs.Bytes.{related}
 use Rattle.blart_keys.specs.Content.{IsContent}
 use Rattle.art_tree.specs.Begins.{Bytes}
 use Rattle.art_tree.specs.Places.{LeavesMate, IsLeafBefore}
-use Rattle.art_tree.specs.Calls.Placing.{Joins, Joined, Places}
-use Rattle.art_tree.specs.Leaves.{Leaves, Numbered, leaf_in, Has, AreDistinct, placed_behind, bytes, keys_in}
+use Rattle.art_tree.specs.Calls.Placing.{IsSpotFor, TreeGains, Places}
+use Rattle.art_tree.specs.Leaves.{Leaves, Numbered, leaf_in, Has, AreDistinct, with_pair_behind, bytes, keys_in}
 use Rattle.art_tree.specs.Slabs.Nodes.{Nodes, Node, at}
 use Rattle.art_tree.specs.Points.{IsFree}
 use Rattle.art_tree.specs.Invariant.Shape.{Shape}
@@ -19,7 +19,7 @@ use Rattle.art_tree.specs.declared.records.ids.Child.TheVariants.{Leaf}
 use Rattle.art_tree.proofs.Invariant.Growing.{Gains, some_key}
 use Rattle.art_tree.proofs.Calls.Joining.{leaving_unrelated}
 use Rattle.art_tree.proofs.Pairs.KeyChanges.{gains_from}
-use Rattle.art_tree.proofs.Pairs.Numbers.{Lacks-from_leaf_in, leaf_in-placed_now, others-placed_behind}
+use Rattle.art_tree.proofs.Pairs.Numbers.{Lacks-from_leaf_in, leaf_in-placed_now, others-with_pair_behind}
 use Rattle.art_tree.proofs.Pairs.Neighbours.{placed_put}
 use Rattle.blart_keys.proofs.Options.{is_some}
 use Rattle.art_tree.proofs.Pairs.Keys.{pair_of_key}
@@ -43,7 +43,7 @@ module _ {K V : Type 0} (key_bytes : K → Bytes) where
 
   -- a pair behind the leaf before its place
   pub placed_pairs : (old new : List (Numbered K V)) (q : Bytes) (prev : Option ℕ) (i : ℕ) (x : K × V) → IsContent (bytes key_bytes) old → AreDistinct old → ((j : ℕ) (k : Bytes) → keys_in key_bytes old j ≡ Some k → related k q ≡ false)
-      → IsLeafBefore (keys_in key_bytes old) q prev → leaf_in old i ≡ None → key_bytes x.0 ≡ q → new ≡ placed_behind prev (i, x) old → Places key_bytes old new i x
+      → IsLeafBefore (keys_in key_bytes old) q prev → leaf_in old i ≡ None → key_bytes x.0 ≡ q → new ≡ with_pair_behind prev (i, x) old → Places key_bytes old new i x
   placed_pairs old new q prev i x content distinct alone st fresh own is =
       let has = has_behind old q prev st in
       let lacks = Lacks-from_leaf_in old i fresh in
@@ -51,11 +51,11 @@ module _ {K V : Type 0} (key_bytes : K → Bytes) where
         put = placed_put key_bytes old content distinct q alone prev (i, x) own st;
         fresh = fresh;
         now = leaf_in-placed_now prev (i, x) old has lacks;
-        others = others-placed_behind prev (i, x) old has lacks;
+        others = others-with_pair_behind prev (i, x) old has lacks;
       })
 
   -- the first pair
-  pub placed_first : (old new : List (Numbered K V)) (i : ℕ) (x : K × V) → IsContent (bytes key_bytes) old → old ≡ [] → leaf_in old i ≡ None → new ≡ placed_behind None (i, x) old → Places key_bytes old new i x
+  pub placed_first : (old new : List (Numbered K V)) (i : ℕ) (x : K × V) → IsContent (bytes key_bytes) old → old ≡ [] → leaf_in old i ≡ None → new ≡ with_pair_behind None (i, x) old → Places key_bytes old new i x
   placed_first old new i x content empty fresh is =
       let none : (j : ℕ) (k : Bytes) → keys_in key_bytes old j ≡ Some k → ⊥ = λ j k e. (let a : keys_in key_bytes old j ≡ None = ap (λ (ps : List (Numbered K V)). keys_in key_bytes ps j) empty in cc) in
       let distinct : AreDistinct old = subst (λ (ps : List (Numbered K V)). AreDistinct ps) (sym empty) tt in
@@ -77,7 +77,7 @@ module _ {K V : Type 0} (key_bytes : K → Bytes) where
 
   -- a pair at a free place
   pub placed_free : {P : ℕ} → (leaves : Leaves K V) (nodes : Nodes) (root : Option Child) (place : Place) (new : List (Numbered K V)) (i : ℕ) (x : K × V) → IsSound key_bytes P leaves nodes root → AreDistinct leaves.pairs → IsFree key_bytes leaves.pairs place (key_bytes x.0)
-      → leaf_in leaves.pairs i ≡ None → new ≡ placed_behind place.prev (i, x) leaves.pairs → Places key_bytes leaves.pairs new i x
+      → leaf_in leaves.pairs i ≡ None → new ≡ with_pair_behind place.prev (i, x) leaves.pairs → Places key_bytes leaves.pairs new i x
   placed_free leaves nodes root place new i x sound distinct free fresh is =
       placed_pairs leaves.pairs new (key_bytes x.0) place.prev i x sound.content distinct
       (leaving_unrelated (keys_in key_bytes leaves.pairs) (at nodes) root sound.shape place.mate place.depth (key_bytes x.0) free.leaves) free.behind fresh refl is
@@ -114,8 +114,8 @@ module _ {K V : Type 0} (key_bytes : K → Bytes) where
       fits = subst (λ (m : Bytes). SpotFits nodes (Some root) s.front_of m place.depth spot) (sym same_mate) (found place.mate mate_key)
 
       -- a key at a free place leaves the mate at the spot that was found
-      pub free_joins : Joins P nodes root spot k m' place.depth
-      free_joins = record {
+      pub free_spot : IsSpotFor P nodes root spot k m' place.depth
+      free_spot = record {
         keys = keys_in key_bytes old;
         shape = s;
         leaf = place.mate;
@@ -125,7 +125,7 @@ module _ {K V : Type 0} (key_bytes : K → Bytes) where
       }
 
       -- and the tree has it when it was added there
-      pub free_joined : (nodes' : ℕ → Option Node) (root' : Child) → Joined P nodes nodes' root root' spot k m' place.depth i → Shape P (keys_in key_bytes new) nodes' (Some root')
-      free_joined nodes' root' joined =
+      pub free_gains : (nodes' : ℕ → Option Node) (root' : Child) → TreeGains P nodes nodes' root root' spot k m' place.depth i → Shape P (keys_in key_bytes new) nodes' (Some root')
+      free_gains nodes' root' joined =
           joined (keys_in key_bytes old) (keys_in key_bytes new) s place.mate (mate_key ∙ ap Some (sym same_mate)) leaves fits
           (subst (λ (k : Bytes). Gains (keys_in key_bytes old) (keys_in key_bytes new) i k) (sym own_key) (places_gain old new i x p))

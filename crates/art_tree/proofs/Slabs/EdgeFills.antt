@@ -8,23 +8,22 @@ use Rattle.art_tree.specs.declared.records.ids.Child.{Child}
 use Rattle.art_tree.specs.declared.records.ids.Edge.{Edge}
 use Rattle.art_tree.proofs.Slabs.EdgeShifts.{AllBytes, short-absent, child_at-edges_with, edges_with-Ascends, length-edges_with, child_at-edges_without, edges_without-Ascends, length-edges_without}
 
--- carrying an edge in adds a child
+-- an edge more adds a child
 pub edges_with-adds : (es : List Edge) (e : Edge) → Ascends es → child_at es e.byte ≡ None → AddsChild es (edges_with es e) e.byte e.to
 edges_with-adds es e a n = record {
-  added = let t : eqb e.byte e.byte ≡ true = eq-eqb e.byte e.byte refl in rw (child_at-edges_with es e e.byte a n, t) refl;
-  rest = λ c off. (let t : eqb e.byte c ≡ false = ne_eqb e.byte c (λ z. off (sym z)) in rw (child_at-edges_with es e c a n, t) refl);
+  added = let t : eqb e.byte e.byte ≡ true = eq-eqb e.byte e.byte refl in rw (child_at-edges_with es e e.byte n, t) refl;
+  rest = λ c off. (let t : eqb e.byte c ≡ false = ne_eqb e.byte c (λ z. off (sym z)) in rw (child_at-edges_with es e c n, t) refl);
   longer = let l : length (edges_with es e) ≡ suc (length es) = length-edges_with es e in omega arith;
   ascends = edges_with-Ascends es e a n;
 }
 
--- closing up drops a child
+-- an edge less drops a child
 pub edges_without-drops : (es : List Edge) (b : ℕ) → Ascends es → IsSome (child_at es b) → DropsChild es (edges_without es b) b
-edges_without-drops [] b a h = absurd (let f : IsSome {T = Child} None = h in cc)
-edges_without-drops (x ∷ es) b a h = record {
-  gone = let t : eqb b b ≡ true = eq-eqb b b refl in child_at-edges_without x es b b a h ∙ rw t refl;
-  rest = λ c off. (let t : eqb b c ≡ false = ne_eqb b c (λ z. off (sym z)) in child_at-edges_without x es b c a h ∙ rw t refl);
-  shorter = let l : length (edges_without (x ∷ es) b) ≡ length es = length-edges_without x es b in omega arith;
-  ascends = edges_without-Ascends (x ∷ es) b a;
+edges_without-drops es b a h = record {
+  gone = let t : eqb b b ≡ true = eq-eqb b b refl in child_at-edges_without es b b a ∙ rw t refl;
+  rest = λ c off. (let t : eqb b c ≡ false = ne_eqb b c (λ z. off (sym z)) in child_at-edges_without es b c a ∙ rw t refl);
+  shorter = let l : suc (length (edges_without es b)) ≡ length es = length-edges_without es b h in omega arith;
+  ascends = edges_without-Ascends es b a;
 }
 
 module _ (b : ℕ) (to : Child) where

@@ -1,57 +1,14 @@
--- Edges in the order of their bytes.
-use Rattle.std.proofs.Common.{◌≡◌, ◌≢◌, ℕ, zero, suc, ◌+◌, ◌<◌, ◌≤◌, List, [], ◌∷◌, ◌++◌, length, get_or, take, drop, set, Option, Some, None, IsSome, refl, arith, cond, eqb, true, false, sym, ap, ◌∙◌, inl, inr, subst}
+-- Edges in the order of their bytes: one more among them, or one less.
+use Rattle.std.proofs.Common.{◌≡◌, ◌≢◌, ℕ, zero, suc, ◌+◌, ◌-◌, ◌<◌, ◌≤◌, List, [], ◌∷◌, ◌++◌, length, take, drop, set, Some, None, IsSome, refl, arith, cond, eqb, false, sym, ap, ◌∙◌, inl, inr}
+use Rattle.std.proofs.Math.Seq.{paste, take-set-lt}
+use Rattle.std.proofs.lemmas.List.{take-take, drop-take, length-drop}
+use Rattle.std.proofs.lemmas.List.Edits.{take-paste}
+use Rattle.std.specs.Prelude.{ltb}
+use Rattle.std.proofs.lemmas.Bool.{ne_eqb, le-ltb}
 use Rattle.std.proofs.lemmas.Bool.Decides.{eqb_tells, leb_tells}
-use Rattle.std.proofs.lemmas.Bool.{lt-ltb, le-ltb, le-leb, lt-leb}
-use Rattle.std.specs.Prelude.{ltb, leb}
-use Rattle.art_tree.specs.Slabs.Edges.{child_at, AscendsAbove, Ascends, edges_with, edges_without, edges_without_from}
+use Rattle.art_tree.specs.Slabs.Edges.{child_at, AscendsAbove, Ascends, count_below, edges_with, edges_without}
 use Rattle.art_tree.specs.declared.records.ids.Child.{Child}
 use Rattle.art_tree.specs.declared.records.ids.Edge.{Edge}
-
--- the first i edges, and the others of n with one more carried into them
-abbrev pub mixed : ℕ → ℕ → List Edge → Edge → List Edge
-mixed i n es e = take i es ++ edges_with (drop i (take n es)) e
-
--- a greater edge gives way, and is carried on
-pub mixed-swap : (es : List Edge) (i n : ℕ) (e d : Edge) → i < n → n ≤ length es → e.byte < (get_or es i d).byte → mixed i n es e ≡ mixed (suc i) n (set es i e) (get_or es i d)
-mixed-swap [] i n e d l m h = absurd (omega arith)
-mixed-swap (x ∷ es) i zero e d l m h = absurd (omega arith)
-mixed-swap (x ∷ es) zero (suc n) e d l m h = let t : ltb e.byte x.byte ≡ true = lt-ltb e.byte x.byte h in rw t refl
-mixed-swap (x ∷ es) (suc i) (suc n) e d l m h = ap (λ (t : List Edge). x ∷ t) (mixed-swap es i n e d (omega arith) (omega arith) h)
-
--- an edge that is no greater stays
-pub mixed-keep : (es : List Edge) (i n : ℕ) (e d : Edge) → i < n → n ≤ length es → (get_or es i d).byte ≤ e.byte → mixed i n es e ≡ mixed (suc i) n es e
-mixed-keep [] i n e d l m h = absurd (omega arith)
-mixed-keep (x ∷ es) i zero e d l m h = absurd (omega arith)
-mixed-keep (x ∷ es) zero (suc n) e d l m h = let t : ltb e.byte x.byte ≡ false = le-ltb e.byte x.byte h in rw t refl
-mixed-keep (x ∷ es) (suc i) (suc n) e d l m h = ap (λ (t : List Edge). x ∷ t) (mixed-keep es i n e d (omega arith) (omega arith) h)
-
--- the first i edges, and the others of n closed up
-abbrev pub shut : ℕ → ℕ → List Edge → ℕ → List Edge
-shut i n es b = take i es ++ edges_without (drop i (take n es)) b
-
--- from the byte on, an edge moves up
-pub shut-move : (es : List Edge) (i n b : ℕ) (d : Edge) → suc i < n → n ≤ length es → b ≤ (get_or es i d).byte → shut i n es b ≡ shut (suc i) n (set es i (get_or es (suc i) d)) b
-shut-move [] i n b d l m h = absurd (omega arith)
-shut-move (x ∷ es) i zero b d l m h = absurd (omega arith)
-shut-move (x ∷ []) zero (suc n) b d l m h = absurd (omega arith)
-shut-move (x ∷ y ∷ es) zero (suc zero) b d l m h = absurd (omega arith)
-shut-move (x ∷ y ∷ es) zero (suc (suc n)) b d l m h = let t : leb b x.byte ≡ true = le-leb b x.byte h in rw t refl
-shut-move (x ∷ es) (suc i) (suc n) b d l m h = ap (λ (t : List Edge). x ∷ t) (shut-move es i n b d (omega arith) (omega arith) h)
-
--- an edge before the byte stays
-pub shut-keep : (es : List Edge) (i n b : ℕ) (d : Edge) → suc i < n → n ≤ length es → (get_or es i d).byte < b → shut i n es b ≡ shut (suc i) n es b
-shut-keep [] i n b d l m h = absurd (omega arith)
-shut-keep (x ∷ es) i zero b d l m h = absurd (omega arith)
-shut-keep (x ∷ []) zero (suc n) b d l m h = absurd (omega arith)
-shut-keep (x ∷ y ∷ es) zero (suc zero) b d l m h = absurd (omega arith)
-shut-keep (x ∷ y ∷ es) zero (suc (suc n)) b d l m h = let t : leb b x.byte ≡ false = lt-leb b x.byte h in rw t refl
-shut-keep (x ∷ es) (suc i) (suc n) b d l m h = ap (λ (t : List Edge). x ∷ t) (shut-keep es i n b d (omega arith) (omega arith) h)
-
--- past the last edge all are moved
-pub shut-end : (es : List Edge) (n b : ℕ) → suc n ≤ length es → shut n (suc n) es b ≡ take n es
-shut-end [] n b l = absurd (omega arith)
-shut-end (x ∷ es) zero b l = refl
-shut-end (x ∷ es) (suc n) b l = ap (λ (t : List Edge). x ∷ t) (shut-end es n b (omega arith))
 
 -- bytes above a byte are above a lesser one
 pub AscendsAbove-less : (j k : ℕ) (es : List Edge) → j ≤ k → AscendsAbove k es → AscendsAbove j es
@@ -67,136 +24,189 @@ AscendsAbove-absent k b (x ∷ es) a l =
       | inr p ↦ rw p.0 (AscendsAbove-absent x.byte b es a.1 (let h : k < x.byte = a.0 in omega arith))
     ]
 
--- the bytes rise above another, with one more carried in
-pub edges_with-AscendsAbove : (k : ℕ) (es : List Edge) (e : Edge) → AscendsAbove k es → k < e.byte → child_at es e.byte ≡ None → AscendsAbove k (edges_with es e)
-edges_with-AscendsAbove k [] e a l n = (l, tt)
-edges_with-AscendsAbove k (x ∷ es) e a l n =
-    elim (leb_tells (suc e.byte) x.byte) [
-      | inl p ↦ let q : suc e.byte ≤ x.byte = p.1 in rw p.0 (l, edges_with-AscendsAbove e.byte es x (AscendsAbove-less e.byte x.byte es (omega arith) a.1) (omega arith) (AscendsAbove-absent x.byte x.byte es a.1 (omega arith)))
-      | inr p ↦
-          let q : x.byte < suc e.byte = p.1 in
-          elim (eqb_tells x.byte e.byte) [
-            | inl s ↦ let h : Some x.to ≡ None = rw s.0 at n in absurd cc
-            | inr s ↦ let off : x.byte ≢ e.byte = s.1 in rw p.0 (a.0, edges_with-AscendsAbove x.byte es e a.1 (omega arith) (rw s.0 at n))
-          ]
-    ]
-
--- the bytes rise, with one more carried in
-pub edges_with-Ascends : (es : List Edge) (e : Edge) → Ascends es → child_at es e.byte ≡ None → Ascends (edges_with es e)
-edges_with-Ascends [] e a n = tt
-edges_with-Ascends (x ∷ es) e a n =
-    elim (leb_tells (suc e.byte) x.byte) [
-      | inl p ↦ let q : suc e.byte ≤ x.byte = p.1 in rw p.0 (edges_with-AscendsAbove e.byte es x (AscendsAbove-less e.byte x.byte es (omega arith) a) (omega arith) (AscendsAbove-absent x.byte x.byte es a (omega arith)))
-      | inr p ↦
-          let q : x.byte < suc e.byte = p.1 in
-          elim (eqb_tells x.byte e.byte) [
-            | inl s ↦ let h : Some x.to ≡ None = rw s.0 at n in absurd cc
-            | inr s ↦ let off : x.byte ≢ e.byte = s.1 in rw p.0 (edges_with-AscendsAbove x.byte es e a (omega arith) (rw s.0 at n))
-          ]
-    ]
-
 -- bytes that rise above another rise
 pub AscendsAbove-Ascends : (k : ℕ) (es : List Edge) → AscendsAbove k es → Ascends es
 AscendsAbove-Ascends k [] a = tt
 AscendsAbove-Ascends k (x ∷ es) a = a.1
 
--- what stands at a byte, with one more edge carried in
-pub child_at-edges_with : (es : List Edge) (e : Edge) (b : ℕ) → Ascends es → child_at es e.byte ≡ None → child_at (edges_with es e) b ≡ cond (eqb e.byte b) (Some e.to) (child_at es b)
-child_at-edges_with [] e b a n = refl
-child_at-edges_with (x ∷ es) e b a n =
-    elim (leb_tells (suc e.byte) x.byte) [
-      | inl p ↦ rw p.0 (rw (child_at-edges_with es x b (AscendsAbove-Ascends x.byte es a) (AscendsAbove-absent x.byte x.byte es a (omega arith))) refl)
+-- no more stand before a byte than there are
+pub count_within : (es : List Edge) (b : ℕ) → count_below es b ≤ length es
+count_within [] b = omega arith
+count_within (x ∷ es) b =
+    let ih : count_below es b ≤ length es = count_within es b in
+    elim (leb_tells (suc x.byte) b) [ inl p ↦ rw p.0 (omega arith) | inr p ↦ rw p.0 (omega arith) ]
+
+-- ---- one edge more
+
+-- it goes behind those before its byte
+pub edges_with-place : (es : List Edge) (e : Edge) → edges_with es e ≡ take (count_below es e.byte) es ++ e ∷ drop (count_below es e.byte) es
+edges_with-place [] e = refl
+edges_with-place (x ∷ es) e =
+    elim (leb_tells (suc x.byte) e.byte) [
+      | inl p ↦ rw p.0 (ap (λ (t : List Edge). x ∷ t) (edges_with-place es e))
+      | inr p ↦ rw p.0 refl
+    ]
+
+-- the bytes rise above another
+edges_with-AscendsAbove : (k : ℕ) (es : List Edge) (e : Edge) → AscendsAbove k es → k < e.byte → child_at es e.byte ≡ None → AscendsAbove k (edges_with es e)
+edges_with-AscendsAbove k [] e a l n = (l, tt)
+edges_with-AscendsAbove k (x ∷ es) e a l n =
+    elim (leb_tells (suc x.byte) e.byte) [
+      | inl p ↦
+          let lt : suc x.byte ≤ e.byte = p.1 in
+          let off : eqb x.byte e.byte ≡ false = ne_eqb x.byte e.byte (λ z. omega (arith, z)) in
+          rw p.0 (a.0, edges_with-AscendsAbove x.byte es e a.1 (omega arith) (rw off at n))
       | inr p ↦
+          let le : e.byte < suc x.byte = p.1 in
           elim (eqb_tells x.byte e.byte) [
             | inl s ↦ let h : Some x.to ≡ None = rw s.0 at n in absurd cc
-            | inr s ↦
-                let ih : child_at (edges_with es e) b ≡ cond (eqb e.byte b) (Some e.to) (child_at es b) = child_at-edges_with es e b (AscendsAbove-Ascends x.byte es a) (rw s.0 at n) in
-                rw (p.0, ih) (elim (eqb_tells x.byte b) [
-                  | inl u ↦ elim (eqb_tells e.byte b) [ inl v ↦ absurd (s.1 (u.1 ∙ sym v.1)) | inr v ↦ rw (u.0, v.0) refl ]
-                  | inr u ↦ rw u.0 refl
-                ])
+            | inr s ↦ let off : x.byte ≢ e.byte = s.1 in rw p.0 (l, (omega arith, a.1))
           ]
+    ]
+
+-- the bytes rise
+pub edges_with-Ascends : (es : List Edge) (e : Edge) → Ascends es → child_at es e.byte ≡ None → Ascends (edges_with es e)
+edges_with-Ascends [] e a n = tt
+edges_with-Ascends (x ∷ es) e a n =
+    elim (leb_tells (suc x.byte) e.byte) [
+      | inl p ↦
+          let lt : suc x.byte ≤ e.byte = p.1 in
+          let off : eqb x.byte e.byte ≡ false = ne_eqb x.byte e.byte (λ z. omega (arith, z)) in
+          rw p.0 (edges_with-AscendsAbove x.byte es e a (omega arith) (rw off at n))
+      | inr p ↦
+          let le : e.byte < suc x.byte = p.1 in
+          elim (eqb_tells x.byte e.byte) [
+            | inl s ↦ let h : Some x.to ≡ None = rw s.0 at n in absurd cc
+            | inr s ↦ let off : x.byte ≢ e.byte = s.1 in rw p.0 (omega arith, a)
+          ]
+    ]
+
+-- what stands at a byte
+pub child_at-edges_with : (es : List Edge) (e : Edge) (b : ℕ) → child_at es e.byte ≡ None → child_at (edges_with es e) b ≡ cond (eqb e.byte b) (Some e.to) (child_at es b)
+child_at-edges_with [] e b n = refl
+child_at-edges_with (x ∷ es) e b n =
+    elim (leb_tells (suc x.byte) e.byte) [
+      | inl p ↦
+          let lt : suc x.byte ≤ e.byte = p.1 in
+          let off : eqb x.byte e.byte ≡ false = ne_eqb x.byte e.byte (λ z. omega (arith, z)) in
+          let ih : child_at (edges_with es e) b ≡ cond (eqb e.byte b) (Some e.to) (child_at es b) = child_at-edges_with es e b (rw off at n) in
+          rw (p.0, ih) (elim (eqb_tells x.byte b) [
+            | inl u ↦ let v : eqb e.byte b ≡ false = ne_eqb e.byte b (λ z. (let w : x.byte ≡ b = u.1 in omega (arith, z))) in rw (u.0, v) refl
+            | inr u ↦ rw u.0 refl
+          ])
+      | inr p ↦ rw p.0 refl
     ]
 
 -- there is one edge more
 pub length-edges_with : (es : List Edge) (e : Edge) → length (edges_with es e) ≡ suc (length es)
 length-edges_with [] e = refl
 length-edges_with (x ∷ es) e =
-    elim (leb_tells (suc e.byte) x.byte) [
-      | inl p ↦ rw p.0 (ap suc (length-edges_with es x))
-      | inr p ↦ rw p.0 (ap suc (length-edges_with es e))
-    ]
+    elim (leb_tells (suc x.byte) e.byte) [ inl p ↦ rw p.0 (ap suc (length-edges_with es e)) | inr p ↦ rw p.0 refl ]
 
--- from a byte that is no less, each moves up
-pub closed_all : (x : Edge) (es : List Edge) (b : ℕ) → AscendsAbove x.byte es → b ≤ x.byte → edges_without_from x es b ≡ es
-closed_all x [] b a l = refl
-closed_all x (y ∷ es) b a l =
-    let t : leb b x.byte ≡ true = le-leb b x.byte l in
-    rw t (ap (λ (t : List Edge). y ∷ t) (closed_all y es b a.1 (let h : x.byte < y.byte = a.0 in omega arith)))
+-- ---- one edge less
 
--- nothing is no child
-some_none : (o : Option Child) → o ≡ None → IsSome o → ⊥
-some_none o e h = let P : Option Child → Type 0 = λ o. IsSome o in let f : IsSome {T = Child} None = subst P e h in cc
-
--- what stands at a byte, where the first edge is closed over
-closed_at : (x : Edge) (es : List Edge) (b c : ℕ) → AscendsAbove x.byte es → x.byte ≡ b → child_at (edges_without_from x es b) c ≡ cond (eqb b c) None (child_at (x ∷ es) c)
-closed_at x es b c a q =
-    rw (closed_all x es b a (omega arith)) (elim (eqb_tells b c) [
-      | inl u ↦ let v : b ≡ c = u.1 in rw u.0 (AscendsAbove-absent x.byte c es a (omega arith))
-      | inr u ↦ let w : eqb x.byte c ≡ false = rw q u.0 in rw (u.0, w) refl
-    ])
-
--- what stands at a byte, with one edge closed over
-pub child_at-edges_without : (x : Edge) (es : List Edge) (b c : ℕ) → AscendsAbove x.byte es → IsSome (child_at (x ∷ es) b) → child_at (edges_without_from x es b) c ≡ cond (eqb b c) None (child_at (x ∷ es) c)
-child_at-edges_without x [] b c a h =
+-- those before its byte stand, and those behind it
+pub edges_without-place : (es : List Edge) (b : ℕ) → Ascends es → IsSome (child_at es b) → (edges_without es b ≡ take (count_below es b) es ++ drop (suc (count_below es b)) es) × (count_below es b < length es)
+edges_without-place [] b a h = absurd (let f : IsSome {T = Child} None = h in cc)
+edges_without-place (x ∷ es) b a h =
     elim (eqb_tells x.byte b) [
-      | inl p ↦ closed_at x [] b c a p.1
-      | inr p ↦ absurd (some_none (child_at (x ∷ []) b) (rw p.0 refl) h)
-    ]
-child_at-edges_without x (y ∷ es) b c a h =
-    elim (eqb_tells x.byte b) [
-      | inl p ↦ closed_at x (y ∷ es) b c a p.1
+      | inl p ↦ let e : x.byte ≡ b = p.1 in let t : ltb x.byte b ≡ false = le-ltb x.byte b (omega arith) in rw (p.0, t) (refl, omega arith)
       | inr p ↦
-          elim (leb_tells b x.byte) [
-            | inl u ↦ absurd (some_none (child_at (x ∷ y ∷ es) b) (let v : child_at (y ∷ es) b ≡ None = AscendsAbove-absent x.byte b (y ∷ es) a u.1 in rw p.0 v) h)
-            | inr u ↦
-                let ih : child_at (edges_without_from y es b) c ≡ cond (eqb b c) None (child_at (y ∷ es) c) = child_at-edges_without y es b c a.1 (rw p.0 at h) in
-                rw (u.0, ih) (elim (eqb_tells x.byte c) [
-                  | inl v ↦ elim (eqb_tells b c) [ inl w ↦ absurd (p.1 (v.1 ∙ sym w.1)) | inr w ↦ rw (v.0, w.0) refl ]
-                  | inr v ↦ rw v.0 refl
-                ])
+          let off : x.byte ≢ b = p.1 in
+          elim (leb_tells (suc x.byte) b) [
+            | inl q ↦ let ih = edges_without-place es b (AscendsAbove-Ascends x.byte es a) (rw p.0 at h) in let lt : count_below es b < length es = ih.1 in rw (p.0, q.0) (ap (λ (t : List Edge). x ∷ t) ih.0, omega arith)
+            | inr q ↦
+                let le : b < suc x.byte = q.1 in
+                let none : child_at es b ≡ None = AscendsAbove-absent x.byte b es a (omega arith) in
+                absurd (let f : IsSome {T = Child} None = rw (p.0, none) at h in cc)
           ]
     ]
 
--- the bytes rise above another, with one closed over
-pub edges_without-AscendsAbove : (k : ℕ) (x : Edge) (es : List Edge) (b : ℕ) → k < x.byte → AscendsAbove x.byte es → AscendsAbove k (edges_without_from x es b)
-edges_without-AscendsAbove k x [] b l a = tt
-edges_without-AscendsAbove k x (y ∷ es) b l a =
-    elim (leb_tells b x.byte) [
-      | inl u ↦ let h : b ≤ x.byte = u.1 in subst (λ (t : List Edge). AscendsAbove k t) (sym (closed_all x (y ∷ es) b a h)) (AscendsAbove-less k x.byte (y ∷ es) (omega arith) a)
-      | inr u ↦ rw u.0 (l, edges_without-AscendsAbove x.byte y es b a.0 a.1)
+-- the bytes rise above another
+edges_without-AscendsAbove : (k : ℕ) (es : List Edge) (b : ℕ) → AscendsAbove k es → AscendsAbove k (edges_without es b)
+edges_without-AscendsAbove k [] b a = tt
+edges_without-AscendsAbove k (x ∷ es) b a =
+    elim (eqb_tells x.byte b) [
+      | inl p ↦ rw p.0 (AscendsAbove-less k x.byte es (let h : k < x.byte = a.0 in omega arith) a.1)
+      | inr p ↦ rw p.0 (a.0, edges_without-AscendsAbove x.byte es b a.1)
     ]
 
--- the bytes rise, with one closed over
+-- the bytes rise
 pub edges_without-Ascends : (es : List Edge) (b : ℕ) → Ascends es → Ascends (edges_without es b)
 edges_without-Ascends [] b a = tt
-edges_without-Ascends (x ∷ []) b a = tt
-edges_without-Ascends (x ∷ y ∷ es) b a =
-    elim (leb_tells b x.byte) [
-      | inl u ↦ let h : b ≤ x.byte = u.1 in subst (λ (t : List Edge). Ascends t) (sym (closed_all x (y ∷ es) b a h)) a.1
-      | inr u ↦ rw u.0 (edges_without-AscendsAbove x.byte y es b a.0 a.1)
+edges_without-Ascends (x ∷ es) b a =
+    elim (eqb_tells x.byte b) [
+      | inl p ↦ rw p.0 (AscendsAbove-Ascends x.byte es a)
+      | inr p ↦ rw p.0 (edges_without-AscendsAbove x.byte es b a)
+    ]
+
+-- what stands at a byte
+pub child_at-edges_without : (es : List Edge) (b c : ℕ) → Ascends es → child_at (edges_without es b) c ≡ cond (eqb b c) None (child_at es c)
+child_at-edges_without [] b c a = elim (eqb_tells b c) [ inl u ↦ rw u.0 refl | inr u ↦ rw u.0 refl ]
+child_at-edges_without (x ∷ es) b c a =
+    elim (eqb_tells x.byte b) [
+      | inl p ↦
+          let e : x.byte ≡ b = p.1 in
+          rw p.0 (elim (eqb_tells b c) [
+            | inl u ↦ let v : b ≡ c = u.1 in rw u.0 (AscendsAbove-absent x.byte c es a (omega arith))
+            | inr u ↦ let w : eqb x.byte c ≡ false = rw e u.0 in rw (u.0, w) refl
+          ])
+      | inr p ↦
+          let ih : child_at (edges_without es b) c ≡ cond (eqb b c) None (child_at es c) = child_at-edges_without es b c (AscendsAbove-Ascends x.byte es a) in
+          rw (p.0, ih) (elim (eqb_tells x.byte c) [
+            | inl v ↦ elim (eqb_tells b c) [ inl w ↦ absurd (p.1 (v.1 ∙ sym w.1)) | inr w ↦ rw (v.0, w.0) refl ]
+            | inr v ↦ rw v.0 refl
+          ])
     ]
 
 -- there is one edge less
-pub length-edges_without : (x : Edge) (es : List Edge) (b : ℕ) → length (edges_without_from x es b) ≡ length es
-length-edges_without x [] b = refl
-length-edges_without x (y ∷ es) b = ap suc (length-edges_without y es b)
+pub length-edges_without : (es : List Edge) (b : ℕ) → IsSome (child_at es b) → suc (length (edges_without es b)) ≡ length es
+length-edges_without [] b h = absurd (let f : IsSome {T = Child} None = h in cc)
+length-edges_without (x ∷ es) b h =
+    elim (eqb_tells x.byte b) [
+      | inl p ↦ rw p.0 refl
+      | inr p ↦ rw p.0 (ap suc (length-edges_without es b (rw p.0 at h)))
+    ]
 
--- within a list the default does not matter
-pub get_or-any : {X : Type 0} → (es : List X) (i : ℕ) (d e : X) → i < length es → get_or es i d ≡ get_or es i e
-get_or-any [] i d e l = absurd (omega arith)
-get_or-any (x ∷ es) zero d e l = refl
-get_or-any (x ∷ es) (suc i) d e l = get_or-any es i d e (omega arith)
+-- ---- among the first n of an array
+
+set-behind : {X : Type 0} → (es zs : List X) (i : ℕ) (e : X) → i < length es → set (take (suc i) es ++ zs) i e ≡ take i es ++ e ∷ zs
+set-behind [] zs i e l = absurd (omega arith)
+set-behind (x ∷ es) zs zero e l = refl
+set-behind {X = X} (x ∷ es) zs (suc i) e l = ap (λ (t : List X). x ∷ t) (set-behind es zs i e (omega arith))
+
+module _ {X : Type 0} (es : List X) (i n : ℕ) where
+  take_first : i ≤ n → take i es ≡ take i (take n es)
+  take_first le = sym (take-take i n es le)
+
+  drop_first : (k : ℕ) → k ≤ n → drop k (take n es) ≡ take (n - k) (drop k es)
+  drop_first k le = let e : k + (n - k) ≡ n = omega arith in ap (λ (m : ℕ). drop k (take m es)) (sym e) ∙ drop-take k (n - k) es
+
+  -- from i on each was moved a place further, and another written there
+  pub write_among : (e : X) → i ≤ n → n < length es → take (n + 1) (set (paste es (i + 1) (drop i es) (n - i)) i e) ≡ take i (take n es) ++ e ∷ drop i (take n es)
+  write_among e le lt =
+      let d : length (drop i es) ≡ length es - i = length-drop i es in
+      let m : i + 1 + (n - i) ≡ n + 1 = omega arith in
+      let one : i + 1 ≡ suc i = omega arith in
+      take-set-lt (n + 1) (paste es (i + 1) (drop i es) (n - i)) i e (omega arith)
+      ∙ ap (λ (k : ℕ). set (take k (paste es (i + 1) (drop i es) (n - i))) i e) (sym m)
+      ∙ ap (λ (t : List X). set t i e) (take-paste es (i + 1) (drop i es) (n - i) (omega arith) (omega arith))
+      ∙ ap (λ (k : ℕ). set (take k es ++ take (n - i) (drop i es)) i e) one
+      ∙ set-behind es (take (n - i) (drop i es)) i e (omega arith)
+      ∙ ap (λ (t : List X). t ++ e ∷ take (n - i) (drop i es)) (take_first le)
+      ∙ ap (λ (t : List X). take i (take n es) ++ e ∷ t) (sym (drop_first i le))
+
+  -- from i on each was moved a place up front
+  pub close_among : i < n → n ≤ length es → take (n - 1) (paste es i (drop (i + 1) es) (n - (i + 1))) ≡ take i (take n es) ++ drop (i + 1) (take n es)
+  close_among lt le =
+      let d : length (drop (i + 1) es) ≡ length es - (i + 1) = length-drop (i + 1) es in
+      let m : i + (n - (i + 1)) ≡ n - 1 = omega arith in
+      ap (λ (k : ℕ). take k (paste es i (drop (i + 1) es) (n - (i + 1)))) (sym m)
+      ∙ take-paste es i (drop (i + 1) es) (n - (i + 1)) (omega arith) (omega arith)
+      ∙ ap (λ (t : List X). t ++ take (n - (i + 1)) (drop (i + 1) es)) (take_first (omega arith))
+      ∙ ap (λ (t : List X). take i (take n es) ++ t) (sym (drop_first (i + 1) (omega arith)))
+
+-- ---- how many edges there can be
 
 -- ascending bytes are at most 256
 abbrev pub AllBytes : List Edge → Type 0
@@ -216,13 +226,12 @@ pub Ascends-short : (es : List Edge) → Ascends es → AllBytes es → length e
 Ascends-short [] a h = omega arith
 Ascends-short (x ∷ es) a h = let ih : x.byte + length es < 256 = AscendsAbove-short x.byte es h.0 a h.1 in omega arith
 
--- a byte carried in among bytes
 AllBytes-edges_with : (es : List Edge) (e : Edge) → e.byte < 256 → AllBytes es → AllBytes (edges_with es e)
 AllBytes-edges_with [] e l h = (l, tt)
 AllBytes-edges_with (x ∷ es) e l h =
-    elim (leb_tells (suc e.byte) x.byte) [
-      | inl p ↦ rw p.0 (l, AllBytes-edges_with es x h.0 h.1)
-      | inr p ↦ rw p.0 (h.0, AllBytes-edges_with es e l h.1)
+    elim (leb_tells (suc x.byte) e.byte) [
+      | inl p ↦ rw p.0 (h.0, AllBytes-edges_with es e l h.1)
+      | inr p ↦ rw p.0 (l, h)
     ]
 
 -- where a byte has no edge, there are fewer than 256

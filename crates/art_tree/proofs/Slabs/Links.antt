@@ -3,12 +3,12 @@ use Rattle.std.proofs.Common.{eq-eqb, ◌≡◌, ◌≢◌, ℕ, ◌+◌, ◌-�
 use Rattle.std.specs.Prelude.{option_map, IfSome}
 use Rattle.std.proofs.lemmas.Bool.Decides.{eqb_tells}
 use Rattle.std.proofs.lemmas.Bool.{ne_eqb}
-use Rattle.art_tree.specs.Leaves.{Numbered, Leaves, leaf_in, Has, first_number, number_after, number_before, behind, placed_behind, without_number, with_pair, with_value, Lacks, AreDistinct}
+use Rattle.art_tree.specs.Leaves.{Numbered, Leaves, leaf_in, Has, first_number, number_after, number_before, behind, with_pair_behind, without_number, with_pair, with_value, Lacks, AreDistinct}
 use Rattle.art_tree.specs.Slabs.Links.{is_at, end_with, follow, leaf_record, Links, AllLinked, pairs_in, content, with_next, with_prev}
 use Rattle.art_tree.specs.Slabs.Store.{Store, slot_at, used_count, with_record}
 use Rattle.art_tree.specs.declared.records.leaves.Leaf.{Leaf}
 use Rattle.art_tree.proofs.Slabs.Slots.{with-now, with-others, with-count}
-use Rattle.art_tree.proofs.Pairs.Numbers.{has_other, Lacks-from_leaf_in, is_at-behind, is_at-has, leaf_in-placed_behind, number_after-placed_behind, number_before-placed_behind, AreDistinct-placed_behind, first_number-placed_behind, last_number-placed_behind, length-placed_behind, leaf_in-without_number, number_after-without_number, number_before-without_number, AreDistinct-without_number, first_number-without_number, last_number-without_number, length-without_number, Has-before, Has-behind, leaf_in-with_pair, leaf_in-with_now, numbers-with_pair, before_other, after_other, with_value-pair, same_first, same_last, same_after, same_before, same_distinct, same_length}
+use Rattle.art_tree.proofs.Pairs.Numbers.{has_other, Lacks-from_leaf_in, is_at-behind, is_at-has, leaf_in-with_pair_behind, number_after-with_pair_behind, number_before-with_pair_behind, AreDistinct-with_pair_behind, first_number-with_pair_behind, last_number-with_pair_behind, length-with_pair_behind, leaf_in-without_number, number_after-without_number, number_before-without_number, AreDistinct-without_number, first_number-without_number, last_number-without_number, length-without_number, Has-before, Has-behind, leaf_in-with_pair, leaf_in-with_now, numbers-with_pair, before_other, after_other, with_value-pair, same_first, same_last, same_after, same_before, same_distinct, same_length}
 
 module _ {K V : Type 0} (leaves : ℕ → Option (Leaf K V)) where
   -- the record of a number is that of its pair, linked to a next one
@@ -146,25 +146,25 @@ module _ {K V : Type 0} where
       lacks_new = Lacks-from_leaf_in ps n fresh
 
       -- the new record
-      inserted_now : prev_set n ≡ leaf_record (placed_behind o (n, x) ps) n
+      inserted_now : prev_set n ≡ leaf_record (with_pair_behind o (n, x) ps) n
       inserted_now =
-          rw (prevs n, is_at-behind o ps n lacks_new, nexts n, is_at-has o ps n has lacks_new, is_made, leaf_in-placed_behind o (n, x) ps n has lacks_new, number_after-placed_behind o (n, x) ps n has lacks_new, number_before-placed_behind o (n, x) ps n has lacks_new l.distinct, eq-eqb n n refl)
+          rw (prevs n, is_at-behind o ps n lacks_new, nexts n, is_at-has o ps n has lacks_new, is_made, leaf_in-with_pair_behind o (n, x) ps n has lacks_new, number_after-with_pair_behind o (n, x) ps n has lacks_new, number_before-with_pair_behind o (n, x) ps n has lacks_new l.distinct, eq-eqb n n refl)
           refl
 
       -- the other records
-      inserted_other : (j : ℕ) → n ≢ j → prev_set j ≡ leaf_record (placed_behind o (n, x) ps) j
+      inserted_other : (j : ℕ) → n ≢ j → prev_set j ≡ leaf_record (with_pair_behind o (n, x) ps) j
       inserted_other j ne =
-          rw (prevs j, nexts j, rest j (λ e. ne (sym e)), l.each j, leaf_in-placed_behind o (n, x) ps j has lacks_new, number_after-placed_behind o (n, x) ps j has lacks_new, number_before-placed_behind o (n, x) ps j has lacks_new l.distinct, ne_eqb n j ne)
+          rw (prevs j, nexts j, rest j (λ e. ne (sym e)), l.each j, leaf_in-with_pair_behind o (n, x) ps j has lacks_new, number_after-with_pair_behind o (n, x) ps j has lacks_new, number_before-with_pair_behind o (n, x) ps j has lacks_new l.distinct, ne_eqb n j ne)
           (relinked (leaf_in ps j) (number_before ps j) (number_after ps j) (Some n) (Some n) (is_at (behind o ps) j) (is_at o j))
 
       -- a new record, linked to its neighbours
-      pub links_inserted : Links prev_set (end_with o (Some n) first) (end_with (behind o ps) (Some n) last) (len + 1) (placed_behind o (n, x) ps)
+      pub links_inserted : Links prev_set (end_with o (Some n) first) (end_with (behind o ps) (Some n) last) (len + 1) (with_pair_behind o (n, x) ps)
       links_inserted = record {
-        distinct = AreDistinct-placed_behind o (n, x) ps l.distinct lacks_new;
-        each = λ j. elim (eqb_tells n j) [ inl t ↦ subst (λ k. prev_set k ≡ leaf_record (placed_behind o (n, x) ps) k) t.1 inserted_now | inr t ↦ inserted_other j t.1 ];
-        starts = rw l.starts (sym (first_number-placed_behind o (n, x) ps));
-        ends = rw l.ends (sym (last_number-placed_behind o (n, x) ps has));
-        counted = rw l.counted (sym (length-placed_behind o (n, x) ps has));
+        distinct = AreDistinct-with_pair_behind o (n, x) ps l.distinct lacks_new;
+        each = λ j. elim (eqb_tells n j) [ inl t ↦ subst (λ k. prev_set k ≡ leaf_record (with_pair_behind o (n, x) ps) k) t.1 inserted_now | inr t ↦ inserted_other j t.1 ];
+        starts = rw l.starts (sym (first_number-with_pair_behind o (n, x) ps));
+        ends = rw l.ends (sym (last_number-with_pair_behind o (n, x) ps has));
+        counted = rw l.counted (sym (length-with_pair_behind o (n, x) ps has));
       }
 
     module _ (i : ℕ) (has : Has ps i) (taken next_set prev_set : ℕ → Option (Leaf K V)) (gone : taken i ≡ None) (rest : (j : ℕ) → j ≢ i → taken j ≡ leaves j) (prev next : Option ℕ) (is_prev : prev ≡ number_before ps i) (is_next : next ≡ number_after ps i) (nexts : (j : ℕ) → next_set j ≡ with_next taken prev next j) (prevs : (j : ℕ) → prev_set j ≡ with_prev next_set next prev j) where
@@ -333,7 +333,7 @@ module _ {K V : Type 0} where
       made_behind = still_made b n (slot_at s) (slot_at made) _ now rest (rw is (record_behind (slot_at s) first last (used_count s) ps l o))
 
       -- a record is put in
-      pub store_inserted : used_count made ≡ used_count s + 1 → (next_set prev_set : Store (Leaf K V)) → ((j : ℕ) → slot_at next_set j ≡ with_next (slot_at made) o (Some n) j) → ((j : ℕ) → slot_at prev_set j ≡ with_prev (slot_at next_set) b (Some n) j) → used_count next_set ≡ used_count made → used_count prev_set ≡ used_count next_set → (first' last' : Option ℕ) → first' ≡ end_with o (Some n) first → last' ≡ end_with b (Some n) last → Links (slot_at prev_set) first' last' (used_count prev_set) (placed_behind o (n, (k, v)) ps)
+      pub store_inserted : used_count made ≡ used_count s + 1 → (next_set prev_set : Store (Leaf K V)) → ((j : ℕ) → slot_at next_set j ≡ with_next (slot_at made) o (Some n) j) → ((j : ℕ) → slot_at prev_set j ≡ with_prev (slot_at next_set) b (Some n) j) → used_count next_set ≡ used_count made → used_count prev_set ≡ used_count next_set → (first' last' : Option ℕ) → first' ≡ end_with o (Some n) first → last' ≡ end_with b (Some n) last → Links (slot_at prev_set) first' last' (used_count prev_set) (with_pair_behind o (n, (k, v)) ps)
       store_inserted more next_set prev_set nexts prevs same same' first' last' firsts lasts =
           let none = no_record (slot_at s) first last (used_count s) ps l n fresh in
           let made_now : slot_at made n ≡ Some (leaf_of o (behind o ps) (k, v)) = rw (← is) now in

@@ -9,7 +9,7 @@ use Rattle.blart_keys.proofs.ContentLemmas.{related-same}
 use Rattle.art_tree.specs.Invariant.EdgesAbove.{edge_front}
 use Rattle.art_tree.specs.Begins.{Bytes, Begins}
 use Rattle.art_tree.specs.Calls.Partings.{LeavesAt, KeyEnds, QueryEnds}
-use Rattle.art_tree.specs.Calls.Descents.{IsMate, IsWayOf}
+use Rattle.art_tree.specs.Calls.Descents.{IsWayOf}
 use Rattle.art_tree.specs.Places.{LeavesMate}
 use Rattle.art_tree.specs.Leaves.{Numbered, AreDistinct, keys_in, bytes}
 use Rattle.art_tree.specs.Slabs.Nodes.{Node}
@@ -152,8 +152,8 @@ module _ {P : ℕ} {K V : Type 0} (key_bytes : K → List ℕ) (pairs : List (Nu
   parts_shorter ne a = record { key = mate; is = is; begins = mate_begins mate q d d_is a; shorter = (let l : d ≤ length q = query_within mate q d d_is in omega arith) }
 
   -- what stands at the spot covers q, where that begins the mate
-  covers_query : d ≡ length q → (sp : Spot) → SpotFits nodes (Some root) s.front_of mate d sp → Covers keys nodes s.front_of q (child_under sp)
-  covers_query a sp fits = go sp fits
+  pub covers_query : d ≡ length q → (sp : Spot) → SpotFits nodes (Some root) s.front_of mate d sp → (c : Child) → c ≡ child_under sp → Covers keys nodes s.front_of q c
+  covers_query a sp fits c e = subst (λ (z : Child). Covers keys nodes s.front_of q z) (sym e) (go sp fits)
     where
       qm : Begins q mate
       qm = mate_begun mate q d d_is a
@@ -191,7 +191,7 @@ module _ {P : ℕ} {K V : Type 0} (key_bytes : K → List ℕ) (pairs : List (Nu
   parts_longer a ne sp fits c e = record {
     root = Some root;
     shape = s;
-    covers = subst (λ (z : Child). Covers keys nodes s.front_of q z) (sym e) (covers_query a sp fits);
+    covers = covers_query a sp fits c e;
     leaf = i;
     key = mate;
     is = is;
@@ -200,17 +200,15 @@ module _ {P : ℕ} {K V : Type 0} (key_bytes : K → List ℕ) (pairs : List (Nu
   }
 
   -- both go on
-  pub parts_apart : IsContent (bytes key_bytes) pairs → AreDistinct pairs → IsMate keys q i → d ≢ length q → d ≢ length mate → (sp : Spot) → SpotFits nodes (Some root) s.front_of mate d sp → LeavesAt key_bytes P pairs nodes (record { mate = i; depth = d; byte = get_or mate d 0; spot = sp }) q
+  pub parts_apart : IsContent (bytes key_bytes) pairs → AreDistinct pairs → ((j : ℕ) (k : Bytes) → keys j ≡ Some k → length (common k q) ≤ length (common mate q)) → d ≢ length q → d ≢ length mate → (sp : Spot) → SpotFits nodes (Some root) s.front_of mate d sp → LeavesAt key_bytes P pairs nodes (record { mate = i; depth = d; byte = get_or mate d 0; spot = sp }) q
   parts_apart content distinct best nq nm sp fits =
-      let same : best.key ≡ mate = (let e : keys i ≡ Some best.key = best.is in cc) in
-      let furthest : (j : ℕ) (k : Bytes) → keys j ≡ Some k → length (common k q) ≤ length (common mate q) = λ j k e. subst (λ (z : Bytes). length (common k q) ≤ length (common z q)) same (best.best j k e) in
       let lq : d < length q = (let l : d ≤ length q = query_within mate q d d_is in omega arith) in
       let lm : d < length mate = (let l : d ≤ length mate = mate_within mate q d d_is in omega arith) in
       record {
-        apart = record { content = content; distinct = distinct; root = Some root; shape = s; alone = none_related keys nodes (Some root) s i mate is q d d_is furthest lq lm };
+        apart = record { content = content; distinct = distinct; root = Some root; shape = s; alone = none_related keys nodes (Some root) s i mate is q d d_is best lq lm };
         mate = mate;
         is = is;
         byte_is = refl;
-        leaves = leaves_mate keys nodes (Some root) s i mate is q d d_is furthest lq lm;
+        leaves = leaves_mate keys nodes (Some root) s i mate is q d d_is best lq lm;
         spot_fits = fits;
       }

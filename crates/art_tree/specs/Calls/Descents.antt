@@ -9,7 +9,7 @@ use Rattle.art_tree.specs.Invariant.Shape.{Shape, Covers}
 use Rattle.art_tree.specs.declared.records.ids.Child.{Child}
 
 -- in some tree, the child stands for the keys that begin with some front
-pub record Hangs (P : ℕ) (nodes : ℕ → Option Node) (child : Child) : Type 0 where
+pub record IsSubtree (P : ℕ) (nodes : ℕ → Option Node) (child : Child) : Type 0 where
   pub keys : ℕ → Option Bytes
   pub root : Option Child
   pub shape : Shape P keys nodes root
@@ -60,6 +60,13 @@ module _ (keys : ℕ → Option Bytes) where
   pub record IsMate (q : Bytes) (i : ℕ) : Type 0 where
     pub key : Bytes
     pub is : keys i ≡ Some key
+    pub best : (j : ℕ) (k : Bytes) → keys j ≡ Some k → length (common k q) ≤ length (common key q)
+
+module _ (keys : ℕ → Option Bytes) (q : Bytes) (i : ℕ) (key : Bytes) (n : ℕ) where
+  -- the key of the leaf has the first n bytes of q, and no key has more
+  pub record IsNearest : Type 0 where
+    pub is : keys i ≡ Some key
+    pub shared : n ≡ length (common key q)
     pub best : (j : ℕ) (k : Bytes) → keys j ≡ Some k → length (common k q) ≤ length (common key q)
 
 module _ (keys : ℕ → Option Bytes) (nodes : ℕ → Option Node) (front_of : ℕ → Bytes) (f : Bytes) (old new : ℕ) where

@@ -20,7 +20,7 @@ pub record Gains (old new : ℕ → Option Bytes) (i : ℕ) (k : Bytes) : Type 0
   pub others : (j : ℕ) → j ≢ i → new j ≡ old j
 
 -- in some tree with this root, the key leaves a stored key, the mate, at the spot
-pub record Joins (P : ℕ) (nodes : ℕ → Option Node) (root : Child) (spot : Spot) (key mate : Bytes) (depth : ℕ) : Type 0 where
+pub record IsSpotFor (P : ℕ) (nodes : ℕ → Option Node) (root : Child) (spot : Spot) (key mate : Bytes) (depth : ℕ) : Type 0 where
   pub keys : ℕ → Option Bytes
   pub shape : Shape P keys nodes (Some root)
   pub leaf : ℕ
@@ -29,8 +29,8 @@ pub record Joins (P : ℕ) (nodes : ℕ → Option Node) (root : Child) (spot : 
   pub fits : SpotFits nodes (Some root) shape.front_of mate depth spot
 
 -- each tree where the key leaves the mate at the spot is now the tree with the leaf i of that key too
-abbrev pub Joined : ℕ → (ℕ → Option Node) → (ℕ → Option Node) → Child → Child → Spot → Bytes → Bytes → ℕ → ℕ → Type 0
-Joined P old new root root' spot key mate depth i =
+abbrev pub TreeGains : ℕ → (ℕ → Option Node) → (ℕ → Option Node) → Child → Child → Spot → Bytes → Bytes → ℕ → ℕ → Type 0
+TreeGains P old new root root' spot key mate depth i =
     (keys keys' : ℕ → Option Bytes) (s : Shape P keys old (Some root)) (leaf : ℕ) → keys leaf ≡ Some mate → LeavesMate keys leaf depth key → SpotFits old (Some root) s.front_of mate depth spot
     → Gains keys keys' i key → Shape P keys' new (Some root')
 
@@ -43,9 +43,9 @@ pub record Forks (old new : ℕ → Option Node) (n depth : ℕ) (prefix : List 
   pub both : ((low ≡ one) × (high ≡ other)) ⊎ ((low ≡ other) × (high ≡ one))
 
 -- the child is a leaf, or a node as deep as one number at least and another at most
-abbrev pub StandsWithin : (ℕ → Option Node) → Child → ℕ → ℕ → Type 0
-StandsWithin nodes (Leaf i) least most = Unit {0}
-StandsWithin nodes (Inner n) least most = (x : Node) × (nodes n ≡ Some x) × (least ≤ x.depth) × (x.depth ≤ most)
+abbrev pub DepthWithin : (ℕ → Option Node) → Child → ℕ → ℕ → Type 0
+DepthWithin nodes (Leaf i) least most = Unit {0}
+DepthWithin nodes (Inner n) least most = (x : Node) × (nodes n ≡ Some x) × (least ≤ x.depth) × (x.depth ≤ most)
 
 -- what a contract sees of leaves and nodes together
 abbrev pub content_of : {K V : Type 0} → Leaves K V → Nodes → Content K V

@@ -16,7 +16,7 @@ pub record Loses (old new : ℕ → Option Bytes) (i : ℕ) (k : Bytes) : Type 0
   pub others : (j : ℕ) → j ≢ i → new j ≡ old j
 
 -- the leaf i hangs on a node by the byte b, and this edge leads to the node
-pub record HangsAt (P : ℕ) (keys : ℕ → Option Bytes) (nodes : ℕ → Option Node) (root : Option Child) (above : Option (ℕ × ℕ)) (n b i : ℕ) : Type 0 where
+pub record IsLeafOf (P : ℕ) (keys : ℕ → Option Bytes) (nodes : ℕ → Option Node) (root : Option Child) (above : Option (ℕ × ℕ)) (n b i : ℕ) : Type 0 where
   pub shape : Shape P keys nodes root
   pub key : Bytes
   pub key_is : keys i ≡ Some key
@@ -33,7 +33,7 @@ pub record OtherEdge (nodes : ℕ → Option Node) (n b : ℕ) (e : Edge) : Type
   pub other : b ≢ e.byte
 
 -- in some tree of these keys, the edge leads to a node, and the child hangs on it
-pub record HangsBelow (P : ℕ) (keys : ℕ → Option Bytes) (nodes : ℕ → Option Node) (above : Option (ℕ × ℕ)) (child : Child) : Type 0 where
+pub record IsChildBelow (P : ℕ) (keys : ℕ → Option Bytes) (nodes : ℕ → Option Node) (above : Option (ℕ × ℕ)) (child : Child) : Type 0 where
   pub root : Option Child
   pub shape : Shape P keys nodes root
   pub number : ℕ

@@ -5,9 +5,9 @@ use Rattle.art_tree.specs.Places.{IsLeafBefore}
 use Rattle.art_tree.specs.Leaves.{Numbered, behind}
 
 -- the bytes q are those of the leaf's key, or no key's, and then this is the leaf before them
-abbrev pub StandsAt : (ℕ → Option Bytes) → Bytes → Result ℕ (Option ℕ) → Type 0
-StandsAt keys q (Ok i) = keys i ≡ Some q
-StandsAt keys q (Err prev) = IsLeafBefore keys q prev × ((j : ℕ) → keys j ≡ Some q → ⊥)
+abbrev pub IsPlaceOf : (ℕ → Option Bytes) → Bytes → Result ℕ (Option ℕ) → Type 0
+IsPlaceOf keys q (Ok i) = keys i ≡ Some q
+IsPlaceOf keys q (Err prev) = IsLeafBefore keys q prev × ((j : ℕ) → keys j ≡ Some q → ⊥)
 
 -- the number on one side of a place: behind it, or before
 abbrev pub beside : {K V : Type 0} → Option ℕ → List (Numbered K V) → Bool → Option ℕ

@@ -1,5 +1,5 @@
 -- Edges by their bytes.
-use Rattle.std.specs.Prelude.{◌≡◌, ◌≢◌, ◌<◌, ◌≤◌, ℕ, Bool, true, false, List, [], ◌∷◌, Option, Some, None, cond, eqb, leb, ltb, ◌+◌, length, take}
+use Rattle.std.specs.Prelude.{◌≡◌, ◌≢◌, ◌<◌, ◌≤◌, ℕ, Bool, true, false, List, [], ◌∷◌, Option, Some, None, cond, eqb, ltb, suc, ◌+◌, length, take}
 use Rattle.art_tree.specs.declared.records.ids.Child.{Child}
 use Rattle.art_tree.specs.declared.records.ids.Edge.{Edge}
 
@@ -18,19 +18,20 @@ abbrev pub Ascends : List Edge → Type 0
 Ascends [] = Unit {0}
 Ascends (e ∷ es) = AscendsAbove e.byte es
 
--- the edges with one more, before the first greater one; where they ascend, each greater one stands a place further
+-- how many edges stand before a byte
+abbrev pub count_below : List Edge → ℕ → ℕ
+count_below [] b = 0
+count_below (x ∷ xs) b = cond (ltb x.byte b) (suc (count_below xs b)) 0
+
+-- the edges with one more, in front of the first that is not before it
 abbrev pub edges_with : List Edge → Edge → List Edge
 edges_with [] e = e ∷ []
-edges_with (x ∷ xs) e = cond (ltb e.byte x.byte) (e ∷ edges_with xs x) (x ∷ edges_with xs e)
+edges_with (x ∷ xs) e = cond (ltb x.byte e.byte) (x ∷ edges_with xs e) (e ∷ x ∷ xs)
 
--- the edges but the one at a byte; where they ascend, each greater one stands a place further up front
-abbrev pub edges_without_from : Edge → List Edge → ℕ → List Edge
-edges_without_from x [] b = []
-edges_without_from x (y ∷ ys) b = cond (leb b x.byte) y x ∷ edges_without_from y ys b
-
+-- the edges but the one at a byte
 abbrev pub edges_without : List Edge → ℕ → List Edge
 edges_without [] b = []
-edges_without (x ∷ xs) b = edges_without_from x xs b
+edges_without (x ∷ xs) b = cond (eqb x.byte b) xs (x ∷ edges_without xs b)
 
 -- the edges, the first at a byte led elsewhere
 abbrev pub edges_with_child : List Edge → ℕ → Child → List Edge

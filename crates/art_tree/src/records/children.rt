@@ -1,10 +1,9 @@
 //! The edges of a node, in the order of their bytes.
 ghost use Rattle.std.specs.Prelude.{true, false, ◌≡◌, ◌+◌, ◌-◌, ◌<◌, ◌≤◌, [], ◌∷◌, length, take, None, IsSome};
-ghost use Rattle.art_tree.specs.Slabs.Edges.{child_at, Ascends, AddsChild, DropsChild, RedirectsChild, IsNext, IsPrevious, IsEnd, edges_with, edges_without, edges_with_child, after, before};
+ghost use Rattle.art_tree.specs.Slabs.Edges.{child_at, Ascends, AddsChild, DropsChild, RedirectsChild, IsNext, IsPrevious, IsEnd, count_below, edges_with, edges_without, edges_with_child, after, before};
 
 use crate::records::ids::{Child, Edge};
 use std::marker::Model;
-use std::mem;
 
 /// Up to 256 edges, one for a byte. A contract sees their list, by rising byte.
 #[derive(Drop)]
@@ -152,32 +151,41 @@ fn before_in(edges: &[Edge], byte: u8) -> Option<Edge>
     found
 }
 
+// How many edges stand before a byte.
+fn place_of(edges: &[Edge], byte: u8) -> usize
+    ensures count { result ≡ count_below edges.now byte }
+    ensures within { result ≤ length edges.now }
+{
+    let mut place = 0;
+    for edge in edges {
+        if byte <= edge.byte {
+            return place;
+        }
+        place += 1;
+    }
+    place
+}
+
 // Puts an edge among the first so many.
 fn insert_in(edges: &mut [Edge], count: usize, byte: u8, to: Child)
     requires { count < length edges.old }
     ensures { take (count + 1) edges.new
         ≡ edges_with (take count edges.old) (record { byte = byte; to = to }) }
 {
-    let mut fresh = Edge { byte, to };
-    for i in 0..count {
-        if fresh.byte < edges[i].byte {
-            fresh = mem::replace(&mut edges[i], fresh);
-        }
-    }
-    edges[count] = fresh;
+    let place = place_of(&edges[..count], byte);
+    edges.copy_within(place..count, place + 1);
+    edges[place] = Edge { byte, to };
 }
 
 // Closes up over the edge at a byte, among the first so many.
 fn remove_in(edges: &mut [Edge], count: usize, byte: u8)
-    requires some { 0 < count }
     requires within { count ≤ length edges.old }
+    requires ascends { Ascends (take count edges.old) }
+    requires there { IsSome (child_at (take count edges.old) byte) }
     ensures { take (count - 1) edges.new ≡ edges_without (take count edges.old) byte }
 {
-    for i in 0..count - 1 {
-        if byte <= edges[i].byte {
-            edges[i] = edges[i + 1];
-        }
-    }
+    let place = place_of(&edges[..count], byte);
+    edges.copy_within(place + 1..count, place);
 }
 
 // Leads the first edge at a byte elsewhere, among the first so many.

@@ -2,7 +2,7 @@
 ghost use Rattle.std.specs.Prelude.{◌≡◌, ◌+◌, ◌<◌, ◌≤◌, ℕ, [], length, option_map, Some, None, IsSome, IfSome, OnOk, OnErr};
 ghost use Rattle.std.specs.Borrow.{sem};
 ghost use Rattle.art_tree.specs.Slabs.Store.{slot_at, used_count};
-ghost use Rattle.art_tree.specs.Leaves.{leaf_in, Has, AreDistinct, first_number, last_number, number_after, number_before, placed_behind, without_number, with_pair};
+ghost use Rattle.art_tree.specs.Leaves.{leaf_in, Has, AreDistinct, first_number, last_number, number_after, number_before, with_pair_behind, without_number, with_pair};
 ghost use Rattle.art_tree.specs.Slabs.Links.{with_next, with_prev, end_with};
 ghost use Rattle.art_tree.specs.Slabs.LeafLends.{lends_value, lends_leaf};
 
@@ -227,7 +227,7 @@ impl<K: Drop, V: Drop> Leaves<K, V> {
         requires spare { 0 < self.old.spare }
         requires prev { IfSome prev (Has self.old.pairs) }
         ensures fresh { leaf_in self.old.pairs result ≡ None }
-        ensures placed { self.new.pairs ≡ placed_behind prev (result, (key, value)) self.old.pairs }
+        ensures placed { self.new.pairs ≡ with_pair_behind prev (result, (key, value)) self.old.pairs }
         ensures spare { self.new.spare + 1 ≡ self.old.spare }
     {
         let next = match prev {

@@ -3,7 +3,7 @@ ghost use Rattle.std.specs.Prelude.{◌≡◌, ℕ, ◌+◌, ◌<◌, ◌≤◌,
 ghost use Rattle.art_tree.specs.Begins.{Bytes};
 ghost use Rattle.art_tree.specs.Slabs.Nodes.{at};
 ghost use Rattle.art_tree.specs.Invariant.Shape.{Shape, Covers};
-ghost use Rattle.art_tree.specs.Calls.Descents.{Hangs, IsRoot, HasEdges, GoesToward, IsWayOf, Finds, IsEndUnder, IsMate};
+ghost use Rattle.art_tree.specs.Calls.Descents.{IsSubtree, IsRoot, HasEdges, GoesToward, IsWayOf, Finds, IsEndUnder, IsMate};
 ghost use Rattle.art_tree.specs.Calls.Spots.{SpotFits};
 ghost use Rattle.art_tree.specs.declared.records.ids.Child.{Child as Way};
 
@@ -83,7 +83,7 @@ pub(crate) fn end_under<const P: usize>(
     is_first: bool,
     visits: &mut Visits,
 ) -> LeafId
-    requires { Hangs P (at nodes.now) child.now }
+    requires { IsSubtree P (at nodes.now) child.now }
     ensures ends { (keys : ℕ → Option Bytes) (root : Option Way) (s : Shape P keys (at nodes.now) root) (g : Bytes)
         → Covers keys (at nodes.now) s.front_of g child.now → IsEndUnder keys is_first g result }
     ensures counted { (keys : ℕ → Option Bytes) (root : Option Way) (s : Shape P keys (at nodes.now) root) (g key : Bytes)

@@ -1,5 +1,6 @@
 //! How a query and the stored keys part.
 ghost use Rattle.std.specs.Prelude.{◌+◌, ◌≤◌, length, Some};
+ghost use Rattle.art_tree.specs.Calls.Descents.{IsNearest};
 ghost use Rattle.art_tree.specs.Calls.Partings.{IsParting, LeavesAt, LeavesAtNode, LeavesAtEdge};
 ghost use Rattle.art_tree.specs.Begins.{Bytes};
 ghost use Rattle.art_tree.specs.Places.{IsLeafBefore};
@@ -39,6 +40,26 @@ pub(crate) struct Departure {
     pub(crate) spot: Spot,
 }
 
+/// The leaf whose key goes along with a query the furthest, its key's bytes, and how many of them are the query's, in a tree with some pairs.
+pub(crate) fn nearest_leaf<'a, K: AsBytes, V, const P: usize>(
+    leaves: &'a Leaves<K, V>,
+    nodes: &Nodes<P>,
+    root: &Child,
+    query: &[u8],
+    visits: &mut Visits,
+) -> (LeafId, &'a [u8], usize)
+    requires { IsSound K.bytes P leaves.now nodes.now (Some root.now) }
+    ensures nearest { IsNearest (keys_in K.bytes leaves.now.pairs) query.now result.0 result.1.now result.2 }
+    ensures counted { visits.new.count
+        ≤ visits.old.count + longest (bytes K.bytes) leaves.now.pairs + 1 }
+    ensures grows { visits.old.count ≤ visits.new.count }
+{
+    let id = mate_of(nodes, root, query, visits);
+    let (key, _) = leaves.read(id, visits);
+    let key = key.as_bytes();
+    (id, key, common_len(key, query))
+}
+
 /// How a query and the stored key that goes along with it the furthest part, in a tree with some pairs.
 pub(crate) fn parting_of<K: AsBytes, V, const P: usize>(
     leaves: &Leaves<K, V>,
@@ -54,10 +75,7 @@ pub(crate) fn parting_of<K: AsBytes, V, const P: usize>(
     ensures grows { visits.old.count ≤ visits.new.count }
 {
     leaves.law();
-    let mate = mate_of(nodes, root, query, visits);
-    let (key, _) = leaves.read(mate, visits);
-    let key = key.as_bytes();
-    let depth = common_len(key, query);
+    let (mate, key, depth) = nearest_leaf(leaves, nodes, root, query, visits);
     if depth == key.len() {
         return if depth == query.len() {
             Parting::Same(mate)

@@ -2,7 +2,7 @@
 ghost use Rattle.std.specs.Prelude.{◌≡◌, ◌≢◌, ◌+◌, ◌-◌, ◌^◌, ◌<◌, ◌≤◌, [], length, take, slice_range, Some};
 ghost use Rattle.art_tree.specs.Invariant.EdgesAbove.{LeadsTo, TurnsTo};
 ghost use Rattle.art_tree.specs.Content.{Fits, IsOpen, room as places};
-ghost use Rattle.art_tree.specs.Calls.Placing.{Joins, Joined, Forks, StandsWithin, Places, content_of};
+ghost use Rattle.art_tree.specs.Calls.Placing.{IsSpotFor, TreeGains, Forks, DepthWithin, Places, content_of};
 ghost use Rattle.art_tree.specs.Slabs.Nodes.{at, room, FitsNew, SameSpares};
 ghost use Rattle.art_tree.specs.Calls.Removing.{StartsBelow, EndsBelow, Cuts};
 ghost use Rattle.art_tree.specs.Points.{IsFree, IsGood};
@@ -115,9 +115,9 @@ fn add_leaf<const P: usize>(
     spot: &Spot,
     leaf: &NewLeaf<'_>,
 ) -> Child
-    requires joins { Joins P (at nodes.old) root.now spot.now leaf.now.key.now leaf.now.mate.now leaf.now.depth }
+    requires spot_fits { IsSpotFor P (at nodes.old) root.now spot.now leaf.now.key.now leaf.now.mate.now leaf.now.depth }
     requires fits { 0 < room nodes.old }
-    ensures joined { Joined P (at nodes.old) (at nodes.new) root.now result
+    ensures gains { TreeGains P (at nodes.old) (at nodes.new) root.now result
         spot.now leaf.now.key.now leaf.now.mate.now leaf.now.depth leaf.now.id }
     ensures room { room nodes.old ≤ room nodes.new + 1 }
 {
@@ -135,9 +135,9 @@ fn add_at_node<const P: usize>(
     node: &NodeId,
     leaf: &NewLeaf<'_>,
 ) -> Child
-    requires { Joins P (at nodes.old) root.now
+    requires { IsSpotFor P (at nodes.old) root.now
         (Spot.Node above.now node.now) leaf.now.key.now leaf.now.mate.now leaf.now.depth }
-    ensures joined { Joined P (at nodes.old) (at nodes.new) root.now result
+    ensures gains { TreeGains P (at nodes.old) (at nodes.new) root.now result
         (Spot.Node above.now node.now) leaf.now.key.now leaf.now.mate.now leaf.now.depth leaf.now.id }
     ensures room { room nodes.old ≤ room nodes.new + 1 }
 {
@@ -155,10 +155,10 @@ fn add_at_edge<const P: usize>(
     child: &Child,
     leaf: &NewLeaf<'_>,
 ) -> Child
-    requires joins { Joins P (at nodes.old) root.now
+    requires spot_fits { IsSpotFor P (at nodes.old) root.now
         (Spot.Edge above.now child.now) leaf.now.key.now leaf.now.mate.now leaf.now.depth }
     requires fits { FitsNew nodes.old }
-    ensures joined { Joined P (at nodes.old) (at nodes.new) root.now result
+    ensures gains { TreeGains P (at nodes.old) (at nodes.new) root.now result
         (Spot.Edge above.now child.now) leaf.now.key.now leaf.now.mate.now leaf.now.depth leaf.now.id }
     ensures room { room nodes.old ≤ room nodes.new + 1 }
 {
@@ -235,7 +235,7 @@ pub(crate) fn cut_prefix<const P: usize>(
     key: &[u8],
     start: usize,
 )
-    requires { StandsWithin (at nodes.old) child.now start (length key.now) }
+    requires { DepthWithin (at nodes.old) child.now start (length key.now) }
     ensures cut { Cuts (at nodes.old) (at nodes.new) child.now (λ end. take P (slice_range key.now start end)) }
     ensures spares { SameSpares nodes.old nodes.new }
 {

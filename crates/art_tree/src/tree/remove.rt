@@ -4,7 +4,7 @@ ghost use Rattle.art_tree.specs.Invariant.EdgesAbove.{LeadsTo, edge_front};
 ghost use Rattle.art_tree.specs.Begins.{Bytes};
 ghost use Rattle.art_tree.specs.Leaves.{leaf_in, Has, OthersStand, without_number, keys_in};
 ghost use Rattle.art_tree.specs.Slabs.Nodes.{at};
-ghost use Rattle.art_tree.specs.Calls.Removing.{Loses, HangsAt, HangsBelow, OtherEdge, CutsBehind, Merged};
+ghost use Rattle.art_tree.specs.Calls.Removing.{Loses, IsLeafOf, IsChildBelow, OtherEdge, CutsBehind, Merged};
 ghost use Rattle.art_tree.specs.Invariant.Shape.{Shape};
 ghost use Rattle.art_tree.specs.Invariant.Sound.{IsSound};
 ghost use Rattle.art_tree.specs.declared.records.ids.Child.{Child as Way};
@@ -135,8 +135,8 @@ fn shrink<const P: usize>(
     byte: u8,
 ) -> Child
     requires { (keys : ℕ → Option Bytes) × (i : ℕ)
-        × HangsAt P keys (at nodes.old) (Some root.now) above.now node.now byte i }
-    ensures { (keys keys' : ℕ → Option Bytes) (i : ℕ) (h : HangsAt P keys (at nodes.old) (Some root.now) above.now node.now byte i)
+        × IsLeafOf P keys (at nodes.old) (Some root.now) above.now node.now byte i }
+    ensures { (keys keys' : ℕ → Option Bytes) (i : ℕ) (h : IsLeafOf P keys (at nodes.old) (Some root.now) above.now node.now byte i)
         → 2 < length h.node.edges → Loses keys keys' i h.key
         → Shape P keys' (at nodes.new) (Some result) }
 {
@@ -165,7 +165,7 @@ fn merge<const P: usize>(
 // Another edge of a node than the one to a leaf.
 fn other_edge<const P: usize>(nodes: &Nodes<P>, node: &NodeId, byte: u8) -> Edge
     requires { (keys : ℕ → Option Bytes) × (root : Option Way) × (above : Option (ℕ × ℕ))
-        × (i : ℕ) × HangsAt P keys (at nodes.now) root above node.now byte i }
+        × (i : ℕ) × IsLeafOf P keys (at nodes.now) root above node.now byte i }
     ensures { OtherEdge (at nodes.now) node.now byte result }
 {
     let mut visits = Visits::new();
@@ -186,8 +186,8 @@ fn recut<K: AsBytes, V, const P: usize>(
     above: &EdgeAbove,
     child: &Child,
 )
-    requires { HangsBelow P (keys_in K.bytes leaves.now.pairs) (at nodes.old) above.now child.now }
-    ensures { (h : HangsBelow P (keys_in K.bytes leaves.now.pairs) (at nodes.old) above.now child.now)
+    requires { IsChildBelow P (keys_in K.bytes leaves.now.pairs) (at nodes.old) above.now child.now }
+    ensures { (h : IsChildBelow P (keys_in K.bytes leaves.now.pairs) (at nodes.old) above.now child.now)
         → CutsBehind P (at nodes.old) (at nodes.new) h.shape.front_of (edge_front h.shape.front_of above.now) child.now }
 {
     match child {

@@ -5,15 +5,15 @@ ghost use Rattle.blart_keys.specs.Content.{under};
 ghost use Rattle.art_tree.specs.Leaves.{Has, keys_in, bytes};
 ghost use Rattle.art_tree.specs.Longest.{longest};
 ghost use Rattle.art_tree.specs.Seeks.{number_within, ends, bound_len};
-ghost use Rattle.art_tree.specs.Calls.Seeking.{StandsAt, beside};
+ghost use Rattle.art_tree.specs.Calls.Seeking.{IsPlaceOf, beside};
 ghost use Rattle.art_tree.specs.Invariant.Sound.{IsSound};
 
 use crate::records::ids::{Child, LeafId};
 use crate::records::leaves::Leaves;
 use crate::records::nodes::Nodes;
 use crate::tree::Tree;
-use crate::tree::descent::end_under;
-use crate::tree::parting::{Parting, leaf_before, parting_of};
+use crate::tree::descent::{end_under, locate};
+use crate::tree::parting::{Parting, leaf_before, nearest_leaf, parting_of};
 use crate::visits::Visits;
 use blart_keys::AsBytes;
 use std::ops::Bound;
@@ -78,7 +78,7 @@ impl<K: AsBytes + Drop, V: Drop, const PREFIX_LEN: usize> Tree<K, V, PREFIX_LEN>
 
     // The leaf with these bytes, or the leaf before the place where they would go.
     fn find_place(&self, query: &[u8], visits: &mut Visits) -> Result<LeafId, Option<LeafId>>
-        ensures stands { StandsAt (keys_in K.bytes self.now.pairs) query.now result }
+        ensures stands { IsPlaceOf (keys_in K.bytes self.now.pairs) query.now result }
         ensures counted { visits.new.count
             ≤ visits.old.count + (length query.now + 2) * (longest (bytes K.bytes) self.now.pairs + 1) + 1 }
         ensures grows { visits.old.count ≤ visits.new.count }
@@ -100,7 +100,7 @@ fn place_below<K: AsBytes, V, const P: usize>(
     visits: &mut Visits,
 ) -> Result<LeafId, Option<LeafId>>
     requires { IsSound K.bytes P leaves.now nodes.now (Some root.now) }
-    ensures stands { StandsAt (keys_in K.bytes leaves.now.pairs) query.now result }
+    ensures stands { IsPlaceOf (keys_in K.bytes leaves.now.pairs) query.now result }
     ensures counted { visits.new.count
         ≤ visits.old.count + (length query.now + 2) * (longest (bytes K.bytes) leaves.now.pairs + 1) + 1 }
     ensures grows { visits.old.count ≤ visits.new.count }
@@ -132,14 +132,12 @@ fn span_below<K: AsBytes, V, const P: usize>(
     ensures grows { visits.old.count ≤ visits.new.count }
 {
     leaves.law();
-    match parting_of(leaves, nodes, root, front, visits) {
-        Parting::Same(id) => Some((id, id)),
-        Parting::Longer(child) => {
-            let first = end_under(nodes, &child, true, visits);
-            let last = end_under(nodes, &child, false, visits);
-            Some((first, last))
-        }
-        Parting::Shorter(_) => None,
-        Parting::Apart(_) => None,
+    let (_, key, depth) = nearest_leaf(leaves, nodes, root, front, visits);
+    if depth < front.len() {
+        return None;
     }
+    let child = locate(nodes, root, key, depth, visits).child();
+    let first = end_under(nodes, &child, true, visits);
+    let last = end_under(nodes, &child, false, visits);
+    Some((first, last))
 }

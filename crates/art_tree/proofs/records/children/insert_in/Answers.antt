@@ -1,24 +1,26 @@
-use Rattle.std.proofs.Common.{◌≡◌, add-one, ◌∙◌, sym, arith, ◌<◌, ◌≤◌, length, get_or, subst}
+use Rattle.std.proofs.Common.{◌≡◌, ◌+◌, ◌++◌, ◌∷◌, List, ℕ, length, take, drop, set, ap, ◌∙◌, sym, arith}
+use Rattle.std.proofs.lemmas.List.{length-take-le}
 use Rattle.art_tree.specs.declared.records.ids.Edge.{Edge}
-use Rattle.art_tree.proofs.Slabs.EdgeShifts.{mixed-swap, mixed-keep, get_or-any}
+use Rattle.art_tree.proofs.Slabs.EdgeShifts.{edges_with-place, write_among}
 use Rattle.art_tree.proofs.records.children.insert_in.Goals as goal
-use Rattle.art_tree.proofs.records.children.insert_in.Goals.{then-fresh-edges, else-fresh-edges}
 
-pub loop-i-preserved : goal.loop-i-preserved
-loop-i-preserved c =
-    let es = c.loop-i.edges in
-    let i = c.loop-i.i in
+pub copy_within-requires-clause-start_le_end : goal.copy_within-requires-clause-start_le_end
+copy_within-requires-clause-start_le_end c = let l : length (take c.args.count c.args.edges.now) ≡ c.args.count = length-take-le c.args.count c.args.edges.now (omega (arith, c.requires)) in omega (arith, c.place_of-place.ensures.within)
+
+pub copy_within-requires-clause-dest_in_bounds : goal.copy_within-requires-clause-dest_in_bounds
+copy_within-requires-clause-dest_in_bounds c = let l : length (take c.args.count c.args.edges.now) ≡ c.args.count = length-take-le c.args.count c.args.edges.now (omega (arith, c.requires)) in omega (arith, c.place_of-place.ensures.within)
+
+pub bounds-edges-place : goal.bounds-edges-place
+bounds-edges-place c = let l : length (take c.args.count c.args.edges.now) ≡ c.args.count = length-take-le c.args.count c.args.edges.now (omega (arith, c.requires)) in omega (arith, c.place_of-place.ensures.within, c.copy_within.ensures.len)
+
+pub returns : goal.returns
+returns c =
+    let es = c.args.edges.now in
     let n = c.args.count in
-    let x = c.index-edges-i.result in
-    let lt : i < n = c.loop-i-test.true in
-    let le : n ≤ length es = omega (arith, c.requires, c.loop-i.auto.edges) in
-    let is : get_or es i x ≡ x = sym c.index-edges-i.is in
-    rw add-one (elim c.if-fresh-edges.branch [
-      | then-fresh-edges w ↦
-          let d = w.index-edges-i-then-fresh-edges.result in
-          let same : get_or es i x ≡ get_or es i d = get_or-any es i x d (omega arith) in
-          let v : w.replace-fresh.result ≡ get_or es i d = w.replace-fresh.ensures.value in
-          let a : w.replace-fresh.new.dest ≡ c.loop-i.fresh = w.replace-fresh.ensures.after in
-          rw (w.edges-is, w.fresh-is, v, a) (c.loop-i.invariant ∙ mixed-swap es i n c.loop-i.fresh d lt le (subst (λ (z : Edge). c.loop-i.fresh.byte < z.byte) same w.if-fresh-edges.true))
-      | else-fresh-edges w ↦ rw (w.edges-is, w.fresh-is) (c.loop-i.invariant ∙ mixed-keep es i n c.loop-i.fresh x lt le w.if-fresh-edges.false)
-    ])
+    let i = c.place_of-place.result in
+    let e : Edge = record { byte = c.args.byte; to = c.args.to } in
+    let l : length (take n es) ≡ n = length-take-le n es (omega (arith, c.requires)) in
+    ap (λ (t : List Edge). take (n + 1) (set t i e)) c.copy_within.ensures.after
+    ∙ write_among es i n e (omega (arith, c.place_of-place.ensures.within)) c.requires
+    ∙ ap (λ (k : ℕ). take k (take n es) ++ e ∷ drop k (take n es)) c.place_of-place.ensures.count
+    ∙ sym (edges_with-place (take n es) e)

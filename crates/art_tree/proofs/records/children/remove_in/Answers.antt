@@ -1,32 +1,32 @@
-use Rattle.std.proofs.Common.{◌≡◌, ◌-◌, add-one, ap, ◌∙◌, sym, arith, ◌<◌, ◌≤◌, length, get_or, suc, set}
+use Rattle.std.proofs.Common.{◌≡◌, ℕ, suc, ◌+◌, ◌-◌, ◌<◌, ◌++◌, List, length, take, drop, ap, ◌∙◌, sym, arith}
+use Rattle.std.proofs.lemmas.List.{length-take-le}
+use Rattle.art_tree.specs.Slabs.Edges.{count_below}
 use Rattle.art_tree.specs.declared.records.ids.Edge.{Edge}
-use Rattle.art_tree.proofs.Slabs.EdgeShifts.{shut, shut-move, shut-keep, shut-end, get_or-any}
+use Rattle.art_tree.proofs.Slabs.EdgeShifts.{edges_without-place, close_among}
 use Rattle.art_tree.proofs.records.children.remove_in.Goals as goal
-use Rattle.art_tree.proofs.records.children.remove_in.Goals.{then-byte-edges, else-byte-edges}
 
-pub loop-i-preserved : goal.loop-i-preserved
-loop-i-preserved c =
-    let es = c.loop-i.edges in
-    let i = c.loop-i.i in
+pub copy_within-requires-clause-start_le_end : goal.copy_within-requires-clause-start_le_end
+copy_within-requires-clause-start_le_end c =
+    let es = c.args.edges.now in
     let n = c.args.count in
-    let x = c.index-edges-i.result in
-    let lt : suc i < n = omega (arith, c.loop-i-test.true) in
-    let le : n ≤ length es = omega (arith, c.requires.within, c.loop-i.auto.edges) in
-    let is : get_or es i x ≡ x = sym c.index-edges-i.is in
-    rw add-one (elim c.if-byte-edges.branch [
-      | then-byte-edges w ↦
-          let y = w.index-edges-i-then-byte-edges.result in
-          let v : y ≡ get_or es (suc i) y = rw add-one at w.index-edges-i-then-byte-edges.is in
-          let z : get_or es (suc i) x ≡ y = get_or-any es (suc i) x y (omega arith) ∙ sym v in
-          rw w.edges-is (c.loop-i.invariant ∙ shut-move es i n c.args.byte x lt le w.if-byte-edges.true ∙ ap (λ (q : Edge). shut (suc i) n (set es i q) c.args.byte) z)
-      | else-byte-edges w ↦ rw w.edges-is (c.loop-i.invariant ∙ shut-keep es i n c.args.byte x lt le w.if-byte-edges.false)
-    ])
+    let l : length (take n es) ≡ n = length-take-le n es c.requires.within in
+    let p = edges_without-place (take n es) c.args.byte c.requires.ascends c.requires.there in
+    let lt : count_below (take n es) c.args.byte < length (take n es) = p.1 in
+    let e : c.place_of-place.result ≡ count_below (take n es) c.args.byte = c.place_of-place.ensures.count in
+    omega arith
 
 pub returns : goal.returns
 returns c =
-    let es = c.loop-i.edges in
+    let es = c.args.edges.now in
     let n = c.args.count in
-    let le : n ≤ length es = omega (arith, c.requires.within, c.loop-i.auto.edges) in
-    let e : c.loop-i.i ≡ n - 1 = omega (arith, c.loop-i-test.false, c.loop-i.auto.i-end) in
-    let f : suc (n - 1) ≡ n = omega (arith, c.requires.some) in
-    sym (c.loop-i.invariant ∙ ap (λ i. shut i n es c.args.byte) e ∙ ap (λ m. shut (n - 1) m es c.args.byte) (sym f) ∙ shut-end es (n - 1) c.args.byte (omega arith))
+    let i = c.place_of-place.result in
+    let l : length (take n es) ≡ n = length-take-le n es c.requires.within in
+    let p = edges_without-place (take n es) c.args.byte c.requires.ascends c.requires.there in
+    let lt : count_below (take n es) c.args.byte < length (take n es) = p.1 in
+    let e : i ≡ count_below (take n es) c.args.byte = c.place_of-place.ensures.count in
+    let one : count_below (take n es) c.args.byte + 1 ≡ suc (count_below (take n es) c.args.byte) = omega arith in
+    ap (λ (t : List Edge). take (n - 1) t) c.copy_within.ensures.after
+    ∙ close_among es i n (omega arith) c.requires.within
+    ∙ ap (λ (k : ℕ). take k (take n es) ++ drop (k + 1) (take n es)) e
+    ∙ ap (λ (k : ℕ). take (count_below (take n es) c.args.byte) (take n es) ++ drop k (take n es)) one
+    ∙ sym p.0

@@ -28,7 +28,7 @@ add_edge-requires g c =
       ),
     )
 
-pub returns-clause-joined : goal.returns-clause-joined
-returns-clause-joined g c keys keys' s leaf is leaves fits gains =
+pub returns-clause-gains : goal.returns-clause-gains
+returns-clause-gains g c keys keys' s leaf is leaves fits gains =
     placed_wide keys leaf c.args.leaf.now.depth c.args.leaf.now.key.now leaves c.args.leaf.now.mate.now is keys' c.args.leaf.now.id gains (at c.args.nodes.now) (at c.widen-wide.new.self) (at c.lead-top.new.nodes) (at c.add_edge.new.self) (Some c.args.root.now) (Some c.lead-top.result) c.args.node.now c.widen-wide.result c.args.above.now s fits.1
     c.widen-wide.ensures.moved fits.0.leads c.lead-top.ensures.turned c.add_edge.ensures.added

@@ -1,13 +1,13 @@
 use Rattle.std.proofs.Common.{sym, subst}
-use Rattle.art_tree.specs.Calls.Placing.{Joined}
+use Rattle.art_tree.specs.Calls.Placing.{TreeGains}
 use Rattle.art_tree.specs.Slabs.Nodes.{at}
 use Rattle.art_tree.specs.declared.tree.descent.Spot.{Spot}
 use Rattle.art_tree.proofs.tree.place.add_leaf.Goals as goal
 
-pub returns-in-Node-clause-joined : goal.returns-in-Node-clause-joined
-returns-in-Node-clause-joined g c =
-    subst (λ (spot : Spot). Joined g.row.P (at c.args.nodes.now) (at c.add_at_node.new.nodes) c.args.root.now c.add_at_node.result spot c.args.leaf.now.key.now c.args.leaf.now.mate.now c.args.leaf.now.depth c.args.leaf.now.id) (sym c.in-Node.is) c.add_at_node.ensures.joined
+pub returns-in-Node-clause-gains : goal.returns-in-Node-clause-gains
+returns-in-Node-clause-gains g c =
+    subst (λ (spot : Spot). TreeGains g.row.P (at c.args.nodes.now) (at c.add_at_node.new.nodes) c.args.root.now c.add_at_node.result spot c.args.leaf.now.key.now c.args.leaf.now.mate.now c.args.leaf.now.depth c.args.leaf.now.id) (sym c.in-Node.is) c.add_at_node.ensures.gains
 
-pub returns-in-Edge-clause-joined : goal.returns-in-Edge-clause-joined
-returns-in-Edge-clause-joined g c =
-    subst (λ (spot : Spot). Joined g.row.P (at c.args.nodes.now) (at c.add_at_edge.new.nodes) c.args.root.now c.add_at_edge.result spot c.args.leaf.now.key.now c.args.leaf.now.mate.now c.args.leaf.now.depth c.args.leaf.now.id) (sym c.in-Edge.is) c.add_at_edge.ensures.joined
+pub returns-in-Edge-clause-gains : goal.returns-in-Edge-clause-gains
+returns-in-Edge-clause-gains g c =
+    subst (λ (spot : Spot). TreeGains g.row.P (at c.args.nodes.now) (at c.add_at_edge.new.nodes) c.args.root.now c.add_at_edge.result spot c.args.leaf.now.key.now c.args.leaf.now.mate.now c.args.leaf.now.depth c.args.leaf.now.id) (sym c.in-Edge.is) c.add_at_edge.ensures.gains

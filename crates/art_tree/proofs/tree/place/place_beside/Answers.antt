@@ -2,7 +2,7 @@ use Rattle.std.proofs.Common.{Some, lit<}
 use Rattle.art_tree.specs.Leaves.{leaf_in}
 use Rattle.art_tree.specs.Slabs.Nodes.{at}
 use Rattle.blart_keys.proofs.Options.{is_some}
-use Rattle.art_tree.proofs.Pairs.Placed.{placed_free, kept_pair, free_joins, free_joined}
+use Rattle.art_tree.proofs.Pairs.Placed.{placed_free, kept_pair, free_spot, free_gains}
 use Rattle.art_tree.proofs.tree.place.place_beside.Goals as goal
 
 pub read-requires-2 : goal.read-requires-2
@@ -26,7 +26,7 @@ add_leaf-top-requires g c =
     let x : g.row.K.Denot × g.row.V.Denot = (c.args.key, c.args.value) in
     let s = c.requires.whole.shape in
     let p = placed_free g.K.AsBytes.bytes c.args.leaves.now c.args.nodes.now (Some c.args.root.now) c.args.place.now i.new.self.pairs i.result x c.requires.whole c.law.ensures.distinct c.requires.free i.ensures.fresh i.ensures.placed in
-    (lit< tt, (free_joins g.K.AsBytes.bytes c.args.leaves.now.pairs i.new.self.pairs i.result x p (at c.args.nodes.now) c.args.root.now s c.args.place.now c.requires.free _ _ _ c.read.ensures.value c.read-3.ensures.value c.read-2.ensures.value _ _ _ c.as_bytes-2.ensures c.as_bytes.ensures c.as_bytes-3.ensures c.locate-spot.result (c.locate-spot.ensures.spot _ s), c.requires.nodes_room))
+    (lit< tt, (free_spot g.K.AsBytes.bytes c.args.leaves.now.pairs i.new.self.pairs i.result x p (at c.args.nodes.now) c.args.root.now s c.args.place.now c.requires.free _ _ _ c.read.ensures.value c.read-3.ensures.value c.read-2.ensures.value _ _ _ c.as_bytes-2.ensures c.as_bytes.ensures c.as_bytes-3.ensures c.locate-spot.result (c.locate-spot.ensures.spot _ s), c.requires.nodes_room))
 
 pub returns-clause-placed : goal.returns-clause-placed
 returns-clause-placed g c =
@@ -41,6 +41,6 @@ returns-clause-whole g c =
     let p = placed_free g.K.AsBytes.bytes c.args.leaves.now c.args.nodes.now (Some c.args.root.now) c.args.place.now i.new.self.pairs i.result x c.requires.whole c.law.ensures.distinct c.requires.free i.ensures.fresh i.ensures.placed in
     record {
       content = p.put.content;
-      shape = free_joined g.K.AsBytes.bytes c.args.leaves.now.pairs i.new.self.pairs i.result x p (at c.args.nodes.now) c.args.root.now s c.args.place.now c.requires.free _ _ _ c.read.ensures.value c.read-3.ensures.value c.read-2.ensures.value _ _ _ c.as_bytes-2.ensures c.as_bytes.ensures c.as_bytes-3.ensures c.locate-spot.result (c.locate-spot.ensures.spot _ s)
-          (at c.add_leaf-top.new.nodes) c.add_leaf-top.result c.add_leaf-top.ensures.joined;
+      shape = free_gains g.K.AsBytes.bytes c.args.leaves.now.pairs i.new.self.pairs i.result x p (at c.args.nodes.now) c.args.root.now s c.args.place.now c.requires.free _ _ _ c.read.ensures.value c.read-3.ensures.value c.read-2.ensures.value _ _ _ c.as_bytes-2.ensures c.as_bytes.ensures c.as_bytes-3.ensures c.locate-spot.result (c.locate-spot.ensures.spot _ s)
+          (at c.add_leaf-top.new.nodes) c.add_leaf-top.result c.add_leaf-top.ensures.gains;
     }

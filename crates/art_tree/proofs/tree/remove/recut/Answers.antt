@@ -3,7 +3,7 @@ use Rattle.art_tree.specs.Invariant.EdgesAbove.{edge_front}
 use Rattle.art_tree.specs.Begins.{Bytes}
 use Rattle.art_tree.specs.Leaves.{keys_in}
 use Rattle.art_tree.specs.Slabs.Nodes.{at, Reprefixes}
-use Rattle.art_tree.specs.Calls.Removing.{CutsBehind, HangsBelow}
+use Rattle.art_tree.specs.Calls.Removing.{CutsBehind, IsChildBelow}
 use Rattle.art_tree.specs.Invariant.Shape.{Covers}
 use Rattle.art_tree.specs.declared.records.ids.Child.{Child}
 use Rattle.blart_keys.proofs.Options.{is_some}
@@ -28,7 +28,7 @@ read-requires-in-Inner g c =
     let keys = keys_in g.K.AsBytes.bytes c.args.leaves.now.pairs in
     let nodes = at c.args.nodes.now in
     let n = c.in-Inner.id in
-    let h = subst (λ (z : Child). HangsBelow g.row.P keys nodes c.args.above.now z) c.in-Inner.is c.requires in
+    let h = subst (λ (z : Child). IsChildBelow g.row.P keys nodes c.args.above.now z) c.in-Inner.is c.requires in
     (lit< tt, (lit< tt, (child_covers keys nodes c.args.above.now n h).live))
 
 pub start_below-start-requires : goal.start_below-start-requires
@@ -36,7 +36,7 @@ start_below-start-requires g c =
     let keys = keys_in g.K.AsBytes.bytes c.args.leaves.now.pairs in
     let nodes = at c.args.nodes.now in
     let n = c.in-Inner.id in
-    let h = subst (λ (z : Child). HangsBelow g.row.P keys nodes c.args.above.now z) c.in-Inner.is c.requires in
+    let h = subst (λ (z : Child). IsChildBelow g.row.P keys nodes c.args.above.now z) c.in-Inner.is c.requires in
     let x = c.read-in-Inner.result in
     let fits : x.depth ≤ 18446744073709551615 = omega (arith, c.depth-end.ensures, c.depth-end.type_inv) in
     (lit< tt, cut_ends keys nodes c.args.above.now n h x c.read-in-Inner.ensures.value 18446744073709551615 fits)
@@ -46,7 +46,7 @@ slice_bounds-set_prefix-count g c =
     let keys = keys_in g.K.AsBytes.bytes c.args.leaves.now.pairs in
     let nodes = at c.args.nodes.now in
     let n = c.in-Inner.id in
-    let h = subst (λ (z : Child). HangsBelow g.row.P keys nodes c.args.above.now z) c.in-Inner.is c.requires in
+    let h = subst (λ (z : Child). IsChildBelow g.row.P keys nodes c.args.above.now z) c.in-Inner.is c.requires in
     let x = c.read-in-Inner.result in
     let w : c.start_below-start.result ≤ x.depth = cut_starts keys nodes c.args.above.now n h x c.read-in-Inner.ensures.value c.start_below-start.result c.start_below-start.ensures in
     omega (arith, c.depth-end.ensures)
@@ -56,7 +56,7 @@ slice_bounds-set_prefix-start g c =
     let keys = keys_in g.K.AsBytes.bytes c.args.leaves.now.pairs in
     let nodes = at c.args.nodes.now in
     let n = c.in-Inner.id in
-    let h = subst (λ (z : Child). HangsBelow g.row.P keys nodes c.args.above.now z) c.in-Inner.is c.requires in
+    let h = subst (λ (z : Child). IsChildBelow g.row.P keys nodes c.args.above.now z) c.in-Inner.is c.requires in
     let x = c.read-in-Inner.result in
     let k = c.as_bytes.result.now in
     let leaf = c.end_under-leaf.result in
@@ -72,7 +72,7 @@ slice_bounds-set_prefix-end g c =
     let keys = keys_in g.K.AsBytes.bytes c.args.leaves.now.pairs in
     let nodes = at c.args.nodes.now in
     let n = c.in-Inner.id in
-    let h = subst (λ (z : Child). HangsBelow g.row.P keys nodes c.args.above.now z) c.in-Inner.is c.requires in
+    let h = subst (λ (z : Child). IsChildBelow g.row.P keys nodes c.args.above.now z) c.in-Inner.is c.requires in
     let x = c.read-in-Inner.result in
     let k = c.as_bytes.result.now in
     let leaf = c.end_under-leaf.result in
@@ -95,7 +95,7 @@ returns-in-Inner g c =
     let k = c.as_bytes.result.now in
     let leaf = c.end_under-leaf.result in
     let is : keys leaf ≡ Some k = key_of_pair g.K.AsBytes.bytes c.args.leaves.now.pairs leaf (c.read.result.0.now, c.read.result.1.now) c.read.ensures.value ∙ ap (λ (z : Bytes). Some z) (sym c.as_bytes.ensures) in
-    let Cut : Child → Type 0 = λ z. (h : HangsBelow g.row.P keys nodes c.args.above.now z) → CutsBehind g.row.P nodes (at c.set_prefix.new.self) h.shape.front_of (edge_front h.shape.front_of c.args.above.now) z in
+    let Cut : Child → Type 0 = λ z. (h : IsChildBelow g.row.P keys nodes c.args.above.now z) → CutsBehind g.row.P nodes (at c.set_prefix.new.self) h.shape.front_of (edge_front h.shape.front_of c.args.above.now) z in
     subst Cut (sym c.in-Inner.is) (λ h.
     let u = c.end_under-leaf.ensures.ends keys h.root h.shape (child_front keys nodes c.args.above.now n h) (subst (λ (z : Child). Covers keys nodes h.shape.front_of (child_front keys nodes c.args.above.now n h) z) (sym c.in-Inner.is) (child_covers keys nodes c.args.above.now n h)) in
     subst (λ (p : Bytes). Reprefixes nodes (at c.set_prefix.new.self) n p) (cut_is keys nodes c.args.above.now n h x c.read-in-Inner.ensures.value c.start_below-start.result c.depth-end.result leaf k c.start_below-start.ensures c.depth-end.ensures u is) c.set_prefix.ensures.set)
