@@ -12,16 +12,9 @@ pub(crate) fn answers<const PREFIX_LEN: usize>(
     alloc: Global,
     script: &[u8],
 ) -> Result<Text, AllocError> {
-    let mut session = Session::<PREFIX_LEN>::Bytes(Maps::new(alloc));
+    let mut session = Session::<PREFIX_LEN>::new(alloc);
     let mut text = Text::new(alloc);
-    if script.is_empty() {
-        return Ok(text);
-    }
-    let lines = script.strip_suffix(b"\n").unwrap_or(script);
-    for line in lines.split(|byte| *byte == b'\n') {
-        session.reply(alloc, line, &mut text)?;
-        text.push(b"\n")?;
-    }
+    session.reply_all(alloc, script, &mut text)?;
     Ok(text)
 }
 
@@ -33,6 +26,39 @@ enum Session<const PREFIX_LEN: usize> {
 }
 
 impl<const PREFIX_LEN: usize> Session<PREFIX_LEN> {
+    // The part with which every script begins.
+    fn new(alloc: Global) -> Self {
+        Session::Bytes(Maps::new(alloc))
+    }
+
+    // Begins a part whose keys are lists of bytes.
+    fn begin_bytes(&mut self, alloc: Global) {
+        *self = Session::Bytes(Maps::new(alloc));
+    }
+
+    // Begins a part whose keys are three bytes.
+    fn begin_three(&mut self, alloc: Global) {
+        *self = Session::Three(Maps::new(alloc));
+    }
+
+    // Adds what stands for each line of the script.
+    fn reply_all(
+        &mut self,
+        alloc: Global,
+        script: &[u8],
+        text: &mut Text,
+    ) -> Result<(), AllocError> {
+        if script.is_empty() {
+            return Ok(());
+        }
+        let lines = script.strip_suffix(b"\n").unwrap_or(script);
+        for line in lines.split(|byte| *byte == b'\n') {
+            self.reply(alloc, line, text)?;
+            text.push(b"\n")?;
+        }
+        Ok(())
+    }
+
     // Adds what stands for the line: itself, its answer or a question mark.
     fn reply(&mut self, alloc: Global, line: &[u8], text: &mut Text) -> Result<(), AllocError> {
         if is_remark(line) {
@@ -49,11 +75,11 @@ impl<const PREFIX_LEN: usize> Session<PREFIX_LEN> {
     // Makes the call that the line is, and adds its answer.
     fn call(&mut self, alloc: Global, line: &[u8], text: &mut Text) -> Result<(), Unanswered> {
         if line == b"keys bytes".as_slice() {
-            *self = Session::Bytes(Maps::new(alloc));
+            self.begin_bytes(alloc);
             return Ok(text.push(b"()")?);
         }
         if line == b"keys three".as_slice() {
-            *self = Session::Three(Maps::new(alloc));
+            self.begin_three(alloc);
             return Ok(text.push(b"()")?);
         }
         let mut words = Words::new(line, b' ', alloc);
