@@ -1,0 +1,187 @@
+//! Both maps in turn on the same keys.
+use crate::failure::Failure;
+use crate::maps::{Contestant, Ours, Theirs};
+use crate::workload::{Kind, Workload};
+use std::rt::Clock;
+use std::time::Instant;
+
+/// How often each map is timed. The least time counts.
+const ROUNDS: usize = 3;
+
+/// What one call was timed at.
+#[derive(Clone, Copy)]
+pub(crate) struct Timed {
+    /// The call's name.
+    pub(crate) call: &'static str,
+    /// How many keys or pairs it went over.
+    pub(crate) count: usize,
+    /// A sum over what it gave.
+    pub(crate) sum: u64,
+    /// How long it took.
+    pub(crate) nanos: u64,
+}
+
+/// What both maps were timed at, call by call.
+#[derive(Drop)]
+pub(crate) struct Results {
+    pub(crate) kind: Kind,
+    pub(crate) keys: usize,
+    pub(crate) ours: Vec<Timed>,
+    pub(crate) theirs: Vec<Timed>,
+}
+
+/// Times both maps, in turn.
+pub(crate) fn contest<R: Clock + AllocGlobal>(
+    rt: &R,
+    workload: &Workload,
+) -> Result<Results, Failure> {
+    let mut ours = one_run::<Ours, R>(rt, workload)?;
+    let mut theirs = one_run::<Theirs, R>(rt, workload)?;
+    for _ in 1..ROUNDS {
+        keep_least(&mut ours, &one_run::<Ours, R>(rt, workload)?);
+        keep_least(&mut theirs, &one_run::<Theirs, R>(rt, workload)?);
+    }
+    for (our, their) in ours.iter().zip(&theirs) {
+        if our.sum != their.sum {
+            return Err(Failure::Differs);
+        }
+    }
+    Ok(Results {
+        kind: workload.kind,
+        keys: workload.keys.len(),
+        ours,
+        theirs,
+    })
+}
+
+// Keeps the lesser time of each call.
+fn keep_least(all: &mut [Timed], more: &[Timed]) {
+    for (one, other) in all.iter_mut().zip(more) {
+        one.nanos = one.nanos.min(other.nanos);
+    }
+}
+
+// One run of all calls.
+fn one_run<M: Contestant, R: Clock + AllocGlobal>(
+    rt: &R,
+    workload: &Workload,
+) -> Result<Vec<Timed>, Failure> {
+    let mut sheet = Sheet {
+        rows: Vec::new(rt.alloc()),
+    };
+    time_stored::<M, R>(rt, workload, &mut sheet)?;
+    time_rest::<M, R>(rt, workload, &mut sheet)?;
+    Ok(sheet.rows)
+}
+
+// A map of the keys.
+fn filled<M: Contestant>(rt: &impl AllocGlobal, workload: &Workload) -> Result<M, Failure> {
+    let mut map = M::empty(rt.alloc());
+    map.store(workload.keys.clone()?)?;
+    Ok(map)
+}
+
+// Times a map from its first pair to its last.
+fn time_stored<M: Contestant, R: Clock + AllocGlobal>(
+    rt: &R,
+    workload: &Workload,
+    sheet: &mut Sheet,
+) -> Result<(), Failure> {
+    let keys = workload.keys.clone()?;
+    let mut map = M::empty(rt.alloc());
+    let count = keys.len();
+    let start = Instant::now(rt)?;
+    let sum = map.store(keys)?;
+    sheet.add(rt, "insert", start, count, sum)?;
+    time_look_ups(rt, &map, workload, sheet)?;
+    time_walks(rt, &map, workload, sheet)?;
+    let start = Instant::now(rt)?;
+    let sum = map.remove(&workload.hits);
+    sheet.add(rt, "remove", start, count, sum)
+}
+
+// Times look-ups.
+fn time_look_ups<M: Contestant, R: Clock>(
+    rt: &R,
+    map: &M,
+    workload: &Workload,
+    sheet: &mut Sheet,
+) -> Result<(), Failure> {
+    let start = Instant::now(rt)?;
+    let sum = map.look_up(&workload.hits);
+    sheet.add(rt, "hit", start, workload.hits.len(), sum)?;
+    let start = Instant::now(rt)?;
+    let sum = map.look_up(&workload.misses);
+    sheet.add(rt, "miss", start, workload.misses.len(), sum)
+}
+
+// Times walks that lend.
+fn time_walks<M: Contestant, R: Clock>(
+    rt: &R,
+    map: &M,
+    workload: &Workload,
+    sheet: &mut Sheet,
+) -> Result<(), Failure> {
+    let start = Instant::now(rt)?;
+    let sum = map.iterate();
+    sheet.add(rt, "iter", start, workload.keys.len(), sum)?;
+    let start = Instant::now(rt)?;
+    let sum = map.range(&workload.hits);
+    sheet.add(
+        rt,
+        "range of 100",
+        start,
+        workload.hits.len().min(10_000),
+        sum,
+    )?;
+    let start = Instant::now(rt)?;
+    let sum = map.prefix(&workload.fronts);
+    sheet.add(rt, "prefix", start, workload.fronts.len(), sum)
+}
+
+// Times calls that go over all pairs and change or take them.
+fn time_rest<M: Contestant, R: Clock + AllocGlobal>(
+    rt: &R,
+    workload: &Workload,
+    sheet: &mut Sheet,
+) -> Result<(), Failure> {
+    let mut map: M = filled(rt, workload)?;
+    let start = Instant::now(rt)?;
+    let sum = map.retain();
+    sheet.add(rt, "retain", start, workload.keys.len(), sum)?;
+    let map: M = filled(rt, workload)?;
+    let start = Instant::now(rt)?;
+    let sum = map.take_apart();
+    sheet.add(rt, "into_iter", start, workload.keys.len(), sum)
+}
+
+// The rows of one run.
+#[derive(Drop)]
+struct Sheet {
+    rows: Vec<Timed>,
+}
+
+impl Sheet {
+    // Adds a call that has just ended.
+    fn add(
+        &mut self,
+        rt: &impl Clock,
+        call: &'static str,
+        start: Instant,
+        count: usize,
+        sum: u64,
+    ) -> Result<(), Failure> {
+        let spent = start.elapsed(rt)?;
+        let nanos = spent
+            .as_secs()
+            .saturating_mul(1_000_000_000)
+            .saturating_add(u64::from(spent.subsec_nanos()));
+        self.rows.push(Timed {
+            call,
+            count,
+            sum,
+            nanos,
+        })?;
+        Ok(())
+    }
+}

@@ -1,0 +1,185 @@
+//! The keys of a run, made from a seed.
+use rand::seq::SliceRandom;
+use rand_core::{Rng, SeedableRng};
+use rand_xoshiro::Xoshiro256PlusPlus;
+use std::alloc::{AllocError, Global};
+
+/// A kind of keys. No key of a kind begins another.
+#[derive(Clone, Copy, PartialEq, Eq)]
+pub(crate) enum Kind {
+    /// Eight random bytes.
+    Random,
+    /// Texts like the addresses of pages, each with a zero byte behind.
+    Urls,
+    /// The numbers from 0 on, in eight bytes, the high one first.
+    Dense,
+    /// Prefixes of one to three bytes that do not nest, as of networks.
+    Short,
+}
+
+impl Kind {
+    /// Every kind.
+    pub(crate) const ALL: [Kind; 4] = [Kind::Random, Kind::Urls, Kind::Dense, Kind::Short];
+
+    /// The word that names the kind.
+    pub(crate) fn name(self) -> &'static str {
+        match self {
+            Kind::Random => "random",
+            Kind::Urls => "urls",
+            Kind::Dense => "dense",
+            Kind::Short => "short",
+        }
+    }
+
+    // Adds the bytes of the key at a place, or of one that is missing.
+    fn write(
+        self,
+        key: &mut Vec<u8>,
+        place: usize,
+        random: u64,
+        missing: bool,
+    ) -> Result<(), AllocError> {
+        match self {
+            Kind::Random => key.extend_from_slice(&random.to_be_bytes()),
+            Kind::Urls => write_url(key, random, missing),
+            Kind::Dense if missing => key.extend_from_slice(&(random | 1 << 63).to_be_bytes()),
+            Kind::Dense => key.extend_from_slice(&(place as u64).to_be_bytes()),
+            Kind::Short => write_short(key, random),
+        }
+    }
+
+    // How many bytes of a key its prefix has: few enough that it begins several keys.
+    fn front(self, len: usize) -> usize {
+        match self {
+            Kind::Random | Kind::Short => 2,
+            Kind::Urls => len.saturating_sub(4),
+            Kind::Dense => 7,
+        }
+    }
+}
+
+/// The keys of a run.
+#[derive(Drop)]
+pub(crate) struct Workload {
+    pub(crate) kind: Kind,
+    /// The keys to be stored, in random order.
+    pub(crate) keys: Vec<Vec<u8>>,
+    /// The same keys, in another random order.
+    pub(crate) hits: Vec<Vec<u8>>,
+    /// Keys like those, of which few or none are stored.
+    pub(crate) misses: Vec<Vec<u8>>,
+    /// Bytes that begin stored keys.
+    pub(crate) fronts: Vec<Vec<u8>>,
+}
+
+impl Workload {
+    /// So many keys of a kind. The seed is always the same.
+    pub(crate) fn new(alloc: Global, kind: Kind, count: usize) -> Result<Self, AllocError> {
+        let mut rng = Xoshiro256PlusPlus::seed_from_u64(7);
+        let mut keys = keys_of(alloc, kind, count, false, &mut rng)?;
+        keys.shuffle(&mut rng);
+        let mut hits = keys.clone()?;
+        hits.shuffle(&mut rng);
+        let misses = keys_of(alloc, kind, count, true, &mut rng)?;
+        let fronts = fronts_of(alloc, kind, &hits)?;
+        Ok(Workload {
+            kind,
+            keys,
+            hits,
+            misses,
+            fronts,
+        })
+    }
+}
+
+// So many keys of a kind.
+fn keys_of(
+    alloc: Global,
+    kind: Kind,
+    count: usize,
+    missing: bool,
+    rng: &mut Xoshiro256PlusPlus,
+) -> Result<Vec<Vec<u8>>, AllocError> {
+    let mut keys = Vec::with_capacity(alloc, count)?;
+    for place in 0..count {
+        let mut key = Vec::new(alloc);
+        kind.write(&mut key, place, rng.next_u64(), missing)?;
+        keys.push(key)?;
+    }
+    Ok(keys)
+}
+
+// What begins the first 10,000 of the keys.
+fn fronts_of(alloc: Global, kind: Kind, keys: &[Vec<u8>]) -> Result<Vec<Vec<u8>>, AllocError> {
+    let mut fronts = Vec::new(alloc);
+    for key in keys.iter().take(10_000) {
+        let mut front = Vec::new(alloc);
+        for byte in key.iter().take(kind.front(key.len())) {
+            front.push(*byte)?;
+        }
+        fronts.push(front)?;
+    }
+    Ok(fronts)
+}
+
+const HOSTS: [&str; 7] = [
+    "example.com",
+    "news.site.org",
+    "shop.store.net",
+    "api.cloud.io",
+    "cdn.static.io",
+    "blog.writer.me",
+    "wiki.pedia.org",
+];
+
+const WORDS: [&str; 18] = [
+    "about", "article", "user", "item", "product", "image", "page", "index", "archive", "tag",
+    "search", "comment", "list", "view", "edit", "data", "static", "assets",
+];
+
+// Adds an address: a host, one to four words, a number and a zero byte. One that is missing has a letter in the number's place.
+fn write_url(key: &mut Vec<u8>, random: u64, missing: bool) -> Result<(), AllocError> {
+    key.extend_from_slice(b"https://www.")?;
+    write_word(key, &HOSTS, random)?;
+    let words = 1 + (random >> 8) % 4;
+    for place in 0..words {
+        key.push(b'/')?;
+        write_word(key, &WORDS, random >> (16 + 5 * place))?;
+    }
+    key.push(b'/')?;
+    if missing {
+        key.push(b'x')?;
+    }
+    write_number(key, (random >> 40) % 1_000_000)?;
+    key.push(0)?;
+    Ok(())
+}
+
+// Adds one of the words.
+fn write_word(key: &mut Vec<u8>, words: &[&str], random: u64) -> Result<(), AllocError> {
+    match words.get((random % 32) as usize % words.len().max(1)) {
+        Some(word) => key.extend_from_slice(word.as_bytes()),
+        None => Ok(()),
+    }
+}
+
+// Adds the six decimal digits of a number.
+fn write_number(key: &mut Vec<u8>, number: u64) -> Result<(), AllocError> {
+    for unit in [100_000u64, 10_000, 1_000, 100, 10, 1] {
+        key.push(b'0' + (number / unit % 10) as u8)?;
+    }
+    Ok(())
+}
+
+// Adds a prefix. Its first byte says whether it is the last; else the second does, and else there is a third.
+fn write_short(key: &mut Vec<u8>, random: u64) -> Result<(), AllocError> {
+    let [first, second, third, ..] = random.to_be_bytes();
+    key.push(first)?;
+    if first % 8 > 0 {
+        key.push(second)?;
+        if second % 4 > 0 {
+            key.push(third)?;
+        }
+    }
+    Ok(())
+}
