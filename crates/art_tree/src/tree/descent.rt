@@ -36,6 +36,14 @@ impl Spot {
     }
 }
 
+/// A leaf, the edge to it, and the edge above the node of that edge.
+#[derive(Clone, Copy)]
+pub(crate) struct LeafSpot {
+    pub(crate) id: LeafId,
+    pub(crate) edge: EdgeAbove,
+    pub(crate) above: EdgeAbove,
+}
+
 /// A leaf whose key goes along with the query as far as any stored key does.
 pub(crate) fn mate_of<const P: usize>(
     nodes: &Nodes<P>,
