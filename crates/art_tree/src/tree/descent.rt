@@ -124,7 +124,6 @@ pub(crate) fn locate<const P: usize>(
 {
     let mut at = *root;
     let mut above = None;
-    let mut gone = 0;
     'down: loop {
         let id = match at {
             Child::Leaf(_) => return Spot::Edge(above, at),
@@ -144,7 +143,6 @@ pub(crate) fn locate<const P: usize>(
             None => unreachable!(),
         }
         above = Some((id, byte));
-        gone = length + 1;
     }
 }
 
