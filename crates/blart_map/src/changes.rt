@@ -6,7 +6,6 @@ ghost use Rattle.blart_keys.specs.Stored.{pair_at, value_at, Updates, TakesPair,
 ghost use Rattle.blart_keys.specs.Walks.{TakesFirst, TakesLast};
 
 use crate::map::TreeMap;
-use art_tree::Visits;
 use blart_keys::AsBytes;
 
 impl<K: AsBytes + Drop, V: Drop, const PREFIX_LEN: usize> TreeMap<K, V, PREFIX_LEN> {
@@ -20,8 +19,7 @@ impl<K: AsBytes + Drop, V: Drop, const PREFIX_LEN: usize> TreeMap<K, V, PREFIX_L
         ensures rest { self.new ≡ without (bytes K.bytes) self.old (Q.bytes query.now) }
     {
         self.tree.law();
-        let id = self.tree.search(query.as_bytes(), &mut Visits::new())?;
-        Some(self.tree.remove(id))
+        self.tree.take(query.as_bytes())
     }
 
     /// Removes the pair with the query's bytes, and gives its value. Takes no memory.
