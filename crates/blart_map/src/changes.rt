@@ -7,7 +7,6 @@ ghost use Rattle.blart_keys.specs.Walks.{TakesFirst, TakesLast};
 ghost use Rattle.blart_map.specs.Content.{pairs};
 
 use crate::map::TreeMap;
-use art_tree::Visits;
 use blart_keys::AsBytes;
 
 impl<K: AsBytes + Drop, V: Drop, const PREFIX_LEN: usize> TreeMap<K, V, PREFIX_LEN> {
@@ -24,8 +23,7 @@ impl<K: AsBytes + Drop, V: Drop, const PREFIX_LEN: usize> TreeMap<K, V, PREFIX_L
             ≡ without (bytes K.bytes) (pairs self.old) (Q.bytes query.now) }
     {
         self.tree.law();
-        let id = self.tree.search(query.as_bytes(), &mut Visits::new())?;
-        Some(self.tree.remove(id))
+        self.tree.take(query.as_bytes())
     }
 
     /// Removes the pair with the query's bytes, and gives its value. Takes no memory.

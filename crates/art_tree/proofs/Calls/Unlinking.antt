@@ -1,5 +1,5 @@
--- A leaf leaves the tree: the way to it, and what the changes to its node and the edge above keep.
-use Rattle.std.proofs.Common.{true, ◌≡◌, ◌≢◌, ℕ, ◌+◌, ◌<◌, ◌≤◌, List, [], ◌∷◌, ◌++◌, length, take, drop, slice_range, refl, ap, arith, sym, subst, Option, Some, None, IsSome, ◌∙◌, inl, inr}
+-- A leaf leaves the tree: what the changes to its node and the edge above keep.
+use Rattle.std.proofs.Common.{true, ◌≡◌, ◌≢◌, ℕ, ◌+◌, ◌<◌, ◌≤◌, List, [], ◌∷◌, ◌++◌, length, take, drop, slice_range, arith, sym, subst, Option, Some, None, IsSome, ◌∙◌, inl, inr}
 use Rattle.std.proofs.lemmas.Bool.{cases_lt}
 use Rattle.std.proofs.lemmas.Bool.Decides.{eqb_tells}
 use Rattle.art_tree.specs.Invariant.EdgesAbove.{LeadsTo, TurnsTo, edge_front}
@@ -9,96 +9,17 @@ use Rattle.art_tree.specs.Slabs.Nodes.{Node, DropsEdge, Renames}
 use Rattle.art_tree.specs.Calls.Descents.{IsEndUnder}
 use Rattle.art_tree.specs.Leaves.{Numbered, leaf_in, Has, keys_in}
 use Rattle.art_tree.specs.Calls.Removing.{Loses, IsLeafOf, IsChildBelow, OtherEdge, StartsBelow, EndsBelow}
-use Rattle.art_tree.specs.Invariant.Shape.{Shape, CoversLeaf, CoversNode, NodeFits}
-use Rattle.art_tree.specs.Calls.Spots.{SpotFits}
-use Rattle.art_tree.specs.declared.tree.descent.Spot.TheVariants as spot
+use Rattle.art_tree.specs.Invariant.Shape.{Shape, CoversNode}
 use Rattle.art_tree.specs.declared.records.ids.Child.{Child}
 use Rattle.art_tree.specs.declared.records.ids.Edge.{Edge}
 use Rattle.art_tree.specs.declared.records.ids.Child.TheVariants.{Leaf, Inner}
-use Rattle.art_tree.proofs.BeginsLemmas.{Begins-length, Begins-trans, Begins-itself, Begins-edge_front, Begins-front_edge, length-edge, take_front}
-use Rattle.art_tree.proofs.Invariant.Growing.{Parts-within, Parts-two, covers_above}
+use Rattle.art_tree.proofs.BeginsLemmas.{Begins-length, Begins-trans, Begins-front_edge, length-edge}
+use Rattle.art_tree.proofs.Invariant.Growing.{covers_above}
 use Rattle.art_tree.proofs.Invariant.Losing.{shape_dropped}
 use Rattle.art_tree.proofs.Invariant.OneEdge.{not_itself, kept_mid, node_moved}
 use Rattle.blart_keys.proofs.Options.{some_of, not_some}
 use Rattle.art_tree.proofs.Invariant.Prefixes.{cut_front, start_is}
 use Rattle.art_tree.proofs.Pairs.Keys.{key_of_pair}
-
--- ---- the way to a leaf, and to its node
-
-module _ {P : ℕ} (keys : ℕ → Option Bytes) (nodes : ℕ → Option Node) (root : Option Child) (s : Shape P keys nodes root) (i : ℕ) (k : Bytes) (is : keys i ≡ Some k) where
-  whole : take (length k) k ≡ k
-  whole = take_front k k (Begins-itself k)
-
-  -- a way down by the whole of a key ends at its leaf
-  pub way_to_leaf : (above : Option (ℕ × ℕ)) (c : Child) → SpotFits nodes root s.front_of k (length k) (spot.Edge above c) → LeadsTo nodes root above (Leaf i)
-  way_to_leaf above (Leaf j) fit =
-      let c : CoversLeaf keys (edge_front s.front_of above) j = covers_above keys nodes root s above (Leaf j) fit.0.leads in
-      let e : i ≡ j = c.only i k is (subst (λ (z : Bytes). Begins (edge_front s.front_of above) z) whole fit.0.along) in
-      subst (λ (z : ℕ). LeadsTo nodes root above (Leaf z)) (sym e) fit.0.leads
-  way_to_leaf above (Inner m) fit =
-      let c : CoversNode keys nodes s.front_of (edge_front s.front_of above) m = covers_above keys nodes root s above (Inner m) fit.0.leads in
-      let b : Begins (s.front_of m) k = c.only i k is (subst (λ (z : Bytes). Begins (edge_front s.front_of above) z) whole fit.0.along) in
-      let l : length (s.front_of m) ≤ length k = Begins-length (s.front_of m) k b in
-      let past : length k < length (s.front_of m) = fit.1 in
-      absurd (omega arith)
-
-  -- and never at a node
-  pub no_node_at_key : (above : Option (ℕ × ℕ)) (n : ℕ) → SpotFits nodes root s.front_of k (length k) (spot.Node above n) → ⊥
-  no_node_at_key above n fit =
-      let c : CoversNode keys nodes s.front_of (edge_front s.front_of above) n = covers_above keys nodes root s above (Inner n) fit.0.leads in
-      let x = some_of (nodes n) c.live in
-      let e : s.front_of n ≡ k = fit.1 ∙ whole in
-      let l : length (s.front_of n) < length k = (s.node n x.0 x.1).longer i k is (rw e (Begins-itself k)) in
-      let z : length (s.front_of n) ≡ length k = ap length e in
-      omega arith
-
-  module _ (n b : ℕ) (x : Node) (n_is : nodes n ≡ Some x) (low : child_at x.edges b ≡ Some (Leaf i)) where
-    fits : NodeFits keys nodes s.front_of (s.front_of n) x
-    fits = s.node n x n_is
-
-    -- the leaf's key begins with the node's front
-    pub front_of_key : Begins (s.front_of n) k
-    front_of_key =
-        let c : CoversLeaf keys (s.front_of n ++ b ∷ []) i = fits.below b (Leaf i) low in
-        let e : keys i ≡ Some c.key = c.is in
-        let h : c.key ≡ k = cc in
-        Begins-edge_front (s.front_of n) k b (subst (λ (z : Bytes). Begins (s.front_of n ++ b ∷ []) z) h c.front)
-
-    here : s.front_of n ≡ take x.depth k
-    here = sym (take_front (s.front_of n) k front_of_key) ∙ ap (λ d. take d k) (sym fits.depth)
-
-    -- the node is no deeper than the key is long
-    pub depth_within : x.depth ≤ length k
-    depth_within =
-        let l : length (s.front_of n) ≤ length k = Begins-length (s.front_of n) k front_of_key in
-        let d : x.depth ≡ length (s.front_of n) = fits.depth in
-        omega arith
-
-    -- a way down as far as the node's depth ends at the node
-    pub way_to_node : (above : Option (ℕ × ℕ)) (m : ℕ) → SpotFits nodes root s.front_of k x.depth (spot.Node above m) → LeadsTo nodes root above (Inner n)
-    way_to_node above m fit =
-        let c : CoversNode keys nodes s.front_of (edge_front s.front_of above) m = covers_above keys nodes root s above (Inner m) fit.0.leads in
-        let e : m ≡ n = s.apart m n c.live (let P : Option Node → Type 0 = λ o. IsSome o in subst P (sym n_is) refl) (fit.1 ∙ sym here) in
-        subst (λ (z : ℕ). LeadsTo nodes root above (Inner z)) e fit.0.leads
-
-    -- and never at an edge that goes past it
-    pub no_edge_past : (above : Option (ℕ × ℕ)) (c : Child) → SpotFits nodes root s.front_of k x.depth (spot.Edge above c) → ⊥
-    no_edge_past above (Leaf j) fit =
-        let g = edge_front s.front_of above in
-        let c : CoversLeaf keys g j = covers_above keys nodes root s above (Leaf j) fit.0.leads in
-        let a : Begins g (s.front_of n) = rw here fit.0.along in
-        let p = fits.parts in
-        Parts-two keys (s.front_of n) p j (c.only p.i p.k p.k_is (Begins-trans g (s.front_of n) p.k a p.k_front)) (c.only p.j p.l p.l_is (Begins-trans g (s.front_of n) p.l a p.l_front))
-    no_edge_past above (Inner m) fit =
-        let g = edge_front s.front_of above in
-        let c : CoversNode keys nodes s.front_of g m = covers_above keys nodes root s above (Inner m) fit.0.leads in
-        let a : Begins g (s.front_of n) = rw here fit.0.along in
-        let p = fits.parts in
-        let w : Begins (s.front_of m) (s.front_of n) = Parts-within keys (s.front_of n) (s.front_of m) p (c.only p.i p.k p.k_is (Begins-trans g (s.front_of n) p.k a p.k_front)) (c.only p.j p.l p.l_is (Begins-trans g (s.front_of n) p.l a p.l_front)) in
-        let l : length (s.front_of m) ≤ length (s.front_of n) = Begins-length (s.front_of m) (s.front_of n) w in
-        let d : x.depth ≡ length (s.front_of n) = fits.depth in
-        let past : x.depth < length (s.front_of m) = fit.1 in
-        absurd (omega arith)
 
 -- a node has two edges
 pub no_lone_edge : {P : ℕ} → (keys : ℕ → Option Bytes) (nodes : ℕ → Option Node) (root : Option Child) (s : Shape P keys nodes root) (n b : ℕ) (x : Node) → nodes n ≡ Some x

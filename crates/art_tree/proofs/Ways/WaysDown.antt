@@ -54,7 +54,7 @@ module _ {P : ℕ} (keys : ℕ → Option Bytes) (nodes : ℕ → Option Node) (
         omega arith
 
     -- the way goes on by an edge
-    pub way_on : (b : ℕ) (c : Child) → child_at x.edges b ≡ Some c → Holds (s.front_of n ++ b ∷ []) → (next : ℕ) → next ≡ now + 1 → WayDown keys nodes s.front_of Holds g c old next
+    pub way_on : {Next : Bytes → Type 0} → (b : ℕ) (c : Child) → child_at x.edges b ≡ Some c → Next (s.front_of n ++ b ∷ []) → (next : ℕ) → next ≡ now + 1 → WayDown keys nodes s.front_of Next g c old next
     way_on b c there holds next e =
         let few : now + length g ≤ old + length (s.front_of n) = way_here in
         let d : length (s.front_of n ++ b ∷ []) ≡ length (s.front_of n) + 1 = length-edge (s.front_of n) b in

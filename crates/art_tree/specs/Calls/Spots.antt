@@ -1,10 +1,11 @@
 -- Places in the tree where a key leaves the others.
-use Rattle.std.specs.Prelude.{◌≡◌, ℕ, ◌<◌, length, take, Option}
+use Rattle.std.specs.Prelude.{◌≡◌, ℕ, ◌<◌, length, take, Option, Some, None}
 use Rattle.art_tree.specs.Invariant.EdgesAbove.{LeadsTo, edge_front}
 use Rattle.art_tree.specs.Begins.{Bytes, Begins}
 use Rattle.art_tree.specs.Slabs.Nodes.{Node}
 use Rattle.art_tree.specs.declared.records.ids.Child.{Child}
 use Rattle.art_tree.specs.declared.records.ids.Child.TheVariants.{Leaf, Inner}
+use Rattle.art_tree.specs.declared.tree.descent.LeafSpot.{LeafSpot}
 use Rattle.art_tree.specs.declared.tree.descent.Spot.{Spot}
 use Rattle.art_tree.specs.declared.tree.descent.Spot.TheVariants as spot
 
@@ -27,3 +28,13 @@ SpotFits nodes root front_of mate depth (spot.Edge above c) = EdgeFits nodes roo
 abbrev pub child_under : Spot → Child
 child_under (spot.Node above n) = Inner n
 child_under (spot.Edge above c) = c
+
+-- the edge above leads to the node of an edge, if that is no way into the root
+abbrev pub LeadsToNodeOf : (ℕ → Option Node) → Option Child → Option (ℕ × ℕ) → Option (ℕ × ℕ) → Type 0
+LeadsToNodeOf nodes root above None = Unit {0}
+LeadsToNodeOf nodes root above (Some e) = LeadsTo nodes root above (Inner e.0)
+
+-- the edge leads to the leaf, and the edge above to the edge's node
+pub record IsLeafSpot (nodes : ℕ → Option Node) (root : Option Child) (s : LeafSpot) : Type 0 where
+  pub leads : LeadsTo nodes root s.edge (Leaf s.id)
+  pub above : LeadsToNodeOf nodes root s.above s.edge

@@ -36,6 +36,14 @@ impl Spot {
     }
 }
 
+/// A leaf, the edge to it, and the edge above the node of that edge.
+#[derive(Clone, Copy)]
+pub(crate) struct LeafSpot {
+    pub(crate) id: LeafId,
+    pub(crate) edge: EdgeAbove,
+    pub(crate) above: EdgeAbove,
+}
+
 /// A leaf whose key goes along with the query as far as any stored key does.
 pub(crate) fn mate_of<const P: usize>(
     nodes: &Nodes<P>,
@@ -116,7 +124,6 @@ pub(crate) fn locate<const P: usize>(
 {
     let mut at = *root;
     let mut above = None;
-    let mut gone = 0;
     'down: loop {
         let id = match at {
             Child::Leaf(_) => return Spot::Edge(above, at),
@@ -136,7 +143,6 @@ pub(crate) fn locate<const P: usize>(
             None => unreachable!(),
         }
         above = Some((id, byte));
-        gone = length + 1;
     }
 }
 

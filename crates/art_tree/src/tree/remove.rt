@@ -1,10 +1,12 @@
 //! A leaf leaves the tree.
-ghost use Rattle.std.specs.Prelude.{◌≡◌, ℕ, ◌<◌, length, Option, Some, None, IsSome};
+ghost use Rattle.std.specs.Prelude.{◌≡◌, ℕ, ◌<◌, length, option_map, Option, Some, None, IsSome, IfSome};
+ghost use Rattle.blart_keys.specs.Content.{at as stored, without};
 ghost use Rattle.art_tree.specs.Invariant.EdgesAbove.{LeadsTo, edge_front};
 ghost use Rattle.art_tree.specs.Begins.{Bytes};
-ghost use Rattle.art_tree.specs.Leaves.{leaf_in, Has, OthersStand, without_number, keys_in};
+ghost use Rattle.art_tree.specs.Leaves.{leaf_in, Has, OthersStand, without_number, keys_in, bytes};
 ghost use Rattle.art_tree.specs.Slabs.Nodes.{at};
 ghost use Rattle.art_tree.specs.Calls.Removing.{Loses, IsLeafOf, IsChildBelow, OtherEdge, CutsBehind, Merged};
+ghost use Rattle.art_tree.specs.Calls.Spots.{IsLeafSpot};
 ghost use Rattle.art_tree.specs.Invariant.Shape.{Shape};
 ghost use Rattle.art_tree.specs.Invariant.Sound.{IsSound};
 ghost use Rattle.art_tree.specs.declared.records.ids.Child.{Child as Way};
@@ -14,8 +16,9 @@ use crate::records::ids::{Child, Edge, LeafId, NodeId};
 use crate::records::leaves::Leaves;
 use crate::records::nodes::Nodes;
 use crate::tree::Tree;
-use crate::tree::descent::{EdgeAbove, Spot, end_under, locate};
+use crate::tree::descent::{EdgeAbove, LeafSpot, end_under};
 use crate::tree::place::{lead, start_below};
+use crate::tree::search::pair_toward;
 use crate::visits::Visits;
 use blart_keys::AsBytes;
 
@@ -28,74 +31,111 @@ impl<K: AsBytes + Drop, V: Drop, const PREFIX_LEN: usize> Tree<K, V, PREFIX_LEN>
         ensures others { OthersStand self.old.pairs self.new.pairs id }
         ensures gone { leaf_in self.new.pairs id ≡ None }
     {
-        let Some(root) = self.root else {
-            unreachable!()
-        };
         self.leaves.law();
-        self.root = unlink(&self.leaves, &mut self.nodes, &root, &id);
-        self.leaves.remove(id)
+        let spot = spot_of(&self.leaves, &self.nodes, &self.root, &id);
+        let (pair, root) = take_leaf(&mut self.leaves, &mut self.nodes, &self.root, &spot);
+        self.root = root;
+        pair
     }
+
+    /// Removes the pair with these bytes, and gives it. The way down that finds it is the only one. Takes no memory. The number of each other leaf stays.
+    pub fn take(&mut self, query: &[u8]) -> Option<(K, V)>
+        ensures taken { result
+            ≡ option_map (λ p. p.1) (stored (bytes K.bytes) self.old.pairs query.now) }
+        ensures rest { self.new.pairs ≡ without (bytes K.bytes) self.old.pairs query.now }
+    {
+        self.leaves.law();
+        let spot = spot_at(&self.leaves, &self.nodes, &self.root, query)?;
+        let (pair, root) = take_leaf(&mut self.leaves, &mut self.nodes, &self.root, &spot);
+        self.root = root;
+        Some(pair)
+    }
+}
+
+// Where the leaf with these bytes is.
+fn spot_at<K: AsBytes, V, const P: usize>(
+    leaves: &Leaves<K, V>,
+    nodes: &Nodes<P>,
+    root: &Option<Child>,
+    query: &[u8],
+) -> Option<LeafSpot>
+    requires { IsSound K.bytes P leaves.now nodes.now root.now }
+    ensures found { option_map (λ s. s.id) result
+        ≡ option_map (λ p. p.0) (stored (bytes K.bytes) leaves.now.pairs query.now) }
+    ensures spot { IfSome result (IsLeafSpot (at nodes.now) root.now) }
+{
+    leaves.law();
+    let mut visits = Visits::new();
+    let Some(found) = pair_toward(leaves, nodes, root, query, &mut visits) else {
+        return None;
+    };
+    if found.1.as_bytes() == query {
+        Some(found.0)
+    } else {
+        None
+    }
+}
+
+// Where a leaf is.
+fn spot_of<K: AsBytes, V, const P: usize>(
+    leaves: &Leaves<K, V>,
+    nodes: &Nodes<P>,
+    root: &Option<Child>,
+    id: &LeafId,
+) -> LeafSpot
+    requires sound { IsSound K.bytes P leaves.now nodes.now root.now }
+    requires has { Has leaves.now.pairs id.now }
+    ensures same { result.id ≡ id.now }
+    ensures spot { IsLeafSpot (at nodes.now) root.now result }
+{
+    let mut visits = Visits::new();
+    let (key, _) = leaves.read(*id, &mut visits);
+    match pair_toward(leaves, nodes, root, key.as_bytes(), &mut visits) {
+        Some(found) => found.0,
+        None => unreachable!(),
+    }
+}
+
+// Takes a leaf away. Answers its pair, and the root.
+fn take_leaf<K: AsBytes + Drop, V: Drop, const P: usize>(
+    leaves: &mut Leaves<K, V>,
+    nodes: &mut Nodes<P>,
+    root: &Option<Child>,
+    spot: &LeafSpot,
+) -> ((K, V), Option<Child>)
+    requires sound { IsSound K.bytes P leaves.old nodes.old root.now }
+    requires has { Has leaves.old.pairs spot.now.id }
+    requires spot { IsLeafSpot (at nodes.old) root.now spot.now }
+    ensures value { leaf_in leaves.old.pairs spot.now.id ≡ Some result.0 }
+    ensures rest { leaves.new.pairs ≡ without_number leaves.old.pairs spot.now.id }
+    ensures sound { IsSound K.bytes P leaves.new nodes.new result.1 }
+{
+    leaves.law();
+    let root = unlink(leaves, nodes, root, spot);
+    let pair = leaves.remove(spot.id);
+    (pair, root)
 }
 
 // Takes away the edge to a leaf, and a node that has one edge left. Answers the root.
 fn unlink<K: AsBytes, V, const P: usize>(
     leaves: &Leaves<K, V>,
     nodes: &mut Nodes<P>,
-    root: &Child,
-    id: &LeafId,
+    root: &Option<Child>,
+    spot: &LeafSpot,
 ) -> Option<Child>
-    requires sound { IsSound K.bytes P leaves.now nodes.old (Some root.now) }
-    requires has { Has leaves.now.pairs id.now }
+    requires sound { IsSound K.bytes P leaves.now nodes.old root.now }
+    requires has { Has leaves.now.pairs spot.now.id }
+    requires spot { IsLeafSpot (at nodes.old) root.now spot.now }
     ensures { (keys : ℕ → Option Bytes) (k : Bytes)
-        → Loses (keys_in K.bytes leaves.now.pairs) keys id.now k
+        → Loses (keys_in K.bytes leaves.now.pairs) keys spot.now.id k
         → Shape P keys (at nodes.new) result }
 {
-    match edge_to_leaf(leaves, nodes, root, id) {
+    let Some(root) = root else { unreachable!() };
+    match spot.edge {
         None => None,
-        Some((node, byte)) => Some(drop_edge(leaves, nodes, root, id, &node, byte)),
-    }
-}
-
-// The edge to a leaf.
-fn edge_to_leaf<K: AsBytes, V, const P: usize>(
-    leaves: &Leaves<K, V>,
-    nodes: &Nodes<P>,
-    root: &Child,
-    id: &LeafId,
-) -> EdgeAbove
-    requires sound { IsSound K.bytes P leaves.now nodes.now (Some root.now) }
-    requires has { Has leaves.now.pairs id.now }
-    ensures { LeadsTo (at nodes.now) (Some root.now) result (Leaf id.now) }
-{
-    let mut visits = Visits::new();
-    let (key, _) = leaves.read(*id, &mut visits);
-    let key = key.as_bytes();
-    match locate(nodes, root, key, key.len(), &mut visits) {
-        Spot::Edge(above, _) => above,
-        Spot::Node(_, _) => unreachable!(),
-    }
-}
-
-// The edge to a node that has an edge to a leaf.
-fn edge_to_node<K: AsBytes, V, const P: usize>(
-    leaves: &Leaves<K, V>,
-    nodes: &Nodes<P>,
-    root: &Child,
-    id: &LeafId,
-    node: &NodeId,
-) -> EdgeAbove
-    requires sound { IsSound K.bytes P leaves.now nodes.now (Some root.now) }
-    requires has { Has leaves.now.pairs id.now }
-    requires leads { (b : ℕ)
-        × LeadsTo (at nodes.now) (Some root.now) (Some (node.now, b)) (Leaf id.now) }
-    ensures { LeadsTo (at nodes.now) (Some root.now) result (Inner node.now) }
-{
-    let mut visits = Visits::new();
-    let (key, _) = leaves.read(*id, &mut visits);
-    let depth = nodes.read(*node, &mut visits).depth();
-    match locate(nodes, root, key.as_bytes(), depth, &mut visits) {
-        Spot::Node(above, _) => above,
-        Spot::Edge(_, _) => unreachable!(),
+        Some((node, byte)) => {
+            Some(drop_edge(leaves, nodes, root, &spot.above, &node, byte, &spot.id))
+        }
     }
 }
 
@@ -104,26 +144,27 @@ fn drop_edge<K: AsBytes, V, const P: usize>(
     leaves: &Leaves<K, V>,
     nodes: &mut Nodes<P>,
     root: &Child,
-    id: &LeafId,
+    above: &EdgeAbove,
     node: &NodeId,
     byte: u8,
+    id: &LeafId,
 ) -> Child
     requires sound { IsSound K.bytes P leaves.now nodes.old (Some root.now) }
     requires has { Has leaves.now.pairs id.now }
     requires leads { LeadsTo (at nodes.old) (Some root.now) (Some (node.now, byte)) (Leaf id.now) }
+    requires above { LeadsTo (at nodes.old) (Some root.now) above.now (Inner node.now) }
     ensures { (keys : ℕ → Option Bytes) (k : Bytes)
         → Loses (keys_in K.bytes leaves.now.pairs) keys id.now k
         → Shape P keys (at nodes.new) (Some result) }
 {
-    let above = edge_to_node(leaves, nodes, root, id, node);
     let mut visits = Visits::new();
     let count = nodes.read(*node, &mut visits).count();
     if count > 2 {
-        return shrink(nodes, root, &above, node, byte);
+        return shrink(nodes, root, above, node, byte);
     }
     let other = other_edge(nodes, node, byte);
-    recut(leaves, nodes, &above, &other.to);
-    merge(nodes, root, &above, node, &other.to)
+    recut(leaves, nodes, above, &other.to);
+    merge(nodes, root, above, node, &other.to)
 }
 
 // Takes an edge to a leaf away from a node that has two others. Answers the root.

@@ -1,16 +1,20 @@
 //! Look-ups by bytes.
-ghost use Rattle.std.specs.Prelude.{◌≡◌, ◌+◌, ◌≤◌, ℕ, [], length, option_map, Option, Some};
+ghost use Rattle.std.specs.Prelude.{◌≡◌, ◌+◌, ◌≤◌, ℕ, [], length, option_map, Option, Some, IfSome};
 ghost use Rattle.blart_keys.specs.Content.{at, front_of};
 ghost use Rattle.art_tree.specs.Begins.{Bytes};
 ghost use Rattle.art_tree.specs.Calls.Descents.{IsRoot, GoesTo, IsFrontAlone};
+ghost use Rattle.art_tree.specs.Calls.Spots.{IsLeafSpot};
 ghost use Rattle.art_tree.specs.Leaves.{bytes};
 ghost use Rattle.art_tree.specs.Slabs.Nodes.{at as nodes_at};
 ghost use Rattle.art_tree.specs.Invariant.Shape.{Shape};
+ghost use Rattle.art_tree.specs.Invariant.Sound.{IsSound};
 
 use crate::lists::begins;
 use crate::records::ids::{Child, LeafId};
+use crate::records::leaves::Leaves;
 use crate::records::nodes::Nodes;
 use crate::tree::Tree;
+use crate::tree::descent::LeafSpot;
 use crate::visits::Visits;
 use blart_keys::AsBytes;
 
@@ -24,11 +28,11 @@ impl<K: AsBytes + Drop, V: Drop, const PREFIX_LEN: usize> Tree<K, V, PREFIX_LEN>
         ensures empty { self.now.pairs ≡ [] → visits.new.count ≡ visits.old.count }
     {
         self.law();
-        let Some(found) = self.pair_toward(query, visits) else {
+        let Some(found) = pair_toward(&self.leaves, &self.nodes, &self.root, query, visits) else {
             return None;
         };
         if found.1.as_bytes() == query {
-            Some(found)
+            Some((found.0.id, found.1, found.2))
         } else {
             None
         }
@@ -43,11 +47,11 @@ impl<K: AsBytes + Drop, V: Drop, const PREFIX_LEN: usize> Tree<K, V, PREFIX_LEN>
         ensures empty { self.now.pairs ≡ [] → visits.new.count ≡ visits.old.count }
     {
         self.law();
-        let Some(found) = self.pair_toward(query, visits) else {
+        let Some(found) = pair_toward(&self.leaves, &self.nodes, &self.root, query, visits) else {
             return None;
         };
         if begins(found.1.as_bytes(), query) {
-            Some(found)
+            Some((found.0.id, found.1, found.2))
         } else {
             None
         }
@@ -80,37 +84,50 @@ impl<K: AsBytes + Drop, V: Drop, const PREFIX_LEN: usize> Tree<K, V, PREFIX_LEN>
             None => None,
         }
     }
-
-    // The one pair whose key may begin these bytes, and its leaf.
-    fn pair_toward(&self, query: &[u8], visits: &mut Visits) -> Option<(LeafId, &K, &V)>
-        ensures found { IsFrontAlone K.bytes self.now.pairs query.now (option_map (λ f. (f.0, (f.1.now, f.2.now))) result) }
-        ensures counted { visits.new.count ≤ visits.old.count + length query.now + 1 }
-        ensures grows { visits.old.count ≤ visits.new.count }
-        ensures empty { self.now.pairs ≡ [] → visits.new.count ≡ visits.old.count }
-    {
-        let root = self.root?;
-        let id = leaf_toward(&self.nodes, &root, query, visits)?;
-        let (key, value) = self.leaves.read(id, visits);
-        Some((id, key, value))
-    }
 }
 
-// The one leaf whose key may begin the query. None where no key does.
+/// The one pair whose key may begin these bytes, and where its leaf is.
+pub(crate) fn pair_toward<'a, K: AsBytes, V, const P: usize>(
+    leaves: &'a Leaves<K, V>,
+    nodes: &Nodes<P>,
+    root: &Option<Child>,
+    query: &[u8],
+    visits: &mut Visits,
+) -> Option<(LeafSpot, &'a K, &'a V)>
+    requires { IsSound K.bytes P leaves.now nodes.now root.now }
+    ensures found { IsFrontAlone K.bytes leaves.now.pairs query.now (option_map (λ f. (f.0.id, (f.1.now, f.2.now))) result) }
+    ensures spot { IfSome result (λ f. IsLeafSpot (nodes_at nodes.now) root.now f.0) }
+    ensures counted { visits.new.count ≤ visits.old.count + length query.now + 1 }
+    ensures grows { visits.old.count ≤ visits.new.count }
+    ensures empty { leaves.now.pairs ≡ [] → visits.new.count ≡ visits.old.count }
+{
+    let Some(root) = root else {
+        return None;
+    };
+    let spot = leaf_toward(nodes, root, query, visits)?;
+    let (key, value) = leaves.read(spot.id, visits);
+    Some((spot, key, value))
+}
+
+// The one leaf whose key may begin the query, and the edges to it. None where no key does.
 fn leaf_toward<const P: usize>(
     nodes: &Nodes<P>,
     root: &Child,
     query: &[u8],
     visits: &mut Visits,
-) -> Option<LeafId>
+) -> Option<LeafSpot>
     requires { IsRoot P (nodes_at nodes.now) root.now }
     ensures goes { (keys : ℕ → Option Bytes) → Shape P keys (nodes_at nodes.now) (Some root.now)
-        → GoesTo keys query.now visits.old.count visits.new.count result }
+        → GoesTo keys query.now visits.old.count visits.new.count (option_map (λ s. s.id) result) }
+    ensures spot { IfSome result (IsLeafSpot (nodes_at nodes.now) (Some root.now)) }
     ensures grows { visits.old.count ≤ visits.new.count }
 {
     let mut at = *root;
+    let mut edge = None;
+    let mut above = None;
     'down: loop {
         let id = match at {
-            Child::Leaf(id) => return Some(id),
+            Child::Leaf(id) => return Some(LeafSpot { id, edge, above }),
             Child::Inner(id) => id,
         };
         let node = nodes.read(id, visits);
@@ -118,6 +135,9 @@ fn leaf_toward<const P: usize>(
         if depth >= query.len() {
             return None;
         }
-        at = node.find(query[depth])?;
+        let byte = query[depth];
+        at = node.find(byte)?;
+        above = edge;
+        edge = Some((id, byte));
     }
 }

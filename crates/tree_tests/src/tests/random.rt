@@ -107,9 +107,15 @@ fn take_out<const P: usize>(
     key: &[u8],
     place: usize,
 ) {
-    let id = leaf_of(rt, tree, key);
-    let (gone, _) = tree.remove(id);
-    assert!(rt; gone.as_slice() == key);
+    if place % 2 == 0 {
+        let id = leaf_of(rt, tree, key);
+        let (gone, _) = tree.remove(id);
+        assert!(rt; gone.as_slice() == key);
+    } else {
+        let (gone, _) = tree.take(key).expect(rt, "a pair");
+        assert!(rt; gone.as_slice() == key);
+    }
+    assert!(rt; tree.take(key).is_none());
     assert!(rt; place < keys.len());
     assert!(rt; keys.remove(place).as_slice() == key);
 }

@@ -16,7 +16,7 @@ shrink-requires g c =
       (
         keys_in g.K.AsBytes.bytes c.args.leaves.now.pairs,
         c.args.id.now,
-        leaf_at_node g.K.AsBytes.bytes c.args.leaves.now.pairs (at c.args.nodes.now) (Some c.args.root.now) r.sound.shape c.args.id.now r.has c.args.node.now c.args.byte r.leads c.edge_to_node-above.result c.edge_to_node-above.ensures,
+        leaf_at_node g.K.AsBytes.bytes c.args.leaves.now.pairs (at c.args.nodes.now) (Some c.args.root.now) r.sound.shape c.args.id.now r.has c.args.node.now c.args.byte r.leads c.args.above.now c.requires.above,
       ),
     )
 
@@ -25,7 +25,7 @@ returns-then-count-gt2 g c = λ keys k loses.
     let r = c.requires in
     let old = keys_in g.K.AsBytes.bytes c.args.leaves.now.pairs in
     let nodes = at c.args.nodes.now in
-    let h = leaf_at_node g.K.AsBytes.bytes c.args.leaves.now.pairs nodes (Some c.args.root.now) r.sound.shape c.args.id.now r.has c.args.node.now c.args.byte r.leads c.edge_to_node-above.result c.edge_to_node-above.ensures in
+    let h = leaf_at_node g.K.AsBytes.bytes c.args.leaves.now.pairs nodes (Some c.args.root.now) r.sound.shape c.args.id.now r.has c.args.node.now c.args.byte r.leads c.args.above.now c.requires.above in
     let a : nodes c.args.node.now ≡ Some h.node = h.is in
     let b : nodes c.args.node.now ≡ Some c.read.result = c.read.ensures.value in
     let e : h.node ≡ c.read.result = cc in
@@ -40,33 +40,33 @@ other_edge-other-requires g c =
       (
         keys_in g.K.AsBytes.bytes c.args.leaves.now.pairs,
         Some c.args.root.now,
-        c.edge_to_node-above.result,
+        c.args.above.now,
         c.args.id.now,
-        leaf_at_node g.K.AsBytes.bytes c.args.leaves.now.pairs (at c.args.nodes.now) (Some c.args.root.now) r.sound.shape c.args.id.now r.has c.args.node.now c.args.byte r.leads c.edge_to_node-above.result c.edge_to_node-above.ensures,
+        leaf_at_node g.K.AsBytes.bytes c.args.leaves.now.pairs (at c.args.nodes.now) (Some c.args.root.now) r.sound.shape c.args.id.now r.has c.args.node.now c.args.byte r.leads c.args.above.now c.requires.above,
       ),
     )
 
 pub recut-requires : goal.recut-requires
 recut-requires g c =
-    (lit< tt, child_below_edge (keys_in g.K.AsBytes.bytes c.args.leaves.now.pairs) (at c.args.nodes.now) (Some c.args.root.now) c.requires.sound.shape c.edge_to_node-above.result c.args.node.now c.args.byte c.other_edge-other.result c.edge_to_node-above.ensures c.other_edge-other.ensures)
+    (lit< tt, child_below_edge (keys_in g.K.AsBytes.bytes c.args.leaves.now.pairs) (at c.args.nodes.now) (Some c.args.root.now) c.requires.sound.shape c.args.above.now c.args.node.now c.args.byte c.other_edge-other.result c.requires.above c.other_edge-other.ensures)
 
 pub merge-requires : goal.merge-requires
 merge-requires g c =
     let s = c.requires.sound.shape in
-    let above = c.edge_to_node-above.result in
-    let cuts = c.recut.ensures (child_below_edge (keys_in g.K.AsBytes.bytes c.args.leaves.now.pairs) (at c.args.nodes.now) (Some c.args.root.now) c.requires.sound.shape c.edge_to_node-above.result c.args.node.now c.args.byte c.other_edge-other.result c.edge_to_node-above.ensures c.other_edge-other.ensures) in
+    let above = c.args.above.now in
+    let cuts = c.recut.ensures (child_below_edge (keys_in g.K.AsBytes.bytes c.args.leaves.now.pairs) (at c.args.nodes.now) (Some c.args.root.now) c.requires.sound.shape c.args.above.now c.args.node.now c.args.byte c.other_edge-other.result c.requires.above c.other_edge-other.ensures) in
     let o = c.other_edge-other.ensures in
     let y = cut_node g.row.P (at c.args.nodes.now) (at c.recut.new.nodes) s.front_of _ c.other_edge-other.result.to cuts c.args.node.now o.node o.is in
-    (lit< tt, (cut_leads g.row.P (at c.args.nodes.now) (at c.recut.new.nodes) s.front_of _ c.other_edge-other.result.to cuts (Some c.args.root.now) above (Inner c.args.node.now) c.edge_to_node-above.ensures, is_some (at c.recut.new.nodes c.args.node.now) y.0 y.1))
+    (lit< tt, (cut_leads g.row.P (at c.args.nodes.now) (at c.recut.new.nodes) s.front_of _ c.other_edge-other.result.to cuts (Some c.args.root.now) above (Inner c.args.node.now) c.requires.above, is_some (at c.recut.new.nodes c.args.node.now) y.0 y.1))
 
 pub returns : goal.returns
 returns g c = λ keys k loses.
     let r = c.requires in
     let old = keys_in g.K.AsBytes.bytes c.args.leaves.now.pairs in
     let nodes = at c.args.nodes.now in
-    let above = c.edge_to_node-above.result in
-    let h = leaf_at_node g.K.AsBytes.bytes c.args.leaves.now.pairs nodes (Some c.args.root.now) r.sound.shape c.args.id.now r.has c.args.node.now c.args.byte r.leads above c.edge_to_node-above.ensures in
-    let cuts = c.recut.ensures (child_below_edge (keys_in g.K.AsBytes.bytes c.args.leaves.now.pairs) (at c.args.nodes.now) (Some c.args.root.now) c.requires.sound.shape c.edge_to_node-above.result c.args.node.now c.args.byte c.other_edge-other.result c.edge_to_node-above.ensures c.other_edge-other.ensures) in
+    let above = c.args.above.now in
+    let h = leaf_at_node g.K.AsBytes.bytes c.args.leaves.now.pairs nodes (Some c.args.root.now) r.sound.shape c.args.id.now r.has c.args.node.now c.args.byte r.leads above c.requires.above in
+    let cuts = c.recut.ensures (child_below_edge (keys_in g.K.AsBytes.bytes c.args.leaves.now.pairs) (at c.args.nodes.now) (Some c.args.root.now) c.requires.sound.shape c.args.above.now c.args.node.now c.args.byte c.other_edge-other.result c.requires.above c.other_edge-other.ensures) in
     let o = c.other_edge-other.ensures in
     let a : nodes c.args.node.now ≡ Some h.node = h.is in
     let b : nodes c.args.node.now ≡ Some c.read.result = c.read.ensures.value in

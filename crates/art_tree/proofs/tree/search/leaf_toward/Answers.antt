@@ -1,5 +1,6 @@
-use Rattle.std.proofs.Common.{◌≡◌, ◌+◌, ◌<◌, ◌≤◌, [], length, get_or, subst, sym, ◌∙◌, arith, lit<, Some, None}
+use Rattle.std.proofs.Common.{◌≡◌, ◌+◌, ◌<◌, ◌≤◌, [], length, get_or, subst, sym, refl, ◌∙◌, arith, lit<, Some, None}
 use Rattle.art_tree.specs.Slabs.Edges.{child_at}
+use Rattle.art_tree.specs.Invariant.EdgesAbove.{LeadsTo}
 use Rattle.art_tree.specs.Slabs.Nodes.{at}
 use Rattle.art_tree.specs.declared.records.ids.Child.{Child}
 use Rattle.art_tree.proofs.Ways.Depths.{rank, rank_falls}
@@ -10,6 +11,8 @@ use Rattle.art_tree.proofs.tree.search.leaf_toward.Goals as goal
 pub down-init : goal.down-init
 down-init g c = record {
   way = λ keys s. way_start keys (at c.args.nodes.now) (Some c.args.root.now) s _ [] c.args.root.now c.args.visits.now.count s.top (fronts_start keys c.args.query.now);
+  leads = refl;
+  above = tt;
   rising = omega arith;
 }
 
@@ -19,6 +22,9 @@ returns-in-Leaf-clause-goes g c = λ keys s.
     let few : c.down.visits.count + 0 ≤ c.args.visits.now.count + length w.front = w.few in
     let short : length w.front ≤ length c.args.query.now = w.holds.short in
     (record { key = w.covers.key; is = w.covers.is; only = λ j k e b. w.covers.only j k e (w.holds.holds j k e b) }, omega arith)
+
+pub returns-in-Leaf-clause-spot : goal.returns-in-Leaf-clause-spot
+returns-in-Leaf-clause-spot g c = record { leads = subst (λ (z : Child). LeadsTo (at c.args.nodes.now) (Some c.args.root.now) c.down.edge z) c.in-Leaf.is c.down.invariant.leads; above = c.down.invariant.above }
 
 pub read-node-requires : goal.read-node-requires
 read-node-requires g c =
@@ -67,5 +73,7 @@ down-preserved g c = record {
       let short : x.depth < length q = omega (arith, c.depth-depth.ensures) in
       way_on keys nodes (Some c.args.root.now) s x c.read-node.ensures.value w (get_or q x.depth 0) c.in_ok-at.at there
       (fronts_step keys q nodes (Some c.args.root.now) s c.in-Inner.id x c.read-node.ensures.value w.front w.covers w.holds short) c.read-node.new.visits.count c.read-node.ensures.counted;
+  leads = (c.read-node.result, c.read-node.ensures.value, sym c.find.ensures ∙ c.in_ok-at.was);
+  above = subst (λ (z : Child). LeadsTo (at c.args.nodes.now) (Some c.args.root.now) c.down.edge z) c.in-Inner.is c.down.invariant.leads;
   rising = let up : c.args.visits.now.count ≤ c.down.visits.count = c.down.invariant.rising in let one : c.read-node.new.visits.count ≡ c.down.visits.count + 1 = c.read-node.ensures.counted in omega arith;
 }
