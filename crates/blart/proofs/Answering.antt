@@ -8,7 +8,7 @@ use Rattle.blart_keys.specs.Content.{at, front_of, subtree, under, between, with
 use Rattle.blart_keys.specs.Steps.{Puts}
 use Rattle.blart.specs.Command.{Insert, Get, Remove, PrefixGet, Overwrite, ListPrefix}
 use Rattle.blart.specs.Answers.{AnswersOrRefuses, inserted_text, value_text, found_text, listing, range_lines, pair_bytes}
-use Rattle.blart.specs.Content.{Stored, pairs_of, pair_of}
+use Rattle.blart.specs.Content.{Stored, by_bytes, pair_of}
 use Rattle.blart.proofs.Views.{value-view, front-view, under-view, between-view, Puts-view, Over-view, subtree-view, without-view}
 
 -- the bytes of what it holds
@@ -17,55 +17,55 @@ stored_bytes pair = pair.0.items
 
 -- the map's answer is one to `get`
 pub gets : (S : Stored) (key found text : List ℕ) (value : Option ℕ) → key ≡ found → value ≡ option_map (λ pair. pair.1) (at stored_bytes S found) → text ≡ value_text value
-    → AnswersOrRefuses (pairs_of S) (Get key) (text ∷ []) (pairs_of S)
+    → AnswersOrRefuses (by_bytes S) (Get key) (text ∷ []) (by_bytes S)
 gets S key found text value same is shown =
-    inl (refl, ap (λ t. t ∷ []) (shown ∙ ap value_text (is ∙ sym (value-view (λ (k : Vec ℕ Global). k.items) S found) ∙ ap (λ q. option_map (λ pair. pair.1) (at pair_bytes (pairs_of S) q)) (sym same))))
+    inl (refl, ap (λ t. t ∷ []) (shown ∙ ap value_text (is ∙ sym (value-view (λ (k : Vec ℕ Global). k.items) S found) ∙ ap (λ q. option_map (λ pair. pair.1) (at pair_bytes (by_bytes S) q)) (sym same))))
 
 -- to `remove`
 pub removes : (S T : Stored) (key found text : List ℕ) (value : Option ℕ) → key ≡ found → value ≡ option_map (λ pair. pair.1) (at stored_bytes S found)
-    → T ≡ without stored_bytes S found → text ≡ value_text value → AnswersOrRefuses (pairs_of S) (Remove key) (text ∷ []) (pairs_of T)
+    → T ≡ without stored_bytes S found → text ≡ value_text value → AnswersOrRefuses (by_bytes S) (Remove key) (text ∷ []) (by_bytes T)
 removes S T key found text value same is left shown = inl (
-  ap pairs_of left ∙ sym (without-view (λ (k : Vec ℕ Global). k.items) S found) ∙ ap (without pair_bytes (pairs_of S)) (sym same),
-  ap (λ t. t ∷ []) (shown ∙ ap value_text (is ∙ sym (value-view (λ (k : Vec ℕ Global). k.items) S found) ∙ ap (λ q. option_map (λ pair. pair.1) (at pair_bytes (pairs_of S) q)) (sym same))),
+  ap by_bytes left ∙ sym (without-view (λ (k : Vec ℕ Global). k.items) S found) ∙ ap (without pair_bytes (by_bytes S)) (sym same),
+  ap (λ t. t ∷ []) (shown ∙ ap value_text (is ∙ sym (value-view (λ (k : Vec ℕ Global). k.items) S found) ∙ ap (λ q. option_map (λ pair. pair.1) (at pair_bytes (by_bytes S) q)) (sym same))),
 )
 
 -- to `insert`
 pub inserts : (S T : Stored) (key text : List ℕ) (found : Vec ℕ Global) (value : ℕ) (r : Result (Option ℕ) TryInsertError) → key ≡ found.items
     → Puts (λ (k : Vec ℕ Global). k.items) (option_map (λ pair. pair.1)) S (found, value) r T → text ≡ inserted_text r
-    → AnswersOrRefuses (pairs_of S) (Insert key value) (text ∷ []) (pairs_of T)
+    → AnswersOrRefuses (by_bytes S) (Insert key value) (text ∷ []) (by_bytes T)
 inserts S T key text found value r same put shown =
     let seen = Puts-view (λ (k : Vec ℕ Global). k.items) S found value r T put in
-    inl (r, subst (λ k. Puts (λ k. k) (option_map (λ pair. pair.1)) (pairs_of S) (k, value) r (pairs_of T)) (sym same) seen, ap (λ t. t ∷ []) shown)
+    inl (r, subst (λ k. Puts (λ k. k) (option_map (λ pair. pair.1)) (by_bytes S) (k, value) r (by_bytes T)) (sym same) seen, ap (λ t. t ∷ []) shown)
 
 -- to `prefix-get`
 pub finds : (S : Stored) (key found text : List ℕ) (front : Option (Vec ℕ Global × ℕ)) → key ≡ found → front ≡ front_of stored_bytes S found → text ≡ found_text (option_map pair_of front)
-    → AnswersOrRefuses (pairs_of S) (PrefixGet key) (text ∷ []) (pairs_of S)
+    → AnswersOrRefuses (by_bytes S) (PrefixGet key) (text ∷ []) (by_bytes S)
 finds S key found text front same is shown =
-    let seen : option_map pair_of front ≡ front_of pair_bytes (pairs_of S) found = ap (option_map pair_of) is ∙ sym (front-view (λ (k : Vec ℕ Global). k.items) S found) in
-    inl (refl, ap (λ t. t ∷ []) (shown ∙ ap found_text (seen ∙ ap (front_of pair_bytes (pairs_of S)) (sym same))))
+    let seen : option_map pair_of front ≡ front_of pair_bytes (by_bytes S) found = ap (option_map pair_of) is ∙ sym (front-view (λ (k : Vec ℕ Global). k.items) S found) in
+    inl (refl, ap (λ t. t ∷ []) (shown ∙ ap found_text (seen ∙ ap (front_of pair_bytes (by_bytes S)) (sym same))))
 
 -- to `prefix`
-pub lists_under : (S walk : Stored) (key found : List ℕ) → key ≡ found → walk ≡ under stored_bytes S found → AnswersOrRefuses (pairs_of S) (ListPrefix key) (listing (pairs_of walk)) (pairs_of S)
+pub lists_under : (S walk : Stored) (key found : List ℕ) → key ≡ found → walk ≡ under stored_bytes S found → AnswersOrRefuses (by_bytes S) (ListPrefix key) (listing (by_bytes walk)) (by_bytes S)
 lists_under S walk key found same is =
-    inl (refl, ap (λ l. listing (pairs_of l)) is ∙ ap listing (sym (under-view (λ (k : Vec ℕ Global). k.items) S found)) ∙ ap (λ q. listing (under pair_bytes (pairs_of S) q)) (sym same))
+    inl (refl, ap (λ l. listing (by_bytes l)) is ∙ ap listing (sym (under-view (λ (k : Vec ℕ Global). k.items) S found)) ∙ ap (λ q. listing (under pair_bytes (by_bytes S) q)) (sym same))
 
 -- to `range`
 pub lists_between : (S walk : Stored) (low high : List ℕ) → true ≡ ((length S == 0) || in_order (Included low) (Excluded high)) → walk ≡ between stored_bytes S (Included low) (Excluded high)
-    → range_lines (pairs_of S) low high ≡ listing (pairs_of walk)
+    → range_lines (by_bytes S) low high ≡ listing (by_bytes walk)
 lists_between S walk low high taken is =
-    rw (length-map S pair_of, ← taken) (ap listing (between-view (λ (k : Vec ℕ Global). k.items) S (Included low) (Excluded high)) ∙ sym (ap (λ l. listing (pairs_of l)) is))
+    rw (length-map S pair_of, ← taken) (ap listing (between-view (λ (k : Vec ℕ Global). k.items) S (Included low) (Excluded high)) ∙ sym (ap (λ l. listing (by_bytes l)) is))
 
 -- and to `overwrite`, where there was memory
 pub overwrites : (S T : Stored) (key : List ℕ) (found : Vec ℕ Global) (value count : ℕ) → key ≡ found.items → IsOver stored_bytes S (found, value) T → count ≡ length T
-    → AnswersOrRefuses (pairs_of S) (Overwrite key value) ((codes "len " ++ decimal count) ∷ []) (pairs_of T)
+    → AnswersOrRefuses (by_bytes S) (Overwrite key value) ((codes "len " ++ decimal count) ∷ []) (by_bytes T)
 overwrites S T key found value count same over is =
     let seen = Over-view (λ (k : Vec ℕ Global). k.items) S found value T over in
-    let put : IsOver pair_bytes (pairs_of S) (key, value) (pairs_of T) = subst (λ k. IsOver pair_bytes (pairs_of S) (k, value) (pairs_of T)) (sym same) seen in
+    let put : IsOver pair_bytes (by_bytes S) (key, value) (by_bytes T) = subst (λ k. IsOver pair_bytes (by_bytes S) (k, value) (by_bytes T)) (sym same) seen in
     inl (inl (put, ap (λ n. (codes "len " ++ decimal n) ∷ []) (is ∙ sym (length-map T pair_of))))
 
 -- and where there was none
 pub overwrites_refused : (S T : Stored) (key : List ℕ) (found : Vec ℕ Global) (value : ℕ) → key ≡ found.items → subtree stored_bytes S found.items ≡ [] → T ≡ S
-    → AnswersOrRefuses (pairs_of S) (Overwrite key value) (codes "refused memory" ∷ []) (pairs_of T)
+    → AnswersOrRefuses (by_bytes S) (Overwrite key value) (codes "refused memory" ∷ []) (by_bytes T)
 overwrites_refused S T key found value same none is =
     let seen = subtree-view (λ (k : Vec ℕ Global). k.items) S found.items none in
-    inl (inr (subst (λ k. subtree pair_bytes (pairs_of S) k ≡ []) (sym same) seen, ap pairs_of is, refl))
+    inl (inr (subst (λ k. subtree pair_bytes (by_bytes S) k ≡ []) (sym same) seen, ap by_bytes is, refl))

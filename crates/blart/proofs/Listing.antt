@@ -1,9 +1,8 @@
 -- The lines of a list of pairs, and of an answer.
-use Rattle.std.proofs.Common.{◌≡◌, ℕ, List, [], ◌∷◌, ◌++◌, length, map, filter, drop, ◌<◌, ◌≤◌, ◌^◌, ◌-◌, arith, take-append-drop, append_assoc, refl, sym, ap, subst, ◌∙◌, append-nil, Bool, Vec, Global}
+use Rattle.std.proofs.Common.{◌≡◌, ℕ, List, [], ◌∷◌, ◌++◌, length, map, drop, take-append-drop, append_assoc, refl, sym, ap, subst, ◌∙◌, append-nil, Bool, Vec, Global}
 use Rattle.std.specs.Prelude.{Option, None, Result, codes, decimal}
 use Rattle.std.specs.List.{flat_map}
 use Rattle.std.proofs.lemmas.List.{map-append}
-use Rattle.std.proofs.lemmas.List.Sums.{length-filter, count_by-le-length}
 use Rattle.std.proofs.lemmas.Grind.{flat_map-append}
 use Rattle.std.specs.Borrow.{Bor}
 use Rattle.std.specs.Iterator.{Yields, AlwaysYields, YieldsFirstBy}
@@ -13,7 +12,7 @@ use Rattle.blart.specs.declared.error.RunError.{RunError}
 use Rattle.blart.specs.Lines.{ended}
 use Rattle.blart.specs.Command.{Command, command_of, words_of}
 use Rattle.blart.specs.Answers.{Pairs, pair_text, listing, Meets}
-use Rattle.blart.specs.Content.{Stored, pair_of, pairs_of}
+use Rattle.blart.specs.Content.{Stored, pair_of, by_bytes}
 use Rattle.blart.specs.Replied.{IsReplied}
 use Rattle.blart.specs.Sent.{IsSent}
 
@@ -48,16 +47,16 @@ abbrev pub lines_text : Pairs → List ℕ
 lines_text pairs = flat_map (λ pair. ended (pair_text pair)) pairs
 
 -- the lines of two lists joined
-pub lines_text-append : (a b : Stored) → lines_text (pairs_of (a ++ b)) ≡ lines_text (pairs_of a) ++ lines_text (pairs_of b)
-lines_text-append a b = ap lines_text (map-append pair_of a b) ∙ flat_map-append (λ pair. ended (pair_text pair)) (pairs_of a) (pairs_of b)
+pub lines_text-append : (a b : Stored) → lines_text (by_bytes (a ++ b)) ≡ lines_text (by_bytes a) ++ lines_text (by_bytes b)
+lines_text-append a b = ap lines_text (map-append pair_of a b) ∙ flat_map-append (λ pair. ended (pair_text pair)) (by_bytes a) (by_bytes b)
 
 -- one pair more gives its line
-pub lines_text-push : (a : Stored) (pair : Vec ℕ Global × ℕ) → lines_text (pairs_of (a ++ pair ∷ [])) ≡ lines_text (pairs_of a) ++ ended (pair_text (pair_of pair))
-lines_text-push a pair = lines_text-append a (pair ∷ []) ∙ ap (λ l. lines_text (pairs_of a) ++ l) (append-nil (ended (pair_text (pair_of pair))))
+pub lines_text-push : (a : Stored) (pair : Vec ℕ Global × ℕ) → lines_text (by_bytes (a ++ pair ∷ [])) ≡ lines_text (by_bytes a) ++ ended (pair_text (pair_of pair))
+lines_text-push a pair = lines_text-append a (pair ∷ []) ∙ ap (λ l. lines_text (by_bytes a) ++ l) (append-nil (ended (pair_text (pair_of pair))))
 
 -- the same of what a walk lends
-pub lines_text-given : (items : List Lent) (item : Lent) → lines_text (pairs_of (map seen (items ++ item ∷ []))) ≡ lines_text (pairs_of (map seen items)) ++ ended (pair_text (pair_of (seen item)))
-lines_text-given items item = ap (λ l. lines_text (pairs_of l)) (map-append seen items (item ∷ [])) ∙ lines_text-push (map seen items) (seen item)
+pub lines_text-given : (items : List Lent) (item : Lent) → lines_text (by_bytes (map seen (items ++ item ∷ []))) ≡ lines_text (by_bytes (map seen items)) ++ ended (pair_text (pair_of (seen item)))
+lines_text-given items item = ap (λ l. lines_text (by_bytes l)) (map-append seen items (item ∷ [])) ∙ lines_text-push (map seen items) (seen item)
 
 each_line : (pairs : Pairs) → flat_map ended (map pair_text pairs) ≡ lines_text pairs
 each_line [] = refl
@@ -72,11 +71,11 @@ listing_text pairs =
 
 -- the lines of the pairs of a front come first
 pub listing_front : (pairs front rest : Stored) → pairs ≡ front ++ rest
-    → flat_map ended (listing (pairs_of pairs)) ≡ lines_text (pairs_of front) ++ (lines_text (pairs_of rest) ++ ended (codes "end " ++ decimal (length (pairs_of pairs))))
+    → flat_map ended (listing (by_bytes pairs)) ≡ lines_text (by_bytes front) ++ (lines_text (by_bytes rest) ++ ended (codes "end " ++ decimal (length (by_bytes pairs))))
 listing_front pairs front rest is =
-    let last = ended (codes "end " ++ decimal (length (pairs_of pairs))) in
-    listing_text (pairs_of pairs) ∙ ap (λ l. lines_text (pairs_of l) ++ last) is ∙ ap (λ l. l ++ last) (lines_text-append front rest)
-    ∙ append_assoc (lines_text (pairs_of front)) (lines_text (pairs_of rest)) last
+    let last = ended (codes "end " ++ decimal (length (by_bytes pairs))) in
+    listing_text (by_bytes pairs) ∙ ap (λ l. lines_text (by_bytes l) ++ last) is ∙ ap (λ l. l ++ last) (lines_text-append front rest)
+    ∙ append_assoc (lines_text (by_bytes front)) (lines_text (by_bytes rest)) last
 
 -- a line was answered by these lines
 pub replied : (result : Result (Unit {0}) RunError) (before after : Option (List ℕ)) (mark : Bool) (old : Pairs) (line waited waiting : List ℕ) (new : Pairs)

@@ -1,9 +1,10 @@
 -- What a clause reads of the map.
 use Rattle.std.specs.Prelude.{ℕ, List, map, Vec}
 use Rattle.std.specs.Global.{Global}
+use Rattle.blart_map.specs.Content.{Numbered, pairs}
 use Rattle.blart.specs.Answers.{Pairs}
 
--- what the map holds
+-- keys and their values
 abbrev pub Stored : Type 0
 Stored = List (Vec ℕ Global × ℕ)
 
@@ -12,5 +13,9 @@ abbrev pub pair_of : Vec ℕ Global × ℕ → List ℕ × ℕ
 pair_of pair = (pair.0.items, pair.1)
 
 -- the pairs by their keys' bytes
-abbrev pub pairs_of : Stored → Pairs
-pairs_of content = map pair_of content
+abbrev pub by_bytes : Stored → Pairs
+by_bytes pairs = map pair_of pairs
+
+-- what a map holds, by its keys' bytes
+abbrev pub content_of : List (Numbered (Vec ℕ Global) ℕ) → Pairs
+content_of leaves = by_bytes (pairs leaves)

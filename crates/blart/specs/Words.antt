@@ -6,7 +6,9 @@ pub use Rattle.blart_keys.specs.Bytes.{begins, related, less, common}
 -- what a map has at some bytes; the first three stay closed in proofs
 unfoldable pub use Rattle.blart_keys.specs.Stored.{pair_at, pair_before, overlaps}
 pub use Rattle.blart_keys.specs.Stored.{value_at, value_before, has, shown, Updates, HasNothing, TakesPair, Overwrites, WritesAt, WritesBefore, Refuses, CanCount}
--- a map as a list of pairs
+-- a map as a list of pairs: without the numbers under which they stand, closed in proofs
+unfoldable pub use Rattle.blart_map.specs.Content.{pairs}
+pub use Rattle.blart_map.specs.Content.{Numbered}
 pub use Rattle.blart_keys.specs.Steps.{bytes, Puts, Inserts, PutsOver}
 pub use Rattle.blart_keys.specs.Content.{IsContent, at, stores, front_of, under, between, conflict, subtree, without, IsPut, IsOver}
 pub use Rattle.blart_keys.specs.Bounds.{bound_bytes, in_order, CanRange}

@@ -4,13 +4,14 @@ ghost use Rattle.std.specs.List.{flat_map};
 ghost use Rattle.std.specs.Iterator.{UpTo, AlwaysYields};
 ghost use Rattle.std.specs.declared.ops.Bound.TheVariants.{Included, Excluded};
 ghost use Rattle.blart_keys.specs.Bounds.{in_order};
+ghost use Rattle.blart_map.specs.Content.{pairs};
 ghost use Rattle.blart.specs.Watched.{watched_inner, watched_failed};
 ghost use Rattle.blart.specs.Sent.{IsSent};
 ghost use Rattle.blart.specs.Lines.{ended};
 ghost use Rattle.blart.specs.Command.{key_of, Insert, Get, Remove, PrefixGet, Overwrite, ListPrefix, ListRange};
 ghost use Rattle.blart.specs.Answers.{AnswersOrRefuses, listing, range_lines, found_text, inserted_text, value_text};
 ghost use Rattle.blart.specs.Texts.{text_of};
-ghost use Rattle.blart.specs.Content.{Stored, pair_of, pairs_of};
+ghost use Rattle.blart.specs.Content.{Stored, pair_of, content_of, by_bytes};
 ghost use Rattle.blart.specs.Replied.{IsReplied};
 
 use crate::command::{Command, parse};
@@ -36,7 +37,7 @@ pub(crate) fn reply<W: Write>(
 ) -> Result<(), RunError>
     requires { watched_failed writer.old ≡ false }
     ensures { IsReplied result (W.contents (watched_inner writer.old)) (W.contents (watched_inner writer.new))
-        (watched_failed writer.new) (pairs_of map.old) line.now outbox.old outbox.new (pairs_of map.new) }
+        (watched_failed writer.new) (content_of map.old) line.now outbox.old outbox.new (content_of map.new) }
 {
     match parse(line) {
         Some(Command::Insert(word, value)) => {
@@ -67,7 +68,7 @@ pub(crate) fn reply<W: Write>(
 
 fn insert(map: &mut Pairs, alloc: Global, word: &[u8], value: u64) -> Answer
     ensures { (key : List ℕ) → key_of word.now ≡ Some key
-        → AnswersOrRefuses (pairs_of map.old) (Insert key value) (text_of result ∷ []) (pairs_of map.new) }
+        → AnswersOrRefuses (content_of map.old) (Insert key value) (text_of result ∷ []) (content_of map.new) }
 {
     match decode_key(alloc, word) {
         Some(key) => inserted_answer(map.try_insert(key, value)),
@@ -77,7 +78,7 @@ fn insert(map: &mut Pairs, alloc: Global, word: &[u8], value: u64) -> Answer
 
 fn get(map: &Pairs, alloc: Global, word: &[u8]) -> Answer
     ensures { (key : List ℕ) → key_of word.now ≡ Some key
-        → AnswersOrRefuses (pairs_of map.now) (Get key) (text_of result ∷ []) (pairs_of map.now) }
+        → AnswersOrRefuses (content_of map.now) (Get key) (text_of result ∷ []) (content_of map.now) }
 {
     match decode_key(alloc, word) {
         Some(key) => value_answer(map.get(&key).copied()),
@@ -87,7 +88,7 @@ fn get(map: &Pairs, alloc: Global, word: &[u8]) -> Answer
 
 fn remove(map: &mut Pairs, alloc: Global, word: &[u8]) -> Answer
     ensures { (key : List ℕ) → key_of word.now ≡ Some key
-        → AnswersOrRefuses (pairs_of map.old) (Remove key) (text_of result ∷ []) (pairs_of map.new) }
+        → AnswersOrRefuses (content_of map.old) (Remove key) (text_of result ∷ []) (content_of map.new) }
 {
     match decode_key(alloc, word) {
         Some(key) => value_answer(map.remove(&key)),
@@ -97,7 +98,7 @@ fn remove(map: &mut Pairs, alloc: Global, word: &[u8]) -> Answer
 
 fn overwrite(map: &mut Pairs, alloc: Global, word: &[u8], value: u64) -> Answer
     ensures { (key : List ℕ) → key_of word.now ≡ Some key
-        → AnswersOrRefuses (pairs_of map.old) (Overwrite key value) (text_of result ∷ []) (pairs_of map.new) }
+        → AnswersOrRefuses (content_of map.old) (Overwrite key value) (text_of result ∷ []) (content_of map.new) }
 {
     match decode_key(alloc, word) {
         Some(key) => match map.prefix_insert(key, value) {
@@ -148,7 +149,7 @@ fn write_front<W: Write>(
 ) -> Result<(), RunError>
     requires { watched_failed writer.old ≡ false }
     ensures { (key : List ℕ) → key_of word.now ≡ Some key
-        → (text : List ℕ) × AnswersOrRefuses (pairs_of map.now) (PrefixGet key) (text ∷ []) (pairs_of map.now)
+        → (text : List ℕ) × AnswersOrRefuses (content_of map.now) (PrefixGet key) (text ∷ []) (content_of map.now)
         × IsSent result (W.contents (watched_inner writer.old)) (W.contents (watched_inner writer.new))
         (watched_failed writer.new) (outbox.old ++ ended text) outbox.new }
 {
@@ -182,7 +183,7 @@ fn write_list<W: Write>(
 ) -> Result<(), RunError>
     requires { watched_failed writer.old ≡ false }
     ensures { IsSent result (W.contents (watched_inner writer.old)) (W.contents (watched_inner writer.new))
-        (watched_failed writer.new) (outbox.old ++ flat_map ended (listing (pairs_of map.now))) outbox.new }
+        (watched_failed writer.new) (outbox.old ++ flat_map ended (listing (content_of map.now))) outbox.new }
 {
     write_listing(map.iter(), outbox, writer)
 }
@@ -197,7 +198,7 @@ fn write_prefix<W: Write>(
 ) -> Result<(), RunError>
     requires { watched_failed writer.old ≡ false }
     ensures { (key : List ℕ) → key_of word.now ≡ Some key
-        → (lines : List (List ℕ)) × AnswersOrRefuses (pairs_of map.now) (ListPrefix key) lines (pairs_of map.now)
+        → (lines : List (List ℕ)) × AnswersOrRefuses (content_of map.now) (ListPrefix key) lines (content_of map.now)
         × IsSent result (W.contents (watched_inner writer.old)) (W.contents (watched_inner writer.new))
         (watched_failed writer.new) (outbox.old ++ flat_map ended lines) outbox.new }
 {
@@ -218,7 +219,7 @@ fn write_range<W: Write>(
 ) -> Result<(), RunError>
     requires { watched_failed writer.old ≡ false }
     ensures { (low high : List ℕ) → key_of first.now ≡ Some low → key_of second.now ≡ Some high
-        → (lines : List (List ℕ)) × AnswersOrRefuses (pairs_of map.now) (ListRange low high) lines (pairs_of map.now)
+        → (lines : List (List ℕ)) × AnswersOrRefuses (content_of map.now) (ListRange low high) lines (content_of map.now)
         × IsSent result (W.contents (watched_inner writer.old)) (W.contents (watched_inner writer.new))
         (watched_failed writer.new) (outbox.old ++ flat_map ended lines) outbox.new }
 {
@@ -246,7 +247,7 @@ fn write_between<W: Write>(
 ) -> Result<(), RunError>
     requires { watched_failed writer.old ≡ false }
     ensures { IsSent result (W.contents (watched_inner writer.old)) (W.contents (watched_inner writer.new))
-        (watched_failed writer.new) (outbox.old ++ flat_map ended (range_lines (pairs_of map.now) low.now.items high.now.items)) outbox.new }
+        (watched_failed writer.new) (outbox.old ++ flat_map ended (range_lines (content_of map.now) low.now.items high.now.items)) outbox.new }
 {
     if !is_range(map, low, high) {
         return write_answer(Answer::RefusedBounds, outbox, writer);
@@ -257,7 +258,7 @@ fn write_between<W: Write>(
 
 // Whether the bounds are in order, or there are no pairs.
 fn is_range(map: &Pairs, low: &Vec<u8>, high: &Vec<u8>) -> bool
-    ensures { result ≡ ((length map.now == 0) || in_order (Included low.now.items) (Excluded high.now.items)) }
+    ensures { result ≡ ((length (pairs map.now) == 0) || in_order (Included low.now.items) (Excluded high.now.items)) }
 {
     map.is_empty() || bounds_in_order(Bound::Included(low), Bound::Excluded(high))
 }
@@ -273,7 +274,7 @@ fn write_listing<'a, I: Iterator<Item = (&'a Vec<u8>, &'a u64)> + Drop, W: Write
     requires ends { UpTo (I.remaining walk) (2 ^ 64 - 1) }
     ensures { (pairs : Stored) → AlwaysYields I.next_gives (λ item. (item.0.now, item.1.now)) walk pairs
         → IsSent result (W.contents (watched_inner writer.old)) (W.contents (watched_inner writer.new))
-        (watched_failed writer.new) (outbox.old ++ flat_map ended (listing (pairs_of pairs))) outbox.new }
+        (watched_failed writer.new) (outbox.old ++ flat_map ended (listing (by_bytes pairs))) outbox.new }
 {
     let mut count = 0;
     for (key, value) in walk {

@@ -1,3 +1,4 @@
+pub mod Content
 pub mod Driven
 pub mod Spans
 pub mod Written

@@ -3,6 +3,7 @@ use Rattle.std.specs.Prelude.{◌≡◌, ℕ, List, Option}
 use Rattle.std.specs.Borrow.{LendsSo, Fml, RattleType, MutBor}
 use Rattle.blart_keys.specs.declared.AsBytes.{Ghosts}
 use Rattle.blart_keys.specs.Stored.{written_at, written_at_front, WritesAt, WritesBefore}
+use Rattle.blart_map.specs.Content.{Numbered, pairs}
 use Rattle.blart_map.specs.contracts.map.TreeMap as tree_map
 
 module _ {K V : Type 0} (key_bytes : K → List ℕ) (S : List (K × V)) (q : List ℕ) (v : V) (S' : List (K × V)) where
@@ -16,9 +17,9 @@ module _ {K V : Type 0} (key_bytes : K → List ℕ) (S : List (K × V)) (q : Li
 
 module _ (K V P : RattleType) (g : Ghosts K.Denot) where
   -- once the borrow r ends, the pair with the bytes q has the last value written through r
-  abbrev pub lends_at : MutBor (List (K.Denot × V.Denot)) → List ℕ → Option (MutBor V.Denot) → Fml
-  lends_at s q r = LendsSo (tree_map.the_row K V P g) V s r (λ n v. IsWrittenAt g.bytes s.now q v n) (λ n. n ≡ s.now)
+  abbrev pub lends_at : MutBor (List (Numbered K.Denot V.Denot)) → List ℕ → Option (MutBor V.Denot) → Fml
+  lends_at s q r = LendsSo (tree_map.the_row K V P g) V s r (λ n v. IsWrittenAt g.bytes (pairs s.now) q v (pairs n)) (λ n. n ≡ s.now)
 
   -- once the borrow r ends, the pair whose bytes begin q has the last value written through r
-  abbrev pub lends_at_front : MutBor (List (K.Denot × V.Denot)) → List ℕ → Option (MutBor V.Denot) → Fml
-  lends_at_front s q r = LendsSo (tree_map.the_row K V P g) V s r (λ n v. IsWrittenBefore g.bytes s.now q v n) (λ n. n ≡ s.now)
+  abbrev pub lends_at_front : MutBor (List (Numbered K.Denot V.Denot)) → List ℕ → Option (MutBor V.Denot) → Fml
+  lends_at_front s q r = LendsSo (tree_map.the_row K V P g) V s r (λ n v. IsWrittenBefore g.bytes (pairs s.now) q v (pairs n)) (λ n. n ≡ s.now)

@@ -2,6 +2,7 @@
 ghost use Rattle.std.specs.Prelude.{◌≡◌, ◌≢◌, [], OnErr};
 ghost use Rattle.blart_keys.specs.Bounds.{in_order, bound_bytes};
 ghost use Rattle.blart_keys.specs.Steps.{Step};
+ghost use Rattle.blart_map.specs.Content.{pairs};
 ghost use Rattle.blart_map.specs.Driven.{Driven};
 
 use crate::map::TreeMap;
@@ -43,7 +44,7 @@ pub fn drive<K: AsBytes + Drop, V: Drop, const PREFIX_LEN: usize>(
     map: &mut TreeMap<K, V, PREFIX_LEN>,
     calls: Vec<Call<K, V>>,
 ) -> Result<Vec<Reply<K, V>>, AllocError>
-    ensures replies { Driven K.bytes map.old calls.items result map.new }
+    ensures replies { Driven K.bytes (pairs map.old) calls.items result (pairs map.new) }
     ensures refused { OnErr result (calls.items ≢ []) }
 {
     let mut replies = Vec::with_capacity(*calls.allocator(), calls.len())?;
@@ -55,11 +56,12 @@ pub fn drive<K: AsBytes + Drop, V: Drop, const PREFIX_LEN: usize>(
 }
 
 // Makes one call.
+#[tactic(auto, unfolding(crate::specs::Content::pairs))]
 fn answer<K: AsBytes + Drop, V: Drop, const PREFIX_LEN: usize>(
     map: &mut TreeMap<K, V, PREFIX_LEN>,
     call: Call<K, V>,
 ) -> Reply<K, V>
-    ensures { Step K.bytes map.old call result map.new }
+    ensures { Step K.bytes (pairs map.old) call result (pairs map.new) }
 {
     match call {
         Call::TryInsert(key, value) => Reply::TryInsert(map.try_insert(key, value)),

@@ -4,6 +4,7 @@ ghost use Rattle.blart_keys.specs.Content.{at, without};
 ghost use Rattle.blart_keys.specs.Steps.{bytes};
 ghost use Rattle.blart_keys.specs.Stored.{pair_at, value_at, Updates, TakesPair, HasNothing};
 ghost use Rattle.blart_keys.specs.Walks.{TakesFirst, TakesLast};
+ghost use Rattle.blart_map.specs.Content.{pairs};
 
 use crate::map::TreeMap;
 use art_tree::Visits;
@@ -12,12 +13,15 @@ use blart_keys::AsBytes;
 impl<K: AsBytes + Drop, V: Drop, const PREFIX_LEN: usize> TreeMap<K, V, PREFIX_LEN> {
     /// Removes the pair with the query's bytes, and gives it. Takes no memory.
     pub fn remove_entry<Q: AsBytes>(&mut self, query: &Q) -> Option<(K, V)>
-        ensures stored { result ≡ pair_at K.bytes self.old (Q.bytes query.now) }
-        ensures updates { Updates K.bytes self.old self.new (Q.bytes query.now) None }
-        ensures len { length self.new + (if is_some result then 1 else 0) ≡ length self.old }
+        ensures stored { result ≡ pair_at K.bytes (pairs self.old) (Q.bytes query.now) }
+        ensures updates { Updates K.bytes (pairs self.old) (pairs self.new)
+            (Q.bytes query.now) None }
+        ensures len { length (pairs self.new) + (if is_some result then 1 else 0)
+            ≡ length (pairs self.old) }
         ensures found { IfSome result (λ pair. K.bytes pair.0 ≡ Q.bytes query.now) }
-        ensures removed { result ≡ at (bytes K.bytes) self.old (Q.bytes query.now) }
-        ensures rest { self.new ≡ without (bytes K.bytes) self.old (Q.bytes query.now) }
+        ensures removed { result ≡ at (bytes K.bytes) (pairs self.old) (Q.bytes query.now) }
+        ensures rest { pairs self.new
+            ≡ without (bytes K.bytes) (pairs self.old) (Q.bytes query.now) }
     {
         self.tree.law();
         let id = self.tree.search(query.as_bytes(), &mut Visits::new())?;
@@ -32,12 +36,16 @@ impl<K: AsBytes + Drop, V: Drop, const PREFIX_LEN: usize> TreeMap<K, V, PREFIX_L
     /// assert_eq!(map.remove(&"cat"), None);
     /// ```
     pub fn remove<Q: AsBytes>(&mut self, query: &Q) -> Option<V>
-        ensures stored { result ≡ value_at K.bytes self.old (Q.bytes query.now) }
-        ensures updates { Updates K.bytes self.old self.new (Q.bytes query.now) None }
-        ensures len { length self.new + (if is_some result then 1 else 0) ≡ length self.old }
+        ensures stored { result ≡ value_at K.bytes (pairs self.old) (Q.bytes query.now) }
+        ensures updates { Updates K.bytes (pairs self.old) (pairs self.new)
+            (Q.bytes query.now) None }
+        ensures len { length (pairs self.new) + (if is_some result then 1 else 0)
+            ≡ length (pairs self.old) }
         ensures removed { result
-            ≡ option_map (λ pair. pair.1) (at (bytes K.bytes) self.old (Q.bytes query.now)) }
-        ensures rest { self.new ≡ without (bytes K.bytes) self.old (Q.bytes query.now) }
+            ≡ option_map (λ pair. pair.1)
+            (at (bytes K.bytes) (pairs self.old) (Q.bytes query.now)) }
+        ensures rest { pairs self.new
+            ≡ without (bytes K.bytes) (pairs self.old) (Q.bytes query.now) }
     {
         match self.remove_entry(query) {
             Some(pair) => Some(pair.1),
@@ -46,10 +54,13 @@ impl<K: AsBytes + Drop, V: Drop, const PREFIX_LEN: usize> TreeMap<K, V, PREFIX_L
     }
 
     /// Removes the pair whose key's bytes are least, and gives it. Takes no memory.
+    #[tactic(auto, unfolding(crate::specs::Content::pairs))]
     pub fn pop_first(&mut self) -> Option<(K, V)>
-        ensures taken { IfSome result (λ pair. TakesPair K.bytes self.old pair self.new) }
-        ensures len { length self.new + (if is_some result then 1 else 0) ≡ length self.old }
-        ensures first { TakesFirst self.old result self.new }
+        ensures taken { IfSome result
+            (λ pair. TakesPair K.bytes (pairs self.old) pair (pairs self.new)) }
+        ensures len { length (pairs self.new) + (if is_some result then 1 else 0)
+            ≡ length (pairs self.old) }
+        ensures first { TakesFirst (pairs self.old) result (pairs self.new) }
     {
         self.tree.law();
         let id = self.tree.first()?;
@@ -57,10 +68,13 @@ impl<K: AsBytes + Drop, V: Drop, const PREFIX_LEN: usize> TreeMap<K, V, PREFIX_L
     }
 
     /// Removes the pair whose key's bytes are greatest, and gives it. Takes no memory.
+    #[tactic(auto, unfolding(crate::specs::Content::pairs))]
     pub fn pop_last(&mut self) -> Option<(K, V)>
-        ensures taken { IfSome result (λ pair. TakesPair K.bytes self.old pair self.new) }
-        ensures len { length self.new + (if is_some result then 1 else 0) ≡ length self.old }
-        ensures last { TakesLast self.old result self.new }
+        ensures taken { IfSome result
+            (λ pair. TakesPair K.bytes (pairs self.old) pair (pairs self.new)) }
+        ensures len { length (pairs self.new) + (if is_some result then 1 else 0)
+            ≡ length (pairs self.old) }
+        ensures last { TakesLast (pairs self.old) result (pairs self.new) }
     {
         self.tree.law();
         let id = self.tree.last()?;
@@ -68,9 +82,10 @@ impl<K: AsBytes + Drop, V: Drop, const PREFIX_LEN: usize> TreeMap<K, V, PREFIX_L
     }
 
     /// Drops every pair. Takes no memory.
+    #[tactic(auto, unfolding(crate::specs::Content::pairs))]
     pub fn clear(&mut self)
-        ensures empty { self.new ≡ [] }
-        ensures nothing { HasNothing K.bytes self.new }
+        ensures empty { pairs self.new ≡ [] }
+        ensures nothing { HasNothing K.bytes (pairs self.new) }
     {
         self.tree.clear();
     }

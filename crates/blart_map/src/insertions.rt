@@ -5,6 +5,7 @@ ghost use Rattle.blart_keys.specs.Steps.{Puts, Inserts};
 ghost use Rattle.blart_keys.specs.Stored.{pair_at, pair_before, value_at, has, overlaps, Updates, Refuses};
 ghost use Rattle.art_tree.specs.Points.{IsGood};
 ghost use Rattle.art_walk.specs.Pairs.{pairs_of};
+ghost use Rattle.blart_map.specs.Content.{pairs};
 
 use crate::map::TreeMap;
 use art_tree::{Point, Tree, Visits};
@@ -23,18 +24,21 @@ impl<K: AsBytes + Drop, V: Drop, const PREFIX_LEN: usize> TreeMap<K, V, PREFIX_L
     /// assert_eq!(map.get(&"cat"), Some(&2));
     /// ```
     pub fn try_insert(&mut self, key: K, value: V) -> Result<Option<V>, TryInsertError>
-        ensures old { IfOk result (λ old. old ≡ value_at K.bytes self.old (K.bytes key)) }
+        ensures old { IfOk result
+            (λ old. old ≡ value_at K.bytes (pairs self.old) (K.bytes key)) }
         ensures updates { OnOk result
-            (Updates K.bytes self.old self.new (K.bytes key) (Some (key, value))) }
+            (Updates K.bytes (pairs self.old) (pairs self.new) (K.bytes key)
+            (Some (key, value))) }
         ensures len { IfOk result
-            (λ old. length self.new ≡ length self.old + (if is_some old then 0 else 1)) }
+            (λ old. length (pairs self.new)
+            ≡ length (pairs self.old) + (if is_some old then 0 else 1)) }
         ensures fronts { OnOk result ((r : List ℕ) → begins (K.bytes key) r ≡ true
-            → pair_before K.bytes self.new r ≡ Some (key, value)) }
+            → pair_before K.bytes (pairs self.new) r ≡ Some (key, value)) }
         ensures err { OnErr result (self.new ≡ self.old) }
-        ensures free { OnOk result (overlaps K.bytes self.old (K.bytes key) ≡ false) }
-        ensures why { IfErr result (Refuses K.bytes self.old (K.bytes key)) }
+        ensures free { OnOk result (overlaps K.bytes (pairs self.old) (K.bytes key) ≡ false) }
+        ensures why { IfErr result (Refuses K.bytes (pairs self.old) (K.bytes key)) }
         ensures put { Puts K.bytes (option_map (λ pair. pair.1))
-            self.old (key, value) result self.new }
+            (pairs self.old) (key, value) result (pairs self.new) }
     {
         match self.replace_entry(key, value) {
             Ok(Some(old)) => Ok(Some(old.1)),
@@ -44,18 +48,22 @@ impl<K: AsBytes + Drop, V: Drop, const PREFIX_LEN: usize> TreeMap<K, V, PREFIX_L
     }
 
     /// Puts the pair in the place of one with the same bytes, which is the answer, or adds it. Errors are as those of [`TreeMap::try_insert`].
+    #[tactic(auto, unfolding(crate::specs::Content::pairs))]
     pub fn replace_entry(&mut self, key: K, value: V) -> Result<Option<(K, V)>, TryInsertError>
-        ensures old { IfOk result (λ old. old ≡ pair_at K.bytes self.old (K.bytes key)) }
+        ensures old { IfOk result (λ old. old ≡ pair_at K.bytes (pairs self.old) (K.bytes key)) }
         ensures updates { OnOk result
-            (Updates K.bytes self.old self.new (K.bytes key) (Some (key, value))) }
+            (Updates K.bytes (pairs self.old) (pairs self.new) (K.bytes key)
+            (Some (key, value))) }
         ensures len { IfOk result
-            (λ old. length self.new ≡ length self.old + (if is_some old then 0 else 1)) }
+            (λ old. length (pairs self.new)
+            ≡ length (pairs self.old) + (if is_some old then 0 else 1)) }
         ensures fronts { OnOk result ((r : List ℕ) → begins (K.bytes key) r ≡ true
-            → pair_before K.bytes self.new r ≡ Some (key, value)) }
+            → pair_before K.bytes (pairs self.new) r ≡ Some (key, value)) }
         ensures err { OnErr result (self.new ≡ self.old) }
-        ensures free { OnOk result (overlaps K.bytes self.old (K.bytes key) ≡ false) }
-        ensures why { IfErr result (Refuses K.bytes self.old (K.bytes key)) }
-        ensures put { Puts K.bytes (λ pair. pair) self.old (key, value) result self.new }
+        ensures free { OnOk result (overlaps K.bytes (pairs self.old) (K.bytes key) ≡ false) }
+        ensures why { IfErr result (Refuses K.bytes (pairs self.old) (K.bytes key)) }
+        ensures put { Puts K.bytes (λ pair. pair) (pairs self.old) (key, value) result
+            (pairs self.new) }
     {
         self.law();
         let point = self.tree.point(key.as_bytes());
@@ -72,17 +80,21 @@ impl<K: NoPrefixesBytes + Drop, V: Drop, const PREFIX_LEN: usize> TreeMap<K, V, 
     /// assert_eq!(map.insert(U32Key::new(258), 'a')?, None);
     /// assert_eq!(map.insert(U32Key::new(258), 'b')?, Some('a'));
     /// ```
+    #[tactic(auto, unfolding(crate::specs::Content::pairs))]
     pub fn insert(&mut self, key: K, value: V) -> Result<Option<V>, AllocError>
-        ensures old { IfOk result (λ old. old ≡ value_at K.bytes self.old (K.bytes key)) }
+        ensures old { IfOk result
+            (λ old. old ≡ value_at K.bytes (pairs self.old) (K.bytes key)) }
         ensures updates { OnOk result
-            (Updates K.bytes self.old self.new (K.bytes key) (Some (key, value))) }
+            (Updates K.bytes (pairs self.old) (pairs self.new) (K.bytes key)
+            (Some (key, value))) }
         ensures len { IfOk result
-            (λ old. length self.new ≡ length self.old + (if is_some old then 0 else 1)) }
+            (λ old. length (pairs self.new)
+            ≡ length (pairs self.old) + (if is_some old then 0 else 1)) }
         ensures fronts { OnOk result ((r : List ℕ) → begins (K.bytes key) r ≡ true
-            → pair_before K.bytes self.new r ≡ Some (key, value)) }
+            → pair_before K.bytes (pairs self.new) r ≡ Some (key, value)) }
         ensures err { OnErr result (self.new ≡ self.old) }
-        ensures absent { OnErr result (has K.bytes self.old (K.bytes key) ≡ false) }
-        ensures put { Inserts K.bytes self.old (key, value) result self.new }
+        ensures absent { OnErr result (has K.bytes (pairs self.old) (K.bytes key) ≡ false) }
+        ensures put { Inserts K.bytes (pairs self.old) (key, value) result (pairs self.new) }
     {
         self.law();
         put_lawful(&mut self.tree, key, value)
@@ -95,7 +107,9 @@ fn put_lawful<K: NoPrefixesBytes + Drop, V: Drop, const P: usize>(
     key: K,
     value: V,
 ) -> Result<Option<V>, AllocError>
-    ensures { Inserts K.bytes (pairs_of tree.old.pairs) (key, value) result (pairs_of tree.new.pairs) }
+    ensures put { Inserts K.bytes (pairs_of tree.old.pairs) (key, value) result
+        (pairs_of tree.new.pairs) }
+    ensures err { OnErr result (tree.new.pairs ≡ tree.old.pairs) }
 {
     tree.law();
     match tree.point(key.as_bytes()) {
@@ -122,7 +136,9 @@ fn put_at<K: AsBytes + Drop, V: Drop, const P: usize>(
     value: V,
 ) -> Result<Option<(K, V)>, TryInsertError>
     requires { IsGood K.bytes tree.old.pairs point (K.bytes key) }
-    ensures { Puts K.bytes (λ pair. pair) (pairs_of tree.old.pairs) (key, value) result (pairs_of tree.new.pairs) }
+    ensures put { Puts K.bytes (λ pair. pair) (pairs_of tree.old.pairs) (key, value) result
+        (pairs_of tree.new.pairs) }
+    ensures err { OnErr result (tree.new.pairs ≡ tree.old.pairs) }
 {
     tree.law();
     match point {

@@ -1,6 +1,7 @@
 //! Walks that take the map.
 ghost use Rattle.std.specs.Prelude.{◌≡◌, map};
 ghost use Rattle.blart_keys.specs.Stored.{CanCount};
+ghost use Rattle.blart_map.specs.Content.{pairs};
 
 use crate::map::TreeMap;
 use art_walk::{IntoIter, IntoKeys, IntoValues};
@@ -10,7 +11,7 @@ use std::iter::IntoIterator;
 impl<K: AsBytes + Drop, V: Drop, const PREFIX_LEN: usize> TreeMap<K, V, PREFIX_LEN> {
     /// The keys by value, ascending by their bytes, from both ends. Takes no memory. What was not taken is freed where the walk is dropped.
     pub fn into_keys(self) -> IntoKeys<K, V, PREFIX_LEN>
-        ensures value { result ≡ map (λ pair. pair.0) self }
+        ensures value { result ≡ map (λ pair. pair.0) (pairs self) }
         ensures fits { CanCount result }
     {
         self.law();
@@ -19,7 +20,7 @@ impl<K: AsBytes + Drop, V: Drop, const PREFIX_LEN: usize> TreeMap<K, V, PREFIX_L
 
     /// The values by value, in the order of their keys' bytes, from both ends. Takes no memory. What was not taken is freed where the walk is dropped.
     pub fn into_values(self) -> IntoValues<K, V, PREFIX_LEN>
-        ensures value { result ≡ map (λ pair. pair.1) self }
+        ensures value { result ≡ map (λ pair. pair.1) (pairs self) }
         ensures fits { CanCount result }
     {
         self.law();
@@ -33,7 +34,7 @@ impl<K: AsBytes + Drop, V: Drop, const PREFIX_LEN: usize> IntoIterator
 
     type IntoIter = IntoIter<K, V, PREFIX_LEN>;
 
-    ghost into_iter_gives = { λ map items. items ≡ map };
+    ghost into_iter_gives = { λ map items. items ≡ pairs map };
 
     /// The pairs by value, ascending by their keys' bytes, from both ends. Takes no memory. What was not taken is freed where the walk is dropped.
     ///
@@ -44,6 +45,7 @@ impl<K: AsBytes + Drop, V: Drop, const PREFIX_LEN: usize> IntoIterator
     /// assert_eq!(pairs.next_back(), Some(("dog", 2)));
     /// assert_eq!(pairs.len(), 1);
     /// ```
+    #[tactic(auto, unfolding(crate::specs::Content::pairs))]
     fn into_iter(self) -> IntoIter<K, V, PREFIX_LEN> {
         IntoIter::new(self.tree)
     }

@@ -6,6 +6,7 @@ ghost use Rattle.blart_keys.specs.Steps.{bytes};
 ghost use Rattle.blart_keys.specs.Content.{at, conflict, front_of, stores, IsContent};
 ghost use Rattle.blart_keys.specs.Stored.{pair_at, pair_before, value_at, value_before, has, overlaps, shown, CanCount, HasNothing};
 ghost use Rattle.blart_keys.specs.Fronts.{fronts};
+ghost use Rattle.blart_map.specs.Content.{pairs};
 
 use art_tree::{DEFAULT_PREFIX_LEN, Point, Tree, Visits};
 use blart_keys::AsBytes;
@@ -33,18 +34,18 @@ pub struct TreeMap<K: AsBytes, V, const PREFIX_LEN: usize> {
 
 impl<K: AsBytes, V, const PREFIX_LEN: usize> Model for TreeMap<K, V, PREFIX_LEN> {
     ghost use Rattle.std.specs.Prelude.{List};
-    ghost use Rattle.art_walk.specs.Pairs.{pairs_of};
+    ghost use Rattle.art_tree.specs.Leaves.{Numbered};
 
-    ghost Value = { List (K × V) };
+    ghost Value = { List (Numbered K V) };
 
-    ghost view = { λ m. pairs_of m.tree.pairs };
+    ghost view = { λ m. m.tree.pairs };
 }
 
 impl<K: AsBytes + Drop, V: Drop> TreeMap<K, V, DEFAULT_PREFIX_LEN> {
     /// A map with no pairs, of which an inner node keeps 16 bytes of its compressed prefix. Takes no memory.
     pub fn new(alloc: Global) -> Self
-        ensures empty { result ≡ [] }
-        ensures nothing { HasNothing K.bytes result }
+        ensures empty { pairs result ≡ [] }
+        ensures nothing { HasNothing K.bytes (pairs result) }
     {
         Self::with_prefix_len(alloc)
     }
@@ -52,9 +53,10 @@ impl<K: AsBytes + Drop, V: Drop> TreeMap<K, V, DEFAULT_PREFIX_LEN> {
 
 impl<K: AsBytes + Drop, V: Drop, const PREFIX_LEN: usize> TreeMap<K, V, PREFIX_LEN> {
     /// A map with no pairs. Takes no memory.
+    #[tactic(auto, unfolding(crate::specs::Content::pairs))]
     pub fn with_prefix_len(alloc: Global) -> Self
-        ensures empty { result ≡ [] }
-        ensures nothing { HasNothing K.bytes result }
+        ensures empty { pairs result ≡ [] }
+        ensures nothing { HasNothing K.bytes (pairs result) }
     {
         TreeMap {
             tree: Tree::new(alloc),
@@ -63,23 +65,25 @@ impl<K: AsBytes + Drop, V: Drop, const PREFIX_LEN: usize> TreeMap<K, V, PREFIX_L
 
     /// Answers nothing. Its contract says what holds of every map: the pairs ascend by their keys' bytes, none of which begins another's, and a count of them fits.
     pub fn law(&self)
-        ensures content { IsContent (bytes K.bytes) self.now }
-        ensures fits { CanCount self.now }
+        ensures content { IsContent (bytes K.bytes) (pairs self.now) }
+        ensures fits { CanCount (pairs self.now) }
     {
         self.tree.law();
         let _fits = self.len();
     }
 
     /// How many pairs there are.
+    #[tactic(auto, unfolding(crate::specs::Content::pairs))]
     pub fn len(&self) -> usize
-        ensures { result ≡ length self.now }
+        ensures { result ≡ length (pairs self.now) }
     {
         self.tree.len()
     }
 
     /// Whether there are no pairs.
+    #[tactic(auto, unfolding(crate::specs::Content::pairs))]
     pub fn is_empty(&self) -> bool
-        ensures { result ≡ (length self.now == 0) }
+        ensures { result ≡ (length (pairs self.now) == 0) }
     {
         self.tree.is_empty()
     }
@@ -90,12 +94,12 @@ impl<K: AsBytes + Drop, V: Drop, const PREFIX_LEN: usize> TreeMap<K, V, PREFIX_L
         query: &Q,
         visits: &mut Visits,
     ) -> Option<(&K, &V)>
-        ensures value { shown result ≡ at (bytes K.bytes) self.now (Q.bytes query.now) }
-        ensures pair { shown result ≡ pair_at K.bytes self.now (Q.bytes query.now) }
+        ensures value { shown result ≡ at (bytes K.bytes) (pairs self.now) (Q.bytes query.now) }
+        ensures pair { shown result ≡ pair_at K.bytes (pairs self.now) (Q.bytes query.now) }
         ensures found { IfSome result (λ pair. K.bytes pair.0.now ≡ Q.bytes query.now) }
         ensures counted { visits.new.count ≤ visits.old.count + length (Q.bytes query.now) + 1 }
         ensures grows { visits.old.count ≤ visits.new.count }
-        ensures empty { self.now ≡ [] → visits.new.count ≡ visits.old.count }
+        ensures empty { pairs self.now ≡ [] → visits.new.count ≡ visits.old.count }
     {
         match self.tree.get(query.as_bytes(), visits) {
             Some(found) => Some((found.1, found.2)),
@@ -105,8 +109,8 @@ impl<K: AsBytes + Drop, V: Drop, const PREFIX_LEN: usize> TreeMap<K, V, PREFIX_L
 
     /// The pair with the query's bytes.
     pub fn get_key_value<Q: AsBytes>(&self, query: &Q) -> Option<(&K, &V)>
-        ensures value { shown result ≡ at (bytes K.bytes) self.now (Q.bytes query.now) }
-        ensures pair { shown result ≡ pair_at K.bytes self.now (Q.bytes query.now) }
+        ensures value { shown result ≡ at (bytes K.bytes) (pairs self.now) (Q.bytes query.now) }
+        ensures pair { shown result ≡ pair_at K.bytes (pairs self.now) (Q.bytes query.now) }
         ensures found { IfSome result (λ pair. K.bytes pair.0.now ≡ Q.bytes query.now) }
     {
         self.get_key_value_counted(query, &mut Visits::new())
@@ -122,8 +126,10 @@ impl<K: AsBytes + Drop, V: Drop, const PREFIX_LEN: usize> TreeMap<K, V, PREFIX_L
     /// ```
     pub fn get<Q: AsBytes>(&self, query: &Q) -> Option<&V>
         ensures value { option_copied result
-            ≡ option_map (λ pair. pair.1) (at (bytes K.bytes) self.now (Q.bytes query.now)) }
-        ensures stored { option_copied result ≡ value_at K.bytes self.now (Q.bytes query.now) }
+            ≡ option_map (λ pair. pair.1)
+            (at (bytes K.bytes) (pairs self.now) (Q.bytes query.now)) }
+        ensures stored { option_copied result
+            ≡ value_at K.bytes (pairs self.now) (Q.bytes query.now) }
     {
         match self.get_key_value(query) {
             Some(pair) => Some(pair.1),
@@ -133,8 +139,8 @@ impl<K: AsBytes + Drop, V: Drop, const PREFIX_LEN: usize> TreeMap<K, V, PREFIX_L
 
     /// Whether some key has the query's bytes.
     pub fn contains_key<Q: AsBytes>(&self, query: &Q) -> bool
-        ensures value { result ≡ stores (bytes K.bytes) self.now (Q.bytes query.now) }
-        ensures stored { result ≡ has K.bytes self.now (Q.bytes query.now) }
+        ensures value { result ≡ stores (bytes K.bytes) (pairs self.now) (Q.bytes query.now) }
+        ensures stored { result ≡ has K.bytes (pairs self.now) (Q.bytes query.now) }
     {
         self.get_key_value(query).is_some()
     }
@@ -145,13 +151,14 @@ impl<K: AsBytes + Drop, V: Drop, const PREFIX_LEN: usize> TreeMap<K, V, PREFIX_L
         query: &Q,
         visits: &mut Visits,
     ) -> Option<(&K, &V)>
-        ensures value { shown result ≡ front_of (bytes K.bytes) self.now (Q.bytes query.now) }
-        ensures pair { shown result ≡ pair_before K.bytes self.now (Q.bytes query.now) }
+        ensures value { shown result
+            ≡ front_of (bytes K.bytes) (pairs self.now) (Q.bytes query.now) }
+        ensures pair { shown result ≡ pair_before K.bytes (pairs self.now) (Q.bytes query.now) }
         ensures found { IfSome result
             (λ pair. begins (K.bytes pair.0.now) (Q.bytes query.now) ≡ true) }
         ensures counted { visits.new.count ≤ visits.old.count + length (Q.bytes query.now) + 1 }
         ensures grows { visits.old.count ≤ visits.new.count }
-        ensures empty { self.now ≡ [] → visits.new.count ≡ visits.old.count }
+        ensures empty { pairs self.now ≡ [] → visits.new.count ≡ visits.old.count }
     {
         match self.tree.get_front(query.as_bytes(), visits) {
             Some(found) => Some((found.1, found.2)),
@@ -161,8 +168,9 @@ impl<K: AsBytes + Drop, V: Drop, const PREFIX_LEN: usize> TreeMap<K, V, PREFIX_L
 
     /// The pair whose key's bytes begin the query's.
     pub fn prefix_get_key_value<Q: AsBytes>(&self, query: &Q) -> Option<(&K, &V)>
-        ensures value { shown result ≡ front_of (bytes K.bytes) self.now (Q.bytes query.now) }
-        ensures pair { shown result ≡ pair_before K.bytes self.now (Q.bytes query.now) }
+        ensures value { shown result
+            ≡ front_of (bytes K.bytes) (pairs self.now) (Q.bytes query.now) }
+        ensures pair { shown result ≡ pair_before K.bytes (pairs self.now) (Q.bytes query.now) }
         ensures found { IfSome result
             (λ pair. begins (K.bytes pair.0.now) (Q.bytes query.now) ≡ true) }
     {
@@ -178,8 +186,10 @@ impl<K: AsBytes + Drop, V: Drop, const PREFIX_LEN: usize> TreeMap<K, V, PREFIX_L
     /// ```
     pub fn prefix_get<Q: AsBytes>(&self, query: &Q) -> Option<&V>
         ensures value { option_copied result
-            ≡ option_map (λ pair. pair.1) (front_of (bytes K.bytes) self.now (Q.bytes query.now)) }
-        ensures stored { option_copied result ≡ value_before K.bytes self.now (Q.bytes query.now) }
+            ≡ option_map (λ pair. pair.1)
+            (front_of (bytes K.bytes) (pairs self.now) (Q.bytes query.now)) }
+        ensures stored { option_copied result
+            ≡ value_before K.bytes (pairs self.now) (Q.bytes query.now) }
     {
         match self.prefix_get_key_value(query) {
             Some(pair) => Some(pair.1),
@@ -188,10 +198,11 @@ impl<K: AsBytes + Drop, V: Drop, const PREFIX_LEN: usize> TreeMap<K, V, PREFIX_L
     }
 
     /// The pair whose key's bytes are least.
+    #[tactic(auto, unfolding(crate::specs::Content::pairs))]
     pub fn first_key_value(&self) -> Option<(&K, &V)>
-        ensures value { shown result ≡ slice_get self.now 0 }
+        ensures value { shown result ≡ slice_get (pairs self.now) 0 }
         ensures stored { IfSome (shown result)
-            (λ pair. pair_at K.bytes self.now (K.bytes pair.0) ≡ Some pair) }
+            (λ pair. pair_at K.bytes (pairs self.now) (K.bytes pair.0) ≡ Some pair) }
     {
         self.tree.law();
         let id = self.tree.first()?;
@@ -199,10 +210,12 @@ impl<K: AsBytes + Drop, V: Drop, const PREFIX_LEN: usize> TreeMap<K, V, PREFIX_L
     }
 
     /// The pair whose key's bytes are greatest.
+    #[tactic(auto, unfolding(crate::specs::Content::pairs))]
     pub fn last_key_value(&self) -> Option<(&K, &V)>
-        ensures value { shown result ≡ slice_get self.now (length self.now - 1) }
+        ensures value { shown result
+            ≡ slice_get (pairs self.now) (length (pairs self.now) - 1) }
         ensures stored { IfSome (shown result)
-            (λ pair. pair_at K.bytes self.now (K.bytes pair.0) ≡ Some pair) }
+            (λ pair. pair_at K.bytes (pairs self.now) (K.bytes pair.0) ≡ Some pair) }
     {
         self.tree.law();
         let id = self.tree.last()?;
@@ -218,17 +231,18 @@ impl<K: AsBytes + Drop, V: Drop, const PREFIX_LEN: usize> TreeMap<K, V, PREFIX_L
     /// assert!(!map.conflicts(&"/api/"));
     /// ```
     pub fn conflicts<Q: AsBytes>(&self, query: &Q) -> bool
-        ensures value { result ≡ conflict (bytes K.bytes) self.now (Q.bytes query.now) }
-        ensures stored { result ≡ overlaps K.bytes self.now (Q.bytes query.now) }
+        ensures value { result ≡ conflict (bytes K.bytes) (pairs self.now) (Q.bytes query.now) }
+        ensures stored { result ≡ overlaps K.bytes (pairs self.now) (Q.bytes query.now) }
     {
         self.tree.law();
         matches!(self.tree.point(query.as_bytes()), Point::Related { .. })
     }
 
     /// How many inner nodes stand: one at each front where neighbouring keys part. So there are fewer than pairs, and none where there is no pair or one.
+    #[tactic(auto, unfolding(crate::specs::Content::pairs))]
     pub fn inner_nodes(&self) -> usize
-        ensures value { result ≡ set.len (fronts (bytes K.bytes) self.now) }
-        ensures fewer { result ≤ length self.now - 1 }
+        ensures value { result ≡ set.len (fronts (bytes K.bytes) (pairs self.now)) }
+        ensures fewer { result ≤ length (pairs self.now) - 1 }
     {
         self.tree.inner_nodes()
     }

@@ -5,6 +5,7 @@ ghost use Rattle.blart_keys.specs.Content.{IsOver};
 ghost use Rattle.blart_keys.specs.Steps.{bytes, PutsOver};
 ghost use Rattle.blart_keys.specs.Stored.{pair_before, has, overlaps, Overwrites};
 ghost use Rattle.art_walk.specs.Pairs.{pairs_of};
+ghost use Rattle.blart_map.specs.Content.{pairs};
 ghost use Rattle.blart_map.specs.Spans.{Spans, LeavesOne};
 
 use crate::map::TreeMap;
@@ -24,14 +25,16 @@ impl<K: AsBytes + Drop, V: Drop, const PREFIX_LEN: usize> TreeMap<K, V, PREFIX_L
     /// assert_eq!(map.len(), 1);
     /// assert_eq!(map.prefix_get(&"cat"), Some(&3));
     /// ```
+    #[tactic(auto, unfolding(crate::specs::Content::pairs))]
     pub fn prefix_insert(&mut self, key: K, value: V) -> Result<(), AllocError>
-        ensures over { OnOk result (Overwrites K.bytes self.old (key, value) self.new) }
+        ensures over { OnOk result
+            (Overwrites K.bytes (pairs self.old) (key, value) (pairs self.new)) }
         ensures fronts { OnOk result ((r : List ℕ) → begins (K.bytes key) r ≡ true
-            → pair_before K.bytes self.new r ≡ Some (key, value)) }
+            → pair_before K.bytes (pairs self.new) r ≡ Some (key, value)) }
         ensures err { OnErr result (self.new ≡ self.old) }
-        ensures free { OnErr result (overlaps K.bytes self.old (K.bytes key) ≡ false) }
-        ensures absent { OnErr result (has K.bytes self.old (K.bytes key) ≡ false) }
-        ensures put { PutsOver K.bytes self.old (key, value) result self.new }
+        ensures free { OnErr result (overlaps K.bytes (pairs self.old) (K.bytes key) ≡ false) }
+        ensures absent { OnErr result (has K.bytes (pairs self.old) (K.bytes key) ≡ false) }
+        ensures put { PutsOver K.bytes (pairs self.old) (key, value) result (pairs self.new) }
     {
         self.tree.law();
         match self.tree.point(key.as_bytes()) {
@@ -61,7 +64,8 @@ fn put_over<K: AsBytes + Drop, V: Drop, const P: usize>(
     value: V,
 )
     requires { Spans K.bytes tree.old.pairs (K.bytes key) first last }
-    ensures { IsOver (bytes K.bytes) (pairs_of tree.old.pairs) (key, value) (pairs_of tree.new.pairs) }
+    ensures { IsOver (bytes K.bytes) (pairs_of tree.old.pairs) (key, value)
+        (pairs_of tree.new.pairs) }
 {
     tree.law();
     leave_one(tree, first, last, key.as_bytes());

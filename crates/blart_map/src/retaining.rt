@@ -1,5 +1,6 @@
 //! The pairs that a closure keeps.
 ghost use Rattle.blart_keys.specs.Walks.{Retains, AsksPair};
+ghost use Rattle.blart_map.specs.Content.{pairs};
 
 use crate::map::TreeMap;
 use blart_keys::AsBytes;
@@ -17,9 +18,10 @@ impl<K: AsBytes + Drop, V: Drop, const PREFIX_LEN: usize> TreeMap<K, V, PREFIX_L
     /// assert_eq!(map.get(&"cat"), None);
     /// assert_eq!(map.get(&"dog"), Some(&3));
     /// ```
+    #[tactic(auto, unfolding(crate::specs::Content::pairs))]
     pub fn retain<F: FnMut(&K, &mut V) -> bool + Drop>(&mut self, f: F)
         requires { F.IsAlwaysCallable f }
-        ensures { Retains (AsksPair F.FnMut) self.old f self.new }
+        ensures { Retains (AsksPair F.FnMut) (pairs self.old) f (pairs self.new) }
     {
         art_walk::retain(&mut self.tree, f)
     }

@@ -6,6 +6,7 @@ ghost use Rattle.blart_keys.specs.Steps.{bytes};
 ghost use Rattle.blart_keys.specs.Stored.{CanCount};
 ghost use Rattle.art_tree.specs.Longest.{longest};
 ghost use Rattle.art_walk.specs.Openings.{longer, opening};
+ghost use Rattle.blart_map.specs.Content.{pairs};
 
 use crate::map::TreeMap;
 use art_tree::Visits;
@@ -16,8 +17,9 @@ use std::ops::Bound;
 
 impl<K: AsBytes + Drop, V: Drop, const PREFIX_LEN: usize> TreeMap<K, V, PREFIX_LEN> {
     /// The pairs, ascending by their keys' bytes, from both ends. Takes no memory; each step is one visit.
+    #[tactic(auto, unfolding(crate::specs::Content::pairs))]
     pub fn iter(&self) -> Iter<'_, K, V, PREFIX_LEN>
-        ensures value { result ≡ self.now }
+        ensures value { result ≡ pairs self.now }
         ensures fits { CanCount result }
     {
         self.law();
@@ -25,8 +27,9 @@ impl<K: AsBytes + Drop, V: Drop, const PREFIX_LEN: usize> TreeMap<K, V, PREFIX_L
     }
 
     /// The keys, ascending by their bytes, from both ends. Takes no memory; each step is one visit.
+    #[tactic(auto, unfolding(crate::specs::Content::pairs))]
     pub fn keys(&self) -> Keys<'_, K, V, PREFIX_LEN>
-        ensures value { result ≡ map (λ pair. pair.0) self.now }
+        ensures value { result ≡ map (λ pair. pair.0) (pairs self.now) }
         ensures fits { CanCount result }
     {
         self.law();
@@ -34,8 +37,9 @@ impl<K: AsBytes + Drop, V: Drop, const PREFIX_LEN: usize> TreeMap<K, V, PREFIX_L
     }
 
     /// The values, in the order of their keys' bytes, from both ends. Takes no memory; each step is one visit.
+    #[tactic(auto, unfolding(crate::specs::Content::pairs))]
     pub fn values(&self) -> Values<'_, K, V, PREFIX_LEN>
-        ensures value { result ≡ map (λ pair. pair.1) self.now }
+        ensures value { result ≡ map (λ pair. pair.1) (pairs self.now) }
         ensures fits { CanCount result }
     {
         self.law();
@@ -54,7 +58,7 @@ impl<K: AsBytes + Drop, V: Drop, const PREFIX_LEN: usize> TreeMap<K, V, PREFIX_L
     /// assert_eq!(cats.next(), None);
     /// ```
     pub fn prefix(&self, front: &[u8]) -> Prefix<'_, K, V, PREFIX_LEN>
-        ensures value { result ≡ under (bytes K.bytes) self.now front.now }
+        ensures value { result ≡ under (bytes K.bytes) (pairs self.now) front.now }
         ensures fits { CanCount result }
     {
         self.prefix_counted(front, &mut Visits::new())
@@ -62,12 +66,12 @@ impl<K: AsBytes + Drop, V: Drop, const PREFIX_LEN: usize> TreeMap<K, V, PREFIX_L
 
     /// As [`TreeMap::prefix`]. On n bytes it makes at most 2 * (n + 2) * (L + 2) visits, where L is the length of the longest key, and none on an empty map; each step is one more.
     pub fn prefix_counted(&self, front: &[u8], visits: &mut Visits) -> Prefix<'_, K, V, PREFIX_LEN>
-        ensures value { result ≡ under (bytes K.bytes) self.now front.now }
+        ensures value { result ≡ under (bytes K.bytes) (pairs self.now) front.now }
         ensures fits { CanCount result }
         ensures counted { visits.new.count ≤ visits.old.count
-            + opening (length front.now) (longest (bytes K.bytes) self.now) }
+            + opening (length front.now) (longest (bytes K.bytes) (pairs self.now)) }
         ensures grows { visits.old.count ≤ visits.new.count }
-        ensures empty { self.now ≡ [] → visits.new.count ≡ visits.old.count }
+        ensures empty { pairs self.now ≡ [] → visits.new.count ≡ visits.old.count }
     {
         self.law();
         Prefix::new(&self.tree, front, visits)
@@ -84,9 +88,10 @@ impl<K: AsBytes + Drop, V: Drop, const PREFIX_LEN: usize> TreeMap<K, V, PREFIX_L
     /// }
     /// ```
     pub fn range<Q: AsBytes>(&self, start: Bound<&Q>, end: Bound<&Q>) -> Range<'_, K, V, PREFIX_LEN>
-        requires { CanRange self.now (bound_bytes Q.bytes start) (bound_bytes Q.bytes end) }
+        requires { CanRange (pairs self.now) (bound_bytes Q.bytes start)
+            (bound_bytes Q.bytes end) }
         ensures value { result
-            ≡ between (bytes K.bytes) self.now
+            ≡ between (bytes K.bytes) (pairs self.now)
             (bound_bytes Q.bytes start.entry) (bound_bytes Q.bytes end.entry) }
         ensures fits { CanCount result }
     {
@@ -100,16 +105,17 @@ impl<K: AsBytes + Drop, V: Drop, const PREFIX_LEN: usize> TreeMap<K, V, PREFIX_L
         end: Bound<&Q>,
         visits: &mut Visits,
     ) -> Range<'_, K, V, PREFIX_LEN>
-        requires { CanRange self.now (bound_bytes Q.bytes start) (bound_bytes Q.bytes end) }
+        requires { CanRange (pairs self.now) (bound_bytes Q.bytes start)
+            (bound_bytes Q.bytes end) }
         ensures value { result
-            ≡ between (bytes K.bytes) self.now
+            ≡ between (bytes K.bytes) (pairs self.now)
             (bound_bytes Q.bytes start.entry) (bound_bytes Q.bytes end.entry) }
         ensures fits { CanCount result }
         ensures counted { visits.new.count ≤ visits.old.count
             + opening (longer (bound_bytes Q.bytes start.entry) (bound_bytes Q.bytes end.entry))
-            (longest (bytes K.bytes) self.now) }
+            (longest (bytes K.bytes) (pairs self.now)) }
         ensures grows { visits.old.count ≤ visits.new.count }
-        ensures empty { self.now ≡ [] → visits.new.count ≡ visits.old.count }
+        ensures empty { pairs self.now ≡ [] → visits.new.count ≡ visits.old.count }
     {
         self.law();
         Range::new(&self.tree, as_bytes(start), as_bytes(end), visits)
@@ -133,7 +139,7 @@ impl<'a, K: AsBytes + Drop, V: Drop, const PREFIX_LEN: usize> IntoIterator
 
     type IntoIter = Iter<'a, K, V, PREFIX_LEN>;
 
-    ghost into_iter_gives = { λ map items. items ≡ map.now };
+    ghost into_iter_gives = { λ map items. items ≡ pairs map.now };
 
     /// The pairs, as [`TreeMap::iter`].
     fn into_iter(self) -> Iter<'a, K, V, PREFIX_LEN> {

@@ -5,6 +5,7 @@ ghost use Rattle.std.specs.Borrow.{sem};
 ghost use Rattle.blart_keys.specs.Content.{at, front_of};
 ghost use Rattle.blart_keys.specs.Steps.{bytes};
 ghost use Rattle.blart_keys.specs.Stored.{value_at, value_before, has};
+ghost use Rattle.blart_map.specs.Content.{pairs};
 ghost use Rattle.blart_map.specs.Written.{lends_at, lends_at_front};
 
 use crate::map::TreeMap;
@@ -24,8 +25,10 @@ impl<K: AsBytes + Drop, V: Drop, const PREFIX_LEN: usize> TreeMap<K, V, PREFIX_L
         ensures* writes_back { sem 𝓛
             (lends_at K.row V.row PREFIX_LEN.row K.AsBytes self.entry (Q.bytes query.now) result) }
         ensures value { option_copied_mut result
-            ≡ option_map (λ pair. pair.1) (at (bytes K.bytes) self.old (Q.bytes query.now)) }
-        ensures stored { option_copied_mut result ≡ value_at K.bytes self.old (Q.bytes query.now) }
+            ≡ option_map (λ pair. pair.1)
+            (at (bytes K.bytes) (pairs self.old) (Q.bytes query.now)) }
+        ensures stored { option_copied_mut result
+            ≡ value_at K.bytes (pairs self.old) (Q.bytes query.now) }
     {
         self.tree.law();
         match self.tree.search(query.as_bytes(), &mut Visits::new()) {
@@ -37,11 +40,13 @@ impl<K: AsBytes + Drop, V: Drop, const PREFIX_LEN: usize> TreeMap<K, V, PREFIX_L
     /// The value of the key whose bytes begin the query's, to be written. No other value changes, and no key.
     pub fn prefix_get_mut<Q: AsBytes>(&mut self, query: &Q) -> Option<&mut V>
         ensures* writes_back { sem 𝓛
-            (lends_at_front K.row V.row PREFIX_LEN.row K.AsBytes self.entry (Q.bytes query.now) result) }
+            (lends_at_front K.row V.row PREFIX_LEN.row K.AsBytes self.entry
+            (Q.bytes query.now) result) }
         ensures value { option_copied_mut result
-            ≡ option_map (λ pair. pair.1) (front_of (bytes K.bytes) self.old (Q.bytes query.now)) }
+            ≡ option_map (λ pair. pair.1)
+            (front_of (bytes K.bytes) (pairs self.old) (Q.bytes query.now)) }
         ensures stored { option_copied_mut result
-            ≡ value_before K.bytes self.old (Q.bytes query.now) }
+            ≡ value_before K.bytes (pairs self.old) (Q.bytes query.now) }
     {
         self.tree.law();
         match self.tree.search_front(query.as_bytes(), &mut Visits::new()) {
@@ -55,9 +60,10 @@ impl<'a, K: AsBytes + Drop, V: Drop, Q: AsBytes, const PREFIX_LEN: usize> Index<
     for TreeMap<K, V, PREFIX_LEN> {
     type Output = V;
 
-    ghost can_index = { λ map query. has K.bytes map (Q.bytes query.now) ≡ true };
+    ghost can_index = { λ map query. has K.bytes (pairs map) (Q.bytes query.now) ≡ true };
 
-    ghost index_gives = { λ map query value. value_at K.bytes map (Q.bytes query.now) ≡ Some value };
+    ghost index_gives = { λ map query value. value_at K.bytes (pairs map) (Q.bytes query.now)
+        ≡ Some value };
 
     /// The value of the key with the query's bytes, which is in the map.
     fn index(&self, query: &'a Q) -> &V {

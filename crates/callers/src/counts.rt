@@ -1,16 +1,16 @@
 //! Counts of words.
 ghost use Rattle.std.specs.Prelude.{◌≡◌, ◌≢◌, ◌+◌, ◌<◌, ◌^◌, ℕ, List, true, false, not, option_map, unwrap_or, OnOk, IfOk, OnErr, Some};
-ghost use Rattle.blart.specs.Words.{pair_at, value_at, has};
+ghost use Rattle.blart.specs.Words.{pairs, pair_at, value_at, has};
 
 use blart::{AsBytes, Map, NoPrefixesBytes};
 use std::alloc::AllocError;
 
 /// Adds one to the count of a word, by a look-up and an insertion.
 pub fn count<W: NoPrefixesBytes + Drop>(counts: &mut Map<W, u64>, word: W) -> Result<(), AllocError>
-    requires { unwrap_or (value_at W.bytes counts.old (W.bytes word)) 0 + 1 < 2 ^ 64 }
-    ensures counted { OnOk result (value_at W.bytes counts.new (W.bytes word)
-        ≡ Some (unwrap_or (value_at W.bytes counts.old (W.bytes word)) 0 + 1)) }
-    ensures others { (q : List ℕ) → q ≢ W.bytes word → value_at W.bytes counts.new q ≡ value_at W.bytes counts.old q }
+    requires { unwrap_or (value_at W.bytes (pairs counts.old) (W.bytes word)) 0 + 1 < 2 ^ 64 }
+    ensures counted { OnOk result (value_at W.bytes (pairs counts.new) (W.bytes word)
+        ≡ Some (unwrap_or (value_at W.bytes (pairs counts.old) (W.bytes word)) 0 + 1)) }
+    ensures others { (q : List ℕ) → q ≢ W.bytes word → value_at W.bytes (pairs counts.new) q ≡ value_at W.bytes (pairs counts.old) q }
     ensures refused { OnErr result (counts.new ≡ counts.old) }
 {
     let more = match counts.get(&word) {
@@ -26,10 +26,10 @@ pub fn count_in_place<W: NoPrefixesBytes + Drop>(
     counts: &mut Map<W, u64>,
     word: W,
 ) -> Result<(), AllocError>
-    requires { unwrap_or (value_at W.bytes counts.old (W.bytes word)) 0 + 1 < 2 ^ 64 }
-    ensures counted { OnOk result (value_at W.bytes counts.new (W.bytes word)
-        ≡ Some (unwrap_or (value_at W.bytes counts.old (W.bytes word)) 0 + 1)) }
-    ensures others { (q : List ℕ) → q ≢ W.bytes word → value_at W.bytes counts.new q ≡ value_at W.bytes counts.old q }
+    requires { unwrap_or (value_at W.bytes (pairs counts.old) (W.bytes word)) 0 + 1 < 2 ^ 64 }
+    ensures counted { OnOk result (value_at W.bytes (pairs counts.new) (W.bytes word)
+        ≡ Some (unwrap_or (value_at W.bytes (pairs counts.old) (W.bytes word)) 0 + 1)) }
+    ensures others { (q : List ℕ) → q ≢ W.bytes word → value_at W.bytes (pairs counts.new) q ≡ value_at W.bytes (pairs counts.old) q }
     ensures refused { OnErr result (counts.new ≡ counts.old) }
 {
     match counts.get_mut(&word) {
@@ -43,10 +43,10 @@ pub fn count_in_place<W: NoPrefixesBytes + Drop>(
 
 /// Adds one to the count of a word that is there, and leaves others alone.
 pub fn raise<W: AsBytes + Drop>(counts: &mut Map<W, u64>, word: &W)
-    requires { unwrap_or (value_at W.bytes counts.old (W.bytes word.now)) 0 + 1 < 2 ^ 64 }
-    ensures raised { value_at W.bytes counts.new (W.bytes word.now)
-        ≡ option_map (λ n. n + 1) (value_at W.bytes counts.old (W.bytes word.now)) }
-    ensures others { (q : List ℕ) → q ≢ W.bytes word.now → value_at W.bytes counts.new q ≡ value_at W.bytes counts.old q }
+    requires { unwrap_or (value_at W.bytes (pairs counts.old) (W.bytes word.now)) 0 + 1 < 2 ^ 64 }
+    ensures raised { value_at W.bytes (pairs counts.new) (W.bytes word.now)
+        ≡ option_map (λ n. n + 1) (value_at W.bytes (pairs counts.old) (W.bytes word.now)) }
+    ensures others { (q : List ℕ) → q ≢ W.bytes word.now → value_at W.bytes (pairs counts.new) q ≡ value_at W.bytes (pairs counts.old) q }
 {
     if let Some(n) = counts.get_mut(word) {
         *n += 1;
@@ -59,12 +59,12 @@ pub fn insert_if_absent<K: NoPrefixesBytes + Drop, V: Drop>(
     key: K,
     value: V,
 ) -> Result<bool, AllocError>
-    ensures added { IfOk result (λ added. added ≡ not (has K.bytes store.old (K.bytes key))) }
-    ensures there { OnOk result (has K.bytes store.new (K.bytes key) ≡ true) }
-    ensures new { has K.bytes store.old (K.bytes key) ≡ false
-        → OnOk result (pair_at K.bytes store.new (K.bytes key) ≡ Some (key, value)) }
-    ensures kept { has K.bytes store.old (K.bytes key) ≡ true → store.new ≡ store.old }
-    ensures others { (q : List ℕ) → q ≢ K.bytes key → pair_at K.bytes store.new q ≡ pair_at K.bytes store.old q }
+    ensures added { IfOk result (λ added. added ≡ not (has K.bytes (pairs store.old) (K.bytes key))) }
+    ensures there { OnOk result (has K.bytes (pairs store.new) (K.bytes key) ≡ true) }
+    ensures new { has K.bytes (pairs store.old) (K.bytes key) ≡ false
+        → OnOk result (pair_at K.bytes (pairs store.new) (K.bytes key) ≡ Some (key, value)) }
+    ensures kept { has K.bytes (pairs store.old) (K.bytes key) ≡ true → store.new ≡ store.old }
+    ensures others { (q : List ℕ) → q ≢ K.bytes key → pair_at K.bytes (pairs store.new) q ≡ pair_at K.bytes (pairs store.old) q }
     ensures refused { OnErr result (store.new ≡ store.old) }
 {
     if store.contains_key(&key) {

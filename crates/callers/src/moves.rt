@@ -1,7 +1,7 @@
 //! Pairs that go from one place to another.
 ghost use Rattle.std.specs.Prelude.{◌≡◌, ◌≢◌, ◌+◌, ℕ, List, true, false, length, slice_get, is_some, OnOk, IfOk, OnErr, IfSome, None, Some, if◌then◌else◌};
 ghost use Rattle.std.specs.declared.ops.Bound.TheVariants.{Included, Excluded};
-ghost use Rattle.blart.specs.Words.{bytes, between, in_order, pair_at, value_at, has, overlaps, slice_bytes, u32_bytes};
+ghost use Rattle.blart.specs.Words.{pairs, bytes, between, in_order, pair_at, value_at, has, overlaps, slice_bytes, u32_bytes};
 
 use blart::{AsBytes, Map, NoPrefixesBytes, TryInsertError, U32Key};
 use std::alloc::AllocError;
@@ -14,12 +14,12 @@ pub fn move_one<K: AsBytes + Copy + Drop, V: Copy + Drop>(
     to: &mut Map<K, V>,
     key: &K,
 ) -> Result<bool, TryInsertError>
-    ensures moved { IfOk result (λ moved. moved ≡ has K.bytes from.old (K.bytes key.now)) }
-    ensures gone { OnOk result (pair_at K.bytes from.new (K.bytes key.now) ≡ None) }
-    ensures left { (q : List ℕ) → q ≢ K.bytes key.now → pair_at K.bytes from.new q ≡ pair_at K.bytes from.old q }
-    ensures there { has K.bytes from.old (K.bytes key.now) ≡ true
-        → OnOk result (pair_at K.bytes to.new (K.bytes key.now) ≡ pair_at K.bytes from.old (K.bytes key.now)) }
-    ensures others { (q : List ℕ) → q ≢ K.bytes key.now → pair_at K.bytes to.new q ≡ pair_at K.bytes to.old q }
+    ensures moved { IfOk result (λ moved. moved ≡ has K.bytes (pairs from.old) (K.bytes key.now)) }
+    ensures gone { OnOk result (pair_at K.bytes (pairs from.new) (K.bytes key.now) ≡ None) }
+    ensures left { (q : List ℕ) → q ≢ K.bytes key.now → pair_at K.bytes (pairs from.new) q ≡ pair_at K.bytes (pairs from.old) q }
+    ensures there { has K.bytes (pairs from.old) (K.bytes key.now) ≡ true
+        → OnOk result (pair_at K.bytes (pairs to.new) (K.bytes key.now) ≡ pair_at K.bytes (pairs from.old) (K.bytes key.now)) }
+    ensures others { (q : List ℕ) → q ≢ K.bytes key.now → pair_at K.bytes (pairs to.new) q ≡ pair_at K.bytes (pairs to.old) q }
     ensures refused { OnErr result ((from.new ≡ from.old) × (to.new ≡ to.old)) }
 {
     let Some((stored, value)) = from.get_key_value(key) else {
@@ -38,12 +38,12 @@ pub fn move_first_between<V: Copy + Drop>(
     high: U32Key,
 ) -> Result<bool, AllocError>
     requires { in_order (Included (u32_bytes low)) (Excluded (u32_bytes high)) ≡ true }
-    ensures moved { let within = between (bytes u32_bytes) from.old (Included (u32_bytes low)) (Excluded (u32_bytes high))
+    ensures moved { let within = between (bytes u32_bytes) (pairs from.old) (Included (u32_bytes low)) (Excluded (u32_bytes high))
         in IfOk result (λ moved. moved ≡ is_some (slice_get within 0)) }
-    ensures there { let within = between (bytes u32_bytes) from.old (Included (u32_bytes low)) (Excluded (u32_bytes high))
-        in OnOk result (IfSome (slice_get within 0) (λ p. pair_at u32_bytes to.new (u32_bytes p.0) ≡ Some p)) }
-    ensures gone { let within = between (bytes u32_bytes) from.old (Included (u32_bytes low)) (Excluded (u32_bytes high))
-        in OnOk result (IfSome (slice_get within 0) (λ p. pair_at u32_bytes from.new (u32_bytes p.0) ≡ None)) }
+    ensures there { let within = between (bytes u32_bytes) (pairs from.old) (Included (u32_bytes low)) (Excluded (u32_bytes high))
+        in OnOk result (IfSome (slice_get within 0) (λ p. pair_at u32_bytes (pairs to.new) (u32_bytes p.0) ≡ Some p)) }
+    ensures gone { let within = between (bytes u32_bytes) (pairs from.old) (Included (u32_bytes low)) (Excluded (u32_bytes high))
+        in OnOk result (IfSome (slice_get within 0) (λ p. pair_at u32_bytes (pairs from.new) (u32_bytes p.0) ≡ None)) }
     ensures refused { OnErr result ((from.new ≡ from.old) × (to.new ≡ to.old)) }
 {
     let walk = from
@@ -64,12 +64,12 @@ pub fn rename(
     from: &str,
     to: &'static str,
 ) -> Result<bool, TryInsertError>
-    ensures renamed { IfOk result (λ renamed. renamed ≡ has slice_bytes store.old from.now) }
-    ensures put { has slice_bytes store.old from.now ≡ true
-        → OnOk result (value_at slice_bytes store.new to.now ≡ value_at slice_bytes store.old from.now) }
-    ensures gone { from.now ≢ to.now → pair_at slice_bytes store.new from.now ≡ None }
+    ensures renamed { IfOk result (λ renamed. renamed ≡ has slice_bytes (pairs store.old) from.now) }
+    ensures put { has slice_bytes (pairs store.old) from.now ≡ true
+        → OnOk result (value_at slice_bytes (pairs store.new) to.now ≡ value_at slice_bytes (pairs store.old) from.now) }
+    ensures gone { from.now ≢ to.now → pair_at slice_bytes (pairs store.new) from.now ≡ None }
     ensures others { (q : List ℕ) → q ≢ from.now → q ≢ to.now
-        → pair_at slice_bytes store.new q ≡ pair_at slice_bytes store.old q }
+        → pair_at slice_bytes (pairs store.new) q ≡ pair_at slice_bytes (pairs store.old) q }
 {
     let Some((_, value)) = store.remove_entry(&from) else {
         return Ok(false);
@@ -84,10 +84,10 @@ pub fn add_or_give_back<K: AsBytes + Drop, V: Drop>(
     key: K,
     value: V,
 ) -> Result<Option<(K, V)>, AllocError>
-    ensures given_back { IfOk result (λ back. back ≡ (if overlaps K.bytes store.old (K.bytes key) then Some (key, value) else None)) }
-    ensures stored { overlaps K.bytes store.old (K.bytes key) ≡ false
-        → OnOk result (pair_at K.bytes store.new (K.bytes key) ≡ Some (key, value)) }
-    ensures others { (q : List ℕ) → q ≢ K.bytes key → pair_at K.bytes store.new q ≡ pair_at K.bytes store.old q }
+    ensures given_back { IfOk result (λ back. back ≡ (if overlaps K.bytes (pairs store.old) (K.bytes key) then Some (key, value) else None)) }
+    ensures stored { overlaps K.bytes (pairs store.old) (K.bytes key) ≡ false
+        → OnOk result (pair_at K.bytes (pairs store.new) (K.bytes key) ≡ Some (key, value)) }
+    ensures others { (q : List ℕ) → q ≢ K.bytes key → pair_at K.bytes (pairs store.new) q ≡ pair_at K.bytes (pairs store.old) q }
     ensures refused { OnErr result (store.new ≡ store.old) }
 {
     if store.conflicts(&key) {
@@ -106,7 +106,7 @@ pub fn len_with<K: NoPrefixesBytes + Drop, V: Drop>(
     key: K,
     value: V,
 ) -> Result<usize, AllocError>
-    ensures { IfOk result (λ n. n ≡ length store.old + (if has K.bytes store.old (K.bytes key) then 0 else 1)) }
+    ensures { IfOk result (λ n. n ≡ length (pairs store.old) + (if has K.bytes (pairs store.old) (K.bytes key) then 0 else 1)) }
 {
     store.insert(key, value)?;
     Ok(store.len())
@@ -114,7 +114,7 @@ pub fn len_with<K: NoPrefixesBytes + Drop, V: Drop>(
 
 /// The length after a removal.
 pub fn len_without<K: AsBytes + Drop, V: Drop>(store: &mut Map<K, V>, key: &K) -> usize
-    ensures { result + (if has K.bytes store.old (K.bytes key.now) then 1 else 0) ≡ length store.old }
+    ensures { result + (if has K.bytes (pairs store.old) (K.bytes key.now) then 1 else 0) ≡ length (pairs store.old) }
 {
     store.remove(key);
     store.len()

@@ -1,5 +1,6 @@
 //! Maps that are taken apart.
 ghost use Rattle.std.specs.Prelude.{◌≡◌, map, IfOk};
+ghost use Rattle.blart.specs.Words.{pairs};
 
 use blart::{AsBytes, Map};
 use std::alloc::{AllocError, Global};
@@ -10,7 +11,7 @@ pub fn into_vec<K: AsBytes + Drop, V: Drop>(
     alloc: Global,
     map: Map<K, V>,
 ) -> Result<Vec<(K, V)>, AllocError>
-    ensures { IfOk result (λ pairs. pairs.items ≡ map) }
+    ensures { IfOk result (λ taken. taken.items ≡ pairs map) }
 {
     let mut pairs = Vec::new(alloc);
     for (key, value) in map {
@@ -24,7 +25,7 @@ pub fn into_values_vec<K: AsBytes + Drop>(
     alloc: Global,
     scores: Map<K, u64>,
 ) -> Result<Vec<u64>, AllocError>
-    ensures { IfOk result (λ values. values.items ≡ map (λ pair. pair.1) scores) }
+    ensures { IfOk result (λ values. values.items ≡ map (λ pair. pair.1) (pairs scores)) }
 {
     let mut values = Vec::new(alloc);
     for value in scores.into_values() {

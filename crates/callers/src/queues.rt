@@ -1,24 +1,24 @@
 //! Pairs in order.
 ghost use Rattle.std.specs.Prelude.{◌≡◌, ◌-◌, [], length, drop, slice_get, option_map};
 ghost use Rattle.std.specs.declared.ops.Bound.TheVariants.{Excluded, Unbounded};
-ghost use Rattle.blart.specs.Words.{bytes, between, shown, u32_bytes};
+ghost use Rattle.blart.specs.Words.{pairs, bytes, between, shown, u32_bytes};
 
 use blart::{AsBytes, Map, U32Key};
 use std::ops::Bound;
 
 /// Takes the least of a queue.
 pub fn take_least(queue: &mut Map<U32Key, u64>) -> Option<(U32Key, u64)>
-    ensures least { result ≡ slice_get queue.old 0 }
-    ensures rest { queue.new ≡ drop 1 queue.old }
+    ensures least { result ≡ slice_get (pairs queue.old) 0 }
+    ensures rest { pairs queue.new ≡ drop 1 (pairs queue.old) }
 {
     queue.pop_first()
 }
 
 /// Takes the least of a queue, and gives its value.
 pub fn take_next<K: AsBytes + Drop, V: Drop>(queue: &mut Map<K, V>) -> Option<V>
-    ensures least { result ≡ option_map (λ p. p.1) (slice_get queue.old 0) }
-    ensures rest { queue.new ≡ drop 1 queue.old }
-    ensures len { length queue.new ≡ length queue.old - 1 }
+    ensures least { result ≡ option_map (λ p. p.1) (slice_get (pairs queue.old) 0) }
+    ensures rest { pairs queue.new ≡ drop 1 (pairs queue.old) }
+    ensures len { length (pairs queue.new) ≡ length (pairs queue.old) - 1 }
 {
     match queue.pop_first() {
         Some((_, value)) => Some(value),
@@ -28,8 +28,8 @@ pub fn take_next<K: AsBytes + Drop, V: Drop>(queue: &mut Map<K, V>) -> Option<V>
 
 /// Takes all of a queue, and counts them.
 pub fn to_end<K: AsBytes + Drop, V: Drop>(queue: &mut Map<K, V>) -> usize
-    ensures count { result ≡ length queue.old }
-    ensures rest { queue.new ≡ [] }
+    ensures count { result ≡ length (pairs queue.old) }
+    ensures rest { pairs queue.new ≡ [] }
 {
     let count = queue.len();
     for taken in 0..count {
@@ -41,7 +41,7 @@ pub fn to_end<K: AsBytes + Drop, V: Drop>(queue: &mut Map<K, V>) -> usize
 /// The first pair behind a key.
 pub fn following<'a, V: Drop>(times: &'a Map<U32Key, V>, key: U32Key) -> Option<(&'a U32Key, &'a V)>
     ensures { shown result
-        ≡ slice_get (between (bytes u32_bytes) times.now (Excluded (u32_bytes key)) Unbounded) 0 }
+        ≡ slice_get (between (bytes u32_bytes) (pairs times.now) (Excluded (u32_bytes key)) Unbounded) 0 }
 {
     times.range(Bound::Excluded(&key), Bound::Unbounded).next()
 }

@@ -1,6 +1,6 @@
 //! Laws of walks and look-ups, cited by their lemmas.
 ghost use Rattle.std.specs.Prelude.{◌≡◌, ◌++◌, true, map, reverse, option_copied, IfOk};
-ghost use Rattle.blart.specs.Words.{value_at, has};
+ghost use Rattle.blart.specs.Words.{pairs, value_at, has};
 
 use blart::{AsBytes, Map};
 use std::alloc::{AllocError, Global};
@@ -11,7 +11,7 @@ pub fn from_both_ends<K: AsBytes + Drop>(
     alloc: Global,
     scores: &Map<K, u64>,
 ) -> Result<(Vec<u64>, Vec<u64>), AllocError>
-    ensures { IfOk result (λ ends. map (λ p. p.1) scores.now ≡ ends.0.items ++ reverse ends.1.items) }
+    ensures { IfOk result (λ ends. map (λ p. p.1) (pairs scores.now) ≡ ends.0.items ++ reverse ends.1.items) }
 {
     let mut fronts = Vec::new(alloc);
     let mut backs = Vec::new(alloc);
@@ -28,8 +28,8 @@ pub fn from_both_ends<K: AsBytes + Drop>(
 /// The value of a stored key, found by what its bytes begin with.
 #[tactic(auto, using(blart::proofs::CallerLemmas::before_agrees))]
 pub fn get_by_front<'a, K: AsBytes + Drop, V: Drop>(store: &'a Map<K, V>, key: &K) -> Option<&'a V>
-    requires { has K.bytes store.now (K.bytes key.now) ≡ true }
-    ensures { option_copied result ≡ value_at K.bytes store.now (K.bytes key.now) }
+    requires { has K.bytes (pairs store.now) (K.bytes key.now) ≡ true }
+    ensures { option_copied result ≡ value_at K.bytes (pairs store.now) (K.bytes key.now) }
 {
     store.law();
     store.prefix_get(key)

@@ -1,4 +1,5 @@
 use Rattle.std.proofs.Common.{refl, arith}
+use Rattle.blart_map.specs.Content.{pairs}
 use Rattle.blart.proofs.Answering.{lists_between}
 use Rattle.blart.proofs.Listing.{shown_all}
 use Rattle.blart.proofs.replies.write_between.Goals as goal
@@ -8,5 +9,5 @@ write_listing-requires g c κs = ((refl, tt), (c.requires, (tt, (tt, omega (arit
 
 pub returns : goal.returns
 returns g c =
-    let is = lists_between c.args.map.now c.range-walk.result c.args.low.now.items c.args.high.now.items c.if-not-is_range.ensures c.range-walk.ensures.value in
+    let is = lists_between (pairs c.args.map.now) c.range-walk.result c.args.low.now.items c.args.high.now.items c.if-not-is_range.ensures c.range-walk.ensures.value in
     rw is (c.write_listing.ensures c.range-walk.result (shown_all c.range-walk.result))

@@ -1,11 +1,12 @@
 use Rattle.std.proofs.Common.{refl, inr, codes}
+use Rattle.blart_map.specs.Content.{pairs}
 use Rattle.blart.proofs.Answering.{finds}
 use Rattle.blart.proofs.replies.write_front.Goals as goal
 
 pub returns-in-Some : goal.returns-in-Some
 returns-in-Some g c = λ key is. (
   _,
-  finds c.args.map.now key c.in-Some.key.items _ _ (c.in-Some.ensures key is) c.prefix_get_key_value.ensures.value refl,
+  finds (pairs c.args.map.now) key c.in-Some.key.items _ _ (c.in-Some.ensures key is) c.prefix_get_key_value.ensures.value refl,
   c.write_found.ensures,
 )
 

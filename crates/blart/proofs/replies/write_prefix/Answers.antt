@@ -1,6 +1,7 @@
 use Rattle.std.proofs.Common.{refl, arith, sym, inr, codes, ◌∙◌, ◌∷◌, [], append-nil}
+use Rattle.blart_map.specs.Content.{pairs}
 use Rattle.blart.specs.Answers.{listing}
-use Rattle.blart.specs.Content.{pairs_of}
+use Rattle.blart.specs.Content.{by_bytes}
 use Rattle.blart.proofs.Answering.{lists_under}
 use Rattle.blart.proofs.Listing.{shown_all}
 use Rattle.blart.proofs.replies.write_prefix.Goals as goal
@@ -10,8 +11,8 @@ write_listing-requires g c κs = ((refl, tt), (c.requires, (tt, (tt, omega (arit
 
 pub returns-in-Some : goal.returns-in-Some
 returns-in-Some g c = λ key is. (
-  listing (pairs_of c.prefix.result),
-  lists_under c.args.map.now c.prefix.result key c.deref.result.now (c.in-Some.ensures key is ∙ sym c.deref.ensures.value) c.prefix.ensures.value,
+  listing (by_bytes c.prefix.result),
+  lists_under (pairs c.args.map.now) c.prefix.result key c.deref.result.now (c.in-Some.ensures key is ∙ sym c.deref.ensures.value) c.prefix.ensures.value,
   c.write_listing.ensures c.prefix.result (shown_all c.prefix.result),
 )
 

@@ -2,6 +2,7 @@ use Rattle.std.proofs.Common.{◌≡◌, suc, ◌+◌, ◌≤◌, List, [], ◌�
 use Rattle.std.specs.Vec.Iter.{into_iter_items, into_iter_len}
 use Rattle.blart_keys.specs.Steps.{Run}
 use Rattle.blart_keys.proofs.StepLemmas.{run_more}
+use Rattle.blart_map.specs.Content.{pairs}
 use Rattle.blart_map.proofs.calls.drive.Goals as goal
 
 -- a list of no length is empty
@@ -40,7 +41,7 @@ calls-preserved g c =
     record {
       done = i.done ++ call ∷ [];
       whole = i.whole ∙ ap (λ l. i.done ++ l) steps.0 ∙ sym (append_assoc i.done (call ∷ []) (into_iter_items rest));
-      run = rw c.push_reserved.ensures.items (run_more kb c.args.map.now i.done c.calls.replies.items c.calls.map c.answer-reply.new.map call c.answer-reply.result i.run c.answer-reply.ensures);
+      run = rw c.push_reserved.ensures.items (run_more kb (pairs c.args.map.now) i.done c.calls.replies.items (pairs c.calls.map) (pairs c.answer-reply.new.map) call c.answer-reply.result i.run c.answer-reply.ensures);
       counted = omega arith;
       room = omega arith;
     }
@@ -51,4 +52,4 @@ returns-clause-replies g c =
     let kb = g.K.AsBytes.bytes in
     let none = no_items (into_iter_items c.calls.call-iterator) (sym i.counted ∙ c.in-None.ensures.steps.0) in
     let whole = i.whole ∙ ap (λ l. i.done ++ l) none ∙ append-nil i.done in
-    subst (λ calls. Run kb c.args.map.now calls c.calls.replies.items c.calls.map) (sym whole) i.run
+    subst (λ calls. Run kb (pairs c.args.map.now) calls c.calls.replies.items (pairs c.calls.map)) (sym whole) i.run

@@ -11,30 +11,30 @@ swap-requires g c =
     let good = subst (λ p. IsGood kb ps p q) c.in-Exact.is c.requires in
     (lit< tt, (exact_has kb ps c.law.ensures.content c.law.ensures.distinct q c.in-Exact.id good, exact_takes kb ps c.law.ensures.content c.law.ensures.distinct q c.in-Exact.id good))
 
-pub returns-in-Exact : goal.returns-in-Exact
-returns-in-Exact g c =
+pub returns-in-Exact-clause-put : goal.returns-in-Exact-clause-put
+returns-in-Exact-clause-put g c =
     let kb = g.K.AsBytes.bytes in
     let ps = c.args.tree.now.pairs in
     let good = subst (λ p. IsGood kb ps p (kb c.args.key)) c.in-Exact.is c.requires in
     exchanged kb ps c.law.ensures.content c.law.ensures.distinct (c.args.key, c.args.value) c.in-Exact.id good c.swap.result c.swap.ensures.value c.swap.new.self.pairs c.swap.ensures.pairs
 
-pub returns-in-Related : goal.returns-in-Related
-returns-in-Related g c =
+pub returns-in-Related-clause-put : goal.returns-in-Related-clause-put
+returns-in-Related-clause-put g c =
     let kb = g.K.AsBytes.bytes in
     let ps = c.args.tree.now.pairs in
     let q = kb c.args.key in
     let good = subst (λ p. IsGood kb ps p q) c.in-Related.is c.requires in
     (conflict_pairs kb ps q ∙ good.0, refl)
 
-pub returns-in-Err : goal.returns-in-Err
-returns-in-Err g c =
+pub returns-in-Err-clause-put : goal.returns-in-Err-clause-put
+returns-in-Err-clause-put g c =
     let kb = g.K.AsBytes.bytes in
     let ps = c.args.tree.now.pairs in
     let alone = open_alone kb ps c.law.ensures.content c.law.ensures.distinct (kb c.args.key) c.args.point c.requires c.in-Err.ensures.refused in
     refused kb ps c.law.ensures.content c.law.ensures.distinct (c.args.key, c.args.value) alone (λ pair. pair) c.make_room.new.self.pairs c.in-Err.ensures.pairs c.in-Err.refused
 
-pub returns-in_default : goal.returns-in_default
-returns-in_default g c =
+pub returns-in_default-clause-put : goal.returns-in_default-clause-put
+returns-in_default-clause-put g c =
     let kb = g.K.AsBytes.bytes in
     let ps = c.args.tree.now.pairs in
     let alone = open_alone kb ps c.law.ensures.content c.law.ensures.distinct (kb c.args.key) c.args.point c.requires (opens c.args.point c.in-Empty.is) in

@@ -31,5 +31,5 @@ unreachable-requires-in-Err-Prefix g c =
     let good = rw c.as_bytes.ensures at c.point.ensures in
     let no = unrelated_point kb ps c.law.ensures.content c.law.ensures.distinct q c.point.result good c.in_default.not-Related in
     let is = c.in-Err-Prefix.is ∙ ap Err c.in-Err-Prefix.field-0-is in
-    let puts = rw is at c.put_at.ensures in
+    let puts = rw is at c.put_at.ensures.put in
     false≢true (sym (conflict_pairs kb ps q ∙ no) ∙ puts.0)

@@ -1,6 +1,6 @@
 use Rattle.std.proofs.lemmas.Result.{err_from_is_err_and}
 use Rattle.blart.proofs.Ending.{last_none, last_stops, last_sent, no_bytes, some_bytes_left}
-use Rattle.blart.specs.Content.{pairs_of}
+use Rattle.blart.specs.Content.{content_of}
 use Rattle.blart.specs.Session.{state_of}
 use Rattle.blart.proofs.session.Session.finish.Goals as goal
 
@@ -17,5 +17,5 @@ returns-in_err-answer g c =
 pub returns : goal.returns
 returns g c =
     let h = c.in_ok-answer.ensures in
-    last_sent _ _ _ _ c.flush-2.result (state_of c.args.self.now) (pairs_of c.answer.new.self.map) c.answer.new.self.outbox c.flush-2.new.self
+    last_sent _ _ _ _ c.flush-2.result (state_of c.args.self.now) (content_of c.answer.new.self.map) c.answer.new.self.outbox c.flush-2.new.self
     (some_bytes_left c.args.self.now.line.items _ c.args.self.now.line.ok.0 c.if-is_empty.ensures) h.0 c.flush-2.ensures.sent c.flush-2.ensures.empty

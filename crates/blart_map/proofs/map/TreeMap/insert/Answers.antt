@@ -1,21 +1,24 @@
-use Rattle.blart_keys.proofs.StoredLemmas.{inserts_old, inserts_updates, inserts_len, inserts_fronts, inserts_err, inserts_absent}
+use Rattle.blart_keys.proofs.StoredLemmas.{inserts_old, inserts_updates, inserts_len, inserts_fronts, inserts_absent}
 use Rattle.art_walk.specs.Pairs.{pairs_of}
+use Rattle.blart_map.specs.Content.{pairs}
 use Rattle.blart_map.proofs.map.TreeMap.insert.Goals as goal
 
 pub returns-clause-old : goal.returns-clause-old
-returns-clause-old g c = inserts_old g.K.AsBytes.bytes c.args.self.now (c.args.key, c.args.value) (pairs_of c.put_lawful.new.tree.pairs) c.put_lawful.result (rw (← c.self.view_is) c.put_lawful.ensures)
+unfolding pairs
+returns-clause-old g c = inserts_old g.K.AsBytes.bytes (pairs_of c.args.self.now) (c.args.key, c.args.value) (pairs_of c.put_lawful.new.tree.pairs) c.put_lawful.result (rw (← c.self.view_is) c.put_lawful.ensures.put)
 
 pub returns-clause-updates : goal.returns-clause-updates
-returns-clause-updates g c = inserts_updates g.K.AsBytes.bytes c.args.self.now (c.args.key, c.args.value) (pairs_of c.put_lawful.new.tree.pairs) c.put_lawful.result c.law.ensures.content (rw (← c.self.view_is) c.put_lawful.ensures)
+unfolding pairs
+returns-clause-updates g c = inserts_updates g.K.AsBytes.bytes (pairs_of c.args.self.now) (c.args.key, c.args.value) (pairs_of c.put_lawful.new.tree.pairs) c.put_lawful.result c.law.ensures.content (rw (← c.self.view_is) c.put_lawful.ensures.put)
 
 pub returns-clause-len : goal.returns-clause-len
-returns-clause-len g c = inserts_len g.K.AsBytes.bytes c.args.self.now (c.args.key, c.args.value) (pairs_of c.put_lawful.new.tree.pairs) c.put_lawful.result c.law.ensures.content (rw (← c.self.view_is) c.put_lawful.ensures)
+unfolding pairs
+returns-clause-len g c = inserts_len g.K.AsBytes.bytes (pairs_of c.args.self.now) (c.args.key, c.args.value) (pairs_of c.put_lawful.new.tree.pairs) c.put_lawful.result c.law.ensures.content (rw (← c.self.view_is) c.put_lawful.ensures.put)
 
 pub returns-clause-fronts : goal.returns-clause-fronts
-returns-clause-fronts g c = inserts_fronts g.K.AsBytes.bytes c.args.self.now (c.args.key, c.args.value) (pairs_of c.put_lawful.new.tree.pairs) c.put_lawful.result (rw (← c.self.view_is) c.put_lawful.ensures)
-
-pub returns-clause-err : goal.returns-clause-err
-returns-clause-err g c = inserts_err g.K.AsBytes.bytes c.args.self.now (c.args.key, c.args.value) (pairs_of c.put_lawful.new.tree.pairs) c.put_lawful.result (rw (← c.self.view_is) c.put_lawful.ensures)
+unfolding pairs
+returns-clause-fronts g c = inserts_fronts g.K.AsBytes.bytes (pairs_of c.args.self.now) (c.args.key, c.args.value) (pairs_of c.put_lawful.new.tree.pairs) c.put_lawful.result (rw (← c.self.view_is) c.put_lawful.ensures.put)
 
 pub returns-clause-absent : goal.returns-clause-absent
-returns-clause-absent g c = inserts_absent g.K.AsBytes.bytes c.args.self.now (c.args.key, c.args.value) (pairs_of c.put_lawful.new.tree.pairs) c.put_lawful.result (rw (← c.self.view_is) c.put_lawful.ensures)
+unfolding pairs
+returns-clause-absent g c = inserts_absent g.K.AsBytes.bytes (pairs_of c.args.self.now) (c.args.key, c.args.value) (pairs_of c.put_lawful.new.tree.pairs) c.put_lawful.result (rw (← c.self.view_is) c.put_lawful.ensures.put)

@@ -1,5 +1,8 @@
 use Rattle.std.proofs.Common.{◌∙◌, ap, map}
+use Rattle.art_walk.specs.Pairs.{pairs_of}
+use Rattle.blart_map.specs.Content.{pairs}
 use Rattle.blart_map.proofs.map.TreeMap.into_keys.Goals as goal
 
 pub returns-clause-value : goal.returns-clause-value
-returns-clause-value g c = c.new.ensures ∙ ap (map (λ pair. pair.0)) c.self.view_is
+unfolding pairs
+returns-clause-value g c = c.new.ensures ∙ ap (map (λ pair. pair.0)) (ap pairs_of c.self.view_is)

@@ -4,12 +4,14 @@ use Rattle.blart_keys.specs.Content.{IsOver}
 use Rattle.blart_keys.specs.Steps.{bytes}
 use Rattle.art_walk.specs.Pairs.{pairs_of}
 use Rattle.blart_keys.proofs.StoredLemmas.{overwrites_over, before_over, alone_free, alone_absent}
+use Rattle.blart_map.specs.Content.{pairs}
 use Rattle.blart_map.proofs.Numbers.{whole_pairs}
 use Rattle.blart_map.proofs.Inserting.{opens_else, open_alone, exact_has, exact_takes, placed, exchanged}
 use Rattle.blart_map.proofs.Thinning.{over_of_put, no_subtree_pairs}
 use Rattle.blart_map.proofs.map.TreeMap.prefix_insert.Goals as goal
 
 pub swap-requires : goal.swap-requires
+unfolding pairs
 swap-requires g c =
     let kb = g.K.AsBytes.bytes in
     let ps = c.self.inside.tree.pairs in
@@ -18,23 +20,25 @@ swap-requires g c =
     (lit< tt, (exact_has kb ps c.law.ensures.content c.law.ensures.distinct q c.in-Exact.id good, exact_takes kb ps c.law.ensures.content c.law.ensures.distinct q c.in-Exact.id good))
 
 pub returns-in-Exact : goal.returns-in-Exact
+unfolding pairs
 returns-in-Exact g c =
     let kb = g.K.AsBytes.bytes in
     let ps = c.self.inside.tree.pairs in
     let good = rw c.as_bytes.ensures at c.in-Exact.ensures in
     let x : g.row.K.Denot × g.row.V.Denot = (c.args.key, c.args.value) in
     let put = (exchanged kb ps c.law.ensures.content c.law.ensures.distinct x c.in-Exact.id good c.swap.result c.swap.ensures.value c.swap.new.self.pairs c.swap.ensures.pairs).1 in
-    let over = subst (λ S. IsOver (bytes kb) S x (pairs_of c.swap.new.self.pairs)) c.self.view_is (over_of_put (bytes kb) (pairs_of ps) (pairs_of c.swap.new.self.pairs) x put) in
+    let over = subst (λ S. IsOver (bytes kb) S x (pairs_of c.swap.new.self.pairs)) (ap pairs_of c.self.view_is) (over_of_put (bytes kb) (pairs_of ps) (pairs_of c.swap.new.self.pairs) x put) in
     record {
       put = over;
-      over = overwrites_over kb c.args.self.now (pairs_of c.swap.new.self.pairs) x (whole_pairs kb ps c.args.self.now c.self.view_is c.law.ensures.content) over;
-      fronts = before_over kb c.args.self.now (pairs_of c.swap.new.self.pairs) x over;
+      over = overwrites_over kb (pairs_of c.args.self.now) (pairs_of c.swap.new.self.pairs) x (whole_pairs kb ps (pairs_of c.args.self.now) (ap pairs_of c.self.view_is) c.law.ensures.content) over;
+      fronts = before_over kb (pairs_of c.args.self.now) (pairs_of c.swap.new.self.pairs) x over;
       err = tt;
       free = tt;
       absent = tt;
     }
 
 pub returns-in_err-make_room-in_default : goal.returns-in_err-make_room-in_default
+unfolding pairs
 returns-in_err-make_room-in_default g c =
     let kb = g.K.AsBytes.bytes in
     let ps = c.self.inside.tree.pairs in
@@ -43,9 +47,9 @@ returns-in_err-make_room-in_default g c =
     let alone = open_alone kb ps c.law.ensures.content c.law.ensures.distinct q c.point.result good (opens_else c.point.result c.in_default.not-Exact c.in_default.not-Related) in
     let p = err_from_is_err_and c.from_residual.result c.from_residual.ensures.1 in
     let none = no_subtree_pairs kb ps q alone in
-    let same = ap pairs_of c.in_err-make_room-in_default.ensures.pairs in
+    let same = c.in_err-make_room-in_default.ensures.pairs in
     rw (p.1, ← c.self.view_is) (record {
-      put = (none, same);
+      put = (none, ap pairs_of same);
       over = tt;
       fronts = tt;
       err = same;
@@ -54,6 +58,7 @@ returns-in_err-make_room-in_default g c =
     })
 
 pub returns-in_ok-make_room-in_default : goal.returns-in_ok-make_room-in_default
+unfolding pairs
 returns-in_ok-make_room-in_default g c =
     let kb = g.K.AsBytes.bytes in
     let ps = c.self.inside.tree.pairs in
@@ -62,25 +67,27 @@ returns-in_ok-make_room-in_default g c =
     let good = rw c.as_bytes.ensures at c.point.ensures in
     let alone = open_alone kb ps c.law.ensures.content c.law.ensures.distinct q c.point.result good (opens_else c.point.result c.in_default.not-Exact c.in_default.not-Related) in
     let put = (placed kb ps c.law.ensures.content c.law.ensures.distinct x alone c.make_room.new.self.pairs c.place.new.self.pairs c.place.result c.in_ok-make_room-in_default.ensures.pairs c.place.ensures.put).1 in
-    let over = subst (λ S. IsOver (bytes kb) S x (pairs_of c.place.new.self.pairs)) c.self.view_is (over_of_put (bytes kb) (pairs_of ps) (pairs_of c.place.new.self.pairs) x put) in
+    let over = subst (λ S. IsOver (bytes kb) S x (pairs_of c.place.new.self.pairs)) (ap pairs_of c.self.view_is) (over_of_put (bytes kb) (pairs_of ps) (pairs_of c.place.new.self.pairs) x put) in
     record {
       put = over;
-      over = overwrites_over kb c.args.self.now (pairs_of c.place.new.self.pairs) x (whole_pairs kb ps c.args.self.now c.self.view_is c.law.ensures.content) over;
-      fronts = before_over kb c.args.self.now (pairs_of c.place.new.self.pairs) x over;
+      over = overwrites_over kb (pairs_of c.args.self.now) (pairs_of c.place.new.self.pairs) x (whole_pairs kb ps (pairs_of c.args.self.now) (ap pairs_of c.self.view_is) c.law.ensures.content) over;
+      fronts = before_over kb (pairs_of c.args.self.now) (pairs_of c.place.new.self.pairs) x over;
       err = tt;
       free = tt;
       absent = tt;
     }
 
 pub returns-in-Related-clause-over : goal.returns-in-Related-clause-over
+unfolding pairs
 returns-in-Related-clause-over g c =
     let kb = g.K.AsBytes.bytes in
     let ps = c.self.inside.tree.pairs in
     let x : g.row.K.Denot × g.row.V.Denot = (c.args.key, c.args.value) in
-    overwrites_over kb c.args.self.now (pairs_of c.put_over.new.tree.pairs) x (whole_pairs kb ps c.args.self.now c.self.view_is c.law.ensures.content) (rw (← c.self.view_is) c.put_over.ensures)
+    overwrites_over kb (pairs_of c.args.self.now) (pairs_of c.put_over.new.tree.pairs) x (whole_pairs kb ps (pairs_of c.args.self.now) (ap pairs_of c.self.view_is) c.law.ensures.content) (rw (← c.self.view_is) c.put_over.ensures)
 
 pub returns-in-Related-clause-fronts : goal.returns-in-Related-clause-fronts
+unfolding pairs
 returns-in-Related-clause-fronts g c =
     let kb = g.K.AsBytes.bytes in
     let x : g.row.K.Denot × g.row.V.Denot = (c.args.key, c.args.value) in
-    before_over kb c.args.self.now (pairs_of c.put_over.new.tree.pairs) x (rw (← c.self.view_is) c.put_over.ensures)
+    before_over kb (pairs_of c.args.self.now) (pairs_of c.put_over.new.tree.pairs) x (rw (← c.self.view_is) c.put_over.ensures)

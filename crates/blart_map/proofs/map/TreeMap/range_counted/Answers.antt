@@ -1,25 +1,29 @@
-use Rattle.std.proofs.Common.{inl, inr, lit<, sym, ◌∙◌, ◌&&◌, subst}
+use Rattle.std.proofs.Common.{inl, inr, lit<, sym, ◌∙◌, ◌&&◌, subst, ap}
 use Rattle.blart_keys.specs.Bounds.{bound_bytes, is_from_start, is_up_to_end}
 use Rattle.blart_keys.specs.Stored.{CanCount}
 use Rattle.blart_keys.proofs.Mapped.{filter-map}
 use Rattle.blart_keys.proofs.StoredLemmas.{can_count_filter}
+use Rattle.art_walk.specs.Pairs.{pairs_of}
+use Rattle.blart_map.specs.Content.{pairs}
 use Rattle.blart_map.proofs.Numbers.{no_pairs}
 use Rattle.blart_map.proofs.Walking.{longest_pairs}
 use Rattle.blart_map.proofs.map.TreeMap.range_counted.Goals as goal
 
 pub new-requires : goal.new-requires
+unfolding pairs
 new-requires g c = (
   lit< tt,
   (
     lit< tt,
     elim c.requires [
-      | inl e ↦ inl (no_pairs c.self.inside.tree.pairs (c.self.view_is ∙ e))
+      | inl e ↦ inl (no_pairs c.self.inside.tree.pairs (ap pairs_of c.self.view_is ∙ e))
       | inr o ↦ inr (rw (c.as_bytes.ensures, c.as_bytes-2.ensures) o)
     ],
   ),
 )
 
 pub returns-clause-value : goal.returns-clause-value
+unfolding pairs
 returns-clause-value g c =
     let kb = g.K.AsBytes.bytes in
     let start = bound_bytes g.Q.AsBytes.bytes c.args.start in
@@ -29,16 +33,19 @@ returns-clause-value g c =
     ∙ sym (filter-map (λ p. p.1) (λ pair. is_from_start start (kb pair.0) && is_up_to_end end (kb pair.0)) c.self.inside.tree.pairs))
 
 pub returns-clause-counted : goal.returns-clause-counted
+unfolding pairs
 returns-clause-counted g c =
     rw (← c.self.view_is, longest_pairs g.K.AsBytes.bytes c.self.inside.tree.pairs)
     (rw (c.as_bytes.ensures, c.as_bytes-2.ensures) at c.new.ensures.counted)
 
 pub returns-clause-empty : goal.returns-clause-empty
-returns-clause-empty g c = λ e. c.new.ensures.empty (no_pairs c.self.inside.tree.pairs (c.self.view_is ∙ e))
+unfolding pairs
+returns-clause-empty g c = λ e. c.new.ensures.empty (no_pairs c.self.inside.tree.pairs (ap pairs_of c.self.view_is ∙ e))
 
 pub returns-clause-fits : goal.returns-clause-fits
+unfolding pairs
 returns-clause-fits g c =
     let kb = g.K.AsBytes.bytes in
     let start = bound_bytes g.Q.AsBytes.bytes c.args.start in
     let end = bound_bytes g.Q.AsBytes.bytes c.args.end in
-    subst CanCount (sym (returns-clause-value g c)) (can_count_filter (λ pair. is_from_start start (kb pair.0) && is_up_to_end end (kb pair.0)) c.args.self.now c.law.ensures.fits)
+    subst CanCount (sym (returns-clause-value g c)) (can_count_filter (λ pair. is_from_start start (kb pair.0) && is_up_to_end end (kb pair.0)) (pairs_of c.args.self.now) c.law.ensures.fits)
