@@ -4,3 +4,7 @@ pub mod Numbers
 pub mod Thinning
 pub mod Walking
 pub mod Writing
+pub mod LentPairs
+pub mod CountedPairs
+pub mod TakePairs
+pub mod Opening
