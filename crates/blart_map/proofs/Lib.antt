@@ -8,3 +8,4 @@ pub mod LentPairs
 pub mod CountedPairs
 pub mod TakePairs
 pub mod Opening
+pub mod Extracting

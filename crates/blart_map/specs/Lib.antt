@@ -6,3 +6,4 @@ pub mod LendingWalk
 pub mod LentLeaves
 pub mod CountedWalk
 pub mod TakeWalk
+pub mod ExtractIf

@@ -24,5 +24,6 @@ pub use blart_keys::{Call, InsertPrefixError, Reply, TryInsertError};
 pub use calls::{bounds_in_order, drive};
 pub use map::TreeMap;
 pub use walks::counted_walk::{CountedWalk, IterMut, ValuesMut};
+pub use walks::extract_if::ExtractIf;
 pub use walks::lending_walk::{LendingWalk, PrefixMut, RangeMut};
 pub use walks::take_walk::TakeWalk;
