@@ -9,3 +9,4 @@ pub mod CountedPairs
 pub mod TakePairs
 pub mod Opening
 pub mod Extracting
+pub mod OnceWritten

@@ -7,3 +7,4 @@ pub mod LentLeaves
 pub mod CountedWalk
 pub mod TakeWalk
 pub mod ExtractIf
+pub mod OnceWritten

@@ -1,6 +1,7 @@
 //! Walks that lend values, opened.
-ghost use Rattle.std.specs.Prelude.{◌≡◌, None};
-ghost use Rattle.blart_keys.specs.Bounds.{bound_bytes, CanRange};
+ghost use Rattle.std.specs.Prelude.{◌≡◌, ◌&&◌, None};
+ghost use Rattle.blart_keys.specs.Bounds.{bound_bytes, is_from_start, is_up_to_end, CanRange};
+ghost use Rattle.blart_keys.specs.Bytes.{begins};
 ghost use Rattle.blart_keys.specs.Content.{between, under};
 ghost use Rattle.art_tree.specs.Leaves.{bytes};
 ghost use Rattle.blart_map.specs.Content.{pairs};
@@ -18,6 +19,7 @@ use std::ops::Bound;
 impl<K: AsBytes + Drop, V: Drop, const PREFIX_LEN: usize> TreeMap<K, V, PREFIX_LEN> {
     ghost use Rattle.blart_map.specs.CountedWalk.{counted_left};
     ghost use Rattle.blart_map.specs.LendingWalk.{lending_left};
+    ghost use Rattle.blart_map.specs.OnceWritten.{rewritten, all_rewritten, once_written, all_once_written};
     ghost use Rattle.blart_map.specs.TakeWalk.{take_left};
 
     /// A walk that lends each value to be written, with its key, in byte order of the keys, from both ends. Takes no memory; each step is one visit.
@@ -32,9 +34,11 @@ impl<K: AsBytes + Drop, V: Drop, const PREFIX_LEN: usize> TreeMap<K, V, PREFIX_L
     pub fn iter_mut(&mut self) -> IterMut<'_, K, V, PREFIX_LEN>
         ensures same_map { result.map.ghost_name ≡ self.entry.ghost_name }
         ensures unchanged { result.map.now ≡ self.old }
+        ensures all { (f : K × V → V) → all_once_written f result ≡ all_rewritten f (pairs self.old) }
         ensures left { counted_left result ≡ self.old }
         ensures none_lent { result.lent ≡ None }
     {
+        self.number_law();
         CountedWalk::all(self, WithKeys)
     }
 
@@ -49,9 +53,11 @@ impl<K: AsBytes + Drop, V: Drop, const PREFIX_LEN: usize> TreeMap<K, V, PREFIX_L
     pub fn values_mut(&mut self) -> ValuesMut<'_, K, V, PREFIX_LEN>
         ensures same_map { result.map.ghost_name ≡ self.entry.ghost_name }
         ensures unchanged { result.map.now ≡ self.old }
+        ensures all { (f : K × V → V) → all_once_written f result ≡ all_rewritten f (pairs self.old) }
         ensures left { counted_left result ≡ self.old }
         ensures none_lent { result.lent ≡ None }
     {
+        self.number_law();
         CountedWalk::all(self, ValuesAlone)
     }
 
@@ -66,9 +72,12 @@ impl<K: AsBytes + Drop, V: Drop, const PREFIX_LEN: usize> TreeMap<K, V, PREFIX_L
     pub fn prefix_mut(&mut self, front: &[u8]) -> PrefixMut<'_, K, V, PREFIX_LEN>
         ensures same_map { result.map.ghost_name ≡ self.entry.ghost_name }
         ensures unchanged { result.map.now ≡ self.old }
+        ensures all { (f : K × V → V) → once_written f result
+            ≡ rewritten (λ pair. begins front.now (K.bytes pair.0)) f (pairs self.old) }
         ensures left { lending_left result ≡ under (bytes K.bytes) self.old front.now }
         ensures none_lent { result.lent ≡ None }
     {
+        self.number_law();
         let cursor = Cursor::prefix(&self.tree, front, &mut Visits::new());
         LendingWalk::of(self, cursor, BelowFront)
     }
@@ -91,10 +100,14 @@ impl<K: AsBytes + Drop, V: Drop, const PREFIX_LEN: usize> TreeMap<K, V, PREFIX_L
             (bound_bytes Q.bytes end) }
         ensures same_map { result.map.ghost_name ≡ self.entry.ghost_name }
         ensures unchanged { result.map.now ≡ self.old }
+        ensures all { (f : K × V → V) → once_written f result
+            ≡ rewritten (λ pair. is_from_start (bound_bytes Q.bytes start.entry) (K.bytes pair.0)
+            && is_up_to_end (bound_bytes Q.bytes end.entry) (K.bytes pair.0)) f (pairs self.old) }
         ensures left { lending_left result ≡ between (bytes K.bytes) self.old
             (bound_bytes Q.bytes start.entry) (bound_bytes Q.bytes end.entry) }
         ensures none_lent { result.lent ≡ None }
     {
+        self.number_law();
         let cursor = Cursor::range(
             &self.tree,
             as_bytes(start),
