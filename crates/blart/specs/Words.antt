@@ -15,3 +15,9 @@ pub use Rattle.blart_keys.specs.Bounds.{bound_bytes, in_order, CanRange}
 pub use Rattle.blart_keys.specs.Fronts.{fronts}
 -- what came from a walk
 pub use Rattle.blart_keys.specs.Walks.{TakesFirst, TakesLast, Walked}
+-- what a walk that lends has left, and what the map will be
+pub use Rattle.blart_map.specs.LendingWalk.{lending_left}
+pub use Rattle.blart_map.specs.CountedWalk.{counted_left}
+pub use Rattle.blart_map.specs.TakeWalk.{take_left}
+pub use Rattle.blart_map.specs.ExtractIf.{extract_left, Extracts, ExtractsNext, ExtractsNextBack}
+pub use Rattle.blart_map.specs.OnceWritten.{rewritten, all_rewritten, once_written, all_once_written}

@@ -4,3 +4,9 @@ pub mod Numbers
 pub mod Thinning
 pub mod Walking
 pub mod Writing
+pub mod LentPairs
+pub mod CountedPairs
+pub mod TakePairs
+pub mod Opening
+pub mod Extracting
+pub mod OnceWritten

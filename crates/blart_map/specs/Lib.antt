@@ -2,3 +2,9 @@ pub mod Content
 pub mod Driven
 pub mod Spans
 pub mod Written
+pub mod LendingWalk
+pub mod LentLeaves
+pub mod CountedWalk
+pub mod TakeWalk
+pub mod ExtractIf
+pub mod OnceWritten

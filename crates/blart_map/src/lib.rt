@@ -17,8 +17,13 @@ mod writes;
 
 pub use art_tree::{DEFAULT_PREFIX_LEN, Visits};
 pub use art_walk::{
-    Cursor, IntoIter, IntoKeys, IntoValues, Iter, Keys, Prefix, Range, SubtreeIter, Values,
+    BelowFront, Cursor, InRange, IntoIter, IntoKeys, IntoValues, Iter, Keys, Prefix, Range,
+    SubtreeIter, Values, ValuesAlone, WithKeys,
 };
 pub use blart_keys::{Call, InsertPrefixError, Reply, TryInsertError};
 pub use calls::{bounds_in_order, drive};
 pub use map::TreeMap;
+pub use walks::counted_walk::{CountedWalk, IterMut, ValuesMut};
+pub use walks::extract_if::ExtractIf;
+pub use walks::lending_walk::{LendingWalk, PrefixMut, RangeMut};
+pub use walks::take_walk::TakeWalk;

@@ -8,6 +8,13 @@ ghost use Rattle.art_tree.specs.Longest.{longest};
 ghost use Rattle.art_walk.specs.Openings.{longer, opening};
 ghost use Rattle.blart_map.specs.Content.{pairs};
 
+pub mod counted_walk;
+pub mod extract_if;
+mod leaves;
+mod lending;
+pub mod lending_walk;
+pub mod take_walk;
+
 use crate::map::TreeMap;
 use art_tree::Visits;
 use art_walk::{Iter, Keys, Prefix, Range, Values};
@@ -123,7 +130,7 @@ impl<K: AsBytes + Drop, V: Drop, const PREFIX_LEN: usize> TreeMap<K, V, PREFIX_L
 }
 
 // The bound as bytes.
-fn as_bytes<Q: AsBytes>(bound: Bound<&Q>) -> Bound<&[u8]>
+pub(crate) fn as_bytes<Q: AsBytes>(bound: Bound<&Q>) -> Bound<&[u8]>
     ensures { slice_bound result ≡ bound_bytes Q.bytes bound.entry }
 {
     match bound {

@@ -1,0 +1,13 @@
+use Rattle.std.proofs.Common.{lit<}
+use Rattle.blart_keys.specs.Bytes.{begins}
+use Rattle.blart_map.proofs.OnceWritten.{opened_written}
+use Rattle.blart_map.proofs.Opening.{opens}
+use Rattle.blart_map.proofs.map.TreeMap.prefix_mut.Goals as goal
+
+pub of-requires : goal.of-requires
+of-requires g c = (lit< tt, (lit< tt, opens c.prefix-cursor.result c.self.inside.tree.pairs c.args.self.now c.self.view_is c.prefix-cursor.ensures.fits))
+
+pub returns-clause-all : goal.returns-clause-all
+returns-clause-all g c f =
+    let kb = g.K.AsBytes.bytes in
+    opened_written f c.prefix-cursor.result c.of.result.cursor c.self.inside.tree.pairs c.args.self.now c.of.result.map.now c.self.view_is c.of.ensures.unchanged c.number_law.ensures c.of.ensures.same_cursor (λ pair. begins c.args.front.now (kb pair.0)) c.prefix-cursor.ensures.left

@@ -1,0 +1,44 @@
+use Rattle.std.proofs.Common.{refl, lit<}
+use Rattle.art_walk.proofs.Lending.{from_test, moved_first, lent_key, first_fits_now, first_fits_with, first_splits, first_lent}
+use Rattle.blart_map.proofs.walks.lending_walk.LendingWalk.next.Goals as goal
+
+pub step-requires : goal.step-requires
+step-requires g c = let s = c.args.self.now in (lit< tt, from_test s.cursor s.lent s.map.now s.fits)
+
+pub invariant_of-self : goal.invariant_of-self
+invariant_of-self g c =
+    let s = c.args.self.now in
+    record { fits = moved_first s.map.now s.cursor c.step.new.cursor s.lent s.fits c.step.ensures.fits _ c.step.ensures.passes }
+
+pub invariant_of-self-2 : goal.invariant_of-self-2
+invariant_of-self-2 g c =
+    let s = c.args.self.now in
+    record { fits = first_fits_now s.map.now c.number_law.ensures s.cursor c.step.new.cursor s.lent s.fits c.in_ok-id.ensures.fits c.in_ok-id.id c.in_ok-id.ensures.there c.in_ok-id.ensures.passes }
+
+pub invariant_of-self-lent : goal.invariant_of-self-lent
+invariant_of-self-lent g c w =
+    let s = c.args.self.now in
+    (first_fits_with s.map.now c.number_law.ensures s.cursor c.step.new.cursor s.lent s.fits c.in_ok-id.ensures.fits c.in_ok-id.id c.value_mut.result.now c.value_mut.ensures.value c.in_ok-id.ensures.passes w, tt)
+
+pub returns : goal.returns
+returns g c =
+    let s = c.args.self.now in
+    let ps = s.map.now in
+    let id = c.in_ok-id.id in
+    let v = c.value_mut.result.now in (
+      (
+        refl,
+        λ w. (
+          refl,
+          record {
+            number = id;
+            key = lent_key ps c.number_law.ensures s.cursor c.step.new.cursor s.lent s.fits c.in_ok-id.ensures.fits id v c.value_mut.ensures.value;
+            splits = first_splits ps c.number_law.ensures s.cursor c.step.new.cursor s.lent s.fits c.in_ok-id.ensures.fits id v c.value_mut.ensures.value c.in_ok-id.ensures.passes w;
+            lent = first_lent ps c.number_law.ensures s.cursor c.step.new.cursor s.lent s.fits c.in_ok-id.ensures.fits id v c.value_mut.ensures.value c.in_ok-id.ensures.passes w;
+            is_last = refl;
+          },
+        ),
+        tt,
+      ),
+      record { writes_back = tt; end = tt },
+    )

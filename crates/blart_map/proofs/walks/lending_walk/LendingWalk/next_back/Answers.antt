@@ -1,0 +1,44 @@
+use Rattle.std.proofs.Common.{refl, lit<}
+use Rattle.art_walk.proofs.Lending.{from_test, moved_last, lent_key, last_fits_now, last_fits_with, last_splits, last_lent}
+use Rattle.blart_map.proofs.walks.lending_walk.LendingWalk.next_back.Goals as goal
+
+pub step_back-requires : goal.step_back-requires
+step_back-requires g c = let s = c.args.self.now in (lit< tt, from_test s.cursor s.lent s.map.now s.fits)
+
+pub invariant_of-self : goal.invariant_of-self
+invariant_of-self g c =
+    let s = c.args.self.now in
+    record { fits = moved_last s.map.now s.cursor c.step_back.new.cursor s.lent s.fits c.step_back.ensures.fits _ c.step_back.ensures.passes }
+
+pub invariant_of-self-2 : goal.invariant_of-self-2
+invariant_of-self-2 g c =
+    let s = c.args.self.now in
+    record { fits = last_fits_now s.map.now c.number_law.ensures s.cursor c.step_back.new.cursor s.lent s.fits c.in_ok-id.ensures.fits c.in_ok-id.id c.in_ok-id.ensures.there c.in_ok-id.ensures.passes }
+
+pub invariant_of-self-lent : goal.invariant_of-self-lent
+invariant_of-self-lent g c w =
+    let s = c.args.self.now in
+    (last_fits_with s.map.now c.number_law.ensures s.cursor c.step_back.new.cursor s.lent s.fits c.in_ok-id.ensures.fits c.in_ok-id.id c.value_mut.result.now c.value_mut.ensures.value c.in_ok-id.ensures.passes w, tt)
+
+pub returns : goal.returns
+returns g c =
+    let s = c.args.self.now in
+    let ps = s.map.now in
+    let id = c.in_ok-id.id in
+    let v = c.value_mut.result.now in (
+      (
+        refl,
+        λ w. (
+          refl,
+          record {
+            number = id;
+            key = lent_key ps c.number_law.ensures s.cursor c.step_back.new.cursor s.lent s.fits c.in_ok-id.ensures.fits id v c.value_mut.ensures.value;
+            splits = last_splits ps c.number_law.ensures s.cursor c.step_back.new.cursor s.lent s.fits c.in_ok-id.ensures.fits id v c.value_mut.ensures.value c.in_ok-id.ensures.passes w;
+            lent = last_lent ps c.number_law.ensures s.cursor c.step_back.new.cursor s.lent s.fits c.in_ok-id.ensures.fits id v c.value_mut.ensures.value c.in_ok-id.ensures.passes w;
+            is_last = refl;
+          },
+        ),
+        tt,
+      ),
+      record { writes_back = tt; end = tt },
+    )

@@ -1,0 +1,135 @@
+//! All values, each lent to be written.
+ghost use Rattle.std.specs.Prelude.{◌≡◌, [], true, length, is_some, Some, None, MatchOption, IfNone, ⊤};
+ghost use Rattle.std.specs.Borrow.{sem};
+ghost use Rattle.art_tree.specs.Leaves.{leaf_in};
+ghost use Rattle.art_walk.specs.Lent.{count_fits, numbers};
+
+use crate::map::TreeMap;
+use art_tree::LeafId;
+use art_walk::{Cursor, ValuesAlone, WithKeys};
+use blart_keys::AsBytes;
+
+/// The values, each lent in turn, with its key.
+pub type IterMut<'a, K, V, const PREFIX_LEN: usize> = CountedWalk<'a, K, V, WithKeys, PREFIX_LEN>;
+
+/// The values, each lent in turn.
+pub type ValuesMut<'a, K, V, const PREFIX_LEN: usize> = CountedWalk<
+    'a,
+    K,
+    V,
+    ValuesAlone,
+    PREFIX_LEN,
+>;
+
+/// The values of a map from both ends, in byte order of their keys, each lent in turn. Each step is one visit, and where the ends have met none comes at either.
+#[derive(Drop)]
+pub struct CountedWalk<'a, K: AsBytes, V, M, const PREFIX_LEN: usize> {
+    map: &'a mut TreeMap<K, V, PREFIX_LEN>,
+    cursor: Cursor,
+    lent: Option<LeafId>,
+    left: usize,
+    kind: M,
+    ghost fits: { count_fits cursor lent left (numbers map.now) ≡ true },
+}
+
+impl<'a, K: AsBytes + Drop, V: Drop, const PREFIX_LEN: usize> CountedWalk<
+    'a,
+    K,
+    V,
+    WithKeys,
+    PREFIX_LEN,
+> {
+    ghost use Rattle.blart_map.specs.CountedWalk.{counted_left, lends_pair, counted_with};
+
+    /// The key of the value that was lent last. One was lent.
+    pub fn key(&self) -> &K
+        requires { is_some self.now.lent ≡ true }
+        ensures { MatchOption self.now.lent ⊤
+            (λ id. (v : V) × (leaf_in self.now.map.now id ≡ Some (result.now, v))) }
+    {
+        let id = self.lent.unwrap();
+        self.map.leaf(id).0
+    }
+
+    /// The key and the value that was lent last, to be written again. One was lent.
+    pub fn pair(&mut self) -> (&K, &mut V)
+        requires { is_some self.old.lent ≡ true }
+        ensures* writes_back { sem 𝓛 (lends_pair K.row V.row PREFIX_LEN.row K.AsBytes self.entry result) }
+        ensures value { MatchOption self.old.lent ⊤
+            (λ id. leaf_in self.old.map.now id ≡ Some (result.0.now, result.1.now)) }
+        ensures same_left { (w : V) → counted_left (counted_with self.old w) ≡ counted_left self.old }
+    {
+        self.map.number_law();
+        let id = self.lent.unwrap();
+        self.map.leaf_mut(id)
+    }
+}
+
+impl<'a, K: AsBytes + Drop, V: Drop, const PREFIX_LEN: usize> CountedWalk<
+    'a,
+    K,
+    V,
+    ValuesAlone,
+    PREFIX_LEN,
+> {
+    ghost use Rattle.blart_map.specs.CountedWalk.{counted_left};
+}
+
+impl<'a, K: AsBytes + Drop, V: Drop, M, const PREFIX_LEN: usize> CountedWalk<
+    'a,
+    K,
+    V,
+    M,
+    PREFIX_LEN,
+> {
+    ghost use Rattle.blart_map.specs.CountedWalk.{counted_left, lends_first, lends_last};
+
+    // All pairs of the map.
+    pub(crate) fn all(map: &'a mut TreeMap<K, V, PREFIX_LEN>, kind: M) -> Self
+        ensures same_map { result.map.ghost_name ≡ map.entry.ghost_name }
+        ensures unchanged { result.map.now ≡ map.old }
+        ensures left { counted_left result ≡ map.old }
+        ensures none_lent { result.lent ≡ None }
+    {
+        let cursor = Cursor::all(&map.tree);
+        let left = map.tree.len();
+        CountedWalk {
+            map,
+            cursor,
+            lent: None,
+            left,
+            kind,
+        }
+    }
+
+    /// How many values are left.
+    pub fn len(&self) -> usize
+        ensures { result ≡ length (counted_left self.now) }
+    {
+        self.left
+    }
+
+    /// Lends the first value that is left.
+    pub fn next(&mut self) -> Option<&mut V>
+        ensures* writes_back { sem 𝓛 (lends_first K.row V.row M.row PREFIX_LEN.row K.AsBytes self.entry result) }
+        ensures end { IfNone result (counted_left self.old ≡ []) }
+    {
+        self.map.number_law();
+        let id = self.map.step(&mut self.cursor)?;
+        self.lent = Some(id);
+        self.left -= 1;
+        Some(self.map.value_mut(id))
+    }
+
+    /// Lends the last value that is left.
+    pub fn next_back(&mut self) -> Option<&mut V>
+        ensures* writes_back { sem 𝓛 (lends_last K.row V.row M.row PREFIX_LEN.row K.AsBytes self.entry result) }
+        ensures end { IfNone result (counted_left self.old ≡ []) }
+    {
+        self.map.number_law();
+        let id = self.map.step_back(&mut self.cursor)?;
+        self.lent = Some(id);
+        self.left -= 1;
+        Some(self.map.value_mut(id))
+    }
+}

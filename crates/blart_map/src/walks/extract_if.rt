@@ -1,0 +1,120 @@
+//! The pairs that a closure picks, taken out one by one.
+ghost use Rattle.std.specs.Prelude.{◌≡◌, length, true, None};
+ghost use Rattle.std.specs.Iterator.{at_most};
+ghost use Rattle.blart_keys.specs.Bounds.{bound_bytes, CanRange};
+ghost use Rattle.blart_keys.specs.Content.{between};
+ghost use Rattle.art_tree.specs.Leaves.{bytes};
+ghost use Rattle.art_walk.specs.Lent.{walk_fits, numbers};
+ghost use Rattle.blart_map.specs.Content.{pairs};
+
+use crate::map::TreeMap;
+use crate::walks::as_bytes;
+use art_tree::Visits;
+use art_walk::Cursor;
+use blart_keys::AsBytes;
+use std::iter::{DoubleEndedIterator, Iterator};
+use std::ops::Bound;
+
+/// The pairs within two bounds at which a closure answers `true`, taken out of the map one by one, from both ends. The closure is asked once of each pair that the walk reaches, before the pair is taken out. A pair that stays keeps its value as the closure left it. Dropped, the walk stops where it is, and the pairs not reached stay as they were.
+#[derive(Drop)]
+pub struct ExtractIf<'a, K: AsBytes, V, F, const PREFIX_LEN: usize> {
+    map: &'a mut TreeMap<K, V, PREFIX_LEN>,
+    cursor: Cursor,
+    pred: F,
+    ghost fits: { walk_fits cursor None (numbers map.now) ≡ true },
+}
+
+impl<K: AsBytes + Drop, V: Drop, const PREFIX_LEN: usize> TreeMap<K, V, PREFIX_LEN> {
+    ghost use Rattle.blart_map.specs.ExtractIf.{extract_left};
+
+    /// A walk that takes out the pairs within both bounds at which the closure answers `true`, from both ends. The bounds are in order where the map has pairs, as for [`TreeMap::range`]. Takes no memory; each pair that it asks about is one visit.
+    ///
+    /// ```
+    /// let low = "b";
+    /// for (key, value) in map.extract_if(Bound::Included(&low), Bound::Unbounded, |_, value| *value == 0) {
+    ///     // each key from "b" on whose value is 0, no longer in the map
+    /// }
+    /// ```
+    pub fn extract_if<Q: AsBytes, F: FnMut(&K, &mut V) -> bool>(
+        &mut self,
+        start: Bound<&Q>,
+        end: Bound<&Q>,
+        pred: F,
+    ) -> ExtractIf<'_, K, V, F, PREFIX_LEN>
+        requires { CanRange (pairs self.old) (bound_bytes Q.bytes start)
+            (bound_bytes Q.bytes end) }
+        ensures same_map { result.map.ghost_name ≡ self.entry.ghost_name }
+        ensures unchanged { result.map.now ≡ self.old }
+        ensures left { extract_left result ≡ between (bytes K.bytes) self.old
+            (bound_bytes Q.bytes start.entry) (bound_bytes Q.bytes end.entry) }
+        ensures same_pred { result.pred ≡ pred }
+    {
+        let cursor = Cursor::range(
+            &self.tree,
+            as_bytes(start),
+            as_bytes(end),
+            &mut Visits::new(),
+        );
+        ExtractIf {
+            map: self,
+            cursor,
+            pred,
+        }
+    }
+}
+
+impl<
+    'a,
+    K: AsBytes + Drop,
+    V: Drop,
+    F: FnMut(&K, &mut V) -> bool + Drop,
+    const PREFIX_LEN: usize,
+> Iterator for ExtractIf<'a, K, V, F, PREFIX_LEN> {
+    ghost use Rattle.blart_map.specs.ExtractIf.{extract_left, ExtractsNext};
+
+    type Item = (K, V);
+
+    ghost can_next = { λ s. F.IsAlwaysCallable s.pred };
+
+    ghost next_gives = { ExtractsNext F.FnMut };
+
+    ghost remaining = { λ s. at_most (length (extract_left s)) };
+
+    /// Asks from the first pair that is left on, and takes out the first at which the closure answers `true`.
+    fn next(&mut self) -> Option<(K, V)> {
+        self.map.number_law();
+        while let Some(id) = self.map.step(&mut self.cursor) {
+            let (key, value) = self.map.leaf_mut(id);
+            if (self.pred)(key, value) {
+                return Some(self.map.take_leaf(id));
+            }
+        }
+        None
+    }
+}
+
+impl<
+    'a,
+    K: AsBytes + Drop,
+    V: Drop,
+    F: FnMut(&K, &mut V) -> bool + Drop,
+    const PREFIX_LEN: usize,
+> DoubleEndedIterator for ExtractIf<'a, K, V, F, PREFIX_LEN> {
+    ghost use Rattle.blart_map.specs.ExtractIf.{ExtractsNextBack};
+
+    ghost can_next_back = { λ s. F.IsAlwaysCallable s.pred };
+
+    ghost next_back_gives = { ExtractsNextBack F.FnMut };
+
+    /// Asks from the last pair that is left on, and takes out the first at which the closure answers `true`.
+    fn next_back(&mut self) -> Option<(K, V)> {
+        self.map.number_law();
+        while let Some(id) = self.map.step_back(&mut self.cursor) {
+            let (key, value) = self.map.leaf_mut(id);
+            if (self.pred)(key, value) {
+                return Some(self.map.take_leaf(id));
+            }
+        }
+        None
+    }
+}

@@ -1,0 +1,103 @@
+//! Some values, each lent to be written.
+ghost use Rattle.std.specs.Prelude.{◌≡◌, [], true, is_some, Some, None, MatchOption, IfNone, ⊤};
+ghost use Rattle.std.specs.Borrow.{sem};
+ghost use Rattle.art_tree.specs.Leaves.{leaf_in};
+ghost use Rattle.art_walk.specs.Lent.{walk_fits, numbers};
+
+use crate::map::TreeMap;
+use art_tree::LeafId;
+use art_walk::{BelowFront, Cursor, InRange};
+use blart_keys::AsBytes;
+
+/// The values whose keys are within two bounds, each lent in turn.
+pub type RangeMut<'a, K, V, const PREFIX_LEN: usize> = LendingWalk<'a, K, V, InRange, PREFIX_LEN>;
+
+/// The values whose keys begin with some bytes, each lent in turn.
+pub type PrefixMut<'a, K, V, const PREFIX_LEN: usize> = LendingWalk<
+    'a,
+    K,
+    V,
+    BelowFront,
+    PREFIX_LEN,
+>;
+
+/// Some values of a map from both ends, in byte order of their keys, each lent in turn. Each step is one visit, and where the ends have met none comes at either.
+#[derive(Drop)]
+pub struct LendingWalk<'a, K: AsBytes, V, M, const PREFIX_LEN: usize> {
+    map: &'a mut TreeMap<K, V, PREFIX_LEN>,
+    cursor: Cursor,
+    lent: Option<LeafId>,
+    kind: M,
+    ghost fits: { walk_fits cursor lent (numbers map.now) ≡ true },
+}
+
+impl<'a, K: AsBytes + Drop, V: Drop, M, const PREFIX_LEN: usize> LendingWalk<
+    'a,
+    K,
+    V,
+    M,
+    PREFIX_LEN,
+> {
+    ghost use Rattle.blart_map.specs.LendingWalk.{lending_left, lends_first, lends_last, lends_pair, lending_with};
+
+    // What the cursor has left of the map.
+    pub(crate) fn of(map: &'a mut TreeMap<K, V, PREFIX_LEN>, cursor: Cursor, kind: M) -> Self
+        requires { walk_fits cursor None (numbers map.old) ≡ true }
+        ensures same_map { result.map.ghost_name ≡ map.entry.ghost_name }
+        ensures unchanged { result.map.now ≡ map.old }
+        ensures same_cursor { result.cursor ≡ cursor }
+        ensures none_lent { result.lent ≡ None }
+    {
+        LendingWalk {
+            map,
+            cursor,
+            lent: None,
+            kind,
+        }
+    }
+
+    /// Lends the first value that is left.
+    pub fn next(&mut self) -> Option<&mut V>
+        ensures* writes_back { sem 𝓛 (lends_first K.row V.row M.row PREFIX_LEN.row K.AsBytes self.entry result) }
+        ensures end { IfNone result (lending_left self.old ≡ []) }
+    {
+        self.map.number_law();
+        let id = self.map.step(&mut self.cursor)?;
+        self.lent = Some(id);
+        Some(self.map.value_mut(id))
+    }
+
+    /// Lends the last value that is left.
+    pub fn next_back(&mut self) -> Option<&mut V>
+        ensures* writes_back { sem 𝓛 (lends_last K.row V.row M.row PREFIX_LEN.row K.AsBytes self.entry result) }
+        ensures end { IfNone result (lending_left self.old ≡ []) }
+    {
+        self.map.number_law();
+        let id = self.map.step_back(&mut self.cursor)?;
+        self.lent = Some(id);
+        Some(self.map.value_mut(id))
+    }
+
+    /// The key of the value that was lent last. One was lent.
+    pub fn key(&self) -> &K
+        requires { is_some self.now.lent ≡ true }
+        ensures { MatchOption self.now.lent ⊤
+            (λ id. (v : V) × (leaf_in self.now.map.now id ≡ Some (result.now, v))) }
+    {
+        let id = self.lent.unwrap();
+        self.map.leaf(id).0
+    }
+
+    /// The key and the value that was lent last, to be written again. One was lent.
+    pub fn pair(&mut self) -> (&K, &mut V)
+        requires { is_some self.old.lent ≡ true }
+        ensures* writes_back { sem 𝓛 (lends_pair K.row V.row M.row PREFIX_LEN.row K.AsBytes self.entry result) }
+        ensures value { MatchOption self.old.lent ⊤
+            (λ id. leaf_in self.old.map.now id ≡ Some (result.0.now, result.1.now)) }
+        ensures same_left { (w : V) → lending_left (lending_with self.old w) ≡ lending_left self.old }
+    {
+        self.map.number_law();
+        let id = self.lent.unwrap();
+        self.map.leaf_mut(id)
+    }
+}

@@ -1,0 +1,119 @@
+//! Some pairs, each lent in turn, to be kept or taken.
+ghost use Rattle.std.specs.Prelude.{◌≡◌, [], true, false, is_some, Some, None, MatchOption, IfNone, ⊤};
+ghost use Rattle.std.specs.Borrow.{sem};
+ghost use Rattle.art_tree.specs.Leaves.{leaf_in, without_number};
+ghost use Rattle.art_walk.specs.Lent.{walk_fits, numbers};
+
+use crate::map::TreeMap;
+use art_tree::LeafId;
+use art_walk::Cursor;
+use blart_keys::AsBytes;
+
+/// The pairs within two bounds from both ends, in byte order of their keys, each lent in turn and then kept or taken out of the map. Each step is one visit, and where the ends have met none comes at either. Dropped while a pair is undecided, it keeps that pair.
+#[derive(Drop)]
+pub struct TakeWalk<'a, K: AsBytes, V, const PREFIX_LEN: usize> {
+    map: &'a mut TreeMap<K, V, PREFIX_LEN>,
+    cursor: Cursor,
+    lent: Option<LeafId>,
+    ghost fits: { walk_fits cursor lent (numbers map.now) ≡ true },
+}
+
+impl<'a, K: AsBytes + Drop, V: Drop, const PREFIX_LEN: usize> TakeWalk<'a, K, V, PREFIX_LEN> {
+    ghost use Rattle.blart_map.specs.TakeWalk.{take_left, lends_first, lends_last, lends_pair, take_with};
+
+    // What the cursor has left of the map.
+    pub(crate) fn of(map: &'a mut TreeMap<K, V, PREFIX_LEN>, cursor: Cursor) -> Self
+        requires { walk_fits cursor None (numbers map.old) ≡ true }
+        ensures same_map { result.map.ghost_name ≡ map.entry.ghost_name }
+        ensures unchanged { result.map.now ≡ map.old }
+        ensures same_cursor { result.cursor ≡ cursor }
+        ensures decided { result.lent ≡ None }
+    {
+        TakeWalk {
+            map,
+            cursor,
+            lent: None,
+        }
+    }
+
+    /// Whether a pair is lent, and neither kept nor taken so far.
+    pub fn undecided(&self) -> bool
+        ensures { result ≡ is_some self.now.lent }
+    {
+        self.lent.is_some()
+    }
+
+    /// Lends the first pair that is left, and gives its value. None is undecided.
+    pub fn lend(&mut self) -> Option<&mut V>
+        requires { is_some self.old.lent ≡ false }
+        ensures* writes_back { sem 𝓛 (lends_first K.row V.row PREFIX_LEN.row K.AsBytes self.entry result) }
+        ensures end { IfNone result (take_left self.old ≡ []) }
+    {
+        self.map.number_law();
+        let id = self.map.step(&mut self.cursor)?;
+        self.lent = Some(id);
+        Some(self.map.value_mut(id))
+    }
+
+    /// Lends the last pair that is left, and gives its value. None is undecided.
+    pub fn lend_back(&mut self) -> Option<&mut V>
+        requires { is_some self.old.lent ≡ false }
+        ensures* writes_back { sem 𝓛 (lends_last K.row V.row PREFIX_LEN.row K.AsBytes self.entry result) }
+        ensures end { IfNone result (take_left self.old ≡ []) }
+    {
+        self.map.number_law();
+        let id = self.map.step_back(&mut self.cursor)?;
+        self.lent = Some(id);
+        Some(self.map.value_mut(id))
+    }
+
+    /// The key of the lent pair. One is undecided.
+    pub fn key(&self) -> &K
+        requires { is_some self.now.lent ≡ true }
+        ensures { MatchOption self.now.lent ⊤
+            (λ id. (v : V) × (leaf_in self.now.map.now id ≡ Some (result.now, v))) }
+    {
+        let id = self.lent.unwrap();
+        self.map.leaf(id).0
+    }
+
+    /// The lent pair, its value to be written. One is undecided.
+    pub fn pair(&mut self) -> (&K, &mut V)
+        requires { is_some self.old.lent ≡ true }
+        ensures* writes_back { sem 𝓛 (lends_pair K.row V.row PREFIX_LEN.row K.AsBytes self.entry result) }
+        ensures value { MatchOption self.old.lent ⊤
+            (λ id. leaf_in self.old.map.now id ≡ Some (result.0.now, result.1.now)) }
+        ensures same_left { (w : V) → take_left (take_with self.old w) ≡ take_left self.old }
+    {
+        self.map.number_law();
+        let id = self.lent.unwrap();
+        self.map.leaf_mut(id)
+    }
+
+    /// Leaves the lent pair in the map, its value as written. One is undecided.
+    pub fn keep(&mut self)
+        requires { is_some self.old.lent ≡ true }
+        ensures same_map { self.new.map.ghost_name ≡ self.old.map.ghost_name }
+        ensures unchanged { self.new.map.now ≡ self.old.map.now }
+        ensures same_left { take_left self.new ≡ take_left self.old }
+        ensures decided { self.new.lent ≡ None }
+    {
+        self.lent = None;
+    }
+
+    /// Takes the lent pair out of the map, and gives it, its value as written. One is undecided. Takes no memory.
+    pub fn take(&mut self) -> (K, V)
+        requires { is_some self.old.lent ≡ true }
+        ensures same_map { self.new.map.ghost_name ≡ self.old.map.ghost_name }
+        ensures taken { MatchOption self.old.lent ⊤
+            (λ id. (leaf_in self.old.map.now id ≡ Some result)
+            × (self.new.map.now ≡ without_number self.old.map.now id)) }
+        ensures same_left { take_left self.new ≡ take_left self.old }
+        ensures decided { self.new.lent ≡ None }
+    {
+        self.map.number_law();
+        let id = self.lent.unwrap();
+        self.lent = None;
+        self.map.take_leaf(id)
+    }
+}
