@@ -1,6 +1,11 @@
+pub mod Again
 pub mod CallerLemmas
+pub mod EntryOf
+pub mod FreePlaces
 pub mod Inserting
 pub mod Numbers
+pub mod Setting
 pub mod Thinning
 pub mod Walking
 pub mod Writing
+pub mod WrittenLeaf
