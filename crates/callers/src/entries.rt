@@ -1,21 +1,18 @@
 //! Calls of entries.
 ghost use Rattle.std.specs.Prelude.{◌≡◌, ◌≢◌, ◌+◌, ◌<◌, ◌^◌, ℕ, List, true, not, unwrap_or, OnOk, IfOk, OnErr, None, Some, if◌then◌else◌};
-ghost use Rattle.blart.specs.Words.{pairs, pair_at, value_at, has, overlaps};
+ghost use Rattle.blart.specs.Words.{pairs, pair_at, value_at, has, overlaps, slice_bytes, zkey_bytes};
 
 use blart::map::Entry;
-use blart::{AsBytes, Map, NoPrefixesBytes};
+use blart::{Map, ZKey};
 use std::alloc::AllocError;
 
 /// Adds one to the count of a word, by its entry.
-pub fn count_by_entry<W: NoPrefixesBytes + Drop>(
-    counts: &mut Map<W, u64>,
-    word: W,
-) -> Result<(), AllocError>
-    requires { unwrap_or (value_at W.bytes (pairs counts.old) (W.bytes word)) 0 + 1 < 2 ^ 64 }
-    ensures counted { OnOk result (value_at W.bytes (pairs counts.new) (W.bytes word)
-        ≡ Some (unwrap_or (value_at W.bytes (pairs counts.old) (W.bytes word)) 0 + 1)) }
-    ensures others { (q : List ℕ) → q ≢ W.bytes word
-        → pair_at W.bytes (pairs counts.new) q ≡ pair_at W.bytes (pairs counts.old) q }
+pub fn count_by_entry(counts: &mut Map<ZKey, u64>, word: ZKey) -> Result<(), AllocError>
+    requires { unwrap_or (value_at zkey_bytes (pairs counts.old) (zkey_bytes word)) 0 + 1 < 2 ^ 64 }
+    ensures counted { OnOk result (value_at zkey_bytes (pairs counts.new) (zkey_bytes word)
+        ≡ Some (unwrap_or (value_at zkey_bytes (pairs counts.old) (zkey_bytes word)) 0 + 1)) }
+    ensures others { (q : List ℕ) → q ≢ zkey_bytes word
+        → pair_at zkey_bytes (pairs counts.new) q ≡ pair_at zkey_bytes (pairs counts.old) q }
     ensures refused { OnErr result (counts.new ≡ counts.old) }
 {
     let n = counts.entry(word).or_insert(0)?;
@@ -24,16 +21,16 @@ pub fn count_by_entry<W: NoPrefixesBytes + Drop>(
 }
 
 /// Sets the score of a player who has one, and gives a first one to who has none.
-pub fn score<P: NoPrefixesBytes + Drop>(
-    scores: &mut Map<P, u64>,
-    player: P,
+pub fn score(
+    scores: &mut Map<ZKey, u64>,
+    player: ZKey,
     next: u64,
     first: u64,
 ) -> Result<(), AllocError>
-    ensures set { OnOk result (value_at P.bytes (pairs scores.new) (P.bytes player)
-        ≡ Some (if has P.bytes (pairs scores.old) (P.bytes player) then next else first)) }
-    ensures others { OnOk result ((q : List ℕ) → q ≢ P.bytes player
-        → pair_at P.bytes (pairs scores.new) q ≡ pair_at P.bytes (pairs scores.old) q) }
+    ensures set { OnOk result (value_at zkey_bytes (pairs scores.new) (zkey_bytes player)
+        ≡ Some (if has zkey_bytes (pairs scores.old) (zkey_bytes player) then next else first)) }
+    ensures others { OnOk result ((q : List ℕ) → q ≢ zkey_bytes player
+        → pair_at zkey_bytes (pairs scores.new) q ≡ pair_at zkey_bytes (pairs scores.old) q) }
 {
     scores
         .entry(player)
@@ -43,15 +40,15 @@ pub fn score<P: NoPrefixesBytes + Drop>(
 }
 
 /// Takes a member out, or else lets one in, and answers whether it is in now. A refusal leaves the members as they were.
-pub fn toggle<M: NoPrefixesBytes + Drop, V: Drop>(
-    members: &mut Map<M, V>,
-    member: M,
+pub fn toggle<V: Drop>(
+    members: &mut Map<ZKey, V>,
+    member: ZKey,
     value: V,
 ) -> Result<bool, AllocError>
-    ensures turned { IfOk result (λ now. now ≡ not (has M.bytes (pairs members.old) (M.bytes member))) }
-    ensures there { IfOk result (λ now. has M.bytes (pairs members.new) (M.bytes member) ≡ now) }
-    ensures others { (q : List ℕ) → q ≢ M.bytes member
-        → pair_at M.bytes (pairs members.new) q ≡ pair_at M.bytes (pairs members.old) q }
+    ensures turned { IfOk result (λ now. now ≡ not (has zkey_bytes (pairs members.old) (zkey_bytes member))) }
+    ensures there { IfOk result (λ now. has zkey_bytes (pairs members.new) (zkey_bytes member) ≡ now) }
+    ensures others { (q : List ℕ) → q ≢ zkey_bytes member
+        → pair_at zkey_bytes (pairs members.new) q ≡ pair_at zkey_bytes (pairs members.old) q }
     ensures refused { OnErr result (members.new ≡ members.old) }
 {
     match members.entry(member) {
@@ -67,16 +64,16 @@ pub fn toggle<M: NoPrefixesBytes + Drop, V: Drop>(
 }
 
 /// Sets the target of a route that is stored or overlaps none, and answers whether it did.
-pub fn set_route<K: AsBytes + Drop>(
-    routes: &mut Map<K, u32>,
-    front: K,
+pub fn set_route(
+    routes: &mut Map<&'static str, u32>,
+    front: &'static str,
     target: u32,
 ) -> Result<bool, AllocError>
-    ensures done { IfOk result (λ done. done ≡ not (overlaps K.bytes (pairs routes.old) (K.bytes front))) }
+    ensures done { IfOk result (λ done. done ≡ not (overlaps slice_bytes (pairs routes.old) front.now)) }
     ensures set { IfOk result (λ done. done ≡ true
-        → value_at K.bytes (pairs routes.new) (K.bytes front) ≡ Some target) }
-    ensures others { (q : List ℕ) → q ≢ K.bytes front
-        → pair_at K.bytes (pairs routes.new) q ≡ pair_at K.bytes (pairs routes.old) q }
+        → value_at slice_bytes (pairs routes.new) front.now ≡ Some target) }
+    ensures others { (q : List ℕ) → q ≢ front.now
+        → pair_at slice_bytes (pairs routes.new) q ≡ pair_at slice_bytes (pairs routes.old) q }
     ensures refused { OnErr result (routes.new ≡ routes.old) }
 {
     let entry = match routes.try_entry(front) {
@@ -88,15 +85,11 @@ pub fn set_route<K: AsBytes + Drop>(
 }
 
 /// Stores a value and takes it back.
-pub fn borrow_place<K: NoPrefixesBytes + Drop, V: Drop>(
-    store: &mut Map<K, V>,
-    key: K,
-    value: V,
-) -> Result<V, AllocError>
+pub fn borrow_place<V: Drop>(store: &mut Map<ZKey, V>, key: ZKey, value: V) -> Result<V, AllocError>
     ensures value { IfOk result (λ back. back ≡ value) }
-    ensures gone { OnOk result (pair_at K.bytes (pairs store.new) (K.bytes key) ≡ None) }
-    ensures others { OnOk result ((q : List ℕ) → q ≢ K.bytes key
-        → pair_at K.bytes (pairs store.new) q ≡ pair_at K.bytes (pairs store.old) q) }
+    ensures gone { OnOk result (pair_at zkey_bytes (pairs store.new) (zkey_bytes key) ≡ None) }
+    ensures others { OnOk result ((q : List ℕ) → q ≢ zkey_bytes key
+        → pair_at zkey_bytes (pairs store.new) q ≡ pair_at zkey_bytes (pairs store.old) q) }
 {
     let entry = store.entry(key).insert_entry(value)?;
     Ok(entry.remove())
