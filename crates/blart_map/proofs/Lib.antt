@@ -1,6 +1,10 @@
+pub mod Again
 pub mod CallerLemmas
+pub mod EntryOf
+pub mod FreePlaces
 pub mod Inserting
 pub mod Numbers
+pub mod Setting
 pub mod Thinning
 pub mod Walking
 pub mod Writing
@@ -10,3 +14,4 @@ pub mod TakePairs
 pub mod Opening
 pub mod Extracting
 pub mod OnceWritten
+pub mod WrittenLeaf

@@ -1,5 +1,12 @@
 pub mod Content
 pub mod Driven
+pub mod Entry
+pub mod EntryLends
+pub mod MapLends
+pub mod Modified
+pub mod OccupiedEntry
+pub mod OccupiedLends
+pub mod Places
 pub mod Spans
 pub mod Written
 pub mod LendingWalk

@@ -7,11 +7,17 @@
 
 mod calls;
 mod changes;
+mod entries;
+mod entry;
 mod insertions;
 mod into_walks;
 mod map;
+mod numbered;
+mod occupied;
 mod over;
+mod placing;
 mod retaining;
+mod vacant;
 mod walks;
 mod writes;
 
@@ -22,7 +28,10 @@ pub use art_walk::{
 };
 pub use blart_keys::{Call, InsertPrefixError, Reply, TryInsertError};
 pub use calls::{bounds_in_order, drive};
+pub use entry::Entry;
 pub use map::TreeMap;
+pub use occupied::OccupiedEntry;
+pub use vacant::VacantEntry;
 pub use walks::counted_walk::{CountedWalk, IterMut, ValuesMut};
 pub use walks::extract_if::ExtractIf;
 pub use walks::lending_walk::{LendingWalk, PrefixMut, RangeMut};

@@ -1,0 +1,17 @@
+use Rattle.std.proofs.Common.{refl, sym, ap, ◌∙◌, subst}
+use Rattle.blart_keys.specs.Content.{IsPut}
+use Rattle.art_tree.specs.Leaves.{bytes}
+use Rattle.blart_map.proofs.map.TreeMap.place_new_with_key.Goals as goal
+
+pub returns-clause-placed : goal.returns-clause-placed
+returns-clause-placed g c =
+    let kb = g.K.AsBytes.bytes in
+    let v = c.default-value.result in (
+      v,
+      (_, c.default-value.ensures, refl),
+      record {
+        put = subst (λ S. IsPut (bytes kb) S (c.place-id.result, (c.args.key, v)) c.place-id.new.self.pairs) (c.in_ok-point.ensures.pairs ∙ c.self.view_is) c.place-id.ensures.put;
+        now = c.place-id.ensures.now;
+        distinct = c.law.ensures.distinct;
+      },
+    )

@@ -1,0 +1,82 @@
+//! The entry of a key.
+ghost use Rattle.std.specs.Prelude.{◌≡◌, not, is_ok, IfOk};
+ghost use Rattle.std.specs.Borrow.{sem};
+ghost use Rattle.blart_keys.specs.Stored.{overlaps};
+ghost use Rattle.blart_map.specs.Content.{pairs};
+ghost use Rattle.blart_map.specs.Entry.{entry_ref, IsEntryFor};
+ghost use Rattle.blart_map.specs.EntryLends.{rests_if_refused};
+
+use crate::entry::Entry;
+use crate::map::TreeMap;
+use crate::occupied::OccupiedEntry;
+use crate::vacant::VacantEntry;
+use art_tree::Point;
+use blart_keys::{AsBytes, InsertPrefixError, NoPrefixesBytes};
+use std::marker::PhantomData;
+
+impl<K: AsBytes + Drop, V: Drop, const PREFIX_LEN: usize> TreeMap<K, V, PREFIX_LEN> {
+    /// The entry of the key. Takes no memory. It is refused exactly where the key conflicts, and then the key is dropped.
+    ///
+    /// Where the key's bytes are stored the key handed in is dropped, and the stored key stays.
+    ///
+    /// ```
+    /// *map.try_entry("cat")?.or_insert(0)? += 1;
+    /// assert_eq!(map.get(&"cat"), Some(&1));
+    /// assert!(map.try_entry("cats").is_err());
+    /// ```
+    pub fn try_entry(
+        &mut self,
+        key: K,
+    ) -> Result<Entry<'_, K, V, PREFIX_LEN, TreeMap<K, V, PREFIX_LEN>>, InsertPrefixError>
+        ensures* stands { sem 𝓛 (rests_if_refused K.row V.row PREFIX_LEN.row K.AsBytes self.entry result) }
+        ensures found { is_ok result ≡ not (overlaps K.bytes (pairs self.old) (K.bytes key)) }
+        ensures same_map { IfOk result (λ e. (entry_ref e).ghost_name ≡ self.entry.ghost_name) }
+        ensures unchanged { IfOk result (λ e. (entry_ref e).now ≡ self.old) }
+        ensures is_for { IfOk result (IsEntryFor (pairs self.old) key) }
+    {
+        self.numbers_law();
+        match self.point_of(key.as_bytes()) {
+            Point::Exact(id) => Ok(Entry::Occupied(OccupiedEntry {
+                map: self,
+                id,
+                lender: PhantomData,
+            })),
+            Point::Related { .. } => Err(InsertPrefixError),
+            Point::Empty | Point::Free(_) => Ok(Entry::Vacant(VacantEntry {
+                map: self,
+                key,
+                lender: PhantomData,
+            })),
+        }
+    }
+}
+
+impl<K: NoPrefixesBytes + Drop, V: Drop, const PREFIX_LEN: usize> TreeMap<K, V, PREFIX_LEN> {
+    /// The entry of the key, as [`TreeMap::try_entry`]. Keys of this type never conflict.
+    ///
+    /// ```
+    /// *map.entry(U32Key::new(258)).or_insert(0)? += 1;
+    /// *map.entry(U32Key::new(258)).or_insert(0)? += 1;
+    /// assert_eq!(map.get(&U32Key::new(258)), Some(&2));
+    /// ```
+    pub fn entry(&mut self, key: K) -> Entry<'_, K, V, PREFIX_LEN, TreeMap<K, V, PREFIX_LEN>>
+        ensures same_map { (entry_ref result).ghost_name ≡ self.entry.ghost_name }
+        ensures unchanged { (entry_ref result).now ≡ self.old }
+        ensures is_for { IsEntryFor (pairs self.old) key result }
+    {
+        self.numbers_law();
+        match self.lawful_point(&key) {
+            Point::Exact(id) => Entry::Occupied(OccupiedEntry {
+                map: self,
+                id,
+                lender: PhantomData,
+            }),
+            Point::Related { .. } => unreachable!(),
+            Point::Empty | Point::Free(_) => Entry::Vacant(VacantEntry {
+                map: self,
+                key,
+                lender: PhantomData,
+            }),
+        }
+    }
+}

@@ -1,0 +1,209 @@
+//! A key's place in a map.
+ghost use Rattle.std.specs.Prelude.{◌≡◌, not, is_ok, Some, None, IfOk, OnErr, IfSome};
+ghost use Rattle.std.specs.Borrow.{sem, MutBor};
+ghost use Rattle.std.specs.Option.{unwrap_or, UnwrapsOrElse};
+ghost use Rattle.std.specs.Fn.{FnOnceReturnsAt};
+ghost use denote.Ref.{Bor};
+
+use crate::map::TreeMap;
+use crate::occupied::OccupiedEntry;
+use crate::vacant::VacantEntry;
+use blart_keys::AsBytes;
+use std::alloc::AllocError;
+
+/// A key's place in a map: at its pair, or where none stands yet.
+///
+/// A growing call answers want of memory on `Vacant` alone, and then the map is as it was. A closure or a default is called on `Vacant` alone, once there is room.
+#[derive(Drop)]
+pub enum Entry<'a, K: AsBytes, V, const PREFIX_LEN: usize, T: 'a> {
+    /// The key's bytes are stored.
+    Occupied(OccupiedEntry<'a, K, V, PREFIX_LEN, T>),
+    /// They are not, and the key conflicts with none.
+    Vacant(VacantEntry<'a, K, V, PREFIX_LEN, T>),
+}
+
+impl<'a, K: AsBytes + Drop, V: Drop, const PREFIX_LEN: usize, T: 'a> Entry<
+    'a,
+    K,
+    V,
+    PREFIX_LEN,
+    T,
+> {
+    ghost use Rattle.blart_map.specs.Entry.{entry_key, entry_value};
+    ghost use Rattle.blart_map.specs.Modified.{IsModified};
+
+    /// The stored key, or the one handed in where none is stored.
+    pub fn key(&self) -> &K
+        ensures { entry_key self.now ≡ Some result.now }
+    {
+        match self {
+            Entry::Occupied(entry) => entry.key(),
+            Entry::Vacant(entry) => entry.key(),
+        }
+    }
+
+    /// Calls the closure on the value where one is stored.
+    pub fn and_modify<F: FnOnce(&mut V) + Drop>(self, f: F) -> Self
+        requires { (p : MutBor V) → entry_value self ≡ Some p.now → F.pre f p }
+        ensures { IsModified F.FnOnce f self.entry result }
+    {
+        match self {
+            Entry::Occupied(mut entry) => {
+                f(entry.get_mut());
+                Entry::Occupied(entry)
+            }
+            Entry::Vacant(entry) => Entry::Vacant(entry),
+        }
+    }
+}
+
+impl<'a, K: AsBytes + Drop, V: Drop, const PREFIX_LEN: usize> Entry<
+    'a,
+    K,
+    V,
+    PREFIX_LEN,
+    TreeMap<K, V, PREFIX_LEN>,
+> {
+    ghost use Rattle.blart_map.specs.Entry.{entry_key, entry_value, IsSetEntry, IsKeptOrSet, IsKeptOrMade};
+    ghost use Rattle.blart_map.specs.EntryLends.{entry_lends_ok};
+
+    /// The value, to be written, after placing the default where none is stored.
+    pub fn or_insert(self, default: V) -> Result<&'a mut V, AllocError>
+        ensures* writes_back { sem 𝓛 (entry_lends_ok K.row V.row PREFIX_LEN.row K.AsBytes self.entry result) }
+        ensures value { IfOk result (λ r. r.now ≡ unwrap_or (entry_value self.entry) default) }
+        ensures absent { OnErr result (entry_value self.entry ≡ None) }
+    {
+        match self {
+            Entry::Occupied(entry) => Ok(entry.into_mut()),
+            Entry::Vacant(entry) => entry.insert(default),
+        }
+    }
+
+    /// Sets the value, and answers the entry of its pair.
+    pub fn insert_entry(
+        self,
+        value: V,
+    ) -> Result<OccupiedEntry<'a, K, V, PREFIX_LEN, TreeMap<K, V, PREFIX_LEN>>, AllocError>
+        ensures set { IfOk result (IsSetEntry self.entry value) }
+        ensures absent { OnErr result (entry_value self.entry ≡ None) }
+    {
+        match self {
+            Entry::Occupied(mut entry) => {
+                entry.insert(value);
+                Ok(entry)
+            }
+            Entry::Vacant(entry) => entry.insert_entry(value),
+        }
+    }
+
+    /// The entry of the key's pair, after placing the default where none is stored.
+    pub fn or_insert_entry(
+        self,
+        default: V,
+    ) -> Result<OccupiedEntry<'a, K, V, PREFIX_LEN, TreeMap<K, V, PREFIX_LEN>>, AllocError>
+        ensures set { IfOk result (IsKeptOrSet self.entry default) }
+        ensures absent { OnErr result (entry_value self.entry ≡ None) }
+    {
+        match self {
+            Entry::Occupied(entry) => Ok(entry),
+            Entry::Vacant(entry) => entry.insert_entry(default),
+        }
+    }
+
+    /// The value, to be written, after placing the closure's answer where none is stored.
+    pub fn or_insert_with<F: FnOnce() -> V + Drop>(
+        self,
+        default: F,
+    ) -> Result<&'a mut V, AllocError>
+        requires { entry_value self ≡ None → F.pre default }
+        ensures* writes_back { sem 𝓛 (entry_lends_ok K.row V.row PREFIX_LEN.row K.AsBytes self.entry result) }
+        ensures value { IfOk result
+            (λ r. UnwrapsOrElse (entry_value self.entry) (F.post default) r.now) }
+        ensures absent { OnErr result (entry_value self.entry ≡ None) }
+    {
+        match self {
+            Entry::Occupied(entry) => Ok(entry.into_mut()),
+            Entry::Vacant(entry) => entry.insert_with(default),
+        }
+    }
+
+    /// The value, to be written, after placing the closure's answer where none is stored. The closure is given the key handed in.
+    pub fn or_insert_with_key<F: FnOnce(&K) -> V + Drop>(
+        self,
+        default: F,
+    ) -> Result<&'a mut V, AllocError>
+        requires { entry_value self ≡ None
+            → (p : Bor K) → entry_key self ≡ Some p.now → F.pre default p }
+        ensures* writes_back { sem 𝓛 (entry_lends_ok K.row V.row PREFIX_LEN.row K.AsBytes self.entry result) }
+        ensures value { IfOk result (λ r. UnwrapsOrElse (entry_value self.entry)
+            (λ v. IfSome (entry_key self.entry) (λ k. FnOnceReturnsAt F.FnOnce default k v)) r.now) }
+        ensures absent { OnErr result (entry_value self.entry ≡ None) }
+    {
+        match self {
+            Entry::Occupied(entry) => Ok(entry.into_mut()),
+            Entry::Vacant(entry) => entry.insert_with_key(default),
+        }
+    }
+
+    /// The value, to be written, after placing the type's default where none is stored.
+    pub fn or_default(self) -> Result<&'a mut V, AllocError>
+    where
+        V: Default,
+        ensures* writes_back { sem 𝓛 (entry_lends_ok K.row V.row PREFIX_LEN.row K.AsBytes self.entry result) }
+        ensures value { IfOk result
+            (λ r. UnwrapsOrElse (entry_value self.entry) V.is_default r.now) }
+        ensures absent { OnErr result (entry_value self.entry ≡ None) }
+    {
+        match self {
+            Entry::Occupied(entry) => Ok(entry.into_mut()),
+            Entry::Vacant(entry) => entry.insert_with(|| V::default()),
+        }
+    }
+
+    /// The entry of the key's pair, after placing the closure's answer where none is stored.
+    pub fn or_insert_with_entry<F: FnOnce() -> V + Drop>(
+        self,
+        default: F,
+    ) -> Result<OccupiedEntry<'a, K, V, PREFIX_LEN, TreeMap<K, V, PREFIX_LEN>>, AllocError>
+        requires { entry_value self ≡ None → F.pre default }
+        ensures set { IfOk result (IsKeptOrMade self.entry (F.post default)) }
+        ensures absent { OnErr result (entry_value self.entry ≡ None) }
+    {
+        match self {
+            Entry::Occupied(entry) => Ok(entry),
+            Entry::Vacant(entry) => entry.insert_entry_with(default),
+        }
+    }
+
+    /// The entry of the key's pair, after placing the closure's answer where none is stored. The closure is given the key handed in.
+    pub fn or_insert_with_key_entry<F: FnOnce(&K) -> V + Drop>(
+        self,
+        default: F,
+    ) -> Result<OccupiedEntry<'a, K, V, PREFIX_LEN, TreeMap<K, V, PREFIX_LEN>>, AllocError>
+        requires { entry_value self ≡ None
+            → (p : Bor K) → entry_key self ≡ Some p.now → F.pre default p }
+        ensures set { IfOk result (IsKeptOrMade self.entry
+            (λ v. IfSome (entry_key self.entry) (λ k. FnOnceReturnsAt F.FnOnce default k v))) }
+        ensures absent { OnErr result (entry_value self.entry ≡ None) }
+    {
+        match self {
+            Entry::Occupied(entry) => Ok(entry),
+            Entry::Vacant(entry) => entry.insert_entry_with_key(default),
+        }
+    }
+
+    /// The entry of the key's pair, after placing the type's default where none is stored.
+    pub fn or_default_entry(
+        self,
+    ) -> Result<OccupiedEntry<'a, K, V, PREFIX_LEN, TreeMap<K, V, PREFIX_LEN>>, AllocError>
+    where
+        V: Default,
+        ensures set { IfOk result (IsKeptOrMade self.entry V.is_default) }
+        ensures absent { OnErr result (entry_value self.entry ≡ None) }
+    {
+        match self {
+            Entry::Occupied(entry) => Ok(entry),
+            Entry::Vacant(entry) => entry.insert_entry_with(|| V::default()),
+        }
+    }
+}

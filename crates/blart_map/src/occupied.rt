@@ -1,0 +1,108 @@
+//! A pair that stands in a map.
+ghost use Rattle.std.specs.Prelude.{◌≡◌, Some};
+ghost use Rattle.std.specs.Borrow.{sem};
+ghost use Rattle.art_tree.specs.Leaves.{Has};
+
+use crate::map::TreeMap;
+use art_tree::LeafId;
+use blart_keys::AsBytes;
+use std::marker::PhantomData;
+use std::mem::replace;
+
+/// A pair that stands in a map. Nothing is searched for it again, and none of its calls takes memory.
+///
+/// `T` is the map's type, which stands here because a borrow of a type with a const parameter has to be known to live as long as it is lent.
+#[derive(Drop)]
+pub struct OccupiedEntry<'a, K: AsBytes, V, const PREFIX_LEN: usize, T: 'a> {
+    pub(crate) map: &'a mut TreeMap<K, V, PREFIX_LEN>,
+    pub(crate) id: LeafId,
+    pub(crate) lender: PhantomData<T>,
+    ghost stands: { Has map.now id },
+}
+
+impl<'a, K: AsBytes + Drop, V: Drop, const PREFIX_LEN: usize, T: 'a> OccupiedEntry<
+    'a,
+    K,
+    V,
+    PREFIX_LEN,
+    T,
+> {
+    ghost use Rattle.blart_map.specs.Entry.{Occupied, entry_key, entry_value, entry_pair, IsSetEntry, IsRemoved};
+    ghost use Rattle.blart_map.specs.OccupiedEntry.{with_entry_value};
+    ghost use Rattle.blart_map.specs.OccupiedLends.{entry_value_lends};
+
+    /// The stored key.
+    pub fn key(&self) -> &K
+        ensures { entry_key (Occupied self.now) ≡ Some result.now }
+    {
+        self.map.pair_of(self.id).0
+    }
+
+    /// The value.
+    pub fn get(&self) -> &V
+        ensures { entry_value (Occupied self.now) ≡ Some result.now }
+    {
+        self.map.pair_of(self.id).1
+    }
+
+    /// The value, to be written.
+    pub fn get_mut(&mut self) -> &mut V
+        ensures* writes_back { sem 𝓛 (entry_value_lends K.row V.row PREFIX_LEN.row T.row K.AsBytes self.entry result) }
+        ensures value { entry_value (Occupied self.old) ≡ Some result.now }
+        ensures written { (w : V) → IsSetEntry (Occupied self.old) w (with_entry_value self.old w) }
+    {
+        self.map.numbers_law();
+        let id = self.id;
+        self.map.value_of(id)
+    }
+
+    /// Sets the value, and gives the old one. The key stays.
+    pub fn insert(&mut self, value: V) -> V
+        ensures old { entry_value (Occupied self.old) ≡ Some result }
+        ensures written { IsSetEntry (Occupied self.old) value self.new }
+    {
+        replace(self.get_mut(), value)
+    }
+
+    /// Removes the pair, and gives it.
+    pub fn remove_entry(self) -> (K, V)
+        ensures pair { entry_pair (Occupied self.entry) ≡ Some result }
+        ensures rest { IsRemoved (Occupied self.entry) self.exit.0.now }
+    {
+        self.map.numbers_law();
+        let id = self.id;
+        self.map.remove_leaf(id)
+    }
+
+    /// Removes the pair, and gives its value.
+    pub fn remove(self) -> V
+        ensures value { entry_value (Occupied self.entry) ≡ Some result }
+        ensures rest { IsRemoved (Occupied self.entry) self.exit.0.now }
+    {
+        self.remove_entry().1
+    }
+}
+
+impl<'a, K: AsBytes + Drop, V: Drop, const PREFIX_LEN: usize> OccupiedEntry<
+    'a,
+    K,
+    V,
+    PREFIX_LEN,
+    TreeMap<K, V, PREFIX_LEN>,
+> {
+    ghost use Rattle.blart_map.specs.Entry.{Occupied, entry_value, IsSet};
+    ghost use Rattle.blart_map.specs.MapLends.{map_lends_leaf};
+    ghost use Rattle.art_tree.specs.Leaves.{with_value};
+
+    /// The value, to be written for as long as the map was lent.
+    pub fn into_mut(self) -> &'a mut V
+        ensures* writes_back { sem 𝓛 (map_lends_leaf K.row V.row PREFIX_LEN.row K.AsBytes self.entry.map self.entry.id result) }
+        ensures value { entry_value (Occupied self.entry) ≡ Some result.now }
+        ensures written { (w : V) → IsSet (Occupied self.entry) w
+            (with_value self.entry.map.now self.entry.id w) }
+    {
+        let map = self.map;
+        map.numbers_law();
+        map.value_of(self.id)
+    }
+}

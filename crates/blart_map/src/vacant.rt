@@ -1,0 +1,156 @@
+//! A key that a map lacks, and that conflicts with none of its keys.
+ghost use Rattle.std.specs.Prelude.{◌≡◌, false, IfOk, Some};
+ghost use Rattle.std.specs.Borrow.{sem};
+ghost use Rattle.std.specs.Fn.{FnOnceReturnsAt};
+ghost use denote.Ref.{Bor};
+ghost use Rattle.blart_keys.specs.Content.{stores, conflict};
+ghost use Rattle.art_tree.specs.Leaves.{bytes};
+
+use crate::map::TreeMap;
+use crate::occupied::OccupiedEntry;
+use blart_keys::AsBytes;
+use std::alloc::AllocError;
+use std::marker::PhantomData;
+
+/// A key that a map lacks, and that conflicts with none of its keys. Only its insertions take memory, and a refused one leaves the map as it was.
+#[derive(Drop)]
+pub struct VacantEntry<'a, K: AsBytes, V, const PREFIX_LEN: usize, T: 'a> {
+    pub(crate) map: &'a mut TreeMap<K, V, PREFIX_LEN>,
+    pub(crate) key: K,
+    pub(crate) lender: PhantomData<T>,
+    ghost absent: { stores (bytes K.bytes) map.now (K.bytes key) ≡ false },
+    ghost free: { conflict (bytes K.bytes) map.now (K.bytes key) ≡ false },
+}
+
+impl<'a, K: AsBytes + Drop, V: Drop, const PREFIX_LEN: usize, T: 'a> VacantEntry<
+    'a,
+    K,
+    V,
+    PREFIX_LEN,
+    T,
+> {
+    /// The key.
+    pub fn key(&self) -> &K
+        ensures { result.now ≡ self.now.key }
+    {
+        &self.key
+    }
+
+    /// Gives the key back. The map stands.
+    pub fn into_key(self) -> K
+        ensures key { result ≡ self.entry.key }
+        ensures unchanged { self.exit.0.now ≡ self.entry.map.now }
+    {
+        self.key
+    }
+}
+
+impl<'a, K: AsBytes + Drop, V: Drop, const PREFIX_LEN: usize> VacantEntry<
+    'a,
+    K,
+    V,
+    PREFIX_LEN,
+    TreeMap<K, V, PREFIX_LEN>,
+> {
+    ghost use Rattle.blart_map.specs.Entry.{Vacant, IsSetEntry};
+    ghost use Rattle.blart_map.specs.EntryLends.{entry_lends_ok, entry_rests};
+
+    /// Places the key with the value, which is lent to be written. Where memory is refused the key and the value are dropped.
+    pub fn insert(self, value: V) -> Result<&'a mut V, AllocError>
+        ensures* writes_back { sem 𝓛 (entry_lends_ok K.row V.row PREFIX_LEN.row K.AsBytes (Vacant self.entry) result) }
+        ensures value { IfOk result (λ r. r.now ≡ value) }
+    {
+        let VacantEntry { map, key, .. } = self;
+        map.numbers_law();
+        let id = map.place_new(key, value)?;
+        Ok(map.value_of(id))
+    }
+
+    /// Places the key with the value, and answers its entry. Where memory is refused the key and the value are dropped.
+    pub fn insert_entry(
+        self,
+        value: V,
+    ) -> Result<OccupiedEntry<'a, K, V, PREFIX_LEN, TreeMap<K, V, PREFIX_LEN>>, AllocError>
+        ensures* stands { sem 𝓛 (entry_rests K.row V.row PREFIX_LEN.row K.AsBytes (Vacant self.entry) result) }
+        ensures set { IfOk result (IsSetEntry (Vacant self.entry) value) }
+    {
+        let VacantEntry { map, key, .. } = self;
+        map.numbers_law();
+        let id = map.place_new(key, value)?;
+        Ok(OccupiedEntry {
+            map,
+            id,
+            lender: PhantomData,
+        })
+    }
+
+    // Places the key with the closure's answer, which is lent to be written. The closure is called once there is room.
+    pub(crate) fn insert_with<F: FnOnce() -> V + Drop>(
+        self,
+        default: F,
+    ) -> Result<&'a mut V, AllocError>
+        requires { F.pre default }
+        ensures* writes_back { sem 𝓛 (entry_lends_ok K.row V.row PREFIX_LEN.row K.AsBytes (Vacant self.entry) result) }
+        ensures value { IfOk result (λ r. F.post default r.now) }
+    {
+        let VacantEntry { map, key, .. } = self;
+        map.numbers_law();
+        let id = map.place_new_with(key, default)?;
+        Ok(map.value_of(id))
+    }
+
+    // The same with the answer of a closure that is given the key.
+    pub(crate) fn insert_with_key<F: FnOnce(&K) -> V + Drop>(
+        self,
+        default: F,
+    ) -> Result<&'a mut V, AllocError>
+        requires { (p : Bor K) → p.now ≡ self.key → F.pre default p }
+        ensures* writes_back { sem 𝓛 (entry_lends_ok K.row V.row PREFIX_LEN.row K.AsBytes (Vacant self.entry) result) }
+        ensures value { IfOk result (λ r. FnOnceReturnsAt F.FnOnce default self.entry.key r.now) }
+    {
+        let VacantEntry { map, key, .. } = self;
+        map.numbers_law();
+        let id = map.place_new_with_key(key, default)?;
+        Ok(map.value_of(id))
+    }
+
+    // Places the key with the closure's answer, and answers its entry.
+    pub(crate) fn insert_entry_with<F: FnOnce() -> V + Drop>(
+        self,
+        default: F,
+    ) -> Result<OccupiedEntry<'a, K, V, PREFIX_LEN, TreeMap<K, V, PREFIX_LEN>>, AllocError>
+        requires { F.pre default }
+        ensures* stands { sem 𝓛 (entry_rests K.row V.row PREFIX_LEN.row K.AsBytes (Vacant self.entry) result) }
+        ensures set { IfOk result
+            (λ o. (v : V) × F.post default v × IsSetEntry (Vacant self.entry) v o) }
+    {
+        let VacantEntry { map, key, .. } = self;
+        map.numbers_law();
+        let id = map.place_new_with(key, default)?;
+        Ok(OccupiedEntry {
+            map,
+            id,
+            lender: PhantomData,
+        })
+    }
+
+    // The same with the answer of a closure that is given the key.
+    pub(crate) fn insert_entry_with_key<F: FnOnce(&K) -> V + Drop>(
+        self,
+        default: F,
+    ) -> Result<OccupiedEntry<'a, K, V, PREFIX_LEN, TreeMap<K, V, PREFIX_LEN>>, AllocError>
+        requires { (p : Bor K) → p.now ≡ self.key → F.pre default p }
+        ensures* stands { sem 𝓛 (entry_rests K.row V.row PREFIX_LEN.row K.AsBytes (Vacant self.entry) result) }
+        ensures set { IfOk result (λ o. (v : V) × FnOnceReturnsAt F.FnOnce default self.entry.key v
+            × IsSetEntry (Vacant self.entry) v o) }
+    {
+        let VacantEntry { map, key, .. } = self;
+        map.numbers_law();
+        let id = map.place_new_with_key(key, default)?;
+        Ok(OccupiedEntry {
+            map,
+            id,
+            lender: PhantomData,
+        })
+    }
+}

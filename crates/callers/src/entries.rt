@@ -1,0 +1,96 @@
+//! Calls of entries.
+ghost use Rattle.std.specs.Prelude.{◌≡◌, ◌≢◌, ◌+◌, ◌<◌, ◌^◌, ℕ, List, true, not, unwrap_or, OnOk, IfOk, OnErr, None, Some, if◌then◌else◌};
+ghost use Rattle.blart.specs.Words.{pairs, pair_at, value_at, has, overlaps, slice_bytes, zkey_bytes};
+
+use blart::map::Entry;
+use blart::{Map, ZKey};
+use std::alloc::AllocError;
+
+/// Adds one to the count of a word, by its entry.
+pub fn count_by_entry(counts: &mut Map<ZKey, u64>, word: ZKey) -> Result<(), AllocError>
+    requires { unwrap_or (value_at zkey_bytes (pairs counts.old) (zkey_bytes word)) 0 + 1 < 2 ^ 64 }
+    ensures counted { OnOk result (value_at zkey_bytes (pairs counts.new) (zkey_bytes word)
+        ≡ Some (unwrap_or (value_at zkey_bytes (pairs counts.old) (zkey_bytes word)) 0 + 1)) }
+    ensures others { (q : List ℕ) → q ≢ zkey_bytes word
+        → pair_at zkey_bytes (pairs counts.new) q ≡ pair_at zkey_bytes (pairs counts.old) q }
+    ensures refused { OnErr result (counts.new ≡ counts.old) }
+{
+    let n = counts.entry(word).or_insert(0)?;
+    *n += 1;
+    Ok(())
+}
+
+/// Sets the score of a player who has one, and gives a first one to who has none.
+pub fn score(
+    scores: &mut Map<ZKey, u64>,
+    player: ZKey,
+    next: u64,
+    first: u64,
+) -> Result<(), AllocError>
+    ensures set { OnOk result (value_at zkey_bytes (pairs scores.new) (zkey_bytes player)
+        ≡ Some (if has zkey_bytes (pairs scores.old) (zkey_bytes player) then next else first)) }
+    ensures others { OnOk result ((q : List ℕ) → q ≢ zkey_bytes player
+        → pair_at zkey_bytes (pairs scores.new) q ≡ pair_at zkey_bytes (pairs scores.old) q) }
+{
+    scores
+        .entry(player)
+        .and_modify(|score| *score = next)
+        .or_insert_with(|| first)?;
+    Ok(())
+}
+
+/// Takes a member out, or else lets one in, and answers whether it is in now. A refusal leaves the members as they were.
+pub fn toggle<V: Drop>(
+    members: &mut Map<ZKey, V>,
+    member: ZKey,
+    value: V,
+) -> Result<bool, AllocError>
+    ensures turned { IfOk result (λ now. now ≡ not (has zkey_bytes (pairs members.old) (zkey_bytes member))) }
+    ensures there { IfOk result (λ now. has zkey_bytes (pairs members.new) (zkey_bytes member) ≡ now) }
+    ensures others { (q : List ℕ) → q ≢ zkey_bytes member
+        → pair_at zkey_bytes (pairs members.new) q ≡ pair_at zkey_bytes (pairs members.old) q }
+    ensures refused { OnErr result (members.new ≡ members.old) }
+{
+    match members.entry(member) {
+        Entry::Occupied(entry) => {
+            entry.remove();
+            Ok(false)
+        }
+        Entry::Vacant(entry) => {
+            entry.insert(value)?;
+            Ok(true)
+        }
+    }
+}
+
+/// Sets the target of a route that is stored or overlaps none, and answers whether it did.
+pub fn set_route(
+    routes: &mut Map<&'static str, u32>,
+    front: &'static str,
+    target: u32,
+) -> Result<bool, AllocError>
+    ensures done { IfOk result (λ done. done ≡ not (overlaps slice_bytes (pairs routes.old) front.now)) }
+    ensures set { IfOk result (λ done. done ≡ true
+        → value_at slice_bytes (pairs routes.new) front.now ≡ Some target) }
+    ensures others { (q : List ℕ) → q ≢ front.now
+        → pair_at slice_bytes (pairs routes.new) q ≡ pair_at slice_bytes (pairs routes.old) q }
+    ensures refused { OnErr result (routes.new ≡ routes.old) }
+{
+    let entry = match routes.try_entry(front) {
+        Ok(entry) => entry,
+        Err(_) => return Ok(false),
+    };
+    *entry.or_insert(0)? = target;
+    Ok(true)
+}
+
+/// Stores a value and takes it back.
+pub fn borrow_place<V: Drop>(store: &mut Map<ZKey, V>, key: ZKey, value: V) -> Result<V, AllocError>
+    ensures value { IfOk result (λ back. back ≡ value) }
+    ensures gone { OnOk result (pair_at zkey_bytes (pairs store.new) (zkey_bytes key) ≡ None) }
+    ensures others { OnOk result ((q : List ℕ) → q ≢ zkey_bytes key
+        → pair_at zkey_bytes (pairs store.new) q ≡ pair_at zkey_bytes (pairs store.old) q) }
+{
+    let entry = store.entry(key).insert_entry(value)?;
+    Ok(entry.remove())
+}
