@@ -2,11 +2,13 @@
 use Rattle.std.proofs.Common.{bytes_eq, cond, ◌||◌, ◌≡◌, ℕ, suc, ◌+◌, ◌-◌, arith, slice_get, length-append, Bool, true, false, List, [], ◌∷◌, ◌++◌, length, refl, sym, ap, ◌∙◌, subst, Option, Some, None, option_map, find, inl, inr}
 use Rattle.std.proofs.lemmas.Bool.{cases_Bool}
 use Rattle.std.proofs.lemmas.List.{map-append, append-nil}
-use Rattle.blart_keys.specs.Content.{IsContent, without}
+use Rattle.blart_keys.specs.Content.{IsContent, at, without}
 use Rattle.blart_keys.specs.Steps.{bytes as pair_bytes}
 use Rattle.blart_keys.proofs.RankLemmas.{find_found}
 use Rattle.std.specs.List.{list_any}
 use Rattle.std.specs.Option.{is_some}
+use Rattle.blart_keys.proofs.ContentLemmas.{at_Some}
+use Rattle.blart_keys.proofs.PutLemmas.{without_cut}
 use Rattle.art_tree.specs.Leaves.{Numbered, leaf_in, Has, AreDistinct, Lacks, last_number, with_pair, without_number, bytes}
 use Rattle.art_tree.proofs.CallerLemmas.{split, distinct_parts, with_pair-split, without_number-split, leaf_in-split, leaf_in-member, Has-last, has_not_lacks}
 use Rattle.blart_keys.proofs.Options.{is_some as has_value, mapped_some}
@@ -146,3 +148,11 @@ module _ {K V : Type 0} (key_bytes : K → List ℕ) (ps : List (Numbered K V)) 
   -- the pairs are a content
   pub pairs_content : IsContent (bytes key_bytes) ps → IsContent (pair_bytes key_bytes) (pairs_of ps)
   pairs_content c = content_map (λ p. p.1) (pair_bytes key_bytes) ps c
+
+  -- without the pair found, the pairs are those with other bytes
+  pub removed_pairs : IsContent (bytes key_bytes) ps → (id : ℕ) (x : K × V) → Some x ≡ at (pair_bytes key_bytes) (pairs_of ps) q → leaf_in ps id ≡ Some x → pairs_of (without_number ps id) ≡ without (pair_bytes key_bytes) (pairs_of ps) q
+  removed_pairs content id x e l =
+      let c = cut_at ps id x l in
+      let cut = cut_pairs ps id x c in
+      let own = (at_Some (pair_bytes key_bytes) (pairs_of ps) q x (sym e)).1 in
+      left_pairs ps id x c ∙ sym (ap (λ S. without (pair_bytes key_bytes) S q) cut ∙ without_cut (pair_bytes key_bytes) (pairs_of c.before) (pairs_of c.after) x q (subst (IsContent (pair_bytes key_bytes)) cut (pairs_content content)) own)
