@@ -4,7 +4,6 @@ use Rattle.std.proofs.lemmas.Bool.Decides.{eqb_tells}
 use Rattle.art_tree.specs.Leaves.{Numbered, leaf_in, Has, Lacks, AreDistinct, without_number, with_value}
 use Rattle.std.proofs.lemmas.Bool.{ne_eqb}
 use Rattle.art_tree.proofs.CallerLemmas.{Has-tail, Lacks-from_leaf_in, AreDistinct-parts, distinct_parts, AreDistinct-without_number, AreDistinct-with_value, numbers-with_value, same_first, same_last}
-use Rattle.art_walk.specs.declared.cursor.Ends.{Ends}
 use Rattle.art_walk.specs.declared.cursor.Cursor.{Cursor}
 use Rattle.art_walk.specs.Cursor.{span_of, ends_left, EndsFit, leaves_left, FitsIn}
 use Rattle.art_walk.proofs.Spans.{Cut, cut_span, cut_is_span, span_cut}
@@ -16,9 +15,9 @@ module _ {K V : Type 0} where
   cut_distinct : (ps : List (Numbered K V)) (first last : ℕ) (row : List (Numbered K V)) → AreDistinct ps → Cut ps first last row → AreDistinct row
   cut_distinct ps first last row d c = (AreDistinct-parts row c.after (AreDistinct-parts c.before (row ++ c.after) (subst AreDistinct c.is d)).1).0
 
-  ends_distinct : (ends : Option Ends) (ps : List (Numbered K V)) → AreDistinct ps → EndsFit ends ps → AreDistinct (ends_left ends ps)
+  ends_distinct : (ends : Option (ℕ × ℕ)) (ps : List (Numbered K V)) → AreDistinct ps → EndsFit ends ps → AreDistinct (ends_left ends ps)
   ends_distinct None ps d f = tt
-  ends_distinct (Some e) ps d f = cut_distinct ps e.first e.last (span_of ps e.first e.last) d (span_cut ps e.first e.last f)
+  ends_distinct (Some e) ps d f = cut_distinct ps e.0 e.1 (span_of ps e.0 e.1) d (span_cut ps e.0 e.1 f)
 
   -- no number comes twice in what is left
   pub left_distinct : (c : Cursor) (ps : List (Numbered K V)) → AreDistinct ps → FitsIn c ps → AreDistinct (leaves_left c ps)
@@ -64,12 +63,12 @@ module _ {K V : Type 0} where
         last_is = c.last_is;
       }
 
-  ends_without : (ends : Option Ends) (ps : List (Numbered K V)) (id : ℕ) → AreDistinct ps → EndsFit ends ps → Lacks (ends_left ends ps) id → EndsFit ends (without_number ps id) × (ends_left ends (without_number ps id) ≡ ends_left ends ps)
+  ends_without : (ends : Option (ℕ × ℕ)) (ps : List (Numbered K V)) (id : ℕ) → AreDistinct ps → EndsFit ends ps → Lacks (ends_left ends ps) id → EndsFit ends (without_number ps id) × (ends_left ends (without_number ps id) ≡ ends_left ends ps)
   ends_without None ps id d f l = (tt, refl)
   ends_without (Some e) ps id d f l =
-      let c = cut_without ps e.first e.last id (span_of ps e.first e.last) l (span_cut ps e.first e.last f) in
+      let c = cut_without ps e.0 e.1 id (span_of ps e.0 e.1) l (span_cut ps e.0 e.1 f) in
       let d' = AreDistinct-without_number ps id d in
-      (cut_is_span (without_number ps id) d' e.first e.last (span_of ps e.first e.last) c, cut_span (without_number ps id) d' e.first e.last (span_of ps e.first e.last) c)
+      (cut_is_span (without_number ps id) d' e.0 e.1 (span_of ps e.0 e.1) c, cut_span (without_number ps id) d' e.0 e.1 (span_of ps e.0 e.1) c)
 
   -- the cursor fits the tree without a pair that is not left, and has the same left
   pub left_without : (c : Cursor) (ps : List (Numbered K V)) (id : ℕ) → AreDistinct ps → FitsIn c ps → Lacks (leaves_left c ps) id → FitsIn c (without_number ps id) × (leaves_left c (without_number ps id) ≡ leaves_left c ps)
@@ -105,13 +104,13 @@ module _ {K V : Type 0} where
         last_is = same_last (with_value row id v) row (numbers-with_value row id v) ∙ c.last_is;
       }
 
-  ends_with_value : (ends : Option Ends) (ps : List (Numbered K V)) (id : ℕ) (v : V) → AreDistinct ps → EndsFit ends ps → EndsFit ends (with_value ps id v) × (ends_left ends (with_value ps id v) ≡ with_value (ends_left ends ps) id v)
+  ends_with_value : (ends : Option (ℕ × ℕ)) (ps : List (Numbered K V)) (id : ℕ) (v : V) → AreDistinct ps → EndsFit ends ps → EndsFit ends (with_value ps id v) × (ends_left ends (with_value ps id v) ≡ with_value (ends_left ends ps) id v)
   ends_with_value None ps id v d f = (tt, refl)
   ends_with_value (Some e) ps id v d f =
-      let row = span_of ps e.first e.last in
-      let c = cut_with_value ps e.first e.last id v row d (span_cut ps e.first e.last f) in
+      let row = span_of ps e.0 e.1 in
+      let c = cut_with_value ps e.0 e.1 id v row d (span_cut ps e.0 e.1 f) in
       let d' = AreDistinct-with_value ps id v d in
-      (cut_is_span (with_value ps id v) d' e.first e.last (with_value row id v) c, cut_span (with_value ps id v) d' e.first e.last (with_value row id v) c)
+      (cut_is_span (with_value ps id v) d' e.0 e.1 (with_value row id v) c, cut_span (with_value ps id v) d' e.0 e.1 (with_value row id v) c)
 
   -- the cursor fits the tree with another value, and has that value left, if its pair is left
   pub left_with_value : (c : Cursor) (ps : List (Numbered K V)) (id : ℕ) (v : V) → AreDistinct ps → FitsIn c ps → FitsIn c (with_value ps id v) × (leaves_left c (with_value ps id v) ≡ with_value (leaves_left c ps) id v)

@@ -8,7 +8,6 @@ use Rattle.std.proofs.lemmas.Bool.Decides.{eqb_tells}
 use Rattle.blart_keys.proofs.Options.{mapped_some, is_some, some_of}
 use Rattle.art_tree.specs.Leaves.{Numbered, leaf_in, Has, AreDistinct, Lacks, with_value, without_number}
 use Rattle.art_tree.proofs.CallerLemmas.{Lacks-from_leaf_in, AreDistinct-with_value, numbers-with_value, Lacks-parts}
-use Rattle.art_walk.specs.declared.cursor.Ends.{Ends}
 use Rattle.art_walk.specs.declared.cursor.Cursor.{Cursor}
 use Rattle.art_walk.specs.Cursor.{from_number, through_number, span_of, EndsFit, leaves_left, FitsIn, PassesFirst, PassesLast}
 use Rattle.art_walk.specs.Lent.{numbers, bare, ends_fit, lent_fits, walk_fits, count_fits, written_all, IsLent, written_last, numbers_written}
@@ -48,20 +47,20 @@ module _ {K V : Type 0} where
   bare_through [] i = refl
   bare_through (p ∷ ps) i = grind (arith, common_steps, bare_through ps i)
 
-  ends_is : (ends : Option Ends) (ps : List (Numbered K V)) → EndsFit ends ps → ends_fit ends (numbers ps) ≡ true
+  ends_is : (ends : Option (ℕ × ℕ)) (ps : List (Numbered K V)) → EndsFit ends ps → ends_fit ends (numbers ps) ≡ true
   ends_is None ps h = refl
-  ends_is (Some e) ps h = ap (λ l. has_value (leaf_in l e.last)) (bare_from ps e.first) ∙ bare_has (from_number ps e.first) e.last ∙ h
+  ends_is (Some e) ps h = ap (λ l. has_value (leaf_in l e.1)) (bare_from ps e.0) ∙ bare_has (from_number ps e.0) e.1 ∙ h
 
-  ends_was : (ends : Option Ends) (ps : List (Numbered K V)) → ends_fit ends (numbers ps) ≡ true → EndsFit ends ps
+  ends_was : (ends : Option (ℕ × ℕ)) (ps : List (Numbered K V)) → ends_fit ends (numbers ps) ≡ true → EndsFit ends ps
   ends_was None ps h = tt
-  ends_was (Some e) ps h = sym (ap (λ l. has_value (leaf_in l e.last)) (bare_from ps e.first) ∙ bare_has (from_number ps e.first) e.last) ∙ h
+  ends_was (Some e) ps h = sym (ap (λ l. has_value (leaf_in l e.1)) (bare_from ps e.0) ∙ bare_has (from_number ps e.0) e.1) ∙ h
 
   bare_left : (c : Cursor) (ps : List (Numbered K V)) → leaves_left c (bare (numbers ps)) ≡ bare (numbers (leaves_left c ps))
   bare_left c ps = go c.ends
     where
-      go : (ends : Option Ends) → leaves_left (record { ends = ends }) (bare (numbers ps)) ≡ bare (numbers (leaves_left (record { ends = ends }) ps))
+      go : (ends : Option (ℕ × ℕ)) → leaves_left (record { ends = ends }) (bare (numbers ps)) ≡ bare (numbers (leaves_left (record { ends = ends }) ps))
       go None = refl
-      go (Some e) = ap (λ l. through_number l e.last) (bare_from ps e.first) ∙ bare_through (from_number ps e.first) e.last
+      go (Some e) = ap (λ l. through_number l e.1) (bare_from ps e.0) ∙ bare_through (from_number ps e.0) e.1
 
   -- ---- the test of a walk
 

@@ -6,7 +6,6 @@ use Rattle.std.proofs.lemmas.List.{append-nil}
 use Rattle.art_tree.specs.Leaves.{Numbered, leaf_in, Has, first_number, last_number, number_after, number_before, Lacks, AreDistinct}
 use Rattle.art_tree.proofs.CallerLemmas.{Has-last, has_other, distinct_parts, AreDistinct-parts, Lacks-parts, leaf_in-split, number_after-split, number_before-split, last_number-append}
 use Rattle.blart_keys.proofs.Options.{is_some}
-use Rattle.art_walk.specs.declared.cursor.Ends.{Ends}
 use Rattle.art_walk.specs.declared.cursor.Cursor.{Cursor}
 use Rattle.art_walk.specs.Cursor.{nothing_left, left_between, span_of, IsSpan, ends_left, EndsFit, leaves_left, FitsIn, PassesFirst, PassesLast}
 use Rattle.art_walk.proofs.Spans.{Cut, ends_with, cut_span, cut_is_span, span_cut}
@@ -131,66 +130,66 @@ module _ {K V : Type 0} where
 
   -- ---- what a cursor has left
 
-  module _ (ps : List (Numbered K V)) (distinct : AreDistinct ps) (ends : Option Ends) (e : Ends) (was : ends ≡ Some e) (fits : EndsFit ends ps) where
-    is_span : IsSpan ps e.first e.last
-    is_span = subst (λ (o : Option Ends). EndsFit o ps) was fits
+  module _ (ps : List (Numbered K V)) (distinct : AreDistinct ps) (ends : Option (ℕ × ℕ)) (e : ℕ × ℕ) (was : ends ≡ Some e) (fits : EndsFit ends ps) where
+    is_span : IsSpan ps e.0 e.1
+    is_span = subst (λ (o : Option (ℕ × ℕ)). EndsFit o ps) was fits
 
-    cut : Cut ps e.first e.last (span_of ps e.first e.last)
-    cut = span_cut ps e.first e.last is_span
+    cut : Cut ps e.0 e.1 (span_of ps e.0 e.1)
+    cut = span_cut ps e.0 e.1 is_span
 
     -- the list has the first number
-    pub has_first : Has ps e.first
+    pub has_first : Has ps e.0
     has_first =
-        let b = begins_with (span_of ps e.first e.last) e.first cut.first_is in
-        is_some (leaf_in ps e.first) b.pair (first_pair ps distinct e.first e.last (span_of ps e.first e.last) cut b.pair b.rest b.is)
+        let b = begins_with (span_of ps e.0 e.1) e.0 cut.first_is in
+        is_some (leaf_in ps e.0) b.pair (first_pair ps distinct e.0 e.1 (span_of ps e.0 e.1) cut b.pair b.rest b.is)
 
     -- the list has the last number
-    pub has_last : Has ps e.last
+    pub has_last : Has ps e.1
     has_last =
-        let b = ends_with (span_of ps e.first e.last) e.last cut.last_is in
-        is_some (leaf_in ps e.last) b.pair (last_pair ps distinct e.first e.last (span_of ps e.first e.last) cut b.pair b.front b.is)
+        let b = ends_with (span_of ps e.0 e.1) e.1 cut.last_is in
+        is_some (leaf_in ps e.1) b.pair (last_pair ps distinct e.0 e.1 (span_of ps e.0 e.1) cut b.pair b.front b.is)
 
-    module _ (ends' : Option Ends) (x : K × V) where
+    module _ (ends' : Option (ℕ × ℕ)) (x : K × V) where
       -- no ends, nothing left
-      none_left : ends' ≡ None → (more : List (Numbered K V) → List (Numbered K V)) → span_of ps e.first e.last ≡ more [] → EndsFit ends' ps × (ends_left ends ps ≡ more (ends_left ends' ps))
-      none_left n more is = (subst (λ (o : Option Ends). EndsFit o ps) (sym n) tt, ap (λ o. ends_left o ps) was ∙ is ∙ ap more (sym (ap (λ o. ends_left o ps) n)))
+      none_left : ends' ≡ None → (more : List (Numbered K V) → List (Numbered K V)) → span_of ps e.0 e.1 ≡ more [] → EndsFit ends' ps × (ends_left ends ps ≡ more (ends_left ends' ps))
+      none_left n more is = (subst (λ (o : Option (ℕ × ℕ)). EndsFit o ps) (sym n) tt, ap (λ o. ends_left o ps) was ∙ is ∙ ap more (sym (ap (λ o. ends_left o ps) n)))
 
       -- two ends, the pairs between them left
-      some_left : (f l : ℕ) → ends' ≡ Some (record { first = f; last = l }) → (row : List (Numbered K V)) → Cut ps f l row → (more : List (Numbered K V) → List (Numbered K V)) → span_of ps e.first e.last ≡ more row
+      some_left : (f l : ℕ) → ends' ≡ Some ((f, l)) → (row : List (Numbered K V)) → Cut ps f l row → (more : List (Numbered K V) → List (Numbered K V)) → span_of ps e.0 e.1 ≡ more row
           → EndsFit ends' ps × (ends_left ends ps ≡ more (ends_left ends' ps))
       some_left f l s row c more is = (
-        subst (λ (o : Option Ends). EndsFit o ps) (sym s) (cut_is_span ps distinct f l row c),
+        subst (λ (o : Option (ℕ × ℕ)). EndsFit o ps) (sym s) (cut_is_span ps distinct f l row c),
         ap (λ o. ends_left o ps) was ∙ is ∙ ap more (sym (ap (λ o. ends_left o ps) s ∙ cut_span ps distinct f l row c)),
       )
 
       -- behind the first leaf the others are left
-      pub passed_first : (n : Option ℕ) → leaf_in ps e.first ≡ Some x → n ≡ number_after ps e.first
-          → (e.first ≡ e.last → ends' ≡ None) → (e.first ≢ e.last → ends' ≡ option_map (λ m. record { first = m; last = e.last }) n)
-          → EndsFit ends' ps × (ends_left ends ps ≡ (e.first, x) ∷ ends_left ends' ps)
+      pub passed_first : (n : Option ℕ) → leaf_in ps e.0 ≡ Some x → n ≡ number_after ps e.0
+          → (e.0 ≡ e.1 → ends' ≡ None) → (e.0 ≢ e.1 → ends' ≡ option_map (λ m. (m, e.1)) n)
+          → EndsFit ends' ps × (ends_left ends ps ≡ (e.0, x) ∷ ends_left ends' ps)
       passed_first n there next one two =
-          let b = begins_with (span_of ps e.first e.last) e.first cut.first_is in
-          let same : b.pair ≡ x = some_inj b.pair x (sym (first_pair ps distinct e.first e.last (span_of ps e.first e.last) cut b.pair b.rest b.is) ∙ there) in
-          let is : span_of ps e.first e.last ≡ (e.first, x) ∷ b.rest = b.is ∙ ap (λ y. (e.first, y) ∷ b.rest) same in
-          elim (eqb_tells e.first e.last) [
-            | inl t ↦ none_left (one t.1) (λ l. (e.first, x) ∷ l) (is ∙ ap (λ l. (e.first, x) ∷ l) (first_alone ps distinct e.first e.last (span_of ps e.first e.last) cut x b.rest is t.1))
+          let b = begins_with (span_of ps e.0 e.1) e.0 cut.first_is in
+          let same : b.pair ≡ x = some_inj b.pair x (sym (first_pair ps distinct e.0 e.1 (span_of ps e.0 e.1) cut b.pair b.rest b.is) ∙ there) in
+          let is : span_of ps e.0 e.1 ≡ (e.0, x) ∷ b.rest = b.is ∙ ap (λ y. (e.0, y) ∷ b.rest) same in
+          elim (eqb_tells e.0 e.1) [
+            | inl t ↦ none_left (one t.1) (λ l. (e.0, x) ∷ l) (is ∙ ap (λ l. (e.0, x) ∷ l) (first_alone ps distinct e.0 e.1 (span_of ps e.0 e.1) cut x b.rest is t.1))
             | inr t ↦
-                let m = first_more ps distinct e.first e.last (span_of ps e.first e.last) cut x b.rest is n t.1 next in
-                some_left m.0 e.last (two t.1 ∙ ap (option_map (λ m. record { first = m; last = e.last })) m.1) b.rest m.2 (λ l. (e.first, x) ∷ l) is
+                let m = first_more ps distinct e.0 e.1 (span_of ps e.0 e.1) cut x b.rest is n t.1 next in
+                some_left m.0 e.1 (two t.1 ∙ ap (option_map (λ m. (m, e.1))) m.1) b.rest m.2 (λ l. (e.0, x) ∷ l) is
           ]
 
       -- before the last leaf the others are left
-      pub passed_last : (n : Option ℕ) → leaf_in ps e.last ≡ Some x → n ≡ number_before ps e.last
-          → (e.first ≡ e.last → ends' ≡ None) → (e.first ≢ e.last → ends' ≡ option_map (λ m. record { first = e.first; last = m }) n)
-          → EndsFit ends' ps × (ends_left ends ps ≡ ends_left ends' ps ++ (e.last, x) ∷ [])
+      pub passed_last : (n : Option ℕ) → leaf_in ps e.1 ≡ Some x → n ≡ number_before ps e.1
+          → (e.0 ≡ e.1 → ends' ≡ None) → (e.0 ≢ e.1 → ends' ≡ option_map (λ m. (e.0, m)) n)
+          → EndsFit ends' ps × (ends_left ends ps ≡ ends_left ends' ps ++ (e.1, x) ∷ [])
       passed_last n there prev one two =
-          let b = ends_with (span_of ps e.first e.last) e.last cut.last_is in
-          let same : b.pair ≡ x = some_inj b.pair x (sym (last_pair ps distinct e.first e.last (span_of ps e.first e.last) cut b.pair b.front b.is) ∙ there) in
-          let is : span_of ps e.first e.last ≡ b.front ++ (e.last, x) ∷ [] = b.is ∙ ap (λ y. b.front ++ (e.last, y) ∷ []) same in
-          elim (eqb_tells e.first e.last) [
-            | inl t ↦ none_left (one t.1) (λ l. l ++ (e.last, x) ∷ []) (is ∙ ap (λ l. l ++ (e.last, x) ∷ []) (last_alone ps distinct e.first e.last (span_of ps e.first e.last) cut x b.front is t.1))
+          let b = ends_with (span_of ps e.0 e.1) e.1 cut.last_is in
+          let same : b.pair ≡ x = some_inj b.pair x (sym (last_pair ps distinct e.0 e.1 (span_of ps e.0 e.1) cut b.pair b.front b.is) ∙ there) in
+          let is : span_of ps e.0 e.1 ≡ b.front ++ (e.1, x) ∷ [] = b.is ∙ ap (λ y. b.front ++ (e.1, y) ∷ []) same in
+          elim (eqb_tells e.0 e.1) [
+            | inl t ↦ none_left (one t.1) (λ l. l ++ (e.1, x) ∷ []) (is ∙ ap (λ l. l ++ (e.1, x) ∷ []) (last_alone ps distinct e.0 e.1 (span_of ps e.0 e.1) cut x b.front is t.1))
             | inr t ↦
-                let m = last_more ps distinct e.first e.last (span_of ps e.first e.last) cut x b.front is n t.1 prev in
-                some_left e.first m.0 (two t.1 ∙ ap (option_map (λ m. record { first = e.first; last = m })) m.1) b.front m.2 (λ l. l ++ (e.last, x) ∷ []) is
+                let m = last_more ps distinct e.0 e.1 (span_of ps e.0 e.1) cut x b.front is n t.1 prev in
+                some_left e.0 m.0 (two t.1 ∙ ap (option_map (λ m. (e.0, m))) m.1) b.front m.2 (λ l. l ++ (e.1, x) ∷ []) is
           ]
 
   -- ---- new cursors

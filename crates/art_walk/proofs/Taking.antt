@@ -4,7 +4,6 @@ use Rattle.std.proofs.lemmas.List.{map-append}
 use Rattle.blart_keys.proofs.RankLemmas.{Member, Member-append_left, Member-append_right}
 use Rattle.art_tree.specs.Leaves.{Numbered, leaf_in, AreDistinct, Lacks, without_number}
 use Rattle.art_tree.proofs.CallerLemmas.{leaf_in-member}
-use Rattle.art_walk.specs.declared.cursor.Ends.{Ends}
 use Rattle.art_walk.specs.declared.cursor.Cursor.{Cursor}
 use Rattle.art_walk.specs.Cursor.{span_of, ends_left, EndsFit, leaves_left, FitsIn}
 use Rattle.art_walk.specs.Pairs.{pairs_of}
@@ -13,11 +12,11 @@ use Rattle.art_walk.proofs.Steps.{some_inj}
 use Rattle.art_walk.proofs.Changes.{left_distinct, first_gone, last_gone, left_without}
 
 module _ {K V : Type 0} where
-  ends_member : (ends : Option Ends) (ps : List (Numbered K V)) (y : Numbered K V) → EndsFit ends ps → Member y (ends_left ends ps) → Member y ps
+  ends_member : (ends : Option (ℕ × ℕ)) (ps : List (Numbered K V)) (y : Numbered K V) → EndsFit ends ps → Member y (ends_left ends ps) → Member y ps
   ends_member None ps y f m = absurd m
   ends_member (Some e) ps y f m =
-      let c = span_cut ps e.first e.last f in
-      subst (Member y) (sym c.is) (Member-append_right y c.before (span_of ps e.first e.last ++ c.after) (Member-append_left y (span_of ps e.first e.last) c.after m))
+      let c = span_cut ps e.0 e.1 f in
+      subst (Member y) (sym c.is) (Member-append_right y c.before (span_of ps e.0 e.1 ++ c.after) (Member-append_left y (span_of ps e.0 e.1) c.after m))
 
   -- a pair that is left is in the list
   pub left_member : (c : Cursor) (ps : List (Numbered K V)) (y : Numbered K V) → FitsIn c ps → Member y (leaves_left c ps) → Member y ps

@@ -1,7 +1,6 @@
 -- What a cursor has still to come in a list of numbered pairs.
 use Rattle.std.specs.Prelude.{◌≡◌, ℕ, List, [], ◌∷◌, ◌++◌, Option, Some, None, cond, eqb}
 use Rattle.art_tree.specs.Leaves.{Numbered, Has}
-use Rattle.art_walk.specs.declared.cursor.Ends.{Ends}
 use Rattle.art_walk.specs.declared.cursor.Cursor.{Cursor}
 
 -- a cursor with nothing to come
@@ -10,7 +9,7 @@ nothing_left = record { ends = None }
 
 -- a cursor from one number through another
 abbrev pub left_between : ℕ → ℕ → Cursor
-left_between first last = record { ends = Some (record { first = first; last = last }) }
+left_between first last = record { ends = Some (first, last) }
 
 module _ {K V : Type 0} where
   -- the pairs from that of a number on
@@ -32,14 +31,14 @@ module _ {K V : Type 0} where
   IsSpan ps first last = Has (from_number ps first) last
 
   -- the pairs from the first number through the last, if there are ends
-  abbrev pub ends_left : Option Ends → List (Numbered K V) → List (Numbered K V)
+  abbrev pub ends_left : Option (ℕ × ℕ) → List (Numbered K V) → List (Numbered K V)
   ends_left None ps = []
-  ends_left (Some e) ps = span_of ps e.first e.last
+  ends_left (Some e) ps = span_of ps e.0 e.1
 
   -- the ends, if there are any, are in the list, the first not behind the last
-  abbrev pub EndsFit : Option Ends → List (Numbered K V) → Type 0
+  abbrev pub EndsFit : Option (ℕ × ℕ) → List (Numbered K V) → Type 0
   EndsFit None ps = Unit {0}
-  EndsFit (Some e) ps = IsSpan ps e.first e.last
+  EndsFit (Some e) ps = IsSpan ps e.0 e.1
 
   -- the pairs that are still to come
   abbrev pub leaves_left : Cursor → List (Numbered K V) → List (Numbered K V)

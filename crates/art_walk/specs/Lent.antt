@@ -4,7 +4,6 @@ use Rattle.std.specs.Option.{is_none}
 use Rattle.std.proofs.Common.{ap, refl, ◌∙◌}
 use Rattle.art_tree.proofs.CallerLemmas.{numbers-with_value}
 use Rattle.art_tree.specs.Leaves.{Numbered, leaf_in, Lacks, with_value}
-use Rattle.art_walk.specs.declared.cursor.Ends.{Ends}
 use Rattle.art_walk.specs.declared.cursor.Cursor.{Cursor}
 use Rattle.art_walk.specs.Cursor.{from_number, leaves_left}
 
@@ -18,9 +17,9 @@ abbrev pub bare : List ℕ → List (Numbered (Unit {0}) (Unit {0}))
 bare ns = map (λ n. (n, (tt, tt))) ns
 
 -- whether the ends, if there are any, are among these numbers, the first not behind the last
-abbrev pub ends_fit : Option Ends → List ℕ → Bool
+abbrev pub ends_fit : Option (ℕ × ℕ) → List ℕ → Bool
 ends_fit None ns = true
-ends_fit (Some e) ns = is_some (leaf_in (from_number (bare ns) e.first) e.last)
+ends_fit (Some e) ns = is_some (leaf_in (from_number (bare ns) e.0) e.1)
 
 -- whether the number lent last, if there is one, is among these, and is none of those that are left
 abbrev pub lent_fits : Option ℕ → List (Numbered (Unit {0}) (Unit {0})) → List (Numbered (Unit {0}) (Unit {0})) → Bool

@@ -8,31 +8,24 @@ ghost use Rattle.art_walk.specs.Cursor.{nothing_left, left_between, leaves_left,
 use art_tree::{LeafId, Leaves, Tree, Visits};
 use blart_keys::AsBytes;
 
-/// The leaves at the ends.
-#[derive(Clone, Copy)]
-struct Ends {
-    first: LeafId,
-    last: LeafId,
-}
-
 // The ends without the first leaf, where `next` stands behind it.
-fn without_first(first: LeafId, last: LeafId, next: Option<LeafId>) -> Option<Ends>
+fn without_first(first: LeafId, last: LeafId, next: Option<LeafId>) -> Option<(LeafId, LeafId)>
     ensures one { first ≡ last → result ≡ None }
-    ensures more { first ≢ last → result ≡ option_map (λ id. record { first = id; last = last }) next }
+    ensures more { first ≢ last → result ≡ option_map (λ id. (id, last)) next }
 {
     match next {
-        Some(next) if first != last => Some(Ends { first: next, last }),
+        Some(next) if first != last => Some((next, last)),
         _ => None,
     }
 }
 
 // The ends without the last leaf, where `prev` stands before it.
-fn without_last(first: LeafId, last: LeafId, prev: Option<LeafId>) -> Option<Ends>
+fn without_last(first: LeafId, last: LeafId, prev: Option<LeafId>) -> Option<(LeafId, LeafId)>
     ensures one { first ≡ last → result ≡ None }
-    ensures more { first ≢ last → result ≡ option_map (λ id. record { first = first; last = id }) prev }
+    ensures more { first ≢ last → result ≡ option_map (λ id. (first, id)) prev }
 {
     match prev {
-        Some(prev) if first != last => Some(Ends { first, last: prev }),
+        Some(prev) if first != last => Some((first, prev)),
         _ => None,
     }
 }
@@ -40,7 +33,8 @@ fn without_last(first: LeafId, last: LeafId, prev: Option<LeafId>) -> Option<End
 /// The leaves from one to another that are still to come, in byte order, or none. It holds no tree: each call is given the one that it goes over.
 #[derive(Clone, Copy)]
 pub struct Cursor {
-    ends: Option<Ends>,
+    // the first and the last leaf
+    ends: Option<(LeafId, LeafId)>,
 }
 
 impl Cursor {
@@ -56,7 +50,7 @@ impl Cursor {
         ensures { result ≡ left_between first last }
     {
         Cursor {
-            ends: Some(Ends { first, last }),
+            ends: Some((first, last)),
         }
     }
 
@@ -92,7 +86,7 @@ impl Cursor {
         ensures counted { visits.new.count ≡ visits.old.count + (if is_some result then 1 else 0) }
     {
         leaves.law();
-        let Ends { first, last } = self.ends?;
+        let (first, last) = self.ends?;
         let (key, value, next) = leaves.read_with_next(first, visits);
         self.ends = without_first(first, last, next);
         Some((first, key, value))
@@ -113,7 +107,7 @@ impl Cursor {
         ensures counted { visits.new.count ≡ visits.old.count + (if is_some result then 1 else 0) }
     {
         leaves.law();
-        let Ends { first, last } = self.ends?;
+        let (first, last) = self.ends?;
         let (key, value, prev) = leaves.read_with_prev(last, visits);
         self.ends = without_last(first, last, prev);
         Some((last, key, value))

@@ -96,6 +96,9 @@ fn time_stored<M: Contestant, R: Clock + AllocGlobal>(
     time_look_ups(rt, &map, workload, sheet)?;
     time_walks(rt, &map, workload, sheet)?;
     let start = Instant::now(rt)?;
+    let sum = map.raise();
+    sheet.add(rt, "iter_mut", start, count, sum)?;
+    let start = Instant::now(rt)?;
     let sum = map.remove(&workload.hits);
     sheet.add(rt, "remove", start, count, sum)
 }

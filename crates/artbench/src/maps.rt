@@ -28,6 +28,9 @@ pub(crate) trait Contestant: Sized + Drop {
     /// Walks over all pairs.
     fn iterate(&self) -> u64;
 
+    /// Adds one to each value.
+    fn raise(&mut self) -> u64;
+
     /// From each start on, walks over at most 100 pairs.
     fn range(&self, starts: &[Vec<u8>]) -> u64;
 
@@ -79,6 +82,16 @@ impl Contestant for Ours {
             sum = sum.wrapping_add(*value).wrapping_add(key.len() as u64);
         }
         sum
+    }
+
+    fn raise(&mut self) -> u64 {
+        let mut walk = self.iter_mut();
+        for _ in 0..walk.len() {
+            if let Some(value) = walk.next() {
+                *value = value.wrapping_add(1);
+            }
+        }
+        self.len() as u64
     }
 
     fn range(&self, starts: &[Vec<u8>]) -> u64 {
@@ -162,6 +175,13 @@ impl Contestant for Theirs {
             sum = sum.wrapping_add(*value).wrapping_add(key.len() as u64);
         }
         sum
+    }
+
+    fn raise(&mut self) -> u64 {
+        for (_, value) in self.iter_mut() {
+            *value = value.wrapping_add(1);
+        }
+        self.len() as u64
     }
 
     fn range(&self, starts: &[Vec<u8>]) -> u64 {
