@@ -1,7 +1,10 @@
--- A place that is free for a key, and the leaf before it.
-use Rattle.std.specs.Prelude.{◌≡◌, ℕ, [], ◌∷◌, ◌++◌, ◌<◌, length, take, Option, Some, None, true, false, ◌⊎◌, slice_index_or}
+-- A place that is free for a key, and the leaves beside it.
+use Rattle.std.specs.Prelude.{◌≡◌, ℕ, List, [], ◌∷◌, ◌++◌, ◌<◌, length, take, Option, Some, None, true, false, ◌⊎◌, slice_index_or}
 use Rattle.blart_keys.specs.Bytes.{less}
 use Rattle.art_tree.specs.Begins.{Bytes, Begins}
+use Rattle.art_tree.specs.Leaves.{Numbered, number_before}
+use Rattle.art_tree.specs.declared.tree.parting.Beside.{Beside}
+use Rattle.art_tree.specs.declared.tree.parting.Beside.TheVariants.{Behind, InFront}
 
 -- the key q goes along with that of the leaf `mate` for so many bytes, and with no key for one more
 pub record LeavesMate (keys : ℕ → Option Bytes) (mate depth : ℕ) (q : Bytes) : Type 0 where
@@ -30,3 +33,18 @@ pub record FirstAfter (keys : ℕ → Option Bytes) (q : Bytes) (i : ℕ) : Type
 abbrev pub IsLeafBefore : (ℕ → Option Bytes) → Bytes → Option ℕ → Type 0
 IsLeafBefore keys q None = (j : ℕ) (k : Bytes) → keys j ≡ Some k → less k q ≡ false
 IsLeafBefore keys q (Some i) = LastBefore keys q i
+
+-- the place of q is behind the leaf, or in front of it
+abbrev pub IsBeside : (ℕ → Option Bytes) → Bytes → Beside → Type 0
+IsBeside keys q (Behind i) = LastBefore keys q i
+IsBeside keys q (InFront i) = FirstAfter keys q i
+
+-- the leaf beside a place
+abbrev pub neighbour : Beside → ℕ
+neighbour (Behind i) = i
+neighbour (InFront i) = i
+
+-- the leaf in front of a place
+abbrev pub number_in_front : {K V : Type 0} → List (Numbered K V) → Beside → Option ℕ
+number_in_front ps (Behind i) = Some i
+number_in_front ps (InFront i) = number_before ps i

@@ -1,24 +1,23 @@
 -- A leaf leaves the tree: what the changes to its node and the edge above keep.
-use Rattle.std.proofs.Common.{true, ◌≡◌, ◌≢◌, ℕ, ◌+◌, ◌<◌, ◌≤◌, List, [], ◌∷◌, ◌++◌, length, take, drop, slice_range, arith, sym, subst, Option, Some, None, IsSome, ◌∙◌, inl, inr}
+use Rattle.std.proofs.Common.{ap, refl, zero, suc, append_assoc, ◌≡◌, ◌≢◌, ℕ, ◌<◌, ◌≤◌, List, [], ◌∷◌, ◌++◌, length, take, drop, arith, sym, Option, Some, None, IsSome, ◌∙◌, inl, inr}
+use Rattle.std.proofs.lemmas.List.{take-take, take-append-drop, drop-append-le}
 use Rattle.std.proofs.lemmas.Bool.{cases_lt}
 use Rattle.std.proofs.lemmas.Bool.Decides.{eqb_tells}
 use Rattle.art_tree.specs.Invariant.EdgesAbove.{LeadsTo, TurnsTo, edge_front}
 use Rattle.art_tree.specs.Begins.{Bytes, Begins, next_byte}
 use Rattle.art_tree.specs.Slabs.Edges.{child_at}
 use Rattle.art_tree.specs.Slabs.Nodes.{Node, DropsEdge, Renames}
-use Rattle.art_tree.specs.Calls.Descents.{IsEndUnder}
 use Rattle.art_tree.specs.Leaves.{Numbered, leaf_in, Has, keys_in}
-use Rattle.art_tree.specs.Calls.Removing.{Loses, IsLeafOf, IsChildBelow, OtherEdge, StartsBelow, EndsBelow}
-use Rattle.art_tree.specs.Invariant.Shape.{Shape, CoversNode}
+use Rattle.art_tree.specs.Calls.Removing.{Loses, IsLeafOf, IsChildBelow, OtherEdge}
+use Rattle.art_tree.specs.Invariant.Shape.{Shape}
 use Rattle.art_tree.specs.declared.records.ids.Child.{Child}
 use Rattle.art_tree.specs.declared.records.ids.Edge.{Edge}
 use Rattle.art_tree.specs.declared.records.ids.Child.TheVariants.{Leaf, Inner}
-use Rattle.art_tree.proofs.BeginsLemmas.{Begins-length, Begins-trans, Begins-front_edge, length-edge}
+use Rattle.art_tree.proofs.BeginsLemmas.{take_front, Begins-length}
 use Rattle.art_tree.proofs.Invariant.Growing.{covers_above}
 use Rattle.art_tree.proofs.Invariant.Losing.{shape_dropped}
 use Rattle.art_tree.proofs.Invariant.OneEdge.{not_itself, kept_mid, node_moved}
 use Rattle.blart_keys.proofs.Options.{some_of, not_some}
-use Rattle.art_tree.proofs.Invariant.Prefixes.{cut_front, start_is}
 use Rattle.art_tree.proofs.Pairs.Keys.{key_of_pair}
 
 -- a node has two edges
@@ -79,52 +78,8 @@ loses_same old new i k k' l e = record { was = e; gone = l.gone; others = l.othe
 
 module _ {P : ℕ} (keys : ℕ → Option Bytes) (nodes : ℕ → Option Node) (root : Option Child) (s : Shape P keys nodes root) where
   -- the child of another edge hangs below the edge to the node
-  abbrev pub child_below_edge : (above : Option (ℕ × ℕ)) (n b : ℕ) (e : Edge) → LeadsTo nodes root above (Inner n) → OtherEdge nodes n b e → IsChildBelow P keys nodes above e.to
-  child_below_edge above n b e leads other = record { root = root; shape = s; number = n; leads = leads; node = other.node; is = other.is; byte = e.byte; there = other.there }
-
-  -- the front of an edge to a node begins each front below the node
-  pub begins_below : (above : Option (ℕ × ℕ)) (n b : ℕ) → LeadsTo nodes root above (Inner n) → Begins (edge_front s.front_of above) (s.front_of n ++ b ∷ [])
-  begins_below above n b leads =
-      let c : CoversNode keys nodes s.front_of (edge_front s.front_of above) n = covers_above keys nodes root s above (Inner n) leads in
-      Begins-trans (edge_front s.front_of above) (s.front_of n) (s.front_of n ++ b ∷ []) c.front (Begins-front_edge (s.front_of n) b)
-
-  module _ (g : Bytes) (n : ℕ) (x : Node) (is : nodes n ≡ Some x) (covers : CoversNode keys nodes s.front_of g n) where
-    -- the edge above a front is no deeper than the node there
-    above_within : (above : Option (ℕ × ℕ)) → Begins (edge_front s.front_of above) g → length (edge_front s.front_of above) ≤ x.depth
-    above_within above b =
-        let l : length (edge_front s.front_of above) ≤ length g = Begins-length (edge_front s.front_of above) g b in
-        let m : length g ≤ length (s.front_of n) = Begins-length g (s.front_of n) covers.front in
-        let d : x.depth ≡ length (s.front_of n) = (s.node n x is).depth in
-        omega arith
-
-    -- so its node is less deep
-    pub ends_below : (above : Option (ℕ × ℕ)) (end : ℕ) (c : Child) → LeadsTo nodes root above c → Begins (edge_front s.front_of above) g → x.depth ≤ end → EndsBelow nodes above end
-    ends_below None end c leads b l = tt
-    ends_below (Some e) end c leads b l =
-        let d : leads.0.depth ≡ length (s.front_of e.0) = (s.node e.0 leads.0 leads.1).depth in
-        let m : length (s.front_of e.0 ++ e.1 ∷ []) ≤ x.depth = above_within (Some e) b in
-        let k : length (s.front_of e.0 ++ e.1 ∷ []) ≡ length (s.front_of e.0) + 1 = length-edge (s.front_of e.0) e.1 in
-        (leads.0, leads.1, omega arith)
-
-    -- and the prefix begins within the node's front
-    pub starts_within : (above : Option (ℕ × ℕ)) (start : ℕ) → Begins (edge_front s.front_of above) g → StartsBelow nodes above start → start ≤ x.depth
-    starts_within None start b r = let e : start ≡ 0 = r in omega arith
-    starts_within (Some e) start b r =
-        let d : r.0.depth ≡ length (s.front_of e.0) = (s.node e.0 r.0 r.1).depth in
-        let m : length (s.front_of e.0 ++ e.1 ∷ []) ≤ x.depth = above_within (Some e) b in
-        let k : length (s.front_of e.0 ++ e.1 ∷ []) ≡ length (s.front_of e.0) + 1 = length-edge (s.front_of e.0) e.1 in
-        let t : start ≡ r.0.depth + 1 = r.2 in
-        omega arith
-
-    -- a key below is at least as long as the node's front
-    pub key_within : (i : ℕ) (k : Bytes) → IsEndUnder keys true g i → keys i ≡ Some k → x.depth ≤ length k
-    key_within i k u e =
-        let a : keys i ≡ Some u.key = u.is in
-        let h : u.key ≡ k = cc in
-        let b : Begins (s.front_of n) k = covers.only i k e (subst (λ (z : Bytes). Begins g z) h u.front) in
-        let l : length (s.front_of n) ≤ length k = Begins-length (s.front_of n) k b in
-        let d : x.depth ≡ length (s.front_of n) = (s.node n x is).depth in
-        omega arith
+  abbrev pub child_below_edge : (above : Option (ℕ × ℕ)) (n b : ℕ) (e : Edge) → LeadsTo nodes root above (Inner n) → OtherEdge nodes n b e → IsChildBelow P keys nodes above n e
+  child_below_edge above n b e leads other = record { root = root; shape = s; leads = leads; node = other.node; is = other.is; there = other.there }
 
 -- a leaf's key and the two edges
 abbrev pub leaf_at_node : {P : ℕ} → {K V : Type 0} (key_bytes : K → Bytes) (pairs : List (Numbered K V)) (nodes : ℕ → Option Node) (root : Option Child) (s : Shape P (keys_in key_bytes pairs) nodes root) (i : ℕ) → Has pairs i
@@ -133,34 +88,31 @@ leaf_at_node key_bytes pairs nodes root s i has n b low above leads =
     let p = some_of (leaf_in pairs i) has in
     record { shape = s; key = key_bytes p.0.0; key_is = key_of_pair key_bytes pairs i p.0 p.1; node = low.0; is = low.1; low = low.2; leads = leads }
 
--- ---- a child's prefix that is cut anew, from a key below it
+-- ---- the prefixes of a node and of its child, joined
 
-module _ {P : ℕ} (keys : ℕ → Option Bytes) (nodes : ℕ → Option Node) (above : Option (ℕ × ℕ)) (n : ℕ) (h : IsChildBelow P keys nodes above (Inner n)) where
-  -- the front of the edge to the child, and what that covers
-  abbrev pub child_front : Bytes
-  child_front = h.shape.front_of h.number ++ h.byte ∷ []
+-- of what is joined the first P bytes take the first P of each
+take_join : (P m : ℕ) (A r : Bytes) (b : ℕ) → P ≤ m → take P (take P A ++ b ∷ take m r) ≡ take P (A ++ b ∷ r)
+take_join zero m A r b le = refl
+take_join (suc P) m [] r b le = ap (λ (t : Bytes). b ∷ t) (take-take P m r (omega arith))
+take_join (suc P) m (a ∷ A) r b le = ap (λ (t : Bytes). a ∷ t) (take_join P m A r b (omega arith))
 
-  abbrev pub child_covers : CoversNode keys nodes h.shape.front_of child_front n
-  child_covers = (h.shape.node h.number h.node h.is).below h.byte (Inner n) h.there
+-- what a longer front has behind g, where one between begins with g and goes on by b
+drop_join : (g f l : Bytes) (b : ℕ) → Begins g f → Begins (f ++ b ∷ []) l → drop (length g) l ≡ drop (length g) f ++ b ∷ drop (length (f ++ b ∷ [])) l
+drop_join g f l b gf fl =
+    let r : Bytes = drop (length (f ++ b ∷ [])) l in
+    let whole : l ≡ f ++ b ∷ drop (length (f ++ b ∷ [])) l = sym (take-append-drop (length (f ++ b ∷ [])) l) ∙ ap (λ (t : Bytes). t ++ drop (length (f ++ b ∷ [])) l) (take_front (f ++ b ∷ []) l fl) ∙ append_assoc f (b ∷ []) (drop (length (f ++ b ∷ [])) l) in
+    ap (λ (t : Bytes). drop (length g) t) whole ∙ drop-append-le (length g) f (b ∷ drop (length (f ++ b ∷ [])) l) (Begins-length g f gf)
 
-  begins_above : Begins (edge_front h.shape.front_of above) (h.shape.front_of h.number ++ h.byte ∷ [])
-  begins_above = begins_below keys nodes h.root h.shape above h.number h.byte h.leads
-
-  module _ (x : Node) (is : nodes n ≡ Some x) where
-    pub cut_ends : (end : ℕ) → x.depth ≤ end → EndsBelow nodes above end
-    cut_ends end le = ends_below keys nodes h.root h.shape child_front n x is child_covers above end (Inner h.number) h.leads begins_above le
-
-    -- the prefix begins and ends within the key
-    pub cut_starts : (start : ℕ) → StartsBelow nodes above start → start ≤ x.depth
-    cut_starts start s = starts_within keys nodes h.root h.shape child_front n x is child_covers above start begins_above s
-
-    pub cut_within : (i : ℕ) (k : Bytes) → IsEndUnder keys true child_front i → keys i ≡ Some k → x.depth ≤ length k
-    cut_within i k u e = key_within keys nodes h.root h.shape child_front n x is child_covers i k u e
-
-    -- the node keeps what its front has behind that of the edge
-    pub cut_is : (start end i : ℕ) (k : Bytes) → StartsBelow nodes above start → end ≡ x.depth → IsEndUnder keys true child_front i → keys i ≡ Some k → take P (slice_range k start end) ≡ take P (drop (length (edge_front h.shape.front_of above)) (h.shape.front_of n))
-    cut_is start end i k s e u is_k =
-        let own : keys i ≡ Some u.key = u.is in
-        let same : u.key ≡ k = cc in
-        let le : start ≤ x.depth = cut_starts start s in
-        cut_front P k (edge_front h.shape.front_of above) (h.shape.front_of n) start end (child_covers.only i k is_k (subst (Begins child_front) same u.front)) (start_is keys nodes h.root h.shape above start s) (e ∙ (h.shape.node n x is).depth) (omega arith)
+-- a child keeps what its front has behind the edge above the node, where the prefixes are joined
+pub join_is : {P : ℕ} → (keys : ℕ → Option Bytes) (nodes : ℕ → Option Node) (above : Option (ℕ × ℕ)) (n m b : ℕ) (h : IsChildBelow P keys nodes above n (record { byte = b; to = Inner m })) (y : Node) → nodes m ≡ Some y
+    → take P (h.node.prefix ++ b ∷ y.prefix) ≡ take P (drop (length (edge_front h.shape.front_of above)) (h.shape.front_of m))
+join_is {P} keys nodes above n m b h y is =
+    let f = h.shape.front_of in
+    let g : Bytes = edge_front f above in
+    let up : h.node.prefix ≡ take P (drop (length g) (f n)) = h.shape.keeps above n h.node h.leads h.is in
+    let low : y.prefix ≡ take P (drop (length (f n ++ b ∷ [])) (f m)) = h.shape.keeps (Some (n, b)) m y (h.node, h.is, h.there) is in
+    let a : Begins g (f n) = (covers_above keys nodes h.root h.shape above (Inner n) h.leads).front in
+    let c : Begins (f n ++ b ∷ []) (f m) = ((h.shape.node n h.node h.is).below b (Inner m) h.there).front in
+    ap (λ (t : Bytes). take P (t ++ b ∷ y.prefix)) up ∙ ap (λ (t : Bytes). take P (take P (drop (length g) (f n)) ++ b ∷ t)) low
+    ∙ take_join P P (drop (length g) (f n)) (drop (length (f n ++ b ∷ [])) (f m)) b (omega arith)
+    ∙ ap (λ (t : Bytes). take P t) (sym (drop_join g (f n) (f m) b a c))

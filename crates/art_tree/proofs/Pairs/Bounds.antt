@@ -281,11 +281,11 @@ module _ {K V : Type 0} (key_bytes : K → Bytes) (pairs : List (Numbered K V)) 
         (last_front keys q nodes root s i m.key m.is m.begins l, no_key keys nodes root s i m.key m.is q (inl m.begins) (omega arith))
 
     -- where q begins keys
-    pub place_longer : {P : ℕ} → (c : Child) → QueryEnds key_bytes P pairs nodes c q → (first : ℕ) → IsEndUnder keys true q first → (o : Option ℕ) → o ≡ number_before pairs first → IsPlaceOf keys q (Err o)
+    pub place_longer : {P : ℕ} → (c : Child) → QueryEnds P (keys_in key_bytes pairs) nodes c q → (first : ℕ) → IsEndUnder keys true q first → (o : Option ℕ) → o ≡ number_before pairs first → IsPlaceOf keys q (Err o)
     place_longer c m first u o e =
         let l : length q < length m.key = m.longer in
         (subst (λ (o : Option ℕ). IsLeafBefore keys q o) (sym e) (behind_from key_bytes pairs content distinct q first (least_from keys q first u)), no_key keys nodes m.root m.shape m.leaf m.key m.is q (inr m.begun) (omega arith))
 
     -- and where no key is related to q
-    pub place_apart : {P : ℕ} → (d : Departure) → LeavesAt key_bytes P pairs nodes d q → (o : Option ℕ) → IsLeafBefore keys q o → IsPlaceOf keys q (Err o)
+    pub place_apart : {P : ℕ} → (d : Departure) → LeavesAt P (keys_in key_bytes pairs) nodes d q → (o : Option ℕ) → IsLeafBefore keys q o → IsPlaceOf keys q (Err o)
     place_apart d l o h = (h, no_key_alone keys q l.apart.alone)

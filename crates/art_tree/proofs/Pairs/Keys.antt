@@ -1,6 +1,6 @@
 -- Pairs under their numbers.
 use Rattle.std.proofs.Common.{◌≡◌, ℕ, List, refl, ap, Some, option_map}
-use Rattle.blart_keys.proofs.Options.{mapped_some, is_some}
+use Rattle.blart_keys.proofs.Options.{mapped_some, is_some, some_of}
 use Rattle.blart_keys.proofs.RankLemmas.{Member}
 use Rattle.art_tree.specs.Begins.{Bytes}
 use Rattle.art_tree.proofs.Pairs.Numbers.{leaf_in-member, Member-from_leaf_in}
@@ -27,3 +27,7 @@ module _ {K V : Type 0} where
     -- a number under which there is a key is one of the list
     pub has_key : (ps : List (Numbered K V)) (i : ℕ) (k : Bytes) → keys_in key_bytes ps i ≡ Some k → Has ps i
     has_key ps i k e = let p = pair_of_key ps i k e in is_some (leaf_in ps i) p.0 p.1
+
+    -- and one of the list has a key
+    pub key_of_number : (ps : List (Numbered K V)) (i : ℕ) → Has ps i → (k : Bytes) × (keys_in key_bytes ps i ≡ Some k)
+    key_of_number ps i h = let p = some_of (leaf_in ps i) h in (key_bytes p.0.0, key_of_pair ps i p.0 p.1)

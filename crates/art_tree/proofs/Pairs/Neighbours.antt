@@ -8,8 +8,10 @@ use Rattle.blart_keys.proofs.PartLemmas.{PartsBelow-from, less-from_PartsBelow, 
 use Rattle.blart_keys.proofs.RankLemmas.{Member, Ranked, each_member, Member-append_left, Member-append_right, Member-append_cases, Ranked-across, Ranked-left, Ranked-right}
 use Rattle.blart_keys.proofs.ContentLemmas.{Before, Ranked-from_content, put_between, related-same, unrelated_back}
 use Rattle.art_tree.specs.Begins.{Bytes, Begins, next_byte}
-use Rattle.art_tree.specs.Places.{LastBefore, FirstAfter, IsLeafBefore}
-use Rattle.art_tree.specs.Slabs.Edges.{child_at, IsPrevious}
+use Rattle.art_tree.specs.Places.{LastBefore, FirstAfter, IsLeafBefore, IsBeside, number_in_front}
+use Rattle.art_tree.specs.declared.tree.parting.Beside.{Beside}
+use Rattle.art_tree.specs.declared.tree.parting.Beside.TheVariants.{Behind, InFront}
+use Rattle.art_tree.specs.Slabs.Edges.{child_at, IsPrevious, IsNext}
 use Rattle.art_tree.specs.Leaves.{Numbered, bytes, keys_in, leaf_in, AreDistinct, with_pair_behind, first_number, number_after, number_before, number_before_from}
 use Rattle.art_tree.specs.Slabs.Nodes.{Node}
 use Rattle.art_tree.specs.Invariant.Shape.{Shape}
@@ -122,16 +124,23 @@ module _ {P : ℕ} (keys : ℕ → Option Bytes) (nodes : ℕ → Option Node) (
       ])
       (parted_less t m q e.byte b tm qt prev.0)
 
-  -- where no edge comes before, the least key below the node comes after q
-  pub first_at_node : IsPrevious x.edges b None → child_at x.edges b ≡ None → (i : ℕ) (m : Bytes) → keys i ≡ Some m → Begins t m → ((j : ℕ) (k : Bytes) → keys j ≡ Some k → Begins t k → (j ≡ i) ⊎ (less m k ≡ true)) → FirstAfter keys q i
-  first_at_node prev none i m is tm most =
-      let r = by_edge i m is tm in
-      first_below keys q t tq alone i m is tm (λ j k is tk lt. most j k is tk)
-      (elim (cases_order (next_byte t m) b) [
-        | inl at ↦ absurd (not_some (child_at x.edges (next_byte t m)) (ap (child_at x.edges) at ∙ none) r.1)
-        | inr (inl l) ↦ absurd (not_some (child_at x.edges (next_byte t m)) (prev (next_byte t m) l) r.1)
-        | inr (inr l) ↦ parted_less t q m b (next_byte t m) qt r.0 l
+  -- the least key below the edge behind q's byte comes after q
+  pub first_at_node : (e : Edge) → IsNext x.edges b (Some e) → child_at x.edges b ≡ None → (i : ℕ) (m : Bytes) → keys i ≡ Some m → Begins (t ++ e.byte ∷ []) m → ((j : ℕ) (k : Bytes) → keys j ≡ Some k → Begins (t ++ e.byte ∷ []) k → (j ≡ i) ⊎ (less m k ≡ true)) → FirstAfter keys q i
+  first_at_node e next none i m is tm least =
+      first_below keys q t tq alone i m is (Begins-edge_front t m e.byte tm)
+      (λ j k is tk lt.
+      let r = by_edge j k is tk in
+      elim (cases_order (next_byte t k) e.byte) [
+        | inl same ↦ least j k is (subst (λ (c : ℕ). Begins (t ++ c ∷ []) k) same r.0)
+        | inr (inr l) ↦ inr (parted_less t m k e.byte (next_byte t k) tm r.0 l)
+        | inr (inl l) ↦
+            elim (cases_order (next_byte t k) b) [
+              | inl at ↦ absurd (not_some (child_at x.edges (next_byte t k)) (ap (child_at x.edges) at ∙ none) r.1)
+              | inr (inr l2) ↦ absurd (not_some (child_at x.edges (next_byte t k)) (next.2 (next_byte t k) l2 l) r.1)
+              | inr (inl l2) ↦ absurd (one_less q k lt (parted_less t k q (next_byte t k) b r.0 qt l2))
+            ]
       ])
+      (parted_less t q m b e.byte qt tm next.0)
 
 -- the leaf has the least key that is not less than q
 pub record FirstFrom (keys : ℕ → Option Bytes) (q : Bytes) (i : ℕ) : Type 0 where
@@ -371,7 +380,7 @@ module _ {K V : Type 0} (key_bytes : K → Bytes) (pairs : List (Numbered K V)) 
             ])
 
     -- the leaf before q is the one before the first that is greater
-    pub behind_previous : (i : ℕ) → FirstAfter (keys_in key_bytes pairs) q i → IsLeafBefore (keys_in key_bytes pairs) q (number_before pairs i)
+    behind_previous : (i : ℕ) → FirstAfter (keys_in key_bytes pairs) q i → IsLeafBefore (keys_in key_bytes pairs) q (number_before pairs i)
     behind_previous i st =
         behind_from q i (record {
           key = st.key;
@@ -379,3 +388,8 @@ module _ {K V : Type 0} (key_bytes : K → Bytes) (pairs : List (Numbered K V)) 
           from = false_from_ne_true (less st.key q) (λ h. one_less st.key q h st.after);
           first = λ j k e h. elim (less_cases k q (alone j k e)) [ inl l ↦ absurd (false≢true (sym h ∙ l)) | inr l ↦ st.first j k e l ];
         })
+
+    -- the leaf before q, by one beside it
+    pub before_beside : (beside : Beside) → IsBeside (keys_in key_bytes pairs) q beside → IsLeafBefore (keys_in key_bytes pairs) q (number_in_front pairs beside)
+    before_beside (Behind i) st = st
+    before_beside (InFront i) st = behind_previous i st

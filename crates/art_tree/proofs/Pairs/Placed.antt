@@ -4,7 +4,7 @@ use Rattle.std.specs.Prelude.{IfSome}
 use Rattle.blart_keys.specs.Bytes.{related}
 use Rattle.blart_keys.specs.Content.{IsContent}
 use Rattle.art_tree.specs.Begins.{Bytes}
-use Rattle.art_tree.specs.Places.{LeavesMate, IsLeafBefore}
+use Rattle.art_tree.specs.Places.{LeavesMate, IsLeafBefore, IsBeside, neighbour, number_in_front}
 use Rattle.art_tree.specs.Calls.Placing.{IsSpotFor, TreeGains, Places}
 use Rattle.art_tree.specs.Leaves.{Leaves, Numbered, leaf_in, Has, AreDistinct, with_pair_behind, bytes, keys_in}
 use Rattle.art_tree.specs.Slabs.Nodes.{Nodes, Node, at}
@@ -13,6 +13,8 @@ use Rattle.art_tree.specs.Invariant.Shape.{Shape}
 use Rattle.art_tree.specs.Calls.Spots.{SpotFits}
 use Rattle.art_tree.specs.Invariant.Sound.{IsSound}
 use Rattle.art_tree.specs.declared.tree.descent.Spot.{Spot}
+use Rattle.art_tree.specs.declared.tree.parting.Beside.{Beside}
+use Rattle.art_tree.specs.declared.tree.parting.Beside.TheVariants.{Behind, InFront}
 use Rattle.art_tree.specs.declared.tree.point.Place.{Place}
 use Rattle.art_tree.specs.declared.records.ids.Child.{Child}
 use Rattle.art_tree.specs.declared.records.ids.Child.TheVariants.{Leaf}
@@ -20,9 +22,9 @@ use Rattle.art_tree.proofs.Invariant.Growing.{Gains, some_key}
 use Rattle.art_tree.proofs.Calls.Joining.{leaving_unrelated}
 use Rattle.art_tree.proofs.Pairs.KeyChanges.{gains_from}
 use Rattle.art_tree.proofs.Pairs.Numbers.{Lacks-from_leaf_in, leaf_in-placed_now, others-with_pair_behind}
-use Rattle.art_tree.proofs.Pairs.Neighbours.{placed_put}
+use Rattle.art_tree.proofs.Pairs.Neighbours.{placed_put, before_beside}
 use Rattle.blart_keys.proofs.Options.{is_some}
-use Rattle.art_tree.proofs.Pairs.Keys.{pair_of_key}
+use Rattle.art_tree.proofs.Pairs.Keys.{pair_of_key, has_key}
 use Rattle.art_tree.proofs.Invariant.SameShapes.{rooted}
 use Rattle.art_tree.proofs.Invariant.SmallShapes.{first_key}
 
@@ -75,12 +77,25 @@ module _ {K V : Type 0} (key_bytes : K → Bytes) where
         shape = first_key (keys_in key_bytes leaves.pairs) (keys_in key_bytes leaves'.pairs) (at nodes) i (key_bytes x.0) s (places_gain leaves.pairs leaves'.pairs i x p);
       }
 
+  -- the leaf in front of a free place
+  pub free_before : {P : ℕ} → (leaves : Leaves K V) (nodes : Nodes) (root : Option Child) (place : Place) (q : Bytes) → IsSound key_bytes P leaves nodes root → AreDistinct leaves.pairs → IsFree key_bytes leaves.pairs place q
+      → (prev : Option ℕ) → prev ≡ number_in_front leaves.pairs place.beside → IsLeafBefore (keys_in key_bytes leaves.pairs) q prev
+  free_before leaves nodes root place q sound distinct free prev e =
+      let alone = leaving_unrelated (keys_in key_bytes leaves.pairs) (at nodes) root sound.shape place.mate place.depth q free.leaves in
+      subst (IsLeafBefore (keys_in key_bytes leaves.pairs) q) (sym e) (before_beside key_bytes leaves.pairs sound.content distinct q alone place.beside free.beside)
+
   -- a pair at a free place
   pub placed_free : {P : ℕ} → (leaves : Leaves K V) (nodes : Nodes) (root : Option Child) (place : Place) (new : List (Numbered K V)) (i : ℕ) (x : K × V) → IsSound key_bytes P leaves nodes root → AreDistinct leaves.pairs → IsFree key_bytes leaves.pairs place (key_bytes x.0)
-      → leaf_in leaves.pairs i ≡ None → new ≡ with_pair_behind place.prev (i, x) leaves.pairs → Places key_bytes leaves.pairs new i x
-  placed_free leaves nodes root place new i x sound distinct free fresh is =
-      placed_pairs leaves.pairs new (key_bytes x.0) place.prev i x sound.content distinct
-      (leaving_unrelated (keys_in key_bytes leaves.pairs) (at nodes) root sound.shape place.mate place.depth (key_bytes x.0) free.leaves) free.behind fresh refl is
+      → (prev : Option ℕ) → prev ≡ number_in_front leaves.pairs place.beside → leaf_in leaves.pairs i ≡ None → new ≡ with_pair_behind prev (i, x) leaves.pairs → Places key_bytes leaves.pairs new i x
+  placed_free leaves nodes root place new i x sound distinct free prev prev_is fresh is =
+      placed_pairs leaves.pairs new (key_bytes x.0) prev i x sound.content distinct
+      (leaving_unrelated (keys_in key_bytes leaves.pairs) (at nodes) root sound.shape place.mate place.depth (key_bytes x.0) free.leaves)
+      (free_before leaves nodes root place (key_bytes x.0) sound distinct free prev prev_is) fresh refl is
+
+  -- the leaf beside a place is one of the pairs'
+  pub has_beside : (pairs : List (Numbered K V)) (q : Bytes) (beside : Beside) → IsBeside (keys_in key_bytes pairs) q beside → Has pairs (neighbour beside)
+  has_beside pairs q (Behind i) st = has_key key_bytes pairs i st.key st.is
+  has_beside pairs q (InFront i) st = has_key key_bytes pairs i st.key st.is
 
   module _ (old new : List (Numbered K V)) (i : ℕ) (x : K × V) (p : Places key_bytes old new i x) where
     -- what a number names it names then

@@ -1,16 +1,14 @@
--- The leaf before the place where a query leaves the stored keys.
-use Rattle.std.proofs.Common.{false, ◌≡◌, ◌≢◌, ℕ, ◌<◌, true, List, [], ◌∷◌, ◌++◌, inl, inr, length, take, get_or, ap, sym, subst, ◌∙◌, Option, Some, None, arith}
+-- The leaf beside the place where a query leaves the stored keys.
+use Rattle.std.proofs.Common.{Bool, false, ◌≡◌, ◌≢◌, ℕ, ◌<◌, ◌≤◌, true, [], ◌∷◌, ◌++◌, length, take, get_or, ap, sym, subst, ◌∙◌, Option, Some, None, arith}
 use Rattle.std.proofs.lemmas.List.{length-take-le}
-use Rattle.std.proofs.lemmas.Bool.{cases_order}
+use Rattle.std.specs.Prelude.{ltb}
+use Rattle.std.proofs.lemmas.Bool.{ltb-true, ltb-false}
 use Rattle.art_tree.specs.Invariant.EdgesAbove.{edge_front}
 use Rattle.art_tree.specs.Begins.{Bytes, Begins, next_byte}
-use Rattle.art_tree.specs.Calls.Partings.{LeavesAt, LeavesAtNode, LeavesAtEdge}
-use Rattle.art_tree.specs.Calls.Descents.{IsEndUnder}
-use Rattle.art_tree.specs.Places.{IsLeafBefore}
-use Rattle.art_tree.specs.Slabs.Edges.{child_at, IsPrevious}
-use Rattle.art_tree.specs.Leaves.{Numbered, keys_in, number_before}
+use Rattle.art_tree.specs.Calls.Partings.{LeavesAt, LeavesAtNode, LeavesAtEdge, IsChildBeside, IsNextTo}
+use Rattle.art_tree.specs.Slabs.Edges.{child_at, IsPrevious, IsNext}
 use Rattle.art_tree.specs.Slabs.Nodes.{Node}
-use Rattle.art_tree.specs.Invariant.Shape.{Covers, CoversNode}
+use Rattle.art_tree.specs.Invariant.Shape.{Covers}
 use Rattle.art_tree.specs.Calls.Spots.{PastLength}
 use Rattle.art_tree.specs.declared.records.ids.Child.{Child}
 use Rattle.art_tree.specs.declared.records.ids.Child.TheVariants.{Leaf, Inner}
@@ -18,62 +16,74 @@ use Rattle.art_tree.specs.declared.records.ids.Edge.{Edge}
 use Rattle.art_tree.specs.declared.tree.descent.Spot.{Spot}
 use Rattle.art_tree.specs.declared.tree.descent.Spot.TheVariants as spot
 use Rattle.art_tree.specs.declared.tree.parting.Departure.{Departure}
-use Rattle.art_tree.proofs.BeginsLemmas.{Begins-itself, Begins-more, Begins-past, Begins-trans, Begins-take}
+use Rattle.art_tree.proofs.BeginsLemmas.{Begins-more, Begins-past, Begins-trans, Begins-take}
 use Rattle.art_tree.proofs.Ways.Ends.{first_less, last_greater}
 use Rattle.art_tree.proofs.Invariant.Growing.{covers_above, some_key}
 use Rattle.art_tree.proofs.Pairs.KeyChanges.{departs_at, next_at}
-use Rattle.art_tree.proofs.Pairs.Neighbours.{last_at_node, first_at_node, last_beside, first_beside, behind_previous}
+use Rattle.art_tree.proofs.Pairs.Neighbours.{last_at_node, first_at_node, last_beside, first_beside}
+use Rattle.art_tree.proofs.Calls.Unlinking.{no_lone_edge}
 use Rattle.blart_keys.proofs.Options.{some_of, none_of}
 use Rattle.art_tree.proofs.Calls.PlacedShapes.{along_key, bytes_apart, mate_long}
 
-module _ {K V : Type 0} (key_bytes : K → List ℕ) (pairs : List (Numbered K V)) (nodes : ℕ → Option Node) where
-  -- a node covers the keys that begin with its own front
-  pub covers_own : {P : ℕ} → (n b : ℕ) (q : Bytes) (l : LeavesAtNode key_bytes P pairs nodes n b q) → CoversNode (keys_in key_bytes pairs) nodes l.apart.shape.front_of (l.apart.shape.front_of n) n
-  covers_own n b q l = record { live = l.live; front = Begins-itself (l.apart.shape.front_of n); only = λ j k is h. h }
+abbrev departure : ℕ → ℕ → ℕ → Spot → Departure
+departure mate depth byte sp = record { mate = mate; depth = depth; byte = byte; spot = sp }
 
-  module _ {P : ℕ} (n b : ℕ) (q : Bytes) (l : LeavesAtNode key_bytes P pairs nodes n b q) (x : Node) (is : nodes n ≡ Some x) where
+module _ {P : ℕ} (keys : ℕ → Option Bytes) (nodes : ℕ → Option Node) where
+  module _ (n b : ℕ) (q : Bytes) (l : LeavesAtNode P keys nodes n b q) (x : Node) (is : nodes n ≡ Some x) where
     -- no key goes on by q's byte, so no edge has it
     no_edge_there : child_at x.edges b ≡ None
     no_edge_there = none_of (child_at x.edges b) (λ h.
         let c = some_of (child_at x.edges b) h in
-        let k = some_key (keys_in key_bytes pairs) nodes l.apart.root l.apart.shape (l.apart.shape.front_of n ++ b ∷ []) c.0 ((l.apart.shape.node n x is).below b c.0 c.1) in
+        let k = some_key keys nodes l.apart.root l.apart.shape (l.apart.shape.front_of n ++ b ∷ []) c.0 ((l.apart.shape.node n x is).below b c.0 c.1) in
         l.none k.0 k.1 k.2 k.3)
 
-    -- the greatest key below the edge before
-    pub behind_lower : (e : Edge) → IsPrevious x.edges b (Some e) → (i : ℕ) → IsEndUnder (keys_in key_bytes pairs) false (l.apart.shape.front_of n ++ e.byte ∷ []) i → IsLeafBefore (keys_in key_bytes pairs) q (Some i)
-    behind_lower e prev i u = last_at_node (keys_in key_bytes pairs) nodes l.apart.root l.apart.shape q l.apart.alone n x is b l.goes_on e prev no_edge_there i u.key u.is u.front (last_greater u)
+    -- the key next to q below the edge next to its byte
+    pub beside_at_node : (is_behind : Bool) (e : Edge) → IsNextTo is_behind x.edges b e → IsChildBeside P keys nodes q e.to is_behind
+    beside_at_node true e next = record {
+      root = l.apart.root;
+      shape = l.apart.shape;
+      front = l.apart.shape.front_of n ++ e.byte ∷ [];
+      covers = (l.apart.shape.node n x is).below e.byte e.to next.1;
+      beside = λ i u. last_at_node keys nodes l.apart.root l.apart.shape q l.apart.alone n x is b l.goes_on e next no_edge_there i u.key u.is u.front (last_greater u);
+    }
+    beside_at_node false e next = record {
+      root = l.apart.root;
+      shape = l.apart.shape;
+      front = l.apart.shape.front_of n ++ e.byte ∷ [];
+      covers = (l.apart.shape.node n x is).below e.byte e.to next.1;
+      beside = λ i u. first_at_node keys nodes l.apart.root l.apart.shape q l.apart.alone n x is b l.goes_on e next no_edge_there i u.key u.is u.front (first_less u);
+    }
 
-    -- or the leaf before the least key of the node
-    pub before_all : IsPrevious x.edges b None → (i : ℕ) → IsEndUnder (keys_in key_bytes pairs) true (l.apart.shape.front_of n) i → IsLeafBefore (keys_in key_bytes pairs) q (number_before pairs i)
-    before_all prev i u =
-        behind_previous key_bytes pairs l.apart.content l.apart.distinct q l.apart.alone i
-        (first_at_node (keys_in key_bytes pairs) nodes l.apart.root l.apart.shape q l.apart.alone n x is b l.goes_on prev no_edge_there i u.key u.is u.front (first_less u))
+    -- there is such an edge
+    pub no_edge_beside : IsPrevious x.edges b None → IsNext x.edges b None → ⊥
+    no_edge_beside prev next = no_lone_edge keys nodes l.apart.root l.apart.shape n b x is next prev
 
-  module _ {P : ℕ} (c : Child) (a b : ℕ) (q : Bytes) (l : LeavesAtEdge key_bytes P pairs nodes c a b q) where
-    -- the greatest key below an edge that goes on by a lesser byte
-    pub behind_edge : a < b → (i : ℕ) → IsEndUnder (keys_in key_bytes pairs) false l.front i → IsLeafBefore (keys_in key_bytes pairs) q (Some i)
-    behind_edge lt i u = last_beside (keys_in key_bytes pairs) q l.apart.alone l.t b a l.goes_on l.front l.within l.all i u.key u.is u.front lt (last_greater u)
-
-    -- or the leaf before the least key below an edge that goes on by a greater one
-    pub before_edge : (a < b → ⊥) → (i : ℕ) → IsEndUnder (keys_in key_bytes pairs) true l.front i → IsLeafBefore (keys_in key_bytes pairs) q (number_before pairs i)
-    before_edge never i u =
-        let apart : a ≢ b = l.other in
-        let lt : b < a = above a b never apart in
-        behind_previous key_bytes pairs l.apart.content l.apart.distinct q l.apart.alone i
-        (first_beside (keys_in key_bytes pairs) q l.apart.alone l.t b a l.goes_on l.front l.within l.all i u.key u.is u.front lt (first_less u))
-      where
-        above : (a b : ℕ) → (a < b → ⊥) → a ≢ b → b < a
-        above a b never apart = elim (cases_order a b) [ inl e ↦ absurd (apart e) | inr (inl h) ↦ absurd (never h) | inr (inr h) ↦ h ]
+  module _ (c : Child) (a b : ℕ) (q : Bytes) (l : LeavesAtEdge P keys nodes c a b q) where
+    -- the key next to q below an edge that goes on by another byte
+    pub beside_at_edge : (is_behind : Bool) → is_behind ≡ ltb a b → IsChildBeside P keys nodes q c is_behind
+    beside_at_edge true e = record {
+      root = l.apart.root;
+      shape = l.apart.shape;
+      front = l.front;
+      covers = l.covers;
+      beside = λ i u. last_beside keys q l.apart.alone l.t b a l.goes_on l.front l.within l.all i u.key u.is u.front (ltb-true a b (sym e)) (last_greater u);
+    }
+    beside_at_edge false e = record {
+      root = l.apart.root;
+      shape = l.apart.shape;
+      front = l.front;
+      covers = l.covers;
+      beside = λ i u.
+          let apart : a ≢ b = l.other in
+          let le : b ≤ a = ltb-false a b (sym e) in
+          first_beside keys q l.apart.alone l.t b a l.goes_on l.front l.within l.all i u.key u.is u.front (omega arith) (first_less u);
+    }
 
   -- ---- where a spot shows that
 
   module _ (mate depth byte : ℕ) (q : Bytes) where
-    abbrev departure : Spot → Departure
-    departure sp = record { mate = mate; depth = depth; byte = byte; spot = sp }
-
-    pub at_node : {P : ℕ} → (above : Option (ℕ × ℕ)) (n : ℕ) (l : LeavesAt key_bytes P pairs nodes (departure (spot.Node above n)) q) → LeavesAtNode key_bytes P pairs nodes n (get_or q depth 0) q
+    pub at_node : (above : Option (ℕ × ℕ)) (n : ℕ) (l : LeavesAt P keys nodes (departure mate depth byte (spot.Node above n)) q) → LeavesAtNode P keys nodes n (get_or q depth 0) q
     at_node above n l =
-        let keys = keys_in key_bytes pairs in
         let d = departs_at keys mate depth q l.leaves in
         let next : next_byte (take depth q) q ≡ get_or q depth 0 = next_at keys mate depth q l.leaves in
         let same : take depth q ≡ l.apart.shape.front_of n = sym (l.spot_fits.1 ∙ along_key keys mate depth q l.leaves l.mate l.is) in
@@ -85,12 +95,9 @@ module _ {K V : Type 0} (key_bytes : K → List ℕ) (pairs : List (Numbered K V
         }
 
     -- the keys below the edge go on from there as the mate does
-    as_mate : {P : ℕ} → (above : Option (ℕ × ℕ)) (c : Child) (l : LeavesAt key_bytes P pairs nodes (departure (spot.Edge above c)) q) → (j : ℕ) (k : Bytes) → keys_in key_bytes pairs j ≡ Some k → Begins (edge_front l.apart.shape.front_of above) k → Begins (take depth l.mate ++ get_or l.mate depth 0 ∷ []) k
+    as_mate : (above : Option (ℕ × ℕ)) (c : Child) (l : LeavesAt P keys nodes (departure mate depth byte (spot.Edge above c)) q) → (j : ℕ) (k : Bytes) → keys j ≡ Some k → Begins (edge_front l.apart.shape.front_of above) k → Begins (take depth l.mate ++ get_or l.mate depth 0 ∷ []) k
     as_mate above c l j k is h = go c (covers_above keys nodes l.apart.root l.apart.shape above c l.spot_fits.0.leads) l.spot_fits.1
       where
-        keys : ℕ → Option Bytes
-        keys = keys_in key_bytes pairs
-
         t : Bytes
         t = take depth l.mate
 
@@ -125,13 +132,12 @@ module _ {K V : Type 0} (key_bytes : K → List ℕ) (pairs : List (Numbered K V
             let tf = Begins-past (take depth l.mate) (l.apart.shape.front_of m) l.mate tm fm (omega arith) in
             subst (λ (b : ℕ). Begins (take depth l.mate ++ b ∷ []) k) next (Begins-trans (take depth l.mate ++ next_byte (take depth l.mate) l.mate ∷ []) (l.apart.shape.front_of m) k tf (covers.only j k is h))
 
-    pub at_edge : {P : ℕ} → (above : Option (ℕ × ℕ)) (c : Child) (l : LeavesAt key_bytes P pairs nodes (departure (spot.Edge above c)) q) → LeavesAtEdge key_bytes P pairs nodes c byte (get_or q depth 0) q
-    at_edge {P} above c l =
-        let keys = keys_in key_bytes pairs in
+    pub at_edge : (above : Option (ℕ × ℕ)) (c : Child) (l : LeavesAt P keys nodes (departure mate depth byte (spot.Edge above c)) q) → LeavesAtEdge P keys nodes c byte (get_or q depth 0) q
+    at_edge above c l =
         let d = departs_at keys mate depth q l.leaves in
         let next : next_byte (take depth q) q ≡ get_or q depth 0 = next_at keys mate depth q l.leaves in
         let same : take depth q ≡ take depth l.mate = sym (along_key keys mate depth q l.leaves l.mate l.is) in
-        subst (λ (b : ℕ). LeavesAtEdge key_bytes P pairs nodes c b (get_or q depth 0) q) (sym l.byte_is) (record {
+        subst (λ (b : ℕ). LeavesAtEdge P keys nodes c b (get_or q depth 0) q) (sym l.byte_is) (record {
           apart = l.apart;
           t = take depth l.mate;
           front = edge_front l.apart.shape.front_of above;

@@ -4,14 +4,13 @@ use Rattle.std.proofs.lemmas.Bool.{cases_lt, false_from_ne_true, false≢true}
 use Rattle.std.proofs.lemmas.Bool.Decides.{eqb_tells}
 use Rattle.std.proofs.lemmas.List.{length-take-le}
 use Rattle.blart_keys.specs.Bytes.{related, common}
-use Rattle.blart_keys.specs.Content.{IsContent}
 use Rattle.blart_keys.proofs.ContentLemmas.{related-same}
 use Rattle.art_tree.specs.Invariant.EdgesAbove.{edge_front}
 use Rattle.art_tree.specs.Begins.{Bytes, Begins}
 use Rattle.art_tree.specs.Calls.Partings.{LeavesAt, KeyEnds, QueryEnds}
 use Rattle.art_tree.specs.Calls.Descents.{IsWayOf}
 use Rattle.art_tree.specs.Places.{LeavesMate}
-use Rattle.art_tree.specs.Leaves.{Numbered, AreDistinct, keys_in, bytes}
+use Rattle.art_tree.specs.Leaves.{Numbered, keys_in}
 use Rattle.art_tree.specs.Slabs.Nodes.{Node}
 use Rattle.art_tree.specs.Invariant.Shape.{Shape, Covers}
 use Rattle.art_tree.specs.Calls.Spots.{SpotFits, PastLength, EdgeFits, child_under}
@@ -187,7 +186,7 @@ module _ {P : ℕ} {K V : Type 0} (key_bytes : K → List ℕ) (pairs : List (Nu
       go (spot.Edge above c) f = edge above c f.0 f.1 (covers_above keys nodes (Some root) s above c f.0.leads)
 
   -- q ends
-  pub parts_longer : d ≡ length q → d ≢ length mate → (sp : Spot) → SpotFits nodes (Some root) s.front_of mate d sp → (c : Child) → c ≡ child_under sp → QueryEnds key_bytes P pairs nodes c q
+  pub parts_longer : d ≡ length q → d ≢ length mate → (sp : Spot) → SpotFits nodes (Some root) s.front_of mate d sp → (c : Child) → c ≡ child_under sp → QueryEnds P (keys_in key_bytes pairs) nodes c q
   parts_longer a ne sp fits c e = record {
     root = Some root;
     shape = s;
@@ -200,12 +199,12 @@ module _ {P : ℕ} {K V : Type 0} (key_bytes : K → List ℕ) (pairs : List (Nu
   }
 
   -- both go on
-  pub parts_apart : IsContent (bytes key_bytes) pairs → AreDistinct pairs → ((j : ℕ) (k : Bytes) → keys j ≡ Some k → length (common k q) ≤ length (common mate q)) → d ≢ length q → d ≢ length mate → (sp : Spot) → SpotFits nodes (Some root) s.front_of mate d sp → LeavesAt key_bytes P pairs nodes (record { mate = i; depth = d; byte = get_or mate d 0; spot = sp }) q
-  parts_apart content distinct best nq nm sp fits =
+  pub parts_apart : ((j : ℕ) (k : Bytes) → keys j ≡ Some k → length (common k q) ≤ length (common mate q)) → d ≢ length q → d ≢ length mate → (sp : Spot) → SpotFits nodes (Some root) s.front_of mate d sp → LeavesAt P (keys_in key_bytes pairs) nodes (record { mate = i; depth = d; byte = get_or mate d 0; spot = sp }) q
+  parts_apart best nq nm sp fits =
       let lq : d < length q = (let l : d ≤ length q = query_within mate q d d_is in omega arith) in
       let lm : d < length mate = (let l : d ≤ length mate = mate_within mate q d d_is in omega arith) in
       record {
-        apart = record { content = content; distinct = distinct; root = Some root; shape = s; alone = none_related keys nodes (Some root) s i mate is q d d_is best lq lm };
+        apart = record { root = Some root; shape = s; alone = none_related keys nodes (Some root) s i mate is q d d_is best lq lm };
         mate = mate;
         is = is;
         byte_is = refl;

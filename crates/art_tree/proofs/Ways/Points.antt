@@ -33,7 +33,7 @@ module _ {K V : Type 0} (key_bytes : K → List ℕ) (pairs : List (Numbered K V
       )
 
   -- the query begins keys: those are related to it, and no others
-  pub longer_related : {P : ℕ} → (c : Child) (m : QueryEnds key_bytes P pairs nodes c q) (first last : ℕ) → IsEndUnder (keys_in key_bytes pairs) true q first → IsEndUnder (keys_in key_bytes pairs) false q last → IsGood key_bytes pairs (Related first last) q
+  pub longer_related : {P : ℕ} → (c : Child) (m : QueryEnds P (keys_in key_bytes pairs) nodes c q) (first last : ℕ) → IsEndUnder (keys_in key_bytes pairs) true q first → IsEndUnder (keys_in key_bytes pairs) false q last → IsGood key_bytes pairs (Related first last) q
   longer_related c m first last a b =
       let starts = related_begun (keys_in key_bytes pairs) nodes m.root m.shape m.leaf m.key m.is q m.begun in
       let l : length q < length m.key = m.longer in (

@@ -1,17 +1,20 @@
 -- Where a query leaves the stored keys, and what is known there.
-use Rattle.std.specs.Prelude.{◌≡◌, ◌≢◌, ℕ, false, List, [], ◌∷◌, ◌++◌, ◌<◌, length, slice_index_or, Option, Some, IsSome}
+use Rattle.std.specs.Prelude.{◌≡◌, ◌≢◌, ℕ, Bool, true, false, not, List, [], ◌∷◌, ◌++◌, ◌<◌, length, slice_index_or, Option, Some, IsSome}
 use Rattle.blart_keys.specs.Bytes.{related}
-use Rattle.blart_keys.specs.Content.{IsContent}
 use Rattle.art_tree.specs.Begins.{Bytes, Begins}
-use Rattle.art_tree.specs.Places.{LeavesMate}
-use Rattle.art_tree.specs.Leaves.{Numbered, AreDistinct, keys_in, bytes}
+use Rattle.art_tree.specs.Places.{LeavesMate, IsBeside}
+use Rattle.art_tree.specs.Slabs.Edges.{IsNext, IsPrevious}
 use Rattle.art_tree.specs.Slabs.Nodes.{Node}
+use Rattle.art_tree.specs.Calls.Descents.{IsEndUnder}
 use Rattle.art_tree.specs.Invariant.Shape.{Shape, Covers}
 use Rattle.art_tree.specs.Calls.Spots.{SpotFits}
 use Rattle.art_tree.specs.declared.tree.parting.Departure.{Departure}
 use Rattle.art_tree.specs.declared.tree.parting.Parting.{Parting}
 use Rattle.art_tree.specs.declared.tree.parting.Parting.TheVariants.{Same, Shorter, Longer, Apart}
+use Rattle.art_tree.specs.declared.tree.parting.Beside.{Beside}
+use Rattle.art_tree.specs.declared.tree.parting.Beside.TheVariants.{Behind, InFront}
 use Rattle.art_tree.specs.declared.records.ids.Child.{Child}
+use Rattle.art_tree.specs.declared.records.ids.Edge.{Edge}
 
 -- the key of the leaf begins q, and is shorter
 pub record KeyEnds (keys : ℕ → Option Bytes) (i : ℕ) (q : Bytes) : Type 0 where
@@ -20,30 +23,44 @@ pub record KeyEnds (keys : ℕ → Option Bytes) (i : ℕ) (q : Bytes) : Type 0 
   pub begins : Begins key q
   pub shorter : length key < length q
 
-module _ {K V : Type 0} (key_bytes : K → List ℕ) (P : ℕ) (pairs : List (Numbered K V)) (nodes : ℕ → Option Node) where
+-- a place behind a leaf, or in front of it
+abbrev pub beside_leaf : Bool → ℕ → Beside
+beside_leaf true i = Behind i
+beside_leaf false i = InFront i
+
+-- the edge that is next to a byte: before it, or behind it
+abbrev pub IsNextTo : Bool → List Edge → ℕ → Edge → Type 0
+IsNextTo true es b e = IsPrevious es b (Some e)
+IsNextTo false es b e = IsNext es b (Some e)
+
+-- an edge of the node is next to the byte
+pub record IsEdgeBeside (nodes : ℕ → Option Node) (n b : ℕ) (e : Edge) (is_behind : Bool) : Type 0 where
+  pub node : Node
+  pub is : nodes n ≡ Some node
+  pub next : IsNextTo is_behind node.edges b e
+
+module _ (P : ℕ) (keys : ℕ → Option Bytes) (nodes : ℕ → Option Node) where
   -- a sound tree, no key of which is related to q
   pub record NoneRelated (q : Bytes) : Type 0 where
-    pub content : IsContent (bytes key_bytes) pairs
-    pub distinct : AreDistinct pairs
     pub root : Option Child
-    pub shape : Shape P (keys_in key_bytes pairs) nodes root
-    pub alone : (j : ℕ) (k : Bytes) → keys_in key_bytes pairs j ≡ Some k → related k q ≡ false
+    pub shape : Shape P keys nodes root
+    pub alone : (j : ℕ) (k : Bytes) → keys j ≡ Some k → related k q ≡ false
 
   -- q leaves the keys at a node, and goes on by this byte
   pub record LeavesAtNode (n byte : ℕ) (q : Bytes) : Type 0 where
     pub apart : NoneRelated q
     pub live : IsSome (nodes n)
     pub goes_on : Begins (apart.shape.front_of n ++ byte ∷ []) q
-    pub none : (j : ℕ) (k : Bytes) → keys_in key_bytes pairs j ≡ Some k → Begins (apart.shape.front_of n ++ byte ∷ []) k → ⊥
+    pub none : (j : ℕ) (k : Bytes) → keys j ≡ Some k → Begins (apart.shape.front_of n ++ byte ∷ []) k → ⊥
 
   -- q leaves the keys behind a front t on the way to a child: they go on by the mate's byte, and q by another
   pub record LeavesAtEdge (child : Child) (mate_byte byte : ℕ) (q : Bytes) : Type 0 where
     pub apart : NoneRelated q
     pub t : Bytes
     pub front : Bytes
-    pub covers : Covers (keys_in key_bytes pairs) nodes apart.shape.front_of front child
+    pub covers : Covers keys nodes apart.shape.front_of front child
     pub within : Begins front t
-    pub all : (j : ℕ) (k : Bytes) → keys_in key_bytes pairs j ≡ Some k → Begins front k → Begins (t ++ mate_byte ∷ []) k
+    pub all : (j : ℕ) (k : Bytes) → keys j ≡ Some k → Begins front k → Begins (t ++ mate_byte ∷ []) k
     pub goes_on : Begins (t ++ byte ∷ []) q
     pub other : mate_byte ≢ byte
 
@@ -51,25 +68,33 @@ module _ {K V : Type 0} (key_bytes : K → List ℕ) (P : ℕ) (pairs : List (Nu
   pub record LeavesAt (departure : Departure) (q : Bytes) : Type 0 where
     pub apart : NoneRelated q
     pub mate : Bytes
-    pub is : keys_in key_bytes pairs departure.mate ≡ Some mate
+    pub is : keys departure.mate ≡ Some mate
     pub byte_is : departure.byte ≡ slice_index_or mate departure.depth 0
-    pub leaves : LeavesMate (keys_in key_bytes pairs) departure.mate departure.depth q
+    pub leaves : LeavesMate keys departure.mate departure.depth q
     pub spot_fits : SpotFits nodes apart.root apart.shape.front_of mate departure.depth departure.spot
+
+  -- a child beside the place of q: of the keys below it the one next to q has no key between
+  pub record IsChildBeside (q : Bytes) (child : Child) (is_behind : Bool) : Type 0 where
+    pub root : Option Child
+    pub shape : Shape P keys nodes root
+    pub front : Bytes
+    pub covers : Covers keys nodes shape.front_of front child
+    pub beside : (i : ℕ) → IsEndUnder keys (not is_behind) front i → IsBeside keys q (beside_leaf is_behind i)
 
   -- q begins a stored key, and is shorter, and the child stands for the keys that begin with q
   pub record QueryEnds (child : Child) (q : Bytes) : Type 0 where
     pub root : Option Child
-    pub shape : Shape P (keys_in key_bytes pairs) nodes root
-    pub covers : Covers (keys_in key_bytes pairs) nodes shape.front_of q child
+    pub shape : Shape P keys nodes root
+    pub covers : Covers keys nodes shape.front_of q child
     pub leaf : ℕ
     pub key : Bytes
-    pub is : keys_in key_bytes pairs leaf ≡ Some key
+    pub is : keys leaf ≡ Some key
     pub begun : Begins q key
     pub longer : length q < length key
 
   -- how q and the key that goes along with it the furthest part
   abbrev pub IsParting : Parting → Bytes → Type 0
-  IsParting (Same i) q = keys_in key_bytes pairs i ≡ Some q
-  IsParting (Shorter i) q = KeyEnds (keys_in key_bytes pairs) i q
+  IsParting (Same i) q = keys i ≡ Some q
+  IsParting (Shorter i) q = KeyEnds keys i q
   IsParting (Longer child) q = QueryEnds child q
   IsParting (Apart departure) q = LeavesAt departure q

@@ -32,16 +32,14 @@ pub record OtherEdge (nodes : ℕ → Option Node) (n b : ℕ) (e : Edge) : Type
   pub there : child_at node.edges e.byte ≡ Some e.to
   pub other : b ≢ e.byte
 
--- in some tree of these keys, the edge leads to a node, and the child hangs on it
-pub record IsChildBelow (P : ℕ) (keys : ℕ → Option Bytes) (nodes : ℕ → Option Node) (above : Option (ℕ × ℕ)) (child : Child) : Type 0 where
+-- in some tree of these keys, the edge above leads to the node n, and this edge is one of the node's
+pub record IsChildBelow (P : ℕ) (keys : ℕ → Option Bytes) (nodes : ℕ → Option Node) (above : Option (ℕ × ℕ)) (n : ℕ) (e : Edge) : Type 0 where
   pub root : Option Child
   pub shape : Shape P keys nodes root
-  pub number : ℕ
-  pub leads : LeadsTo nodes root above (Inner number)
+  pub leads : LeadsTo nodes root above (Inner n)
   pub node : Node
-  pub is : nodes number ≡ Some node
-  pub byte : ℕ
-  pub there : child_at node.edges byte ≡ Some child
+  pub is : nodes n ≡ Some node
+  pub there : child_at node.edges e.byte ≡ Some e.to
 
 -- what stands below the edge begins this deep
 abbrev pub StartsBelow : (ℕ → Option Node) → Option (ℕ × ℕ) → ℕ → Type 0

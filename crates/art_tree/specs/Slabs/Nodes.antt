@@ -1,5 +1,5 @@
 -- What a contract sees of the inner nodes.
-use Rattle.std.specs.Prelude.{◌≡◌, ◌≢◌, ℕ, ◌≤◌, ◌<◌, List, [], ◌∷◌, length, Option, Some, None, is_some, count_by, refl}
+use Rattle.std.specs.Prelude.{◌≡◌, ◌≢◌, ℕ, ◌≤◌, ◌<◌, List, [], ◌∷◌, ◌++◌, take, length, Option, Some, None, is_some, count_by, refl}
 use Rattle.std.specs.Coded.{Coded, code_by, coded×, coded_ℕ, coded_list}
 use Rattle.art_tree.specs.declared.records.ids.Edge.{Edge}
 use Rattle.art_tree.specs.declared.records.ids.Child.{Child}
@@ -115,6 +115,10 @@ pub record Reprefixes (old new : ℕ → Option Node) (n : ℕ) (prefix : List �
   pub was_is : old n ≡ Some was
   pub is_is : new n ≡ Some (record was { prefix = prefix })
   pub others : (j : ℕ) → j ≢ n → new j ≡ old j
+
+-- a node's prefix, of P bytes at most, begins with that of another and a byte, and all else stands
+abbrev pub JoinsPrefix : ℕ → (ℕ → Option Node) → (ℕ → Option Node) → ℕ → ℕ → ℕ → Type 0
+JoinsPrefix P old new n upper b = (x y : Node) → old n ≡ Some x → old upper ≡ Some y → Reprefixes old new n (take P (y.prefix ++ b ∷ x.prefix))
 
 -- a node is gone, and the others stand
 pub record Frees (old new : ℕ → Option Node) (n : ℕ) : Type 0 where

@@ -1,7 +1,7 @@
 //! The inner nodes under their numbers.
-ghost use Rattle.std.specs.Prelude.{◌≡◌, ◌≢◌, ℕ, ◌+◌, ◌<◌, ◌≤◌, ◌^◌, length, take, slice_get, None, Some, IsSome, IsSomeAnd, OnOk, OnErr};
+ghost use Rattle.std.specs.Prelude.{◌≡◌, ◌≢◌, ℕ, ◌+◌, ◌<◌, ◌≤◌, ◌^◌, ◌++◌, ◌∷◌, length, take, slice_get, None, Some, IsSome, IsSomeAnd, OnOk, OnErr};
 ghost use Rattle.art_tree.specs.Slabs.Edges.{child_at, Ascends, IsNext, IsPrevious, IsEnd};
-ghost use Rattle.art_tree.specs.Slabs.Nodes.{at, live, room, FitsNew, FitsMore, HasPlace, SameNodes, SameSpares, MoreSpares, Makes, Renames, AddsEdgeTo, Redirects, DropsEdge, Reprefixes, Frees};
+ghost use Rattle.art_tree.specs.Slabs.Nodes.{at, live, room, FitsNew, FitsMore, HasPlace, SameNodes, SameSpares, MoreSpares, Makes, Renames, AddsEdgeTo, Redirects, DropsEdge, Reprefixes, JoinsPrefix, Frees};
 
 use crate::records::children::Children;
 use crate::records::ids::{Child, Edge, NodeId};
@@ -251,6 +251,22 @@ impl<const P: usize> Nodes<P> {
         record.used = copy_front(&mut record.prefix, prefix);
     }
 
+    /// Puts the prefix of another node and a byte in front of a node's prefix, of which it keeps the first P bytes.
+    pub(crate) fn join_prefix(&mut self, id: NodeId, upper: NodeId, byte: u8)
+        requires live { IsSome (at self.old id) }
+        requires upper { IsSome (at self.old upper) }
+        ensures joined { JoinsPrefix P (at self.old) (at self.new) id upper byte }
+        ensures spares { SameSpares self.old self.new }
+        ensures live { live self.new ≡ live self.old }
+    {
+        let above = self.records.read(upper.number);
+        let mut prefix = above.prefix;
+        let used = above.used;
+        let record = self.records.get_mut(id.number);
+        record.used = append(&mut prefix, used, byte, &record.prefix[..record.used]);
+        record.prefix = prefix;
+    }
+
     /// Removes a node.
     #[cold]
     #[inline(never)]
@@ -325,4 +341,19 @@ fn copy_front(to: &mut [u8], from: &[u8]) -> usize
     };
     to[..count].copy_from_slice(&from[..count]);
     count
+}
+
+// Writes a byte and then others behind the first bytes, as many as there is room for. Answers how many bytes are used then.
+fn append(to: &mut [u8], used: usize, byte: u8, rest: &[u8]) -> usize
+    requires { used ≤ length to.old }
+    ensures within { result ≤ length to.old }
+    ensures appended { take result to.new
+        ≡ take (length to.old) (take used to.old ++ byte ∷ rest.now) }
+{
+    if used == to.len() {
+        return used;
+    }
+    to[used] = byte;
+    let start = used + 1;
+    start + copy_front(&mut to[start..], rest)
 }

@@ -1,16 +1,16 @@
 //! How a query and the stored keys part.
-ghost use Rattle.std.specs.Prelude.{◌+◌, ◌≤◌, length, Some};
+ghost use Rattle.std.specs.Prelude.{◌≡◌, ◌+◌, ◌≤◌, ℕ, length, Option, Some};
 ghost use Rattle.art_tree.specs.Calls.Descents.{IsNearest};
-ghost use Rattle.art_tree.specs.Calls.Partings.{IsParting, LeavesAt, LeavesAtNode, LeavesAtEdge};
+ghost use Rattle.art_tree.specs.Calls.Partings.{IsParting, LeavesAt, LeavesAtNode, IsEdgeBeside, IsChildBeside};
 ghost use Rattle.art_tree.specs.Begins.{Bytes};
-ghost use Rattle.art_tree.specs.Places.{IsLeafBefore};
-ghost use Rattle.art_tree.specs.Leaves.{keys_in, bytes};
+ghost use Rattle.art_tree.specs.Places.{IsBeside, neighbour, number_in_front};
+ghost use Rattle.art_tree.specs.Leaves.{Has, keys_in, bytes};
 ghost use Rattle.art_tree.specs.Longest.{longest};
 ghost use Rattle.art_tree.specs.Slabs.Nodes.{at};
 ghost use Rattle.art_tree.specs.Invariant.Sound.{IsSound};
 
 use crate::lists::common_len;
-use crate::records::ids::{Child, LeafId, NodeId};
+use crate::records::ids::{Child, Edge, LeafId, NodeId};
 use crate::records::leaves::Leaves;
 use crate::records::nodes::Nodes;
 use crate::tree::descent::{Spot, end_under, locate, mate_of};
@@ -69,12 +69,11 @@ pub(crate) fn parting_of<K: AsBytes, V, const P: usize>(
     visits: &mut Visits,
 ) -> Parting
     requires { IsSound K.bytes P leaves.now nodes.now (Some root.now) }
-    ensures parts { IsParting K.bytes P leaves.now.pairs (at nodes.now) result query.now }
+    ensures parts { IsParting P (keys_in K.bytes leaves.now.pairs) (at nodes.now) result query.now }
     ensures counted { visits.new.count
         ≤ visits.old.count + longest (bytes K.bytes) leaves.now.pairs + length query.now + 2 }
     ensures grows { visits.old.count ≤ visits.new.count }
 {
-    leaves.law();
     let (mate, key, depth) = nearest_leaf(leaves, nodes, root, query, visits);
     if depth == key.len() {
         return if depth == query.len() {
@@ -96,69 +95,97 @@ pub(crate) fn parting_of<K: AsBytes, V, const P: usize>(
     })
 }
 
-/// The leaf before the place of a query that leaves a stored key.
-pub(crate) fn leaf_before<K: AsBytes, V, const P: usize>(
-    leaves: &Leaves<K, V>,
+/// A leaf beside a place: the place is behind it, or in front of it.
+#[derive(Clone, Copy)]
+pub(crate) enum Beside {
+    Behind(LeafId),
+    InFront(LeafId),
+}
+
+/// The leaf before a place.
+pub(crate) fn leaf_before<K: AsBytes, V>(leaves: &Leaves<K, V>, beside: &Beside) -> Option<LeafId>
+    requires { Has leaves.now.pairs (neighbour beside.now) }
+    ensures { result ≡ number_in_front leaves.now.pairs beside.now }
+{
+    match beside {
+        Beside::Behind(id) => Some(*id),
+        Beside::InFront(id) => leaves.prev_of(*id),
+    }
+}
+
+/// A leaf beside the place of a query that leaves a stored key.
+pub(crate) fn leaf_beside<const P: usize>(
     nodes: &Nodes<P>,
     departure: &Departure,
     query: &[u8],
     visits: &mut Visits,
-) -> Option<LeafId>
-    requires { LeavesAt K.bytes P leaves.now.pairs (at nodes.now) departure.now query.now }
-    ensures before { IsLeafBefore (keys_in K.bytes leaves.now.pairs) query.now result }
-    ensures counted { visits.new.count
-        ≤ visits.old.count + longest (bytes K.bytes) leaves.now.pairs + 1 }
+) -> Beside
+    requires { (keys : ℕ → Option Bytes) × LeavesAt P keys (at nodes.now) departure.now query.now }
+    ensures beside { (keys : ℕ → Option Bytes) → LeavesAt P keys (at nodes.now) departure.now query.now
+        → IsBeside keys query.now result }
+    ensures counted { (keys : ℕ → Option Bytes) → LeavesAt P keys (at nodes.now) departure.now query.now
+        → (key : Bytes) → keys (neighbour result) ≡ Some key
+        → visits.new.count ≤ visits.old.count + length key + 1 }
+    ensures grows { visits.old.count ≤ visits.new.count }
+{
+    let (child, is_behind) = child_beside(nodes, departure, query, visits);
+    let end = end_under(nodes, &child, !is_behind, visits);
+    if is_behind {
+        Beside::Behind(end)
+    } else {
+        Beside::InFront(end)
+    }
+}
+
+// A child beside the place of a query, and whether the place is behind it.
+fn child_beside<const P: usize>(
+    nodes: &Nodes<P>,
+    departure: &Departure,
+    query: &[u8],
+    visits: &mut Visits,
+) -> (Child, bool)
+    requires { (keys : ℕ → Option Bytes) × LeavesAt P keys (at nodes.now) departure.now query.now }
+    ensures beside { (keys : ℕ → Option Bytes) → LeavesAt P keys (at nodes.now) departure.now query.now
+        → IsChildBeside P keys (at nodes.now) query.now result.0 result.1 }
+    ensures counted { visits.new.count ≤ visits.old.count + 1 }
     ensures grows { visits.old.count ≤ visits.new.count }
 {
     let byte = query[departure.depth];
     match &departure.spot {
-        Spot::Node(_, id) => before_at_node(leaves, nodes, id, byte, visits),
-        Spot::Edge(_, child) => before_at_edge(leaves, nodes, child, departure.byte, byte, visits),
+        Spot::Node(_, id) => {
+            let (edge, is_behind) = edge_beside(nodes, id, byte, visits);
+            (edge.to, is_behind)
+        }
+        Spot::Edge(_, child) => (*child, departure.byte < byte),
     }
 }
 
-// The leaf before the place of a query that leaves the keys at a node, by a byte that it has no edge for.
-fn before_at_node<K: AsBytes, V, const P: usize>(
-    leaves: &Leaves<K, V>,
+// The edge beside a byte that a node lacks, and whether the byte is behind it. Of two, one to a leaf.
+fn edge_beside<const P: usize>(
     nodes: &Nodes<P>,
     id: &NodeId,
     byte: u8,
     visits: &mut Visits,
-) -> Option<LeafId>
-    requires { (q : Bytes) × LeavesAtNode K.bytes P leaves.now.pairs (at nodes.now) id.now byte q }
-    ensures before { (q : Bytes)
-        → LeavesAtNode K.bytes P leaves.now.pairs (at nodes.now) id.now byte q
-        → IsLeafBefore (keys_in K.bytes leaves.now.pairs) q result }
-    ensures counted { visits.new.count
-        ≤ visits.old.count + longest (bytes K.bytes) leaves.now.pairs + 1 }
-    ensures grows { visits.old.count ≤ visits.new.count }
+) -> (Edge, bool)
+    requires { (keys : ℕ → Option Bytes) × (q : Bytes) × LeavesAtNode P keys (at nodes.now) id.now byte q }
+    ensures edge { IsEdgeBeside (at nodes.now) id.now byte result.0 result.1 }
+    ensures counted { visits.new.count ≡ visits.old.count + 1 }
 {
-    match nodes.read(*id, visits).edge_before(byte) {
-        Some(edge) => Some(end_under(nodes, &edge.to, false, visits)),
-        None => leaves.prev_of(end_under(nodes, &Child::Inner(*id), true, visits)),
+    let node = nodes.read(*id, visits);
+    match (node.edge_before(byte), node.edge_after(byte)) {
+        (Some(before), Some(after)) => {
+            if is_leaf(&after.to) && !is_leaf(&before.to) {
+                (after, false)
+            } else {
+                (before, true)
+            }
+        }
+        (Some(before), None) => (before, true),
+        (None, Some(after)) => (after, false),
+        (None, None) => unreachable!(),
     }
 }
 
-// The leaf before the place of a query that leaves the keys on the way to a child, where they go on by the mate's byte.
-fn before_at_edge<K: AsBytes, V, const P: usize>(
-    leaves: &Leaves<K, V>,
-    nodes: &Nodes<P>,
-    child: &Child,
-    mate_byte: u8,
-    byte: u8,
-    visits: &mut Visits,
-) -> Option<LeafId>
-    requires { (q : Bytes)
-        × LeavesAtEdge K.bytes P leaves.now.pairs (at nodes.now) child.now mate_byte byte q }
-    ensures before { (q : Bytes)
-        → LeavesAtEdge K.bytes P leaves.now.pairs (at nodes.now) child.now mate_byte byte q
-        → IsLeafBefore (keys_in K.bytes leaves.now.pairs) q result }
-    ensures counted { visits.new.count
-        ≤ visits.old.count + longest (bytes K.bytes) leaves.now.pairs }
-    ensures grows { visits.old.count ≤ visits.new.count }
-{
-    if mate_byte < byte {
-        return Some(end_under(nodes, child, false, visits));
-    }
-    leaves.prev_of(end_under(nodes, child, true, visits))
+fn is_leaf(child: &Child) -> bool {
+    matches!(child, Child::Leaf(_))
 }

@@ -13,6 +13,7 @@ use crate::records::ids::{Child, Edge, LeafId, NodeId};
 use crate::records::leaves::Leaves;
 use crate::records::nodes::Nodes;
 use crate::tree::descent::{EdgeAbove, Spot, locate};
+use crate::tree::parting::leaf_before;
 use crate::tree::point::{Place, Point};
 use crate::visits::Visits;
 use blart_keys::AsBytes;
@@ -95,7 +96,8 @@ fn place_beside<K: AsBytes + Drop, V: Drop, const P: usize>(
     let mut visits = Visits::new();
     let (mate, _) = leaves.read(place.mate, &mut visits);
     let spot = locate(nodes, root, mate.as_bytes(), place.depth, &mut visits);
-    let id = leaves.insert(place.prev, key, value);
+    let prev = leaf_before(leaves, &place.beside);
+    let id = leaves.insert(prev, key, value);
     let (own, _) = leaves.read(id, &mut visits);
     let (mate, _) = leaves.read(place.mate, &mut visits);
     let leaf = NewLeaf {

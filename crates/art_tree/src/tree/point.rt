@@ -7,7 +7,7 @@ use crate::records::ids::{Child, LeafId};
 use crate::records::leaves::Leaves;
 use crate::records::nodes::Nodes;
 use crate::tree::descent::end_under;
-use crate::tree::parting::{Parting, leaf_before, parting_of};
+use crate::tree::parting::{Beside, Parting, leaf_beside, parting_of};
 use crate::visits::Visits;
 use blart_keys::AsBytes;
 
@@ -17,8 +17,7 @@ pub struct Place {
     // A leaf whose key goes along with the bytes for `depth` bytes. No key goes on as they do.
     pub(crate) mate: LeafId,
     pub(crate) depth: usize,
-    // The leaf before the place.
-    pub(crate) prev: Option<LeafId>,
+    pub(crate) beside: Beside,
 }
 
 /// Where some bytes stand in a tree, or would go.
@@ -64,7 +63,7 @@ pub(crate) fn point_below<K: AsBytes, V, const P: usize>(
         Parting::Apart(departure) => Point::Free(Place {
             mate: departure.mate,
             depth: departure.depth,
-            prev: leaf_before(leaves, nodes, &departure, query, &mut visits),
+            beside: leaf_beside(nodes, &departure, query, &mut visits),
         }),
     }
 }

@@ -16,8 +16,8 @@ use crate::records::ids::{Child, Edge, LeafId, NodeId};
 use crate::records::leaves::Leaves;
 use crate::records::nodes::Nodes;
 use crate::tree::Tree;
-use crate::tree::descent::{EdgeAbove, LeafSpot, end_under};
-use crate::tree::place::{lead, start_below};
+use crate::tree::descent::{EdgeAbove, LeafSpot};
+use crate::tree::place::lead;
 use crate::tree::search::pair_toward;
 use crate::visits::Visits;
 use blart_keys::AsBytes;
@@ -163,7 +163,7 @@ fn drop_edge<K: AsBytes, V, const P: usize>(
         return shrink(nodes, root, above, node, byte);
     }
     let other = other_edge(nodes, node, byte);
-    recut(leaves, nodes, above, &other.to);
+    join_child(nodes, node, &other);
     merge(nodes, root, above, node, &other.to)
 }
 
@@ -220,26 +220,15 @@ fn other_edge<const P: usize>(nodes: &Nodes<P>, node: &NodeId, byte: u8) -> Edge
     }
 }
 
-// Cuts the compressed prefix of a child anew: it begins below this edge now.
-fn recut<K: AsBytes, V, const P: usize>(
-    leaves: &Leaves<K, V>,
-    nodes: &mut Nodes<P>,
-    above: &EdgeAbove,
-    child: &Child,
-)
-    requires { IsChildBelow P (keys_in K.bytes leaves.now.pairs) (at nodes.old) above.now child.now }
-    ensures { (h : IsChildBelow P (keys_in K.bytes leaves.now.pairs) (at nodes.old) above.now child.now)
-        → CutsBehind P (at nodes.old) (at nodes.new) h.shape.front_of (edge_front h.shape.front_of above.now) child.now }
+// Joins the compressed prefixes of a node and of a child, and the byte between. The child keeps that.
+fn join_child<const P: usize>(nodes: &mut Nodes<P>, node: &NodeId, edge: &Edge)
+    requires { (keys : ℕ → Option Bytes) × (above : Option (ℕ × ℕ))
+        × IsChildBelow P keys (at nodes.old) above node.now edge.now }
+    ensures { (keys : ℕ → Option Bytes) (above : Option (ℕ × ℕ)) (h : IsChildBelow P keys (at nodes.old) above node.now edge.now)
+        → CutsBehind P (at nodes.old) (at nodes.new) h.shape.front_of (edge_front h.shape.front_of above) edge.now.to }
 {
-    match child {
+    match edge.to {
         Child::Leaf(_) => {}
-        Child::Inner(id) => {
-            let mut visits = Visits::new();
-            let leaf = end_under(nodes, child, true, &mut visits);
-            let (key, _) = leaves.read(leaf, &mut visits);
-            let end = nodes.read(*id, &mut visits).depth();
-            let start = start_below(nodes, above);
-            nodes.set_prefix(*id, &key.as_bytes()[start..end]);
-        }
+        Child::Inner(id) => nodes.join_prefix(id, *node, edge.byte),
     }
 }

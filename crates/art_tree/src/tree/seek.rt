@@ -13,7 +13,7 @@ use crate::records::leaves::Leaves;
 use crate::records::nodes::Nodes;
 use crate::tree::Tree;
 use crate::tree::descent::{end_under, locate};
-use crate::tree::parting::{Parting, leaf_before, nearest_leaf, parting_of};
+use crate::tree::parting::{Parting, leaf_before, leaf_beside, nearest_leaf, parting_of};
 use crate::visits::Visits;
 use blart_keys::AsBytes;
 use std::ops::Bound;
@@ -113,7 +113,10 @@ fn place_below<K: AsBytes, V, const P: usize>(
             let first = end_under(nodes, &child, true, visits);
             Err(leaves.prev_of(first))
         }
-        Parting::Apart(departure) => Err(leaf_before(leaves, nodes, &departure, query, visits)),
+        Parting::Apart(departure) => {
+            let beside = leaf_beside(nodes, &departure, query, visits);
+            Err(leaf_before(leaves, &beside))
+        }
     }
 }
 

@@ -47,7 +47,7 @@ returns-clause-parts g c =
     let i = c.nearest_leaf-mate.result.0 in
     let key = c.nearest_leaf-mate.result.1.now in
     let near = c.nearest_leaf-mate.ensures.nearest in
-    parts_apart kb S (at c.args.nodes.now) c.args.root.now c.requires.shape c.args.query.now i c.nearest_leaf-mate.result.2 key near.is near.shared c.requires.content c.law.ensures.distinct near.best c.if-depth-query-2.false c.if-depth-key.false c.locate-spot.result (c.locate-spot.ensures.spot (keys_in kb S) c.requires.shape i near.is)
+    parts_apart kb S (at c.args.nodes.now) c.args.root.now c.requires.shape c.args.query.now i c.nearest_leaf-mate.result.2 key near.is near.shared near.best c.if-depth-query-2.false c.if-depth-key.false c.locate-spot.result (c.locate-spot.ensures.spot (keys_in kb S) c.requires.shape i near.is)
 
 pub bounds-key-depth : goal.bounds-key-depth
 bounds-key-depth g c = let near = c.nearest_leaf-mate.ensures.nearest in let l : c.nearest_leaf-mate.result.2 ≤ length c.nearest_leaf-mate.result.1.now = mate_within c.nearest_leaf-mate.result.1.now c.args.query.now c.nearest_leaf-mate.result.2 near.shared in omega (arith, c.if-depth-key.false)

@@ -46,18 +46,19 @@ other_edge-other-requires g c =
       ),
     )
 
-pub recut-requires : goal.recut-requires
-recut-requires g c =
-    (lit< tt, child_below_edge (keys_in g.K.AsBytes.bytes c.args.leaves.now.pairs) (at c.args.nodes.now) (Some c.args.root.now) c.requires.sound.shape c.args.above.now c.args.node.now c.args.byte c.other_edge-other.result c.requires.above c.other_edge-other.ensures)
+pub join_child-requires : goal.join_child-requires
+join_child-requires g c =
+    let keys = keys_in g.K.AsBytes.bytes c.args.leaves.now.pairs in
+    (lit< tt, (keys, c.args.above.now, child_below_edge keys (at c.args.nodes.now) (Some c.args.root.now) c.requires.sound.shape c.args.above.now c.args.node.now c.args.byte c.other_edge-other.result c.requires.above c.other_edge-other.ensures))
 
 pub merge-requires : goal.merge-requires
 merge-requires g c =
     let s = c.requires.sound.shape in
     let above = c.args.above.now in
-    let cuts = c.recut.ensures (child_below_edge (keys_in g.K.AsBytes.bytes c.args.leaves.now.pairs) (at c.args.nodes.now) (Some c.args.root.now) c.requires.sound.shape c.args.above.now c.args.node.now c.args.byte c.other_edge-other.result c.requires.above c.other_edge-other.ensures) in
+    let cuts = c.join_child.ensures (keys_in g.K.AsBytes.bytes c.args.leaves.now.pairs) c.args.above.now (child_below_edge (keys_in g.K.AsBytes.bytes c.args.leaves.now.pairs) (at c.args.nodes.now) (Some c.args.root.now) c.requires.sound.shape c.args.above.now c.args.node.now c.args.byte c.other_edge-other.result c.requires.above c.other_edge-other.ensures) in
     let o = c.other_edge-other.ensures in
-    let y = cut_node g.row.P (at c.args.nodes.now) (at c.recut.new.nodes) s.front_of _ c.other_edge-other.result.to cuts c.args.node.now o.node o.is in
-    (lit< tt, (cut_leads g.row.P (at c.args.nodes.now) (at c.recut.new.nodes) s.front_of _ c.other_edge-other.result.to cuts (Some c.args.root.now) above (Inner c.args.node.now) c.requires.above, is_some (at c.recut.new.nodes c.args.node.now) y.0 y.1))
+    let y = cut_node g.row.P (at c.args.nodes.now) (at c.join_child.new.nodes) s.front_of _ c.other_edge-other.result.to cuts c.args.node.now o.node o.is in
+    (lit< tt, (cut_leads g.row.P (at c.args.nodes.now) (at c.join_child.new.nodes) s.front_of _ c.other_edge-other.result.to cuts (Some c.args.root.now) above (Inner c.args.node.now) c.requires.above, is_some (at c.join_child.new.nodes c.args.node.now) y.0 y.1))
 
 pub returns : goal.returns
 returns g c = λ keys k loses.
@@ -66,7 +67,7 @@ returns g c = λ keys k loses.
     let nodes = at c.args.nodes.now in
     let above = c.args.above.now in
     let h = leaf_at_node g.K.AsBytes.bytes c.args.leaves.now.pairs nodes (Some c.args.root.now) r.sound.shape c.args.id.now r.has c.args.node.now c.args.byte r.leads above c.requires.above in
-    let cuts = c.recut.ensures (child_below_edge (keys_in g.K.AsBytes.bytes c.args.leaves.now.pairs) (at c.args.nodes.now) (Some c.args.root.now) c.requires.sound.shape c.args.above.now c.args.node.now c.args.byte c.other_edge-other.result c.requires.above c.other_edge-other.ensures) in
+    let cuts = c.join_child.ensures (keys_in g.K.AsBytes.bytes c.args.leaves.now.pairs) c.args.above.now (child_below_edge (keys_in g.K.AsBytes.bytes c.args.leaves.now.pairs) (at c.args.nodes.now) (Some c.args.root.now) c.requires.sound.shape c.args.above.now c.args.node.now c.args.byte c.other_edge-other.result c.requires.above c.other_edge-other.ensures) in
     let o = c.other_edge-other.ensures in
     let a : nodes c.args.node.now ≡ Some h.node = h.is in
     let b : nodes c.args.node.now ≡ Some c.read.result = c.read.ensures.value in
@@ -79,4 +80,4 @@ returns g c = λ keys k loses.
     let u : c.count-count.result ≤ 2 = c.if-count-gt2.false in
     let m = c.merge.ensures in
     edge_merged old keys nodes (Some c.args.root.now) c.args.node.now c.args.id.now c.args.byte h.key h.shape (loses_same old keys c.args.id.now k h.key loses h.key_is) h.node h.is h.low
-    (at c.recut.new.nodes) m.0 (at c.merge.new.nodes) (Some c.merge.result) c.other_edge-other.result.byte c.other_edge-other.result.to high o.other (omega arith) m.2 above h.leads cuts m.1
+    (at c.join_child.new.nodes) m.0 (at c.merge.new.nodes) (Some c.merge.result) c.other_edge-other.result.byte c.other_edge-other.result.to high o.other (omega arith) m.2 above h.leads cuts m.1

@@ -1,8 +1,11 @@
-use Rattle.std.proofs.Common.{◌+◌, ◌≤◌, length, lit<, arith, Some}
+use Rattle.std.proofs.Common.{subst, sym, ◌+◌, ◌≤◌, length, lit<, arith, Some}
 use Rattle.art_tree.specs.Leaves.{keys_in, bytes}
 use Rattle.art_tree.specs.Longest.{longest}
+use Rattle.art_tree.specs.Places.{IsLeafBefore, neighbour}
+use Rattle.art_tree.proofs.Pairs.Placed.{has_beside}
+use Rattle.art_tree.proofs.Pairs.Neighbours.{before_beside}
 use Rattle.art_tree.specs.Slabs.Nodes.{at}
-use Rattle.art_tree.proofs.Pairs.Keys.{has_key}
+use Rattle.art_tree.proofs.Pairs.Keys.{has_key, key_of_number}
 use Rattle.art_tree.proofs.Pairs.Bounds.{place_shorter, place_longer, place_apart}
 use Rattle.art_tree.proofs.Invariant.Soundness.{within_longest}
 use Rattle.art_tree.proofs.tree.seek.place_below.Goals as goal
@@ -25,8 +28,27 @@ returns-in-Longer-clause-stands g c =
     let u = c.end_under-first.ensures.ends (keys_in g.K.AsBytes.bytes c.args.leaves.now.pairs) m.root m.shape c.args.query.now m.covers in
     place_longer g.K.AsBytes.bytes c.args.leaves.now.pairs c.requires.content c.law.ensures.distinct (at c.args.nodes.now) c.args.query.now c.in-Longer.child m c.end_under-first.result u c.prev_of.result c.prev_of.ensures
 
+pub leaf_before-requires : goal.leaf_before-requires
+leaf_before-requires g c =
+    let keys = keys_in g.K.AsBytes.bytes c.args.leaves.now.pairs in
+    has_beside g.K.AsBytes.bytes c.args.leaves.now.pairs c.args.query.now c.leaf_beside-beside.result (c.leaf_beside-beside.ensures.beside keys c.in-Apart.ensures.parts)
+
 pub returns-in-Apart-clause-stands : goal.returns-in-Apart-clause-stands
-returns-in-Apart-clause-stands g c = place_apart g.K.AsBytes.bytes c.args.leaves.now.pairs c.requires.content c.law.ensures.distinct (at c.args.nodes.now) c.args.query.now c.in-Apart.departure c.in-Apart.ensures.parts c.leaf_before.result c.leaf_before.ensures.before
+returns-in-Apart-clause-stands g c =
+    let kb = g.K.AsBytes.bytes in
+    let S = c.args.leaves.now.pairs in
+    let l = c.in-Apart.ensures.parts in
+    let b = before_beside kb S c.requires.content c.law.ensures.distinct c.args.query.now l.apart.alone c.leaf_beside-beside.result (c.leaf_beside-beside.ensures.beside (keys_in kb S) l) in
+    place_apart kb S c.requires.content c.law.ensures.distinct (at c.args.nodes.now) c.args.query.now c.in-Apart.departure l c.leaf_before.result (subst (IsLeafBefore (keys_in kb S) c.args.query.now) (sym c.leaf_before.ensures) b)
+
+pub returns-in-Apart-clause-counted : goal.returns-in-Apart-clause-counted
+returns-in-Apart-clause-counted g c =
+    let kb = g.K.AsBytes.bytes in
+    let S = c.args.leaves.now.pairs in
+    let l = c.in-Apart.ensures.parts in
+    let k = key_of_number kb S (neighbour c.leaf_beside-beside.result) (has_beside kb S c.args.query.now c.leaf_beside-beside.result (c.leaf_beside-beside.ensures.beside (keys_in kb S) l)) in
+    let low : length k.0 ≤ longest (bytes kb) S = within_longest kb S (neighbour c.leaf_beside-beside.result) k.0 k.1 in
+    omega (arith, c.leaf_beside-beside.ensures.counted (keys_in kb S) l k.0 k.1, c.parting_of.ensures.counted)
 
 pub returns-in-Longer-clause-counted : goal.returns-in-Longer-clause-counted
 returns-in-Longer-clause-counted g c =

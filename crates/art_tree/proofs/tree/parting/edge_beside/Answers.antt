@@ -1,0 +1,13 @@
+use Rattle.std.proofs.Common.{subst}
+use Rattle.art_tree.specs.Slabs.Edges.{IsPrevious, IsNext}
+use Rattle.art_tree.specs.Slabs.Nodes.{at}
+use Rattle.art_tree.proofs.Ways.Departures.{no_edge_beside}
+use Rattle.art_tree.proofs.tree.parting.edge_beside.Goals as goal
+
+pub unreachable-requires : goal.unreachable-requires
+unreachable-requires g c =
+    let r = c.requires in
+    let x = c.read-node.result in
+    no_edge_beside r.0 (at c.args.nodes.now) c.args.id.now c.args.byte r.1 r.2 x c.read-node.ensures.value
+    (subst (IsPrevious x.edges c.args.byte) c.in-None-None.is-0 c.edge_before.ensures)
+    (subst (IsNext x.edges c.args.byte) c.in-None-None.is-1 c.edge_after.ensures)
