@@ -12,8 +12,19 @@ use Rattle.art_walk.specs.declared.cursor.Cursor.{Cursor}
 use Rattle.art_walk.specs.Cursor.{from_number, through_number, span_of, EndsFit, leaves_left, FitsIn, PassesFirst, PassesLast}
 use Rattle.art_walk.specs.Lent.{numbers, bare, ends_fit, lent_fits, walk_fits, count_fits, written_all, IsLent, written_last, numbers_written}
 use Rattle.art_walk.proofs.Changes.{left_without}
+use Rattle.art_walk.proofs.Steps.{some_inj}
 use Rattle.art_walk.proofs.Taking.{first_passed, first_named, last_passed, last_named}
 use Rattle.art_walk.proofs.Asking.{written_fits, written_left}
+
+-- ---- a clause of what was lent
+
+-- what holds of the value that there is
+pub at_some : {T : Type 0} (P : T → Type 0) (v : T) → P v → (x : T) → Some v ≡ Some x → P x
+at_some P v h x e = subst P (some_inj v x e) h
+
+-- there is one
+pub never_none : {T : Type 0} (Q : Type 0) (v : T) → Some v ≡ None → Q
+never_none Q v e = absurd cc
 
 -- ---- two tests
 

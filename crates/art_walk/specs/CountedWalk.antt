@@ -1,5 +1,6 @@
 -- What contracts see of a walk over all pairs of a tree that lends their values, and counts them.
-use Rattle.std.specs.Prelude.{◌≡◌, ℕ, List, [], Option, MatchOption, ⊤}
+use Rattle.std.specs.Prelude.{◌≡◌, ℕ, List, [], Option}
+use Rattle.std.specs.Option.{ForSome, ForNone}
 use Rattle.std.specs.Borrow.{Fml, RattleType, Bor, MutBor, Lends, LendsSo}
 use mir.Syntax.{named}
 use Rattle.blart_keys.specs.declared.AsBytes.{Ghosts}
@@ -34,15 +35,15 @@ module _ (K V M P : RattleType) (g : Ghosts K.Denot) where
   abbrev pub lends_first : MutBor walk_row.Denot → Option (MutBor V.Denot) → Fml
   lends_first s r =
       LendsSo walk_row V s r
-      (λ n w. MatchOption r ⊤ (λ x. SameTree s.now.tree n.tree × LentFirst s.now.tree.now.pairs n.tree.now.pairs (counted_left s.now) (counted_left n) n.lent x.now w))
-      (λ n. MatchOption r (SameTree s.now.tree n.tree × NoneLent s.now.tree.now.pairs n.tree.now.pairs (counted_left s.now) (counted_left n) s.now.lent n.lent) (λ _. ⊤))
+      (λ n w. ForSome r (λ x. SameTree s.now.tree n.tree × LentFirst s.now.tree.now.pairs n.tree.now.pairs (counted_left s.now) (counted_left n) n.lent x.now w))
+      (λ n. ForNone r (SameTree s.now.tree n.tree × NoneLent s.now.tree.now.pairs n.tree.now.pairs (counted_left s.now) (counted_left n) s.now.lent n.lent))
 
   -- the same of the last
   abbrev pub lends_last : MutBor walk_row.Denot → Option (MutBor V.Denot) → Fml
   lends_last s r =
       LendsSo walk_row V s r
-      (λ n w. MatchOption r ⊤ (λ x. SameTree s.now.tree n.tree × LentLast s.now.tree.now.pairs n.tree.now.pairs (counted_left s.now) (counted_left n) n.lent x.now w))
-      (λ n. MatchOption r (SameTree s.now.tree n.tree × NoneLent s.now.tree.now.pairs n.tree.now.pairs (counted_left s.now) (counted_left n) s.now.lent n.lent) (λ _. ⊤))
+      (λ n w. ForSome r (λ x. SameTree s.now.tree n.tree × LentLast s.now.tree.now.pairs n.tree.now.pairs (counted_left s.now) (counted_left n) n.lent x.now w))
+      (λ n. ForNone r (SameTree s.now.tree n.tree × NoneLent s.now.tree.now.pairs n.tree.now.pairs (counted_left s.now) (counted_left n) s.now.lent n.lent))
 
 module _ (K V P : RattleType) (g : Ghosts K.Denot) where
   abbrev pub pairs_row : RattleType

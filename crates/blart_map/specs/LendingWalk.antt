@@ -1,5 +1,6 @@
 -- What contracts see of a walk over some pairs of a map that lends their values.
-use Rattle.std.specs.Prelude.{◌≡◌, ℕ, List, [], Option, MatchOption, ⊤}
+use Rattle.std.specs.Prelude.{◌≡◌, ℕ, List, [], Option}
+use Rattle.std.specs.Option.{ForSome, ForNone}
 use Rattle.std.specs.Borrow.{Fml, RattleType, Bor, MutBor, Lends, LendsSo}
 use mir.Syntax.{named}
 use Rattle.blart_keys.specs.declared.AsBytes.{Ghosts}
@@ -31,15 +32,15 @@ module _ (K V M P : RattleType) (g : Ghosts K.Denot) where
   abbrev pub lends_first : MutBor walk_row.Denot → Option (MutBor V.Denot) → Fml
   lends_first s r =
       LendsSo walk_row V s r
-      (λ n w. MatchOption r ⊤ (λ x. (n.map.ghost_name ≡ s.now.map.ghost_name) × LentFirst s.now.map.now n.map.now (lending_left s.now) (lending_left n) n.lent x.now w))
-      (λ n. MatchOption r ((n.map.ghost_name ≡ s.now.map.ghost_name) × NoneLent s.now.map.now n.map.now (lending_left s.now) (lending_left n) s.now.lent n.lent) (λ _. ⊤))
+      (λ n w. ForSome r (λ x. (n.map.ghost_name ≡ s.now.map.ghost_name) × LentFirst s.now.map.now n.map.now (lending_left s.now) (lending_left n) n.lent x.now w))
+      (λ n. ForNone r ((n.map.ghost_name ≡ s.now.map.ghost_name) × NoneLent s.now.map.now n.map.now (lending_left s.now) (lending_left n) s.now.lent n.lent))
 
   -- the same of the last
   abbrev pub lends_last : MutBor walk_row.Denot → Option (MutBor V.Denot) → Fml
   lends_last s r =
       LendsSo walk_row V s r
-      (λ n w. MatchOption r ⊤ (λ x. (n.map.ghost_name ≡ s.now.map.ghost_name) × LentLast s.now.map.now n.map.now (lending_left s.now) (lending_left n) n.lent x.now w))
-      (λ n. MatchOption r ((n.map.ghost_name ≡ s.now.map.ghost_name) × NoneLent s.now.map.now n.map.now (lending_left s.now) (lending_left n) s.now.lent n.lent) (λ _. ⊤))
+      (λ n w. ForSome r (λ x. (n.map.ghost_name ≡ s.now.map.ghost_name) × LentLast s.now.map.now n.map.now (lending_left s.now) (lending_left n) n.lent x.now w))
+      (λ n. ForNone r ((n.map.ghost_name ≡ s.now.map.ghost_name) × NoneLent s.now.map.now n.map.now (lending_left s.now) (lending_left n) s.now.lent n.lent))
 
   -- once the borrow r.1 ends, the pair lent last has the last value written through it
   abbrev pub lends_pair : MutBor walk_row.Denot → Bor K.Denot × MutBor V.Denot → Fml

@@ -6,6 +6,7 @@ mod counting;
 mod driving;
 mod dropping;
 mod key_types;
+mod lending;
 mod owning;
 mod walking;
 

@@ -1,6 +1,6 @@
 use Rattle.std.proofs.Common.{refl, lit<, arith, ap, sym, ◌∙◌, ◌-◌, length, Some}
 use Rattle.art_tree.specs.Leaves.{with_value}
-use Rattle.art_walk.proofs.Lending.{from_test, to_count, count_test, count_is, moved_last, fewer_after_last, lent_key, last_fits_now, last_fits_with, last_splits, last_lent, last_lent_count}
+use Rattle.art_walk.proofs.Lending.{at_some, never_none, from_test, to_count, count_test, count_is, moved_last, fewer_after_last, lent_key, last_fits_now, last_fits_with, last_splits, last_lent, last_lent_count}
 use Rattle.art_walk.proofs.counted_walk.CountedWalk.next_back.Goals as goal
 
 pub step_back-requires : goal.step_back-requires
@@ -60,7 +60,7 @@ returns g c =
     let v = c.value_mut.result.now in (
       (
         refl,
-        λ w. (
+        λ w. at_some _ c.value_mut.result (
           (refl, refl),
           record {
             number = id;
@@ -70,7 +70,7 @@ returns g c =
             is_last = refl;
           },
         ),
-        tt,
+        never_none _ c.value_mut.result,
       ),
       record { writes_back = tt; end = tt },
     )

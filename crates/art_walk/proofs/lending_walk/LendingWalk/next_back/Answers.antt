@@ -1,5 +1,5 @@
 use Rattle.std.proofs.Common.{refl, lit<}
-use Rattle.art_walk.proofs.Lending.{from_test, moved_last, lent_key, last_fits_now, last_fits_with, last_splits, last_lent}
+use Rattle.art_walk.proofs.Lending.{at_some, never_none, from_test, moved_last, lent_key, last_fits_now, last_fits_with, last_splits, last_lent}
 use Rattle.art_walk.proofs.lending_walk.LendingWalk.next_back.Goals as goal
 
 pub step_back-requires : goal.step_back-requires
@@ -28,7 +28,7 @@ returns g c =
     let v = c.value_mut.result.now in (
       (
         refl,
-        λ w. (
+        λ w. at_some _ c.value_mut.result (
           (refl, refl),
           record {
             number = id;
@@ -38,7 +38,7 @@ returns g c =
             is_last = refl;
           },
         ),
-        tt,
+        never_none _ c.value_mut.result,
       ),
       record { writes_back = tt; end = tt },
     )

@@ -1,6 +1,6 @@
 use Rattle.std.proofs.Common.{refl, lit<, arith, ap, sym, ◌∙◌, ◌-◌, length, Some}
 use Rattle.art_tree.specs.Leaves.{with_value}
-use Rattle.art_walk.proofs.Lending.{from_test, to_count, count_test, count_is, moved_first, fewer_after_first, lent_key, first_fits_now, first_fits_with, first_splits, first_lent, first_lent_count}
+use Rattle.art_walk.proofs.Lending.{at_some, never_none, from_test, to_count, count_test, count_is, moved_first, fewer_after_first, lent_key, first_fits_now, first_fits_with, first_splits, first_lent, first_lent_count}
 use Rattle.blart_map.proofs.walks.counted_walk.CountedWalk.next.Goals as goal
 
 pub step-requires : goal.step-requires
@@ -60,7 +60,7 @@ returns g c =
     let v = c.value_mut.result.now in (
       (
         refl,
-        λ w. (
+        λ w. at_some _ c.value_mut.result (
           refl,
           record {
             number = id;
@@ -70,7 +70,7 @@ returns g c =
             is_last = refl;
           },
         ),
-        tt,
+        never_none _ c.value_mut.result,
       ),
       record { writes_back = tt; end = tt },
     )
