@@ -5,6 +5,7 @@ pub mod FreePlaces
 pub mod Inserting
 pub mod Numbers
 pub mod Setting
+pub mod SettingAt
 pub mod Thinning
 pub mod Walking
 pub mod Writing
