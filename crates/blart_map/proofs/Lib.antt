@@ -6,6 +6,7 @@ pub mod Inserting
 pub mod Numbers
 pub mod Setting
 pub mod SettingAt
+pub mod TakenBack
 pub mod Thinning
 pub mod Walking
 pub mod Writing

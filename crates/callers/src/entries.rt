@@ -3,7 +3,7 @@ ghost use Rattle.std.specs.Prelude.{◌≡◌, ◌≢◌, ◌+◌, ◌<◌, ◌^
 ghost use Rattle.blart.specs.Words.{pairs, pair_at, value_at, has, overlaps, slice_bytes, zkey_bytes};
 
 use blart::map::Entry;
-use blart::{Map, ZKey};
+use blart::{Map, NoPrefixesBytes, ZKey};
 use std::alloc::AllocError;
 
 /// Adds one to the count of a word, by its entry.
@@ -93,4 +93,20 @@ pub fn borrow_place<V: Drop>(store: &mut Map<ZKey, V>, key: ZKey, value: V) -> R
 {
     let entry = store.entry(key).insert_entry(value)?;
     Ok(entry.remove())
+}
+
+/// Adds one to the count of a word of any key type, by the call of the map that lends.
+pub fn count_at<W: NoPrefixesBytes + Drop>(
+    counts: &mut Map<W, u64>,
+    word: W,
+) -> Result<(), AllocError>
+    requires { unwrap_or (value_at W.bytes (pairs counts.old) (W.bytes word)) 0 + 1 < 2 ^ 64 }
+    ensures counted { OnOk result (value_at W.bytes (pairs counts.new) (W.bytes word)
+        ≡ Some (unwrap_or (value_at W.bytes (pairs counts.old) (W.bytes word)) 0 + 1)) }
+    ensures others { (q : List ℕ) → q ≢ W.bytes word
+        → pair_at W.bytes (pairs counts.new) q ≡ pair_at W.bytes (pairs counts.old) q }
+    ensures refused { OnErr result (counts.new ≡ counts.old) }
+{
+    *counts.get_or_insert(word, 0)? += 1;
+    Ok(())
 }
