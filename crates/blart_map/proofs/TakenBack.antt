@@ -1,5 +1,5 @@
 -- A pair that was placed and then removed.
-use Rattle.std.proofs.Common.{◌≡◌, ◌≢◌, ℕ, true, false, not, List, ap, sym, ◌∙◌, bytes_eq, Contains, None, is_some}
+use Rattle.std.proofs.Common.{◌≡◌, ◌≢◌, ℕ, true, false, not, List, ap, sym, ◌∙◌, bytes_eq, None, is_some}
 use Rattle.std.proofs.lemmas.Bool.{false≢true, not-true, false_from_ne_true}
 use Rattle.std.specs.Cmp.Lexicographic.{bytes_decides}
 use Rattle.std.specs.FinSet as set

@@ -1,6 +1,6 @@
 //! Calls of entries.
 ghost use Rattle.std.specs.Prelude.{◌≡◌, ◌≢◌, ◌+◌, ◌<◌, ◌^◌, ℕ, List, true, not, unwrap_or, OnOk, IfOk, OnErr, None, Some, if◌then◌else◌};
-ghost use Rattle.blart.specs.Words.{pairs, pair_at, value_at, has, overlaps, slice_bytes, zkey_bytes};
+ghost use Rattle.blart.specs.Words.{pairs, pair_at, value_at, value_before, has, overlaps, slice_bytes, zkey_bytes};
 
 use blart::map::Entry;
 use blart::{Map, NoPrefixesBytes, ZKey};
@@ -109,4 +109,15 @@ pub fn count_at<W: NoPrefixesBytes + Drop>(
 {
     *counts.get_or_insert(word, 0)? += 1;
     Ok(())
+}
+
+/// Sets the target of the route that begins the path, and gives the old one.
+pub fn redirect(routes: &mut Map<&'static str, u32>, path: &'static str, target: u32) -> Option<u32>
+    ensures old { result ≡ value_before slice_bytes (pairs routes.old) path.now }
+    ensures none { result ≡ None → routes.new ≡ routes.old }
+{
+    match routes.prefix_get_key_value_mut(&path) {
+        Some(mut entry) => Some(entry.insert(target)),
+        None => None,
+    }
 }
