@@ -5,6 +5,8 @@ pub mod FreePlaces
 pub mod Inserting
 pub mod Numbers
 pub mod Setting
+pub mod SettingAt
+pub mod TakenBack
 pub mod Thinning
 pub mod Walking
 pub mod Writing

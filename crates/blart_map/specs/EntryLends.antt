@@ -1,6 +1,6 @@
 -- What a map ends as, where an entry of it lends a value.
-use Rattle.std.specs.Prelude.{◌≡◌, List, Result}
-use Rattle.std.specs.Borrow.{Fml, RattleType, MutBor, LendsSoOk, RestsIfErr}
+use Rattle.std.specs.Prelude.{◌≡◌, List, Option, Result}
+use Rattle.std.specs.Borrow.{Fml, RattleType, MutBor, LendsSoOk, RestsIfErr, RestsIfNone}
 use denote.Param.{value_of}
 use Rattle.blart_keys.specs.declared.AsBytes.{Ghosts}
 use Rattle.blart_map.specs.Content.{Numbered}
@@ -21,3 +21,7 @@ module _ (K V P : RattleType) (g : Ghosts K.Denot) where
   -- where r has no entry, the map stands
   abbrev pub rests_if_refused : {T E : Type 0} → MutBor (List (Numbered K.Denot V.Denot)) → Result (Entry K.Denot V.Denot (value_of P) T g) E → Fml
   rests_if_refused s r = RestsIfErr (tree_map.the_row K V P g) s (λ e. (entry_ref e).ghost_name) r (λ n. n ≡ s.now)
+
+  -- where r has no entry, the map stands
+  abbrev pub rests_if_none : {T : Type 0} → MutBor (List (Numbered K.Denot V.Denot)) → Option (OccupiedEntry K.Denot V.Denot (value_of P) T g) → Fml
+  rests_if_none s r = RestsIfNone (tree_map.the_row K V P g) s (λ o. o.map.ghost_name) r (λ n. n ≡ s.now)

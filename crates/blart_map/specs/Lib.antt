@@ -2,6 +2,7 @@ pub mod Content
 pub mod Driven
 pub mod Entry
 pub mod EntryLends
+pub mod Lent
 pub mod MapLends
 pub mod Modified
 pub mod OccupiedEntry

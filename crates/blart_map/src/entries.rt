@@ -1,10 +1,10 @@
 //! The entry of a key.
-ghost use Rattle.std.specs.Prelude.{◌≡◌, not, is_ok, IfOk};
+ghost use Rattle.std.specs.Prelude.{◌≡◌, not, is_ok, is_some, IfOk, IfSome};
 ghost use Rattle.std.specs.Borrow.{sem};
-ghost use Rattle.blart_keys.specs.Stored.{overlaps};
+ghost use Rattle.blart_keys.specs.Stored.{overlaps, pair_before};
 ghost use Rattle.blart_map.specs.Content.{pairs};
-ghost use Rattle.blart_map.specs.Entry.{entry_ref, IsEntryFor};
-ghost use Rattle.blart_map.specs.EntryLends.{rests_if_refused};
+ghost use Rattle.blart_map.specs.Entry.{Occupied, entry_ref, entry_pair, IsEntryFor};
+ghost use Rattle.blart_map.specs.EntryLends.{rests_if_refused, rests_if_none};
 
 use crate::entry::Entry;
 use crate::map::TreeMap;
@@ -47,6 +47,38 @@ impl<K: AsBytes + Drop, V: Drop, const PREFIX_LEN: usize> TreeMap<K, V, PREFIX_L
                 key,
                 lender: PhantomData,
             })),
+        }
+    }
+
+    /// The entry of the pair whose key's bytes begin the query's. There is at most one. Takes no memory.
+    ///
+    /// ```
+    /// map.try_insert("/static/", 7)?;
+    /// if let Some(mut entry) = map.prefix_get_key_value_mut(&"/static/logo.png") {
+    ///     *entry.get_mut() += 1;
+    /// }
+    /// assert_eq!(map.get(&"/static/"), Some(&8));
+    /// ```
+    pub fn prefix_get_key_value_mut<Q: AsBytes>(
+        &mut self,
+        query: &Q,
+    ) -> Option<OccupiedEntry<'_, K, V, PREFIX_LEN, TreeMap<K, V, PREFIX_LEN>>>
+        ensures* stands { sem 𝓛 (rests_if_none K.row V.row PREFIX_LEN.row K.AsBytes self.entry result) }
+        ensures found { is_some result
+            ≡ is_some (pair_before K.bytes (pairs self.old) (Q.bytes query.now)) }
+        ensures same_map { IfSome result (λ o. o.map.ghost_name ≡ self.entry.ghost_name) }
+        ensures unchanged { IfSome result (λ o. o.map.now ≡ self.old) }
+        ensures pair { IfSome result (λ o. entry_pair (Occupied o)
+            ≡ pair_before K.bytes (pairs self.old) (Q.bytes query.now)) }
+    {
+        self.numbers_law();
+        match self.front_leaf(query.as_bytes()) {
+            Some(id) => Some(OccupiedEntry {
+                map: self,
+                id,
+                lender: PhantomData,
+            }),
+            None => None,
         }
     }
 }

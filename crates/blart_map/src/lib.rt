@@ -9,6 +9,7 @@ mod calls;
 mod changes;
 mod entries;
 mod entry;
+mod get_or_insert;
 mod insertions;
 mod into_walks;
 mod map;

@@ -3,7 +3,7 @@ ghost use Rattle.std.specs.Prelude.{◌≡◌, ◌≢◌, ℕ, false, option_map
 ghost use Rattle.std.specs.Borrow.{sem};
 ghost use Rattle.std.specs.Fn.{FnOnceReturnsAt};
 ghost use denote.Ref.{Bor};
-ghost use Rattle.blart_keys.specs.Content.{stores, conflict, IsContent};
+ghost use Rattle.blart_keys.specs.Content.{stores, conflict, front_of, IsContent};
 ghost use Rattle.art_tree.specs.Leaves.{leaf_in, Has, AreDistinct, without_number, bytes};
 ghost use Rattle.art_tree.specs.Points.{IsGood};
 ghost use Rattle.art_tree.specs.declared.tree.point.Point.TheVariants.{Related};
@@ -49,6 +49,13 @@ impl<K: AsBytes + Drop, V: Drop, const PREFIX_LEN: usize> TreeMap<K, V, PREFIX_L
         ensures rest { self.new ≡ without_number self.old id }
     {
         self.tree.remove(id)
+    }
+
+    // The leaf whose key's bytes begin the query's.
+    pub(crate) fn front_leaf(&self, query: &[u8]) -> Option<LeafId>
+        ensures { result ≡ option_map (λ p. p.0) (front_of (bytes K.bytes) self.now query.now) }
+    {
+        self.tree.search_front(query, &mut Visits::new())
     }
 
     // Where the bytes stand, or would go.

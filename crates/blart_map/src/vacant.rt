@@ -76,10 +76,10 @@ impl<'a, K: AsBytes + Drop, V: Drop, const PREFIX_LEN: usize> VacantEntry<
     {
         let VacantEntry { map, key, .. } = self;
         map.numbers_law();
-        let id = map.place_new(key, value)?;
+        let leaf = map.place_new(key, value)?;
         Ok(OccupiedEntry {
             map,
-            id,
+            id: leaf,
             lender: PhantomData,
         })
     }

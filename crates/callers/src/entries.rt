@@ -1,9 +1,9 @@
 //! Calls of entries.
 ghost use Rattle.std.specs.Prelude.{◌≡◌, ◌≢◌, ◌+◌, ◌<◌, ◌^◌, ℕ, List, true, not, unwrap_or, OnOk, IfOk, OnErr, None, Some, if◌then◌else◌};
-ghost use Rattle.blart.specs.Words.{pairs, pair_at, value_at, has, overlaps, slice_bytes, zkey_bytes};
+ghost use Rattle.blart.specs.Words.{pairs, pair_at, value_at, value_before, has, overlaps, slice_bytes, zkey_bytes};
 
 use blart::map::Entry;
-use blart::{Map, ZKey};
+use blart::{Map, NoPrefixesBytes, ZKey};
 use std::alloc::AllocError;
 
 /// Adds one to the count of a word, by its entry.
@@ -93,4 +93,31 @@ pub fn borrow_place<V: Drop>(store: &mut Map<ZKey, V>, key: ZKey, value: V) -> R
 {
     let entry = store.entry(key).insert_entry(value)?;
     Ok(entry.remove())
+}
+
+/// Adds one to the count of a word of any key type, by the call of the map that lends.
+pub fn count_at<W: NoPrefixesBytes + Drop>(
+    counts: &mut Map<W, u64>,
+    word: W,
+) -> Result<(), AllocError>
+    requires { unwrap_or (value_at W.bytes (pairs counts.old) (W.bytes word)) 0 + 1 < 2 ^ 64 }
+    ensures counted { OnOk result (value_at W.bytes (pairs counts.new) (W.bytes word)
+        ≡ Some (unwrap_or (value_at W.bytes (pairs counts.old) (W.bytes word)) 0 + 1)) }
+    ensures others { (q : List ℕ) → q ≢ W.bytes word
+        → pair_at W.bytes (pairs counts.new) q ≡ pair_at W.bytes (pairs counts.old) q }
+    ensures refused { OnErr result (counts.new ≡ counts.old) }
+{
+    *counts.get_or_insert(word, 0)? += 1;
+    Ok(())
+}
+
+/// Sets the target of the route that begins the path, and gives the old one.
+pub fn redirect(routes: &mut Map<&'static str, u32>, path: &'static str, target: u32) -> Option<u32>
+    ensures old { result ≡ value_before slice_bytes (pairs routes.old) path.now }
+    ensures none { result ≡ None → routes.new ≡ routes.old }
+{
+    match routes.prefix_get_key_value_mut(&path) {
+        Some(mut entry) => Some(entry.insert(target)),
+        None => None,
+    }
 }

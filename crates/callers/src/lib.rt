@@ -14,7 +14,7 @@ mod sums;
 mod walks;
 
 pub use counts::{count, count_in_place, insert_if_absent, raise};
-pub use entries::{borrow_place, count_by_entry, score, set_route, toggle};
+pub use entries::{borrow_place, count_at, count_by_entry, redirect, score, set_route, toggle};
 pub use lending::raise_below;
 pub use moves::{add_or_give_back, len_with, len_without, move_first_between, move_one, rename};
 pub use owning::{into_values_vec, into_vec};

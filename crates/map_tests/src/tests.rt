@@ -5,6 +5,7 @@ mod bounds;
 mod counting;
 mod driving;
 mod dropping;
+mod entries;
 mod key_types;
 mod lending;
 mod owning;

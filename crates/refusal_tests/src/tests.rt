@@ -1,6 +1,7 @@
 //! What stands where a request was refused, at each request in turn.
 
 mod driving;
+mod entries;
 mod insertions;
 mod keys;
 mod steady;

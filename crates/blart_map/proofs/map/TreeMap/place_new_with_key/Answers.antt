@@ -1,4 +1,4 @@
-use Rattle.std.proofs.Common.{refl, sym, ap, ◌∙◌, subst}
+use Rattle.std.proofs.Common.{refl, ◌∙◌, subst}
 use Rattle.blart_keys.specs.Content.{IsPut}
 use Rattle.art_tree.specs.Leaves.{bytes}
 use Rattle.blart_map.proofs.map.TreeMap.place_new_with_key.Goals as goal

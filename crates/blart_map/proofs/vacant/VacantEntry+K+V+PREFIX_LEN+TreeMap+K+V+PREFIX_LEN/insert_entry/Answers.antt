@@ -8,21 +8,21 @@ use Rattle.blart_map.proofs.Setting.{placed_entry_set}
 use Rattle.blart_map.proofs.vacant.VacantEntry+K+V+PREFIX_LEN+TreeMap+K+V+PREFIX_LEN.insert_entry.Goals as goal
 
 pub invariant_of-result : goal.invariant_of-result
-invariant_of-result g c = record { stands = is_some (leaf_in c.place_new.new.self c.in_ok-id.id) (c.args.self.key, c.args.value) c.in_ok-id.ensures.placed.now }
+invariant_of-result g c = record { stands = is_some (leaf_in c.place_new.new.self c.in_ok-leaf.leaf) (c.args.self.key, c.args.value) c.in_ok-leaf.ensures.placed.now }
 
 pub returns : goal.returns
 unfolding pairs
 returns g c =
     let kb = g.K.AsBytes.bytes in
-    let set = placed_entry_set kb c.args.self.map.now c.args.self.map.now c.place_new.new.self refl c.numbers_law.ensures.content c.in_ok-id.id c.args.self.key c.args.value c.args.self.absent c.in_ok-id.ensures.placed.put c.in_ok-id.ensures.placed.distinct c.in_ok-id.ensures.placed.now in (
+    let set = placed_entry_set kb c.args.self.map.now c.args.self.map.now c.place_new.new.self refl c.numbers_law.ensures.content c.in_ok-leaf.leaf c.args.self.key c.args.value c.args.self.absent c.in_ok-leaf.ensures.placed.put c.in_ok-leaf.ensures.placed.distinct c.in_ok-leaf.ensures.placed.now in (
       (refl, (λ w. refl), tt),
       record {
         stands = tt;
         set = record {
           same_map = refl;
           set = set;
-          pair = c.in_ok-id.ensures.placed.now;
-          same_bytes = ap (λ o. unwrap_or (option_map (λ x. kb x.0) o) []) c.in_ok-id.ensures.placed.now;
+          pair = c.in_ok-leaf.ensures.placed.now;
+          same_bytes = ap (λ o. unwrap_or (option_map (λ x. kb x.0) o) []) c.in_ok-leaf.ensures.placed.now;
         };
       },
     )
