@@ -31,7 +31,8 @@ impl<K: AsBytes + Drop, V: Drop, const PREFIX_LEN: usize> TreeMap<K, V, PREFIX_L
     ///
     /// ```
     /// let low = "b";
-    /// for (key, value) in map.extract_if(Bound::Included(&low), Bound::Unbounded, |_, value| *value == 0) {
+    /// let mut walk = map.extract_if(Bound::Included(&low), Bound::Unbounded, |_, value| *value == 0);
+    /// while let Some((key, value)) = walk.next() {
     ///     // each key from "b" on whose value is 0, no longer in the map
     /// }
     /// ```
