@@ -28,7 +28,8 @@ impl<K: AsBytes + Drop, V: Drop, const PREFIX_LEN: usize> TreeMap<K, V, PREFIX_L
         &mut self,
         key: K,
     ) -> Result<Entry<'_, K, V, PREFIX_LEN, TreeMap<K, V, PREFIX_LEN>>, InsertPrefixError>
-        ensures* stands { sem 𝓛 (rests_if_refused K.row V.row PREFIX_LEN.row K.AsBytes self.entry result) }
+        ensures* stands { sem 𝓛
+            (rests_if_refused K.row V.row PREFIX_LEN.row K.AsBytes self.entry result) }
         ensures found { is_ok result ≡ not (overlaps K.bytes (pairs self.old) (K.bytes key)) }
         ensures same_map { IfOk result (λ e. (entry_ref e).ghost_name ≡ self.entry.ghost_name) }
         ensures unchanged { IfOk result (λ e. (entry_ref e).now ≡ self.old) }
@@ -63,7 +64,8 @@ impl<K: AsBytes + Drop, V: Drop, const PREFIX_LEN: usize> TreeMap<K, V, PREFIX_L
         &mut self,
         query: &Q,
     ) -> Option<OccupiedEntry<'_, K, V, PREFIX_LEN, TreeMap<K, V, PREFIX_LEN>>>
-        ensures* stands { sem 𝓛 (rests_if_none K.row V.row PREFIX_LEN.row K.AsBytes self.entry result) }
+        ensures* stands { sem 𝓛
+            (rests_if_none K.row V.row PREFIX_LEN.row K.AsBytes self.entry result) }
         ensures found { is_some result
             ≡ is_some (pair_before K.bytes (pairs self.old) (Q.bytes query.now)) }
         ensures same_map { IfSome result (λ o. o.map.ghost_name ≡ self.entry.ghost_name) }

@@ -69,7 +69,8 @@ impl<'a, K: AsBytes + Drop, V: Drop, const PREFIX_LEN: usize> Entry<
 
     /// The value, to be written, after placing the default where none is stored.
     pub fn or_insert(self, default: V) -> Result<&'a mut V, AllocError>
-        ensures* writes_back { sem 𝓛 (entry_lends_ok K.row V.row PREFIX_LEN.row K.AsBytes self.entry result) }
+        ensures* writes_back { sem 𝓛
+            (entry_lends_ok K.row V.row PREFIX_LEN.row K.AsBytes self.entry result) }
         ensures value { IfOk result (λ r. r.now ≡ unwrap_or (entry_value self.entry) default) }
         ensures absent { OnErr result (entry_value self.entry ≡ None) }
     {
@@ -116,7 +117,8 @@ impl<'a, K: AsBytes + Drop, V: Drop, const PREFIX_LEN: usize> Entry<
         default: F,
     ) -> Result<&'a mut V, AllocError>
         requires { entry_value self ≡ None → F.pre default }
-        ensures* writes_back { sem 𝓛 (entry_lends_ok K.row V.row PREFIX_LEN.row K.AsBytes self.entry result) }
+        ensures* writes_back { sem 𝓛
+            (entry_lends_ok K.row V.row PREFIX_LEN.row K.AsBytes self.entry result) }
         ensures value { IfOk result
             (λ r. UnwrapsOrElse (entry_value self.entry) (F.post default) r.now) }
         ensures absent { OnErr result (entry_value self.entry ≡ None) }
@@ -134,7 +136,8 @@ impl<'a, K: AsBytes + Drop, V: Drop, const PREFIX_LEN: usize> Entry<
     ) -> Result<&'a mut V, AllocError>
         requires { entry_value self ≡ None
             → (p : Bor K) → entry_key self ≡ Some p.now → F.pre default p }
-        ensures* writes_back { sem 𝓛 (entry_lends_ok K.row V.row PREFIX_LEN.row K.AsBytes self.entry result) }
+        ensures* writes_back { sem 𝓛
+            (entry_lends_ok K.row V.row PREFIX_LEN.row K.AsBytes self.entry result) }
         ensures value { IfOk result (λ r. UnwrapsOrElse (entry_value self.entry)
             (λ v. IfSome (entry_key self.entry) (λ k. FnOnceReturnsAt F.FnOnce default k v)) r.now) }
         ensures absent { OnErr result (entry_value self.entry ≡ None) }
@@ -149,7 +152,8 @@ impl<'a, K: AsBytes + Drop, V: Drop, const PREFIX_LEN: usize> Entry<
     pub fn or_default(self) -> Result<&'a mut V, AllocError>
     where
         V: Default,
-        ensures* writes_back { sem 𝓛 (entry_lends_ok K.row V.row PREFIX_LEN.row K.AsBytes self.entry result) }
+        ensures* writes_back { sem 𝓛
+            (entry_lends_ok K.row V.row PREFIX_LEN.row K.AsBytes self.entry result) }
         ensures value { IfOk result
             (λ r. UnwrapsOrElse (entry_value self.entry) V.is_default r.now) }
         ensures absent { OnErr result (entry_value self.entry ≡ None) }

@@ -47,7 +47,8 @@ impl<'a, K: AsBytes + Drop, V: Drop, const PREFIX_LEN: usize, T: 'a> OccupiedEnt
 
     /// The value, to be written.
     pub fn get_mut(&mut self) -> &mut V
-        ensures* writes_back { sem 𝓛 (entry_value_lends K.row V.row PREFIX_LEN.row T.row K.AsBytes self.entry result) }
+        ensures* writes_back { sem 𝓛
+            (entry_value_lends K.row V.row PREFIX_LEN.row T.row K.AsBytes self.entry result) }
         ensures value { entry_value (Occupied self.old) ≡ Some result.now }
         ensures written { (w : V) → IsSetEntry (Occupied self.old) w (with_entry_value self.old w) }
     {
@@ -96,7 +97,8 @@ impl<'a, K: AsBytes + Drop, V: Drop, const PREFIX_LEN: usize> OccupiedEntry<
 
     /// The value, to be written for as long as the map was lent.
     pub fn into_mut(self) -> &'a mut V
-        ensures* writes_back { sem 𝓛 (map_lends_leaf K.row V.row PREFIX_LEN.row K.AsBytes self.entry.map self.entry.id result) }
+        ensures* writes_back { sem 𝓛
+            (map_lends_leaf K.row V.row PREFIX_LEN.row K.AsBytes self.entry.map self.entry.id result) }
         ensures value { entry_value (Occupied self.entry) ≡ Some result.now }
         ensures written { (w : V) → IsSet (Occupied self.entry) w
             (with_value self.entry.map.now self.entry.id w) }

@@ -57,7 +57,8 @@ impl<'a, K: AsBytes + Drop, V: Drop, const PREFIX_LEN: usize> VacantEntry<
 
     /// Places the key with the value, which is lent to be written. Where memory is refused the key and the value are dropped.
     pub fn insert(self, value: V) -> Result<&'a mut V, AllocError>
-        ensures* writes_back { sem 𝓛 (entry_lends_ok K.row V.row PREFIX_LEN.row K.AsBytes (Vacant self.entry) result) }
+        ensures* writes_back { sem 𝓛
+            (entry_lends_ok K.row V.row PREFIX_LEN.row K.AsBytes (Vacant self.entry) result) }
         ensures value { IfOk result (λ r. r.now ≡ value) }
     {
         let VacantEntry { map, key, .. } = self;
@@ -71,7 +72,8 @@ impl<'a, K: AsBytes + Drop, V: Drop, const PREFIX_LEN: usize> VacantEntry<
         self,
         value: V,
     ) -> Result<OccupiedEntry<'a, K, V, PREFIX_LEN, TreeMap<K, V, PREFIX_LEN>>, AllocError>
-        ensures* stands { sem 𝓛 (entry_rests K.row V.row PREFIX_LEN.row K.AsBytes (Vacant self.entry) result) }
+        ensures* stands { sem 𝓛
+            (entry_rests K.row V.row PREFIX_LEN.row K.AsBytes (Vacant self.entry) result) }
         ensures set { IfOk result (IsSetEntry (Vacant self.entry) value) }
     {
         let VacantEntry { map, key, .. } = self;
@@ -90,7 +92,8 @@ impl<'a, K: AsBytes + Drop, V: Drop, const PREFIX_LEN: usize> VacantEntry<
         default: F,
     ) -> Result<&'a mut V, AllocError>
         requires { F.pre default }
-        ensures* writes_back { sem 𝓛 (entry_lends_ok K.row V.row PREFIX_LEN.row K.AsBytes (Vacant self.entry) result) }
+        ensures* writes_back { sem 𝓛
+            (entry_lends_ok K.row V.row PREFIX_LEN.row K.AsBytes (Vacant self.entry) result) }
         ensures value { IfOk result (λ r. F.post default r.now) }
     {
         let VacantEntry { map, key, .. } = self;
@@ -105,7 +108,8 @@ impl<'a, K: AsBytes + Drop, V: Drop, const PREFIX_LEN: usize> VacantEntry<
         default: F,
     ) -> Result<&'a mut V, AllocError>
         requires { (p : Bor K) → p.now ≡ self.key → F.pre default p }
-        ensures* writes_back { sem 𝓛 (entry_lends_ok K.row V.row PREFIX_LEN.row K.AsBytes (Vacant self.entry) result) }
+        ensures* writes_back { sem 𝓛
+            (entry_lends_ok K.row V.row PREFIX_LEN.row K.AsBytes (Vacant self.entry) result) }
         ensures value { IfOk result (λ r. FnOnceReturnsAt F.FnOnce default self.entry.key r.now) }
     {
         let VacantEntry { map, key, .. } = self;
@@ -120,7 +124,8 @@ impl<'a, K: AsBytes + Drop, V: Drop, const PREFIX_LEN: usize> VacantEntry<
         default: F,
     ) -> Result<OccupiedEntry<'a, K, V, PREFIX_LEN, TreeMap<K, V, PREFIX_LEN>>, AllocError>
         requires { F.pre default }
-        ensures* stands { sem 𝓛 (entry_rests K.row V.row PREFIX_LEN.row K.AsBytes (Vacant self.entry) result) }
+        ensures* stands { sem 𝓛
+            (entry_rests K.row V.row PREFIX_LEN.row K.AsBytes (Vacant self.entry) result) }
         ensures set { IfOk result
             (λ o. (v : V) × F.post default v × IsSetEntry (Vacant self.entry) v o) }
     {
@@ -140,7 +145,8 @@ impl<'a, K: AsBytes + Drop, V: Drop, const PREFIX_LEN: usize> VacantEntry<
         default: F,
     ) -> Result<OccupiedEntry<'a, K, V, PREFIX_LEN, TreeMap<K, V, PREFIX_LEN>>, AllocError>
         requires { (p : Bor K) → p.now ≡ self.key → F.pre default p }
-        ensures* stands { sem 𝓛 (entry_rests K.row V.row PREFIX_LEN.row K.AsBytes (Vacant self.entry) result) }
+        ensures* stands { sem 𝓛
+            (entry_rests K.row V.row PREFIX_LEN.row K.AsBytes (Vacant self.entry) result) }
         ensures set { IfOk result (λ o. (v : V) × FnOnceReturnsAt F.FnOnce default self.entry.key v
             × IsSetEntry (Vacant self.entry) v o) }
     {
