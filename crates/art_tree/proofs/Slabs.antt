@@ -1,7 +1,1 @@
-pub mod EdgeFills
-pub mod EdgeNexts
-pub mod EdgeShifts
 pub mod Links
-pub mod NoBytes
-pub mod NodeRecords
-pub mod Slots

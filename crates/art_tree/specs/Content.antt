@@ -5,7 +5,7 @@ use Rattle.art_tree.specs.Leaves.{Numbered}
 use Rattle.art_tree.specs.declared.tree.point.Point.{Point}
 use Rattle.art_tree.specs.declared.tree.point.Point.TheVariants.{Empty, Exact, Related, Free}
 
--- the spare records of each kind
+-- the spare records of leaves, and for how many placements those of inner nodes are enough
 pub record Spares : Type 0 where
   pub leaves : ℕ
   pub nodes : ℕ

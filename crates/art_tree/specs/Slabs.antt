@@ -1,9 +1,2 @@
-pub mod Codes
-pub mod Edges
 pub mod LeafLends
 pub mod Links
-pub mod NodeRecords
-pub mod Nodes
-pub mod RecordLends
-pub mod Slots
-pub mod Store

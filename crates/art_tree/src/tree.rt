@@ -52,8 +52,9 @@ impl<K: AsBytes, V, const PREFIX_LEN: usize> Model for Tree<K, V, PREFIX_LEN> {
     ghost coded = { content_code K.code V.code };
 
     ghost use Rattle.art_tree.specs.Invariant.Sound.{IsSound};
+    ghost use Rattle.art_kinds.specs.Nodes.{room};
 
-    ghost view = { λ t. record { pairs = t.leaves.pairs; spares = record { leaves = t.leaves.spare; nodes = t.nodes.spare } } };
+    ghost view = { λ t. record { pairs = t.leaves.pairs; spares = record { leaves = t.leaves.spare; nodes = room t.nodes } } };
 
     ghost invariant = { λ t. IsSound K.bytes PREFIX_LEN t.leaves t.nodes t.root };
 }

@@ -1,7 +1,7 @@
 -- A leaf joins the tree at a node, or at an edge.
-use Rattle.std.proofs.Common.{◌≡◌, ℕ, ◌+◌, ◌<◌, ◌≤◌, List, [], ◌∷◌, ◌++◌, length, take, slice_range, get_or, refl, ap, arith, sym, subst, Option, Some, None, ◌∙◌, eqb, eq-eqb, true, false, inl, inr}
+use Rattle.std.proofs.Common.{◌≡◌, ℕ, ◌+◌, ◌%◌, ◌<◌, ◌≤◌, List, [], ◌∷◌, ◌++◌, length, take, slice_range, get_or, refl, ap, arith, sym, subst, Option, Some, None, ◌∙◌, eqb, eq-eqb, true, false, inl, inr}
 use Rattle.std.specs.Option.{IsSomeAnd}
-use Rattle.std.proofs.lemmas.Bool.{cases_lt, false_from_ne_true}
+use Rattle.std.proofs.lemmas.Bool.{cases_eq, cases_lt, false_from_ne_true}
 use Rattle.std.proofs.lemmas.Bool.Decides.{eqb_tells}
 use Rattle.std.proofs.lemmas.List.{length-take-le}
 use Rattle.blart_keys.specs.Bytes.{related}
@@ -10,13 +10,13 @@ use Rattle.art_tree.specs.Begins.{Bytes, Begins, next_byte}
 use Rattle.art_tree.specs.Places.{LeavesMate}
 use Rattle.art_tree.specs.Calls.Placing.{Forks, DepthWithin}
 use Rattle.art_tree.specs.Calls.Removing.{StartsBelow, EndsBelow, Cuts, CutsBehind}
-use Rattle.art_tree.specs.Slabs.Edges.{child_at}
-use Rattle.art_tree.specs.Slabs.Nodes.{Node, Renames}
+use Rattle.art_kinds.specs.Edges.{child_at}
+use Rattle.art_kinds.specs.Nodes.{Node, Nodes, at, places, HasPlace, Renames}
 use Rattle.art_tree.specs.Invariant.Shape.{Shape, CoversNode}
 use Rattle.art_tree.specs.Calls.Spots.{PastLength, EdgeFits}
-use Rattle.art_tree.specs.declared.records.ids.Child.{Child}
-use Rattle.art_tree.specs.declared.records.ids.Child.TheVariants.{Leaf, Inner}
-use Rattle.art_tree.specs.declared.records.ids.Edge.{Edge}
+use Rattle.art_kinds.specs.declared.records.ids.Child.{Child}
+use Rattle.art_kinds.specs.declared.records.ids.Child.TheVariants.{Leaf, Inner}
+use Rattle.art_kinds.specs.declared.records.ids.Edge.{Edge}
 use Rattle.art_tree.proofs.BeginsLemmas.{Begins-length, Begins-linear, Begins-more, Begins-past, Begins-take, Begins-trans, length-edge, related_cases}
 use Rattle.art_tree.proofs.Invariant.Growing.{Departs, Gains, covers_above, no_edge}
 use Rattle.art_tree.proofs.Pairs.KeyChanges.{departs_at, next_at}
@@ -137,3 +137,18 @@ module _ (keys : ℕ → Option Bytes) (leaf depth : ℕ) (q : Bytes) (good : Le
           let deep : length (take depth q) ≡ depth = length-take-le depth q (omega arith) in
           placed_edge keys leaf depth q good m m_is keys' i gains nodes cut mid new root root' above c n (take P (slice_range q start depth)) f.low f.high s fits past cut_child f.made
           (cut_front P q (edge_front s.front_of above) (take depth q) start depth (Begins-take depth q) (start_is keys nodes root s above start starts) (sym deep) (starts_over start starts)) f.sorted f.both turns
+
+-- a node that has a place for an edge more has one where the edge above it is led to it
+pub place_led : (old new : Nodes) (root root' : Option Child) (above : Option (ℕ × ℕ)) (to : Child) (n : ℕ) → TurnsTo (at old) (at new) root root' above to → HasPlace old n → HasPlace new n
+place_led old new root root' None to n turns place x is l = place x (sym (turns.0 n) ∙ is) l
+place_led old new root root' (Some e) to n turns place x is l = elim (cases_eq n e.0) [
+  | inl p ↦ (
+      let r = turns.0 in
+      let a : at new e.0 ≡ Some x = subst (λ z. at new z ≡ Some x) p is in
+      let b : Some r.is ≡ Some x = sym r.is_is ∙ a in
+      let same : r.is ≡ x = cc in
+      let w : length r.was.edges < places (n % 4) = place r.was (subst (λ z. at old z ≡ Some r.was) (sym p) r.was_is) l in
+      let k : length r.is.edges < places (n % 4) = omega (arith, w, r.same_length) in
+      subst (λ (y : Node). length y.edges < places (n % 4)) same k)
+  | inr p ↦ place x (sym (turns.0.others n p) ∙ is) l
+]

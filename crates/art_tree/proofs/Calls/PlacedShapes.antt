@@ -4,13 +4,13 @@ use Rattle.std.proofs.lemmas.List.{length-take-le}
 use Rattle.art_tree.specs.Invariant.EdgesAbove.{LeadsTo, TurnsTo, edge_front}
 use Rattle.art_tree.specs.Begins.{Bytes, Begins, next_byte}
 use Rattle.art_tree.specs.Places.{LeavesMate}
-use Rattle.art_tree.specs.Slabs.Nodes.{Node, Makes, Renames, AddsEdgeTo}
+use Rattle.art_kinds.specs.Nodes.{Node, Makes, Renames, AddsEdgeTo}
 use Rattle.art_tree.specs.Calls.Removing.{CutsBehind}
 use Rattle.art_tree.specs.Invariant.Shape.{Shape}
 use Rattle.art_tree.specs.Calls.Spots.{PastLength, EdgeFits}
-use Rattle.art_tree.specs.declared.records.ids.Child.{Child}
-use Rattle.art_tree.specs.declared.records.ids.Child.TheVariants.{Leaf, Inner}
-use Rattle.art_tree.specs.declared.records.ids.Edge.{Edge}
+use Rattle.art_kinds.specs.declared.records.ids.Child.{Child}
+use Rattle.art_kinds.specs.declared.records.ids.Child.TheVariants.{Leaf, Inner}
+use Rattle.art_kinds.specs.declared.records.ids.Edge.{Edge}
 use Rattle.art_tree.proofs.BeginsLemmas.{Begins-more}
 use Rattle.art_tree.proofs.Invariant.Growing.{Departs, Gains, leaf_added}
 use Rattle.art_tree.proofs.Pairs.KeyChanges.{departs_at, next_at, mate_next_at}

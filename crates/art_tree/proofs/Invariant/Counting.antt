@@ -1,8 +1,8 @@
 -- How many nodes there are, and how many edges a node has.
-use Rattle.std.proofs.Common.{◌≡◌, ◌≢◌, ℕ, zero, suc, ◌+◌, ◌<◌, Bool, true, false, List, [], ◌∷◌, ◌++◌, length, map, refl, ap, arith, sym, subst, Option, Some, None, IsSome, is_some, count_by, cond, get_or, ◌∙◌, inl, inr, eq-eqb, nat_cmp, filter_map, slice_get}
-use Rattle.std.proofs.lemmas.Bool.{cases_order, false_from_ne_true, cond-false}
+use Rattle.std.proofs.Common.{◌≡◌, ◌≢◌, ℕ, zero, suc, ◌+◌, ◌*◌, ◌/◌, ◌%◌, ◌<◌, ◌≤◌, Bool, true, false, List, [], ◌∷◌, ◌++◌, length, map, refl, ap, arith, sym, subst, Option, Some, None, IsSome, is_some, count_by, cond, get_or, ◌∙◌, inl, inr, eq-eqb, nat_cmp, filter_map, slice_get}
+use Rattle.std.proofs.lemmas.Bool.{cases_eq, cases_order, false_from_ne_true, cond-false}
 use Rattle.std.proofs.lemmas.Bool.Decides.{eqb_tells}
-use Rattle.std.proofs.lemmas.List.{length-map}
+use Rattle.std.proofs.lemmas.List.{length-append, length-map}
 use Rattle.std.proofs.lemmas.List.Sums.{sum_by-cons}
 use Rattle.std.specs.Cmp.{nat_cmp_total}
 use Rattle.std.specs.Cmp.Lexicographic.{nat_list_cmp_total}
@@ -11,16 +11,18 @@ use Rattle.std.specs.FinSet as set
 use Rattle.blart_keys.specs.Content.{IsContent, under}
 use Rattle.blart_keys.specs.Fronts.{commons, fronts, parts}
 use Rattle.blart_keys.proofs.PartLemmas.{Branch}
-use Rattle.blart_keys.proofs.RankLemmas.{Member}
+use Rattle.blart_keys.proofs.RankLemmas.{Member, Member-append_left, Member-append_right, Member-append_cases}
 use Rattle.blart_keys.proofs.FrontLemmas.{Branches, branches_at_front, front_at_branches}
 use Rattle.blart_keys.proofs.FrontSizes.{member_of_set, set_has_member, Distinct, same_members, len_of_distinct, parts_has, parts_of}
 use Rattle.art_tree.specs.Begins.{Bytes, Begins, next_byte}
-use Rattle.art_tree.specs.Slabs.Edges.{child_at, AscendsAbove, Ascends}
+use Rattle.art_kinds.specs.Edges.{child_at, AscendsAbove, Ascends}
 use Rattle.art_tree.specs.Leaves.{Numbered, AreDistinct, bytes, keys_in}
-use Rattle.art_tree.specs.Slabs.Nodes.{Node, Nodes, at, live}
+use Rattle.art_kinds.specs.Store.{slot_at, used_count}
+use Rattle.art_kinds.specs.Nodes.{Node, Nodes, store_of, at, live}
+use Rattle.art_kinds.proofs.CallerLemmas.{at_is}
 use Rattle.art_tree.specs.Invariant.Shape.{Shape, NodeFits}
-use Rattle.art_tree.specs.declared.records.ids.Child.{Child}
-use Rattle.art_tree.specs.declared.records.ids.Edge.{Edge}
+use Rattle.art_kinds.specs.declared.records.ids.Child.{Child}
+use Rattle.art_kinds.specs.declared.records.ids.Edge.{Edge}
 use Rattle.blart_keys.proofs.Options.{is_some as is_there, some_of, same_some, not_some}
 use Rattle.art_tree.proofs.BeginsLemmas.{Begins-from_begins, begins-from_Begins, Begins-more, Begins-next, Begins-edge_front}
 use Rattle.art_tree.proofs.Invariant.Growing.{some_key}
@@ -67,6 +69,67 @@ distinct_live f (Some x ∷ os) h = (
   (λ k. let r = of_live (λ n. f (suc n)) os (f zero) k in let s : suc r.0 ≡ zero = h (suc r.0) zero r.1 refl r.2 in omega arith),
   distinct_live (λ n. f (suc n)) os (λ n m a b e. (let s : suc n ≡ suc m = h (suc n) (suc m) a b e in omega arith)),
 )
+
+-- lists with no member of both make one with none twice
+distinct_append : (xs ys : List Bytes) → Distinct nat_list_cmp_total exact_bytes xs → Distinct nat_list_cmp_total exact_bytes ys → ((a : Bytes) → Member a xs → Member a ys → ⊥) → Distinct nat_list_cmp_total exact_bytes (xs ++ ys)
+distinct_append [] ys d e off = e
+distinct_append (x ∷ xs) ys d e off = (
+  (λ m. elim (Member-append_cases x xs ys m) [ inl p ↦ d.0 p | inr p ↦ off x (inl refl) p ]),
+  distinct_append xs ys d.1 e (λ a p q. off a (inr p) q),
+)
+
+-- ---- what stands in the stores of four kinds
+
+module _ (f : ℕ → Bytes) (s : Nodes) where
+  -- what f gives at the numbers that have a node, of so many kinds from this one on
+  abbrev pub at_kinds : ℕ → ℕ → List Bytes
+  at_kinds k zero = []
+  at_kinds k (suc n) = at_live (λ i. f (4 * i + k)) (store_of s k).slots ++ at_kinds (suc k) n
+
+  length-at_kinds : length (at_kinds 0 4) ≡ live s
+  length-at_kinds =
+      let a : length (at_live (λ i. f (4 * i + 0)) s.fours.slots) ≡ used_count s.fours = length-at_live (λ i. f (4 * i + 0)) s.fours.slots in
+      let b : length (at_live (λ i. f (4 * i + 1)) s.sixteens.slots) ≡ used_count s.sixteens = length-at_live (λ i. f (4 * i + 1)) s.sixteens.slots in
+      let c : length (at_live (λ i. f (4 * i + 2)) s.forty_eights.slots) ≡ used_count s.forty_eights = length-at_live (λ i. f (4 * i + 2)) s.forty_eights.slots in
+      let d : length (at_live (λ i. f (4 * i + 3)) s.fulls.slots) ≡ used_count s.fulls = length-at_live (λ i. f (4 * i + 3)) s.fulls.slots in
+      omega (arith, a, b, c, d, length-append (at_live (λ i. f (4 * i + 0)) s.fours.slots) (at_kinds 1 3), length-append (at_live (λ i. f (4 * i + 1)) s.sixteens.slots) (at_kinds 2 2), length-append (at_live (λ i. f (4 * i + 2)) s.forty_eights.slots) (at_kinds 3 1), length-append (at_live (λ i. f (4 * i + 3)) s.fulls.slots) (at_kinds 4 0))
+
+  of_kinds : (k n : ℕ) → k + n ≤ 4 → (a : Bytes) → Member a (at_kinds k n) → (m : ℕ) × (k ≤ m % 4) × IsSome (at s m) × (f m ≡ a)
+  of_kinds k zero l a h = absurd h
+  of_kinds k (suc n) l a h = elim (Member-append_cases a (at_live (λ i. f (4 * i + k)) (store_of s k).slots) (at_kinds (suc k) n) h) [
+    | inl p ↦ (
+        let r = of_live (λ i. f (4 * i + k)) (store_of s k).slots a p in
+        (4 * r.0 + k, omega arith, same_some (slot_at (store_of s k) r.0) (at s (4 * r.0 + k)) (sym (at_is s (4 * r.0 + k) k r.0 (omega arith) (omega arith))) r.1, r.2))
+    | inr p ↦ (let r = of_kinds (suc k) n (omega arith) a p in let lo : suc k ≤ r.0 % 4 = r.1 in (r.0, omega arith, r.2, r.3))
+  ]
+
+  kinds_there : (k n m : ℕ) → k ≤ m % 4 → m % 4 < k + n → IsSome (at s m) → Member (f m) (at_kinds k n)
+  kinds_there k zero m l h some = absurd (omega arith)
+  kinds_there k (suc n) m l h some = elim (cases_eq (m % 4) k) [
+    | inl p ↦ (
+        let e : 4 * (m / 4) + k ≡ m = omega arith in
+        let t : Member (f (4 * (m / 4) + k)) (at_live (λ i. f (4 * i + k)) (store_of s k).slots) = live_there (λ i. f (4 * i + k)) (store_of s k).slots (m / 4) (same_some (at s m) (slot_at (store_of s k) (m / 4)) (at_is s m k (m / 4) p refl) some) in
+        Member-append_left (f m) (at_live (λ i. f (4 * i + k)) (store_of s k).slots) (at_kinds (suc k) n) (subst (λ z. Member (f z) (at_live (λ i. f (4 * i + k)) (store_of s k).slots)) e t))
+    | inr p ↦ Member-append_right (f m) (at_live (λ i. f (4 * i + k)) (store_of s k).slots) (at_kinds (suc k) n) (kinds_there (suc k) n m (omega arith) (omega arith) some)
+  ]
+
+  module _ (apart : (n m : ℕ) → IsSome (at s n) → IsSome (at s m) → f n ≡ f m → n ≡ m) where
+    live_apart : (k : ℕ) → k < 4 → (n m : ℕ) → IsSome (slot_at (store_of s k) n) → IsSome (slot_at (store_of s k) m) → f (4 * n + k) ≡ f (4 * m + k) → n ≡ m
+    live_apart k l n m a b e =
+        let there : (i : ℕ) → IsSome (slot_at (store_of s k) i) → IsSome (at s (4 * i + k)) = λ i h. same_some (slot_at (store_of s k) i) (at s (4 * i + k)) (sym (at_is s (4 * i + k) k i (omega arith) (omega arith))) h in
+        let q : 4 * n + k ≡ 4 * m + k = apart (4 * n + k) (4 * m + k) (there n a) (there m b) e in
+        omega arith
+
+    distinct_kinds : (k n : ℕ) → k + n ≤ 4 → Distinct nat_list_cmp_total exact_bytes (at_kinds k n)
+    distinct_kinds k zero l = tt
+    distinct_kinds k (suc n) l =
+        distinct_append (at_live (λ i. f (4 * i + k)) (store_of s k).slots) (at_kinds (suc k) n) (distinct_live (λ i. f (4 * i + k)) (store_of s k).slots (live_apart k (omega arith))) (distinct_kinds (suc k) n (omega arith)) (λ a p q.
+        let r = of_live (λ i. f (4 * i + k)) (store_of s k).slots a p in
+        let t = of_kinds (suc k) n (omega arith) a q in
+        let here : IsSome (at s (4 * r.0 + k)) = same_some (slot_at (store_of s k) r.0) (at s (4 * r.0 + k)) (sym (at_is s (4 * r.0 + k) k r.0 (omega arith) (omega arith))) r.1 in
+        let e : 4 * r.0 + k ≡ t.0 = apart (4 * r.0 + k) t.0 here t.2 (r.2 ∙ sym t.3) in
+        let lo : suc k ≤ t.0 % 4 = t.1 in
+        omega arith)
 
 -- ---- the bytes of edges
 
@@ -194,13 +257,13 @@ module _ {P : ℕ} {K V : Type 0} (key_bytes : K → Bytes) (pairs : List (Numbe
 pub nodes_are_fronts : {P : ℕ} → {K V : Type 0} (key_bytes : K → Bytes) (pairs : List (Numbered K V)) (st : Nodes) (root : Option Child) → IsContent (bytes key_bytes) pairs → AreDistinct pairs → Shape P (keys_in key_bytes pairs) (at st) root
     → live st ≡ set.len (fronts (bytes key_bytes) pairs)
 nodes_are_fronts key_bytes pairs st root content distinct s =
-    sym (ap (λ (p : set.FinSet _). set.len p) same ∙ len_of_distinct nat_list_cmp_total exact_bytes (at_live s.front_of st.slots) (distinct_live s.front_of st.slots (λ n m a b e. s.apart n m a b e)) ∙ length-at_live s.front_of st.slots)
+    sym (ap (λ (p : set.FinSet _). set.len p) same ∙ len_of_distinct nat_list_cmp_total exact_bytes (at_kinds s.front_of st 0 4) (distinct_kinds s.front_of st (λ n m a b e. s.apart n m a b e) 0 4 (omega arith)) ∙ length-at_kinds s.front_of st)
   where
-    same : fronts (bytes key_bytes) pairs ≡ set.from_list (at_live s.front_of st.slots)
-    same = same_members nat_list_cmp_total exact_bytes (commons (bytes key_bytes) pairs) (at_live s.front_of st.slots)
+    same : fronts (bytes key_bytes) pairs ≡ set.from_list (at_kinds s.front_of st 0 4)
+    same = same_members nat_list_cmp_total exact_bytes (commons (bytes key_bytes) pairs) (at_kinds s.front_of st 0 4)
         (λ f m.
         let r = node_at_front key_bytes pairs content distinct (at st) root s f (set_has_member nat_list_cmp_total exact_bytes (commons (bytes key_bytes) pairs) f m) in
-        subst (λ (g : Bytes). Member g (at_live s.front_of st.slots)) r.2 (live_there s.front_of st.slots r.0 r.1))
+        subst (λ (g : Bytes). Member g (at_kinds s.front_of st 0 4)) r.2 (kinds_there s.front_of st 0 4 r.0 (omega arith) (omega arith) r.1))
         (λ f m.
-        let r = of_live s.front_of st.slots f m in
-        subst (λ (g : Bytes). Member g (commons (bytes key_bytes) pairs)) r.2 (member_of_set nat_list_cmp_total exact_bytes (commons (bytes key_bytes) pairs) (s.front_of r.0) (front_at_node key_bytes pairs content distinct (at st) root s r.0 r.1)))
+        let r = of_kinds s.front_of st 0 4 (omega arith) f m in
+        subst (λ (g : Bytes). Member g (commons (bytes key_bytes) pairs)) r.3 (member_of_set nat_list_cmp_total exact_bytes (commons (bytes key_bytes) pairs) (s.front_of r.0) (front_at_node key_bytes pairs content distinct (at st) root s r.0 r.2)))

@@ -3,12 +3,12 @@ use Rattle.std.proofs.Common.{◌≡◌, ◌≢◌, ℕ, List, [], ◌∷◌, �
 use Rattle.std.proofs.lemmas.Bool.Decides.{eqb_tells}
 use Rattle.art_tree.specs.Invariant.EdgesAbove.{LeadsTo, TurnsTo, edge_front}
 use Rattle.art_tree.specs.Begins.{Bytes}
-use Rattle.art_tree.specs.Slabs.Nodes.{Node, Makes, Renames, Redirects}
-use Rattle.art_tree.specs.Slabs.Edges.{child_at, Ascends}
+use Rattle.art_kinds.specs.Nodes.{Node, Makes, Renames, Redirects}
+use Rattle.art_kinds.specs.Edges.{child_at, Ascends}
 use Rattle.art_tree.specs.Invariant.Shape.{Shape}
-use Rattle.art_tree.specs.declared.records.ids.Child.{Child}
-use Rattle.art_tree.specs.declared.records.ids.Child.TheVariants.{Inner}
-use Rattle.art_tree.specs.declared.records.ids.Edge.{Edge}
+use Rattle.art_kinds.specs.declared.records.ids.Child.{Child}
+use Rattle.art_kinds.specs.declared.records.ids.Child.TheVariants.{Inner}
+use Rattle.art_kinds.specs.declared.records.ids.Edge.{Edge}
 use Rattle.art_tree.proofs.BeginsLemmas.{edge_same, edge_some}
 use Rattle.art_tree.proofs.Invariant.OneEdge.{not_itself, kept_mid}
 

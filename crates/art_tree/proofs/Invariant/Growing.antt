@@ -5,12 +5,12 @@ use Rattle.std.proofs.lemmas.Bool.Decides.{eqb_tells}
 use Rattle.art_tree.specs.Begins.{Bytes, Begins, next_byte}
 use Rattle.blart_keys.specs.Bytes.{common}
 use Rattle.art_tree.specs.Invariant.EdgesAbove.{LeadsTo, edge_front}
-use Rattle.art_tree.specs.Slabs.Nodes.{Node, AddsEdgeTo}
-use Rattle.art_tree.specs.Slabs.Edges.{child_at}
+use Rattle.art_kinds.specs.Nodes.{Node, AddsEdgeTo}
+use Rattle.art_kinds.specs.Edges.{child_at}
 use Rattle.art_tree.specs.Invariant.Shape.{Shape, Covers, CoversLeaf, CoversNode, NodeFits, RootFits, Parts}
 pub use Rattle.art_tree.specs.Calls.Placing.{Gains}
-use Rattle.art_tree.specs.declared.records.ids.Child.{Child}
-use Rattle.art_tree.specs.declared.records.ids.Child.TheVariants.{Leaf, Inner}
+use Rattle.art_kinds.specs.declared.records.ids.Child.{Child}
+use Rattle.art_kinds.specs.declared.records.ids.Child.TheVariants.{Leaf, Inner}
 use Rattle.blart_keys.proofs.Options.{some_of}
 use Rattle.art_tree.proofs.Invariant.Prefixes.{keeps_changed, live_after, live_before}
 use Rattle.art_tree.proofs.BeginsLemmas.{Begins-more, Begins-trans, Begins-linear, Begins-past, next_byte-front, Begins-equal, Begins-cases, common_same, common_at, common_comm}

@@ -5,13 +5,13 @@ use Rattle.std.proofs.lemmas.Bool.Decides.{eqb_tells}
 use Rattle.art_tree.specs.Begins.{Bytes, Begins, next_byte}
 use Rattle.blart_keys.specs.Bytes.{common}
 use Rattle.art_tree.specs.Invariant.EdgesAbove.{LeadsTo, TurnsTo, edge_front}
-use Rattle.art_tree.specs.Slabs.Nodes.{Node, DropsEdge, Frees}
-use Rattle.art_tree.specs.Slabs.Edges.{child_at, Ascends}
+use Rattle.art_kinds.specs.Nodes.{Node, DropsEdge, Frees}
+use Rattle.art_kinds.specs.Edges.{child_at, Ascends}
 use Rattle.art_tree.specs.Calls.Removing.{Loses, CutsBehind}
 use Rattle.art_tree.specs.Invariant.Shape.{Shape, Keeps, first_behind, Covers, CoversLeaf, CoversNode, NodeFits, RootFits, Parts}
-use Rattle.art_tree.specs.declared.records.ids.Edge.{Edge}
-use Rattle.art_tree.specs.declared.records.ids.Child.{Child}
-use Rattle.art_tree.specs.declared.records.ids.Child.TheVariants.{Leaf, Inner}
+use Rattle.art_kinds.specs.declared.records.ids.Edge.{Edge}
+use Rattle.art_kinds.specs.declared.records.ids.Child.{Child}
+use Rattle.art_kinds.specs.declared.records.ids.Child.TheVariants.{Leaf, Inner}
 use Rattle.art_tree.proofs.BeginsLemmas.{Begins-length, Begins-more, Begins-trans, Begins-next, Begins-linear, length-edge, Begins-equal, Begins-edge_front, Bytes-cases, common-left, common-greatest, common_comm}
 use Rattle.art_tree.proofs.Invariant.Growing.{Parts-within, Parts-two, covers_above}
 use Rattle.art_tree.proofs.Invariant.EdgesAbove.{Turns, turned_node, turns_after}

@@ -3,12 +3,12 @@ use Rattle.std.proofs.Common.{◌≡◌, ◌≢◌, ℕ, [], ◌∷◌, ◌++◌
 use Rattle.std.proofs.lemmas.Bool.{ne_eqb}
 use Rattle.std.proofs.lemmas.Bool.Decides.{eqb_tells}
 use Rattle.art_tree.specs.Begins.{Bytes, Begins, next_byte}
-use Rattle.art_tree.specs.Slabs.Nodes.{Node}
-use Rattle.art_tree.specs.Slabs.Edges.{child_at, Ascends}
+use Rattle.art_kinds.specs.Nodes.{Node}
+use Rattle.art_kinds.specs.Edges.{child_at, Ascends}
 use Rattle.art_tree.specs.Invariant.Shape.{Shape, Keeps, Covers, CoversNode, NodeFits, RootFits}
 use Rattle.art_tree.specs.Invariant.EdgesAbove.{LeadsTo, edge_front}
-use Rattle.art_tree.specs.declared.records.ids.Child.{Child}
-use Rattle.art_tree.specs.declared.records.ids.Child.TheVariants.{Leaf, Inner}
+use Rattle.art_kinds.specs.declared.records.ids.Child.{Child}
+use Rattle.art_kinds.specs.declared.records.ids.Child.TheVariants.{Leaf, Inner}
 use Rattle.blart_keys.proofs.Options.{is_some, some_of}
 use Rattle.art_tree.proofs.Invariant.Growing.{covers_above}
 use Rattle.art_tree.proofs.Invariant.Prefixes.{keeps_as}

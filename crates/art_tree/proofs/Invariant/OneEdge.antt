@@ -4,12 +4,12 @@ use Rattle.std.proofs.lemmas.Bool.{cases_lt, ne_eqb}
 use Rattle.std.proofs.lemmas.Bool.Decides.{eqb_tells}
 use Rattle.art_tree.specs.Begins.{Bytes, Begins, next_byte}
 use Rattle.art_tree.specs.Invariant.EdgesAbove.{LeadsTo, TurnsTo}
-use Rattle.art_tree.specs.Slabs.Nodes.{Node, Renames, Redirects}
+use Rattle.art_kinds.specs.Nodes.{Node, Renames, Redirects}
 use Rattle.art_tree.proofs.Invariant.SameShapes.{rooted, rooted-front, renoded, renoded-front}
-use Rattle.art_tree.specs.Slabs.Edges.{child_at}
+use Rattle.art_kinds.specs.Edges.{child_at}
 use Rattle.art_tree.specs.Invariant.Shape.{Shape, CoversNode, RootFits}
-use Rattle.art_tree.specs.declared.records.ids.Child.{Child}
-use Rattle.art_tree.specs.declared.records.ids.Child.TheVariants.{Leaf, Inner}
+use Rattle.art_kinds.specs.declared.records.ids.Child.{Child}
+use Rattle.art_kinds.specs.declared.records.ids.Child.TheVariants.{Leaf, Inner}
 use Rattle.art_tree.proofs.BeginsLemmas.{Begins-length, Begins-trans, Begins-next, Begins-linear, Begins-equal, length-edge, Begins-edge_front}
 use Rattle.blart_keys.proofs.Options.{is_some}
 use Rattle.art_tree.proofs.Invariant.Moving.{new_number, renamed, SameNode, Moves, shape_moved, front_of_moved}

@@ -1,9 +1,9 @@
 -- The same shape over what is equal.
 use Rattle.std.proofs.Common.{◌≡◌, ℕ, refl, sym, subst, ◌∙◌, Option}
 use Rattle.art_tree.specs.Begins.{Bytes}
-use Rattle.art_tree.specs.Slabs.Nodes.{Node}
+use Rattle.art_kinds.specs.Nodes.{Node}
 use Rattle.art_tree.specs.Invariant.Shape.{Shape, Keeps, NodeFits, RootFits}
-use Rattle.art_tree.specs.declared.records.ids.Child.{Child}
+use Rattle.art_kinds.specs.declared.records.ids.Child.{Child}
 use Rattle.blart_keys.proofs.Options.{same_some}
 
 -- with an equal root

@@ -8,10 +8,10 @@ use Rattle.art_tree.proofs.BeginsLemmas.{Begins-length, Begins-itself, Begins-ne
 use Rattle.art_tree.proofs.Invariant.Growing.{Parts-two, Gains, kept_cases}
 use Rattle.art_tree.specs.Calls.Removing.{Loses}
 use Rattle.blart_keys.proofs.Options.{some_of, not_some, none_of}
-use Rattle.art_tree.specs.Slabs.Nodes.{Node}
+use Rattle.art_kinds.specs.Nodes.{Node}
 use Rattle.art_tree.specs.Invariant.Shape.{Shape, Parts}
-use Rattle.art_tree.specs.declared.records.ids.Child.{Child}
-use Rattle.art_tree.specs.declared.records.ids.Child.TheVariants.{Leaf}
+use Rattle.art_kinds.specs.declared.records.ids.Child.{Child}
+use Rattle.art_kinds.specs.declared.records.ids.Child.TheVariants.{Leaf}
 
 module _ (keys : ℕ → Option Bytes) (nodes : ℕ → Option Node) (bare : (n : ℕ) → nodes n ≡ None) where
   pub shape_empty : {P : ℕ} → ((j : ℕ) → keys j ≡ None) → Shape P keys nodes None

@@ -6,10 +6,10 @@ use Rattle.blart_keys.proofs.RankLemmas.{Member}
 use Rattle.art_tree.specs.Begins.{Bytes}
 use Rattle.art_tree.specs.Leaves.{Numbered, Leaves, keys_in, bytes}
 use Rattle.art_tree.specs.Longest.{longest}
-use Rattle.art_tree.specs.Slabs.Nodes.{Nodes, Node, at, SameNodes}
+use Rattle.art_kinds.specs.Nodes.{Nodes, Node, at, SameNodes}
 use Rattle.art_tree.specs.Invariant.Shape.{Shape}
 use Rattle.art_tree.specs.Invariant.Sound.{IsSound}
-use Rattle.art_tree.specs.declared.records.ids.Child.{Child}
+use Rattle.art_kinds.specs.declared.records.ids.Child.{Child}
 use Rattle.art_tree.proofs.Pairs.Keys.{member_of_key}
 use Rattle.art_tree.proofs.Invariant.SameShapes.{renoded, rekeyed}
 use Rattle.art_tree.proofs.Invariant.SmallShapes.{shape_empty}

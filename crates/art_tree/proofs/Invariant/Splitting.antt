@@ -6,13 +6,13 @@ use Rattle.art_tree.specs.Begins.{Bytes, Begins, next_byte}
 use Rattle.blart_keys.specs.Bytes.{common}
 use Rattle.art_tree.specs.Invariant.EdgesAbove.{LeadsTo, TurnsTo, edge_front}
 use Rattle.art_tree.specs.Calls.Spots.{PastLength}
-use Rattle.art_tree.specs.Slabs.Nodes.{Node, Makes}
-use Rattle.art_tree.specs.Slabs.Edges.{child_at, Ascends}
+use Rattle.art_kinds.specs.Nodes.{Node, Makes}
+use Rattle.art_kinds.specs.Edges.{child_at, Ascends}
 use Rattle.art_tree.specs.Calls.Removing.{CutsBehind}
 use Rattle.art_tree.specs.Invariant.Shape.{Shape, Keeps, first_behind, Covers, CoversLeaf, CoversNode, NodeFits, RootFits, Parts}
-use Rattle.art_tree.specs.declared.records.ids.Edge.{Edge}
-use Rattle.art_tree.specs.declared.records.ids.Child.{Child}
-use Rattle.art_tree.specs.declared.records.ids.Child.TheVariants.{Leaf, Inner}
+use Rattle.art_kinds.specs.declared.records.ids.Edge.{Edge}
+use Rattle.art_kinds.specs.declared.records.ids.Child.{Child}
+use Rattle.art_kinds.specs.declared.records.ids.Child.TheVariants.{Leaf, Inner}
 use Rattle.art_tree.proofs.BeginsLemmas.{Begins-length, Begins-more, Begins-trans, Begins-itself, Begins-next, edge_some, Begins-linear, length-edge, Begins-past, next_byte-front, Begins-equal, Begins-edge_front, Begins-cases, common_same, common_at, common_comm, Bytes-cases}
 use Rattle.blart_keys.proofs.Options.{is_some, some_of}
 use Rattle.art_tree.proofs.Invariant.EdgesAbove.{Turns, turned_node, turns_after, leads_made}

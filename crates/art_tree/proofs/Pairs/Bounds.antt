@@ -15,12 +15,12 @@ use Rattle.art_tree.specs.Calls.Partings.{LeavesAt, KeyEnds, QueryEnds}
 use Rattle.art_tree.specs.Calls.Descents.{IsEndUnder, IsNearest}
 use Rattle.art_tree.specs.Places.{LastBefore, IsLeafBefore}
 use Rattle.art_tree.specs.Leaves.{Numbered, AreDistinct, Has, bytes, keys_in, first_number, last_number, number_after, number_before, behind}
-use Rattle.art_tree.specs.Slabs.Nodes.{Node}
+use Rattle.art_kinds.specs.Nodes.{Node}
 use Rattle.art_tree.specs.Seeks.{number_within, ends}
 use Rattle.art_tree.specs.Calls.Seeking.{beside, IsPlaceOf}
 use Rattle.art_tree.specs.Invariant.Shape.{Shape}
 use Rattle.art_tree.specs.declared.tree.parting.Departure.{Departure}
-use Rattle.art_tree.specs.declared.records.ids.Child.{Child}
+use Rattle.art_kinds.specs.declared.records.ids.Child.{Child}
 use Rattle.art_tree.proofs.BeginsLemmas.{common_length, Begins-itself, Begins-cases, Begins-from_begins}
 use Rattle.art_tree.proofs.Ways.Ends.{first_less, last_greater}
 use Rattle.art_tree.proofs.Ways.Partings.{no_key, no_key_alone}

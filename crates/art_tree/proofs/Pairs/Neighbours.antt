@@ -11,12 +11,12 @@ use Rattle.art_tree.specs.Begins.{Bytes, Begins, next_byte}
 use Rattle.art_tree.specs.Places.{LastBefore, FirstAfter, IsLeafBefore, IsBeside, number_in_front}
 use Rattle.art_tree.specs.declared.tree.parting.Beside.{Beside}
 use Rattle.art_tree.specs.declared.tree.parting.Beside.TheVariants.{Behind, InFront}
-use Rattle.art_tree.specs.Slabs.Edges.{child_at, IsPrevious, IsNext}
+use Rattle.art_kinds.specs.Edges.{child_at, IsPrevious, IsNext}
 use Rattle.art_tree.specs.Leaves.{Numbered, bytes, keys_in, leaf_in, AreDistinct, with_pair_behind, first_number, number_after, number_before, number_before_from}
-use Rattle.art_tree.specs.Slabs.Nodes.{Node}
+use Rattle.art_kinds.specs.Nodes.{Node}
 use Rattle.art_tree.specs.Invariant.Shape.{Shape}
-use Rattle.art_tree.specs.declared.records.ids.Child.{Child}
-use Rattle.art_tree.specs.declared.records.ids.Edge.{Edge}
+use Rattle.art_kinds.specs.declared.records.ids.Child.{Child}
+use Rattle.art_kinds.specs.declared.records.ids.Edge.{Edge}
 use Rattle.blart_keys.proofs.Options.{not_some}
 use Rattle.art_tree.proofs.BeginsLemmas.{Begins-more, Begins-cases, Begins-edge_front, Begins-trans, related-from_front}
 use Rattle.art_tree.proofs.Pairs.Passing.{parted_less}

@@ -7,10 +7,10 @@ use Rattle.blart_keys.proofs.RankLemmas.{Member, Ranked, each_member, filter_non
 use Rattle.blart_keys.proofs.ContentLemmas.{Before}
 use Rattle.art_tree.specs.Begins.{Bytes, Begins}
 use Rattle.art_tree.specs.Leaves.{Numbered, bytes, first_number, last_number}
-use Rattle.art_tree.specs.Slabs.Nodes.{Node}
+use Rattle.art_kinds.specs.Nodes.{Node}
 use Rattle.art_tree.specs.Invariant.Shape.{Shape}
-use Rattle.art_tree.specs.declared.records.ids.Child.{Child}
-use Rattle.art_tree.specs.declared.records.ids.Edge.{Edge}
+use Rattle.art_kinds.specs.declared.records.ids.Child.{Child}
+use Rattle.art_kinds.specs.declared.records.ids.Edge.{Edge}
 use Rattle.art_tree.proofs.BeginsLemmas.{begins-from_Begins}
 
 -- of two keys that part at f, that with the lesser byte is less

@@ -7,7 +7,7 @@ use Rattle.art_tree.specs.Begins.{Bytes}
 use Rattle.art_tree.specs.Places.{LeavesMate, IsLeafBefore, IsBeside, neighbour, number_in_front}
 use Rattle.art_tree.specs.Calls.Placing.{IsSpotFor, TreeGains, Places}
 use Rattle.art_tree.specs.Leaves.{Leaves, Numbered, leaf_in, Has, AreDistinct, with_pair_behind, bytes, keys_in}
-use Rattle.art_tree.specs.Slabs.Nodes.{Nodes, Node, at}
+use Rattle.art_kinds.specs.Nodes.{Nodes, Node, at}
 use Rattle.art_tree.specs.Points.{IsFree}
 use Rattle.art_tree.specs.Invariant.Shape.{Shape}
 use Rattle.art_tree.specs.Calls.Spots.{SpotFits}
@@ -16,8 +16,8 @@ use Rattle.art_tree.specs.declared.tree.descent.Spot.{Spot}
 use Rattle.art_tree.specs.declared.tree.parting.Beside.{Beside}
 use Rattle.art_tree.specs.declared.tree.parting.Beside.TheVariants.{Behind, InFront}
 use Rattle.art_tree.specs.declared.tree.point.Place.{Place}
-use Rattle.art_tree.specs.declared.records.ids.Child.{Child}
-use Rattle.art_tree.specs.declared.records.ids.Child.TheVariants.{Leaf}
+use Rattle.art_kinds.specs.declared.records.ids.Child.{Child}
+use Rattle.art_kinds.specs.declared.records.ids.Child.TheVariants.{Leaf}
 use Rattle.art_tree.proofs.Invariant.Growing.{Gains, some_key}
 use Rattle.art_tree.proofs.Calls.Joining.{leaving_unrelated}
 use Rattle.art_tree.proofs.Pairs.KeyChanges.{gains_from}

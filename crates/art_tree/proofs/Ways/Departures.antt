@@ -6,13 +6,13 @@ use Rattle.std.proofs.lemmas.Bool.{ltb-true, ltb-false}
 use Rattle.art_tree.specs.Invariant.EdgesAbove.{edge_front}
 use Rattle.art_tree.specs.Begins.{Bytes, Begins, next_byte}
 use Rattle.art_tree.specs.Calls.Partings.{LeavesAt, LeavesAtNode, LeavesAtEdge, IsChildBeside, IsNextTo}
-use Rattle.art_tree.specs.Slabs.Edges.{child_at, IsPrevious, IsNext}
-use Rattle.art_tree.specs.Slabs.Nodes.{Node}
+use Rattle.art_kinds.specs.Edges.{child_at, IsPrevious, IsNext}
+use Rattle.art_kinds.specs.Nodes.{Node}
 use Rattle.art_tree.specs.Invariant.Shape.{Covers}
 use Rattle.art_tree.specs.Calls.Spots.{PastLength}
-use Rattle.art_tree.specs.declared.records.ids.Child.{Child}
-use Rattle.art_tree.specs.declared.records.ids.Child.TheVariants.{Leaf, Inner}
-use Rattle.art_tree.specs.declared.records.ids.Edge.{Edge}
+use Rattle.art_kinds.specs.declared.records.ids.Child.{Child}
+use Rattle.art_kinds.specs.declared.records.ids.Child.TheVariants.{Leaf, Inner}
+use Rattle.art_kinds.specs.declared.records.ids.Edge.{Edge}
 use Rattle.art_tree.specs.declared.tree.descent.Spot.{Spot}
 use Rattle.art_tree.specs.declared.tree.descent.Spot.TheVariants as spot
 use Rattle.art_tree.specs.declared.tree.parting.Departure.{Departure}

@@ -5,12 +5,12 @@ use Rattle.blart_keys.specs.Bytes.{PartsBelow, less}
 use Rattle.blart_keys.proofs.PartLemmas.{parts_at_branch, less-from_PartsBelow}
 use Rattle.blart_keys.proofs.Options.{not_some}
 use Rattle.art_tree.specs.Begins.{Bytes, Begins, next_byte}
-use Rattle.art_tree.specs.Slabs.Edges.{child_at, IsEnd, Precedes}
-use Rattle.art_tree.specs.Slabs.Nodes.{Node}
+use Rattle.art_kinds.specs.Edges.{child_at, IsEnd, Precedes}
+use Rattle.art_kinds.specs.Nodes.{Node}
 use Rattle.art_tree.specs.Invariant.Shape.{Shape, CoversLeaf, CoversNode, NodeFits}
 use Rattle.art_tree.specs.Calls.Descents.{IsEndUnder, PartsBefore}
-use Rattle.art_tree.specs.declared.records.ids.Child.{Child}
-use Rattle.art_tree.specs.declared.records.ids.Edge.{Edge}
+use Rattle.art_kinds.specs.declared.records.ids.Child.{Child}
+use Rattle.art_kinds.specs.declared.records.ids.Edge.{Edge}
 use Rattle.art_tree.proofs.BeginsLemmas.{begins-from_Begins, Begins-more, Begins-trans, Begins-edge_front}
 
 -- of two keys that go on from a front by different bytes, that with the lesser byte parts below the other

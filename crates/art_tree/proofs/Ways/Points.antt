@@ -6,11 +6,11 @@ use Rattle.art_tree.specs.Begins.{Bytes}
 use Rattle.art_tree.specs.Calls.Partings.{KeyEnds, QueryEnds}
 use Rattle.art_tree.specs.Calls.Descents.{IsEndUnder}
 use Rattle.art_tree.specs.Leaves.{Numbered, AreDistinct, keys_in, bytes}
-use Rattle.art_tree.specs.Slabs.Nodes.{Node}
+use Rattle.art_kinds.specs.Nodes.{Node}
 use Rattle.art_tree.specs.Points.{IsGood}
 use Rattle.art_tree.specs.Invariant.Shape.{Shape}
 use Rattle.art_tree.specs.declared.tree.point.Point.TheVariants.{Exact, Related}
-use Rattle.art_tree.specs.declared.records.ids.Child.{Child}
+use Rattle.art_kinds.specs.declared.records.ids.Child.{Child}
 use Rattle.art_tree.proofs.BeginsLemmas.{related-from_front, related-from_begun}
 use Rattle.art_tree.proofs.Ways.Ends.{first_less, last_greater}
 use Rattle.art_tree.proofs.Pairs.Answers.{pair, at_key, conflict_key, first_related, last_related}

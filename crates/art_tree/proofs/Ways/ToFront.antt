@@ -1,13 +1,13 @@
 -- A way down to the node at a front.
 use Rattle.std.proofs.Common.{◌≡◌, ◌≢◌, ℕ, ◌+◌, ◌<◌, ◌≤◌, [], ◌∷◌, ◌++◌, length, get_or, ap, sym, subst, ◌∙◌, Option, Some, None, IsSome, true, arith}
 use Rattle.art_tree.specs.Begins.{Bytes, Begins, next_byte}
-use Rattle.art_tree.specs.Slabs.Edges.{child_at, IsEnd}
-use Rattle.art_tree.specs.Slabs.Nodes.{Node}
+use Rattle.art_kinds.specs.Edges.{child_at, IsEnd}
+use Rattle.art_kinds.specs.Nodes.{Node}
 use Rattle.art_tree.specs.Invariant.Shape.{Shape, CoversNode, NodeFits, Parts}
 use Rattle.art_tree.specs.Calls.Descents.{IsEndUnder, FindsNone, FindsNode}
-use Rattle.art_tree.specs.declared.records.ids.Child.{Child}
-use Rattle.art_tree.specs.declared.records.ids.Child.TheVariants.{Leaf, Inner}
-use Rattle.art_tree.specs.declared.records.ids.Edge.{Edge}
+use Rattle.art_kinds.specs.declared.records.ids.Child.{Child}
+use Rattle.art_kinds.specs.declared.records.ids.Child.TheVariants.{Leaf, Inner}
+use Rattle.art_kinds.specs.declared.records.ids.Edge.{Edge}
 use Rattle.art_tree.proofs.BeginsLemmas.{Begins-length, Begins-trans, Begins-linear, Begins-equal, Begins-next, Begins-more, Begins-itself, next_byte-front, length-edge}
 use Rattle.art_tree.proofs.Invariant.Growing.{some_key, Parts-two}
 use Rattle.blart_keys.proofs.Options.{some_of, not_some}

@@ -1,11 +1,11 @@
 -- A descent by a query's bytes: where it has come to, and what it then knows.
 use Rattle.std.proofs.Common.{◌≡◌, ◌≢◌, ℕ, ◌+◌, ◌<◌, ◌≤◌, [], ◌∷◌, ◌++◌, length, get_or, ap, arith, sym, subst, Option, Some, None, IsSome, ◌∙◌}
 use Rattle.art_tree.specs.Begins.{Bytes, Begins, next_byte}
-use Rattle.art_tree.specs.Slabs.Nodes.{Node}
-use Rattle.art_tree.specs.Slabs.Edges.{child_at}
+use Rattle.art_kinds.specs.Nodes.{Node}
+use Rattle.art_kinds.specs.Edges.{child_at}
 use Rattle.art_tree.specs.Invariant.Shape.{Shape, CoversNode, NodeFits, RootFits}
 use Rattle.art_tree.specs.Calls.Descents.{NoFront, IsOnlyFront}
-use Rattle.art_tree.specs.declared.records.ids.Child.{Child}
+use Rattle.art_kinds.specs.declared.records.ids.Child.{Child}
 use Rattle.blart_keys.proofs.Options.{not_some, same_some}
 use Rattle.art_tree.proofs.BeginsLemmas.{Begins-length, Begins-itself, Begins-more, Begins-next, next_byte-front, length-edge}
 

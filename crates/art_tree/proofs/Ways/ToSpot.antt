@@ -3,13 +3,13 @@ use Rattle.std.proofs.Common.{◌≡◌, ℕ, ◌+◌, ◌<◌, ◌≤◌, [], �
 use Rattle.std.proofs.lemmas.List.{length-take-le}
 use Rattle.blart_keys.proofs.Options.{not_some}
 use Rattle.art_tree.specs.Begins.{Bytes, Begins, next_byte}
-use Rattle.art_tree.specs.Slabs.Nodes.{Node}
-use Rattle.art_tree.specs.Slabs.Edges.{child_at}
+use Rattle.art_kinds.specs.Nodes.{Node}
+use Rattle.art_kinds.specs.Edges.{child_at}
 use Rattle.art_tree.specs.Invariant.Shape.{Shape, NodeFits}
 use Rattle.art_tree.specs.Invariant.EdgesAbove.{LeadsTo, edge_front}
 use Rattle.art_tree.specs.Calls.Spots.{EdgeFits}
-use Rattle.art_tree.specs.declared.records.ids.Child.{Child}
-use Rattle.art_tree.specs.declared.records.ids.Child.TheVariants.{Inner}
+use Rattle.art_kinds.specs.declared.records.ids.Child.{Child}
+use Rattle.art_kinds.specs.declared.records.ids.Child.TheVariants.{Inner}
 use Rattle.art_tree.proofs.BeginsLemmas.{Begins-take, Begins-length, Begins-more, Begins-trans, Begins-linear, length-edge, Begins-equal}
 use Rattle.art_tree.proofs.Ways.WaysDown.{WayDown}
 

@@ -3,10 +3,10 @@ use Rattle.std.specs.Prelude.{◌≡◌, ◌≢◌, ℕ, Bool, true, false, ◌+
 use Rattle.blart_keys.specs.Bytes.{common, PartsBelow}
 use Rattle.art_tree.specs.Begins.{Bytes, Begins}
 use Rattle.art_tree.specs.Leaves.{Numbered, leaf_in, keys_in}
-use Rattle.art_tree.specs.Slabs.Edges.{child_at}
-use Rattle.art_tree.specs.Slabs.Nodes.{Node}
+use Rattle.art_kinds.specs.Edges.{child_at}
+use Rattle.art_kinds.specs.Nodes.{Node}
 use Rattle.art_tree.specs.Invariant.Shape.{Shape, Covers}
-use Rattle.art_tree.specs.declared.records.ids.Child.{Child}
+use Rattle.art_kinds.specs.declared.records.ids.Child.{Child}
 
 -- in some tree, the child stands for the keys that begin with some front
 pub record IsSubtree (P : ℕ) (nodes : ℕ → Option Node) (child : Child) : Type 0 where

@@ -3,8 +3,8 @@ use Rattle.std.specs.Prelude.{◌≡◌, ◌≢◌, ℕ, Bool, true, false, not,
 use Rattle.blart_keys.specs.Bytes.{related}
 use Rattle.art_tree.specs.Begins.{Bytes, Begins}
 use Rattle.art_tree.specs.Places.{LeavesMate, IsBeside}
-use Rattle.art_tree.specs.Slabs.Edges.{IsNext, IsPrevious}
-use Rattle.art_tree.specs.Slabs.Nodes.{Node}
+use Rattle.art_kinds.specs.Edges.{IsNext, IsPrevious}
+use Rattle.art_kinds.specs.Nodes.{Node}
 use Rattle.art_tree.specs.Calls.Descents.{IsEndUnder}
 use Rattle.art_tree.specs.Invariant.Shape.{Shape, Covers}
 use Rattle.art_tree.specs.Calls.Spots.{SpotFits}
@@ -13,8 +13,8 @@ use Rattle.art_tree.specs.declared.tree.parting.Parting.{Parting}
 use Rattle.art_tree.specs.declared.tree.parting.Parting.TheVariants.{Same, Shorter, Longer, Apart}
 use Rattle.art_tree.specs.declared.tree.parting.Beside.{Beside}
 use Rattle.art_tree.specs.declared.tree.parting.Beside.TheVariants.{Behind, InFront}
-use Rattle.art_tree.specs.declared.records.ids.Child.{Child}
-use Rattle.art_tree.specs.declared.records.ids.Edge.{Edge}
+use Rattle.art_kinds.specs.declared.records.ids.Child.{Child}
+use Rattle.art_kinds.specs.declared.records.ids.Edge.{Edge}
 
 -- the key of the leaf begins q, and is shorter
 pub record KeyEnds (keys : ℕ → Option Bytes) (i : ℕ) (q : Bytes) : Type 0 where

@@ -5,12 +5,12 @@ use Rattle.art_tree.specs.Begins.{Bytes}
 use Rattle.art_tree.specs.Content.{Content}
 use Rattle.art_tree.specs.Places.{LeavesMate}
 use Rattle.art_tree.specs.Leaves.{Leaves, Numbered, leaf_in, OthersStand, bytes}
-use Rattle.art_tree.specs.Slabs.Nodes.{Node, Nodes, Makes}
+use Rattle.art_kinds.specs.Nodes.{Node, Nodes, Makes, room}
 use Rattle.art_tree.specs.Invariant.Shape.{Shape}
 use Rattle.art_tree.specs.Calls.Spots.{SpotFits}
-use Rattle.art_tree.specs.declared.records.ids.Child.{Child}
-use Rattle.art_tree.specs.declared.records.ids.Child.TheVariants.{Leaf, Inner}
-use Rattle.art_tree.specs.declared.records.ids.Edge.{Edge}
+use Rattle.art_kinds.specs.declared.records.ids.Child.{Child}
+use Rattle.art_kinds.specs.declared.records.ids.Child.TheVariants.{Leaf, Inner}
+use Rattle.art_kinds.specs.declared.records.ids.Edge.{Edge}
 use Rattle.art_tree.specs.declared.tree.descent.Spot.{Spot}
 
 -- the leaf i was added, with the key k
@@ -49,7 +49,7 @@ DepthWithin nodes (Inner n) least most = (x : Node) × (nodes n ≡ Some x) × (
 
 -- what a contract sees of leaves and nodes together
 abbrev pub content_of : {K V : Type 0} → Leaves K V → Nodes → Content K V
-content_of leaves nodes = record { pairs = leaves.pairs; spares = record { leaves = leaves.spare; nodes = nodes.spare } }
+content_of leaves nodes = record { pairs = leaves.pairs; spares = record { leaves = leaves.spare; nodes = room nodes } }
 
 -- the pair was put under a fresh number, and each other number names what it named
 pub record Places {K V : Type 0} (key_bytes : K → List ℕ) (old new : List (Numbered K V)) (i : ℕ) (x : K × V) : Type 0 where

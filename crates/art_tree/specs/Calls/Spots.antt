@@ -2,9 +2,9 @@
 use Rattle.std.specs.Prelude.{◌≡◌, ℕ, ◌<◌, length, take, Option, Some, None}
 use Rattle.art_tree.specs.Invariant.EdgesAbove.{LeadsTo, edge_front}
 use Rattle.art_tree.specs.Begins.{Bytes, Begins}
-use Rattle.art_tree.specs.Slabs.Nodes.{Node}
-use Rattle.art_tree.specs.declared.records.ids.Child.{Child}
-use Rattle.art_tree.specs.declared.records.ids.Child.TheVariants.{Leaf, Inner}
+use Rattle.art_kinds.specs.Nodes.{Node}
+use Rattle.art_kinds.specs.declared.records.ids.Child.{Child}
+use Rattle.art_kinds.specs.declared.records.ids.Child.TheVariants.{Leaf, Inner}
 use Rattle.art_tree.specs.declared.tree.descent.LeafSpot.{LeafSpot}
 use Rattle.art_tree.specs.declared.tree.descent.Spot.{Spot}
 use Rattle.art_tree.specs.declared.tree.descent.Spot.TheVariants as spot

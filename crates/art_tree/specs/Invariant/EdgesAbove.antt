@@ -1,9 +1,9 @@
 -- The edge above a child: a node's number and a byte, or none at the root.
 use Rattle.std.specs.Prelude.{◌≡◌, ℕ, [], ◌∷◌, ◌++◌, Option, Some, None}
 use Rattle.art_tree.specs.Begins.{Bytes}
-use Rattle.art_tree.specs.Slabs.Edges.{child_at}
-use Rattle.art_tree.specs.Slabs.Nodes.{Node, Redirects}
-use Rattle.art_tree.specs.declared.records.ids.Child.{Child}
+use Rattle.art_kinds.specs.Edges.{child_at}
+use Rattle.art_kinds.specs.Nodes.{Node, Redirects}
+use Rattle.art_kinds.specs.declared.records.ids.Child.{Child}
 
 -- the edge leads to the child; with none, the root does
 abbrev pub LeadsTo : (ℕ → Option Node) → Option Child → Option (ℕ × ℕ) → Child → Type 0

@@ -2,9 +2,9 @@
 use Rattle.std.specs.Prelude.{ℕ, List, Option}
 use Rattle.blart_keys.specs.Content.{IsContent}
 use Rattle.art_tree.specs.Leaves.{Leaves, keys_in, bytes}
-use Rattle.art_tree.specs.Slabs.Nodes.{Nodes, at}
+use Rattle.art_kinds.specs.Nodes.{Nodes, at}
 use Rattle.art_tree.specs.Invariant.Shape.{Shape}
-use Rattle.art_tree.specs.declared.records.ids.Child.{Child}
+use Rattle.art_kinds.specs.declared.records.ids.Child.{Child}
 
 module _ {K V : Type 0} (key_bytes : K → List ℕ) where
   -- the pairs are a content, and the nodes stand where their keys part and keep P bytes of their compressed prefixes

@@ -1,14 +1,14 @@
 //! The leaf records, linked in the order of their keys.
 ghost use Rattle.std.specs.Prelude.{◌≡◌, ◌+◌, ◌<◌, ◌≤◌, ℕ, [], length, option_map, Some, None, IsSome, IfSome, OnOk, OnErr};
 ghost use Rattle.std.specs.Borrow.{sem};
-ghost use Rattle.art_tree.specs.Slabs.Store.{slot_at, used_count};
+ghost use Rattle.art_kinds.specs.Store.{slot_at, used_count};
 ghost use Rattle.art_tree.specs.Leaves.{leaf_in, Has, AreDistinct, first_number, last_number, number_after, number_before, with_pair_behind, without_number, with_pair};
 ghost use Rattle.art_tree.specs.Slabs.Links.{with_next, with_prev, end_with};
 ghost use Rattle.art_tree.specs.Slabs.LeafLends.{lends_value, lends_leaf};
 
 use crate::records::ids::LeafId;
-use crate::records::store::Store;
 use crate::visits::Visits;
+use art_kinds::Store;
 use std::alloc::{AllocError, Global};
 use std::marker::Model;
 use std::mem;
@@ -69,7 +69,7 @@ fn set_next<K, V>(
 {
     match at {
         None => *first = to,
-        Some(id) => records.get_mut(id.number).next = to,
+        Some(id) => records.get_mut(id.number()).next = to,
     }
 }
 
@@ -88,7 +88,7 @@ fn set_prev<K, V>(
 {
     match at {
         None => *last = to,
-        Some(id) => records.get_mut(id.number).prev = to,
+        Some(id) => records.get_mut(id.number()).prev = to,
     }
 }
 
@@ -145,7 +145,7 @@ impl<K, V> Leaves<K, V> {
         requires { Has self.now.pairs id }
         ensures { result ≡ number_after self.now.pairs id }
     {
-        self.records.read(id.number).next
+        self.records.read(id.number()).next
     }
 
     /// The leaf before this one.
@@ -153,7 +153,7 @@ impl<K, V> Leaves<K, V> {
         requires { Has self.now.pairs id }
         ensures { result ≡ number_before self.now.pairs id }
     {
-        self.records.read(id.number).prev
+        self.records.read(id.number()).prev
     }
 
     // The record of a leaf.
@@ -165,7 +165,7 @@ impl<K, V> Leaves<K, V> {
         ensures counted { visits.new.count ≡ visits.old.count + 1 }
     {
         visits.add_one();
-        self.records.read(id.number)
+        self.records.read(id.number())
     }
 
     /// The pair of a leaf. It reads one record.
@@ -208,7 +208,7 @@ impl<K, V> Leaves<K, V> {
         ensures* writes_back { sem 𝓛 (lends_leaf K.row V.row self.entry id result.1) }
         ensures value { leaf_in self.old.pairs id ≡ Some (result.0.now, result.1.now) }
     {
-        self.records.get_mut(id.number).pair_mut()
+        self.records.get_mut(id.number()).pair_mut()
     }
 
     /// The value of a leaf, to be written.
@@ -242,7 +242,7 @@ impl<K: Drop, V: Drop> Leaves<K, V> {
             prev: before,
             next: behind,
         });
-        let id = LeafId { number };
+        let id = LeafId::new(number);
         set_next(&mut self.records, &mut self.first, prev, Some(id));
         set_prev(&mut self.records, &mut self.last, next, Some(id));
         id
@@ -255,7 +255,7 @@ impl<K: Drop, V: Drop> Leaves<K, V> {
         ensures rest { self.new.pairs ≡ without_number self.old.pairs id }
         ensures spare { self.new.spare ≡ self.old.spare + 1 }
     {
-        let leaf = self.records.take(id.number);
+        let leaf = self.records.take(id.number());
         set_next(&mut self.records, &mut self.first, leaf.prev, leaf.next);
         set_prev(&mut self.records, &mut self.last, leaf.next, leaf.prev);
         (leaf.key, leaf.value)
@@ -268,7 +268,7 @@ impl<K: Drop, V: Drop> Leaves<K, V> {
         ensures pairs { self.new.pairs ≡ with_pair self.old.pairs id (key, value) }
         ensures spare { self.new.spare ≡ self.old.spare }
     {
-        let leaf = self.records.get_mut(id.number);
+        let leaf = self.records.get_mut(id.number());
         let old_key = mem::replace(&mut leaf.key, key);
         let old_value = mem::replace(&mut leaf.value, value);
         (old_key, old_value)

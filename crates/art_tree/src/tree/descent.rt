@@ -1,11 +1,11 @@
 //! Ways down the tree.
 ghost use Rattle.std.specs.Prelude.{◌≡◌, ℕ, ◌+◌, ◌<◌, ◌≤◌, length, take, Option, Some};
 ghost use Rattle.art_tree.specs.Begins.{Bytes};
-ghost use Rattle.art_tree.specs.Slabs.Nodes.{at};
+ghost use Rattle.art_kinds.specs.Nodes.{at};
 ghost use Rattle.art_tree.specs.Invariant.Shape.{Shape, Covers};
 ghost use Rattle.art_tree.specs.Calls.Descents.{IsSubtree, IsRoot, HasEdges, GoesToward, IsWayOf, Finds, IsEndUnder, IsMate};
 ghost use Rattle.art_tree.specs.Calls.Spots.{SpotFits};
-ghost use Rattle.art_tree.specs.declared.records.ids.Child.{Child as Way};
+ghost use Rattle.art_kinds.specs.declared.records.ids.Child.{Child as Way};
 
 use crate::records::ids::{Child, LeafId, NodeId};
 use crate::records::nodes::Nodes;

@@ -6,7 +6,7 @@ ghost use Rattle.art_tree.specs.Begins.{Bytes};
 ghost use Rattle.art_tree.specs.Places.{IsBeside, neighbour, number_in_front};
 ghost use Rattle.art_tree.specs.Leaves.{Has, keys_in, bytes};
 ghost use Rattle.art_tree.specs.Longest.{longest};
-ghost use Rattle.art_tree.specs.Slabs.Nodes.{at};
+ghost use Rattle.art_kinds.specs.Nodes.{at};
 ghost use Rattle.art_tree.specs.Invariant.Sound.{IsSound};
 
 use crate::lists::common_len;

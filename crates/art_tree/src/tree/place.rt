@@ -3,11 +3,11 @@ ghost use Rattle.std.specs.Prelude.{◌≡◌, ◌≢◌, ◌+◌, ◌-◌, ◌^
 ghost use Rattle.art_tree.specs.Invariant.EdgesAbove.{LeadsTo, TurnsTo};
 ghost use Rattle.art_tree.specs.Content.{Fits, IsOpen, room as places};
 ghost use Rattle.art_tree.specs.Calls.Placing.{IsSpotFor, TreeGains, Forks, DepthWithin, Places, content_of};
-ghost use Rattle.art_tree.specs.Slabs.Nodes.{at, room, FitsNew, SameSpares};
+ghost use Rattle.art_kinds.specs.Nodes.{at, room, FitsNew, SameSpares};
 ghost use Rattle.art_tree.specs.Calls.Removing.{StartsBelow, EndsBelow, Cuts};
 ghost use Rattle.art_tree.specs.Points.{IsFree, IsGood};
 ghost use Rattle.art_tree.specs.Invariant.Sound.{IsSound};
-ghost use Rattle.art_tree.specs.declared.records.ids.Child.{Child as Way};
+ghost use Rattle.art_kinds.specs.declared.records.ids.Child.{Child as Way};
 
 use crate::records::ids::{Child, Edge, LeafId, NodeId};
 use crate::records::leaves::Leaves;
@@ -137,8 +137,9 @@ fn add_at_node<const P: usize>(
     node: &NodeId,
     leaf: &NewLeaf<'_>,
 ) -> Child
-    requires { IsSpotFor P (at nodes.old) root.now
+    requires spot_fits { IsSpotFor P (at nodes.old) root.now
         (Spot.Node above.now node.now) leaf.now.key.now leaf.now.mate.now leaf.now.depth }
+    requires fits { 0 < room nodes.old }
     ensures gains { TreeGains P (at nodes.old) (at nodes.new) root.now result
         (Spot.Node above.now node.now) leaf.now.key.now leaf.now.mate.now leaf.now.depth leaf.now.id }
     ensures room { room nodes.old ≤ room nodes.new + 1 }

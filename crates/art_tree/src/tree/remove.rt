@@ -4,13 +4,13 @@ ghost use Rattle.blart_keys.specs.Content.{at as stored, without};
 ghost use Rattle.art_tree.specs.Invariant.EdgesAbove.{LeadsTo, edge_front};
 ghost use Rattle.art_tree.specs.Begins.{Bytes};
 ghost use Rattle.art_tree.specs.Leaves.{leaf_in, Has, OthersStand, without_number, keys_in, bytes};
-ghost use Rattle.art_tree.specs.Slabs.Nodes.{at};
+ghost use Rattle.art_kinds.specs.Nodes.{at};
 ghost use Rattle.art_tree.specs.Calls.Removing.{Loses, IsLeafOf, IsChildBelow, OtherEdge, CutsBehind, Merged};
 ghost use Rattle.art_tree.specs.Calls.Spots.{IsLeafSpot};
 ghost use Rattle.art_tree.specs.Invariant.Shape.{Shape};
 ghost use Rattle.art_tree.specs.Invariant.Sound.{IsSound};
-ghost use Rattle.art_tree.specs.declared.records.ids.Child.{Child as Way};
-ghost use Rattle.art_tree.specs.declared.records.ids.Child.TheVariants.{Leaf, Inner};
+ghost use Rattle.art_kinds.specs.declared.records.ids.Child.{Child as Way};
+ghost use Rattle.art_kinds.specs.declared.records.ids.Child.TheVariants.{Leaf, Inner};
 
 use crate::records::ids::{Child, Edge, LeafId, NodeId};
 use crate::records::leaves::Leaves;

@@ -5,7 +5,7 @@ ghost use Rattle.art_tree.specs.Begins.{Bytes};
 ghost use Rattle.art_tree.specs.Calls.Descents.{IsRoot, GoesTo, IsFrontAlone};
 ghost use Rattle.art_tree.specs.Calls.Spots.{IsLeafSpot};
 ghost use Rattle.art_tree.specs.Leaves.{bytes};
-ghost use Rattle.art_tree.specs.Slabs.Nodes.{at as nodes_at};
+ghost use Rattle.art_kinds.specs.Nodes.{at as nodes_at};
 ghost use Rattle.art_tree.specs.Invariant.Shape.{Shape};
 ghost use Rattle.art_tree.specs.Invariant.Sound.{IsSound};
 

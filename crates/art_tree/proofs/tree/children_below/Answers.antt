@@ -7,9 +7,9 @@ use Rattle.art_tree.specs.Begins.{Bytes, Begins}
 use Rattle.art_tree.specs.Calls.Descents.{FindsNone, FindsNode}
 use Rattle.art_tree.specs.Leaves.{Numbered, AreDistinct, keys_in, bytes}
 use Rattle.art_tree.specs.Longest.{longest}
-use Rattle.art_tree.specs.Slabs.Nodes.{Node, at}
+use Rattle.art_kinds.specs.Nodes.{Node, at}
 use Rattle.art_tree.specs.Invariant.Shape.{Shape}
-use Rattle.art_tree.specs.declared.records.ids.Child.{Child}
+use Rattle.art_kinds.specs.declared.records.ids.Child.{Child}
 use Rattle.art_tree.proofs.BeginsLemmas.{Begins-from_begins, begins-from_Begins, Begins-linear, Begins-equal}
 use Rattle.art_tree.proofs.Invariant.Counting.{no_parts, edges_are_parts}
 use Rattle.art_tree.proofs.Ways.Roots.{is_root}

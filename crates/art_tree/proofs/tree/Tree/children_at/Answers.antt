@@ -4,9 +4,9 @@ use Rattle.blart_keys.specs.Content.{IsContent}
 use Rattle.blart_keys.specs.Fronts.{parts}
 use Rattle.art_tree.specs.Begins.{Bytes}
 use Rattle.art_tree.specs.Leaves.{Numbered, AreDistinct, keys_in, bytes}
-use Rattle.art_tree.specs.Slabs.Nodes.{Node, at}
+use Rattle.art_kinds.specs.Nodes.{Node, at}
 use Rattle.art_tree.specs.Invariant.Shape.{Shape}
-use Rattle.art_tree.specs.declared.records.ids.Child.{Child}
+use Rattle.art_kinds.specs.declared.records.ids.Child.{Child}
 use Rattle.art_tree.proofs.Invariant.Counting.{no_parts}
 use Rattle.blart_keys.proofs.Options.{some_of}
 use Rattle.art_tree.proofs.Invariant.SameShapes.{rooted}

@@ -1,5 +1,5 @@
 use Rattle.std.proofs.Common.{◌∙◌, ap, sym}
-use Rattle.art_tree.specs.Slabs.Nodes.{at}
+use Rattle.art_kinds.specs.Nodes.{at}
 use Rattle.art_tree.proofs.Invariant.Soundness.{rootless}
 use Rattle.art_tree.proofs.tree.Tree.point.Goals as goal
 

@@ -1,7 +1,7 @@
 use Rattle.std.proofs.Common.{◌∙◌, ap, sym}
 use Rattle.blart_keys.specs.Content.{under}
 use Rattle.art_tree.specs.Leaves.{bytes}
-use Rattle.art_tree.specs.Slabs.Nodes.{at}
+use Rattle.art_kinds.specs.Nodes.{at}
 use Rattle.art_tree.specs.Seeks.{ends}
 use Rattle.art_tree.proofs.Invariant.Soundness.{rootless}
 use Rattle.art_tree.proofs.tree.Tree.span.Goals as goal

@@ -1,7 +1,7 @@
 use Rattle.std.proofs.Common.{sym, subst, refl}
 use Rattle.art_tree.specs.Content.{Content}
 use Rattle.art_tree.specs.Leaves.{Has, keys_in, with_pair}
-use Rattle.art_tree.specs.Slabs.Nodes.{at}
+use Rattle.art_kinds.specs.Nodes.{at}
 use Rattle.art_tree.specs.Takes.{MayTake}
 use Rattle.art_tree.proofs.Invariant.Exchanging.{shape_exchanged}
 use Rattle.art_tree.proofs.Pairs.KeyChanges.{exchanges_from}

@@ -1,7 +1,7 @@
 use Rattle.std.proofs.Common.{◌≡◌, ◌+◌, ◌<◌, ◌≤◌, ◌++◌, ◌∷◌, [], length, get_or, subst, sym, ◌∙◌, arith, lit<, Some, None}
-use Rattle.art_tree.specs.Slabs.Edges.{child_at}
-use Rattle.art_tree.specs.Slabs.Nodes.{at}
-use Rattle.art_tree.specs.declared.records.ids.Child.{Child}
+use Rattle.art_kinds.specs.Edges.{child_at}
+use Rattle.art_kinds.specs.Nodes.{at}
+use Rattle.art_kinds.specs.declared.records.ids.Child.{Child}
 use Rattle.art_tree.proofs.Ways.Depths.{rank, rank_falls}
 use Rattle.art_tree.proofs.Ways.ToFront.{heads_leaf, heads_past, heads_none, heads_at, heads_on}
 use Rattle.art_tree.proofs.Ways.WaysDown.{way_start, way_at, way_on, has_edges}

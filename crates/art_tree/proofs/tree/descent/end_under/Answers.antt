@@ -1,6 +1,6 @@
 use Rattle.std.proofs.Common.{◌≡◌, ◌+◌, ◌<◌, ◌≤◌, arith, subst, sym, lit<}
-use Rattle.art_tree.specs.Slabs.Nodes.{at}
-use Rattle.art_tree.specs.declared.records.ids.Child.{Child}
+use Rattle.art_kinds.specs.Nodes.{at}
+use Rattle.art_kinds.specs.declared.records.ids.Child.{Child}
 use Rattle.art_tree.proofs.Ways.Ends.{end_leaf, end_step}
 use Rattle.art_tree.proofs.Ways.WaysDown.{way_start, way_at, way_on, way_few, has_edges}
 use Rattle.art_tree.proofs.Ways.Depths.{rank, rank_falls}

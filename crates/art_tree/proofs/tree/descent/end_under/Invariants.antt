@@ -1,8 +1,8 @@
 use Rattle.std.proofs.Common.{ℕ, ◌≤◌, Option}
 use Rattle.art_tree.specs.Begins.{Bytes}
-use Rattle.art_tree.specs.Slabs.Nodes.{at}
+use Rattle.art_kinds.specs.Nodes.{at}
 use Rattle.art_tree.specs.Invariant.Shape.{Shape, Covers}
-use Rattle.art_tree.specs.declared.records.ids.Child.{Child}
+use Rattle.art_kinds.specs.declared.records.ids.Child.{Child}
 use Rattle.art_tree.proofs.Ways.Depths.{rank}
 use Rattle.art_tree.specs.Calls.Descents.{IsEndUnder}
 use Rattle.art_tree.proofs.Ways.WaysDown.{WayDown}

@@ -1,10 +1,10 @@
 use Rattle.std.proofs.Common.{◌≡◌, ℕ, ◌+◌, ◌<◌, ◌≤◌, [], get_or, refl, subst, sym, ◌∙◌, lit<, arith, Some, None}
-use Rattle.art_tree.specs.Slabs.Edges.{child_at}
-use Rattle.art_tree.specs.Slabs.Nodes.{at}
+use Rattle.art_kinds.specs.Edges.{child_at}
+use Rattle.art_kinds.specs.Nodes.{at}
 use Rattle.art_tree.specs.Invariant.EdgesAbove.{LeadsTo}
 use Rattle.art_tree.specs.Calls.Spots.{PastLength}
-use Rattle.art_tree.specs.declared.records.ids.Child.{Child}
-use Rattle.art_tree.specs.declared.records.ids.Child.TheVariants.{Inner}
+use Rattle.art_kinds.specs.declared.records.ids.Child.{Child}
+use Rattle.art_kinds.specs.declared.records.ids.Child.TheVariants.{Inner}
 use Rattle.art_tree.proofs.Ways.Depths.{rank, rank_falls}
 use Rattle.art_tree.proofs.Ways.WaysDown.{way_start, way_at, way_on}
 use Rattle.art_tree.proofs.Ways.ToSpot.{Follows, followed_edge, followed_few, node_at_depth, node_past_depth, edge_of_mate, follow_edge}

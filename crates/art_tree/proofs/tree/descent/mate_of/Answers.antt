@@ -1,6 +1,6 @@
 use Rattle.std.proofs.Common.{◌≡◌, ◌+◌, ◌<◌, ◌≤◌, [], length, arith, subst, sym, lit<, Some}
-use Rattle.art_tree.specs.Slabs.Nodes.{at}
-use Rattle.art_tree.specs.declared.records.ids.Child.{Child}
+use Rattle.art_kinds.specs.Nodes.{at}
+use Rattle.art_kinds.specs.declared.records.ids.Child.{Child}
 use Rattle.blart_keys.proofs.Options.{some_of}
 use Rattle.art_tree.proofs.Ways.Mates.{furthest_start, furthest_step, furthest_leaf}
 use Rattle.art_tree.proofs.Ways.WaysDown.{way_start, way_at, way_on, way_few, has_edges}

@@ -1,6 +1,6 @@
 use Rattle.std.proofs.Common.{refl, subst, lit<}
 use Rattle.art_tree.specs.Calls.Partings.{LeavesAt}
-use Rattle.art_tree.specs.Slabs.Nodes.{at}
+use Rattle.art_kinds.specs.Nodes.{at}
 use Rattle.art_tree.specs.declared.tree.descent.Spot.{Spot}
 use Rattle.art_tree.proofs.Ways.Departures.{at_node, at_edge, beside_at_node, beside_at_edge}
 use Rattle.art_tree.proofs.tree.parting.child_beside.Goals as goal

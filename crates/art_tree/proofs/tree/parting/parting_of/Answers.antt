@@ -1,6 +1,6 @@
 use Rattle.std.proofs.Common.{◌≤◌, length, lit<, arith}
 use Rattle.art_tree.specs.Leaves.{keys_in}
-use Rattle.art_tree.specs.Slabs.Nodes.{at}
+use Rattle.art_kinds.specs.Nodes.{at}
 use Rattle.art_tree.proofs.Ways.Partings.{mate_within, query_within, way_of_mate, parts_same, parts_shorter, parts_longer, parts_apart}
 use Rattle.art_tree.proofs.tree.parting.parting_of.Goals as goal
 

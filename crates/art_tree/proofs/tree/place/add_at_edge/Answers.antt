@@ -1,5 +1,6 @@
 use Rattle.std.proofs.Common.{◌≡◌, ◌<◌, ◌≤◌, length, Some, lit<, arith}
-use Rattle.art_tree.specs.Slabs.Nodes.{at}
+use Rattle.art_kinds.specs.Nodes.{at}
+use Rattle.art_kinds.proofs.CallerLemmas.{room-same}
 use Rattle.art_tree.proofs.Calls.Joining.{within_key, over_edge, starts_over, leads_forked, edge_gains}
 use Rattle.art_tree.proofs.Calls.PlacedShapes.{bytes_apart}
 use Rattle.art_tree.proofs.tree.place.add_at_edge.Goals as goal
@@ -15,8 +16,8 @@ cut_prefix-requires g c =
 pub fork-made-requires : goal.fork-made-requires
 fork-made-requires g c =
     let j = c.requires.spot_fits in
-    let same : c.cut_prefix.new.nodes.spare ≡ c.args.nodes.now.spare = c.cut_prefix.ensures.spares in
-    let some : 0 < c.args.nodes.now.spare = c.requires.fits in
+    let same : c.cut_prefix.new.nodes.fours.spare ≡ c.args.nodes.now.fours.spare = c.cut_prefix.ensures.spares 0 (omega arith) in
+    let some : 0 < c.args.nodes.now.fours.spare = c.requires.fits in
     (lit< tt, (omega arith, bytes_apart j.keys j.leaf c.args.leaf.now.depth c.args.leaf.now.key.now j.leaves c.args.leaf.now.mate.now j.is))
 
 pub lead-requires : goal.lead-requires
@@ -42,3 +43,6 @@ slice_bounds-fork-start g c =
     let le : c.start_below-start.result ≤ c.args.leaf.now.depth = starts_over j.keys j.leaf c.args.leaf.now.depth c.args.leaf.now.key.now j.leaves c.args.leaf.now.mate.now j.is (at c.args.nodes.now) (Some c.args.root.now) j.shape c.args.above.now c.args.child.now j.fits.0 j.fits.1 c.start_below-start.result c.start_below-start.ensures in
     let long : c.args.leaf.now.depth < length c.args.leaf.now.key.now = j.leaves.longer in
     omega arith
+
+pub returns-clause-room : goal.returns-clause-room
+returns-clause-room g c = omega (arith, room-same c.args.nodes.now c.cut_prefix.new.nodes c.cut_prefix.ensures.spares, c.fork-made.ensures.room, room-same c.fork-made.new.nodes c.lead.new.nodes c.lead.ensures.spares)

@@ -1,6 +1,6 @@
 use Rattle.std.proofs.Common.{Some, lit<}
 use Rattle.art_tree.specs.Leaves.{leaf_in}
-use Rattle.art_tree.specs.Slabs.Nodes.{at}
+use Rattle.art_kinds.specs.Nodes.{at}
 use Rattle.blart_keys.proofs.Options.{is_some}
 use Rattle.art_tree.proofs.Pairs.Placed.{has_behind, free_before, placed_free, kept_pair, free_spot, free_gains}
 use Rattle.art_tree.proofs.tree.place.place_beside.Goals as goal

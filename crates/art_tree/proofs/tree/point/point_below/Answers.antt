@@ -1,6 +1,6 @@
 use Rattle.std.proofs.Common.{lit<, Some}
 use Rattle.art_tree.specs.Leaves.{keys_in}
-use Rattle.art_tree.specs.Slabs.Nodes.{at}
+use Rattle.art_kinds.specs.Nodes.{at}
 use Rattle.art_tree.proofs.Ways.Points.{exact, shorter_related, longer_related}
 use Rattle.art_tree.proofs.tree.point.point_below.Goals as goal
 

@@ -1,8 +1,8 @@
 use Rattle.std.proofs.Common.{◌≡◌, ◌≤◌, ◌<◌, length, subst, sym, ◌∙◌, ap, lit<, arith, Some}
-use Rattle.art_tree.specs.Slabs.Edges.{child_at}
+use Rattle.art_kinds.specs.Edges.{child_at}
 use Rattle.art_tree.specs.Leaves.{keys_in}
-use Rattle.art_tree.specs.Slabs.Nodes.{Node, at}
-use Rattle.art_tree.specs.declared.records.ids.Child.TheVariants.{Inner}
+use Rattle.art_kinds.specs.Nodes.{Node, at}
+use Rattle.art_kinds.specs.declared.records.ids.Child.TheVariants.{Inner}
 use Rattle.art_tree.proofs.Calls.Unlinking.{leaf_at_node, child_below_edge, loses_same, two_children}
 use Rattle.art_tree.proofs.Invariant.Losing.{edge_merged}
 use Rattle.art_tree.proofs.Invariant.Prefixes.{cut_node, cut_leads}

@@ -1,11 +1,11 @@
 use Rattle.std.proofs.Common.{◌≡◌, refl, subst, sym, lit<, Some}
 use Rattle.art_tree.specs.Invariant.EdgesAbove.{edge_front}
 use Rattle.art_tree.specs.Begins.{Bytes}
-use Rattle.art_tree.specs.Slabs.Edges.{child_at}
-use Rattle.art_tree.specs.Slabs.Nodes.{at, Reprefixes}
+use Rattle.art_kinds.specs.Edges.{child_at}
+use Rattle.art_kinds.specs.Nodes.{at, Reprefixes}
 use Rattle.art_tree.specs.Calls.Removing.{CutsBehind, IsChildBelow}
-use Rattle.art_tree.specs.declared.records.ids.Child.{Child}
-use Rattle.art_tree.specs.declared.records.ids.Child.TheVariants.{Inner}
+use Rattle.art_kinds.specs.declared.records.ids.Child.{Child}
+use Rattle.art_kinds.specs.declared.records.ids.Child.TheVariants.{Inner}
 use Rattle.blart_keys.proofs.Options.{is_some, some_of}
 use Rattle.art_tree.proofs.Calls.Unlinking.{join_is}
 use Rattle.art_tree.proofs.tree.remove.join_child.Goals as goal

@@ -1,4 +1,4 @@
-use Rattle.art_tree.specs.Slabs.Nodes.{at}
+use Rattle.art_kinds.specs.Nodes.{at}
 use Rattle.art_tree.proofs.Calls.Unlinking.{no_lone_edge}
 use Rattle.art_tree.proofs.tree.remove.other_edge.Goals as goal
 

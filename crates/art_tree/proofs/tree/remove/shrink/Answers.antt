@@ -1,6 +1,6 @@
 use Rattle.std.proofs.Common.{Some, lit<}
-use Rattle.art_tree.specs.Slabs.Nodes.{at}
-use Rattle.art_tree.specs.declared.records.ids.Child.TheVariants.{Inner}
+use Rattle.art_kinds.specs.Nodes.{at}
+use Rattle.art_kinds.specs.declared.records.ids.Child.TheVariants.{Inner}
 use Rattle.art_tree.proofs.Calls.Unlinking.{leads_narrowed, shape_shrunk}
 use Rattle.art_tree.proofs.tree.remove.shrink.Goals as goal
 

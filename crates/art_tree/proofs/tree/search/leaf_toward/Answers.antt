@@ -1,8 +1,8 @@
 use Rattle.std.proofs.Common.{◌≡◌, ◌+◌, ◌<◌, ◌≤◌, [], length, get_or, subst, sym, refl, ◌∙◌, arith, lit<, Some, None}
-use Rattle.art_tree.specs.Slabs.Edges.{child_at}
+use Rattle.art_kinds.specs.Edges.{child_at}
 use Rattle.art_tree.specs.Invariant.EdgesAbove.{LeadsTo}
-use Rattle.art_tree.specs.Slabs.Nodes.{at}
-use Rattle.art_tree.specs.declared.records.ids.Child.{Child}
+use Rattle.art_kinds.specs.Nodes.{at}
+use Rattle.art_kinds.specs.declared.records.ids.Child.{Child}
 use Rattle.art_tree.proofs.Ways.Depths.{rank, rank_falls}
 use Rattle.art_tree.proofs.Ways.WaysDown.{way_start, way_at, way_on}
 use Rattle.art_tree.proofs.Ways.ToQuery.{fronts_start, fronts_short, fronts_none, fronts_step}

@@ -1,6 +1,6 @@
 use Rattle.std.proofs.Common.{lit<, arith, Some}
 use Rattle.art_tree.specs.Leaves.{keys_in}
-use Rattle.art_tree.specs.Slabs.Nodes.{at}
+use Rattle.art_kinds.specs.Nodes.{at}
 use Rattle.art_tree.proofs.Invariant.SameShapes.{rooted}
 use Rattle.art_tree.proofs.Pairs.LookUps.{only_has}
 use Rattle.art_tree.proofs.Ways.Roots.{is_root}

@@ -4,7 +4,7 @@ use Rattle.art_tree.specs.Longest.{longest}
 use Rattle.art_tree.specs.Places.{IsLeafBefore, neighbour}
 use Rattle.art_tree.proofs.Pairs.Placed.{has_beside}
 use Rattle.art_tree.proofs.Pairs.Neighbours.{before_beside}
-use Rattle.art_tree.specs.Slabs.Nodes.{at}
+use Rattle.art_kinds.specs.Nodes.{at}
 use Rattle.art_tree.proofs.Pairs.Keys.{has_key, key_of_number}
 use Rattle.art_tree.proofs.Pairs.Bounds.{place_shorter, place_longer, place_apart}
 use Rattle.art_tree.proofs.Invariant.Soundness.{within_longest}

@@ -1,7 +1,7 @@
 use Rattle.std.proofs.Common.{◌+◌, ◌≤◌, length, sym, lit<, arith, Some}
 use Rattle.art_tree.specs.Leaves.{keys_in, bytes}
 use Rattle.art_tree.specs.Longest.{longest}
-use Rattle.art_tree.specs.Slabs.Nodes.{at}
+use Rattle.art_kinds.specs.Nodes.{at}
 use Rattle.art_tree.proofs.Ways.Partings.{query_within, way_of_mate, covers_query}
 use Rattle.art_tree.proofs.Pairs.Bounds.{ends_under, no_ends}
 use Rattle.art_tree.proofs.Invariant.Soundness.{within_longest}

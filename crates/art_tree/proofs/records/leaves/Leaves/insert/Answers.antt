@@ -1,7 +1,7 @@
 use Rattle.std.proofs.Common.{◌≡◌}
 use Rattle.std.specs.Prelude.{IfSome}
 use Rattle.art_tree.specs.Leaves.{Has, behind}
-use Rattle.art_tree.specs.Slabs.Store.{slot_at}
+use Rattle.art_kinds.specs.Store.{slot_at}
 use Rattle.art_tree.proofs.Slabs.Links.{seen, all_linked, pairs_are, still_linked, made_before, made_behind, store_inserted}
 use Rattle.art_tree.proofs.records.leaves.Leaves.insert.Goals.{in-None, in-Some}
 use Rattle.art_tree.proofs.records.leaves.Leaves.insert.Goals as goal
@@ -40,7 +40,7 @@ invariant_of-self g c =
       | in-Some w ↦ rw (w.next-is, w.in-Some.is) w.next_of-next.ensures
     ]) in
     let has : IfSome c.match-prev.prev (Has c.args.self.now.pairs) = rw same c.requires.prev in
-    all_linked c.set_prev.new.records _ _ _ (store_inserted i.records i.first i.last _ l c.match-prev.prev c.match-prev.next next has c.fill-number.result c.fill-number.ensures.fresh c.args.key c.args.value c.fill-number.new.self c.fill-number.ensures.now c.fill-number.ensures.others c.fill-number.ensures.used c.set_next.new.records c.set_prev.new.records c.set_next.ensures.leaves c.set_prev.ensures.leaves c.set_next.ensures.used c.set_prev.ensures.used _ _ c.set_next.ensures.first c.set_prev.ensures.last)
+    all_linked c.set_prev.new.records _ _ _ (store_inserted i.records i.first i.last _ l c.match-prev.prev c.match-prev.next next has c.fill-number.result c.fill-number.ensures.fresh c.args.key c.args.value c.fill-number.new.self c.fill-number.ensures.now c.fill-number.ensures.others c.fill-number.ensures.used c.set_next.new.records c.set_prev.new.records (rw c.new-id.ensures at c.set_next.ensures.leaves) (rw c.new-id.ensures at c.set_prev.ensures.leaves) c.set_next.ensures.used c.set_prev.ensures.used _ _ (rw c.new-id.ensures at c.set_next.ensures.first) (rw c.new-id.ensures at c.set_prev.ensures.last))
 
 pub returns-clause-placed : goal.returns-clause-placed
 returns-clause-placed g c =
@@ -52,4 +52,4 @@ returns-clause-placed g c =
       | in-Some w ↦ rw (w.next-is, w.in-Some.is) w.next_of-next.ensures
     ]) in
     let has : IfSome c.match-prev.prev (Has c.args.self.now.pairs) = rw same c.requires.prev in
-    rw (← same) (pairs_are c.set_prev.new.records _ _ _ (store_inserted i.records i.first i.last _ l c.match-prev.prev c.match-prev.next next has c.fill-number.result c.fill-number.ensures.fresh c.args.key c.args.value c.fill-number.new.self c.fill-number.ensures.now c.fill-number.ensures.others c.fill-number.ensures.used c.set_next.new.records c.set_prev.new.records c.set_next.ensures.leaves c.set_prev.ensures.leaves c.set_next.ensures.used c.set_prev.ensures.used _ _ c.set_next.ensures.first c.set_prev.ensures.last))
+    rw c.new-id.ensures (rw (← same) (pairs_are c.set_prev.new.records _ _ _ (store_inserted i.records i.first i.last _ l c.match-prev.prev c.match-prev.next next has c.fill-number.result c.fill-number.ensures.fresh c.args.key c.args.value c.fill-number.new.self c.fill-number.ensures.now c.fill-number.ensures.others c.fill-number.ensures.used c.set_next.new.records c.set_prev.new.records (rw c.new-id.ensures at c.set_next.ensures.leaves) (rw c.new-id.ensures at c.set_prev.ensures.leaves) c.set_next.ensures.used c.set_prev.ensures.used _ _ (rw c.new-id.ensures at c.set_next.ensures.first) (rw c.new-id.ensures at c.set_prev.ensures.last))))

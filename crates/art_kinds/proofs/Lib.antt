@@ -1,0 +1,14 @@
+pub mod CallerLemmas
+pub mod EdgeShifts
+pub mod EdgeFills
+pub mod EdgeNexts
+pub mod Tables
+pub mod Results
+pub mod Walks
+pub mod Places
+pub mod StoreSlots
+pub mod Rooms
+pub mod Changes
+pub mod Growing
+pub mod Pairs
+pub mod Pouring

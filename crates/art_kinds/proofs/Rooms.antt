@@ -1,0 +1,212 @@
+-- How much room the spare records give.
+use Rattle.std.proofs.Common.{◌≡◌, ◌≢◌, ℕ, zero, suc, ◌+◌, ◌-◌, ◌*◌, ◌/◌, ◌<◌, ◌≤◌, List, [], ◌∷◌, length, get_or, Option, Some, None, is_some, count_by, sum_by, refl, sym, ap, subst, ◌∙◌, inl, inr, arith}
+use Rattle.std.specs.Prelude.{min}
+use Rattle.std.proofs.lemmas.Bool.{cases_eq}
+use Rattle.std.proofs.lemmas.List.Sums.{sum_by-cons}
+use Rattle.art_kinds.specs.Store.{Store, slot_at, used_count}
+use Rattle.art_kinds.specs.Nodes.{Node, Nodes, over, grown, serves, figure, room, Lowers, SameSpares, MoreSpares}
+use Rattle.art_kinds.proofs.StoreSlots.{one}
+
+module _ {X : Type 0} (f : Option X → ℕ) (zeros : f None ≡ 0) where
+  -- in no list there is nothing
+  get-nil : (j : ℕ) → get_or {A = Option X} [] j None ≡ None
+  get-nil zero = refl
+  get-nil (suc j) = refl
+
+  -- lists with the same at each place have the same sum
+  pub sum-same : (xs ys : List (Option X)) → ((j : ℕ) → get_or ys j None ≡ get_or xs j None) → sum_by f ys ≡ sum_by f xs
+  sum-same [] [] h = refl
+  sum-same [] (y ∷ ys) h =
+      let e : y ≡ None = h 0 in
+      let v : f y ≡ 0 = ap f e ∙ zeros in
+      let ih : sum_by f ys ≡ sum_by f [] = sum-same [] ys (λ j. h (suc j) ∙ sym (get-nil j)) in
+      omega (arith, ih, v, sum_by-cons f y ys)
+  sum-same (x ∷ xs) [] h =
+      let e : None ≡ x = h 0 in
+      let v : f x ≡ 0 = ap f (sym e) ∙ zeros in
+      let ih : sum_by f [] ≡ sum_by f xs = sum-same xs [] (λ j. get-nil j ∙ h (suc j)) in
+      omega (arith, ih, v, sum_by-cons f x xs)
+  sum-same (x ∷ xs) (y ∷ ys) h =
+      let e : f y ≡ f x = ap f (h 0) in
+      let ih : sum_by f ys ≡ sum_by f xs = sum-same xs ys (λ j. h (suc j)) in
+      omega (arith, sum_by-cons f x xs, sum_by-cons f y ys)
+
+  -- what a change at one place does to the sum
+  pub sum-change : (xs ys : List (Option X)) (i : ℕ) → ((j : ℕ) → j ≢ i → get_or ys j None ≡ get_or xs j None) → sum_by f ys + f (get_or xs i None) ≡ sum_by f xs + f (get_or ys i None)
+  sum-change [] [] i h = refl
+  sum-change [] (y ∷ ys) zero h =
+      let ih : sum_by f ys ≡ sum_by f [] = sum-same [] ys (λ j. h (suc j) (λ e. omega (arith, e)) ∙ sym (get-nil j)) in
+      omega (arith, ih, zeros, sum_by-cons f y ys)
+  sum-change [] (y ∷ ys) (suc i) h =
+      let e : y ≡ None = h 0 (λ e. omega (arith, e)) in
+      let v : f y ≡ 0 = ap f e ∙ zeros in
+      let n : f (get_or {A = Option X} [] i None) ≡ 0 = ap f (get-nil i) ∙ zeros in
+      let ih : sum_by f ys + f (get_or {A = Option X} [] i None) ≡ sum_by f [] + f (get_or ys i None) = sum-change [] ys i (λ j off. h (suc j) (λ e. off (omega (arith, e))) ∙ sym (get-nil j)) in
+      omega (arith, ih, v, n, zeros, sum_by-cons f y ys)
+  sum-change (x ∷ xs) [] zero h =
+      let ih : sum_by f [] ≡ sum_by f xs = sum-same xs [] (λ j. get-nil j ∙ h (suc j) (λ e. omega (arith, e))) in
+      omega (arith, ih, zeros, sum_by-cons f x xs)
+  sum-change (x ∷ xs) [] (suc i) h =
+      let e : None ≡ x = h 0 (λ e. omega (arith, e)) in
+      let v : f x ≡ 0 = ap f (sym e) ∙ zeros in
+      let n : f (get_or {A = Option X} [] i None) ≡ 0 = ap f (get-nil i) ∙ zeros in
+      let ih : sum_by f [] + f (get_or xs i None) ≡ sum_by f xs + f (get_or {A = Option X} [] i None) = sum-change xs [] i (λ j off. get-nil j ∙ h (suc j) (λ e. off (omega (arith, e)))) in
+      omega (arith, ih, v, n, zeros, sum_by-cons f x xs)
+  sum-change (x ∷ xs) (y ∷ ys) zero h =
+      let ih : sum_by f ys ≡ sum_by f xs = sum-same xs ys (λ j. h (suc j) (λ e. omega (arith, e))) in
+      omega (arith, sum_by-cons f x xs, sum_by-cons f y ys)
+  sum-change (x ∷ xs) (y ∷ ys) (suc i) h =
+      let e : f y ≡ f x = ap f (h 0 (λ e. omega (arith, e))) in
+      let ih : sum_by f ys + f (get_or xs i None) ≡ sum_by f xs + f (get_or ys i None) = sum-change xs ys i (λ j off. h (suc j) (λ e. off (omega (arith, e)))) in
+      omega (arith, ih, sum_by-cons f x xs, sum_by-cons f y ys)
+
+  -- the sum is no less than what one place has
+  pub sum-least : (xs : List (Option X)) (i : ℕ) → f (get_or xs i None) ≤ sum_by f xs
+  sum-least [] i = let n : f (get_or {A = Option X} [] i None) ≡ 0 = ap f (get-nil i) ∙ zeros in omega arith
+  sum-least (x ∷ xs) zero = omega (arith, sum_by-cons f x xs)
+  sum-least (x ∷ xs) (suc i) = let ih = sum-least xs i in omega (arith, ih, sum_by-cons f x xs)
+
+-- what a change of one record does to the edges above a floor
+pub grown-change : (f : ℕ) (s t : Store Node) (i : ℕ) → ((j : ℕ) → j ≢ i → slot_at t j ≡ slot_at s j) → grown f t + over f (slot_at s i) ≡ grown f s + over f (slot_at t i)
+grown-change f s t i h = sum-change (over f) refl s.slots t.slots i h
+
+pub grown-same : (f : ℕ) (s t : Store Node) → ((j : ℕ) → slot_at t j ≡ slot_at s j) → grown f t ≡ grown f s
+grown-same f s t h = sum-same (over f) refl s.slots t.slots h
+
+pub grown-least : (f : ℕ) (s : Store Node) (i : ℕ) → over f (slot_at s i) ≤ grown f s
+grown-least f s i = sum-least (over f) refl s.slots i
+
+-- nodes of so many children at most are that much above the floor at most
+grown-most-in : (f p : ℕ) (xs : List (Option Node)) → ((i : ℕ) (x : Node) → get_or xs i None ≡ Some x → length x.edges ≤ f + p) → sum_by (over f) xs ≤ p * count_by is_some xs
+grown-most-in f p [] h = omega arith
+grown-most-in f p (None ∷ xs) h =
+    let ih : sum_by (over f) xs ≤ p * count_by is_some xs = grown-most-in f p xs (λ i. h (suc i)) in
+    let c : count_by is_some (None ∷ xs) ≡ count_by is_some xs = omega (arith, sum_by-cons one None xs) in
+    rw c (omega (arith, ih, sum_by-cons (over f) None xs))
+grown-most-in f p (Some x ∷ xs) h =
+    let ih : sum_by (over f) xs ≤ p * count_by is_some xs = grown-most-in f p xs (λ i. h (suc i)) in
+    let l : length x.edges ≤ f + p = h 0 x refl in
+    let c : count_by is_some (Some x ∷ xs) ≡ count_by is_some xs + 1 = omega (arith, sum_by-cons one (Some x) xs) in
+    rw c (omega (arith, ih, l, sum_by-cons (over f) (Some x) xs))
+
+pub grown-most : (f p : ℕ) (s : Store Node) → ((i : ℕ) (x : Node) → slot_at s i ≡ Some x → length x.edges ≤ f + p) → grown f s ≤ p * used_count s
+grown-most f p s h = grown-most-in f p s.slots h
+
+-- one edge more above the floor costs a placement
+pub serves-grown : (m c g h : ℕ) → h ≤ g + 1 → serves m c g ≤ serves m c h + 1
+serves-grown m c g h l = omega arith
+
+-- fewer edges cost none
+pub serves-less : (m c g h : ℕ) → h ≤ g → serves m c g ≤ serves m c h
+serves-less m c g h l = omega arith
+
+-- a node that outgrows a kind takes a spare record, and its edges from those above the floor
+pub serves-4 : (m n g h : ℕ) → n + 1 ≡ m → h + 3 ≡ g → serves m 4 g ≤ serves n 4 h + 1
+serves-4 m n g h l e = omega arith
+
+pub serves-13 : (m n g h : ℕ) → n + 1 ≡ m → h + 12 ≡ g → serves m 13 g ≤ serves n 13 h + 1
+serves-13 m n g h l e = omega arith
+
+pub serves-33 : (m n g h : ℕ) → n + 1 ≡ m → h + 32 ≡ g → serves m 33 g ≤ serves n 33 h + 1
+serves-33 m n g h l e = omega arith
+
+-- a spare record more
+pub serves-more-4 : (m n g : ℕ) → m ≤ n → serves m 4 g ≤ serves n 4 g
+serves-more-4 m n g l = omega arith
+
+pub serves-more-13 : (m n g : ℕ) → m ≤ n → serves m 13 g ≤ serves n 13 g
+serves-more-13 m n g l = omega arith
+
+pub serves-more-33 : (m n g : ℕ) → m ≤ n → serves m 33 g ≤ serves n 33 g
+serves-more-33 m n g l = omega arith
+
+-- where a node is at the edge of its kind, a placement to be served has a spare record
+pub serves-one-4 : (m g : ℕ) → 0 < serves m 4 g → 3 ≤ g → 0 < m
+serves-one-4 m g h l = omega arith
+
+pub serves-one-13 : (m g : ℕ) → 0 < serves m 13 g → 12 ≤ g → 0 < m
+serves-one-13 m g h l = omega arith
+
+pub serves-one-33 : (m g : ℕ) → 0 < serves m 33 g → 32 ≤ g → 0 < m
+serves-one-33 m g h l = omega arith
+
+-- so many spare records serve n placements, where so many nodes are live in the kind below
+pub enough-few : (n c g : ℕ) → n ≤ serves n c g
+enough-few n c g = omega arith
+
+pub enough-4 : (n l g : ℕ) → l < n → g ≤ 3 * l → n ≤ serves (l + (n - l) / 4) 4 g
+enough-4 n l g h k = omega arith
+
+pub enough-13 : (n l g : ℕ) → l < n → g ≤ 12 * l → n ≤ serves (l + (n - l) / 13) 13 g
+enough-13 n l g h k = omega arith
+
+pub enough-33 : (n l g : ℕ) → l < n → g ≤ 32 * l → n ≤ serves (l + (n - l) / 33) 33 g
+enough-33 n l g h k = omega arith
+
+-- four that fall by one at most: so does the least
+at_most : (a b c d w x y z : ℕ) → a ≤ w + 1 → b ≤ x + 1 → c ≤ y + 1 → d ≤ z + 1 → min (min a b) (min c d) ≤ min (min w x) (min y z) + 1
+at_most a b c d w x y z p q r s = omega arith
+
+-- what is no more than the least is no more than any
+least_of : (n a b c d : ℕ) → n ≤ min (min a b) (min c d) → (n ≤ a) × (n ≤ b) × (n ≤ c) × (n ≤ d)
+least_of n a b c d h = (omega arith, omega arith, omega arith, omega arith)
+
+all_of : (n a b c d : ℕ) → n ≤ a → n ≤ b → n ≤ c → n ≤ d → n ≤ min (min a b) (min c d)
+all_of n a b c d p q r s = omega arith
+
+-- where no figure falls by more than one, room does not
+pub room-falls : (s t : Nodes) → ((j : ℕ) → j < 4 → figure s j ≤ figure t j + 1) → room s ≤ room t + 1
+room-falls s t f = at_most (figure s 0) (figure s 1) (figure s 2) (figure s 3) (figure t 0) (figure t 1) (figure t 2) (figure t 3) (f 0 (omega arith)) (f 1 (omega arith)) (f 2 (omega arith)) (f 3 (omega arith))
+
+-- where one figure falls by one, room does by one at most
+pub room-lowered : (k : ℕ) (s t : Nodes) → Lowers k s t → room s ≤ room t + 1
+room-lowered k s t h =
+    room-falls s t (λ j l. elim (cases_eq j k) [
+      | inl p ↦ subst (λ z. figure s z ≤ figure t z + 1) (sym p) h.this
+      | inr p ↦ (let q : figure s j ≤ figure t j = h.others j l p in omega arith)
+    ])
+
+-- a placement that widens a node and adds an edge lowers two different figures
+pub room-placed : (k n : ℕ) (s t u : Nodes) → k ≢ n → Lowers k s t → Lowers n t u → room s ≤ room u + 1
+room-placed k n s t u off g h =
+    room-falls s u (λ j l. elim (cases_eq j k) [
+      | inl p ↦ (
+          let a : figure s j ≤ figure t j + 1 = subst (λ z. figure s z ≤ figure t z + 1) (sym p) g.this in
+          let b : figure t j ≤ figure u j = h.others j l (λ e. off (sym p ∙ e)) in
+          omega arith)
+      | inr p ↦ (
+          let a : figure s j ≤ figure t j = g.others j l p in
+          elim (cases_eq j n) [
+            | inl q ↦ (let b : figure t j ≤ figure u j + 1 = subst (λ z. figure t z ≤ figure u z + 1) (sym q) h.this in omega arith)
+            | inr q ↦ (let b : figure t j ≤ figure u j = h.others j l q in omega arith)
+          ])
+    ])
+
+-- room for a placement gives each figure one
+pub room-figures : (s : Nodes) (n : ℕ) → n ≤ room s → (n ≤ figure s 0) × (n ≤ figure s 1) × (n ≤ figure s 2) × (n ≤ figure s 3)
+room-figures s n h = least_of n (figure s 0) (figure s 1) (figure s 2) (figure s 3) h
+
+-- and the other way round
+pub figures-room : (s : Nodes) (n : ℕ) → n ≤ figure s 0 → n ≤ figure s 1 → n ≤ figure s 2 → n ≤ figure s 3 → n ≤ room s
+figures-room s n a b c d = all_of n (figure s 0) (figure s 1) (figure s 2) (figure s 3) a b c d
+
+least_more : (a b c d w x y z : ℕ) → a ≤ w → b ≤ x → c ≤ y → d ≤ z → min (min a b) (min c d) ≤ min (min w x) (min y z)
+least_more a b c d w x y z p q r s = omega arith
+
+-- where no figure falls, room does not
+pub room-more : (s t : Nodes) → MoreSpares s t → room s ≤ room t
+room-more s t h = least_more (figure s 0) (figure s 1) (figure s 2) (figure s 3) (figure t 0) (figure t 1) (figure t 2) (figure t 3) (h 0 (omega arith)) (h 1 (omega arith)) (h 2 (omega arith)) (h 3 (omega arith))
+
+least_same : (a b c d w x y z : ℕ) → w ≡ a → x ≡ b → y ≡ c → z ≡ d → min (min w x) (min y z) ≡ min (min a b) (min c d)
+least_same a b c d w x y z p q r s = omega arith
+
+-- where the figures stand, room does
+pub room-same : (s t : Nodes) → SameSpares s t → room t ≡ room s
+room-same s t h = least_same (figure s 0) (figure s 1) (figure s 2) (figure s 3) (figure t 0) (figure t 1) (figure t 2) (figure t 3) (h 0 (omega arith)) (h 1 (omega arith)) (h 2 (omega arith)) (h 3 (omega arith))
+
+-- what lowers one figure does so also where the figures stand then
+pub Lowers-same : (k : ℕ) (s t u : Nodes) → k < 4 → Lowers k s t → SameSpares t u → Lowers k s u
+Lowers-same k s t u l h e = record {
+  this = let a : figure s k ≤ figure t k + 1 = h.this in let b : figure u k ≡ figure t k = e k l in omega arith;
+  others = λ j lt off. (let a : figure s j ≤ figure t j = h.others j lt off in let b : figure u j ≡ figure t j = e j lt in omega arith);
+}

@@ -1,0 +1,30 @@
+use Rattle.std.proofs.Common.{◌≡◌, ◌≤◌, ◌∙◌, List, length, get_or, Some, eqb, true, false, eq-eqb, refl, ap, sym, arith, add-one}
+use Rattle.std.proofs.lemmas.Bool.{ne_eqb}
+use Rattle.art_kinds.specs.Edges.{child_at, paired}
+use Rattle.art_kinds.specs.declared.records.ids.Child.TheVariants.{Leaf}
+use Rattle.art_kinds.specs.declared.records.ids.Edge.{Edge}
+use Rattle.art_kinds.proofs.Pairs.{drop-paired, drop-past, length-paired}
+use Rattle.art_kinds.proofs.records.few.find_in.Goals as goal
+
+pub returns-then-bytes-i : goal.returns-then-bytes-i
+returns-then-bytes-i c =
+    let bs = c.args.bytes.now in
+    let i = c.loop-i.i in
+    let e = drop-paired bs c.args.children.now i 0 c.index-children-i.result c.loop-i-test.true c.requires in
+    let t : eqb (get_or bs i 0) c.args.byte ≡ true = eq-eqb (get_or bs i 0) c.args.byte c.if-bytes-i.true in
+    rw c.child.ensures (sym (c.loop-i.invariant ∙ ap (λ (z : List Edge). child_at z c.args.byte) e ∙ rw t (ap Some (sym c.index-children-i.is))))
+
+pub loop-i-preserved : goal.loop-i-preserved
+loop-i-preserved c =
+    let bs = c.args.bytes.now in
+    let i = c.loop-i.i in
+    let e = drop-paired bs c.args.children.now i 0 (Leaf 0) c.loop-i-test.true c.requires in
+    let t : eqb (get_or bs i 0) c.args.byte ≡ false = ne_eqb (get_or bs i 0) c.args.byte c.if-bytes-i.false in
+    rw add-one (c.loop-i.invariant ∙ ap (λ (z : List Edge). child_at z c.args.byte) e ∙ rw t refl)
+
+pub returns : goal.returns
+returns c =
+    let p = paired c.args.bytes.now c.args.children.now in
+    let l = length-paired c.args.bytes.now c.args.children.now c.requires in
+    let past : length p ≤ c.loop-i.i = omega (arith, l, c.loop-i-test.false) in
+    sym (c.loop-i.invariant ∙ ap (λ (z : List Edge). child_at z c.args.byte) (drop-past p c.loop-i.i past))

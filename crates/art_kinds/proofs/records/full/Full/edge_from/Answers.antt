@@ -1,0 +1,20 @@
+use Rattle.std.proofs.Common.{◌<◌, ◌≤◌, None, Some, length, ◌∙◌, arith}
+use Rattle.art_kinds.specs.Edges.{IsFrom, edges_of}
+use Rattle.art_kinds.proofs.EdgeShifts.{get_or-any}
+use Rattle.art_kinds.proofs.Tables.{from-some, from-none}
+use Rattle.art_kinds.proofs.records.full.Full.edge_from.Goals as goal
+
+pub returns-in-Some : goal.returns-in-Some
+returns-in-Some c =
+    let t = c.self.inside.children in
+    let i = c.loop-next.next in
+    let l : i < length t = omega (arith, c.loop-next-test.true, c.self.invariant.wide) in
+    let h : IsFrom (edges_of t) c.args.start (Some (record { byte = i; to = c.in-Some.link })) = from-some t c.args.start i c.in-Some.link c.loop-next.auto.next (get_or-any t i None _ l ∙ c.in-Some.is) c.loop-next.invariant in
+    rw c.child.ensures (rw (← c.self.view_is) h)
+
+pub returns : goal.returns
+returns c =
+    let t = c.self.inside.children in
+    let lt : length t ≤ c.loop-next.next = omega (arith, c.loop-next-test.false, c.self.invariant.wide) in
+    let h : IsFrom (edges_of t) c.args.start None = from-none t c.args.start (λ b lo hi. c.loop-next.invariant b lo (omega arith)) in
+    rw (← c.self.view_is) h

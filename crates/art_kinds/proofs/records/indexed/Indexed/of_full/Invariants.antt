@@ -1,0 +1,10 @@
+use Rattle.std.proofs.Common.{◌≡◌, ◌<◌, ◌≤◌, ℕ, None}
+use Rattle.art_kinds.specs.Edges.{child_at, Ascends}
+use Rattle.art_kinds.proofs.records.indexed.Indexed.of_full.Given as goal
+
+abbrev pub invariant-loop-next : goal.invariant-loop-next
+invariant-loop-next l = record {
+  below : (c : ℕ) → c < l.next → child_at l.edges c ≡ child_at l.full c;
+  above : (c : ℕ) → l.next ≤ c → child_at l.edges c ≡ None;
+  ascends : Ascends l.edges;
+}

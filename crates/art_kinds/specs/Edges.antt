@@ -1,0 +1,156 @@
+-- Edges by their bytes.
+use Rattle.std.specs.Prelude.{◌≡◌, ◌≢◌, ◌<◌, ◌≤◌, ℕ, Bool, true, false, List, [], ◌∷◌, Option, Some, None, cond, eqb, ltb, suc, ◌+◌, length, take, map, is_some, count_by, slice_index_or}
+use Rattle.art_kinds.specs.declared.records.ids.Child.{Child}
+use Rattle.art_kinds.specs.declared.records.ids.Edge.{Edge}
+use Rattle.art_kinds.specs.declared.records.ids.Child.TheVariants.{Leaf}
+
+-- what stands below the edge at a byte
+abbrev pub child_at : List Edge → ℕ → Option Child
+child_at [] b = None
+child_at (e ∷ es) b = cond (eqb e.byte b) (Some e.to) (child_at es b)
+
+-- each byte is less than those behind it
+abbrev pub AscendsAbove : ℕ → List Edge → Type 0
+AscendsAbove b [] = Unit {0}
+AscendsAbove b (e ∷ es) = (b < e.byte) × AscendsAbove e.byte es
+
+-- the bytes rise
+abbrev pub Ascends : List Edge → Type 0
+Ascends [] = Unit {0}
+Ascends (e ∷ es) = AscendsAbove e.byte es
+
+-- how many bytes stand before a byte
+abbrev pub count_below : List ℕ → ℕ → ℕ
+count_below [] b = 0
+count_below (x ∷ xs) b = cond (ltb x b) (suc (count_below xs b)) 0
+
+-- the edges with one more, in front of the first that is not before it
+abbrev pub edges_with : List Edge → Edge → List Edge
+edges_with [] e = e ∷ []
+edges_with (x ∷ xs) e = cond (ltb x.byte e.byte) (x ∷ edges_with xs e) (e ∷ x ∷ xs)
+
+-- the edges but the one at a byte
+abbrev pub edges_without : List Edge → ℕ → List Edge
+edges_without [] b = []
+edges_without (x ∷ xs) b = cond (eqb x.byte b) xs (x ∷ edges_without xs b)
+
+-- the edges, the first at a byte led elsewhere
+abbrev pub edges_with_child : List Edge → ℕ → Child → List Edge
+edges_with_child [] b to = []
+edges_with_child (e ∷ es) b to = cond (eqb e.byte b) (record { byte = b; to = to } ∷ es) (e ∷ edges_with_child es b to)
+
+-- one child more
+pub record AddsChild (old new : List Edge) (b : ℕ) (to : Child) : Type 0 where
+  pub added : child_at new b ≡ Some to
+  pub rest : (c : ℕ) → c ≢ b → child_at new c ≡ child_at old c
+  pub longer : length new ≡ length old + 1
+  pub ascends : Ascends new
+
+-- one child less
+pub record DropsChild (old new : List Edge) (b : ℕ) : Type 0 where
+  pub gone : child_at new b ≡ None
+  pub rest : (c : ℕ) → c ≢ b → child_at new c ≡ child_at old c
+  pub shorter : length new + 1 ≡ length old
+  pub ascends : Ascends new
+
+-- one child for another
+pub record RedirectsChild (old new : List Edge) (b : ℕ) (to : Child) : Type 0 where
+  pub now : child_at new b ≡ Some to
+  pub rest : (c : ℕ) → c ≢ b → child_at new c ≡ child_at old c
+  pub same_length : length new ≡ length old
+  pub ascends : Ascends new
+
+-- the edge behind a byte, with none between
+abbrev pub IsNext : List Edge → ℕ → Option Edge → Type 0
+IsNext es b None = (c : ℕ) → b < c → child_at es c ≡ None
+IsNext es b (Some e) = (b < e.byte) × (child_at es e.byte ≡ Some e.to) × ((c : ℕ) → b < c → c < e.byte → child_at es c ≡ None)
+
+-- so many edges of an array are used: they ascend by byte
+pub record Sorted (count room : ℕ) (edges : List Edge) : Type 0 where
+  pub within : count ≤ room
+  pub long : length edges ≡ room
+  pub ascends : Ascends (take count edges)
+  pub small : (b : ℕ) → 256 ≤ b → child_at (take count edges) b ≡ None
+
+-- the first edge behind a byte
+abbrev pub after : List Edge → ℕ → Option Edge
+after [] b = None
+after (e ∷ es) b = cond (ltb b e.byte) (Some e) (after es b)
+
+-- the edge found behind another, or else that one
+abbrev pub later : Option Edge → Edge → Edge
+later None e = e
+later (Some x) e = x
+
+-- the last edge before a byte
+abbrev pub before : List Edge → ℕ → Option Edge
+before [] b = None
+before (e ∷ es) b = cond (ltb e.byte b) (Some (later (before es b) e)) None
+
+-- the edge before a byte, with none between
+abbrev pub IsPrevious : List Edge → ℕ → Option Edge → Type 0
+IsPrevious es b None = (c : ℕ) → c < b → child_at es c ≡ None
+IsPrevious es b (Some e) = (e.byte < b) × (child_at es e.byte ≡ Some e.to) × ((c : ℕ) → e.byte < c → c < b → child_at es c ≡ None)
+
+-- of two bytes, the one that comes first, or last
+abbrev pub Precedes : Bool → ℕ → ℕ → Type 0
+Precedes true b c = b < c
+Precedes false b c = c < b
+
+-- the edge at one end of a node that has some: the least, or the greatest
+pub record IsEnd (is_first : Bool) (es : List Edge) (e : Edge) : Type 0 where
+  pub there : child_at es e.byte ≡ Some e.to
+  pub end : (c : ℕ) → Precedes is_first c e.byte → child_at es c ≡ None
+
+-- the edge at a byte or behind it, with none between
+abbrev pub IsFrom : List Edge → ℕ → Option Edge → Type 0
+IsFrom es b None = (c : ℕ) → b ≤ c → child_at es c ≡ None
+IsFrom es b (Some e) = (b ≤ e.byte) × (child_at es e.byte ≡ Some e.to) × ((c : ℕ) → b ≤ c → c < e.byte → child_at es c ≡ None)
+
+-- the edges of a table, which has the child or nothing for each byte from this one on
+abbrev pub edges_from : List (Option Child) → ℕ → List Edge
+edges_from [] b = []
+edges_from (None ∷ t) b = edges_from t (b + 1)
+edges_from (Some c ∷ t) b = record { byte = b; to = c } ∷ edges_from t (b + 1)
+
+-- the edges of a table for all bytes
+abbrev pub edges_of : List (Option Child) → List Edge
+edges_of t = edges_from t 0
+
+-- a table has a place for each byte, and so many children
+pub record Filled (count : ℕ) (t : List (Option Child)) : Type 0 where
+  pub wide : length t ≡ 256
+  pub counted : count_by is_some t ≡ count
+
+-- the child in a place, or none
+abbrev pub child_under : List Child → ℕ → Option Child
+child_under children s = cond (ltb s 48) (Some (slice_index_or children s (Leaf 0))) None
+
+-- the table of an index of places
+abbrev pub table : List ℕ → List Child → List (Option Child)
+table index children = map (child_under children) index
+
+-- an index of so many places, each named once
+pub record IsIndex (count : ℕ) (index : List ℕ) (children : List Child) : Type 0 where
+  pub within : count ≤ 48
+  pub wide : length index ≡ 256
+  pub long : length children ≡ 48
+  pub used : (b : ℕ) → slice_index_or index b 48 < 48 → slice_index_or index b 48 < count
+  pub apart : (b c : ℕ) → slice_index_or index b 48 < 48 → slice_index_or index b 48 ≡ slice_index_or index c 48 → b ≡ c
+  pub counted : count_by is_some (table index children) ≡ count
+
+-- one number in the place of another
+abbrev pub moved : ℕ → ℕ → ℕ → ℕ
+moved from to p = cond (eqb p from) to p
+
+-- the edges of bytes beside children
+abbrev pub paired : List ℕ → List Child → List Edge
+paired [] cs = []
+paired (b ∷ bs) [] = []
+paired (b ∷ bs) (c ∷ cs) = record { byte = b; to = c } ∷ paired bs cs
+
+-- so many bytes and children of two arrays are used
+pub record IsFew (count room : ℕ) (bytes : List ℕ) (children : List Child) : Type 0 where
+  pub sorted : Sorted count room (paired bytes children)
+  pub wide : length bytes ≡ room
+  pub long : length children ≡ room

@@ -1,0 +1,10 @@
+pub mod Codes
+pub mod Edges
+pub mod Store
+pub mod Slots
+pub mod Lends
+pub mod Numbers
+pub mod Nodes
+pub mod Inners
+pub mod Refs
+pub mod Words

@@ -1,0 +1,10 @@
+//! The records of inner nodes.
+pub(crate) mod few;
+pub(crate) mod full;
+pub(crate) mod ids;
+pub(crate) mod indexed;
+mod link;
+pub(crate) mod nodes;
+pub(crate) mod store;
+#[cfg(test)]
+mod tests;

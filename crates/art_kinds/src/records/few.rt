@@ -1,0 +1,334 @@
+//! A node with few children: their bytes, rising, beside them.
+ghost use Rattle.std.specs.Prelude.{true, false, ℕ, ◌≡◌, ◌+◌, ◌-◌, ◌<◌, ◌≤◌, [], ◌∷◌, length, take, None, IsSome};
+ghost use Rattle.art_kinds.specs.Edges.{child_at, Ascends, AddsChild, DropsChild, RedirectsChild, IsNext, IsPrevious, IsEnd, count_below, edges_with, edges_without, edges_with_child, after, before, paired};
+
+use crate::records::ids::{Child, Edge};
+use crate::records::indexed::Indexed;
+use crate::records::link::Link;
+use std::marker::Model;
+
+/// Up to so many children. A contract sees the list of edges, by rising byte.
+#[derive(Drop)]
+pub(crate) struct Few<const N: usize> {
+    pub(super) count: usize,
+    pub(super) bytes: [u8; N],
+    pub(super) children: [Link; N],
+}
+
+impl<const N: usize> Model for Few<N> {
+    ghost use Rattle.std.specs.Prelude.{List, take};
+    ghost use Rattle.art_kinds.specs.declared.records.ids.Edge.{Edge};
+    ghost use Rattle.art_kinds.specs.Codes.{edge_code};
+    ghost use Rattle.std.specs.Coded.{coded_list};
+    ghost use Rattle.art_kinds.specs.Edges.{IsFew, paired};
+
+    ghost Value = { List Edge };
+
+    ghost coded = { coded_list edge_code };
+
+    ghost view = { λ n. take n.count (paired n.bytes n.children) };
+
+    ghost invariant = { λ n. IsFew n.count N n.bytes n.children };
+}
+
+impl<const N: usize> Few<N> {
+    /// How many edges there are.
+    pub(crate) fn count(&self) -> usize
+        ensures count { result ≡ length self.now }
+        ensures ascends { Ascends self.now }
+        ensures few { result ≤ N }
+    {
+        let _children: &[Link; N] = &self.children;
+        self.count
+    }
+
+    /// What stands below the edge at a byte.
+    pub(crate) fn find(&self, byte: u8) -> Option<Child>
+        ensures { result ≡ child_at self.now byte }
+    {
+        find_in(
+            &self.bytes[..self.count],
+            &self.children[..self.count],
+            byte,
+        )
+    }
+
+    /// The edge with the least byte.
+    pub(crate) fn first(&self) -> Edge
+        requires { 0 < length self.now }
+        ensures { IsEnd true self.now result }
+    {
+        Edge {
+            byte: self.bytes[0],
+            to: self.children[0].child(),
+        }
+    }
+
+    /// The edge with the greatest byte.
+    pub(crate) fn last(&self) -> Edge
+        requires { 0 < length self.now }
+        ensures { IsEnd false self.now result }
+    {
+        let last = self.count - 1;
+        Edge {
+            byte: self.bytes[last],
+            to: self.children[last].child(),
+        }
+    }
+
+    /// The edge with the least byte above this one.
+    pub(crate) fn edge_after(&self, byte: u8) -> Option<Edge>
+        ensures { IsNext self.now byte result }
+    {
+        after_in(
+            &self.bytes[..self.count],
+            &self.children[..self.count],
+            byte,
+        )
+    }
+
+    /// The edge with the greatest byte below this one.
+    pub(crate) fn edge_before(&self, byte: u8) -> Option<Edge>
+        ensures { IsPrevious self.now byte result }
+    {
+        before_in(
+            &self.bytes[..self.count],
+            &self.children[..self.count],
+            byte,
+        )
+    }
+
+    /// Adds an edge, at a byte that has none.
+    pub(crate) fn insert(&mut self, byte: u8, to: Child)
+        requires room { length self.old < N }
+        requires absent { child_at self.old byte ≡ None }
+        ensures { AddsChild self.old self.new byte to }
+    {
+        insert_in(
+            &mut self.bytes,
+            &mut self.children,
+            self.count,
+            byte,
+            Link::of(to),
+        );
+        self.count += 1;
+    }
+
+    /// Removes the edge at a byte.
+    pub(crate) fn remove(&mut self, byte: u8)
+        requires { IsSome (child_at self.old byte) }
+        ensures { DropsChild self.old self.new byte }
+    {
+        remove_in(&mut self.bytes, &mut self.children, self.count, byte);
+        self.count -= 1;
+    }
+
+    /// Leads the edge at a byte elsewhere.
+    pub(crate) fn redirect(&mut self, byte: u8, to: Child)
+        requires { IsSome (child_at self.old byte) }
+        ensures { RedirectsChild self.old self.new byte to }
+    {
+        redirect_in(
+            &self.bytes,
+            &mut self.children,
+            self.count,
+            byte,
+            Link::of(to),
+        );
+    }
+}
+
+// What stands below the edge at a byte.
+fn find_in(bytes: &[u8], children: &[Link], byte: u8) -> Option<Child>
+    requires { length children.now ≡ length bytes.now }
+    ensures { result ≡ child_at (paired bytes.now children.now) byte }
+{
+    for i in 0..bytes.len() {
+        if bytes[i] == byte {
+            return Some(children[i].child());
+        }
+    }
+    None
+}
+
+// The first edge behind a byte.
+fn after_in(bytes: &[u8], children: &[Link], byte: u8) -> Option<Edge>
+    requires { length children.now ≡ length bytes.now }
+    ensures { result ≡ after (paired bytes.now children.now) byte }
+{
+    for i in 0..bytes.len() {
+        if byte < bytes[i] {
+            return Some(Edge {
+                byte: bytes[i],
+                to: children[i].child(),
+            });
+        }
+    }
+    None
+}
+
+// The last of the first edges that are before a byte.
+fn before_in(bytes: &[u8], children: &[Link], byte: u8) -> Option<Edge>
+    requires { length children.now ≡ length bytes.now }
+    ensures { result ≡ before (paired bytes.now children.now) byte }
+{
+    let mut found = None;
+    for i in 0..bytes.len() {
+        if byte <= bytes[i] {
+            return found;
+        }
+        found = Some(Edge {
+            byte: bytes[i],
+            to: children[i].child(),
+        });
+    }
+    found
+}
+
+// How many of the bytes are before this one.
+fn place_of(bytes: &[u8], byte: u8) -> usize
+    ensures count { result ≡ count_below bytes.now byte }
+    ensures within { result ≤ length bytes.now }
+{
+    let mut place = 0;
+    for next in bytes {
+        if byte <= *next {
+            return place;
+        }
+        place += 1;
+    }
+    place
+}
+
+// Puts an edge among the first so many.
+fn insert_in(bytes: &mut [u8], children: &mut [Link], count: usize, byte: u8, to: Link)
+    requires within { count < length bytes.old }
+    requires same { length children.old ≡ length bytes.old }
+    ensures { take (count + 1) (paired bytes.new children.new)
+        ≡ edges_with (take count (paired bytes.old children.old)) (record { byte = byte; to = to }) }
+{
+    let place = place_of(&bytes[..count], byte);
+    bytes.copy_within(place..count, place + 1);
+    children.copy_within(place..count, place + 1);
+    bytes[place] = byte;
+    children[place] = to;
+}
+
+// Closes up over the edge at a byte, among the first so many.
+fn remove_in(bytes: &mut [u8], children: &mut [Link], count: usize, byte: u8)
+    requires within { count ≤ length bytes.old }
+    requires same { length children.old ≡ length bytes.old }
+    requires ascends { Ascends (take count (paired bytes.old children.old)) }
+    requires there { IsSome (child_at (take count (paired bytes.old children.old)) byte) }
+    ensures { take (count - 1) (paired bytes.new children.new)
+        ≡ edges_without (take count (paired bytes.old children.old)) byte }
+{
+    let place = place_of(&bytes[..count], byte);
+    bytes.copy_within(place + 1..count, place);
+    children.copy_within(place + 1..count, place);
+}
+
+// Leads the first edge at a byte elsewhere, among the first so many.
+fn redirect_in(bytes: &[u8], children: &mut [Link], count: usize, byte: u8, to: Link)
+    requires within { count ≤ length bytes.now }
+    requires same { length children.old ≡ length bytes.now }
+    ensures { take count (paired bytes.now children.new) ≡ edges_with_child (take count (paired bytes.now children.old)) byte to }
+{
+    for i in 0..count {
+        if bytes[i] == byte {
+            children[i] = to;
+            return;
+        }
+    }
+}
+
+impl Few<4> {
+    /// Two edges.
+    pub(crate) fn pair(low: Edge, high: Edge) -> Self
+        requires { low.byte < high.byte }
+        ensures { result ≡ low ∷ high ∷ [] }
+    {
+        let (first, second) = (Link::of(low.to), Link::of(high.to));
+        Few {
+            count: 2,
+            bytes: [low.byte, high.byte, 0, 0],
+            children: [first, second, first, first],
+        }
+    }
+}
+
+impl Few<4> {
+    /// The edges of a larger node that has four.
+    pub(crate) fn of_sixteen(sixteen: &Few<16>) -> Self
+        requires { length sixteen.now ≡ 4 }
+        ensures { result ≡ sixteen.now }
+    {
+        // Whoever counts the edges learns how many places are used.
+        let _count = sixteen.count();
+        let mut bytes = [0; 4];
+        let mut children = [Link::none(); 4];
+        copy_in(
+            &mut bytes,
+            &mut children,
+            &sixteen.bytes[..sixteen.count],
+            &sixteen.children[..sixteen.count],
+        );
+        Few {
+            count: sixteen.count,
+            bytes,
+            children,
+        }
+    }
+}
+
+impl Few<16> {
+    /// The edges of a larger node that has sixteen.
+    pub(crate) fn of_indexed(indexed: &Indexed) -> Self
+        requires { length indexed.now ≡ 16 }
+        ensures { result ≡ indexed.now }
+    {
+        let mut edges = Few {
+            count: 0,
+            bytes: [0; 16],
+            children: [Link::none(); 16],
+        };
+        // Whoever counts the edges learns that they rise, and have bytes.
+        let _count = indexed.count();
+        for next in 0..256usize {
+            if let Some(to) = indexed.find(next as u8) {
+                edges.insert(next as u8, to);
+            }
+        }
+        edges
+    }
+
+    /// The edges of a smaller node.
+    pub(crate) fn of_four(four: &Few<4>) -> Self
+        ensures { result ≡ four.now }
+    {
+        let mut bytes = [0; 16];
+        let mut children = [Link::none(); 16];
+        copy_in(
+            &mut bytes,
+            &mut children,
+            &four.bytes[..four.count],
+            &four.children[..four.count],
+        );
+        Few {
+            count: four.count,
+            bytes,
+            children,
+        }
+    }
+}
+
+// Copies bytes and children to the front of others.
+fn copy_in(bytes: &mut [u8], children: &mut [Link], from_bytes: &[u8], from_children: &[Link])
+    requires bytes { length from_bytes.now ≤ length bytes.old }
+    requires children { length from_children.now ≤ length children.old }
+    ensures bytes { take (length from_bytes.now) bytes.new ≡ from_bytes.now }
+    ensures children { take (length from_children.now) children.new ≡ from_children.now }
+{
+    bytes[..from_bytes.len()].copy_from_slice(from_bytes);
+    children[..from_children.len()].copy_from_slice(from_children);
+}

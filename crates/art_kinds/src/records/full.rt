@@ -1,0 +1,168 @@
+//! A node with room for a child at each byte.
+ghost use Rattle.std.specs.Prelude.{true, false, ℕ, ◌≡◌, ◌+◌, ◌<◌, ◌≤◌, length, None, IsSome};
+ghost use Rattle.art_kinds.specs.Edges.{child_at, Ascends, AddsChild, DropsChild, RedirectsChild, IsFrom, IsNext, IsPrevious, IsEnd};
+
+use crate::records::ids::{Child, Edge};
+use crate::records::indexed::Indexed;
+use crate::records::link::Link;
+use std::marker::Model;
+
+/// A child or nothing for each byte. A contract sees the list of edges, by rising byte.
+#[derive(Drop)]
+pub(crate) struct Full {
+    pub(super) count: usize,
+    pub(super) children: [Option<Link>; 256],
+}
+
+impl Model for Full {
+    ghost use Rattle.std.specs.Prelude.{List};
+    ghost use Rattle.art_kinds.specs.declared.records.ids.Edge.{Edge};
+    ghost use Rattle.art_kinds.specs.Codes.{edge_code};
+    ghost use Rattle.std.specs.Coded.{coded_list};
+    ghost use Rattle.art_kinds.specs.Edges.{edges_of, Filled};
+
+    ghost Value = { List Edge };
+
+    ghost coded = { coded_list edge_code };
+
+    ghost view = { λ n. edges_of n.children };
+
+    ghost invariant = { λ n. Filled n.count n.children };
+}
+
+impl Full {
+    /// The edges of a smaller node.
+    pub(crate) fn of_indexed(indexed: &Indexed) -> Self
+        ensures { result ≡ indexed.now }
+    {
+        let mut edges = Full {
+            count: 0,
+            children: [None; 256],
+        };
+        // Whoever counts the edges learns that they rise, and have bytes.
+        let _count = indexed.count();
+        for next in 0..256usize {
+            if let Some(to) = indexed.find(next as u8) {
+                edges.insert(next as u8, to);
+            }
+        }
+        edges
+    }
+
+    /// How many edges there are.
+    pub(crate) fn count(&self) -> usize
+        ensures count { result ≡ length self.now }
+        ensures ascends { Ascends self.now }
+        ensures few { result ≤ 256 }
+        ensures bytes { (c : ℕ) → 256 ≤ c → child_at self.now c ≡ None }
+    {
+        self.count
+    }
+
+    /// What stands below the edge at a byte.
+    pub(crate) fn find(&self, byte: u8) -> Option<Child>
+        ensures { result ≡ child_at self.now byte }
+    {
+        match self.children[byte as usize] {
+            Some(link) => Some(link.child()),
+            None => None,
+        }
+    }
+
+    // The edge with the least byte from this one on.
+    fn edge_from(&self, start: usize) -> Option<Edge>
+        requires { start ≤ 256 }
+        ensures { IsFrom self.now start result }
+    {
+        for next in start..256 {
+            if let Some(link) = self.children[next] {
+                return Some(Edge {
+                    byte: next as u8,
+                    to: link.child(),
+                });
+            }
+        }
+        None
+    }
+
+    // The edge with the greatest byte below this one.
+    fn edge_below(&self, end: usize) -> Option<Edge>
+        requires { end ≤ 256 }
+        ensures found { IsPrevious self.now end result }
+        ensures bytes { (c : ℕ) → 256 ≤ c → child_at self.now c ≡ None }
+    {
+        let mut next = end;
+        while next > 0 {
+            next -= 1;
+            if let Some(link) = self.children[next] {
+                return Some(Edge {
+                    byte: next as u8,
+                    to: link.child(),
+                });
+            }
+        }
+        None
+    }
+
+    /// The edge with the least byte.
+    pub(crate) fn first(&self) -> Edge
+        requires { 0 < length self.now }
+        ensures { IsEnd true self.now result }
+    {
+        match self.edge_from(0) {
+            Some(edge) => edge,
+            None => unreachable!(),
+        }
+    }
+
+    /// The edge with the greatest byte.
+    pub(crate) fn last(&self) -> Edge
+        requires { 0 < length self.now }
+        ensures { IsEnd false self.now result }
+    {
+        match self.edge_below(256) {
+            Some(edge) => edge,
+            None => unreachable!(),
+        }
+    }
+
+    /// The edge with the least byte above this one.
+    pub(crate) fn edge_after(&self, byte: u8) -> Option<Edge>
+        ensures { IsNext self.now byte result }
+    {
+        self.edge_from(byte as usize + 1)
+    }
+
+    /// The edge with the greatest byte below this one.
+    pub(crate) fn edge_before(&self, byte: u8) -> Option<Edge>
+        ensures { IsPrevious self.now byte result }
+    {
+        self.edge_below(byte as usize)
+    }
+
+    /// Adds an edge, at a byte that has none.
+    pub(crate) fn insert(&mut self, byte: u8, to: Child)
+        requires { child_at self.old byte ≡ None }
+        ensures { AddsChild self.old self.new byte to }
+    {
+        self.children[byte as usize] = Some(Link::of(to));
+        self.count += 1;
+    }
+
+    /// Removes the edge at a byte.
+    pub(crate) fn remove(&mut self, byte: u8)
+        requires { IsSome (child_at self.old byte) }
+        ensures { DropsChild self.old self.new byte }
+    {
+        self.children[byte as usize] = None;
+        self.count -= 1;
+    }
+
+    /// Leads the edge at a byte elsewhere.
+    pub(crate) fn redirect(&mut self, byte: u8, to: Child)
+        requires { IsSome (child_at self.old byte) }
+        ensures { RedirectsChild self.old self.new byte to }
+    {
+        self.children[byte as usize] = Some(Link::of(to));
+    }
+}

@@ -1,0 +1,211 @@
+//! A node with an index of its children by byte.
+ghost use Rattle.std.specs.Prelude.{true, false, ℕ, ◌≡◌, ◌+◌, ◌<◌, ◌≤◌, length, None, IsSome, slice_index_or};
+ghost use Rattle.art_kinds.specs.Edges.{child_at, Ascends, AddsChild, DropsChild, RedirectsChild, IsFrom, IsNext, IsPrevious, IsEnd, moved};
+
+use crate::records::few::Few;
+use crate::records::full::Full;
+use crate::records::ids::{Child, Edge};
+use crate::records::link::Link;
+use std::marker::Model;
+
+/// Up to 48 children, and for each byte the place of its child, or 48. A contract sees the list of edges, by rising byte.
+#[derive(Drop)]
+pub(crate) struct Indexed {
+    pub(super) count: usize,
+    pub(super) index: [u8; 256],
+    pub(super) children: [Link; 48],
+}
+
+impl Model for Indexed {
+    ghost use Rattle.std.specs.Prelude.{List};
+    ghost use Rattle.art_kinds.specs.declared.records.ids.Edge.{Edge};
+    ghost use Rattle.art_kinds.specs.Codes.{edge_code};
+    ghost use Rattle.std.specs.Coded.{coded_list};
+    ghost use Rattle.art_kinds.specs.Edges.{edges_of, table, IsIndex};
+
+    ghost Value = { List Edge };
+
+    ghost coded = { coded_list edge_code };
+
+    ghost view = { λ n. edges_of (table n.index n.children) };
+
+    ghost invariant = { λ n. IsIndex n.count n.index n.children };
+}
+
+impl Indexed {
+    /// The edges of a smaller node.
+    pub(crate) fn of_sixteen(sixteen: &Few<16>) -> Self
+        ensures { result ≡ sixteen.now }
+    {
+        let mut edges = Indexed {
+            count: 0,
+            index: [48; 256],
+            children: [Link::none(); 48],
+        };
+        for i in 0..sixteen.count {
+            edges.insert(sixteen.bytes[i], sixteen.children[i].child());
+        }
+        edges
+    }
+
+    /// The edges of a larger node that has 48.
+    pub(crate) fn of_full(full: &Full) -> Self
+        requires { length full.now ≡ 48 }
+        ensures { result ≡ full.now }
+    {
+        let mut edges = Indexed {
+            count: 0,
+            index: [48; 256],
+            children: [Link::none(); 48],
+        };
+        // Whoever counts the edges learns that they rise, and have bytes.
+        let _count = full.count();
+        for next in 0..256usize {
+            if let Some(to) = full.find(next as u8) {
+                edges.insert(next as u8, to);
+            }
+        }
+        edges
+    }
+
+    /// How many edges there are.
+    pub(crate) fn count(&self) -> usize
+        ensures count { result ≡ length self.now }
+        ensures ascends { Ascends self.now }
+        ensures few { result ≤ 48 }
+        ensures bytes { (c : ℕ) → 256 ≤ c → child_at self.now c ≡ None }
+    {
+        self.count
+    }
+
+    /// What stands below the edge at a byte.
+    pub(crate) fn find(&self, byte: u8) -> Option<Child>
+        ensures { result ≡ child_at self.now byte }
+    {
+        let place = self.index[byte as usize];
+        if place < 48 {
+            Some(self.children[place as usize].child())
+        } else {
+            None
+        }
+    }
+
+    // The edge with the least byte from this one on.
+    fn edge_from(&self, start: usize) -> Option<Edge>
+        requires { start ≤ 256 }
+        ensures { IsFrom self.now start result }
+    {
+        for next in start..256 {
+            let place = self.index[next];
+            if place < 48 {
+                return Some(Edge {
+                    byte: next as u8,
+                    to: self.children[place as usize].child(),
+                });
+            }
+        }
+        None
+    }
+
+    // The edge with the greatest byte below this one.
+    fn edge_below(&self, end: usize) -> Option<Edge>
+        requires { end ≤ 256 }
+        ensures found { IsPrevious self.now end result }
+        ensures bytes { (c : ℕ) → 256 ≤ c → child_at self.now c ≡ None }
+    {
+        let mut next = end;
+        while next > 0 {
+            next -= 1;
+            let place = self.index[next];
+            if place < 48 {
+                return Some(Edge {
+                    byte: next as u8,
+                    to: self.children[place as usize].child(),
+                });
+            }
+        }
+        None
+    }
+
+    /// The edge with the least byte.
+    pub(crate) fn first(&self) -> Edge
+        requires { 0 < length self.now }
+        ensures { IsEnd true self.now result }
+    {
+        match self.edge_from(0) {
+            Some(edge) => edge,
+            None => unreachable!(),
+        }
+    }
+
+    /// The edge with the greatest byte.
+    pub(crate) fn last(&self) -> Edge
+        requires { 0 < length self.now }
+        ensures { IsEnd false self.now result }
+    {
+        match self.edge_below(256) {
+            Some(edge) => edge,
+            None => unreachable!(),
+        }
+    }
+
+    /// The edge with the least byte above this one.
+    pub(crate) fn edge_after(&self, byte: u8) -> Option<Edge>
+        ensures { IsNext self.now byte result }
+    {
+        self.edge_from(byte as usize + 1)
+    }
+
+    /// The edge with the greatest byte below this one.
+    pub(crate) fn edge_before(&self, byte: u8) -> Option<Edge>
+        ensures { IsPrevious self.now byte result }
+    {
+        self.edge_below(byte as usize)
+    }
+
+    /// Adds an edge, at a byte that has none.
+    pub(crate) fn insert(&mut self, byte: u8, to: Child)
+        requires room { length self.old < 48 }
+        requires absent { child_at self.old byte ≡ None }
+        ensures { AddsChild self.old self.new byte to }
+    {
+        let place = self.count;
+        self.children[place] = Link::of(to);
+        self.index[byte as usize] = place as u8;
+        self.count = place + 1;
+    }
+
+    /// Removes the edge at a byte. The last child takes its place.
+    pub(crate) fn remove(&mut self, byte: u8)
+        requires { IsSome (child_at self.old byte) }
+        ensures { DropsChild self.old self.new byte }
+    {
+        let last = self.count - 1;
+        let place = self.index[byte as usize];
+        self.index[byte as usize] = 48;
+        self.children[place as usize] = self.children[last];
+        rename_in(&mut self.index, last as u8, place);
+        self.count = last;
+    }
+
+    /// Leads the edge at a byte elsewhere.
+    pub(crate) fn redirect(&mut self, byte: u8, to: Child)
+        requires { IsSome (child_at self.old byte) }
+        ensures { RedirectsChild self.old self.new byte to }
+    {
+        let place = self.index[byte as usize];
+        self.children[place as usize] = Link::of(to);
+    }
+}
+
+// Writes one number for another.
+fn rename_in(index: &mut [u8], from: u8, to: u8)
+    requires { from < 48 }
+    ensures { (b : ℕ) → slice_index_or index.new b 48 ≡ moved from to (slice_index_or index.old b 48) }
+{
+    for place in index.iter_mut() {
+        if *place == from {
+            *place = to;
+        }
+    }
+}

@@ -1,0 +1,77 @@
+//! A child in one word.
+ghost use Rattle.std.specs.Prelude.{◌≡◌};
+
+use crate::records::ids::{Child, Kind, LeafId, NodeId};
+use std::marker::Model;
+
+/// What stands below an edge: its number times eight, and its kind. A contract sees the child.
+#[derive(Clone, Copy)]
+pub(crate) struct Link {
+    word: usize,
+}
+
+impl Model for Link {
+    ghost use Rattle.std.specs.Prelude.{◌%◌, ◌<◌};
+    ghost use Rattle.art_kinds.specs.declared.records.ids.Child.{Child as Value_};
+    ghost use Rattle.art_kinds.specs.Codes.{child_code};
+    ghost use Rattle.art_kinds.specs.Words.{child_of, word_of, word-of};
+
+    ghost Value = { Value_ };
+
+    ghost coded = { child_code };
+
+    ghost view = { λ l. child_of l.word };
+
+    ghost invariant = { λ l. l.word % 8 < 5 };
+
+    ghost inverse = { λ c. record { word = word_of c } };
+
+    ghost inverse_ok = { λ a h. word-of a h };
+}
+
+impl Link {
+    /// A child's word.
+    pub(crate) fn of(child: Child) -> Self
+        ensures { result ≡ child }
+    {
+        match child {
+            Child::Leaf(id) => Link {
+                word: id.number() * 8,
+            },
+            Child::Inner(id) => {
+                let digit = match id.kind {
+                    Kind::Four => 1,
+                    Kind::Sixteen => 2,
+                    Kind::FortyEight => 3,
+                    Kind::Full => 4,
+                };
+                Link {
+                    word: id.place * 8 + digit,
+                }
+            }
+        }
+    }
+
+    /// What stands in a place that is not used.
+    pub(crate) fn none() -> Self {
+        Link { word: 0 }
+    }
+
+    /// The child.
+    pub(crate) fn child(self) -> Child
+        ensures { result ≡ self }
+    {
+        let number = self.word / 8;
+        let kind = match self.word % 8 {
+            0 => return Child::Leaf(LeafId::new(number)),
+            1 => Kind::Four,
+            2 => Kind::Sixteen,
+            3 => Kind::FortyEight,
+            _ => Kind::Full,
+        };
+        Child::Inner(NodeId {
+            kind,
+            place: number,
+        })
+    }
+}

@@ -1,0 +1,744 @@
+//! The inner nodes under their numbers.
+ghost use Rattle.std.specs.Prelude.{true, false, ◌≡◌, ◌≢◌, ℕ, ◌+◌, ◌%◌, ◌*◌, ◌/◌, ◌-◌, ◌<◌, ◌≤◌, ◌^◌, ◌++◌, ◌∷◌, length, take, slice_get, None, Some, IsSome, IsSomeAnd, OnOk, OnErr};
+ghost use Rattle.art_kinds.specs.Edges.{child_at, Ascends, IsNext, IsPrevious, IsEnd};
+ghost use Rattle.art_kinds.specs.Store.{slot_at};
+ghost use Rattle.art_kinds.specs.Nodes.{at, live, room, FitsNew, FitsMore, HasPlace, Lowers, SameNodes, SameSpares, MoreSpares, Makes, Renames, AddsEdgeTo, Redirects, DropsEdge, Reprefixes, JoinsPrefix, Frees};
+
+use crate::records::few::Few;
+use crate::records::full::Full;
+use crate::records::ids::{Child, Edge, Kind, NodeId};
+use crate::records::indexed::Indexed;
+use crate::records::store::Store;
+use crate::visits::Visits;
+use std::alloc::{AllocError, Global};
+use std::marker::Model;
+
+/// A record with a prefix of this length or longer has no size in the machine's numbers.
+const PREFIX_BOUND: usize = 1 << 62;
+
+/// An inner node: the length of its front, the first bytes of its compressed prefix, and its edges.
+#[derive(Drop)]
+pub(super) struct Inner<C, const P: usize> {
+    pub(super) depth: usize,
+    // How much of `prefix` is used.
+    pub(super) used: usize,
+    pub(super) prefix: [u8; P],
+    pub(super) edges: C,
+}
+
+/// The edges of a node of any kind.
+#[derive(Drop)]
+pub(super) enum EdgesRef<'a> {
+    Four(&'a Few<4>),
+    Sixteen(&'a Few<16>),
+    FortyEight(&'a Indexed),
+    Full(&'a Full),
+}
+
+/// A node that is read. A contract sees the node.
+#[derive(Drop)]
+pub struct NodeRef<'a, const P: usize> {
+    depth: usize,
+    used: usize,
+    prefix: &'a [u8; P],
+    edges: EdgesRef<'a>,
+}
+
+impl<'a, const P: usize> Model for NodeRef<'a, P> {
+    ghost use Rattle.std.specs.Prelude.{take, length, ◌≤◌, ◌<◌, ◌^◌, ◌≡◌};
+    ghost use Rattle.art_kinds.specs.Nodes.{Node, node_code};
+
+    ghost Value = { Node };
+
+    ghost coded = { node_code };
+
+    ghost use Rattle.art_kinds.specs.Refs.{edges_of};
+
+    ghost view = { λ r. record { depth = r.depth; prefix = take r.used r.prefix.now; edges = edges_of r.edges } };
+
+    ghost invariant = { λ r. (r.used ≤ P) × (length r.prefix.now ≡ P) × (P < 2 ^ 62) };
+}
+
+impl<'a, const P: usize> NodeRef<'a, P> {
+    /// The length of the node's front.
+    pub fn depth(&self) -> usize
+        ensures { result ≡ self.now.depth }
+    {
+        self.depth
+    }
+
+    /// How many edges the node has.
+    pub fn count(&self) -> usize
+        ensures count { result ≡ length self.now.edges }
+        ensures ascends { Ascends self.now.edges }
+    {
+        match &self.edges {
+            EdgesRef::Four(edges) => edges.count(),
+            EdgesRef::Sixteen(edges) => edges.count(),
+            EdgesRef::FortyEight(edges) => edges.count(),
+            EdgesRef::Full(edges) => edges.count(),
+        }
+    }
+
+    /// A byte of the stored part of the compressed prefix.
+    pub fn prefix_byte(&self, at: usize) -> Option<u8>
+        ensures { result ≡ slice_get self.now.prefix at }
+    {
+        if at < self.used {
+            Some(self.prefix[at])
+        } else {
+            None
+        }
+    }
+
+    // The stored part of the compressed prefix.
+    fn prefix(&self) -> &'a [u8]
+        ensures value { result.now ≡ self.now.prefix }
+        ensures small { P < 2 ^ 62 }
+    {
+        let prefix = self.prefix;
+        &prefix[..self.used]
+    }
+
+    /// What stands below the edge at a byte.
+    pub fn find(&self, byte: u8) -> Option<Child>
+        ensures { result ≡ child_at self.now.edges byte }
+    {
+        match &self.edges {
+            EdgesRef::Four(edges) => edges.find(byte),
+            EdgesRef::Sixteen(edges) => edges.find(byte),
+            EdgesRef::FortyEight(edges) => edges.find(byte),
+            EdgesRef::Full(edges) => edges.find(byte),
+        }
+    }
+
+    /// The edge at one end: that with the least byte, or that with the greatest.
+    pub fn end_edge(&self, is_first: bool) -> Edge
+        requires { 0 < length self.now.edges }
+        ensures { IsEnd is_first self.now.edges result }
+    {
+        if is_first {
+            self.first_edge()
+        } else {
+            self.last_edge()
+        }
+    }
+
+    // The edge with the least byte.
+    fn first_edge(&self) -> Edge
+        requires { 0 < length self.now.edges }
+        ensures { IsEnd true self.now.edges result }
+    {
+        match &self.edges {
+            EdgesRef::Four(edges) => edges.first(),
+            EdgesRef::Sixteen(edges) => edges.first(),
+            EdgesRef::FortyEight(edges) => edges.first(),
+            EdgesRef::Full(edges) => edges.first(),
+        }
+    }
+
+    // The edge with the greatest byte.
+    fn last_edge(&self) -> Edge
+        requires { 0 < length self.now.edges }
+        ensures { IsEnd false self.now.edges result }
+    {
+        match &self.edges {
+            EdgesRef::Four(edges) => edges.last(),
+            EdgesRef::Sixteen(edges) => edges.last(),
+            EdgesRef::FortyEight(edges) => edges.last(),
+            EdgesRef::Full(edges) => edges.last(),
+        }
+    }
+
+    /// The edge with the least byte above this one.
+    pub fn edge_after(&self, byte: u8) -> Option<Edge>
+        ensures { IsNext self.now.edges byte result }
+    {
+        match &self.edges {
+            EdgesRef::Four(edges) => edges.edge_after(byte),
+            EdgesRef::Sixteen(edges) => edges.edge_after(byte),
+            EdgesRef::FortyEight(edges) => edges.edge_after(byte),
+            EdgesRef::Full(edges) => edges.edge_after(byte),
+        }
+    }
+
+    /// The edge with the greatest byte below this one.
+    pub fn edge_before(&self, byte: u8) -> Option<Edge>
+        ensures { IsPrevious self.now.edges byte result }
+    {
+        match &self.edges {
+            EdgesRef::Four(edges) => edges.edge_before(byte),
+            EdgesRef::Sixteen(edges) => edges.edge_before(byte),
+            EdgesRef::FortyEight(edges) => edges.edge_before(byte),
+            EdgesRef::Full(edges) => edges.edge_before(byte),
+        }
+    }
+}
+
+/// The inner nodes. A contract sees the node under each number, and the spare records of each kind. Memory is asked for in `reserve` and the two calls that make room, and in no other.
+#[derive(Drop)]
+pub struct Nodes<const P: usize> {
+    pub(super) fours: Store<Inner<Few<4>, P>>,
+    pub(super) sixteens: Store<Inner<Few<16>, P>>,
+    pub(super) forty_eights: Store<Inner<Indexed, P>>,
+    pub(super) fulls: Store<Inner<Full, P>>,
+}
+
+impl<const P: usize> Model for Nodes<P> {
+    ghost use Rattle.art_kinds.specs.Nodes.{Nodes as All, nodes_code};
+
+    ghost Value = { All };
+
+    ghost coded = { nodes_code };
+
+    ghost use Rattle.art_kinds.specs.Inners.{nodes_of, IsStore};
+
+    ghost view = { λ s. nodes_of s.fours s.sixteens s.forty_eights s.fulls };
+
+    ghost invariant = { λ s. record { fours : IsStore 4 s.fours; sixteens : IsStore 16 s.sixteens; forty_eights : IsStore 48 s.forty_eights; fulls : IsStore 256 s.fulls } };
+}
+
+impl<const P: usize> Nodes<P> {
+    /// No nodes.
+    pub fn new(alloc: Global) -> Self
+        ensures none { (j : ℕ) → at result j ≡ None }
+        ensures live { live result ≡ 0 }
+        ensures room { room result ≡ 0 }
+    {
+        Nodes {
+            fours: Store::new(alloc),
+            sixteens: Store::new(alloc),
+            forty_eights: Store::new(alloc),
+            fulls: Store::new(alloc),
+        }
+    }
+
+    /// How many nodes there are.
+    pub fn live(&self) -> usize
+        ensures { result ≡ live self.now }
+    {
+        self.fours.used() + self.sixteens.used() + self.forty_eights.used() + self.fulls.used()
+    }
+
+    /// The node under a number. It counts as a visit.
+    pub fn read(&self, id: NodeId, visits: &mut Visits) -> NodeRef<'_, P>
+        requires { IsSome (at self.now id) }
+        ensures value { at self.now id ≡ Some result }
+        ensures counted { visits.new.count ≡ visits.old.count + 1 }
+        ensures ascends { Ascends result.edges }
+    {
+        visits.add_one();
+        let node = self.node_at(id);
+        // Whoever counts the edges learns that their bytes rise.
+        let _count = node.count();
+        node
+    }
+
+    // The node under a number.
+    fn node_at(&self, id: NodeId) -> NodeRef<'_, P>
+        requires { IsSome (at self.now id) }
+        ensures value { at self.now id ≡ Some result }
+    {
+        match id.kind {
+            Kind::Four => {
+                let record = self.fours.read(id.place);
+                NodeRef {
+                    depth: record.depth,
+                    used: record.used,
+                    prefix: &record.prefix,
+                    edges: EdgesRef::Four(&record.edges),
+                }
+            }
+            Kind::Sixteen => {
+                let record = self.sixteens.read(id.place);
+                NodeRef {
+                    depth: record.depth,
+                    used: record.used,
+                    prefix: &record.prefix,
+                    edges: EdgesRef::Sixteen(&record.edges),
+                }
+            }
+            Kind::FortyEight => {
+                let record = self.forty_eights.read(id.place);
+                NodeRef {
+                    depth: record.depth,
+                    used: record.used,
+                    prefix: &record.prefix,
+                    edges: EdgesRef::FortyEight(&record.edges),
+                }
+            }
+            Kind::Full => {
+                let record = self.fulls.read(id.place);
+                NodeRef {
+                    depth: record.depth,
+                    used: record.used,
+                    prefix: &record.prefix,
+                    edges: EdgesRef::Full(&record.edges),
+                }
+            }
+        }
+    }
+
+    /// Adds an edge to a node that has a place for it.
+    pub fn add_edge(&mut self, id: NodeId, byte: u8, to: Child)
+        requires place { HasPlace self.old id }
+        requires absent { IsSomeAnd (at self.old id) (λ x. child_at x.edges byte ≡ None) }
+        ensures added { AddsEdgeTo (at self.old) (at self.new) id byte to }
+        ensures spares { Lowers (id % 4 + 1) self.old self.new }
+        ensures live { live self.new ≡ live self.old }
+    {
+        match id.kind {
+            Kind::Four => self.fours.get_mut(id.place).edges.insert(byte, to),
+            Kind::Sixteen => self.sixteens.get_mut(id.place).edges.insert(byte, to),
+            Kind::FortyEight => self.forty_eights.get_mut(id.place).edges.insert(byte, to),
+            Kind::Full => self.fulls.get_mut(id.place).edges.insert(byte, to),
+        }
+    }
+
+    /// Leads an edge elsewhere.
+    pub fn redirect(&mut self, id: NodeId, byte: u8, to: Child)
+        requires { IsSomeAnd (at self.old id) (λ x. IsSome (child_at x.edges byte)) }
+        ensures edges_with_child { Redirects (at self.old) (at self.new) id byte to }
+        ensures spares { SameSpares self.old self.new }
+        ensures live { live self.new ≡ live self.old }
+    {
+        match id.kind {
+            Kind::Four => self.fours.get_mut(id.place).edges.redirect(byte, to),
+            Kind::Sixteen => self.sixteens.get_mut(id.place).edges.redirect(byte, to),
+            Kind::FortyEight => self.forty_eights.get_mut(id.place).edges.redirect(byte, to),
+            Kind::Full => self.fulls.get_mut(id.place).edges.redirect(byte, to),
+        }
+    }
+
+    /// Removes an edge.
+    pub fn remove_edge(&mut self, id: NodeId, byte: u8)
+        requires { IsSomeAnd (at self.old id) (λ x. IsSome (child_at x.edges byte)) }
+        ensures removed { DropsEdge (at self.old) (at self.new) id byte }
+        ensures spares { MoreSpares self.old self.new }
+        ensures live { live self.new ≡ live self.old }
+    {
+        match id.kind {
+            Kind::Four => self.fours.get_mut(id.place).edges.remove(byte),
+            Kind::Sixteen => self.sixteens.get_mut(id.place).edges.remove(byte),
+            Kind::FortyEight => self.forty_eights.get_mut(id.place).edges.remove(byte),
+            Kind::Full => self.fulls.get_mut(id.place).edges.remove(byte),
+        }
+    }
+
+    /// Removes a node.
+    #[cold]
+    #[inline(never)]
+    pub fn free(&mut self, id: NodeId)
+        requires { IsSome (at self.old id) }
+        ensures freed { Frees (at self.old) (at self.new) id }
+        ensures live { live self.new + 1 ≡ live self.old }
+        ensures spares { MoreSpares self.old self.new }
+    {
+        match id.kind {
+            Kind::Four => self.fours.remove(id.place),
+            Kind::Sixteen => self.sixteens.remove(id.place),
+            Kind::FortyEight => self.forty_eights.remove(id.place),
+            Kind::Full => self.fulls.remove(id.place),
+        }
+    }
+
+    /// Makes a node with two edges. It keeps the first P bytes of the prefix.
+    #[cold]
+    #[inline(never)]
+    pub fn new_node(&mut self, depth: usize, prefix: &[u8], low: Edge, high: Edge) -> NodeId
+        requires fits { FitsNew self.old }
+        requires ascends { low.byte < high.byte }
+        ensures made { Makes (at self.old) (at self.new) result depth (take P prefix.now) low high }
+        ensures live { live self.new ≡ live self.old + 1 }
+        ensures room { room self.old ≤ room self.new + 1 }
+    {
+        let fours = &mut self.fours;
+        let mut record = Inner {
+            depth,
+            used: 0,
+            edges: Few::pair(low, high),
+            prefix: [0; P],
+        };
+        record.used = copy_front(&mut record.prefix, prefix);
+        NodeId {
+            kind: Kind::Four,
+            place: fours.fill(record),
+        }
+    }
+
+    // Moves a full node of four children to the next kind.
+    #[cold]
+    #[inline(never)]
+    fn grow_four(&mut self, place: usize) -> NodeId
+        requires full { IsSomeAnd (slot_at self.old.fours place) (λ x. length x.edges ≡ 4) }
+        requires spare { 0 < self.old.sixteens.spare }
+        ensures moved { Renames (at self.old) (at self.new) (4 * place) result }
+        ensures place { HasPlace self.new result }
+        ensures live { live self.new ≡ live self.old }
+        ensures kind { result % 4 ≡ 1 }
+        ensures spares { Lowers 1 self.old self.new }
+    {
+        let four = self.fours.take(place);
+        let edges = Few::of_four(&four.edges);
+        let at = self.sixteens.fill(Inner {
+            depth: four.depth,
+            used: four.used,
+            edges,
+            prefix: four.prefix,
+        });
+        NodeId {
+            kind: Kind::Sixteen,
+            place: at,
+        }
+    }
+
+    // Moves a full node of sixteen children to the next kind.
+    #[cold]
+    #[inline(never)]
+    fn grow_sixteen(&mut self, place: usize) -> NodeId
+        requires full { IsSomeAnd (slot_at self.old.sixteens place) (λ x. length x.edges ≡ 16) }
+        requires spare { 0 < self.old.forty_eights.spare }
+        ensures moved { Renames (at self.old) (at self.new) (4 * place + 1) result }
+        ensures place { HasPlace self.new result }
+        ensures live { live self.new ≡ live self.old }
+        ensures kind { result % 4 ≡ 2 }
+        ensures spares { Lowers 2 self.old self.new }
+    {
+        let sixteen = self.sixteens.take(place);
+        let edges = Indexed::of_sixteen(&sixteen.edges);
+        let at = self.forty_eights.fill(Inner {
+            depth: sixteen.depth,
+            used: sixteen.used,
+            edges,
+            prefix: sixteen.prefix,
+        });
+        NodeId {
+            kind: Kind::FortyEight,
+            place: at,
+        }
+    }
+
+    // Moves a full node of 48 children to the largest kind.
+    #[cold]
+    #[inline(never)]
+    fn grow_forty_eight(&mut self, place: usize) -> NodeId
+        requires full { IsSomeAnd (slot_at self.old.forty_eights place) (λ x. length x.edges ≡ 48) }
+        requires spare { 0 < self.old.fulls.spare }
+        ensures moved { Renames (at self.old) (at self.new) (4 * place + 2) result }
+        ensures place { HasPlace self.new result }
+        ensures live { live self.new ≡ live self.old }
+        ensures kind { result % 4 ≡ 3 }
+        ensures spares { Lowers 3 self.old self.new }
+    {
+        let indexed = self.forty_eights.take(place);
+        let edges = Full::of_indexed(&indexed.edges);
+        let at = self.fulls.fill(Inner {
+            depth: indexed.depth,
+            used: indexed.used,
+            edges,
+            prefix: indexed.prefix,
+        });
+        NodeId {
+            kind: Kind::Full,
+            place: at,
+        }
+    }
+
+    /// Sees to a place for one edge more. Answers the number that the node has then.
+    pub fn widen(&mut self, id: NodeId) -> NodeId
+        requires live { IsSome (at self.old id) }
+        requires fits { FitsMore self.old id }
+        ensures moved { Renames (at self.old) (at self.new) id result }
+        ensures place { HasPlace self.new result }
+        ensures live { live self.new ≡ live self.old }
+        ensures spares { Lowers (result % 4) self.old self.new }
+    {
+        match id.kind {
+            Kind::Four => {
+                if self.fours.read(id.place).edges.count() < 4 {
+                    id
+                } else {
+                    self.grow_four(id.place)
+                }
+            }
+            Kind::Sixteen => {
+                if self.sixteens.read(id.place).edges.count() < 16 {
+                    id
+                } else {
+                    self.grow_sixteen(id.place)
+                }
+            }
+            Kind::FortyEight => {
+                if self.forty_eights.read(id.place).edges.count() < 48 {
+                    id
+                } else {
+                    self.grow_forty_eight(id.place)
+                }
+            }
+            Kind::Full => id,
+        }
+    }
+
+    // Moves a node of the kind of 16 with four children to the kind below.
+    #[cold]
+    #[inline(never)]
+    fn shrink_sixteen(&mut self, place: usize) -> NodeId
+        requires few { IsSomeAnd (slot_at self.old.sixteens place) (λ x. length x.edges ≡ 4) }
+        requires spare { 0 < self.old.fours.spare }
+        ensures moved { Renames (at self.old) (at self.new) (4 * place + 1) result }
+        ensures live { live self.new ≡ live self.old }
+    {
+        let large = self.sixteens.take(place);
+        let edges = Few::of_sixteen(&large.edges);
+        let at = self.fours.fill(Inner {
+            depth: large.depth,
+            used: large.used,
+            edges,
+            prefix: large.prefix,
+        });
+        NodeId {
+            kind: Kind::Four,
+            place: at,
+        }
+    }
+
+    // Moves a node of the kind of 48 with sixteen children to the kind below.
+    #[cold]
+    #[inline(never)]
+    fn shrink_forty_eight(&mut self, place: usize) -> NodeId
+        requires few { IsSomeAnd (slot_at self.old.forty_eights place) (λ x. length x.edges ≡ 16) }
+        requires spare { 0 < self.old.sixteens.spare }
+        ensures moved { Renames (at self.old) (at self.new) (4 * place + 2) result }
+        ensures live { live self.new ≡ live self.old }
+    {
+        let large = self.forty_eights.take(place);
+        let edges = Few::of_indexed(&large.edges);
+        let at = self.sixteens.fill(Inner {
+            depth: large.depth,
+            used: large.used,
+            edges,
+            prefix: large.prefix,
+        });
+        NodeId {
+            kind: Kind::Sixteen,
+            place: at,
+        }
+    }
+
+    // Moves a node of the kind of 256 with 48 children to the kind below.
+    #[cold]
+    #[inline(never)]
+    fn shrink_full(&mut self, place: usize) -> NodeId
+        requires few { IsSomeAnd (slot_at self.old.fulls place) (λ x. length x.edges ≡ 48) }
+        requires spare { 0 < self.old.forty_eights.spare }
+        ensures moved { Renames (at self.old) (at self.new) (4 * place + 3) result }
+        ensures live { live self.new ≡ live self.old }
+    {
+        let wide = self.fulls.take(place);
+        let edges = Indexed::of_full(&wide.edges);
+        let at = self.forty_eights.fill(Inner {
+            depth: wide.depth,
+            used: wide.used,
+            edges,
+            prefix: wide.prefix,
+        });
+        NodeId {
+            kind: Kind::FortyEight,
+            place: at,
+        }
+    }
+
+    // Sees to a spare record for a node of 4. The nodes stand where there is no memory.
+    fn spare_four(&mut self) -> Result<(), AllocError>
+        ensures same { SameNodes self.old self.new }
+        ensures live { live self.new ≡ live self.old }
+        ensures fits { OnOk result (0 < self.new.fours.spare) }
+    {
+        if P >= PREFIX_BOUND {
+            return Err(AllocError);
+        }
+        self.fours.reserve(1)
+    }
+
+    // Sees to a spare record for a node of 16. The nodes stand where there is no memory.
+    fn spare_sixteen(&mut self) -> Result<(), AllocError>
+        ensures same { SameNodes self.old self.new }
+        ensures live { live self.new ≡ live self.old }
+        ensures fits { OnOk result (0 < self.new.sixteens.spare) }
+    {
+        if P >= PREFIX_BOUND {
+            return Err(AllocError);
+        }
+        self.sixteens.reserve(1)
+    }
+
+    // Sees to a spare record for a node of 48. The nodes stand where there is no memory.
+    fn spare_forty_eight(&mut self) -> Result<(), AllocError>
+        ensures same { SameNodes self.old self.new }
+        ensures live { live self.new ≡ live self.old }
+        ensures fits { OnOk result (0 < self.new.forty_eights.spare) }
+    {
+        if P >= PREFIX_BOUND {
+            return Err(AllocError);
+        }
+        self.forty_eights.reserve(1)
+    }
+
+    /// Moves a node to the smaller kind where its children fill that: where 4, 16 or 48 are left in the next larger kind. It tries once, and the node stays where memory is refused. Answers the number that the node has then.
+    pub fn narrow(&mut self, id: NodeId) -> NodeId
+        requires { IsSome (at self.old id) }
+        ensures moved { Renames (at self.old) (at self.new) id result }
+        ensures live { live self.new ≡ live self.old }
+    {
+        match id.kind {
+            Kind::Four => id,
+            Kind::Sixteen => {
+                if self.sixteens.read(id.place).edges.count() == 4 && self.spare_four().is_ok() {
+                    self.shrink_sixteen(id.place)
+                } else {
+                    id
+                }
+            }
+            Kind::FortyEight => {
+                if self.forty_eights.read(id.place).edges.count() == 16
+                    && self.spare_sixteen().is_ok()
+                {
+                    self.shrink_forty_eight(id.place)
+                } else {
+                    id
+                }
+            }
+            Kind::Full => {
+                if self.fulls.read(id.place).edges.count() == 48
+                    && self.spare_forty_eight().is_ok()
+                {
+                    self.shrink_full(id.place)
+                } else {
+                    id
+                }
+            }
+        }
+    }
+
+    /// Sees to room for so many placements. The nodes stand where there is no memory.
+    pub fn reserve(&mut self, count: usize) -> Result<(), AllocError>
+        ensures same { SameNodes self.old self.new }
+        ensures room { room self.old ≤ room self.new }
+        ensures fits { OnOk result (count ≤ room self.new) }
+        ensures refused { OnErr result (0 < count) }
+    {
+        if count == 0 {
+            return Ok(());
+        }
+        if P >= PREFIX_BOUND {
+            return Err(AllocError);
+        }
+        self.fours.reserve(count)?;
+        self.sixteens
+            .reserve(outgrown(count, self.fours.used(), 4))?;
+        self.forty_eights
+            .reserve(outgrown(count, self.sixteens.used(), 13))?;
+        self.fulls
+            .reserve(outgrown(count, self.forty_eights.used(), 33))?;
+        Ok(())
+    }
+
+    /// Gives a node another prefix, of which it keeps the first P bytes.
+    pub fn set_prefix(&mut self, id: NodeId, prefix: &[u8])
+        requires { IsSome (at self.old id) }
+        ensures set { Reprefixes (at self.old) (at self.new) id (take P prefix.now) }
+        ensures spares { SameSpares self.old self.new }
+        ensures live { live self.new ≡ live self.old }
+    {
+        match id.kind {
+            Kind::Four => {
+                let record = self.fours.get_mut(id.place);
+                record.used = copy_front(&mut record.prefix, prefix);
+            }
+            Kind::Sixteen => {
+                let record = self.sixteens.get_mut(id.place);
+                record.used = copy_front(&mut record.prefix, prefix);
+            }
+            Kind::FortyEight => {
+                let record = self.forty_eights.get_mut(id.place);
+                record.used = copy_front(&mut record.prefix, prefix);
+            }
+            Kind::Full => {
+                let record = self.fulls.get_mut(id.place);
+                record.used = copy_front(&mut record.prefix, prefix);
+            }
+        }
+    }
+
+    /// Puts the prefix of another node and a byte in front of a node's prefix, of which it keeps the first P bytes.
+    pub fn join_prefix(&mut self, id: NodeId, upper: NodeId, byte: u8)
+        requires live { IsSome (at self.old id) }
+        requires upper { IsSome (at self.old upper) }
+        ensures joined { JoinsPrefix P (at self.old) (at self.new) id upper byte }
+        ensures spares { SameSpares self.old self.new }
+        ensures live { live self.new ≡ live self.old }
+    {
+        let above = self.node_at(upper);
+        let node = self.node_at(id);
+        let front = above.prefix();
+        let rest = node.prefix();
+        let mut prefix = [0; P];
+        let start = copy_front(&mut prefix, front);
+        let used = append(&mut prefix, start, byte, rest);
+        self.set_prefix(id, &prefix[..used]);
+    }
+
+    /// Removes every node and every spare record.
+    pub fn clear(&mut self)
+        ensures none { (j : ℕ) → at self.new j ≡ None }
+        ensures live { live self.new ≡ 0 }
+        ensures room { room self.new ≡ 0 }
+    {
+        self.fours.clear();
+        self.sixteens.clear();
+        self.forty_eights.clear();
+        self.fulls.clear();
+    }
+}
+
+// Copies as many bytes from the front as there is room for, and answers how many.
+fn copy_front(to: &mut [u8], from: &[u8]) -> usize
+    ensures within { result ≤ length to.old }
+    ensures copied { take result to.new ≡ take (length to.old) from.now }
+{
+    let count = if from.len() < to.len() {
+        from.len()
+    } else {
+        to.len()
+    };
+    to[..count].copy_from_slice(&from[..count]);
+    count
+}
+
+// Writes a byte and then others behind the first bytes, as many as there is room for. Answers how many bytes are used then.
+fn append(to: &mut [u8], used: usize, byte: u8, rest: &[u8]) -> usize
+    requires { used ≤ length to.old }
+    ensures within { result ≤ length to.old }
+    ensures appended { take result to.new
+        ≡ take (length to.old) (take used to.old ++ byte ∷ rest.now) }
+{
+    if used == to.len() {
+        return used;
+    }
+    to[used] = byte;
+    let start = used + 1;
+    start + copy_front(&mut to[start..], rest)
+}
+
+// How many of so many live nodes of a kind, and of those to come, so many placements can make outgrow it, where one that comes takes this many.
+fn outgrown(count: usize, live: usize, takes: usize) -> usize
+    requires { 0 < takes }
+    ensures few { count ≤ live → result ≡ count }
+    ensures many { live < count → result ≡ live + (count - live) / takes }
+{
+    if count <= live {
+        count
+    } else {
+        live + (count - live) / takes
+    }
+}
