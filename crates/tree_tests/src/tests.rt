@@ -5,6 +5,7 @@ ghost use Rattle.art_tree.specs.Leaves.{Has};
 mod changing;
 mod counting;
 mod looking_up;
+mod many_children;
 mod placing;
 mod random;
 mod seeking;
