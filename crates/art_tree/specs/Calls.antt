@@ -4,3 +4,4 @@ pub mod Placing
 pub mod Removing
 pub mod Seeking
 pub mod Spots
+pub mod Stops

@@ -1,5 +1,5 @@
 //! Tests of byte lists.
-ghost use Rattle.std.specs.Prelude.{◌≡◌, length};
+ghost use Rattle.std.specs.Prelude.{◌≡◌, ◌≤◌, drop, length};
 ghost use Rattle.blart_keys.specs.Bytes as spec;
 
 /// Whether b starts with a.
@@ -19,4 +19,13 @@ pub(crate) fn common_len(a: &[u8], b: &[u8]) -> usize
         n += 1;
     }
     n
+}
+
+/// How long the longest common front is of what two lists have behind so many bytes.
+pub(crate) fn common_len_behind(a: &[u8], b: &[u8], start: usize) -> usize
+    requires a { start ≤ length a.now }
+    requires b { start ≤ length b.now }
+    ensures { result ≡ length (spec.common (drop start a.now) (drop start b.now)) }
+{
+    common_len(&a[start..], &b[start..])
 }

@@ -18,6 +18,7 @@ pub mod point;
 mod remove;
 mod search;
 mod seek;
+pub(crate) mod stop;
 
 use crate::lists::begins;
 use crate::records::ids::{Child, LeafId};

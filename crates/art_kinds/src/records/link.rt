@@ -1,5 +1,6 @@
 //! A child in one word.
-ghost use Rattle.std.specs.Prelude.{◌≡◌};
+ghost use Rattle.std.specs.Prelude.{◌≡◌, ◌%◌};
+ghost use Rattle.art_kinds.specs.Numbers.{kind_of as kind_spec};
 
 use crate::records::ids::{Child, Kind, LeafId, NodeId};
 use std::marker::Model;
@@ -62,16 +63,25 @@ impl Link {
         ensures { result ≡ self }
     {
         let number = self.word / 8;
-        let kind = match self.word % 8 {
-            0 => return Child::Leaf(LeafId::new(number)),
-            1 => Kind::Four,
-            2 => Kind::Sixteen,
-            3 => Kind::FortyEight,
-            _ => Kind::Full,
-        };
+        let digit = self.word % 8;
+        if digit == 0 {
+            return Child::Leaf(LeafId::new(number));
+        }
         Child::Inner(NodeId {
-            kind,
+            kind: kind_of(digit - 1),
             place: number,
         })
+    }
+}
+
+// The kind of a digit.
+fn kind_of(digit: usize) -> Kind
+    ensures { result ≡ kind_spec (digit % 4) }
+{
+    match digit % 4 {
+        0 => Kind::Four,
+        1 => Kind::Sixteen,
+        2 => Kind::FortyEight,
+        _ => Kind::Full,
     }
 }

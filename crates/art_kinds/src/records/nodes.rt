@@ -91,8 +91,8 @@ impl<'a, const P: usize> NodeRef<'a, P> {
         }
     }
 
-    // The stored part of the compressed prefix.
-    fn prefix(&self) -> &'a [u8]
+    /// The stored part of the compressed prefix.
+    pub fn prefix(&self) -> &'a [u8]
         ensures value { result.now ≡ self.now.prefix }
         ensures small { P < 2 ^ 62 }
     {
@@ -101,6 +101,7 @@ impl<'a, const P: usize> NodeRef<'a, P> {
     }
 
     /// What stands below the edge at a byte.
+    #[inline(always)]
     pub fn find(&self, byte: u8) -> Option<Child>
         ensures { result ≡ child_at self.now.edges byte }
     {

@@ -31,14 +31,14 @@ departure mate depth byte sp = record { mate = mate; depth = depth; byte = byte;
 module _ {P : ℕ} (keys : ℕ → Option Bytes) (nodes : ℕ → Option Node) where
   module _ (n b : ℕ) (q : Bytes) (l : LeavesAtNode P keys nodes n b q) (x : Node) (is : nodes n ≡ Some x) where
     -- no key goes on by q's byte, so no edge has it
-    no_edge_there : child_at x.edges b ≡ None
+    pub no_edge_there : child_at x.edges b ≡ None
     no_edge_there = none_of (child_at x.edges b) (λ h.
         let c = some_of (child_at x.edges b) h in
         let k = some_key keys nodes l.apart.root l.apart.shape (l.apart.shape.front_of n ++ b ∷ []) c.0 ((l.apart.shape.node n x is).below b c.0 c.1) in
         l.none k.0 k.1 k.2 k.3)
 
     -- the key next to q below the edge next to its byte
-    pub beside_at_node : (is_behind : Bool) (e : Edge) → IsNextTo is_behind x.edges b e → IsChildBeside P keys nodes q e.to is_behind
+    abbrev pub beside_at_node : (is_behind : Bool) (e : Edge) → IsNextTo is_behind x.edges b e → IsChildBeside P keys nodes q e.to is_behind
     beside_at_node true e next = record {
       root = l.apart.root;
       shape = l.apart.shape;
@@ -60,7 +60,7 @@ module _ {P : ℕ} (keys : ℕ → Option Bytes) (nodes : ℕ → Option Node) w
 
   module _ (c : Child) (a b : ℕ) (q : Bytes) (l : LeavesAtEdge P keys nodes c a b q) where
     -- the key next to q below an edge that goes on by another byte
-    pub beside_at_edge : (is_behind : Bool) → is_behind ≡ ltb a b → IsChildBeside P keys nodes q c is_behind
+    abbrev pub beside_at_edge : (is_behind : Bool) → is_behind ≡ ltb a b → IsChildBeside P keys nodes q c is_behind
     beside_at_edge true e = record {
       root = l.apart.root;
       shape = l.apart.shape;

@@ -160,8 +160,8 @@ fn child_beside<const P: usize>(
     }
 }
 
-// The edge beside a byte that a node lacks, and whether the byte is behind it. Of two, one to a leaf.
-fn edge_beside<const P: usize>(
+/// The edge beside a byte that a node lacks, and whether the byte is behind it. Of two, one to a leaf.
+pub(crate) fn edge_beside<const P: usize>(
     nodes: &Nodes<P>,
     id: &NodeId,
     byte: u8,

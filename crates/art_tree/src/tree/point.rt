@@ -1,5 +1,9 @@
 //! Where some bytes stand in a tree, or would go.
-ghost use Rattle.std.specs.Prelude.{Some};
+ghost use Rattle.std.specs.Prelude.{◌≡◌, ℕ, Option, Some};
+ghost use Rattle.art_tree.specs.Begins.{Bytes};
+ghost use Rattle.art_tree.specs.Places.{LeavesMate, IsBeside};
+ghost use Rattle.art_tree.specs.Calls.Stops.{IsPlaceUnder};
+ghost use Rattle.art_kinds.specs.Nodes.{at};
 ghost use Rattle.art_tree.specs.Points.{IsGood};
 ghost use Rattle.art_tree.specs.Invariant.Sound.{IsSound};
 
@@ -7,7 +11,8 @@ use crate::records::ids::{Child, LeafId};
 use crate::records::leaves::Leaves;
 use crate::records::nodes::Nodes;
 use crate::tree::descent::end_under;
-use crate::tree::parting::{Beside, Parting, leaf_beside, parting_of};
+use crate::tree::parting::{Beside, edge_beside};
+use crate::tree::stop::{Stop, stop_of};
 use crate::visits::Visits;
 use blart_keys::AsBytes;
 
@@ -50,20 +55,51 @@ pub(crate) fn point_below<K: AsBytes, V, const P: usize>(
 {
     leaves.law();
     let mut visits = Visits::new();
-    match parting_of(leaves, nodes, root, query, &mut visits) {
-        Parting::Same(id) => Point::Exact(id),
-        Parting::Shorter(id) => Point::Related {
+    match stop_of(leaves, nodes, root, query) {
+        Stop::Same(id) => Point::Exact(id),
+        Stop::Shorter(id) => Point::Related {
             first: id,
             last: id,
         },
-        Parting::Longer(child) => Point::Related {
+        Stop::Longer(child) => Point::Related {
             first: end_under(nodes, &child, true, &mut visits),
             last: end_under(nodes, &child, false, &mut visits),
         },
-        Parting::Apart(departure) => Point::Free(Place {
-            mate: departure.mate,
-            depth: departure.depth,
-            beside: leaf_beside(nodes, &departure, query, &mut visits),
-        }),
+        Stop::AtNode(id, depth) => {
+            let (edge, is_behind) = edge_beside(nodes, &id, query[depth], &mut visits);
+            Point::Free(place_under(nodes, &edge.to, is_behind, depth))
+        }
+        Stop::AtEdge(child, depth, byte) => {
+            Point::Free(place_under(nodes, &child, byte < query[depth], depth))
+        }
+    }
+}
+
+// The place beside a child: behind the keys below it, or in front of them.
+fn place_under<const P: usize>(
+    nodes: &Nodes<P>,
+    child: &Child,
+    is_behind: bool,
+    depth: usize,
+) -> Place
+    requires { (keys : ℕ → Option Bytes) × (q : Bytes) × IsPlaceUnder P keys (at nodes.now) q depth child.now is_behind }
+    ensures leaves { (keys : ℕ → Option Bytes) (q : Bytes) → IsPlaceUnder P keys (at nodes.now) q depth child.now is_behind
+        → LeavesMate keys result.mate result.depth q }
+    ensures beside { (keys : ℕ → Option Bytes) (q : Bytes) → IsPlaceUnder P keys (at nodes.now) q depth child.now is_behind
+        → IsBeside keys q result.beside }
+{
+    let mate = end_under(nodes, child, !is_behind, &mut Visits::new());
+    if is_behind {
+        Place {
+            mate,
+            depth,
+            beside: Beside::Behind(mate),
+        }
+    } else {
+        Place {
+            mate,
+            depth,
+            beside: Beside::InFront(mate),
+        }
     }
 }
