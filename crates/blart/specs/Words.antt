@@ -13,6 +13,9 @@ pub use Rattle.blart_keys.specs.Steps.{bytes, Puts, Inserts, PutsOver}
 pub use Rattle.blart_keys.specs.Content.{IsContent, at, stores, front_of, under, between, conflict, subtree, without, IsPut, IsOver}
 pub use Rattle.blart_keys.specs.Bounds.{bound_bytes, in_order, CanRange}
 pub use Rattle.blart_keys.specs.Fronts.{fronts}
+-- many pairs at once
+pub use Rattle.blart_keys.specs.Bulk.{PutsAll, IsAppended}
+pub use Rattle.blart_map.specs.Bulk.{TakesItems, IsPairClone, AreClones, or_else}
 -- what came from a walk
 pub use Rattle.blart_keys.specs.Walks.{TakesFirst, TakesLast, Walked}
 -- what a walk that lends has left, and what the map will be

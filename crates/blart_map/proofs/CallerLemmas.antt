@@ -5,5 +5,7 @@ pub use Rattle.blart_keys.proofs.StoredLemmas.{stores_is, pair_at-bytes, pair_be
 pub use Rattle.blart_keys.proofs.StoredLemmas.{updates_put, len_put, before_put, overwrites_over, before_over, updates_without, len_without, takes_first, takes_last, writes_at, writes_before}
 -- what came from both ends of a walk
 pub use Rattle.blart_keys.proofs.WalkLemmas.{walked_start, walked_first, walked_last, walked_end}
+-- a map parted in two, and joined again
+pub use Rattle.blart_map.proofs.Appending.{joined_parts}
 -- a new pair that an entry placed and then removed
 pub use Rattle.blart_map.proofs.TakenBack.{taken_back, taken_back_fronts}

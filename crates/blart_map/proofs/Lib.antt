@@ -1,9 +1,15 @@
 pub mod Again
+pub mod Appending
+pub mod BulkPuts
 pub mod CallerLemmas
+pub mod Cloning
 pub mod EntryOf
 pub mod FreePlaces
 pub mod Inserting
+pub mod Moving
 pub mod Numbers
+pub mod Parting
+pub mod Reserved
 pub mod Setting
 pub mod SettingAt
 pub mod TakenBack

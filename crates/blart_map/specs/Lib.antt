@@ -1,3 +1,4 @@
+pub mod Bulk
 pub mod Content
 pub mod Driven
 pub mod Entry

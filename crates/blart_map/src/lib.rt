@@ -5,8 +5,10 @@
 //! keys strictly ascend, and no key's bytes begin another's.
 #![tactic(auto)]
 
+mod bulk;
 mod calls;
 mod changes;
+mod compare;
 mod entries;
 mod entry;
 mod get_or_insert;

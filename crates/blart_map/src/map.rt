@@ -30,6 +30,8 @@ use std::marker::Model;
 #[derive(Drop)]
 pub struct TreeMap<K: AsBytes, V, const PREFIX_LEN: usize> {
     pub(crate) tree: Tree<K, V, PREFIX_LEN>,
+    // for the maps that are made of this one
+    pub(crate) alloc: Global,
 }
 
 impl<K: AsBytes, V, const PREFIX_LEN: usize> Model for TreeMap<K, V, PREFIX_LEN> {
@@ -60,6 +62,7 @@ impl<K: AsBytes + Drop, V: Drop, const PREFIX_LEN: usize> TreeMap<K, V, PREFIX_L
     {
         TreeMap {
             tree: Tree::new(alloc),
+            alloc,
         }
     }
 

@@ -1,0 +1,63 @@
+-- Pairs that leave one list and come into another.
+use Rattle.std.proofs.Common.{◌≡◌, ℕ, false, inl, inr, List, [], ◌∷◌, ◌++◌, Some, None, refl, sym, ap, subst, append-nil}
+use Rattle.std.proofs.lemmas.Bool.Decides.{eqb_tells}
+use Rattle.blart_keys.specs.Bytes.{related}
+use Rattle.blart_keys.specs.Content.{IsContent, IsPut}
+use Rattle.blart_keys.proofs.PartLemmas.{related-from_PartsBelow}
+use Rattle.blart_keys.proofs.RankLemmas.{Member, Ranked-across, Ranked-right}
+use Rattle.blart_keys.proofs.ContentLemmas.{Before, Ranked-from_content, content_from_Ranked, unrelated_back, put_unique, put_between}
+use Rattle.art_tree.specs.Leaves.{Numbered, leaf_in, Has, first_number, without_number}
+use Rattle.art_walk.specs.Pairs.{pairs_of}
+
+module _ {K V : Type 0} where
+  -- the pairs are the first, and those without it
+  pub first_pair : (ps : List (Numbered K V)) (id : ℕ) (x : K × V) → first_number ps ≡ Some id → leaf_in ps id ≡ Some x → pairs_of ps ≡ x ∷ pairs_of (without_number ps id)
+  first_pair [] id x e l = absurd cc
+  first_pair (p ∷ ps) id x e l = elim (eqb_tells p.0 id) [
+    | inl t ↦
+        let f : Some p.1 ≡ Some x = rw t.0 at l in
+        let h : p.1 ≡ x = cc in
+        rw t.0 (ap (λ y. y ∷ pairs_of ps) h)
+    | inr t ↦ absurd (t.1 (let h : p.0 ≡ id = cc in h))
+  ]
+
+  -- the first is there
+  pub first_has : (ps : List (Numbered K V)) (id : ℕ) → first_number ps ≡ Some id → Has ps id
+  first_has [] id e = absurd cc
+  first_has (p ∷ ps) id e = elim (eqb_tells p.0 id) [
+    | inl t ↦ rw t.0 refl
+    | inr t ↦ absurd (t.1 (let h : p.0 ≡ id = cc in h))
+  ]
+
+  -- where there is no first there is none
+  pub no_first : (ps : List (Numbered K V)) → first_number ps ≡ None → ps ≡ []
+  no_first [] e = refl
+  no_first (p ∷ ps) e = absurd cc
+
+module _ {X : Type 0} (bytes : X → List ℕ) where
+  -- ---- an item in front of all
+
+  module _ (A B : List X) (x : X) (c : IsContent bytes (A ++ x ∷ B)) where
+    pub ahead : (y : X) → Member y B → Before bytes x y
+    ahead y m = Ranked-across (Before bytes) (x ∷ []) B (Ranked-right (Before bytes) A (x ∷ B) (Ranked-from_content bytes (A ++ x ∷ B) c)) x y (inl refl) m
+
+    pub ahead_unrelated : (y : X) → Member y B → related (bytes y) (bytes x) ≡ false
+    ahead_unrelated y m = unrelated_back (bytes x) (bytes y) (related-from_PartsBelow (bytes x) (bytes y) (ahead y m))
+
+    -- put, it is the first
+    pub put_front : (U : List X) → IsPut bytes B x U → U ≡ x ∷ B
+    put_front U put =
+        let rest : IsContent bytes B = content_from_Ranked bytes B (Ranked-right (Before bytes) (x ∷ []) B (Ranked-right (Before bytes) A (x ∷ B) (Ranked-from_content bytes (A ++ x ∷ B) c))) in
+        put_unique bytes B U (x ∷ B) x put (put_between bytes [] B x rest (λ y m. absurd m) ahead)
+
+  -- ---- an item behind all
+
+  module _ (A : List X) (x : X) (c : IsContent bytes A) (behind : (y : X) → Member y A → Before bytes y x) where
+    pub behind_unrelated : (y : X) → Member y A → related (bytes y) (bytes x) ≡ false
+    behind_unrelated y m = related-from_PartsBelow (bytes y) (bytes x) (behind y m)
+
+    -- put, it is the last
+    pub put_back : (U : List X) → IsPut bytes A x U → U ≡ A ++ x ∷ []
+    put_back U put =
+        let none = append-nil A in
+        put_unique bytes A U (A ++ x ∷ []) x put (subst (λ S. IsPut bytes S x (A ++ x ∷ [])) none (put_between bytes A [] x (subst (IsContent bytes) (sym none) c) behind (λ y m. absurd m)))

@@ -1,0 +1,7 @@
+//! Many pairs at once.
+mod append;
+mod clone;
+mod extend;
+mod from;
+mod reserved;
+mod split_off;

@@ -1,0 +1,88 @@
+//! The pairs of another map.
+ghost use Rattle.std.specs.Prelude.{◌≡◌, ◌≢◌, ◌≤◌, ℕ, List, [], length, OnOk, OnErr};
+ghost use Rattle.blart_keys.specs.Bulk.{IsAppended};
+ghost use Rattle.blart_keys.specs.Steps.{bytes};
+ghost use Rattle.blart_keys.specs.Stored.{pair_at};
+ghost use Rattle.art_tree.specs.Content.{room};
+ghost use Rattle.art_walk.specs.Pairs.{pairs_of};
+ghost use Rattle.blart_map.specs.Bulk.{or_else};
+ghost use Rattle.blart_map.specs.Content.{pairs};
+
+use crate::bulk::reserved::put_reserved;
+use crate::map::TreeMap;
+use art_tree::Tree;
+use blart_keys::NoPrefixesBytes;
+use std::alloc::AllocError;
+use std::mem::swap;
+
+impl<K: NoPrefixesBytes + Drop, V: Drop, const PREFIX_LEN: usize> TreeMap<K, V, PREFIX_LEN> {
+    /// Moves all pairs of the other map here. Where both have a key with the same bytes the other's pair stays. The other map is empty then.
+    ///
+    /// It takes the memory for as many pairs as the other map has before any of them moves; an error leaves both maps as they were. Where either map is empty it takes none. Each pair costs a removal from the other map and an insertion here.
+    ///
+    /// ```
+    /// left.insert(U32Key::new(1), 'a')?;
+    /// left.insert(U32Key::new(2), 'b')?;
+    /// right.insert(U32Key::new(2), 'c')?;
+    /// left.append(&mut right)?;
+    /// assert_eq!(left.get(&U32Key::new(2)), Some(&'c'));
+    /// assert!(right.is_empty());
+    /// ```
+    #[tactic(auto, unfolding(crate::specs::Content::pairs))]
+    pub fn append(&mut self, other: &mut Self) -> Result<(), AllocError>
+        ensures found { OnOk result ((q : List ℕ) → pair_at K.bytes (pairs self.new) q
+            ≡ or_else (pair_at K.bytes (pairs other.old) q) (pair_at K.bytes (pairs self.old) q)) }
+        ensures appended { OnOk result
+            (IsAppended (bytes K.bytes) (pairs self.old) (pairs other.old) (pairs self.new)) }
+        ensures emptied { OnOk result (pairs other.new ≡ []) }
+        ensures err { OnErr result (self.new ≡ self.old) }
+        ensures other_err { OnErr result (other.new ≡ other.old) }
+        ensures refused { OnErr result (pairs self.old ≢ []) }
+        ensures other_refused { OnErr result (pairs other.old ≢ []) }
+    {
+        self.law();
+        other.law();
+        move_into(&mut other.tree, &mut self.tree)
+    }
+}
+
+// Moves all pairs of one tree into another: all of them at once where that is empty, or one by one once there is room.
+fn move_into<K: NoPrefixesBytes + Drop, V: Drop, const P: usize>(
+    from: &mut Tree<K, V, P>,
+    to: &mut Tree<K, V, P>,
+) -> Result<(), AllocError>
+    ensures appended { OnOk result (IsAppended (bytes K.bytes) (pairs_of to.old.pairs)
+        (pairs_of from.old.pairs) (pairs_of to.new.pairs)) }
+    ensures emptied { OnOk result (from.new.pairs ≡ []) }
+    ensures err { OnErr result (to.new.pairs ≡ to.old.pairs) }
+    ensures from_err { OnErr result (from.new.pairs ≡ from.old.pairs) }
+    ensures refused { OnErr result (to.old.pairs ≢ []) }
+    ensures from_refused { OnErr result (from.old.pairs ≢ []) }
+{
+    from.law();
+    if to.is_empty() {
+        swap(from, to);
+        return Ok(());
+    }
+    to.reserve(from.len())?;
+    move_all(from, to);
+    Ok(())
+}
+
+// Moves all pairs of one tree into another, which has the room.
+fn move_all<K: NoPrefixesBytes + Drop, V: Drop, const P: usize>(
+    from: &mut Tree<K, V, P>,
+    to: &mut Tree<K, V, P>,
+)
+    requires { length from.old.pairs ≤ room to.old }
+    ensures appended { IsAppended (bytes K.bytes) (pairs_of to.old.pairs)
+        (pairs_of from.old.pairs) (pairs_of to.new.pairs) }
+    ensures emptied { from.new.pairs ≡ [] }
+{
+    from.law();
+    to.law();
+    while let Some(id) = from.first() {
+        let (key, value) = from.remove(id);
+        put_reserved(to, key, value);
+    }
+}

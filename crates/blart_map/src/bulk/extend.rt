@@ -1,0 +1,83 @@
+//! Pairs from an iterator, put one after another.
+ghost use Rattle.std.specs.Prelude.{◌≡◌, false, map, OnOk, OnErr};
+ghost use Rattle.std.specs.Iterator.{IsFinite};
+ghost use Rattle.std.specs.Map.Iter.{deref_pair};
+ghost use Rattle.blart_keys.specs.Bulk.{PutsAll};
+ghost use Rattle.blart_keys.specs.Content.{stores, IsPut};
+ghost use Rattle.blart_keys.specs.Steps.{bytes};
+ghost use Rattle.blart_map.specs.Bulk.{TakesItems};
+ghost use Rattle.blart_map.specs.Content.{pairs};
+
+use crate::map::TreeMap;
+use blart_keys::NoPrefixesBytes;
+use std::alloc::AllocError;
+use std::iter::Iterator;
+
+impl<K: NoPrefixesBytes + Drop, V: Drop, const PREFIX_LEN: usize> TreeMap<K, V, PREFIX_LEN> {
+    /// Puts the pairs that the iterator gives, one after another: each takes the place of one with the same bytes, or is added.
+    ///
+    /// An error is answered only at a pair whose bytes are new. That pair is dropped, and the ones before it stay; the iterator is asked no further.
+    ///
+    /// ```
+    /// map.extend(vec![in alloc; (U32Key::new(2), 'b'), (U32Key::new(1), 'a')]?.into_iter())?;
+    /// assert_eq!(map.len(), 2);
+    /// ```
+    pub fn extend<I: Iterator<Item = (K, V)>>(&mut self, items: I) -> Result<(), AllocError>
+        requires can { I.can_next items }
+        requires ends { IsFinite (I.remaining items) }
+        ensures { TakesItems I.next_gives items result
+            (λ xs. PutsAll (bytes K.bytes) (pairs self.old) xs (pairs self.new))
+            (λ x. stores (bytes K.bytes) (pairs self.new) (K.bytes x.0) ≡ false) }
+    {
+        for item in items {
+            if let Err(refused) = self.put(item.0, item.1) {
+                return Err(refused);
+            }
+        }
+        Ok(())
+    }
+
+    // Puts one pair.
+    pub(crate) fn put(&mut self, key: K, value: V) -> Result<(), AllocError>
+        ensures put { OnOk result
+            (IsPut (bytes K.bytes) (pairs self.old) (key, value) (pairs self.new)) }
+        ensures err { OnErr result (pairs self.new ≡ pairs self.old) }
+        ensures new { OnErr result
+            (stores (bytes K.bytes) (pairs self.new) (K.bytes key) ≡ false) }
+    {
+        self.insert(key, value)?;
+        Ok(())
+    }
+}
+
+impl<K: NoPrefixesBytes + Copy + Drop, V: Copy + Drop, const PREFIX_LEN: usize> TreeMap<
+    K,
+    V,
+    PREFIX_LEN,
+> {
+    /// Puts copies of the pairs that the iterator gives, one after another, as [`TreeMap::extend`] puts the pairs.
+    ///
+    /// ```
+    /// map.extend_copied(other.iter())?;
+    /// ```
+    pub fn extend_copied<'x, I: Iterator<Item = (&'x K, &'x V)>>(
+        &mut self,
+        items: I,
+    ) -> Result<(), AllocError>
+    where
+        K: 'x,
+        V: 'x,
+        requires can { I.can_next items }
+        requires ends { IsFinite (I.remaining items) }
+        ensures { TakesItems I.next_gives items result
+            (λ xs. PutsAll (bytes K.bytes) (pairs self.old) (map deref_pair xs) (pairs self.new))
+            (λ x. stores (bytes K.bytes) (pairs self.new) (K.bytes x.0.now) ≡ false) }
+    {
+        for item in items {
+            if let Err(refused) = self.put(*item.0, *item.1) {
+                return Err(refused);
+            }
+        }
+        Ok(())
+    }
+}

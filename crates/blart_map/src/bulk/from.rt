@@ -1,0 +1,84 @@
+//! New maps of given pairs.
+ghost use Rattle.std.specs.Prelude.{◌≡◌, ◌≢◌, [], List, IfOk, OnOk, OnErr, Some};
+ghost use Rattle.std.specs.Iterator.{IsFinite, Drains};
+ghost use Rattle.blart_keys.specs.Bulk.{PutsAll};
+ghost use Rattle.blart_keys.specs.Steps.{bytes};
+ghost use Rattle.blart_map.specs.Content.{pairs};
+
+use crate::map::TreeMap;
+use blart_keys::NoPrefixesBytes;
+use std::alloc::{AllocError, Global};
+use std::iter::Iterator;
+
+impl<K: NoPrefixesBytes + Drop, V: Drop, const PREFIX_LEN: usize> TreeMap<K, V, PREFIX_LEN> {
+    /// A map into which the pairs that the iterator gives were put, one after another: of two with the same bytes the later stays. No pairs take no memory.
+    pub fn from_iter<I: Iterator<Item = (K, V)>>(
+        alloc: Global,
+        items: I,
+    ) -> Result<Self, AllocError>
+        requires can { I.can_next items }
+        requires ends { IsFinite (I.remaining items) }
+        ensures made { IfOk result (λ map. (xs : List (K × V)) × Drains I.next_gives items xs
+            × PutsAll (bytes K.bytes) [] xs (pairs map)) }
+        ensures refused { OnErr result ((x : K × V) × (rest : I)
+            × I.next_gives items (Some x) rest) }
+    {
+        let mut map = TreeMap::with_prefix_len(alloc);
+        map.extend(items)?;
+        Ok(map)
+    }
+
+    /// A map into which the pairs were put, one after another: of two with the same bytes the later stays. No pairs take no memory.
+    ///
+    /// ```
+    /// let map = Map::from_vec(alloc, vec![in alloc; (U32Key::new(2), 'b'), (U32Key::new(1), 'a')]?)?;
+    /// assert_eq!(map.first_key_value(), Some((&U32Key::new(1), &'a')));
+    /// ```
+    pub fn from_vec(alloc: Global, items: Vec<(K, V)>) -> Result<Self, AllocError>
+        ensures made { IfOk result (λ map. PutsAll (bytes K.bytes) [] items.items (pairs map)) }
+        ensures refused { OnErr result (items.items ≢ []) }
+    {
+        let mut map = TreeMap::with_prefix_len(alloc);
+        for item in items {
+            if let Err(refused) = map.put(item.0, item.1) {
+                return Err(refused);
+            }
+        }
+        Ok(map)
+    }
+}
+
+impl<K: NoPrefixesBytes + Copy + Drop, V: Copy + Drop, const PREFIX_LEN: usize> TreeMap<
+    K,
+    V,
+    PREFIX_LEN,
+> {
+    /// A map into which the pairs were put, one after another: of two with the same bytes the later stays. No pairs take no memory.
+    ///
+    /// ```
+    /// let map = Map::from_array(alloc, [(2u8, 'b'), (1, 'a')])?;
+    /// assert_eq!(map.len(), 2);
+    /// ```
+    pub fn from_array<const N: usize>(alloc: Global, items: [(K, V); N]) -> Result<Self, AllocError>
+        ensures made { IfOk result (λ map. PutsAll (bytes K.bytes) [] items (pairs map)) }
+        ensures refused { OnErr result (items ≢ []) }
+    {
+        let mut map = TreeMap::with_prefix_len(alloc);
+        map.put_copies(&items)?;
+        Ok(map)
+    }
+
+    // Puts copies of the pairs, one after another.
+    fn put_copies(&mut self, items: &[(K, V)]) -> Result<(), AllocError>
+        ensures put { OnOk result
+            (PutsAll (bytes K.bytes) (pairs self.old) items.now (pairs self.new)) }
+        ensures refused { OnErr result (items.now ≢ []) }
+    {
+        for item in items {
+            if let Err(refused) = self.put(item.0, item.1) {
+                return Err(refused);
+            }
+        }
+        Ok(())
+    }
+}

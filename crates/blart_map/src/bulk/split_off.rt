@@ -1,0 +1,133 @@
+//! A map parted in two.
+ghost use Rattle.std.specs.Prelude.{◌≡◌, ◌≢◌, ◌≤◌, ◌<◌, ◌++◌, ℕ, List, [], length, OnOk, IfOk, OnErr, None, if◌then◌else◌};
+ghost use Rattle.std.specs.declared.ops.Bound.TheVariants.{Included, Excluded, Unbounded};
+ghost use Rattle.blart_keys.specs.Bytes.{less};
+ghost use Rattle.blart_keys.specs.Content.{between};
+ghost use Rattle.blart_keys.specs.Steps.{bytes};
+ghost use Rattle.blart_keys.specs.Stored.{pair_at, CanCount};
+ghost use Rattle.art_tree.specs.Content.{room};
+ghost use Rattle.art_walk.specs.Pairs.{pairs_of};
+ghost use Rattle.blart_map.specs.Content.{pairs};
+
+use crate::bulk::reserved::place_reserved;
+use crate::map::TreeMap;
+use art_tree::{Tree, Visits};
+use art_walk::Range;
+use blart_keys::AsBytes;
+use std::alloc::AllocError;
+use std::iter::Iterator;
+use std::mem::swap;
+use std::ops::Bound;
+
+impl<K: AsBytes + Drop, V: Drop, const PREFIX_LEN: usize> TreeMap<K, V, PREFIX_LEN> {
+    /// Keeps the pairs whose keys' bytes are less than the query's, and gives a map of the others.
+    ///
+    /// It takes the memory for the pairs that move before any of them does; an error leaves the map as it was. Where no pair moves, or all do, it takes none. Its cost is that of the pairs that move.
+    ///
+    /// ```
+    /// map.try_insert("ant", 1)?;
+    /// map.try_insert("bee", 2)?;
+    /// map.try_insert("cat", 3)?;
+    /// let rest = map.split_off(&"bee")?;
+    /// assert_eq!(map.last_key_value(), Some((&"ant", &1)));
+    /// assert_eq!(rest.first_key_value(), Some((&"bee", &2)));
+    /// ```
+    #[tactic(auto, unfolding(crate::specs::Content::pairs))]
+    pub fn split_off<Q: AsBytes>(&mut self, query: &Q) -> Result<Self, AllocError>
+        ensures kept { OnOk result ((r : List ℕ) → pair_at K.bytes (pairs self.new) r
+            ≡ (if less r (Q.bytes query.now) then pair_at K.bytes (pairs self.old) r else None)) }
+        ensures given { IfOk result (λ rest. (r : List ℕ) → pair_at K.bytes (pairs rest) r
+            ≡ (if less r (Q.bytes query.now) then None else pair_at K.bytes (pairs self.old) r)) }
+        ensures whole { IfOk result (λ rest. pairs self.old ≡ pairs self.new ++ pairs rest) }
+        ensures below { OnOk result (pairs self.new
+            ≡ between (bytes K.bytes) (pairs self.old) Unbounded (Excluded (Q.bytes query.now))) }
+        ensures from { IfOk result (λ rest. pairs rest
+            ≡ between (bytes K.bytes) (pairs self.old) (Included (Q.bytes query.now)) Unbounded) }
+        ensures err { OnErr result (self.new ≡ self.old) }
+        ensures refused { OnErr result
+            (between (bytes K.bytes) (pairs self.old) (Included (Q.bytes query.now)) Unbounded
+            ≢ []) }
+    {
+        self.law();
+        let mut tree = Tree::new(self.alloc);
+        let count = count_of(self.walk_from(query));
+        part(&mut self.tree, &mut tree, count)?;
+        Ok(TreeMap {
+            tree,
+            alloc: self.alloc,
+        })
+    }
+
+    // The pairs whose keys' bytes are not less than the query's.
+    #[tactic(auto, unfolding(crate::specs::Content::pairs))]
+    fn walk_from<Q: AsBytes>(&self, query: &Q) -> Range<'_, K, V, PREFIX_LEN>
+        ensures value { result
+            ≡ between (bytes K.bytes) (pairs self.now)
+            (Included (Q.bytes query.now)) Unbounded }
+        ensures fits { CanCount result }
+    {
+        self.law();
+        let start = Bound::Included(query.as_bytes());
+        Range::new(&self.tree, start, Bound::Unbounded, &mut Visits::new())
+    }
+}
+
+// How many pairs a walk has.
+fn count_of<K, V, const P: usize>(walk: Range<'_, K, V, P>) -> usize
+    requires { CanCount walk }
+    ensures { result ≡ length walk.entry }
+{
+    let mut walk = walk;
+    let mut count = 0;
+    while let Some(_) = walk.next() {
+        count += 1;
+    }
+    count
+}
+
+// Moves the last pairs of one tree, so many, into an empty one: all of them at once, or one by one once there is room.
+fn part<K: AsBytes + Drop, V: Drop, const P: usize>(
+    from: &mut Tree<K, V, P>,
+    to: &mut Tree<K, V, P>,
+    count: usize,
+) -> Result<(), AllocError>
+    requires enough { count ≤ length from.old.pairs }
+    requires empty { to.old.pairs ≡ [] }
+    ensures whole { OnOk result
+        (pairs_of from.old.pairs ≡ pairs_of from.new.pairs ++ pairs_of to.new.pairs) }
+    ensures moved { OnOk result (length (pairs_of to.new.pairs) ≡ count) }
+    ensures err { OnErr result (from.new.pairs ≡ from.old.pairs) }
+    ensures refused { OnErr result (0 < count) }
+{
+    if count == from.len() {
+        swap(from, to);
+    } else {
+        to.reserve(count)?;
+        move_last(from, to, count);
+    }
+    Ok(())
+}
+
+// Moves the last pairs of one tree, so many, into an empty one, which has the room.
+fn move_last<K: AsBytes + Drop, V: Drop, const P: usize>(
+    from: &mut Tree<K, V, P>,
+    to: &mut Tree<K, V, P>,
+    count: usize,
+)
+    requires enough { count ≤ length from.old.pairs }
+    requires empty { to.old.pairs ≡ [] }
+    requires room { count ≤ room to.old }
+    ensures whole { pairs_of from.old.pairs
+        ≡ pairs_of from.new.pairs ++ pairs_of to.new.pairs }
+    ensures moved { length (pairs_of to.new.pairs) ≡ count }
+{
+    from.law();
+    for _ in 0..count {
+        from.law();
+        let Some(id) = from.last() else {
+            unreachable!()
+        };
+        let (key, value) = from.remove(id);
+        place_reserved(to, key, value);
+    }
+}
