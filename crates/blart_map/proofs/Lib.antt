@@ -2,8 +2,10 @@ pub mod Again
 pub mod CallerLemmas
 pub mod EntryOf
 pub mod FreePlaces
+pub mod InnerPairs
 pub mod Inserting
 pub mod Numbers
+pub mod PrefixValues
 pub mod Setting
 pub mod SettingAt
 pub mod TakenBack
