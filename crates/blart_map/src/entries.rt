@@ -78,7 +78,8 @@ impl<K: AsBytes + Drop, V: Drop, const PREFIX_LEN: usize> TreeMap<K, V, PREFIX_L
         ensures is_for { IsPrefixEntryFor (pairs self.old) key result }
     {
         self.numbers_law();
-        match self.point_of(key.as_bytes()) {
+        let point = self.point_of(key.as_bytes());
+        match point {
             Point::Exact(id) => PrefixEntry::Occupied(PrefixOccupied::Leaf(OccupiedEntry {
                 map: self,
                 id,

@@ -101,8 +101,8 @@ impl<'a, K: AsBytes + Drop, V: Drop, const PREFIX_LEN: usize, T: 'a> InnerOccupi
             (with_value self.old.map.now self.old.first w) }
     {
         self.map.numbers_law();
-        if self.first == self.last {
-            let id = self.first;
+        let id = self.first;
+        if id == self.last {
             return Some(self.map.value_of(id));
         }
         None

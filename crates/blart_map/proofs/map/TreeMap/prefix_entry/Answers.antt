@@ -21,11 +21,11 @@ invariant_of-result-in-Empty g c =
     let kb = g.K.AsBytes.bytes in
     let ps = c.args.self.now in
     let q = kb c.args.key in
-    let good = rw c.as_bytes.ensures at c.point_of.ensures in
-    let able = opens c.point_of.result c.in-Empty.is in
+    let good = rw c.as_bytes.ensures at c.point_of-point.ensures in
+    let able = opens c.point_of-point.result c.in-Empty.is in
     record {
-      absent = open_absent kb ps c.numbers_law.ensures.content c.numbers_law.ensures.distinct q c.point_of.result good able;
-      free = open_free kb ps c.numbers_law.ensures.content c.numbers_law.ensures.distinct q c.point_of.result good able;
+      absent = open_absent kb ps c.numbers_law.ensures.content c.numbers_law.ensures.distinct q c.point_of-point.result good able;
+      free = open_free kb ps c.numbers_law.ensures.content c.numbers_law.ensures.distinct q c.point_of-point.result good able;
     }
 
 pub returns-in-Exact-clause-is_for : goal.returns-in-Exact-clause-is_for
@@ -69,11 +69,11 @@ returns-clause-is_for g c =
     let q = kb c.args.key in
     let content = c.numbers_law.ensures.content in
     let distinct = c.numbers_law.ensures.distinct in
-    let good = rw c.as_bytes.ensures at c.point_of.ensures in
-    let able = opens c.point_of.result c.in-Empty.is in
+    let good = rw c.as_bytes.ensures at c.point_of-point.ensures in
+    let able = opens c.point_of-point.result c.in-Empty.is in
     record {
       same_bytes = refl;
-      pair = open_pair kb ps content distinct q c.point_of.result good able;
-      kind = open_kind kb ps content distinct q c.point_of.result good able;
+      pair = open_pair kb ps content distinct q c.point_of-point.result good able;
+      kind = open_kind kb ps content distinct q c.point_of-point.result good able;
       fresh = λ e. refl;
     }
