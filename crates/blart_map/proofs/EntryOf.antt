@@ -1,12 +1,13 @@
 -- What a point says of the entry of its key.
-use Rattle.std.proofs.Common.{◌≡◌, ℕ, true, false, not, List, [], refl, sym, ap, ◌∙◌, subst, Some, None, option_map, is_some, bytes_eq}
+use Rattle.std.proofs.Common.{◌≡◌, ℕ, true, false, not, List, [], refl, sym, ap, ◌∙◌, subst, Option, Some, None, option_map, is_some, bytes_eq}
 use Rattle.std.specs.Option.{unwrap_or}
 use Rattle.blart_keys.specs.Bytes.{related}
 use Rattle.blart_keys.specs.Content.{IsContent, stores, conflict}
 use Rattle.blart_keys.specs.Entries.{Kind, kind_of}
 use Rattle.blart_keys.specs.Steps.{bytes as pair_bytes}
 use Rattle.blart_keys.specs.Stored.{pair_at}
-use Rattle.blart_keys.proofs.ContentLemmas.{at_Some, stored_no_conflict}
+use Rattle.blart_keys.proofs.ContentLemmas.{at_Some, stored_no_conflict, stores_found}
+use Rattle.std.proofs.lemmas.Bool.{false≢true, false_from_ne_true}
 use Rattle.blart_keys.proofs.Mapped.{find-map, list_any-map}
 use Rattle.blart_keys.proofs.RankLemmas.{Member}
 use Rattle.blart_keys.proofs.StoredLemmas.{stores_is}
@@ -14,7 +15,7 @@ use Rattle.art_tree.specs.Content.{IsOpen}
 use Rattle.art_tree.specs.Leaves.{Numbered, leaf_in, keys_in, AreDistinct, bytes}
 use Rattle.art_tree.specs.Points.{IsGood}
 use Rattle.art_tree.specs.declared.tree.point.Point.{Point}
-use Rattle.art_tree.specs.declared.tree.point.Point.TheVariants.{Exact}
+use Rattle.art_tree.specs.declared.tree.point.Point.TheVariants.{Exact, Related}
 use Rattle.art_tree.proofs.CallerLemmas.{leaf_in-member}
 use Rattle.art_walk.specs.Pairs.{pairs_of}
 use Rattle.blart_map.proofs.Inserting.{conflict_pairs, open_alone, alone_absent, alone_no_conflict, alone_none}
@@ -47,6 +48,25 @@ module _ {K V : Type 0} (kb : K → List ℕ) (ps : List (Numbered K V)) (conten
 
     pub exact_some : {A : Type 0} → leaf_in ps id ≡ None → A
     exact_some e = absurd (let f : Some leaf.0 ≡ None = sym leaf.1 ∙ e in cc)
+
+  -- ---- at a conflict
+
+  module _ (first last : ℕ) (good : IsGood kb ps (Related first last) q) where
+    related_absent : stores (pair_bytes kb) (pairs_of ps) q ≡ false
+    related_absent =
+        list_any-map (λ p. p.1) (λ x. bytes_eq (kb x.0) q) ps ∙ false_from_ne_true (stores (bytes kb) ps q) (λ t.
+        let r = stores_found (bytes kb) ps q t in
+        false≢true (sym (subst (λ q. conflict (bytes kb) ps q ≡ false) r.2 (stored_no_conflict (bytes kb) ps content r.0 r.1)) ∙ good.0))
+
+    pub related_kind : Kind.Inner ≡ kind_of (pair_bytes kb) (pairs_of ps) q
+    related_kind = let b : conflict (pair_bytes kb) (pairs_of ps) q ≡ true = conflict_pairs kb ps q ∙ good.0 in rw (related_absent, b) refl
+
+    pub related_pair : None ≡ pair_at kb (pairs_of ps) q
+    related_pair = none (pair_at kb (pairs_of ps) q) (sym (stores_is kb (pairs_of ps) q) ∙ related_absent)
+      where
+        none : (o : Option (K × V)) → is_some o ≡ false → None ≡ o
+        none None e = refl
+        none (Some x) e = absurd (false≢true (sym e))
 
   -- ---- where a pair may be placed
 

@@ -48,20 +48,20 @@ module _ {K V : Type 0} (test : Numbered K V → Bool) where
 
 module _ {K V : Type 0} where
   -- the first of a list that has two ends
-  record Ends (S : List (Numbered K V)) (first last : ℕ) : Type 0 where
-    pair : K × V
-    second : Numbered K V
-    rest : List (Numbered K V)
-    is : S ≡ (first, pair) ∷ second ∷ rest
+  pub record Ends (S : List (Numbered K V)) (first last : ℕ) : Type 0 where
+    pub pair : K × V
+    pub second : Numbered K V
+    pub rest : List (Numbered K V)
+    pub is : S ≡ (first, pair) ∷ second ∷ rest
 
   -- a list whose ends differ begins with two pairs
-  ends : (S : List (Numbered K V)) (first last : ℕ) → first_number S ≡ Some first → last_number S ≡ Some last → first ≢ last → Ends S first last
+  pub ends : (S : List (Numbered K V)) (first last : ℕ) → first_number S ≡ Some first → last_number S ≡ Some last → first ≢ last → Ends S first last
   ends [] first last e f off = absurd cc
   ends (p ∷ []) first last e f off = let a : p.0 ≡ first = cc in let b : p.0 ≡ last = cc in absurd (off (sym a ∙ b))
   ends (p ∷ q ∷ S) first last e f off = let a : p.0 ≡ first = cc in record { pair = p.1; second = q; rest = S; is = λ j. (a j, p.1) ∷ q ∷ S }
 
   -- the only one of a list whose ends are one
-  only_one : (S : List (Numbered K V)) (i : ℕ) → AreDistinct S → first_number S ≡ Some i → last_number S ≡ Some i → (x : K × V) × (S ≡ (i, x) ∷ [])
+  pub only_one : (S : List (Numbered K V)) (i : ℕ) → AreDistinct S → first_number S ≡ Some i → last_number S ≡ Some i → (x : K × V) × (S ≡ (i, x) ∷ [])
   only_one [] i d e f = absurd cc
   only_one (p ∷ []) i d e f = let a : p.0 ≡ i = cc in (p.1, λ j. (a j, p.1) ∷ [])
   only_one (p ∷ q ∷ S) i d e f = let a : p.0 ≡ i = cc in absurd (has_not_lacks (q ∷ S) i (Has-last (q ∷ S) i f) (subst (Lacks (q ∷ S)) a d.0))

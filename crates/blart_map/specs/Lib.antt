@@ -3,12 +3,15 @@ pub mod Content
 pub mod Driven
 pub mod Entry
 pub mod EntryLends
+pub mod InnerEntry
+pub mod InnerLends
 pub mod Lent
 pub mod MapLends
 pub mod Modified
 pub mod OccupiedEntry
 pub mod OccupiedLends
 pub mod Places
+pub mod PrefixEntry
 pub mod Spans
 pub mod Written
 pub mod LendingWalk

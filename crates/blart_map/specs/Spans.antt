@@ -1,14 +1,23 @@
 -- The leaves whose keys are related to some bytes.
-use Rattle.std.specs.Prelude.{◌≡◌, ◌↔◌, ℕ, false, List, Some}
+use Rattle.std.specs.Prelude.{◌≡◌, ◌↔◌, ℕ, Bool, false, cond, eqb, List, Option, Some, None}
 use Rattle.blart_keys.specs.Bytes.{related}
 use Rattle.blart_keys.specs.Content.{subtree}
 use Rattle.art_tree.specs.Leaves.{Numbered, leaf_in, first_number, last_number, bytes}
+
+-- whether there is a number, and it is this one
+abbrev pub is_number : Option ℕ → ℕ → Bool
+is_number None i = false
+is_number (Some j) i = eqb j i
 
 module _ {K V : Type 0} (key_bytes : K → List ℕ) where
   -- the pairs related to q stand from the first leaf to the last
   pub record Spans (pairs : List (Numbered K V)) (q : List ℕ) (first last : ℕ) : Type 0 where
     pub first_is : first_number (subtree (bytes key_bytes) pairs q) ≡ Some first
     pub last_is : last_number (subtree (bytes key_bytes) pairs q) ≡ Some last
+
+  -- whether they do
+  abbrev pub spans : List (Numbered K V) → List ℕ → ℕ → ℕ → Bool
+  spans pairs q first last = cond (is_number (first_number (subtree (bytes key_bytes) pairs q)) first) (is_number (last_number (subtree (bytes key_bytes) pairs q)) last) false
 
   -- the numbers of pairs not related to q name what they named
   abbrev pub UnrelatedStand : List (Numbered K V) → List ℕ → List (Numbered K V) → Type 0

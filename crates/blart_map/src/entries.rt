@@ -4,11 +4,15 @@ ghost use Rattle.std.specs.Borrow.{sem};
 ghost use Rattle.blart_keys.specs.Stored.{overlaps, pair_before};
 ghost use Rattle.blart_map.specs.Content.{pairs};
 ghost use Rattle.blart_map.specs.Entry.{Occupied, entry_ref, entry_pair, IsEntryFor};
+ghost use Rattle.blart_map.specs.PrefixEntry.{prefix_ref, IsPrefixEntryFor};
 ghost use Rattle.blart_map.specs.EntryLends.{rests_if_refused, rests_if_none};
 
 use crate::entry::Entry;
+use crate::inner::InnerOccupiedEntry;
 use crate::map::TreeMap;
 use crate::occupied::OccupiedEntry;
+use crate::prefix_entry::PrefixEntry;
+use crate::prefix_occupied::PrefixOccupied;
 use crate::vacant::VacantEntry;
 use art_tree::Point;
 use blart_keys::{AsBytes, InsertPrefixError, NoPrefixesBytes};
@@ -48,6 +52,53 @@ impl<K: AsBytes + Drop, V: Drop, const PREFIX_LEN: usize> TreeMap<K, V, PREFIX_L
                 key,
                 lender: PhantomData,
             })),
+        }
+    }
+
+    /// The entry of the key, which takes in the pairs to which it is related where it conflicts with some. Takes no memory.
+    ///
+    /// Where the key's bytes are stored the key handed in is dropped, and the stored key stays.
+    ///
+    /// ```
+    /// map.try_insert("car", 1)?;
+    /// map.try_insert("cat", 2)?;
+    /// match map.prefix_entry("ca") {
+    ///     PrefixEntry::Occupied(PrefixOccupied::Leaf(entry)) => *entry.into_mut() += 1,
+    ///     PrefixEntry::Occupied(PrefixOccupied::Inner(entry)) => *entry.insert(0) += 1,
+    ///     PrefixEntry::Vacant(entry) => *entry.insert(0)? += 1,
+    /// }
+    /// assert_eq!(map.first_key_value(), Some((&"ca", &1)));
+    /// ```
+    pub fn prefix_entry(
+        &mut self,
+        key: K,
+    ) -> PrefixEntry<'_, K, V, PREFIX_LEN, TreeMap<K, V, PREFIX_LEN>>
+        ensures same_map { (prefix_ref result).ghost_name ≡ self.entry.ghost_name }
+        ensures unchanged { (prefix_ref result).now ≡ self.old }
+        ensures is_for { IsPrefixEntryFor (pairs self.old) key result }
+    {
+        self.numbers_law();
+        let point = self.point_of(key.as_bytes());
+        match point {
+            Point::Exact(id) => PrefixEntry::Occupied(PrefixOccupied::Leaf(OccupiedEntry {
+                map: self,
+                id,
+                lender: PhantomData,
+            })),
+            Point::Related { first, last } => {
+                PrefixEntry::Occupied(PrefixOccupied::Inner(InnerOccupiedEntry {
+                    map: self,
+                    key,
+                    first,
+                    last,
+                    lender: PhantomData,
+                }))
+            }
+            Point::Empty | Point::Free(_) => PrefixEntry::Vacant(VacantEntry {
+                map: self,
+                key,
+                lender: PhantomData,
+            }),
         }
     }
 

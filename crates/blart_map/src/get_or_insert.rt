@@ -55,7 +55,7 @@ impl<K: NoPrefixesBytes + Drop, V: Drop, const PREFIX_LEN: usize> TreeMap<K, V, 
     {
         self.numbers_law();
         match self.lawful_point(&key) {
-            Point::Exact(id) => Ok(self.value_of(id)),
+            Point::Exact(leaf) => Ok(self.value_of(leaf)),
             Point::Related { .. } => unreachable!(),
             Point::Empty | Point::Free(_) => match self.place_new_with(key, value) {
                 Ok(id) => Ok(self.value_of(id)),

@@ -12,6 +12,7 @@ mod compare;
 mod entries;
 mod entry;
 mod get_or_insert;
+mod inner;
 mod insertions;
 mod into_walks;
 mod map;
@@ -19,6 +20,8 @@ mod numbered;
 mod occupied;
 mod over;
 mod placing;
+mod prefix_entry;
+mod prefix_occupied;
 mod retaining;
 mod vacant;
 mod walks;
@@ -26,16 +29,19 @@ mod writes;
 
 pub use art_tree::{DEFAULT_PREFIX_LEN, Visits};
 pub use art_walk::{
-    BelowFront, Cursor, InRange, IntoIter, IntoKeys, IntoValues, Iter, Keys, Prefix, Range,
-    SubtreeIter, Values, ValuesAlone, WithKeys,
+    BelowFront, Cursor, InRange, InSubtree, IntoIter, IntoKeys, IntoValues, Iter, Keys, Prefix,
+    Range, SubtreeIter, Values, ValuesAlone, WithKeys,
 };
 pub use blart_keys::{Call, InsertPrefixError, Reply, TryInsertError};
 pub use calls::{bounds_in_order, drive};
 pub use entry::Entry;
+pub use inner::InnerOccupiedEntry;
 pub use map::TreeMap;
 pub use occupied::OccupiedEntry;
+pub use prefix_entry::PrefixEntry;
+pub use prefix_occupied::PrefixOccupied;
 pub use vacant::VacantEntry;
 pub use walks::counted_walk::{CountedWalk, IterMut, ValuesMut};
 pub use walks::extract_if::ExtractIf;
-pub use walks::lending_walk::{LendingWalk, PrefixMut, RangeMut};
+pub use walks::lending_walk::{LendingWalk, PrefixMut, RangeMut, SubtreeIterMut};
 pub use walks::take_walk::TakeWalk;

@@ -1,5 +1,5 @@
 //! Calls by the number of a leaf, and placements, for who holds a map.
-ghost use Rattle.std.specs.Prelude.{◌≡◌, ◌≢◌, ℕ, false, option_map, Some, IfOk, OnErr};
+ghost use Rattle.std.specs.Prelude.{◌≡◌, ◌≢◌, ℕ, false, eqb, option_map, is_some, Some, IfOk, IfSome, OnErr};
 ghost use Rattle.std.specs.Borrow.{sem};
 ghost use Rattle.std.specs.Fn.{FnOnceReturnsAt};
 ghost use denote.Ref.{Bor};
@@ -7,14 +7,20 @@ ghost use Rattle.blart_keys.specs.Content.{stores, conflict, front_of, IsContent
 ghost use Rattle.art_tree.specs.Leaves.{leaf_in, Has, AreDistinct, without_number, bytes};
 ghost use Rattle.art_tree.specs.Points.{IsGood};
 ghost use Rattle.art_tree.specs.declared.tree.point.Point.TheVariants.{Related};
+ghost use Rattle.art_walk.specs.Cursor.{span_of, IsSpan};
+ghost use Rattle.art_walk.specs.Pairs.{pairs_of};
+ghost use Rattle.blart_map.specs.EntryLends.{rests_if_none};
 ghost use Rattle.blart_map.specs.MapLends.{map_lends_leaf};
 ghost use Rattle.blart_map.specs.Places.{IsPlaced};
 
 use crate::map::TreeMap;
+use crate::occupied::OccupiedEntry;
 use crate::placing::room_for;
 use art_tree::{LeafId, Point, Visits};
+use art_walk::SubtreeIter;
 use blart_keys::{AsBytes, NoPrefixesBytes};
 use std::alloc::AllocError;
+use std::marker::PhantomData;
 
 impl<K: AsBytes + Drop, V: Drop, const PREFIX_LEN: usize> TreeMap<K, V, PREFIX_LEN> {
     // What holds of the numbered pairs.
@@ -33,6 +39,18 @@ impl<K: AsBytes + Drop, V: Drop, const PREFIX_LEN: usize> TreeMap<K, V, PREFIX_L
         self.tree.leaf(id, &mut Visits::new())
     }
 
+    // The pairs from one leaf through another.
+    pub(crate) fn iter_between(
+        &self,
+        first: LeafId,
+        last: LeafId,
+    ) -> SubtreeIter<'_, K, V, PREFIX_LEN>
+        requires { IsSpan self.now first last }
+        ensures { result ≡ pairs_of (span_of self.now first last) }
+    {
+        SubtreeIter::new(&self.tree, first, last)
+    }
+
     // The value of a leaf, to be written.
     pub(crate) fn value_of(&mut self, id: LeafId) -> &mut V
         requires { Has self.old id }
@@ -40,6 +58,31 @@ impl<K: AsBytes + Drop, V: Drop, const PREFIX_LEN: usize> TreeMap<K, V, PREFIX_L
         ensures value { option_map (λ p. p.1) (leaf_in self.old id) ≡ Some result.now }
     {
         self.tree.value_mut(id)
+    }
+
+    // The entry of a leaf, where it is the last as well.
+    pub(crate) fn only_entry(
+        &mut self,
+        first: LeafId,
+        last: LeafId,
+    ) -> Option<OccupiedEntry<'_, K, V, PREFIX_LEN, TreeMap<K, V, PREFIX_LEN>>>
+        requires { Has self.old first }
+        ensures* stands { sem 𝓛
+            (rests_if_none K.row V.row PREFIX_LEN.row K.AsBytes self.entry result) }
+        ensures found { is_some result ≡ eqb first last }
+        ensures same_map { IfSome result (λ o. o.map.ghost_name ≡ self.entry.ghost_name) }
+        ensures unchanged { IfSome result (λ o. o.map.now ≡ self.old) }
+        ensures leaf { IfSome result (λ o. o.id ≡ first) }
+    {
+        if first == last {
+            Some(OccupiedEntry {
+                map: self,
+                id: first,
+                lender: PhantomData,
+            })
+        } else {
+            None
+        }
     }
 
     // Removes the pair of a leaf, and gives it.

@@ -4,6 +4,7 @@ ghost use Rattle.blart_keys.specs.Bytes.{begins};
 ghost use Rattle.blart_keys.specs.Content.{IsOver};
 ghost use Rattle.blart_keys.specs.Steps.{bytes, PutsOver};
 ghost use Rattle.blart_keys.specs.Stored.{pair_before, has, overlaps, Overwrites};
+ghost use Rattle.art_tree.specs.Leaves.{leaf_in};
 ghost use Rattle.art_walk.specs.Pairs.{pairs_of};
 ghost use Rattle.blart_map.specs.Content.{pairs};
 ghost use Rattle.blart_map.specs.Spans.{Spans, LeavesOne};
@@ -53,6 +54,16 @@ impl<K: AsBytes + Drop, V: Drop, const PREFIX_LEN: usize> TreeMap<K, V, PREFIX_L
             }
         }
     }
+
+    // Puts the pair in the place of the related ones, from the first leaf to the last, under the number of the last.
+    pub(crate) fn overwrite(&mut self, first: LeafId, last: LeafId, key: K, value: V)
+        requires { Spans K.bytes self.old (K.bytes key) first last }
+        ensures over { IsOver (bytes K.bytes) (pairs_of self.old) (key, value)
+            (pairs_of self.new) }
+        ensures now { leaf_in self.new last ≡ Some (key, value) }
+    {
+        put_over(&mut self.tree, first, last, key, value)
+    }
 }
 
 // Puts the pair in the place of the related ones, from the first leaf to the last.
@@ -64,8 +75,9 @@ fn put_over<K: AsBytes + Drop, V: Drop, const P: usize>(
     value: V,
 )
     requires { Spans K.bytes tree.old.pairs (K.bytes key) first last }
-    ensures { IsOver (bytes K.bytes) (pairs_of tree.old.pairs) (key, value)
+    ensures over { IsOver (bytes K.bytes) (pairs_of tree.old.pairs) (key, value)
         (pairs_of tree.new.pairs) }
+    ensures now { leaf_in tree.new.pairs last ≡ Some (key, value) }
 {
     tree.law();
     leave_one(tree, first, last, key.as_bytes());

@@ -6,7 +6,7 @@ ghost use Rattle.art_walk.specs.Lent.{walk_fits, numbers};
 
 use crate::map::TreeMap;
 use art_tree::LeafId;
-use art_walk::{BelowFront, Cursor, InRange};
+use art_walk::{BelowFront, Cursor, InRange, InSubtree};
 use blart_keys::AsBytes;
 
 /// The values whose keys are within two bounds, each lent in turn.
@@ -18,6 +18,15 @@ pub type PrefixMut<'a, K, V, const PREFIX_LEN: usize> = LendingWalk<
     K,
     V,
     BelowFront,
+    PREFIX_LEN,
+>;
+
+/// The values of the pairs to which a key is related, each lent in turn.
+pub type SubtreeIterMut<'a, K, V, const PREFIX_LEN: usize> = LendingWalk<
+    'a,
+    K,
+    V,
+    InSubtree,
     PREFIX_LEN,
 >;
 

@@ -1,4 +1,6 @@
-use Rattle.std.proofs.Common.{lit<, subst}
+use Rattle.std.proofs.Common.{lit<, subst, ap, ◌∙◌}
+use Rattle.art_tree.specs.Leaves.{leaf_in}
+use Rattle.art_tree.proofs.CallerLemmas.{leaf_in-with_now}
 use Rattle.blart_map.specs.Spans.{LeavesOne}
 use Rattle.blart_map.proofs.Thinning.{first_has, one_takes, over_one}
 use Rattle.blart_map.proofs.over.put_over.Goals as goal
@@ -10,11 +12,18 @@ swap-requires g c =
     let one = rw c.as_bytes.ensures at c.leave_one.ensures.one in
     (lit< tt, (first_has kb mid c.law-2.ensures.content c.law-2.ensures.distinct (kb c.args.key) c.args.last c.args.last one, one_takes kb mid c.law-2.ensures.content c.law-2.ensures.distinct (kb c.args.key) c.args.last one))
 
-pub returns : goal.returns
-returns g c =
+pub returns-clause-over : goal.returns-clause-over
+returns-clause-over g c =
     let kb = g.K.AsBytes.bytes in
     let old = c.args.tree.now.pairs in
     let mid = c.leave_one.new.tree.pairs in
     let new = c.swap.new.self.pairs in
     let one = subst (λ q. LeavesOne kb old q c.args.last mid) c.as_bytes.ensures c.leave_one.ensures in
     over_one kb old mid new c.args.last (c.args.key, c.args.value) c.law.ensures.distinct c.law-2.ensures.content c.law-2.ensures.distinct c.law-3.ensures.content c.law-3.ensures.distinct one c.swap.ensures.pairs
+
+pub returns-clause-now : goal.returns-clause-now
+returns-clause-now g c =
+    let kb = g.K.AsBytes.bytes in
+    let mid = c.leave_one.new.tree.pairs in
+    let one = rw c.as_bytes.ensures at c.leave_one.ensures.one in
+    ap (λ ps. leaf_in ps c.args.last) c.swap.ensures.pairs ∙ leaf_in-with_now mid c.args.last (c.args.key, c.args.value) (first_has kb mid c.law-2.ensures.content c.law-2.ensures.distinct (kb c.args.key) c.args.last c.args.last one)

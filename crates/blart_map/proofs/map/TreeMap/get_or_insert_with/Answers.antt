@@ -10,7 +10,7 @@ use Rattle.blart_map.proofs.map.TreeMap.get_or_insert_with.Goals as goal
 pub value_of-requires : goal.value_of-requires
 value_of-requires g c =
     let kb = g.K.AsBytes.bytes in
-    (lit< tt, exact_has kb c.args.self.now c.numbers_law.ensures.content c.numbers_law.ensures.distinct (kb c.args.key) c.in-Exact.id c.in-Exact.ensures.good)
+    (lit< tt, exact_has kb c.args.self.now c.numbers_law.ensures.content c.numbers_law.ensures.distinct (kb c.args.key) c.in-Exact.leaf c.in-Exact.ensures.good)
 
 pub returns-in-Exact : goal.returns-in-Exact
 unfolding pairs
@@ -20,10 +20,10 @@ returns-in-Exact g c =
     let content = c.numbers_law.ensures.content in
     let distinct = c.numbers_law.ensures.distinct in
     let good = c.in-Exact.ensures.good in (
-      (refl, (λ w o. exact_set_at kb ps (pairs_of ps) refl content distinct c.args.key c.in-Exact.id good w), tt),
+      (refl, (λ w o. exact_set_at kb ps (pairs_of ps) refl content distinct c.args.key c.in-Exact.leaf good w), tt),
       record {
         writes_back = tt;
-        value = exact_or_else kb ps (pairs_of ps) refl content distinct c.args.key c.in-Exact.id good c.value_of.result.now (g.F.FnOnce.post c.args.value tt) c.value_of.ensures.value;
+        value = exact_or_else kb ps (pairs_of ps) refl content distinct c.args.key c.in-Exact.leaf good c.value_of.result.now (g.F.FnOnce.post c.args.value tt) c.value_of.ensures.value;
         absent = tt;
       },
     )

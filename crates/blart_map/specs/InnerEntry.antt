@@ -1,0 +1,49 @@
+-- What the contracts of an inner entry cite.
+use Rattle.std.specs.Prelude.{◌≡◌, ℕ, List, [], ◌∷◌, length, Option, Some, None, IfSome}
+use Rattle.blart_keys.specs.declared.AsBytes.{Ghosts}
+use Rattle.blart_keys.specs.Content.{subtree, IsOver}
+use Rattle.blart_keys.specs.Steps.{bytes as pair_bytes}
+use Rattle.blart_keys.specs.Stored.{value_at, Overwrites, Updates}
+use Rattle.art_tree.specs.Leaves.{Numbered}
+use Rattle.blart_map.specs.Content.{pairs}
+use Rattle.blart_map.specs.Entry.{Occupied, entry_pair, entry_bytes}
+use Rattle.blart_map.specs.declared.occupied.OccupiedEntry.{OccupiedEntry}
+use Rattle.blart_map.specs.declared.inner.InnerOccupiedEntry.{InnerOccupiedEntry}
+
+-- the only item of a list that has one
+abbrev pub only : {X : Type 0} → List X → Option X
+only [] = None
+only (x ∷ []) = Some x
+only (x ∷ y ∷ xs) = None
+
+module _ {K V T : Type 0} {P : ℕ} {g : Ghosts K} where
+  -- the pairs to which the key is related
+  abbrev pub related_pairs : InnerOccupiedEntry K V P T g → List (K × V)
+  related_pairs e = subtree (pair_bytes g.bytes) (pairs e.map.now) (g.bytes e.key)
+
+  -- the only one of them
+  abbrev pub inner_pair : InnerOccupiedEntry K V P T g → Option (K × V)
+  inner_pair e = only (related_pairs e)
+
+  -- d is the entry, whose map has these pairs now
+  pub record IsInnerWith (e : InnerOccupiedEntry K V P T g) (n : List (Numbered K V)) (d : InnerOccupiedEntry K V P T g) : Type 0 where
+    pub same_map : d.map.ghost_name ≡ e.map.ghost_name
+    pub now : d.map.now ≡ n
+    pub same_key : d.key ≡ e.key
+    pub same_first : d.first ≡ e.first
+    pub same_last : d.last ≡ e.last
+
+  -- if there is only one of them, it has the value w, all else is as it was
+  abbrev pub IsOnlyWritten : InnerOccupiedEntry K V P T g → V → List (Numbered K V) → Type 0
+  IsOnlyWritten e w n = IfSome (inner_pair e) (λ p. Updates g.bytes (pairs e.map.now) (pairs n) (g.bytes p.0) (Some (p.0, w)) × (length (pairs n) ≡ length (pairs e.map.now)))
+
+  -- the key has the value w, in the place of all pairs to which it was related: as its users see it, and as a list
+  abbrev pub IsOverSet : InnerOccupiedEntry K V P T g → V → List (Numbered K V) → Type 0
+  IsOverSet e w n = Overwrites g.bytes (pairs e.map.now) (e.key, w) (pairs n) × (value_at g.bytes (pairs n) (g.bytes e.key) ≡ Some w) × IsOver (pair_bytes g.bytes) (pairs e.map.now) (e.key, w) (pairs n)
+
+  -- o is the entry of the key, once it has the value w in the place of all pairs to which it was related
+  pub record IsOverEntry (e : InnerOccupiedEntry K V P T g) (w : V) (o : OccupiedEntry K V P T g) : Type 0 where
+    pub same_map : o.map.ghost_name ≡ e.map.ghost_name
+    pub set : IsOverSet e w o.map.now
+    pub pair : entry_pair (Occupied o) ≡ Some (e.key, w)
+    pub same_bytes : entry_bytes (Occupied o) ≡ g.bytes e.key

@@ -1,0 +1,215 @@
+//! A key to which pairs of a map are related.
+ghost use Rattle.std.specs.Prelude.{◌≡◌, true, option_map, option_copied, is_some, IfSome};
+ghost use Rattle.std.specs.Option.{option_copied_mut};
+ghost use Rattle.std.specs.Borrow.{sem};
+ghost use Rattle.blart_keys.specs.Bytes.{related};
+ghost use Rattle.blart_keys.specs.Content.{subtree};
+ghost use Rattle.blart_keys.specs.Stored.{shown, CanCount};
+ghost use Rattle.art_tree.specs.Leaves.{with_value, bytes};
+ghost use Rattle.blart_map.specs.Content.{pairs};
+ghost use Rattle.blart_map.specs.Spans.{spans};
+
+use crate::map::TreeMap;
+use crate::occupied::OccupiedEntry;
+use crate::walks::lending_walk::{LendingWalk, SubtreeIterMut};
+use art_tree::LeafId;
+use art_walk::{Cursor, InSubtree, SubtreeIter};
+use blart_keys::AsBytes;
+use std::marker::PhantomData;
+
+/// A key that a map lacks, and that conflicts with some of its keys: the place of the pairs to which it is related. None of its calls takes memory.
+///
+/// Two keys are related if the bytes of one begin those of the other. Either one key begins the entry's, and then it is the only one, or there are one or more that the entry's begins.
+///
+/// ```
+/// map.try_insert("car", 1)?;
+/// map.try_insert("cat", 2)?;
+/// if let PrefixEntry::Occupied(PrefixOccupied::Inner(entry)) = map.prefix_entry("ca") {
+///     assert_eq!(entry.iter().len(), 2);
+///     *entry.insert(3) += 1;
+/// }
+/// assert_eq!(map.len(), 1);
+/// assert_eq!(map.get(&"ca"), Some(&4));
+/// ```
+#[derive(Drop)]
+pub struct InnerOccupiedEntry<'a, K: AsBytes, V, const PREFIX_LEN: usize, T: 'a> {
+    pub(crate) map: &'a mut TreeMap<K, V, PREFIX_LEN>,
+    pub(crate) key: K,
+    // the first and the last leaf to whose keys the key is related
+    pub(crate) first: LeafId,
+    pub(crate) last: LeafId,
+    pub(crate) lender: PhantomData<T>,
+    ghost stands: { spans K.bytes map.now (K.bytes key) first last ≡ true },
+}
+
+impl<'a, K: AsBytes + Drop, V: Drop, const PREFIX_LEN: usize, T: 'a> InnerOccupiedEntry<
+    'a,
+    K,
+    V,
+    PREFIX_LEN,
+    T,
+> {
+    ghost use Rattle.blart_map.specs.InnerEntry.{related_pairs, inner_pair, IsOnlyWritten};
+    ghost use Rattle.blart_map.specs.InnerLends.{inner_value_lends};
+
+    /// The key that was handed in.
+    pub fn key(&self) -> &K
+        ensures { result.now ≡ self.now.key }
+    {
+        &self.key
+    }
+
+    // The only related pair.
+    fn get_key_value(&self) -> Option<(&K, &V)>
+        ensures { shown result ≡ inner_pair self.now }
+    {
+        self.map.numbers_law();
+        if self.first == self.last {
+            Some(self.map.pair_of(self.first))
+        } else {
+            None
+        }
+    }
+
+    /// The value of the only related pair; `None` where there are more.
+    pub fn get(&self) -> Option<&V>
+        ensures { option_copied result ≡ option_map (λ pair. pair.1) (inner_pair self.now) }
+    {
+        match self.get_key_value() {
+            Some(pair) => Some(pair.1),
+            None => None,
+        }
+    }
+
+    /// The key of the only related pair; `None` where there are more.
+    pub fn get_key(&self) -> Option<&K>
+        ensures { option_copied result ≡ option_map (λ pair. pair.0) (inner_pair self.now) }
+    {
+        match self.get_key_value() {
+            Some(pair) => Some(pair.0),
+            None => None,
+        }
+    }
+
+    /// The value of the only related pair, to be written; `None` where there are more.
+    pub fn get_mut(&mut self) -> Option<&mut V>
+        ensures* writes_back { sem 𝓛
+            (inner_value_lends K.row V.row PREFIX_LEN.row T.row K.AsBytes self.entry result) }
+        ensures value { option_copied_mut result
+            ≡ option_map (λ pair. pair.1) (inner_pair self.old) }
+        ensures written { (w : V) → IsOnlyWritten self.old w
+            (with_value self.old.map.now self.old.first w) }
+    {
+        self.map.numbers_law();
+        let id = self.first;
+        if id == self.last {
+            return Some(self.map.value_of(id));
+        }
+        None
+    }
+
+    /// The related pairs, ascending by their keys' bytes, from both ends. Takes no memory; each step is one visit.
+    pub fn iter(&self) -> SubtreeIter<'_, K, V, PREFIX_LEN>
+        ensures value { result ≡ related_pairs self.now }
+        ensures fits { CanCount result }
+    {
+        self.map.law();
+        self.map.numbers_law();
+        self.map.iter_between(self.first, self.last)
+    }
+}
+
+impl<'a, K: AsBytes + Drop, V: Drop, const PREFIX_LEN: usize> InnerOccupiedEntry<
+    'a,
+    K,
+    V,
+    PREFIX_LEN,
+    TreeMap<K, V, PREFIX_LEN>,
+> {
+    ghost use Rattle.blart_map.specs.Entry.{Occupied, entry_pair};
+    ghost use Rattle.blart_map.specs.InnerEntry.{inner_pair, IsOverEntry};
+    ghost use Rattle.blart_map.specs.InnerLends.{inner_rests};
+    ghost use Rattle.blart_map.specs.LendingWalk.{lending_left};
+    ghost use Rattle.blart_map.specs.OnceWritten.{rewritten, once_written};
+
+    /// The entry of the only related pair, in place of this one; `None` where there are more, and the map stands.
+    pub fn get_key_value_mut(
+        self,
+    ) -> Option<OccupiedEntry<'a, K, V, PREFIX_LEN, TreeMap<K, V, PREFIX_LEN>>>
+        ensures* stands { sem 𝓛
+            (inner_rests K.row V.row PREFIX_LEN.row K.AsBytes self.entry result) }
+        ensures found { is_some result ≡ is_some (inner_pair self.entry) }
+        ensures same_map { IfSome result (λ o. o.map.ghost_name ≡ self.entry.map.ghost_name) }
+        ensures unchanged { IfSome result (λ o. o.map.now ≡ self.entry.map.now) }
+        ensures pair { IfSome result (λ o. entry_pair (Occupied o) ≡ inner_pair self.entry) }
+    {
+        let InnerOccupiedEntry {
+            map,
+            first,
+            last,
+            ..
+        } = self;
+        map.numbers_law();
+        map.only_entry(first, last)
+    }
+
+    /// A walk that lends the values of the related pairs, with their keys, ascending by the keys' bytes, from both ends. Takes no memory; each step is one visit.
+    ///
+    /// ```
+    /// if let PrefixEntry::Occupied(PrefixOccupied::Inner(entry)) = map.prefix_entry("ca") {
+    ///     let mut walk = entry.iter_mut();
+    ///     while let Some(value) = walk.next() {
+    ///         *value += 1;
+    ///     }
+    /// }
+    /// ```
+    pub fn iter_mut(self) -> SubtreeIterMut<'a, K, V, PREFIX_LEN>
+        ensures same_map { result.map.ghost_name ≡ self.entry.map.ghost_name }
+        ensures unchanged { result.map.now ≡ self.entry.map.now }
+        ensures all { (f : K × V → V) → once_written f result
+            ≡ rewritten (λ pair. related (K.bytes pair.0) (K.bytes self.entry.key)) f
+            (pairs self.entry.map.now) }
+        ensures left { lending_left result
+            ≡ subtree (bytes K.bytes) self.entry.map.now (K.bytes self.entry.key) }
+        ensures none_lent { result.lent ≡ None }
+    {
+        let InnerOccupiedEntry {
+            map,
+            first,
+            last,
+            ..
+        } = self;
+        map.numbers_law();
+        LendingWalk::of(map, Cursor::between(first, last), InSubtree)
+    }
+
+    /// Removes the related pairs and places the key with the value, and answers its entry.
+    pub fn insert_entry(
+        self,
+        value: V,
+    ) -> OccupiedEntry<'a, K, V, PREFIX_LEN, TreeMap<K, V, PREFIX_LEN>>
+        ensures { IsOverEntry self.entry value result }
+    {
+        let InnerOccupiedEntry {
+            map,
+            key,
+            first,
+            last,
+            ..
+        } = self;
+        map.numbers_law();
+        map.overwrite(first, last, key, value);
+        OccupiedEntry {
+            map,
+            id: last,
+            lender: PhantomData,
+        }
+    }
+
+    /// Removes the related pairs and places the key with the value, which is lent to be written. What the map is afterwards is said of [`InnerOccupiedEntry::insert_entry`], with [`OccupiedEntry::into_mut`].
+    pub fn insert(self, value: V) -> &'a mut V
+        ensures { result.now ≡ value }
+    {
+        self.insert_entry(value).into_mut()
+    }
+}

@@ -1,0 +1,217 @@
+//! A key's place in a map, over the pairs to which it is related.
+ghost use Rattle.std.specs.Prelude.{◌≡◌, None, Some, option_copied, IfOk, OnErr, IfSome};
+ghost use Rattle.std.specs.Option.{unwrap_or, UnwrapsOrElse};
+ghost use Rattle.std.specs.Fn.{FnOnceReturnsAt};
+ghost use Rattle.blart_keys.specs.Entries.{Kind};
+ghost use denote.Ref.{Bor};
+
+use crate::map::TreeMap;
+use crate::occupied::OccupiedEntry;
+use crate::prefix_occupied::PrefixOccupied;
+use crate::vacant::VacantEntry;
+use blart_keys::AsBytes;
+use std::alloc::AllocError;
+
+/// A key's place in a map: at its pair, in the place of the pairs with which it conflicts, or where none stands yet.
+///
+/// A growing call answers want of memory on `Vacant` alone. A closure or a default is called on `Vacant` and `Inner` alone, once there is room. On `Inner` such a call removes all pairs to which the key is related, and places the key. What the map is after a call that lends a value is said of the one that answers an entry: `or_insert_entry` of `or_insert`, and so on.
+///
+/// ```
+/// map.try_insert("car", 1)?;
+/// map.try_insert("cat", 2)?;
+/// *map.prefix_entry("ca").or_insert(0)? += 1;
+/// assert_eq!(map.len(), 1);
+/// assert_eq!(map.get(&"ca"), Some(&1));
+/// ```
+#[derive(Drop)]
+pub enum PrefixEntry<'a, K: AsBytes, V, const PREFIX_LEN: usize, T: 'a> {
+    /// The key's bytes are stored, or it conflicts with some.
+    Occupied(PrefixOccupied<'a, K, V, PREFIX_LEN, T>),
+    /// The key is related to none.
+    Vacant(VacantEntry<'a, K, V, PREFIX_LEN, T>),
+}
+
+impl<'a, K: AsBytes + Drop, V: Drop, const PREFIX_LEN: usize, T: 'a> PrefixEntry<
+    'a,
+    K,
+    V,
+    PREFIX_LEN,
+    T,
+> {
+    ghost use Rattle.blart_map.specs.PrefixEntry.{prefix_key, prefix_found};
+
+    /// The stored key on `Leaf`, and else the one that was handed in.
+    pub fn key(&self) -> &K
+        ensures { prefix_key self.now ≡ Some result.now }
+    {
+        match self {
+            PrefixEntry::Occupied(entry) => entry.key(),
+            PrefixEntry::Vacant(entry) => entry.key(),
+        }
+    }
+
+    /// The stored key on `Leaf`, on `Inner` that of the only related pair, `None` where there are more, and on `Vacant` the one that was handed in.
+    pub fn get_key(&self) -> Option<&K>
+        ensures { option_copied result ≡ prefix_found self.now }
+    {
+        match self {
+            PrefixEntry::Occupied(entry) => entry.get_key(),
+            PrefixEntry::Vacant(entry) => Some(entry.key()),
+        }
+    }
+}
+
+impl<'a, K: AsBytes + Drop, V: Drop, const PREFIX_LEN: usize> PrefixEntry<
+    'a,
+    K,
+    V,
+    PREFIX_LEN,
+    TreeMap<K, V, PREFIX_LEN>,
+> {
+    ghost use Rattle.blart_map.specs.PrefixEntry.{prefix_kind, prefix_key, prefix_value, IsPrefixSet, IsPrefixKeptOrSet, IsPrefixKeptOrMade};
+
+    /// Sets the value, on `Inner` over all pairs to which the key is related, and answers the entry of the key's pair.
+    pub fn insert_entry(
+        self,
+        value: V,
+    ) -> Result<OccupiedEntry<'a, K, V, PREFIX_LEN, TreeMap<K, V, PREFIX_LEN>>, AllocError>
+        ensures set { IfOk result (IsPrefixSet self.entry value) }
+        ensures vacant { OnErr result (prefix_kind self.entry ≡ Kind.Vacant) }
+    {
+        match self {
+            PrefixEntry::Occupied(entry) => Ok(entry.insert_entry(value)),
+            PrefixEntry::Vacant(entry) => entry.insert_entry(value),
+        }
+    }
+
+    /// The entry of the key's pair, after placing the default where none is stored, over all pairs to which the key is related.
+    pub fn or_insert_entry(
+        self,
+        default: V,
+    ) -> Result<OccupiedEntry<'a, K, V, PREFIX_LEN, TreeMap<K, V, PREFIX_LEN>>, AllocError>
+        ensures set { IfOk result (IsPrefixKeptOrSet self.entry default) }
+        ensures vacant { OnErr result (prefix_kind self.entry ≡ Kind.Vacant) }
+    {
+        match self {
+            PrefixEntry::Occupied(PrefixOccupied::Leaf(entry)) => Ok(entry),
+            PrefixEntry::Occupied(PrefixOccupied::Inner(entry)) => Ok(entry.insert_entry(default)),
+            PrefixEntry::Vacant(entry) => entry.insert_entry(default),
+        }
+    }
+
+    /// The entry of the key's pair, after placing the closure's answer where none is stored, over all pairs to which the key is related.
+    pub fn or_insert_with_entry<F: FnOnce() -> V + Drop>(
+        self,
+        default: F,
+    ) -> Result<OccupiedEntry<'a, K, V, PREFIX_LEN, TreeMap<K, V, PREFIX_LEN>>, AllocError>
+        requires { prefix_value self ≡ None → F.pre default }
+        ensures set { IfOk result (IsPrefixKeptOrMade self.entry (F.post default)) }
+        ensures vacant { OnErr result (prefix_kind self.entry ≡ Kind.Vacant) }
+    {
+        match self {
+            PrefixEntry::Occupied(PrefixOccupied::Leaf(entry)) => Ok(entry),
+            PrefixEntry::Occupied(PrefixOccupied::Inner(entry)) => {
+                Ok(entry.insert_entry(default()))
+            }
+            PrefixEntry::Vacant(entry) => entry.insert_entry_with(default),
+        }
+    }
+
+    /// The same with the answer of a closure that is given the key handed in.
+    pub fn or_insert_with_key_entry<F: FnOnce(&K) -> V + Drop>(
+        self,
+        default: F,
+    ) -> Result<OccupiedEntry<'a, K, V, PREFIX_LEN, TreeMap<K, V, PREFIX_LEN>>, AllocError>
+        requires { prefix_value self ≡ None
+            → (p : Bor K) → prefix_key self ≡ Some p.now → F.pre default p }
+        ensures set { IfOk result (IsPrefixKeptOrMade self.entry
+            (λ v. IfSome (prefix_key self.entry) (λ k. FnOnceReturnsAt F.FnOnce default k v))) }
+        ensures vacant { OnErr result (prefix_kind self.entry ≡ Kind.Vacant) }
+    {
+        match self {
+            PrefixEntry::Occupied(PrefixOccupied::Leaf(entry)) => Ok(entry),
+            PrefixEntry::Occupied(PrefixOccupied::Inner(entry)) => {
+                let value = default(entry.key());
+                Ok(entry.insert_entry(value))
+            }
+            PrefixEntry::Vacant(entry) => entry.insert_entry_with_key(default),
+        }
+    }
+
+    /// The entry of the key's pair, after placing the type's default where none is stored, over all pairs to which the key is related.
+    pub fn or_default_entry(
+        self,
+    ) -> Result<OccupiedEntry<'a, K, V, PREFIX_LEN, TreeMap<K, V, PREFIX_LEN>>, AllocError>
+    where
+        V: Default,
+        ensures set { IfOk result (IsPrefixKeptOrMade self.entry V.is_default) }
+        ensures vacant { OnErr result (prefix_kind self.entry ≡ Kind.Vacant) }
+    {
+        match self {
+            PrefixEntry::Occupied(PrefixOccupied::Leaf(entry)) => Ok(entry),
+            PrefixEntry::Occupied(PrefixOccupied::Inner(entry)) => {
+                Ok(entry.insert_entry(V::default()))
+            }
+            PrefixEntry::Vacant(entry) => entry.insert_entry_with(|| V::default()),
+        }
+    }
+
+    /// As [`PrefixEntry::or_insert_entry`], and lends the value to be written.
+    pub fn or_insert(self, default: V) -> Result<&'a mut V, AllocError>
+        ensures value { IfOk result
+            (λ r. r.now ≡ unwrap_or (prefix_value self.entry) default) }
+        ensures vacant { OnErr result (prefix_kind self.entry ≡ Kind.Vacant) }
+    {
+        match self.or_insert_entry(default) {
+            Ok(entry) => Ok(entry.into_mut()),
+            Err(refused) => Err(refused),
+        }
+    }
+
+    /// As [`PrefixEntry::or_insert_with_entry`], and lends the value to be written.
+    pub fn or_insert_with<F: FnOnce() -> V + Drop>(
+        self,
+        default: F,
+    ) -> Result<&'a mut V, AllocError>
+        requires { prefix_value self ≡ None → F.pre default }
+        ensures value { IfOk result
+            (λ r. UnwrapsOrElse (prefix_value self.entry) (F.post default) r.now) }
+        ensures vacant { OnErr result (prefix_kind self.entry ≡ Kind.Vacant) }
+    {
+        match self.or_insert_with_entry(default) {
+            Ok(entry) => Ok(entry.into_mut()),
+            Err(refused) => Err(refused),
+        }
+    }
+
+    /// As [`PrefixEntry::or_insert_with_key_entry`], and lends the value to be written.
+    pub fn or_insert_with_key<F: FnOnce(&K) -> V + Drop>(
+        self,
+        default: F,
+    ) -> Result<&'a mut V, AllocError>
+        requires { prefix_value self ≡ None
+            → (p : Bor K) → prefix_key self ≡ Some p.now → F.pre default p }
+        ensures value { IfOk result (λ r. UnwrapsOrElse (prefix_value self.entry)
+            (λ v. IfSome (prefix_key self.entry) (λ k. FnOnceReturnsAt F.FnOnce default k v)) r.now) }
+        ensures vacant { OnErr result (prefix_kind self.entry ≡ Kind.Vacant) }
+    {
+        match self.or_insert_with_key_entry(default) {
+            Ok(entry) => Ok(entry.into_mut()),
+            Err(refused) => Err(refused),
+        }
+    }
+
+    /// As [`PrefixEntry::or_default_entry`], and lends the value to be written.
+    pub fn or_default(self) -> Result<&'a mut V, AllocError>
+    where
+        V: Default,
+        ensures value { IfOk result
+            (λ r. UnwrapsOrElse (prefix_value self.entry) V.is_default r.now) }
+        ensures vacant { OnErr result (prefix_kind self.entry ≡ Kind.Vacant) }
+    {
+        match self.or_default_entry() {
+            Ok(entry) => Ok(entry.into_mut()),
+            Err(refused) => Err(refused),
+        }
+    }
+}

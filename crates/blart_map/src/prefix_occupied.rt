@@ -1,0 +1,101 @@
+//! A key whose bytes are stored in a map, or that conflicts there.
+ghost use Rattle.std.specs.Prelude.{◌≡◌, option_map, option_copied, Some};
+ghost use Rattle.std.specs.Option.{option_copied_mut};
+
+use crate::inner::InnerOccupiedEntry;
+use crate::map::TreeMap;
+use crate::occupied::OccupiedEntry;
+use blart_keys::AsBytes;
+
+/// A key whose bytes are stored in a map, or that conflicts there. None of its calls takes memory.
+#[derive(Drop)]
+pub enum PrefixOccupied<'a, K: AsBytes, V, const PREFIX_LEN: usize, T: 'a> {
+    /// The key's bytes are stored.
+    Leaf(OccupiedEntry<'a, K, V, PREFIX_LEN, T>),
+    /// The key conflicts with some.
+    Inner(InnerOccupiedEntry<'a, K, V, PREFIX_LEN, T>),
+}
+
+impl<'a, K: AsBytes + Drop, V: Drop, const PREFIX_LEN: usize, T: 'a> PrefixOccupied<
+    'a,
+    K,
+    V,
+    PREFIX_LEN,
+    T,
+> {
+    ghost use Rattle.blart_map.specs.PrefixEntry.{occupied_pair, occupied_key};
+
+    /// The stored key on `Leaf`, and on `Inner` the one that was handed in.
+    pub fn key(&self) -> &K
+        ensures { occupied_key self.now ≡ Some result.now }
+    {
+        match self {
+            PrefixOccupied::Leaf(entry) => entry.key(),
+            PrefixOccupied::Inner(entry) => entry.key(),
+        }
+    }
+
+    /// The value, on `Inner` that of the only related pair; `None` where there are more.
+    pub fn get(&self) -> Option<&V>
+        ensures { option_copied result ≡ option_map (λ pair. pair.1) (occupied_pair self.now) }
+    {
+        match self {
+            PrefixOccupied::Leaf(entry) => Some(entry.get()),
+            PrefixOccupied::Inner(entry) => entry.get(),
+        }
+    }
+
+    /// The stored key, on `Inner` that of the only related pair; `None` where there are more.
+    pub fn get_key(&self) -> Option<&K>
+        ensures { option_copied result ≡ option_map (λ pair. pair.0) (occupied_pair self.now) }
+    {
+        match self {
+            PrefixOccupied::Leaf(entry) => Some(entry.key()),
+            PrefixOccupied::Inner(entry) => entry.get_key(),
+        }
+    }
+
+    /// The value, on `Inner` that of the only related pair, to be written; `None` where there are more. What a write changes is said of the `get_mut` of the two kinds.
+    pub fn get_mut(&mut self) -> Option<&mut V>
+        ensures { option_copied_mut result
+            ≡ option_map (λ pair. pair.1) (occupied_pair self.old) }
+    {
+        match self {
+            PrefixOccupied::Leaf(entry) => Some(entry.get_mut()),
+            PrefixOccupied::Inner(entry) => entry.get_mut(),
+        }
+    }
+}
+
+impl<'a, K: AsBytes + Drop, V: Drop, const PREFIX_LEN: usize> PrefixOccupied<
+    'a,
+    K,
+    V,
+    PREFIX_LEN,
+    TreeMap<K, V, PREFIX_LEN>,
+> {
+    ghost use Rattle.blart_map.specs.PrefixEntry.{IsOccupiedSet};
+
+    /// Sets the value on `Leaf`, and on `Inner` removes the related pairs and places the key with it; answers the entry of the key's pair.
+    pub fn insert_entry(
+        self,
+        value: V,
+    ) -> OccupiedEntry<'a, K, V, PREFIX_LEN, TreeMap<K, V, PREFIX_LEN>>
+        ensures { IsOccupiedSet self.entry value result }
+    {
+        match self {
+            PrefixOccupied::Leaf(mut entry) => {
+                entry.insert(value);
+                entry
+            }
+            PrefixOccupied::Inner(entry) => entry.insert_entry(value),
+        }
+    }
+
+    /// As [`PrefixOccupied::insert_entry`], of which is said what the map is afterwards, and lends the value to be written.
+    pub fn insert(self, value: V) -> &'a mut V
+        ensures { result.now ≡ value }
+    {
+        self.insert_entry(value).into_mut()
+    }
+}
