@@ -42,6 +42,12 @@ impl<K: ScriptKey, const PREFIX_LEN: usize> Maps<K, PREFIX_LEN> {
             Name::PopFirst => self.pop_first(words, text),
             Name::PopLast => self.pop_last(words, text),
             Name::Drive => self.drive(words, text),
+            Name::PrefixGetKeyValueMut => self.prefix_get_key_value_mut(words, text),
+            Name::IntoIter | Name::IntoKeys | Name::IntoValues => self.own(name, words, text),
+            Name::Retain | Name::ExtractIf | Name::TakeWalk => self.pick(name, words, text),
+            Name::IterMut | Name::ValuesMut | Name::RangeMut | Name::PrefixMut => {
+                self.lend(name, words, text)
+            }
             _ => self.look_up(name, words, text),
         }
     }
@@ -107,6 +113,17 @@ impl<K: ScriptKey, const PREFIX_LEN: usize> Maps<K, PREFIX_LEN> {
     fn prefix_get_mut(&mut self, mut words: Words<'_>, text: &mut Text) -> Answered {
         let (query, value) = words.last_bytes_and_number()?;
         Ok(written(self.first.prefix_get_mut(&query), value).show(text)?)
+    }
+
+    fn prefix_get_key_value_mut(&mut self, mut words: Words<'_>, text: &mut Text) -> Answered {
+        let (query, value) = words.last_bytes_and_number()?;
+        match self.first.prefix_get_key_value_mut(&query) {
+            Some(mut entry) => {
+                let old = entry.insert(value);
+                Ok(Some((entry.key(), old)).show(text)?)
+            }
+            None => Ok(text.push(b"None")?),
+        }
     }
 }
 

@@ -1,5 +1,6 @@
 //! The calls that only keys of which none begins another have.
 use crate::calls::Maps;
+use crate::entries::value_of;
 use crate::failure::Answered;
 use crate::names::Name;
 use crate::text::{Shown, Text};
@@ -15,6 +16,9 @@ impl<const PREFIX_LEN: usize> Maps<[u8; 3], PREFIX_LEN> {
     ) -> Answered {
         match name {
             Name::Insert => self.insert(words, text),
+            Name::GetOrInsert => self.get_or_insert(words, text),
+            Name::Entry => self.enter(false, words, text),
+            Name::TryEntry => self.enter(true, words, text),
             _ => self.call(name, words, text),
         }
     }
@@ -22,5 +26,10 @@ impl<const PREFIX_LEN: usize> Maps<[u8; 3], PREFIX_LEN> {
     fn insert(&mut self, mut words: Words<'_>, text: &mut Text) -> Answered {
         let (key, value) = words.last_pair()?;
         Ok(self.first.insert(key, value).show(text)?)
+    }
+
+    fn get_or_insert(&mut self, mut words: Words<'_>, text: &mut Text) -> Answered {
+        let (key, value) = words.last_pair()?;
+        Ok(value_of(self.first.get_or_insert(key, value)).show(text)?)
     }
 }

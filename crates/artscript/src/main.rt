@@ -5,12 +5,17 @@
 
 mod calls;
 mod drives;
+mod entries;
+mod entry_calls;
 mod failure;
 mod inserts;
 mod keys;
+mod lending;
 mod lengths;
 mod look_ups;
 mod names;
+mod owning;
+mod picking;
 mod session;
 mod text;
 mod walks;

@@ -34,10 +34,24 @@ pub(crate) enum Name {
     Values,
     Range,
     Prefix,
+    IntoIter,
+    IntoKeys,
+    IntoValues,
+    IterMut,
+    ValuesMut,
+    RangeMut,
+    PrefixMut,
+    Retain,
+    ExtractIf,
+    TakeWalk,
+    PrefixGetKeyValueMut,
+    GetOrInsert,
+    Entry,
+    TryEntry,
 }
 
 // The word that names each call.
-const NAMES: [(&str, Name); 31] = [
+const NAMES: [(&str, Name); 45] = [
     ("new", Name::New),
     ("clear", Name::Clear),
     ("swap", Name::Swap),
@@ -69,6 +83,20 @@ const NAMES: [(&str, Name); 31] = [
     ("values", Name::Values),
     ("range", Name::Range),
     ("prefix", Name::Prefix),
+    ("into_iter", Name::IntoIter),
+    ("into_keys", Name::IntoKeys),
+    ("into_values", Name::IntoValues),
+    ("iter_mut", Name::IterMut),
+    ("values_mut", Name::ValuesMut),
+    ("range_mut", Name::RangeMut),
+    ("prefix_mut", Name::PrefixMut),
+    ("retain", Name::Retain),
+    ("extract_if", Name::ExtractIf),
+    ("take_walk", Name::TakeWalk),
+    ("prefix_get_key_value_mut", Name::PrefixGetKeyValueMut),
+    ("get_or_insert", Name::GetOrInsert),
+    ("entry", Name::Entry),
+    ("try_entry", Name::TryEntry),
 ];
 
 /// The call that the word names.

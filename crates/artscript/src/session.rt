@@ -87,7 +87,7 @@ impl<const PREFIX_LEN: usize> Session<PREFIX_LEN> {
             return Err(Unanswered::NoCall);
         };
         match self {
-            Session::Bytes(maps) => maps.call(name, words, text),
+            Session::Bytes(maps) => maps.call_of_bytes(name, words, text),
             Session::Three(maps) => maps.call_of_three(name, words, text),
         }
     }

@@ -69,8 +69,11 @@ fn show_step<W: Walk>(walk: &mut W, letter: u8, text: &mut Text) -> Answered {
     Ok(())
 }
 
-// The item as text.
-fn text_of<T: Shown + Drop>(item: Option<T>, alloc: Global) -> Result<Option<Text>, AllocError> {
+/// The item as text.
+pub(crate) fn text_of<T: Shown + Drop>(
+    item: Option<T>,
+    alloc: Global,
+) -> Result<Option<Text>, AllocError> {
     let Some(item) = item else {
         return Ok(None);
     };

@@ -152,9 +152,52 @@ impl<'a> Words<'a> {
             Err(Unanswered::NoCall)
         }
     }
+
+    /// The letters of the steps that the last word is, where one is left, of a walk that does not count.
+    pub(crate) fn last_moves(&mut self) -> Result<Option<&'a [u8]>, Unanswered> {
+        let letters = self.last_steps()?;
+        match letters {
+            Some(word) if word.contains(&b'l') => Err(Unanswered::NoCall),
+            _ => Ok(letters),
+        }
+    }
+
+    /// The letters of the decisions that the last word is.
+    pub(crate) fn last_decisions(&mut self) -> Result<&'a [u8], Unanswered> {
+        let letters = self.word()?;
+        self.end()?;
+        if is_decisions(letters) {
+            Ok(letters)
+        } else {
+            Err(Unanswered::NoCall)
+        }
+    }
 }
 
 // ---- steps
+
+// Whether the word is letters of steps and decisions, one at least.
+fn is_decisions(word: &[u8]) -> bool
+    ensures { result ≡ spec.is_decisions word.now }
+{
+    if word.is_empty() {
+        false
+    } else {
+        is_all_decisions(word)
+    }
+}
+
+fn is_all_decisions(word: &[u8]) -> bool
+    ensures { result ≡ list_all spec.is_decision word.now }
+{
+    word.iter().all(|letter| is_decision(*letter))
+}
+
+fn is_decision(letter: u8) -> bool
+    ensures { result ≡ spec.is_decision letter }
+{
+    letter == b'f' || letter == b'b' || letter == b'k' || letter == b't' || letter == b'u'
+}
 
 // Whether the word is letters of steps, one at least.
 fn is_steps(word: &[u8]) -> bool
