@@ -5,12 +5,12 @@ use Rattle.art_tree.specs.Leaves.{Numbered}
 use Rattle.art_tree.specs.declared.tree.point.Point.{Point}
 use Rattle.art_tree.specs.declared.tree.point.Point.TheVariants.{Empty, Exact, Related, Free}
 
--- the spare records of leaves, and for how many placements those of inner nodes are enough
+-- for how many placements the spare records of leaves and rows are enough, and those of inner nodes
 pub record Spares : Type 0 where
   pub leaves : ℕ
   pub nodes : ℕ
 
--- the pairs in byte order, each under its leaf's number, and the spare records
+-- the pairs in byte order, each under its leaf's number, and the room of the spare records
 pub record Content (K V : Type 0) : Type 0 where
   pub pairs : List (Numbered K V)
   pub spares : Spares

@@ -7,6 +7,5 @@ pub mod Points
 pub mod Seeks
 pub mod Takes
 pub mod TreeLends
-pub mod Slabs
 pub mod Invariant
 pub mod Calls

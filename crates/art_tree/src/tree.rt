@@ -54,8 +54,9 @@ impl<K: AsBytes, V, const PREFIX_LEN: usize> Model for Tree<K, V, PREFIX_LEN> {
 
     ghost use Rattle.art_tree.specs.Invariant.Sound.{IsSound};
     ghost use Rattle.art_kinds.specs.Nodes.{room};
+    ghost use Rattle.art_tree.specs.Leaves.{room as leaves_room};
 
-    ghost view = { λ t. record { pairs = t.leaves.pairs; spares = record { leaves = t.leaves.spare; nodes = room t.nodes } } };
+    ghost view = { λ t. record { pairs = t.leaves.pairs; spares = record { leaves = leaves_room t.leaves; nodes = room t.nodes } } };
 
     ghost invariant = { λ t. IsSound K.bytes PREFIX_LEN t.leaves t.nodes t.root };
 }

@@ -9,7 +9,7 @@ use Rattle.blart_keys.proofs.Options.{mapped_some, is_some, some_of}
 use Rattle.art_tree.specs.Leaves.{Numbered, leaf_in, Has, AreDistinct, Lacks, with_value, without_number}
 use Rattle.art_tree.proofs.CallerLemmas.{Lacks-from_leaf_in, AreDistinct-with_value, numbers-with_value, Lacks-parts}
 use Rattle.art_walk.specs.declared.cursor.Cursor.{Cursor}
-use Rattle.art_walk.specs.Cursor.{from_number, through_number, span_of, EndsFit, leaves_left, FitsIn, PassesFirst, PassesLast}
+use Rattle.art_walk.specs.Cursor.{from_number, through_number, span_of, EndsFit, ends_left, leaves_left, FitsIn, PassesFirst, PassesLast}
 use Rattle.art_walk.specs.Lent.{numbers, bare, ends_fit, lent_fits, walk_fits, count_fits, written_all, IsLent, written_last, numbers_written}
 use Rattle.art_walk.proofs.Changes.{left_without}
 use Rattle.art_walk.proofs.Steps.{some_inj}
@@ -69,7 +69,7 @@ module _ {K V : Type 0} where
   bare_left : (c : Cursor) (ps : List (Numbered K V)) → leaves_left c (bare (numbers ps)) ≡ bare (numbers (leaves_left c ps))
   bare_left c ps = go c.ends
     where
-      go : (ends : Option (ℕ × ℕ)) → leaves_left (record { ends = ends }) (bare (numbers ps)) ≡ bare (numbers (leaves_left (record { ends = ends }) ps))
+      go : (ends : Option (ℕ × ℕ)) → ends_left ends (bare (numbers ps)) ≡ bare (numbers (ends_left ends ps))
       go None = refl
       go (Some e) = ap (λ l. through_number l e.1) (bare_from ps e.0) ∙ bare_through (from_number ps e.0) e.1
 

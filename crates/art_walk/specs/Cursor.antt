@@ -1,15 +1,15 @@
 -- What a cursor has still to come in a list of numbered pairs.
 use Rattle.std.specs.Prelude.{◌≡◌, ℕ, List, [], ◌∷◌, ◌++◌, Option, Some, None, cond, eqb}
-use Rattle.art_tree.specs.Leaves.{Numbered, Has}
+use Rattle.art_tree.specs.Leaves.{Numbered, Has, nowhere}
 use Rattle.art_walk.specs.declared.cursor.Cursor.{Cursor}
 
 -- a cursor with nothing to come
 abbrev pub nothing_left : Cursor
-nothing_left = record { ends = None }
+nothing_left = record { ends = None; first_at = nowhere; last_at = nowhere }
 
 -- a cursor from one number through another
 abbrev pub left_between : ℕ → ℕ → Cursor
-left_between first last = record { ends = Some (first, last) }
+left_between first last = record { ends = Some (first, last); first_at = nowhere; last_at = nowhere }
 
 module _ {K V : Type 0} where
   -- the pairs from that of a number on

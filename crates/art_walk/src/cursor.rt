@@ -5,7 +5,7 @@ ghost use Rattle.blart_keys.specs.Walks.{TakesFirst, TakesLast};
 ghost use Rattle.art_walk.specs.Pairs.{shown_leaf};
 ghost use Rattle.art_walk.specs.Cursor.{nothing_left, left_between, leaves_left, FitsIn, PassesFirst, PassesLast};
 
-use art_tree::{LeafId, Leaves, Tree, Visits};
+use art_tree::{LeafId, Leaves, Position, Tree, Visits};
 use blart_keys::AsBytes;
 
 // The ends without the first leaf, where `next` stands behind it.
@@ -35,6 +35,9 @@ fn without_last(first: LeafId, last: LeafId, prev: Option<LeafId>) -> Option<(Le
 pub struct Cursor {
     // the first and the last leaf
     ends: Option<(LeafId, LeafId)>,
+    // where they may stand: a step that finds them there searches no row
+    first_at: Position,
+    last_at: Position,
 }
 
 impl Cursor {
@@ -42,7 +45,11 @@ impl Cursor {
     pub fn none() -> Cursor
         ensures { result ≡ nothing_left }
     {
-        Cursor { ends: None }
+        Cursor {
+            ends: None,
+            first_at: Position::unknown(),
+            last_at: Position::unknown(),
+        }
     }
 
     /// The leaves from the first through the last. A tree to walk over has both, and the first does not stand behind the last.
@@ -51,6 +58,8 @@ impl Cursor {
     {
         Cursor {
             ends: Some((first, last)),
+            first_at: Position::unknown(),
+            last_at: Position::unknown(),
         }
     }
 
@@ -87,8 +96,10 @@ impl Cursor {
     {
         leaves.law();
         let (first, last) = self.ends?;
-        let (key, value, next) = leaves.read_with_next(first, visits);
+        let (key, value) = leaves.read(first, visits);
+        let (next, at) = leaves.next_from(first, self.first_at);
         self.ends = without_first(first, last, next);
+        self.first_at = at;
         Some((first, key, value))
     }
 
@@ -108,8 +119,10 @@ impl Cursor {
     {
         leaves.law();
         let (first, last) = self.ends?;
-        let (key, value, prev) = leaves.read_with_prev(last, visits);
+        let (key, value) = leaves.read(last, visits);
+        let (prev, at) = leaves.prev_from(last, self.last_at);
         self.ends = without_last(first, last, prev);
+        self.last_at = at;
         Some((last, key, value))
     }
 

@@ -14,8 +14,9 @@ impl<K: AsBytes + Drop, V: Drop, const PREFIX_LEN: usize> TreeMap<K, V, PREFIX_L
         ensures value { result ≡ map (λ pair. pair.0) (pairs self) }
         ensures fits { CanCount result }
     {
-        self.law();
-        IntoKeys::new(self.tree)
+        let keys = IntoKeys::new(self.tree);
+        let _count = keys.len();
+        keys
     }
 
     /// The values by value, in the order of their keys' bytes, from both ends. Takes no memory. What was not taken is freed where the walk is dropped.
@@ -23,8 +24,9 @@ impl<K: AsBytes + Drop, V: Drop, const PREFIX_LEN: usize> TreeMap<K, V, PREFIX_L
         ensures value { result ≡ map (λ pair. pair.1) (pairs self) }
         ensures fits { CanCount result }
     {
-        self.law();
-        IntoValues::new(self.tree)
+        let values = IntoValues::new(self.tree);
+        let _count = values.len();
+        values
     }
 }
 

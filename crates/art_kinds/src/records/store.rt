@@ -1,5 +1,5 @@
 //! Records under numbers.
-ghost use Rattle.std.specs.Prelude.{◌≡◌, ◌≢◌, ℕ, ◌+◌, ◌^◌, ◌<◌, ◌≤◌, [], Some, None, IsSome, OnOk, OnErr};
+ghost use Rattle.std.specs.Prelude.{◌≡◌, ◌≢◌, ℕ, ◌+◌, ◌^◌, ◌<◌, ◌≤◌, [], option_map, Some, None, IsSome, OnOk, OnErr};
 ghost use Rattle.art_kinds.specs.Store.{slot_at, used_count, SameRecords};
 ghost use Rattle.art_kinds.specs.Slots.{used_of};
 ghost use Rattle.std.specs.Borrow.{Lends, sem};
@@ -86,6 +86,16 @@ impl<T> Store<T> {
         ensures small { result < 2 ^ 61 }
     {
         self.slots.len() - self.spare
+    }
+
+    /// The record at a number, if there is one.
+    pub fn get(&self, id: usize) -> Option<&T>
+        ensures { option_map (λ r. r.now) result ≡ slot_at self.now id }
+    {
+        match self.slots.get(id) {
+            Some(Slot::Used(record)) => Some(record),
+            _ => None,
+        }
     }
 
     /// The record at a number.

@@ -25,7 +25,7 @@ use Rattle.art_tree.proofs.BeginsLemmas.{common_length, Begins-itself, Begins-ca
 use Rattle.art_tree.proofs.Ways.Ends.{first_less, last_greater}
 use Rattle.art_tree.proofs.Ways.Partings.{no_key, no_key_alone}
 use Rattle.art_tree.proofs.Pairs.Neighbours.{one_less, same_side, FirstFrom, IsLeafBehind, behind_from, ahead_key}
-use Rattle.art_tree.proofs.Pairs.Numbers.{Has-first, Has-last}
+use Rattle.art_rows.proofs.CallerLemmas.{Has-first, Has-last}
 use Rattle.art_tree.proofs.Pairs.Answers.{pair, at_key, first_of_test, last_of_test, first_under, last_under}
 use Rattle.art_tree.proofs.Pairs.Changes.{passing_has}
 use Rattle.art_tree.proofs.Pairs.Keys.{key_of_member, member_of_key}

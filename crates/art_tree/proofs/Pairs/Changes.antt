@@ -10,7 +10,8 @@ use Rattle.art_tree.specs.Begins.{Bytes, Begins}
 use Rattle.art_tree.specs.Leaves.{Numbered, leaf_in, Has, Lacks, AreDistinct, first_number, last_number, without_number, with_pair, with_value, bytes, keys_in}
 use Rattle.art_tree.specs.Takes.{MayTake}
 use Rattle.art_tree.proofs.BeginsLemmas.{related_cases, related-from_front, related-from_begun}
-use Rattle.art_tree.proofs.Pairs.Numbers.{has_not_lacks, Has-first, Has-last, Member-from_leaf_in, leaf_in-member}
+use Rattle.art_rows.proofs.CallerLemmas.{has_not_lacks, Has-first, Has-last}
+use Rattle.art_tree.proofs.Pairs.Numbers.{Member-from_leaf_in, leaf_in-member}
 use Rattle.blart_keys.proofs.Options.{is_some, some_of, mapped_some}
 use Rattle.art_tree.proofs.Pairs.Keys.{member_of_key}
 

@@ -13,7 +13,8 @@ use Rattle.art_tree.proofs.BeginsLemmas.{begins-from_Begins}
 use Rattle.blart_keys.proofs.Options.{is_some, mapped_some}
 use Rattle.art_tree.proofs.Pairs.Answers.{at_no_key, front_of_no_key}
 use Rattle.art_tree.proofs.Pairs.Keys.{key_of_pair, pair_of_key}
-use Rattle.art_tree.proofs.Pairs.Numbers.{Member-from_leaf_in, leaf_in-member, split, leaf_in-split, without_number-split}
+use Rattle.art_rows.proofs.CallerLemmas.{split, leaf_in-split, without_number-split}
+use Rattle.art_tree.proofs.Pairs.Numbers.{Member-from_leaf_in, leaf_in-member}
 use Rattle.art_tree.proofs.Ways.ToQuery.{absent, only_absent, only_not}
 
 module _ {K V : Type 0} (key_bytes : K → Bytes) (S : List (Numbered K V)) where

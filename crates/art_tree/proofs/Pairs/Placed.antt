@@ -21,7 +21,7 @@ use Rattle.art_kinds.specs.declared.records.ids.Child.TheVariants.{Leaf}
 use Rattle.art_tree.proofs.Invariant.Growing.{Gains, some_key}
 use Rattle.art_tree.proofs.Calls.Joining.{leaving_unrelated}
 use Rattle.art_tree.proofs.Pairs.KeyChanges.{gains_from}
-use Rattle.art_tree.proofs.Pairs.Numbers.{Lacks-from_leaf_in, leaf_in-placed_now, others-with_pair_behind}
+use Rattle.art_rows.proofs.CallerLemmas.{Lacks-from_leaf_in, leaf_in-placed_now, others-with_pair_behind}
 use Rattle.art_tree.proofs.Pairs.Neighbours.{placed_put, before_beside}
 use Rattle.blart_keys.proofs.Options.{is_some}
 use Rattle.art_tree.proofs.Pairs.Keys.{pair_of_key, has_key}

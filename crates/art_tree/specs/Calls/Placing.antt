@@ -4,7 +4,7 @@ use Rattle.blart_keys.specs.Content.{IsPut}
 use Rattle.art_tree.specs.Begins.{Bytes}
 use Rattle.art_tree.specs.Content.{Content}
 use Rattle.art_tree.specs.Places.{LeavesMate}
-use Rattle.art_tree.specs.Leaves.{Leaves, Numbered, leaf_in, OthersStand, bytes}
+use Rattle.art_tree.specs.Leaves.{Leaves, Numbered, leaf_in, OthersStand, bytes, room as leaves_room}
 use Rattle.art_kinds.specs.Nodes.{Node, Nodes, Makes, room}
 use Rattle.art_tree.specs.Invariant.Shape.{Shape}
 use Rattle.art_tree.specs.Calls.Spots.{SpotFits}
@@ -49,7 +49,7 @@ DepthWithin nodes (Inner n) least most = (x : Node) × (nodes n ≡ Some x) × (
 
 -- what a contract sees of leaves and nodes together
 abbrev pub content_of : {K V : Type 0} → Leaves K V → Nodes → Content K V
-content_of leaves nodes = record { pairs = leaves.pairs; spares = record { leaves = leaves.spare; nodes = room nodes } }
+content_of leaves nodes = record { pairs = leaves.pairs; spares = record { leaves = leaves_room leaves; nodes = room nodes } }
 
 -- the pair was put under a fresh number, and each other number names what it named
 pub record Places {K V : Type 0} (key_bytes : K → List ℕ) (old new : List (Numbered K V)) (i : ℕ) (x : K × V) : Type 0 where

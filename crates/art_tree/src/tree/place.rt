@@ -4,6 +4,7 @@ ghost use Rattle.art_tree.specs.Invariant.EdgesAbove.{LeadsTo, TurnsTo};
 ghost use Rattle.art_tree.specs.Content.{Fits, IsOpen, room as places};
 ghost use Rattle.art_tree.specs.Calls.Placing.{IsSpotFor, TreeGains, Forks, DepthWithin, Places, content_of};
 ghost use Rattle.art_kinds.specs.Nodes.{at, room, FitsNew, SameSpares};
+ghost use Rattle.art_tree.specs.Leaves.{room as leaves_room};
 ghost use Rattle.art_tree.specs.Calls.Removing.{StartsBelow, EndsBelow, Cuts};
 ghost use Rattle.art_tree.specs.Points.{IsFree, IsGood};
 ghost use Rattle.art_tree.specs.Invariant.Sound.{IsSound};
@@ -65,10 +66,10 @@ fn place_first<K: AsBytes + Drop, V: Drop, const P: usize>(
 ) -> (LeafId, Child)
     requires whole { IsSound K.bytes P leaves.old nodes.now root.now }
     requires empty { leaves.old.pairs ≡ [] }
-    requires room { 0 < leaves.old.spare }
+    requires room { 0 < leaves_room leaves.old }
     ensures placed { Places K.bytes leaves.old.pairs leaves.new.pairs result.0 (key, value) }
     ensures whole { IsSound K.bytes P leaves.new nodes.now (Some result.1) }
-    ensures room { leaves.new.spare + 1 ≡ leaves.old.spare }
+    ensures room { leaves_room leaves.old ≤ leaves_room leaves.new + 1 }
 {
     let id = leaves.insert(None, key, value);
     (id, Child::Leaf(id))
@@ -85,11 +86,11 @@ fn place_beside<K: AsBytes + Drop, V: Drop, const P: usize>(
 ) -> (LeafId, Child)
     requires whole { IsSound K.bytes P leaves.old nodes.old (Some root.now) }
     requires free { IsFree K.bytes leaves.old.pairs place.now (K.bytes key) }
-    requires leaves_room { 0 < leaves.old.spare }
+    requires leaves_room { 0 < leaves_room leaves.old }
     requires nodes_room { 0 < room nodes.old }
     ensures placed { Places K.bytes leaves.old.pairs leaves.new.pairs result.0 (key, value) }
     ensures whole { IsSound K.bytes P leaves.new nodes.new (Some result.1) }
-    ensures leaves_room { leaves.new.spare + 1 ≡ leaves.old.spare }
+    ensures leaves_room { leaves_room leaves.old ≤ leaves_room leaves.new + 1 }
     ensures nodes_room { room nodes.old ≤ room nodes.new + 1 }
 {
     leaves.law();

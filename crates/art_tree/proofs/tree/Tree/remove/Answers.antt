@@ -1,4 +1,4 @@
-use Rattle.art_tree.proofs.Pairs.Numbers.{others-without_number, leaf_in-without_now}
+use Rattle.art_rows.proofs.CallerLemmas.{others-without_number, leaf_in-without_now}
 use Rattle.art_tree.proofs.tree.Tree.remove.Goals as goal
 
 pub returns-clause-others : goal.returns-clause-others

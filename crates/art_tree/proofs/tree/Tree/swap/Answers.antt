@@ -5,7 +5,7 @@ use Rattle.art_kinds.specs.Nodes.{at}
 use Rattle.art_tree.specs.Takes.{MayTake}
 use Rattle.art_tree.proofs.Invariant.Exchanging.{shape_exchanged}
 use Rattle.art_tree.proofs.Pairs.KeyChanges.{exchanges_from}
-use Rattle.art_tree.proofs.Pairs.Numbers.{others-with_pair, leaf_in-with_now}
+use Rattle.art_rows.proofs.CallerLemmas.{others-with_pair, leaf_in-with_now}
 use Rattle.art_tree.proofs.Pairs.Changes.{content_with, near_new, apart_key}
 use Rattle.art_tree.proofs.Invariant.Soundness.{sound_same}
 use Rattle.art_tree.proofs.tree.Tree.swap.Goals as goal

@@ -2,8 +2,11 @@ use Rattle.std.proofs.Common.{Some, lit<}
 use Rattle.art_tree.specs.Leaves.{leaf_in}
 use Rattle.art_kinds.specs.Nodes.{at}
 use Rattle.blart_keys.proofs.Options.{is_some}
-use Rattle.art_tree.proofs.Pairs.Placed.{has_behind, free_before, placed_free, kept_pair, free_spot, free_gains}
+use Rattle.art_tree.proofs.Pairs.Placed.{has_beside, has_behind, free_before, placed_free, kept_pair, free_spot, free_gains}
 use Rattle.art_tree.proofs.tree.place.place_beside.Goals as goal
+
+pub leaf_before-prev-requires : goal.leaf_before-prev-requires
+leaf_before-prev-requires g c = has_beside g.K.AsBytes.bytes c.args.leaves.now.pairs (g.K.AsBytes.bytes c.args.key) c.args.place.now.beside c.requires.free.beside
 
 pub insert-id-requires-clause-prev : goal.insert-id-requires-clause-prev
 insert-id-requires-clause-prev g c =

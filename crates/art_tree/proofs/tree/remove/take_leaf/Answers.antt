@@ -1,7 +1,7 @@
 use Rattle.std.proofs.Common.{refl}
 use Rattle.art_tree.specs.Leaves.{without_number, keys_in}
 use Rattle.art_tree.proofs.Pairs.KeyChanges.{loses_from}
-use Rattle.art_tree.proofs.Pairs.Numbers.{others-without_number, leaf_in-without_now}
+use Rattle.art_rows.proofs.CallerLemmas.{others-without_number, leaf_in-without_now}
 use Rattle.art_tree.proofs.Pairs.Changes.{content_without}
 use Rattle.art_tree.proofs.Invariant.Soundness.{sound_same}
 use Rattle.art_tree.proofs.tree.remove.take_leaf.Goals as goal

@@ -1,0 +1,203 @@
+-- What holds of leaf records and the rows that they are filed in.
+use Rattle.std.proofs.Common.{◌≡◌, ℕ, ◌+◌, ◌-◌, ◌<◌, ◌≤◌, List, [], ◌∷◌, length, map, refl, sym, ap, subst, ◌∙◌, Option, Some, None, IsSome, true, false, eqb, arith}
+use Rattle.std.specs.Prelude.{option_map, IfSome}
+use Rattle.std.proofs.lemmas.List.{length-map}
+use Rattle.art_rows.specs.Numbers.{Numbered, Numbers, leaf_in, Has, last_number, number_after, number_before, Lacks, AreDistinct}
+use Rattle.art_rows.specs.Rows.{among, place_in, nth, numbers, row_with, position_at}
+use Rattle.art_rows.specs.Leaves.{Leaves, index_of}
+use Rattle.art_rows.specs.Filing.{gather, Files, pairs_in, AllFiled, content}
+use Rattle.art_kinds.specs.Store.{Store, slot_at, used_count}
+use Rattle.art_rows.specs.declared.leaves.Leaf.{Leaf}
+use Rattle.art_rows.specs.declared.row.Position.{Position}
+use Rattle.art_rows.proofs.NumbersLemmas.{eqb_same, eqb_other, has_other, split, leaf_in-split}
+use Rattle.art_rows.proofs.RowsLemmas.{among-numbers, among-nth, nth-within, place_in-nth, position-split, position-here, Has-among, found, standing, standing-row, standing-number, standing-within, standing-behind, standing-earlier, standing-first, standing-not_first, standing-row_end, start_of, end_of, position-none, position-last, none-last, filled-row}
+
+module _ {K V : Type 0} (leaves : ℕ → Option (Leaf K V)) where
+  -- each pair has its record
+  abbrev HasRecords : List (Numbered (K × V)) → Type 0
+  HasRecords ps = (i : ℕ) → Has ps i → (x : Leaf K V) × (leaves i ≡ Some x) × (leaf_in ps i ≡ Some (x.key, x.value))
+
+  -- the same of the pairs behind the first
+  HasRecords-tail : (p : Numbered (K × V)) (ps : List (Numbered (K × V))) → Lacks ps p.0 → HasRecords (p ∷ ps) → HasRecords ps
+  HasRecords-tail p ps l h i has =
+      let n : eqb p.0 i ≡ false = eqb_other p.0 i (λ e. has_other ps i p.0 has l (sym e)) in
+      let g : Has (p ∷ ps) i = rw n has in
+      let y = h i g in
+      (y.0, y.1, rw n at y.2)
+
+  -- the records give the pairs
+  gather_records : (ps : List (Numbered (K × V))) → AreDistinct ps → HasRecords ps → gather leaves (map (λ p. p.0) ps) ≡ ps
+  gather_records [] d h = refl
+  gather_records (p ∷ ps) d h =
+      let s : eqb p.0 p.0 ≡ true = eqb_same p.0 in
+      let g : Has (p ∷ ps) p.0 = rw s refl in
+      let y = h p.0 g in
+      let e : Some p.1 ≡ Some (y.0.key, y.0.value) = rw s at y.2 in
+      let v : (y.0.key, y.0.value) ≡ p.1 = cc in
+      rw (y.1, gather_records ps d.1 (HasRecords-tail p ps d.0 h), v) refl
+
+module _ {K V : Type 0} (leaves : ℕ → Option (Leaf K V)) (rows : List (Numbered (List ℕ))) (count : ℕ) (ps : List (Numbered (K × V))) (f : Files leaves rows count ps) where
+  -- a pair has its record
+  has_records : (i : ℕ) → Has ps i → (x : Leaf K V) × (leaves i ≡ Some x) × (leaf_in ps i ≡ Some (x.key, x.value))
+  has_records i h = go (leaf_in ps i) refl h
+    where
+      go : (o : Option (K × V)) → leaf_in ps i ≡ o → IsSome o → (x : Leaf K V) × (leaves i ≡ Some x) × (leaf_in ps i ≡ Some (x.key, x.value))
+      go None e s = absurd (let f : false ≡ true = s in cc)
+      go (Some x) e s = (record { key = x.0; value = x.1; row = row_with rows i }, f.each i ∙ ap (option_map (λ (x : K × V). record { key = x.0; value = x.1; row = row_with rows i })) e, e)
+
+  -- the rows give the pairs
+  pub gather-filed : gather leaves (numbers rows) ≡ ps
+  gather-filed = rw (← f.joined) (gather_records leaves ps f.distinct has_records)
+
+  -- a number that the list has has a record
+  pub has_record : (i : ℕ) → Has ps i → IsSome (leaves i)
+  has_record i h = rw (has_records i h).1 refl
+
+  -- the rows have it
+  pub in_rows : (i : ℕ) → Has ps i → among (numbers rows) i ≡ true
+  in_rows i h = rw (← f.joined) (among-numbers ps i h)
+
+  -- the record of a number
+  pub record_is : (i : ℕ) (x : Leaf K V) → leaves i ≡ Some x → (leaf_in ps i ≡ Some (x.key, x.value)) × (x.row ≡ row_with rows i)
+  record_is i x e = go (leaf_in ps i) refl
+    where
+      go : (o : Option (K × V)) → leaf_in ps i ≡ o → (leaf_in ps i ≡ Some (x.key, x.value)) × (x.row ≡ row_with rows i)
+      go None g = (let h : Some x ≡ None = sym e ∙ f.each i ∙ rw g refl in absurd (cc))
+      go (Some y) g =
+          let r : Leaf K V = record { key = y.0; value = y.1; row = row_with rows i } in
+          let h : Some x ≡ Some r = sym e ∙ f.each i ∙ rw g refl in
+          let k : x ≡ r = cc in
+          rw k (g, refl)
+
+  -- a number that has no record names nothing
+  pub no_record : (i : ℕ) → leaves i ≡ None → leaf_in ps i ≡ None
+  no_record i e = go (leaf_in ps i) refl
+    where
+      go : (o : Option (K × V)) → leaf_in ps i ≡ o → leaf_in ps i ≡ None
+      go None g = g
+      go (Some y) g =
+          let r : Leaf K V = record { key = y.0; value = y.1; row = row_with rows i } in
+          let h : None ≡ Some r = sym e ∙ f.each i ∙ rw g refl in
+          absurd (cc)
+
+module _ {K V : Type 0} (s : Store (Leaf K V)) (rows : Numbers (List ℕ)) where
+  -- what a contract sees is filed
+  pub seen : (c : Leaves K V) → content s rows ≡ c → AllFiled s rows.pairs → Files (slot_at s) rows.pairs (used_count s) c.pairs
+  seen c e f = subst (λ (d : Leaves K V). Files (slot_at s) rows.pairs (used_count s) d.pairs) e f
+
+  -- filed pairs are those that a contract sees
+  pub pairs_are : (ps : List (Numbered (K × V))) → Files (slot_at s) rows.pairs (used_count s) ps → pairs_in s rows.pairs ≡ ps
+  pairs_are ps f = gather-filed (slot_at s) rows.pairs (used_count s) ps f
+
+  -- filed pairs make the invariant
+  pub all_filed : (ps : List (Numbered (K × V))) → Files (slot_at s) rows.pairs (used_count s) ps → AllFiled s rows.pairs
+  all_filed ps f = subst (λ qs. Files (slot_at s) rows.pairs (used_count s) qs) (sym (pairs_are ps f)) f
+
+module _ {K V : Type 0} (leaves : ℕ → Option (Leaf K V)) (rows : List (Numbered (List ℕ))) (count : ℕ) (ps : List (Numbered (K × V))) (f : Files leaves rows count ps) where
+  -- the row that a record names
+  pub row_has : (i n : ℕ) → n ≡ i → Has ps i → (x : Leaf K V) → leaves n ≡ Some x → Has rows x.row
+  row_has i n is h x e =
+      let r = (record_is leaves rows count ps f n x e).1 in
+      let s = found rows i f.apart (in_rows leaves rows count ps f i h) in
+      rw (r, is, s.row) refl
+
+  -- the position that a record and its row give
+  pub located : (i n : ℕ) → n ≡ i → Has ps i → (x : Leaf K V) → leaves n ≡ Some x → (ids : List ℕ) → leaf_in rows x.row ≡ Some ids → position_at rows (index_of ps i) ≡ Some (record { row = x.row; place = place_in ids n })
+  located i n is h x e ids g =
+      let r : x.row ≡ row_with rows i = (record_is leaves rows count ps f n x e).1 ∙ ap (row_with rows) is in
+      let s = found rows i f.apart (in_rows leaves rows count ps f i h) in
+      let a : Some ids ≡ Some s.ids = sym g ∙ ap (leaf_in rows) r ∙ s.row in
+      let b : ids ≡ s.ids = cc in
+      rw (r, is, b, f.joined) s.position
+
+  module _ (k : ℕ) (p : Position) (at : position_at rows k ≡ Some p) where
+    -- the row of a position
+    pub row_at : (leaf_in rows p.row ≡ Some (standing rows k p at).ids)
+    row_at = standing-row rows k p (standing rows k p at) f.apart
+
+    pub has_row_at : Has rows p.row
+    has_row_at = rw row_at refl
+
+    pub if_row_at : IfSome (leaf_in rows p.row) (λ ids. p.place < length ids)
+    if_row_at = rw row_at (standing rows k p at).within
+
+    -- the place is one in the row
+    pub place_at : (ids : List ℕ) → leaf_in rows p.row ≡ Some ids → p.place < length ids
+    place_at ids g =
+        let a : Some ids ≡ Some (standing rows k p at).ids = sym g ∙ row_at in
+        let b : ids ≡ (standing rows k p at).ids = cc in
+        rw b (standing rows k p at).within
+
+    -- the number there
+    pub number_there : (ids : List ℕ) → leaf_in rows p.row ≡ Some ids → nth (map (λ q. q.0) ps) k ≡ nth ids p.place
+    number_there ids g =
+        let a : Some ids ≡ Some (standing rows k p at).ids = sym g ∙ row_at in
+        let b : ids ≡ (standing rows k p at).ids = cc in
+        rw (f.joined, b) (standing-number rows k p (standing rows k p at))
+
+    -- the row that the position is in
+    same_ids : (ids : List ℕ) → leaf_in rows p.row ≡ Some ids → (standing rows k p at).ids ≡ ids
+    same_ids ids g = (let a : Some ids ≡ Some (standing rows k p at).ids = sym g ∙ row_at in cc)
+
+    -- the next position, in the row
+    pub forward_within : (ids : List ℕ) → leaf_in rows p.row ≡ Some ids → p.place + 1 < length ids → position_at rows (k + 1) ≡ Some (record { row = p.row; place = p.place + 1 })
+    forward_within ids g w = standing-within rows k p (standing rows k p at) (rw (same_ids ids g) w)
+
+    -- or in the row behind
+    pub forward_behind : (ids : List ℕ) → leaf_in rows p.row ≡ Some ids → length ids ≤ p.place + 1 → position_at rows (k + 1) ≡ option_map start_of (number_after rows p.row)
+    forward_behind ids g w = standing-behind rows k p (standing rows k p at) f.apart f.filled (rw (same_ids ids g) w)
+
+    -- the position before, in the row
+    pub backward_within : 0 < p.place → position_at rows (k - 1) ≡ Some (record { row = p.row; place = p.place - 1 })
+    backward_within w = standing-earlier rows k p (standing rows k p at) w
+
+    pub not_first_within : 0 < p.place → 0 < k
+    not_first_within w = (let i = (standing rows k p at).index in omega arith)
+
+    -- or in the row before
+    pub backward_end : p.place ≤ 0 → (r : ℕ) → number_before rows p.row ≡ Some r → (ids : List ℕ) → leaf_in rows r ≡ Some ids → position_at rows (k - 1) ≡ Some (end_of (length ids) r)
+    backward_end z r e ids g = standing-row_end rows k p (standing rows k p at) f.apart f.filled r e (omega arith) ids g
+
+    pub not_first_end : (r : ℕ) → number_before rows p.row ≡ Some r → 0 < k
+    not_first_end r e = standing-not_first rows k p (standing rows k p at) f.apart f.filled r e
+
+    -- or there is none
+    pub backward_none : p.place ≤ 0 → number_before rows p.row ≡ None → k ≡ 0
+    backward_none z e = standing-first rows k p (standing rows k p at) f.apart f.filled (omega arith) e
+
+    -- the pair at a position
+    pub pair_there : (n : ℕ) → nth (map (λ q. q.0) ps) k ≡ Some n → Has ps n
+    pair_there n e = Has-among ps n (among-nth (map (λ q. q.0) ps) k n e)
+
+  -- a leaf stands where its number is
+  pub stands_there : (i : ℕ) (p : Position) (ids : List ℕ) → leaf_in rows p.row ≡ Some ids → nth ids p.place ≡ Some i → position_at rows (index_of ps i) ≡ Some p
+  stands_there i p ids g e =
+      let h : Has rows p.row = rw g refl in
+      let s = split rows p.row h in
+      let a : Some s.pair ≡ Some ids = sym (leaf_in-split p.row s.pair s.after s.before s.lacks) ∙ sym (ap (λ rs. leaf_in rs p.row) s.is) ∙ g in
+      let b : s.pair ≡ ids = cc in
+      let w : p.place < length s.pair = rw b (nth-within ids p.place i e) in
+      let k : ℕ = length (numbers s.before) + p.place in
+      let at : position_at rows k ≡ Some p = ap (λ rs. position_at rs k) s.is ∙ position-split s.before ((p.row, s.pair) ∷ s.after) p.place ∙ position-here p.row s.pair s.after p.place w in
+      let n : nth (map (λ q. q.0) ps) k ≡ Some i = number_there k p at ids g ∙ e in
+      ap (position_at rows) (place_in-nth ps k i f.distinct n) ∙ at
+
+  -- no position, no number
+  pub none_there : (k : ℕ) → position_at rows k ≡ None → nth (map (λ q. q.0) ps) k ≡ None
+  none_there k e = rw f.joined (position-none rows k e)
+
+  -- how many numbers the rows have
+  pub how_many : length (numbers rows) ≡ length ps
+  how_many = sym (ap length f.joined) ∙ length-map ps (λ q. q.0)
+
+  -- a row has a number
+  pub row_filled : (r : ℕ) (ids : List ℕ) → leaf_in rows r ≡ Some ids → 0 < length ids
+  row_filled r ids e = filled-row rows f.filled r ids e
+
+  -- the last position
+  pub last_there : (r : ℕ) (ids : List ℕ) → last_number rows ≡ Some r → leaf_in rows r ≡ Some ids → position_at rows (length ps - 1) ≡ Some (end_of (length ids) r)
+  last_there r ids e g = rw (← how_many) (position-last rows f.apart f.filled r ids e g)
+
+  -- with no last row there is none
+  pub last_none : last_number rows ≡ None → position_at rows (length ps - 1) ≡ None
+  last_none e = ap (λ rs. position_at rs (length ps - 1)) (none-last rows e)

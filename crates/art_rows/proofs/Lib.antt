@@ -1,0 +1,9 @@
+pub mod CallerLemmas
+pub mod NumbersLemmas
+pub mod LinksLemmas
+pub mod RowEdits
+pub mod Rooms
+pub mod FilingChanges
+pub mod RowChanges
+pub mod FilingLemmas
+pub mod RowsLemmas

@@ -1,0 +1,38 @@
+use Rattle.std.proofs.Common.{◌<◌, length, sym, ap, ◌∙◌, rules}
+use Rattle.art_kinds.specs.Store.{slot_at, used_count}
+use Rattle.art_rows.specs.Rows.{position_at}
+use Rattle.art_rows.specs.Leaves.{index_of}
+use Rattle.art_rows.proofs.FilingLemmas.{seen, has_row_at, place_at}
+use Rattle.art_rows.proofs.RowChanges.{spot_first, first_none, spot_behind}
+use Rattle.art_rows.proofs.leaves.Leaves.spot.Goals as goal
+
+pub read-requires : goal.read-requires
+read-requires g c =
+    let i = c.self.inside in
+    let f = seen i.records i.rows _ c.self.view_is c.self.invariant in
+    has_row_at (slot_at i.records) i.rows.pairs (used_count i.records) _ f (index_of c.args.self.now.pairs c.in-Some.id) c.position_of-position.result (ap (λ t. position_at t.rows (index_of c.args.self.now.pairs c.in-Some.id)) c.self.view_is ∙ c.position_of-position.ensures)
+
+pub overflow_add-result : goal.overflow_add-result
+overflow_add-result g c =
+    let i = c.self.inside in
+    let f = seen i.records i.rows _ c.self.view_is c.self.invariant in
+    let w : c.position_of-position.result.place < length c.read.result.now = place_at (slot_at i.records) i.rows.pairs (used_count i.records) _ f (index_of c.args.self.now.pairs c.in-Some.id) c.position_of-position.result (ap (λ t. position_at t.rows (index_of c.args.self.now.pairs c.in-Some.id)) c.self.view_is ∙ c.position_of-position.ensures) _ c.read.ensures in
+    search rules
+
+pub returns-in-None-clause-some : goal.returns-in-None-clause-some
+returns-in-None-clause-some g c =
+    let i = c.self.inside in
+    let f = seen i.records i.rows _ c.self.view_is c.self.invariant in
+    rw c.in-None.is (spot_first c.args.self.now.rows c.first_position.result c.first_position.ensures)
+
+pub returns-in-None-clause-none : goal.returns-in-None-clause-none
+returns-in-None-clause-none g c =
+    let i = c.self.inside in
+    let f = seen i.records i.rows _ c.self.view_is c.self.invariant in
+    rw (← c.self.view_is) (first_none i.rows.pairs f.filled c.first_position.result (c.first_position.ensures ∙ sym (ap (λ t. position_at t.rows 0) c.self.view_is)))
+
+pub returns-in-Some-clause-some : goal.returns-in-Some-clause-some
+returns-in-Some-clause-some g c =
+    let i = c.self.inside in
+    let f = seen i.records i.rows _ c.self.view_is c.self.invariant in
+    rw c.in-Some.is (spot_behind c.args.self.now.rows _ c.position_of-position.result c.position_of-position.ensures)

@@ -1,0 +1,47 @@
+-- How leaf records and rows name one another.
+use Rattle.std.specs.Prelude.{◌≡◌, ℕ, List, [], ◌∷◌, map, length, Option, option_map, Some, None, cond}
+use Rattle.art_kinds.specs.Store.{Store, slot_at as at, used_count}
+use Rattle.art_rows.specs.Numbers.{Numbered, Numbers, leaf_in, AreDistinct}
+use Rattle.art_rows.specs.Rows.{among, numbers, row_with, AreFilled}
+use Rattle.art_rows.specs.Leaves.{Leaves}
+use Rattle.art_rows.specs.declared.leaves.Leaf.{Leaf}
+
+module _ {K V : Type 0} where
+  -- the pair of a record, in front of others
+  abbrev pub put : ℕ → Option (Leaf K V) → List (Numbered (K × V)) → List (Numbered (K × V))
+  put n None ps = ps
+  put n (Some x) ps = (n, (x.key, x.value)) ∷ ps
+
+  -- the pairs of the records under these numbers
+  abbrev pub gather : (ℕ → Option (Leaf K V)) → List ℕ → List (Numbered (K × V))
+  gather leaves [] = []
+  gather leaves (n ∷ ns) = put n (leaves n) (gather leaves ns)
+
+  -- the record under a number: its pair, and the row that has the number
+  abbrev pub filed : List (Numbered (List ℕ)) → List (Numbered (K × V)) → ℕ → Option (Leaf K V)
+  filed rows ps i = option_map (λ (x : K × V). record { key = x.0; value = x.1; row = row_with rows i }) (leaf_in ps i)
+
+  -- the records are those of the pairs, whose numbers are those of the rows; each record names the row that has it
+  pub record Files (leaves : ℕ → Option (Leaf K V)) (rows : List (Numbered (List ℕ))) (count : ℕ) (pairs : List (Numbered (K × V))) : Type 0 where
+    pub distinct : AreDistinct pairs
+    pub each : (i : ℕ) → leaves i ≡ filed rows pairs i
+    pub joined : map (λ p. p.0) pairs ≡ numbers rows
+    pub filled : AreFilled rows
+    pub apart : AreDistinct rows
+    pub counted : count ≡ length pairs
+
+  -- the pairs of a store of leaves
+  abbrev pub pairs_in : Store (Leaf K V) → List (Numbered (List ℕ)) → List (Numbered (K × V))
+  pairs_in leaves rows = gather (at leaves) (numbers rows)
+
+  -- the records are filed in the rows, and no others
+  abbrev pub AllFiled : Store (Leaf K V) → List (Numbered (List ℕ)) → Type 0
+  AllFiled leaves rows = Files (at leaves) rows (used_count leaves) (pairs_in leaves rows)
+
+  -- what a contract sees of leaves in rows
+  abbrev pub content : Store (Leaf K V) → Numbers (List ℕ) → Leaves K V
+  content leaves rows = record { pairs = pairs_in leaves rows.pairs; rows = rows.pairs; spare = leaves.spare; spare_rows = rows.spare }
+
+  -- the records, those under these numbers in another row
+  abbrev pub in_row : (ℕ → Option (Leaf K V)) → List ℕ → ℕ → ℕ → Option (Leaf K V)
+  in_row leaves ns r j = cond (among ns j) (option_map (λ (x : Leaf K V). record x { row = r }) (leaves j)) (leaves j)

@@ -1,0 +1,91 @@
+-- Rows of numbers: which row has a number, at which place, and the numbers of all rows in order.
+use Rattle.std.specs.Prelude.{◌≡◌, ◌≤◌, ℕ, zero, suc, ◌+◌, ◌-◌, ◌*◌, ◌<◌, min, max, List, [], ◌∷◌, ◌++◌, length, Option, Some, None, Bool, true, false, cond, eqb, ltb}
+use Rattle.art_rows.specs.Numbers.{Numbered, AreDistinct}
+use Rattle.art_rows.specs.declared.row.Position.{Position}
+use Rattle.art_rows.specs.declared.row.TheConstants.{HALF}
+
+-- the number is in the list
+abbrev pub among : List ℕ → ℕ → Bool
+among [] i = false
+among (n ∷ ns) i = cond (eqb n i) true (among ns i)
+
+-- how many numbers stand before this one
+abbrev pub place_in : List ℕ → ℕ → ℕ
+place_in [] i = 0
+place_in (n ∷ ns) i = cond (eqb n i) 0 (suc (place_in ns i))
+
+-- what stands at a place
+abbrev pub nth : {X : Type 0} → List X → ℕ → Option X
+nth [] k = None
+nth (n ∷ ns) zero = Some n
+nth (n ∷ ns) (suc k) = nth ns k
+
+-- the numbers of the rows, in order
+abbrev pub numbers : List (Numbered (List ℕ)) → List ℕ
+numbers [] = []
+numbers (r ∷ rs) = r.1 ++ numbers rs
+
+-- the row that has a number
+abbrev pub row_with : List (Numbered (List ℕ)) → ℕ → ℕ
+row_with [] i = 0
+row_with (r ∷ rs) i = cond (among r.1 i) r.0 (row_with rs i)
+
+-- the row and the place in it of the number that has so many before it
+abbrev pub position_at : List (Numbered (List ℕ)) → ℕ → Option Position
+position_at [] k = None
+position_at (r ∷ rs) k = cond (ltb k (length r.1)) (Some (record { row = r.0; place = k })) (position_at rs (k - length r.1))
+
+-- each row has a number
+abbrev pub AreFilled : List (Numbered (List ℕ)) → Type 0
+AreFilled [] = Unit {0}
+AreFilled (r ∷ rs) = (0 < length r.1) × AreFilled rs
+
+-- a place in a row, or its end, that so many numbers stand before
+pub record IsSpot (rows : List (Numbered (List ℕ))) (p : Position) (k : ℕ) : Type 0 where
+  pub before : List (Numbered (List ℕ))
+  pub ids : List ℕ
+  pub after : List (Numbered (List ℕ))
+  pub is : rows ≡ before ++ (p.row, ids) ∷ after
+  pub index : k ≡ length (numbers before) + p.place
+  pub within : p.place ≤ length ids
+
+-- a full row in two, the second half behind the first
+pub record IsSplit (old new : List (Numbered (List ℕ))) (r s : ℕ) : Type 0 where
+  pub before : List (Numbered (List ℕ))
+  pub first : List ℕ
+  pub second : List ℕ
+  pub after : List (Numbered (List ℕ))
+  pub was : old ≡ before ++ (r, first ++ second) ∷ after
+  pub is : new ≡ before ++ (r, first) ∷ (s, second) ∷ after
+  pub half : length first ≡ HALF
+  pub rest : length second ≡ HALF
+  pub apart : AreDistinct new
+
+-- how many numbers stand in a row and those before it, or none where no row is named
+abbrev pub row_end : Option ℕ → List (Numbered (List ℕ)) → ℕ
+row_end None rows = 0
+row_end (Some r) [] = 0
+row_end (Some r) (q ∷ qs) = length q.1 + cond (eqb q.0 r) 0 (row_end (Some r) qs)
+
+-- how many numbers the rows have above half of each, and above one in the last
+abbrev pub above_half : List (Numbered (List ℕ)) → ℕ
+above_half [] = 0
+above_half (r ∷ []) = length r.1 - 1
+above_half (r ∷ q ∷ rs) = length r.1 - HALF + above_half (q ∷ rs)
+
+-- half a row for each spare one and for the first, but those above half
+abbrev pub half_room : List (Numbered (List ℕ)) → ℕ → ℕ
+half_room rows spare = HALF * (spare + min 1 (length rows)) - above_half rows
+
+-- how many numbers more surely find a place: one for each spare row, or more where few are above half
+abbrev pub row_room : List (Numbered (List ℕ)) → ℕ → ℕ
+row_room rows spare = max spare (half_room rows spare)
+
+-- how many numbers stand before those of a row
+abbrev pub row_start : List (Numbered (List ℕ)) → ℕ → ℕ
+row_start [] r = 0
+row_start (q ∷ qs) r = cond (eqb q.0 r) 0 (length q.1 + row_start qs r)
+
+-- a position that says nothing
+abbrev pub nowhere : Position
+nowhere = record { row = 0; place = 0 }

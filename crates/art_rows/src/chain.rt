@@ -1,0 +1,241 @@
+//! Records in a chain: each is under a number, and linked to its neighbours.
+ghost use Rattle.std.specs.Prelude.{◌≡◌, ◌+◌, ◌<◌, ◌≤◌, ℕ, [], length, option_map, Some, None, IsSome, IfSome, OnOk, OnErr};
+ghost use Rattle.std.specs.Borrow.{sem};
+ghost use Rattle.art_kinds.specs.Store.{slot_at, used_count};
+ghost use Rattle.art_rows.specs.Numbers.{leaf_in, Has, AreDistinct, first_number, last_number, number_after, number_before, with_pair_behind, without_number};
+ghost use Rattle.art_rows.specs.Links.{with_next, with_prev, end_with};
+ghost use Rattle.art_rows.specs.ChainLends.{lends_item, lends_at};
+
+use art_kinds::Store;
+use std::alloc::{AllocError, Global};
+use std::marker::Model;
+
+/// An item, and the numbers before and behind.
+#[derive(Drop)]
+pub(crate) struct Link<T> {
+    pub(crate) item: T,
+    pub(crate) prev: Option<usize>,
+    pub(crate) next: Option<usize>,
+}
+
+impl<T> Link<T> {
+    fn item_mut(&mut self) -> &mut T
+        ensures* writes_back { sem 𝓛 (lends_item T.row self.entry result) }
+        ensures item { result.now ≡ self.old.item }
+    {
+        &mut self.item
+    }
+}
+
+/// Items in order, each under a number. A contract sees them so, and how many more find a place.
+#[derive(Drop)]
+pub(crate) struct Chain<T> {
+    pub(crate) records: Store<Link<T>>,
+    pub(crate) first: Option<usize>,
+    pub(crate) last: Option<usize>,
+}
+
+impl<T> Model for Chain<T> {
+    ghost use Rattle.art_rows.specs.Numbers.{Numbers, numbers_code};
+
+    ghost Value = { Numbers T };
+
+    ghost coded = { numbers_code T.code };
+
+    ghost use Rattle.art_rows.specs.Links.{content, AllLinked};
+
+    ghost view = { λ t. content t.records t.first };
+
+    ghost invariant = { λ t. AllLinked t.records t.first t.last };
+}
+
+// Links the record `at` to the one behind it, or makes that one the first.
+fn set_next<T>(
+    records: &mut Store<Link<T>>,
+    first: &mut Option<usize>,
+    at: Option<usize>,
+    to: Option<usize>,
+)
+    requires { IfSome at (λ i. IsSome (slot_at records.old i)) }
+    ensures leaves { (j : ℕ) → slot_at records.new j ≡ with_next (slot_at records.old) at to j }
+    ensures first { first.new ≡ end_with at to first.old }
+    ensures used { used_count records.new ≡ used_count records.old }
+    ensures spare { records.new.spare ≡ records.old.spare }
+{
+    match at {
+        None => *first = to,
+        Some(id) => records.get_mut(id).next = to,
+    }
+}
+
+// Links the record `at` to the one before it, or makes that one the last.
+fn set_prev<T>(
+    records: &mut Store<Link<T>>,
+    last: &mut Option<usize>,
+    at: Option<usize>,
+    to: Option<usize>,
+)
+    requires { IfSome at (λ i. IsSome (slot_at records.old i)) }
+    ensures leaves { (j : ℕ) → slot_at records.new j ≡ with_prev (slot_at records.old) at to j }
+    ensures last { last.new ≡ end_with at to last.old }
+    ensures used { used_count records.new ≡ used_count records.old }
+    ensures spare { records.new.spare ≡ records.old.spare }
+{
+    match at {
+        None => *last = to,
+        Some(id) => records.get_mut(id).prev = to,
+    }
+}
+
+impl<T> Chain<T> {
+    /// No items, and no place for one.
+    pub(crate) fn new(alloc: Global) -> Self
+        ensures pairs { result.pairs ≡ [] }
+        ensures spare { result.spare ≡ 0 }
+    {
+        Chain {
+            records: Store::new(alloc),
+            first: None,
+            last: None,
+        }
+    }
+
+    /// Answers nothing. Its contract says that no number comes twice.
+    pub(crate) fn law(&self)
+        ensures distinct { AreDistinct self.now.pairs }
+    {
+        let _ = &self.first;
+    }
+
+    /// How many items more find a place with no memory asked for.
+    pub(crate) fn spare(&self) -> usize
+        ensures { result ≡ self.now.spare }
+    {
+        self.records.spare()
+    }
+
+    /// The first number.
+    pub(crate) fn first(&self) -> Option<usize>
+        ensures { result ≡ first_number self.now.pairs }
+    {
+        self.first
+    }
+
+    /// The last number.
+    pub(crate) fn last(&self) -> Option<usize>
+        ensures { result ≡ last_number self.now.pairs }
+    {
+        self.last
+    }
+
+    /// The number behind this one.
+    pub(crate) fn next_of(&self, id: usize) -> Option<usize>
+        requires { Has self.now.pairs id }
+        ensures { result ≡ number_after self.now.pairs id }
+    {
+        self.record(id).next
+    }
+
+    /// The number before this one.
+    pub(crate) fn prev_of(&self, id: usize) -> Option<usize>
+        requires { Has self.now.pairs id }
+        ensures { result ≡ number_before self.now.pairs id }
+    {
+        self.record(id).prev
+    }
+
+    // The record of a number.
+    fn record(&self, id: usize) -> &Link<T>
+        requires { Has self.now.pairs id }
+        ensures value { leaf_in self.now.pairs id ≡ Some result.now.item }
+        ensures next { result.now.next ≡ number_after self.now.pairs id }
+        ensures prev { result.now.prev ≡ number_before self.now.pairs id }
+    {
+        self.records.read(id)
+    }
+
+    /// The item of a number, if it has one.
+    pub(crate) fn get(&self, id: usize) -> Option<&T>
+        ensures { option_map (λ r. r.now) result ≡ leaf_in self.now.pairs id }
+    {
+        match self.records.get(id) {
+            None => None,
+            Some(link) => Some(&link.item),
+        }
+    }
+
+    /// The item of a number.
+    pub(crate) fn read(&self, id: usize) -> &T
+        requires { Has self.now.pairs id }
+        ensures { leaf_in self.now.pairs id ≡ Some result.now }
+    {
+        &self.record(id).item
+    }
+
+    /// The item of a number, to be written.
+    pub(crate) fn get_mut(&mut self, id: usize) -> &mut T
+        requires { Has self.old.pairs id }
+        ensures* writes_back { sem 𝓛 (lends_at T.row self.entry id result) }
+        ensures value { leaf_in self.old.pairs id ≡ Some result.now }
+    {
+        self.records.get_mut(id).item_mut()
+    }
+}
+
+impl<T: Drop> Chain<T> {
+    /// Puts an item behind the one of `prev`, or in front of all. It asks for no memory.
+    pub(crate) fn insert(&mut self, prev: Option<usize>, item: T) -> usize
+        requires spare { 0 < self.old.spare }
+        requires prev { IfSome prev (Has self.old.pairs) }
+        ensures fresh { leaf_in self.old.pairs result ≡ None }
+        ensures placed { self.new.pairs ≡ with_pair_behind prev (result, item) self.old.pairs }
+        ensures spare { self.new.spare + 1 ≡ self.old.spare }
+    {
+        let next = match prev {
+            None => self.first,
+            Some(id) => self.next_of(id),
+        };
+        let (before, behind) = (prev, next);
+        let number = self.records.fill(Link {
+            item,
+            prev: before,
+            next: behind,
+        });
+        set_next(&mut self.records, &mut self.first, prev, Some(number));
+        set_prev(&mut self.records, &mut self.last, next, Some(number));
+        number
+    }
+
+    /// Takes an item out.
+    pub(crate) fn remove(&mut self, id: usize) -> T
+        requires { Has self.old.pairs id }
+        ensures value { leaf_in self.old.pairs id ≡ Some result }
+        ensures rest { self.new.pairs ≡ without_number self.old.pairs id }
+        ensures spare { self.new.spare ≡ self.old.spare + 1 }
+    {
+        let link = self.records.take(id);
+        set_next(&mut self.records, &mut self.first, link.prev, link.next);
+        set_prev(&mut self.records, &mut self.last, link.next, link.prev);
+        link.item
+    }
+
+    /// Makes places for so many items more.
+    pub(crate) fn reserve(&mut self, n: usize) -> Result<(), AllocError>
+        ensures pairs { self.new.pairs ≡ self.old.pairs }
+        ensures grows { self.old.spare ≤ self.new.spare }
+        ensures ok { OnOk result (n ≤ self.new.spare) }
+        ensures needed { OnErr result (self.old.spare < n) }
+    {
+        self.records.reserve(n)
+    }
+
+    /// Drops every item.
+    pub(crate) fn clear(&mut self)
+        ensures pairs { self.new.pairs ≡ [] }
+        ensures spare { self.new.spare ≡ 0 }
+    {
+        self.records.clear();
+        self.first = None;
+        self.last = None;
+    }
+}

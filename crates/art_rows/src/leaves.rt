@@ -1,0 +1,521 @@
+//! The leaf records, in rows in the order of their keys.
+ghost use Rattle.std.specs.Prelude.{◌≡◌, ◌≢◌, ◌+◌, ◌-◌, ◌<◌, ◌≤◌, ◌++◌, ◌⊎◌, ℕ, [], ◌∷◌, length, map, option_map, take, drop, Some, None, IsSome, IfSome, IfNone, true, OnOk, OnErr};
+ghost use Rattle.art_kinds.specs.Store.{slot_at, used_count};
+ghost use Rattle.art_rows.specs.Numbers.{leaf_in, Has, AreDistinct, first_number, last_number, number_after, number_before, with_pair_behind, without_number, with_pair};
+ghost use Rattle.art_rows.specs.Rows.{position_at, nth, numbers, IsSpot, IsSplit, row_end, row_room, row_start, among};
+ghost use Rattle.art_rows.specs.declared.row.Position.{Position};
+ghost use Rattle.art_rows.specs.Leaves.{index_of, room, spot_index};
+ghost use Rattle.art_rows.specs.Filing.{in_row};
+ghost use Rattle.art_rows.specs.LeafLends.{lends_value, lends_leaf};
+ghost use Rattle.std.specs.Borrow.{sem};
+
+use crate::chain::Chain;
+use crate::row::{HALF, Position, ROW, Row};
+use art_kinds::{LeafId, Store, Visits};
+use std::alloc::{AllocError, Global};
+use std::marker::Model;
+use std::mem;
+
+/// A key and its value, and the row that has its number.
+#[derive(Drop)]
+pub(crate) struct Leaf<K, V> {
+    pub(crate) key: K,
+    pub(crate) value: V,
+    pub(crate) row: usize,
+}
+
+impl<K, V> Leaf<K, V> {
+    fn pair_mut(&mut self) -> (&K, &mut V)
+        ensures* writes_back { sem 𝓛 (lends_value K.row V.row self.entry result.1) }
+        ensures key { result.0.now ≡ self.old.key }
+        ensures value { result.1.now ≡ self.old.value }
+    {
+        (&self.key, &mut self.value)
+    }
+}
+
+/// The leaves of a tree in byte order. A contract sees the pairs in order, each under its number, the rows of the numbers, and how many more records and rows find a place.
+#[derive(Drop)]
+pub struct Leaves<K, V> {
+    pub(crate) records: Store<Leaf<K, V>>,
+    pub(crate) rows: Chain<Row>,
+}
+
+impl<K, V> Model for Leaves<K, V> {
+    ghost use Rattle.art_rows.specs.Leaves.{Leaves as Pairs, leaves_code};
+
+    ghost Value = { Pairs K V };
+
+    ghost coded = { leaves_code K.code V.code };
+
+    ghost use Rattle.art_rows.specs.Filing.{content, AllFiled};
+
+    ghost view = { λ t. content t.records t.rows };
+
+    ghost invariant = { λ t. AllFiled t.records t.rows.pairs };
+}
+
+impl<K, V> Leaves<K, V> {
+    /// No leaves, and no place for one.
+    pub fn new(alloc: Global) -> Self
+        ensures pairs { result.pairs ≡ [] }
+        ensures rows { result.rows ≡ [] }
+        ensures spare { result.spare ≡ 0 }
+        ensures spare_rows { result.spare_rows ≡ 0 }
+    {
+        Leaves {
+            records: Store::new(alloc),
+            rows: Chain::new(alloc),
+        }
+    }
+
+    /// Answers nothing. Its contract says that no number comes twice.
+    pub fn law(&self)
+        ensures distinct { AreDistinct self.now.pairs }
+    {
+        let _ = &self.rows;
+    }
+
+    /// How many leaves there are.
+    pub fn len(&self) -> usize
+        ensures { result ≡ length self.now.pairs }
+    {
+        self.records.used()
+    }
+
+    /// How many records of leaves are spare.
+    pub fn spare(&self) -> usize
+        ensures { result ≡ self.now.spare }
+    {
+        self.records.spare()
+    }
+
+    /// How many rows are spare.
+    pub fn spare_rows(&self) -> usize
+        ensures { result ≡ self.now.spare_rows }
+    {
+        self.rows.spare()
+    }
+
+    // The place of a leaf.
+    pub(crate) fn position_of(&self, id: LeafId) -> Position
+        requires { Has self.now.pairs id }
+        ensures { position_at self.now.rows (index_of self.now.pairs id) ≡ Some result }
+    {
+        let row = self.records.read(id.number()).row;
+        let place = self.rows.read(row).place_of(id);
+        Position { row, place }
+    }
+
+    // The place of a leaf, which may stand where it was seen.
+    fn position_near(&self, id: LeafId, seen: Position) -> Position
+        requires { Has self.now.pairs id }
+        ensures { position_at self.now.rows (index_of self.now.pairs id) ≡ Some result }
+    {
+        match self.rows.get(seen.row) {
+            Some(row) if row.has_at(seen.place, id) => seen,
+            _ => self.position_of(id),
+        }
+    }
+
+    // The number at a position.
+    pub(crate) fn number(&self, position: Position) -> LeafId
+        requires { (k : ℕ) × (position_at self.now.rows k ≡ Some position) }
+        ensures { (k : ℕ) → position_at self.now.rows k ≡ Some position → nth (map (λ p. p.0) self.now.pairs) k ≡ Some result }
+    {
+        self.rows.read(position.row).at(position.place)
+    }
+
+    /// The position of the first leaf.
+    pub(crate) fn first_position(&self) -> Option<Position>
+        ensures { result ≡ position_at self.now.rows 0 }
+    {
+        match self.rows.first() {
+            None => None,
+            Some(row) => Some(Position { row, place: 0 }),
+        }
+    }
+
+    /// The position of the last leaf.
+    pub(crate) fn last_position(&self) -> Option<Position>
+        ensures { result ≡ position_at self.now.rows (length self.now.pairs - 1) }
+    {
+        match self.rows.last() {
+            None => None,
+            Some(row) => {
+                let place = self.rows.read(row).len() - 1;
+                Some(Position { row, place })
+            }
+        }
+    }
+
+    /// The position behind this one.
+    pub(crate) fn forward(&self, position: Position) -> Option<Position>
+        requires { (k : ℕ) × (position_at self.now.rows k ≡ Some position) }
+        ensures { (k : ℕ) → position_at self.now.rows k ≡ Some position → result ≡ position_at self.now.rows (k + 1) }
+    {
+        let len = self.rows.read(position.row).len();
+        let place = position.place + 1;
+        if place < len {
+            return Some(Position {
+                row: position.row,
+                place,
+            });
+        }
+        match self.rows.next_of(position.row) {
+            None => None,
+            Some(row) => Some(Position { row, place: 0 }),
+        }
+    }
+
+    /// The position before this one.
+    pub(crate) fn backward(&self, position: Position) -> Option<Position>
+        requires { (k : ℕ) × (position_at self.now.rows k ≡ Some position) }
+        ensures before { (k : ℕ) → position_at self.now.rows (k + 1) ≡ Some position → result ≡ position_at self.now.rows k }
+        ensures first { position_at self.now.rows 0 ≡ Some position → result ≡ None }
+    {
+        let rows = &self.rows;
+        if 0 < position.place {
+            return Some(Position {
+                row: position.row,
+                place: position.place - 1,
+            });
+        }
+        match rows.prev_of(position.row) {
+            None => None,
+            Some(row) => {
+                let place = rows.read(row).len() - 1;
+                Some(Position { row, place })
+            }
+        }
+    }
+
+    /// The pair of a leaf. It reads one record.
+    pub fn read(&self, id: LeafId, visits: &mut Visits) -> (&K, &V)
+        requires { Has self.now.pairs id }
+        ensures value { leaf_in self.now.pairs id ≡ Some (result.0.now, result.1.now) }
+        ensures counted { visits.new.count ≡ visits.old.count + 1 }
+    {
+        visits.add_one();
+        let leaf = self.records.read(id.number());
+        (&leaf.key, &leaf.value)
+    }
+
+    /// The pair of a leaf, and the leaf behind it. It reads one record.
+    pub fn read_with_next(&self, id: LeafId, visits: &mut Visits) -> (&K, &V, Option<LeafId>)
+        requires { Has self.now.pairs id }
+        ensures value { leaf_in self.now.pairs id ≡ Some (result.0.now, result.1.now) }
+        ensures next { result.2 ≡ number_after self.now.pairs id }
+        ensures counted { visits.new.count ≡ visits.old.count + 1 }
+    {
+        let (key, value) = self.read(id, visits);
+        (key, value, self.next_of(id))
+    }
+
+    /// The pair of a leaf, and the leaf before it. It reads one record.
+    pub fn read_with_prev(&self, id: LeafId, visits: &mut Visits) -> (&K, &V, Option<LeafId>)
+        requires { Has self.now.pairs id }
+        ensures value { leaf_in self.now.pairs id ≡ Some (result.0.now, result.1.now) }
+        ensures prev { result.2 ≡ number_before self.now.pairs id }
+        ensures counted { visits.new.count ≡ visits.old.count + 1 }
+    {
+        let (key, value) = self.read(id, visits);
+        (key, value, self.prev_of(id))
+    }
+
+    /// The first leaf.
+    pub fn first(&self) -> Option<LeafId>
+        ensures { result ≡ first_number self.now.pairs }
+    {
+        let _ = &self.rows;
+        match self.first_position() {
+            None => None,
+            Some(position) => Some(self.number(position)),
+        }
+    }
+
+    /// The last leaf.
+    pub fn last(&self) -> Option<LeafId>
+        ensures { result ≡ last_number self.now.pairs }
+    {
+        let _ = &self.rows;
+        match self.last_position() {
+            None => None,
+            Some(position) => Some(self.number(position)),
+        }
+    }
+
+    /// The leaf behind this one.
+    pub fn next_of(&self, id: LeafId) -> Option<LeafId>
+        requires { Has self.now.pairs id }
+        ensures { result ≡ number_after self.now.pairs id }
+    {
+        let _ = &self.rows;
+        match self.forward(self.position_of(id)) {
+            None => None,
+            Some(position) => Some(self.number(position)),
+        }
+    }
+
+    /// The leaf behind this one, and where it stands. `seen` is where this one may stand: where it does, no row is searched, and no leaf is read.
+    pub fn next_from(&self, id: LeafId, seen: Position) -> (Option<LeafId>, Position)
+        requires { Has self.now.pairs id }
+        ensures { result.0 ≡ number_after self.now.pairs id }
+    {
+        let _ = &self.rows;
+        match self.forward(self.position_near(id, seen)) {
+            None => (None, seen),
+            Some(position) => (Some(self.number(position)), position),
+        }
+    }
+
+    /// The leaf before this one, and where it stands. `seen` is where this one may stand: where it does, no row is searched, and no leaf is read.
+    pub fn prev_from(&self, id: LeafId, seen: Position) -> (Option<LeafId>, Position)
+        requires { Has self.now.pairs id }
+        ensures { result.0 ≡ number_before self.now.pairs id }
+    {
+        let _ = &self.rows;
+        match self.backward(self.position_near(id, seen)) {
+            None => (None, seen),
+            Some(position) => (Some(self.number(position)), position),
+        }
+    }
+
+    /// The leaf before this one.
+    pub fn prev_of(&self, id: LeafId) -> Option<LeafId>
+        requires { Has self.now.pairs id }
+        ensures { result ≡ number_before self.now.pairs id }
+    {
+        let _ = &self.rows;
+        match self.backward(self.position_of(id)) {
+            None => None,
+            Some(position) => Some(self.number(position)),
+        }
+    }
+}
+
+impl<K, V> Leaves<K, V> {
+    /// The key of a leaf, and its value to be written.
+    pub fn get_mut(&mut self, id: LeafId) -> (&K, &mut V)
+        requires { Has self.old.pairs id }
+        ensures* writes_back { sem 𝓛 (lends_leaf K.row V.row self.entry id result.1) }
+        ensures value { leaf_in self.old.pairs id ≡ Some (result.0.now, result.1.now) }
+    {
+        self.records.get_mut(id.number()).pair_mut()
+    }
+
+    /// The value of a leaf, to be written.
+    pub fn value_mut(&mut self, id: LeafId) -> &mut V
+        requires { Has self.old.pairs id }
+        ensures* writes_back { sem 𝓛 (lends_leaf K.row V.row self.entry id result) }
+        ensures value { option_map (λ p. p.1) (leaf_in self.old.pairs id) ≡ Some result.now }
+    {
+        self.get_mut(id).1
+    }
+}
+
+// Takes the number at a position out of its row, and the row away where it was the only one.
+fn take_out(rows: &mut Chain<Row>, position: Position)
+    requires has { Has rows.old.pairs position.row }
+    requires within { IfSome (leaf_in rows.old.pairs position.row) (λ ids. position.place < length ids) }
+    ensures one { IfSome (leaf_in rows.old.pairs position.row) (λ ids. length ids ≡ 1 → rows.new.pairs ≡ without_number rows.old.pairs position.row) }
+    ensures more { IfSome (leaf_in rows.old.pairs position.row) (λ ids. length ids ≢ 1 → rows.new.pairs ≡ with_pair rows.old.pairs position.row (take position.place ids ++ drop (position.place + 1) ids)) }
+    ensures grows { rows.old.spare ≤ rows.new.spare }
+    ensures gains { IfSome (leaf_in rows.old.pairs position.row) (λ ids. length ids ≡ 1 → rows.new.spare ≡ rows.old.spare + 1) }
+{
+    if rows.read(position.row).len() == 1 {
+        let _ = rows.remove(position.row);
+    } else {
+        rows.get_mut(position.row).remove(position.place);
+    }
+}
+
+impl<K: Drop, V: Drop> Leaves<K, V> {
+    /// Takes a leaf out, and gives its pair.
+    pub fn remove(&mut self, id: LeafId) -> (K, V)
+        requires { Has self.old.pairs id }
+        ensures value { leaf_in self.old.pairs id ≡ Some result }
+        ensures rest { self.new.pairs ≡ without_number self.old.pairs id }
+        ensures room { room self.old ≤ room self.new }
+    {
+        let position = self.position_of(id);
+        let leaf = self.records.take(id.number());
+        take_out(&mut self.rows, position);
+        (leaf.key, leaf.value)
+    }
+
+    /// Puts another pair under the number of a leaf, and gives the old one.
+    pub fn exchange(&mut self, id: LeafId, key: K, value: V) -> (K, V)
+        requires { Has self.old.pairs id }
+        ensures value { leaf_in self.old.pairs id ≡ Some result }
+        ensures pairs { self.new.pairs ≡ with_pair self.old.pairs id (key, value) }
+        ensures rows { self.new.rows ≡ self.old.rows }
+        ensures spare { self.new.spare ≡ self.old.spare }
+        ensures spare_rows { self.new.spare_rows ≡ self.old.spare_rows }
+    {
+        let leaf = self.records.get_mut(id.number());
+        let old_key = mem::replace(&mut leaf.key, key);
+        let old_value = mem::replace(&mut leaf.value, value);
+        (old_key, old_value)
+    }
+
+    /// Makes places for so many leaves more. It fails where memory is wanting, and then changes nothing that a contract sees but, it may be, the number of places.
+    pub fn reserve(&mut self, n: usize) -> Result<(), AllocError>
+        ensures pairs { self.new.pairs ≡ self.old.pairs }
+        ensures rows { self.new.rows ≡ self.old.rows }
+        ensures grows { room self.old ≤ room self.new }
+        ensures ok { OnOk result (n ≤ room self.new) }
+        ensures needed { OnErr result ((self.old.spare < n) ⊎ (self.old.spare_rows < n)) }
+    {
+        self.records.reserve(n)?;
+        let half = n / HALF + self.records.used() / HALF + 2;
+        self.rows.reserve(if half < n { half } else { n })
+    }
+
+    /// Drops every leaf.
+    pub fn clear(&mut self)
+        ensures pairs { self.new.pairs ≡ [] }
+        ensures rows { self.new.rows ≡ [] }
+        ensures spare { self.new.spare ≡ 0 }
+        ensures spare_rows { self.new.spare_rows ≡ 0 }
+    {
+        self.records.clear();
+        self.rows.clear();
+    }
+
+    // How many numbers a row has.
+    fn row_len(&self, row: usize) -> usize
+        requires { Has self.now.rows row }
+        ensures len { IfSome (leaf_in self.now.rows row) (λ ids. result ≡ length ids) }
+        ensures fits { result ≤ ROW }
+    {
+        self.rows.read(row).len()
+    }
+
+    // The row behind another.
+    fn row_behind(&self, row: usize) -> Option<usize>
+        requires { Has self.now.rows row }
+        ensures { result ≡ number_after self.now.rows row }
+    {
+        self.rows.next_of(row)
+    }
+
+    /// Puts a pair behind the leaf `prev`, or in front of all. It asks for no memory.
+    pub fn insert(&mut self, prev: Option<LeafId>, key: K, value: V) -> LeafId
+        requires room { 0 < room self.old }
+        requires prev { IfSome prev (Has self.old.pairs) }
+        ensures fresh { leaf_in self.old.pairs result ≡ None }
+        ensures placed { self.new.pairs ≡ with_pair_behind prev (result, (key, value)) self.old.pairs }
+        ensures room { room self.old ≤ room self.new + 1 }
+    {
+        let _ = &self.rows;
+        // The prover takes an `Option<LeafId>` that is passed on as moved, so this is a copy.
+        let behind = prev;
+        let position = match self.spot(behind) {
+            None => return self.begin(prev, None, key, value),
+            Some(position) => position,
+        };
+        if self.row_len(position.row) < ROW {
+            return self.put(prev, position, key, value);
+        }
+        if position.place == ROW && self.row_behind(position.row).is_none() {
+            return self.begin(prev, Some(position.row), key, value);
+        }
+        let fresh = self.split(position.row);
+        if position.place <= HALF {
+            return self.put(prev, position, key, value);
+        }
+        let place = position.place - HALF;
+        self.put(prev, Position { row: fresh, place }, key, value)
+    }
+
+    // Where a pair behind a leaf, or in front of all, has its place; nowhere while there is no row.
+    fn spot(&self, prev: Option<LeafId>) -> Option<Position>
+        requires { IfSome prev (Has self.now.pairs) }
+        ensures some { IfSome result (λ p. IsSpot self.now.rows p (spot_index prev self.now.pairs)) }
+        ensures none { IfNone result (self.now.rows ≡ []) }
+    {
+        let _ = &self.rows;
+        match prev {
+            None => self.first_position(),
+            Some(id) => {
+                let position = self.position_of(id);
+                let _len = self.rows.read(position.row).len();
+                Some(Position {
+                    row: position.row,
+                    place: position.place + 1,
+                })
+            }
+        }
+    }
+
+    // Puts a pair at a spot of a row that is not full.
+    fn put(&mut self, prev: Option<LeafId>, position: Position, key: K, value: V) -> LeafId
+        requires spare { 0 < self.old.spare }
+        requires prev { IfSome prev (Has self.old.pairs) }
+        requires spot { IsSpot self.old.rows position (spot_index prev self.old.pairs) }
+        requires room { IfSome (leaf_in self.old.rows position.row) (λ ids. length ids < ROW) }
+        ensures fresh { leaf_in self.old.pairs result ≡ None }
+        ensures placed { self.new.pairs ≡ with_pair_behind prev (result, (key, value)) self.old.pairs }
+        ensures spare { self.new.spare + 1 ≡ self.old.spare }
+        ensures spare_rows { self.new.spare_rows ≡ self.old.spare_rows }
+        ensures rows { IfSome (leaf_in self.old.rows position.row) (λ ids. self.new.rows ≡ with_pair self.old.rows position.row (take position.place ids ++ result ∷ drop position.place ids)) }
+    {
+        let number = self.records.fill(Leaf {
+            key,
+            value,
+            row: position.row,
+        });
+        let id = LeafId::new(number);
+        self.rows.get_mut(position.row).insert(position.place, id);
+        id
+    }
+
+    // Puts a pair into a new row, behind another or in front of all.
+    fn begin(&mut self, prev: Option<LeafId>, behind: Option<usize>, key: K, value: V) -> LeafId
+        requires spare { 0 < self.old.spare }
+        requires spare_rows { 0 < self.old.spare_rows }
+        requires prev { IfSome prev (Has self.old.pairs) }
+        requires behind { IfSome behind (Has self.old.rows) }
+        requires index { spot_index prev self.old.pairs ≡ row_end behind self.old.rows }
+        ensures fresh { leaf_in self.old.pairs result ≡ None }
+        ensures placed { self.new.pairs ≡ with_pair_behind prev (result, (key, value)) self.old.pairs }
+        ensures spare { self.new.spare + 1 ≡ self.old.spare }
+        ensures spare_rows { self.new.spare_rows + 1 ≡ self.old.spare_rows }
+        ensures rows { (r : ℕ) × (self.new.rows ≡ with_pair_behind behind (r, result ∷ []) self.old.rows) }
+    {
+        let number = self.records.fill(Leaf { key, value, row: 0 });
+        let id = LeafId::new(number);
+        let row = self.rows.insert(behind, Row::new(id));
+        self.records.get_mut(number).row = row;
+        id
+    }
+
+    // Moves the second half of a full row into a new one behind it.
+    fn split(&mut self, row: usize) -> usize
+        requires spare_rows { 0 < self.old.spare_rows }
+        requires has { Has self.old.rows row }
+        requires full { IfSome (leaf_in self.old.rows row) (λ ids. length ids ≡ ROW) }
+        ensures pairs { self.new.pairs ≡ self.old.pairs }
+        ensures rows { IsSplit self.old.rows self.new.rows row result }
+        ensures spare { self.new.spare ≡ self.old.spare }
+        ensures spare_rows { self.new.spare_rows + 1 ≡ self.old.spare_rows }
+    {
+        let half = self.rows.get_mut(row).split();
+        let fresh = self.rows.insert(Some(row), half);
+        name_row(&mut self.records, self.rows.read(fresh), fresh);
+        fresh
+    }
+}
+
+// Names a row in the records of its numbers.
+fn name_row<K, V>(records: &mut Store<Leaf<K, V>>, row: &Row, number: usize)
+    requires { (j : ℕ) → among row.now j ≡ true → IsSome (slot_at records.old j) }
+    ensures named { (j : ℕ) → slot_at records.new j ≡ in_row (slot_at records.old) row.now number j }
+    ensures used { used_count records.new ≡ used_count records.old }
+    ensures spare { records.new.spare ≡ records.old.spare }
+{
+    for place in 0..row.len() {
+        records.get_mut(row.at(place).number()).row = number;
+    }
+}

@@ -1,0 +1,155 @@
+//! A row of numbers.
+ghost use Rattle.std.specs.Prelude.{◌≡◌, ℕ, ◌+◌, ◌-◌, ◌<◌, ◌≤◌, [], ◌∷◌, ◌++◌, length, take, drop, Some, true};
+ghost use Rattle.art_rows.specs.Rows.{place_in, nth, nowhere};
+
+use art_kinds::LeafId;
+use std::marker::Model;
+
+/// How many numbers a row has room for.
+pub(crate) const ROW: usize = 32;
+
+/// How many stay in a row that is split.
+pub(crate) const HALF: usize = 16;
+
+/// A row, and a place in it.
+#[derive(Clone, Copy)]
+pub struct Position {
+    pub(crate) row: usize,
+    pub(crate) place: usize,
+}
+
+impl Position {
+    /// Some position: where a leaf stands that was not seen yet is not known.
+    pub fn unknown() -> Self
+        ensures { result ≡ nowhere }
+    {
+        Position { row: 0, place: 0 }
+    }
+}
+
+/// Up to 32 numbers in order. A contract sees their list.
+#[derive(Drop)]
+pub(crate) struct Row {
+    count: usize,
+    ids: [LeafId; 32],
+}
+
+impl Model for Row {
+    ghost use Rattle.std.specs.Prelude.{◌≡◌, ◌≤◌, List, ℕ, take, length};
+    ghost use Rattle.std.specs.Coded.{coded_list, coded_ℕ};
+
+    ghost Value = { List ℕ };
+
+    ghost coded = { coded_list coded_ℕ };
+
+    ghost view = { λ r. take r.count r.ids };
+
+    ghost use Rattle.art_rows.specs.declared.row.TheConstants.{ROW};
+
+    ghost invariant = { λ r. (r.count ≤ ROW) × (length r.ids ≡ ROW) };
+}
+
+impl Row {
+    /// A row of one number.
+    pub(crate) fn new(number: LeafId) -> Self
+        ensures { result ≡ number ∷ [] }
+    {
+        Row {
+            count: 1,
+            ids: [number; 32],
+        }
+    }
+
+    /// How many numbers there are.
+    pub(crate) fn len(&self) -> usize
+        ensures len { result ≡ length self.now }
+        ensures fits { length self.now ≤ ROW }
+    {
+        self.count
+    }
+
+    /// The number at a place.
+    pub(crate) fn at(&self, place: usize) -> LeafId
+        requires { place < length self.now }
+        ensures { nth self.now place ≡ Some result }
+    {
+        self.ids[..self.count][place]
+    }
+
+    /// Whether a number stands at a place.
+    pub(crate) fn has_at(&self, place: usize, number: LeafId) -> bool
+        ensures { result ≡ true → nth self.now place ≡ Some number }
+    {
+        place < self.count && self.ids[..self.count][place] == number
+    }
+
+    /// The place of a number.
+    pub(crate) fn place_of(&self, number: LeafId) -> usize
+        ensures { result ≡ place_in self.now number }
+    {
+        place_among(&self.ids[..self.count], number)
+    }
+
+    /// Puts a number at a place.
+    pub(crate) fn insert(&mut self, place: usize, number: LeafId)
+        requires room { length self.old < ROW }
+        requires place { place ≤ length self.old }
+        ensures { self.new ≡ take place self.old ++ number ∷ drop place self.old }
+    {
+        insert_in(&mut self.ids, self.count, place, number);
+        self.count += 1;
+    }
+
+    /// Takes the number at a place out.
+    pub(crate) fn remove(&mut self, place: usize)
+        requires { place < length self.old }
+        ensures { self.new ≡ take place self.old ++ drop (place + 1) self.old }
+    {
+        remove_in(&mut self.ids, self.count, place);
+        self.count -= 1;
+    }
+
+    /// Takes the second half out of a full row.
+    pub(crate) fn split(&mut self) -> Row
+        requires { length self.old ≡ ROW }
+        ensures parts { self.old ≡ self.new ++ result }
+        ensures half { length self.new ≡ HALF }
+    {
+        let mut ids = [self.ids[0]; 32];
+        let own = &self.ids[..];
+        ids[..HALF].copy_from_slice(&own[HALF..]);
+        self.count = HALF;
+        Row { count: HALF, ids }
+    }
+}
+
+// How many numbers stand before this one.
+fn place_among(ids: &[LeafId], number: LeafId) -> usize
+    ensures { result ≡ place_in ids.now number }
+{
+    for (place, id) in ids.iter().enumerate() {
+        if *id == number {
+            return place;
+        }
+    }
+    ids.len()
+}
+
+// Puts a number at a place of the first so many.
+fn insert_in(ids: &mut [LeafId], count: usize, place: usize, number: LeafId)
+    requires place { place ≤ count }
+    requires room { count < length ids.old }
+    ensures { take (count + 1) ids.new ≡ take place (take count ids.old) ++ number ∷ drop place (take count ids.old) }
+{
+    ids[count] = number;
+    ids[place..count + 1].rotate_right(1);
+}
+
+// Closes up over a place of the first so many.
+fn remove_in(ids: &mut [LeafId], count: usize, place: usize)
+    requires place { place < count }
+    requires within { count ≤ length ids.old }
+    ensures { take (count - 1) ids.new ≡ take place (take count ids.old) ++ drop (place + 1) (take count ids.old) }
+{
+    ids[place..count].rotate_left(1);
+}

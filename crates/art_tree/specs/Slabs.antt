@@ -1,2 +1,0 @@
-pub mod LeafLends
-pub mod Links
