@@ -6,7 +6,9 @@ use Rattle.std.specs.Result.{result_map_both}
 use Rattle.std.proofs.lemmas.Option.{slice_get-map}
 use Rattle.std.proofs.lemmas.List.{map-append}
 use Rattle.std.specs.Prelude.{Result, Ok, Err, OnOk, OnErr, IfOk, IfErr}
-use Rattle.std.proofs.Common.{Bool, arith}
+use Rattle.std.proofs.Common.{Bool, arith, ◌&&◌, inl, inr}
+use Rattle.std.specs.declared.ops.Bound.{Bound}
+use Rattle.blart_keys.specs.Bounds.{CanRange, is_from_start, is_up_to_end}
 use Rattle.blart_keys.specs.Steps.{Puts, Inserts, PutsOver}
 use Rattle.blart_keys.specs.declared.calls.TryInsertError.{TryInsertError}
 use Rattle.blart_keys.specs.declared.calls.TryInsertError.TheVariants.{Prefix, Memory}
@@ -126,3 +128,19 @@ module _ {K V : Type 0} where
   pub alone-puts : (kb : K → List ℕ) (S S' : List (K × V)) (x : K × V) {A E : Type 0} (r : Result A E) → PutsOver kb S x r S' → OnErr r (subtree kb (keys kb S) (kb x.0) ≡ [])
   alone-puts kb S S' x (Ok a) h = tt
   alone-puts kb S S' x (Err e) h = subtree-keys kb S (kb x.0) ∙ ap (map (λ p. p.0)) h.0
+
+module _ {K V : Type 0} (kb : K → List ℕ) (S : List (K × V)) where
+  pub under-keys : (q : List ℕ) → under kb (keys kb S) q ≡ map (λ p. p.0) (under (bytes kb) S q)
+  under-keys q = filter-map (λ p. p.0) (λ x. begins q (kb x)) S
+
+  pub between-keys : (lo hi : Bound (List ℕ)) → between kb (keys kb S) lo hi ≡ map (λ p. p.0) (between (bytes kb) S lo hi)
+  between-keys lo hi = filter-map (λ p. p.0) (λ x. is_from_start lo (kb x) && is_up_to_end hi (kb x)) S
+
+  -- where a map of these keys can be walked
+  pub can_range-keys : (lo hi : Bound (List ℕ)) → CanRange (keys kb S) lo hi → CanRange S lo hi
+  can_range-keys lo hi (inl e) = inl (none S e)
+    where
+      none : (S : List (K × V)) → map (λ p. p.0) S ≡ [] → S ≡ []
+      none [] e = refl
+      none (p ∷ S) e = absurd cc
+  can_range-keys lo hi (inr e) = inr e

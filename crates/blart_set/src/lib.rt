@@ -8,6 +8,8 @@
 mod changes;
 mod insertions;
 mod set;
+mod walks;
 
-pub use blart_map::{DEFAULT_PREFIX_LEN, InsertPrefixError, TryInsertError};
+pub use blart_map::{DEFAULT_PREFIX_LEN, InsertPrefixError, TryInsertError, bounds_in_order};
 pub use set::TreeSet;
+pub use walks::{IntoIter, Iter, Prefix, Range};
