@@ -1,0 +1,146 @@
+-- What the pairs of a map of units say of the list of its keys.
+use Rattle.std.proofs.Common.{◌≡◌, ℕ, ◌-◌, ◌+◌, true, false, not, cond, List, [], ◌∷◌, ◌++◌, map, length, refl, sym, ap, ◌∙◌, subst, Option, Some, None, option_map, slice_get, bytes_eq}
+use Rattle.std.specs.Prelude.{if◌then◌else◌}
+use Rattle.std.specs.Option.{is_some, is_none, option_copied}
+use Rattle.std.specs.Result.{result_map_both}
+use Rattle.std.proofs.lemmas.Option.{slice_get-map}
+use Rattle.std.proofs.lemmas.List.{map-append}
+use Rattle.std.specs.Prelude.{Result, Ok, Err, OnOk, OnErr, IfOk, IfErr}
+use Rattle.std.proofs.Common.{Bool, arith, ◌&&◌, inl, inr}
+use Rattle.std.specs.declared.ops.Bound.{Bound}
+use Rattle.blart_keys.specs.Bounds.{CanRange, is_from_start, is_up_to_end}
+use Rattle.blart_keys.specs.Steps.{Puts, Inserts, PutsOver}
+use Rattle.blart_keys.specs.declared.calls.TryInsertError.{TryInsertError}
+use Rattle.blart_keys.specs.declared.calls.TryInsertError.TheVariants.{Prefix, Memory}
+use Rattle.blart_set.specs.Elements.{RefusesElement}
+use Rattle.blart_keys.proofs.StoredLemmas.{some-at}
+use denote.Ref.{Bor}
+use Rattle.blart_keys.specs.Bytes.{begins, related, conflicts}
+use Rattle.blart_keys.specs.Content.{at, conflict, front_of, stores, subtree, without, under, between, IsContent, IsPut, IsOver}
+use Rattle.blart_keys.specs.Steps.{bytes}
+use Rattle.blart_keys.specs.Stored.{shown, pair_at}
+use Rattle.blart_keys.specs.Walks.{TakesFirst, TakesLast}
+use Rattle.blart_keys.proofs.Mapped.{find-map, list_any-map, filter-map, content_map, put_map, over_map}
+
+-- ---- what an insertion into the map tells
+
+module _ {V E : Type 0} where
+  abbrev pub told : Result (Option V) E → Result Bool E
+  told r = result_map_both is_none (λ e. e) r
+
+  pub told-len : (m n : ℕ) (r : Result (Option V) E) → IfOk r (λ old. m ≡ n + (if is_some old then 0 else 1)) → IfOk (told r) (λ new. m ≡ n + (if new then 1 else 0))
+  told-len m n (Ok None) h = h
+  told-len m n (Ok (Some v)) h = h
+  told-len m n (Err e) h = tt
+
+module _ {K V : Type 0} (kb : K → List ℕ) (S : List (K × V)) where
+  abbrev pub keys : List K
+  keys = map (λ p. p.0) S
+
+  pub at-keys : (q : List ℕ) → at kb keys q ≡ option_map (λ p. p.0) (at (bytes kb) S q)
+  at-keys q = find-map (λ p. p.0) (λ x. bytes_eq (kb x) q) S
+
+  pub front-keys : (q : List ℕ) → front_of kb keys q ≡ option_map (λ p. p.0) (front_of (bytes kb) S q)
+  front-keys q = find-map (λ p. p.0) (λ x. begins (kb x) q) S
+
+  pub stores-keys : (q : List ℕ) → stores kb keys q ≡ stores (bytes kb) S q
+  stores-keys q = list_any-map (λ p. p.0) (λ x. bytes_eq (kb x) q) S
+
+  pub conflict-keys : (q : List ℕ) → conflict kb keys q ≡ conflict (bytes kb) S q
+  conflict-keys q = list_any-map (λ p. p.0) (λ x. conflicts (kb x) q) S
+
+  pub without-keys : (q : List ℕ) → without kb keys q ≡ map (λ p. p.0) (without (bytes kb) S q)
+  without-keys q = filter-map (λ p. p.0) (λ x. not (bytes_eq (kb x) q)) S
+
+  pub subtree-keys : (q : List ℕ) → subtree kb keys q ≡ map (λ p. p.0) (subtree (bytes kb) S q)
+  subtree-keys q = filter-map (λ p. p.0) (λ x. related (kb x) q) S
+
+  pub content-keys : IsContent (bytes kb) S → IsContent kb keys
+  content-keys c = content_map (λ p. p.0) kb S c
+
+  pub put-keys : (S' : List (K × V)) (x : K × V) → IsPut (bytes kb) S x S' → IsPut kb keys x.0 (map (λ p. p.0) S')
+  put-keys S' x p = put_map (λ p. p.0) kb S S' x p
+
+  pub over-keys : (S' : List (K × V)) (x : K × V) → IsOver (bytes kb) S x S' → IsOver kb keys x.0 (map (λ p. p.0) S')
+  over-keys S' x p = over_map (λ p. p.0) kb S S' x p
+
+module _ {K V : Type 0} where
+  -- the key of a pair behind two references
+  pub shown-key : (r : Option (Bor K × Bor V)) → option_copied (option_map (λ p. p.0) r) ≡ option_map (λ p. p.0) (shown r)
+  shown-key None = refl
+  shown-key (Some p) = refl
+
+  pub takes_first-keys : (S S' : List (K × V)) (r : Option (K × V)) → TakesFirst S r S' → TakesFirst (map (λ p. p.0) S) (option_map (λ p. p.0) r) (map (λ p. p.0) S')
+  takes_first-keys S S' None h = (ap (map (λ p. p.0)) h.0, ap (map (λ p. p.0)) h.1)
+  takes_first-keys S S' (Some p) h = ap (map (λ p. p.0)) h
+
+  pub takes_last-keys : (S S' : List (K × V)) (r : Option (K × V)) → TakesLast S r S' → TakesLast (map (λ p. p.0) S) (option_map (λ p. p.0) r) (map (λ p. p.0) S')
+  takes_last-keys S S' None h = (ap (map (λ p. p.0)) h.0, ap (map (λ p. p.0)) h.1)
+  takes_last-keys S S' (Some p) h = ap (map (λ p. p.0)) h ∙ map-append (λ (p : K × V). p.0) S' (p ∷ [])
+
+  pub is_some-key : (r : Option (K × V)) → is_some (option_map (λ p. p.0) r) ≡ is_some r
+  is_some-key None = refl
+  is_some-key (Some p) = refl
+
+  -- new bytes are those that nothing has
+  new-keys : (kb : K → List ℕ) (S : List (K × V)) (q : List ℕ) (o : Option V) → o ≡ option_map (λ p. p.1) (at (bytes kb) S q) → is_none o ≡ not (stores kb (keys kb S) q)
+  new-keys kb S q o e = ap is_none e ∙ ap not (is_some-value (at (bytes kb) S q) ∙ some-at (bytes kb) S q ∙ sym (stores-keys kb S q))
+    where
+      is_some-value : (r : Option (K × V)) → is_some (option_map (λ p. p.1) r) ≡ is_some r
+      is_some-value None = refl
+      is_some-value (Some p) = refl
+
+  module _ (kb : K → List ℕ) (S S' : List (K × V)) (x : K × V) where
+    pub inserts-new : {E : Type 0} (r : Result (Option V) E) → Inserts kb S x r S' → IfOk (told r) (λ new. new ≡ not (stores kb (keys kb S) (kb x.0)))
+    inserts-new (Ok o) h = new-keys kb S (kb x.0) o h.1
+    inserts-new (Err e) h = tt
+
+    pub inserts-put : {E : Type 0} (r : Result (Option V) E) → Inserts kb S x r S' → OnOk (told r) (IsPut kb (keys kb S) x.0 (keys kb S'))
+    inserts-put (Ok o) h = put-keys kb S S' x h.0
+    inserts-put (Err e) h = tt
+
+    pub inserts-absent : {E : Type 0} (r : Result (Option V) E) → Inserts kb S x r S' → OnErr (told r) (stores kb (keys kb S) (kb x.0) ≡ false)
+    inserts-absent (Ok o) h = tt
+    inserts-absent (Err e) h = stores-keys kb S (kb x.0) ∙ h.0
+
+    pub puts-new : (r : Result (Option V) TryInsertError) → Puts kb (option_map (λ p. p.1)) S x r S' → IfOk (told r) (λ new. new ≡ not (stores kb (keys kb S) (kb x.0)))
+    puts-new (Ok o) h = new-keys kb S (kb x.0) o h.2
+    puts-new (Err e) h = tt
+
+    pub puts-put : (r : Result (Option V) TryInsertError) → Puts kb (option_map (λ p. p.1)) S x r S' → OnOk (told r) (IsPut kb (keys kb S) x.0 (keys kb S'))
+    puts-put (Ok o) h = put-keys kb S S' x h.1
+    puts-put (Err e) h = tt
+
+    pub puts-free : (r : Result (Option V) TryInsertError) → Puts kb (option_map (λ p. p.1)) S x r S' → OnOk (told r) (conflict kb (keys kb S) (kb x.0) ≡ false)
+    puts-free (Ok o) h = conflict-keys kb S (kb x.0) ∙ h.0
+    puts-free (Err e) h = tt
+
+    pub puts-why : (r : Result (Option V) TryInsertError) → Puts kb (option_map (λ p. p.1)) S x r S' → IfErr (told r) (RefusesElement kb (keys kb S) (kb x.0))
+    puts-why (Ok o) h = tt
+    puts-why (Err (Prefix e)) h = conflict-keys kb S (kb x.0) ∙ h.0
+    puts-why (Err (Memory e)) h = (conflict-keys kb S (kb x.0) ∙ h.0, stores-keys kb S (kb x.0) ∙ h.1)
+
+  -- what an insertion over all related pairs leaves
+  pub over-puts : (kb : K → List ℕ) (S S' : List (K × V)) (x : K × V) {A E : Type 0} (r : Result A E) → PutsOver kb S x r S' → OnOk r (IsOver kb (keys kb S) x.0 (keys kb S'))
+  over-puts kb S S' x (Ok a) h = over-keys kb S S' x h
+  over-puts kb S S' x (Err e) h = tt
+
+  pub alone-puts : (kb : K → List ℕ) (S S' : List (K × V)) (x : K × V) {A E : Type 0} (r : Result A E) → PutsOver kb S x r S' → OnErr r (subtree kb (keys kb S) (kb x.0) ≡ [])
+  alone-puts kb S S' x (Ok a) h = tt
+  alone-puts kb S S' x (Err e) h = subtree-keys kb S (kb x.0) ∙ ap (map (λ p. p.0)) h.0
+
+module _ {K V : Type 0} (kb : K → List ℕ) (S : List (K × V)) where
+  pub under-keys : (q : List ℕ) → under kb (keys kb S) q ≡ map (λ p. p.0) (under (bytes kb) S q)
+  under-keys q = filter-map (λ p. p.0) (λ x. begins q (kb x)) S
+
+  pub between-keys : (lo hi : Bound (List ℕ)) → between kb (keys kb S) lo hi ≡ map (λ p. p.0) (between (bytes kb) S lo hi)
+  between-keys lo hi = filter-map (λ p. p.0) (λ x. is_from_start lo (kb x) && is_up_to_end hi (kb x)) S
+
+  -- where a map of these keys can be walked
+  pub can_range-keys : (lo hi : Bound (List ℕ)) → CanRange (keys kb S) lo hi → CanRange S lo hi
+  can_range-keys lo hi (inl e) = inl (none S e)
+    where
+      none : (S : List (K × V)) → map (λ p. p.0) S ≡ [] → S ≡ []
+      none [] e = refl
+      none (p ∷ S) e = absurd cc
+  can_range-keys lo hi (inr e) = inr e

@@ -1,0 +1,15 @@
+-- What a set is seen as: its elements in byte order, each under its leaf's number.
+use Rattle.std.specs.Prelude.{◌≡◌, ℕ, true, false, List, map}
+use Rattle.blart_keys.specs.declared.calls.TryInsertError.{TryInsertError}
+use Rattle.blart_keys.specs.declared.calls.TryInsertError.TheVariants.{Prefix, Memory}
+use Rattle.blart_keys.specs.Content.{conflict, stores}
+pub use Rattle.blart_map.specs.Content.{Numbered, pairs}
+
+-- the elements without the numbers; it stays closed in proofs
+unfoldable pub elements : {K V : Type 0} → List (Numbered K V) → List K
+elements leaves = map (λ p. p.0) (pairs leaves)
+
+-- an insertion at q is refused for a conflict, or for want of memory where the bytes are new
+abbrev pub RefusesElement : {K : Type 0} → (K → List ℕ) → List K → List ℕ → TryInsertError → Type 0
+RefusesElement kb S q (Prefix e) = conflict kb S q ≡ true
+RefusesElement kb S q (Memory e) = (conflict kb S q ≡ false) × (stores kb S q ≡ false)

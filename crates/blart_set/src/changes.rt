@@ -1,0 +1,82 @@
+//! Removals.
+ghost use Rattle.std.specs.Prelude.{◌≡◌, ◌+◌, [], length, is_some, option_map, if◌then◌else◌};
+ghost use Rattle.blart_keys.specs.Content.{at, stores, without};
+ghost use Rattle.blart_keys.specs.Walks.{TakesFirst, TakesLast};
+ghost use Rattle.blart_set.specs.Elements.{elements};
+
+use crate::set::TreeSet;
+use blart_keys::AsBytes;
+
+#[tactic(auto, unfolding(crate::specs::Elements::elements))]
+impl<K: AsBytes + Drop, const PREFIX_LEN: usize> TreeSet<K, PREFIX_LEN> {
+    /// Removes the element with the query's bytes, and tells whether there was one. Takes no memory.
+    ///
+    /// ```
+    /// set.try_insert("cat")?;
+    /// assert!(set.remove(&"cat"));
+    /// assert!(!set.remove(&"cat"));
+    /// ```
+    pub fn remove<Q: AsBytes>(&mut self, query: &Q) -> bool
+        ensures value { result ≡ stores K.bytes (elements self.old) (Q.bytes query.now) }
+        ensures rest { elements self.new
+            ≡ without K.bytes (elements self.old) (Q.bytes query.now) }
+        ensures len { length (elements self.new) + (if result then 1 else 0)
+            ≡ length (elements self.old) }
+    {
+        self.take(query).is_some()
+    }
+
+    /// Removes the element with the query's bytes, and gives it. Takes no memory.
+    pub fn take<Q: AsBytes>(&mut self, query: &Q) -> Option<K>
+        ensures value { result ≡ at K.bytes (elements self.old) (Q.bytes query.now) }
+        ensures rest { elements self.new
+            ≡ without K.bytes (elements self.old) (Q.bytes query.now) }
+        ensures len { length (elements self.new) + (if is_some result then 1 else 0)
+            ≡ length (elements self.old) }
+    {
+        element_of(self.map.remove_entry(query))
+    }
+
+    /// Removes the element whose bytes are least, and gives it. Takes no memory.
+    ///
+    /// ```
+    /// set.try_insert("dog")?;
+    /// set.try_insert("cat")?;
+    /// assert_eq!(set.pop_first(), Some("cat"));
+    /// assert_eq!(set.pop_first(), Some("dog"));
+    /// assert_eq!(set.pop_first(), None);
+    /// ```
+    pub fn pop_first(&mut self) -> Option<K>
+        ensures first { TakesFirst (elements self.old) result (elements self.new) }
+        ensures len { length (elements self.new) + (if is_some result then 1 else 0)
+            ≡ length (elements self.old) }
+    {
+        element_of(self.map.pop_first())
+    }
+
+    /// Removes the element whose bytes are greatest, and gives it. Takes no memory.
+    pub fn pop_last(&mut self) -> Option<K>
+        ensures last { TakesLast (elements self.old) result (elements self.new) }
+        ensures len { length (elements self.new) + (if is_some result then 1 else 0)
+            ≡ length (elements self.old) }
+    {
+        element_of(self.map.pop_last())
+    }
+
+    /// Drops every element. Takes no memory.
+    pub fn clear(&mut self)
+        ensures { elements self.new ≡ [] }
+    {
+        self.map.clear();
+    }
+}
+
+// The element of a pair of the map.
+pub(crate) fn element_of<K>(pair: Option<(K, ())>) -> Option<K>
+    ensures { result ≡ option_map (λ pair. pair.0) pair }
+{
+    match pair {
+        Some(pair) => Some(pair.0),
+        None => None,
+    }
+}

@@ -1,0 +1,148 @@
+//! Insertions.
+ghost use Rattle.std.specs.Prelude.{◌≡◌, ◌+◌, [], true, false, not, length, is_some, OnOk, IfOk, OnErr, IfErr, if◌then◌else◌};
+ghost use Rattle.blart_keys.specs.Content.{at, conflict, stores, subtree, IsPut, IsOver};
+ghost use Rattle.blart_keys.specs.Stored.{overlaps};
+ghost use Rattle.blart_map.specs.Content.{pairs};
+ghost use Rattle.blart_set.specs.Elements.{elements, RefusesElement};
+ghost use Rattle.std.specs.Option.{is_none};
+ghost use Rattle.std.specs.Result.{result_map_both};
+
+use crate::changes::element_of;
+use crate::set::TreeSet;
+use blart_keys::{AsBytes, NoPrefixesBytes, TryInsertError};
+use blart_map::TreeMap;
+use std::alloc::AllocError;
+
+#[tactic(auto, unfolding(crate::specs::Elements::elements))]
+impl<K: AsBytes + Drop, const PREFIX_LEN: usize> TreeSet<K, PREFIX_LEN> {
+    /// Puts the element in the place of one with the same bytes, or adds it. The answer is whether the bytes were new.
+    ///
+    /// `Prefix` is answered exactly where the element conflicts. `Memory` is answered only where the bytes are new. A refused call leaves the set as it was.
+    ///
+    /// ```
+    /// assert!(set.try_insert("cat")?);
+    /// assert!(!set.try_insert("cat")?);
+    /// assert!(matches!(set.try_insert("cats"), Err(TryInsertError::Prefix(_))));
+    /// ```
+    pub fn try_insert(&mut self, element: K) -> Result<bool, TryInsertError>
+        ensures new { IfOk result
+            (λ new. new ≡ not (stores K.bytes (elements self.old) (K.bytes element))) }
+        ensures put { OnOk result (IsPut K.bytes (elements self.old) element (elements self.new)) }
+        ensures free { OnOk result
+            (conflict K.bytes (elements self.old) (K.bytes element) ≡ false) }
+        ensures len { IfOk result (λ new. length (elements self.new)
+            ≡ length (elements self.old) + (if new then 1 else 0)) }
+        ensures err { OnErr result (self.new ≡ self.old) }
+        ensures why { IfErr result
+            (RefusesElement K.bytes (elements self.old) (K.bytes element)) }
+    {
+        told(self.map.try_insert(element, ()))
+    }
+
+    /// Puts the element in the place of all elements that are related to it.
+    ///
+    /// Where there are such elements it takes no memory. An error leaves the set as it was.
+    ///
+    /// ```
+    /// set.try_insert("car")?;
+    /// set.try_insert("cat")?;
+    /// set.prefix_insert("ca")?;
+    /// assert_eq!(set.len(), 1);
+    /// ```
+    pub fn prefix_insert(&mut self, element: K) -> Result<(), AllocError>
+        ensures over { OnOk result
+            (IsOver K.bytes (elements self.old) element (elements self.new)) }
+        ensures err { OnErr result (self.new ≡ self.old) }
+        ensures alone { OnErr result
+            (subtree K.bytes (elements self.old) (K.bytes element) ≡ []) }
+    {
+        self.map.prefix_insert(element, ())
+    }
+}
+
+#[tactic(auto, unfolding(crate::specs::Elements::elements))]
+impl<K: NoPrefixesBytes + Drop, const PREFIX_LEN: usize> TreeSet<K, PREFIX_LEN> {
+    /// Puts the element in the place of one with the same bytes, or adds it. The answer is whether the bytes were new. Elements of this type never conflict.
+    ///
+    /// An error is answered only where the bytes are new, and leaves the set as it was.
+    ///
+    /// ```
+    /// assert!(set.insert(U32Key::new(258))?);
+    /// assert!(!set.insert(U32Key::new(258))?);
+    /// ```
+    pub fn insert(&mut self, element: K) -> Result<bool, AllocError>
+        ensures new { IfOk result
+            (λ new. new ≡ not (stores K.bytes (elements self.old) (K.bytes element))) }
+        ensures put { OnOk result (IsPut K.bytes (elements self.old) element (elements self.new)) }
+        ensures len { IfOk result (λ new. length (elements self.new)
+            ≡ length (elements self.old) + (if new then 1 else 0)) }
+        ensures err { OnErr result (self.new ≡ self.old) }
+        ensures absent { OnErr result
+            (stores K.bytes (elements self.old) (K.bytes element) ≡ false) }
+    {
+        told(self.map.insert(element, ()))
+    }
+
+    /// Puts the element in the place of one with the same bytes, which is the answer, or adds it. The new element is always the one that is stored.
+    ///
+    /// An error is answered only where the bytes are new, and leaves the set as it was: an element that is there is exchanged in place.
+    ///
+    /// ```
+    /// assert_eq!(set.replace(2u8)?, None);
+    /// assert_eq!(set.replace(2u8)?, Some(2));
+    /// ```
+    pub fn replace(&mut self, element: K) -> Result<Option<K>, AllocError>
+        ensures old { IfOk result
+            (λ old. old ≡ at K.bytes (elements self.old) (K.bytes element)) }
+        ensures put { OnOk result (IsPut K.bytes (elements self.old) element (elements self.new)) }
+        ensures len { IfOk result (λ old. length (elements self.new)
+            ≡ length (elements self.old) + (if is_some old then 0 else 1)) }
+        ensures err { OnErr result (self.new ≡ self.old) }
+        ensures absent { OnErr result
+            (stores K.bytes (elements self.old) (K.bytes element) ≡ false) }
+    {
+        element_law(&self.map, &element);
+        match self.map.replace_entry(element, ()) {
+            Ok(old) => Ok(element_of(old)),
+            Err(TryInsertError::Memory(refused)) => Err(refused),
+            Err(TryInsertError::Prefix(_)) => unreachable!(),
+        }
+    }
+}
+
+// Whether the bytes were new, as an insertion into the map tells.
+fn told<E>(answer: Result<Option<()>, E>) -> Result<bool, E>
+    ensures { result ≡ result_map_both is_none (λ e. e) answer }
+{
+    match answer {
+        Ok(old) => Ok(old.is_none()),
+        Err(refused) => Err(refused),
+    }
+}
+
+// Answers nothing. Its contract says that the element conflicts with none.
+pub(crate) fn element_law<K: NoPrefixesBytes + Drop, const P: usize>(
+    map: &TreeMap<K, (), P>,
+    element: &K,
+)
+    ensures { overlaps K.bytes (pairs map.now) (K.bytes element.now) ≡ false }
+{
+    if !map.conflicts(element) {
+        return;
+    }
+    map.law();
+    element.value_law();
+    match map.prefix_get_key_value(element) {
+        Some(front) => {
+            front.0.value_law();
+            unreachable!()
+        }
+        None => match map.prefix(element.as_bytes()).next() {
+            Some(below) => {
+                below.0.value_law();
+                unreachable!()
+            }
+            None => unreachable!(),
+        },
+    }
+}

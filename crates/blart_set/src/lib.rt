@@ -1,0 +1,15 @@
+//! A set in the order of its elements' bytes, on an adaptive radix tree.
+//!
+//! A [`TreeSet`] is a map of units. A contract sees it as the map's pairs, each under the number of
+//! its leaf; the clauses of calls speak of `elements set`, the list of the elements. Their bytes
+//! strictly ascend, and no element's bytes begin another's.
+#![tactic(auto)]
+
+mod changes;
+mod insertions;
+mod set;
+mod walks;
+
+pub use blart_map::{DEFAULT_PREFIX_LEN, InsertPrefixError, TryInsertError, bounds_in_order};
+pub use set::TreeSet;
+pub use walks::{IntoIter, Iter, Prefix, Range};

@@ -1,0 +1,152 @@
+//! The set, and what can be asked of it.
+ghost use Rattle.std.specs.Prelude.{◌≡◌, ◌==◌, ◌-◌, [], true, length, slice_get, option_copied, IfSome};
+ghost use Rattle.blart_keys.specs.Bytes.{begins};
+ghost use Rattle.blart_keys.specs.Content.{at, conflict, front_of, stores, IsContent};
+ghost use Rattle.blart_keys.specs.Stored.{CanCount};
+ghost use Rattle.blart_set.specs.Elements.{elements};
+
+use blart_keys::AsBytes;
+use blart_map::{DEFAULT_PREFIX_LEN, TreeMap};
+use std::alloc::Global;
+use std::marker::Model;
+
+/// Elements in the order of their bytes, none of which begins another's.
+///
+/// A byte list is less than another where its byte is less at the first place where they differ, or where it begins the other. Two elements are related if the bytes of one begin those of the other. An element conflicts with a set that has a related one with other bytes.
+///
+/// ```
+/// let mut set = TreeSet::new(alloc);
+/// assert!(set.try_insert("cat")?);
+/// assert!(set.try_insert("car")?);
+/// assert!(!set.try_insert("cat")?);
+/// assert!(set.try_insert("ca").is_err());
+/// assert_eq!(set.first(), Some(&"car"));
+/// ```
+#[derive(Drop)]
+pub struct TreeSet<K: AsBytes, const PREFIX_LEN: usize> {
+    pub(crate) map: TreeMap<K, (), PREFIX_LEN>,
+}
+
+impl<K: AsBytes, const PREFIX_LEN: usize> Model for TreeSet<K, PREFIX_LEN> {
+    ghost use Rattle.std.specs.Prelude.{List};
+    ghost use Rattle.blart_map.specs.Content.{Numbered};
+
+    ghost Value = { List (Numbered K (Unit {0})) };
+
+    ghost view = { λ s. s.map };
+}
+
+impl<K: AsBytes + Drop> TreeSet<K, DEFAULT_PREFIX_LEN> {
+    /// A set with no elements, of which an inner node keeps 16 bytes of its compressed prefix. Takes no memory.
+    pub fn new(alloc: Global) -> Self
+        ensures { elements result ≡ [] }
+    {
+        Self::with_prefix_len(alloc)
+    }
+}
+
+#[tactic(auto, unfolding(crate::specs::Elements::elements))]
+impl<K: AsBytes + Drop, const PREFIX_LEN: usize> TreeSet<K, PREFIX_LEN> {
+    /// A set with no elements. Takes no memory.
+    pub fn with_prefix_len(alloc: Global) -> Self
+        ensures { elements result ≡ [] }
+    {
+        TreeSet {
+            map: TreeMap::with_prefix_len(alloc),
+        }
+    }
+
+    /// Answers nothing. Its contract says what holds of every set: the elements ascend by their bytes, none of which begins another's, and a count of them fits.
+    pub fn law(&self)
+        ensures content { IsContent K.bytes (elements self.now) }
+        ensures fits { CanCount (elements self.now) }
+    {
+        self.map.law();
+    }
+
+    /// How many elements there are.
+    pub fn len(&self) -> usize
+        ensures { result ≡ length (elements self.now) }
+    {
+        self.map.len()
+    }
+
+    /// Whether there are no elements.
+    pub fn is_empty(&self) -> bool
+        ensures { result ≡ (length (elements self.now) == 0) }
+    {
+        self.map.is_empty()
+    }
+
+    /// Whether some element has the query's bytes.
+    pub fn contains<Q: AsBytes>(&self, query: &Q) -> bool
+        ensures { result ≡ stores K.bytes (elements self.now) (Q.bytes query.now) }
+    {
+        self.map.contains_key(query)
+    }
+
+    /// The element with the query's bytes.
+    ///
+    /// ```
+    /// set.try_insert("cat")?;
+    /// assert_eq!(set.get(&b"cat"), Some(&"cat"));
+    /// assert_eq!(set.get(&"cats"), None);
+    /// ```
+    pub fn get<Q: AsBytes>(&self, query: &Q) -> Option<&K>
+        ensures value { option_copied result
+            ≡ at K.bytes (elements self.now) (Q.bytes query.now) }
+        ensures found { IfSome result (λ element. K.bytes element.now ≡ Q.bytes query.now) }
+    {
+        match self.map.get_key_value(query) {
+            Some(pair) => Some(pair.0),
+            None => None,
+        }
+    }
+
+    /// The element whose bytes begin the query's. There is at most one.
+    ///
+    /// ```
+    /// set.try_insert("/static/")?;
+    /// assert_eq!(set.prefix_get(&"/static/logo.png"), Some(&"/static/"));
+    /// assert_eq!(set.prefix_get(&"/stat"), None);
+    /// ```
+    pub fn prefix_get<Q: AsBytes>(&self, query: &Q) -> Option<&K>
+        ensures value { option_copied result
+            ≡ front_of K.bytes (elements self.now) (Q.bytes query.now) }
+        ensures found { IfSome result
+            (λ element. begins (K.bytes element.now) (Q.bytes query.now) ≡ true) }
+    {
+        match self.map.prefix_get_key_value(query) {
+            Some(pair) => Some(pair.0),
+            None => None,
+        }
+    }
+
+    /// Whether an insertion of an element with the query's bytes would be refused for a conflict: whether some element is related to them and has other bytes.
+    pub fn conflicts<Q: AsBytes>(&self, query: &Q) -> bool
+        ensures { result ≡ conflict K.bytes (elements self.now) (Q.bytes query.now) }
+    {
+        self.map.conflicts(query)
+    }
+
+    /// The element whose bytes are least.
+    pub fn first(&self) -> Option<&K>
+        ensures { option_copied result ≡ slice_get (elements self.now) 0 }
+    {
+        match self.map.first_key_value() {
+            Some(pair) => Some(pair.0),
+            None => None,
+        }
+    }
+
+    /// The element whose bytes are greatest.
+    pub fn last(&self) -> Option<&K>
+        ensures { option_copied result
+            ≡ slice_get (elements self.now) (length (elements self.now) - 1) }
+    {
+        match self.map.last_key_value() {
+            Some(pair) => Some(pair.0),
+            None => None,
+        }
+    }
+}

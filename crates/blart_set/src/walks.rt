@@ -1,0 +1,188 @@
+//! Walks.
+ghost use Rattle.std.specs.Prelude.{◌≡◌};
+ghost use Rattle.std.specs.Iterator.{YieldsFirstRef, YieldsLastRef, item_count};
+ghost use Rattle.blart_keys.specs.Bounds.{bound_bytes, CanRange};
+ghost use Rattle.blart_keys.specs.Content.{between, under};
+ghost use Rattle.blart_keys.specs.Stored.{CanCount};
+ghost use Rattle.blart_set.specs.Elements.{elements};
+
+use crate::set::TreeSet;
+use blart_keys::AsBytes;
+use blart_map::{IntoKeys, Keys};
+use std::iter::{DoubleEndedIterator, FusedIterator, IntoIterator, Iterator};
+use std::marker::Model;
+use std::ops::Bound;
+
+/// The elements of a set from both ends, ascending by their bytes. It knows how many are left.
+pub type Iter<'a, K, const PREFIX_LEN: usize> = Keys<'a, K, (), PREFIX_LEN>;
+
+/// The elements of a set by value from both ends, ascending by their bytes. It knows how many are left; what was not taken is freed where the walk is dropped.
+pub type IntoIter<K, const PREFIX_LEN: usize> = IntoKeys<K, (), PREFIX_LEN>;
+
+/// The elements within two bounds from both ends, ascending by their bytes.
+#[derive(Drop)]
+pub struct Range<'a, K, const PREFIX_LEN: usize> {
+    pairs: blart_map::Range<'a, K, (), PREFIX_LEN>,
+}
+
+impl<'a, K, const PREFIX_LEN: usize> Model for Range<'a, K, PREFIX_LEN> {
+    ghost use Rattle.std.specs.Prelude.{List, map};
+
+    ghost Value = { List K };
+
+    ghost view = { λ it. map (λ p. p.0) it.pairs };
+}
+
+impl<'a, K, const PREFIX_LEN: usize> Iterator for Range<'a, K, PREFIX_LEN> {
+    type Item = &'a K;
+
+    ghost next_gives = { YieldsFirstRef (λ rest. rest) };
+
+    ghost remaining = { item_count (λ rest. rest) };
+
+    /// The first element that is left.
+    fn next(&mut self) -> Option<&'a K> {
+        match self.pairs.next() {
+            Some(pair) => Some(pair.0),
+            None => None,
+        }
+    }
+}
+
+impl<'a, K, const PREFIX_LEN: usize> DoubleEndedIterator for Range<'a, K, PREFIX_LEN> {
+    ghost next_back_gives = { YieldsLastRef (λ rest. rest) };
+
+    /// The last element that is left.
+    fn next_back(&mut self) -> Option<&'a K> {
+        match self.pairs.next_back() {
+            Some(pair) => Some(pair.0),
+            None => None,
+        }
+    }
+}
+
+impl<'a, K, const PREFIX_LEN: usize> FusedIterator for Range<'a, K, PREFIX_LEN> {}
+
+/// The elements whose bytes begin with some bytes, from both ends, ascending.
+#[derive(Drop)]
+pub struct Prefix<'a, K, const PREFIX_LEN: usize> {
+    pairs: blart_map::Prefix<'a, K, (), PREFIX_LEN>,
+}
+
+impl<'a, K, const PREFIX_LEN: usize> Model for Prefix<'a, K, PREFIX_LEN> {
+    ghost use Rattle.std.specs.Prelude.{List, map};
+
+    ghost Value = { List K };
+
+    ghost view = { λ it. map (λ p. p.0) it.pairs };
+}
+
+impl<'a, K, const PREFIX_LEN: usize> Iterator for Prefix<'a, K, PREFIX_LEN> {
+    type Item = &'a K;
+
+    ghost next_gives = { YieldsFirstRef (λ rest. rest) };
+
+    ghost remaining = { item_count (λ rest. rest) };
+
+    /// The first element that is left.
+    fn next(&mut self) -> Option<&'a K> {
+        match self.pairs.next() {
+            Some(pair) => Some(pair.0),
+            None => None,
+        }
+    }
+}
+
+impl<'a, K, const PREFIX_LEN: usize> DoubleEndedIterator for Prefix<'a, K, PREFIX_LEN> {
+    ghost next_back_gives = { YieldsLastRef (λ rest. rest) };
+
+    /// The last element that is left.
+    fn next_back(&mut self) -> Option<&'a K> {
+        match self.pairs.next_back() {
+            Some(pair) => Some(pair.0),
+            None => None,
+        }
+    }
+}
+
+impl<'a, K, const PREFIX_LEN: usize> FusedIterator for Prefix<'a, K, PREFIX_LEN> {}
+
+#[tactic(auto, unfolding(crate::specs::Elements::elements))]
+impl<K: AsBytes + Drop, const PREFIX_LEN: usize> TreeSet<K, PREFIX_LEN> {
+    /// The elements, ascending by their bytes, from both ends. Takes no memory.
+    ///
+    /// ```
+    /// set.try_insert("dog")?;
+    /// set.try_insert("cat")?;
+    /// let mut elements = set.iter();
+    /// assert_eq!(elements.next_back(), Some(&"dog"));
+    /// assert_eq!(elements.len(), 1);
+    /// ```
+    pub fn iter(&self) -> Iter<'_, K, PREFIX_LEN>
+        ensures value { result ≡ elements self.now }
+        ensures fits { CanCount result }
+    {
+        self.map.keys()
+    }
+
+    /// The elements whose bytes are within both bounds, ascending, from both ends: an element with an included bound's bytes is within it, one with an excluded bound's is not. Takes no memory.
+    ///
+    /// The bounds are in order where the set has elements, of which [`bounds_in_order`](crate::bounds_in_order) is the test; on an empty set any bounds give an empty walk.
+    pub fn range<Q: AsBytes>(&self, start: Bound<&Q>, end: Bound<&Q>) -> Range<'_, K, PREFIX_LEN>
+        requires { CanRange (elements self.now) (bound_bytes Q.bytes start)
+            (bound_bytes Q.bytes end) }
+        ensures value { result
+            ≡ between K.bytes (elements self.now)
+            (bound_bytes Q.bytes start.entry) (bound_bytes Q.bytes end.entry) }
+        ensures fits { CanCount result }
+    {
+        Range {
+            pairs: self.map.range(start, end),
+        }
+    }
+
+    /// The elements whose bytes begin with these, ascending, from both ends; all of them where there are no bytes. Takes no memory.
+    ///
+    /// ```
+    /// set.try_insert("car")?;
+    /// set.try_insert("dog")?;
+    /// let mut cats = set.prefix(b"ca");
+    /// assert_eq!(cats.next(), Some(&"car"));
+    /// assert_eq!(cats.next(), None);
+    /// ```
+    pub fn prefix(&self, front: &[u8]) -> Prefix<'_, K, PREFIX_LEN>
+        ensures value { result ≡ under K.bytes (elements self.now) front.now }
+        ensures fits { CanCount result }
+    {
+        Prefix {
+            pairs: self.map.prefix(front),
+        }
+    }
+}
+
+impl<K: AsBytes + Drop, const PREFIX_LEN: usize> IntoIterator for TreeSet<K, PREFIX_LEN> {
+    type Item = K;
+
+    type IntoIter = IntoIter<K, PREFIX_LEN>;
+
+    ghost into_iter_gives = { λ set items. items ≡ elements set };
+
+    /// The elements by value, ascending by their bytes, from both ends. Takes no memory. What was not taken is freed where the walk is dropped.
+    #[tactic(auto, unfolding(crate::specs::Elements::elements))]
+    fn into_iter(self) -> IntoIter<K, PREFIX_LEN> {
+        self.map.into_keys()
+    }
+}
+
+impl<'a, K: AsBytes + Drop, const PREFIX_LEN: usize> IntoIterator for &'a TreeSet<K, PREFIX_LEN> {
+    type Item = &'a K;
+
+    type IntoIter = Iter<'a, K, PREFIX_LEN>;
+
+    ghost into_iter_gives = { λ set items. items ≡ elements set.now };
+
+    /// The elements, as [`TreeSet::iter`].
+    fn into_iter(self) -> Iter<'a, K, PREFIX_LEN> {
+        self.iter()
+    }
+}
