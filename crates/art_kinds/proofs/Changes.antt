@@ -37,6 +37,14 @@ module _ {P : ℕ} where
   pub node_at : (s : Store (Inner (List Edge) P)) (i : ℕ) (o : Option (Inner (List Edge) P)) → slot_at s i ≡ o → slot_at (nodes_in s) i ≡ node_of o
   node_at s i o e = at-nodes s.slots i ∙ ap node_of e
 
+  -- there is a node where there is a record
+  some-same : (o : Option (Inner (List Edge) P)) → is_some (node_of o) ≡ is_some o
+  some-same None = refl
+  some-same (Some x) = refl
+
+  pub has_node : (s : Store (Inner (List Edge) P)) (i : ℕ) → is_some (slot_at (nodes_in s) i) ≡ is_some (slot_at s i)
+  has_node s i = ap (λ (o : Option Node). is_some o) (node_at s i (slot_at s i) refl) ∙ some-same (slot_at s i)
+
   -- a place with a node has a record
   some-record : (o : Option (Inner (List Edge) P)) → IsSome (node_of o) → IsSome o
   some-record None h = absurd (true≢false (sym h))

@@ -5,6 +5,7 @@ pub mod Mates
 pub mod Partings
 pub mod Points
 pub mod Roots
+pub mod Shown
 pub mod Stops
 pub mod ToFront
 pub mod ToQuery

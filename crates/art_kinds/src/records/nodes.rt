@@ -1,5 +1,5 @@
 //! The inner nodes under their numbers.
-ghost use Rattle.std.specs.Prelude.{true, false, ◌≡◌, ◌≢◌, ℕ, ◌+◌, ◌%◌, ◌*◌, ◌/◌, ◌-◌, ◌<◌, ◌≤◌, ◌^◌, ◌++◌, ◌∷◌, length, take, slice_get, None, Some, IsSome, IsSomeAnd, OnOk, OnErr};
+ghost use Rattle.std.specs.Prelude.{true, false, ◌≡◌, ◌≢◌, ℕ, ◌+◌, ◌%◌, ◌*◌, ◌/◌, ◌-◌, ◌<◌, ◌≤◌, ◌^◌, ◌++◌, ◌∷◌, length, take, slice_get, None, Some, IsSome, is_some, IsSomeAnd, OnOk, OnErr};
 ghost use Rattle.art_kinds.specs.Edges.{child_at, Ascends, IsNext, IsPrevious, IsEnd};
 ghost use Rattle.art_kinds.specs.Store.{slot_at};
 ghost use Rattle.art_kinds.specs.Nodes.{at, live, room, FitsNew, FitsMore, HasPlace, Lowers, SameNodes, SameSpares, MoreSpares, Makes, Renames, AddsEdgeTo, Redirects, DropsEdge, Reprefixes, JoinsPrefix, Frees};
@@ -219,6 +219,18 @@ impl<const P: usize> Nodes<P> {
         ensures { result ≡ live self.now }
     {
         self.fours.used() + self.sixteens.used() + self.forty_eights.used() + self.fulls.used()
+    }
+
+    /// Whether there is a node under a number.
+    pub fn has(&self, id: NodeId) -> bool
+        ensures { result ≡ is_some (at self.now id) }
+    {
+        match id.kind {
+            Kind::Four => self.fours.has(id.place),
+            Kind::Sixteen => self.sixteens.has(id.place),
+            Kind::FortyEight => self.forty_eights.has(id.place),
+            Kind::Full => self.fulls.has(id.place),
+        }
     }
 
     /// The node under a number. It counts as a visit.

@@ -1,5 +1,5 @@
 //! Records under numbers.
-ghost use Rattle.std.specs.Prelude.{◌≡◌, ◌≢◌, ℕ, ◌+◌, ◌^◌, ◌<◌, ◌≤◌, [], option_map, Some, None, IsSome, OnOk, OnErr};
+ghost use Rattle.std.specs.Prelude.{◌≡◌, ◌≢◌, ℕ, ◌+◌, ◌^◌, ◌<◌, ◌≤◌, [], option_map, Some, None, IsSome, is_some, OnOk, OnErr};
 ghost use Rattle.art_kinds.specs.Store.{slot_at, used_count, SameRecords};
 ghost use Rattle.art_kinds.specs.Slots.{used_of};
 ghost use Rattle.std.specs.Borrow.{Lends, sem};
@@ -107,6 +107,13 @@ impl<T> Store<T> {
             Some(Slot::Used(record)) => record,
             _ => unreachable!(),
         }
+    }
+
+    /// Whether there is a record at a number.
+    pub fn has(&self, id: usize) -> bool
+        ensures { result ≡ is_some (slot_at self.now id) }
+    {
+        matches!(self.slots.get(id), Some(Slot::Used(_)))
     }
 
     /// The record at a number, for writing.

@@ -106,7 +106,7 @@ module _ {K V : Type 0} (key_bytes : K → Bytes) where
 
     module _ {P : ℕ} (nodes : ℕ → Option Node) (root : Child) (s : Shape P (keys_in key_bytes old) nodes (Some root)) (place : Place) (free : IsFree key_bytes old place (key_bytes x.0)) (y y' z : K × V)
         (mate_was : leaf_in old place.mate ≡ Some y) (mate_is : leaf_in new place.mate ≡ Some y') (own_is : leaf_in new i ≡ Some z) (k m m' : Bytes) (k_is : k ≡ key_bytes z.0) (m_is : m ≡ key_bytes y.0) (m'_is : m' ≡ key_bytes y'.0)
-        (spot : Spot) (found : (j : ℕ) → keys_in key_bytes old j ≡ Some m → SpotFits nodes (Some root) s.front_of m place.depth spot) where
+        (spot : Spot) (found : keys_in key_bytes old place.mate ≡ Some m → SpotFits nodes (Some root) s.front_of m place.depth spot) where
       own_key : k ≡ key_bytes x.0
       own_key =
           let a : leaf_in new i ≡ Some x = p.now in
@@ -126,7 +126,7 @@ module _ {K V : Type 0} (key_bytes : K → Bytes) where
       leaves = subst (λ (k : Bytes). LeavesMate (keys_in key_bytes old) place.mate place.depth k) (sym own_key) free.leaves
 
       fits : SpotFits nodes (Some root) s.front_of m' place.depth spot
-      fits = subst (λ (m : Bytes). SpotFits nodes (Some root) s.front_of m place.depth spot) (sym same_mate) (found place.mate mate_key)
+      fits = subst (λ (m : Bytes). SpotFits nodes (Some root) s.front_of m place.depth spot) (sym same_mate) (found mate_key)
 
       -- a key at a free place leaves the mate at the spot that was found
       pub free_spot : IsSpotFor P nodes root spot k m' place.depth

@@ -1,10 +1,11 @@
 -- How a leaf joins the tree.
-use Rattle.std.specs.Prelude.{◌≡◌, ◌≢◌, ◌<◌, ◌≤◌, ◌⊎◌, ℕ, List, Option, Some, None}
+use Rattle.std.specs.Prelude.{◌≡◌, ◌≢◌, ◌<◌, ◌≤◌, ◌⊎◌, ℕ, List, length, Option, Some, None}
 use Rattle.blart_keys.specs.Content.{IsPut}
 use Rattle.art_tree.specs.Begins.{Bytes}
 use Rattle.art_tree.specs.Content.{Content}
 use Rattle.art_tree.specs.Places.{LeavesMate}
 use Rattle.art_tree.specs.Leaves.{Leaves, Numbered, leaf_in, OthersStand, bytes, room as leaves_room}
+use Rattle.art_kinds.specs.Edges.{child_at}
 use Rattle.art_kinds.specs.Nodes.{Node, Nodes, Makes, room}
 use Rattle.art_tree.specs.Invariant.Shape.{Shape}
 use Rattle.art_tree.specs.Calls.Spots.{SpotFits}
@@ -12,6 +13,7 @@ use Rattle.art_kinds.specs.declared.records.ids.Child.{Child}
 use Rattle.art_kinds.specs.declared.records.ids.Child.TheVariants.{Leaf, Inner}
 use Rattle.art_kinds.specs.declared.records.ids.Edge.{Edge}
 use Rattle.art_tree.specs.declared.tree.descent.Spot.{Spot}
+use Rattle.art_tree.specs.declared.tree.point.Place.{Place}
 
 -- the leaf i was added, with the key k
 pub record Gains (old new : ℕ → Option Bytes) (i : ℕ) (k : Bytes) : Type 0 where
@@ -27,6 +29,20 @@ pub record IsSpotFor (P : ℕ) (nodes : ℕ → Option Node) (root : Child) (spo
   pub is : keys leaf ≡ Some mate
   pub leaves : LeavesMate keys leaf depth key
   pub fits : SpotFits nodes (Some root) shape.front_of mate depth spot
+
+-- in some tree with this root, the place's mate has this key, at least as long as the place is deep
+pub record HasMate (P : ℕ) (nodes : ℕ → Option Node) (root : Child) (place : Place) (mate : Bytes) : Type 0 where
+  pub keys : ℕ → Option Bytes
+  pub shape : Shape P keys nodes (Some root)
+  pub is : keys place.mate ≡ Some mate
+  pub within : place.depth ≤ length mate
+
+-- the node is so deep, and its edge by this byte leads to the leaf
+pub record IsOverLeaf (nodes : ℕ → Option Node) (n depth byte leaf : ℕ) : Type 0 where
+  pub node : Node
+  pub is : nodes n ≡ Some node
+  pub deep : node.depth ≡ depth
+  pub there : child_at node.edges byte ≡ Some (Leaf leaf)
 
 -- each tree where the key leaves the mate at the spot is now the tree with the leaf i of that key too
 abbrev pub TreeGains : ℕ → (ℕ → Option Node) → (ℕ → Option Node) → Child → Child → Spot → Bytes → Bytes → ℕ → ℕ → Type 0

@@ -1,8 +1,11 @@
 //! A leaf joins the tree.
-ghost use Rattle.std.specs.Prelude.{◌≡◌, ◌≢◌, ◌+◌, ◌-◌, ◌^◌, ◌<◌, ◌≤◌, [], length, take, slice_range, Some};
+ghost use Rattle.std.specs.Prelude.{◌≡◌, ◌≢◌, ℕ, ◌+◌, ◌-◌, ◌^◌, ◌<◌, ◌≤◌, [], length, take, slice_range, true, Option, Some, IfSome};
+ghost use Rattle.art_tree.specs.Begins.{Bytes};
+ghost use Rattle.art_tree.specs.Invariant.Shape.{Shape};
+ghost use Rattle.art_tree.specs.Calls.Spots.{SpotFits};
 ghost use Rattle.art_tree.specs.Invariant.EdgesAbove.{LeadsTo, TurnsTo};
 ghost use Rattle.art_tree.specs.Content.{Fits, IsOpen, room as places};
-ghost use Rattle.art_tree.specs.Calls.Placing.{IsSpotFor, TreeGains, Forks, DepthWithin, Places, content_of};
+ghost use Rattle.art_tree.specs.Calls.Placing.{IsSpotFor, HasMate, IsOverLeaf, TreeGains, Forks, DepthWithin, Places, content_of};
 ghost use Rattle.art_kinds.specs.Nodes.{at, room, FitsNew, SameSpares};
 ghost use Rattle.art_tree.specs.Leaves.{room as leaves_room};
 ghost use Rattle.art_tree.specs.Calls.Removing.{StartsBelow, EndsBelow, Cuts};
@@ -96,7 +99,7 @@ fn place_beside<K: AsBytes + Drop, V: Drop, const P: usize>(
     leaves.law();
     let mut visits = Visits::new();
     let (mate, _) = leaves.read(place.mate, &mut visits);
-    let spot = locate(nodes, root, mate.as_bytes(), place.depth, &mut visits);
+    let spot = spot_for(nodes, root, place, mate.as_bytes());
     let prev = leaf_before(leaves, &place.beside);
     let id = leaves.insert(prev, key, value);
     let (own, _) = leaves.read(id, &mut visits);
@@ -109,6 +112,91 @@ fn place_beside<K: AsBytes + Drop, V: Drop, const P: usize>(
     };
     let top = add_leaf(nodes, root, &spot, &leaf);
     (id, top)
+}
+
+// Where a key leaves the mate's at the depth of a place: at the end of the place's edge, where that shows, or else at the end of a way down.
+fn spot_for<const P: usize>(nodes: &Nodes<P>, root: &Child, place: &Place, mate: &[u8]) -> Spot
+    requires { HasMate P (at nodes.now) root.now place.now mate.now }
+    ensures { (keys : ℕ → Option Bytes) (s : Shape P keys (at nodes.now) (Some root.now)) → keys place.now.mate ≡ Some mate.now
+        → SpotFits (at nodes.now) (Some root.now) s.front_of mate.now place.now.depth result }
+{
+    match spot_shown(nodes, root, place) {
+        Some(spot) => spot,
+        None => locate(nodes, root, mate, place.depth, &mut Visits::new()),
+    }
+}
+
+// The spot at the end of a place's edge, where the mate's leaf is at hand to show it.
+fn spot_shown<const P: usize>(nodes: &Nodes<P>, root: &Child, place: &Place) -> Option<Spot>
+    ensures { IfSome result (λ spot. (keys : ℕ → Option Bytes) (s : Shape P keys (at nodes.now) (Some root.now)) (mate : Bytes)
+        → keys place.now.mate ≡ Some mate → place.now.depth ≤ length mate → SpotFits (at nodes.now) (Some root.now) s.front_of mate place.now.depth spot) }
+{
+    let child = child_by(nodes, root, &place.above)?;
+    match child {
+        Child::Leaf(id) => {
+            if id != place.mate {
+                return None;
+            }
+            if !is_within(nodes, &place.above, place.depth) {
+                return None;
+            }
+            Some(Spot::Edge(place.above, Child::Leaf(id)))
+        }
+        Child::Inner(id) => {
+            if !is_over_mate(nodes, &id, place) {
+                return None;
+            }
+            Some(Spot::Node(place.above, id))
+        }
+    }
+}
+
+// What stands below an edge, if there is one.
+fn child_by<const P: usize>(nodes: &Nodes<P>, root: &Child, above: &EdgeAbove) -> Option<Child>
+    ensures { IfSome result (λ child. LeadsTo (at nodes.now) (Some root.now) above.now child) }
+{
+    match above {
+        None => Some(*root),
+        Some((parent, byte)) => {
+            if nodes.has(*parent) {
+                nodes.read(*parent, &mut Visits::new()).find(*byte)
+            } else {
+                None
+            }
+        }
+    }
+}
+
+// Whether the front of an edge is no longer than this.
+fn is_within<const P: usize>(nodes: &Nodes<P>, above: &EdgeAbove, depth: usize) -> bool
+    ensures { result ≡ true → EndsBelow (at nodes.now) above.now depth }
+{
+    match above {
+        None => true,
+        Some((parent, _)) => {
+            nodes.has(*parent) && nodes.read(*parent, &mut Visits::new()).depth() < depth
+        }
+    }
+}
+
+// Whether a node is as deep as a place and has the mate below the place's byte.
+fn is_over_mate<const P: usize>(nodes: &Nodes<P>, id: &NodeId, place: &Place) -> bool
+    ensures { result ≡ true → IsOverLeaf (at nodes.now) id.now place.now.depth place.now.byte place.now.mate }
+{
+    if !nodes.has(*id) {
+        return false;
+    }
+    let node = nodes.read(*id, &mut Visits::new());
+    if node.depth() != place.depth {
+        return false;
+    }
+    let Some(child) = node.find(place.byte) else {
+        return false;
+    };
+    match child {
+        Child::Leaf(leaf) => leaf == place.mate,
+        Child::Inner(_) => false,
+    }
 }
 
 // Adds a leaf where its key leaves the mate's. Answers the root.

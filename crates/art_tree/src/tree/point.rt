@@ -7,10 +7,10 @@ ghost use Rattle.art_kinds.specs.Nodes.{at};
 ghost use Rattle.art_tree.specs.Points.{IsGood};
 ghost use Rattle.art_tree.specs.Invariant.Sound.{IsSound};
 
-use crate::records::ids::{Child, LeafId};
+use crate::records::ids::{Child, Edge, LeafId};
 use crate::records::leaves::Leaves;
 use crate::records::nodes::Nodes;
-use crate::tree::descent::end_under;
+use crate::tree::descent::{EdgeAbove, end_under};
 use crate::tree::parting::{Beside, edge_beside};
 use crate::tree::stop::{Stop, stop_of};
 use crate::visits::Visits;
@@ -23,6 +23,9 @@ pub struct Place {
     pub(crate) mate: LeafId,
     pub(crate) depth: usize,
     pub(crate) beside: Beside,
+    // The edge over the place, as long as it leads there, and the byte of an edge to the mate.
+    pub(crate) above: EdgeAbove,
+    pub(crate) byte: u8,
 }
 
 /// Where some bytes stand in a tree, or would go.
@@ -55,7 +58,8 @@ pub(crate) fn point_below<K: AsBytes, V, const P: usize>(
 {
     leaves.law();
     let mut visits = Visits::new();
-    match stop_of(leaves, nodes, root, query) {
+    let (stop, above) = stop_of(leaves, nodes, root, query);
+    match stop {
         Stop::Same(id) => Point::Exact(id),
         Stop::Shorter(id) => Point::Related {
             first: id,
@@ -67,39 +71,45 @@ pub(crate) fn point_below<K: AsBytes, V, const P: usize>(
         },
         Stop::AtNode(id, depth) => {
             let (edge, is_behind) = edge_beside(nodes, &id, query[depth], &mut visits);
-            Point::Free(place_under(nodes, &edge.to, is_behind, depth))
+            Point::Free(place_under(nodes, &edge, is_behind, depth, &above))
         }
         Stop::AtEdge(child, depth, byte) => {
-            Point::Free(place_under(nodes, &child, byte < query[depth], depth))
+            let edge = Edge { byte, to: child };
+            Point::Free(place_under(nodes, &edge, byte < query[depth], depth, &above))
         }
     }
 }
 
-// The place beside a child: behind the keys below it, or in front of them.
+// The place beside an edge: behind the keys below it, or in front of them.
 fn place_under<const P: usize>(
     nodes: &Nodes<P>,
-    child: &Child,
+    edge: &Edge,
     is_behind: bool,
     depth: usize,
+    above: &EdgeAbove,
 ) -> Place
-    requires { (keys : ℕ → Option Bytes) × (q : Bytes) × IsPlaceUnder P keys (at nodes.now) q depth child.now is_behind }
-    ensures leaves { (keys : ℕ → Option Bytes) (q : Bytes) → IsPlaceUnder P keys (at nodes.now) q depth child.now is_behind
+    requires { (keys : ℕ → Option Bytes) × (q : Bytes) × IsPlaceUnder P keys (at nodes.now) q depth edge.now.to is_behind }
+    ensures leaves { (keys : ℕ → Option Bytes) (q : Bytes) → IsPlaceUnder P keys (at nodes.now) q depth edge.now.to is_behind
         → LeavesMate keys result.mate result.depth q }
-    ensures beside { (keys : ℕ → Option Bytes) (q : Bytes) → IsPlaceUnder P keys (at nodes.now) q depth child.now is_behind
+    ensures beside { (keys : ℕ → Option Bytes) (q : Bytes) → IsPlaceUnder P keys (at nodes.now) q depth edge.now.to is_behind
         → IsBeside keys q result.beside }
 {
-    let mate = end_under(nodes, child, !is_behind, &mut Visits::new());
+    let mate = end_under(nodes, &edge.to, !is_behind, &mut Visits::new());
     if is_behind {
         Place {
             mate,
             depth,
             beside: Beside::Behind(mate),
+            above: *above,
+            byte: edge.byte,
         }
     } else {
         Place {
             mate,
             depth,
             beside: Beside::InFront(mate),
+            above: *above,
+            byte: edge.byte,
         }
     }
 }

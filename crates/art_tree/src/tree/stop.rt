@@ -7,10 +7,10 @@ ghost use Rattle.art_tree.specs.Invariant.Sound.{IsSound};
 ghost use Rattle.art_kinds.specs.declared.records.ids.Child.TheVariants.{Leaf, Inner};
 
 use crate::lists::{common_len, common_len_behind};
-use crate::records::ids::{Child, LeafId, NodeId};
+use crate::records::ids::{Child, Edge, LeafId, NodeId};
 use crate::records::leaves::Leaves;
 use crate::records::nodes::Nodes;
-use crate::tree::descent::end_under;
+use crate::tree::descent::{EdgeAbove, end_under};
 use crate::visits::Visits;
 use blart_keys::AsBytes;
 
@@ -32,8 +32,8 @@ pub(crate) enum Stop {
 // What comes of one node on the way.
 #[derive(Clone, Copy)]
 enum Step {
-    // The way goes on to this child, which so many bytes lead to.
-    Down(Child, usize),
+    // The way goes on by this edge, whose front has so many bytes.
+    Down(Edge, usize),
     // It ends.
     Stops(Stop),
 }
@@ -45,27 +45,29 @@ struct Shared {
     byte: u8,
 }
 
-/// Where the way down by the bytes of a query ends, in a tree with some pairs.
+/// Where the way down by the bytes of a query ends, in a tree with some pairs, and the edge that it went through last.
 pub(crate) fn stop_of<K: AsBytes, V, const P: usize>(
     leaves: &Leaves<K, V>,
     nodes: &Nodes<P>,
     root: &Child,
     query: &[u8],
-) -> Stop
+) -> (Stop, EdgeAbove)
     requires { IsSound K.bytes P leaves.now nodes.now (Some root.now) }
-    ensures { IsStop P (keys_in K.bytes leaves.now.pairs) (at nodes.now) result query.now }
+    ensures { IsStop P (keys_in K.bytes leaves.now.pairs) (at nodes.now) result.0 query.now }
 {
     let mut child = *root;
+    let mut above = None;
     let mut start = 0;
     'down: loop {
         let id = match child {
-            Child::Leaf(id) => return stop_at_leaf(leaves, nodes, start, id, query),
+            Child::Leaf(id) => return (stop_at_leaf(leaves, nodes, start, id, query), above),
             Child::Inner(id) => id,
         };
         match step_at(leaves, nodes, start, id, query) {
-            Step::Stops(stop) => return stop,
-            Step::Down(to, next) => {
-                child = to;
+            Step::Stops(stop) => return (stop, above),
+            Step::Down(edge, next) => {
+                child = edge.to;
+                above = Some((id, edge.byte));
                 start = next;
             }
         }
@@ -120,8 +122,9 @@ fn step_at<K: AsBytes, V, const P: usize>(
     if shared.len < depth {
         return Step::Stops(Stop::AtEdge(Child::Inner(id), shared.len, shared.byte));
     }
-    match node.find(query[depth]) {
-        Some(child) => Step::Down(child, depth + 1),
+    let byte = query[depth];
+    match node.find(byte) {
+        Some(to) => Step::Down(Edge { byte, to }, depth + 1),
         None => Step::Stops(Stop::AtNode(id, depth)),
     }
 }

@@ -1,5 +1,7 @@
-use Rattle.std.proofs.Common.{Some, lit<}
-use Rattle.art_tree.specs.Leaves.{leaf_in}
+use Rattle.std.proofs.Common.{◌≡◌, ◌<◌, length, ap, sym, ◌∙◌, Some, lit<, arith}
+use Rattle.art_tree.specs.Leaves.{leaf_in, keys_in}
+use Rattle.art_tree.proofs.Calls.PlacedShapes.{mate_long}
+use Rattle.art_tree.proofs.Pairs.Keys.{key_of_pair}
 use Rattle.art_kinds.specs.Nodes.{at}
 use Rattle.blart_keys.proofs.Options.{is_some}
 use Rattle.art_tree.proofs.Pairs.Placed.{has_beside, has_behind, free_before, placed_free, kept_pair, free_spot, free_gains}
@@ -37,7 +39,7 @@ add_leaf-top-requires g c =
     let x : g.row.K.Denot × g.row.V.Denot = (c.args.key, c.args.value) in
     let s = c.requires.whole.shape in
     let p = placed_free g.K.AsBytes.bytes c.args.leaves.now c.args.nodes.now (Some c.args.root.now) c.args.place.now i.new.self.pairs i.result x c.requires.whole c.law.ensures.distinct c.requires.free c.leaf_before-prev.result c.leaf_before-prev.ensures i.ensures.fresh i.ensures.placed in
-    (lit< tt, (free_spot g.K.AsBytes.bytes c.args.leaves.now.pairs i.new.self.pairs i.result x p (at c.args.nodes.now) c.args.root.now s c.args.place.now c.requires.free _ _ _ c.read.ensures.value c.read-3.ensures.value c.read-2.ensures.value _ _ _ c.as_bytes-2.ensures c.as_bytes.ensures c.as_bytes-3.ensures c.locate-spot.result (c.locate-spot.ensures.spot _ s), c.requires.nodes_room))
+    (lit< tt, (free_spot g.K.AsBytes.bytes c.args.leaves.now.pairs i.new.self.pairs i.result x p (at c.args.nodes.now) c.args.root.now s c.args.place.now c.requires.free _ _ _ c.read.ensures.value c.read-3.ensures.value c.read-2.ensures.value _ _ _ c.as_bytes-2.ensures c.as_bytes.ensures c.as_bytes-3.ensures c.spot_for-spot.result (c.spot_for-spot.ensures _ s), c.requires.nodes_room))
 
 pub returns-clause-placed : goal.returns-clause-placed
 returns-clause-placed g c =
@@ -52,6 +54,16 @@ returns-clause-whole g c =
     let p = placed_free g.K.AsBytes.bytes c.args.leaves.now c.args.nodes.now (Some c.args.root.now) c.args.place.now i.new.self.pairs i.result x c.requires.whole c.law.ensures.distinct c.requires.free c.leaf_before-prev.result c.leaf_before-prev.ensures i.ensures.fresh i.ensures.placed in
     record {
       content = p.put.content;
-      shape = free_gains g.K.AsBytes.bytes c.args.leaves.now.pairs i.new.self.pairs i.result x p (at c.args.nodes.now) c.args.root.now s c.args.place.now c.requires.free _ _ _ c.read.ensures.value c.read-3.ensures.value c.read-2.ensures.value _ _ _ c.as_bytes-2.ensures c.as_bytes.ensures c.as_bytes-3.ensures c.locate-spot.result (c.locate-spot.ensures.spot _ s)
+      shape = free_gains g.K.AsBytes.bytes c.args.leaves.now.pairs i.new.self.pairs i.result x p (at c.args.nodes.now) c.args.root.now s c.args.place.now c.requires.free _ _ _ c.read.ensures.value c.read-3.ensures.value c.read-2.ensures.value _ _ _ c.as_bytes-2.ensures c.as_bytes.ensures c.as_bytes-3.ensures c.spot_for-spot.result (c.spot_for-spot.ensures _ s)
           (at c.add_leaf-top.new.nodes) c.add_leaf-top.result c.add_leaf-top.ensures.gains;
     }
+
+pub spot_for-spot-requires : goal.spot_for-spot-requires
+spot_for-spot-requires g c =
+    let kb = g.K.AsBytes.bytes in
+    let S = c.args.leaves.now.pairs in
+    let m = c.args.place.now.mate in
+    let key = c.as_bytes.result.now in
+    let is : keys_in kb S m ≡ Some key = key_of_pair kb S m (c.read.result.0.now, c.read.result.1.now) c.read.ensures.value ∙ ap Some (sym c.as_bytes.ensures) in
+    let long : c.args.place.now.depth < length key = mate_long (keys_in kb S) m c.args.place.now.depth (kb c.args.key) c.requires.free.leaves key is in
+    (lit< tt, record { keys = keys_in kb S; shape = c.requires.whole.shape; is = is; within = omega arith })

@@ -1,4 +1,6 @@
-use Rattle.std.proofs.Common.{lit<, refl, Some}
+use Rattle.std.proofs.Common.{lit<, refl, subst, Some}
+use Rattle.art_tree.specs.Calls.Stops.{IsStop}
+use Rattle.art_tree.specs.declared.tree.stop.Stop.{Stop}
 use Rattle.art_tree.specs.Leaves.{keys_in}
 use Rattle.art_kinds.specs.Nodes.{at}
 use Rattle.art_tree.proofs.Ways.Points.{exact, shorter_related, longer_related}
@@ -6,20 +8,20 @@ use Rattle.art_tree.proofs.Ways.Stops.{place_at_node, place_at_edge}
 use Rattle.art_tree.proofs.tree.point.point_below.Goals as goal
 
 pub end_under-requires : goal.end_under-requires
-end_under-requires g c = let m = c.in-Longer.ensures in (lit< tt, record { keys = keys_in g.K.AsBytes.bytes c.args.leaves.now.pairs; root = m.root; shape = m.shape; front = c.args.query.now; covers = m.covers })
+end_under-requires g c = let m = (subst (λ (z : Stop). IsStop g.row.P (keys_in g.K.AsBytes.bytes c.args.leaves.now.pairs) (at c.args.nodes.now) z c.args.query.now) c.in-Longer.is c.stop_of-stop.ensures) in (lit< tt, record { keys = keys_in g.K.AsBytes.bytes c.args.leaves.now.pairs; root = m.root; shape = m.shape; front = c.args.query.now; covers = m.covers })
 
 pub end_under-requires-in-Longer : goal.end_under-requires-in-Longer
-end_under-requires-in-Longer g c = let m = c.in-Longer.ensures in (lit< tt, record { keys = keys_in g.K.AsBytes.bytes c.args.leaves.now.pairs; root = m.root; shape = m.shape; front = c.args.query.now; covers = m.covers })
+end_under-requires-in-Longer g c = let m = (subst (λ (z : Stop). IsStop g.row.P (keys_in g.K.AsBytes.bytes c.args.leaves.now.pairs) (at c.args.nodes.now) z c.args.query.now) c.in-Longer.is c.stop_of-stop.ensures) in (lit< tt, record { keys = keys_in g.K.AsBytes.bytes c.args.leaves.now.pairs; root = m.root; shape = m.shape; front = c.args.query.now; covers = m.covers })
 
 pub returns-in-Same : goal.returns-in-Same
-returns-in-Same g c = exact g.K.AsBytes.bytes c.args.leaves.now.pairs c.requires.content c.law.ensures.distinct (at c.args.nodes.now) c.args.query.now c.in-Same.id c.in-Same.ensures
+returns-in-Same g c = exact g.K.AsBytes.bytes c.args.leaves.now.pairs c.requires.content c.law.ensures.distinct (at c.args.nodes.now) c.args.query.now c.in-Same.id (subst (λ (z : Stop). IsStop g.row.P (keys_in g.K.AsBytes.bytes c.args.leaves.now.pairs) (at c.args.nodes.now) z c.args.query.now) c.in-Same.is c.stop_of-stop.ensures)
 
 pub returns-in-Shorter : goal.returns-in-Shorter
-returns-in-Shorter g c = shorter_related g.K.AsBytes.bytes c.args.leaves.now.pairs c.requires.content c.law.ensures.distinct (at c.args.nodes.now) c.args.query.now (Some c.args.root.now) c.requires.shape c.in-Shorter.id c.in-Shorter.ensures
+returns-in-Shorter g c = shorter_related g.K.AsBytes.bytes c.args.leaves.now.pairs c.requires.content c.law.ensures.distinct (at c.args.nodes.now) c.args.query.now (Some c.args.root.now) c.requires.shape c.in-Shorter.id (subst (λ (z : Stop). IsStop g.row.P (keys_in g.K.AsBytes.bytes c.args.leaves.now.pairs) (at c.args.nodes.now) z c.args.query.now) c.in-Shorter.is c.stop_of-stop.ensures)
 
 pub returns-in-Longer : goal.returns-in-Longer
 returns-in-Longer g c =
-    let m = c.in-Longer.ensures in
+    let m = (subst (λ (z : Stop). IsStop g.row.P (keys_in g.K.AsBytes.bytes c.args.leaves.now.pairs) (at c.args.nodes.now) z c.args.query.now) c.in-Longer.is c.stop_of-stop.ensures) in
     let keys = keys_in g.K.AsBytes.bytes c.args.leaves.now.pairs in
     longer_related g.K.AsBytes.bytes c.args.leaves.now.pairs c.requires.content c.law.ensures.distinct (at c.args.nodes.now) c.args.query.now c.in-Longer.child m c.end_under.result c.end_under-in-Longer.result
     (c.end_under.ensures.ends keys m.root m.shape c.args.query.now m.covers) (c.end_under-in-Longer.ensures.ends keys m.root m.shape c.args.query.now m.covers)
@@ -28,7 +30,7 @@ pub place_under-requires : goal.place_under-requires
 place_under-requires g c =
     let keys = keys_in g.K.AsBytes.bytes c.args.leaves.now.pairs in
     let q = c.args.query.now in
-    let l = c.in-AtNode.ensures in
+    let l = (subst (λ (z : Stop). IsStop g.row.P (keys_in g.K.AsBytes.bytes c.args.leaves.now.pairs) (at c.args.nodes.now) z c.args.query.now) c.in-AtNode.is c.stop_of-stop.ensures) in
     let e = c.edge_beside-edge.ensures.edge in
     let h = place_at_node keys (at c.args.nodes.now) q c.in-AtNode.id c.in-AtNode.depth e.node e.is l.0 l.1 l.2 c.edge_beside-edge.result.1 c.edge_beside-edge.result.0 e.next in
     (lit< tt, (keys, q, h))
@@ -37,7 +39,7 @@ pub returns-in-AtNode : goal.returns-in-AtNode
 returns-in-AtNode g c =
     let keys = keys_in g.K.AsBytes.bytes c.args.leaves.now.pairs in
     let q = c.args.query.now in
-    let l = c.in-AtNode.ensures in
+    let l = (subst (λ (z : Stop). IsStop g.row.P (keys_in g.K.AsBytes.bytes c.args.leaves.now.pairs) (at c.args.nodes.now) z c.args.query.now) c.in-AtNode.is c.stop_of-stop.ensures) in
     let e = c.edge_beside-edge.ensures.edge in
     let h = place_at_node keys (at c.args.nodes.now) q c.in-AtNode.id c.in-AtNode.depth e.node e.is l.0 l.1 l.2 c.edge_beside-edge.result.1 c.edge_beside-edge.result.0 e.next in
     record { leaves = c.place_under.ensures.leaves keys q h; beside = c.place_under.ensures.beside keys q h }
@@ -46,7 +48,7 @@ pub place_under-requires-in-AtEdge : goal.place_under-requires-in-AtEdge
 place_under-requires-in-AtEdge g c =
     let keys = keys_in g.K.AsBytes.bytes c.args.leaves.now.pairs in
     let q = c.args.query.now in
-    let l = c.in-AtEdge.ensures in
+    let l = (subst (λ (z : Stop). IsStop g.row.P (keys_in g.K.AsBytes.bytes c.args.leaves.now.pairs) (at c.args.nodes.now) z c.args.query.now) c.in-AtEdge.is c.stop_of-stop.ensures) in
     let h = place_at_edge keys (at c.args.nodes.now) q c.in-AtEdge.child c.in-AtEdge.depth c.in-AtEdge.byte l.0 l.1 l.2 _ refl in
     (lit< tt, (keys, q, h))
 
@@ -54,6 +56,6 @@ pub returns-in-AtEdge : goal.returns-in-AtEdge
 returns-in-AtEdge g c =
     let keys = keys_in g.K.AsBytes.bytes c.args.leaves.now.pairs in
     let q = c.args.query.now in
-    let l = c.in-AtEdge.ensures in
+    let l = (subst (λ (z : Stop). IsStop g.row.P (keys_in g.K.AsBytes.bytes c.args.leaves.now.pairs) (at c.args.nodes.now) z c.args.query.now) c.in-AtEdge.is c.stop_of-stop.ensures) in
     let h = place_at_edge keys (at c.args.nodes.now) q c.in-AtEdge.child c.in-AtEdge.depth c.in-AtEdge.byte l.0 l.1 l.2 _ refl in
     record { leaves = c.place_under-in-AtEdge.ensures.leaves keys q h; beside = c.place_under-in-AtEdge.ensures.beside keys q h }
