@@ -137,3 +137,7 @@ appended_at kb S T S' T' U e f s t u = union_at (pair_bytes kb) T S U t s (subst
 -- two parts of a map, of which the higher is appended to the lower, are the whole
 pub joined_parts : {K V : Type 0} (kb : K → List ℕ) (S A B U : List (K × V)) → IsContent (pair_bytes kb) S → S ≡ A ++ B → IsAppended (pair_bytes kb) A B U → U ≡ S
 joined_parts kb S A B U c e u = union_parts (pair_bytes kb) A B U (subst (IsContent (pair_bytes kb)) e c) u ∙ sym e
+
+-- and so where the lists are seen otherwise
+pub joined_at : {K V : Type 0} (kb : K → List ℕ) (A B A' B' U : List (K × V)) → A' ≡ A → B' ≡ B → IsUnion (pair_bytes kb) B' A' U → (S : List (K × V)) → IsContent (pair_bytes kb) S → S ≡ A ++ B → U ≡ S
+joined_at kb A B A' B' U e f u S c w = joined_parts kb S A B U c w (subst₂ (λ C D. IsUnion (pair_bytes kb) D C U) e f u)

@@ -1,5 +1,6 @@
 //! What stands where a request was refused, at each request in turn.
 
+mod bulk;
 mod driving;
 mod entries;
 mod insertions;

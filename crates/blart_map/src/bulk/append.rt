@@ -1,6 +1,7 @@
 //! The pairs of another map.
-ghost use Rattle.std.specs.Prelude.{◌≡◌, ◌≢◌, ◌≤◌, ℕ, List, [], length, OnOk, OnErr};
+ghost use Rattle.std.specs.Prelude.{◌≡◌, ◌≢◌, ◌≤◌, ◌++◌, ℕ, List, [], length, OnOk, OnErr};
 ghost use Rattle.blart_keys.specs.Bulk.{IsAppended};
+ghost use Rattle.blart_keys.specs.Content.{IsContent};
 ghost use Rattle.blart_keys.specs.Steps.{bytes};
 ghost use Rattle.blart_keys.specs.Stored.{pair_at};
 ghost use Rattle.art_tree.specs.Content.{room};
@@ -16,7 +17,7 @@ use std::alloc::AllocError;
 use std::mem::swap;
 
 impl<K: NoPrefixesBytes + Drop, V: Drop, const PREFIX_LEN: usize> TreeMap<K, V, PREFIX_LEN> {
-    /// Moves all pairs of the other map here. Where both have a key with the same bytes the other's pair stays. The other map is empty then.
+    /// Moves all pairs of the other map here. Where both have a key with the same bytes the other's pair stays. The other map is empty then. Where all of the other's keys lie behind, as after a [`TreeMap::split_off`], the pairs are those of the one and then those of the other.
     ///
     /// It takes the memory for as many pairs as the other map has before any of them moves; an error leaves both maps as they were. Where either map is empty it takes none. Each pair costs a removal from the other map and an insertion here.
     ///
@@ -34,6 +35,8 @@ impl<K: NoPrefixesBytes + Drop, V: Drop, const PREFIX_LEN: usize> TreeMap<K, V, 
             ≡ or_else (pair_at K.bytes (pairs other.old) q) (pair_at K.bytes (pairs self.old) q)) }
         ensures appended { OnOk result
             (IsAppended (bytes K.bytes) (pairs self.old) (pairs other.old) (pairs self.new)) }
+        ensures joined { OnOk result ((S : List (K × V)) → IsContent (bytes K.bytes) S
+            → S ≡ pairs self.old ++ pairs other.old → pairs self.new ≡ S) }
         ensures emptied { OnOk result (pairs other.new ≡ []) }
         ensures err { OnErr result (self.new ≡ self.old) }
         ensures other_err { OnErr result (other.new ≡ other.old) }
