@@ -40,6 +40,12 @@ module _ {K V : Type 0} (kb : K → List ℕ) (ps : List (Numbered K V)) (conten
     pub exact_kind : Kind.Occupied ≡ kind_of (pair_bytes kb) (pairs_of ps) q
     exact_kind = rw exact_stores refl
 
+    pub exact_inner : false ≡ conflict (pair_bytes kb) (pairs_of ps) q
+    exact_inner =
+        let r = at_Some (bytes kb) ps q (id, good.0) good.1 in
+        let none : conflict (bytes kb) ps q ≡ false = subst (λ q. conflict (bytes kb) ps q ≡ false) r.1 (stored_no_conflict (bytes kb) ps content (id, good.0) r.0) in
+        sym (conflict_pairs kb ps q ∙ none)
+
     pub exact_free : true ≡ not (conflict (pair_bytes kb) (pairs_of ps) q)
     exact_free =
         let r = at_Some (bytes kb) ps q (id, good.0) good.1 in
@@ -61,6 +67,9 @@ module _ {K V : Type 0} (kb : K → List ℕ) (ps : List (Numbered K V)) (conten
     pub related_kind : Kind.Inner ≡ kind_of (pair_bytes kb) (pairs_of ps) q
     related_kind = let b : conflict (pair_bytes kb) (pairs_of ps) q ≡ true = conflict_pairs kb ps q ∙ good.0 in rw (related_absent, b) refl
 
+    pub related_inner : true ≡ conflict (pair_bytes kb) (pairs_of ps) q
+    related_inner = sym (conflict_pairs kb ps q ∙ good.0)
+
     pub related_pair : None ≡ pair_at kb (pairs_of ps) q
     related_pair = none (pair_at kb (pairs_of ps) q) (sym (stores_is kb (pairs_of ps) q) ∙ related_absent)
       where
@@ -79,6 +88,9 @@ module _ {K V : Type 0} (kb : K → List ℕ) (ps : List (Numbered K V)) (conten
 
     pub open_free : conflict (bytes kb) ps q ≡ false
     open_free = alone_no_conflict (bytes kb) ps q alone
+
+    pub open_inner : false ≡ conflict (pair_bytes kb) (pairs_of ps) q
+    open_inner = sym (conflict_pairs kb ps q ∙ open_free)
 
     pub open_found : true ≡ not (conflict (pair_bytes kb) (pairs_of ps) q)
     open_found = sym (ap not (conflict_pairs kb ps q ∙ open_free))

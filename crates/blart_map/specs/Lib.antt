@@ -12,6 +12,7 @@ pub mod OccupiedEntry
 pub mod OccupiedLends
 pub mod Places
 pub mod PrefixEntry
+pub mod PrefixKind
 pub mod Spans
 pub mod Written
 pub mod LendingWalk

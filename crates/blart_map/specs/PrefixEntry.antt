@@ -1,12 +1,12 @@
 -- What the contracts of a prefix entry cite.
 pub use Rattle.blart_map.specs.declared.prefix_entry.PrefixEntry.TheVariants.{Occupied, Vacant}
 pub use Rattle.blart_map.specs.declared.prefix_occupied.PrefixOccupied.TheVariants.{Leaf, Inner}
-use Rattle.std.specs.Prelude.{◌≡◌, ℕ, List, Option, Some, None, option_map}
+use Rattle.std.specs.Prelude.{◌≡◌, ℕ, Bool, true, false, List, Option, Some, None, option_map}
 use Rattle.std.specs.Borrow.{MutBor}
 use Rattle.blart_keys.specs.declared.AsBytes.{Ghosts}
 use Rattle.blart_keys.specs.Entries.{Kind, kind_of}
 use Rattle.blart_keys.specs.Steps.{bytes}
-use Rattle.blart_keys.specs.Stored.{pair_at}
+use Rattle.blart_keys.specs.Stored.{pair_at, overlaps}
 use Rattle.blart_map.specs.Content.{Numbered}
 use Rattle.blart_map.specs.Entry as entry
 use Rattle.blart_map.specs.Entry.{entry_pair, entry_key, entry_bytes, IsSetEntry}
@@ -73,11 +73,18 @@ module _ {K V T : Type 0} {P : ℕ} {g : Ghosts K} where
   prefix_kind (Occupied (Inner e)) = Kind.Inner
   prefix_kind (Vacant e) = Kind.Vacant
 
+  -- whether it is inner
+  abbrev pub prefix_is_inner : PrefixEntry K V P T g → Bool
+  prefix_is_inner (Occupied (Leaf o)) = false
+  prefix_is_inner (Occupied (Inner e)) = true
+  prefix_is_inner (Vacant e) = false
+
   -- e is the entry of the key in these pairs
   pub record IsPrefixEntryFor (S : List (K × V)) (key : K) (e : PrefixEntry K V P T g) : Type 0 where
     pub same_bytes : prefix_bytes e ≡ g.bytes key
     pub pair : prefix_pair e ≡ pair_at g.bytes S (g.bytes key)
     pub kind : prefix_kind e ≡ kind_of (bytes g.bytes) S (g.bytes key)
+    pub inner : prefix_is_inner e ≡ overlaps g.bytes S (g.bytes key)
     pub fresh : prefix_pair e ≡ None → prefix_key e ≡ Some key
 
   -- o is the entry of the key, once w was set there, over all pairs to which it was related

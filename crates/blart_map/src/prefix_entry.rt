@@ -7,6 +7,7 @@ ghost use denote.Ref.{Bor};
 
 use crate::map::TreeMap;
 use crate::occupied::OccupiedEntry;
+use crate::prefix_kind::PrefixKind;
 use crate::prefix_occupied::PrefixOccupied;
 use crate::vacant::VacantEntry;
 use blart_keys::AsBytes;
@@ -69,6 +70,26 @@ impl<'a, K: AsBytes + Drop, V: Drop, const PREFIX_LEN: usize> PrefixEntry<
     TreeMap<K, V, PREFIX_LEN>,
 > {
     ghost use Rattle.blart_map.specs.PrefixEntry.{prefix_kind, prefix_key, prefix_value, IsPrefixSet, IsPrefixKeptOrSet, IsPrefixKeptOrMade};
+    ghost use Rattle.blart_map.specs.PrefixKind.{IsKindOf};
+
+    /// The entry as one of three kinds.
+    ///
+    /// ```
+    /// match map.prefix_entry("ca").kind() {
+    ///     PrefixKind::Leaf(entry) => *entry.into_mut() += 1,
+    ///     PrefixKind::Inner(entry) => *entry.insert(0) += 1,
+    ///     PrefixKind::Vacant(entry) => *entry.insert(0)? += 1,
+    /// }
+    /// ```
+    pub fn kind(self) -> PrefixKind<'a, K, V, PREFIX_LEN, TreeMap<K, V, PREFIX_LEN>>
+        ensures { IsKindOf self.entry result }
+    {
+        match self {
+            PrefixEntry::Occupied(PrefixOccupied::Leaf(entry)) => PrefixKind::Leaf(entry),
+            PrefixEntry::Occupied(PrefixOccupied::Inner(entry)) => PrefixKind::Inner(entry),
+            PrefixEntry::Vacant(entry) => PrefixKind::Vacant(entry),
+        }
+    }
 
     /// Sets the value, on `Inner` over all pairs to which the key is related, and answers the entry of the key's pair.
     pub fn insert_entry(

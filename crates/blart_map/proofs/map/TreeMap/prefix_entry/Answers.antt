@@ -1,8 +1,9 @@
 use Rattle.std.proofs.Common.{refl}
+use Rattle.blart_keys.specs.Stored.{overlaps}
 use Rattle.blart_map.specs.Content.{pairs}
 use Rattle.blart_map.proofs.Inserting.{exact_has, opens}
 use Rattle.blart_map.proofs.InnerPairs.{to_spans}
-use Rattle.blart_map.proofs.EntryOf.{exact_bytes, exact_pair, exact_kind, exact_some, related_kind, related_pair, open_absent, open_free, open_pair, open_kind}
+use Rattle.blart_map.proofs.EntryOf.{exact_bytes, exact_pair, exact_kind, exact_some, exact_inner, related_inner, open_inner, related_kind, related_pair, open_absent, open_free, open_pair, open_kind}
 use Rattle.blart_map.proofs.map.TreeMap.prefix_entry.Goals as goal
 
 pub invariant_of-result : goal.invariant_of-result
@@ -29,7 +30,7 @@ invariant_of-result-in-Empty g c =
     }
 
 pub returns-in-Exact-clause-is_for : goal.returns-in-Exact-clause-is_for
-unfolding pairs
+unfolding pairs overlaps
 returns-in-Exact-clause-is_for g c =
     let kb = g.K.AsBytes.bytes in
     let ps = c.args.self.now in
@@ -42,11 +43,12 @@ returns-in-Exact-clause-is_for g c =
       same_bytes = exact_bytes kb ps content distinct q id good;
       pair = exact_pair kb ps content distinct q id good;
       kind = exact_kind kb ps content distinct q id good;
+      inner = exact_inner kb ps content distinct q id good;
       fresh = λ e. exact_some kb ps content distinct q id good e;
     }
 
 pub returns-in-Related-clause-is_for : goal.returns-in-Related-clause-is_for
-unfolding pairs
+unfolding pairs overlaps
 returns-in-Related-clause-is_for g c =
     let kb = g.K.AsBytes.bytes in
     let ps = c.args.self.now in
@@ -58,11 +60,12 @@ returns-in-Related-clause-is_for g c =
       same_bytes = refl;
       pair = related_pair kb ps content distinct q c.in-Related.first c.in-Related.last good;
       kind = related_kind kb ps content distinct q c.in-Related.first c.in-Related.last good;
+      inner = related_inner kb ps content distinct q c.in-Related.first c.in-Related.last good;
       fresh = λ e. refl;
     }
 
 pub returns-clause-is_for : goal.returns-clause-is_for
-unfolding pairs
+unfolding pairs overlaps
 returns-clause-is_for g c =
     let kb = g.K.AsBytes.bytes in
     let ps = c.args.self.now in
@@ -75,5 +78,6 @@ returns-clause-is_for g c =
       same_bytes = refl;
       pair = open_pair kb ps content distinct q c.point_of-point.result good able;
       kind = open_kind kb ps content distinct q c.point_of-point.result good able;
+      inner = open_inner kb ps content distinct q c.point_of-point.result good able;
       fresh = λ e. refl;
     }

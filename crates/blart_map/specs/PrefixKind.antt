@@ -1,0 +1,50 @@
+-- What the contract of the kind of a prefix entry cites.
+pub use Rattle.blart_map.specs.declared.prefix_kind.PrefixKind.TheVariants.{Leaf, Inner, Vacant}
+use Rattle.std.specs.Prelude.{◌≡◌, ℕ, Bool, true, false, List, Option, Some, None}
+use Rattle.std.specs.Borrow.{MutBor}
+use Rattle.blart_keys.specs.declared.AsBytes.{Ghosts}
+use Rattle.blart_map.specs.Content.{Numbered}
+use Rattle.blart_map.specs.Entry.{Occupied, entry_pair, entry_key, entry_bytes}
+use Rattle.blart_map.specs.PrefixEntry.{prefix_ref, prefix_bytes, prefix_pair, prefix_key, prefix_is_inner}
+use Rattle.blart_map.specs.declared.prefix_entry.PrefixEntry.{PrefixEntry}
+use Rattle.blart_map.specs.declared.prefix_kind.PrefixKind.{PrefixKind}
+
+module _ {K V T : Type 0} {P : ℕ} {g : Ghosts K} where
+  -- the reference to the map
+  abbrev pub kind_ref : PrefixKind K V P T g → MutBor (List (Numbered K V))
+  kind_ref (Leaf o) = o.map
+  kind_ref (Inner e) = e.map
+  kind_ref (Vacant e) = e.map
+
+  -- the bytes of the key
+  abbrev pub kind_bytes : PrefixKind K V P T g → List ℕ
+  kind_bytes (Leaf o) = entry_bytes (Occupied o)
+  kind_bytes (Inner e) = g.bytes e.key
+  kind_bytes (Vacant e) = g.bytes e.key
+
+  -- the pair that is stored
+  abbrev pub kind_pair : PrefixKind K V P T g → Option (K × V)
+  kind_pair (Leaf o) = entry_pair (Occupied o)
+  kind_pair (Inner e) = None
+  kind_pair (Vacant e) = None
+
+  -- the stored key, or the one that was handed in
+  abbrev pub kind_key : PrefixKind K V P T g → Option K
+  kind_key (Leaf o) = entry_key (Occupied o)
+  kind_key (Inner e) = Some e.key
+  kind_key (Vacant e) = Some e.key
+
+  -- whether it is inner
+  abbrev pub kind_is_inner : PrefixKind K V P T g → Bool
+  kind_is_inner (Leaf o) = false
+  kind_is_inner (Inner e) = true
+  kind_is_inner (Vacant e) = false
+
+  -- k is the entry e
+  pub record IsKindOf (e : PrefixEntry K V P T g) (k : PrefixKind K V P T g) : Type 0 where
+    pub same_map : (kind_ref k).ghost_name ≡ (prefix_ref e).ghost_name
+    pub unchanged : (kind_ref k).now ≡ (prefix_ref e).now
+    pub same_bytes : kind_bytes k ≡ prefix_bytes e
+    pub pair : kind_pair k ≡ prefix_pair e
+    pub key : kind_key k ≡ prefix_key e
+    pub inner : kind_is_inner k ≡ prefix_is_inner e
