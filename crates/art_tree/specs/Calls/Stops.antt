@@ -39,7 +39,7 @@ module _ (P : ℕ) (keys : ℕ → Option Bytes) (nodes : ℕ → Option Node) w
 
   -- the way ends at a node, or goes on by one of its edges
   abbrev pub IsStep : ℕ → Step → Bytes → Type 0
-  IsStep n (Down edge start) q = OnWay edge.to start q × ((x : Node) × (b : ℕ) × (nodes n ≡ Some x) × (child_at x.edges b ≡ Some edge.to))
+  IsStep n (Down child start) q = OnWay child start q × ((x : Node) × (b : ℕ) × (nodes n ≡ Some x) × (child_at x.edges b ≡ Some child))
   IsStep n (Stops stop) q = IsStop stop q
 
   -- the child is beside the place of q, and q leaves each key below it behind so many bytes

@@ -129,7 +129,8 @@ fn spot_for<const P: usize>(nodes: &Nodes<P>, root: &Child, place: &Place, mate:
 // The spot at the end of a place's edge, where the mate's leaf is at hand to show it.
 fn spot_shown<const P: usize>(nodes: &Nodes<P>, root: &Child, place: &Place) -> Option<Spot>
     ensures { IfSome result (λ spot. (keys : ℕ → Option Bytes) (s : Shape P keys (at nodes.now) (Some root.now)) (mate : Bytes)
-        → keys place.now.mate ≡ Some mate → place.now.depth ≤ length mate → SpotFits (at nodes.now) (Some root.now) s.front_of mate place.now.depth spot) }
+        → keys place.now.mate ≡ Some mate → place.now.depth ≤ length mate
+        → SpotFits (at nodes.now) (Some root.now) s.front_of mate place.now.depth spot) }
 {
     let child = child_by(nodes, root, &place.above)?;
     match child {

@@ -7,7 +7,7 @@ ghost use Rattle.art_tree.specs.Invariant.Sound.{IsSound};
 ghost use Rattle.art_kinds.specs.declared.records.ids.Child.TheVariants.{Leaf, Inner};
 
 use crate::lists::{common_len, common_len_behind};
-use crate::records::ids::{Child, Edge, LeafId, NodeId};
+use crate::records::ids::{Child, LeafId, NodeId};
 use crate::records::leaves::Leaves;
 use crate::records::nodes::Nodes;
 use crate::tree::descent::{EdgeAbove, end_under};
@@ -32,8 +32,8 @@ pub(crate) enum Stop {
 // What comes of one node on the way.
 #[derive(Clone, Copy)]
 enum Step {
-    // The way goes on by this edge, whose front has so many bytes.
-    Down(Edge, usize),
+    // The way goes on to this child, which so many bytes lead to.
+    Down(Child, usize),
     // It ends.
     Stops(Stop),
 }
@@ -56,21 +56,35 @@ pub(crate) fn stop_of<K: AsBytes, V, const P: usize>(
     ensures { IsStop P (keys_in K.bytes leaves.now.pairs) (at nodes.now) result.0 query.now }
 {
     let mut child = *root;
-    let mut above = None;
+    let mut over = *root;
     let mut start = 0;
     'down: loop {
         let id = match child {
-            Child::Leaf(id) => return (stop_at_leaf(leaves, nodes, start, id, query), above),
+            Child::Leaf(id) => {
+                let stop = stop_at_leaf(leaves, nodes, start, id, query);
+                return (stop, edge_over(&over, query, start));
+            }
             Child::Inner(id) => id,
         };
         match step_at(leaves, nodes, start, id, query) {
-            Step::Stops(stop) => return (stop, above),
-            Step::Down(edge, next) => {
-                child = edge.to;
-                above = Some((id, edge.byte));
+            Step::Stops(stop) => return (stop, edge_over(&over, query, start)),
+            Step::Down(to, next) => {
+                over = child;
+                child = to;
                 start = next;
             }
         }
+    }
+}
+
+// The edge from a node to what so many of the query's bytes lead to.
+fn edge_over(over: &Child, query: &[u8], start: usize) -> EdgeAbove {
+    if start == 0 || start > query.len() {
+        return None;
+    }
+    match over {
+        Child::Inner(id) => Some((*id, query[start - 1])),
+        Child::Leaf(_) => None,
     }
 }
 
@@ -122,9 +136,8 @@ fn step_at<K: AsBytes, V, const P: usize>(
     if shared.len < depth {
         return Step::Stops(Stop::AtEdge(Child::Inner(id), shared.len, shared.byte));
     }
-    let byte = query[depth];
-    match node.find(byte) {
-        Some(to) => Step::Down(Edge { byte, to }, depth + 1),
+    match node.find(query[depth]) {
+        Some(child) => Step::Down(child, depth + 1),
         None => Step::Stops(Stop::AtNode(id, depth)),
     }
 }

@@ -166,3 +166,56 @@ fn a_tree_asks_few_keys(rt: HostRuntime) -> Result<(), Fail> {
     asked_in_tree::<2>(&rt)?;
     asked_in_tree::<16>(&rt)
 }
+
+// A key of three bytes that tells once in each round that its bytes are asked for.
+#[derive(Drop)]
+struct Told<'a> {
+    bytes: [u8; 3],
+    seen: Cell<usize>,
+    round: &'a Cell<usize>,
+    count: &'a Cell<usize>,
+}
+
+impl<'a> AsBytes for Told<'a> {
+    ghost use Rattle.std.specs.Prelude.{⊤};
+
+    ghost bytes = { λ s. s.bytes };
+
+    ghost IsValue = { λ s. ⊤ };
+
+    fn as_bytes(&self) -> &[u8] {
+        if self.seen.get() != self.round.get() {
+            self.seen.set(self.round.get());
+            self.count.set(self.count.get().wrapping_add(1));
+        }
+        &self.bytes
+    }
+
+    fn value_law(&self) {}
+}
+
+// Each insertion asks the key that comes, and one stored key at most.
+fn told_in_tree<const P: usize>(rt: &(impl Abort + AllocGlobal)) -> Result<(), Fail> {
+    let (round, count) = (Cell::new(0), Cell::new(0));
+    let mut tree: Tree<Told<'_>, usize, P> = Tree::new(rt.alloc());
+    for place in 0..1000 {
+        round.set(place + 1);
+        count.set(0);
+        let key = Told {
+            bytes: bytes_of(place),
+            seen: Cell::new(0),
+            round: &round,
+            count: &count,
+        };
+        add(&mut tree, key, place)?;
+        assert!(rt; count.get() <= 2, "{} keys were asked", count.get());
+    }
+    assert_eq!(rt; tree.len(), 1000);
+    Ok(())
+}
+
+#[test]
+fn an_insertion_asks_one_stored_key(rt: HostRuntime) -> Result<(), Fail> {
+    told_in_tree::<2>(&rt)?;
+    told_in_tree::<16>(&rt)
+}

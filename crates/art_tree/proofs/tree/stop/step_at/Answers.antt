@@ -48,8 +48,8 @@ returns-in-Some g c =
     let h = c.shared_at-shared.ensures w in
     let p = goes_past keys nodes q c.args.id c.args.start w x c.read-node.ensures.value
     c.shared_at-shared.result.len c.shared_at-shared.result.byte h (omega (arith, c.if-shared-depth.false, c.depth-depth.ensures)) c.if-shared-query.false in
-    let there : child_at x.edges (get_or q x.depth 0) ≡ Some c.in-Some.to = rw (← c.depth-depth.ensures) (sym c.find.ensures ∙ c.in-Some.is) in
-    (on_way keys nodes q c.args.id c.args.start w x c.read-node.ensures.value p.0 p.1 c.in-Some.to there _ (ap (λ (z : ℕ). z + 1) c.depth-depth.ensures), (x, get_or q x.depth 0, c.read-node.ensures.value, there))
+    let there : child_at x.edges (get_or q x.depth 0) ≡ Some c.in-Some.child = rw (← c.depth-depth.ensures) (sym c.find.ensures ∙ c.in-Some.is) in
+    (on_way keys nodes q c.args.id c.args.start w x c.read-node.ensures.value p.0 p.1 c.in-Some.child there _ (ap (λ (z : ℕ). z + 1) c.depth-depth.ensures), (x, get_or q x.depth 0, c.read-node.ensures.value, there))
 
 pub returns-in-None : goal.returns-in-None
 returns-in-None g c =

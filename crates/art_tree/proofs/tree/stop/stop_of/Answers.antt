@@ -19,5 +19,5 @@ down-init g c = record {
 pub down-smaller : goal.down-smaller
 down-smaller g c =
     let s = c.in-Down.ensures.1 in
-    subst (λ (a : Child). rank c.args.nodes.now c.in-Down.edge.to < rank c.args.nodes.now a) (sym c.in-Inner.is)
-    (rank_falls (keys_in g.K.AsBytes.bytes c.args.leaves.now.pairs) c.args.nodes.now (Some c.args.root.now) c.requires.shape c.in-Inner.id s.1 s.0 c.in-Down.edge.to s.2 s.3)
+    subst (λ (a : Child). rank c.args.nodes.now c.in-Down.to < rank c.args.nodes.now a) (sym c.in-Inner.is)
+    (rank_falls (keys_in g.K.AsBytes.bytes c.args.leaves.now.pairs) c.args.nodes.now (Some c.args.root.now) c.requires.shape c.in-Inner.id s.1 s.0 c.in-Down.to s.2 s.3)
