@@ -4,6 +4,7 @@ ghost use Rattle.art_tree.specs.Leaves.{Has};
 
 mod changing;
 mod counting;
+mod lending;
 mod looking_up;
 mod many_children;
 mod placing;
