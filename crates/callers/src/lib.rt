@@ -8,6 +8,7 @@ mod entries;
 mod lending;
 mod moves;
 mod owning;
+mod prefix_entries;
 mod queues;
 mod routes;
 mod sums;
@@ -18,6 +19,7 @@ pub use entries::{borrow_place, count_at, count_by_entry, redirect, score, set_r
 pub use lending::raise_below;
 pub use moves::{add_or_give_back, len_with, len_without, move_first_between, move_one, rename};
 pub use owning::{into_values_vec, into_vec};
+pub use prefix_entries::{count_over, merge_routes, set_over};
 pub use queues::{following, take_least, take_next, to_end};
 pub use routes::{AddError, Table, hit, route, take_over};
 pub use sums::{count_between, sum_below, sum_below_chain};
