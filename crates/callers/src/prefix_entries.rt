@@ -1,0 +1,62 @@
+//! Calls of prefix entries.
+ghost use Rattle.std.specs.Prelude.{◌≡◌, ◌≢◌, ◌+◌, ◌<◌, ◌^◌, ℕ, List, true, false, unwrap_or, OnOk, OnErr, None, Some};
+ghost use Rattle.blart.specs.Words.{pairs, pair_at, value_at, overlaps, related, slice_bytes, zkey_bytes};
+
+use blart::map::PrefixKind;
+use blart::{Map, ZKey};
+use std::alloc::AllocError;
+
+/// Puts one route in the place of those that it overlaps, and answers whether there were any.
+pub fn merge_routes(routes: &mut Map<&'static str, u32>, front: &'static str, target: u32) -> bool
+    ensures merged { result ≡ overlaps slice_bytes (pairs routes.old) front.now }
+    ensures set { result ≡ true → value_at slice_bytes (pairs routes.new) front.now ≡ Some target }
+    ensures gone { result ≡ true → (q : List ℕ) → q ≢ front.now → related q front.now ≡ true
+        → pair_at slice_bytes (pairs routes.new) q ≡ None }
+    ensures others { result ≡ true → (q : List ℕ) → q ≢ front.now → related q front.now ≡ false
+        → pair_at slice_bytes (pairs routes.new) q ≡ pair_at slice_bytes (pairs routes.old) q }
+{
+    match routes.prefix_entry(front).kind() {
+        PrefixKind::Inner(entry) => {
+            *entry.insert_entry(0).into_mut() = target;
+            true
+        }
+        PrefixKind::Leaf(_) => false,
+        PrefixKind::Vacant(_) => false,
+    }
+}
+
+/// Sets the target of a route, in the place of those that it overlaps.
+pub fn set_over(
+    routes: &mut Map<&'static str, u32>,
+    front: &'static str,
+    target: u32,
+) -> Result<(), AllocError>
+    ensures set { OnOk result (value_at slice_bytes (pairs routes.new) front.now ≡ Some target) }
+    ensures others { (q : List ℕ) → q ≢ front.now → related q front.now ≡ false
+        → pair_at slice_bytes (pairs routes.new) q ≡ pair_at slice_bytes (pairs routes.old) q }
+    ensures refused { OnErr result (routes.new ≡ routes.old) }
+{
+    match routes.prefix_entry(front).kind() {
+        PrefixKind::Leaf(entry) => {
+            *entry.into_mut() = target;
+        }
+        PrefixKind::Inner(entry) => {
+            *entry.insert_entry(0).into_mut() = target;
+        }
+        PrefixKind::Vacant(entry) => {
+            *entry.insert(0)? = target;
+        }
+    }
+    Ok(())
+}
+
+/// Adds one to the count of a word, which takes in the words that it overlaps, and starts at zero where it has none itself.
+pub fn count_over(counts: &mut Map<ZKey, u64>, word: ZKey) -> Result<(), AllocError>
+    requires { unwrap_or (value_at zkey_bytes (pairs counts.old) (zkey_bytes word)) 0 + 1 < 2 ^ 64 }
+    ensures counted { OnOk result (value_at zkey_bytes (pairs counts.new) (zkey_bytes word)
+        ≡ Some (unwrap_or (value_at zkey_bytes (pairs counts.old) (zkey_bytes word)) 0 + 1)) }
+{
+    let n = counts.prefix_entry(word).or_insert_entry(0)?.into_mut();
+    *n += 1;
+    Ok(())
+}
