@@ -1,5 +1,5 @@
 -- What holds of leaf records and the rows that they are filed in.
-use Rattle.std.proofs.Common.{◌≡◌, ℕ, ◌+◌, ◌-◌, ◌<◌, ◌≤◌, List, [], ◌∷◌, length, map, refl, sym, ap, subst, ◌∙◌, Option, Some, None, IsSome, true, false, eqb, arith}
+use Rattle.std.proofs.Common.{◌≡◌, ℕ, suc, ◌+◌, ◌-◌, ◌<◌, ◌≤◌, List, [], ◌∷◌, length, map, refl, sym, ap, subst, ◌∙◌, Option, Some, None, IsSome, true, false, eqb, arith}
 use Rattle.std.specs.Prelude.{option_map, IfSome}
 use Rattle.std.proofs.lemmas.List.{length-map}
 use Rattle.art_rows.specs.Numbers.{Numbered, Numbers, leaf_in, Has, last_number, number_after, number_before, Lacks, AreDistinct}
@@ -10,7 +10,12 @@ use Rattle.art_kinds.specs.Store.{Store, slot_at, used_count}
 use Rattle.art_rows.specs.declared.leaves.Leaf.{Leaf}
 use Rattle.art_rows.specs.declared.row.Position.{Position}
 use Rattle.art_rows.proofs.NumbersLemmas.{eqb_same, eqb_other, has_other, split, leaf_in-split}
-use Rattle.art_rows.proofs.RowsLemmas.{among-numbers, among-nth, nth-within, place_in-nth, position-split, position-here, Has-among, found, standing, standing-row, standing-number, standing-within, standing-behind, standing-earlier, standing-first, standing-not_first, standing-row_end, start_of, end_of, position-none, position-last, none-last, filled-row}
+use Rattle.art_rows.proofs.RowsLemmas.{among-numbers, among-nth, number_after-nth, number_before-nth, nth-within, place_in-nth, position-split, position-here, Has-among, found, standing, standing-row, standing-number, standing-within, standing-behind, standing-earlier, standing-first, standing-not_first, standing-row_end, start_of, end_of, position-none, position-last, none-last, filled-row}
+
+-- what follows of what there is
+pub if_some : {A : Type 0} (o : Option A) (P Q : A → Type 0) → ((x : A) → P x → Q x) → IfSome o P → IfSome o Q
+if_some None P Q f h = h
+if_some (Some x) P Q f h = f x h
 
 module _ {K V : Type 0} (leaves : ℕ → Option (Leaf K V)) where
   -- each pair has its record
@@ -181,6 +186,25 @@ module _ {K V : Type 0} (leaves : ℕ → Option (Leaf K V)) (rows : List (Numbe
       let at : position_at rows k ≡ Some p = ap (λ rs. position_at rs k) s.is ∙ position-split s.before ((p.row, s.pair) ∷ s.after) p.place ∙ position-here p.row s.pair s.after p.place w in
       let n : nth (map (λ q. q.0) ps) k ≡ Some i = number_there k p at ids g ∙ e in
       ap (position_at rows) (place_in-nth ps k i f.distinct n) ∙ at
+
+  -- the number behind it in its row is the one behind it
+  pub behind_there : (i n : ℕ) → Has ps i → (p : Position) (ids : List ℕ) → leaf_in rows p.row ≡ Some ids → nth ids p.place ≡ Some i → nth ids (p.place + 1) ≡ Some n → number_after ps i ≡ Some n
+  behind_there i n h p ids g e b =
+      let k : ℕ = index_of ps i in
+      let q : Position = record { row = p.row; place = p.place + 1 } in
+      let at : position_at rows (k + 1) ≡ Some q = forward_within k p (stands_there i p ids g e) ids g (nth-within ids (p.place + 1) n b) in
+      number_after-nth ps i h ∙ number_there (k + 1) q at ids g ∙ b
+
+  -- the number before it in its row is the one before it
+  pub before_there : (i n : ℕ) → Has ps i → (p : Position) (ids : List ℕ) → leaf_in rows p.row ≡ Some ids → 0 < p.place → nth ids p.place ≡ Some i → nth ids (p.place - 1) ≡ Some n → number_before ps i ≡ Some n
+  before_there i n h p ids g w e b =
+      let k : ℕ = index_of ps i in
+      let s = stands_there i p ids g e in
+      let q : Position = record { row = p.row; place = p.place - 1 } in
+      let at : position_at rows (k - 1) ≡ Some q = backward_within k p s w in
+      let z : 0 < k = not_first_within k p s w in
+      let m : k ≡ suc (k - 1) = omega arith in
+      number_before-nth None ps i (k - 1) h m ∙ number_there (k - 1) q at ids g ∙ b
 
   -- no position, no number
   pub none_there : (k : ℕ) → position_at rows k ≡ None → nth (map (λ q. q.0) ps) k ≡ None

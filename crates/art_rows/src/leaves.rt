@@ -118,6 +118,27 @@ impl<K, V> Leaves<K, V> {
         }
     }
 
+    // The leaf behind this one, where this one stands as it was seen, and is not the last of its row.
+    fn behind_in_row(&self, id: LeafId, seen: Position) -> Option<LeafId>
+        requires { Has self.now.pairs id }
+        ensures after { IfSome result (λ n. number_after self.now.pairs id ≡ Some n) }
+        ensures within { IfSome result (λ _. seen.place < ROW) }
+    {
+        let row = self.rows.get(seen.row)?;
+        let _len = row.len();
+        row.after(seen.place, id)
+    }
+
+    // The leaf before this one, where this one stands as it was seen, and is not the first of its row.
+    fn before_in_row(&self, id: LeafId, seen: Position) -> Option<LeafId>
+        requires { Has self.now.pairs id }
+        ensures before { IfSome result (λ n. number_before self.now.pairs id ≡ Some n) }
+        ensures within { IfSome result (λ _. 0 < seen.place) }
+    {
+        let row = self.rows.get(seen.row)?;
+        row.before(seen.place, id)
+    }
+
     // The number at a position.
     pub(crate) fn number(&self, position: Position) -> LeafId
         requires { (k : ℕ) × (position_at self.now.rows k ≡ Some position) }
@@ -258,7 +279,30 @@ impl<K, V> Leaves<K, V> {
     }
 
     /// The leaf behind this one, and where it stands. `seen` is where this one may stand: where it does, no row is searched, and no leaf is read.
+    #[inline(always)]
     pub fn next_from(&self, id: LeafId, seen: Position) -> (Option<LeafId>, Position)
+        requires { Has self.now.pairs id }
+        ensures { result.0 ≡ number_after self.now.pairs id }
+    {
+        match self.behind_in_row(id, seen) {
+            None => self.next_by_rows(id, seen),
+            Some(near) => {
+                let place = seen.place + 1;
+                (
+                    Some(near),
+                    Position {
+                        row: seen.row,
+                        place,
+                    },
+                )
+            }
+        }
+    }
+
+    // The same, whatever was seen. It stands apart, so that the way of most steps is short.
+    #[cold]
+    #[inline(never)]
+    fn next_by_rows(&self, id: LeafId, seen: Position) -> (Option<LeafId>, Position)
         requires { Has self.now.pairs id }
         ensures { result.0 ≡ number_after self.now.pairs id }
     {
@@ -270,7 +314,30 @@ impl<K, V> Leaves<K, V> {
     }
 
     /// The leaf before this one, and where it stands. `seen` is where this one may stand: where it does, no row is searched, and no leaf is read.
+    #[inline(always)]
     pub fn prev_from(&self, id: LeafId, seen: Position) -> (Option<LeafId>, Position)
+        requires { Has self.now.pairs id }
+        ensures { result.0 ≡ number_before self.now.pairs id }
+    {
+        match self.before_in_row(id, seen) {
+            None => self.prev_by_rows(id, seen),
+            Some(near) => {
+                let place = seen.place - 1;
+                (
+                    Some(near),
+                    Position {
+                        row: seen.row,
+                        place,
+                    },
+                )
+            }
+        }
+    }
+
+    // The same, whatever was seen. It stands apart, so that the way of most steps is short.
+    #[cold]
+    #[inline(never)]
+    fn prev_by_rows(&self, id: LeafId, seen: Position) -> (Option<LeafId>, Position)
         requires { Has self.now.pairs id }
         ensures { result.0 ≡ number_before self.now.pairs id }
     {

@@ -1,5 +1,5 @@
 //! A row of numbers.
-ghost use Rattle.std.specs.Prelude.{◌≡◌, ℕ, ◌+◌, ◌-◌, ◌<◌, ◌≤◌, [], ◌∷◌, ◌++◌, length, take, drop, Some, true};
+ghost use Rattle.std.specs.Prelude.{◌≡◌, ℕ, ◌+◌, ◌-◌, ◌<◌, ◌≤◌, [], ◌∷◌, ◌++◌, length, take, drop, Some, true, IfSome};
 ghost use Rattle.art_rows.specs.Rows.{place_in, nth, nowhere};
 
 use art_kinds::LeafId;
@@ -81,6 +81,30 @@ impl Row {
         ensures { result ≡ true → nth self.now place ≡ Some number }
     {
         place < self.count && self.ids[..self.count][place] == number
+    }
+
+    /// The number behind another, where that stands at a place and is not the last.
+    pub(crate) fn after(&self, place: usize, number: LeafId) -> Option<LeafId>
+        ensures { IfSome result (λ n. (nth self.now place ≡ Some number) × (nth self.now (place + 1) ≡ Some n)) }
+    {
+        let ids = &self.ids[..self.count];
+        if place < ids.len() && place + 1 < ids.len() && ids[place] == number {
+            Some(ids[place + 1])
+        } else {
+            None
+        }
+    }
+
+    /// The number before another, where that stands at a place and is not the first.
+    pub(crate) fn before(&self, place: usize, number: LeafId) -> Option<LeafId>
+        ensures { IfSome result (λ n. (0 < place) × (nth self.now place ≡ Some number) × (nth self.now (place - 1) ≡ Some n)) }
+    {
+        let ids = &self.ids[..self.count];
+        if 0 < place && place < ids.len() && ids[place] == number {
+            Some(ids[place - 1])
+        } else {
+            None
+        }
     }
 
     /// The place of a number.

@@ -81,6 +81,7 @@ impl Cursor {
     }
 
     /// Passes the first leaf that is left, and gives its number and its pair. One visit where there is one, and else none.
+    #[inline(always)]
     pub fn next<'a, K, V>(
         &mut self,
         leaves: &'a Leaves<K, V>,
@@ -104,6 +105,7 @@ impl Cursor {
     }
 
     /// Passes the last leaf that is left, and gives its number and its pair. One visit where there is one, and else none.
+    #[inline(always)]
     pub fn next_back<'a, K, V>(
         &mut self,
         leaves: &'a Leaves<K, V>,

@@ -3,7 +3,7 @@ use Rattle.art_kinds.specs.Store.{slot_at, used_count}
 use Rattle.art_rows.specs.Rows.{position_at}
 use Rattle.art_rows.proofs.FilingLemmas.{seen, none_there}
 use Rattle.art_rows.proofs.RowsLemmas.{number_before-nth, number_before-first, before_cases}
-use Rattle.art_rows.proofs.leaves.Leaves.prev_from.Goals as goal
+use Rattle.art_rows.proofs.leaves.Leaves.prev_by_rows.Goals as goal
 
 pub number-requires : goal.number-requires
 number-requires g c = elim (before_cases c.args.self.now.rows c.position_near.result c.backward.result c.backward.ensures.before c.backward.ensures.first _ c.position_near.ensures) [

@@ -4,7 +4,7 @@ use Rattle.art_rows.specs.Rows.{position_at}
 use Rattle.art_rows.proofs.FilingLemmas.{seen, none_there}
 use Rattle.art_rows.specs.Leaves.{index_of}
 use Rattle.art_rows.proofs.RowsLemmas.{number_after-nth}
-use Rattle.art_rows.proofs.leaves.Leaves.next_from.Goals as goal
+use Rattle.art_rows.proofs.leaves.Leaves.next_by_rows.Goals as goal
 
 pub returns-in-None : goal.returns-in-None
 returns-in-None g c =
