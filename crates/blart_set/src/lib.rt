@@ -8,6 +8,7 @@
 mod changes;
 mod insertions;
 mod merges;
+mod relations;
 mod set;
 mod walks;
 
