@@ -7,9 +7,16 @@
 
 mod changes;
 mod insertions;
+mod merges;
+mod relations;
 mod set;
 mod walks;
 
 pub use blart_map::{DEFAULT_PREFIX_LEN, InsertPrefixError, TryInsertError, bounds_in_order};
+pub use merges::compares::Compares;
+pub use merges::difference::Difference;
+pub use merges::intersection::Intersection;
+pub use merges::symmetric_difference::SymmetricDifference;
+pub use merges::union::Union;
 pub use set::TreeSet;
 pub use walks::{IntoIter, Iter, Prefix, Range};

@@ -1,0 +1,70 @@
+-- What the contracts of merges cite.
+use denote.Ref.{Bor}
+use Rattle.std.specs.Prelude.{◌≡◌, ℕ, ◌+◌, ◌≤◌, ⊤, Bool, true, false, List, [], ◌∷◌, length, Option, Some, None}
+use Rattle.std.specs.List.{AllByRecursion}
+use Rattle.std.specs.Set.{sorted_merge}
+use Rattle.blart_keys.specs.Bytes.{bytes_cmp, less}
+use Rattle.blart_keys.specs.Merges as merges
+use Rattle.blart_set.specs.declared.merges.sides.Side.{Side}
+use Rattle.blart_set.specs.declared.merges.sides.Side.TheVariants.{Left, Right, Both}
+pub use Rattle.blart_set.specs.Merge.{Merge}
+
+-- a merge of two lists, of which nothing was compared so far
+pub record IsBeginning {K : Type 0} (A B : List K) (m : Merge K) : Type 0 where
+  pub left : m.left ≡ A
+  pub right : m.right ≡ B
+  pub compares : m.compares ≡ 0
+
+-- at most as many comparisons were made as elements were consumed
+abbrev pub Counts : {K : Type 0} → Merge K → Merge K → Type 0
+Counts old new = new.compares + (length new.left + length new.right) ≤ old.compares + (length old.left + length old.right)
+
+module _ {K : Type 0} (kb : K → List ℕ) where
+  -- what a union has still to give: what both sides have left, each bytes once
+  abbrev pub united : Merge K → List K
+  united m = sorted_merge (λ x y. bytes_cmp (kb x) (kb y)) true m.left m.right
+
+  -- what a symmetric difference has still to give: what only one side has left
+  abbrev pub parted : Merge K → List K
+  parted m = sorted_merge (λ x y. bytes_cmp (kb x) (kb y)) false m.left m.right
+
+  -- what an intersection has still to give
+  abbrev pub shared : Merge K → List K
+  shared m = merges.intersection kb m.left m.right
+
+  -- what a difference has still to give
+  abbrev pub lacking : Merge K → List K
+  lacking m = merges.difference kb m.left m.right
+
+  -- the bytes of x are less than those of each of these
+  abbrev pub Precedes : K → List K → Type 0
+  Precedes x S = AllByRecursion (λ y. less (kb x) (kb y) ≡ true) S
+
+  -- the least of what is left on both sides was passed
+  abbrev pub Steps : Merge K → Option (Side K) → Merge K → Type 0
+  Steps m None n = (m.left ≡ []) × (m.right ≡ []) × (n.left ≡ []) × (n.right ≡ [])
+  Steps m (Some (Left x)) n = (m.left ≡ x.now ∷ n.left) × (n.right ≡ m.right) × Precedes x.now n.left × Precedes x.now n.right
+  Steps m (Some (Right y)) n = (m.right ≡ y.now ∷ n.right) × (n.left ≡ m.left) × Precedes y.now n.left × Precedes y.now n.right
+  Steps m (Some (Both x)) n = (m.left ≡ x.now ∷ n.left) × ((y : K) × (m.right ≡ y ∷ n.right) × (kb y ≡ kb x.now)) × Precedes x.now n.left × Precedes x.now n.right
+
+-- the element that a step gives
+abbrev pub side_element : {K : Type 0} → Side K → Bor K
+side_element (Left x) = x
+side_element (Right y) = y
+side_element (Both x) = x
+
+-- the same where only one side has the bytes, where both do, and where only the left one does
+abbrev pub one_element : {K : Type 0} → Side K → Option (Bor K)
+one_element (Left x) = Some x
+one_element (Right y) = Some y
+one_element (Both x) = None
+
+abbrev pub both_element : {K : Type 0} → Side K → Option (Bor K)
+both_element (Left x) = None
+both_element (Right y) = None
+both_element (Both x) = Some x
+
+abbrev pub left_element : {K : Type 0} → Side K → Option (Bor K)
+left_element (Left x) = Some x
+left_element (Right y) = None
+left_element (Both x) = None

@@ -1,0 +1,103 @@
+//! Merges of two sets.
+ghost use Rattle.std.specs.Prelude.{◌≡◌};
+ghost use Rattle.blart_keys.specs.Merges.{IsUnion, IsSymmetricDifference, intersection, difference};
+ghost use Rattle.blart_set.specs.Elements.{elements};
+ghost use Rattle.blart_set.specs.Merging.{united, parted, shared, lacking, IsBeginning};
+
+pub mod compares;
+pub mod difference;
+pub mod intersection;
+pub(crate) mod peeked;
+pub(crate) mod sides;
+pub mod symmetric_difference;
+pub mod union;
+
+use crate::merges::difference::Difference;
+use crate::merges::intersection::Intersection;
+use crate::merges::sides::Sides;
+use crate::merges::symmetric_difference::SymmetricDifference;
+use crate::merges::union::Union;
+use crate::set::TreeSet;
+use blart_keys::OrderedBytes;
+
+impl<K: OrderedBytes + Drop, const PREFIX_LEN: usize> TreeSet<K, PREFIX_LEN> {
+    // The two sets side by side.
+    fn beside<'a>(&'a self, other: &'a TreeSet<K, PREFIX_LEN>) -> Sides<'a, K, PREFIX_LEN>
+        ensures { IsBeginning (elements self.now) (elements other.now) result }
+    {
+        self.law();
+        other.law();
+        Sides::new(self.iter(), other.iter())
+    }
+
+    /// The elements of this set whose bytes the other lacks, ascending. It walks both sets once, and makes at most as many comparisons as it consumes elements of both.
+    ///
+    /// ```
+    /// // a is {1, 2, 3, 5}, b is {2, 4, 5, 6}
+    /// for element in a.difference(&b) {
+    ///     // 1, 3
+    /// }
+    /// ```
+    pub fn difference<'a>(
+        &'a self,
+        other: &'a TreeSet<K, PREFIX_LEN>,
+    ) -> Difference<'a, K, PREFIX_LEN>
+        ensures begins { IsBeginning (elements self.now) (elements other.now) result }
+        ensures value { lacking K.bytes result
+            ≡ difference K.bytes (elements self.now) (elements other.now) }
+    {
+        Difference {
+            sides: self.beside(other),
+        }
+    }
+
+    /// The elements of either set whose bytes the other lacks, ascending. It walks both sets once, and makes at most as many comparisons as it consumes elements of both. It may hold related elements, of one set each.
+    pub fn symmetric_difference<'a>(
+        &'a self,
+        other: &'a TreeSet<K, PREFIX_LEN>,
+    ) -> SymmetricDifference<'a, K, PREFIX_LEN>
+        ensures begins { IsBeginning (elements self.now) (elements other.now) result }
+        ensures value { IsSymmetricDifference K.bytes (elements self.now) (elements other.now)
+            (parted K.bytes result) }
+    {
+        self.law();
+        other.law();
+        SymmetricDifference {
+            sides: self.beside(other),
+        }
+    }
+
+    /// The elements of this set whose bytes the other has too, ascending. It walks both sets once, and makes at most as many comparisons as it consumes elements of both.
+    ///
+    /// ```
+    /// // a is {1, 2, 3, 5}, b is {2, 4, 5, 6}
+    /// for element in a.intersection(&b) {
+    ///     // 2, 5
+    /// }
+    /// ```
+    pub fn intersection<'a>(
+        &'a self,
+        other: &'a TreeSet<K, PREFIX_LEN>,
+    ) -> Intersection<'a, K, PREFIX_LEN>
+        ensures begins { IsBeginning (elements self.now) (elements other.now) result }
+        ensures value { shared K.bytes result
+            ≡ intersection K.bytes (elements self.now) (elements other.now) }
+    {
+        Intersection {
+            sides: self.beside(other),
+        }
+    }
+
+    /// The elements of both sets, ascending; where both have the bytes, this set's. It walks both sets once, and makes at most as many comparisons as it consumes elements of both. It may hold related elements, of one set each.
+    pub fn union<'a>(&'a self, other: &'a TreeSet<K, PREFIX_LEN>) -> Union<'a, K, PREFIX_LEN>
+        ensures begins { IsBeginning (elements self.now) (elements other.now) result }
+        ensures value { IsUnion K.bytes (elements self.now) (elements other.now)
+            (united K.bytes result) }
+    {
+        self.law();
+        other.law();
+        Union {
+            sides: self.beside(other),
+        }
+    }
+}

@@ -1,0 +1,37 @@
+//! A count of comparisons that only proofs read.
+ghost use Rattle.std.specs.Prelude.{◌≡◌, ◌+◌};
+
+use blart_map::Visits;
+use std::marker::Model;
+
+/// How many comparisons of elements a merge made. It takes no memory. A clause sees the number.
+#[derive(Drop)]
+pub struct Compares {
+    made: Visits,
+}
+
+impl Model for Compares {
+    ghost use Rattle.std.specs.Prelude.{ℕ};
+
+    ghost Value = { ℕ };
+
+    ghost view = { λ c. c.made.count };
+}
+
+impl Compares {
+    /// None yet.
+    pub fn new() -> Compares
+        ensures { result ≡ 0 }
+    {
+        Compares {
+            made: Visits::new(),
+        }
+    }
+
+    /// Counts one comparison more.
+    pub fn add_one(&mut self)
+        ensures { self.new ≡ self.old + 1 }
+    {
+        self.made.add_one();
+    }
+}

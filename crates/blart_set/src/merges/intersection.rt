@@ -1,0 +1,56 @@
+//! The elements of the left set whose bytes the right one has too, ascending.
+ghost use Rattle.std.specs.Iterator.{YieldsFirstRef, MakesProgress, item_count};
+ghost use Rattle.std.specs.Prelude.{⊤};
+ghost use Rattle.blart_set.specs.Merging.{shared, Counts};
+
+use crate::merges::sides::Sides;
+use blart_keys::OrderedBytes;
+use std::iter::{FusedIterator, Iterator};
+use std::marker::Model;
+
+/// The elements of the left set whose bytes the right one has too, ascending. It makes at most as many comparisons as it consumes elements of both sets.
+#[derive(Drop)]
+pub struct Intersection<'a, K: OrderedBytes, const PREFIX_LEN: usize> {
+    pub(crate) sides: Sides<'a, K, PREFIX_LEN>,
+}
+
+impl<'a, K: OrderedBytes, const PREFIX_LEN: usize> Model for Intersection<'a, K, PREFIX_LEN> {
+    ghost use Rattle.blart_set.specs.Merge.{Merge};
+
+    ghost Value = { Merge K };
+
+    ghost view = { λ it. it.sides };
+}
+
+impl<'a, K: OrderedBytes, const PREFIX_LEN: usize> Iterator for Intersection<'a, K, PREFIX_LEN> {
+    type Item = &'a K;
+
+    ghost next_gives = { YieldsFirstRef (shared K.bytes) };
+
+    ghost remaining = { item_count (shared K.bytes) };
+
+    /// The next element that both sets have. It ends where either side does.
+    fn next(&mut self) -> Option<&'a K>
+        ensures steps { YieldsFirstRef (shared K.bytes) self.old result self.new }
+        ensures goes { MakesProgress (λ _. ⊤) (item_count (shared K.bytes)) self.old result self.new }
+        ensures counted { Counts self.old self.new }
+    {
+        next_shared(&mut self.sides)
+    }
+}
+
+impl<'a, K: OrderedBytes, const PREFIX_LEN: usize> FusedIterator
+    for Intersection<'a, K, PREFIX_LEN> {}
+
+// The next element that both sides have.
+fn next_shared<'a, K: OrderedBytes, const P: usize>(sides: &mut Sides<'a, K, P>) -> Option<&'a K>
+    ensures steps { YieldsFirstRef (shared K.bytes) sides.old result sides.new }
+    ensures counted { Counts sides.old sides.new }
+{
+    'sides: while let Some(side) = sides.step_both() {
+        if let Some(element) = side.of_both() {
+            return Some(element);
+        }
+    }
+    None
+}

@@ -1,0 +1,160 @@
+//! Two sets, walked side by side.
+ghost use Rattle.std.specs.Prelude.{◌≡◌, ◌+◌, ◌⊎◌, [], Some, IfSome, IfNone};
+ghost use Rattle.blart_keys.specs.Bytes.{bytes_cmp};
+ghost use Rattle.blart_keys.specs.Content.{Ascends};
+ghost use Rattle.blart_set.specs.Merging.{Steps, Counts, IsBeginning, side_element, one_element, both_element, left_element};
+
+use crate::merges::compares::Compares;
+use crate::merges::peeked::Peeked;
+use crate::walks::Iter;
+use blart_keys::OrderedBytes;
+use std::cmp::Ordering;
+use std::marker::Model;
+
+/// The least of what two sets have left: an element of the one, of the other, or the left one's where both have its bytes.
+#[derive(Drop)]
+pub(crate) enum Side<'a, K> {
+    Left(&'a K),
+    Right(&'a K),
+    Both(&'a K),
+}
+
+/// What two sets have left, and the comparisons made so far.
+#[derive(Drop)]
+pub(crate) struct Sides<'a, K: OrderedBytes, const P: usize> {
+    left: Peeked<'a, K, P>,
+    right: Peeked<'a, K, P>,
+    compares: Compares,
+}
+
+impl<'a, K: OrderedBytes, const P: usize> Model for Sides<'a, K, P> {
+    ghost use Rattle.blart_set.specs.Merge.{Merge};
+    ghost use Rattle.blart_keys.specs.Content.{Ascends};
+
+    ghost Value = { Merge K };
+
+    ghost view = { λ s. record { left = s.left; right = s.right; compares = s.compares } };
+
+    ghost invariant = { λ s. Ascends K.bytes s.left × Ascends K.bytes s.right };
+}
+
+impl<'a, K: OrderedBytes, const P: usize> Sides<'a, K, P> {
+    // Two walks, of which nothing was compared so far.
+    pub(crate) fn new(left: Iter<'a, K, P>, right: Iter<'a, K, P>) -> Self
+        requires left { Ascends K.bytes left }
+        requires right { Ascends K.bytes right }
+        ensures { IsBeginning left.entry right.entry result }
+    {
+        Sides {
+            left: Peeked::new(left),
+            right: Peeked::new(right),
+            compares: Compares::new(),
+        }
+    }
+
+    // Passes the least of what is left, and gives it. It compares only where both sides have something left, and then once.
+    pub(crate) fn step(&mut self) -> Option<Side<'a, K>>
+        ensures steps { Steps K.bytes self.old result self.new }
+        ensures counted { Counts self.old self.new }
+    {
+        let Some(x) = self.left.peek() else {
+            let y = self.right.peek()?;
+            self.right.advance();
+            return Some(Side::Right(y));
+        };
+        let Some(y) = self.right.peek() else {
+            self.left.advance();
+            return Some(Side::Left(x));
+        };
+        match compare(x, y, &mut self.compares) {
+            Ordering::Less => {
+                self.left.advance();
+                Some(Side::Left(x))
+            }
+            Ordering::Equal => {
+                self.left.advance();
+                self.right.advance();
+                Some(Side::Both(x))
+            }
+            Ordering::Greater => {
+                self.right.advance();
+                Some(Side::Right(y))
+            }
+        }
+    }
+
+    // The same, where both sides have something left.
+    pub(crate) fn step_both(&mut self) -> Option<Side<'a, K>>
+        ensures steps { IfSome result (λ side. Steps K.bytes self.old (Some side) self.new) }
+        ensures end { IfNone result ((self.old.left ≡ []) ⊎ (self.old.right ≡ [])) }
+        ensures unchanged { IfNone result (self.new ≡ self.old) }
+        ensures counted { Counts self.old self.new }
+    {
+        self.left.peek()?;
+        self.right.peek()?;
+        self.step()
+    }
+
+    // The same, where the left side has something left.
+    pub(crate) fn step_left(&mut self) -> Option<Side<'a, K>>
+        ensures steps { IfSome result (λ side. Steps K.bytes self.old (Some side) self.new) }
+        ensures end { IfNone result (self.old.left ≡ []) }
+        ensures unchanged { IfNone result (self.new ≡ self.old) }
+        ensures counted { Counts self.old self.new }
+    {
+        self.left.peek()?;
+        self.step()
+    }
+}
+
+impl<'a, K> Side<'a, K> {
+    // The element.
+    pub(crate) fn element(self) -> &'a K
+        ensures { result ≡ side_element self.entry }
+    {
+        match self {
+            Side::Left(element) | Side::Right(element) | Side::Both(element) => element,
+        }
+    }
+
+    // The element, where only one side has the bytes.
+    pub(crate) fn of_one(self) -> Option<&'a K>
+        ensures { result ≡ one_element self.entry }
+    {
+        match self {
+            Side::Left(element) | Side::Right(element) => Some(element),
+            Side::Both(_) => None,
+        }
+    }
+
+    // The element, where both sides have the bytes.
+    pub(crate) fn of_both(self) -> Option<&'a K>
+        ensures { result ≡ both_element self.entry }
+    {
+        match self {
+            Side::Both(element) => Some(element),
+            Side::Left(_) | Side::Right(_) => None,
+        }
+    }
+
+    // The element, where only the left side has the bytes.
+    pub(crate) fn of_left(self) -> Option<&'a K>
+        ensures { result ≡ left_element self.entry }
+    {
+        match self {
+            Side::Left(element) => Some(element),
+            Side::Right(_) | Side::Both(_) => None,
+        }
+    }
+}
+
+// Compares two elements, which is as their bytes compare, and counts it.
+fn compare<K: OrderedBytes>(x: &K, y: &K, compares: &mut Compares) -> Ordering
+    ensures order { result ≡ bytes_cmp (K.bytes x.now) (K.bytes y.now) }
+    ensures counted { compares.new ≡ compares.old + 1 }
+{
+    x.value_law();
+    y.value_law();
+    compares.add_one();
+    x.cmp(y)
+}

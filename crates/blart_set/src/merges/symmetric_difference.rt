@@ -1,0 +1,58 @@
+//! The elements of either set whose bytes the other lacks, ascending.
+ghost use Rattle.std.specs.Iterator.{YieldsFirstRef, MakesProgress, item_count};
+ghost use Rattle.std.specs.Prelude.{⊤};
+ghost use Rattle.blart_set.specs.Merging.{parted, Counts};
+
+use crate::merges::sides::Sides;
+use blart_keys::OrderedBytes;
+use std::iter::{FusedIterator, Iterator};
+use std::marker::Model;
+
+/// The elements of either set whose bytes the other lacks, ascending. It makes at most as many comparisons as it consumes elements of both sets.
+#[derive(Drop)]
+pub struct SymmetricDifference<'a, K: OrderedBytes, const PREFIX_LEN: usize> {
+    pub(crate) sides: Sides<'a, K, PREFIX_LEN>,
+}
+
+impl<'a, K: OrderedBytes, const PREFIX_LEN: usize> Model
+    for SymmetricDifference<'a, K, PREFIX_LEN> {
+    ghost use Rattle.blart_set.specs.Merge.{Merge};
+
+    ghost Value = { Merge K };
+
+    ghost view = { λ it. it.sides };
+}
+
+impl<'a, K: OrderedBytes, const PREFIX_LEN: usize> Iterator
+    for SymmetricDifference<'a, K, PREFIX_LEN> {
+    type Item = &'a K;
+
+    ghost next_gives = { YieldsFirstRef (parted K.bytes) };
+
+    ghost remaining = { item_count (parted K.bytes) };
+
+    /// The next element that only one of the sets has.
+    fn next(&mut self) -> Option<&'a K>
+        ensures steps { YieldsFirstRef (parted K.bytes) self.old result self.new }
+        ensures goes { MakesProgress (λ _. ⊤) (item_count (parted K.bytes)) self.old result self.new }
+        ensures counted { Counts self.old self.new }
+    {
+        next_apart(&mut self.sides)
+    }
+}
+
+impl<'a, K: OrderedBytes, const PREFIX_LEN: usize> FusedIterator
+    for SymmetricDifference<'a, K, PREFIX_LEN> {}
+
+// The next element that only one side has.
+fn next_apart<'a, K: OrderedBytes, const P: usize>(sides: &mut Sides<'a, K, P>) -> Option<&'a K>
+    ensures steps { YieldsFirstRef (parted K.bytes) sides.old result sides.new }
+    ensures counted { Counts sides.old sides.new }
+{
+    'sides: while let Some(side) = sides.step() {
+        if let Some(element) = side.of_one() {
+            return Some(element);
+        }
+    }
+    None
+}

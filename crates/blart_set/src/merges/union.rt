@@ -1,0 +1,43 @@
+//! The elements of both sets, ascending; where both have the bytes, the left set's.
+ghost use Rattle.std.specs.Iterator.{YieldsFirstRef, MakesProgress, item_count};
+ghost use Rattle.std.specs.Prelude.{⊤};
+ghost use Rattle.blart_set.specs.Merging.{united, Counts};
+
+use crate::merges::sides::Sides;
+use blart_keys::OrderedBytes;
+use std::iter::{FusedIterator, Iterator};
+use std::marker::Model;
+
+/// The elements of both sets, ascending; where both have the bytes, the left set's. It makes at most as many comparisons as it consumes elements of both sets.
+#[derive(Drop)]
+pub struct Union<'a, K: OrderedBytes, const PREFIX_LEN: usize> {
+    pub(crate) sides: Sides<'a, K, PREFIX_LEN>,
+}
+
+impl<'a, K: OrderedBytes, const PREFIX_LEN: usize> Model for Union<'a, K, PREFIX_LEN> {
+    ghost use Rattle.blart_set.specs.Merge.{Merge};
+
+    ghost Value = { Merge K };
+
+    ghost view = { λ it. it.sides };
+}
+
+impl<'a, K: OrderedBytes, const PREFIX_LEN: usize> Iterator for Union<'a, K, PREFIX_LEN> {
+    type Item = &'a K;
+
+    ghost next_gives = { YieldsFirstRef (united K.bytes) };
+
+    ghost remaining = { item_count (united K.bytes) };
+
+    /// The next element.
+    fn next(&mut self) -> Option<&'a K>
+        ensures steps { YieldsFirstRef (united K.bytes) self.old result self.new }
+        ensures goes { MakesProgress (λ _. ⊤) (item_count (united K.bytes)) self.old result self.new }
+        ensures counted { Counts self.old self.new }
+    {
+        let side = self.sides.step()?;
+        Some(side.element())
+    }
+}
+
+impl<'a, K: OrderedBytes, const PREFIX_LEN: usize> FusedIterator for Union<'a, K, PREFIX_LEN> {}

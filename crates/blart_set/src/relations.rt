@@ -1,0 +1,39 @@
+//! How two sets stand to each other.
+ghost use Rattle.std.specs.Prelude.{◌≡◌, ◌==◌, length};
+ghost use Rattle.blart_keys.specs.Merges.{intersection, difference};
+ghost use Rattle.blart_set.specs.Elements.{elements};
+
+use crate::set::TreeSet;
+use blart_keys::OrderedBytes;
+use std::iter::Iterator;
+
+impl<K: OrderedBytes + Drop, const PREFIX_LEN: usize> TreeSet<K, PREFIX_LEN> {
+    /// Whether no bytes are in both sets. It walks both once, and stops at the first that are.
+    ///
+    /// ```
+    /// // a is {1, 2, 3}, b is {4, 5, 6}
+    /// assert!(a.is_disjoint(&b));
+    /// ```
+    pub fn is_disjoint(&self, other: &TreeSet<K, PREFIX_LEN>) -> bool
+        ensures { result
+            ≡ (length (intersection K.bytes (elements self.now) (elements other.now)) == 0) }
+    {
+        self.intersection(other).next().is_none()
+    }
+
+    /// Whether the other set has the bytes of each element of this one. It walks both once, and stops at the first that the other lacks.
+    pub fn is_subset(&self, other: &TreeSet<K, PREFIX_LEN>) -> bool
+        ensures { result
+            ≡ (length (difference K.bytes (elements self.now) (elements other.now)) == 0) }
+    {
+        self.difference(other).next().is_none()
+    }
+
+    /// Whether this set has the bytes of each element of the other. It walks both once, and stops at the first that this set lacks.
+    pub fn is_superset(&self, other: &TreeSet<K, PREFIX_LEN>) -> bool
+        ensures { result
+            ≡ (length (difference K.bytes (elements other.now) (elements self.now)) == 0) }
+    {
+        other.is_subset(self)
+    }
+}
