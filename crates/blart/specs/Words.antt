@@ -24,3 +24,8 @@ pub use Rattle.blart_map.specs.CountedWalk.{counted_left}
 pub use Rattle.blart_map.specs.TakeWalk.{take_left}
 pub use Rattle.blart_map.specs.ExtractIf.{extract_left, Extracts, ExtractsNext, ExtractsNextBack}
 pub use Rattle.blart_map.specs.OnceWritten.{rewritten, all_rewritten, once_written, all_once_written}
+-- a set as a list of elements, closed in proofs, and merges of two
+unfoldable pub use Rattle.blart_set.specs.Elements.{elements}
+pub use Rattle.blart_set.specs.Elements.{RefusesElement}
+pub use Rattle.blart_set.specs.Merging.{Merge, IsBeginning, Counts, united, parted, shared, lacking}
+pub use Rattle.blart_keys.specs.Merges.{IsUnion, IsSymmetricDifference, intersection, difference}

@@ -1,6 +1,6 @@
 //! An ordered map from keys that are byte lists, on an adaptive radix tree, and the program over it.
 //!
-//! [`TreeMap`] is the map; what goes with it stands in [`map`]. A key type is [`AsBytes`]. [`run`] is
+//! [`TreeMap`] is the map and [`TreeSet`] the set; what goes with them stands in [`map`] and [`set`]. A key type is [`AsBytes`]. [`run`] is
 //! what the program `artmap` does, over any reader and writer.
 #![tactic(auto)]
 
@@ -19,6 +19,8 @@ pub use blart_keys::{
 };
 pub use blart_map as map;
 pub use blart_map::{InsertPrefixError, TreeMap, TryInsertError};
+pub use blart_set as set;
+pub use blart_set::TreeSet;
 pub use error::{RunError, fault_line};
 pub use program::run;
 pub use watched::Watched;
