@@ -5,6 +5,7 @@ mod driving;
 mod entries;
 mod insertions;
 mod keys;
+mod prefix_entries;
 mod steady;
 mod trees;
 
