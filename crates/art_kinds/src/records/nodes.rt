@@ -186,9 +186,9 @@ pub struct Nodes<const P: usize> {
 }
 
 impl<const P: usize> Model for Nodes<P> {
-    ghost use Rattle.art_kinds.specs.Nodes.{Nodes as All, nodes_code};
+    ghost use Rattle.art_kinds.specs.Nodes.{Nodes as AllNodes, nodes_code};
 
-    ghost Value = { All };
+    ghost Value = { AllNodes };
 
     ghost coded = { nodes_code };
 
