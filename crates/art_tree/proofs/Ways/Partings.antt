@@ -185,6 +185,10 @@ module _ {P : ℕ} {K V : Type 0} (key_bytes : K → List ℕ) (pairs : List (Nu
           }
       go (spot.Edge above c) f = edge above c f.0 f.1 (covers_above keys nodes (Some root) s above c f.0.leads)
 
+  -- so it does where the mate goes along with q to its end
+  pub covers_reached : length q ≤ d → (sp : Spot) → SpotFits nodes (Some root) s.front_of mate d sp → (c : Child) → c ≡ child_under sp → Covers keys nodes s.front_of q c
+  covers_reached l sp fits c e = let m : d ≤ length q = query_within mate q d d_is in covers_query (omega arith) sp fits c e
+
   -- q ends
   pub parts_longer : d ≡ length q → d ≢ length mate → (sp : Spot) → SpotFits nodes (Some root) s.front_of mate d sp → (c : Child) → c ≡ child_under sp → QueryEnds P (keys_in key_bytes pairs) nodes c q
   parts_longer a ne sp fits c e = record {

@@ -392,13 +392,14 @@ module _ {P : ℕ} (keys : ℕ → Option Bytes) (nodes : ℕ → Option Node) (
     pub shared_from : (len byte : ℕ) → len ≡ start + length (common (drop start own_front) (drop start q)) → (len < length own_front → byte ≡ get_or own_front len 0) → IsShared own_front q len byte
     shared_from len byte e next = record { is = e ∙ sym shared_behind; next = λ a b. next a }
 
-    -- a key below has the front's bytes
-    pub front_in : (x : Node) → nodes n ≡ Some x → (j : ℕ) (k : Bytes) → keys j ≡ Some k → Begins (edge_front w.shape.front_of w.above) k → (take x.depth k ≡ own_front) × (x.depth ≤ length k)
-    front_in x x_is j k k_is h =
+    -- a key below, cut behind as many bytes as the front has, is the front
+    pub cut_front : (x : Node) → nodes n ≡ Some x → (j : ℕ) (k : Bytes) → keys j ≡ Some k → (own : Bytes) → keys j ≡ Some own → Begins (edge_front w.shape.front_of w.above) own → (depth : ℕ) → depth ≡ x.depth → (take depth k ≡ own_front) × (depth ≤ length k)
+    cut_front x x_is j k k_is own own_is h depth e =
         let d : x.depth ≡ length own_front = (w.shape.node n x x_is).depth in
-        let f : Begins own_front k = (node_covers n start w).only j k k_is h in
+        let same : own ≡ k = cc in
+        let f : Begins own_front k = (node_covers n start w).only j k k_is (subst (λ (z : Bytes). Begins (edge_front w.shape.front_of w.above) z) same h) in
         let l : length own_front ≤ length k = Begins-length own_front k f in
-        (ap (λ (z : ℕ). take z k) d ∙ take_front own_front k f, omega arith)
+        (ap (λ (z : ℕ). take z k) (e ∙ d) ∙ take_front own_front k f, omega arith)
 
     module _ (x : Node) (is : nodes n ≡ Some x) where
       pub kept_is : x.prefix ≡ take P (drop start own_front)

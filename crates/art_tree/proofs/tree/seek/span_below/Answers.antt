@@ -2,7 +2,7 @@ use Rattle.std.proofs.Common.{◌+◌, ◌≤◌, length, sym, lit<, arith, Some
 use Rattle.art_tree.specs.Leaves.{keys_in, bytes}
 use Rattle.art_tree.specs.Longest.{longest}
 use Rattle.art_kinds.specs.Nodes.{at}
-use Rattle.art_tree.proofs.Ways.Partings.{query_within, way_of_mate, covers_query}
+use Rattle.art_tree.proofs.Ways.Partings.{query_within, way_of_mate, covers_reached}
 use Rattle.art_tree.proofs.Pairs.Bounds.{ends_under, no_ends}
 use Rattle.art_tree.proofs.Invariant.Soundness.{within_longest}
 use Rattle.art_tree.proofs.tree.seek.span_below.Goals as goal
@@ -18,53 +18,46 @@ locate-requires g c =
 
 pub end_under-first-requires : goal.end_under-first-requires
 end_under-first-requires g c =
-    let kb = g.K.AsBytes.bytes in
     let S = c.args.leaves.now.pairs in
-    let q = c.args.front.now in
+    let keys = keys_in g.K.AsBytes.bytes S in
     let n = c.nearest_leaf-depth.result in
     let near = c.nearest_leaf-depth.ensures.nearest in
-    let within : n.2 ≤ length q = query_within n.1.now q n.2 near.shared in
-    let covers = covers_query kb S (at c.args.nodes.now) c.args.root.now c.requires.shape q n.0 n.2 n.1.now near.is near.shared (omega (arith, c.if-depth-front.false)) c.locate.result (c.locate.ensures.spot (keys_in kb S) c.requires.shape n.0 near.is) c.child-child.result c.child-child.ensures in
-    (lit< tt, record { keys = keys_in kb S; root = Some c.args.root.now; shape = c.requires.shape; front = q; covers = covers })
+    let covers = covers_reached g.K.AsBytes.bytes S (at c.args.nodes.now) c.args.root.now c.requires.shape c.args.front.now n.0 n.2 n.1.now near.is near.shared c.if-depth-front.false c.locate.result (c.locate.ensures.spot keys c.requires.shape n.0 near.is) c.child-child.result c.child-child.ensures in
+    (lit< tt, record { keys = keys; root = Some c.args.root.now; shape = c.requires.shape; front = c.args.front.now; covers = covers })
 
 pub end_under-last-requires : goal.end_under-last-requires
 end_under-last-requires g c =
-    let kb = g.K.AsBytes.bytes in
     let S = c.args.leaves.now.pairs in
-    let q = c.args.front.now in
+    let keys = keys_in g.K.AsBytes.bytes S in
     let n = c.nearest_leaf-depth.result in
     let near = c.nearest_leaf-depth.ensures.nearest in
-    let within : n.2 ≤ length q = query_within n.1.now q n.2 near.shared in
-    let covers = covers_query kb S (at c.args.nodes.now) c.args.root.now c.requires.shape q n.0 n.2 n.1.now near.is near.shared (omega (arith, c.if-depth-front.false)) c.locate.result (c.locate.ensures.spot (keys_in kb S) c.requires.shape n.0 near.is) c.child-child.result c.child-child.ensures in
-    (lit< tt, record { keys = keys_in kb S; root = Some c.args.root.now; shape = c.requires.shape; front = q; covers = covers })
+    let covers = covers_reached g.K.AsBytes.bytes S (at c.args.nodes.now) c.args.root.now c.requires.shape c.args.front.now n.0 n.2 n.1.now near.is near.shared c.if-depth-front.false c.locate.result (c.locate.ensures.spot keys c.requires.shape n.0 near.is) c.child-child.result c.child-child.ensures in
+    (lit< tt, record { keys = keys; root = Some c.args.root.now; shape = c.requires.shape; front = c.args.front.now; covers = covers })
 
 pub returns-clause-found : goal.returns-clause-found
 returns-clause-found g c =
-    let kb = g.K.AsBytes.bytes in
     let S = c.args.leaves.now.pairs in
-    let q = c.args.front.now in
+    let keys = keys_in g.K.AsBytes.bytes S in
     let n = c.nearest_leaf-depth.result in
     let near = c.nearest_leaf-depth.ensures.nearest in
-    let within : n.2 ≤ length q = query_within n.1.now q n.2 near.shared in
-    let covers = covers_query kb S (at c.args.nodes.now) c.args.root.now c.requires.shape q n.0 n.2 n.1.now near.is near.shared (omega (arith, c.if-depth-front.false)) c.locate.result (c.locate.ensures.spot (keys_in kb S) c.requires.shape n.0 near.is) c.child-child.result c.child-child.ensures in
-    let u = c.end_under-first.ensures.ends (keys_in kb S) (Some c.args.root.now) c.requires.shape q covers in
-    let w = c.end_under-last.ensures.ends (keys_in kb S) (Some c.args.root.now) c.requires.shape q covers in
-    sym (ends_under kb S c.requires.content c.law.ensures.distinct q c.end_under-first.result c.end_under-last.result u w)
+    let covers = covers_reached g.K.AsBytes.bytes S (at c.args.nodes.now) c.args.root.now c.requires.shape c.args.front.now n.0 n.2 n.1.now near.is near.shared c.if-depth-front.false c.locate.result (c.locate.ensures.spot keys c.requires.shape n.0 near.is) c.child-child.result c.child-child.ensures in
+    let u = c.end_under-first.ensures.ends keys (Some c.args.root.now) c.requires.shape c.args.front.now covers in
+    let w = c.end_under-last.ensures.ends keys (Some c.args.root.now) c.requires.shape c.args.front.now covers in
+    sym (ends_under g.K.AsBytes.bytes S c.requires.content c.law.ensures.distinct c.args.front.now c.end_under-first.result c.end_under-last.result u w)
 
 pub returns-clause-counted : goal.returns-clause-counted
 returns-clause-counted g c =
-    let kb = g.K.AsBytes.bytes in
     let S = c.args.leaves.now.pairs in
-    let q = c.args.front.now in
+    let keys = keys_in g.K.AsBytes.bytes S in
     let n = c.nearest_leaf-depth.result in
     let near = c.nearest_leaf-depth.ensures.nearest in
-    let within : n.2 ≤ length q = query_within n.1.now q n.2 near.shared in
-    let covers = covers_query kb S (at c.args.nodes.now) c.args.root.now c.requires.shape q n.0 n.2 n.1.now near.is near.shared (omega (arith, c.if-depth-front.false)) c.locate.result (c.locate.ensures.spot (keys_in kb S) c.requires.shape n.0 near.is) c.child-child.result c.child-child.ensures in
-    let u = c.end_under-first.ensures.ends (keys_in kb S) (Some c.args.root.now) c.requires.shape q covers in
-    let w = c.end_under-last.ensures.ends (keys_in kb S) (Some c.args.root.now) c.requires.shape q covers in
-    let L = longest (bytes kb) S in
-    let low : length u.key ≤ L = within_longest kb S c.end_under-first.result u.key u.is in
-    let low2 : length w.key ≤ L = within_longest kb S c.end_under-last.result w.key w.is in
-    let first : c.end_under-first.new.visits.count + length q ≤ c.locate.new.visits.count + length u.key = c.end_under-first.ensures.counted (keys_in kb S) (Some c.args.root.now) c.requires.shape q u.key covers u.is in
-    let last : c.end_under-last.new.visits.count + length q ≤ c.end_under-first.new.visits.count + length w.key = c.end_under-last.ensures.counted (keys_in kb S) (Some c.args.root.now) c.requires.shape q w.key covers w.is in
+    let covers = covers_reached g.K.AsBytes.bytes S (at c.args.nodes.now) c.args.root.now c.requires.shape c.args.front.now n.0 n.2 n.1.now near.is near.shared c.if-depth-front.false c.locate.result (c.locate.ensures.spot keys c.requires.shape n.0 near.is) c.child-child.result c.child-child.ensures in
+    let u = c.end_under-first.ensures.ends keys (Some c.args.root.now) c.requires.shape c.args.front.now covers in
+    let w = c.end_under-last.ensures.ends keys (Some c.args.root.now) c.requires.shape c.args.front.now covers in
+    let within : n.2 ≤ length c.args.front.now = query_within n.1.now c.args.front.now n.2 near.shared in
+    let L = longest (bytes g.K.AsBytes.bytes) S in
+    let low : length u.key ≤ L = within_longest g.K.AsBytes.bytes S c.end_under-first.result u.key u.is in
+    let low2 : length w.key ≤ L = within_longest g.K.AsBytes.bytes S c.end_under-last.result w.key w.is in
+    let first : c.end_under-first.new.visits.count + length c.args.front.now ≤ c.locate.new.visits.count + length u.key = c.end_under-first.ensures.counted keys (Some c.args.root.now) c.requires.shape c.args.front.now u.key covers u.is in
+    let last : c.end_under-last.new.visits.count + length c.args.front.now ≤ c.end_under-first.new.visits.count + length w.key = c.end_under-last.ensures.counted keys (Some c.args.root.now) c.requires.shape c.args.front.now w.key covers w.is in
     omega (arith, c.locate.ensures.counted, c.nearest_leaf-depth.ensures.counted)
