@@ -9,7 +9,6 @@ mod entries;
 mod key_types;
 mod lending;
 mod owning;
-mod prefix_entries;
 mod walking;
 
 use blart_keys::AsBytes;

@@ -73,38 +73,6 @@ fn kept_values_stay_as_the_closure_left_them(rt: HostRuntime) -> Result<(), Fail
     Ok(())
 }
 
-// One step from each end; the closure adds to the value, and picks each second pair that it is asked about.
-fn picked_by_count(rt: &impl Abort, map: &mut TreeMap<u8, usize, 2>) -> usize {
-    let mut asked = 0usize;
-    let mut walk = map.extract_if(Bound::<&u8>::Unbounded, Bound::Unbounded, |_, value| {
-        *value = value.wrapping_add(1);
-        asked = asked.wrapping_add(1);
-        asked % 2 == 0
-    });
-    let first = walk.next();
-    let last = walk.next_back();
-    assert_eq!(rt; first, Some((2, 1)));
-    assert_eq!(rt; last, Some((5, 1)));
-    asked
-}
-
-#[test]
-fn a_closure_is_asked_once_of_each(rt: HostRuntime) -> Result<(), Fail> {
-    let mut map = six(&rt)?;
-    assert_eq!(rt; picked_by_count(&rt, &mut map), 4);
-    assert_values(&rt, &map, &[1, 0, 0, 1]);
-    Ok(())
-}
-
-// The keys 1 to 6, all with the value 0.
-fn six(rt: &(impl Abort + AllocGlobal)) -> Result<TreeMap<u8, usize, 2>, Fail> {
-    let mut map = TreeMap::with_prefix_len(rt.alloc());
-    for key in 1..7u8 {
-        assert_eq!(rt; map.try_insert(key, 0)?, None);
-    }
-    Ok(map)
-}
-
 // Adds to a value that was lent, and gives it as it was.
 fn raise(lent: Option<&mut usize>, by: usize) -> Option<usize> {
     match lent {
