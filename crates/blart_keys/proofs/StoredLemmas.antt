@@ -1,5 +1,5 @@
 -- What the words on stored pairs say after a call.
-use Rattle.std.proofs.Common.{◌≡◌, ◌≢◌, slice_get, zero, Contains, find, filter, append-nil, ℕ, suc, ◌+◌, ◌≤◌, Bool, true, false, not, ◌||◌, inl, inr, List, [], ◌∷◌, ◌++◌, length, map, refl, sym, ap, ◌∙◌, subst, subst₂, arith, Option, Some, None, Result, Ok, Err, IfOk, IfErr, OnOk, OnErr, option_map, is_some, bytes_eq, cond, if◌then◌else◌}
+use Rattle.std.proofs.Common.{◌≡◌, ◌≢◌, slice_get, zero, Contains, find, filter, append-nil, ℕ, suc, ◌+◌, ◌≤◌, Bool, true, false, not, ◌||◌, ◌⊎◌, inl, inr, List, [], ◌∷◌, ◌++◌, length, map, refl, sym, ap, ◌∙◌, subst, subst₂, arith, Option, Some, None, Result, Ok, Err, IfOk, IfErr, OnOk, OnErr, option_map, is_some, bytes_eq, cond, if◌then◌else◌}
 use Rattle.std.proofs.lemmas.Bool.{false≢true, cases_Bool, cond-true, cond-false, not-true, false_from_ne_true}
 use Rattle.std.specs.Cmp.Lexicographic.{bytes_decides}
 use Rattle.blart_keys.specs.Bytes.{begins, related}
@@ -159,6 +159,28 @@ module _ {K V : Type 0} (kb : K → List ℕ) where
   unfolding pair_before
   before_put S S' x put r b = front_of_member (bytes kb) S' put.content r x (Member-from_Contains x S' put.there) b
 
+  -- and what its bytes do not begin finds what it found
+  elsewhere_put : (S S' : List (K × V)) (x : K × V) → IsPut (bytes kb) S x S' → (r : List ℕ) → begins (kb x.0) r ≡ false → IsContent (bytes kb) S → pair_before kb S' r ≡ pair_before kb S r
+  unfolding pair_before
+  elsewhere_put S S' x put r off content = found (front_of (bytes kb) S r) refl
+    where
+      apart : (y : K × V) → begins (kb y.0) r ≡ true → kb y.0 ≢ kb x.0
+      apart y b e = false≢true (sym off ∙ ap (λ k. begins k r) (sym e) ∙ b)
+
+      found : (o : Option (K × V)) → front_of (bytes kb) S r ≡ o → front_of (bytes kb) S' r ≡ front_of (bytes kb) S r
+      found (Some y) e =
+          let f = front_of_Some (bytes kb) S r y e in
+          front_of_member (bytes kb) S' put.content r y (Member-from_Contains y S' ((put.others y (apart y f.1)).1 (Contains-from_Member y S f.0))) f.1 ∙ sym e
+      found None e =
+          find_none (λ y. begins (kb y.0) r) S' (λ y m. false_from_ne_true _ (λ t. false≢true (sym (front_of_None (bytes kb) S r y e (Member-from_Contains y S ((put.others y (apart y t)).0 (Contains-from_Member y S' m)))) ∙ t))) ∙ sym e
+
+  pub routes_put : (S S' : List (K × V)) (x : K × V) → IsContent (bytes kb) S → IsPut (bytes kb) S x S' → (r : List ℕ) → pair_before kb S' r ≡ (if begins (kb x.0) r then Some x else pair_before kb S r)
+  routes_put S S' x content put r = by_case (cases_Bool (begins (kb x.0) r))
+    where
+      by_case : (begins (kb x.0) r ≡ true) ⊎ (begins (kb x.0) r ≡ false) → pair_before kb S' r ≡ (if begins (kb x.0) r then Some x else pair_before kb S r)
+      by_case (inl b) = before_put S S' x put r b ∙ sym (cond-true (begins (kb x.0) r) (Some x) (pair_before kb S r) b)
+      by_case (inr b) = elsewhere_put S S' x put r b content ∙ sym (cond-false (begins (kb x.0) r) (Some x) (pair_before kb S r) b)
+
   -- ---- a pair put over the related ones
 
   pub overwrites_over : (S S' : List (K × V)) (x : K × V) → IsContent (bytes kb) S → IsOver (bytes kb) S x S' → Overwrites kb S x S'
@@ -273,6 +295,10 @@ module _ {K V : Type 0} (kb : K → List ℕ) where
     puts_fronts (Ok a) puts = before_put S S' x puts.1
     puts_fronts (Err e) puts = tt
 
+    pub puts_routes : (r : Result R TryInsertError) → IsContent (bytes kb) S → Puts kb tell S x r S' → OnOk r ((q : List ℕ) → pair_before kb S' q ≡ (if begins (kb x.0) q then Some x else pair_before kb S q))
+    puts_routes (Ok a) content puts = routes_put S S' x content puts.1
+    puts_routes (Err e) content puts = tt
+
     pub puts_free : (r : Result R TryInsertError) → Puts kb tell S x r S' → OnOk r (overlaps kb S (kb x.0) ≡ false)
     unfolding overlaps
     puts_free (Ok a) puts = puts.0
@@ -315,6 +341,10 @@ module _ {K V : Type 0} (kb : K → List ℕ) where
     pub inserts_fronts : (r : Result (Option V) E) → Inserts kb S x r S' → OnOk r ((q : List ℕ) → begins (kb x.0) q ≡ true → pair_before kb S' q ≡ Some x)
     inserts_fronts (Ok old) put = before_put S S' x put.0
     inserts_fronts (Err e) put = tt
+
+    pub inserts_routes : (r : Result (Option V) E) → IsContent (bytes kb) S → Inserts kb S x r S' → OnOk r ((q : List ℕ) → pair_before kb S' q ≡ (if begins (kb x.0) q then Some x else pair_before kb S q))
+    inserts_routes (Ok old) content put = routes_put S S' x content put.0
+    inserts_routes (Err e) content put = tt
 
     pub inserts_err : (r : Result (Option V) E) → Inserts kb S x r S' → OnErr r (S' ≡ S)
     inserts_err (Ok old) put = tt

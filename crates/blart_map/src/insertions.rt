@@ -34,6 +34,9 @@ impl<K: AsBytes + Drop, V: Drop, const PREFIX_LEN: usize> TreeMap<K, V, PREFIX_L
             ≡ length (pairs self.old) + (if is_some old then 0 else 1)) }
         ensures fronts { OnOk result ((r : List ℕ) → begins (K.bytes key) r ≡ true
             → pair_before K.bytes (pairs self.new) r ≡ Some (key, value)) }
+        ensures routes { OnOk result ((r : List ℕ) → pair_before K.bytes (pairs self.new) r
+            ≡ (if begins (K.bytes key) r then Some (key, value)
+            else pair_before K.bytes (pairs self.old) r)) }
         ensures err { OnErr result (self.new ≡ self.old) }
         ensures free { OnOk result (overlaps K.bytes (pairs self.old) (K.bytes key) ≡ false) }
         ensures why { IfErr result (Refuses K.bytes (pairs self.old) (K.bytes key)) }
@@ -59,6 +62,9 @@ impl<K: AsBytes + Drop, V: Drop, const PREFIX_LEN: usize> TreeMap<K, V, PREFIX_L
             ≡ length (pairs self.old) + (if is_some old then 0 else 1)) }
         ensures fronts { OnOk result ((r : List ℕ) → begins (K.bytes key) r ≡ true
             → pair_before K.bytes (pairs self.new) r ≡ Some (key, value)) }
+        ensures routes { OnOk result ((r : List ℕ) → pair_before K.bytes (pairs self.new) r
+            ≡ (if begins (K.bytes key) r then Some (key, value)
+            else pair_before K.bytes (pairs self.old) r)) }
         ensures err { OnErr result (self.new ≡ self.old) }
         ensures free { OnOk result (overlaps K.bytes (pairs self.old) (K.bytes key) ≡ false) }
         ensures why { IfErr result (Refuses K.bytes (pairs self.old) (K.bytes key)) }
@@ -92,6 +98,9 @@ impl<K: NoPrefixesBytes + Drop, V: Drop, const PREFIX_LEN: usize> TreeMap<K, V, 
             ≡ length (pairs self.old) + (if is_some old then 0 else 1)) }
         ensures fronts { OnOk result ((r : List ℕ) → begins (K.bytes key) r ≡ true
             → pair_before K.bytes (pairs self.new) r ≡ Some (key, value)) }
+        ensures routes { OnOk result ((r : List ℕ) → pair_before K.bytes (pairs self.new) r
+            ≡ (if begins (K.bytes key) r then Some (key, value)
+            else pair_before K.bytes (pairs self.old) r)) }
         ensures err { OnErr result (self.new ≡ self.old) }
         ensures absent { OnErr result (has K.bytes (pairs self.old) (K.bytes key) ≡ false) }
         ensures put { Inserts K.bytes (pairs self.old) (key, value) result (pairs self.new) }

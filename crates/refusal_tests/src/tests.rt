@@ -6,6 +6,7 @@ mod entries;
 mod insertions;
 mod keys;
 mod prefix_entries;
+mod router;
 mod steady;
 mod trees;
 

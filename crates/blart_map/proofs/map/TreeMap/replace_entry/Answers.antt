@@ -1,4 +1,4 @@
-use Rattle.blart_keys.proofs.StoredLemmas.{puts_old, puts_updates, puts_fronts, puts_free, puts_why, puts_len}
+use Rattle.blart_keys.proofs.StoredLemmas.{puts_old, puts_updates, puts_fronts, puts_free, puts_why, puts_len, puts_routes}
 use Rattle.art_walk.specs.Pairs.{pairs_of}
 use Rattle.blart_map.specs.Content.{pairs}
 use Rattle.blart_map.proofs.map.TreeMap.replace_entry.Goals as goal
@@ -26,3 +26,7 @@ returns-clause-why g c = puts_why g.K.AsBytes.bytes (λ pair. pair) (pairs_of c.
 pub returns-clause-len : goal.returns-clause-len
 unfolding pairs
 returns-clause-len g c = puts_len g.K.AsBytes.bytes (pairs_of c.args.self.now) (c.args.key, c.args.value) (pairs_of c.put_at.new.tree.pairs) c.put_at.result c.law.ensures.content (rw (← c.self.view_is) c.put_at.ensures.put)
+
+pub returns-clause-routes : goal.returns-clause-routes
+unfolding pairs
+returns-clause-routes g c = puts_routes g.K.AsBytes.bytes (λ pair. pair) (pairs_of c.args.self.now) (c.args.key, c.args.value) (pairs_of c.put_at.new.tree.pairs) c.put_at.result c.law.ensures.content (rw (← c.self.view_is) c.put_at.ensures.put)

@@ -1,0 +1,133 @@
+//! The table, on the public calls of the map.
+ghost use Rattle.std.specs.Prelude.{◌≡◌, ◌≤◌, ◌+◌, ℕ, List, [], true, false, length, OnOk, IfOk, OnErr, IfErr, None, Some, if◌then◌else◌};
+ghost use Rattle.blart.specs.Words.{pairs, begins, pair_before, value_at, has, overlaps, shown, bytes, under, vec_bytes, IsContent, CanCount, Updates, Overwrites, Refuses};
+
+use blart::map::{DEFAULT_PREFIX_LEN, Prefix, Visits};
+use blart::{TreeMap, TryInsertError};
+use std::alloc::{AllocError, Global};
+use std::marker::Model;
+
+/// Mounts, each a path with its target. No mount begins another.
+///
+/// ```
+/// let mut mounts = Mounts::new(alloc);
+/// mounts.mount(Vec::from_slice(alloc, b"/api")?, 1)?;
+/// mounts.mount(Vec::from_slice(alloc, b"/app")?, 2)?;
+/// assert!(mounts.mount(Vec::from_slice(alloc, b"/api/v1")?, 3).is_err());
+/// let (path, target) = mounts.resolve(b"/api/v1/users").unwrap();
+/// // "/api" and 1
+/// ```
+#[derive(Drop)]
+pub struct Mounts<V> {
+    map: TreeMap<Vec<u8>, V, DEFAULT_PREFIX_LEN>,
+}
+
+impl<V> Model for Mounts<V> {
+    ghost use Rattle.std.specs.Prelude.{ℕ, List, Vec};
+    ghost use Rattle.std.specs.Global.{Global};
+    ghost use Rattle.blart.specs.Words.{Numbered};
+
+    ghost Value = { List (Numbered (Vec ℕ Global) V) };
+
+    ghost view = { λ m. m.map };
+}
+
+impl<V: Drop> Mounts<V> {
+    /// A table with no mounts. Takes no memory.
+    #[tactic(auto, unfolding(blart::specs::Words::pair_before))]
+    pub fn new(alloc: Global) -> Self
+        ensures empty { pairs result ≡ [] }
+        ensures routes { (r : List ℕ) → pair_before vec_bytes (pairs result) r ≡ None }
+    {
+        Mounts {
+            map: TreeMap::new(alloc),
+        }
+    }
+
+    /// Answers nothing. Its contract says what holds of every table: the mounts ascend by the bytes of their paths, of which none begins another, and a count of them fits.
+    pub fn law(&self)
+        ensures content { IsContent (bytes vec_bytes) (pairs self.now) }
+        ensures fits { CanCount (pairs self.now) }
+    {
+        self.map.law();
+    }
+
+    /// How many mounts there are.
+    pub fn len(&self) -> usize
+        ensures { result ≡ length (pairs self.now) }
+    {
+        self.map.len()
+    }
+
+    /// Mounts the target at the path, in the place of the one that was mounted there, which is the answer.
+    ///
+    /// `Prefix` is answered exactly where another mount begins the path or is begun by it; `Memory` only where nothing is mounted at the path. A refused call leaves the table as it was.
+    pub fn mount(&mut self, path: Vec<u8>, target: V) -> Result<Option<V>, TryInsertError>
+        ensures old { IfOk result (λ old. old ≡ value_at vec_bytes (pairs self.old) path.items) }
+        ensures mounted { OnOk result
+            (Updates vec_bytes (pairs self.old) (pairs self.new) path.items
+            (Some (path, target))) }
+        ensures routes { OnOk result ((r : List ℕ) → pair_before vec_bytes (pairs self.new) r
+            ≡ (if begins path.items r then Some (path, target)
+            else pair_before vec_bytes (pairs self.old) r)) }
+        ensures free { OnOk result (overlaps vec_bytes (pairs self.old) path.items ≡ false) }
+        ensures why { IfErr result (Refuses vec_bytes (pairs self.old) path.items) }
+        ensures refused { OnErr result (self.new ≡ self.old) }
+    {
+        self.map.try_insert(path, target)
+    }
+
+    /// Mounts the target at the path, in the place of all mounts that begin the path or are begun by it.
+    ///
+    /// Where there are such mounts no memory is taken. A refused call leaves the table as it was.
+    pub fn mount_over(&mut self, path: Vec<u8>, target: V) -> Result<(), AllocError>
+        ensures mounted { OnOk result
+            (Overwrites vec_bytes (pairs self.old) (path, target) (pairs self.new)) }
+        ensures routes { OnOk result ((r : List ℕ) → begins path.items r ≡ true
+            → pair_before vec_bytes (pairs self.new) r ≡ Some (path, target)) }
+        ensures free { OnErr result (overlaps vec_bytes (pairs self.old) path.items ≡ false) }
+        ensures absent { OnErr result (has vec_bytes (pairs self.old) path.items ≡ false) }
+        ensures refused { OnErr result (self.new ≡ self.old) }
+    {
+        self.map.prefix_insert(path, target)
+    }
+
+    /// The mount that begins the path, and its target.
+    ///
+    /// ```
+    /// // "/api" is mounted
+    /// assert!(mounts.resolve(b"/api/v1").is_some());
+    /// assert!(mounts.resolve(b"/ap").is_none());
+    /// ```
+    pub fn resolve(&self, path: &[u8]) -> Option<(&Vec<u8>, &V)>
+        ensures { shown result ≡ pair_before vec_bytes (pairs self.now) path.now }
+    {
+        self.resolve_counted(path, &mut Visits::new())
+    }
+
+    /// As [`Mounts::resolve`]. On n bytes it makes at most n + 1 visits, and none on an empty table.
+    pub fn resolve_counted(&self, path: &[u8], visits: &mut Visits) -> Option<(&Vec<u8>, &V)>
+        ensures value { shown result ≡ pair_before vec_bytes (pairs self.now) path.now }
+        ensures counted { visits.new.count ≤ visits.old.count + length path.now + 1 }
+        ensures grows { visits.old.count ≤ visits.new.count }
+        ensures empty { pairs self.now ≡ [] → visits.new.count ≡ visits.old.count }
+    {
+        self.map.prefix_get_key_value_counted(&path, visits)
+    }
+
+    /// Takes down the mount at the path, and gives its target. Takes no memory.
+    pub fn unmount(&mut self, path: &[u8]) -> Option<V>
+        ensures old { result ≡ value_at vec_bytes (pairs self.old) path.now }
+        ensures unmounted { Updates vec_bytes (pairs self.old) (pairs self.new) path.now None }
+    {
+        self.map.remove(&path)
+    }
+
+    /// The mounts whose paths begin with these bytes, ascending, from both ends; all of them where there are no bytes. Takes no memory.
+    pub fn under(&self, front: &[u8]) -> Prefix<'_, Vec<u8>, V, DEFAULT_PREFIX_LEN>
+        ensures value { result ≡ under (bytes vec_bytes) (pairs self.now) front.now }
+        ensures fits { CanCount result }
+    {
+        self.map.prefix(front)
+    }
+}
