@@ -1,6 +1,6 @@
 //! A first and a last leaf that are still to come.
 ghost use Rattle.std.specs.Prelude.{◌≡◌, ◌≢◌, ◌+◌, [], option_map, is_some, IfSome, Some, None, if◌then◌else◌};
-ghost use Rattle.art_tree.specs.Leaves.{leaf_in, Has};
+ghost use Rattle.art_tree.specs.Leaves.{leaf_in, Has, number_after, number_before};
 ghost use Rattle.blart_keys.specs.Walks.{TakesFirst, TakesLast};
 ghost use Rattle.art_walk.specs.Pairs.{shown_leaf};
 ghost use Rattle.art_walk.specs.Cursor.{nothing_left, left_between, leaves_left, FitsIn, PassesFirst, PassesLast};
@@ -8,25 +8,47 @@ ghost use Rattle.art_walk.specs.Cursor.{nothing_left, left_between, leaves_left,
 use art_tree::{LeafId, Leaves, Position, Tree, Visits};
 use blart_keys::AsBytes;
 
-// The ends without the first leaf, where `next` stands behind it.
-fn without_first(first: LeafId, last: LeafId, next: Option<LeafId>) -> Option<(LeafId, LeafId)>
-    ensures one { first ≡ last → result ≡ None }
-    ensures more { first ≢ last → result ≡ option_map (λ id. (id, last)) next }
+// The ends without the first leaf, and where the leaf behind it stands. Nothing is looked for behind the last.
+#[inline(always)]
+fn without_first<K, V>(
+    leaves: &Leaves<K, V>,
+    first: LeafId,
+    last: LeafId,
+    seen: Position,
+) -> (Option<(LeafId, LeafId)>, Position)
+    requires { Has leaves.now.pairs first }
+    ensures one { first ≡ last → result.0 ≡ None }
+    ensures more { first ≢ last → result.0
+        ≡ option_map (λ id. (id, last)) (number_after leaves.now.pairs first) }
 {
-    match next {
-        Some(next) if first != last => Some((next, last)),
-        _ => None,
+    if first == last {
+        return (None, seen);
+    }
+    match leaves.next_from(first, seen) {
+        (Some(next), at) => (Some((next, last)), at),
+        (None, at) => (None, at),
     }
 }
 
-// The ends without the last leaf, where `prev` stands before it.
-fn without_last(first: LeafId, last: LeafId, prev: Option<LeafId>) -> Option<(LeafId, LeafId)>
-    ensures one { first ≡ last → result ≡ None }
-    ensures more { first ≢ last → result ≡ option_map (λ id. (first, id)) prev }
+// The ends without the last leaf, and where the leaf before it stands. Nothing is looked for before the first.
+#[inline(always)]
+fn without_last<K, V>(
+    leaves: &Leaves<K, V>,
+    first: LeafId,
+    last: LeafId,
+    seen: Position,
+) -> (Option<(LeafId, LeafId)>, Position)
+    requires { Has leaves.now.pairs last }
+    ensures one { first ≡ last → result.0 ≡ None }
+    ensures more { first ≢ last → result.0
+        ≡ option_map (λ id. (first, id)) (number_before leaves.now.pairs last) }
 {
-    match prev {
-        Some(prev) if first != last => Some((first, prev)),
-        _ => None,
+    if last == first {
+        return (None, seen);
+    }
+    match leaves.prev_from(last, seen) {
+        (Some(prev), at) => (Some((first, prev)), at),
+        (None, at) => (None, at),
     }
 }
 
@@ -98,8 +120,8 @@ impl Cursor {
         leaves.law();
         let (first, last) = self.ends?;
         let (key, value) = leaves.read(first, visits);
-        let (next, at) = leaves.next_from(first, self.first_at);
-        self.ends = without_first(first, last, next);
+        let (ends, at) = without_first(leaves, first, last, self.first_at);
+        self.ends = ends;
         self.first_at = at;
         Some((first, key, value))
     }
@@ -122,8 +144,8 @@ impl Cursor {
         leaves.law();
         let (first, last) = self.ends?;
         let (key, value) = leaves.read(last, visits);
-        let (prev, at) = leaves.prev_from(last, self.last_at);
-        self.ends = without_last(first, last, prev);
+        let (ends, at) = without_last(leaves, first, last, self.last_at);
+        self.ends = ends;
         self.last_at = at;
         Some((last, key, value))
     }
