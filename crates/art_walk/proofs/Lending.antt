@@ -1,20 +1,19 @@
 -- A pair that a walk has passed and lent.
-use Rattle.std.proofs.Common.{◌≡◌, ◌≢◌, ℕ, ◌+◌, ◌-◌, suc, List, [], ◌∷◌, ◌++◌, length, map, Bool, true, false, cond, eqb, Option, Some, None, IsSome, inl, inr, option_map, refl, sym, ap, ◌∙◌, subst, arith, length-append, append_assoc}
+use Rattle.std.proofs.Common.{◌≡◌, ◌≢◌, ℕ, ◌+◌, ◌-◌, suc, List, [], ◌∷◌, ◌++◌, length, Bool, true, false, cond, Option, Some, None, option_map, refl, sym, ap, ◌∙◌, subst, arith, length-append}
 use Rattle.std.specs.Option.{is_none}
 use Rattle.std.specs.Prelude.{is_some as has_value}
 use Rattle.std.proofs.lemmas.Grind.{common_steps}
 use Rattle.std.proofs.lemmas.Bool.{ne_eqb, eqb-true, eq-eqb}
-use Rattle.std.proofs.lemmas.Bool.Decides.{eqb_tells}
 use Rattle.blart_keys.proofs.Options.{mapped_some, is_some, some_of}
 use Rattle.art_tree.specs.Leaves.{Numbered, leaf_in, Has, AreDistinct, Lacks, with_value, without_number}
-use Rattle.art_tree.proofs.CallerLemmas.{Lacks-from_leaf_in, AreDistinct-with_value, numbers-with_value, Lacks-parts}
+use Rattle.art_tree.proofs.CallerLemmas.{Lacks-from_leaf_in, Lacks-parts}
 use Rattle.art_walk.specs.declared.cursor.Cursor.{Cursor}
-use Rattle.art_walk.specs.Cursor.{from_number, through_number, span_of, EndsFit, ends_left, leaves_left, FitsIn, PassesFirst, PassesLast}
-use Rattle.art_walk.specs.Lent.{numbers, bare, ends_fit, lent_fits, walk_fits, count_fits, written_all, IsLent, written_last, numbers_written}
+use Rattle.art_walk.specs.Cursor.{from_number, through_number, EndsFit, ends_left, leaves_left, FitsIn, PassesFirst, PassesLast}
+use Rattle.art_walk.specs.Lent.{numbers, bare, ends_fit, lent_fits, walk_fits, count_fits, written_all, IsLent, LentFirst, LentLast, written_last, numbers_written}
 use Rattle.art_walk.proofs.Changes.{left_without}
 use Rattle.art_walk.proofs.Steps.{some_inj}
 use Rattle.art_walk.proofs.Taking.{first_passed, first_named, last_passed, last_named}
-use Rattle.art_walk.proofs.Asking.{written_fits, written_left}
+use Rattle.art_walk.proofs.Asking.{written_left}
 
 -- ---- a clause of what was lent
 
@@ -206,6 +205,10 @@ module _ {K V : Type 0} where
         goes = λ f e. ap (λ u. written_all f (first_after w) (with_value ps id u)) (sym e) ∙ sym (ap (λ l. written_all f l ps) (first_splits w));
       }
 
+      -- it is the first of those that were left
+      pub is_lent_first : (w : V) → LentFirst ps (with_value ps id w) (leaves_left old ps) (first_after w) (Some id) v w
+      is_lent_first w = record { number = id; key = lent_key; splits = first_splits w; lent = first_lent w; is_last = refl }
+
       pub first_lent_count : (w : V) (n : ℕ) → n ≡ length (leaves_left old ps) → n - 1 ≡ length (first_after w)
       first_lent_count w n e = let h : n ≡ suc (length (first_after w)) = e ∙ ap length (first_splits w) in omega arith
 
@@ -238,6 +241,10 @@ module _ {K V : Type 0} where
                 written_past f (last_after w) ps id w lacks ∙ ap (λ u. with_value (written_all f (last_after w) ps) id u) (sym e)
                 ∙ sym (ap (λ l. written_all f l ps) (last_splits w) ∙ written_behind f (last_after w) ps (id, (lent_key, v)));
           }
+
+      -- it is the last of those that were left
+      pub is_lent_last : (w : V) → LentLast ps (with_value ps id w) (leaves_left old ps) (last_after w) (Some id) v w
+      is_lent_last w = record { number = id; key = lent_key; splits = last_splits w; lent = last_lent w; is_last = refl }
 
       pub last_lent_count : (w : V) (n : ℕ) → n ≡ length (leaves_left old ps) → n - 1 ≡ length (last_after w)
       last_lent_count w n e =

@@ -1,5 +1,5 @@
 -- What contracts see of a walk over all pairs of a tree that lends their values, and counts them.
-use Rattle.std.specs.Prelude.{◌≡◌, ℕ, List, [], Option}
+use Rattle.std.specs.Prelude.{ℕ, List, [], Option}
 use Rattle.std.specs.Option.{ForSome, ForNone}
 use Rattle.std.specs.Borrow.{Fml, RattleType, Bor, MutBor, Lends, LendsSo}
 use mir.Syntax.{named}

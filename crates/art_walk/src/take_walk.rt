@@ -132,8 +132,7 @@ impl<'a, K: AsBytes + Drop, V: Drop, const PREFIX_LEN: usize> TakeWalk<'a, K, V,
         ensures decided { self.new.lent ≡ None }
     {
         self.tree.law();
-        let id = self.lent.unwrap();
-        self.lent = None;
+        let id = self.lent.take().unwrap();
         self.tree.remove(id)
     }
 }

@@ -11,17 +11,21 @@ unfoldable pub use Rattle.blart_map.specs.Content.{pairs}
 pub use Rattle.blart_map.specs.Content.{Numbered}
 pub use Rattle.blart_keys.specs.Steps.{bytes, Puts, Inserts, PutsOver}
 pub use Rattle.blart_keys.specs.Content.{IsContent, at, stores, front_of, under, between, conflict, subtree, without, IsPut, IsOver}
-pub use Rattle.blart_keys.specs.Bounds.{bound_bytes, in_order, CanRange}
+pub use Rattle.blart_keys.specs.Bounds.{bound_bytes, is_from_start, is_up_to_end, in_order, CanRange}
 pub use Rattle.blart_keys.specs.Fronts.{fronts}
 -- many pairs at once
 pub use Rattle.blart_keys.specs.Bulk.{PutsAll, IsAppended}
 pub use Rattle.blart_map.specs.Bulk.{TakesItems, IsPairClone, AreClones, or_else}
 -- what came from a walk
 pub use Rattle.blart_keys.specs.Walks.{TakesFirst, TakesLast, Walked}
+-- what a closure was asked, and which items it kept
+pub use Rattle.blart_keys.specs.Walks.{Asked, picked, Retains, AsksPair}
 -- what a walk that lends has left, and what the map will be
 pub use Rattle.blart_map.specs.LendingWalk.{lending_left}
 pub use Rattle.blart_map.specs.CountedWalk.{counted_left}
 pub use Rattle.blart_map.specs.TakeWalk.{take_left}
+-- what a walk that takes leaves
+pub use Rattle.blart_map.specs.OnceTaken.{taken_all, once_taken}
 pub use Rattle.blart_map.specs.ExtractIf.{extract_left, Extracts, ExtractsNext, ExtractsNextBack}
 pub use Rattle.blart_map.specs.OnceWritten.{rewritten, all_rewritten, once_written, all_once_written}
 -- a set as a list of elements, closed in proofs, and merges of two

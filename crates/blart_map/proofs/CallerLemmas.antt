@@ -9,3 +9,7 @@ pub use Rattle.blart_keys.proofs.WalkLemmas.{walked_start, walked_first, walked_
 pub use Rattle.blart_map.proofs.Appending.{joined_parts}
 -- a new pair that an entry placed and then removed
 pub use Rattle.blart_map.proofs.TakenBack.{taken_back, taken_back_fronts}
+-- what is kept by a closure that tells of the pair alone, and by one that counts
+pub use Rattle.blart_map.proofs.Filtered.{kept_by, kept_by_retained, take_from_kept, filter_from_retained}
+-- a pair that was lent and then kept, or taken
+pub use Rattle.blart_map.proofs.OnceTaken.{kept_first, taken_first}

@@ -6,14 +6,17 @@ pub mod Cloning
 pub mod CountedPairs
 pub mod EntryOf
 pub mod Extracting
+pub mod Filtered
 pub mod FreePlaces
 pub mod InnerPairs
 pub mod Inserting
 pub mod LentPairs
 pub mod Moving
 pub mod Numbers
+pub mod OnceTaken
 pub mod OnceWritten
 pub mod Opening
+pub mod OverWritten
 pub mod Parting
 pub mod PrefixValues
 pub mod Reserved

@@ -1,6 +1,6 @@
 -- All pairs related to some bytes but one are removed.
-use Rattle.std.proofs.Common.{◌≡◌, ◌≢◌, ℕ, Bool, true, false, cond, inl, inr, List, [], ◌∷◌, ◌++◌, filter, refl, sym, ap, ◌∙◌, subst, append_assoc, Some, None, Contains, eq-eqb}
-use Rattle.std.proofs.lemmas.Bool.{false≢true, false_from_ne_true}
+use Rattle.std.proofs.Common.{◌≡◌, ◌≢◌, ℕ, Bool, true, false, not, cond, inl, inr, List, [], ◌∷◌, ◌++◌, filter, refl, sym, ap, ◌∙◌, subst, append_assoc, eqb, Some, None, Contains, eq-eqb}
+use Rattle.std.proofs.lemmas.Bool.{false≢true, false_from_ne_true, eqb-true}
 use Rattle.std.proofs.lemmas.Bool.Decides.{eqb_tells}
 use Rattle.blart_keys.specs.Bytes.{related}
 use Rattle.blart_keys.specs.Content.{IsContent, IsPut, IsOver, subtree}
@@ -13,7 +13,7 @@ use Rattle.art_tree.specs.Takes.{MayTake}
 use Rattle.art_tree.proofs.CallerLemmas.{leaf_in-member, Member-from_leaf_in, Has-last, has_not_lacks, number_after-split, distinct_parts, leaf_in-with_now, others-with_pair}
 use Rattle.blart_keys.proofs.Options.{is_some}
 use Rattle.art_walk.specs.Pairs.{pairs_of}
-use Rattle.blart_map.specs.Spans.{Spans, UnrelatedStand, LeavesOne}
+use Rattle.blart_map.specs.Spans.{Spans, UnrelatedStand, LeavesOne, thinned}
 use Rattle.blart_keys.proofs.Mapped.{filter-map, Member-map, Member-from_map, content_map}
 
 module _ {K V : Type 0} (test : Numbered K V → Bool) where
@@ -45,6 +45,24 @@ module _ {K V : Type 0} (test : Numbered K V → Bool) where
       | false ↦ filter-without ps i d.1
     ])
   ]
+
+  -- a filter that drops the pair of a number is the same once that pair is gone
+  pub dropped_without : (ps : List (Numbered K V)) (i : ℕ) → ((x : K × V) → leaf_in ps i ≡ Some x → test (i, x) ≡ false) → filter test (without_number ps i) ≡ filter test ps
+  dropped_without [] i h = refl
+  dropped_without (p ∷ ps) i h = elim (eqb_tells p.0 i) [
+    | inl t ↦
+        let own : leaf_in (p ∷ ps) i ≡ Some p.1 = rw t.0 refl in
+        let drops : test p ≡ false = ap (λ n. test (n, p.1)) t.1 ∙ h p.1 own in
+        rw t.0 (ap (λ b. cond b (p ∷ filter test ps) (filter test ps)) (sym drops))
+    | inr f ↦
+        let ih = dropped_without ps i (λ x e. h x (let r : leaf_in (p ∷ ps) i ≡ leaf_in ps i = rw f.0 refl in r ∙ e)) in
+        rw f.0 (ap (λ l. cond (test p) (p ∷ l) l) ih)
+  ]
+
+  -- a filter that each item passes is the list
+  pub filter_every : (ps : List (Numbered K V)) → ((y : Numbered K V) → Member y ps → test y ≡ true) → filter test ps ≡ ps
+  filter_every [] h = refl
+  filter_every (p ∷ ps) h = ap (λ b. cond b (p ∷ filter test ps) (filter test ps)) (h p (inl refl)) ∙ ap (λ l. p ∷ l) (filter_every ps (λ y m. h y (inr m)))
 
 module _ {K V : Type 0} where
   -- the first of a list that has two ends
@@ -119,6 +137,32 @@ module _ {K V : Type 0} (kb : K → List ℕ) (ps : List (Numbered K V)) (conten
             let n = subst (Member p) o.1 (member_filter (λ p. related (bytes kb p) q) ps p (Member-from_Contains p ps m) t) in
             elim n [ inl e ↦ off (ap (λ (z : Numbered K V). z.0) (sym e)) | inr z ↦ absurd z ]);
       }
+
+  -- where the first of the related pairs is not the last, it is one of those that are dropped
+  pub thinned_without : (first last : ℕ) → Spans kb ps q first last → first ≢ last → thinned kb (without_number ps first) q last ≡ thinned kb ps q last
+  thinned_without first last s off =
+      let r = first_there first last s in
+      dropped_without (λ p. cond (related (bytes kb p) q) (eqb p.0 last) true) ps first (λ x e.
+          let a : Some r.0 ≡ Some x = sym r.1 ∙ e in
+          let b : r.0 ≡ x = cc in
+          let rel = subst (λ (z : K × V). related (kb z.0) q ≡ true) b r.2 in
+          ap (λ t. cond t (eqb first last) true) rel ∙ false_from_ne_true (eqb first last) (λ t. off (eqb-true first last t)))
+
+  -- where it is the last, all are kept
+  pub thinned_one : (id : ℕ) → Spans kb ps q id id → ps ≡ thinned kb ps q id
+  thinned_one id s =
+      let o = only_one (subtree (bytes kb) ps q) id (AreDistinct-filter (λ p. related (bytes kb p) q) ps distinct) s.first_is s.last_is in
+      sym (filter_every (λ p. cond (related (bytes kb p) q) (eqb p.0 id) true) ps (λ y m. kept y m o (related (bytes kb y) q) refl))
+    where
+      kept : (y : Numbered K V) → Member y ps → (x : K × V) × (subtree (bytes kb) ps q ≡ (id, x) ∷ []) → (b : Bool) → related (bytes kb y) q ≡ b → cond (related (bytes kb y) q) (eqb y.0 id) true ≡ true
+      kept y m o false e = ap (λ t. cond t (eqb y.0 id) true) e
+      kept y m o true e =
+          ap (λ t. cond t (eqb y.0 id) true) e
+          ∙ elim (subst (Member y) o.1 (member_filter (λ p. related (bytes kb p) q) ps y m e)) [ inl same ↦ eq-eqb y.0 id (ap (λ (z : Numbered K V). z.0) (sym same)) | inr none ↦ absurd none ]
+
+-- numbers that fail a test of difference are one
+pub same_number : (a b : ℕ) → false ≡ not (eqb a b) → a ≡ b
+same_number a b e = elim (eqb_tells a b) [ inl t ↦ t.1 | inr f ↦ absurd (false≢true (e ∙ ap not f.0)) ]
 
 -- what stands twice stands
 pub stand_on : {K V : Type 0} (kb : K → List ℕ) (old mid new : List (Numbered K V)) (q : List ℕ) → UnrelatedStand kb old q mid → UnrelatedStand kb mid q new → UnrelatedStand kb old q new

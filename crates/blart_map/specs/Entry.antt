@@ -79,6 +79,10 @@ module _ {K V T : Type 0} {P : ℕ} {g : Ghosts K} where
       × (length (pairs n) + 1 ≡ length (entry_pairs e))
       × (pairs n ≡ without (bytes g.bytes) (entry_pairs e) (entry_bytes e))
 
+  -- once the entry's pair is removed, the pairs are these again
+  abbrev pub IsUndone : OccupiedEntry K V P T g → List (K × V) → Type 0
+  IsUndone o S = (n : List (Numbered K V)) → IsRemoved (Occupied o) n → pairs n ≡ S
+
   -- e is the entry of the key in these pairs
   pub record IsEntryFor (S : List (K × V)) (key : K) (e : Entry K V P T g) : Type 0 where
     pub same_bytes : entry_bytes e ≡ g.bytes key

@@ -4,8 +4,9 @@ use Rattle.blart_keys.specs.declared.AsBytes.{Ghosts}
 use Rattle.blart_keys.specs.Content.{subtree, IsOver}
 use Rattle.blart_keys.specs.Steps.{bytes as pair_bytes}
 use Rattle.blart_keys.specs.Stored.{value_at, Overwrites, Updates}
-use Rattle.art_tree.specs.Leaves.{Numbered}
+use Rattle.art_tree.specs.Leaves.{Numbered, with_pair}
 use Rattle.blart_map.specs.Content.{pairs}
+use Rattle.blart_map.specs.Spans.{thinned}
 use Rattle.blart_map.specs.Entry.{Occupied, entry_pair, entry_bytes}
 use Rattle.blart_map.specs.declared.occupied.OccupiedEntry.{OccupiedEntry}
 use Rattle.blart_map.specs.declared.inner.InnerOccupiedEntry.{InnerOccupiedEntry}
@@ -40,6 +41,10 @@ module _ {K V T : Type 0} {P : ℕ} {g : Ghosts K} where
   -- the key has the value w, in the place of all pairs to which it was related: as its users see it, and as a list
   abbrev pub IsOverSet : InnerOccupiedEntry K V P T g → V → List (Numbered K V) → Type 0
   IsOverSet e w n = Overwrites g.bytes (pairs e.map.now) (e.key, w) (pairs n) × (value_at g.bytes (pairs n) (g.bytes e.key) ≡ Some w) × IsOver (pair_bytes g.bytes) (pairs e.map.now) (e.key, w) (pairs n)
+
+  -- the pairs, once the key has the value w under the number of the last to which it was related, and no other of these is left
+  abbrev pub over_leaf : InnerOccupiedEntry K V P T g → V → List (Numbered K V)
+  over_leaf e w = with_pair (thinned g.bytes e.map.now (g.bytes e.key) e.last) e.last (e.key, w)
 
   -- o is the entry of the key, once it has the value w in the place of all pairs to which it was related
   pub record IsOverEntry (e : InnerOccupiedEntry K V P T g) (w : V) (o : OccupiedEntry K V P T g) : Type 0 where

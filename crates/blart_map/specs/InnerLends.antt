@@ -1,7 +1,7 @@
 -- What an inner entry ends as, where a `&mut` to a value is returned, and its map, where an entry may be.
 use Rattle.std.specs.Prelude.{◌≡◌, [], Option}
 use Rattle.std.specs.Option.{ghost_name_of, OnSome, IfNone}
-use Rattle.std.specs.Borrow.{Fml, RattleType, MutBor, RestsIfNone, follows_so}
+use Rattle.std.specs.Borrow.{Fml, RattleType, MutBor, Lends, RestsIfNone, follows_so}
 use mir.Syntax.{named}
 use denote.Param.{value_of}
 use Rattle.blart_keys.specs.declared.AsBytes.{Ghosts}
@@ -10,7 +10,7 @@ use Rattle.blart_map.specs.contracts.map.TreeMap as tree_map
 use Rattle.blart_map.specs.contracts.inner.InnerOccupiedEntry as inner
 use Rattle.blart_map.specs.declared.inner.InnerOccupiedEntry.{InnerOccupiedEntry}
 use Rattle.blart_map.specs.declared.occupied.OccupiedEntry.{OccupiedEntry}
-use Rattle.blart_map.specs.InnerEntry.{IsInnerWith}
+use Rattle.blart_map.specs.InnerEntry.{IsInnerWith, over_leaf}
 
 module _ (K V P T : RattleType) (g : Ghosts K.Denot) where
   -- once the borrow r ends, the first related pair of the entry behind e has the last value written through r, and at `None` the entry stands. Its lifetime is the second of the signature
@@ -24,3 +24,7 @@ module _ (K V P : RattleType) (g : Ghosts K.Denot) where
   -- where r has no entry, the map of e stands
   abbrev pub inner_rests : {T : Type 0} → InnerOccupiedEntry K.Denot V.Denot (value_of P) T g → Option (OccupiedEntry K.Denot V.Denot (value_of P) T g) → Fml
   inner_rests e r = RestsIfNone (tree_map.the_row K V P g) e.map (λ o. o.map.ghost_name) r (λ n. n ≡ e.map.now)
+
+  -- once the borrow r ends, the key of e has the last value written through r, in the place of all pairs to which it was related
+  abbrev pub inner_lends : {T : Type 0} → InnerOccupiedEntry K.Denot V.Denot (value_of P) T g → MutBor V.Denot → Fml
+  inner_lends e r = Lends (tree_map.the_row K V P g) V e.map r (over_leaf e)

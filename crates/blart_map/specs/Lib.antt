@@ -21,3 +21,4 @@ pub mod CountedWalk
 pub mod TakeWalk
 pub mod ExtractIf
 pub mod OnceWritten
+pub mod OnceTaken

@@ -1,5 +1,5 @@
 -- The leaves whose keys are related to some bytes.
-use Rattle.std.specs.Prelude.{◌≡◌, ◌↔◌, ℕ, Bool, false, cond, eqb, List, Option, Some, None}
+use Rattle.std.specs.Prelude.{◌≡◌, ◌↔◌, ℕ, Bool, true, false, cond, eqb, List, filter, Option, Some, None}
 use Rattle.blart_keys.specs.Bytes.{related}
 use Rattle.blart_keys.specs.Content.{subtree}
 use Rattle.art_tree.specs.Leaves.{Numbered, leaf_in, first_number, last_number, bytes}
@@ -23,7 +23,12 @@ module _ {K V : Type 0} (key_bytes : K → List ℕ) where
   abbrev pub UnrelatedStand : List (Numbered K V) → List ℕ → List (Numbered K V) → Type 0
   UnrelatedStand old q new = (j : ℕ) (x : K × V) → related (key_bytes x.0) q ≡ false → (leaf_in new j ≡ Some x) ↔ (leaf_in old j ≡ Some x)
 
+  -- the pairs, without those related to q that have another number
+  abbrev pub thinned : List (Numbered K V) → List ℕ → ℕ → List (Numbered K V)
+  thinned pairs q id = filter (λ p. cond (related (key_bytes p.1.0) q) (eqb p.0 id) true) pairs
+
   -- of the pairs related to q that of the number is left, and all others stand
   pub record LeavesOne (old : List (Numbered K V)) (q : List ℕ) (id : ℕ) (new : List (Numbered K V)) : Type 0 where
     pub one : Spans new q id id
     pub others : UnrelatedStand old q new
+    pub exact : new ≡ thinned old q id

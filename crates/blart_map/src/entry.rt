@@ -14,6 +14,12 @@ use std::alloc::AllocError;
 /// A key's place in a map: at its pair, or where none stands yet.
 ///
 /// A growing call answers want of memory on `Vacant` alone, and then the map is as it was. A closure or a default is called on `Vacant` alone, once there is room.
+///
+/// ```
+/// *map.try_entry("cat")?.or_insert(1)? = 2;
+/// let entry = map.try_entry("cat")?.and_modify(|value| *value = 3);
+/// assert_eq!(*entry.or_insert(0)?, 3);
+/// ```
 #[derive(Drop)]
 pub enum Entry<'a, K: AsBytes, V, const PREFIX_LEN: usize, T: 'a> {
     /// The key's bytes are stored.

@@ -24,12 +24,12 @@ use std::marker::PhantomData;
 /// ```
 /// map.try_insert("car", 1)?;
 /// map.try_insert("cat", 2)?;
-/// if let PrefixEntry::Occupied(PrefixOccupied::Inner(entry)) = map.prefix_entry("ca") {
-///     assert_eq!(entry.iter().len(), 2);
+/// if let PrefixKind::Inner(entry) = map.prefix_entry("ca").kind() {
+///     assert!(entry.get().is_none());
 ///     *entry.insert(3) += 1;
 /// }
-/// assert_eq!(map.len(), 1);
 /// assert_eq!(map.get(&"ca"), Some(&4));
+/// assert_eq!(map.len(), 1);
 /// ```
 #[derive(Drop)]
 pub struct InnerOccupiedEntry<'a, K: AsBytes, V, const PREFIX_LEN: usize, T: 'a> {
@@ -127,8 +127,8 @@ impl<'a, K: AsBytes + Drop, V: Drop, const PREFIX_LEN: usize> InnerOccupiedEntry
     TreeMap<K, V, PREFIX_LEN>,
 > {
     ghost use Rattle.blart_map.specs.Entry.{Occupied, entry_pair};
-    ghost use Rattle.blart_map.specs.InnerEntry.{inner_pair, IsOverEntry};
-    ghost use Rattle.blart_map.specs.InnerLends.{inner_rests};
+    ghost use Rattle.blart_map.specs.InnerEntry.{inner_pair, over_leaf, IsOverSet, IsOverEntry};
+    ghost use Rattle.blart_map.specs.InnerLends.{inner_rests, inner_lends};
     ghost use Rattle.blart_map.specs.LendingWalk.{lending_left};
     ghost use Rattle.blart_map.specs.OnceWritten.{rewritten, once_written};
 
@@ -206,10 +206,31 @@ impl<'a, K: AsBytes + Drop, V: Drop, const PREFIX_LEN: usize> InnerOccupiedEntry
         }
     }
 
-    /// Removes the related pairs and places the key with the value, which is lent to be written. What the map is afterwards is said of [`InnerOccupiedEntry::insert_entry`], with [`OccupiedEntry::into_mut`].
+    /// Removes the related pairs and places the key with the value, which is lent to be written.
+    ///
+    /// ```
+    /// map.try_insert("car", 1)?;
+    /// if let PrefixKind::Inner(entry) = map.prefix_entry("ca").kind() {
+    ///     *entry.insert(2) += 1;
+    /// }
+    /// assert_eq!(map.first_key_value(), Some((&"ca", &3)));
+    /// ```
     pub fn insert(self, value: V) -> &'a mut V
-        ensures { result.now ≡ value }
+        ensures* writes_back { sem 𝓛
+            (inner_lends K.row V.row PREFIX_LEN.row K.AsBytes self.entry result) }
+        ensures value { result.now ≡ value }
+        ensures written { (w : V) → IsOverSet self.entry w (over_leaf self.entry w) }
     {
-        self.insert_entry(value).into_mut()
+        let InnerOccupiedEntry {
+            map,
+            key,
+            first,
+            last,
+            ..
+        } = self;
+        map.numbers_law();
+        map.overwrite(first, last, key, value);
+        map.numbers_law();
+        map.value_of(last)
     }
 }

@@ -20,7 +20,6 @@ use std::marker::Model;
 /// An inner node keeps the first `PREFIX_LEN` bytes of its compressed prefix; any length is good, 0 too.
 ///
 /// ```
-/// let mut map = TreeMap::new(alloc);
 /// map.try_insert("car", 1)?;
 /// map.try_insert("cat", 2)?;
 /// assert_eq!(map.get(&"cat"), Some(&2));

@@ -12,6 +12,15 @@ use std::mem::replace;
 /// A pair that stands in a map. Nothing is searched for it again, and none of its calls takes memory.
 ///
 /// `T` is the map's type, which stands here because a borrow of a type with a const parameter has to be known to live as long as it is lent.
+///
+/// ```
+/// map.try_insert("cat", 1)?;
+/// if let Entry::Occupied(mut entry) = map.try_entry("cat")? {
+///     assert_eq!(entry.insert(2), 1);
+///     assert_eq!(entry.remove_entry(), ("cat", 2));
+/// }
+/// assert!(map.is_empty());
+/// ```
 #[derive(Drop)]
 pub struct OccupiedEntry<'a, K: AsBytes, V, const PREFIX_LEN: usize, T: 'a> {
     pub(crate) map: &'a mut TreeMap<K, V, PREFIX_LEN>,

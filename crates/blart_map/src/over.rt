@@ -4,10 +4,10 @@ ghost use Rattle.blart_keys.specs.Bytes.{begins};
 ghost use Rattle.blart_keys.specs.Content.{IsOver};
 ghost use Rattle.blart_keys.specs.Steps.{bytes, PutsOver};
 ghost use Rattle.blart_keys.specs.Stored.{pair_before, has, overlaps, Overwrites};
-ghost use Rattle.art_tree.specs.Leaves.{leaf_in};
+ghost use Rattle.art_tree.specs.Leaves.{leaf_in, with_pair};
 ghost use Rattle.art_walk.specs.Pairs.{pairs_of};
 ghost use Rattle.blart_map.specs.Content.{pairs};
-ghost use Rattle.blart_map.specs.Spans.{Spans, LeavesOne};
+ghost use Rattle.blart_map.specs.Spans.{Spans, LeavesOne, thinned};
 
 use crate::map::TreeMap;
 use art_tree::{LeafId, Point, Tree};
@@ -61,6 +61,8 @@ impl<K: AsBytes + Drop, V: Drop, const PREFIX_LEN: usize> TreeMap<K, V, PREFIX_L
         ensures over { IsOver (bytes K.bytes) (pairs_of self.old) (key, value)
             (pairs_of self.new) }
         ensures now { leaf_in self.new last ≡ Some (key, value) }
+        ensures exact { self.new
+            ≡ with_pair (thinned K.bytes self.old (K.bytes key) last) last (key, value) }
     {
         put_over(&mut self.tree, first, last, key, value)
     }
@@ -78,6 +80,8 @@ fn put_over<K: AsBytes + Drop, V: Drop, const P: usize>(
     ensures over { IsOver (bytes K.bytes) (pairs_of tree.old.pairs) (key, value)
         (pairs_of tree.new.pairs) }
     ensures now { leaf_in tree.new.pairs last ≡ Some (key, value) }
+    ensures exact { tree.new.pairs
+        ≡ with_pair (thinned K.bytes tree.old.pairs (K.bytes key) last) last (key, value) }
 {
     tree.law();
     leave_one(tree, first, last, key.as_bytes());
@@ -105,4 +109,5 @@ fn leave_one<K: AsBytes + Drop, V: Drop, const P: usize>(
         tree.remove(id);
         id = next;
     }
+    tree.law();
 }

@@ -20,7 +20,7 @@ use std::alloc::AllocError;
 /// ```
 /// map.try_insert("car", 1)?;
 /// map.try_insert("cat", 2)?;
-/// *map.prefix_entry("ca").or_insert(0)? += 1;
+/// *map.prefix_entry("ca").or_insert(0)? = 1;
 /// assert_eq!(map.len(), 1);
 /// assert_eq!(map.get(&"ca"), Some(&1));
 /// ```

@@ -8,6 +8,15 @@ use crate::occupied::OccupiedEntry;
 use blart_keys::AsBytes;
 
 /// A key whose bytes are stored in a map, or that conflicts there. None of its calls takes memory.
+///
+/// ```
+/// map.try_insert("car", 1)?;
+/// if let PrefixEntry::Occupied(entry) = map.prefix_entry("ca") {
+///     assert_eq!(entry.get_key(), Some(&"car"));
+///     *entry.insert(2) = 3;
+/// }
+/// assert_eq!(map.get(&"ca"), Some(&3));
+/// ```
 #[derive(Drop)]
 pub enum PrefixOccupied<'a, K: AsBytes, V, const PREFIX_LEN: usize, T: 'a> {
     /// The key's bytes are stored.

@@ -13,6 +13,13 @@ use std::alloc::AllocError;
 use std::marker::PhantomData;
 
 /// A key that a map lacks, and that conflicts with none of its keys. Only its insertions take memory, and a refused one leaves the map as it was.
+///
+/// ```
+/// if let Entry::Vacant(entry) = map.try_entry("cat")? {
+///     *entry.insert(1)? = 2;
+/// }
+/// assert_eq!(map.get(&"cat"), Some(&2));
+/// ```
 #[derive(Drop)]
 pub struct VacantEntry<'a, K: AsBytes, V, const PREFIX_LEN: usize, T: 'a> {
     pub(crate) map: &'a mut TreeMap<K, V, PREFIX_LEN>,
@@ -52,7 +59,8 @@ impl<'a, K: AsBytes + Drop, V: Drop, const PREFIX_LEN: usize> VacantEntry<
     PREFIX_LEN,
     TreeMap<K, V, PREFIX_LEN>,
 > {
-    ghost use Rattle.blart_map.specs.Entry.{Vacant, IsSetEntry};
+    ghost use Rattle.blart_map.specs.Content.{pairs};
+    ghost use Rattle.blart_map.specs.Entry.{Vacant, IsSetEntry, IsUndone};
     ghost use Rattle.blart_map.specs.EntryLends.{entry_lends_ok, entry_rests};
 
     /// Places the key with the value, which is lent to be written. Where memory is refused the key and the value are dropped.
@@ -75,6 +83,7 @@ impl<'a, K: AsBytes + Drop, V: Drop, const PREFIX_LEN: usize> VacantEntry<
         ensures* stands { sem 𝓛
             (entry_rests K.row V.row PREFIX_LEN.row K.AsBytes (Vacant self.entry) result) }
         ensures set { IfOk result (IsSetEntry (Vacant self.entry) value) }
+        ensures undone { IfOk result (λ o. IsUndone o (pairs self.entry.map.now)) }
     {
         let VacantEntry { map, key, .. } = self;
         map.numbers_law();

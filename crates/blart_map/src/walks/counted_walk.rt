@@ -10,9 +10,27 @@ use art_walk::{Cursor, ValuesAlone, WithKeys};
 use blart_keys::AsBytes;
 
 /// The values, each lent in turn, with its key.
+///
+/// ```
+/// map.try_insert("cat", 1)?;
+/// let mut walk = map.iter_mut();
+/// if let Some(value) = walk.next_back() {
+///     *value = 2;
+/// }
+/// assert_eq!(map.get(&"cat"), Some(&2));
+/// ```
 pub type IterMut<'a, K, V, const PREFIX_LEN: usize> = CountedWalk<'a, K, V, WithKeys, PREFIX_LEN>;
 
 /// The values, each lent in turn.
+///
+/// ```
+/// map.try_insert("cat", 1)?;
+/// let mut walk = map.values_mut();
+/// if let Some(value) = walk.next() {
+///     *value = 2;
+/// }
+/// assert_eq!(map.get(&"cat"), Some(&2));
+/// ```
 pub type ValuesMut<'a, K, V, const PREFIX_LEN: usize> = CountedWalk<
     'a,
     K,
@@ -22,6 +40,16 @@ pub type ValuesMut<'a, K, V, const PREFIX_LEN: usize> = CountedWalk<
 >;
 
 /// The values of a map from both ends, in byte order of their keys, each lent in turn. Each step is one visit, and where the ends have met none comes at either.
+///
+/// ```
+/// map.try_insert("cat", 1)?;
+/// let mut walk = map.iter_mut();
+/// assert_eq!(walk.len(), 1);
+/// if let Some(value) = walk.next() {
+///     *value = 2;
+/// }
+/// assert_eq!(walk.len(), 0);
+/// ```
 #[derive(Drop)]
 pub struct CountedWalk<'a, K: AsBytes, V, M, const PREFIX_LEN: usize> {
     map: &'a mut TreeMap<K, V, PREFIX_LEN>,

@@ -16,6 +16,13 @@ use std::iter::{DoubleEndedIterator, Iterator};
 use std::ops::Bound;
 
 /// The pairs within two bounds at which a closure answers `true`, taken out of the map one by one, from both ends. The closure is asked once of each pair that the walk reaches, before the pair is taken out. A pair that stays keeps its value as the closure left it. Dropped, the walk stops where it is, and the pairs not reached stay as they were.
+///
+/// ```
+/// map.try_insert("cat", 0)?;
+/// let mut walk = map.extract_if(Bound::<&&str>::Unbounded, Bound::Unbounded, |_, value| *value == 0);
+/// assert_eq!(walk.next(), Some(("cat", 0)));
+/// assert!(walk.next().is_none());
+/// ```
 #[derive(Drop)]
 pub struct ExtractIf<'a, K: AsBytes, V, F, const PREFIX_LEN: usize> {
     map: &'a mut TreeMap<K, V, PREFIX_LEN>,

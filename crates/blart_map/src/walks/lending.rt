@@ -1,5 +1,5 @@
 //! Walks that lend values, opened.
-ghost use Rattle.std.specs.Prelude.{◌≡◌, ◌&&◌, None};
+ghost use Rattle.std.specs.Prelude.{◌≡◌, ◌&&◌, not, filter, Bool, None};
 ghost use Rattle.blart_keys.specs.Bounds.{bound_bytes, is_from_start, is_up_to_end, CanRange};
 ghost use Rattle.blart_keys.specs.Bytes.{begins};
 ghost use Rattle.blart_keys.specs.Content.{between, under};
@@ -20,6 +20,7 @@ impl<K: AsBytes + Drop, V: Drop, const PREFIX_LEN: usize> TreeMap<K, V, PREFIX_L
     ghost use Rattle.blart_map.specs.CountedWalk.{counted_left};
     ghost use Rattle.blart_map.specs.LendingWalk.{lending_left};
     ghost use Rattle.blart_map.specs.OnceWritten.{rewritten, all_rewritten, once_written, all_once_written};
+    ghost use Rattle.blart_map.specs.OnceTaken.{once_taken};
     ghost use Rattle.blart_map.specs.TakeWalk.{take_left};
 
     /// A walk that lends each value to be written, with its key, in byte order of the keys, from both ends. Takes no memory; each step is one visit.
@@ -138,10 +139,15 @@ impl<K: AsBytes + Drop, V: Drop, const PREFIX_LEN: usize> TreeMap<K, V, PREFIX_L
             (bound_bytes Q.bytes end) }
         ensures same_map { result.map.ghost_name ≡ self.entry.ghost_name }
         ensures unchanged { result.map.now ≡ self.old }
+        ensures all { (test : K × V → Bool) → once_taken test result
+            ≡ filter (λ pair. not (is_from_start (bound_bytes Q.bytes start.entry) (K.bytes pair.0)
+            && is_up_to_end (bound_bytes Q.bytes end.entry) (K.bytes pair.0)
+            && test pair)) (pairs self.old) }
         ensures left { take_left result ≡ between (bytes K.bytes) self.old
             (bound_bytes Q.bytes start.entry) (bound_bytes Q.bytes end.entry) }
         ensures decided { result.lent ≡ None }
     {
+        self.number_law();
         let cursor = Cursor::range(
             &self.tree,
             as_bytes(start),

@@ -10,9 +10,28 @@ use art_walk::{BelowFront, Cursor, InRange, InSubtree};
 use blart_keys::AsBytes;
 
 /// The values whose keys are within two bounds, each lent in turn.
+///
+/// ```
+/// map.try_insert("cat", 1)?;
+/// let low = "b";
+/// let mut walk = map.range_mut(Bound::Included(&low), Bound::Unbounded);
+/// if let Some(value) = walk.next() {
+///     *value = 2;
+/// }
+/// assert_eq!(map.get(&"cat"), Some(&2));
+/// ```
 pub type RangeMut<'a, K, V, const PREFIX_LEN: usize> = LendingWalk<'a, K, V, InRange, PREFIX_LEN>;
 
 /// The values whose keys begin with some bytes, each lent in turn.
+///
+/// ```
+/// map.try_insert("cat", 1)?;
+/// let mut walk = map.prefix_mut(b"ca");
+/// if let Some(value) = walk.next() {
+///     *value = 2;
+/// }
+/// assert_eq!(map.get(&"cat"), Some(&2));
+/// ```
 pub type PrefixMut<'a, K, V, const PREFIX_LEN: usize> = LendingWalk<
     'a,
     K,
@@ -22,6 +41,17 @@ pub type PrefixMut<'a, K, V, const PREFIX_LEN: usize> = LendingWalk<
 >;
 
 /// The values of the pairs to which a key is related, each lent in turn.
+///
+/// ```
+/// map.try_insert("cat", 1)?;
+/// if let PrefixKind::Inner(entry) = map.prefix_entry("ca").kind() {
+///     let mut walk = entry.iter_mut();
+///     if let Some(value) = walk.next() {
+///         *value = 2;
+///     }
+/// }
+/// assert_eq!(map.get(&"cat"), Some(&2));
+/// ```
 pub type SubtreeIterMut<'a, K, V, const PREFIX_LEN: usize> = LendingWalk<
     'a,
     K,
@@ -31,6 +61,16 @@ pub type SubtreeIterMut<'a, K, V, const PREFIX_LEN: usize> = LendingWalk<
 >;
 
 /// Some values of a map from both ends, in byte order of their keys, each lent in turn. Each step is one visit, and where the ends have met none comes at either.
+///
+/// ```
+/// map.try_insert("car", 1)?;
+/// map.try_insert("cat", 2)?;
+/// let mut walk = map.prefix_mut(b"ca");
+/// if let Some(value) = walk.next_back() {
+///     *value = 3;
+/// }
+/// assert_eq!(map.get(&"cat"), Some(&3));
+/// ```
 #[derive(Drop)]
 pub struct LendingWalk<'a, K: AsBytes, V, M, const PREFIX_LEN: usize> {
     map: &'a mut TreeMap<K, V, PREFIX_LEN>,

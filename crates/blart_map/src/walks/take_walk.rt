@@ -10,6 +10,18 @@ use art_walk::Cursor;
 use blart_keys::AsBytes;
 
 /// The pairs within two bounds from both ends, in byte order of their keys, each lent in turn and then kept or taken out of the map. Each step is one visit, and where the ends have met none comes at either. Dropped while a pair is undecided, it keeps that pair.
+///
+/// ```
+/// map.try_insert("cat", 1)?;
+/// let mut walk = map.take_walk(Bound::<&&str>::Unbounded, Bound::Unbounded);
+/// if let Some(value) = walk.lend() {
+///     *value = 2;
+/// }
+/// if walk.undecided() {
+///     assert_eq!(walk.take(), ("cat", 2));
+/// }
+/// assert!(map.is_empty());
+/// ```
 #[derive(Drop)]
 pub struct TakeWalk<'a, K: AsBytes, V, const PREFIX_LEN: usize> {
     map: &'a mut TreeMap<K, V, PREFIX_LEN>,
@@ -112,8 +124,7 @@ impl<'a, K: AsBytes + Drop, V: Drop, const PREFIX_LEN: usize> TakeWalk<'a, K, V,
         ensures decided { self.new.lent ≡ None }
     {
         self.map.number_law();
-        let id = self.lent.unwrap();
-        self.lent = None;
+        let id = self.lent.take().unwrap();
         self.map.take_leaf(id)
     }
 }

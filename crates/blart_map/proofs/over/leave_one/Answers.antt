@@ -1,8 +1,8 @@
 use Rattle.std.proofs.Common.{refl, ◌≡◌, ◌≢◌, ◌∙◌, ◌+◌, arith, lit<, ap, sym, subst, not, eqb, Some, length, eq-eqb}
 use Rattle.std.proofs.lemmas.Bool.{false≢true}
 use Rattle.art_tree.proofs.CallerLemmas.{length-without_number}
-use Rattle.blart_map.specs.Spans.{Spans}
-use Rattle.blart_map.proofs.Thinning.{first_has, next_there, unrelated_without, stand_on}
+use Rattle.blart_map.specs.Spans.{Spans, thinned}
+use Rattle.blart_map.proofs.Thinning.{first_has, next_there, unrelated_without, stand_on, thinned_without, thinned_one, same_number}
 use Rattle.blart_map.proofs.over.leave_one.Goals as goal
 
 pub next_of-requires : goal.next_of-requires
@@ -36,4 +36,18 @@ thin-preserved g c =
       spans = subst (λ i. Spans kb c.remove.new.self.pairs q i c.args.last) same (subst (λ l. Spans kb l q n.0 c.args.last) (sym c.remove.ensures.rest) n.2);
       others = stand_on kb c.args.tree.now.pairs ps c.remove.new.self.pairs q c.thin.invariant.others
           (unrelated_without kb ps c.law.ensures.content c.law.ensures.distinct q c.thin.id c.args.last c.thin.invariant.spans c.remove.new.self.pairs c.remove.ensures.others c.remove.ensures.gone);
+      same_thinned = ap (λ l. thinned kb l q c.args.last) c.remove.ensures.rest ∙ thinned_without kb ps c.law.ensures.content c.law.ensures.distinct q c.thin.id c.args.last c.thin.invariant.spans off ∙ c.thin.invariant.same_thinned;
+    }
+
+pub returns : goal.returns
+returns g c =
+    let kb = g.K.AsBytes.bytes in
+    let ps = c.thin.tree.pairs in
+    let q = c.args.query.now in
+    let same : c.thin.id ≡ c.args.last = same_number c.thin.id c.args.last c.thin-test.ensures in
+    let spans = subst (λ i. Spans kb ps q i c.args.last) same c.thin.invariant.spans in
+    record {
+      one = spans;
+      others = c.thin.invariant.others;
+      exact = thinned_one kb ps c.law-2.ensures.content c.law-2.ensures.distinct q c.args.last spans ∙ c.thin.invariant.same_thinned;
     }

@@ -1,11 +1,12 @@
-use Rattle.std.proofs.Common.{length}
-use Rattle.blart_map.specs.Spans.{Spans, UnrelatedStand}
+use Rattle.std.proofs.Common.{◌≡◌, length}
+use Rattle.blart_map.specs.Spans.{Spans, UnrelatedStand, thinned}
 use Rattle.blart_map.proofs.over.leave_one.Given as goal
 
 abbrev pub invariant-thin : goal.invariant-thin
 invariant-thin g l = record {
   spans : Spans g.K.AsBytes.bytes l.tree.pairs l.query l.id l.last;
   others : UnrelatedStand g.K.AsBytes.bytes l.initial.tree.pairs l.query l.tree.pairs;
+  same_thinned : thinned g.K.AsBytes.bytes l.tree.pairs l.query l.last ≡ thinned g.K.AsBytes.bytes l.initial.tree.pairs l.query l.last;
 }
 
 abbrev pub decreases-thin : goal.decreases-thin

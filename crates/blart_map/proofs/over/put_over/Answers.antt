@@ -1,5 +1,5 @@
 use Rattle.std.proofs.Common.{lit<, subst, ap, ◌∙◌}
-use Rattle.art_tree.specs.Leaves.{leaf_in}
+use Rattle.art_tree.specs.Leaves.{leaf_in, with_pair}
 use Rattle.art_tree.proofs.CallerLemmas.{leaf_in-with_now}
 use Rattle.blart_map.specs.Spans.{LeavesOne}
 use Rattle.blart_map.proofs.Thinning.{first_has, one_takes, over_one}
@@ -27,3 +27,8 @@ returns-clause-now g c =
     let mid = c.leave_one.new.tree.pairs in
     let one = rw c.as_bytes.ensures at c.leave_one.ensures.one in
     ap (λ ps. leaf_in ps c.args.last) c.swap.ensures.pairs ∙ leaf_in-with_now mid c.args.last (c.args.key, c.args.value) (first_has kb mid c.law-2.ensures.content c.law-2.ensures.distinct (kb c.args.key) c.args.last c.args.last one)
+
+pub returns-clause-exact : goal.returns-clause-exact
+returns-clause-exact g c =
+    let one = rw c.as_bytes.ensures at c.leave_one.ensures.exact in
+    c.swap.ensures.pairs ∙ ap (λ ps. with_pair ps c.args.last (c.args.key, c.args.value)) one

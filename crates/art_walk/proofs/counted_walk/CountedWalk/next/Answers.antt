@@ -1,6 +1,6 @@
 use Rattle.std.proofs.Common.{refl, lit<, arith, ap, sym, ◌∙◌, ◌-◌, length, Some}
 use Rattle.art_tree.specs.Leaves.{with_value}
-use Rattle.art_walk.proofs.Lending.{at_some, never_none, from_test, to_count, count_test, count_is, moved_first, fewer_after_first, lent_key, first_fits_now, first_fits_with, first_splits, first_lent, first_lent_count}
+use Rattle.art_walk.proofs.Lending.{at_some, never_none, from_test, to_count, count_test, count_is, moved_first, fewer_after_first, first_fits_now, first_fits_with, is_lent_first, first_lent_count}
 use Rattle.art_walk.proofs.counted_walk.CountedWalk.next.Goals as goal
 
 pub step-requires : goal.step-requires
@@ -62,13 +62,7 @@ returns g c =
         refl,
         λ w. at_some _ c.value_mut.result (
           (refl, refl),
-          record {
-            number = id;
-            key = lent_key ps c.law.ensures.distinct s.cursor new s.lent test c.in_ok-id.ensures.fits id v c.value_mut.ensures.value;
-            splits = first_splits ps c.law.ensures.distinct s.cursor new s.lent test c.in_ok-id.ensures.fits id v c.value_mut.ensures.value c.in_ok-id.ensures.passes w;
-            lent = first_lent ps c.law.ensures.distinct s.cursor new s.lent test c.in_ok-id.ensures.fits id v c.value_mut.ensures.value c.in_ok-id.ensures.passes w;
-            is_last = refl;
-          },
+          is_lent_first ps c.law.ensures.distinct s.cursor new s.lent test c.in_ok-id.ensures.fits id v c.value_mut.ensures.value c.in_ok-id.ensures.passes w,
         ),
         never_none _ c.value_mut.result,
       ),

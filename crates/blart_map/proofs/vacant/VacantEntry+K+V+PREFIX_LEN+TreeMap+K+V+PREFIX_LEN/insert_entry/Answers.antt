@@ -5,6 +5,7 @@ use Rattle.blart_keys.proofs.Options.{is_some}
 use Rattle.art_tree.specs.Leaves.{leaf_in}
 use Rattle.blart_map.specs.Content.{pairs}
 use Rattle.blart_map.proofs.Setting.{placed_entry_set}
+use Rattle.blart_map.proofs.TakenBack.{taken_back_at}
 use Rattle.blart_map.proofs.vacant.VacantEntry+K+V+PREFIX_LEN+TreeMap+K+V+PREFIX_LEN.insert_entry.Goals as goal
 
 pub invariant_of-result : goal.invariant_of-result
@@ -14,6 +15,7 @@ pub returns : goal.returns
 unfolding pairs
 returns g c =
     let kb = g.K.AsBytes.bytes in
+    let same = ap (λ o. unwrap_or (option_map (λ x. kb x.0) o) []) c.in_ok-leaf.ensures.placed.now in
     let set = placed_entry_set kb c.args.self.map.now c.args.self.map.now c.place_new.new.self refl c.numbers_law.ensures.content c.in_ok-leaf.leaf c.args.self.key c.args.value c.args.self.absent c.in_ok-leaf.ensures.placed.put c.in_ok-leaf.ensures.placed.distinct c.in_ok-leaf.ensures.placed.now in (
       (refl, (λ w. refl), tt),
       record {
@@ -22,7 +24,8 @@ returns g c =
           same_map = refl;
           set = set;
           pair = c.in_ok-leaf.ensures.placed.now;
-          same_bytes = ap (λ o. unwrap_or (option_map (λ x. kb x.0) o) []) c.in_ok-leaf.ensures.placed.now;
+          same_bytes = same;
         };
+        undone = λ n r. taken_back_at kb c.args.self.map.now c.numbers_law.ensures.content c.args.self.key c.args.value c.args.self.absent (pairs c.place_new.new.self) set.3 _ same (pairs n) r.2;
       },
     )

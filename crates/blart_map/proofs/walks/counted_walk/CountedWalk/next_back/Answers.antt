@@ -1,6 +1,6 @@
 use Rattle.std.proofs.Common.{refl, lit<, arith, ap, sym, ◌∙◌, ◌-◌, length, Some}
 use Rattle.art_tree.specs.Leaves.{with_value}
-use Rattle.art_walk.proofs.Lending.{at_some, never_none, from_test, to_count, count_test, count_is, moved_last, fewer_after_last, lent_key, last_fits_now, last_fits_with, last_splits, last_lent, last_lent_count}
+use Rattle.art_walk.proofs.Lending.{at_some, never_none, from_test, to_count, count_test, count_is, moved_last, fewer_after_last, last_fits_now, last_fits_with, is_lent_last, last_lent_count}
 use Rattle.blart_map.proofs.walks.counted_walk.CountedWalk.next_back.Goals as goal
 
 pub step_back-requires : goal.step_back-requires
@@ -62,13 +62,7 @@ returns g c =
         refl,
         λ w. at_some _ c.value_mut.result (
           refl,
-          record {
-            number = id;
-            key = lent_key ps c.number_law.ensures s.cursor new s.lent test c.in_ok-id.ensures.fits id v c.value_mut.ensures.value;
-            splits = last_splits ps c.number_law.ensures s.cursor new s.lent test c.in_ok-id.ensures.fits id v c.value_mut.ensures.value c.in_ok-id.ensures.passes w;
-            lent = last_lent ps c.number_law.ensures s.cursor new s.lent test c.in_ok-id.ensures.fits id v c.value_mut.ensures.value c.in_ok-id.ensures.passes w;
-            is_last = refl;
-          },
+          is_lent_last ps c.number_law.ensures s.cursor new s.lent test c.in_ok-id.ensures.fits id v c.value_mut.ensures.value c.in_ok-id.ensures.passes w,
         ),
         never_none _ c.value_mut.result,
       ),

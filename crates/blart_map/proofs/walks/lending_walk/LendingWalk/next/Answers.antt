@@ -1,5 +1,5 @@
 use Rattle.std.proofs.Common.{refl, lit<}
-use Rattle.art_walk.proofs.Lending.{at_some, never_none, from_test, moved_first, lent_key, first_fits_now, first_fits_with, first_splits, first_lent}
+use Rattle.art_walk.proofs.Lending.{at_some, never_none, from_test, moved_first, first_fits_now, first_fits_with, is_lent_first}
 use Rattle.blart_map.proofs.walks.lending_walk.LendingWalk.next.Goals as goal
 
 pub step-requires : goal.step-requires
@@ -30,13 +30,7 @@ returns g c =
         refl,
         λ w. at_some _ c.value_mut.result (
           refl,
-          record {
-            number = id;
-            key = lent_key ps c.number_law.ensures s.cursor c.step.new.cursor s.lent s.fits c.in_ok-id.ensures.fits id v c.value_mut.ensures.value;
-            splits = first_splits ps c.number_law.ensures s.cursor c.step.new.cursor s.lent s.fits c.in_ok-id.ensures.fits id v c.value_mut.ensures.value c.in_ok-id.ensures.passes w;
-            lent = first_lent ps c.number_law.ensures s.cursor c.step.new.cursor s.lent s.fits c.in_ok-id.ensures.fits id v c.value_mut.ensures.value c.in_ok-id.ensures.passes w;
-            is_last = refl;
-          },
+          is_lent_first ps c.number_law.ensures s.cursor c.step.new.cursor s.lent s.fits c.in_ok-id.ensures.fits id v c.value_mut.ensures.value c.in_ok-id.ensures.passes w,
         ),
         never_none _ c.value_mut.result,
       ),

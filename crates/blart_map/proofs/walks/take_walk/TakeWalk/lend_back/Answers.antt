@@ -1,5 +1,5 @@
 use Rattle.std.proofs.Common.{refl, lit<}
-use Rattle.art_walk.proofs.Lending.{at_some, never_none, from_test, moved_last, lent_key, last_fits_now, last_fits_with, last_splits, last_lent}
+use Rattle.art_walk.proofs.Lending.{at_some, never_none, from_test, moved_last, last_fits_now, last_fits_with, is_lent_last}
 use Rattle.blart_map.proofs.walks.take_walk.TakeWalk.lend_back.Goals as goal
 
 pub step_back-requires : goal.step_back-requires
@@ -30,13 +30,7 @@ returns g c =
         refl,
         λ w. at_some _ c.value_mut.result (
           refl,
-          record {
-            number = id;
-            key = lent_key ps c.number_law.ensures s.cursor c.step_back.new.cursor s.lent s.fits c.in_ok-id.ensures.fits id v c.value_mut.ensures.value;
-            splits = last_splits ps c.number_law.ensures s.cursor c.step_back.new.cursor s.lent s.fits c.in_ok-id.ensures.fits id v c.value_mut.ensures.value c.in_ok-id.ensures.passes w;
-            lent = last_lent ps c.number_law.ensures s.cursor c.step_back.new.cursor s.lent s.fits c.in_ok-id.ensures.fits id v c.value_mut.ensures.value c.in_ok-id.ensures.passes w;
-            is_last = refl;
-          },
+          is_lent_last ps c.number_law.ensures s.cursor c.step_back.new.cursor s.lent s.fits c.in_ok-id.ensures.fits id v c.value_mut.ensures.value c.in_ok-id.ensures.passes w,
         ),
         never_none _ c.value_mut.result,
       ),

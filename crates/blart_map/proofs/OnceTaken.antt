@@ -1,0 +1,81 @@
+-- Pairs taken one after the other, and all at once.
+use Rattle.std.proofs.Common.{◌≡◌, ◌≢◌, ℕ, List, [], ◌∷◌, filter, Bool, true, false, not, ◌&&◌, cond, inl, inr, Option, Some, None, refl, sym, ap, ◌∙◌, subst, eq-eqb}
+use Rattle.std.proofs.lemmas.Bool.{ne_eqb, cases_Bool}
+use Rattle.std.proofs.lemmas.Bool.Decides.{eqb_tells}
+use Rattle.std.specs.Prelude.{MatchOption, ⊤}
+use Rattle.blart_keys.specs.declared.AsBytes.{Ghosts}
+use Rattle.art_tree.specs.Leaves.{Numbered, leaf_in, AreDistinct, Lacks, with_value, without_number}
+use Rattle.art_walk.specs.declared.cursor.Cursor.{Cursor}
+use Rattle.art_walk.specs.Cursor.{leaves_left}
+use Rattle.art_walk.specs.Lent.{LentFirst}
+use Rattle.art_walk.specs.Pairs.{pairs_of}
+use Rattle.blart_map.specs.Content.{pairs}
+use Rattle.blart_map.specs.OnceTaken.{taken_all}
+
+module _ {K V : Type 0} (test : K × V → Bool) where
+  -- ---- all at once
+
+  -- a pair in front that has another number stays
+  behind_front : (left ps : List (Numbered K V)) (p : Numbered K V) → Lacks left p.0 → taken_all test left (p ∷ ps) ≡ p ∷ taken_all test left ps
+  behind_front [] ps p l = refl
+  behind_front (q ∷ left) ps p l =
+      elim (test q.1) as (λ b. taken_all test left (cond b (without_number (p ∷ ps) q.0) (p ∷ ps)) ≡ p ∷ taken_all test left (cond b (without_number ps q.0) ps)) [
+        | true ↦ rw (ne_eqb p.0 q.0 (λ e. l.0 (sym e))) (behind_front left (without_number ps q.0) p l.1)
+        | false ↦ behind_front left ps p l.1
+      ]
+
+  lacks_filter : (t : Numbered K V → Bool) (ps : List (Numbered K V)) (i : ℕ) → Lacks ps i → Lacks (filter t ps) i
+  lacks_filter t [] i l = l
+  lacks_filter t (p ∷ ps) i l = elim (t p) as (λ b. Lacks (cond b (p ∷ filter t ps) (filter t ps)) i) [ true ↦ (l.0, lacks_filter t ps i l.1) | false ↦ lacks_filter t ps i l.1 ]
+
+  -- the pair in front goes first
+  front_taken : (p : Numbered K V) (ps : List (Numbered K V)) → without_number (p ∷ ps) p.0 ≡ ps
+  front_taken p ps = rw (eq-eqb p.0 p.0 refl) refl
+
+  module _ (within : K × V → Bool) where
+    abbrev kept : K × V → Bool
+    kept x = not (within x && test x)
+
+    some_taken : (ps : List (Numbered K V)) → AreDistinct ps → pairs_of (taken_all test (filter (λ p. within p.1) ps) ps) ≡ filter kept (pairs_of ps)
+    some_taken [] d = refl
+    some_taken (p ∷ ps) d =
+        let rest = filter (λ (p : Numbered K V). within p.1) ps in
+        let lacks = lacks_filter (λ p. within p.1) ps p.0 d.0 in
+        elim (within p.1) as (λ b. pairs_of (taken_all test (cond b (p ∷ rest) rest) (p ∷ ps)) ≡ cond (not (b && test p.1)) (p.1 ∷ filter kept (pairs_of ps)) (filter kept (pairs_of ps))) [
+          | true ↦ elim (test p.1) as (λ b. pairs_of (taken_all test rest (cond b (without_number (p ∷ ps) p.0) (p ∷ ps))) ≡ cond (not b) (p.1 ∷ filter kept (pairs_of ps)) (filter kept (pairs_of ps))) [
+            | true ↦ ap (λ l. pairs_of (taken_all test rest l)) (front_taken p ps) ∙ some_taken ps d.1
+            | false ↦ ap pairs_of (behind_front rest ps p lacks) ∙ ap (λ l. p.1 ∷ l) (some_taken ps d.1)
+          ]
+          | false ↦ ap pairs_of (behind_front rest ps p lacks) ∙ ap (λ l. p.1 ∷ l) (some_taken ps d.1)
+        ]
+
+  -- a walk that is opened over the pairs that pass a test
+  pub opened_taken : (c c' : Cursor) (ps qs rs : List (Numbered K V)) → ps ≡ qs → rs ≡ qs → AreDistinct qs → c' ≡ c → (within : K × V → Bool) → leaves_left c ps ≡ filter (λ p. within p.1) ps
+      → pairs (taken_all test (leaves_left c' rs) rs) ≡ filter (λ x. not (within x && test x)) (pairs qs)
+  unfolding pairs
+  opened_taken c c' ps qs rs view same d cs within left =
+      let e : leaves_left c' rs ≡ filter (λ p. within p.1) rs = ap (λ k. leaves_left k rs) cs ∙ subst (λ (l : List (Numbered K V)). leaves_left c l ≡ filter (λ p. within p.1) l) (view ∙ sym same) left in
+      ap (λ l. pairs_of (taken_all test l rs)) e ∙ some_taken within rs (subst AreDistinct (sym same) d) ∙ ap (λ l. filter (λ x. not (within x && test x)) (pairs_of l)) same
+
+  -- ---- one after the other
+
+  same_value : (ps : List (Numbered K V)) (i : ℕ) (k : K) (v : V) → leaf_in ps i ≡ Some (k, v) → with_value ps i v ≡ ps
+  same_value [] i k v h = refl
+  same_value (p ∷ ps) i k v h = elim (eqb_tells p.0 i) [
+    | inl t ↦ let o : leaf_in (p ∷ ps) i ≡ Some p.1 = rw t.0 refl in let e : Some p.1 ≡ Some (k, v) = sym o ∙ h in let x : p.1 ≡ (k, v) = cc in rw t.0 (ap (λ (x : K × V). (p.0, (p.1.0, x.1)) ∷ ps) (sym x))
+    | inr f ↦ let o : leaf_in (p ∷ ps) i ≡ leaf_in ps i = rw f.0 refl in rw f.0 (ap (λ l. p ∷ l) (same_value ps i k v (sym o ∙ h)))
+  ]
+
+  module _ (old new left after : List (Numbered K V)) (last : Option ℕ) (v : V) (lent : LentFirst old new left after last v v) where
+    same_list : new ≡ old
+    same_list = lent.lent.written ∙ same_value old lent.number lent.key v lent.lent.named
+
+    -- the pair that was lent and kept, its value as it was, does not pass the test
+    pub kept_first : test (lent.key, v) ≡ false → taken_all test after new ≡ taken_all test left old
+    kept_first t =
+        ap (taken_all test after) same_list ∙ sym (ap (λ l. taken_all test l old) lent.splits ∙ ap (λ b. taken_all test after (cond b (without_number old lent.number) old)) t)
+
+    -- the pair that was lent and taken does
+    pub taken_first : test (lent.key, v) ≡ true → taken_all test after (without_number new lent.number) ≡ taken_all test left old
+    taken_first t =
+        ap (λ l. taken_all test after (without_number l lent.number)) same_list ∙ sym (ap (λ l. taken_all test l old) lent.splits ∙ ap (λ b. taken_all test after (cond b (without_number old lent.number) old)) t)

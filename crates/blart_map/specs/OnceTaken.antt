@@ -1,0 +1,18 @@
+-- What a map will be, once a walk has taken the pairs that pass a test.
+use Rattle.std.specs.Prelude.{ℕ, List, [], ◌∷◌, Bool, cond}
+use Rattle.blart_keys.specs.declared.AsBytes.{Ghosts}
+use Rattle.art_tree.specs.Leaves.{Numbered, without_number}
+use Rattle.blart_map.specs.Content.{pairs}
+use Rattle.blart_map.specs.declared.walks.take_walk.TakeWalk.{TakeWalk}
+use Rattle.blart_map.specs.TakeWalk.{take_left}
+
+module _ {K V : Type 0} where
+  -- the list, once those of the pairs left that pass the test are taken
+  abbrev pub taken_all : (K × V → Bool) → List (Numbered K V) → List (Numbered K V) → List (Numbered K V)
+  taken_all test [] ps = ps
+  taken_all test (p ∷ left) ps = taken_all test left (cond (test p.1) (without_number ps p.0) ps)
+
+module _ {K V : Type 0} {p : ℕ} {g : Ghosts K} where
+  -- the pairs of the map, once those that are still to be lent and pass the test are taken
+  abbrev pub once_taken : (K × V → Bool) → TakeWalk K V p g → List (K × V)
+  once_taken test s = pairs (taken_all test (take_left s) s.map.now)
