@@ -10,6 +10,7 @@ ghost use Rattle.art_tree.specs.Invariant.Sound.{IsSound};
 ghost use Rattle.art_tree.specs.Points.{IsGood};
 ghost use Rattle.art_tree.specs.Longest.{longest};
 
+mod apart;
 mod change;
 mod descent;
 mod parting;

@@ -4,7 +4,7 @@ use Rattle.std.proofs.lemmas.Bool.Decides.{eqb_tells}
 use Rattle.blart_keys.specs.Bytes.{related}
 use Rattle.blart_keys.specs.Content.{IsContent, IsPut}
 use Rattle.blart_keys.proofs.PartLemmas.{related-from_PartsBelow}
-use Rattle.blart_keys.proofs.RankLemmas.{Member, Ranked-across, Ranked-right}
+use Rattle.blart_keys.proofs.RankLemmas.{Member, Ranked-across, Ranked-left, Ranked-right}
 use Rattle.blart_keys.proofs.ContentLemmas.{Before, Ranked-from_content, content_from_Ranked, unrelated_back, put_unique, put_between}
 use Rattle.art_tree.specs.Leaves.{Numbered, leaf_in, Has, first_number, without_number}
 use Rattle.art_walk.specs.Pairs.{pairs_of}
@@ -49,6 +49,16 @@ module _ {X : Type 0} (bytes : X → List ℕ) where
     put_front U put =
         let rest : IsContent bytes B = content_from_Ranked bytes B (Ranked-right (Before bytes) (x ∷ []) B (Ranked-right (Before bytes) A (x ∷ B) (Ranked-from_content bytes (A ++ x ∷ B) c))) in
         put_unique bytes B U (x ∷ B) x put (put_between bytes [] B x rest (λ y m. absurd m) ahead)
+
+  -- ---- an item behind others
+
+  -- the items before it are a content
+  pub low_content : (A B : List X) → IsContent bytes (A ++ B) → IsContent bytes A
+  low_content A B c = content_from_Ranked bytes A (Ranked-left (Before bytes) A B (Ranked-from_content bytes (A ++ B) c))
+
+  -- and each is less
+  pub low_behind : (A B : List X) (x : X) → IsContent bytes (A ++ x ∷ B) → (y : X) → Member y A → Before bytes y x
+  low_behind A B x c y m = Ranked-across (Before bytes) A (x ∷ B) (Ranked-from_content bytes (A ++ x ∷ B) c) y x m (inl refl)
 
   -- ---- an item behind all
 

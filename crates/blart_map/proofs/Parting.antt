@@ -1,5 +1,5 @@
 -- A content parted at some bytes.
-use Rattle.std.proofs.Common.{◌≡◌, ◌≤◌, ℕ, Bool, true, false, cond, not, ◌&&◌, inl, inr, List, [], ◌∷◌, ◌++◌, length, length-append, arith, refl, sym, ap, ◌∙◌, subst, Option, None, filter, bytes_eq, if◌then◌else◌}
+use Rattle.std.proofs.Common.{◌≡◌, ◌≤◌, ◌+◌, ℕ, Bool, true, false, cond, not, ◌&&◌, inl, inr, List, [], ◌∷◌, ◌++◌, length, length-append, arith, refl, sym, ap, ◌∙◌, subst, Option, None, filter, bytes_eq, if◌then◌else◌}
 use Rattle.std.proofs.lemmas.Bool.{false≢true, cases_Bool, false_from_ne_true}
 use Rattle.std.specs.Cmp.Lexicographic.{bytes_decides}
 use Rattle.std.specs.declared.ops.Bound.TheVariants.{Included, Excluded, Unbounded}
@@ -56,6 +56,13 @@ module _ {X : Type 0} (bytes : X → List ℕ) (q : List ℕ) where
       let a = ap (λ (l : List X). length l) (sym e ∙ p) in
       let n : length A ≡ length (below S) = omega (arith, length-append A B, length-append (below S) (from S), l) in
       same_parts A B (below S) (from S) (sym e ∙ p) n
+
+  -- there are as many as are below the bytes and as are not
+  pub part_lengths : (S : List X) → IsContent bytes S → length (between bytes S Unbounded (Excluded q)) + length (between bytes S (Included q) Unbounded) ≡ length S
+  unfolding below from
+  part_lengths S c =
+      let p = ap (λ (l : List X). length l) (parts S (Ranked-from_AllPairs (Lower bytes) S c.ascends)) in
+      omega (arith, p, length-append (below S) (from S))
 
   -- no more are not below the bytes than there are
   pub from_short : (S : List X) → IsContent bytes S → length (between bytes S (Included q) Unbounded) ≤ length S

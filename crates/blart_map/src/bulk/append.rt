@@ -11,15 +11,15 @@ ghost use Rattle.blart_map.specs.Content.{pairs};
 
 use crate::bulk::reserved::put_reserved;
 use crate::map::TreeMap;
-use art_tree::Tree;
+use art_tree::{Leaves, Tree};
 use blart_keys::NoPrefixesBytes;
-use std::alloc::AllocError;
-use std::mem::swap;
+use std::alloc::{AllocError, Global};
+use std::mem::{replace, swap};
 
 impl<K: NoPrefixesBytes + Drop, V: Drop, const PREFIX_LEN: usize> TreeMap<K, V, PREFIX_LEN> {
     /// Moves all pairs of the other map here. Where both have a key with the same bytes the other's pair stays. The other map is empty then. Where all of the other's keys lie behind, as after a [`TreeMap::split_off`], the pairs are those of the one and then those of the other.
     ///
-    /// It takes the memory for as many pairs as the other map has before any of them moves; an error leaves both maps as they were. Where either map is empty it takes none. Each pair costs a removal from the other map and an insertion here.
+    /// It takes the memory for as many pairs as the other map has before any of them moves; an error leaves both maps as they were. Where either map is empty it takes none. Each pair costs an insertion here; the other map's inner nodes are freed whole.
     ///
     /// ```
     /// left.insert(U32Key::new(1), 'a')?;
@@ -45,7 +45,7 @@ impl<K: NoPrefixesBytes + Drop, V: Drop, const PREFIX_LEN: usize> TreeMap<K, V, 
     {
         self.law();
         other.law();
-        move_into(&mut other.tree, &mut self.tree)
+        move_into(&mut other.tree, &mut self.tree, self.alloc)
     }
 }
 
@@ -53,6 +53,7 @@ impl<K: NoPrefixesBytes + Drop, V: Drop, const PREFIX_LEN: usize> TreeMap<K, V, 
 fn move_into<K: NoPrefixesBytes + Drop, V: Drop, const P: usize>(
     from: &mut Tree<K, V, P>,
     to: &mut Tree<K, V, P>,
+    alloc: Global,
 ) -> Result<(), AllocError>
     ensures appended { OnOk result (IsAppended (bytes K.bytes) (pairs_of to.old.pairs)
         (pairs_of from.old.pairs) (pairs_of to.new.pairs)) }
@@ -68,23 +69,35 @@ fn move_into<K: NoPrefixesBytes + Drop, V: Drop, const P: usize>(
         return Ok(());
     }
     to.reserve(from.len())?;
-    move_all(from, to);
+    move_all(take_leaves(from, alloc), to);
     Ok(())
 }
 
-// Moves all pairs of one tree into another, which has the room.
-fn move_all<K: NoPrefixesBytes + Drop, V: Drop, const P: usize>(
+// Takes all leaves out of a tree, and frees its inner nodes.
+fn take_leaves<K: NoPrefixesBytes + Drop, V: Drop, const P: usize>(
     from: &mut Tree<K, V, P>,
-    to: &mut Tree<K, V, P>,
-)
-    requires { length from.old.pairs ≤ room to.old }
-    ensures appended { IsAppended (bytes K.bytes) (pairs_of to.old.pairs)
-        (pairs_of from.old.pairs) (pairs_of to.new.pairs) }
+    alloc: Global,
+) -> Leaves<K, V>
+    ensures pairs { result.pairs ≡ from.old.pairs }
     ensures emptied { from.new.pairs ≡ [] }
 {
-    from.law();
+    replace(from, Tree::new(alloc)).into_leaves()
+}
+
+// Moves all pairs of some leaves into a tree, which has the room: they win where both have the bytes.
+fn move_all<K: NoPrefixesBytes + Drop, V: Drop, const P: usize>(
+    from: Leaves<K, V>,
+    to: &mut Tree<K, V, P>,
+)
+    requires content { IsContent (bytes K.bytes) (pairs_of from.pairs) }
+    requires room { length from.pairs ≤ room to.old }
+    ensures { IsAppended (bytes K.bytes) (pairs_of to.old.pairs) (pairs_of from.pairs)
+        (pairs_of to.new.pairs) }
+{
     to.law();
+    let mut from = from;
     while let Some(id) = from.first() {
+        from.law();
         let (key, value) = from.remove(id);
         put_reserved(to, key, value);
     }

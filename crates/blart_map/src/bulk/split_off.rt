@@ -1,5 +1,5 @@
 //! A map parted in two.
-ghost use Rattle.std.specs.Prelude.{◌≡◌, ◌≢◌, ◌≤◌, ◌<◌, ◌++◌, ℕ, List, [], length, OnOk, IfOk, OnErr, None, if◌then◌else◌};
+ghost use Rattle.std.specs.Prelude.{◌≡◌, ◌≢◌, ◌≤◌, ◌<◌, ◌+◌, ◌++◌, ℕ, List, [], length, OnOk, IfOk, OnErr, None, if◌then◌else◌};
 ghost use Rattle.std.specs.declared.ops.Bound.TheVariants.{Included, Excluded, Unbounded};
 ghost use Rattle.blart_keys.specs.Bytes.{less};
 ghost use Rattle.blart_keys.specs.Content.{between};
@@ -22,7 +22,7 @@ use std::ops::Bound;
 impl<K: AsBytes + Drop, V: Drop, const PREFIX_LEN: usize> TreeMap<K, V, PREFIX_LEN> {
     /// Keeps the pairs whose keys' bytes are less than the query's, and gives a map of the others.
     ///
-    /// It takes the memory for the pairs that move before any of them does; an error leaves the map as it was. Where no pair moves, or all do, it takes none. Its cost is that of the pairs that move.
+    /// The pairs on the side that has fewer move, and where those are the ones that stay, the two maps are exchanged. It takes the memory for the pairs that move before any of them does; an error leaves the map as it was. Where no pair moves, or all do, it takes none. Its cost is that of the pairs that move.
     ///
     /// ```
     /// map.try_insert("ant", 1)?;
@@ -50,7 +50,7 @@ impl<K: AsBytes + Drop, V: Drop, const PREFIX_LEN: usize> TreeMap<K, V, PREFIX_L
     {
         self.law();
         let mut tree = Tree::new(self.alloc);
-        let count = count_of(self.walk_from(query));
+        let count = self.count_from(query);
         part(&mut self.tree, &mut tree, count)?;
         Ok(TreeMap {
             tree,
@@ -70,22 +70,49 @@ impl<K: AsBytes + Drop, V: Drop, const PREFIX_LEN: usize> TreeMap<K, V, PREFIX_L
         let start = Bound::Included(query.as_bytes());
         Range::new(&self.tree, start, Bound::Unbounded, &mut Visits::new())
     }
+    // The pairs whose keys' bytes are less than the query's.
+    #[tactic(auto, unfolding(crate::specs::Content::pairs))]
+    fn walk_below<Q: AsBytes>(&self, query: &Q) -> Range<'_, K, V, PREFIX_LEN>
+        ensures { result
+            ≡ between (bytes K.bytes) (pairs self.now)
+            Unbounded (Excluded (Q.bytes query.now)) }
+    {
+        self.law();
+        let end = Bound::Excluded(query.as_bytes());
+        Range::new(&self.tree, Bound::Unbounded, end, &mut Visits::new())
+    }
+
+    // How many keys' bytes are not less than the query's.
+    fn count_from<Q: AsBytes>(&self, query: &Q) -> usize
+        ensures { result ≡ length (between (bytes K.bytes) (pairs self.now)
+            (Included (Q.bytes query.now)) Unbounded) }
+    {
+        self.law();
+        count_behind(self.walk_below(query), self.walk_from(query), self.len())
+    }
 }
 
-// How many pairs a walk has.
-fn count_of<K, V, const P: usize>(walk: Range<'_, K, V, P>) -> usize
-    requires { CanCount walk }
-    ensures { result ≡ length walk.entry }
+// How many of so many pairs the second of two walks has, which together have all. It goes no further than the shorter walk.
+fn count_behind<K, V, const P: usize>(
+    low: Range<'_, K, V, P>,
+    high: Range<'_, K, V, P>,
+    len: usize,
+) -> usize
+    requires { length low + length high ≡ len }
+    ensures { result ≡ length high.entry }
 {
-    let mut walk = walk;
+    let (mut low, mut high) = (low, high);
     let mut count = 0;
-    while let Some(_) = walk.next() {
+    while let Some(_) = high.next() {
+        if low.next().is_none() {
+            return len - count;
+        }
         count += 1;
     }
     count
 }
 
-// Moves the last pairs of one tree, so many, into an empty one: all of them at once, or one by one once there is room.
+// Moves the last pairs of one tree, so many, into an empty one, once there is room; or the first, where those are fewer, and exchanges the two.
 fn part<K: AsBytes + Drop, V: Drop, const P: usize>(
     from: &mut Tree<K, V, P>,
     to: &mut Tree<K, V, P>,
@@ -99,7 +126,10 @@ fn part<K: AsBytes + Drop, V: Drop, const P: usize>(
     ensures err { OnErr result (from.new.pairs ≡ from.old.pairs) }
     ensures refused { OnErr result (0 < count) }
 {
-    if count == from.len() {
+    let low = from.len() - count;
+    if low <= count {
+        to.reserve(low)?;
+        move_first(from, to, low);
         swap(from, to);
     } else {
         to.reserve(count)?;
@@ -125,6 +155,29 @@ fn move_last<K: AsBytes + Drop, V: Drop, const P: usize>(
     for _ in 0..count {
         from.law();
         let Some(id) = from.last() else {
+            unreachable!()
+        };
+        let (key, value) = from.remove(id);
+        place_reserved(to, key, value);
+    }
+}
+
+// Moves the first pairs of one tree, so many, into an empty one, which has the room.
+fn move_first<K: AsBytes + Drop, V: Drop, const P: usize>(
+    from: &mut Tree<K, V, P>,
+    to: &mut Tree<K, V, P>,
+    count: usize,
+)
+    requires enough { count ≤ length from.old.pairs }
+    requires empty { to.old.pairs ≡ [] }
+    requires room { count ≤ room to.old }
+    ensures whole { pairs_of from.old.pairs
+        ≡ pairs_of to.new.pairs ++ pairs_of from.new.pairs }
+    ensures moved { length (pairs_of to.new.pairs) ≡ count }
+{
+    from.law();
+    for _ in 0..count {
+        let Some(id) = from.first() else {
             unreachable!()
         };
         let (key, value) = from.remove(id);

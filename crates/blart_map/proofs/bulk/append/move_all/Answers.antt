@@ -13,8 +13,8 @@ pub loop-id-init : goal.loop-id-init
 loop-id-init g c = record {
   moved = [];
   whole = refl;
-  union = union_start (bytes g.K.AsBytes.bytes) (pairs_of c.args.to.now.pairs) (content_map (λ p. p.1) (bytes g.K.AsBytes.bytes) c.args.to.now.pairs c.law-2.ensures.content);
-  room = c.requires;
+  union = union_start (bytes g.K.AsBytes.bytes) (pairs_of c.args.to.now.pairs) (content_map (λ p. p.1) (bytes g.K.AsBytes.bytes) c.args.to.now.pairs c.law.ensures.content);
+  room = c.requires.room;
 }
 
 pub loop-id-preserved : goal.loop-id-preserved
@@ -28,7 +28,7 @@ loop-id-preserved g c =
     let rest = c.remove-key.ensures.rest in
     let cut : pairs_of ps ≡ x ∷ pairs_of new = first_pair ps c.in-Some.id x is c.remove-key.ensures.value ∙ ap (λ l. x ∷ pairs_of l) (sym rest) in
     let whole = i.whole ∙ ap (λ l. i.moved ++ l) cut in
-    let content = content_map (λ p. p.1) (bytes kb) c.args.from.now.pairs c.law.ensures.content in
+    let content = c.requires.content in
     let fresh = fresh_behind (bytes kb) i.moved (pairs_of new) x (subst (IsContent (bytes kb)) whole content) in
     let less : length new + 1 ≡ length ps = ap (λ (l : List _). length l + 1) rest ∙ length-without_number ps c.in-Some.id (first_has ps c.in-Some.id is) in
     record {
@@ -38,8 +38,8 @@ loop-id-preserved g c =
       room = omega (arith, c.put_reserved.ensures.room, i.room);
     }
 
-pub returns-clause-appended : goal.returns-clause-appended
-returns-clause-appended g c =
+pub returns : goal.returns
+returns g c =
     let i = c.loop-id.invariant in
     let none : pairs_of c.loop-id.from.pairs ≡ [] = ap pairs_of (no_first c.loop-id.from.pairs (sym c.in_default.ensures)) in
     let whole = i.whole ∙ ap (λ l. i.moved ++ l) none ∙ append-nil i.moved in

@@ -11,7 +11,7 @@ pub part-requires : goal.part-requires
 unfolding pairs
 part-requires g c =
     let kb = g.K.AsBytes.bytes in
-    let count = c.count_of-count.ensures ∙ ap (λ (l : List _). length l) c.walk_from.ensures.value in
+    let count = c.count_from-count.ensures in
     let short = from_short (bytes kb) (g.Q.AsBytes.bytes c.args.query.now) (pairs_of c.args.self.now) c.law.ensures.content in
     let same : length c.args.self.now ≡ length c.self.inside.tree.pairs = ap (λ (l : List _). length l) (sym c.self.view_is) in
     (lit< tt, (omega (arith, count, short, length-map c.args.self.now (λ p. p.1), same), c.new-tree.ensures.pairs))
@@ -21,7 +21,7 @@ unfolding pairs
 returns-clause-below g c =
     let kb = g.K.AsBytes.bytes in
     let whole = sym (ap pairs_of c.self.view_is) ∙ c.in_ok-part.ensures.whole in
-    let count = c.in_ok-part.ensures.moved ∙ c.count_of-count.ensures ∙ ap (λ (l : List _). length l) c.walk_from.ensures.value in
+    let count = c.in_ok-part.ensures.moved ∙ c.count_from-count.ensures in
     (parted (bytes kb) (g.Q.AsBytes.bytes c.args.query.now) (pairs_of c.args.self.now) (pairs_of c.part.new.from.pairs) (pairs_of c.part.new.to.pairs) c.law.ensures.content whole count).0
 
 pub returns-clause-from : goal.returns-clause-from
@@ -29,7 +29,7 @@ unfolding pairs
 returns-clause-from g c =
     let kb = g.K.AsBytes.bytes in
     let whole = sym (ap pairs_of c.self.view_is) ∙ c.in_ok-part.ensures.whole in
-    let count = c.in_ok-part.ensures.moved ∙ c.count_of-count.ensures ∙ ap (λ (l : List _). length l) c.walk_from.ensures.value in
+    let count = c.in_ok-part.ensures.moved ∙ c.count_from-count.ensures in
     (parted (bytes kb) (g.Q.AsBytes.bytes c.args.query.now) (pairs_of c.args.self.now) (pairs_of c.part.new.from.pairs) (pairs_of c.part.new.to.pairs) c.law.ensures.content whole count).1
 
 pub returns-clause-kept : goal.returns-clause-kept

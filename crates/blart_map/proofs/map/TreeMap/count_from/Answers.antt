@@ -1,0 +1,15 @@
+use Rattle.std.proofs.Common.{List, length, lit<, ap, sym, ◌∙◌, arith}
+use Rattle.std.proofs.lemmas.List.{length-map}
+use Rattle.blart_keys.specs.Steps.{bytes}
+use Rattle.blart_map.specs.Content.{pairs}
+use Rattle.blart_map.proofs.Parting.{part_lengths}
+use Rattle.blart_map.proofs.map.TreeMap.count_from.Goals as goal
+
+pub count_behind-requires : goal.count_behind-requires
+unfolding pairs
+count_behind-requires g c =
+    let kb = g.K.AsBytes.bytes in
+    let low = ap (λ (l : List _). length l) c.walk_below.ensures in
+    let high = ap (λ (l : List _). length l) c.walk_from.ensures.value in
+    let whole = part_lengths (bytes kb) (g.Q.AsBytes.bytes c.args.query.now) (pairs c.args.self.now) c.law.ensures.content in
+    (lit< tt, omega (arith, low, high, whole, c.len.ensures))
