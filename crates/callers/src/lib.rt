@@ -12,6 +12,7 @@ mod parts;
 mod prefix_entries;
 mod queues;
 mod routes;
+mod sets;
 mod sums;
 mod walks;
 
@@ -24,5 +25,6 @@ pub use parts::{give_all, have_one_digest, later, part_and_join};
 pub use prefix_entries::{count_over, merge_routes, set_over};
 pub use queues::{following, take_least, take_next, to_end};
 pub use routes::{AddError, Table, hit, route, take_over};
+pub use sets::join;
 pub use sums::{count_between, sum_below, sum_below_chain};
 pub use walks::{from_both_ends, get_by_front};
