@@ -1,3 +1,7 @@
+pub mod Cloned
+pub mod Compared
+pub mod Images
+pub mod Laws
 pub mod Lawful
 pub mod Merged
 pub mod Orders

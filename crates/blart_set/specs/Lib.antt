@@ -1,3 +1,4 @@
+pub mod Clones
 pub mod Elements
 pub mod Merge
 pub mod Merging

@@ -5,9 +5,12 @@
 //! strictly ascend, and no element's bytes begin another's.
 #![tactic(auto)]
 
+mod bulk;
 mod changes;
+mod compare;
 mod insertions;
 mod merges;
+mod operators;
 mod relations;
 mod set;
 mod walks;

@@ -25,6 +25,7 @@ use std::marker::Model;
 #[derive(Drop)]
 pub struct TreeSet<K: AsBytes, const PREFIX_LEN: usize> {
     pub(crate) map: TreeMap<K, (), PREFIX_LEN>,
+    pub(crate) alloc: Global,
 }
 
 impl<K: AsBytes, const PREFIX_LEN: usize> Model for TreeSet<K, PREFIX_LEN> {
@@ -53,6 +54,7 @@ impl<K: AsBytes + Drop, const PREFIX_LEN: usize> TreeSet<K, PREFIX_LEN> {
     {
         TreeSet {
             map: TreeMap::with_prefix_len(alloc),
+            alloc,
         }
     }
 

@@ -13,6 +13,7 @@ mod prefix_entries;
 mod queues;
 mod router;
 mod routes;
+mod sets;
 mod sums;
 mod walks;
 
@@ -26,5 +27,6 @@ pub use prefix_entries::{count_over, merge_routes, set_over};
 pub use queues::{following, take_least, take_next, to_end};
 pub use router::{Handler, asked, site};
 pub use routes::{AddError, Table, hit, route, take_over};
+pub use sets::join;
 pub use sums::{count_between, sum_below, sum_below_chain};
 pub use walks::{from_both_ends, get_by_front};

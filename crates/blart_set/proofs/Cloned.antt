@@ -1,0 +1,91 @@
+-- Clones of elements that ascend, put one behind the other.
+use Rattle.std.proofs.Common.{◌≡◌, ◌≢◌, ℕ, true, false, inl, inr, List, [], ◌∷◌, ◌++◌, map, Option, Some, None, refl, sym, ap, ◌∙◌, subst, Contains, append_assoc, append-nil}
+use denote.Ref.{Bor}
+use Rattle.std.proofs.lemmas.Bool.{false≢true}
+use Rattle.std.specs.Iterator.{Drains, Yields, YieldsFirstRef}
+use Rattle.std.specs.List.{AllByRecursion, AllZip}
+use Rattle.std.specs.Prelude.{Result, Ok, Err, MatchResult, IfOk, OnErr}
+use Rattle.blart_keys.specs.Bulk.{PutsAll}
+use Rattle.blart_keys.specs.Bytes.{less}
+use Rattle.blart_keys.specs.Content.{Ascends, IsPut}
+use Rattle.blart_keys.proofs.MergeLemmas.{Lower, same_ascending}
+use Rattle.blart_keys.proofs.PartLemmas.{less-irrefl}
+use Rattle.blart_keys.proofs.PutLemmas.{put_member, member_put}
+use Rattle.blart_keys.proofs.RankLemmas.{Member, each_member, from_each_member, Contains-from_Member, Member-from_Contains, Member-append_left, Member-append_right, Member-append_cases, Ranked, Ranked-from_AllPairs, AllPairs-from_Ranked, Ranked-left, Ranked-right, Ranked-across}
+use Rattle.blart_set.specs.Clones.{KeepsBytes, AreElementClones, MakesClones}
+
+-- what is behind a reference
+abbrev pub now : {A : Type 0} → Bor A → A
+now x = x.now
+
+-- one more on either side
+pub zip_more : {A B : Type 0} (R : A → B → Type 0) (xs : List A) (ys : List B) (x : A) (y : B) → AllZip R xs ys → R x y → AllZip R (xs ++ x ∷ []) (ys ++ y ∷ [])
+zip_more R [] [] x y h r = (r, tt)
+zip_more R [] (w ∷ ys) x y h r = absurd h
+zip_more R (z ∷ xs) [] x y h r = absurd h
+zip_more R (z ∷ xs) (w ∷ ys) x y h r = (h.0, zip_more R xs ys x y h.1 r)
+
+-- an iterator whose state shows what is left gives that
+pub all_drained : {S A : Type 0} (rest : S → List A) (s : S) (xs : List (Bor A)) → Drains (YieldsFirstRef rest) s xs → map (λ x. x.now) xs ≡ rest s
+all_drained rest s [] d = sym (ap rest d.1.1 ∙ d.1.2.0)
+all_drained rest s (x ∷ xs) d = ap (λ l. x.now ∷ l) (all_drained rest d.1.1.0 xs (d.0, (d.1.0, d.1.1.2, d.1.2))) ∙ sym d.1.1.1
+
+module _ {K : Type 0} (kb : K → List ℕ) where
+  -- ---- elements that ascend, put in turn
+
+  -- one that is behind all is put last
+  put_last : (T : List K) (y : K) (T' : List K) → Ranked (Lower kb) (T ++ y ∷ []) → IsPut kb T y T' → T' ≡ T ++ y ∷ []
+  put_last T y T' r put = same_ascending kb T' (T ++ y ∷ []) put.content.ascends (AllPairs-from_Ranked (Lower kb) (T ++ y ∷ []) r) (λ x. (
+    λ m. Contains-from_Member x (T ++ y ∷ []) (elim (put_member kb T T' y x put (Member-from_Contains x T' m)) [
+      | inl e ↦ Member-append_right x T (y ∷ []) (inl (sym e))
+      | inr n ↦ Member-append_left x T (y ∷ []) n.0
+    ]),
+    λ m. Contains-from_Member x T' (elim (Member-append_cases x T (y ∷ []) (Member-from_Contains x (T ++ y ∷ []) m)) [
+      | inl n ↦ member_put kb T T' y x put n (λ e. false≢true (sym (less-irrefl (kb y)) ∙ subst (λ q. less q (kb y) ≡ true) e (Ranked-across (Lower kb) T (y ∷ []) r x y n (inl refl))))
+      | inr (inl e) ↦ subst (λ z. Member z T') e (Member-from_Contains y T' put.there)
+      | inr (inr n) ↦ absurd n
+    ]),
+  ))
+
+  -- all of them are there then, in order
+  pub puts_in_order : (T ys S : List K) → Ranked (Lower kb) (T ++ ys) → PutsAll kb T ys S → S ≡ T ++ ys
+  puts_in_order T [] S r h = h ∙ sym (append-nil T)
+  puts_in_order T (y ∷ ys) S r h =
+      let on = subst (Ranked (Lower kb)) (sym (append_assoc T (y ∷ []) ys)) r in
+      let e = put_last T y h.0 (Ranked-left (Lower kb) (T ++ y ∷ []) ys on) h.1 in
+      puts_in_order (T ++ y ∷ []) ys S on (subst (λ R. PutsAll kb R ys S) e h.2) ∙ append_assoc T (y ∷ []) ys
+
+  -- ---- clones of elements
+
+  module _ (is_clone : K → K → Type 0) where
+    zip_bytes : (xs ys : List K) → ((x y : K) → Member x xs → is_clone x y → kb y ≡ kb x) → AllZip is_clone xs ys → AreElementClones kb is_clone xs ys
+    zip_bytes [] [] k h = tt
+    zip_bytes [] (y ∷ ys) k h = absurd h
+    zip_bytes (x ∷ xs) [] k h = absurd h
+    zip_bytes (x ∷ xs) (y ∷ ys) k h = (record { clone = h.0; bytes = k x y (inl refl) h.0 }, zip_bytes xs ys (λ z w m. k z w (inr m)) h.1)
+
+    clones_below : (x y : K) (xs ys : List K) → kb y ≡ kb x → AreElementClones kb is_clone xs ys → AllByRecursion (Lower kb x) xs → AllByRecursion (Lower kb y) ys
+    clones_below x y [] [] e h l = tt
+    clones_below x y [] (w ∷ ys) e h l = absurd h
+    clones_below x y (z ∷ xs) [] e h l = absurd h
+    clones_below x y (z ∷ xs) (w ∷ ys) e h l =
+        (subst (λ q. less q (kb w) ≡ true) (sym e) (subst (λ q. less (kb x) q ≡ true) (sym h.0.bytes) l.0), clones_below x y xs ys e h.1 l.1)
+
+    -- clones of elements that ascend do so too
+    clones_ranked : (xs ys : List K) → AreElementClones kb is_clone xs ys → Ranked (Lower kb) xs → Ranked (Lower kb) ys
+    clones_ranked [] [] h r = tt
+    clones_ranked [] (y ∷ ys) h r = absurd h
+    clones_ranked (x ∷ xs) [] h r = absurd h
+    clones_ranked (x ∷ xs) (y ∷ ys) h r = (clones_below x y xs ys h.0.bytes h.1 r.0, clones_ranked xs ys h.1 r.1)
+
+    -- a set into which clones were put of what an iterator gave, whose state shows that it gives U
+    module _ {S A E : Type 0} (elements : A → List K) (rest : S → List K) (s : S) (U : List K) (shows : rest s ≡ U) (ascends : Ascends kb U) (keeps : KeepsBytes kb is_clone U) where
+      pub all_cloned : (r : Result A E)
+          → IfOk r (λ set. (xs : List (Bor K)) × (ys : List K) × Drains (YieldsFirstRef rest) s xs × AllZip is_clone (map (λ x. x.now) xs) ys × PutsAll kb [] ys (elements set))
+          → OnErr r ((x : Bor K) × (t : S) × YieldsFirstRef rest s (Some x) t)
+          → MatchResult r (λ set. AreElementClones kb is_clone U (elements set)) (λ _. U ≢ [])
+      all_cloned (Ok set) h n =
+          let zipped = subst (λ l. AllZip is_clone l h.1) (all_drained rest s h.0 h.2 ∙ shows) h.3 in
+          let clones = zip_bytes U h.1 (λ x y m. keeps x y (Contains-from_Member x U m)) zipped in
+          subst (AreElementClones kb is_clone U) (sym (puts_in_order [] h.1 (elements set) (clones_ranked U h.1 clones (Ranked-from_AllPairs (Lower kb) U ascends)) h.4)) clones
+      all_cloned (Err e) h n = λ none. (let c : n.0.now ∷ rest n.1 ≡ [] = sym n.2 ∙ shows ∙ none in absurd cc)

@@ -1,0 +1,112 @@
+-- What many pairs of a map of units say of the list of its keys.
+use Rattle.std.proofs.Common.{◌≡◌, ◌≢◌, ℕ, false, inl, inr, List, [], ◌∷◌, ◌++◌, map, refl, sym, ap, ◌∙◌, subst, Contains, bytes_eq}
+use Rattle.std.specs.List.{AllByRecursion}
+use Rattle.std.proofs.lemmas.List.{map-append}
+use Rattle.std.specs.Prelude.{Result, Ok, Err, OnOk, OnErr, IfOk}
+use Rattle.std.specs.declared.ops.Bound.{Bound}
+use Rattle.blart_keys.specs.Content.{Ascends, stores, between, IsContent}
+use Rattle.blart_keys.specs.Merges.{IsUnion}
+use Rattle.blart_keys.specs.Steps.{bytes}
+use Rattle.blart_keys.proofs.RankLemmas.{Member, Contains-from_Member, Member-from_Contains, Ranked, Ranked-from_AllPairs, AllPairs-from_Ranked}
+use Rattle.blart_keys.proofs.ContentLemmas.{Before, Ranked-from_content, content_from_Ranked}
+use Rattle.blart_keys.proofs.MergeLemmas.{Lower}
+use Rattle.blart_keys.proofs.Mapped.{Member-map, Member-from_map, list_any-map}
+use Rattle.blart_map.specs.Bulk.{AreClones}
+use Rattle.blart_set.specs.Clones.{KeepsBytes, AreElementClones}
+use Rattle.blart_set.proofs.Pairs.{keys, between-keys}
+
+module _ {X Y : Type 0} (f : X → Y) where
+  images_all : (P : Y → Type 0) (xs : List X) → AllByRecursion (λ x. P (f x)) xs → AllByRecursion P (map f xs)
+  images_all P [] h = tt
+  images_all P (x ∷ xs) h = (h.0, images_all P xs h.1)
+
+  images_ranked : (R : Y → Y → Type 0) (xs : List X) → Ranked (λ x y. R (f x) (f y)) xs → Ranked R (map f xs)
+  images_ranked R [] h = tt
+  images_ranked R (x ∷ xs) h = (images_all (R (f x)) xs h.0, images_ranked R xs h.1)
+
+  items_all : (P : Y → Type 0) (xs : List X) → AllByRecursion P (map f xs) → AllByRecursion (λ x. P (f x)) xs
+  items_all P [] h = tt
+  items_all P (x ∷ xs) h = (h.0, items_all P xs h.1)
+
+  items_ranked : (R : Y → Y → Type 0) (xs : List X) → Ranked R (map f xs) → Ranked (λ x y. R (f x) (f y)) xs
+  items_ranked R [] h = tt
+  items_ranked R (x ∷ xs) h = (items_all (R (f x)) xs h.0, items_ranked R xs h.1)
+
+  -- the images of no items are none, and of some some
+  pub some_images : (xs : List X) → xs ≢ [] → map f xs ≢ []
+  some_images [] n e = n refl
+  some_images (x ∷ xs) n e = absurd cc
+
+  module _ (bytes : Y → List ℕ) where
+    -- items whose images are a content are one
+    pub items_content : (xs : List X) → IsContent bytes (map f xs) → IsContent (λ x. bytes (f x)) xs
+    items_content xs c = content_from_Ranked (λ x. bytes (f x)) xs (items_ranked (Before bytes) xs (Ranked-from_content bytes (map f xs) c))
+
+    -- the images of a union are a union
+    pub union_images : (A B U : List X) → IsUnion (λ x. bytes (f x)) A B U → IsUnion bytes (map f A) (map f B) (map f U)
+    union_images A B U u = record {
+      ascends = AllPairs-from_Ranked (Lower bytes) (map f U) (images_ranked (Lower bytes) U (Ranked-from_AllPairs (Lower (λ x. bytes (f x))) U u.ascends));
+      elements = λ y. (
+        λ m. (
+            let r = Member-from_map f y U (Member-from_Contains y (map f U) m) in
+            elim ((u.elements r.0).0 (Contains-from_Member r.0 U r.1)) [
+              | inl a ↦ inl (image y A r.0 a r.2)
+              | inr b ↦ inr (image y B r.0 b.0 r.2, lacked y A r.0 b.1 r.2)
+            ]),
+        λ m. elim m [
+          | inl a ↦ let r = Member-from_map f y A (Member-from_Contains y (map f A) a) in image y U r.0 ((u.elements r.0).1 (inl (Contains-from_Member r.0 A r.1))) r.2
+          | inr b ↦
+              let r = Member-from_map f y B (Member-from_Contains y (map f B) b.0) in
+              image y U r.0 ((u.elements r.0).1 (inr (Contains-from_Member r.0 B r.1, lacks y A r.0 b.1 r.2))) r.2
+        ],
+      );
+    }
+      where
+        image : (y : Y) (S : List X) (x : X) → Contains S x → f x ≡ y → Contains (map f S) y
+        image y S x m e = subst (Contains (map f S)) e (Contains-from_Member (f x) (map f S) (Member-map f x S (Member-from_Contains x S m)))
+
+        lacked : (y : Y) (S : List X) (x : X) → stores (λ x. bytes (f x)) S (bytes (f x)) ≡ false → f x ≡ y → stores bytes (map f S) (bytes y) ≡ false
+        lacked y S x h e = subst (λ z. stores bytes (map f S) (bytes z) ≡ false) e (list_any-map f (λ z. bytes_eq (bytes z) (bytes (f x))) S ∙ h)
+
+        lacks : (y : Y) (S : List X) (x : X) → stores bytes (map f S) (bytes y) ≡ false → f x ≡ y → stores (λ x. bytes (f x)) S (bytes (f x)) ≡ false
+        lacks y S x h e = sym (list_any-map f (λ z. bytes_eq (bytes z) (bytes (f x))) S) ∙ subst (λ z. stores bytes (map f S) (bytes z) ≡ false) (sym e) h
+
+module _ {K V : Type 0} (kb : K → List ℕ) where
+  -- two sets of which the second was appended to the first
+  pub appended-keys : {A E : Type 0} (r : Result A E) (S T U : List (K × V)) → OnOk r (IsUnion (bytes kb) T S U) → OnOk r (IsUnion kb (keys kb T) (keys kb S) (keys kb U))
+  appended-keys (Ok a) S T U u = union_images (λ p. p.0) kb T S U u
+  appended-keys (Err e) S T U u = tt
+
+  -- where the one lies behind the other
+  pub joined-keys : {A E : Type 0} (r : Result A E) (S T U : List (K × V)) → OnOk r ((W : List (K × V)) → IsContent (bytes kb) W → W ≡ S ++ T → U ≡ W) → OnOk r ((W : List K) → IsContent kb W → W ≡ keys kb S ++ keys kb T → keys kb U ≡ W)
+  joined-keys (Ok a) S T U h = λ W c e.
+      let whole : W ≡ keys kb (S ++ T) = e ∙ sym (map-append (λ (p : K × V). p.0) S T) in
+      ap (keys kb) (h (S ++ T) (items_content (λ p. p.0) kb (S ++ T) (subst (IsContent kb) whole c)) refl) ∙ sym whole
+  joined-keys (Err e) S T U h = tt
+
+  pub nothing-keys : {A E : Type 0} (r : Result A E) (S : List (K × V)) → OnOk r (S ≡ []) → OnOk r (keys kb S ≡ [])
+  nothing-keys (Ok a) S e = ap (keys kb) e
+  nothing-keys (Err e) S h = tt
+
+  pub refused-keys : {A E : Type 0} (r : Result A E) (S : List (K × V)) → OnErr r (S ≢ []) → OnErr r (keys kb S ≢ [])
+  refused-keys (Ok a) S h = tt
+  refused-keys (Err e) S h = some_images (λ p. p.0) S h
+
+  -- the elements that move are the keys of the pairs that do
+  pub some_between-keys : (S : List (K × V)) (lo hi : Bound (List ℕ)) → between (bytes kb) S lo hi ≢ [] → between kb (keys kb S) lo hi ≢ []
+  some_between-keys S lo hi n e = some_images (λ p. p.0) (between (bytes kb) S lo hi) n (sym (between-keys kb S lo hi) ∙ e)
+
+  pub whole-keys : (S A B : List (K × V)) → S ≡ A ++ B → keys kb S ≡ keys kb A ++ keys kb B
+  whole-keys S A B e = ap (keys kb) e ∙ map-append (λ (p : K × V). p.0) A B
+
+  module _ (is_clone : K → K → Type 0) (is_value : V → V → Type 0) where
+    -- a clone of a key keeps its bytes where one of the element does
+    pub keeps-keys : (S : List (K × V)) → KeepsBytes kb is_clone (keys kb S) → (k j : K) (v : V) → Contains S (k, v) → is_clone k j → kb j ≡ kb k
+    keeps-keys S h k j v m c = h k j (Contains-from_Member k (keys kb S) (Member-map (λ (p : K × V). p.0) (k, v) S (Member-from_Contains (k, v) S m))) c
+
+    -- clones of pairs have clones of the keys
+    pub clones-keys : (S T : List (K × V)) → AreClones kb is_clone is_value S T → AreElementClones kb is_clone (keys kb S) (keys kb T)
+    clones-keys [] [] h = tt
+    clones-keys [] (y ∷ T) h = absurd h
+    clones-keys (x ∷ S) [] h = absurd h
+    clones-keys (x ∷ S) (y ∷ T) h = (record { clone = h.0.key; bytes = h.0.bytes }, clones-keys S T h.1)

@@ -1,0 +1,134 @@
+-- Laws of merges, and of byte order, that a caller cites.
+use Rattle.std.proofs.Common.{◌≡◌, ℕ, suc, ◌+◌, Bool, true, false, not, ◌&&◌, ◌||◌, cond, inl, inr, List, [], ◌∷◌, length, arith, refl, sym, ap, ◌∙◌, subst, filter, Contains, bytes_eq, Ordering, Less}
+use Rattle.std.specs.Prelude.{AllPairs, if◌then◌else◌}
+use Rattle.std.specs.Cmp.Lexicographic.{bytes_decides}
+use Rattle.std.proofs.lemmas.Bool.{false≢true, cases_Bool, not-true, not_from_false, false_from_ne_true}
+use Rattle.blart_keys.specs.Bytes.{less}
+use Rattle.blart_keys.specs.Content.{Ascends, stores}
+use Rattle.blart_keys.specs.Keys.{OrderedAs}
+use Rattle.blart_keys.specs.Merges.{IsUnion, IsSymmetricDifference, intersection, difference}
+use Rattle.blart_keys.proofs.ContentLemmas.{stores_member, stores_found}
+use Rattle.blart_keys.proofs.MergeLemmas.{same_ascending, filter_ascends, intersection_elements, difference_elements}
+use Rattle.blart_keys.proofs.RankLemmas.{Member, Contains-from_Member, Member-from_Contains, filter_member, member_filter}
+use Rattle.blart_set.specs.Clones.{AreElementClones}
+use Rattle.blart_set.proofs.Orders.{less_cmp}
+-- which elements a union has, and that merges are one list
+pub use Rattle.blart_keys.proofs.MergeLemmas.{union_parts, union_unique, symmetric_unique}
+
+-- a list is the items that pass and the others
+len_parts : {X : Type 0} (p : X → Bool) (S : List X) → length S ≡ length (filter p S) + length (filter (λ x. not (p x)) S)
+len_parts p [] = refl
+len_parts {X} p (x ∷ S) = go (len_parts p S) (p x)
+  where
+    go : length S ≡ length (filter p S) + length (filter (λ x. not (p x)) S) → (b : Bool) → suc (length S) ≡ length (cond b (x ∷ filter p S) (filter p S)) + length (cond (not b) (x ∷ filter (λ x. not (p x)) S) (filter (λ x. not (p x)) S))
+    go e true = omega (arith, e)
+    go e false = omega (arith, e)
+
+-- two tests that find the same
+same_test : (a b : Bool) → (a ≡ true → b ≡ true) → (b ≡ true → a ≡ true) → a ≡ b
+same_test true b f g = sym (f refl)
+same_test false true f g = g refl
+same_test false false f g = refl
+
+module _ {X : Type 0} (bytes : X → List ℕ) where
+  stored : (S : List X) (x : X) → Contains S x → stores bytes S (bytes x) ≡ true
+  stored S x c = stores_member bytes S (bytes x) x (Member-from_Contains x S c) refl
+
+  -- ---- a union is the one set and the other's difference, each once
+
+  module _ (A B U : List X) (u : IsUnion bytes A B U) where
+    -- the elements of a union whose bytes the left set has are the left set
+    pub union_left : Ascends bytes A → filter (λ x. stores bytes A (bytes x)) U ≡ A
+    union_left a = same_ascending bytes (filter (λ x. stores bytes A (bytes x)) U) A (filter_ascends bytes (λ x. stores bytes A (bytes x)) U u.ascends) a (λ x. (
+      λ m.
+          let r = filter_member (λ x. stores bytes A (bytes x)) U x (Member-from_Contains x (filter (λ x. stores bytes A (bytes x)) U) m) in
+          elim ((u.elements x).0 (Contains-from_Member x U r.0)) [ inl c ↦ c | inr c ↦ absurd (false≢true (sym c.1 ∙ r.1)) ],
+      λ m. Contains-from_Member x (filter (λ x. stores bytes A (bytes x)) U) (member_filter (λ x. stores bytes A (bytes x)) U x (Member-from_Contains x U ((u.elements x).1 (inl m))) (stored A x m)),
+    ))
+
+    -- the others are what the right set has and the left one lacks
+    pub union_right : Ascends bytes B → filter (λ x. not (stores bytes A (bytes x))) U ≡ difference bytes B A
+    union_right b = same_ascending bytes (filter (λ x. not (stores bytes A (bytes x))) U) (difference bytes B A) (filter_ascends bytes (λ x. not (stores bytes A (bytes x))) U u.ascends) (filter_ascends bytes (λ x. not (stores bytes A (bytes x))) B b) (λ x. (
+      λ m.
+          let r = filter_member (λ x. not (stores bytes A (bytes x))) U x (Member-from_Contains x (filter (λ x. not (stores bytes A (bytes x))) U) m) in
+          (difference_elements bytes B A x).1 (elim ((u.elements x).0 (Contains-from_Member x U r.0)) [ inl c ↦ absurd (false≢true (sym (not-true _ r.1) ∙ stored A x c)) | inr c ↦ c ]),
+      λ m.
+          let c = (difference_elements bytes B A x).0 m in
+          Contains-from_Member x (filter (λ x. not (stores bytes A (bytes x))) U) (member_filter (λ x. not (stores bytes A (bytes x))) U x (Member-from_Contains x U ((u.elements x).1 (inr c))) (not_from_false _ c.1)),
+    ))
+
+    -- it has as many elements as the difference, the intersection and the other's difference
+    pub union_count : Ascends bytes A → Ascends bytes B → length U ≡ length (difference bytes A B) + (length (intersection bytes A B) + length (difference bytes B A))
+    union_count a b =
+        let whole = len_parts (λ x. stores bytes A (bytes x)) U in
+        let left = ap (λ (l : List X). length l) (union_left a) in
+        let right = ap (λ (l : List X). length l) (union_right b) in
+        let parts = len_parts (λ x. stores bytes B (bytes x)) A in
+        omega (arith, whole, left, right, parts)
+
+    -- some element has the bytes where one of either set has
+    pub union_stores : (q : List ℕ) → stores bytes U q ≡ (stores bytes A q || stores bytes B q)
+    union_stores q = same_test (stores bytes U q) (stores bytes A q || stores bytes B q) there back
+      where
+        or_true : (a b : Bool) → b ≡ true → (a || b) ≡ true
+        or_true true b h = refl
+        or_true false b h = h
+
+        there : stores bytes U q ≡ true → (stores bytes A q || stores bytes B q) ≡ true
+        there h =
+            let r = stores_found bytes U q h in
+            elim ((u.elements r.0).0 (Contains-from_Member r.0 U r.1)) [
+              | inl c ↦ ap (λ a. a || stores bytes B q) (stores_member bytes A q r.0 (Member-from_Contains r.0 A c) r.2)
+              | inr c ↦ or_true (stores bytes A q) (stores bytes B q) (stores_member bytes B q r.0 (Member-from_Contains r.0 B c.0) r.2)
+            ]
+
+        back : (stores bytes A q || stores bytes B q) ≡ true → stores bytes U q ≡ true
+        back h = elim (cases_Bool (stores bytes A q)) [
+          | inl t ↦ let r = stores_found bytes A q t in stores_member bytes U q r.0 (Member-from_Contains r.0 U ((u.elements r.0).1 (inl (Contains-from_Member r.0 A r.1)))) r.2
+          | inr f ↦
+              let r = stores_found bytes B q (sym (ap (λ a. a || stores bytes B q) f) ∙ h) in
+              stores_member bytes U q r.0 (Member-from_Contains r.0 U ((u.elements r.0).1 (inr (Contains-from_Member r.0 B r.1, subst (λ p. stores bytes A p ≡ false) (sym r.2) f)))) r.2
+        ]
+
+  -- ---- a symmetric difference is both differences, each once
+
+  module _ (A B U : List X) (u : IsSymmetricDifference bytes A B U) where
+    pub symmetric_left : Ascends bytes A → filter (λ x. stores bytes A (bytes x)) U ≡ difference bytes A B
+    symmetric_left a = same_ascending bytes (filter (λ x. stores bytes A (bytes x)) U) (difference bytes A B) (filter_ascends bytes (λ x. stores bytes A (bytes x)) U u.ascends) (filter_ascends bytes (λ x. not (stores bytes B (bytes x))) A a) (λ x. (
+      λ m.
+          let r = filter_member (λ x. stores bytes A (bytes x)) U x (Member-from_Contains x (filter (λ x. stores bytes A (bytes x)) U) m) in
+          (difference_elements bytes A B x).1 (elim ((u.elements x).0 (Contains-from_Member x U r.0)) [ inl c ↦ c | inr c ↦ absurd (false≢true (sym c.1 ∙ r.1)) ]),
+      λ m.
+          let c = (difference_elements bytes A B x).0 m in
+          Contains-from_Member x (filter (λ x. stores bytes A (bytes x)) U) (member_filter (λ x. stores bytes A (bytes x)) U x (Member-from_Contains x U ((u.elements x).1 (inl c))) (stored A x c.0)),
+    ))
+
+    pub symmetric_right : Ascends bytes B → filter (λ x. not (stores bytes A (bytes x))) U ≡ difference bytes B A
+    symmetric_right b = same_ascending bytes (filter (λ x. not (stores bytes A (bytes x))) U) (difference bytes B A) (filter_ascends bytes (λ x. not (stores bytes A (bytes x))) U u.ascends) (filter_ascends bytes (λ x. not (stores bytes A (bytes x))) B b) (λ x. (
+      λ m.
+          let r = filter_member (λ x. not (stores bytes A (bytes x))) U x (Member-from_Contains x (filter (λ x. not (stores bytes A (bytes x))) U) m) in
+          (difference_elements bytes B A x).1 (elim ((u.elements x).0 (Contains-from_Member x U r.0)) [ inl c ↦ absurd (false≢true (sym (not-true _ r.1) ∙ stored A x c.0)) | inr c ↦ c ]),
+      λ m.
+          let c = (difference_elements bytes B A x).0 m in
+          Contains-from_Member x (filter (λ x. not (stores bytes A (bytes x))) U) (member_filter (λ x. not (stores bytes A (bytes x))) U x (Member-from_Contains x U ((u.elements x).1 (inr c))) (not_from_false _ c.1)),
+    ))
+
+    pub symmetric_count : Ascends bytes A → Ascends bytes B → length U ≡ length (difference bytes A B) + length (difference bytes B A)
+    symmetric_count a b =
+        let whole = len_parts (λ x. stores bytes A (bytes x)) U in
+        let left = ap (λ (l : List X). length l) (symmetric_left a) in
+        let right = ap (λ (l : List X). length l) (symmetric_right b) in
+        omega (arith, whole, left, right)
+
+  -- clones have the bytes of their elements
+  pub clones_store : (is_clone : X → X → Type 0) (S T : List X) → AreElementClones bytes is_clone S T → (q : List ℕ) → stores bytes T q ≡ stores bytes S q
+  clones_store is_clone [] [] h q = refl
+  clones_store is_clone [] (y ∷ T) h q = absurd h
+  clones_store is_clone (x ∷ S) [] h q = absurd h
+  clones_store is_clone (x ∷ S) (y ∷ T) h q = ap (λ p. bytes_eq p q || stores bytes T q) h.0.bytes ∙ ap (λ b. bytes_eq (bytes x) q || b) (clones_store is_clone S T h.1 q)
+
+  -- ---- for keys that compare as their bytes do, byte order is their own
+
+  module _ (IsValue : X → Type 0) (cmp : X → X → Ordering) (ordered : OrderedAs bytes IsValue cmp) where
+    pub ordered_less : (x y : X) → IsValue x → IsValue y → less (bytes x) (bytes y) ≡ true → cmp x y ≡ Less
+    ordered_less x y v w h = ordered x y v w ∙ less_cmp (bytes x) (bytes y) h

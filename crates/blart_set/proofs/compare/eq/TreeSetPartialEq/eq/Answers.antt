@@ -1,0 +1,9 @@
+use Rattle.std.proofs.Common.{◌∙◌}
+use Rattle.blart_map.specs.Content.{pairs}
+use Rattle.blart_set.specs.Elements.{elements}
+use Rattle.blart_set.proofs.Compared.{pointwise-keys}
+use Rattle.blart_set.proofs.compare.eq.TreeSetPartialEq.eq.Goals as goal
+
+pub returns : goal.returns
+unfolding elements
+returns g c = rw (← c.self.view_is) (rw (← c.other.view_is) (c.eq.ensures ∙ pointwise-keys g.K.PartialEq.eq (pairs c.self.inside.map) (pairs c.other.inside.map)))

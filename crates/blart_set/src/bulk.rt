@@ -1,0 +1,6 @@
+//! Many elements at once.
+mod append;
+mod clone;
+mod extend;
+mod from;
+mod split_off;

@@ -1,0 +1,35 @@
+//! A second set of the same elements.
+ghost use Rattle.std.specs.Prelude.{◌≢◌, [], IfOk, OnErr};
+ghost use Rattle.blart_set.specs.Clones.{KeepsBytes, AreElementClones};
+ghost use Rattle.blart_set.specs.Elements.{elements};
+
+use crate::set::TreeSet;
+use blart_keys::AsBytes;
+use std::alloc::AllocError;
+use std::clone::Clone;
+
+impl<K: AsBytes + Clone, const PREFIX_LEN: usize> TreeSet<K, PREFIX_LEN> {
+    /// A set of clones of the elements. A clone of an element has the same bytes.
+    ///
+    /// It takes the memory for all elements before it clones any. An empty set takes none.
+    ///
+    /// ```
+    /// let copy = set.clone()?;
+    /// assert!(copy == set);
+    /// ```
+    #[tactic(auto, unfolding(crate::specs::Elements::elements))]
+    pub fn clone(&self) -> Result<Self, AllocError>
+        requires { KeepsBytes K.bytes K.is_clone (elements self.now) }
+        ensures cloned { IfOk result (λ copy.
+            AreElementClones K.bytes K.is_clone (elements self.now) (elements copy)) }
+        ensures refused { OnErr result (elements self.now ≢ []) }
+    {
+        match self.map.clone() {
+            Ok(map) => Ok(TreeSet {
+                map,
+                alloc: self.alloc,
+            }),
+            Err(refused) => Err(refused),
+        }
+    }
+}

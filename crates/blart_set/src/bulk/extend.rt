@@ -1,0 +1,75 @@
+//! Elements from an iterator, put one after another.
+ghost use Rattle.std.specs.Prelude.{◌≡◌, false, map, OnOk, OnErr};
+ghost use Rattle.std.specs.Iterator.{IsFinite};
+ghost use Rattle.blart_keys.specs.Bulk.{PutsAll};
+ghost use Rattle.blart_keys.specs.Content.{stores, IsPut};
+ghost use Rattle.blart_map.specs.Bulk.{TakesItems};
+ghost use Rattle.blart_set.specs.Elements.{elements};
+
+use crate::set::TreeSet;
+use blart_keys::NoPrefixesBytes;
+use std::alloc::AllocError;
+use std::iter::Iterator;
+
+impl<K: NoPrefixesBytes + Drop, const PREFIX_LEN: usize> TreeSet<K, PREFIX_LEN> {
+    /// Puts the elements that the iterator gives, one after another: each takes the place of one with the same bytes, or is added.
+    ///
+    /// An error is answered only at an element whose bytes are new. That element is dropped, and the ones before it stay; the iterator is asked no further.
+    ///
+    /// ```
+    /// set.extend(vec![in alloc; 3u8, 1, 2]?.into_iter())?;
+    /// assert_eq!(set.len(), 3);
+    /// ```
+    pub fn extend<I: Iterator<Item = K>>(&mut self, items: I) -> Result<(), AllocError>
+        requires can { I.can_next items }
+        requires ends { IsFinite (I.remaining items) }
+        ensures { TakesItems I.next_gives items result
+            (λ xs. PutsAll K.bytes (elements self.old) xs (elements self.new))
+            (λ x. stores K.bytes (elements self.new) (K.bytes x) ≡ false) }
+    {
+        for item in items {
+            if let Err(refused) = self.put(item) {
+                return Err(refused);
+            }
+        }
+        Ok(())
+    }
+
+    // Puts one element.
+    pub(crate) fn put(&mut self, element: K) -> Result<(), AllocError>
+        ensures put { OnOk result
+            (IsPut K.bytes (elements self.old) element (elements self.new)) }
+        ensures err { OnErr result (elements self.new ≡ elements self.old) }
+        ensures new { OnErr result (stores K.bytes (elements self.new) (K.bytes element) ≡ false) }
+    {
+        self.insert(element)?;
+        Ok(())
+    }
+}
+
+impl<K: NoPrefixesBytes + Copy + Drop, const PREFIX_LEN: usize> TreeSet<K, PREFIX_LEN> {
+    /// Puts copies of the elements that the iterator gives, one after another, as [`TreeSet::extend`] puts the elements.
+    ///
+    /// ```
+    /// set.extend_copied(other.iter())?;
+    /// ```
+    pub fn extend_copied<'x, I: Iterator<Item = &'x K>>(
+        &mut self,
+        items: I,
+    ) -> Result<(), AllocError>
+    where
+        K: 'x,
+        requires can { I.can_next items }
+        requires ends { IsFinite (I.remaining items) }
+        ensures { TakesItems I.next_gives items result
+            (λ xs. PutsAll K.bytes (elements self.old) (map (λ x. x.now) xs) (elements self.new))
+            (λ x. stores K.bytes (elements self.new) (K.bytes x.now) ≡ false) }
+    {
+        for item in items {
+            if let Err(refused) = self.put(*item) {
+                return Err(refused);
+            }
+        }
+        Ok(())
+    }
+}

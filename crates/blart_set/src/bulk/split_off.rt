@@ -1,0 +1,43 @@
+//! A set parted in two.
+ghost use Rattle.std.specs.Prelude.{◌≡◌, ◌≢◌, ◌++◌, [], OnOk, IfOk, OnErr};
+ghost use Rattle.std.specs.declared.ops.Bound.TheVariants.{Included, Excluded, Unbounded};
+ghost use Rattle.blart_keys.specs.Content.{between};
+ghost use Rattle.blart_set.specs.Elements.{elements};
+
+use crate::set::TreeSet;
+use blart_keys::AsBytes;
+use std::alloc::AllocError;
+
+impl<K: AsBytes + Drop, const PREFIX_LEN: usize> TreeSet<K, PREFIX_LEN> {
+    /// Keeps the elements whose bytes are less than the query's, and gives a set of the others.
+    ///
+    /// It takes the memory for the elements that move before any of them does; an error leaves the set as it was. Where no element moves, or all do, it takes none.
+    ///
+    /// ```
+    /// set.try_insert("ant")?;
+    /// set.try_insert("bee")?;
+    /// set.try_insert("cat")?;
+    /// let rest = set.split_off(&"bee")?;
+    /// assert_eq!(set.last(), Some(&"ant"));
+    /// assert_eq!(rest.first(), Some(&"bee"));
+    /// ```
+    #[tactic(auto, unfolding(crate::specs::Elements::elements))]
+    pub fn split_off<Q: AsBytes>(&mut self, query: &Q) -> Result<Self, AllocError>
+        ensures whole { IfOk result (λ rest. elements self.old ≡ elements self.new ++ elements rest) }
+        ensures below { OnOk result (elements self.new
+            ≡ between K.bytes (elements self.old) Unbounded (Excluded (Q.bytes query.now))) }
+        ensures from { IfOk result (λ rest. elements rest
+            ≡ between K.bytes (elements self.old) (Included (Q.bytes query.now)) Unbounded) }
+        ensures err { OnErr result (self.new ≡ self.old) }
+        ensures refused { OnErr result
+            (between K.bytes (elements self.old) (Included (Q.bytes query.now)) Unbounded ≢ []) }
+    {
+        match self.map.split_off(query) {
+            Ok(map) => Ok(TreeSet {
+                map,
+                alloc: self.alloc,
+            }),
+            Err(refused) => Err(refused),
+        }
+    }
+}

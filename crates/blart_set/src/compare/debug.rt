@@ -1,0 +1,19 @@
+//! Texts of sets.
+use crate::set::TreeSet;
+use blart_keys::AsBytes;
+use std::fmt::{Debug, Formatter, Result, Write};
+
+impl<K: AsBytes + Debug + Drop, const PREFIX_LEN: usize> Debug for TreeSet<K, PREFIX_LEN> {
+    /// The elements between braces, ascending by their bytes.
+    ///
+    /// ```
+    /// assert_eq!(format!(in alloc; "{set:?}")?, "{1, 2, 3}");
+    /// ```
+    fn fmt<W: Write>(&self, f: &mut Formatter<W>) -> Result {
+        let mut out = f.debug_set();
+        for element in self.iter() {
+            out.entry(element);
+        }
+        out.finish()
+    }
+}
