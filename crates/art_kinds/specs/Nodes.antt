@@ -1,5 +1,5 @@
 -- What a contract sees of the inner nodes.
-use Rattle.std.specs.Prelude.{◌≡◌, ◌≢◌, ℕ, zero, suc, ◌+◌, ◌-◌, ◌*◌, ◌/◌, ◌%◌, ◌≤◌, ◌<◌, List, [], ◌∷◌, ◌++◌, take, length, Option, Some, None, sum_by, min, max, refl}
+use Rattle.std.specs.Prelude.{◌≡◌, ◌≢◌, ℕ, zero, suc, ◌+◌, ◌-◌, ◌*◌, ◌/◌, ◌%◌, ◌≤◌, ◌<◌, List, [], ◌∷◌, ◌++◌, take, drop, length, Option, Some, None, sum_by, min, max, refl}
 use Rattle.std.specs.Coded.{Coded, code_by, coded×, coded_ℕ, coded_list}
 use Rattle.art_kinds.specs.declared.records.ids.Edge.{Edge}
 use Rattle.art_kinds.specs.declared.records.ids.Child.{Child}
@@ -182,6 +182,10 @@ pub record Reprefixes (old new : ℕ → Option Node) (n : ℕ) (prefix : List �
 -- a node's prefix, of P bytes at most, begins with that of another and a byte, and all else stands
 abbrev pub JoinsPrefix : ℕ → (ℕ → Option Node) → (ℕ → Option Node) → ℕ → ℕ → ℕ → Type 0
 JoinsPrefix P old new n upper b = (x y : Node) → old n ≡ Some x → old upper ≡ Some y → Reprefixes old new n (take P (y.prefix ++ b ∷ x.prefix))
+
+-- a node's prefix, of P bytes at most, is without its first bytes, so many, and all else stands
+abbrev pub CutsPrefix : ℕ → (ℕ → Option Node) → (ℕ → Option Node) → ℕ → ℕ → Type 0
+CutsPrefix P old new n count = (x : Node) → old n ≡ Some x → Reprefixes old new n (take P (drop count x.prefix))
 
 -- a node is gone, and the others stand
 pub record Frees (old new : ℕ → Option Node) (n : ℕ) : Type 0 where

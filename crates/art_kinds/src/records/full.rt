@@ -4,14 +4,14 @@ ghost use Rattle.art_kinds.specs.Edges.{child_at, Ascends, AddsChild, DropsChild
 
 use crate::records::ids::{Child, Edge};
 use crate::records::indexed::Indexed;
-use crate::records::link::Link;
+use crate::records::link::OptionLink;
 use std::marker::Model;
 
 /// A child or nothing for each byte. A contract sees the list of edges, by rising byte.
 #[derive(Drop)]
 pub(crate) struct Full {
     pub(super) count: usize,
-    pub(super) children: [Option<Link>; 256],
+    pub(super) children: [OptionLink; 256],
 }
 
 impl Model for Full {
@@ -37,7 +37,7 @@ impl Full {
     {
         let mut edges = Full {
             count: 0,
-            children: [None; 256],
+            children: [OptionLink::none(); 256],
         };
         // Whoever counts the edges learns that they rise, and have bytes.
         let _count = indexed.count();
@@ -63,10 +63,7 @@ impl Full {
     pub(crate) fn find(&self, byte: u8) -> Option<Child>
         ensures { result ≡ child_at self.now byte }
     {
-        match self.children[byte as usize] {
-            Some(link) => Some(link.child()),
-            None => None,
-        }
+        self.children[byte as usize].child()
     }
 
     // The edge with the least byte from this one on.
@@ -75,10 +72,10 @@ impl Full {
         ensures { IsFrom self.now start result }
     {
         for next in start..256 {
-            if let Some(link) = self.children[next] {
+            if let Some(to) = self.children[next].child() {
                 return Some(Edge {
                     byte: next as u8,
-                    to: link.child(),
+                    to,
                 });
             }
         }
@@ -94,10 +91,10 @@ impl Full {
         let mut next = end;
         while next > 0 {
             next -= 1;
-            if let Some(link) = self.children[next] {
+            if let Some(to) = self.children[next].child() {
                 return Some(Edge {
                     byte: next as u8,
-                    to: link.child(),
+                    to,
                 });
             }
         }
@@ -145,7 +142,7 @@ impl Full {
         requires { child_at self.old byte ≡ None }
         ensures { AddsChild self.old self.new byte to }
     {
-        self.children[byte as usize] = Some(Link::of(to));
+        self.children[byte as usize] = OptionLink::of(to);
         self.count += 1;
     }
 
@@ -154,7 +151,7 @@ impl Full {
         requires { IsSome (child_at self.old byte) }
         ensures { DropsChild self.old self.new byte }
     {
-        self.children[byte as usize] = None;
+        self.children[byte as usize] = OptionLink::none();
         self.count -= 1;
     }
 
@@ -163,6 +160,6 @@ impl Full {
         requires { IsSome (child_at self.old byte) }
         ensures { RedirectsChild self.old self.new byte to }
     {
-        self.children[byte as usize] = Some(Link::of(to));
+        self.children[byte as usize] = OptionLink::of(to);
     }
 }

@@ -1,5 +1,5 @@
 //! A child in one word.
-ghost use Rattle.std.specs.Prelude.{◌≡◌, ◌%◌};
+ghost use Rattle.std.specs.Prelude.{◌≡◌, ◌%◌, Some, None};
 ghost use Rattle.art_kinds.specs.Numbers.{kind_of as kind_spec};
 
 use crate::records::ids::{Child, Kind, LeafId, NodeId};
@@ -71,6 +71,64 @@ impl Link {
             kind: kind_of(digit - 1),
             place: number,
         })
+    }
+}
+
+/// A child or nothing, in one word: none for nothing, or one more than the child's. A contract sees the child or nothing.
+#[derive(Clone, Copy)]
+pub(crate) struct OptionLink {
+    word: usize,
+}
+
+impl Model for OptionLink {
+    ghost use Rattle.std.specs.Prelude.{◌-◌, ◌%◌, ◌<◌, Option};
+    ghost use Rattle.std.specs.Coded.{coded_option};
+    ghost use Rattle.art_kinds.specs.declared.records.ids.Child.{Child as Value_};
+    ghost use Rattle.art_kinds.specs.Codes.{child_code};
+    ghost use Rattle.art_kinds.specs.Words.{child_or_none, word_or_none, word-or-none};
+
+    ghost Value = { Option Value_ };
+
+    ghost coded = { coded_option child_code };
+
+    ghost view = { λ l. child_or_none l.word };
+
+    ghost invariant = { λ l. (l.word - 1) % 8 < 5 };
+
+    ghost inverse = { λ c. record { word = word_or_none c } };
+
+    ghost inverse_ok = { λ a h. word-or-none a h };
+}
+
+impl OptionLink {
+    /// A child's word.
+    pub(crate) fn of(child: Child) -> Self
+        ensures { result ≡ Some child }
+    {
+        let link = Link::of(child);
+        OptionLink {
+            word: link.word + 1,
+        }
+    }
+
+    /// The word for nothing.
+    pub(crate) fn none() -> Self
+        ensures { result ≡ None }
+    {
+        OptionLink { word: 0 }
+    }
+
+    /// The child, if there is one.
+    pub(crate) fn child(self) -> Option<Child>
+        ensures { result ≡ self }
+    {
+        if self.word == 0 {
+            return None;
+        }
+        let link = Link {
+            word: self.word - 1,
+        };
+        Some(link.child())
     }
 }
 

@@ -1,8 +1,8 @@
 //! The inner nodes under their numbers.
-ghost use Rattle.std.specs.Prelude.{true, false, ◌≡◌, ◌≢◌, ℕ, ◌+◌, ◌%◌, ◌*◌, ◌/◌, ◌-◌, ◌<◌, ◌≤◌, ◌^◌, ◌++◌, ◌∷◌, length, take, slice_get, None, Some, IsSome, is_some, IsSomeAnd, OnOk, OnErr};
+ghost use Rattle.std.specs.Prelude.{true, false, ◌≡◌, ◌≢◌, ℕ, ◌+◌, ◌%◌, ◌*◌, ◌/◌, ◌-◌, ◌<◌, ◌≤◌, ◌^◌, ◌++◌, ◌∷◌, length, take, drop, slice_get, None, Some, IsSome, is_some, IsSomeAnd, OnOk, OnErr};
 ghost use Rattle.art_kinds.specs.Edges.{child_at, Ascends, IsNext, IsPrevious, IsEnd};
 ghost use Rattle.art_kinds.specs.Store.{slot_at};
-ghost use Rattle.art_kinds.specs.Nodes.{at, live, room, FitsNew, FitsMore, HasPlace, Lowers, SameNodes, SameSpares, MoreSpares, Makes, Renames, AddsEdgeTo, Redirects, DropsEdge, Reprefixes, JoinsPrefix, Frees};
+ghost use Rattle.art_kinds.specs.Nodes.{at, live, room, FitsNew, FitsMore, HasPlace, Lowers, SameNodes, SameSpares, MoreSpares, Makes, Renames, AddsEdgeTo, Redirects, DropsEdge, Reprefixes, JoinsPrefix, CutsPrefix, Frees};
 
 use crate::records::few::Few;
 use crate::records::full::Full;
@@ -701,6 +701,21 @@ impl<const P: usize> Nodes<P> {
         self.set_prefix(id, &prefix[..used]);
     }
 
+    /// Takes so many bytes away from the front of a node's prefix.
+    pub fn cut_prefix(&mut self, id: NodeId, count: usize)
+        requires { IsSome (at self.old id) }
+        ensures cut { CutsPrefix P (at self.old) (at self.new) id count }
+        ensures spares { SameSpares self.old self.new }
+        ensures live { live self.new ≡ live self.old }
+    {
+        let node = self.node_at(id);
+        let kept = node.prefix();
+        let rest = behind(kept, count);
+        let mut prefix = [0; P];
+        let used = copy_front(&mut prefix, rest);
+        self.set_prefix(id, &prefix[..used]);
+    }
+
     /// Removes every node and every spare record.
     pub fn clear(&mut self)
         ensures none { (j : ℕ) → at self.new j ≡ None }
@@ -726,6 +741,17 @@ fn copy_front(to: &mut [u8], from: &[u8]) -> usize
     };
     to[..count].copy_from_slice(&from[..count]);
     count
+}
+
+// The bytes behind the first so many.
+fn behind(bytes: &[u8], count: usize) -> &[u8]
+    ensures { result.now ≡ drop count bytes.now }
+{
+    if count < bytes.len() {
+        &bytes[count..]
+    } else {
+        &bytes[bytes.len()..]
+    }
 }
 
 // Writes a byte and then others behind the first bytes, as many as there is room for. Answers how many bytes are used then.

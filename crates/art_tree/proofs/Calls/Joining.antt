@@ -8,7 +8,7 @@ use Rattle.blart_keys.specs.Bytes.{related}
 use Rattle.art_tree.specs.Invariant.EdgesAbove.{LeadsTo, TurnsTo, edge_front}
 use Rattle.art_tree.specs.Begins.{Bytes, Begins, next_byte}
 use Rattle.art_tree.specs.Places.{LeavesMate}
-use Rattle.art_tree.specs.Calls.Placing.{Forks, DepthWithin}
+use Rattle.art_tree.specs.Calls.Placing.{Forks, DepthWithin, KeepsFrom}
 use Rattle.art_tree.specs.Calls.Removing.{StartsBelow, EndsBelow, Cuts, CutsBehind}
 use Rattle.art_kinds.specs.Edges.{child_at}
 use Rattle.art_kinds.specs.Nodes.{Node, Nodes, at, places, HasPlace, Renames}
@@ -110,6 +110,22 @@ module _ (keys : ℕ → Option Bytes) (leaf depth : ℕ) (q : Bytes) (good : Le
     -- and what stands below the edge begins within the depth
     pub starts_over : (start : ℕ) → StartsBelow nodes above start → start ≤ depth
     starts_over start h = let e : start ≡ length (edge_front s.front_of above) = start_is keys nodes root s above start h in let w : length (edge_front s.front_of above) ≤ depth = edge_within in omega arith
+
+    -- a node there keeps what the mate has behind the edge's front
+    pub keeps_from : (start : ℕ) → StartsBelow nodes above start → KeepsFrom P nodes c m start
+    keeps_from start h = go c refl
+      where
+        go : (d : Child) → c ≡ d → KeepsFrom P nodes d m start
+        go (Leaf i) e = tt
+        go (Inner n) e = λ x is.
+            let leads : LeadsTo nodes root above (Inner n) = subst (λ (c : Child). LeadsTo nodes root above c) e fits.leads in
+            let v : CoversNode keys nodes s.front_of (edge_front s.front_of above) n = covers_above keys nodes root s above (Inner n) leads in
+            let p : depth < length (s.front_of n) = subst (λ (c : Child). PastLength s.front_of depth c) e past in
+            let w : x.depth ≡ length (s.front_of n) = (s.node n x is).depth in
+            let b : Begins (s.front_of n) m = v.only leaf m m_is (Begins-trans (edge_front s.front_of above) (take depth m) m fits.along (Begins-take depth m)) in
+            let at : start ≡ length (edge_front s.front_of above) = start_is keys nodes root s above start h in
+            let le : start ≤ depth = starts_over start h in
+            s.keeps above n x leads is ∙ sym (cut_front P m (edge_front s.front_of above) (s.front_of n) start x.depth b at w (omega arith))
 
     module _ (cut : ℕ → Option Node) (cuts : Cuts nodes cut c (λ end. take P (slice_range m (depth + 1) end))) where
       -- the child keeps what its front has behind the new node's edge

@@ -1,7 +1,9 @@
 -- The bytes of their compressed prefixes that nodes keep.
-use Rattle.std.proofs.Common.{◌≡◌, ◌≢◌, ℕ, ◌+◌, ◌-◌, ◌≤◌, List, subst, take, drop, length, slice_range, ap, refl, sym, Option, Some, None, IsSome, ◌∙◌, inl, inr, ◌++◌, [], ◌∷◌, arith}
+use Rattle.std.proofs.Common.{◌≡◌, ◌≢◌, ℕ, ◌+◌, ◌-◌, ◌<◌, ◌≤◌, min, List, subst, take, drop, length, slice_range, slice_get, get_or, ap, refl, sym, Option, Some, None, IsSome, ◌∙◌, inl, inr, ◌++◌, [], ◌∷◌, arith}
 use Rattle.std.proofs.lemmas.Bool.Decides.{eqb_tells}
-use Rattle.std.proofs.lemmas.List.{drop-take}
+use Rattle.std.proofs.Math.Nat.{min-le_left}
+use Rattle.std.proofs.lemmas.List.{drop-take, drop-drop, take_all, length-take, length-drop, get_or-take, get_or-drop}
+use Rattle.std.proofs.lemmas.Option.{get_or_from_slice_get, slice_get_within}
 use Rattle.art_tree.specs.Invariant.EdgesAbove.{LeadsTo, TurnsTo, edge_front}
 use Rattle.art_tree.specs.Begins.{Bytes, Begins}
 use Rattle.art_kinds.specs.Edges.{child_at}
@@ -59,6 +61,31 @@ range_is P xs a b le =
 pub cut_front : (P : ℕ) (k g f : Bytes) (start end : ℕ) → Begins f k → start ≡ length g → end ≡ length f → start ≤ end → take P (slice_range k start end) ≡ take P (drop (length g) f)
 cut_front P k g f start end b s e le =
     range_is P k start end le ∙ ap (λ (z : ℕ). take P (drop z (take end k))) s ∙ ap (λ (z : ℕ). take P (drop (length g) (take z k))) e ∙ ap (λ (t : Bytes). take P (drop (length g) t)) (take_front f k b)
+
+-- where P bytes are the whole from one place to another, they have what begins between
+pub cut_kept : (P : ℕ) (k : Bytes) (from start end : ℕ) → from ≤ start → start ≤ end → end - from ≤ P → take P (drop (start - from) (take P (slice_range k from end))) ≡ take P (slice_range k start end)
+cut_kept P k from start end a b few =
+    let t : Bytes = take end k in
+    let l : length (drop from t) ≡ length t - from = length-drop from t in
+    let m : min end (length k) ≤ end = min-le_left end (length k) in
+    let n : length t ≡ min end (length k) = length-take end k in
+    let short : length (drop from t) ≤ P = omega (arith, l, m, n) in
+    let whole : take P (slice_range k from end) ≡ drop from t = range_is P k from end (omega arith) ∙ take_all P (drop from t) short in
+    let e : from + (start - from) ≡ start = omega arith in
+    ap (λ (z : Bytes). take P (drop (start - from) z)) whole ∙ ap (λ (z : Bytes). take P z) (drop-drop (start - from) from t) ∙ ap (λ (z : ℕ). take P (drop z t)) e ∙ sym (range_is P k start end b)
+
+-- a byte of those that are kept is one of the key
+pub kept_byte : (P : ℕ) (k : Bytes) (from depth end b : ℕ) → from ≤ depth → depth < end → slice_get (take P (slice_range k from end)) (depth - from) ≡ Some b → b ≡ get_or k depth 0
+kept_byte P k from depth end b a lt is =
+    let ys : Bytes = slice_range k from end in
+    let i : ℕ = depth - from in
+    let here : i < length (take P ys) = slice_get_within (take P ys) i b is in
+    let m : min P (length ys) ≤ P = min-le_left P (length ys) in
+    let n : length (take P ys) ≡ min P (length ys) = length-take P ys in
+    let few : i < P = omega (arith, here, m, n) in
+    let within : i < end - from = omega arith in
+    let e : from + (depth - from) ≡ depth = omega arith in
+    sym (get_or_from_slice_get (take P ys) i b 0 is) ∙ get_or-take P ys i 0 few ∙ get_or-take (end - from) (drop from k) i 0 within ∙ get_or-drop from k i 0 ∙ ap (λ (z : ℕ). get_or k z 0) e
 
 -- what stands below an edge begins at the length of its front
 pub start_is : {P : ℕ} → (keys : ℕ → Option Bytes) (nodes : ℕ → Option Node) (root : Option Child) (s : Shape P keys nodes root) (above : Option (ℕ × ℕ)) (start : ℕ) → StartsBelow nodes above start → start ≡ length (edge_front s.front_of above)

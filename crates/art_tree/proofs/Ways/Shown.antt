@@ -11,7 +11,7 @@ use Rattle.art_kinds.specs.Nodes.{Node}
 use Rattle.art_kinds.specs.declared.records.ids.Child.{Child}
 use Rattle.art_kinds.specs.declared.records.ids.Child.TheVariants.{Leaf, Inner}
 use Rattle.art_tree.specs.declared.tree.descent.Spot.TheVariants as spot
-use Rattle.art_tree.proofs.BeginsLemmas.{Begins-edge_front, Begins-length, Begins-linear, Begins-take, length-edge, take_front}
+use Rattle.art_tree.proofs.BeginsLemmas.{Begins-edge_front, Begins-linear, Begins-take, length-edge, take_front}
 use Rattle.art_tree.proofs.Invariant.Growing.{covers_above}
 
 module _ {P : ℕ} (keys : ℕ → Option Bytes) (nodes : ℕ → Option Node) (root : Option Child) (s : Shape P keys nodes root) (leaf depth : ℕ) (mate : Bytes) (is : keys leaf ≡ Some mate) (above : Option (ℕ × ℕ)) where

@@ -1,5 +1,5 @@
 -- The way down by the bytes of a query, and where it ends.
-use Rattle.std.proofs.Common.{◌≡◌, ◌≢◌, ℕ, zero, suc, ◌+◌, ◌-◌, ◌<◌, ◌≤◌, Bool, true, false, refl, List, [], ◌∷◌, ◌++◌, ◌⊎◌, inl, inr, length, take, drop, get_or, ap, sym, subst, ◌∙◌, Option, Some, None, IsSome, arith, eqb, eq-eqb, length-drop}
+use Rattle.std.proofs.Common.{◌≡◌, ◌≢◌, ℕ, zero, suc, ◌+◌, ◌-◌, ◌<◌, ◌≤◌, Bool, true, false, refl, [], ◌∷◌, ◌++◌, inl, inr, length, take, drop, get_or, ap, sym, subst, ◌∙◌, Option, Some, None, arith, eqb, eq-eqb, length-drop}
 use Rattle.std.proofs.lemmas.Bool.{cases_lt, false_from_ne_true}
 use Rattle.std.proofs.lemmas.Bool.Decides.{eqb_tells}
 use Rattle.std.proofs.lemmas.List.{length-take-le}
@@ -7,9 +7,9 @@ use Rattle.blart_keys.specs.Bytes.{common, related}
 use Rattle.blart_keys.proofs.Options.{not_some, some_of}
 use Rattle.art_tree.specs.Begins.{Bytes, Begins, next_byte}
 use Rattle.art_tree.specs.Places.{LeavesMate}
-use Rattle.art_tree.specs.Invariant.EdgesAbove.{LeadsTo, edge_front}
+use Rattle.art_tree.specs.Invariant.EdgesAbove.{edge_front}
 use Rattle.art_tree.specs.Invariant.Shape.{Shape, Covers, CoversLeaf, CoversNode, NodeFits}
-use Rattle.art_tree.specs.Calls.Partings.{KeyEnds, QueryEnds, LeavesAtNode, LeavesAtEdge, NoneRelated, IsChildBeside, IsNextTo}
+use Rattle.art_tree.specs.Calls.Partings.{KeyEnds, QueryEnds, LeavesAtNode, LeavesAtEdge, IsNextTo}
 use Rattle.art_tree.specs.Calls.Stops.{IsShared, OnWay, IsPlaceUnder}
 use Rattle.art_kinds.specs.Edges.{child_at}
 use Rattle.art_kinds.specs.Nodes.{Node}

@@ -1,5 +1,5 @@
 -- How a leaf joins the tree.
-use Rattle.std.specs.Prelude.{◌≡◌, ◌≢◌, ◌<◌, ◌≤◌, ◌⊎◌, ℕ, List, length, Option, Some, None}
+use Rattle.std.specs.Prelude.{◌≡◌, ◌≢◌, ◌<◌, ◌≤◌, ◌⊎◌, ℕ, List, take, slice_range, length, Option, Some, None}
 use Rattle.blart_keys.specs.Content.{IsPut}
 use Rattle.art_tree.specs.Begins.{Bytes}
 use Rattle.art_tree.specs.Content.{Content}
@@ -62,6 +62,11 @@ pub record Forks (old new : ℕ → Option Node) (n depth : ℕ) (prefix : List 
 abbrev pub DepthWithin : (ℕ → Option Node) → Child → ℕ → ℕ → Type 0
 DepthWithin nodes (Leaf i) least most = Unit {0}
 DepthWithin nodes (Inner n) least most = (x : Node) × (nodes n ≡ Some x) × (least ≤ x.depth) × (x.depth ≤ most)
+
+-- the child, if it is a node, keeps what a key has from here up to the node's depth, and of it P bytes at most
+abbrev pub KeepsFrom : ℕ → (ℕ → Option Node) → Child → Bytes → ℕ → Type 0
+KeepsFrom P nodes (Leaf i) key from = Unit {0}
+KeepsFrom P nodes (Inner n) key from = (x : Node) → nodes n ≡ Some x → x.prefix ≡ take P (slice_range key from x.depth)
 
 -- what a contract sees of leaves and nodes together
 abbrev pub content_of : {K V : Type 0} → Leaves K V → Nodes → Content K V

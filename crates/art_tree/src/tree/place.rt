@@ -1,11 +1,11 @@
 //! A leaf joins the tree.
-ghost use Rattle.std.specs.Prelude.{◌≡◌, ◌≢◌, ℕ, ◌+◌, ◌-◌, ◌^◌, ◌<◌, ◌≤◌, [], length, take, slice_range, true, Option, Some, IfSome};
+ghost use Rattle.std.specs.Prelude.{◌≡◌, ◌≢◌, ℕ, ◌+◌, ◌-◌, ◌^◌, ◌<◌, ◌≤◌, [], length, take, slice_range, slice_index_or, true, Option, Some, IfSome};
 ghost use Rattle.art_tree.specs.Begins.{Bytes};
 ghost use Rattle.art_tree.specs.Invariant.Shape.{Shape};
 ghost use Rattle.art_tree.specs.Calls.Spots.{SpotFits};
 ghost use Rattle.art_tree.specs.Invariant.EdgesAbove.{LeadsTo, TurnsTo};
 ghost use Rattle.art_tree.specs.Content.{Fits, IsOpen, room as places};
-ghost use Rattle.art_tree.specs.Calls.Placing.{IsSpotFor, HasMate, IsOverLeaf, TreeGains, Forks, DepthWithin, Places, content_of};
+ghost use Rattle.art_tree.specs.Calls.Placing.{IsSpotFor, HasMate, IsOverLeaf, TreeGains, Forks, DepthWithin, KeepsFrom, Places, content_of};
 ghost use Rattle.art_kinds.specs.Nodes.{at, room, FitsNew, SameSpares};
 ghost use Rattle.art_tree.specs.Leaves.{room as leaves_room};
 ghost use Rattle.art_tree.specs.Calls.Removing.{StartsBelow, EndsBelow, Cuts};
@@ -257,15 +257,13 @@ fn add_at_edge<const P: usize>(
 {
     let depth = leaf.depth;
     let start = start_below(nodes, above);
-    cut_prefix(nodes, child, leaf.mate, depth + 1);
+    let byte = byte_on(nodes, child, leaf.mate, start, depth);
+    cut_prefix(nodes, child, leaf.mate, start, depth + 1);
     let own = Edge {
         byte: leaf.key[depth],
         to: Child::Leaf(leaf.id),
     };
-    let other = Edge {
-        byte: leaf.mate[depth],
-        to: *child,
-    };
+    let other = Edge { byte, to: *child };
     let made = fork(nodes, depth, &leaf.key[start..depth], &own, &other);
     lead(nodes, root, above, &Child::Inner(made))
 }
@@ -321,14 +319,43 @@ pub(crate) fn start_below<const P: usize>(nodes: &Nodes<P>, above: &EdgeAbove) -
     }
 }
 
-/// Cuts the compressed prefix of a node anew, from a key below it. It begins here now.
+/// The byte by which a child goes on at a depth, where the compressed prefix above it begins at `from`: one that a node keeps, or else one of a key below it.
+pub(crate) fn byte_on<const P: usize>(
+    nodes: &Nodes<P>,
+    child: &Child,
+    key: &[u8],
+    from: usize,
+    depth: usize,
+) -> u8
+    requires live { DepthWithin (at nodes.now) child.now (depth + 1) (length key.now) }
+    requires long { depth < length key.now }
+    requires kept { KeepsFrom P (at nodes.now) child.now key.now from }
+    requires behind { from ≤ depth }
+    ensures { result ≡ slice_index_or key.now depth 0 }
+{
+    match child {
+        Child::Leaf(_) => key[depth],
+        Child::Inner(id) => {
+            let node = nodes.read(*id, &mut Visits::new());
+            match node.prefix_byte(depth - from) {
+                Some(byte) => byte,
+                None => key[depth],
+            }
+        }
+    }
+}
+
+/// Cuts the compressed prefix of a node. It began at `from`, and begins at `start` now: the node keeps the rest of what it kept where that was the whole prefix, and else bytes of a key below it.
 pub(crate) fn cut_prefix<const P: usize>(
     nodes: &mut Nodes<P>,
     child: &Child,
     key: &[u8],
+    from: usize,
     start: usize,
 )
-    requires { DepthWithin (at nodes.old) child.now start (length key.now) }
+    requires live { DepthWithin (at nodes.old) child.now start (length key.now) }
+    requires kept { KeepsFrom P (at nodes.old) child.now key.now from }
+    requires behind { from ≤ start }
     ensures cut { Cuts (at nodes.old) (at nodes.new) child.now (λ end. take P (slice_range key.now start end)) }
     ensures spares { SameSpares nodes.old nodes.new }
 {
@@ -336,7 +363,11 @@ pub(crate) fn cut_prefix<const P: usize>(
         Child::Leaf(_) => {}
         Child::Inner(id) => {
             let end = nodes.read(*id, &mut Visits::new()).depth();
-            nodes.set_prefix(*id, &key[start..end]);
+            if end - from <= P {
+                nodes.cut_prefix(*id, start - from);
+            } else {
+                nodes.set_prefix(*id, &key[start..end]);
+            }
         }
     }
 }

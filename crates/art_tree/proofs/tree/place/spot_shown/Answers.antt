@@ -1,11 +1,10 @@
-use Rattle.std.proofs.Common.{◌≡◌, ℕ, Bool, true, false, Some, inl, inr, ap, subst, ◌∙◌}
+use Rattle.std.proofs.Common.{◌≡◌, Bool, Some, inl, inr, ap, subst, ◌∙◌}
 use Rattle.std.specs.Prelude.{not}
 use Rattle.std.proofs.lemmas.Bool.{false≢true}
 use Rattle.std.proofs.lemmas.Bool.Decides.{eqb_tells}
 use Rattle.art_kinds.specs.Nodes.{at}
 use Rattle.art_kinds.specs.declared.records.ids.Child.{Child}
 use Rattle.art_kinds.specs.declared.records.ids.Child.TheVariants.{Leaf, Inner}
-use Rattle.art_tree.specs.Begins.{Bytes}
 use Rattle.art_tree.specs.Invariant.EdgesAbove.{LeadsTo}
 use Rattle.art_tree.proofs.Ways.Shown.{shown_edge, shown_node}
 use Rattle.art_tree.proofs.tree.place.spot_shown.Goals as goal

@@ -1,4 +1,4 @@
-use Rattle.std.proofs.Common.{◌≡◌, ◌+◌, ◌<◌, ◌≤◌, ℕ, length, drop, take, get_or, ap, sym, subst, ◌∙◌, arith, lit<, Some, length-drop}
+use Rattle.std.proofs.Common.{◌≡◌, ◌+◌, ◌≤◌, ℕ, length, drop, take, get_or, ap, sym, subst, ◌∙◌, arith, lit<, Some, length-drop}
 use Rattle.blart_keys.specs.Bytes.{common}
 use Rattle.art_tree.specs.Begins.{Bytes}
 use Rattle.art_tree.specs.Leaves.{keys_in}

@@ -1,8 +1,8 @@
-use Rattle.std.proofs.Common.{◌≡◌, ◌+◌, ◌≤◌, ◌<◌, ℕ, length, drop, ap, sym, subst, ◌∙◌, arith, Some}
+use Rattle.std.proofs.Common.{◌≡◌, ◌+◌, length, drop, ap, sym, ◌∙◌, arith, Some}
 use Rattle.blart_keys.specs.Bytes.{common}
 use Rattle.art_tree.specs.Leaves.{keys_in}
 use Rattle.art_kinds.specs.Nodes.{at}
-use Rattle.art_tree.proofs.BeginsLemmas.{common-in_left, common-in_right}
+use Rattle.art_tree.proofs.BeginsLemmas.{common-in_left}
 use Rattle.art_tree.proofs.Pairs.Keys.{has_key, key_of_pair}
 use Rattle.art_tree.proofs.Ways.Stops.{leaf_at, start_in_key, start_in_q, leaf_common, same_at_leaf, shorter_at_leaf, longer_at_leaf, leaves_at_leaf}
 use Rattle.art_tree.proofs.tree.stop.stop_at_leaf.Goals as goal

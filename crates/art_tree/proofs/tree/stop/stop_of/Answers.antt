@@ -1,7 +1,5 @@
-use Rattle.std.proofs.Common.{◌≡◌, ◌<◌, refl, subst, sym, Some, None}
-use Rattle.art_tree.specs.Calls.Stops.{OnWay, IsStep}
+use Rattle.std.proofs.Common.{◌<◌, refl, subst, sym, Some, None}
 use Rattle.art_tree.specs.Leaves.{keys_in}
-use Rattle.art_kinds.specs.Nodes.{at}
 use Rattle.art_kinds.specs.declared.records.ids.Child.{Child}
 use Rattle.art_tree.proofs.Ways.Depths.{rank, rank_falls}
 use Rattle.art_tree.proofs.tree.stop.stop_of.Goals as goal

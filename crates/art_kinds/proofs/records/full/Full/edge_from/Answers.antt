@@ -1,4 +1,4 @@
-use Rattle.std.proofs.Common.{◌<◌, ◌≤◌, None, Some, length, ◌∙◌, arith}
+use Rattle.std.proofs.Common.{◌<◌, ◌≤◌, None, Some, length, sym, ◌∙◌, arith}
 use Rattle.art_kinds.specs.Edges.{IsFrom, edges_of}
 use Rattle.art_kinds.proofs.EdgeShifts.{get_or-any}
 use Rattle.art_kinds.proofs.Tables.{from-some, from-none}
@@ -9,8 +9,8 @@ returns-in-Some c =
     let t = c.self.inside.children in
     let i = c.loop-next.next in
     let l : i < length t = omega (arith, c.loop-next-test.true, c.self.invariant.wide) in
-    let h : IsFrom (edges_of t) c.args.start (Some (record { byte = i; to = c.in-Some.link })) = from-some t c.args.start i c.in-Some.link c.loop-next.auto.next (get_or-any t i None _ l ∙ c.in-Some.is) c.loop-next.invariant in
-    rw c.child.ensures (rw (← c.self.view_is) h)
+    let h : IsFrom (edges_of t) c.args.start (Some (record { byte = i; to = c.in-Some.to })) = from-some t c.args.start i c.in-Some.to c.loop-next.auto.next (get_or-any t i None _ l ∙ sym c.child.ensures ∙ c.in-Some.is) c.loop-next.invariant in
+    rw (← c.self.view_is) h
 
 pub returns : goal.returns
 returns c =

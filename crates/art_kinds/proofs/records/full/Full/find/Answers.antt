@@ -1,20 +1,12 @@
-use Rattle.std.proofs.Common.{◌≡◌, ◌<◌, Some, None, List, get_or, length, ap, sym, ◌∙◌, arith}
+use Rattle.std.proofs.Common.{◌<◌, None, List, get_or, length, ap, sym, ◌∙◌, arith}
 use Rattle.art_kinds.specs.Edges.{child_at}
 use Rattle.art_kinds.specs.declared.records.ids.Edge.{Edge}
 use Rattle.art_kinds.proofs.EdgeShifts.{get_or-any}
 use Rattle.art_kinds.proofs.Tables.{child_at-edges}
 use Rattle.art_kinds.proofs.records.full.Full.find.Goals as goal
 
-pub returns-in-Some : goal.returns-in-Some
-returns-in-Some c =
+pub returns : goal.returns
+returns c =
     let i = c.self.inside in
     let l : c.args.byte < length i.children = omega (arith, c.self.invariant.wide, c.ranges.byte.fits) in
-    let e : get_or i.children c.args.byte None ≡ Some c.in-Some.link = get_or-any i.children c.args.byte None _ l ∙ c.in-Some.is in
-    rw c.child.ensures (sym e ∙ sym (child_at-edges i.children c.args.byte) ∙ ap (λ (es : List Edge). child_at es c.args.byte) c.self.view_is)
-
-pub returns-in-None : goal.returns-in-None
-returns-in-None c =
-    let i = c.self.inside in
-    let l : c.args.byte < length i.children = omega (arith, c.self.invariant.wide, c.ranges.byte.fits) in
-    let e : get_or i.children c.args.byte None ≡ None = get_or-any i.children c.args.byte None _ l ∙ c.in-None.is in
-    sym e ∙ sym (child_at-edges i.children c.args.byte) ∙ ap (λ (es : List Edge). child_at es c.args.byte) c.self.view_is
+    c.child.ensures ∙ sym (get_or-any i.children c.args.byte None _ l) ∙ sym (child_at-edges i.children c.args.byte) ∙ ap (λ (es : List Edge). child_at es c.args.byte) c.self.view_is
