@@ -5,28 +5,55 @@ mod bounds;
 mod counting;
 mod driving;
 mod dropping;
-mod entries;
 mod key_types;
-mod lending;
-mod owning;
-mod walking;
+mod no_bytes;
 
 use blart_keys::AsBytes;
-use blart_map::TreeMap;
+use blart_map::{TreeMap, Values};
 use std::iter::Iterator;
 use std::process::Abort;
-use std::test::Fail;
+
+// Puts in a pair whose bytes are new.
+fn put<K: AsBytes + Drop, const P: usize>(
+    rt: &impl Abort,
+    map: &mut TreeMap<K, usize, P>,
+    key: K,
+    value: usize,
+) {
+    let old = map.try_insert(key, value).expect(rt, "an insertion");
+    assert_eq!(rt; old, None);
+}
+
+// Puts in these keys, each with its place as value.
+fn put_all<K: AsBytes + Copy, const P: usize>(
+    rt: &impl Abort,
+    map: &mut TreeMap<K, usize, P>,
+    keys: &[K],
+) {
+    for place in 0..keys.len() {
+        put(rt, map, keys[place], place);
+    }
+}
 
 // A map of these keys, each with its place as value.
-fn map_of<K: AsBytes + Drop, const P: usize>(
+fn map_of<K: AsBytes + Copy, const P: usize>(
     rt: &(impl Abort + AllocGlobal),
-    keys: Vec<K>,
-) -> Result<TreeMap<K, usize, P>, Fail> {
+    keys: &[K],
+) -> TreeMap<K, usize, P> {
     let mut map = TreeMap::with_prefix_len(rt.alloc());
-    for (place, key) in keys.into_iter().enumerate() {
-        assert_eq!(rt; map.try_insert(key, place)?, None);
-    }
-    Ok(map)
+    put_all(rt, &mut map, keys);
+    map
+}
+
+// The next value of a walk, if there is one.
+fn next_value<K: AsBytes + Drop, const P: usize>(
+    walk: &mut Values<'_, K, usize, P>,
+) -> Option<usize> {
+    walk.next().copied()
+}
+
+fn assert_same(rt: &impl Abort, got: Option<usize>, want: Option<usize>) {
+    assert_eq!(rt; got, want);
 }
 
 // The map has these values, in this order, and nothing else.
@@ -35,12 +62,12 @@ fn assert_values<K: AsBytes + Drop, const P: usize>(
     map: &TreeMap<K, usize, P>,
     want: &[usize],
 ) {
-    assert_eq!(rt; map.len(), want.len());
-    let mut values = map.values();
-    for value in want {
-        assert_eq!(rt; values.next(), Some(value));
+    assert_same(rt, Some(map.len()), Some(want.len()));
+    let mut walk = map.values();
+    for place in 0..want.len() {
+        assert_same(rt, next_value(&mut walk), Some(want[place]));
     }
-    assert_eq!(rt; values.next(), None);
+    assert_same(rt, next_value(&mut walk), None);
 }
 
 // The value of a pair, if there is one.
@@ -58,8 +85,8 @@ fn assert_get<K: AsBytes + Drop, Q: AsBytes, const P: usize>(
     query: &Q,
     want: Option<usize>,
 ) {
-    assert_eq!(rt; map.get(query).copied(), want);
-    assert_eq!(rt; map.contains_key(query), want.is_some());
+    assert_same(rt, map.get(query).copied(), want);
+    assert!(rt; map.contains_key(query) == want.is_some());
 }
 
 // The value of the key that begins the query is this.
@@ -69,5 +96,5 @@ fn assert_front<K: AsBytes + Drop, Q: AsBytes, const P: usize>(
     query: &Q,
     want: Option<usize>,
 ) {
-    assert_eq!(rt; map.prefix_get(query).copied(), want);
+    assert_same(rt, map.prefix_get(query).copied(), want);
 }

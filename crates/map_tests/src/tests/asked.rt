@@ -1,10 +1,10 @@
 //! How many stored keys a look-up asks for their bytes.
+use super::put;
 use art_tree::{Point, Tree, Visits};
 use blart_keys::AsBytes;
 use blart_map::TreeMap;
 use std::cell::Cell;
 use std::process::Abort;
-use std::test::Fail;
 
 // A key of three bytes that counts how often its bytes are asked for.
 #[derive(Drop)]
@@ -46,20 +46,25 @@ fn assert_few(rt: &impl Abort, count: &Cell<usize>) {
     count.set(0);
 }
 
-fn asked_in_map<const P: usize>(rt: &(impl Abort + AllocGlobal)) -> Result<(), Fail> {
-    let count = Cell::new(0);
-    let mut map = TreeMap::<Asked<'_>, usize, P>::with_prefix_len(rt.alloc());
+// Puts in a thousand keys, each with its place as value.
+fn put_thousand<'a, const P: usize>(
+    rt: &impl Abort,
+    map: &mut TreeMap<Asked<'a>, usize, P>,
+    count: &'a Cell<usize>,
+) {
     for place in 0..1000 {
-        let key = Asked {
-            bytes: bytes_of(place),
-            count: &count,
-        };
-        assert_eq!(rt; map.try_insert(key, place)?, None);
+        let bytes = bytes_of(place);
+        put(rt, map, Asked { bytes, count }, place);
     }
     assert_eq!(rt; map.len(), 1000);
+}
+
+fn asked_in_map<const P: usize>(rt: &(impl Abort + AllocGlobal)) {
+    let count = Cell::new(0);
+    let mut map = TreeMap::<Asked<'_>, usize, P>::with_prefix_len(rt.alloc());
+    put_thousand(rt, &mut map, &count);
     assert_map_asks_few(rt, &map, &count);
     assert_absent_asks_few(rt, &map, &count);
-    Ok(())
 }
 
 fn assert_map_asks_few<K: AsBytes + Drop, const P: usize>(
@@ -106,42 +111,47 @@ fn assert_absent_asks_few<K: AsBytes + Drop, const P: usize>(
 }
 
 #[test]
-fn a_map_asks_few_keys(rt: HostRuntime) -> Result<(), Fail> {
-    asked_in_map::<0>(&rt)?;
-    asked_in_map::<2>(&rt)?;
-    asked_in_map::<16>(&rt)
+fn a_map_asks_few_keys(rt: HostRuntime) {
+    asked_in_map::<0>(&rt);
+    asked_in_map::<2>(&rt);
+    asked_in_map::<16>(&rt);
 }
 
 // Adds a pair whose key is related to no other.
 fn add<K: AsBytes + Drop, const P: usize>(
+    rt: &impl Abort,
     tree: &mut Tree<K, usize, P>,
     key: K,
     value: usize,
-) -> Result<(), Fail> {
+) {
     let point = tree.point(key.as_bytes());
-    tree.make_room(&point)?;
+    assert!(rt; tree.make_room(&point).is_ok());
     match point {
-        Point::Exact(_) | Point::Related { .. } => Err(Fail::new("the key conflicts")),
+        Point::Exact(_) | Point::Related { .. } => panic!(rt; "the key conflicts"),
         Point::Empty | Point::Free(_) => {
             tree.place(point, key, value);
-            Ok(())
         }
     }
 }
 
-fn asked_in_tree<const P: usize>(rt: &(impl Abort + AllocGlobal)) -> Result<(), Fail> {
-    let count = Cell::new(0);
-    let mut tree: Tree<Asked<'_>, usize, P> = Tree::new(rt.alloc());
+// Adds a thousand keys, each with its place as value.
+fn add_thousand<'a, const P: usize>(
+    rt: &impl Abort,
+    tree: &mut Tree<Asked<'a>, usize, P>,
+    count: &'a Cell<usize>,
+) {
     for place in 0..1000 {
-        let key = Asked {
-            bytes: bytes_of(place),
-            count: &count,
-        };
-        add(&mut tree, key, place)?;
+        let bytes = bytes_of(place);
+        add(rt, tree, Asked { bytes, count }, place);
     }
     assert_eq!(rt; tree.len(), 1000);
+}
+
+fn asked_in_tree<const P: usize>(rt: &(impl Abort + AllocGlobal)) {
+    let count = Cell::new(0);
+    let mut tree: Tree<Asked<'_>, usize, P> = Tree::new(rt.alloc());
+    add_thousand(rt, &mut tree, &count);
     assert_tree_asks_few(rt, &tree, &count);
-    Ok(())
 }
 
 fn assert_tree_asks_few<K: AsBytes + Drop, const P: usize>(
@@ -161,10 +171,10 @@ fn assert_tree_asks_few<K: AsBytes + Drop, const P: usize>(
 }
 
 #[test]
-fn a_tree_asks_few_keys(rt: HostRuntime) -> Result<(), Fail> {
-    asked_in_tree::<0>(&rt)?;
-    asked_in_tree::<2>(&rt)?;
-    asked_in_tree::<16>(&rt)
+fn a_tree_asks_few_keys(rt: HostRuntime) {
+    asked_in_tree::<0>(&rt);
+    asked_in_tree::<2>(&rt);
+    asked_in_tree::<16>(&rt);
 }
 
 // A key of three bytes that tells once in each round that its bytes are asked for.
@@ -195,27 +205,35 @@ impl<'a> AsBytes for Told<'a> {
 }
 
 // Each insertion asks the key that comes, and one stored key at most.
-fn told_in_tree<const P: usize>(rt: &(impl Abort + AllocGlobal)) -> Result<(), Fail> {
-    let (round, count) = (Cell::new(0), Cell::new(0));
-    let mut tree: Tree<Told<'_>, usize, P> = Tree::new(rt.alloc());
+fn add_told<'a, const P: usize>(
+    rt: &impl Abort,
+    tree: &mut Tree<Told<'a>, usize, P>,
+    round: &'a Cell<usize>,
+    count: &'a Cell<usize>,
+) {
     for place in 0..1000 {
         round.set(place + 1);
         count.set(0);
         let key = Told {
             bytes: bytes_of(place),
             seen: Cell::new(0),
-            round: &round,
-            count: &count,
+            round,
+            count,
         };
-        add(&mut tree, key, place)?;
+        add(rt, tree, key, place);
         assert!(rt; count.get() <= 2, "{} keys were asked", count.get());
     }
     assert_eq!(rt; tree.len(), 1000);
-    Ok(())
+}
+
+fn told_in_tree<const P: usize>(rt: &(impl Abort + AllocGlobal)) {
+    let (round, count) = (Cell::new(0), Cell::new(0));
+    let mut tree: Tree<Told<'_>, usize, P> = Tree::new(rt.alloc());
+    add_told(rt, &mut tree, &round, &count);
 }
 
 #[test]
-fn an_insertion_asks_one_stored_key(rt: HostRuntime) -> Result<(), Fail> {
-    told_in_tree::<2>(&rt)?;
-    told_in_tree::<16>(&rt)
+fn an_insertion_asks_one_stored_key(rt: HostRuntime) {
+    told_in_tree::<2>(&rt);
+    told_in_tree::<16>(&rt);
 }

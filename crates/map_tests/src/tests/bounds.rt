@@ -1,10 +1,9 @@
 //! Bounds of one byte.
 use super::map_of;
-use blart_map::bounds_in_order;
+use blart_map::{TreeMap, bounds_in_order};
 use std::iter::Iterator;
 use std::ops::Bound;
 use std::process::Abort;
-use std::test::Fail;
 
 #[test]
 fn orders_of_bounds(rt: HostRuntime) {
@@ -20,26 +19,37 @@ fn orders_of_bounds(rt: HostRuntime) {
     assert!(rt; bounds_in_order(Bound::Excluded(&three), Bound::Unbounded));
 }
 
-#[test]
-fn nothing_is_within(rt: HostRuntime) -> Result<(), Fail> {
-    let map = map_of::<u8, 2>(&rt, vec![in rt.alloc(); 3u8, 5, 8]?)?;
+// No key is behind five and at it.
+fn assert_none_behind(rt: &impl Abort, map: &TreeMap<u8, usize, 2>) {
     let five = 5u8;
     let mut walk = map.range(Bound::Excluded(&five), Bound::Included(&five));
     assert!(rt; walk.next().is_none());
+}
+
+// Nor is one at five and before it.
+fn assert_none_before(rt: &impl Abort, map: &TreeMap<u8, usize, 2>) {
+    let five = 5u8;
     let mut walk = map.range(Bound::Included(&five), Bound::Excluded(&five));
     assert!(rt; walk.next().is_none());
-    Ok(())
+}
+
+#[test]
+fn nothing_is_within(rt: HostRuntime) {
+    let map = map_of::<u8, 2>(&rt, &[3, 5, 8]);
+    assert_none_behind(&rt, &map);
+    assert_none_before(&rt, &map);
 }
 
 // On an empty map any bounds give an empty walk.
-#[test]
-fn any_bounds_of_nothing(rt: HostRuntime) -> Result<(), Fail> {
-    let map = map_of::<u8, 2>(&rt, Vec::new(rt.alloc()))?;
+fn assert_nothing(rt: &impl Abort, map: &TreeMap<u8, usize, 2>) {
+    assert!(rt; map.is_empty());
     let (three, eight) = (3u8, 8u8);
-    if map.is_empty() {
-        let mut walk = map.range(Bound::Included(&eight), Bound::Included(&three));
-        assert!(rt; walk.next().is_none());
-        return Ok(());
-    }
-    Err(Fail::new("a map of no keys is empty"))
+    let mut walk = map.range(Bound::Included(&eight), Bound::Included(&three));
+    assert!(rt; walk.next().is_none());
+}
+
+#[test]
+fn any_bounds_of_nothing(rt: HostRuntime) {
+    let map = map_of::<u8, 2>(&rt, &[]);
+    assert_nothing(&rt, &map);
 }
