@@ -143,10 +143,10 @@ module _ {K V : Type 0} (kb : K → List ℕ) (ps : List (Numbered K V)) (conten
   thinned_without first last s off =
       let r = first_there first last s in
       dropped_without (λ p. cond (related (bytes kb p) q) (eqb p.0 last) true) ps first (λ x e.
-          let a : Some r.0 ≡ Some x = sym r.1 ∙ e in
-          let b : r.0 ≡ x = cc in
-          let rel = subst (λ (z : K × V). related (kb z.0) q ≡ true) b r.2 in
-          ap (λ t. cond t (eqb first last) true) rel ∙ false_from_ne_true (eqb first last) (λ t. off (eqb-true first last t)))
+      let a : Some r.0 ≡ Some x = sym r.1 ∙ e in
+      let b : r.0 ≡ x = cc in
+      let rel = subst (λ (z : K × V). related (kb z.0) q ≡ true) b r.2 in
+      ap (λ t. cond t (eqb first last) true) rel ∙ false_from_ne_true (eqb first last) (λ t. off (eqb-true first last t)))
 
   -- where it is the last, all are kept
   pub thinned_one : (id : ℕ) → Spans kb ps q id id → ps ≡ thinned kb ps q id
