@@ -1,7 +1,15 @@
 //! Both maps in turn on the same keys.
+use crate::bulk_rows::time_bulk;
 use crate::failure::Failure;
+use crate::joins::Joiner;
 use crate::maps::{Contestant, Ours, Theirs};
+use crate::parts::Parter;
+use crate::set_rows::time_sets;
+use crate::sets::{OurSet, SetContestant, TheirSet};
+use crate::wishes::Group;
 use crate::workload::{Kind, Workload};
+use blart::{Map, ZKey};
+use std::collections::BTreeMap;
 use std::rt::Clock;
 use std::time::Instant;
 
@@ -34,12 +42,13 @@ pub(crate) struct Results {
 pub(crate) fn contest<R: Clock + AllocGlobal>(
     rt: &R,
     workload: &Workload,
+    groups: &[Group],
 ) -> Result<Results, Failure> {
-    let mut ours = one_run::<Ours, R>(rt, workload)?;
-    let mut theirs = one_run::<Theirs, R>(rt, workload)?;
+    let mut ours = our_run(rt, workload, groups)?;
+    let mut theirs = their_run(rt, workload, groups)?;
     for _ in 1..ROUNDS {
-        keep_least(&mut ours, &one_run::<Ours, R>(rt, workload)?);
-        keep_least(&mut theirs, &one_run::<Theirs, R>(rt, workload)?);
+        keep_least(&mut ours, &our_run(rt, workload, groups)?);
+        keep_least(&mut theirs, &their_run(rt, workload, groups)?);
     }
     for (our, their) in ours.iter().zip(&theirs) {
         if our.sum != their.sum {
@@ -61,17 +70,51 @@ fn keep_least(all: &mut [Timed], more: &[Timed]) {
     }
 }
 
-// One run of all calls.
-fn one_run<M: Contestant, R: Clock + AllocGlobal>(
+// One run of the map and the set under test.
+fn our_run<R: Clock + AllocGlobal>(
     rt: &R,
     workload: &Workload,
+    groups: &[Group],
+) -> Result<Vec<Timed>, Failure> {
+    one_run::<Ours, Map<ZKey, u64>, OurSet, R>(rt, workload, groups)
+}
+
+// One run of the library's.
+fn their_run<R: Clock + AllocGlobal>(
+    rt: &R,
+    workload: &Workload,
+    groups: &[Group],
+) -> Result<Vec<Timed>, Failure> {
+    one_run::<Theirs, BTreeMap<ZKey, u64>, TheirSet, R>(rt, workload, groups)
+}
+
+// One run of the calls that are asked for.
+fn one_run<M: Parter, J: Joiner, S: SetContestant, R: Clock + AllocGlobal>(
+    rt: &R,
+    workload: &Workload,
+    groups: &[Group],
 ) -> Result<Vec<Timed>, Failure> {
     let mut sheet = Sheet {
         rows: Vec::new(rt.alloc()),
     };
-    time_stored::<M, R>(rt, workload, &mut sheet)?;
-    time_rest::<M, R>(rt, workload, &mut sheet)?;
+    for group in groups {
+        match group {
+            Group::Pairs => time_pairs::<M, R>(rt, workload, &mut sheet)?,
+            Group::Bulk => time_bulk::<M, J, R>(rt, workload, &mut sheet)?,
+            Group::Sets => time_sets::<S, R>(rt, workload, &mut sheet)?,
+        }
+    }
     Ok(sheet.rows)
+}
+
+// Times the calls that go by a pair.
+fn time_pairs<M: Contestant, R: Clock + AllocGlobal>(
+    rt: &R,
+    workload: &Workload,
+    sheet: &mut Sheet,
+) -> Result<(), Failure> {
+    time_stored::<M, R>(rt, workload, sheet)?;
+    time_rest::<M, R>(rt, workload, sheet)
 }
 
 // A map of the keys.
@@ -158,15 +201,33 @@ fn time_rest<M: Contestant, R: Clock + AllocGlobal>(
     sheet.add(rt, "into_iter", start, workload.keys.len(), sum)
 }
 
-// The rows of one run.
+/// The rows of one run.
 #[derive(Drop)]
-struct Sheet {
+pub(crate) struct Sheet {
     rows: Vec<Timed>,
 }
 
 impl Sheet {
-    // Adds a call that has just ended.
-    fn add(
+    /// Adds a call that has just ended, whose sum is told by [`Sheet::sum`].
+    pub(crate) fn stop(
+        &mut self,
+        rt: &impl Clock,
+        call: &'static str,
+        start: Instant,
+        count: usize,
+    ) -> Result<(), Failure> {
+        self.add(rt, call, start, count, 0)
+    }
+
+    /// Tells the sum of the call that was added last.
+    pub(crate) fn sum(&mut self, sum: u64) {
+        if let Some(row) = self.rows.last_mut() {
+            row.sum = sum;
+        }
+    }
+
+    /// Adds a call that has just ended.
+    pub(crate) fn add(
         &mut self,
         rt: &impl Clock,
         call: &'static str,

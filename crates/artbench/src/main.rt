@@ -1,12 +1,17 @@
 //! Times the map beside the library's `BTreeMap`, on keys that the program makes from a seed.
 //!
-//! `artbench KEYS KIND [CHART]`: how many keys, which kind of them (`random`, `urls`, `dense`, `short` or `all`), and a file for a chart of the ratios. Sums over what the calls gave go to standard output, which are the same on each run; times and ratios go to standard error.
+//! `artbench KEYS KIND [ROWS [CHART]]`: how many keys, which kind of them (`random`, `urls`, `dense`, `short` or `all`), which calls (`pairs`, `bulk`, `sets` or `all`; `all` where nothing is said), and a file for a chart of the ratios. Sums over what the calls gave go to standard output, which are the same on each run; times and ratios go to standard error.
 #![tactic(auto)]
 
+mod bulk_rows;
 mod chart;
 mod contest;
 mod failure;
+mod joins;
 mod maps;
+mod parts;
+mod set_rows;
+mod sets;
 mod tables;
 mod wishes;
 mod workload;
@@ -36,7 +41,7 @@ fn run(rt: &HostRuntime) -> Result<(), Failure> {
     let mut all = Vec::new(rt.alloc());
     for kind in &wishes.kinds {
         let workload = Workload::new(rt.alloc(), *kind, wishes.keys)?;
-        let results = contest(rt, &workload)?;
+        let results = contest(rt, &workload, &wishes.groups)?;
         write_sums(rt, &results)?;
         write_times(rt, &results)?;
         all.push(results)?;

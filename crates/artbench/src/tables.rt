@@ -21,7 +21,7 @@ pub(crate) fn write_times(rt: &impl Eprint, results: &Results) -> Result<(), Fai
     for (our, their) in results.ours.iter().zip(&results.theirs) {
         let hundredths = hundredths(our, their);
         eprintln!(rt;
-            "{:>12} {:>8} {:>8} {:>5}.{:02}",
+            "{:>20} {:>8} {:>8} {:>5}.{:02}",
             our.call,
             each(our),
             each(their),

@@ -4,11 +4,37 @@ use crate::workload::Kind;
 use std::alloc::{AllocError, Global};
 use std::env::Args;
 
-/// How many keys of which kinds are asked for, and where a chart goes.
+/// Calls that are timed together.
+#[derive(Clone, Copy, PartialEq, Eq)]
+pub(crate) enum Group {
+    /// Calls of a map that go by a pair, and its walks.
+    Pairs,
+    /// Calls of a map that take or give many pairs at once.
+    Bulk,
+    /// Calls of a set.
+    Sets,
+}
+
+impl Group {
+    /// Every group.
+    pub(crate) const ALL: [Group; 3] = [Group::Pairs, Group::Bulk, Group::Sets];
+
+    /// The word that names the group.
+    pub(crate) fn name(self) -> &'static str {
+        match self {
+            Group::Pairs => "pairs",
+            Group::Bulk => "bulk",
+            Group::Sets => "sets",
+        }
+    }
+}
+
+/// How many keys of which kinds are asked for, which calls, and where a chart goes.
 #[derive(Drop)]
 pub(crate) struct Wishes {
     pub(crate) keys: usize,
     pub(crate) kinds: Vec<Kind>,
+    pub(crate) groups: Vec<Group>,
     pub(crate) chart: Option<String>,
 }
 
@@ -19,6 +45,10 @@ impl Wishes {
         let (Some(keys), Some(kind)) = (args.next(), args.next()) else {
             return Err(Failure::Usage);
         };
+        let groups = match args.next() {
+            Some(word) => groups_of(alloc, word.as_str())?,
+            None => groups_of(alloc, "all")?,
+        };
         let chart = args.next();
         if args.next().is_some() {
             return Err(Failure::Usage);
@@ -27,10 +57,15 @@ impl Wishes {
             return Err(Failure::Usage);
         };
         let kinds = kinds_of(alloc, kind.as_str())?;
-        if kinds.is_empty() {
+        if kinds.is_empty() || groups.is_empty() {
             return Err(Failure::Usage);
         }
-        Ok(Wishes { keys, kinds, chart })
+        Ok(Wishes {
+            keys,
+            kinds,
+            groups,
+            chart,
+        })
     }
 }
 
@@ -43,4 +78,15 @@ fn kinds_of(alloc: Global, word: &str) -> Result<Vec<Kind>, AllocError> {
         }
     }
     Ok(kinds)
+}
+
+// The groups of calls that a word names: none for a word that names none.
+fn groups_of(alloc: Global, word: &str) -> Result<Vec<Group>, AllocError> {
+    let mut groups = Vec::new(alloc);
+    for group in Group::ALL {
+        if word == "all" || word == group.name() {
+            groups.push(group)?;
+        }
+    }
+    Ok(groups)
 }

@@ -61,9 +61,12 @@ impl Kind {
 /// The keys of a run.
 #[derive(Drop)]
 pub(crate) struct Workload {
+    alloc: Global,
     pub(crate) kind: Kind,
     /// The keys to be stored, in random order.
     pub(crate) keys: Vec<Vec<u8>>,
+    /// The same keys, in order.
+    pub(crate) sorted: Vec<Vec<u8>>,
     /// The same keys, in another random order.
     pub(crate) hits: Vec<Vec<u8>>,
     /// Keys like those, of which few or none are stored.
@@ -78,17 +81,34 @@ impl Workload {
         let mut rng = Xoshiro256PlusPlus::seed_from_u64(7);
         let mut keys = keys_of(alloc, kind, count, false, &mut rng)?;
         keys.shuffle(&mut rng);
+        let mut sorted = keys.clone()?;
+        sorted.sort()?;
         let mut hits = keys.clone()?;
         hits.shuffle(&mut rng);
         let misses = keys_of(alloc, kind, count, true, &mut rng)?;
         let fronts = fronts_of(alloc, kind, &hits)?;
         Ok(Workload {
+            alloc,
             kind,
             keys,
+            sorted,
             hits,
             misses,
             fronts,
         })
+    }
+}
+
+impl Workload {
+    /// The keys whose place is no multiple of a number.
+    pub(crate) fn every(&self, number: usize) -> Result<Vec<Vec<u8>>, AllocError> {
+        let mut keys = Vec::with_capacity(self.alloc, self.keys.len())?;
+        for (place, key) in self.keys.iter().enumerate() {
+            if place % number.max(1) != 0 {
+                keys.push(key.clone()?)?;
+            }
+        }
+        Ok(keys)
     }
 }
 

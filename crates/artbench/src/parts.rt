@@ -1,0 +1,43 @@
+//! Both maps under the calls that make one more map, and under `==`.
+use crate::failure::Failure;
+use crate::maps::{Contestant, Ours, Theirs};
+
+/// A map from lists of bytes, as far as it is parted, copied and compared.
+pub(crate) trait Parter: Contestant {
+    /// Keeps the pairs before a key, and gives the rest.
+    fn part(&mut self, from: &Vec<u8>) -> Result<Self, Failure>;
+
+    /// A map of the same pairs.
+    fn copy(&self) -> Result<Self, Failure>;
+
+    /// Whether the other map has the same pairs.
+    fn is_same(&self, other: &Self) -> bool;
+}
+
+impl Parter for Ours {
+    fn part(&mut self, from: &Vec<u8>) -> Result<Self, Failure> {
+        Ok(self.split_off(from)?)
+    }
+
+    fn copy(&self) -> Result<Self, Failure> {
+        Ok(self.clone()?)
+    }
+
+    fn is_same(&self, other: &Self) -> bool {
+        self == other
+    }
+}
+
+impl Parter for Theirs {
+    fn part(&mut self, from: &Vec<u8>) -> Result<Self, Failure> {
+        Ok(self.split_off(from)?)
+    }
+
+    fn copy(&self) -> Result<Self, Failure> {
+        Ok(self.clone()?)
+    }
+
+    fn is_same(&self, other: &Self) -> bool {
+        self == other
+    }
+}
