@@ -1,9 +1,12 @@
 //! The two sets, under the same calls.
+ghost use Rattle.std.specs.Iterator.{IsFinite};
+
 use crate::failure::Failure;
 use blart::map::DEFAULT_PREFIX_LEN;
 use blart::{TreeSet, TryInsertError};
 use std::alloc::Global;
 use std::collections::BTreeSet;
+use std::iter::Iterator;
 
 /// The set under test.
 pub(crate) type OurSet = TreeSet<Vec<u8>, DEFAULT_PREFIX_LEN>;
@@ -49,35 +52,19 @@ impl SetContestant for OurSet {
     }
 
     fn union_sum(&self, other: &Self) -> u64 {
-        let mut sum = 0u64;
-        for key in self.union(other) {
-            sum = added(sum, key);
-        }
-        sum
+        sum_of(self.union(other))
     }
 
     fn intersection_sum(&self, other: &Self) -> u64 {
-        let mut sum = 0u64;
-        for key in self.intersection(other) {
-            sum = added(sum, key);
-        }
-        sum
+        sum_of(self.intersection(other))
     }
 
     fn difference_sum(&self, other: &Self) -> u64 {
-        let mut sum = 0u64;
-        for key in self.difference(other) {
-            sum = added(sum, key);
-        }
-        sum
+        sum_of(self.difference(other))
     }
 
     fn symmetric_difference_sum(&self, other: &Self) -> u64 {
-        let mut sum = 0u64;
-        for key in self.symmetric_difference(other) {
-            sum = added(sum, key);
-        }
-        sum
+        sum_of(self.symmetric_difference(other))
     }
 }
 
@@ -96,36 +83,32 @@ impl SetContestant for TheirSet {
     }
 
     fn union_sum(&self, other: &Self) -> u64 {
-        let mut sum = 0u64;
-        for key in self.union(other) {
-            sum = added(sum, key);
-        }
-        sum
+        sum_of(self.union(other))
     }
 
     fn intersection_sum(&self, other: &Self) -> u64 {
-        let mut sum = 0u64;
-        for key in self.intersection(other) {
-            sum = added(sum, key);
-        }
-        sum
+        sum_of(self.intersection(other))
     }
 
     fn difference_sum(&self, other: &Self) -> u64 {
-        let mut sum = 0u64;
-        for key in self.difference(other) {
-            sum = added(sum, key);
-        }
-        sum
+        sum_of(self.difference(other))
     }
 
     fn symmetric_difference_sum(&self, other: &Self) -> u64 {
-        let mut sum = 0u64;
-        for key in self.symmetric_difference(other) {
-            sum = added(sum, key);
-        }
-        sum
+        sum_of(self.symmetric_difference(other))
     }
+}
+
+// The sum over what a walk gives.
+fn sum_of<'a, I: Iterator<Item = &'a Vec<u8>>>(keys: I) -> u64
+    requires can { I.can_next keys }
+    requires ends { IsFinite (I.remaining keys) }
+{
+    let mut sum = 0u64;
+    for key in keys {
+        sum = added(sum, key);
+    }
+    sum
 }
 
 // A sum to which an element was added; it depends on the order.
