@@ -6,5 +6,6 @@ pub mod Taking
 pub mod Asking
 pub mod Lending
 pub mod LentPairs
+pub mod PairEnds
 pub mod CountedPairs
 pub mod TakePairs

@@ -4,31 +4,24 @@ ghost use Rattle.std.specs.Iterator.{YieldsFirst, YieldsLast, UpTo, item_count};
 ghost use Rattle.std.specs.Iterator.SizeHint.{IsWithinCount};
 ghost use Rattle.art_walk.specs.Pairs.{pairs_of};
 
-use crate::cursor::Cursor;
-use art_tree::{Tree, Visits};
+use art_tree::{Leaves, Tree};
 use blart_keys::AsBytes;
 use std::iter::{DoubleEndedIterator, FusedIterator, Iterator};
 use std::marker::Model;
 
-/// The pairs of a tree by value from both ends, in byte order of their keys. Each step removes one pair from the tree. What was not taken is freed where the walk is dropped, which drops the tree and its records in a loop.
+/// The pairs of a tree by value from both ends, in byte order of their keys. The tree's inner nodes are freed whole at the start, and each step takes one leaf. What was not taken is freed where the walk is dropped, which drops the leaves in a loop.
 #[derive(Drop)]
 pub struct IntoIter<K: AsBytes, V, const PREFIX_LEN: usize> {
-    tree: Tree<K, V, PREFIX_LEN>,
-    cursor: Cursor,
-    left: usize,
+    leaves: Leaves<K, V>,
 }
 
 impl<K: AsBytes, V, const PREFIX_LEN: usize> Model for IntoIter<K, V, PREFIX_LEN> {
-    ghost use Rattle.std.specs.Prelude.{◌≡◌, List, length};
+    ghost use Rattle.std.specs.Prelude.{List};
+    ghost use Rattle.art_walk.specs.Pairs.{pairs_of};
 
     ghost Value = { List (K × V) };
 
-    ghost use Rattle.art_walk.specs.Cursor.{leaves_left, FitsIn};
-    ghost use Rattle.art_walk.specs.Pairs.{pairs_of};
-
-    ghost view = { λ it. pairs_of (leaves_left it.cursor it.tree.pairs) };
-
-    ghost invariant = { λ it. FitsIn it.cursor it.tree.pairs × (it.left ≡ length (leaves_left it.cursor it.tree.pairs)) };
+    ghost view = { λ it. pairs_of it.leaves.pairs };
 }
 
 impl<K: AsBytes + Drop, V: Drop, const PREFIX_LEN: usize> IntoIter<K, V, PREFIX_LEN> {
@@ -36,16 +29,16 @@ impl<K: AsBytes + Drop, V: Drop, const PREFIX_LEN: usize> IntoIter<K, V, PREFIX_
     pub fn new(tree: Tree<K, V, PREFIX_LEN>) -> Self
         ensures { result ≡ pairs_of tree.pairs }
     {
-        let cursor = Cursor::all(&tree);
-        let left = tree.len();
-        IntoIter { tree, cursor, left }
+        IntoIter {
+            leaves: tree.into_leaves(),
+        }
     }
 
     /// How many pairs are left.
     pub fn len(&self) -> usize
         ensures { result ≡ length self.now }
     {
-        self.left
+        self.leaves.len()
     }
 }
 
@@ -58,10 +51,11 @@ impl<K: AsBytes + Drop, V: Drop, const PREFIX_LEN: usize> Iterator for IntoIter<
 
     /// The first pair that is left.
     fn next(&mut self) -> Option<(K, V)> {
-        self.tree.law();
-        let id = self.cursor.step(&self.tree, &mut Visits::new())?;
-        self.left -= 1;
-        Some(self.tree.remove(id))
+        self.leaves.law();
+        let Some(id) = self.leaves.first() else {
+            return None;
+        };
+        Some(self.leaves.remove(id))
     }
 
     /// Both bounds are the number of pairs that are left.
@@ -70,7 +64,7 @@ impl<K: AsBytes + Drop, V: Drop, const PREFIX_LEN: usize> Iterator for IntoIter<
         ensures upper { IfSome result.1 (UpTo (item_count (λ rest. rest) self.now)) }
         ensures exact { result ≡ (length self.now, Some (length self.now)) }
     {
-        (self.left, Some(self.left))
+        (self.len(), Some(self.len()))
     }
 }
 
@@ -80,10 +74,11 @@ impl<K: AsBytes + Drop, V: Drop, const PREFIX_LEN: usize> DoubleEndedIterator
 
     /// The last pair that is left.
     fn next_back(&mut self) -> Option<(K, V)> {
-        self.tree.law();
-        let id = self.cursor.step_back(&self.tree, &mut Visits::new())?;
-        self.left -= 1;
-        Some(self.tree.remove(id))
+        self.leaves.law();
+        let Some(id) = self.leaves.last() else {
+            return None;
+        };
+        Some(self.leaves.remove(id))
     }
 }
 

@@ -8,31 +8,8 @@ use Rattle.blart_keys.proofs.RankLemmas.{Member, Ranked-across, Ranked-left, Ran
 use Rattle.blart_keys.proofs.ContentLemmas.{Before, Ranked-from_content, content_from_Ranked, unrelated_back, put_unique, put_between}
 use Rattle.art_tree.specs.Leaves.{Numbered, leaf_in, Has, first_number, without_number}
 use Rattle.art_walk.specs.Pairs.{pairs_of}
-
-module _ {K V : Type 0} where
-  -- the pairs are the first, and those without it
-  pub first_pair : (ps : List (Numbered K V)) (id : ℕ) (x : K × V) → first_number ps ≡ Some id → leaf_in ps id ≡ Some x → pairs_of ps ≡ x ∷ pairs_of (without_number ps id)
-  first_pair [] id x e l = absurd cc
-  first_pair (p ∷ ps) id x e l = elim (eqb_tells p.0 id) [
-    | inl t ↦
-        let f : Some p.1 ≡ Some x = rw t.0 at l in
-        let h : p.1 ≡ x = cc in
-        rw t.0 (ap (λ y. y ∷ pairs_of ps) h)
-    | inr t ↦ absurd (t.1 (let h : p.0 ≡ id = cc in h))
-  ]
-
-  -- the first is there
-  pub first_has : (ps : List (Numbered K V)) (id : ℕ) → first_number ps ≡ Some id → Has ps id
-  first_has [] id e = absurd cc
-  first_has (p ∷ ps) id e = elim (eqb_tells p.0 id) [
-    | inl t ↦ rw t.0 refl
-    | inr t ↦ absurd (t.1 (let h : p.0 ≡ id = cc in h))
-  ]
-
-  -- where there is no first there is none
-  pub no_first : (ps : List (Numbered K V)) → first_number ps ≡ None → ps ≡ []
-  no_first [] e = refl
-  no_first (p ∷ ps) e = absurd cc
+-- the first pair, and those without it
+pub use Rattle.art_walk.proofs.PairEnds.{first_pair, first_has, no_first}
 
 module _ {X : Type 0} (bytes : X → List ℕ) where
   -- ---- an item in front of all

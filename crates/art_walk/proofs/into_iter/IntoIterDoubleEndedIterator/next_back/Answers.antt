@@ -1,24 +1,28 @@
-use Rattle.std.proofs.Common.{sym, ◌∙◌}
-use Rattle.art_walk.proofs.Taking.{last_fits, last_count, last_taken, fewer_last}
+use Rattle.std.proofs.Common.{[], ◌∷◌, ◌++◌, sym, ap, ◌∙◌}
+use Rattle.art_walk.specs.Pairs.{pairs_of}
+use Rattle.art_tree.proofs.CallerLemmas.{Has-last}
+use Rattle.art_walk.proofs.PairEnds.{last_pair}
+use Rattle.art_walk.proofs.Steps.{no_last}
+use Rattle.art_walk.proofs.Taking.{fewer_last}
 use Rattle.art_walk.proofs.into_iter.IntoIterDoubleEndedIterator.next_back.Goals as goal
 
-pub invariant_of-self-2 : goal.invariant_of-self-2
-invariant_of-self-2 g c =
-    let ps = c.self.inside.tree.pairs in
-    let qs = c.remove.new.self.pairs in (
-      last_fits ps qs c.law.ensures.distinct c.self.inside.cursor c.step_back.new.self c.self.invariant.0 c.in_ok-id.ensures.fits c.in_ok-id.id c.remove.result c.remove.ensures.value c.in_ok-id.ensures.passes c.remove.ensures.rest,
-      last_count ps qs c.law.ensures.distinct c.self.inside.cursor c.step_back.new.self c.self.invariant.0 c.in_ok-id.ensures.fits c.in_ok-id.id c.remove.result c.remove.ensures.value c.in_ok-id.ensures.passes c.remove.ensures.rest c.self.inside.left c.self.invariant.1,
-    )
+pub returns-in_default-clause-steps : goal.returns-in_default-clause-steps
+returns-in_default-clause-steps g c =
+    let none = sym c.self.view_is ∙ ap pairs_of (no_last c.self.inside.leaves.pairs (sym c.in_default.ensures)) in
+    (none, none)
+
+pub remove-requires : goal.remove-requires
+remove-requires g c = Has-last c.self.inside.leaves.pairs c.in-Some.id (sym c.in-Some.ensures)
 
 pub returns-clause-steps : goal.returns-clause-steps
 returns-clause-steps g c =
-    let ps = c.self.inside.tree.pairs in
-    let qs = c.remove.new.self.pairs in
-    sym c.self.view_is ∙ last_taken ps qs c.law.ensures.distinct c.self.inside.cursor c.step_back.new.self c.self.invariant.0 c.in_ok-id.ensures.fits c.in_ok-id.id c.remove.result c.remove.ensures.value c.in_ok-id.ensures.passes c.remove.ensures.rest
+    let ps = c.self.inside.leaves.pairs in
+    let x = c.remove.result in
+    sym c.self.view_is ∙ last_pair ps c.in-Some.id x c.law.ensures.distinct (sym c.in-Some.ensures) c.remove.ensures.value ∙ ap (λ l. pairs_of l ++ x ∷ []) (sym c.remove.ensures.rest)
 
 pub returns-clause-goes : goal.returns-clause-goes
 returns-clause-goes g c =
-    let ps = c.self.inside.tree.pairs in
-    let qs = c.remove.new.self.pairs in
-    let steps = sym c.self.view_is ∙ last_taken ps qs c.law.ensures.distinct c.self.inside.cursor c.step_back.new.self c.self.invariant.0 c.in_ok-id.ensures.fits c.in_ok-id.id c.remove.result c.remove.ensures.value c.in_ok-id.ensures.passes c.remove.ensures.rest in
+    let ps = c.self.inside.leaves.pairs in
+    let x = c.remove.result in
+    let steps = sym c.self.view_is ∙ last_pair ps c.in-Some.id x c.law.ensures.distinct (sym c.in-Some.ensures) c.remove.ensures.value ∙ ap (λ l. pairs_of l ++ x ∷ []) (sym c.remove.ensures.rest) in
     record { on = λ finite. (tt, finite, fewer_last _ _ _ steps); keeps = tt; rests = λ _. tt }
