@@ -4,11 +4,22 @@ use std::alloc::AllocError;
 use thiserror::Error;
 
 /// The key conflicts: a stored key begins it or is begun by it, and has other bytes.
+///
+/// ```
+/// map.try_insert("cat", 1)?;
+/// assert_eq!(map.try_entry("ca").err(), Some(InsertPrefixError));
+/// ```
 #[derive(Clone, Copy, Debug, PartialEq, Eq, Error)]
 #[error("key conflicts")]
 pub struct InsertPrefixError;
 
 /// Why an insertion was refused. The map is as before.
+///
+/// ```
+/// map.try_insert("cat", 1)?;
+/// let refused = map.try_insert("ca", 2);
+/// assert!(matches!(refused, Err(TryInsertError::Prefix(_))));
+/// ```
 #[derive(Debug, Drop, Error)]
 pub enum TryInsertError {
     /// The key conflicts with a stored key.
@@ -20,6 +31,13 @@ pub enum TryInsertError {
 }
 
 /// One call of a map, with its arguments.
+///
+/// ```
+/// let calls = vec![in alloc; Call::TryInsert("cat", 1), Call::PopLast]?;
+/// let replies = drive(&mut map, calls)?;
+/// assert_eq!(replies.len(), 2);
+/// assert!(map.is_empty());
+/// ```
 #[derive(Drop)]
 pub enum Call<K, V> {
     /// Put the pair in place of the one with its bytes, or insert it, unless its key conflicts. The
@@ -42,6 +60,11 @@ pub enum Call<K, V> {
 }
 
 /// What a call answered.
+///
+/// ```
+/// let replies = drive(&mut map, vec![in alloc; Call::ContainsKey("cat")]?)?;
+/// assert!(matches!(replies.first(), Some(Reply::ContainsKey(false))));
+/// ```
 #[derive(Drop)]
 pub enum Reply<K, V> {
     /// The old value, if a pair with these bytes was stored, or why the insertion was refused.

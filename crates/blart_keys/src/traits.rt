@@ -4,6 +4,11 @@ ghost use Rattle.std.specs.Prelude.{◌≡◌, ℕ, List};
 ghost use Rattle.blart_keys.specs.Keys.{NoFronts, OrderedAs, EqualAs};
 
 /// A key that stands for a list of bytes.
+///
+/// ```
+/// let key = U32Key::new(258);
+/// assert_eq!(key.as_bytes(), [0, 0, 1, 2].as_slice());
+/// ```
 pub trait AsBytes {
     /// The bytes of a value.
     ghost bytes: { Self → List ℕ };
@@ -24,12 +29,24 @@ pub trait AsBytes {
 /// A key type of which no value's bytes are a proper front of another's.
 ///
 /// Two keys of such a type are related only where they are equal, so no insertion of one conflicts.
+///
+/// ```
+/// map.insert(U32Key::new(1), 1)?;
+/// map.insert(U32Key::new(2), 2)?;
+/// assert_eq!(map.len(), 2);
+/// ```
 pub trait NoPrefixesBytes: AsBytes {
     /// Of two values, if one's bytes begin the other's, the bytes are equal.
     ghost no_fronts: { NoFronts Self.bytes Self.IsValue };
 }
 
 /// A key type whose order is that of the bytes.
+///
+/// ```
+/// let (a, b) = (U32Key::new(1), U32Key::new(256));
+/// assert_eq!(a.cmp(&b), Ordering::Less);
+/// assert_eq!(a.as_bytes().cmp(&b.as_bytes()), Ordering::Less);
+/// ```
 pub trait OrderedBytes: AsBytes + Ord {
     /// Two values compare as their bytes do.
     ghost ordered: { OrderedAs Self.bytes Self.IsValue Self.cmp };

@@ -10,6 +10,11 @@ use std::alloc::Global;
 use thiserror::Error;
 
 /// Why bytes make no [`ZKey`].
+///
+/// ```
+/// let made = ZKey::from_bytes(alloc, b"a\0");
+/// assert_eq!(made.err(), Some(ZKeyError::InnerZero));
+/// ```
 #[derive(Debug, Clone, Copy, PartialEq, Eq, Error)]
 pub enum ZKeyError {
     /// One of the bytes is zero.
@@ -23,6 +28,12 @@ pub enum ZKeyError {
 /// Bytes without a zero, and one zero behind them.
 ///
 /// No key of this type begins another, and keys compare as the bytes without the zero do.
+///
+/// ```
+/// let key = ZKey::from_bytes(alloc, b"ab")?;
+/// assert_eq!(key.as_bytes(), b"ab\0".as_slice());
+/// assert_eq!(key.to_bytes(), b"ab".as_slice());
+/// ```
 #[derive(Debug, PartialEq, Eq, PartialOrd, Ord, Hash, Drop)]
 pub struct ZKey {
     bytes: Vec<u8>,

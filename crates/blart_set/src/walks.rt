@@ -14,12 +14,35 @@ use std::marker::Model;
 use std::ops::Bound;
 
 /// The elements of a set from both ends, ascending by their bytes. It knows how many are left.
+///
+/// ```
+/// set.try_insert("cat")?;
+/// let mut elements = set.iter();
+/// assert_eq!(elements.len(), 1);
+/// assert_eq!(elements.next_back(), Some(&"cat"));
+/// ```
 pub type Iter<'a, K, const PREFIX_LEN: usize> = Keys<'a, K, (), PREFIX_LEN>;
 
 /// The elements of a set by value from both ends, ascending by their bytes. It knows how many are left; what was not taken is freed where the walk is dropped.
+///
+/// ```
+/// set.try_insert("cat")?;
+/// let mut elements = set.into_iter();
+/// assert_eq!(elements.next(), Some("cat"));
+/// assert_eq!(elements.next(), None);
+/// ```
 pub type IntoIter<K, const PREFIX_LEN: usize> = IntoKeys<K, (), PREFIX_LEN>;
 
 /// The elements within two bounds from both ends, ascending by their bytes.
+///
+/// ```
+/// set.try_insert("cat")?;
+/// set.try_insert("dog")?;
+/// let low = "d";
+/// let mut elements = set.range(Bound::Included(&low), Bound::Unbounded);
+/// assert_eq!(elements.next(), Some(&"dog"));
+/// assert_eq!(elements.next(), None);
+/// ```
 #[derive(Drop)]
 pub struct Range<'a, K, const PREFIX_LEN: usize> {
     pairs: blart_map::Range<'a, K, (), PREFIX_LEN>,
@@ -64,6 +87,14 @@ impl<'a, K, const PREFIX_LEN: usize> DoubleEndedIterator for Range<'a, K, PREFIX
 impl<'a, K, const PREFIX_LEN: usize> FusedIterator for Range<'a, K, PREFIX_LEN> {}
 
 /// The elements whose bytes begin with some bytes, from both ends, ascending.
+///
+/// ```
+/// set.try_insert("cat")?;
+/// set.try_insert("dog")?;
+/// let mut elements = set.prefix(b"do");
+/// assert_eq!(elements.next(), Some(&"dog"));
+/// assert_eq!(elements.next(), None);
+/// ```
 #[derive(Drop)]
 pub struct Prefix<'a, K, const PREFIX_LEN: usize> {
     pairs: blart_map::Prefix<'a, K, (), PREFIX_LEN>,

@@ -18,6 +18,12 @@ const TOP_BIT: u32 = 1 << 31;
 /// flipped.
 ///
 /// So the bytes of negative numbers come first, and keys compare as their numbers.
+///
+/// ```
+/// let key = I32Key::new(-1);
+/// assert_eq!(key.get(), -1);
+/// assert!(key < I32Key::new(0));
+/// ```
 #[derive(Clone, Copy, Debug, PartialEq, Eq, PartialOrd, Ord, Hash)]
 pub struct I32Key {
     bytes: [u8; 4],

@@ -14,6 +14,12 @@ use std::marker::Model;
 /// An unsigned number of 32 bits by its four big-endian bytes.
 ///
 /// Keys compare as their numbers.
+///
+/// ```
+/// let key = U32Key::new(258);
+/// assert_eq!(key.get(), 258);
+/// assert!(U32Key::new(2) < key);
+/// ```
 #[derive(Clone, Copy, Debug, PartialEq, Eq, PartialOrd, Ord, Hash)]
 pub struct U32Key {
     bytes: [u8; 4],

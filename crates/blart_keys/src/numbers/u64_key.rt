@@ -14,6 +14,12 @@ use std::marker::Model;
 /// An unsigned number of 64 bits by its eight big-endian bytes.
 ///
 /// Keys compare as their numbers.
+///
+/// ```
+/// let key = U64Key::new(258);
+/// assert_eq!(key.get(), 258);
+/// assert!(U64Key::new(2) < key);
+/// ```
 #[derive(Clone, Copy, Debug, PartialEq, Eq, PartialOrd, Ord, Hash)]
 pub struct U64Key {
     bytes: [u8; 8],

@@ -5,6 +5,11 @@ use blart_map::Visits;
 use std::marker::Model;
 
 /// How many comparisons of elements a merge made. It takes no memory. A clause sees the number.
+///
+/// ```
+/// let mut compares = Compares::new();
+/// compares.add_one();
+/// ```
 #[derive(Drop)]
 pub struct Compares {
     made: Visits,

@@ -9,6 +9,16 @@ use std::iter::{FusedIterator, Iterator};
 use std::marker::Model;
 
 /// The elements of the left set whose bytes the right one lacks, ascending. It makes at most as many comparisons as it consumes elements of both sets.
+///
+/// ```
+/// left.try_insert("car")?;
+/// left.try_insert("cat")?;
+/// right.try_insert("cat")?;
+/// right.try_insert("dog")?;
+/// let mut merged = left.difference(&right);
+/// assert_eq!(merged.next(), Some(&"car"));
+/// assert_eq!(merged.next(), None);
+/// ```
 #[derive(Drop)]
 pub struct Difference<'a, K: OrderedBytes, const PREFIX_LEN: usize> {
     pub(crate) sides: Sides<'a, K, PREFIX_LEN>,

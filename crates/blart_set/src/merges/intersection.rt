@@ -9,6 +9,16 @@ use std::iter::{FusedIterator, Iterator};
 use std::marker::Model;
 
 /// The elements of the left set whose bytes the right one has too, ascending. It makes at most as many comparisons as it consumes elements of both sets.
+///
+/// ```
+/// left.try_insert("car")?;
+/// left.try_insert("cat")?;
+/// right.try_insert("cat")?;
+/// right.try_insert("dog")?;
+/// let mut merged = left.intersection(&right);
+/// assert_eq!(merged.next(), Some(&"cat"));
+/// assert_eq!(merged.next(), None);
+/// ```
 #[derive(Drop)]
 pub struct Intersection<'a, K: OrderedBytes, const PREFIX_LEN: usize> {
     pub(crate) sides: Sides<'a, K, PREFIX_LEN>,

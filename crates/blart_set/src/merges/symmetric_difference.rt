@@ -9,6 +9,17 @@ use std::iter::{FusedIterator, Iterator};
 use std::marker::Model;
 
 /// The elements of either set whose bytes the other lacks, ascending. It makes at most as many comparisons as it consumes elements of both sets.
+///
+/// ```
+/// left.try_insert("car")?;
+/// left.try_insert("cat")?;
+/// right.try_insert("cat")?;
+/// right.try_insert("dog")?;
+/// let mut merged = left.symmetric_difference(&right);
+/// assert_eq!(merged.next(), Some(&"car"));
+/// assert_eq!(merged.next(), Some(&"dog"));
+/// assert_eq!(merged.next(), None);
+/// ```
 #[derive(Drop)]
 pub struct SymmetricDifference<'a, K: OrderedBytes, const PREFIX_LEN: usize> {
     pub(crate) sides: Sides<'a, K, PREFIX_LEN>,

@@ -9,6 +9,18 @@ use std::iter::{FusedIterator, Iterator};
 use std::marker::Model;
 
 /// The elements of both sets, ascending; where both have the bytes, the left set's. It makes at most as many comparisons as it consumes elements of both sets.
+///
+/// ```
+/// left.try_insert("car")?;
+/// left.try_insert("cat")?;
+/// right.try_insert("cat")?;
+/// right.try_insert("dog")?;
+/// let mut merged = left.union(&right);
+/// assert_eq!(merged.next(), Some(&"car"));
+/// assert_eq!(merged.next(), Some(&"cat"));
+/// assert_eq!(merged.next(), Some(&"dog"));
+/// assert_eq!(merged.next(), None);
+/// ```
 #[derive(Drop)]
 pub struct Union<'a, K: OrderedBytes, const PREFIX_LEN: usize> {
     pub(crate) sides: Sides<'a, K, PREFIX_LEN>,
