@@ -69,12 +69,6 @@ fn an_entry_that_splits_a_node(rt: HostRuntime) {
     splits_a_node::<16>(&rt);
 }
 
-// A vacant entry gives its key back, and changes nothing.
-fn assert_into_key(rt: &impl Abort, map: &mut Map<2>) {
-    assert_eq!(rt; vacant(rt, map, b"\x03").into_key(), b"\x03".as_slice());
-    assert_values(rt, map, &[0, 1]);
-}
-
 // What a vacant entry lends after an insertion is written.
 fn assert_insert(rt: &impl Abort, map: &mut Map<2>) {
     let value = vacant(rt, map, b"\x03").insert(7).expect(rt, "memory");
@@ -101,7 +95,6 @@ fn assert_into_mut(rt: &impl Abort, map: &mut Map<2>) {
 #[test]
 fn halves_of_an_entry(rt: HostRuntime) {
     let mut map = map_of::<Key, 2>(&rt, &[b"\x01", b"\x02\x01"]);
-    assert_into_key(&rt, &mut map);
     assert_insert(&rt, &mut map);
     assert_remove_entry(&rt, &mut map);
     assert_into_mut(&rt, &mut map);
