@@ -1,5 +1,5 @@
 -- One pair of which a closure is asked, in a walk that extracts.
-use Rattle.std.proofs.Common.{◌≡◌, ℕ, suc, ◌<◌, ◌≤◌, ◌+◌, List, [], ◌∷◌, ◌++◌, length, length-append, reverse, Option, Some, None, IsSome, Bool, true, false, cond, eqb, refl, sym, ◌∙◌, ap, subst, arith}
+use Rattle.std.proofs.Common.{◌≡◌, ℕ, suc, ◌<◌, ◌≤◌, ◌+◌, List, [], ◌∷◌, ◌++◌, length, length-append, reverse, Option, Some, None, Bool, true, false, refl, sym, ◌∙◌, ap, subst, arith}
 use Rattle.std.proofs.lemmas.Grind.{common_steps}
 use Rattle.std.proofs.lemmas.List.{reverse-append}
 use Rattle.std.specs.Borrow.{Bor, MutBor}
@@ -7,7 +7,7 @@ use Rattle.std.specs.Map.Calls.{CalledAtPair}
 use denote.Param.Members.{Mut, Called}
 use Rattle.blart_keys.proofs.Options.{is_some}
 use Rattle.art_tree.specs.Leaves.{Numbered, leaf_in, Has, AreDistinct, Lacks, with_value, without_number}
-use Rattle.art_tree.proofs.CallerLemmas.{AreDistinct-with_value, AreDistinct-without_number}
+use Rattle.art_tree.proofs.CallerLemmas.{AreDistinct-with_value}
 use Rattle.art_walk.specs.declared.cursor.Cursor.{Cursor}
 use Rattle.art_walk.specs.Cursor.{leaves_left, FitsIn}
 use Rattle.art_walk.specs.Lent.{walk_fits, numbers}

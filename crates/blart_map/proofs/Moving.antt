@@ -1,15 +1,20 @@
 -- Pairs that leave one list and come into another.
-use Rattle.std.proofs.Common.{◌≡◌, ℕ, false, inl, inr, List, [], ◌∷◌, ◌++◌, Some, None, refl, sym, ap, subst, append-nil}
-use Rattle.std.proofs.lemmas.Bool.Decides.{eqb_tells}
+use Rattle.std.proofs.Common.{◌≡◌, ℕ, false, inl, List, [], ◌∷◌, ◌++◌, Some, refl, sym, ap, ◌∙◌, subst, append-nil}
 use Rattle.blart_keys.specs.Bytes.{related}
 use Rattle.blart_keys.specs.Content.{IsContent, IsPut}
 use Rattle.blart_keys.proofs.PartLemmas.{related-from_PartsBelow}
 use Rattle.blart_keys.proofs.RankLemmas.{Member, Ranked-across, Ranked-left, Ranked-right}
 use Rattle.blart_keys.proofs.ContentLemmas.{Before, Ranked-from_content, content_from_Ranked, unrelated_back, put_unique, put_between}
-use Rattle.art_tree.specs.Leaves.{Numbered, leaf_in, Has, first_number, without_number}
+use Rattle.art_tree.specs.Leaves.{Numbered, leaf_in, first_number, without_number}
 use Rattle.art_walk.specs.Pairs.{pairs_of}
 -- the first pair, and those without it
 pub use Rattle.art_walk.proofs.PairEnds.{first_pair, first_has, no_first}
+
+-- once the first pair that is left is taken out, all pairs are those that have moved, it, and the rest
+pub first_moved : {K V : Type 0} (bytes : K × V → List ℕ) (all moved : List (K × V)) (ps rest : List (Numbered K V)) (id : ℕ) (x : K × V) → IsContent bytes all → all ≡ moved ++ pairs_of ps → first_number ps ≡ Some id → leaf_in ps id ≡ Some x → rest ≡ without_number ps id → (all ≡ moved ++ x ∷ pairs_of rest) × IsContent bytes (moved ++ x ∷ pairs_of rest)
+first_moved bytes all moved ps rest id x content whole is named left =
+    let w = whole ∙ ap (λ l. moved ++ l) (first_pair ps id x is named ∙ ap (λ l. x ∷ pairs_of l) (sym left)) in
+    (w, subst (IsContent bytes) w content)
 
 module _ {X : Type 0} (bytes : X → List ℕ) where
   -- ---- an item in front of all

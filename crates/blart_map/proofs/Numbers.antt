@@ -1,7 +1,7 @@
 -- What a list of numbered pairs says of the list of its pairs.
 use Rattle.std.proofs.Common.{bytes_eq, cond, ◌||◌, ◌≡◌, ℕ, suc, ◌+◌, ◌-◌, arith, slice_get, length-append, Bool, true, false, List, [], ◌∷◌, ◌++◌, length, refl, sym, ap, ◌∙◌, subst, Option, Some, None, option_map, find, inl, inr}
 use Rattle.std.proofs.lemmas.Bool.{cases_Bool}
-use Rattle.std.proofs.lemmas.List.{map-append, append-nil}
+use Rattle.std.proofs.lemmas.List.{map-append}
 use Rattle.blart_keys.specs.Content.{IsContent, at, without}
 use Rattle.blart_keys.specs.Steps.{bytes as pair_bytes}
 use Rattle.blart_keys.proofs.RankLemmas.{find_found}
@@ -9,8 +9,8 @@ use Rattle.std.specs.List.{list_any}
 use Rattle.std.specs.Option.{is_some}
 use Rattle.blart_keys.proofs.ContentLemmas.{at_Some}
 use Rattle.blart_keys.proofs.PutLemmas.{without_cut}
-use Rattle.art_tree.specs.Leaves.{Numbered, leaf_in, Has, AreDistinct, Lacks, last_number, with_pair, without_number, bytes}
-use Rattle.art_tree.proofs.CallerLemmas.{split, distinct_parts, with_pair-split, without_number-split, leaf_in-split, leaf_in-member, Has-last, has_not_lacks}
+use Rattle.art_tree.specs.Leaves.{Numbered, leaf_in, Has, AreDistinct, with_pair, without_number, bytes}
+use Rattle.art_tree.proofs.CallerLemmas.{with_pair-split, leaf_in-member}
 use Rattle.blart_keys.proofs.Options.{is_some as has_value, mapped_some}
 use Rattle.art_walk.specs.Pairs.{pairs_of}
 -- a pair under its number, and the last one

@@ -1,5 +1,5 @@
 -- A cursor over a map's tree fits the map.
-use Rattle.std.proofs.Common.{◌≡◌, ℕ, List, length, Option, None, true, sym, ap, ◌∙◌, subst}
+use Rattle.std.proofs.Common.{◌≡◌, ℕ, List, length, None, true, sym, ap, ◌∙◌, subst}
 use Rattle.art_tree.specs.Leaves.{Numbered}
 use Rattle.art_walk.specs.declared.cursor.Cursor.{Cursor}
 use Rattle.art_walk.specs.Cursor.{leaves_left, FitsIn}

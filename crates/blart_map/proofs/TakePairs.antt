@@ -1,5 +1,5 @@
 -- A walk that may take pairs, whose lent pair is written.
-use Rattle.std.proofs.Common.{◌≡◌, ℕ, List, Option, Some, true, sym, ◌∙◌, ap, subst}
+use Rattle.std.proofs.Common.{◌≡◌, ℕ, List, Some, true, sym, ap, subst}
 use Rattle.std.specs.Prelude.{MatchOption, ⊤}
 use mathlib.Core.Bool.{Bool-set}
 use Rattle.blart_keys.specs.declared.AsBytes.{Ghosts}

@@ -70,6 +70,7 @@ impl<K: AsBytes + Drop, V: Drop, const PREFIX_LEN: usize> TreeMap<K, V, PREFIX_L
         let start = Bound::Included(query.as_bytes());
         Range::new(&self.tree, start, Bound::Unbounded, &mut Visits::new())
     }
+
     // The pairs whose keys' bytes are less than the query's.
     #[tactic(auto, unfolding(crate::specs::Content::pairs))]
     fn walk_below<Q: AsBytes>(&self, query: &Q) -> Range<'_, K, V, PREFIX_LEN>

@@ -1,5 +1,4 @@
-use Rattle.std.proofs.Common.{List, length, lit<, ap, sym, ◌∙◌, arith}
-use Rattle.std.proofs.lemmas.List.{length-map}
+use Rattle.std.proofs.Common.{List, length, lit<, ap, arith}
 use Rattle.blart_keys.specs.Steps.{bytes}
 use Rattle.blart_map.specs.Content.{pairs}
 use Rattle.blart_map.proofs.Parting.{part_lengths}

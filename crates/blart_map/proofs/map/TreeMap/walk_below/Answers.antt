@@ -2,7 +2,6 @@ use Rattle.std.proofs.Common.{sym, ◌∙◌, ◌&&◌}
 use Rattle.std.specs.declared.ops.Bound.TheVariants.{Excluded, Unbounded}
 use Rattle.blart_keys.specs.Bounds.{is_from_start, is_up_to_end}
 use Rattle.blart_keys.proofs.Mapped.{filter-map}
-use Rattle.art_walk.specs.Pairs.{pairs_of}
 use Rattle.blart_map.specs.Content.{pairs}
 use Rattle.blart_map.proofs.map.TreeMap.walk_below.Goals as goal
 

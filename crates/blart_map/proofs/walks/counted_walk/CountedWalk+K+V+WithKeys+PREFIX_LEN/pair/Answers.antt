@@ -1,4 +1,4 @@
-use Rattle.std.proofs.Common.{◌≡◌, true, refl, sym, ap, ◌∙◌, lit<}
+use Rattle.std.proofs.Common.{refl, sym, ap, ◌∙◌, lit<}
 use Rattle.art_walk.specs.Lent.{count_fits, numbers, written_last, count_written}
 use Rattle.art_walk.proofs.Lending.{count_test, has_lent, same_left}
 use Rattle.blart_map.proofs.CountedPairs.{same_walk, pair_there}

@@ -1,4 +1,4 @@
-use Rattle.std.proofs.Common.{◌≤◌, ◌<◌, ◌≡◌, ◌∙◌, sym, ap, subst, refl, lit<, List, reverse, length, suc, of_calls, Some, None}
+use Rattle.std.proofs.Common.{◌∙◌, ap, subst, lit<, List, reverse, length, suc, of_calls, Some, None}
 use Rattle.art_tree.specs.Leaves.{Numbered, with_value}
 use Rattle.art_walk.specs.Cursor.{leaves_left}
 use Rattle.art_walk.proofs.Lending.{from_test, moved_last}

@@ -1,4 +1,4 @@
-use Rattle.std.proofs.Common.{◌≡◌, ◌≤◌, length, List, Option, reverse}
+use Rattle.std.proofs.Common.{◌≡◌, ◌≤◌, length}
 use Rattle.art_tree.specs.Leaves.{AreDistinct}
 use Rattle.blart_map.specs.ExtractIf.{extract_left, Extracts}
 use Rattle.blart_map.proofs.walks.extract_if.ExtractIfIterator.next.Given as goal

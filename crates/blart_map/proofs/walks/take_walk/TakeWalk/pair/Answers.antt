@@ -1,4 +1,4 @@
-use Rattle.std.proofs.Common.{◌≡◌, true, refl, sym, ap, ◌∙◌, lit<}
+use Rattle.std.proofs.Common.{refl, sym, ap, ◌∙◌, lit<}
 use Rattle.art_walk.specs.Lent.{walk_fits, numbers, written_last, fits_written}
 use Rattle.art_walk.proofs.Lending.{has_lent, same_left}
 use Rattle.blart_map.proofs.TakePairs.{same_walk, pair_there}
