@@ -3,7 +3,8 @@ use Rattle.std.proofs.Common.{◌≡◌, ℕ, ◌≤◌, Bool, true, false, List
 use Rattle.std.proofs.lemmas.List.{map-append}
 use Rattle.std.specs.Borrow.{Bor, MutBor}
 use denote.Param.Members.{Mut, Called}
-use Rattle.blart_keys.specs.Walks.{picked, Retains, AsksPair}
+use Rattle.blart_keys.specs.Walks.{Retains, AsksPair}
+use Rattle.blart_keys.proofs.WalkLemmas.{retains_none, retains_kept, retains_gone}
 use Rattle.art_tree.specs.Leaves.{Numbered, leaf_in, AreDistinct, Lacks, with_value, without_number}
 use Rattle.art_tree.proofs.CallerLemmas.{leaf_in-split, with_value-split, without_number-split, AreDistinct-with_value, AreDistinct-without_number, distinct_parts}
 use Rattle.art_walk.specs.declared.cursor.Cursor.{Cursor}
@@ -65,32 +66,6 @@ module _ {K V F : Type 0} (g : Mut F (Bor K × (MutBor V × Unit {0})) (Bool × 
     called = record { key = key; value = value; shows = (refl, refl); left = left; called = m; leaves = refl };
     same_key = refl;
   }
-
-module _ {F X : Type 0} (R : F → X → Bool → X → F → Type 0) where
-  -- no item is left to be asked
-  pub retains_none : (f : F) → Retains R [] f []
-  retains_none f = record { answers = []; left = []; after = f; asked = refl; kept = refl }
-
-  module _ (x y : X) (items rest : List X) (f f' : F) (b : Bool) (asks : R f x b y f') (r : Retains R items f' rest) where
-    -- one more is asked, and stays
-    pub retains_kept : b ≡ true → Retains R (x ∷ items) f (y ∷ rest)
-    retains_kept e = record {
-      answers = b ∷ r.answers;
-      left = y ∷ r.left;
-      after = r.after;
-      asked = (f', asks, r.asked);
-      kept = subst (λ c. y ∷ rest ≡ picked (c ∷ r.answers) (y ∷ r.left)) (sym e) (ap (λ l. y ∷ l) r.kept);
-    }
-
-    -- one more is asked, and goes
-    pub retains_gone : b ≡ false → Retains R (x ∷ items) f rest
-    retains_gone e = record {
-      answers = b ∷ r.answers;
-      left = y ∷ r.left;
-      after = r.after;
-      asked = (f', asks, r.asked);
-      kept = subst (λ c. rest ≡ picked (c ∷ r.answers) (y ∷ r.left)) (sym e) r.kept;
-    }
 
 -- ---- one step of `retain`
 

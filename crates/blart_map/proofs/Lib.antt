@@ -18,6 +18,7 @@ pub mod OnceWritten
 pub mod Opening
 pub mod OverWritten
 pub mod Parting
+pub mod PassedLeaves
 pub mod PrefixValues
 pub mod Reserved
 pub mod Setting

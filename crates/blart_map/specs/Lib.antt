@@ -10,6 +10,7 @@ pub mod MapLends
 pub mod Modified
 pub mod OccupiedEntry
 pub mod OccupiedLends
+pub mod Passed
 pub mod Places
 pub mod PrefixEntry
 pub mod PrefixKind

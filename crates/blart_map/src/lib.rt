@@ -28,7 +28,7 @@ mod vacant;
 mod walks;
 mod writes;
 
-pub use art_tree::{DEFAULT_PREFIX_LEN, Visits};
+pub use art_tree::{DEFAULT_PREFIX_LEN, LeafId, Visits};
 pub use art_walk::{
     BelowFront, Cursor, InRange, InSubtree, IntoIter, IntoKeys, IntoValues, Iter, Keys, Prefix,
     Range, SubtreeIter, Values, ValuesAlone, WithKeys,

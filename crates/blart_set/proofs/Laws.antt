@@ -1,15 +1,13 @@
 -- Laws of merges, and of byte order, that a caller cites.
-use Rattle.std.proofs.Common.{◌≡◌, ℕ, suc, ◌+◌, Bool, true, false, not, ◌&&◌, ◌||◌, cond, inl, inr, List, [], ◌∷◌, length, arith, refl, sym, ap, ◌∙◌, subst, filter, Contains, bytes_eq, Ordering, Less}
-use Rattle.std.specs.Prelude.{AllPairs, if◌then◌else◌}
-use Rattle.std.specs.Cmp.Lexicographic.{bytes_decides}
-use Rattle.std.proofs.lemmas.Bool.{false≢true, cases_Bool, not-true, not_from_false, false_from_ne_true}
+use Rattle.std.proofs.Common.{◌≡◌, ℕ, suc, ◌+◌, Bool, true, false, not, ◌||◌, cond, inl, inr, List, [], ◌∷◌, length, arith, refl, sym, ap, ◌∙◌, subst, filter, Contains, bytes_eq, Ordering, Less}
+use Rattle.std.proofs.lemmas.Bool.{false≢true, cases_Bool, not-true, not_from_false}
 use Rattle.blart_keys.specs.Bytes.{less}
 use Rattle.blart_keys.specs.Content.{Ascends, stores}
 use Rattle.blart_keys.specs.Keys.{OrderedAs}
 use Rattle.blart_keys.specs.Merges.{IsUnion, IsSymmetricDifference, intersection, difference}
 use Rattle.blart_keys.proofs.ContentLemmas.{stores_member, stores_found}
-use Rattle.blart_keys.proofs.MergeLemmas.{same_ascending, filter_ascends, intersection_elements, difference_elements}
-use Rattle.blart_keys.proofs.RankLemmas.{Member, Contains-from_Member, Member-from_Contains, filter_member, member_filter}
+use Rattle.blart_keys.proofs.MergeLemmas.{same_ascending, filter_ascends, difference_elements}
+use Rattle.blart_keys.proofs.RankLemmas.{Contains-from_Member, Member-from_Contains, filter_member, member_filter}
 use Rattle.blart_set.specs.Clones.{AreElementClones}
 use Rattle.blart_set.proofs.Orders.{less_cmp}
 -- which elements a union has, and that merges are one list

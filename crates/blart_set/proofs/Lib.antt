@@ -1,8 +1,10 @@
 pub mod Cloned
 pub mod Compared
+pub mod Extracted
 pub mod Images
-pub mod Laws
+pub mod Keeping
 pub mod Lawful
+pub mod Laws
 pub mod Merged
 pub mod Orders
 pub mod Pairs

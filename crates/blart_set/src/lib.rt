@@ -8,14 +8,17 @@
 mod bulk;
 mod changes;
 mod compare;
+mod extracting;
 mod insertions;
 mod merges;
 mod operators;
 mod relations;
+mod retaining;
 mod set;
 mod walks;
 
 pub use blart_map::{DEFAULT_PREFIX_LEN, InsertPrefixError, TryInsertError, bounds_in_order};
+pub use extracting::ExtractIf;
 pub use merges::compares::Compares;
 pub use merges::difference::Difference;
 pub use merges::intersection::Intersection;

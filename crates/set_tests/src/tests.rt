@@ -2,6 +2,7 @@
 
 mod joining;
 mod merging;
+mod picking;
 mod single;
 mod tagged;
 

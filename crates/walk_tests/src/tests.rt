@@ -2,6 +2,7 @@
 
 mod lending;
 mod owning;
+mod stepping;
 mod taking;
 mod walking;
 

@@ -1,14 +1,21 @@
-//! The leaves of a map by their numbers, for its walks.
+//! The leaves of a map by their numbers, for its walks and for a layer above that removes as it walks.
 ghost use Rattle.std.specs.Prelude.{◌≡◌, option_map, IfSome, Some};
 ghost use Rattle.std.specs.Borrow.{sem};
+ghost use Rattle.blart_keys.specs.Bounds.{bound_bytes, CanRange};
+ghost use Rattle.blart_keys.specs.Content.{between, without};
+ghost use Rattle.blart_keys.specs.Steps.{bytes};
 ghost use Rattle.art_tree.specs.Leaves.{leaf_in, Has, AreDistinct, without_number};
 ghost use Rattle.art_walk.specs.Cursor.{leaves_left, FitsIn, PassesFirst, PassesLast};
+ghost use Rattle.blart_map.specs.Content.{pairs};
 ghost use Rattle.blart_map.specs.LentLeaves.{lends_leaf};
+ghost use Rattle.blart_map.specs.Passed.{WasFirst, WasLast, StaysLeft};
 
 use crate::map::TreeMap;
+use crate::walks::as_bytes;
 use art_tree::{LeafId, Visits};
 use art_walk::Cursor;
 use blart_keys::AsBytes;
+use std::ops::Bound;
 
 impl<K: AsBytes + Drop, V: Drop, const PREFIX_LEN: usize> TreeMap<K, V, PREFIX_LEN> {
     // Answers nothing: no number comes twice.
@@ -18,30 +25,60 @@ impl<K: AsBytes + Drop, V: Drop, const PREFIX_LEN: usize> TreeMap<K, V, PREFIX_L
         self.tree.law();
     }
 
-    // Passes the first leaf that a cursor has left.
-    pub(crate) fn step(&self, cursor: &mut Cursor) -> Option<LeafId>
+    /// A cursor over the pairs within both bounds. It holds no map: each call that steps it is given it beside the map. The bounds are in order where the map has pairs, as for [`TreeMap::range`]. Takes no memory.
+    ///
+    /// ```
+    /// let mut cursor = map.cursor(Bound::<&&str>::Unbounded, Bound::Unbounded);
+    /// while let Some(id) = map.step(&mut cursor) {
+    ///     if *map.leaf(id).1 == 0 {
+    ///         map.take_leaf(id);
+    ///     }
+    /// }
+    /// ```
+    pub fn cursor<Q: AsBytes>(&self, start: Bound<&Q>, end: Bound<&Q>) -> Cursor
+        requires { CanRange (pairs self.now) (bound_bytes Q.bytes start)
+            (bound_bytes Q.bytes end) }
+        ensures fits { FitsIn result self.now }
+        ensures left { pairs (leaves_left result self.now)
+            ≡ between (bytes K.bytes) (pairs self.now)
+            (bound_bytes Q.bytes start.entry) (bound_bytes Q.bytes end.entry) }
+    {
+        Cursor::range(
+            &self.tree,
+            as_bytes(start),
+            as_bytes(end),
+            &mut Visits::new(),
+        )
+    }
+
+    /// Passes the first leaf that a cursor has left, and gives its number. One visit where there is one, and else none.
+    pub fn step(&self, cursor: &mut Cursor) -> Option<LeafId>
         requires { FitsIn cursor.old self.now }
         ensures fits { FitsIn cursor.new self.now }
         ensures passes { PassesFirst (leaves_left cursor.old self.now) result
             (leaves_left cursor.new self.now) }
         ensures there { IfSome result (λ id. Has self.now id) }
+        ensures first { IfSome result (λ id. WasFirst self.now cursor.old id cursor.new) }
     {
+        self.tree.law();
         cursor.step(&self.tree, &mut Visits::new())
     }
 
-    // Passes the last leaf that a cursor has left.
-    pub(crate) fn step_back(&self, cursor: &mut Cursor) -> Option<LeafId>
+    /// Passes the last leaf that a cursor has left, and gives its number. One visit where there is one, and else none.
+    pub fn step_back(&self, cursor: &mut Cursor) -> Option<LeafId>
         requires { FitsIn cursor.old self.now }
         ensures fits { FitsIn cursor.new self.now }
         ensures passes { PassesLast (leaves_left cursor.old self.now) result
             (leaves_left cursor.new self.now) }
         ensures there { IfSome result (λ id. Has self.now id) }
+        ensures last { IfSome result (λ id. WasLast self.now cursor.old id cursor.new) }
     {
+        self.tree.law();
         cursor.step_back(&self.tree, &mut Visits::new())
     }
 
-    // The pair of a leaf.
-    pub(crate) fn leaf(&self, id: LeafId) -> (&K, &V)
+    /// The pair of a leaf, by its number.
+    pub fn leaf(&self, id: LeafId) -> (&K, &V)
         requires { Has self.now id }
         ensures { leaf_in self.now id ≡ Some (result.0.now, result.1.now) }
     {
@@ -68,12 +105,16 @@ impl<K: AsBytes + Drop, V: Drop, const PREFIX_LEN: usize> TreeMap<K, V, PREFIX_L
         self.tree.value_mut(id)
     }
 
-    // Removes a leaf, and gives its pair.
-    pub(crate) fn take_leaf(&mut self, id: LeafId) -> (K, V)
+    /// Removes a leaf, by its number, and gives its pair. A cursor that has passed the leaf has the same left. Takes no memory.
+    pub fn take_leaf(&mut self, id: LeafId) -> (K, V)
         requires { Has self.old id }
         ensures value { leaf_in self.old id ≡ Some result }
         ensures rest { self.new ≡ without_number self.old id }
+        ensures removed { pairs self.new
+            ≡ without (bytes K.bytes) (pairs self.old) (K.bytes result.0) }
+        ensures left { StaysLeft self.old id self.new }
     {
+        self.tree.law();
         self.tree.remove(id)
     }
 }

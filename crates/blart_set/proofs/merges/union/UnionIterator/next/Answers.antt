@@ -1,4 +1,3 @@
-use Rattle.std.proofs.Common.{sym, ap, ◌∙◌, ◌∷◌, subst}
 use Rattle.blart_set.specs.Merging.{united}
 use Rattle.blart_set.proofs.Stepping.{united_step, longer}
 use Rattle.blart_set.proofs.merges.union.UnionIterator.next.Goals as goal

@@ -1,0 +1,99 @@
+-- One element of which a closure is asked.
+use Rattle.std.proofs.Common.{◌≡◌, ℕ, suc, ◌<◌, ◌≤◌, Bool, true, false, List, [], ◌∷◌, ◌++◌, length, map, reverse, Option, Some, None, refl, sym, ap, ◌∙◌, arith}
+use Rattle.std.proofs.lemmas.List.{map-append, reverse-append, length-reverse}
+use denote.Ref.{Bor}
+use denote.Param.Members.{Mut, Called}
+use Rattle.std.specs.Fn.{CalledAt}
+use Rattle.blart_keys.specs.Walks.{EndsAt}
+use Rattle.blart_set.specs.Asking.{AsksElement}
+use Rattle.art_tree.specs.Leaves.{Numbered, leaf_in}
+use Rattle.art_walk.specs.declared.cursor.Cursor.{Cursor}
+use Rattle.art_walk.specs.Cursor.{leaves_left}
+use Rattle.blart_map.specs.Content.{pairs}
+use Rattle.blart_map.specs.Passed.{WasFirst, WasLast}
+use Rattle.blart_set.specs.Elements.{elements}
+use Rattle.blart_set.specs.Extracting.{AsksUpTo}
+
+module _ {F K : Type 0} (g : Mut F (Bor K × Unit {0}) Bool) where
+  -- a call at the element behind a reference
+  pub called_at : (f : F) (x : Bor K) (b : Bool) (h : F) → Called g f (x, tt) b h → CalledAt g f x.now b h
+  called_at f x b h m = record { shown = x; shows = refl; called = m }
+
+  R : F → K → Bool → K → F → Type 0
+  R = AsksElement g
+
+  -- nothing is left to be asked about
+  pub asks_none : (coming rest : List K) (f : F) → coming ≡ [] → rest ≡ [] → AsksUpTo g coming f None rest f
+  asks_none coming rest f e l = ([], record { before = []; answers = []; between = f; asked = refl; passed = tt; end = (e, l, refl) })
+
+  module _ (coming rest : List K) (x : K) (f h : F) (b : Bool) (e : coming ≡ x ∷ rest) (m : CalledAt g f x b h) where
+    -- the answer was true
+    pub asks_true : b ≡ true → AsksUpTo g coming f (Some x) rest h
+    asks_true t = ([], record { before = []; answers = []; between = f; asked = refl; passed = tt; end = (x, e, (rw t at m, refl)) })
+
+    -- it was false, and the closure is asked on
+    pub asks_false : b ≡ false → (r : Option K) (left : List K) (k : F) → AsksUpTo g rest h r left k → AsksUpTo g coming f r left k
+    asks_false t r left k a =
+        let y = a.1 in (
+          x ∷ a.0,
+          record {
+            before = x ∷ y.before;
+            answers = false ∷ y.answers;
+            between = y.between;
+            asked = (h, (rw t at m, refl), y.asked);
+            passed = (refl, y.passed);
+            end = on r y.before y.between left k y.end;
+          },
+        )
+      where
+        on : (r : Option K) (before : List K) (between : F) (left : List K) (k : F) → EndsAt (AsksElement g) rest before r between left k → EndsAt (AsksElement g) coming (x ∷ before) r between left k
+        on None before between left k z = (e ∙ ap (λ l. x ∷ l) z.0, z.1, z.2)
+        on (Some y) before between left k z = (z.0, e ∙ ap (λ l. x ∷ l) z.1, z.2)
+
+-- the elements of numbered ones
+element_first : {K : Type 0} (S T : List (Numbered K (Unit {0}))) (id : ℕ) (x : K × Unit {0}) → S ≡ (id, x) ∷ T → elements S ≡ x.0 ∷ elements T
+unfolding elements pairs
+element_first S T id x e = ap elements e
+
+element_last : {K : Type 0} (S T : List (Numbered K (Unit {0}))) (id : ℕ) (x : K × Unit {0}) → S ≡ T ++ (id, x) ∷ [] → reverse (elements S) ≡ x.0 ∷ reverse (elements T)
+unfolding elements pairs
+element_last {K} S T id x e =
+    ap (λ l. reverse (elements l)) e
+    ∙ ap (λ l. reverse (map (λ p. p.0) l)) (map-append (λ (p : Numbered K (Unit {0})). p.1) T ((id, x) ∷ []))
+    ∙ ap reverse (map-append (λ (p : K × Unit {0}). p.0) (map (λ p. p.1) T) (x ∷ []))
+    ∙ reverse-append (elements T) (x.0 ∷ [])
+
+pub elements_none : {K : Type 0} (S : List (Numbered K (Unit {0}))) → S ≡ [] → elements S ≡ []
+unfolding elements pairs
+elements_none S e = ap elements e
+
+some_same : {X : Type 0} (x y : X) → Some x ≡ Some y → x ≡ y
+some_same x y e = cc
+
+-- where the first of the reversed comes off, there is one less
+pub reversed_fewer : {X : Type 0} (xs ys : List X) (x : X) → reverse xs ≡ x ∷ reverse ys → suc (length ys) ≡ length xs
+reversed_fewer xs ys x e = ap suc (sym (length-reverse ys)) ∙ sym (ap length e) ∙ length-reverse xs
+
+module _ {K : Type 0} (ps : List (Numbered K (Unit {0}))) (id : ℕ) (x : K) (named : leaf_in ps id ≡ Some (x, tt)) where
+  -- a number names one element
+  pub same_element : (y : K) → leaf_in ps id ≡ Some (y, tt) → x ≡ y
+  same_element y e = let p : (x, tt) ≡ (y, tt) = some_same (x, tt) (y, tt) (sym named ∙ e) in ap (λ z. z.0) p
+
+  same_pair : (p : K × Unit {0}) → leaf_in ps id ≡ Some p → x ≡ p.0
+  same_pair p e = ap (λ z. z.0) (some_same (x, tt) p (sym named ∙ e))
+
+  module _ (old new : Cursor) where
+    pub first_is : WasFirst ps old id new → elements (leaves_left old ps) ≡ x ∷ elements (leaves_left new ps)
+    first_is w = element_first (leaves_left old ps) (leaves_left new ps) id w.pair w.splits ∙ ap (λ y. y ∷ elements (leaves_left new ps)) (sym (same_pair w.pair w.named))
+
+    pub last_is : WasLast ps old id new → reverse (elements (leaves_left old ps)) ≡ x ∷ reverse (elements (leaves_left new ps))
+    last_is w = element_last (leaves_left old ps) (leaves_left new ps) id w.pair w.splits ∙ ap (λ y. y ∷ reverse (elements (leaves_left new ps))) (sym (same_pair w.pair w.named))
+
+pub le_step : (a b t : ℕ) → suc a ≡ b → b ≤ t → a ≤ t
+le_step a b t e l = omega arith
+
+pub lt_step : (a b t : ℕ) → suc a ≡ b → b ≤ t → a < t
+lt_step a b t e l = omega arith
+
+pub le_eq : (a b : ℕ) → a ≡ b → a ≤ b
+le_eq a b e = omega arith

@@ -1,0 +1,14 @@
+use Rattle.std.proofs.Common.{◌≡◌, ◌≤◌, length, reverse}
+use Rattle.blart_set.specs.Extracting.{extract_left, AsksUpTo}
+use Rattle.blart_set.proofs.extracting.ExtractIfDoubleEndedIterator.next_back.Given as goal
+
+abbrev pub invariant-loop-id : goal.invariant-loop-id
+invariant-loop-id g l =
+    goal.F-IsAlwaysCallable g l.self.pred
+    × (l.self.set.ghost_name ≡ l.fn.self.set.ghost_name)
+    × (l.self.set.now ≡ l.fn.self.set.now)
+    × (length (extract_left l.self) ≤ length (extract_left l.fn.self))
+    × ((r : _) (left : _) (f' : _) → AsksUpTo g.F.FnMut (reverse (extract_left l.self)) l.self.pred r left f' → AsksUpTo g.F.FnMut (reverse (extract_left l.fn.self)) l.fn.self.pred r left f')
+
+abbrev pub decreases-loop-id : goal.decreases-loop-id
+decreases-loop-id g l = length (extract_left l.self)

@@ -1,0 +1,38 @@
+-- What the contracts of a set's walk that extracts cite.
+use Rattle.std.specs.Prelude.{◌≡◌, ℕ, List, Option, Some, None, Bool, reverse}
+use Rattle.std.specs.Borrow.{Bor}
+use denote.Param.Members.{Mut}
+use Rattle.blart_keys.specs.declared.AsBytes.{Ghosts}
+use Rattle.blart_keys.specs.Content.{without}
+use Rattle.blart_keys.specs.Walks.{ExtractsFirst}
+use Rattle.art_walk.specs.Cursor.{leaves_left}
+use Rattle.blart_set.specs.declared.extracting.ExtractIf.{ExtractIf}
+use Rattle.blart_set.specs.Asking.{AsksElement}
+use Rattle.blart_set.specs.Elements.{elements}
+
+-- the elements that the closure may still be asked about
+abbrev pub extract_left : {K F : Type 0} {p : ℕ} {k : Ghosts K} → ExtractIf K F p k → List K
+extract_left s = elements (leaves_left s.cursor s.set.now)
+
+-- the element that came out is gone, and no other
+abbrev pub IsLess : {K : Type 0} → (K → List ℕ) → List K → Option K → List K → Type 0
+IsLess kb S None T = T ≡ S
+IsLess kb S (Some x) T = T ≡ without kb S (kb x)
+
+module _ {F K : Type 0} (g : Mut F (Bor K × Unit {0}) Bool) where
+  -- of these elements the closure was asked in turn, up to the first at which it answered true, which came out; the rest was not asked
+  abbrev pub AsksUpTo : List K → F → Option K → List K → F → Type 0
+  AsksUpTo coming f result rest f' = (passed : List K) × ExtractsFirst (AsksElement g) coming f result passed rest f'
+
+  module _ {p : ℕ} {k : Ghosts K} where
+    -- one `next`
+    pub record ExtractsNext (s : ExtractIf K F p k) (result : Option K) (t : ExtractIf K F p k) : Type 0 where
+      pub same_set : t.set.ghost_name ≡ s.set.ghost_name
+      pub asks : AsksUpTo (extract_left s) s.pred result (extract_left t) t.pred
+      pub less : IsLess k.bytes (elements s.set.now) result (elements t.set.now)
+
+    -- one `next_back`, which asks from the last element on
+    pub record ExtractsNextBack (s : ExtractIf K F p k) (result : Option K) (t : ExtractIf K F p k) : Type 0 where
+      pub same_set : t.set.ghost_name ≡ s.set.ghost_name
+      pub asks : AsksUpTo (reverse (extract_left s)) s.pred result (reverse (extract_left t)) t.pred
+      pub less : IsLess k.bytes (elements s.set.now) result (elements t.set.now)

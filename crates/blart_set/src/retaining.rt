@@ -1,0 +1,33 @@
+//! The elements that a closure keeps.
+ghost use Rattle.blart_keys.specs.Walks.{Retains};
+ghost use Rattle.blart_set.specs.Asking.{AsksElement};
+ghost use Rattle.blart_set.specs.Elements.{elements};
+
+use crate::set::TreeSet;
+use blart_keys::AsBytes;
+use std::ops::Bound;
+
+#[tactic(auto, unfolding(crate::specs::Elements::elements))]
+impl<K: AsBytes + Drop, const PREFIX_LEN: usize> TreeSet<K, PREFIX_LEN> {
+    /// Asks the closure once of each element, ascending by their bytes, and removes those at which it answers `false`. Takes no memory.
+    ///
+    /// ```
+    /// set.try_insert("cat")?;
+    /// set.try_insert("dog")?;
+    /// set.retain(|element| *element == "dog");
+    /// assert_eq!(set.len(), 1);
+    /// ```
+    pub fn retain<F: FnMut(&K) -> bool + Drop>(&mut self, mut f: F)
+        requires { F.IsAlwaysCallable f }
+        ensures { Retains (AsksElement F.FnMut) (elements self.old) f (elements self.new) }
+    {
+        self.law();
+        let mut cursor = self.cursor(Bound::<&u8>::Unbounded, Bound::Unbounded);
+        'elements: while let Some(id) = self.step(&mut cursor) {
+            if f(self.element(id)) {
+                continue;
+            }
+            let _element = self.take_element(id);
+        }
+    }
+}
