@@ -3,12 +3,15 @@ use crate::bulk_rows::time_bulk;
 use crate::failure::Failure;
 use crate::joins::Joiner;
 use crate::maps::{Contestant, Ours, Theirs};
+use crate::mount_rows::time_mounts;
 use crate::parts::Parter;
+use crate::resolvers::{Resolver, Sorted};
 use crate::set_rows::time_sets;
 use crate::sets::{OurSet, SetContestant, TheirSet};
 use crate::wishes::Group;
 use crate::workload::{Kind, Workload};
 use blart::{Map, ZKey};
+use prefix_router::Mounts;
 use std::collections::BTreeMap;
 use std::rt::Clock;
 use std::time::Instant;
@@ -76,7 +79,7 @@ fn our_run<R: Clock + AllocGlobal>(
     workload: &Workload,
     groups: &[Group],
 ) -> Result<Vec<Timed>, Failure> {
-    one_run::<Ours, Map<ZKey, u64>, OurSet, R>(rt, workload, groups)
+    one_run::<Ours, Map<ZKey, u64>, OurSet, Mounts<u64>, Mounts<u64>, R>(rt, workload, groups)
 }
 
 // One run of the library's.
@@ -85,15 +88,23 @@ fn their_run<R: Clock + AllocGlobal>(
     workload: &Workload,
     groups: &[Group],
 ) -> Result<Vec<Timed>, Failure> {
-    one_run::<Theirs, BTreeMap<ZKey, u64>, TheirSet, R>(rt, workload, groups)
+    one_run::<Theirs, BTreeMap<ZKey, u64>, TheirSet, Theirs, Sorted, R>(rt, workload, groups)
 }
 
 // One run of the calls that are asked for.
-fn one_run<M: Parter, J: Joiner, S: SetContestant, R: Clock + AllocGlobal>(
+fn one_run<M, J, S, T, V, R>(
     rt: &R,
     workload: &Workload,
     groups: &[Group],
-) -> Result<Vec<Timed>, Failure> {
+) -> Result<Vec<Timed>, Failure>
+where
+    M: Parter,
+    J: Joiner,
+    S: SetContestant,
+    T: Resolver,
+    V: Resolver,
+    R: Clock + AllocGlobal,
+{
     let mut sheet = Sheet {
         rows: Vec::new(rt.alloc()),
     };
@@ -102,6 +113,7 @@ fn one_run<M: Parter, J: Joiner, S: SetContestant, R: Clock + AllocGlobal>(
             Group::Pairs => time_pairs::<M, R>(rt, workload, &mut sheet)?,
             Group::Bulk => time_bulk::<M, J, R>(rt, workload, &mut sheet)?,
             Group::Sets => time_sets::<S, R>(rt, workload, &mut sheet)?,
+            Group::Mounts => time_mounts::<T, V, R>(rt, workload, &mut sheet)?,
         }
     }
     Ok(sheet.rows)

@@ -1,6 +1,6 @@
 //! Times the map beside the library's `BTreeMap`, on keys that the program makes from a seed.
 //!
-//! `artbench KEYS KIND [ROWS [CHART]]`: how many keys, which kind of them (`random`, `urls`, `dense`, `short` or `all`), which calls (`pairs`, `bulk`, `sets` or `all`; `all` where nothing is said), and a file for a chart of the ratios. Sums over what the calls gave go to standard output, which are the same on each run; times and ratios go to standard error.
+//! `artbench KEYS KIND [ROWS [CHART]]`: how many keys, which kind of them (`random`, `urls`, `dense`, `short` or `all`), which calls (`pairs`, `bulk`, `sets`, `mounts` or `all`; `all` where nothing is said), and a file for a chart of the ratios. Sums over what the calls gave go to standard output, which are the same on each run; times and ratios go to standard error.
 #![tactic(auto)]
 
 mod bulk_rows;
@@ -9,7 +9,9 @@ mod contest;
 mod failure;
 mod joins;
 mod maps;
+mod mount_rows;
 mod parts;
+mod resolvers;
 mod set_rows;
 mod sets;
 mod tables;

@@ -13,11 +13,13 @@ pub(crate) enum Group {
     Bulk,
     /// Calls of a set.
     Sets,
+    /// Paths over a table of mounts.
+    Mounts,
 }
 
 impl Group {
     /// Every group.
-    pub(crate) const ALL: [Group; 3] = [Group::Pairs, Group::Bulk, Group::Sets];
+    pub(crate) const ALL: [Group; 4] = [Group::Pairs, Group::Bulk, Group::Sets, Group::Mounts];
 
     /// The word that names the group.
     pub(crate) fn name(self) -> &'static str {
@@ -25,6 +27,7 @@ impl Group {
             Group::Pairs => "pairs",
             Group::Bulk => "bulk",
             Group::Sets => "sets",
+            Group::Mounts => "mounts",
         }
     }
 }

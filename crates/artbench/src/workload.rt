@@ -110,6 +110,31 @@ impl Workload {
         }
         Ok(keys)
     }
+
+    /// The first tenth of the keys, in order.
+    pub(crate) fn mounts(&self) -> Result<Vec<Vec<u8>>, AllocError> {
+        let mut mounts = Vec::new(self.alloc);
+        for key in self.keys.iter().take(self.keys.len() / 10) {
+            mounts.push(key.clone()?)?;
+        }
+        mounts.sort()?;
+        Ok(mounts)
+    }
+
+    /// As many paths as there are keys: by turns one below a mount, and one that is like it.
+    pub(crate) fn paths(&self) -> Result<Vec<Vec<u8>>, AllocError> {
+        let mounts = (self.keys.len() / 10).max(1);
+        let mut paths = Vec::with_capacity(self.alloc, self.keys.len())?;
+        for (place, other) in self.misses.iter().enumerate() {
+            let mut path = match self.keys.get(place.wrapping_mul(7) % mounts) {
+                Some(mount) if place % 2 == 0 => mount.clone()?,
+                _ => other.clone()?,
+            };
+            path.extend_from_slice(b"/index")?;
+            paths.push(path)?;
+        }
+        Ok(paths)
+    }
 }
 
 // So many keys of a kind.
