@@ -127,8 +127,8 @@ impl<K: ScriptKey, const PREFIX_LEN: usize> Maps<K, PREFIX_LEN> {
     }
 }
 
-// Writes the value to the place, and gives what was there.
-fn written(place: Option<&mut u64>, value: u64) -> Option<u64> {
+/// Writes the value to the place, and gives what was there.
+pub(crate) fn written(place: Option<&mut u64>, value: u64) -> Option<u64> {
     match place {
         Some(place) => Some(mem::replace(place, value)),
         None => None,

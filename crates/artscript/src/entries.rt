@@ -13,7 +13,7 @@ use blart::{AsBytes, InsertPrefixError, TreeMap};
 use std::alloc::AllocError;
 use std::mem;
 
-type MapOf<K, const P: usize> = TreeMap<K, u64, P>;
+pub(crate) type MapOf<K, const P: usize> = TreeMap<K, u64, P>;
 
 type EntryOf<'a, K, const P: usize> = Entry<'a, K, u64, P, MapOf<K, P>>;
 
@@ -34,8 +34,8 @@ fn kind_of<K: ScriptKey, const P: usize>(entry: &EntryOf<'_, K, P>) -> &'static 
     }
 }
 
-// The number of the key's bytes.
-fn length_of<K: ScriptKey>(key: &K) -> u64 {
+/// The number of the key's bytes.
+pub(crate) fn length_of<K: ScriptKey>(key: &K) -> u64 {
     key.as_bytes().len() as u64
 }
 
@@ -146,6 +146,7 @@ impl<const PREFIX_LEN: usize> Maps<Vec<u8>, PREFIX_LEN> {
     ) -> Answered {
         match name {
             Name::TryEntry => self.enter(words, text),
+            Name::PrefixEntry => self.prefix_entry(words, text),
             _ => self.call(name, words, text),
         }
     }

@@ -72,13 +72,15 @@ impl EntryLine {
 }
 
 // The call of this name, which the last words are the arguments of.
-fn call_of(name: &[u8], mut words: Words<'_>) -> Result<EntryCall, Unanswered> {
-    let found = if words.is_done() {
-        bare_call(name)
-    } else {
-        let number = words.number()?;
-        words.end()?;
-        call_with(name, number)
+fn call_of(name: &[u8], words: Words<'_>) -> Result<EntryCall, Unanswered> {
+    named_call(name, words.last_number()?)
+}
+
+/// The call of this name with this number, or without one.
+pub(crate) fn named_call(name: &[u8], number: Option<u64>) -> Result<EntryCall, Unanswered> {
+    let found = match number {
+        Some(number) => call_with(name, number),
+        None => bare_call(name),
     };
     match found {
         Some(call) => Ok(call),

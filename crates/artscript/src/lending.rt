@@ -69,8 +69,8 @@ impl<K: ScriptKey, const PREFIX_LEN: usize> Maps<K, PREFIX_LEN> {
     }
 }
 
-// Adds to the value, and gives it as it was.
-fn raise(value: &mut u64, add: u64) -> u64 {
+/// Adds to the value, and gives it as it was.
+pub(crate) fn raise(value: &mut u64, add: u64) -> u64 {
     mem::replace(value, value.wrapping_add(add))
 }
 

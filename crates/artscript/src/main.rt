@@ -16,6 +16,8 @@ mod look_ups;
 mod names;
 mod owning;
 mod picking;
+mod prefix_calls;
+mod prefix_entries;
 mod session;
 mod text;
 mod walks;

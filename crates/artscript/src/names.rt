@@ -48,10 +48,11 @@ pub(crate) enum Name {
     GetOrInsert,
     Entry,
     TryEntry,
+    PrefixEntry,
 }
 
 // The word that names each call.
-const NAMES: [(&str, Name); 45] = [
+const NAMES: [(&str, Name); 46] = [
     ("new", Name::New),
     ("clear", Name::Clear),
     ("swap", Name::Swap),
@@ -97,6 +98,7 @@ const NAMES: [(&str, Name); 45] = [
     ("get_or_insert", Name::GetOrInsert),
     ("entry", Name::Entry),
     ("try_entry", Name::TryEntry),
+    ("prefix_entry", Name::PrefixEntry),
 ];
 
 /// The call that the word names.

@@ -96,6 +96,16 @@ impl<'a> Words<'a> {
         }
     }
 
+    /// The number that the last word is, where one is left.
+    pub(crate) fn last_number(mut self) -> Result<Option<u64>, Unanswered> {
+        if self.is_done() {
+            return Ok(None);
+        }
+        let number = self.number()?;
+        self.end()?;
+        Ok(Some(number))
+    }
+
     /// The key and the number that the last two words stand for.
     pub(crate) fn last_pair<K: ScriptKey>(&mut self) -> Result<(K, u64), Unanswered> {
         let key = self.key()?;
