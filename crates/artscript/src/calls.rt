@@ -12,7 +12,7 @@ use std::mem;
 #[derive(Drop)]
 pub(crate) struct Maps<K: ScriptKey, const PREFIX_LEN: usize> {
     pub(crate) first: TreeMap<K, u64, PREFIX_LEN>,
-    second: TreeMap<K, u64, PREFIX_LEN>,
+    pub(crate) second: TreeMap<K, u64, PREFIX_LEN>,
     pub(crate) alloc: Global,
 }
 
@@ -42,6 +42,7 @@ impl<K: ScriptKey, const PREFIX_LEN: usize> Maps<K, PREFIX_LEN> {
             Name::PopFirst => self.pop_first(words, text),
             Name::PopLast => self.pop_last(words, text),
             Name::Drive => self.drive(words, text),
+            Name::SplitOff => self.split_off(words, text),
             Name::PrefixGetKeyValueMut => self.prefix_get_key_value_mut(words, text),
             Name::IntoIter | Name::IntoKeys | Name::IntoValues => self.own(name, words, text),
             Name::Retain | Name::ExtractIf | Name::TakeWalk => self.pick(name, words, text),

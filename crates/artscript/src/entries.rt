@@ -147,6 +147,10 @@ impl<const PREFIX_LEN: usize> Maps<Vec<u8>, PREFIX_LEN> {
         match name {
             Name::TryEntry => self.enter(words, text),
             Name::PrefixEntry => self.prefix_entry(words, text),
+            Name::MakeClone => self.clone_of_bytes(words, text),
+            Name::Equal | Name::PartialCmp | Name::Cmp | Name::SameHash | Name::DebugText => {
+                self.compare(name, words, text)
+            }
             _ => self.call(name, words, text),
         }
     }

@@ -19,6 +19,13 @@ impl<const PREFIX_LEN: usize> Maps<[u8; 3], PREFIX_LEN> {
             Name::GetOrInsert => self.get_or_insert(words, text),
             Name::Entry => self.enter(false, words, text),
             Name::TryEntry => self.enter(true, words, text),
+            Name::MakeClone | Name::Append | Name::Extend | Name::ExtendCopied => {
+                self.gather(name, words, text)
+            }
+            Name::FromVec | Name::FromIter | Name::FromArray => self.gather(name, words, text),
+            Name::Equal | Name::PartialCmp | Name::Cmp | Name::SameHash | Name::DebugText => {
+                self.compare(name, words, text)
+            }
             _ => self.call(name, words, text),
         }
     }

@@ -3,7 +3,9 @@
 //! The script is answered over maps of six lengths of kept prefixes, which must give the same answers.
 #![tactic(auto)]
 
+mod bulk;
 mod calls;
+mod comparisons;
 mod drives;
 mod entries;
 mod entry_calls;

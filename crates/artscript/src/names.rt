@@ -49,10 +49,23 @@ pub(crate) enum Name {
     Entry,
     TryEntry,
     PrefixEntry,
+    SplitOff,
+    MakeClone,
+    Append,
+    Extend,
+    ExtendCopied,
+    FromVec,
+    FromIter,
+    FromArray,
+    Equal,
+    PartialCmp,
+    Cmp,
+    SameHash,
+    DebugText,
 }
 
 // The word that names each call.
-const NAMES: [(&str, Name); 46] = [
+const NAMES: [(&str, Name); 59] = [
     ("new", Name::New),
     ("clear", Name::Clear),
     ("swap", Name::Swap),
@@ -99,6 +112,19 @@ const NAMES: [(&str, Name); 46] = [
     ("entry", Name::Entry),
     ("try_entry", Name::TryEntry),
     ("prefix_entry", Name::PrefixEntry),
+    ("split_off", Name::SplitOff),
+    ("clone", Name::MakeClone),
+    ("append", Name::Append),
+    ("extend", Name::Extend),
+    ("extend_copied", Name::ExtendCopied),
+    ("from_vec", Name::FromVec),
+    ("from_iter", Name::FromIter),
+    ("from_array", Name::FromArray),
+    ("eq", Name::Equal),
+    ("partial_cmp", Name::PartialCmp),
+    ("cmp", Name::Cmp),
+    ("same_hash", Name::SameHash),
+    ("debug", Name::DebugText),
 ];
 
 /// The call that the word names.
