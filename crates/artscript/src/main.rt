@@ -1,4 +1,4 @@
-//! Answers the lines of a script of calls of the map, each on a line of standard output.
+//! Answers the lines of a script of calls of the map and the set, each on a line of standard output.
 //!
 //! The script is answered over maps of six lengths of kept prefixes, which must give the same answers.
 #![tactic(auto)]
@@ -21,6 +21,10 @@ mod picking;
 mod prefix_calls;
 mod prefix_entries;
 mod session;
+mod set_look_ups;
+mod set_names;
+mod set_walks;
+mod sets;
 mod text;
 mod walks;
 mod words;

@@ -58,7 +58,7 @@ impl<K: ScriptKey, const PREFIX_LEN: usize> Walk for IntoIter<K, u64, PREFIX_LEN
     }
 }
 
-impl<K: ScriptKey, const PREFIX_LEN: usize> Walk for IntoKeys<K, u64, PREFIX_LEN> {
+impl<K: ScriptKey, V: Drop, const PREFIX_LEN: usize> Walk for IntoKeys<K, V, PREFIX_LEN> {
     fn front(&mut self, alloc: Global) -> Result<Option<Text>, AllocError> {
         text_of(self.next(), alloc)
     }

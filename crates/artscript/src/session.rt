@@ -2,6 +2,7 @@
 use crate::calls::Maps;
 use crate::failure::Unanswered;
 use crate::names::name_of;
+use crate::sets::{Sets, read_set_name};
 use crate::text::Text;
 use crate::words::Words;
 use std::alloc::{AllocError, Global};
@@ -18,27 +19,27 @@ pub(crate) fn answers<const PREFIX_LEN: usize>(
     Ok(text)
 }
 
-// The maps of the part that a script is in.
+// The maps and the sets of the part that a script is in.
 #[derive(Drop)]
 enum Session<const PREFIX_LEN: usize> {
-    Bytes(Maps<Vec<u8>, PREFIX_LEN>),
-    Three(Maps<[u8; 3], PREFIX_LEN>),
+    Bytes(Maps<Vec<u8>, PREFIX_LEN>, Sets<Vec<u8>, PREFIX_LEN>),
+    Three(Maps<[u8; 3], PREFIX_LEN>, Sets<[u8; 3], PREFIX_LEN>),
 }
 
 impl<const PREFIX_LEN: usize> Session<PREFIX_LEN> {
     // The part with which every script begins.
     fn new(alloc: Global) -> Self {
-        Session::Bytes(Maps::new(alloc))
+        Session::Bytes(Maps::new(alloc), Sets::new(alloc))
     }
 
     // Begins a part whose keys are lists of bytes.
     fn begin_bytes(&mut self, alloc: Global) {
-        *self = Session::Bytes(Maps::new(alloc));
+        *self = Session::Bytes(Maps::new(alloc), Sets::new(alloc));
     }
 
     // Begins a part whose keys are three bytes.
     fn begin_three(&mut self, alloc: Global) {
-        *self = Session::Three(Maps::new(alloc));
+        *self = Session::Three(Maps::new(alloc), Sets::new(alloc));
     }
 
     // Adds what stands for each line of the script.
@@ -83,12 +84,25 @@ impl<const PREFIX_LEN: usize> Session<PREFIX_LEN> {
             return Ok(text.push(b"()")?);
         }
         let mut words = Words::new(line, b' ', alloc);
-        let Some(name) = name_of(words.word()?) else {
+        let word = words.word()?;
+        if word == b"set".as_slice() {
+            return self.call_set(words, text);
+        }
+        let Some(name) = name_of(word) else {
             return Err(Unanswered::NoCall);
         };
         match self {
-            Session::Bytes(maps) => maps.call_of_bytes(name, words, text),
-            Session::Three(maps) => maps.call_of_three(name, words, text),
+            Session::Bytes(maps, _) => maps.call_of_bytes(name, words, text),
+            Session::Three(maps, _) => maps.call_of_three(name, words, text),
+        }
+    }
+
+    // Makes the call of sets that the words are, and adds its answer.
+    fn call_set(&mut self, mut words: Words<'_>, text: &mut Text) -> Result<(), Unanswered> {
+        let name = read_set_name(&mut words)?;
+        match self {
+            Session::Bytes(_, sets) => sets.call(name, words, text),
+            Session::Three(_, sets) => sets.call_apart(name, words, text),
         }
     }
 }

@@ -96,7 +96,7 @@ impl<'a, K: ScriptKey, const PREFIX_LEN: usize> Walk for Iter<'a, K, u64, PREFIX
     }
 }
 
-impl<'a, K: ScriptKey, const PREFIX_LEN: usize> Walk for Keys<'a, K, u64, PREFIX_LEN> {
+impl<'a, K: ScriptKey, V: Drop, const PREFIX_LEN: usize> Walk for Keys<'a, K, V, PREFIX_LEN> {
     fn front(&mut self, alloc: Global) -> Result<Option<Text>, AllocError> {
         text_of(self.next(), alloc)
     }
