@@ -3,31 +3,9 @@
 //! The script is answered over maps of six lengths of kept prefixes, which must give the same answers.
 #![tactic(auto)]
 
-mod bulk;
-mod calls;
-mod comparisons;
-mod drives;
-mod entries;
-mod entry_calls;
 mod failure;
-mod inserts;
-mod keys;
-mod lending;
 mod lengths;
-mod look_ups;
-mod names;
-mod owning;
-mod picking;
-mod prefix_calls;
-mod prefix_entries;
 mod session;
-mod set_look_ups;
-mod set_names;
-mod set_walks;
-mod sets;
-mod text;
-mod walks;
-mod words;
 
 use crate::failure::Failure;
 use crate::lengths::answers_at_each_length;

@@ -1,10 +1,8 @@
 //! A script from its lines to its answers.
-use crate::calls::Maps;
-use crate::failure::Unanswered;
-use crate::names::name_of;
-use crate::sets::{Sets, read_set_name};
-use crate::text::Text;
-use crate::words::Words;
+use script_entries::{enter_bytes, enter_related, enter_three};
+use script_maps::{Maps, Name, name_of};
+use script_sets::{Sets, set_name_of};
+use script_words::{Answered, Text, Unanswered, Words};
 use std::alloc::{AllocError, Global};
 use std::iter::Iterator;
 
@@ -88,18 +86,33 @@ impl<const PREFIX_LEN: usize> Session<PREFIX_LEN> {
         if word == b"set".as_slice() {
             return self.call_set(words, text);
         }
-        let Some(name) = name_of(word) else {
-            return Err(Unanswered::NoCall);
-        };
+        match name_of(word) {
+            Some(name) => self.call_map(name, words, text),
+            None => Err(Unanswered::NoCall),
+        }
+    }
+
+    // Makes the call of maps that the words are, and adds its answer.
+    fn call_map(&mut self, name: Name, words: Words<'_>, text: &mut Text) -> Answered {
         match self {
-            Session::Bytes(maps, _) => maps.call_of_bytes(name, words, text),
-            Session::Three(maps, _) => maps.call_of_three(name, words, text),
+            Session::Bytes(maps, _) => match name {
+                Name::TryEntry => enter_bytes(&mut maps.first, words, text),
+                Name::PrefixEntry => enter_related(&mut maps.first, words, text),
+                _ => maps.call_of_bytes(name, words, text),
+            },
+            Session::Three(maps, _) => match name {
+                Name::TryEntry => enter_three(&mut maps.first, true, words, text),
+                Name::Entry => enter_three(&mut maps.first, false, words, text),
+                _ => maps.call_of_three(name, words, text),
+            },
         }
     }
 
     // Makes the call of sets that the words are, and adds its answer.
-    fn call_set(&mut self, mut words: Words<'_>, text: &mut Text) -> Result<(), Unanswered> {
-        let name = read_set_name(&mut words)?;
+    fn call_set(&mut self, mut words: Words<'_>, text: &mut Text) -> Answered {
+        let Some(name) = set_name_of(words.word()?) else {
+            return Err(Unanswered::NoCall);
+        };
         match self {
             Session::Bytes(_, sets) => sets.call(name, words, text),
             Session::Three(_, sets) => sets.call_apart(name, words, text),
