@@ -114,8 +114,8 @@ impl<const PREFIX_LEN: usize> Session<PREFIX_LEN> {
             return Err(Unanswered::NoCall);
         };
         match self {
-            Session::Bytes(_, sets) => sets.call(name, words, text),
-            Session::Three(_, sets) => sets.call_apart(name, words, text),
+            Session::Bytes(_, sets) => sets.call_of_bytes(name, words, text),
+            Session::Three(_, sets) => sets.call_of_three(name, words, text),
         }
     }
 }

@@ -56,6 +56,53 @@ pub(crate) enum VacantCall {
     InsertEntry(u64),
 }
 
+// The name of a call of an entry.
+#[derive(Clone, Copy)]
+enum EntryName {
+    Key,
+    OrInsert,
+    OrDefault,
+    OrInsertWith,
+    OrInsertWithKey,
+    OrInsertEntry,
+    OrDefaultEntry,
+    OrInsertWithEntry,
+    OrInsertWithKeyEntry,
+    InsertEntry,
+    Get,
+    Insert,
+    GetMut,
+    IntoMut,
+    Remove,
+    RemoveEntry,
+    IntoKey,
+    VacantInsert,
+    VacantInsertEntry,
+}
+
+// The word that names each call.
+const NAMES: [(&str, EntryName); 19] = [
+    ("key", EntryName::Key),
+    ("or_insert", EntryName::OrInsert),
+    ("or_default", EntryName::OrDefault),
+    ("or_insert_with", EntryName::OrInsertWith),
+    ("or_insert_with_key", EntryName::OrInsertWithKey),
+    ("or_insert_entry", EntryName::OrInsertEntry),
+    ("or_default_entry", EntryName::OrDefaultEntry),
+    ("or_insert_with_entry", EntryName::OrInsertWithEntry),
+    ("or_insert_with_key_entry", EntryName::OrInsertWithKeyEntry),
+    ("insert_entry", EntryName::InsertEntry),
+    ("get", EntryName::Get),
+    ("insert", EntryName::Insert),
+    ("get_mut", EntryName::GetMut),
+    ("into_mut", EntryName::IntoMut),
+    ("remove", EntryName::Remove),
+    ("remove_entry", EntryName::RemoveEntry),
+    ("into_key", EntryName::IntoKey),
+    ("vacant_insert", EntryName::VacantInsert),
+    ("vacant_insert_entry", EntryName::VacantInsertEntry),
+];
+
 impl EntryLine {
     /// What the words that are left say.
     pub(crate) fn read(mut words: Words<'_>) -> Result<EntryLine, Unanswered> {
@@ -65,18 +112,16 @@ impl EntryLine {
             add = Some(words.number()?);
             name = words.word()?;
         }
-        let call = call_of(name, words)?;
+        let call = named_call(name, words.last_number()?)?;
         Ok(EntryLine { add, call })
     }
 }
 
-// The call of this name, which the last words are the arguments of.
-fn call_of(name: &[u8], words: Words<'_>) -> Result<EntryCall, Unanswered> {
-    named_call(name, words.last_number()?)
-}
-
 /// The call of this name with this number, or without one.
 pub(crate) fn named_call(name: &[u8], number: Option<u64>) -> Result<EntryCall, Unanswered> {
+    let Some(name) = name_of(name) else {
+        return Err(Unanswered::NoCall);
+    };
     let found = match number {
         Some(number) => call_with(name, number),
         None => bare_call(name),
@@ -87,35 +132,47 @@ pub(crate) fn named_call(name: &[u8], number: Option<u64>) -> Result<EntryCall, 
     }
 }
 
+// The name that the word is.
+fn name_of(word: &[u8]) -> Option<EntryName> {
+    for (text, name) in &NAMES {
+        if text.as_bytes() == word {
+            return Some(*name);
+        }
+    }
+    None
+}
+
 // The call of this name that has no argument.
-fn bare_call(name: &[u8]) -> Option<EntryCall> {
+fn bare_call(name: EntryName) -> Option<EntryCall> {
     match name {
-        b"key" => Some(EntryCall::Key),
-        b"or_default" => Some(EntryCall::Value(ValueCall::OrDefault)),
-        b"or_insert_with_key" => Some(EntryCall::Value(ValueCall::OrInsertWithKey)),
-        b"or_default_entry" => Some(EntryCall::Place(PlaceCall::OrDefaultEntry)),
-        b"or_insert_with_key_entry" => Some(EntryCall::Place(PlaceCall::OrInsertWithKeyEntry)),
-        b"get" => Some(EntryCall::Occupied(OccupiedCall::Get)),
-        b"remove" => Some(EntryCall::Occupied(OccupiedCall::Remove)),
-        b"remove_entry" => Some(EntryCall::Occupied(OccupiedCall::RemoveEntry)),
-        b"into_key" => Some(EntryCall::Vacant(VacantCall::IntoKey)),
+        EntryName::Key => Some(EntryCall::Key),
+        EntryName::OrDefault => Some(EntryCall::Value(ValueCall::OrDefault)),
+        EntryName::OrInsertWithKey => Some(EntryCall::Value(ValueCall::OrInsertWithKey)),
+        EntryName::OrDefaultEntry => Some(EntryCall::Place(PlaceCall::OrDefaultEntry)),
+        EntryName::OrInsertWithKeyEntry => Some(EntryCall::Place(PlaceCall::OrInsertWithKeyEntry)),
+        EntryName::Get => Some(EntryCall::Occupied(OccupiedCall::Get)),
+        EntryName::Remove => Some(EntryCall::Occupied(OccupiedCall::Remove)),
+        EntryName::RemoveEntry => Some(EntryCall::Occupied(OccupiedCall::RemoveEntry)),
+        EntryName::IntoKey => Some(EntryCall::Vacant(VacantCall::IntoKey)),
         _ => None,
     }
 }
 
 // The call of this name with this number.
-fn call_with(name: &[u8], number: u64) -> Option<EntryCall> {
+fn call_with(name: EntryName, number: u64) -> Option<EntryCall> {
     match name {
-        b"or_insert" => Some(EntryCall::Value(ValueCall::OrInsert(number))),
-        b"or_insert_with" => Some(EntryCall::Value(ValueCall::OrInsertWith(number))),
-        b"or_insert_entry" => Some(EntryCall::Place(PlaceCall::OrInsertEntry(number))),
-        b"or_insert_with_entry" => Some(EntryCall::Place(PlaceCall::OrInsertWithEntry(number))),
-        b"insert_entry" => Some(EntryCall::Place(PlaceCall::InsertEntry(number))),
-        b"insert" => Some(EntryCall::Occupied(OccupiedCall::Insert(number))),
-        b"get_mut" => Some(EntryCall::Occupied(OccupiedCall::GetMut(number))),
-        b"into_mut" => Some(EntryCall::Occupied(OccupiedCall::IntoMut(number))),
-        b"vacant_insert" => Some(EntryCall::Vacant(VacantCall::Insert(number))),
-        b"vacant_insert_entry" => Some(EntryCall::Vacant(VacantCall::InsertEntry(number))),
+        EntryName::OrInsert => Some(EntryCall::Value(ValueCall::OrInsert(number))),
+        EntryName::OrInsertWith => Some(EntryCall::Value(ValueCall::OrInsertWith(number))),
+        EntryName::OrInsertEntry => Some(EntryCall::Place(PlaceCall::OrInsertEntry(number))),
+        EntryName::OrInsertWithEntry => {
+            Some(EntryCall::Place(PlaceCall::OrInsertWithEntry(number)))
+        }
+        EntryName::InsertEntry => Some(EntryCall::Place(PlaceCall::InsertEntry(number))),
+        EntryName::Insert => Some(EntryCall::Occupied(OccupiedCall::Insert(number))),
+        EntryName::GetMut => Some(EntryCall::Occupied(OccupiedCall::GetMut(number))),
+        EntryName::IntoMut => Some(EntryCall::Occupied(OccupiedCall::IntoMut(number))),
+        EntryName::VacantInsert => Some(EntryCall::Vacant(VacantCall::Insert(number))),
+        EntryName::VacantInsertEntry => Some(EntryCall::Vacant(VacantCall::InsertEntry(number))),
         _ => None,
     }
 }

@@ -42,6 +42,43 @@ pub(crate) struct WalkCall<'a> {
     pub(crate) letters: Option<&'a [u8]>,
 }
 
+// The name of a call that prefix entries alone have, or that theirs differs in.
+#[derive(Clone, Copy)]
+enum PrefixName {
+    GetKey,
+    OccupiedKey,
+    Get,
+    OccupiedGetKey,
+    GetMut,
+    OccupiedInsert,
+    OccupiedInsertEntry,
+    InnerKey,
+    InnerGet,
+    InnerGetKey,
+    InnerGetMut,
+    InnerInsert,
+    InnerInsertEntry,
+    OnlyMut,
+}
+
+// The word that names each call.
+const NAMES: [(&str, PrefixName); 14] = [
+    ("get_key", PrefixName::GetKey),
+    ("occupied_key", PrefixName::OccupiedKey),
+    ("get", PrefixName::Get),
+    ("occupied_get_key", PrefixName::OccupiedGetKey),
+    ("get_mut", PrefixName::GetMut),
+    ("occupied_insert", PrefixName::OccupiedInsert),
+    ("occupied_insert_entry", PrefixName::OccupiedInsertEntry),
+    ("inner_key", PrefixName::InnerKey),
+    ("inner_get", PrefixName::InnerGet),
+    ("inner_get_key", PrefixName::InnerGetKey),
+    ("inner_get_mut", PrefixName::InnerGetMut),
+    ("inner_insert", PrefixName::InnerInsert),
+    ("inner_insert_entry", PrefixName::InnerInsertEntry),
+    ("get_key_value_mut", PrefixName::OnlyMut),
+];
+
 impl<'a> PrefixCall<'a> {
     /// What the words that are left say.
     pub(crate) fn read(mut words: Words<'a>) -> Result<PrefixCall<'a>, Unanswered> {
@@ -63,16 +100,29 @@ fn walk_of<'a>(add: Option<u64>, mut words: Words<'a>) -> Result<PrefixCall<'a>,
 }
 
 // The call of this name, which the last words are the arguments of.
-fn call_of<'a>(name: &[u8], words: Words<'_>) -> Result<PrefixCall<'a>, Unanswered> {
+fn call_of<'a>(word: &[u8], words: Words<'_>) -> Result<PrefixCall<'a>, Unanswered> {
     let number = words.last_number()?;
+    let Some(name) = name_of(word) else {
+        return shared_call(named_call(word, number)?);
+    };
     let found = match number {
         Some(number) => call_with(name, number),
         None => bare_call(name),
     };
     match found {
         Some(call) => Ok(call),
-        None => shared_call(named_call(name, number)?),
+        None => Err(Unanswered::NoCall),
     }
+}
+
+// The name that the word is.
+fn name_of(word: &[u8]) -> Option<PrefixName> {
+    for (text, name) in &NAMES {
+        if text.as_bytes() == word {
+            return Some(*name);
+        }
+    }
+    None
 }
 
 // The call of prefix entries that has the name of a call of entries.
@@ -86,30 +136,32 @@ fn shared_call<'a>(call: EntryCall) -> Result<PrefixCall<'a>, Unanswered> {
     }
 }
 
-// The call of prefix entries alone that has this name and no argument.
-fn bare_call<'a>(name: &[u8]) -> Option<PrefixCall<'a>> {
+// The call of this name that has no argument.
+fn bare_call<'a>(name: PrefixName) -> Option<PrefixCall<'a>> {
     match name {
-        b"get_key" => Some(PrefixCall::GetKey),
-        b"occupied_key" => Some(PrefixCall::Occupied(RelatedCall::Key)),
-        b"get" => Some(PrefixCall::Occupied(RelatedCall::Get)),
-        b"occupied_get_key" => Some(PrefixCall::Occupied(RelatedCall::GetKey)),
-        b"inner_key" => Some(PrefixCall::Inner(RelatedCall::Key)),
-        b"inner_get" => Some(PrefixCall::Inner(RelatedCall::Get)),
-        b"inner_get_key" => Some(PrefixCall::Inner(RelatedCall::GetKey)),
+        PrefixName::GetKey => Some(PrefixCall::GetKey),
+        PrefixName::OccupiedKey => Some(PrefixCall::Occupied(RelatedCall::Key)),
+        PrefixName::Get => Some(PrefixCall::Occupied(RelatedCall::Get)),
+        PrefixName::OccupiedGetKey => Some(PrefixCall::Occupied(RelatedCall::GetKey)),
+        PrefixName::InnerKey => Some(PrefixCall::Inner(RelatedCall::Key)),
+        PrefixName::InnerGet => Some(PrefixCall::Inner(RelatedCall::Get)),
+        PrefixName::InnerGetKey => Some(PrefixCall::Inner(RelatedCall::GetKey)),
         _ => None,
     }
 }
 
-// The call of prefix entries alone that has this name, with this number.
-fn call_with<'a>(name: &[u8], number: u64) -> Option<PrefixCall<'a>> {
+// The call of this name with this number.
+fn call_with<'a>(name: PrefixName, number: u64) -> Option<PrefixCall<'a>> {
     match name {
-        b"get_mut" => Some(PrefixCall::Occupied(RelatedCall::GetMut(number))),
-        b"occupied_insert" => Some(PrefixCall::OccupiedSet(SetCall::Insert(number))),
-        b"occupied_insert_entry" => Some(PrefixCall::OccupiedSet(SetCall::InsertEntry(number))),
-        b"inner_get_mut" => Some(PrefixCall::Inner(RelatedCall::GetMut(number))),
-        b"inner_insert" => Some(PrefixCall::InnerSet(SetCall::Insert(number))),
-        b"inner_insert_entry" => Some(PrefixCall::InnerSet(SetCall::InsertEntry(number))),
-        b"get_key_value_mut" => Some(PrefixCall::OnlyMut(number)),
+        PrefixName::GetMut => Some(PrefixCall::Occupied(RelatedCall::GetMut(number))),
+        PrefixName::OccupiedInsert => Some(PrefixCall::OccupiedSet(SetCall::Insert(number))),
+        PrefixName::OccupiedInsertEntry => {
+            Some(PrefixCall::OccupiedSet(SetCall::InsertEntry(number)))
+        }
+        PrefixName::InnerGetMut => Some(PrefixCall::Inner(RelatedCall::GetMut(number))),
+        PrefixName::InnerInsert => Some(PrefixCall::InnerSet(SetCall::Insert(number))),
+        PrefixName::InnerInsertEntry => Some(PrefixCall::InnerSet(SetCall::InsertEntry(number))),
+        PrefixName::OnlyMut => Some(PrefixCall::OnlyMut(number)),
         _ => None,
     }
 }

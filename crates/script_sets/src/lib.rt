@@ -3,8 +3,11 @@
 //! [`Sets`] are the two sets of a part of a script. [`set_name_of`] tells which call a word names.
 #![tactic(auto)]
 
+mod bulk;
+mod comparisons;
 mod look_ups;
 mod names;
+mod operators;
 mod sets;
 mod walks;
 

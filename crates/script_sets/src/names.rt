@@ -33,10 +33,27 @@ pub enum SetName {
     IsDisjoint,
     IsSubset,
     IsSuperset,
+    SplitOff,
+    MakeClone,
+    Append,
+    Extend,
+    ExtendCopied,
+    FromVec,
+    FromIter,
+    FromArray,
+    Or,
+    And,
+    Xor,
+    Sub,
+    Equal,
+    PartialCmp,
+    Cmp,
+    SameHash,
+    DebugText,
 }
 
 // The word that names each call.
-const NAMES: [(&str, SetName); 30] = [
+const NAMES: [(&str, SetName); 47] = [
     ("new", SetName::New),
     ("clear", SetName::Clear),
     ("swap", SetName::Swap),
@@ -67,6 +84,23 @@ const NAMES: [(&str, SetName); 30] = [
     ("is_disjoint", SetName::IsDisjoint),
     ("is_subset", SetName::IsSubset),
     ("is_superset", SetName::IsSuperset),
+    ("split_off", SetName::SplitOff),
+    ("clone", SetName::MakeClone),
+    ("append", SetName::Append),
+    ("extend", SetName::Extend),
+    ("extend_copied", SetName::ExtendCopied),
+    ("from_vec", SetName::FromVec),
+    ("from_iter", SetName::FromIter),
+    ("from_array", SetName::FromArray),
+    ("or", SetName::Or),
+    ("and", SetName::And),
+    ("xor", SetName::Xor),
+    ("sub", SetName::Sub),
+    ("eq", SetName::Equal),
+    ("partial_cmp", SetName::PartialCmp),
+    ("cmp", SetName::Cmp),
+    ("same_hash", SetName::SameHash),
+    ("debug", SetName::DebugText),
 ];
 
 /// The call that the word names.

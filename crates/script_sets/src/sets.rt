@@ -1,6 +1,6 @@
 //! The two sets of a script, and the calls that change them.
 use crate::names::SetName;
-use blart_keys::{NoPrefixesBytes, OrderedBytes};
+use blart_keys::OrderedBytes;
 use blart_set::TreeSet;
 use script_words::{Answered, ScriptKey, Shown, Text, Words};
 use std::alloc::Global;
@@ -25,13 +25,14 @@ impl<K: ScriptKey + OrderedBytes, const PREFIX_LEN: usize> Sets<K, PREFIX_LEN> {
     }
 
     /// Makes the call of this name with these words behind it, and adds its answer.
-    pub fn call(&mut self, name: SetName, words: Words<'_>, text: &mut Text) -> Answered {
+    pub(crate) fn call(&mut self, name: SetName, words: Words<'_>, text: &mut Text) -> Answered {
         match name {
             SetName::New | SetName::Clear | SetName::Swap => self.renew(name, words, text),
             SetName::PopFirst | SetName::PopLast => self.pop(name, words, text),
             SetName::Remove | SetName::Take => self.remove(name, words, text),
             SetName::TryInsert | SetName::PrefixInsert => self.place(name, words, text),
             SetName::IntoIter => self.into_elements(words, text),
+            SetName::SplitOff => self.split_off(words, text),
             _ => self.look_up(name, words, text),
         }
     }
@@ -75,19 +76,41 @@ impl<K: ScriptKey + OrderedBytes, const PREFIX_LEN: usize> Sets<K, PREFIX_LEN> {
     }
 }
 
-impl<K: ScriptKey + OrderedBytes + NoPrefixesBytes, const PREFIX_LEN: usize> Sets<K, PREFIX_LEN> {
-    /// Makes the call of this name, of elements of which none begins another too, and adds its answer.
-    pub fn call_apart(&mut self, name: SetName, mut words: Words<'_>, text: &mut Text) -> Answered {
+impl<const PREFIX_LEN: usize> Sets<Vec<u8>, PREFIX_LEN> {
+    /// Makes the call of this name with these words behind it, and adds its answer.
+    pub fn call_of_bytes(&mut self, name: SetName, words: Words<'_>, text: &mut Text) -> Answered {
         match name {
-            SetName::Insert => {
-                let element = words.last_key()?;
-                Ok(self.first.insert(element).show(text)?)
-            }
-            SetName::Replace => {
-                let element = words.last_key()?;
-                Ok(self.first.replace(element).show(text)?)
-            }
+            SetName::MakeClone => self.clone_of_bytes(words, text),
+            SetName::Equal | SetName::PartialCmp | SetName::Cmp => self.compare(name, words, text),
+            SetName::SameHash | SetName::DebugText => self.compare(name, words, text),
             _ => self.call(name, words, text),
+        }
+    }
+}
+
+impl<const PREFIX_LEN: usize> Sets<[u8; 3], PREFIX_LEN> {
+    /// Makes the call of this name with these words behind it, and adds its answer.
+    pub fn call_of_three(&mut self, name: SetName, words: Words<'_>, text: &mut Text) -> Answered {
+        match name {
+            SetName::Insert | SetName::Replace => self.insert(name, words, text),
+            SetName::MakeClone | SetName::Append => self.gather(name, words, text),
+            SetName::Extend | SetName::ExtendCopied => self.gather(name, words, text),
+            SetName::FromVec | SetName::FromIter => self.gather(name, words, text),
+            SetName::FromArray => self.gather(name, words, text),
+            SetName::Or | SetName::And | SetName::Xor => self.operate(name, words, text),
+            SetName::Sub => self.operate(name, words, text),
+            SetName::Equal | SetName::PartialCmp | SetName::Cmp => self.compare(name, words, text),
+            SetName::SameHash | SetName::DebugText => self.compare(name, words, text),
+            _ => self.call(name, words, text),
+        }
+    }
+
+    // The calls that place an element of which it is known that it conflicts with none.
+    fn insert(&mut self, name: SetName, mut words: Words<'_>, text: &mut Text) -> Answered {
+        let element = words.last_key()?;
+        match name {
+            SetName::Insert => Ok(self.first.insert(element).show(text)?),
+            _ => Ok(self.first.replace(element).show(text)?),
         }
     }
 }

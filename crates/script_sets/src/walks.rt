@@ -72,10 +72,10 @@ impl<K: ScriptKey + OrderedBytes, const PREFIX_LEN: usize> Sets<K, PREFIX_LEN> {
     }
 }
 
-// A walk of the set's own, whose items are written.
+/// A walk of the set's own, whose items are written.
 #[derive(Drop)]
-struct Plain<W> {
-    walk: W,
+pub(crate) struct Plain<W> {
+    pub(crate) walk: W,
 }
 
 impl<'a, K: ScriptKey, const PREFIX_LEN: usize> Walk for Plain<Iter<'a, K, PREFIX_LEN>> {
