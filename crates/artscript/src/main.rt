@@ -5,6 +5,7 @@
 
 mod failure;
 mod lengths;
+mod parts;
 mod session;
 
 use crate::failure::Failure;

@@ -1,7 +1,5 @@
 //! A script from its lines to its answers.
-use script_entries::{enter_bytes, enter_related, enter_three};
-use script_maps::{Maps, Name, name_of};
-use script_sets::{Sets, set_name_of};
+use crate::parts::{BytesPart, ThreePart};
 use script_words::{Answered, Text, Unanswered, Words};
 use std::alloc::{AllocError, Global};
 use std::iter::Iterator;
@@ -11,33 +9,37 @@ pub(crate) fn answers<const PREFIX_LEN: usize>(
     alloc: Global,
     script: &[u8],
 ) -> Result<Text, AllocError> {
-    let mut session = Session::<PREFIX_LEN>::new(alloc);
     let mut text = Text::new(alloc);
-    session.reply_all(alloc, script, &mut text)?;
+    reply_from_start::<PREFIX_LEN>(alloc, script, &mut text)?;
     Ok(text)
 }
 
-// The maps and the sets of the part that a script is in.
+// Adds what stands for each line of the script, with which a session begins.
+fn reply_from_start<const PREFIX_LEN: usize>(
+    alloc: Global,
+    script: &[u8],
+    text: &mut Text,
+) -> Result<(), AllocError> {
+    let mut session = Session::<PREFIX_LEN>::new(alloc);
+    session.reply_all(alloc, script, text)
+}
+
+// The maps and the sets of a script, and whether those of three bytes are the ones that calls are of.
 #[derive(Drop)]
-enum Session<const PREFIX_LEN: usize> {
-    Bytes(Maps<Vec<u8>, PREFIX_LEN>, Sets<Vec<u8>, PREFIX_LEN>),
-    Three(Maps<[u8; 3], PREFIX_LEN>, Sets<[u8; 3], PREFIX_LEN>),
+struct Session<const PREFIX_LEN: usize> {
+    of_three: bool,
+    bytes: BytesPart<PREFIX_LEN>,
+    three: ThreePart<PREFIX_LEN>,
 }
 
 impl<const PREFIX_LEN: usize> Session<PREFIX_LEN> {
     // The part with which every script begins.
     fn new(alloc: Global) -> Self {
-        Session::Bytes(Maps::new(alloc), Sets::new(alloc))
-    }
-
-    // Begins a part whose keys are lists of bytes.
-    fn begin_bytes(&mut self, alloc: Global) {
-        *self = Session::Bytes(Maps::new(alloc), Sets::new(alloc));
-    }
-
-    // Begins a part whose keys are three bytes.
-    fn begin_three(&mut self, alloc: Global) {
-        *self = Session::Three(Maps::new(alloc), Sets::new(alloc));
+        Session {
+            of_three: false,
+            bytes: BytesPart::new(alloc),
+            three: ThreePart::new(alloc),
+        }
     }
 
     // Adds what stands for each line of the script.
@@ -72,51 +74,30 @@ impl<const PREFIX_LEN: usize> Session<PREFIX_LEN> {
     }
 
     // Makes the call that the line is, and adds its answer.
-    fn call(&mut self, alloc: Global, line: &[u8], text: &mut Text) -> Result<(), Unanswered> {
+    fn call(&mut self, alloc: Global, line: &[u8], text: &mut Text) -> Answered {
         if line == b"keys bytes".as_slice() {
-            self.begin_bytes(alloc);
-            return Ok(text.push(b"()")?);
+            return self.begin(false, text);
         }
         if line == b"keys three".as_slice() {
-            self.begin_three(alloc);
-            return Ok(text.push(b"()")?);
+            return self.begin(true, text);
         }
-        let mut words = Words::new(line, b' ', alloc);
-        let word = words.word()?;
-        if word == b"set".as_slice() {
-            return self.call_set(words, text);
-        }
-        match name_of(word) {
-            Some(name) => self.call_map(name, words, text),
-            None => Err(Unanswered::NoCall),
+        let words = Words::new(line, b' ', alloc);
+        if self.of_three {
+            self.three.call(words, text)
+        } else {
+            self.bytes.call(words, text)
         }
     }
 
-    // Makes the call of maps that the words are, and adds its answer.
-    fn call_map(&mut self, name: Name, words: Words<'_>, text: &mut Text) -> Answered {
-        match self {
-            Session::Bytes(maps, _) => match name {
-                Name::TryEntry => enter_bytes(&mut maps.first, words, text),
-                Name::PrefixEntry => enter_related(&mut maps.first, words, text),
-                _ => maps.call_of_bytes(name, words, text),
-            },
-            Session::Three(maps, _) => match name {
-                Name::TryEntry => enter_three(&mut maps.first, true, words, text),
-                Name::Entry => enter_three(&mut maps.first, false, words, text),
-                _ => maps.call_of_three(name, words, text),
-            },
+    // Begins a part whose keys are three bytes, or lists of bytes.
+    fn begin(&mut self, of_three: bool, text: &mut Text) -> Answered {
+        if of_three {
+            self.three.restart();
+        } else {
+            self.bytes.restart();
         }
-    }
-
-    // Makes the call of sets that the words are, and adds its answer.
-    fn call_set(&mut self, mut words: Words<'_>, text: &mut Text) -> Answered {
-        let Some(name) = set_name_of(words.word()?) else {
-            return Err(Unanswered::NoCall);
-        };
-        match self {
-            Session::Bytes(_, sets) => sets.call_of_bytes(name, words, text),
-            Session::Three(_, sets) => sets.call_of_three(name, words, text),
-        }
+        self.of_three = of_three;
+        Ok(text.push(b"()")?)
     }
 }
 

@@ -24,6 +24,12 @@ impl<K: ScriptKey, const PREFIX_LEN: usize> Maps<K, PREFIX_LEN> {
         }
     }
 
+    /// Puts new maps in the place of both.
+    pub fn restart(&mut self) {
+        self.first = TreeMap::with_prefix_len(self.alloc);
+        self.second = TreeMap::with_prefix_len(self.alloc);
+    }
+
     /// Makes the call of this name with these words behind it, and adds its answer.
     pub(crate) fn call(&mut self, name: Name, words: Words<'_>, text: &mut Text) -> Answered {
         match name {

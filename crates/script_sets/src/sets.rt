@@ -24,6 +24,12 @@ impl<K: ScriptKey + OrderedBytes, const PREFIX_LEN: usize> Sets<K, PREFIX_LEN> {
         }
     }
 
+    /// Puts new sets in the place of both.
+    pub fn restart(&mut self) {
+        self.first = TreeSet::with_prefix_len(self.alloc);
+        self.second = TreeSet::with_prefix_len(self.alloc);
+    }
+
     /// Makes the call of this name with these words behind it, and adds its answer.
     pub(crate) fn call(&mut self, name: SetName, words: Words<'_>, text: &mut Text) -> Answered {
         match name {
