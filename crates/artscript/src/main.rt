@@ -1,25 +1,12 @@
-//! Answers the lines of a script of calls of the map, each on a line of standard output.
+//! Answers the lines of a script of calls of the map and the set, each on a line of standard output.
 //!
 //! The script is answered over maps of six lengths of kept prefixes, which must give the same answers.
 #![tactic(auto)]
 
-mod calls;
-mod drives;
-mod entries;
-mod entry_calls;
 mod failure;
-mod inserts;
-mod keys;
-mod lending;
 mod lengths;
-mod look_ups;
-mod names;
-mod owning;
-mod picking;
+mod parts;
 mod session;
-mod text;
-mod walks;
-mod words;
 
 use crate::failure::Failure;
 use crate::lengths::answers_at_each_length;

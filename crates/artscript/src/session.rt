@@ -1,9 +1,6 @@
 //! A script from its lines to its answers.
-use crate::calls::Maps;
-use crate::failure::Unanswered;
-use crate::names::name_of;
-use crate::text::Text;
-use crate::words::Words;
+use crate::parts::{BytesPart, ThreePart};
+use script_words::{Answered, Text, Unanswered, Words};
 use std::alloc::{AllocError, Global};
 use std::iter::Iterator;
 
@@ -12,33 +9,37 @@ pub(crate) fn answers<const PREFIX_LEN: usize>(
     alloc: Global,
     script: &[u8],
 ) -> Result<Text, AllocError> {
-    let mut session = Session::<PREFIX_LEN>::new(alloc);
     let mut text = Text::new(alloc);
-    session.reply_all(alloc, script, &mut text)?;
+    reply_from_start::<PREFIX_LEN>(alloc, script, &mut text)?;
     Ok(text)
 }
 
-// The maps of the part that a script is in.
+// Adds what stands for each line of the script, with which a session begins.
+fn reply_from_start<const PREFIX_LEN: usize>(
+    alloc: Global,
+    script: &[u8],
+    text: &mut Text,
+) -> Result<(), AllocError> {
+    let mut session = Session::<PREFIX_LEN>::new(alloc);
+    session.reply_all(alloc, script, text)
+}
+
+// The maps and the sets of a script, and whether those of three bytes are the ones that calls are of.
 #[derive(Drop)]
-enum Session<const PREFIX_LEN: usize> {
-    Bytes(Maps<Vec<u8>, PREFIX_LEN>),
-    Three(Maps<[u8; 3], PREFIX_LEN>),
+struct Session<const PREFIX_LEN: usize> {
+    of_three: bool,
+    bytes: BytesPart<PREFIX_LEN>,
+    three: ThreePart<PREFIX_LEN>,
 }
 
 impl<const PREFIX_LEN: usize> Session<PREFIX_LEN> {
     // The part with which every script begins.
     fn new(alloc: Global) -> Self {
-        Session::Bytes(Maps::new(alloc))
-    }
-
-    // Begins a part whose keys are lists of bytes.
-    fn begin_bytes(&mut self, alloc: Global) {
-        *self = Session::Bytes(Maps::new(alloc));
-    }
-
-    // Begins a part whose keys are three bytes.
-    fn begin_three(&mut self, alloc: Global) {
-        *self = Session::Three(Maps::new(alloc));
+        Session {
+            of_three: false,
+            bytes: BytesPart::new(alloc),
+            three: ThreePart::new(alloc),
+        }
     }
 
     // Adds what stands for each line of the script.
@@ -73,23 +74,30 @@ impl<const PREFIX_LEN: usize> Session<PREFIX_LEN> {
     }
 
     // Makes the call that the line is, and adds its answer.
-    fn call(&mut self, alloc: Global, line: &[u8], text: &mut Text) -> Result<(), Unanswered> {
+    fn call(&mut self, alloc: Global, line: &[u8], text: &mut Text) -> Answered {
         if line == b"keys bytes".as_slice() {
-            self.begin_bytes(alloc);
-            return Ok(text.push(b"()")?);
+            return self.begin(false, text);
         }
         if line == b"keys three".as_slice() {
-            self.begin_three(alloc);
-            return Ok(text.push(b"()")?);
+            return self.begin(true, text);
         }
-        let mut words = Words::new(line, b' ', alloc);
-        let Some(name) = name_of(words.word()?) else {
-            return Err(Unanswered::NoCall);
-        };
-        match self {
-            Session::Bytes(maps) => maps.call_of_bytes(name, words, text),
-            Session::Three(maps) => maps.call_of_three(name, words, text),
+        let words = Words::new(line, b' ', alloc);
+        if self.of_three {
+            self.three.call(words, text)
+        } else {
+            self.bytes.call(words, text)
         }
+    }
+
+    // Begins a part whose keys are three bytes, or lists of bytes.
+    fn begin(&mut self, of_three: bool, text: &mut Text) -> Answered {
+        if of_three {
+            self.three.restart();
+        } else {
+            self.bytes.restart();
+        }
+        self.of_three = of_three;
+        Ok(text.push(b"()")?)
     }
 }
 

@@ -1,0 +1,73 @@
+//! The call that makes calls in turn.
+use crate::calls::Maps;
+use blart_map::{Call, drive};
+use script_words::{Answered, ScriptKey, Shown, Text, Unanswered, Words, show_list};
+use std::alloc::{AllocError, Global};
+
+impl<K: ScriptKey, const PREFIX_LEN: usize> Maps<K, PREFIX_LEN> {
+    /// Makes the calls that the words are, and adds their replies.
+    pub(crate) fn drive(&mut self, words: Words<'_>, text: &mut Text) -> Answered {
+        let calls = calls_of(self.alloc, words)?;
+        match drive(&mut self.first, calls) {
+            Ok(replies) => {
+                text.push(b"Ok(")?;
+                show_list(&replies, text)?;
+                text.push(b")")?;
+            }
+            Err(error) => Err::<(), AllocError>(error).show(text)?,
+        }
+        Ok(())
+    }
+}
+
+// The calls that the words are.
+fn calls_of<K: ScriptKey>(
+    alloc: Global,
+    mut words: Words<'_>,
+) -> Result<Vec<Call<K, u64>>, Unanswered> {
+    let mut calls = Vec::new(alloc);
+    for _ in 0..u64::MAX {
+        if words.is_done() {
+            break;
+        }
+        let word = words.word()?;
+        if calls.push(call_of(Words::new(word, b':', alloc))?).is_err() {
+            return Err(Unanswered::Memory(AllocError));
+        }
+    }
+    Ok(calls)
+}
+
+// The call that the parts of a word are.
+fn call_of<K: ScriptKey>(mut parts: Words<'_>) -> Result<Call<K, u64>, Unanswered> {
+    match parts.word()? {
+        b"TryInsert" => {
+            let (key, value) = parts.last_pair()?;
+            Ok(Call::TryInsert(key, value))
+        }
+        b"ReplaceEntry" => {
+            let (key, value) = parts.last_pair()?;
+            Ok(Call::ReplaceEntry(key, value))
+        }
+        b"PrefixInsert" => {
+            let (key, value) = parts.last_pair()?;
+            Ok(Call::PrefixInsert(key, value))
+        }
+        b"RemoveEntry" => Ok(Call::RemoveEntry(parts.last_key()?)),
+        b"ContainsKey" => Ok(Call::ContainsKey(parts.last_key()?)),
+        name => {
+            parts.end()?;
+            bare_call(name)
+        }
+    }
+}
+
+// The call of this name, which has no arguments.
+fn bare_call<K>(name: &[u8]) -> Result<Call<K, u64>, Unanswered> {
+    match name {
+        b"PopFirst" => Ok(Call::PopFirst),
+        b"PopLast" => Ok(Call::PopLast),
+        b"Clear" => Ok(Call::Clear),
+        _ => Err(Unanswered::NoCall),
+    }
+}

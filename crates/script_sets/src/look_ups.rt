@@ -1,0 +1,55 @@
+//! The calls that leave the sets as they are.
+use crate::names::SetName;
+use crate::sets::Sets;
+use blart_keys::OrderedBytes;
+use script_words::{Answered, ScriptKey, Shown, Text, Words};
+
+impl<K: ScriptKey + OrderedBytes, const PREFIX_LEN: usize> Sets<K, PREFIX_LEN> {
+    /// Makes the call of this name, which leaves the sets as they are, and adds its answer.
+    pub(crate) fn look_up(&self, name: SetName, words: Words<'_>, text: &mut Text) -> Answered {
+        match name {
+            SetName::Len | SetName::IsEmpty => self.tell(name, words, text),
+            SetName::First | SetName::Last => self.tell(name, words, text),
+            SetName::Contains | SetName::Conflicts => self.find(name, words, text),
+            SetName::Get | SetName::PrefixGet => self.find(name, words, text),
+            SetName::Iter => self.iter(words, text),
+            SetName::Range => self.range(words, text),
+            SetName::Prefix => self.prefix(words, text),
+            SetName::IsDisjoint | SetName::IsSubset => self.relate(name, words, text),
+            SetName::IsSuperset => self.relate(name, words, text),
+            _ => self.merge(name, words, text),
+        }
+    }
+
+    // The calls with no argument.
+    fn tell(&self, name: SetName, words: Words<'_>, text: &mut Text) -> Answered {
+        words.end()?;
+        match name {
+            SetName::Len => Ok(self.first.len().show(text)?),
+            SetName::IsEmpty => Ok(self.first.is_empty().show(text)?),
+            SetName::First => Ok(self.first.first().show(text)?),
+            _ => Ok(self.first.last().show(text)?),
+        }
+    }
+
+    // The calls that look for some bytes.
+    fn find(&self, name: SetName, mut words: Words<'_>, text: &mut Text) -> Answered {
+        let query = words.last_bytes()?;
+        match name {
+            SetName::Contains => Ok(self.first.contains(&query).show(text)?),
+            SetName::Conflicts => Ok(self.first.conflicts(&query).show(text)?),
+            SetName::Get => Ok(self.first.get(&query).show(text)?),
+            _ => Ok(self.first.prefix_get(&query).show(text)?),
+        }
+    }
+
+    // The tests of both sets.
+    fn relate(&self, name: SetName, words: Words<'_>, text: &mut Text) -> Answered {
+        words.end()?;
+        match name {
+            SetName::IsDisjoint => Ok(self.first.is_disjoint(&self.second).show(text)?),
+            SetName::IsSubset => Ok(self.first.is_subset(&self.second).show(text)?),
+            _ => Ok(self.first.is_superset(&self.second).show(text)?),
+        }
+    }
+}

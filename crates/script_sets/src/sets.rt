@@ -1,0 +1,122 @@
+//! The two sets of a script, and the calls that change them.
+use crate::names::SetName;
+use blart_keys::OrderedBytes;
+use blart_set::TreeSet;
+use script_words::{Answered, ScriptKey, Shown, Text, Words};
+use std::alloc::Global;
+use std::mem;
+
+/// The two sets. Each call is one of the first.
+#[derive(Drop)]
+pub struct Sets<K: ScriptKey, const PREFIX_LEN: usize> {
+    pub(crate) first: TreeSet<K, PREFIX_LEN>,
+    pub(crate) second: TreeSet<K, PREFIX_LEN>,
+    pub(crate) alloc: Global,
+}
+
+impl<K: ScriptKey + OrderedBytes, const PREFIX_LEN: usize> Sets<K, PREFIX_LEN> {
+    /// Two sets with no elements.
+    pub fn new(alloc: Global) -> Self {
+        Sets {
+            first: TreeSet::with_prefix_len(alloc),
+            second: TreeSet::with_prefix_len(alloc),
+            alloc,
+        }
+    }
+
+    /// Puts new sets in the place of both.
+    pub fn restart(&mut self) {
+        self.first = TreeSet::with_prefix_len(self.alloc);
+        self.second = TreeSet::with_prefix_len(self.alloc);
+    }
+
+    /// Makes the call of this name with these words behind it, and adds its answer.
+    pub(crate) fn call(&mut self, name: SetName, words: Words<'_>, text: &mut Text) -> Answered {
+        match name {
+            SetName::New | SetName::Clear | SetName::Swap => self.renew(name, words, text),
+            SetName::PopFirst | SetName::PopLast => self.pop(name, words, text),
+            SetName::Remove | SetName::Take => self.remove(name, words, text),
+            SetName::TryInsert | SetName::PrefixInsert => self.place(name, words, text),
+            SetName::IntoIter => self.into_elements(words, text),
+            SetName::SplitOff => self.split_off(words, text),
+            _ => self.look_up(name, words, text),
+        }
+    }
+
+    // The calls that put a whole set in the place of the first.
+    fn renew(&mut self, name: SetName, words: Words<'_>, text: &mut Text) -> Answered {
+        words.end()?;
+        match name {
+            SetName::New => self.first = TreeSet::with_prefix_len(self.alloc),
+            SetName::Clear => self.first.clear(),
+            _ => mem::swap(&mut self.first, &mut self.second),
+        }
+        Ok(().show(text)?)
+    }
+
+    // The calls that take the element at one end.
+    fn pop(&mut self, name: SetName, words: Words<'_>, text: &mut Text) -> Answered {
+        words.end()?;
+        match name {
+            SetName::PopFirst => Ok(self.first.pop_first().show(text)?),
+            _ => Ok(self.first.pop_last().show(text)?),
+        }
+    }
+
+    // The calls that take the element of some bytes.
+    fn remove(&mut self, name: SetName, mut words: Words<'_>, text: &mut Text) -> Answered {
+        let query = words.last_bytes()?;
+        match name {
+            SetName::Remove => Ok(self.first.remove(&query).show(text)?),
+            _ => Ok(self.first.take(&query).show(text)?),
+        }
+    }
+
+    // The calls that place an element.
+    fn place(&mut self, name: SetName, mut words: Words<'_>, text: &mut Text) -> Answered {
+        let element = words.last_key()?;
+        match name {
+            SetName::TryInsert => Ok(self.first.try_insert(element).show(text)?),
+            _ => Ok(self.first.prefix_insert(element).show(text)?),
+        }
+    }
+}
+
+impl<const PREFIX_LEN: usize> Sets<Vec<u8>, PREFIX_LEN> {
+    /// Makes the call of this name with these words behind it, and adds its answer.
+    pub fn call_of_bytes(&mut self, name: SetName, words: Words<'_>, text: &mut Text) -> Answered {
+        match name {
+            SetName::MakeClone => self.clone_of_bytes(words, text),
+            SetName::Equal | SetName::PartialCmp | SetName::Cmp => self.compare(name, words, text),
+            SetName::SameHash | SetName::DebugText => self.compare(name, words, text),
+            _ => self.call(name, words, text),
+        }
+    }
+}
+
+impl<const PREFIX_LEN: usize> Sets<[u8; 3], PREFIX_LEN> {
+    /// Makes the call of this name with these words behind it, and adds its answer.
+    pub fn call_of_three(&mut self, name: SetName, words: Words<'_>, text: &mut Text) -> Answered {
+        match name {
+            SetName::Insert | SetName::Replace => self.insert(name, words, text),
+            SetName::MakeClone | SetName::Append => self.gather(name, words, text),
+            SetName::Extend | SetName::ExtendCopied => self.gather(name, words, text),
+            SetName::FromVec | SetName::FromIter => self.gather(name, words, text),
+            SetName::FromArray => self.gather(name, words, text),
+            SetName::Or | SetName::And | SetName::Xor => self.operate(name, words, text),
+            SetName::Sub => self.operate(name, words, text),
+            SetName::Equal | SetName::PartialCmp | SetName::Cmp => self.compare(name, words, text),
+            SetName::SameHash | SetName::DebugText => self.compare(name, words, text),
+            _ => self.call(name, words, text),
+        }
+    }
+
+    // The calls that place an element of which it is known that it conflicts with none.
+    fn insert(&mut self, name: SetName, mut words: Words<'_>, text: &mut Text) -> Answered {
+        let element = words.last_key()?;
+        match name {
+            SetName::Insert => Ok(self.first.insert(element).show(text)?),
+            _ => Ok(self.first.replace(element).show(text)?),
+        }
+    }
+}

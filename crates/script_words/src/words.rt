@@ -1,0 +1,303 @@
+//! The words of a line, and what they stand for.
+ghost use Rattle.std.specs.Prelude.{◌≡◌, ◌+◌, ◌*◌, true, IfOk};
+ghost use Rattle.std.specs.List.{list_all};
+ghost use Rattle.std.specs.Char.{is_ascii_digit, digit_value};
+ghost use Rattle.std.specs.Str.Parse.{digits_value};
+ghost use Rattle.script_words.specs.Words.{read_bytes, read_number, below_limit};
+ghost use Rattle.script_words.specs.Words as spec;
+
+use crate::answered::{Answered, Unanswered};
+use crate::keys::ScriptKey;
+use hex::FromHexError;
+use std::alloc::{AllocError, Global};
+use std::ops::Bound;
+
+/// The words of a text that are still to be read. One byte parts them.
+#[derive(Clone, Copy)]
+pub struct Words<'a> {
+    rest: Option<&'a [u8]>,
+    part: u8,
+    alloc: Global,
+}
+
+impl<'a> Words<'a> {
+    /// All words of the text.
+    pub fn new(text: &'a [u8], part: u8, alloc: Global) -> Self {
+        Words {
+            rest: Some(text),
+            part,
+            alloc,
+        }
+    }
+
+    /// Whether no word is left.
+    pub fn is_done(&self) -> bool {
+        self.rest.is_none()
+    }
+
+    /// That no word is left.
+    pub fn end(&self) -> Answered {
+        match self.rest {
+            Some(_) => Err(Unanswered::NoCall),
+            None => Ok(()),
+        }
+    }
+
+    /// The next word. Between two parting bytes stands a word of no bytes.
+    pub fn word(&mut self) -> Result<&'a [u8], Unanswered> {
+        let Some(text) = self.rest else {
+            return Err(Unanswered::NoCall);
+        };
+        let part = self.part;
+        match text.iter().position(|byte| *byte == part) {
+            Some(at) => {
+                self.rest = Some(&text[at + 1..]);
+                Ok(&text[..at])
+            }
+            None => {
+                self.rest = None;
+                Ok(text)
+            }
+        }
+    }
+
+    /// The bytes that the next word stands for.
+    pub fn bytes(&mut self) -> Result<Vec<u8>, Unanswered> {
+        bytes_of(self.alloc, self.word()?)
+    }
+
+    /// The bytes that the last word stands for.
+    pub fn last_bytes(&mut self) -> Result<Vec<u8>, Unanswered> {
+        let bytes = self.bytes()?;
+        self.end()?;
+        Ok(bytes)
+    }
+
+    /// The key that the next word stands for.
+    pub fn key<K: ScriptKey>(&mut self) -> Result<K, Unanswered> {
+        match K::from_vec(self.bytes()?) {
+            Some(key) => Ok(key),
+            None => Err(Unanswered::NoCall),
+        }
+    }
+
+    /// The key that the last word stands for.
+    pub fn last_key<K: ScriptKey>(&mut self) -> Result<K, Unanswered> {
+        let key = self.key()?;
+        self.end()?;
+        Ok(key)
+    }
+
+    /// The number that the next word is.
+    pub fn number(&mut self) -> Result<u64, Unanswered> {
+        match number_of(self.word()?) {
+            Some(number) => Ok(number),
+            None => Err(Unanswered::NoCall),
+        }
+    }
+
+    /// The number that the last word is, where one is left.
+    pub fn last_number(mut self) -> Result<Option<u64>, Unanswered> {
+        if self.is_done() {
+            return Ok(None);
+        }
+        let number = self.number()?;
+        self.end()?;
+        Ok(Some(number))
+    }
+
+    /// The key and the number that the last two words stand for.
+    pub fn last_pair<K: ScriptKey>(&mut self) -> Result<(K, u64), Unanswered> {
+        let key = self.key()?;
+        let number = self.number()?;
+        self.end()?;
+        Ok((key, number))
+    }
+
+    /// The bytes and the number that the last two words stand for.
+    pub fn last_bytes_and_number(&mut self) -> Result<(Vec<u8>, u64), Unanswered> {
+        let bytes = self.bytes()?;
+        let number = self.number()?;
+        self.end()?;
+        Ok((bytes, number))
+    }
+
+    /// The bounds that the next two words are.
+    pub fn bounds(&mut self) -> Result<(Bound<Vec<u8>>, Bound<Vec<u8>>), Unanswered> {
+        let start = self.start()?;
+        let end = self.finish()?;
+        Ok((start, end))
+    }
+
+    // The start bound that the next word is.
+    fn start(&mut self) -> Result<Bound<Vec<u8>>, Unanswered> {
+        match self.word()? {
+            b"*" => Ok(Bound::Unbounded),
+            [b'[', digits @ ..] => Ok(Bound::Included(bytes_of(self.alloc, digits)?)),
+            [b'(', digits @ ..] => Ok(Bound::Excluded(bytes_of(self.alloc, digits)?)),
+            _ => Err(Unanswered::NoCall),
+        }
+    }
+
+    // The end bound that the next word is.
+    fn finish(&mut self) -> Result<Bound<Vec<u8>>, Unanswered> {
+        match self.word()? {
+            b"*" => Ok(Bound::Unbounded),
+            [digits @ .., b']'] => Ok(Bound::Included(bytes_of(self.alloc, digits)?)),
+            [digits @ .., b')'] => Ok(Bound::Excluded(bytes_of(self.alloc, digits)?)),
+            _ => Err(Unanswered::NoCall),
+        }
+    }
+
+    /// The letters of the steps that the last word is, where one is left.
+    pub fn last_steps(&mut self) -> Result<Option<&'a [u8]>, Unanswered> {
+        if self.is_done() {
+            return Ok(None);
+        }
+        let letters = self.word()?;
+        self.end()?;
+        if is_steps(letters) {
+            Ok(Some(letters))
+        } else {
+            Err(Unanswered::NoCall)
+        }
+    }
+
+    /// The letters of the steps that the last word is, where one is left, of a walk that does not count.
+    pub fn last_moves(&mut self) -> Result<Option<&'a [u8]>, Unanswered> {
+        let letters = self.last_steps()?;
+        match letters {
+            Some(word) if word.contains(&b'l') => Err(Unanswered::NoCall),
+            _ => Ok(letters),
+        }
+    }
+
+    /// The letters of the decisions that the last word is.
+    pub fn last_decisions(&mut self) -> Result<&'a [u8], Unanswered> {
+        let letters = self.word()?;
+        self.end()?;
+        if is_decisions(letters) {
+            Ok(letters)
+        } else {
+            Err(Unanswered::NoCall)
+        }
+    }
+}
+
+// ---- steps
+
+// Whether the word is letters of steps and decisions, one at least.
+fn is_decisions(word: &[u8]) -> bool
+    ensures { result ≡ spec.is_decisions word.now }
+{
+    if word.is_empty() {
+        false
+    } else {
+        is_all_decisions(word)
+    }
+}
+
+fn is_all_decisions(word: &[u8]) -> bool
+    ensures { result ≡ list_all spec.is_decision word.now }
+{
+    word.iter().all(|letter| is_decision(*letter))
+}
+
+fn is_decision(letter: u8) -> bool
+    ensures { result ≡ spec.is_decision letter }
+{
+    letter == b'f' || letter == b'b' || letter == b'k' || letter == b't' || letter == b'u'
+}
+
+// Whether the word is letters of steps, one at least.
+fn is_steps(word: &[u8]) -> bool
+    ensures { result ≡ spec.is_steps word.now }
+{
+    if word.is_empty() {
+        false
+    } else {
+        is_all_steps(word)
+    }
+}
+
+fn is_all_steps(word: &[u8]) -> bool
+    ensures { result ≡ list_all spec.is_step word.now }
+{
+    word.iter().all(|letter| is_step(*letter))
+}
+
+fn is_step(letter: u8) -> bool
+    ensures { result ≡ spec.is_step letter }
+{
+    letter == b'f' || letter == b'b' || letter == b'l'
+}
+
+// ---- bytes
+
+// The bytes that the word stands for.
+fn bytes_of(alloc: Global, word: &[u8]) -> Result<Vec<u8>, Unanswered>
+    ensures read { IfOk result (λ bytes. read_bytes word.now ≡ Some bytes.items) }
+    ensures no_call { result ≡ Err Unanswered.NoCall → read_bytes word.now ≡ None }
+{
+    if word == b"-".as_slice() {
+        return Ok(Vec::new(alloc));
+    }
+    if word.is_empty() {
+        return Err(Unanswered::NoCall);
+    }
+    match hex::decode(alloc, word) {
+        Ok(bytes) => Ok(bytes),
+        Err(FromHexError::OutOfMemory) => Err(Unanswered::Memory(AllocError)),
+        Err(_) => Err(Unanswered::NoCall),
+    }
+}
+
+// ---- numbers
+
+// The number that the word is, where it is digits and below 2^64.
+fn number_of(word: &[u8]) -> Option<u64>
+    ensures { result ≡ read_number word.now }
+{
+    if is_numeral(word) {
+        value_of(word)
+    } else {
+        None
+    }
+}
+
+// Whether the word is decimal digits, one at least.
+fn is_numeral(word: &[u8]) -> bool
+    ensures { result ≡ spec.is_numeral word.now }
+{
+    if word.is_empty() {
+        false
+    } else {
+        is_all_digits(word)
+    }
+}
+
+fn is_all_digits(word: &[u8]) -> bool
+    ensures { result ≡ list_all is_ascii_digit word.now }
+{
+    word.iter().all(|byte| byte.is_ascii_digit())
+}
+
+// The value of the digits, where it is below 2^64.
+fn value_of(digits: &[u8]) -> Option<u64>
+    requires { list_all is_ascii_digit digits.now ≡ true }
+    ensures { result ≡ below_limit (digits_value 10 digits.now) }
+{
+    let mut value: u64 = 0;
+    for byte in digits {
+        value = next_value(value, *byte)?;
+    }
+    Some(value)
+}
+
+// The value with one digit more, where it is below 2^64.
+fn next_value(value: u64, digit: u8) -> Option<u64>
+    requires { is_ascii_digit digit ≡ true }
+    ensures { result ≡ below_limit (value * 10 + digit_value digit) }
+{
+    value.checked_mul(10)?.checked_add(u64::from(digit - b'0'))
+}
