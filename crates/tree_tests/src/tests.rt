@@ -9,6 +9,7 @@ mod looking_up;
 mod many_children;
 mod placing;
 mod random;
+mod rows;
 mod seeking;
 mod walking;
 
@@ -16,35 +17,41 @@ use art_tree::{LeafId, Point, Tree, Visits};
 use art_walk::Cursor;
 use blart_keys::AsBytes;
 use std::process::Abort;
-use std::test::Fail;
+
+// Three long keys: the first two part behind forty bytes, and the third parts from them behind twenty.
+static LONG: [&[u8]; 3] = [
+    b"\0\0\0\0\0\0\0\0\0\0\0\0\0\0\0\0\0\0\0\0\0\0\0\0\0\0\0\0\0\0\0\0\0\0\0\0\0\0\0\0\x01",
+    b"\0\0\0\0\0\0\0\0\0\0\0\0\0\0\0\0\0\0\0\0\0\0\0\0\0\0\0\0\0\0\0\0\0\0\0\0\0\0\0\0\x02",
+    b"\0\0\0\0\0\0\0\0\0\0\0\0\0\0\0\0\0\0\0\0\x03",
+];
 
 // Adds a pair whose key is related to no other.
 fn add<K: AsBytes + Drop, V: Drop, const P: usize>(
+    rt: &impl Abort,
     tree: &mut Tree<K, V, P>,
     key: K,
     value: V,
-) -> Result<(), Fail> {
+) {
     let point = tree.point(key.as_bytes());
-    tree.make_room(&point)?;
+    tree.make_room(&point).expect(rt, "memory");
     match point {
-        Point::Exact(_) | Point::Related { .. } => Err(Fail::new("the key conflicts")),
+        Point::Exact(_) | Point::Related { .. } => panic!(rt; "the key conflicts"),
         Point::Empty | Point::Free(_) => {
             tree.place(point, key, value);
-            Ok(())
         }
     }
 }
 
 // A tree of these keys, each with its place as value.
 fn tree_of<'a, const P: usize>(
-    rt: &impl AllocGlobal,
+    rt: &(impl Abort + AllocGlobal),
     keys: &[&'a [u8]],
-) -> Result<Tree<&'a [u8], usize, P>, Fail> {
+) -> Tree<&'a [u8], usize, P> {
     let mut tree = Tree::new(rt.alloc());
-    for (place, key) in keys.iter().enumerate() {
-        add(&mut tree, *key, place)?;
+    for place in 0..keys.len() {
+        add(rt, &mut tree, keys[place], place);
     }
-    Ok(tree)
+    tree
 }
 
 // The leaf with a key, which a walk over all leaves comes to.
@@ -91,23 +98,30 @@ fn assert_keys<V: Drop, const P: usize>(
     assert_eq!(rt; tree.inner_nodes(), inner_nodes);
     assert!(rt; tree.first() == leaf_if(rt, tree, keys.first().copied()));
     assert!(rt; tree.last() == leaf_if(rt, tree, keys.last().copied()));
-    let mut before: Option<LeafId> = None;
-    for key in keys {
-        let id = leaf_of(rt, tree, key);
-        assert!(rt; tree.prev_of(id) == before);
-        assert!(rt; tree.search(key, &mut Visits::new()) == Some(id));
-        before = Some(id);
+    for place in 0..keys.len() {
+        let before = key_at(keys, place.wrapping_sub(1));
+        let next = key_at(keys, place.wrapping_add(1));
+        assert_leaf(rt, tree, keys[place], before, next);
     }
-    assert_next(rt, tree, keys);
 }
 
-// Behind the leaf of each key is that of the next.
-fn assert_next<V: Drop, const P: usize>(rt: &impl Abort, tree: &Tree<&[u8], V, P>, keys: &[&[u8]]) {
-    for (place, key) in keys.iter().enumerate() {
-        let id = leaf_of(rt, tree, key);
-        let next = keys.get(place.wrapping_add(1)).copied();
-        assert!(rt; tree.next_of(id) == leaf_if(rt, tree, next));
-    }
+// The key at a place, if there is one.
+fn key_at<'a>(keys: &[&'a [u8]], place: usize) -> Option<&'a [u8]> {
+    keys.get(place).copied()
+}
+
+// The leaf of a key is found, between those of these two.
+fn assert_leaf<V: Drop, const P: usize>(
+    rt: &impl Abort,
+    tree: &Tree<&[u8], V, P>,
+    key: &[u8],
+    before: Option<&[u8]>,
+    next: Option<&[u8]>,
+) {
+    let id = leaf_of(rt, tree, key);
+    assert!(rt; tree.prev_of(id) == leaf_if(rt, tree, before));
+    assert!(rt; tree.next_of(id) == leaf_if(rt, tree, next));
+    assert!(rt; tree.search(key, &mut Visits::new()) == Some(id));
 }
 
 // Removes the leaf with a key.

@@ -4,9 +4,8 @@ use art_tree::{Point, Tree, Visits};
 use art_walk::{IterMut, PrefixMut, RangeMut, SubtreeIterMut, TakeWalk, ValuesMut};
 use std::ops::Bound;
 use std::process::Abort;
-use std::test::Fail;
 
-fn four<const P: usize>(rt: &impl AllocGlobal) -> Result<Tree<&'static [u8], usize, P>, Fail> {
+fn four<const P: usize>(rt: &(impl Abort + AllocGlobal)) -> Tree<&'static [u8], usize, P> {
     tree_of(rt, &[b"abcdx", b"abcdy", b"abd", b"b"])
 }
 
@@ -93,43 +92,38 @@ fn related<const P: usize>(rt: &impl Abort, tree: &mut Tree<&'static [u8], usize
 }
 
 #[test]
-fn values_from_both_ends(rt: HostRuntime) -> Result<(), Fail> {
-    let mut tree = four::<0>(&rt)?;
+fn values_from_both_ends(rt: HostRuntime) {
+    let mut tree = four::<0>(&rt);
     values(&rt, &mut tree);
     assert_values(&rt, &tree, [Some(10), Some(1), Some(2), Some(13)]);
-    Ok(())
 }
 
 #[test]
-fn pairs_from_both_ends(rt: HostRuntime) -> Result<(), Fail> {
-    let mut tree = four::<2>(&rt)?;
+fn pairs_from_both_ends(rt: HostRuntime) {
+    let mut tree = four::<2>(&rt);
     pairs(&rt, &mut tree);
     assert_values(&rt, &tree, [Some(7), Some(1), Some(2), Some(13)]);
-    Ok(())
 }
 
 #[test]
-fn values_within_bounds(rt: HostRuntime) -> Result<(), Fail> {
-    let mut tree = four::<16>(&rt)?;
+fn values_within_bounds(rt: HostRuntime) {
+    let mut tree = four::<16>(&rt);
     within(&rt, &mut tree);
     assert_values(&rt, &tree, [Some(0), Some(11), Some(12), Some(13)]);
-    Ok(())
 }
 
 #[test]
-fn values_below_a_front(rt: HostRuntime) -> Result<(), Fail> {
-    let mut tree = four::<0>(&rt)?;
+fn values_below_a_front(rt: HostRuntime) {
+    let mut tree = four::<0>(&rt);
     below(&rt, &mut tree);
     assert_values(&rt, &tree, [Some(10), Some(11), Some(2), Some(3)]);
-    Ok(())
 }
 
 #[test]
-fn values_of_related_keys(rt: HostRuntime) -> Result<(), Fail> {
-    let mut tree = four::<2>(&rt)?;
+fn values_of_related_keys(rt: HostRuntime) {
+    let mut tree = four::<2>(&rt);
     related(&rt, &mut tree);
     assert_values(&rt, &tree, [Some(10), Some(11), Some(12), Some(3)]);
-    Ok(())
 }
 
 // The first pair is taken.
@@ -163,12 +157,11 @@ fn drop_undecided<const P: usize>(rt: &impl Abort, tree: &mut Tree<&'static [u8]
 }
 
 #[test]
-fn lent_and_taken(rt: HostRuntime) -> Result<(), Fail> {
-    let mut tree = four::<2>(&rt)?;
+fn lent_and_taken(rt: HostRuntime) {
+    let mut tree = four::<2>(&rt);
     take_first(&rt, &mut tree);
     keep_last(&rt, &mut tree);
     drop_undecided(&rt, &mut tree);
     assert_values(&rt, &tree, [None, Some(9), Some(2), Some(6)]);
     assert_eq!(rt; tree.len(), 3);
-    Ok(())
 }

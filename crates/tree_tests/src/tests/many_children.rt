@@ -4,30 +4,26 @@ use art_tree::{Tree, Visits};
 use std::fs;
 use std::fs::Files;
 use std::process::Abort;
-use std::test::Fail;
 
 // Adds the keys of two bytes whose first byte is this one, the second below a bound.
 fn add_below<const P: usize>(
+    rt: &impl Abort,
     tree: &mut Tree<[u8; 2], usize, P>,
     first: u8,
     bound: u8,
-) -> Result<(), Fail> {
+) {
     for second in 0..bound {
-        add(tree, [first, second], 0)?;
+        add(rt, tree, [first, second], 0);
     }
-    Ok(())
 }
 
 // A tree of the keys of two bytes whose first byte is below 49 and whose second is below a bound.
-fn square<const P: usize>(
-    rt: &impl AllocGlobal,
-    bound: u8,
-) -> Result<Tree<[u8; 2], usize, P>, Fail> {
+fn square<const P: usize>(rt: &(impl Abort + AllocGlobal), bound: u8) -> Tree<[u8; 2], usize, P> {
     let mut tree = Tree::new(rt.alloc());
     for first in 0..49 {
-        add_below(&mut tree, first, bound)?;
+        add_below(rt, &mut tree, first, bound);
     }
-    Ok(tree)
+    tree
 }
 
 // Removes the keys with this first byte whose second byte is 4 or more, and below 17.
@@ -49,22 +45,21 @@ fn assert_counts<const P: usize>(
     assert_eq!(rt; tree.children_at(&[], &mut Visits::new()), 49);
 }
 
-fn squares_at<const P: usize>(rt: &(impl Abort + AllocGlobal)) -> Result<(), Fail> {
-    assert_counts(rt, &square::<P>(rt, 49)?, (2401, 50, 49));
-    let mut tree = square::<P>(rt, 17)?;
+fn squares_at<const P: usize>(rt: &(impl Abort + AllocGlobal)) {
+    assert_counts(rt, &square::<P>(rt, 49), (2401, 50, 49));
+    let mut tree = square::<P>(rt, 17);
     assert_counts(rt, &tree, (833, 50, 17));
     for first in 0..49 {
         thin(&mut tree, first);
     }
     assert_counts(rt, &tree, (196, 50, 4));
-    Ok(())
 }
 
 #[test]
-fn squares(rt: HostRuntime) -> Result<(), Fail> {
-    squares_at::<0>(&rt)?;
-    squares_at::<2>(&rt)?;
-    squares_at::<16>(&rt)
+fn squares(rt: HostRuntime) {
+    squares_at::<0>(&rt);
+    squares_at::<2>(&rt);
+    squares_at::<16>(&rt);
 }
 
 // The number in a line.
@@ -91,13 +86,12 @@ fn peak(rt: &(impl Abort + AllocGlobal + Files)) -> u64 {
 
 // Room for a million pairs in an empty tree takes less than 600 MB.
 #[test]
-fn room_for_a_million(rt: HostRuntime) -> Result<(), Fail> {
+fn room_for_a_million(rt: HostRuntime) {
     let before = peak(&rt);
     let mut tree = Tree::<&[u8], u64, 16>::new(rt.alloc());
-    tree.reserve(1_000_000)?;
+    tree.reserve(1_000_000).expect(&rt, "memory");
     let taken = peak(&rt).saturating_sub(before);
     assert!(rt; taken < 600_000_000 / 1024);
-    add(&mut tree, b"key", 1)?;
+    add(&rt, &mut tree, b"key", 1);
     assert_eq!(rt; tree.len(), 1);
-    Ok(())
 }

@@ -2,9 +2,7 @@
 use super::{add, leaf_of};
 use art_tree::{Point, Tree};
 use art_walk::Iter;
-use std::alloc::Global;
 use std::process::Abort;
-use std::test::Fail;
 
 // A small generator of numbers.
 #[derive(Drop)]
@@ -22,16 +20,16 @@ impl Numbers {
     }
 
     // A key of one byte five times, and one to three more, all below 3.
-    fn key(&mut self, alloc: Global) -> Result<Vec<u8>, Fail> {
-        let mut key = Vec::new(alloc);
+    fn key(&mut self, rt: &(impl Abort + AllocGlobal)) -> Vec<u8> {
+        let mut key = Vec::new(rt.alloc());
         let start = (self.next() % 3) as u8;
         for _ in 0..5 {
-            key.push(start)?;
+            key.push(start).expect(rt, "memory");
         }
         for _ in 0..self.next() % 3 + 1 {
-            key.push((self.next() % 3) as u8)?;
+            key.push((self.next() % 3) as u8).expect(rt, "memory");
         }
-        Ok(key)
+        key
     }
 }
 
@@ -120,6 +118,13 @@ fn take_out<const P: usize>(
     assert!(rt; keys.remove(place).as_slice() == key);
 }
 
+// Puts a clone of a key into the list at a place.
+fn put_in(rt: &impl Abort, keys: &mut Vec<Vec<u8>>, place: usize, key: &Vec<u8>) {
+    assert!(rt; place <= keys.len());
+    let clone = key.clone().expect(rt, "memory");
+    keys.insert(place, clone).expect(rt, "memory");
+}
+
 // One step: a key that is stored is taken out, one that conflicts is left, and another is put in.
 fn step<const P: usize>(
     rt: &impl Abort,
@@ -127,7 +132,7 @@ fn step<const P: usize>(
     keys: &mut Vec<Vec<u8>>,
     key: Vec<u8>,
     value: u64,
-) -> Result<(), Fail> {
+) {
     let place = rank(keys, key.as_slice());
     let is_conflict = conflicts(keys, key.as_slice());
     match tree.point(key.as_slice()) {
@@ -135,30 +140,38 @@ fn step<const P: usize>(
         Point::Related { .. } => assert!(rt; is_conflict),
         Point::Empty | Point::Free(_) => {
             assert!(rt; !is_conflict);
-            assert!(rt; place <= keys.len());
-            keys.insert(place, key.clone()?)?;
-            add(tree, key, value)?;
+            put_in(rt, keys, place, &key);
+            add(rt, tree, key, value);
         }
     }
-    Ok(())
 }
 
-fn random_run<const P: usize>(rt: &(impl Abort + AllocGlobal)) -> Result<(), Fail> {
+// A step with the next key, after which the tree has the keys of the list.
+fn assert_step<const P: usize>(
+    rt: &(impl Abort + AllocGlobal),
+    numbers: &mut Numbers,
+    tree: &mut Tree<Vec<u8>, u64, P>,
+    keys: &mut Vec<Vec<u8>>,
+    value: u64,
+) {
+    let key = numbers.key(rt);
+    step(rt, tree, keys, key, value);
+    assert_same(rt, tree, keys);
+}
+
+fn random_run<const P: usize>(rt: &(impl Abort + AllocGlobal)) {
     let mut numbers = Numbers { state: 7 };
     let mut tree: Tree<Vec<u8>, u64, P> = Tree::new(rt.alloc());
     let mut keys: Vec<Vec<u8>> = Vec::new(rt.alloc());
     for value in 0..10000 {
-        let key = numbers.key(rt.alloc())?;
-        step(rt, &mut tree, &mut keys, key, value)?;
-        assert_same(rt, &tree, &keys);
+        assert_step(rt, &mut numbers, &mut tree, &mut keys, value);
     }
     assert!(rt; keys.len() > 10);
-    Ok(())
 }
 
 #[test]
-fn random_runs(rt: HostRuntime) -> Result<(), Fail> {
-    random_run::<0>(&rt)?;
-    random_run::<2>(&rt)?;
-    random_run::<16>(&rt)
+fn random_runs(rt: HostRuntime) {
+    random_run::<0>(&rt);
+    random_run::<2>(&rt);
+    random_run::<16>(&rt);
 }

@@ -1,88 +1,100 @@
 //! The ends of what is within bounds, and of what begins with some bytes.
-use super::{leaf_if, tree_of};
+use super::{LONG, leaf_if, tree_of};
 use art_tree::{Tree, Visits};
 use std::ops::Bound;
 use std::process::Abort;
-use std::test::Fail;
 
-// A bound, whether it is a start, and the key of the leaf that is the first within it, or the last.
-type Sought<'a> = (Bound<&'a [u8]>, bool, Option<&'a [u8]>);
-
-fn assert_sought<const P: usize>(
+// The first leaf within a start has this key.
+fn assert_first<const P: usize>(
     rt: &impl Abort,
     tree: &Tree<&[u8], usize, P>,
-    table: &[Sought<'_>],
+    start: Bound<&[u8]>,
+    key: Option<&[u8]>,
 ) {
-    for (place, (bound, is_start, want)) in table.iter().enumerate() {
-        let got = tree.seek(*bound, *is_start, &mut Visits::new());
-        assert!(rt; got == leaf_if(rt, tree, *want), "at {place}");
-    }
+    let got = tree.seek(start, true, &mut Visits::new());
+    assert!(rt; got == leaf_if(rt, tree, key));
 }
 
-fn seeks<const P: usize>(rt: &(impl Abort + AllocGlobal)) -> Result<(), Fail> {
-    let tree = tree_of::<P>(rt, &[b"\x01", b"\x02\x01", b"\x02\x02", b"\x03"])?;
-    assert_sought(
-        rt,
-        &tree,
-        &[
-            (Bound::Excluded(b"\x02"), true, Some(b"\x02\x01")),
-            (Bound::Included(b"\x00"), true, Some(b"\x01")),
-            (Bound::Included(b"\x00\x05"), false, None),
-            (Bound::Excluded(b"\x02\x01"), true, Some(b"\x02\x02")),
-            (Bound::Excluded(b"\x02\x02"), false, Some(b"\x02\x01")),
-            (Bound::Included(b"\x02\x02"), false, Some(b"\x02\x02")),
-            (Bound::Excluded(b"\x03"), true, None),
-            (Bound::Excluded(b"\x01"), false, None),
-            (Bound::Unbounded, true, Some(b"\x01")),
-            (Bound::Unbounded, false, Some(b"\x03")),
-        ],
-    );
-    let empty = tree_of::<P>(rt, &[])?;
-    assert_sought(
-        rt,
-        &empty,
-        &[
-            (Bound::Unbounded, true, None),
-            (Bound::Included(b"\x01"), false, None),
-        ],
-    );
-    Ok(())
+// The last leaf within an end has this key.
+fn assert_last<const P: usize>(
+    rt: &impl Abort,
+    tree: &Tree<&[u8], usize, P>,
+    end: Bound<&[u8]>,
+    key: Option<&[u8]>,
+) {
+    let got = tree.seek(end, false, &mut Visits::new());
+    assert!(rt; got == leaf_if(rt, tree, key));
+}
+
+const FOUR: [&[u8]; 4] = [b"\x01", b"\x02\x01", b"\x02\x02", b"\x03"];
+
+fn starts<const P: usize>(rt: &(impl Abort + AllocGlobal)) {
+    let tree = tree_of::<P>(rt, &FOUR);
+    assert_first(rt, &tree, Bound::Excluded(b"\x02"), Some(b"\x02\x01"));
+    assert_first(rt, &tree, Bound::Included(b"\x00"), Some(b"\x01"));
+    assert_first(rt, &tree, Bound::Excluded(b"\x02\x01"), Some(b"\x02\x02"));
+    assert_first(rt, &tree, Bound::Excluded(b"\x03"), None);
+    assert_first(rt, &tree, Bound::Unbounded, Some(b"\x01"));
+}
+
+fn ends<const P: usize>(rt: &(impl Abort + AllocGlobal)) {
+    let tree = tree_of::<P>(rt, &FOUR);
+    assert_last(rt, &tree, Bound::Included(b"\x00\x05"), None);
+    assert_last(rt, &tree, Bound::Excluded(b"\x02\x02"), Some(b"\x02\x01"));
+    assert_last(rt, &tree, Bound::Included(b"\x02\x02"), Some(b"\x02\x02"));
+    assert_last(rt, &tree, Bound::Excluded(b"\x01"), None);
+    assert_last(rt, &tree, Bound::Unbounded, Some(b"\x03"));
+}
+
+fn none_within<const P: usize>(rt: &(impl Abort + AllocGlobal)) {
+    let tree = tree_of::<P>(rt, &[]);
+    assert_first(rt, &tree, Bound::Unbounded, None);
+    assert_last(rt, &tree, Bound::Included(b"\x01"), None);
 }
 
 // Bounds that end or leave the keys within a long front.
-fn seeks_in_long_fronts<const P: usize>(rt: &(impl Abort + AllocGlobal)) -> Result<(), Fail> {
-    let (mut one, mut two, mut other) = ([0u8; 41], [0u8; 41], [0u8; 40]);
-    one[40] = 1;
-    two[40] = 2;
+fn within_a_long_front<const P: usize>(
+    rt: &(impl Abort + AllocGlobal),
+    one: &[u8],
+    two: &[u8],
+    other: &[u8],
+) {
+    let tree = tree_of::<P>(rt, &[one, two]);
+    assert_first(rt, &tree, Bound::Included(&[0; 30]), Some(one));
+    assert_last(rt, &tree, Bound::Included(&[0; 30]), None);
+    assert_first(rt, &tree, Bound::Excluded(other), None);
+    assert_last(rt, &tree, Bound::Excluded(other), Some(two));
+    assert_last(rt, &tree, Bound::Included(one), Some(one));
+}
+
+#[test]
+fn ends_within_starts(rt: HostRuntime) {
+    starts::<0>(&rt);
+    starts::<2>(&rt);
+    starts::<16>(&rt);
+}
+
+#[test]
+fn ends_within_ends(rt: HostRuntime) {
+    ends::<0>(&rt);
+    ends::<2>(&rt);
+    ends::<16>(&rt);
+}
+
+#[test]
+fn ends_of_nothing(rt: HostRuntime) {
+    none_within::<0>(&rt);
+    none_within::<2>(&rt);
+    none_within::<16>(&rt);
+}
+
+#[test]
+fn ends_in_long_fronts(rt: HostRuntime) {
+    let mut other = [0u8; 40];
     other[20] = 1;
-    let short: &[u8] = &[0; 30];
-    let tree = tree_of::<P>(rt, &[&one, &two])?;
-    assert_sought(
-        rt,
-        &tree,
-        &[
-            (Bound::Included(short), true, Some(&one)),
-            (Bound::Included(short), false, None),
-            (Bound::Excluded(&other), true, None),
-            (Bound::Excluded(&other), false, Some(&two)),
-            (Bound::Included(&one), false, Some(&one)),
-        ],
-    );
-    Ok(())
-}
-
-#[test]
-fn ends_within_bounds(rt: HostRuntime) -> Result<(), Fail> {
-    seeks::<0>(&rt)?;
-    seeks::<2>(&rt)?;
-    seeks::<16>(&rt)
-}
-
-#[test]
-fn ends_in_long_fronts(rt: HostRuntime) -> Result<(), Fail> {
-    seeks_in_long_fronts::<0>(&rt)?;
-    seeks_in_long_fronts::<2>(&rt)?;
-    seeks_in_long_fronts::<16>(&rt)
+    within_a_long_front::<0>(&rt, LONG[0], LONG[1], &other);
+    within_a_long_front::<2>(&rt, LONG[0], LONG[1], &other);
+    within_a_long_front::<16>(&rt, LONG[0], LONG[1], &other);
 }
 
 // The keys of the first and the last leaf that begin with some bytes.
@@ -101,21 +113,18 @@ fn assert_span<const P: usize>(
     assert!(rt; to == leaf_if(rt, tree, last));
 }
 
-fn spans<const P: usize>(rt: &(impl Abort + AllocGlobal)) -> Result<(), Fail> {
-    let tree = tree_of::<P>(rt, &[b"\x01", b"\x02\x01", b"\x02\x02", b"\x03"])?;
-    let (least, low): (&[u8], &[u8]) = (b"\x01", b"\x02\x01");
-    let (high, greatest): (&[u8], &[u8]) = (b"\x02\x02", b"\x03");
-    assert_span(rt, &tree, b"", Some(least), Some(greatest));
-    assert_span(rt, &tree, b"\x02", Some(low), Some(high));
-    assert_span(rt, &tree, b"\x02\x01", Some(low), Some(low));
+fn spans<const P: usize>(rt: &(impl Abort + AllocGlobal)) {
+    let tree = tree_of::<P>(rt, &FOUR);
+    assert_span(rt, &tree, b"", Some(FOUR[0]), Some(FOUR[3]));
+    assert_span(rt, &tree, b"\x02", Some(FOUR[1]), Some(FOUR[2]));
+    assert_span(rt, &tree, b"\x02\x01", Some(FOUR[1]), Some(FOUR[1]));
     assert_span(rt, &tree, b"\x02\x01\x00", None, None);
     assert_span(rt, &tree, b"\x80", None, None);
-    Ok(())
 }
 
 #[test]
-fn ends_below_some_bytes(rt: HostRuntime) -> Result<(), Fail> {
-    spans::<0>(&rt)?;
-    spans::<2>(&rt)?;
-    spans::<16>(&rt)
+fn ends_below_some_bytes(rt: HostRuntime) {
+    spans::<0>(&rt);
+    spans::<2>(&rt);
+    spans::<16>(&rt);
 }

@@ -7,7 +7,6 @@ use art_walk::{Cursor, Iter, Keys, Prefix, Range, SubtreeIter, Values};
 use std::iter::{DoubleEndedIterator, Iterator};
 use std::ops::Bound;
 use std::process::Abort;
-use std::test::Fail;
 
 static NINE: [&[u8]; 9] = [
     &[114, 159, 30],
@@ -36,22 +35,37 @@ const STEPS: [(bool, Option<usize>); 11] = [
     (false, None),
 ];
 
-fn pairs<const P: usize>(rt: &(impl Abort + AllocGlobal)) -> Result<(), Fail> {
-    let tree = tree_of::<P>(rt, &NINE)?;
-    let mut walk = Iter::new(&tree);
-    let mut left = 9usize;
-    for (is_back, want) in STEPS {
-        assert_eq!(rt; walk.len(), left);
-        assert_eq!(rt; walk.size_hint(), (left, Some(left)));
-        let got = if is_back {
-            walk.next_back()
-        } else {
-            walk.next()
-        };
-        assert_eq!(rt; value_of(got), want);
-        left = left.saturating_sub(1);
+// So much is left of a walk.
+fn assert_left(rt: &impl Abort, len: usize, hint: (usize, Option<usize>), left: usize) {
+    assert_eq!(rt; len, left);
+    assert_eq!(rt; hint, (left, Some(left)));
+}
+
+// The value that a walk over pairs gives, from the back or from the front.
+fn value_in_pair<const P: usize>(
+    walk: &mut Iter<'_, &'static [u8], usize, P>,
+    is_back: bool,
+) -> Option<usize> {
+    if is_back {
+        value_of(walk.next_back())
+    } else {
+        value_of(walk.next())
     }
-    Ok(())
+}
+
+fn pairs<const P: usize>(rt: &(impl Abort + AllocGlobal)) {
+    let tree = tree_of::<P>(rt, &NINE);
+    let mut walk = Iter::new(&tree);
+    for place in 0..STEPS.len() {
+        let (is_back, want) = STEPS[place];
+        assert_left(
+            rt,
+            walk.len(),
+            walk.size_hint(),
+            9usize.saturating_sub(place),
+        );
+        assert_eq!(rt; value_in_pair(&mut walk, is_back), want);
+    }
 }
 
 // The key of a place, if one is named.
@@ -62,76 +76,84 @@ fn key_at(place: Option<usize>) -> Option<&'static &'static [u8]> {
     }
 }
 
-fn keys<const P: usize>(rt: &(impl Abort + AllocGlobal)) -> Result<(), Fail> {
-    let tree = tree_of::<P>(rt, &NINE)?;
-    let mut walk = Keys::new(&tree);
-    let mut left = 9usize;
-    for (is_back, want) in STEPS {
-        assert_eq!(rt; walk.len(), left);
-        assert_eq!(rt; walk.size_hint(), (left, Some(left)));
-        let got = if is_back {
-            walk.next_back()
-        } else {
-            walk.next()
-        };
-        assert_eq!(rt; got, key_at(want));
-        left = left.saturating_sub(1);
+// The key that a walk over keys gives, from the back or from the front.
+fn key_of<'a, const P: usize>(
+    walk: &mut Keys<'a, &'static [u8], usize, P>,
+    is_back: bool,
+) -> Option<&'a &'static [u8]> {
+    if is_back {
+        walk.next_back()
+    } else {
+        walk.next()
     }
-    Ok(())
 }
 
-fn values<const P: usize>(rt: &(impl Abort + AllocGlobal)) -> Result<(), Fail> {
-    let tree = tree_of::<P>(rt, &NINE)?;
-    let mut walk = Values::new(&tree);
-    let mut left = 9usize;
-    for (is_back, want) in STEPS {
-        assert_eq!(rt; walk.len(), left);
-        assert_eq!(rt; walk.size_hint(), (left, Some(left)));
-        let got = if is_back {
-            walk.next_back()
-        } else {
-            walk.next()
-        };
-        assert_eq!(rt; got.copied(), want);
-        left = left.saturating_sub(1);
+fn keys<const P: usize>(rt: &(impl Abort + AllocGlobal)) {
+    let tree = tree_of::<P>(rt, &NINE);
+    let mut walk = Keys::new(&tree);
+    for place in 0..STEPS.len() {
+        let (is_back, want) = STEPS[place];
+        assert_left(
+            rt,
+            walk.len(),
+            walk.size_hint(),
+            9usize.saturating_sub(place),
+        );
+        assert_eq!(rt; key_of(&mut walk, is_back), key_at(want));
     }
-    Ok(())
+}
+
+// The value that a walk over values gives, from the back or from the front.
+fn value_from<const P: usize>(
+    walk: &mut Values<'_, &'static [u8], usize, P>,
+    is_back: bool,
+) -> Option<usize> {
+    if is_back {
+        walk.next_back().copied()
+    } else {
+        walk.next().copied()
+    }
+}
+
+fn values<const P: usize>(rt: &(impl Abort + AllocGlobal)) {
+    let tree = tree_of::<P>(rt, &NINE);
+    let mut walk = Values::new(&tree);
+    for place in 0..STEPS.len() {
+        let (is_back, want) = STEPS[place];
+        assert_left(
+            rt,
+            walk.len(),
+            walk.size_hint(),
+            9usize.saturating_sub(place),
+        );
+        assert_eq!(rt; value_from(&mut walk, is_back), want);
+    }
 }
 
 #[test]
-fn all_from_both_ends(rt: HostRuntime) -> Result<(), Fail> {
-    pairs::<0>(&rt)?;
-    pairs::<2>(&rt)?;
-    keys::<0>(&rt)?;
-    keys::<16>(&rt)?;
-    values::<2>(&rt)?;
-    values::<16>(&rt)
+fn all_from_both_ends(rt: HostRuntime) {
+    pairs::<0>(&rt);
+    pairs::<2>(&rt);
+    keys::<0>(&rt);
+    keys::<16>(&rt);
+    values::<2>(&rt);
+    values::<16>(&rt);
 }
 
-fn four<const P: usize>(rt: &impl AllocGlobal) -> Result<Tree<&'static [u8], usize, P>, Fail> {
+fn four<const P: usize>(rt: &(impl Abort + AllocGlobal)) -> Tree<&'static [u8], usize, P> {
     tree_of(rt, &[b"abcdx", b"abcdy", b"abd", b"b"])
 }
 
 // Below "abc" stand the first two, from both ends.
-fn below<const P: usize>(rt: &(impl Abort + AllocGlobal)) -> Result<(), Fail> {
-    let tree = four::<P>(rt)?;
+fn below<const P: usize>(rt: &(impl Abort + AllocGlobal)) {
+    let tree = four::<P>(rt);
     let mut walk = Prefix::new(&tree, b"abc", &mut Visits::new());
-    for (is_back, want) in [
-        (true, Some(1)),
-        (false, Some(0)),
-        (false, None),
-        (true, None),
-    ] {
-        let got = if is_back {
-            walk.next_back()
-        } else {
-            walk.next()
-        };
-        assert_eq!(rt; value_of(got), want);
-    }
+    assert_eq!(rt; value_of(walk.next_back()), Some(1));
+    assert_eq!(rt; value_of(walk.next()), Some(0));
+    assert_eq!(rt; value_of(walk.next()), None);
+    assert_eq!(rt; value_of(walk.next_back()), None);
     let mut walk = Prefix::new(&tree, b"abcdxx", &mut Visits::new());
-    assert!(rt; walk.next().is_none());
-    Ok(())
+    assert_eq!(rt; value_of(walk.next()), None);
 }
 
 // The pairs behind some bytes.
@@ -160,27 +182,26 @@ fn up_to<'a, const P: usize>(
     )
 }
 
-// Behind "abcdx" stand the other three, and up to "abd" the first three.
-fn within<const P: usize>(rt: &(impl Abort + AllocGlobal)) -> Result<(), Fail> {
-    let tree = four::<P>(rt)?;
+// Behind "abcdx" stand the other three.
+fn assert_behind_first<const P: usize>(rt: &(impl Abort + AllocGlobal)) {
+    let tree = four::<P>(rt);
     let mut walk = behind(&tree, b"abcdx");
-    let mut other = up_to(&tree, b"abd");
-    for (is_back, want, other_want) in [
-        (false, Some(1), Some(0)),
-        (true, Some(3), Some(2)),
-        (true, Some(2), Some(1)),
-        (false, None, None),
-        (true, None, None),
-    ] {
-        let (got, other_got) = if is_back {
-            (walk.next_back(), other.next_back())
-        } else {
-            (walk.next(), other.next())
-        };
-        assert_eq!(rt; value_of(got), want);
-        assert_eq!(rt; value_of(other_got), other_want);
-    }
-    Ok(())
+    assert_eq!(rt; value_of(walk.next()), Some(1));
+    assert_eq!(rt; value_of(walk.next_back()), Some(3));
+    assert_eq!(rt; value_of(walk.next_back()), Some(2));
+    assert_eq!(rt; value_of(walk.next()), None);
+    assert_eq!(rt; value_of(walk.next_back()), None);
+}
+
+// Up to "abd" stand the first three.
+fn assert_up_to_third<const P: usize>(rt: &(impl Abort + AllocGlobal)) {
+    let tree = four::<P>(rt);
+    let mut walk = up_to(&tree, b"abd");
+    assert_eq!(rt; value_of(walk.next()), Some(0));
+    assert_eq!(rt; value_of(walk.next_back()), Some(2));
+    assert_eq!(rt; value_of(walk.next_back()), Some(1));
+    assert_eq!(rt; value_of(walk.next()), None);
+    assert_eq!(rt; value_of(walk.next_back()), None);
 }
 
 // The pairs whose keys conflict with some bytes.
@@ -197,34 +218,26 @@ fn conflicting<'a, const P: usize>(
 }
 
 // The first three conflict with "ab".
-fn related<const P: usize>(rt: &(impl Abort + AllocGlobal)) -> Result<(), Fail> {
-    let tree = four::<P>(rt)?;
+fn related<const P: usize>(rt: &(impl Abort + AllocGlobal)) {
+    let tree = four::<P>(rt);
     let mut walk = conflicting(&tree, b"ab").expect(rt, "keys that conflict");
-    for (is_back, want) in [
-        (false, Some(0)),
-        (true, Some(2)),
-        (true, Some(1)),
-        (false, None),
-    ] {
-        let got = if is_back {
-            walk.next_back()
-        } else {
-            walk.next()
-        };
-        assert_eq!(rt; value_of(got), want);
-    }
+    assert_eq!(rt; value_of(walk.next()), Some(0));
+    assert_eq!(rt; value_of(walk.next_back()), Some(2));
+    assert_eq!(rt; value_of(walk.next_back()), Some(1));
+    assert_eq!(rt; value_of(walk.next()), None);
     assert!(rt; conflicting(&tree, b"abd").is_none());
-    Ok(())
 }
 
 #[test]
-fn parts_from_both_ends(rt: HostRuntime) -> Result<(), Fail> {
-    below::<0>(&rt)?;
-    below::<16>(&rt)?;
-    within::<2>(&rt)?;
-    within::<16>(&rt)?;
-    related::<0>(&rt)?;
-    related::<2>(&rt)
+fn parts_from_both_ends(rt: HostRuntime) {
+    below::<0>(&rt);
+    below::<16>(&rt);
+    assert_behind_first::<2>(&rt);
+    assert_behind_first::<16>(&rt);
+    assert_up_to_third::<2>(&rt);
+    assert_up_to_third::<16>(&rt);
+    related::<0>(&rt);
+    related::<2>(&rt);
 }
 
 // A step from the front, or from the back, gives the leaf of this key.
@@ -248,14 +261,13 @@ fn assert_step<const P: usize>(
 
 // "abcdx" comes first and "b" last, and then none.
 #[test]
-fn a_cursor_steps(rt: HostRuntime) -> Result<(), Fail> {
-    let tree = tree_of::<2>(&rt, &[b"abcdx", b"b"])?;
+fn a_cursor_steps(rt: HostRuntime) {
+    let tree = tree_of::<2>(&rt, &[b"abcdx", b"b"]);
     let mut cursor = Cursor::all(&tree);
     assert_step(&rt, &tree, &mut cursor, false, Some(b"abcdx"));
     assert_step(&rt, &tree, &mut cursor, true, Some(b"b"));
     assert_step(&rt, &tree, &mut cursor, false, None);
     assert_step(&rt, &tree, &mut cursor, true, None);
-    Ok(())
 }
 
 // The value that a step from the front over the leaves alone gives.
@@ -319,23 +331,21 @@ fn assert_behind<const P: usize>(
 }
 
 #[test]
-fn a_cursor_gives_pairs(rt: HostRuntime) -> Result<(), Fail> {
-    let tree = tree_of::<2>(&rt, &[b"abcdx", b"abcdy", b"b"])?;
+fn a_cursor_gives_pairs(rt: HostRuntime) {
+    let tree = tree_of::<2>(&rt, &[b"abcdx", b"abcdy", b"b"]);
     assert_below(&rt, &tree, b"abc", (Some(0), Some(1)));
     assert_below(&rt, &tree, b"abcdxx", (None, None));
     assert_behind(&rt, &tree, b"abcdx", (Some(1), Some(2)));
     assert_behind(&rt, &tree, b"b", (None, None));
-    Ok(())
 }
 
 // All pairs in a loop: "a" is the second key, "b" the first, "cd" the third.
 #[test]
-fn a_walk_in_a_loop(rt: HostRuntime) -> Result<(), Fail> {
-    let tree = tree_of::<0>(&rt, &[b"b", b"a", b"cd"])?;
+fn a_walk_in_a_loop(rt: HostRuntime) {
+    let tree = tree_of::<0>(&rt, &[b"b", b"a", b"cd"]);
     let mut seen = 0usize;
     for (_, value) in Iter::new(&tree) {
         seen = seen.wrapping_mul(10).wrapping_add(*value);
     }
     assert_eq!(rt; seen, 102);
-    Ok(())
 }
