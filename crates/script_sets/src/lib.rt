@@ -8,6 +8,7 @@ mod comparisons;
 mod look_ups;
 mod names;
 mod operators;
+mod picking;
 mod sets;
 mod walks;
 

@@ -33,6 +33,8 @@ pub enum SetName {
     IsDisjoint,
     IsSubset,
     IsSuperset,
+    Retain,
+    ExtractIf,
     SplitOff,
     MakeClone,
     Append,
@@ -53,7 +55,7 @@ pub enum SetName {
 }
 
 // The word that names each call.
-const NAMES: [(&str, SetName); 47] = [
+const NAMES: [(&str, SetName); 49] = [
     ("new", SetName::New),
     ("clear", SetName::Clear),
     ("swap", SetName::Swap),
@@ -84,6 +86,8 @@ const NAMES: [(&str, SetName); 47] = [
     ("is_disjoint", SetName::IsDisjoint),
     ("is_subset", SetName::IsSubset),
     ("is_superset", SetName::IsSuperset),
+    ("retain", SetName::Retain),
+    ("extract_if", SetName::ExtractIf),
     ("split_off", SetName::SplitOff),
     ("clone", SetName::MakeClone),
     ("append", SetName::Append),

@@ -37,6 +37,7 @@ impl<K: ScriptKey + OrderedBytes, const PREFIX_LEN: usize> Sets<K, PREFIX_LEN> {
             SetName::PopFirst | SetName::PopLast => self.pop(name, words, text),
             SetName::Remove | SetName::Take => self.remove(name, words, text),
             SetName::TryInsert | SetName::PrefixInsert => self.place(name, words, text),
+            SetName::Retain | SetName::ExtractIf => self.pick(name, words, text),
             SetName::IntoIter => self.into_elements(words, text),
             SetName::SplitOff => self.split_off(words, text),
             _ => self.look_up(name, words, text),
