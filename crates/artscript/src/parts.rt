@@ -6,7 +6,6 @@ use script_words::{Answered, Text, Unanswered, Words};
 use std::alloc::Global;
 
 /// The maps and the sets whose keys are lists of bytes.
-#[derive(Drop)]
 pub(crate) struct BytesPart<const PREFIX_LEN: usize> {
     maps: Maps<Vec<u8>, PREFIX_LEN>,
     sets: Sets<Vec<u8>, PREFIX_LEN>,
@@ -25,6 +24,13 @@ impl<const PREFIX_LEN: usize> BytesPart<PREFIX_LEN> {
     pub(crate) fn restart(&mut self) {
         self.maps.restart();
         self.sets.restart();
+    }
+
+    /// Lets the maps and the sets go.
+    pub(crate) fn discard(self) {
+        let BytesPart { maps, sets } = self;
+        maps.discard();
+        sets.discard();
     }
 
     /// Makes the call that the words are, and adds its answer.
@@ -56,7 +62,6 @@ impl<const PREFIX_LEN: usize> BytesPart<PREFIX_LEN> {
 }
 
 /// The maps and the sets whose keys are three bytes.
-#[derive(Drop)]
 pub(crate) struct ThreePart<const PREFIX_LEN: usize> {
     maps: Maps<[u8; 3], PREFIX_LEN>,
     sets: Sets<[u8; 3], PREFIX_LEN>,
@@ -75,6 +80,13 @@ impl<const PREFIX_LEN: usize> ThreePart<PREFIX_LEN> {
     pub(crate) fn restart(&mut self) {
         self.maps.restart();
         self.sets.restart();
+    }
+
+    /// Lets the maps and the sets go.
+    pub(crate) fn discard(self) {
+        let ThreePart { maps, sets } = self;
+        maps.discard();
+        sets.discard();
     }
 
     /// Makes the call that the words are, and adds its answer.

@@ -21,11 +21,12 @@ fn reply_from_start<const PREFIX_LEN: usize>(
     text: &mut Text,
 ) -> Result<(), AllocError> {
     let mut session = Session::<PREFIX_LEN>::new(alloc);
-    session.reply_all(alloc, script, text)
+    let replied = session.reply_all(alloc, script, text);
+    session.discard();
+    replied
 }
 
 // The maps and the sets of a script, and whether those of three bytes are the ones that calls are of.
-#[derive(Drop)]
 struct Session<const PREFIX_LEN: usize> {
     of_three: bool,
     bytes: BytesPart<PREFIX_LEN>,
@@ -40,6 +41,17 @@ impl<const PREFIX_LEN: usize> Session<PREFIX_LEN> {
             bytes: BytesPart::new(alloc),
             three: ThreePart::new(alloc),
         }
+    }
+
+    // Lets the maps and the sets go.
+    fn discard(self) {
+        let Session {
+            of_three: _,
+            bytes,
+            three,
+        } = self;
+        bytes.discard();
+        three.discard();
     }
 
     // Adds what stands for each line of the script.

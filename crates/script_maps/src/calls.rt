@@ -30,6 +30,9 @@ impl<K: ScriptKey, const PREFIX_LEN: usize> Maps<K, PREFIX_LEN> {
         self.second = TreeMap::with_prefix_len(self.alloc);
     }
 
+    /// Lets both maps go.
+    pub fn discard(self) {}
+
     /// Makes the call of this name with these words behind it, and adds its answer.
     pub(crate) fn call(&mut self, name: Name, words: Words<'_>, text: &mut Text) -> Answered {
         match name {

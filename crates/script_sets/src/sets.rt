@@ -30,6 +30,9 @@ impl<K: ScriptKey + OrderedBytes, const PREFIX_LEN: usize> Sets<K, PREFIX_LEN> {
         self.second = TreeSet::with_prefix_len(self.alloc);
     }
 
+    /// Lets both sets go.
+    pub fn discard(self) {}
+
     /// Makes the call of this name with these words behind it, and adds its answer.
     pub(crate) fn call(&mut self, name: SetName, words: Words<'_>, text: &mut Text) -> Answered {
         match name {
