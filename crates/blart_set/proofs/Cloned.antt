@@ -1,8 +1,8 @@
 -- Clones of elements that ascend, put one behind the other.
-use Rattle.std.proofs.Common.{◌≡◌, ◌≢◌, ℕ, true, false, inl, inr, List, [], ◌∷◌, ◌++◌, map, Option, Some, None, refl, sym, ap, ◌∙◌, subst, Contains, append_assoc, append-nil}
+use Rattle.std.proofs.Common.{◌≡◌, ◌≢◌, ℕ, true, inl, inr, List, [], ◌∷◌, ◌++◌, map, Some, refl, sym, ap, ◌∙◌, subst, append_assoc, append-nil}
 use denote.Ref.{Bor}
 use Rattle.std.proofs.lemmas.Bool.{false≢true}
-use Rattle.std.specs.Iterator.{Drains, Yields, YieldsFirstRef}
+use Rattle.std.specs.Iterator.{Drains, YieldsFirstRef}
 use Rattle.std.specs.List.{AllByRecursion, AllZip}
 use Rattle.std.specs.Prelude.{Result, Ok, Err, MatchResult, IfOk, OnErr}
 use Rattle.blart_keys.specs.Bulk.{PutsAll}
@@ -11,8 +11,8 @@ use Rattle.blart_keys.specs.Content.{Ascends, IsPut}
 use Rattle.blart_keys.proofs.MergeLemmas.{Lower, same_ascending}
 use Rattle.blart_keys.proofs.PartLemmas.{less-irrefl}
 use Rattle.blart_keys.proofs.PutLemmas.{put_member, member_put}
-use Rattle.blart_keys.proofs.RankLemmas.{Member, each_member, from_each_member, Contains-from_Member, Member-from_Contains, Member-append_left, Member-append_right, Member-append_cases, Ranked, Ranked-from_AllPairs, AllPairs-from_Ranked, Ranked-left, Ranked-right, Ranked-across}
-use Rattle.blart_set.specs.Clones.{KeepsBytes, AreElementClones, MakesClones}
+use Rattle.blart_keys.proofs.RankLemmas.{Member, Contains-from_Member, Member-from_Contains, Member-append_left, Member-append_right, Member-append_cases, Ranked, Ranked-from_AllPairs, AllPairs-from_Ranked, Ranked-left, Ranked-across}
+use Rattle.blart_set.specs.Clones.{KeepsBytes, AreElementClones}
 
 -- what is behind a reference
 abbrev pub now : {A : Type 0} → Bor A → A

@@ -1,5 +1,5 @@
 -- Comparisons of the pairs of two maps of units, which are those of their keys.
-use Rattle.std.proofs.Common.{◌≡◌, ℕ, ◌&&◌, Bool, true, false, List, [], ◌∷◌, ◌++◌, map, length, refl, sym, ap, ◌∙◌, subst, Option, Some, None, Ordering, Less, Equal, Greater, append-nil}
+use Rattle.std.proofs.Common.{◌≡◌, ℕ, ◌&&◌, Bool, true, false, List, [], ◌∷◌, ◌++◌, map, length, refl, sym, ap, ◌∙◌, Option, Some, None, Ordering, Less, Equal, Greater, append-nil}
 use Rattle.std.proofs.lemmas.List.{length-map}
 use Rattle.std.specs.Cmp.Lexicographic.{pointwise, slice_cmp, slice_partial_cmp}
 use Rattle.std.specs.Ordering.{ordering_then, partial_ordering_then}

@@ -2,12 +2,12 @@
 use Rattle.std.proofs.Common.{◌≡◌, ◌≢◌, ℕ, false, inl, inr, List, [], ◌∷◌, ◌++◌, map, refl, sym, ap, ◌∙◌, subst, Contains, bytes_eq}
 use Rattle.std.specs.List.{AllByRecursion}
 use Rattle.std.proofs.lemmas.List.{map-append}
-use Rattle.std.specs.Prelude.{Result, Ok, Err, OnOk, OnErr, IfOk}
+use Rattle.std.specs.Prelude.{Result, Ok, Err, OnOk, OnErr}
 use Rattle.std.specs.declared.ops.Bound.{Bound}
-use Rattle.blart_keys.specs.Content.{Ascends, stores, between, IsContent}
+use Rattle.blart_keys.specs.Content.{stores, between, IsContent}
 use Rattle.blart_keys.specs.Merges.{IsUnion}
 use Rattle.blart_keys.specs.Steps.{bytes}
-use Rattle.blart_keys.proofs.RankLemmas.{Member, Contains-from_Member, Member-from_Contains, Ranked, Ranked-from_AllPairs, AllPairs-from_Ranked}
+use Rattle.blart_keys.proofs.RankLemmas.{Contains-from_Member, Member-from_Contains, Ranked, Ranked-from_AllPairs, AllPairs-from_Ranked}
 use Rattle.blart_keys.proofs.ContentLemmas.{Before, Ranked-from_content, content_from_Ranked}
 use Rattle.blart_keys.proofs.MergeLemmas.{Lower}
 use Rattle.blart_keys.proofs.Mapped.{Member-map, Member-from_map, list_any-map}

@@ -1,7 +1,7 @@
 -- A key of which none is a proper front conflicts with no stored key.
-use Rattle.std.proofs.Common.{◌≡◌, ℕ, Bool, true, false, not, List, [], ◌∷◌, refl, sym, ap, ◌∙◌, subst, Some, None, inl, inr, Option}
+use Rattle.std.proofs.Common.{◌≡◌, ℕ, Bool, true, false, List, [], ◌∷◌, refl, sym, ◌∙◌, subst, Some, None, inl, inr}
 use Rattle.std.proofs.lemmas.Bool.{false≢true, false_from_ne_true, or_cases}
-use Rattle.blart_keys.specs.Bytes.{begins, related}
+use Rattle.blart_keys.specs.Bytes.{begins}
 use Rattle.blart_keys.specs.Content.{conflict, front_of, under, IsContent}
 use Rattle.blart_keys.specs.Keys.{NoFronts}
 use Rattle.blart_keys.specs.Steps.{bytes}

@@ -1,15 +1,15 @@
 -- The merged list of two that ascend is their union, or their symmetric difference.
-use Rattle.std.proofs.Common.{◌≡◌, ℕ, Bool, true, false, ◌⊎◌, ◌↔◌, ◌||◌, inl, inr, List, [], ◌∷◌, refl, sym, ap, ◌∙◌, subst, Contains, bytes_eq, Ordering, Less, Equal, Greater}
+use Rattle.std.proofs.Common.{◌≡◌, ℕ, Bool, true, false, ◌⊎◌, ◌↔◌, ◌||◌, inl, inr, List, [], ◌∷◌, refl, sym, ap, ◌∙◌, subst, bytes_eq, Ordering, Less, Equal, Greater}
 use Rattle.std.specs.Prelude.{⊤}
 use Rattle.std.specs.Set.{sorted_merge}
 use Rattle.std.specs.Cmp.Lexicographic.{bytes_decides}
-use Rattle.std.proofs.lemmas.Bool.{false≢true, or_left, or_parts, cases_Bool}
+use Rattle.std.proofs.lemmas.Bool.{false≢true, or_left, or_parts}
 use Rattle.blart_keys.specs.Bytes.{bytes_cmp}
 use Rattle.blart_keys.specs.Content.{Ascends, stores}
 use Rattle.blart_keys.specs.Merges.{IsUnion, IsSymmetricDifference}
 use Rattle.blart_keys.proofs.RankLemmas.{Member, each_member, from_each_member, Contains-from_Member, Member-from_Contains, Ranked, Ranked-from_AllPairs, AllPairs-from_Ranked}
 use Rattle.blart_set.specs.Merging.{Precedes}
-use Rattle.blart_set.proofs.Orders.{Lower, from_less, from_same, from_greater, less_apart, over_apart, precedes_on, precedes_same, apart}
+use Rattle.blart_set.proofs.Orders.{Lower, from_less, from_same, from_greater, less_apart, precedes_on, precedes_same, apart}
 use Rattle.blart_set.proofs.Stepping.{left_first, right_first, both_first}
 
 module _ {K : Type 0} (kb : K → List ℕ) (both : Bool) where

@@ -1,7 +1,5 @@
 -- Byte order, and lists that ascend in it.
-use Rattle.std.proofs.Common.{◌≡◌, ℕ, Bool, true, false, not, ◌||◌, inl, inr, List, [], ◌∷◌, drop, refl, sym, ap, ◌∙◌, subst, cond, filter, bytes_eq, Ordering, Less, Equal, Greater}
-use Rattle.std.specs.Prelude.{AllPairs}
-use Rattle.std.specs.List.{AllByRecursion}
+use Rattle.std.proofs.Common.{◌≡◌, ℕ, Bool, true, false, inl, inr, List, [], ◌∷◌, drop, refl, sym, ap, ◌∙◌, subst, cond, filter, bytes_eq, Ordering, Less, Equal, Greater}
 use Rattle.std.specs.Ordering.{is_lt}
 use Rattle.std.specs.Cmp.Lexicographic.{bytes_decides}
 use Rattle.std.proofs.lemmas.Bool.{false≢true, false_from_ne_true}
@@ -9,7 +7,7 @@ use Rattle.blart_keys.specs.Bytes.{bytes_cmp, less}
 use Rattle.blart_keys.specs.Content.{Ascends, stores}
 use Rattle.blart_keys.specs.KeyLaws.{bytes_cmp-Equal}
 use Rattle.blart_keys.proofs.PartLemmas.{less-irrefl, less-trans, less_or}
-use Rattle.blart_keys.proofs.RankLemmas.{Member, each_member, from_each_member, any_found, Ranked, Ranked-from_AllPairs, AllPairs-from_Ranked}
+use Rattle.blart_keys.proofs.RankLemmas.{each_member, from_each_member, any_found, Ranked-from_AllPairs, AllPairs-from_Ranked}
 use Rattle.blart_set.specs.Merging.{Precedes}
 
 -- ---- what an answer of a comparison says

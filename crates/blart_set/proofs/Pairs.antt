@@ -1,12 +1,11 @@
 -- What the pairs of a map of units say of the list of its keys.
-use Rattle.std.proofs.Common.{◌≡◌, ℕ, ◌-◌, ◌+◌, true, false, not, cond, List, [], ◌∷◌, ◌++◌, map, length, refl, sym, ap, ◌∙◌, subst, Option, Some, None, option_map, slice_get, bytes_eq}
+use Rattle.std.proofs.Common.{◌≡◌, ℕ, ◌+◌, false, not, List, [], ◌∷◌, map, refl, sym, ap, ◌∙◌, Option, Some, None, option_map, bytes_eq}
 use Rattle.std.specs.Prelude.{if◌then◌else◌}
 use Rattle.std.specs.Option.{is_some, is_none, option_copied}
 use Rattle.std.specs.Result.{result_map_both}
-use Rattle.std.proofs.lemmas.Option.{slice_get-map}
 use Rattle.std.proofs.lemmas.List.{map-append}
 use Rattle.std.specs.Prelude.{Result, Ok, Err, OnOk, OnErr, IfOk, IfErr}
-use Rattle.std.proofs.Common.{Bool, arith, ◌&&◌, inl, inr}
+use Rattle.std.proofs.Common.{Bool, ◌&&◌, inl, inr}
 use Rattle.std.specs.declared.ops.Bound.{Bound}
 use Rattle.blart_keys.specs.Bounds.{CanRange, is_from_start, is_up_to_end}
 use Rattle.blart_keys.specs.Steps.{Puts, Inserts, PutsOver}
@@ -18,7 +17,7 @@ use denote.Ref.{Bor}
 use Rattle.blart_keys.specs.Bytes.{begins, related, conflicts}
 use Rattle.blart_keys.specs.Content.{at, conflict, front_of, stores, subtree, without, under, between, IsContent, IsPut, IsOver}
 use Rattle.blart_keys.specs.Steps.{bytes}
-use Rattle.blart_keys.specs.Stored.{shown, pair_at}
+use Rattle.blart_keys.specs.Stored.{shown}
 use Rattle.blart_keys.specs.Walks.{TakesFirst, TakesLast}
 use Rattle.blart_keys.proofs.Mapped.{find-map, list_any-map, filter-map, content_map, put_map, over_map}
 

@@ -1,14 +1,14 @@
 -- One step of two sets walked side by side.
-use Rattle.std.proofs.Common.{Ordering, Less, Equal, Greater, ◌≡◌, ℕ, ◌+◌, ◌<◌, Bool, true, false, not, inl, inr, List, [], ◌∷◌, ◌⊎◌, length, drop, refl, sym, ap, ◌∙◌, subst, cond, filter, bytes_eq, arith, Some, None}
+use Rattle.std.proofs.Common.{Less, Equal, Greater, ◌≡◌, ℕ, ◌+◌, ◌<◌, Bool, true, false, not, inl, inr, List, [], ◌∷◌, ◌⊎◌, length, drop, refl, sym, ap, ◌∙◌, subst, cond, filter, arith, Some, None}
 use Rattle.std.specs.Set.{sorted_merge}
 use Rattle.std.specs.Cmp.Lexicographic.{bytes_decides}
 use denote.Ref.{Bor}
-use Rattle.blart_keys.specs.Bytes.{bytes_cmp, less}
+use Rattle.blart_keys.specs.Bytes.{bytes_cmp}
 use Rattle.blart_keys.specs.Content.{Ascends, stores}
 use Rattle.blart_set.specs.declared.merges.sides.Side.{Side}
 use Rattle.blart_set.specs.declared.merges.sides.Side.TheVariants.{Left, Right, Both}
 use Rattle.blart_set.specs.Merging.{Merge, Precedes, Steps, united, parted, shared, lacking, side_element, one_element, both_element, left_element}
-use Rattle.blart_set.proofs.Orders.{less_cmp, same_cmp, greater_cmp, from_less, from_same, from_greater, precedes_on, precedes_same, precedes, across, apart, skip_first}
+use Rattle.blart_set.proofs.Orders.{less_cmp, same_cmp, greater_cmp, from_less, from_same, from_greater, precedes_same, precedes, across, apart, skip_first}
 
 module _ {K : Type 0} (kb : K → List ℕ) where
   -- ---- a step of the code

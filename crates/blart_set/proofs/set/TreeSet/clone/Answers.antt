@@ -1,6 +1,5 @@
-use Rattle.std.proofs.Common.{lit<, ◌≡◌, sym, subst}
+use Rattle.std.proofs.Common.{lit<, ◌≡◌}
 use Rattle.blart_map.specs.Content.{pairs}
-use Rattle.blart_set.specs.Clones.{KeepsBytes}
 use Rattle.blart_set.specs.Elements.{elements}
 use Rattle.blart_set.proofs.Images.{keeps-keys, clones-keys, some_images}
 use Rattle.blart_set.proofs.set.TreeSet.clone.Goals as goal

@@ -2,7 +2,6 @@ use Rattle.std.proofs.Common.{◌∷◌, [], map, sym, subst}
 use Rattle.std.proofs.lemmas.List.{map-append}
 use Rattle.std.specs.Iterator.{Yields}
 use Rattle.std.proofs.iter.Next as it
-use denote.Ref.{Bor}
 use Rattle.blart_set.proofs.Cloned.{now}
 use Rattle.blart_keys.specs.Bulk.{PutsAll}
 use Rattle.blart_set.specs.Elements.{elements}

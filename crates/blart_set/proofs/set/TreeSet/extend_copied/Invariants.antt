@@ -1,5 +1,4 @@
 use Rattle.std.proofs.Common.{map}
-use denote.Ref.{Bor}
 use Rattle.blart_set.proofs.Cloned.{now}
 use Rattle.blart_keys.specs.Bulk.{PutsAll}
 use Rattle.blart_set.specs.Elements.{elements}

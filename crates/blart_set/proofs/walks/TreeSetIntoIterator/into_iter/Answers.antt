@@ -1,4 +1,3 @@
-use Rattle.blart_map.specs.Content.{pairs}
 use Rattle.blart_set.specs.Elements.{elements}
 use Rattle.blart_set.proofs.walks.TreeSetIntoIterator.into_iter.Goals as goal
 

@@ -1,4 +1,4 @@
-use Rattle.std.proofs.Common.{sym, ◌∙◌}
+use Rattle.std.proofs.Common.{sym}
 use Rattle.blart_set.proofs.Orders.{drop_ascends}
 use Rattle.blart_set.proofs.Stepping.{steps_right, steps_left, steps_less, steps_equal, steps_greater}
 use Rattle.blart_set.proofs.merges.sides.Sides.step.Goals as goal
