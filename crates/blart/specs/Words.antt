@@ -23,9 +23,9 @@ pub use Rattle.blart_keys.specs.Walks.{Asked, picked, Retains, AsksPair}
 -- what a walk that lends has left, and what the map will be
 pub use Rattle.blart_map.specs.LendingWalk.{lending_left}
 pub use Rattle.blart_map.specs.CountedWalk.{counted_left}
-pub use Rattle.blart_map.specs.TakeWalk.{take_left}
+pub use Rattle.blart_map.specs.TakeWalk.{take_left, LentFirst, LentLast, NoneLent}
 -- what a walk that takes leaves
-pub use Rattle.blart_map.specs.OnceTaken.{taken_all, once_taken}
+pub use Rattle.blart_map.specs.OnceTaken.{taken_all, once_taken, still_to_take, once_extracted, still_to_extract}
 pub use Rattle.blart_map.specs.ExtractIf.{extract_left, Extracts, ExtractsNext, ExtractsNextBack}
 pub use Rattle.blart_map.specs.OnceWritten.{rewritten, all_rewritten, once_written, all_once_written}
 -- a set as a list of elements, closed in proofs, and merges of two

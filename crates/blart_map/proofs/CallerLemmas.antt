@@ -12,4 +12,6 @@ pub use Rattle.blart_map.proofs.TakenBack.{taken_back, taken_back_fronts}
 -- what is kept by a closure that tells of the pair alone, and by one that counts
 pub use Rattle.blart_map.proofs.Filtered.{kept_by, kept_by_retained, take_from_kept, filter_from_retained}
 -- a pair that was lent and then kept, or taken
-pub use Rattle.blart_map.proofs.OnceTaken.{kept_first, taken_first}
+pub use Rattle.blart_map.proofs.OnceTaken.{kept_first, taken_first, walk_kept, walk_taken, none_to_take, none_taken}
+-- one step of a walk that extracts, where its closure tells of the pair alone
+pub use Rattle.blart_map.proofs.OnceExtracted.{extracted}

@@ -113,9 +113,9 @@ module _ {K V F : Type 0} (g : Mut F (Bor K × (MutBor V × Unit {0})) (Bool × 
   pub called_at : (f : F) (key : Bor K) (value left : MutBor V) (b : Bool) (f' : F) → Called g f (key, (value, tt)) (b, (left, tt)) f' → CalledAtPair g f key.now value.now b left.now f'
   called_at f key value left b f' m = record { key = key; value = value; shows = (refl, refl); left = left; called = m; leaves = refl }
 
-  module _ (S : List (Numbered K V)) (f : F) (n : ℕ) (k : K) (v w : V) (b : Bool) (h : F) (xs ps : List (Numbered K V)) (e : xs ≡ (n, (k, v)) ∷ ps) (m : CalledAtPair g f k v b w h) where
+  module _ (S : List (Numbered K V)) (f : F) (n : ℕ) (k : K) (v w : V) (b : Bool) (h : F) (xs ps : List (Numbered K V)) (e : xs ≡ (n, (k, v)) ∷ ps) (m : CalledAtPair g f k v b w h) (named : leaf_in S n ≡ Some (k, v)) where
     pub extracts_true : (r : Option (K × V)) (S' left : List (Numbered K V)) → b ≡ true → r ≡ Some (k, w) → S' ≡ without_number S n → left ≡ ps → Extracts g S f xs r S' h left
-    extracts_true r S' left t p q l = subst (λ ys. Extracts g S f ys r S' h left) (sym e) (b, w, h, m, rw t (p, q, refl, l))
+    extracts_true r S' left t p q l = subst (λ ys. Extracts g S f ys r S' h left) (sym e) (b, w, h, named, m, rw t (p, q, refl, l))
 
     pub extracts_false : (r : Option (K × V)) (S' : List (Numbered K V)) (f' : F) (left : List (Numbered K V)) → b ≡ false → Extracts g (with_value S n w) h ps r S' f' left → Extracts g S f xs r S' f' left
-    extracts_false r S' f' left t a = subst (λ ys. Extracts g S f ys r S' f' left) (sym e) (b, w, h, m, rw t a)
+    extracts_false r S' f' left t a = subst (λ ys. Extracts g S f ys r S' f' left) (sym e) (b, w, h, named, m, rw t a)

@@ -13,6 +13,7 @@ pub mod Inserting
 pub mod LentPairs
 pub mod Moving
 pub mod Numbers
+pub mod OnceExtracted
 pub mod OnceTaken
 pub mod OnceWritten
 pub mod Opening

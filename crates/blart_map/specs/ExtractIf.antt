@@ -5,7 +5,7 @@ use Rattle.std.specs.Bool.{MatchBool}
 use Rattle.std.specs.Map.Calls.{CalledAtPair}
 use denote.Param.Members.{Mut}
 use Rattle.blart_keys.specs.declared.AsBytes.{Ghosts}
-use Rattle.art_tree.specs.Leaves.{Numbered, with_value, without_number}
+use Rattle.art_tree.specs.Leaves.{Numbered, leaf_in, with_value, without_number}
 use Rattle.art_walk.specs.Cursor.{leaves_left}
 use Rattle.blart_map.specs.declared.walks.extract_if.ExtractIf.{ExtractIf}
 
@@ -14,12 +14,12 @@ abbrev pub extract_left : {K V F : Type 0} {p : ℕ} {g : Ghosts K} → ExtractI
 extract_left s = leaves_left s.cursor s.map.now
 
 module _ {K V F : Type 0} (g : Mut F (Bor K × (MutBor V × Unit {0})) (Bool × (MutBor V × Unit {0}))) where
-  -- In the state f the closure was asked of each of these pairs once, in turn, up to the first at which it answered true.
+  -- In the state f the closure was asked of each of these pairs of the map once, in turn, up to the first at which it answered true.
   -- That one is the result, as it was left, and has left the map; each before it stays with its value as it was left; the rest was not asked
   abbrev pub Extracts : List (Numbered K V) → F → List (Numbered K V) → Option (K × V) → List (Numbered K V) → F → List (Numbered K V) → Type 0
   Extracts S f [] result S' f' rest = (result ≡ None) × (S' ≡ S) × (f' ≡ f) × (rest ≡ [])
   Extracts S f (p ∷ coming) result S' f' rest =
-      (answer : Bool) × (w : V) × (h : F) × CalledAtPair g f p.1.0 p.1.1 answer w h
+      (answer : Bool) × (w : V) × (h : F) × (leaf_in S p.0 ≡ Some p.1) × CalledAtPair g f p.1.0 p.1.1 answer w h
       × MatchBool answer
       ((result ≡ Some (p.1.0, w)) × (S' ≡ without_number S p.0) × (f' ≡ h) × (rest ≡ coming))
       (Extracts (with_value S p.0 w) h coming result S' f' rest)

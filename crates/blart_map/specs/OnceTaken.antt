@@ -1,9 +1,11 @@
 -- What a map will be, once a walk has taken the pairs that pass a test.
-use Rattle.std.specs.Prelude.{ℕ, List, [], ◌∷◌, Bool, cond}
+use Rattle.std.specs.Prelude.{ℕ, List, [], ◌∷◌, filter, Bool, cond}
 use Rattle.blart_keys.specs.declared.AsBytes.{Ghosts}
 use Rattle.art_tree.specs.Leaves.{Numbered, without_number}
 use Rattle.blart_map.specs.Content.{pairs}
+use Rattle.blart_map.specs.declared.walks.extract_if.ExtractIf.{ExtractIf}
 use Rattle.blart_map.specs.declared.walks.take_walk.TakeWalk.{TakeWalk}
+use Rattle.blart_map.specs.ExtractIf.{extract_left}
 use Rattle.blart_map.specs.TakeWalk.{take_left}
 
 module _ {K V : Type 0} where
@@ -16,3 +18,16 @@ module _ {K V : Type 0} {p : ℕ} {g : Ghosts K} where
   -- the pairs of the map, once those that are still to be lent and pass the test are taken
   abbrev pub once_taken : (K × V → Bool) → TakeWalk K V p g → List (K × V)
   once_taken test s = pairs (taken_all test (take_left s) s.map.now)
+
+  -- those of the pairs that are still to be lent that pass the test
+  abbrev pub still_to_take : (K × V → Bool) → TakeWalk K V p g → List (K × V)
+  still_to_take test s = filter test (pairs (take_left s))
+
+module _ {K V F : Type 0} {p : ℕ} {g : Ghosts K} where
+  -- the same of a walk that extracts: the pairs of the map, once those that it has left and that pass the test are taken
+  abbrev pub once_extracted : (K × V → Bool) → ExtractIf K V F p g → List (K × V)
+  once_extracted test s = pairs (taken_all test (extract_left s) s.map.now)
+
+  -- those of the pairs that it has left that pass the test
+  abbrev pub still_to_extract : (K × V → Bool) → ExtractIf K V F p g → List (K × V)
+  still_to_extract test s = filter test (pairs (extract_left s))

@@ -6,7 +6,9 @@ use mir.Syntax.{named}
 use Rattle.blart_keys.specs.declared.AsBytes.{Ghosts}
 use Rattle.art_tree.specs.Leaves.{Numbered}
 use Rattle.art_walk.specs.Cursor.{leaves_left}
-use Rattle.art_walk.specs.Lent.{LentFirst, LentLast, NoneLent, written_last, fits_written}
+use Rattle.art_walk.specs.Lent.{written_last, fits_written}
+-- what the end of a loan tells: which pair was lent, and what is still to come
+pub use Rattle.art_walk.specs.Lent.{LentFirst, LentLast, NoneLent}
 use Rattle.blart_map.specs.declared.walks.take_walk.TakeWalk.{TakeWalk}
 use Rattle.blart_map.specs.contracts.walks.take_walk.TakeWalk.{the_row}
 

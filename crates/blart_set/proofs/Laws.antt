@@ -1,6 +1,7 @@
 -- Laws of merges, and of byte order, that a caller cites.
-use Rattle.std.proofs.Common.{◌≡◌, ℕ, suc, ◌+◌, Bool, true, false, not, ◌||◌, cond, inl, inr, List, [], ◌∷◌, length, arith, refl, sym, ap, ◌∙◌, subst, filter, Contains, bytes_eq, Ordering, Less}
-use Rattle.std.proofs.lemmas.Bool.{false≢true, cases_Bool, not-true, not_from_false}
+use Rattle.std.proofs.Common.{◌≡◌, ℕ, suc, ◌<◌, ◌+◌, Bool, true, false, not, ◌||◌, cond, inl, inr, List, [], ◌∷◌, length, arith, refl, sym, ap, ◌∙◌, subst, filter, Contains, bytes_eq, Ordering, Less, All, IsTrue, ◌↔◌, ◌==◌}
+use Rattle.std.proofs.lemmas.Bool.{false≢true, cases_Bool, eqb-true, not-true, not_from_false}
+use Rattle.std.proofs.lemmas.List.Elements.{All-nil, All-cons, All-head, All-tail}
 use Rattle.blart_keys.specs.Bytes.{less}
 use Rattle.blart_keys.specs.Content.{Ascends, stores}
 use Rattle.blart_keys.specs.Keys.{OrderedAs}
@@ -21,6 +22,22 @@ len_parts {X} p (x ∷ S) = go (len_parts p S) (p x)
     go : length S ≡ length (filter p S) + length (filter (λ x. not (p x)) S) → (b : Bool) → suc (length S) ≡ length (cond b (x ∷ filter p S) (filter p S)) + length (cond (not b) (x ∷ filter (λ x. not (p x)) S) (filter (λ x. not (p x)) S))
     go e true = omega (arith, e)
     go e false = omega (arith, e)
+
+-- what passes is no more than all
+pub filter_fits : {X : Type 0} (p : X → Bool) (S T : List X) → S ≡ T → (n : ℕ) → length T < n → length (filter p S) < n
+filter_fits p S T e n h = let same = ap (λ l. length l) e in let parts = len_parts p S in omega (arith, same, parts, h)
+
+-- nothing fails a test exactly where each item passes it
+each_passes : {X : Type 0} (p : X → Bool) (S : List X) → (length (filter (λ x. not (p x)) S) == 0) ≡ true → All (λ x. p x ≡ true) S
+each_passes p [] h = All-nil (λ x. p x ≡ true)
+each_passes p (x ∷ S) h = elim (cases_Bool (p x)) [
+  | inl t ↦ All-cons (λ x. p x ≡ true) x S t (each_passes p S (rw t at h))
+  | inr f ↦ let e : suc (length (filter (λ x. not (p x)) S)) ≡ 0 = eqb-true (suc (length (filter (λ x. not (p x)) S))) 0 (rw f at h) in let none : ⊥ = omega (arith, e) in absurd none
+]
+
+none_fails : {X : Type 0} (p : X → Bool) (S : List X) → All (λ x. p x ≡ true) S → (length (filter (λ x. not (p x)) S) == 0) ≡ true
+none_fails p [] h = refl
+none_fails p (x ∷ S) h = rw (All-head (λ x. p x ≡ true) x S h) (none_fails p S (All-tail (λ x. p x ≡ true) x S h))
 
 -- two tests that find the same
 same_test : (a b : Bool) → (a ≡ true → b ≡ true) → (b ≡ true → a ≡ true) → a ≡ b
@@ -117,6 +134,13 @@ module _ {X : Type 0} (bytes : X → List ℕ) where
         let left = ap (λ (l : List X). length l) (symmetric_left a) in
         let right = ap (λ (l : List X). length l) (symmetric_right b) in
         omega (arith, whole, left, right)
+
+  -- ---- a merge that gives nothing
+
+  module _ (A B : List X) where
+    -- no element of A has bytes that B lacks exactly where B has the bytes of each
+    pub lacks_none : IsTrue (length (difference bytes A B) == 0) ↔ All (λ x. stores bytes B (bytes x) ≡ true) A
+    lacks_none = (each_passes (λ x. stores bytes B (bytes x)) A, none_fails (λ x. stores bytes B (bytes x)) A)
 
   -- clones have the bytes of their elements
   pub clones_store : (is_clone : X → X → Type 0) (S T : List X) → AreElementClones bytes is_clone S T → (q : List ℕ) → stores bytes T q ≡ stores bytes S q

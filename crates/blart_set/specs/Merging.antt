@@ -1,6 +1,7 @@
 -- What the contracts of merges cite.
 use denote.Ref.{Bor}
-use Rattle.std.specs.Prelude.{◌≡◌, ℕ, ◌+◌, ◌≤◌, true, false, List, [], ◌∷◌, length, Option, Some, None}
+use Rattle.std.specs.Prelude.{◌≡◌, ℕ, ◌+◌, ◌<◌, ◌≤◌, ⊤, true, false, List, [], ◌∷◌, length, Option, Some, None, OnSome, IfSome, IfNone}
+use Rattle.std.specs.Iterator.{IsFinite, size, item_count}
 use Rattle.std.specs.List.{AllByRecursion}
 use Rattle.std.specs.Set.{sorted_merge}
 use Rattle.blart_keys.specs.Bytes.{bytes_cmp, less}
@@ -18,6 +19,13 @@ pub record IsBeginning {K : Type 0} (A B : List K) (m : Merge K) : Type 0 where
 -- at most as many comparisons were made as elements were consumed
 abbrev pub Counts : {K : Type 0} → Merge K → Merge K → Type 0
 Counts old new = new.compares + (length new.left + length new.right) ≤ old.compares + (length old.left + length old.right)
+
+-- One `next` of a merge that has still to give `rest`. The first three are those of every iterator, `MakesProgress`, by whose names a loop cites them
+pub record Goes {K A : Type 0} (rest : Merge K → List K) (s : Merge K) (r : Option A) (t : Merge K) : Type 0 where
+  pub on : IsFinite (item_count rest s) → OnSome r (⊤ × IsFinite (item_count rest t) × (size (item_count rest t) < size (item_count rest s)))
+  pub keeps : IfSome r (λ _. ⊤)
+  pub rests : IsFinite (item_count rest s) → IfNone r (IsFinite (item_count rest t))
+  pub counted : Counts s t
 
 module _ {K : Type 0} (kb : K → List ℕ) where
   -- what a union has still to give: what both sides have left, each bytes once

@@ -1,6 +1,7 @@
 //! Merges of two sets.
 ghost use Rattle.std.specs.Prelude.{◌≡◌};
 ghost use Rattle.blart_keys.specs.Merges.{IsUnion, IsSymmetricDifference, intersection, difference};
+ghost use Rattle.blart_keys.specs.Stored.{CanCount};
 ghost use Rattle.blart_set.specs.Elements.{elements};
 ghost use Rattle.blart_set.specs.Merging.{united, parted, shared, lacking, IsBeginning};
 
@@ -45,7 +46,9 @@ impl<K: OrderedBytes + Drop, const PREFIX_LEN: usize> TreeSet<K, PREFIX_LEN> {
         ensures begins { IsBeginning (elements self.now) (elements other.now) result }
         ensures value { lacking K.bytes result
             ≡ difference K.bytes (elements self.now) (elements other.now) }
+        ensures fits { CanCount (lacking K.bytes result) }
     {
+        self.law();
         Difference {
             sides: self.beside(other),
         }
@@ -82,7 +85,9 @@ impl<K: OrderedBytes + Drop, const PREFIX_LEN: usize> TreeSet<K, PREFIX_LEN> {
         ensures begins { IsBeginning (elements self.now) (elements other.now) result }
         ensures value { shared K.bytes result
             ≡ intersection K.bytes (elements self.now) (elements other.now) }
+        ensures fits { CanCount (shared K.bytes result) }
     {
+        self.law();
         Intersection {
             sides: self.beside(other),
         }

@@ -1,6 +1,7 @@
 //! Calls of entries.
-ghost use Rattle.std.specs.Prelude.{◌≡◌, ◌≢◌, ◌+◌, ◌<◌, ◌^◌, ℕ, List, true, not, unwrap_or, OnOk, IfOk, OnErr, None, Some, if◌then◌else◌};
-ghost use Rattle.blart.specs.Words.{pairs, pair_at, value_at, value_before, has, overlaps, slice_bytes, zkey_bytes};
+ghost use Rattle.std.specs.Prelude.{◌≡◌, ◌≢◌, ◌+◌, ◌<◌, ◌^◌, ℕ, List, true, false, not, unwrap_or, OnOk, IfOk, OnErr, IfSome, None, Some, if◌then◌else◌};
+ghost use Rattle.std.specs.FinSet as set;
+ghost use Rattle.blart.specs.Words.{pairs, bytes, fronts, Updates, pair_at, pair_before, value_at, value_before, has, overlaps, slice_bytes, zkey_bytes};
 
 use blart::map::Entry;
 use blart::{Map, NoPrefixesBytes, ZKey};
@@ -31,6 +32,7 @@ pub fn score(
         ≡ Some (if has zkey_bytes (pairs scores.old) (zkey_bytes player) then next else first)) }
     ensures others { OnOk result ((q : List ℕ) → q ≢ zkey_bytes player
         → pair_at zkey_bytes (pairs scores.new) q ≡ pair_at zkey_bytes (pairs scores.old) q) }
+    ensures refused { OnErr result (scores.new ≡ scores.old) }
 {
     scores
         .entry(player)
@@ -90,9 +92,31 @@ pub fn borrow_place<V: Drop>(store: &mut Map<ZKey, V>, key: ZKey, value: V) -> R
     ensures gone { OnOk result (pair_at zkey_bytes (pairs store.new) (zkey_bytes key) ≡ None) }
     ensures others { OnOk result ((q : List ℕ) → q ≢ zkey_bytes key
         → pair_at zkey_bytes (pairs store.new) q ≡ pair_at zkey_bytes (pairs store.old) q) }
+    ensures refused { OnErr result (store.new ≡ store.old) }
 {
-    let entry = store.entry(key).insert_entry(value)?;
-    Ok(entry.remove())
+    match store.entry(key) {
+        Entry::Vacant(entry) => Ok(entry.insert_entry(value)?.remove()),
+        Entry::Occupied(mut entry) => {
+            entry.insert(value);
+            Ok(entry.remove())
+        }
+    }
+}
+
+/// Stores a value at a key that is new, and takes it back: the map is as it was, with as many inner nodes.
+pub fn try_place<V: Drop>(store: &mut Map<ZKey, V>, key: ZKey, value: V) -> Result<V, AllocError>
+    ensures value { IfOk result (λ back. back ≡ value) }
+    ensures same { pairs store.new ≡ pairs store.old }
+    ensures nodes { set.len (fronts (bytes zkey_bytes) (pairs store.new))
+        ≡ set.len (fronts (bytes zkey_bytes) (pairs store.old)) }
+{
+    match store.entry(key) {
+        Entry::Vacant(entry) => {
+            let entry = entry.insert_entry(value)?;
+            Ok(entry.remove())
+        }
+        Entry::Occupied(_) => Ok(value),
+    }
 }
 
 /// Adds one to the count of a word of any key type, by the call of the map that lends.
@@ -115,9 +139,15 @@ pub fn count_at<W: NoPrefixesBytes + Drop>(
 pub fn redirect(routes: &mut Map<&'static str, u32>, path: &'static str, target: u32) -> Option<u32>
     ensures old { result ≡ value_before slice_bytes (pairs routes.old) path.now }
     ensures none { result ≡ None → routes.new ≡ routes.old }
+    ensures set { IfSome result (λ old. IfSome (pair_before slice_bytes (pairs routes.old) path.now)
+        (λ p. Updates slice_bytes (pairs routes.old) (pairs routes.new) p.0.now (Some (p.0, target)))) }
 {
     match routes.prefix_get_key_value_mut(&path) {
-        Some(mut entry) => Some(entry.insert(target)),
+        Some(mut entry) => {
+            let old = entry.insert(target);
+            let _written = entry.into_mut();
+            Some(old)
+        }
         None => None,
     }
 }

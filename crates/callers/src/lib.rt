@@ -9,6 +9,7 @@ mod lending;
 mod moves;
 mod owning;
 mod parts;
+mod picking;
 mod prefix_entries;
 mod queues;
 mod router;
@@ -18,15 +19,18 @@ mod sums;
 mod walks;
 
 pub use counts::{count, count_in_place, insert_if_absent, raise};
-pub use entries::{borrow_place, count_at, count_by_entry, redirect, score, set_route, toggle};
+pub use entries::{
+    borrow_place, count_at, count_by_entry, redirect, score, set_route, toggle, try_place,
+};
 pub use lending::raise_below;
 pub use moves::{add_or_give_back, len_with, len_without, move_first_between, move_one, rename};
 pub use owning::{into_values_vec, into_vec};
 pub use parts::{give_all, have_one_digest, later, part_and_join};
+pub use picking::{drain_below, drop_below, keep_first, move_above};
 pub use prefix_entries::{count_over, merge_routes, set_over};
 pub use queues::{following, take_least, take_next, to_end};
 pub use router::{Handler, asked, site};
 pub use routes::{AddError, Table, hit, route, take_over};
-pub use sets::join;
+pub use sets::{all_of, count_shared, grants_all, join, new_to, shared_of};
 pub use sums::{count_between, sum_below, sum_below_chain};
 pub use walks::{from_both_ends, get_by_front};

@@ -1,9 +1,11 @@
-//! Merges of sets.
-ghost use Rattle.blart.specs.Words.{elements, IsUnion, KeepsBytes, MakesClones};
+//! Sets: merges of two, and loops over one.
+ghost use Rattle.std.specs.Prelude.{◌≡◌, ◌↔◌, true, length, All, IfOk, IsTrue};
+ghost use Rattle.blart.specs.Words.{elements, difference, intersection, IsUnion, KeepsBytes, MakesClones, stores};
 
-use blart::{NoPrefixesBytes, OrderedBytes, TreeSet};
-use std::alloc::AllocError;
+use blart::{AsBytes, NoPrefixesBytes, OrderedBytes, TreeSet};
+use std::alloc::{AllocError, Global};
 use std::clone::Clone;
+use std::iter::Iterator;
 
 /// A set of the elements of both.
 pub fn join<K: OrderedBytes + NoPrefixesBytes + Clone + Drop, const P: usize>(
@@ -16,4 +18,68 @@ pub fn join<K: OrderedBytes + NoPrefixesBytes + Clone + Drop, const P: usize>(
         (IsUnion K.bytes (elements a.now) (elements b.now)) result }
 {
     a | b
+}
+
+/// The elements of a set, ascending, as a vector.
+pub fn all_of<K: AsBytes + Copy + Drop, const P: usize>(
+    alloc: Global,
+    set: &TreeSet<K, P>,
+) -> Result<Vec<K>, AllocError>
+    ensures { IfOk result (λ all. all.items ≡ elements set.now) }
+{
+    let mut all = Vec::new(alloc);
+    for element in set {
+        all.push(*element)?;
+    }
+    Ok(all)
+}
+
+/// How many elements of the one set the other has too.
+pub fn count_shared<K: OrderedBytes + Drop, const P: usize>(
+    a: &TreeSet<K, P>,
+    b: &TreeSet<K, P>,
+) -> usize
+    ensures { result ≡ length (intersection K.bytes (elements a.now) (elements b.now)) }
+{
+    a.intersection(b).count()
+}
+
+/// The elements of the one set that the other has too, ascending, as a vector.
+pub fn shared_of<K: OrderedBytes + Copy + Drop, const P: usize>(
+    alloc: Global,
+    a: &TreeSet<K, P>,
+    b: &TreeSet<K, P>,
+) -> Result<Vec<K>, AllocError>
+    ensures { IfOk result (λ both. both.items
+        ≡ intersection K.bytes (elements a.now) (elements b.now)) }
+{
+    let mut both = Vec::new(alloc);
+    for element in a.intersection(b) {
+        both.push(*element)?;
+    }
+    Ok(both)
+}
+
+/// The elements of the one set that the other lacks, ascending, as a vector.
+pub fn new_to<K: OrderedBytes + Copy + Drop, const P: usize>(
+    alloc: Global,
+    seen: &TreeSet<K, P>,
+    found: &TreeSet<K, P>,
+) -> Result<Vec<K>, AllocError>
+    ensures { IfOk result (λ new. new.items
+        ≡ difference K.bytes (elements found.now) (elements seen.now)) }
+{
+    found.difference(seen).copied().collect(alloc)
+}
+
+/// Whether each element that is asked for is granted.
+#[tactic(auto, using(blart::proofs::CallerLemmas::lacks_none))]
+pub fn grants_all<K: OrderedBytes + Drop, const P: usize>(
+    granted: &TreeSet<K, P>,
+    asked: &TreeSet<K, P>,
+) -> bool
+    ensures { IsTrue result
+        ↔ All (λ x. stores K.bytes (elements granted.now) (K.bytes x) ≡ true) (elements asked.now) }
+{
+    asked.is_subset(granted)
 }

@@ -1,7 +1,7 @@
 //! The pairs that a closure picks, taken out one by one.
-ghost use Rattle.std.specs.Prelude.{◌≡◌, length, true, None};
+ghost use Rattle.std.specs.Prelude.{◌≡◌, ◌&&◌, not, filter, Bool, length, true, None};
 ghost use Rattle.std.specs.Iterator.{at_most};
-ghost use Rattle.blart_keys.specs.Bounds.{bound_bytes, CanRange};
+ghost use Rattle.blart_keys.specs.Bounds.{bound_bytes, is_from_start, is_up_to_end, CanRange};
 ghost use Rattle.blart_keys.specs.Content.{between};
 ghost use Rattle.art_tree.specs.Leaves.{bytes};
 ghost use Rattle.art_walk.specs.Lent.{walk_fits, numbers};
@@ -33,6 +33,7 @@ pub struct ExtractIf<'a, K: AsBytes, V, F, const PREFIX_LEN: usize> {
 
 impl<K: AsBytes + Drop, V: Drop, const PREFIX_LEN: usize> TreeMap<K, V, PREFIX_LEN> {
     ghost use Rattle.blart_map.specs.ExtractIf.{extract_left};
+    ghost use Rattle.blart_map.specs.OnceTaken.{once_extracted, still_to_extract};
 
     /// A walk that takes out the pairs within both bounds at which the closure answers `true`, from both ends. The bounds are in order where the map has pairs, as for [`TreeMap::range`]. Takes no memory; each pair that it asks about is one visit.
     ///
@@ -53,10 +54,19 @@ impl<K: AsBytes + Drop, V: Drop, const PREFIX_LEN: usize> TreeMap<K, V, PREFIX_L
             (bound_bytes Q.bytes end) }
         ensures same_map { result.map.ghost_name ≡ self.entry.ghost_name }
         ensures unchanged { result.map.now ≡ self.old }
+        ensures all { (test : K × V → Bool) → once_extracted test result
+            ≡ filter (λ pair. not (is_from_start (bound_bytes Q.bytes start.entry) (K.bytes pair.0)
+            && is_up_to_end (bound_bytes Q.bytes end.entry) (K.bytes pair.0)
+            && test pair)) (pairs self.old) }
+        ensures picks { (test : K × V → Bool) → still_to_extract test result
+            ≡ filter (λ pair. is_from_start (bound_bytes Q.bytes start.entry) (K.bytes pair.0)
+            && is_up_to_end (bound_bytes Q.bytes end.entry) (K.bytes pair.0)
+            && test pair) (pairs self.old) }
         ensures left { extract_left result ≡ between (bytes K.bytes) self.old
             (bound_bytes Q.bytes start.entry) (bound_bytes Q.bytes end.entry) }
         ensures same_pred { result.pred ≡ pred }
     {
+        self.number_law();
         let cursor = Cursor::range(
             &self.tree,
             as_bytes(start),

@@ -20,7 +20,7 @@ impl<K: AsBytes + Drop, V: Drop, const PREFIX_LEN: usize> TreeMap<K, V, PREFIX_L
     ghost use Rattle.blart_map.specs.CountedWalk.{counted_left};
     ghost use Rattle.blart_map.specs.LendingWalk.{lending_left};
     ghost use Rattle.blart_map.specs.OnceWritten.{rewritten, all_rewritten, once_written, all_once_written};
-    ghost use Rattle.blart_map.specs.OnceTaken.{once_taken};
+    ghost use Rattle.blart_map.specs.OnceTaken.{once_taken, still_to_take};
     ghost use Rattle.blart_map.specs.TakeWalk.{take_left};
 
     /// A walk that lends each value to be written, with its key, in byte order of the keys, from both ends. Takes no memory; each step is one visit.
@@ -143,6 +143,10 @@ impl<K: AsBytes + Drop, V: Drop, const PREFIX_LEN: usize> TreeMap<K, V, PREFIX_L
             ≡ filter (λ pair. not (is_from_start (bound_bytes Q.bytes start.entry) (K.bytes pair.0)
             && is_up_to_end (bound_bytes Q.bytes end.entry) (K.bytes pair.0)
             && test pair)) (pairs self.old) }
+        ensures picks { (test : K × V → Bool) → still_to_take test result
+            ≡ filter (λ pair. is_from_start (bound_bytes Q.bytes start.entry) (K.bytes pair.0)
+            && is_up_to_end (bound_bytes Q.bytes end.entry) (K.bytes pair.0)
+            && test pair) (pairs self.old) }
         ensures left { take_left result ≡ between (bytes K.bytes) self.old
             (bound_bytes Q.bytes start.entry) (bound_bytes Q.bytes end.entry) }
         ensures decided { result.lent ≡ None }

@@ -1,7 +1,6 @@
 //! The elements of the left set whose bytes the right one lacks, ascending.
-ghost use Rattle.std.specs.Iterator.{YieldsFirstRef, MakesProgress, item_count};
-ghost use Rattle.std.specs.Prelude.{⊤};
-ghost use Rattle.blart_set.specs.Merging.{lacking, Counts};
+ghost use Rattle.std.specs.Iterator.{YieldsFirstRef, item_count};
+ghost use Rattle.blart_set.specs.Merging.{lacking, Goes, Counts};
 
 use crate::merges::sides::Sides;
 use blart_keys::OrderedBytes;
@@ -42,8 +41,7 @@ impl<'a, K: OrderedBytes, const PREFIX_LEN: usize> Iterator for Difference<'a, K
     /// The next element that only the left set has. It ends where the left side does.
     fn next(&mut self) -> Option<&'a K>
         ensures steps { YieldsFirstRef (lacking K.bytes) self.old result self.new }
-        ensures goes { MakesProgress (λ _. ⊤) (item_count (lacking K.bytes)) self.old result self.new }
-        ensures counted { Counts self.old self.new }
+        ensures goes { Goes (lacking K.bytes) self.old result self.new }
     {
         next_lacking(&mut self.sides)
     }

@@ -1,7 +1,6 @@
 //! The elements of the left set whose bytes the right one has too, ascending.
-ghost use Rattle.std.specs.Iterator.{YieldsFirstRef, MakesProgress, item_count};
-ghost use Rattle.std.specs.Prelude.{⊤};
-ghost use Rattle.blart_set.specs.Merging.{shared, Counts};
+ghost use Rattle.std.specs.Iterator.{YieldsFirstRef, item_count};
+ghost use Rattle.blart_set.specs.Merging.{shared, Goes, Counts};
 
 use crate::merges::sides::Sides;
 use blart_keys::OrderedBytes;
@@ -42,8 +41,7 @@ impl<'a, K: OrderedBytes, const PREFIX_LEN: usize> Iterator for Intersection<'a,
     /// The next element that both sets have. It ends where either side does.
     fn next(&mut self) -> Option<&'a K>
         ensures steps { YieldsFirstRef (shared K.bytes) self.old result self.new }
-        ensures goes { MakesProgress (λ _. ⊤) (item_count (shared K.bytes)) self.old result self.new }
-        ensures counted { Counts self.old self.new }
+        ensures goes { Goes (shared K.bytes) self.old result self.new }
     {
         next_shared(&mut self.sides)
     }

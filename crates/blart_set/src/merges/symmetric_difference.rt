@@ -1,7 +1,6 @@
 //! The elements of either set whose bytes the other lacks, ascending.
-ghost use Rattle.std.specs.Iterator.{YieldsFirstRef, MakesProgress, item_count};
-ghost use Rattle.std.specs.Prelude.{⊤};
-ghost use Rattle.blart_set.specs.Merging.{parted, Counts};
+ghost use Rattle.std.specs.Iterator.{YieldsFirstRef, item_count};
+ghost use Rattle.blart_set.specs.Merging.{parted, Goes, Counts};
 
 use crate::merges::sides::Sides;
 use blart_keys::OrderedBytes;
@@ -45,8 +44,7 @@ impl<'a, K: OrderedBytes, const PREFIX_LEN: usize> Iterator
     /// The next element that only one of the sets has.
     fn next(&mut self) -> Option<&'a K>
         ensures steps { YieldsFirstRef (parted K.bytes) self.old result self.new }
-        ensures goes { MakesProgress (λ _. ⊤) (item_count (parted K.bytes)) self.old result self.new }
-        ensures counted { Counts self.old self.new }
+        ensures goes { Goes (parted K.bytes) self.old result self.new }
     {
         next_apart(&mut self.sides)
     }

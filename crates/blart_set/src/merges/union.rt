@@ -1,7 +1,6 @@
 //! The elements of both sets, ascending; where both have the bytes, the left set's.
-ghost use Rattle.std.specs.Iterator.{YieldsFirstRef, MakesProgress, item_count};
-ghost use Rattle.std.specs.Prelude.{⊤};
-ghost use Rattle.blart_set.specs.Merging.{united, Counts};
+ghost use Rattle.std.specs.Iterator.{YieldsFirstRef, item_count};
+ghost use Rattle.blart_set.specs.Merging.{united, Goes};
 
 use crate::merges::sides::Sides;
 use blart_keys::OrderedBytes;
@@ -44,8 +43,7 @@ impl<'a, K: OrderedBytes, const PREFIX_LEN: usize> Iterator for Union<'a, K, PRE
     /// The next element.
     fn next(&mut self) -> Option<&'a K>
         ensures steps { YieldsFirstRef (united K.bytes) self.old result self.new }
-        ensures goes { MakesProgress (λ _. ⊤) (item_count (united K.bytes)) self.old result self.new }
-        ensures counted { Counts self.old self.new }
+        ensures goes { Goes (united K.bytes) self.old result self.new }
     {
         let side = self.sides.step()?;
         Some(side.element())

@@ -1,4 +1,4 @@
-use Rattle.std.proofs.Common.{◌≡◌, ◌+◌, ◌%◌, ◌^◌, ◌≤◌, refl, ap, ◌∙◌, length, arith}
+use Rattle.std.proofs.Common.{◌+◌, ◌%◌, ◌^◌, refl, ap, ◌∙◌, length, arith}
 use Rattle.blart.specs.Words.{pairs}
 use Rattle.callers.proofs.lending.raise_below.Goals as goal
 

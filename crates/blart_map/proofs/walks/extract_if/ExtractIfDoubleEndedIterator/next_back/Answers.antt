@@ -36,7 +36,7 @@ returns-then-pred-clause-steps g c =
     let rs = c.take_leaf.new.self in
     let gone = c.take_leaf.ensures.rest in (
       c.loop-id.invariant.1,
-      c.loop-id.invariant.4 _ _ _ _ (extracts_true g.F.FnMut at.map.now at.pred c.in-Some.id c.leaf_mut-value.result.0.now c.leaf_mut-value.result.1.now c.pred.new.arg3 c.pred.result c.pred.new.self (reverse (leaves_left at.cursor at.map.now)) (reverse (leaves_left c.step_back.new.cursor at.map.now)) (back_splits at.map.now c.loop-id.invariant.2 at.cursor c.step_back.new.cursor at.fits c.in-Some.ensures.fits c.in-Some.id c.leaf_mut-value.result.0.now c.leaf_mut-value.result.1.now c.pred.new.arg3 c.leaf_mut-value.ensures.value c.in-Some.ensures.passes) called (Some c.take_leaf.result) rs (reverse (leaves_left c.step_back.new.cursor rs)) c.if-pred.true (is_result at.map.now c.loop-id.invariant.2 at.cursor c.step_back.new.cursor at.fits c.in-Some.ensures.fits c.in-Some.id c.leaf_mut-value.result.0.now c.leaf_mut-value.result.1.now c.pred.new.arg3 c.leaf_mut-value.ensures.value c.take_leaf.result c.take_leaf.ensures.value) (is_removed at.map.now c.loop-id.invariant.2 at.cursor c.step_back.new.cursor at.fits c.in-Some.ensures.fits c.in-Some.id c.leaf_mut-value.result.0.now c.leaf_mut-value.result.1.now c.pred.new.arg3 c.leaf_mut-value.ensures.value rs gone) (ap reverse (back_same_removed at.map.now c.loop-id.invariant.2 at.cursor c.step_back.new.cursor at.fits c.in-Some.ensures.fits c.in-Some.id c.leaf_mut-value.result.0.now c.leaf_mut-value.result.1.now c.pred.new.arg3 c.leaf_mut-value.ensures.value c.in-Some.ensures.passes rs gone))),
+      c.loop-id.invariant.4 _ _ _ _ (extracts_true g.F.FnMut at.map.now at.pred c.in-Some.id c.leaf_mut-value.result.0.now c.leaf_mut-value.result.1.now c.pred.new.arg3 c.pred.result c.pred.new.self (reverse (leaves_left at.cursor at.map.now)) (reverse (leaves_left c.step_back.new.cursor at.map.now)) (back_splits at.map.now c.loop-id.invariant.2 at.cursor c.step_back.new.cursor at.fits c.in-Some.ensures.fits c.in-Some.id c.leaf_mut-value.result.0.now c.leaf_mut-value.result.1.now c.pred.new.arg3 c.leaf_mut-value.ensures.value c.in-Some.ensures.passes) called c.leaf_mut-value.ensures.value (Some c.take_leaf.result) rs (reverse (leaves_left c.step_back.new.cursor rs)) c.if-pred.true (is_result at.map.now c.loop-id.invariant.2 at.cursor c.step_back.new.cursor at.fits c.in-Some.ensures.fits c.in-Some.id c.leaf_mut-value.result.0.now c.leaf_mut-value.result.1.now c.pred.new.arg3 c.leaf_mut-value.ensures.value c.take_leaf.result c.take_leaf.ensures.value) (is_removed at.map.now c.loop-id.invariant.2 at.cursor c.step_back.new.cursor at.fits c.in-Some.ensures.fits c.in-Some.id c.leaf_mut-value.result.0.now c.leaf_mut-value.result.1.now c.pred.new.arg3 c.leaf_mut-value.ensures.value rs gone) (ap reverse (back_same_removed at.map.now c.loop-id.invariant.2 at.cursor c.step_back.new.cursor at.fits c.in-Some.ensures.fits c.in-Some.id c.leaf_mut-value.result.0.now c.leaf_mut-value.result.1.now c.pred.new.arg3 c.leaf_mut-value.ensures.value c.in-Some.ensures.passes rs gone))),
     )
 
 pub returns-then-pred-clause-goes : goal.returns-then-pred-clause-goes
@@ -60,5 +60,5 @@ loop-id-preserved g c =
       c.loop-id.invariant.1,
       distinct_with at.map.now c.loop-id.invariant.2 at.cursor c.step_back.new.cursor at.fits c.in-Some.ensures.fits c.in-Some.id c.leaf_mut-value.result.0.now c.leaf_mut-value.result.1.now c.pred.new.arg3 c.leaf_mut-value.ensures.value,
       le_step _ _ _ (ap suc (ap length same) ∙ back_fewer at.map.now c.loop-id.invariant.2 at.cursor c.step_back.new.cursor at.fits c.in-Some.ensures.fits c.in-Some.id c.leaf_mut-value.result.0.now c.leaf_mut-value.result.1.now c.pred.new.arg3 c.leaf_mut-value.ensures.value c.in-Some.ensures.passes) c.loop-id.invariant.3,
-      λ r S' f' rest a. c.loop-id.invariant.4 r S' f' rest (extracts_false g.F.FnMut at.map.now at.pred c.in-Some.id c.leaf_mut-value.result.0.now c.leaf_mut-value.result.1.now c.pred.new.arg3 c.pred.result c.pred.new.self (reverse (leaves_left at.cursor at.map.now)) (reverse (leaves_left c.step_back.new.cursor at.map.now)) (back_splits at.map.now c.loop-id.invariant.2 at.cursor c.step_back.new.cursor at.fits c.in-Some.ensures.fits c.in-Some.id c.leaf_mut-value.result.0.now c.leaf_mut-value.result.1.now c.pred.new.arg3 c.leaf_mut-value.ensures.value c.in-Some.ensures.passes) called r S' f' rest c.if-pred.false (subst (λ (l : List (Numbered g.row.K.Denot g.row.V.Denot)). Extracts g.F.FnMut (with_value at.map.now c.in-Some.id c.pred.new.arg3) c.pred.new.self (reverse l) r S' f' rest) same a)),
+      λ r S' f' rest a. c.loop-id.invariant.4 r S' f' rest (extracts_false g.F.FnMut at.map.now at.pred c.in-Some.id c.leaf_mut-value.result.0.now c.leaf_mut-value.result.1.now c.pred.new.arg3 c.pred.result c.pred.new.self (reverse (leaves_left at.cursor at.map.now)) (reverse (leaves_left c.step_back.new.cursor at.map.now)) (back_splits at.map.now c.loop-id.invariant.2 at.cursor c.step_back.new.cursor at.fits c.in-Some.ensures.fits c.in-Some.id c.leaf_mut-value.result.0.now c.leaf_mut-value.result.1.now c.pred.new.arg3 c.leaf_mut-value.ensures.value c.in-Some.ensures.passes) called c.leaf_mut-value.ensures.value r S' f' rest c.if-pred.false (subst (λ (l : List (Numbered g.row.K.Denot g.row.V.Denot)). Extracts g.F.FnMut (with_value at.map.now c.in-Some.id c.pred.new.arg3) c.pred.new.self (reverse l) r S' f' rest) same a)),
     )

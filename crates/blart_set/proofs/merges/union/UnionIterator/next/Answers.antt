@@ -1,3 +1,4 @@
+use Rattle.std.proofs.Common.{rules}
 use Rattle.blart_set.specs.Merging.{united}
 use Rattle.blart_set.proofs.Stepping.{united_step, longer}
 use Rattle.blart_set.proofs.merges.union.UnionIterator.next.Goals as goal
@@ -8,4 +9,4 @@ returns-clause-steps g c = rw (← c.self.view_is) (rw c.element.ensures (united
 pub returns-clause-goes : goal.returns-clause-goes
 returns-clause-goes g c =
     let less = longer (united g.K.AsBytes.bytes c.args.self.now) (united g.K.AsBytes.bytes c.step.new.self) c.element.result.now (returns-clause-steps g c) in
-    record { on = λ finite. (tt, finite, less); keeps = tt; rests = λ _. tt }
+    record { on = λ finite. (tt, finite, less); keeps = tt; rests = λ _. tt; counted = search rules }

@@ -1,0 +1,76 @@
+//! Pairs that a closure picks.
+ghost use Rattle.std.specs.Prelude.{◌≡◌, leb, ltb, filter, not, take, IfOk, OnOk};
+ghost use Rattle.blart.specs.Words.{pairs, bytes, PutsAll};
+
+use blart::{AsBytes, Map, NoPrefixesBytes, ZKey};
+use std::alloc::{AllocError, Global};
+use std::iter;
+use std::iter::Iterator;
+use std::ops::Bound;
+
+/// Keeps the pairs whose value is a bound or above it.
+pub fn drop_below<K: AsBytes + Drop>(scores: &mut Map<K, u64>, bound: u64)
+    ensures { pairs scores.new ≡ filter (λ p. leb bound p.1) (pairs scores.old) }
+{
+    scores.retain(|_, score| *score >= bound);
+}
+
+/// Keeps the first so many pairs, by a closure that counts.
+pub fn keep_first<K: AsBytes + Drop, V: Drop>(map: &mut Map<K, V>, count: usize)
+    ensures { pairs map.new ≡ take count (pairs map.old) }
+{
+    let mut left = count;
+    map.retain(|_, _| {
+        let keeps = left > 0;
+        left = left.saturating_sub(1);
+        keeps
+    });
+}
+
+/// Takes out the pairs whose value is below a bound, and gives them, ascending, as a vector.
+pub fn drain_below<K: AsBytes + Drop>(
+    alloc: Global,
+    scores: &mut Map<K, u64>,
+    bound: u64,
+) -> Result<Vec<(K, u64)>, AllocError>
+    ensures { IfOk result
+        (λ low. low.items ≡ filter (λ p. ltb p.1 bound) (pairs scores.old)) }
+{
+    let mut low = Vec::new(alloc);
+    let count = scores.len();
+    let mut walk = scores.extract_if(
+        Bound::<&ZKey>::Unbounded,
+        Bound::Unbounded,
+        |_, score| *score < bound,
+    );
+    for _ in iter::repeat_n((), count) {
+        match walk.next() {
+            Some(pair) => low.push(pair)?,
+            None => break,
+        }
+    }
+    Ok(low)
+}
+
+/// Moves the pairs whose value is a bound or above it to another map, where a pair of the same bytes gives way.
+pub fn move_above<K: NoPrefixesBytes + Drop>(
+    from: &mut Map<K, u64>,
+    to: &mut Map<K, u64>,
+    bound: u64,
+) -> Result<(), AllocError>
+    ensures left { OnOk result
+        (pairs from.new ≡ filter (λ p. not (leb bound p.1)) (pairs from.old)) }
+    ensures moved { OnOk result (PutsAll (bytes K.bytes) (pairs to.old)
+        (filter (λ p. leb bound p.1) (pairs from.old)) (pairs to.new)) }
+{
+    let mut walk = from.take_walk(Bound::<&ZKey>::Unbounded, Bound::Unbounded);
+    while let Some(value) = walk.lend() {
+        if *value < bound {
+            walk.keep();
+        } else {
+            let (key, value) = walk.take();
+            to.insert(key, value)?;
+        }
+    }
+    Ok(())
+}
