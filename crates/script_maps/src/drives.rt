@@ -38,36 +38,73 @@ fn calls_of<K: ScriptKey>(
     Ok(calls)
 }
 
+// The name of a call that is made in turn.
+#[derive(Clone, Copy)]
+enum TurnName {
+    TryInsert,
+    ReplaceEntry,
+    PrefixInsert,
+    RemoveEntry,
+    ContainsKey,
+    PopFirst,
+    PopLast,
+    Clear,
+}
+
+// The word that names each call.
+const NAMES: [(&str, TurnName); 8] = [
+    ("TryInsert", TurnName::TryInsert),
+    ("ReplaceEntry", TurnName::ReplaceEntry),
+    ("PrefixInsert", TurnName::PrefixInsert),
+    ("RemoveEntry", TurnName::RemoveEntry),
+    ("ContainsKey", TurnName::ContainsKey),
+    ("PopFirst", TurnName::PopFirst),
+    ("PopLast", TurnName::PopLast),
+    ("Clear", TurnName::Clear),
+];
+
+// The name that the word is.
+fn turn_of(word: &[u8]) -> Option<TurnName> {
+    for (text, name) in &NAMES {
+        if text.as_bytes() == word {
+            return Some(*name);
+        }
+    }
+    None
+}
+
 // The call that the parts of a word are.
 fn call_of<K: ScriptKey>(mut parts: Words<'_>) -> Result<Call<K, u64>, Unanswered> {
-    match parts.word()? {
-        b"TryInsert" => {
+    let Some(name) = turn_of(parts.word()?) else {
+        return Err(Unanswered::NoCall);
+    };
+    match name {
+        TurnName::TryInsert => {
             let (key, value) = parts.last_pair()?;
             Ok(Call::TryInsert(key, value))
         }
-        b"ReplaceEntry" => {
+        TurnName::ReplaceEntry => {
             let (key, value) = parts.last_pair()?;
             Ok(Call::ReplaceEntry(key, value))
         }
-        b"PrefixInsert" => {
+        TurnName::PrefixInsert => {
             let (key, value) = parts.last_pair()?;
             Ok(Call::PrefixInsert(key, value))
         }
-        b"RemoveEntry" => Ok(Call::RemoveEntry(parts.last_key()?)),
-        b"ContainsKey" => Ok(Call::ContainsKey(parts.last_key()?)),
-        name => {
+        TurnName::RemoveEntry => Ok(Call::RemoveEntry(parts.last_key()?)),
+        TurnName::ContainsKey => Ok(Call::ContainsKey(parts.last_key()?)),
+        _ => {
             parts.end()?;
-            bare_call(name)
+            Ok(bare_call(name))
         }
     }
 }
 
 // The call of this name, which has no arguments.
-fn bare_call<K>(name: &[u8]) -> Result<Call<K, u64>, Unanswered> {
+fn bare_call<K>(name: TurnName) -> Call<K, u64> {
     match name {
-        b"PopFirst" => Ok(Call::PopFirst),
-        b"PopLast" => Ok(Call::PopLast),
-        b"Clear" => Ok(Call::Clear),
-        _ => Err(Unanswered::NoCall),
+        TurnName::PopFirst => Call::PopFirst,
+        TurnName::PopLast => Call::PopLast,
+        _ => Call::Clear,
     }
 }
