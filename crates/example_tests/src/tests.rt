@@ -1,0 +1,53 @@
+//! Each test has the text of an example in the documents of a type.
+
+mod calls;
+mod entries;
+mod keys;
+mod merges;
+mod prefix_entries;
+mod sets;
+mod walks;
+
+use blart_keys::ZKeyError;
+use blart_map::{InsertPrefixError, TryInsertError};
+use std::alloc::{AllocError, AllocFailed};
+
+// Why an example ended before its last line.
+#[derive(Debug, Drop)]
+enum Fail {
+    Memory,
+    Conflict,
+}
+
+impl From<AllocError> for Fail {
+    fn from(_: AllocError) -> Fail {
+        Fail::Memory
+    }
+}
+
+impl<T: Drop> From<AllocFailed<T>> for Fail {
+    fn from(_: AllocFailed<T>) -> Fail {
+        Fail::Memory
+    }
+}
+
+impl From<InsertPrefixError> for Fail {
+    fn from(_: InsertPrefixError) -> Fail {
+        Fail::Conflict
+    }
+}
+
+impl From<ZKeyError> for Fail {
+    fn from(_: ZKeyError) -> Fail {
+        Fail::Memory
+    }
+}
+
+impl From<TryInsertError> for Fail {
+    fn from(error: TryInsertError) -> Fail {
+        match error {
+            TryInsertError::Prefix(_) => Fail::Conflict,
+            TryInsertError::Memory(_) => Fail::Memory,
+        }
+    }
+}

@@ -1,0 +1,55 @@
+//! A map, and entries of it.
+use super::Fail;
+use blart_map::{Entry, TreeMap};
+use std::alloc::Global;
+use std::process::Abort;
+
+// The example of `blart_map::Entry`.
+fn entry(rt: &impl Abort, alloc: Global) -> Result<(), Fail> {
+    let mut map = TreeMap::new(alloc);
+    *map.try_entry("cat")?.or_insert(1)? = 2;
+    let entry = map.try_entry("cat")?.and_modify(|value| *value = 3);
+    assert_eq!(rt; *entry.or_insert(0)?, 3);
+    Ok(())
+}
+
+// The example of `blart_map::OccupiedEntry`.
+fn occupied_entry(rt: &impl Abort, alloc: Global) -> Result<(), Fail> {
+    let mut map = TreeMap::new(alloc);
+    map.try_insert("cat", 1)?;
+    if let Entry::Occupied(mut entry) = map.try_entry("cat")? {
+        assert_eq!(rt; entry.insert(2), 1);
+        assert_eq!(rt; entry.remove_entry(), ("cat", 2));
+    }
+    assert!(rt; map.is_empty());
+    Ok(())
+}
+
+// The example of `blart_map::VacantEntry`.
+fn vacant_entry(rt: &impl Abort, alloc: Global) -> Result<(), Fail> {
+    let mut map = TreeMap::new(alloc);
+    if let Entry::Vacant(entry) = map.try_entry("cat")? {
+        *entry.insert(1)? = 2;
+    }
+    assert_eq!(rt; map.get(&"cat"), Some(&2));
+    Ok(())
+}
+
+// The example of `blart_map::TreeMap`.
+fn tree_map(rt: &impl Abort, alloc: Global) -> Result<(), Fail> {
+    let mut map = TreeMap::new(alloc);
+    map.try_insert("car", 1)?;
+    map.try_insert("cat", 2)?;
+    assert_eq!(rt; map.get(&"cat"), Some(&2));
+    assert!(rt; map.try_insert("ca", 3).is_err());
+    assert_eq!(rt; map.first_key_value(), Some((&"car", &1)));
+    Ok(())
+}
+
+#[test]
+fn as_shown(rt: HostRuntime) {
+    entry(&rt, rt.alloc()).expect(&rt, "memory");
+    occupied_entry(&rt, rt.alloc()).expect(&rt, "memory");
+    vacant_entry(&rt, rt.alloc()).expect(&rt, "memory");
+    tree_map(&rt, rt.alloc()).expect(&rt, "memory");
+}

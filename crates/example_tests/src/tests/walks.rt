@@ -1,0 +1,137 @@
+//! Walks that lend and take.
+use super::Fail;
+use blart_map::{PrefixKind, TreeMap};
+use std::alloc::Global;
+use std::ops::Bound;
+use std::process::Abort;
+
+// The example of `blart_map::IterMut`.
+fn iter_mut(rt: &impl Abort, alloc: Global) -> Result<(), Fail> {
+    let mut map = TreeMap::new(alloc);
+    map.try_insert("cat", 1)?;
+    let mut walk = map.iter_mut();
+    if let Some(value) = walk.next_back() {
+        *value = 2;
+    }
+    assert_eq!(rt; map.get(&"cat"), Some(&2));
+    Ok(())
+}
+
+// The example of `blart_map::ValuesMut`.
+fn values_mut(rt: &impl Abort, alloc: Global) -> Result<(), Fail> {
+    let mut map = TreeMap::new(alloc);
+    map.try_insert("cat", 1)?;
+    let mut walk = map.values_mut();
+    if let Some(value) = walk.next() {
+        *value = 2;
+    }
+    assert_eq!(rt; map.get(&"cat"), Some(&2));
+    Ok(())
+}
+
+// The example of `blart_map::CountedWalk`.
+fn counted_walk(rt: &impl Abort, alloc: Global) -> Result<(), Fail> {
+    let mut map = TreeMap::new(alloc);
+    map.try_insert("cat", 1)?;
+    let mut walk = map.iter_mut();
+    assert_eq!(rt; walk.len(), 1);
+    if let Some(value) = walk.next() {
+        *value = 2;
+    }
+    assert_eq!(rt; walk.len(), 0);
+    Ok(())
+}
+
+// The example of `blart_map::RangeMut`.
+fn range_mut(rt: &impl Abort, alloc: Global) -> Result<(), Fail> {
+    let mut map = TreeMap::new(alloc);
+    map.try_insert("cat", 1)?;
+    let low = "b";
+    let mut walk = map.range_mut(Bound::Included(&low), Bound::Unbounded);
+    if let Some(value) = walk.next() {
+        *value = 2;
+    }
+    assert_eq!(rt; map.get(&"cat"), Some(&2));
+    Ok(())
+}
+
+// The example of `blart_map::PrefixMut`.
+fn prefix_mut(rt: &impl Abort, alloc: Global) -> Result<(), Fail> {
+    let mut map = TreeMap::new(alloc);
+    map.try_insert("cat", 1)?;
+    let mut walk = map.prefix_mut(b"ca");
+    if let Some(value) = walk.next() {
+        *value = 2;
+    }
+    assert_eq!(rt; map.get(&"cat"), Some(&2));
+    Ok(())
+}
+
+// The example of `blart_map::SubtreeIterMut`.
+fn subtree_iter_mut(rt: &impl Abort, alloc: Global) -> Result<(), Fail> {
+    let mut map = TreeMap::new(alloc);
+    map.try_insert("cat", 1)?;
+    if let PrefixKind::Inner(entry) = map.prefix_entry("ca").kind() {
+        let mut walk = entry.iter_mut();
+        if let Some(value) = walk.next() {
+            *value = 2;
+        }
+    }
+    assert_eq!(rt; map.get(&"cat"), Some(&2));
+    Ok(())
+}
+
+// The example of `blart_map::LendingWalk`.
+fn lending_walk(rt: &impl Abort, alloc: Global) -> Result<(), Fail> {
+    let mut map = TreeMap::new(alloc);
+    map.try_insert("car", 1)?;
+    map.try_insert("cat", 2)?;
+    let mut walk = map.prefix_mut(b"ca");
+    if let Some(value) = walk.next_back() {
+        *value = 3;
+    }
+    assert_eq!(rt; map.get(&"cat"), Some(&3));
+    Ok(())
+}
+
+// The example of `blart_map::TakeWalk`.
+fn take_walk(rt: &impl Abort, alloc: Global) -> Result<(), Fail> {
+    let mut map = TreeMap::new(alloc);
+    map.try_insert("cat", 1)?;
+    let mut walk = map.take_walk(Bound::<&&str>::Unbounded, Bound::Unbounded);
+    if let Some(value) = walk.lend() {
+        *value = 2;
+    }
+    if walk.undecided() {
+        assert_eq!(rt; walk.take(), ("cat", 2));
+    }
+    assert!(rt; map.is_empty());
+    Ok(())
+}
+
+// The example of `blart_map::ExtractIf`.
+fn extract_if(rt: &impl Abort, alloc: Global) -> Result<(), Fail> {
+    let mut map = TreeMap::new(alloc);
+    map.try_insert("cat", 0)?;
+    let mut walk = map.extract_if(
+        Bound::<&&str>::Unbounded,
+        Bound::Unbounded,
+        |_, value| *value == 0,
+    );
+    assert_eq!(rt; walk.next(), Some(("cat", 0)));
+    assert!(rt; walk.next().is_none());
+    Ok(())
+}
+
+#[test]
+fn as_shown(rt: HostRuntime) {
+    iter_mut(&rt, rt.alloc()).expect(&rt, "memory");
+    values_mut(&rt, rt.alloc()).expect(&rt, "memory");
+    counted_walk(&rt, rt.alloc()).expect(&rt, "memory");
+    range_mut(&rt, rt.alloc()).expect(&rt, "memory");
+    prefix_mut(&rt, rt.alloc()).expect(&rt, "memory");
+    subtree_iter_mut(&rt, rt.alloc()).expect(&rt, "memory");
+    lending_walk(&rt, rt.alloc()).expect(&rt, "memory");
+    take_walk(&rt, rt.alloc()).expect(&rt, "memory");
+    extract_if(&rt, rt.alloc()).expect(&rt, "memory");
+}
