@@ -33,5 +33,7 @@ unfoldable pub use Rattle.blart_set.specs.Elements.{elements}
 pub use Rattle.blart_set.specs.Elements.{RefusesElement}
 pub use Rattle.blart_set.specs.Merging.{Merge, IsBeginning, Counts, united, parted, shared, lacking}
 pub use Rattle.blart_keys.specs.Merges.{IsUnion, IsSymmetricDifference, intersection, difference}
+-- a closure asked of an element
+pub use Rattle.blart_set.specs.Asking.{AsksElement}
 -- clones of elements
 pub use Rattle.blart_set.specs.Clones.{KeepsBytes, IsElementClone, AreElementClones, MakesClones}

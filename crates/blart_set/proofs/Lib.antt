@@ -1,6 +1,7 @@
 pub mod Cloned
 pub mod Compared
 pub mod Extracted
+pub mod Filtered
 pub mod Images
 pub mod Keeping
 pub mod Lawful

@@ -20,7 +20,7 @@ use std::ops::Bound;
 ///
 /// ```
 /// // set is {1, 2, 3, 4}
-/// let mut walk = set.extract_if(Bound::<&u8>::Unbounded, Bound::Unbounded, |x| x % 2 == 0);
+/// let mut walk = set.extract_if(Bound::<&u8>::Unbounded, Bound::Unbounded, |x| *x % 2 == 0);
 /// assert_eq!(walk.next_back(), Some(4));
 /// assert_eq!(walk.next(), Some(2));
 /// // dropped here, it leaves {1, 3}

@@ -16,31 +16,30 @@ use std::ops::Bound;
 /// The elements of a set from both ends, ascending by their bytes. It knows how many are left.
 ///
 /// ```
-/// set.try_insert("cat")?;
+/// // set is {1, 2}
 /// let mut elements = set.iter();
-/// assert_eq!(elements.len(), 1);
-/// assert_eq!(elements.next_back(), Some(&"cat"));
+/// assert_eq!(elements.len(), 2);
+/// assert_eq!(elements.next_back(), Some(&2));
 /// ```
 pub type Iter<'a, K, const PREFIX_LEN: usize> = Keys<'a, K, (), PREFIX_LEN>;
 
 /// The elements of a set by value from both ends, ascending by their bytes. It knows how many are left; what was not taken is freed where the walk is dropped.
 ///
 /// ```
-/// set.try_insert("cat")?;
+/// // set is {1, 2}
 /// let mut elements = set.into_iter();
-/// assert_eq!(elements.next(), Some("cat"));
-/// assert_eq!(elements.next(), None);
+/// assert_eq!(elements.next(), Some(1));
+/// assert_eq!(elements.len(), 1);
 /// ```
 pub type IntoIter<K, const PREFIX_LEN: usize> = IntoKeys<K, (), PREFIX_LEN>;
 
 /// The elements within two bounds from both ends, ascending by their bytes.
 ///
 /// ```
-/// set.try_insert("cat")?;
-/// set.try_insert("dog")?;
-/// let low = "d";
-/// let mut elements = set.range(Bound::Included(&low), Bound::Unbounded);
-/// assert_eq!(elements.next(), Some(&"dog"));
+/// // set is {1, 2, 3}
+/// let mut elements = set.range(Bound::Included(&2u8), Bound::Unbounded);
+/// assert_eq!(elements.next(), Some(&2));
+/// assert_eq!(elements.next_back(), Some(&3));
 /// assert_eq!(elements.next(), None);
 /// ```
 #[derive(Drop)]
@@ -89,10 +88,9 @@ impl<'a, K, const PREFIX_LEN: usize> FusedIterator for Range<'a, K, PREFIX_LEN> 
 /// The elements whose bytes begin with some bytes, from both ends, ascending.
 ///
 /// ```
-/// set.try_insert("cat")?;
-/// set.try_insert("dog")?;
-/// let mut elements = set.prefix(b"do");
-/// assert_eq!(elements.next(), Some(&"dog"));
+/// // set is {[1, 2], [3, 4]}
+/// let mut elements = set.prefix(&[3]);
+/// assert_eq!(elements.next(), Some(&[3, 4]));
 /// assert_eq!(elements.next(), None);
 /// ```
 #[derive(Drop)]

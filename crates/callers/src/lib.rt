@@ -31,6 +31,6 @@ pub use prefix_entries::{count_over, merge_routes, set_over};
 pub use queues::{following, take_least, take_next, to_end};
 pub use router::{Handler, asked, site};
 pub use routes::{AddError, Table, hit, route, take_over};
-pub use sets::{all_of, count_shared, grants_all, join, new_to, shared_of};
+pub use sets::{all_of, count_shared, grants_all, join, keep_below, new_to, shared_of};
 pub use sums::{count_between, sum_below, sum_below_chain};
 pub use walks::{from_both_ends, get_by_front};

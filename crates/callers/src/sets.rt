@@ -1,5 +1,5 @@
 //! Sets: merges of two, and loops over one.
-ghost use Rattle.std.specs.Prelude.{◌≡◌, ◌↔◌, true, length, All, IfOk, IsTrue};
+ghost use Rattle.std.specs.Prelude.{◌≡◌, ◌↔◌, true, filter, length, ltb, All, IfOk, IsTrue};
 ghost use Rattle.blart.specs.Words.{elements, difference, intersection, IsUnion, KeepsBytes, MakesClones, stores};
 
 use blart::{AsBytes, NoPrefixesBytes, OrderedBytes, TreeSet};
@@ -32,6 +32,13 @@ pub fn all_of<K: AsBytes + Copy + Drop, const P: usize>(
         all.push(*element)?;
     }
     Ok(all)
+}
+
+/// Keeps the bytes below a bound.
+pub fn keep_below<const P: usize>(set: &mut TreeSet<u8, P>, bound: u8)
+    ensures { elements set.new ≡ filter (λ n. ltb n bound) (elements set.old) }
+{
+    set.retain(|n| *n < bound);
 }
 
 /// How many elements of the one set the other has too.

@@ -8,9 +8,19 @@ mod prefix_entries;
 mod sets;
 mod walks;
 
-use blart_keys::ZKeyError;
+use blart_keys::{NoPrefixesBytes, ZKeyError};
 use blart_map::{InsertPrefixError, TryInsertError};
+use blart_set::TreeSet;
 use std::alloc::{AllocError, AllocFailed};
+use std::process::Abort;
+
+// A set of these elements.
+fn set_of<K: NoPrefixesBytes + Copy, const N: usize>(
+    rt: &(impl Abort + AllocGlobal),
+    elements: [K; N],
+) -> TreeSet<K, 16> {
+    TreeSet::from_array(rt.alloc(), elements).expect(rt, "memory")
+}
 
 // Why an example ended before its last line.
 #[derive(Debug, Drop)]

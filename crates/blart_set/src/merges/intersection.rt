@@ -10,12 +10,9 @@ use std::marker::Model;
 /// The elements of the left set whose bytes the right one has too, ascending. It makes at most as many comparisons as it consumes elements of both sets.
 ///
 /// ```
-/// left.try_insert("car")?;
-/// left.try_insert("cat")?;
-/// right.try_insert("cat")?;
-/// right.try_insert("dog")?;
+/// // left is {1, 2}, right is {2, 3}
 /// let mut merged = left.intersection(&right);
-/// assert_eq!(merged.next(), Some(&"cat"));
+/// assert_eq!(merged.next(), Some(&2));
 /// assert_eq!(merged.next(), None);
 /// ```
 #[derive(Drop)]

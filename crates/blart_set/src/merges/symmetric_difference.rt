@@ -10,13 +10,10 @@ use std::marker::Model;
 /// The elements of either set whose bytes the other lacks, ascending. It makes at most as many comparisons as it consumes elements of both sets.
 ///
 /// ```
-/// left.try_insert("car")?;
-/// left.try_insert("cat")?;
-/// right.try_insert("cat")?;
-/// right.try_insert("dog")?;
+/// // left is {1, 2}, right is {2, 3}
 /// let mut merged = left.symmetric_difference(&right);
-/// assert_eq!(merged.next(), Some(&"car"));
-/// assert_eq!(merged.next(), Some(&"dog"));
+/// assert_eq!(merged.next(), Some(&1));
+/// assert_eq!(merged.next(), Some(&3));
 /// assert_eq!(merged.next(), None);
 /// ```
 #[derive(Drop)]

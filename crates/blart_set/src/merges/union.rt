@@ -10,14 +10,11 @@ use std::marker::Model;
 /// The elements of both sets, ascending; where both have the bytes, the left set's. It makes at most as many comparisons as it consumes elements of both sets.
 ///
 /// ```
-/// left.try_insert("car")?;
-/// left.try_insert("cat")?;
-/// right.try_insert("cat")?;
-/// right.try_insert("dog")?;
+/// // left is {1, 2}, right is {2, 3}
 /// let mut merged = left.union(&right);
-/// assert_eq!(merged.next(), Some(&"car"));
-/// assert_eq!(merged.next(), Some(&"cat"));
-/// assert_eq!(merged.next(), Some(&"dog"));
+/// assert_eq!(merged.next(), Some(&1));
+/// assert_eq!(merged.next(), Some(&2));
+/// assert_eq!(merged.next(), Some(&3));
 /// assert_eq!(merged.next(), None);
 /// ```
 #[derive(Drop)]

@@ -1,75 +1,54 @@
 //! Merges of two sets.
-use super::Fail;
+use super::set_of;
 use blart_set::{Compares, TreeSet};
-use std::alloc::Global;
 use std::iter::Iterator;
 use std::process::Abort;
 
+type Set = TreeSet<u8, 16>;
+
 // The example of `blart_set::Union`.
-fn union(rt: &impl Abort, alloc: Global) -> Result<(), Fail> {
-    let mut left = TreeSet::new(alloc);
-    let mut right = TreeSet::new(alloc);
-    left.try_insert("car")?;
-    left.try_insert("cat")?;
-    right.try_insert("cat")?;
-    right.try_insert("dog")?;
+fn union(rt: &impl Abort, left: &Set, right: &Set) {
+    // left is {1, 2}, right is {2, 3}
     let mut merged = left.union(&right);
-    assert_eq!(rt; merged.next(), Some(&"car"));
-    assert_eq!(rt; merged.next(), Some(&"cat"));
-    assert_eq!(rt; merged.next(), Some(&"dog"));
+    assert_eq!(rt; merged.next(), Some(&1));
+    assert_eq!(rt; merged.next(), Some(&2));
+    assert_eq!(rt; merged.next(), Some(&3));
     assert_eq!(rt; merged.next(), None);
-    Ok(())
 }
 
 // The example of `blart_set::Intersection`.
-fn intersection(rt: &impl Abort, alloc: Global) -> Result<(), Fail> {
-    let mut left = TreeSet::new(alloc);
-    let mut right = TreeSet::new(alloc);
-    left.try_insert("car")?;
-    left.try_insert("cat")?;
-    right.try_insert("cat")?;
-    right.try_insert("dog")?;
+fn intersection(rt: &impl Abort, left: &Set, right: &Set) {
+    // left is {1, 2}, right is {2, 3}
     let mut merged = left.intersection(&right);
-    assert_eq!(rt; merged.next(), Some(&"cat"));
+    assert_eq!(rt; merged.next(), Some(&2));
     assert_eq!(rt; merged.next(), None);
-    Ok(())
 }
 
 // The example of `blart_set::Difference`.
-fn difference(rt: &impl Abort, alloc: Global) -> Result<(), Fail> {
-    let mut left = TreeSet::new(alloc);
-    let mut right = TreeSet::new(alloc);
-    left.try_insert("car")?;
-    left.try_insert("cat")?;
-    right.try_insert("cat")?;
-    right.try_insert("dog")?;
+fn difference(rt: &impl Abort, left: &Set, right: &Set) {
+    // left is {1, 2}, right is {2, 3}
     let mut merged = left.difference(&right);
-    assert_eq!(rt; merged.next(), Some(&"car"));
+    assert_eq!(rt; merged.next(), Some(&1));
     assert_eq!(rt; merged.next(), None);
-    Ok(())
 }
 
 // The example of `blart_set::SymmetricDifference`.
-fn symmetric_difference(rt: &impl Abort, alloc: Global) -> Result<(), Fail> {
-    let mut left = TreeSet::new(alloc);
-    let mut right = TreeSet::new(alloc);
-    left.try_insert("car")?;
-    left.try_insert("cat")?;
-    right.try_insert("cat")?;
-    right.try_insert("dog")?;
+fn symmetric_difference(rt: &impl Abort, left: &Set, right: &Set) {
+    // left is {1, 2}, right is {2, 3}
     let mut merged = left.symmetric_difference(&right);
-    assert_eq!(rt; merged.next(), Some(&"car"));
-    assert_eq!(rt; merged.next(), Some(&"dog"));
+    assert_eq!(rt; merged.next(), Some(&1));
+    assert_eq!(rt; merged.next(), Some(&3));
     assert_eq!(rt; merged.next(), None);
-    Ok(())
 }
 
 #[test]
 fn as_shown(rt: HostRuntime) {
-    union(&rt, rt.alloc()).expect(&rt, "memory");
-    intersection(&rt, rt.alloc()).expect(&rt, "memory");
-    difference(&rt, rt.alloc()).expect(&rt, "memory");
-    symmetric_difference(&rt, rt.alloc()).expect(&rt, "memory");
+    let left: Set = set_of(&rt, [1, 2]);
+    let right: Set = set_of(&rt, [2, 3]);
+    union(&rt, &left, &right);
+    intersection(&rt, &left, &right);
+    difference(&rt, &left, &right);
+    symmetric_difference(&rt, &left, &right);
 }
 
 // The example of `blart_set::Compares`.

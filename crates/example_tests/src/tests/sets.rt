@@ -1,8 +1,8 @@
 //! Sets, and walks over one.
-use super::Fail;
+use super::{Fail, set_of};
 use blart_set::TreeSet;
 use std::alloc::Global;
-use std::iter::{DoubleEndedIterator, ExactSizeIterator, IntoIterator, Iterator};
+use std::iter::{DoubleEndedIterator, IntoIterator, Iterator};
 use std::ops::Bound;
 use std::process::Abort;
 
@@ -18,53 +18,57 @@ fn tree_set(rt: &impl Abort, alloc: Global) -> Result<(), Fail> {
 }
 
 // The example of `blart_set::Iter`.
-fn iter(rt: &impl Abort, alloc: Global) -> Result<(), Fail> {
-    let mut set = TreeSet::new(alloc);
-    set.try_insert("cat")?;
+fn iter(rt: &impl Abort, set: &TreeSet<u8, 16>) {
+    // set is {1, 2}
     let mut elements = set.iter();
-    assert_eq!(rt; elements.len(), 1);
-    assert_eq!(rt; elements.next_back(), Some(&"cat"));
-    Ok(())
+    assert_eq!(rt; elements.len(), 2);
+    assert_eq!(rt; elements.next_back(), Some(&2));
 }
 
 // The example of `blart_set::Range`.
-fn range(rt: &impl Abort, alloc: Global) -> Result<(), Fail> {
-    let mut set = TreeSet::new(alloc);
-    set.try_insert("cat")?;
-    set.try_insert("dog")?;
-    let low = "d";
-    let mut elements = set.range(Bound::Included(&low), Bound::Unbounded);
-    assert_eq!(rt; elements.next(), Some(&"dog"));
+fn range(rt: &impl Abort, set: &TreeSet<u8, 16>) {
+    // set is {1, 2, 3}
+    let mut elements = set.range(Bound::Included(&2u8), Bound::Unbounded);
+    assert_eq!(rt; elements.next(), Some(&2));
+    assert_eq!(rt; elements.next_back(), Some(&3));
     assert_eq!(rt; elements.next(), None);
-    Ok(())
 }
 
 // The example of `blart_set::Prefix`.
-fn prefix(rt: &impl Abort, alloc: Global) -> Result<(), Fail> {
-    let mut set = TreeSet::new(alloc);
-    set.try_insert("cat")?;
-    set.try_insert("dog")?;
-    let mut elements = set.prefix(b"do");
-    assert_eq!(rt; elements.next(), Some(&"dog"));
+fn prefix(rt: &impl Abort, set: &TreeSet<[u8; 2], 16>) {
+    // set is {[1, 2], [3, 4]}
+    let mut elements = set.prefix(&[3]);
+    assert_eq!(rt; elements.next(), Some(&[3, 4]));
     assert_eq!(rt; elements.next(), None);
-    Ok(())
 }
 
 // The example of `blart_set::IntoIter`.
-fn into_iter(rt: &impl Abort, alloc: Global) -> Result<(), Fail> {
-    let mut set = TreeSet::new(alloc);
-    set.try_insert("cat")?;
+fn into_iter(rt: &impl Abort, set: TreeSet<u8, 16>) {
+    // set is {1, 2}
     let mut elements = set.into_iter();
-    assert_eq!(rt; elements.next(), Some("cat"));
-    assert_eq!(rt; elements.next(), None);
-    Ok(())
+    assert_eq!(rt; elements.next(), Some(1));
+    assert_eq!(rt; elements.len(), 1);
+}
+
+// The example of `blart_set::ExtractIf`.
+fn extract_if(rt: &impl Abort, set: &mut TreeSet<u8, 16>) {
+    // set is {1, 2, 3, 4}
+    let mut walk = set.extract_if(Bound::<&u8>::Unbounded, Bound::Unbounded, |x| *x % 2 == 0);
+    assert_eq!(rt; walk.next_back(), Some(4));
+    assert_eq!(rt; walk.next(), Some(2));
+    // dropped here, it leaves {1, 3}
 }
 
 #[test]
-fn as_shown(rt: HostRuntime) {
+fn a_set_as_shown(rt: HostRuntime) {
     tree_set(&rt, rt.alloc()).expect(&rt, "memory");
-    iter(&rt, rt.alloc()).expect(&rt, "memory");
-    range(&rt, rt.alloc()).expect(&rt, "memory");
-    prefix(&rt, rt.alloc()).expect(&rt, "memory");
-    into_iter(&rt, rt.alloc()).expect(&rt, "memory");
+}
+
+#[test]
+fn walks_as_shown(rt: HostRuntime) {
+    iter(&rt, &set_of(&rt, [1u8, 2]));
+    range(&rt, &set_of(&rt, [1u8, 2, 3]));
+    prefix(&rt, &set_of(&rt, [[1u8, 2], [3, 4]]));
+    into_iter(&rt, set_of(&rt, [1u8, 2]));
+    extract_if(&rt, &mut set_of(&rt, [1u8, 2, 3, 4]));
 }
