@@ -141,7 +141,7 @@ module _ {K V : Type 0} (leaves : ℕ → Option (Leaf K V)) (rows : List (Numbe
         rw (f.joined, b) (standing-number rows k p (standing rows k p at))
 
     -- the row that the position is in
-    same_ids : (ids : List ℕ) → leaf_in rows p.row ≡ Some ids → (standing rows k p at).ids ≡ ids
+    pub same_ids : (ids : List ℕ) → leaf_in rows p.row ≡ Some ids → (standing rows k p at).ids ≡ ids
     same_ids ids g = (let a : Some ids ≡ Some (standing rows k p at).ids = sym g ∙ row_at in cc)
 
     -- the next position, in the row

@@ -7,3 +7,4 @@ pub mod FilingChanges
 pub mod RowChanges
 pub mod FilingLemmas
 pub mod RowsLemmas
+pub mod Runs

@@ -330,13 +330,17 @@ module _ (rows : List (Numbered (List ℕ))) (k : ℕ) (p : Position) (s : Stand
       let e : k + 1 ≡ length (numbers s.before) + (p.place + 1) = let i = s.index in omega arith in
       ap (λ rs. position_at rs (k + 1)) s.is ∙ ap (position_at (s.before ++ (p.row, s.ids) ∷ s.after)) e ∙ position-split s.before ((p.row, s.ids) ∷ s.after) (p.place + 1) ∙ position-here p.row s.ids s.after (p.place + 1) w
 
-  -- the first place of the row behind
-  pub standing-behind : AreDistinct rows → AreFilled rows → length s.ids ≤ p.place + 1 → position_at rows (k + 1) ≡ option_map start_of (number_after rows p.row)
-  standing-behind d f w =
-      let e : k + 1 ≡ length (numbers s.before) + (length s.ids + 0) = let i = s.index in let j = s.within in omega arith in
+  -- the first place behind the row
+  pub standing-end : AreDistinct rows → AreFilled rows → (b : ℕ) → b + p.place ≡ k + length s.ids → position_at rows b ≡ option_map start_of (number_after rows p.row)
+  standing-end d f b w =
+      let e : b ≡ length (numbers s.before) + (length s.ids + 0) = let i = s.index in omega arith in
       let a : number_after rows p.row ≡ first_number s.after = ap (λ rs. number_after rs p.row) s.is ∙ number_after-split p.row s.ids s.after s.before (standing-lacks d).0 in
       let g = (AreFilled-parts s.before ((p.row, s.ids) ∷ s.after) (subst AreFilled s.is f)).1 in
-      ap (λ rs. position_at rs (k + 1)) s.is ∙ ap (position_at (s.before ++ (p.row, s.ids) ∷ s.after)) e ∙ position-split s.before ((p.row, s.ids) ∷ s.after) (length s.ids + 0) ∙ position-past p.row s.ids s.after 0 ∙ position-first s.after g.1 ∙ ap (option_map start_of) (sym a)
+      ap (λ rs. position_at rs b) s.is ∙ ap (position_at (s.before ++ (p.row, s.ids) ∷ s.after)) e ∙ position-split s.before ((p.row, s.ids) ∷ s.after) (length s.ids + 0) ∙ position-past p.row s.ids s.after 0 ∙ position-first s.after g.1 ∙ ap (option_map start_of) (sym a)
+
+  -- the first place of the row behind, from the last of this one
+  pub standing-behind : AreDistinct rows → AreFilled rows → length s.ids ≤ p.place + 1 → position_at rows (k + 1) ≡ option_map start_of (number_after rows p.row)
+  standing-behind d f w = let i = s.within in standing-end d f (k + 1) (omega arith)
 
 -- a position among the first rows
 pub position-in : (before rest : List (Numbered (List ℕ))) (j : ℕ) → j < length (numbers before) → position_at (before ++ rest) j ≡ position_at before j

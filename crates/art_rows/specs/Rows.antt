@@ -1,6 +1,7 @@
 -- Rows of numbers: which row has a number, at which place, and the numbers of all rows in order.
-use Rattle.std.specs.Prelude.{◌≡◌, ◌≤◌, ℕ, zero, suc, ◌+◌, ◌-◌, ◌*◌, ◌<◌, min, max, List, [], ◌∷◌, ◌++◌, length, Option, Some, None, Bool, true, false, cond, eqb, ltb}
-use Rattle.art_rows.specs.Numbers.{Numbered, AreDistinct}
+use Rattle.std.specs.Prelude.{◌≡◌, ◌≤◌, ℕ, zero, suc, ◌+◌, ◌-◌, ◌*◌, ◌<◌, min, max, List, [], ◌∷◌, ◌++◌, length, map, Option, Some, None, Bool, true, false, IfSome, cond, eqb, ltb}
+use Rattle.art_rows.specs.Numbers.{Numbered, leaf_in, AreDistinct}
+use Rattle.art_rows.specs.declared.ahead.Ahead.{Ahead}
 use Rattle.art_rows.specs.declared.row.Position.{Position}
 use Rattle.art_rows.specs.declared.row.TheConstants.{HALF}
 
@@ -89,3 +90,17 @@ row_start (q ∷ qs) r = cond (eqb q.0 r) 0 (length q.1 + row_start qs r)
 -- a position that says nothing
 abbrev pub nowhere : Position
 nowhere = record { row = 0; place = 0 }
+
+module _ {X : Type 0} where
+  -- the numbers of a run stand directly behind that of i, in this order
+  abbrev pub RunsBehind : List (Numbered X) → ℕ → List ℕ → Type 0
+  RunsBehind ps i run = (j n : ℕ) → nth run j ≡ Some n → nth (map (λ p. p.0) ps) (place_in (map (λ p. p.0) ps) i + 1 + j) ≡ Some n
+
+  -- the numbers of a run stand directly before that of i, in this order
+  abbrev pub RunsBefore : List (Numbered X) → ℕ → List ℕ → Type 0
+  RunsBefore ps i run = (length run ≤ place_in (map (λ p. p.0) ps) i) × ((j n : ℕ) → nth run j ≡ Some n → nth (map (λ p. p.0) ps) (place_in (map (λ p. p.0) ps) i + j - length run) ≡ Some n)
+
+  -- the run stands directly behind the number i, and the row behind the run, if it was looked up
+  pub record StandsAhead (ps : List (Numbered X)) (rows : List (Numbered (List ℕ))) (i : ℕ) (ahead : Ahead) : Type 0 where
+    pub run : RunsBehind ps i ahead.run.now
+    pub row : IfSome ahead.row (λ r. (position_at rows (place_in (map (λ p. p.0) ps) i + 1 + length ahead.run.now) ≡ Some (record { row = r.0; place = 0 })) × (leaf_in rows r.0 ≡ Some r.1.now))

@@ -2,13 +2,14 @@
 ghost use Rattle.std.specs.Prelude.{◌≡◌, ◌≢◌, ◌+◌, ◌-◌, ◌<◌, ◌≤◌, ◌++◌, ◌⊎◌, ℕ, [], ◌∷◌, length, map, option_map, take, drop, Some, None, IsSome, IfSome, IfNone, true, OnOk, OnErr};
 ghost use Rattle.art_kinds.specs.Store.{slot_at, used_count};
 ghost use Rattle.art_rows.specs.Numbers.{leaf_in, Has, AreDistinct, first_number, last_number, number_after, number_before, with_pair_behind, without_number, with_pair};
-ghost use Rattle.art_rows.specs.Rows.{position_at, nth, numbers, IsSpot, IsSplit, row_end, row_room, row_start, among};
+ghost use Rattle.art_rows.specs.Rows.{position_at, nth, numbers, IsSpot, IsSplit, row_end, row_room, row_start, among, RunsBefore, StandsAhead};
 ghost use Rattle.art_rows.specs.declared.row.Position.{Position};
 ghost use Rattle.art_rows.specs.Leaves.{index_of, room, spot_index};
 ghost use Rattle.art_rows.specs.Filing.{in_row};
 ghost use Rattle.art_rows.specs.LeafLends.{lends_value, lends_leaf};
 ghost use Rattle.std.specs.Borrow.{sem};
 
+use crate::ahead::Ahead;
 use crate::chain::Chain;
 use crate::row::{HALF, Position, ROW, Row};
 use art_kinds::{LeafId, Store, Visits};
@@ -346,6 +347,100 @@ impl<K, V> Leaves<K, V> {
             None => (None, seen),
             Some(position) => (Some(self.number(position)), position),
         }
+    }
+
+    /// The leaf behind this one, and what stands behind that. `ahead` is what was told with this leaf, or nothing: where it has a leaf, no row is read.
+    #[inline(always)]
+    pub fn next_in<'a>(&'a self, id: LeafId, ahead: Ahead<'a>) -> (Option<LeafId>, Ahead<'a>)
+        requires has { Has self.now.pairs id }
+        requires ahead { StandsAhead self.now.pairs self.now.rows id ahead }
+        ensures next { result.0 ≡ number_after self.now.pairs id }
+        ensures ahead { IfSome result.0 (λ n. StandsAhead self.now.pairs self.now.rows n result.1) }
+    {
+        self.law();
+        match ahead.run.split_first() {
+            Some((next, run)) => (Some(*next), Ahead { run, ..ahead }),
+            None => self.next_row(id, ahead),
+        }
+    }
+
+    // The same at the end of a row: the next one is the first of the row behind, which is known or else looked up.
+    #[cold]
+    #[inline(never)]
+    fn next_row<'a>(&'a self, id: LeafId, ahead: Ahead<'a>) -> (Option<LeafId>, Ahead<'a>)
+        requires has { Has self.now.pairs id }
+        requires ahead { StandsAhead self.now.pairs self.now.rows id ahead }
+        requires end { ahead.run.now ≡ [] }
+        ensures next { result.0 ≡ number_after self.now.pairs id }
+        ensures ahead { IfSome result.0 (λ n. StandsAhead self.now.pairs self.now.rows n result.1) }
+    {
+        let _ = &self.rows;
+        let Some((row, ids)) = ahead.row else {
+            return self.next_run(id);
+        };
+        let (next, run) = ids.split_first().unwrap();
+        let row = self.row_told(row);
+        (Some(*next), Ahead { run, row })
+    }
+
+    // The leaf behind this one, and what stands behind that.
+    fn next_run(&self, id: LeafId) -> (Option<LeafId>, Ahead<'_>)
+        requires { Has self.now.pairs id }
+        ensures next { result.0 ≡ number_after self.now.pairs id }
+        ensures ahead { IfSome result.0 (λ n. StandsAhead self.now.pairs self.now.rows n result.1) }
+    {
+        let rows = &self.rows;
+        let Some(position) = self.forward(self.position_of(id)) else {
+            return (None, Ahead::unknown());
+        };
+        let ids = rows.read(position.row);
+        let run = ids.behind(position.place);
+        let row = self.row_told(position.row);
+        (Some(ids.at(position.place)), Ahead { run, row })
+    }
+
+    // The row behind another, and its numbers.
+    fn row_told(&self, row: usize) -> Option<(usize, &[LeafId])>
+        requires { Has self.now.rows row }
+        ensures behind { IfSome result (λ r. number_after self.now.rows row ≡ Some r.0) }
+        ensures ids { IfSome result (λ r. leaf_in self.now.rows r.0 ≡ Some r.1.now) }
+    {
+        let rows = &self.rows;
+        match rows.next_of(row) {
+            Some(next) => Some((next, rows.read(next).ids())),
+            None => None,
+        }
+    }
+
+    /// The leaf before this one, and the run of numbers before that one in its row. `run` is such a run before this leaf: where it is not empty, no row is read.
+    #[inline(always)]
+    pub fn prev_in<'a>(&'a self, id: LeafId, run: &'a [LeafId]) -> (Option<LeafId>, &'a [LeafId])
+        requires has { Has self.now.pairs id }
+        requires runs { RunsBefore self.now.pairs id run.now }
+        ensures prev { result.0 ≡ number_before self.now.pairs id }
+        ensures runs { IfSome result.0 (λ n. RunsBefore self.now.pairs n result.1.now) }
+    {
+        self.law();
+        match run.split_last() {
+            Some((prev, rest)) => (Some(*prev), rest),
+            None => self.prev_run(id),
+        }
+    }
+
+    // The leaf before this one, and the numbers before that one in its row.
+    #[cold]
+    #[inline(never)]
+    fn prev_run(&self, id: LeafId) -> (Option<LeafId>, &[LeafId])
+        requires { Has self.now.pairs id }
+        ensures prev { result.0 ≡ number_before self.now.pairs id }
+        ensures runs { IfSome result.0 (λ n. RunsBefore self.now.pairs n result.1.now) }
+    {
+        let rows = &self.rows;
+        let Some(position) = self.backward(self.position_of(id)) else {
+            return (None, &[]);
+        };
+        let row = rows.read(position.row);
+        (Some(row.at(position.place)), row.ahead_of(position.place))
     }
 
     /// The leaf before this one.

@@ -107,6 +107,30 @@ impl Row {
         }
     }
 
+    /// All numbers.
+    pub(crate) fn ids(&self) -> &[LeafId]
+        ensures { result.now ≡ self.now }
+    {
+        &self.ids[..self.count]
+    }
+
+    /// The numbers behind a place.
+    pub(crate) fn behind(&self, place: usize) -> &[LeafId]
+        requires { place < length self.now }
+        ensures { result.now ≡ drop (place + 1) self.now }
+    {
+        let ids = &self.ids[..self.count];
+        &ids[place + 1..]
+    }
+
+    /// The numbers before a place.
+    pub(crate) fn ahead_of(&self, place: usize) -> &[LeafId]
+        requires { place < length self.now }
+        ensures { result.now ≡ take place self.now }
+    {
+        &self.ids[..place]
+    }
+
     /// The place of a number.
     pub(crate) fn place_of(&self, number: LeafId) -> usize
         ensures { result ≡ place_in self.now number }

@@ -20,6 +20,8 @@ pub use Rattle.art_tree.proofs.Pairs.Numbers.{with_value-split}
 -- a pair less, or with another key or value
 pub use Rattle.art_rows.proofs.CallerLemmas.{length-without_number, AreDistinct-without_number, same_first, same_last, leaf_in-with_now, others-with_pair}
 pub use Rattle.art_tree.proofs.Pairs.Numbers.{AreDistinct-with_value, numbers-with_value}
+-- the pairs that pass a test, where one goes, and lists of which both ends are known
+pub use Rattle.art_tree.proofs.Pairs.Filtering.{AreDistinct-filter, filter-without, dropped_without, filter_every, Ends, two_ends, only_one}
 -- the keys of the pairs
 pub use Rattle.art_tree.proofs.Pairs.Keys.{key_of_member, member_of_key}
 -- a key that is related to one alone

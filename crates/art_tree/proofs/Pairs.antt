@@ -1,10 +1,12 @@
 pub mod Answers
 pub mod Bounds
 pub mod Changes
+pub mod Filtering
 pub mod KeyChanges
 pub mod Keys
 pub mod LookUps
 pub mod Neighbours
 pub mod Numbers
+pub mod Outside
 pub mod Passing
 pub mod Placed

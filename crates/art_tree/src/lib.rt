@@ -9,7 +9,7 @@ mod tree;
 mod visits;
 
 pub use records::ids::LeafId;
-pub use records::leaves::{Leaves, Position};
+pub use records::leaves::{Ahead, Leaves, Position};
 pub use tree::point::{Place, Point};
 pub use tree::{DEFAULT_PREFIX_LEN, Tree};
 pub use visits::Visits;

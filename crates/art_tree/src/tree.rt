@@ -16,6 +16,7 @@ mod descent;
 mod parting;
 mod place;
 pub mod point;
+mod prefix;
 mod remove;
 mod search;
 mod seek;

@@ -9,3 +9,4 @@ pub mod LentPairs
 pub mod PairEnds
 pub mod CountedPairs
 pub mod TakePairs
+pub mod Runs

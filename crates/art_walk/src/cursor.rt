@@ -85,6 +85,13 @@ impl Cursor {
         }
     }
 
+    /// The first and the last leaf that are left.
+    pub(crate) fn ends(&self) -> Option<(LeafId, LeafId)>
+        ensures { result ≡ self.now.ends }
+    {
+        self.ends
+    }
+
     /// All leaves of the tree.
     pub fn all<K: AsBytes + Drop, V: Drop, const PREFIX_LEN: usize>(
         tree: &Tree<K, V, PREFIX_LEN>,

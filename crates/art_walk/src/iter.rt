@@ -5,7 +5,8 @@ ghost use Rattle.std.specs.Iterator.SizeHint.{IsWithinCount};
 ghost use Rattle.art_walk.specs.Pairs.{pairs_of};
 
 use crate::cursor::Cursor;
-use art_tree::{Leaves, Tree, Visits};
+use crate::walk::Walk;
+use art_tree::Tree;
 use blart_keys::AsBytes;
 use std::iter::{DoubleEndedIterator, FusedIterator, Iterator};
 use std::marker::Model;
@@ -13,8 +14,7 @@ use std::marker::Model;
 /// The pairs of a tree from both ends, in byte order of their keys. Each step reads one leaf, and where the ends have met none comes at either.
 #[derive(Drop)]
 pub struct Iter<'a, K, V, const PREFIX_LEN: usize> {
-    leaves: &'a Leaves<K, V>,
-    cursor: Cursor,
+    walk: Walk<'a, K, V>,
     left: usize,
 }
 
@@ -23,12 +23,9 @@ impl<'a, K, V, const PREFIX_LEN: usize> Model for Iter<'a, K, V, PREFIX_LEN> {
 
     ghost Value = { List (K × V) };
 
-    ghost use Rattle.art_walk.specs.Cursor.{leaves_left, FitsIn};
-    ghost use Rattle.art_walk.specs.Pairs.{pairs_of};
+    ghost view = { λ it. it.walk };
 
-    ghost view = { λ it. pairs_of (leaves_left it.cursor it.leaves.now.pairs) };
-
-    ghost invariant = { λ it. FitsIn it.cursor it.leaves.now.pairs × (it.left ≡ length (leaves_left it.cursor it.leaves.now.pairs)) };
+    ghost invariant = { λ it. it.left ≡ length it.walk };
 }
 
 impl<'a, K: AsBytes + Drop, V: Drop, const PREFIX_LEN: usize> Iter<'a, K, V, PREFIX_LEN> {
@@ -38,8 +35,7 @@ impl<'a, K: AsBytes + Drop, V: Drop, const PREFIX_LEN: usize> Iter<'a, K, V, PRE
     {
         let cursor = Cursor::all(tree);
         Iter {
-            leaves: tree.leaves(),
-            cursor,
+            walk: Walk::new(tree.leaves(), cursor),
             left: tree.len(),
         }
     }
@@ -63,11 +59,9 @@ impl<'a, K, V, const PREFIX_LEN: usize> Iterator for Iter<'a, K, V, PREFIX_LEN> 
 
     /// The first pair that is left.
     fn next(&mut self) -> Option<(&'a K, &'a V)> {
-        let Some((_, key, value)) = self.cursor.next(self.leaves, &mut Visits::new()) else {
-            return None;
-        };
+        let pair = self.walk.next()?;
         self.left -= 1;
-        Some((key, value))
+        Some(pair)
     }
 
     /// Both bounds are the number of pairs that are left.
@@ -85,11 +79,9 @@ impl<'a, K, V, const PREFIX_LEN: usize> DoubleEndedIterator for Iter<'a, K, V, P
 
     /// The last pair that is left.
     fn next_back(&mut self) -> Option<(&'a K, &'a V)> {
-        let Some((_, key, value)) = self.cursor.next_back(self.leaves, &mut Visits::new()) else {
-            return None;
-        };
+        let pair = self.walk.next_back()?;
         self.left -= 1;
-        Some((key, value))
+        Some(pair)
     }
 }
 

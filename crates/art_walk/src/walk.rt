@@ -1,19 +1,75 @@
-//! What is left of a tree's pairs, with no count of it.
-ghost use Rattle.std.specs.Prelude.{◌≡◌};
+//! What is left of some leaves that stand while they are walked over.
+ghost use Rattle.std.specs.Prelude.{◌≡◌, ◌≢◌, option_map, None, IfSome};
 ghost use Rattle.std.specs.Iterator.{YieldsFirstBy, YieldsLastBy, item_count};
+ghost use Rattle.art_tree.specs.Leaves.{Has, number_after, number_before, RunsBefore, StandsAhead};
 ghost use Rattle.art_walk.specs.Cursor.{leaves_left, FitsIn};
 ghost use Rattle.art_walk.specs.Pairs.{pairs_of};
 
 use crate::cursor::Cursor;
-use art_tree::{Leaves, Visits};
+use art_tree::{Ahead, LeafId, Leaves, Visits};
 use std::iter::{DoubleEndedIterator, Iterator};
 use std::marker::Model;
+
+// The ends without the first leaf, and what stands behind the one that is the first then. Nothing is looked for behind the last.
+#[inline(always)]
+fn without_first<'a, K, V>(
+    leaves: &'a Leaves<K, V>,
+    first: LeafId,
+    last: LeafId,
+    ahead: Ahead<'a>,
+) -> (Option<(LeafId, LeafId)>, Ahead<'a>)
+    requires has { Has leaves.now.pairs first }
+    requires ahead { StandsAhead leaves.now.pairs leaves.now.rows first ahead }
+    ensures one { first ≡ last → result.0 ≡ None }
+    ensures more { first ≢ last → result.0
+        ≡ option_map (λ id. (id, last)) (number_after leaves.now.pairs first) }
+    ensures stays { IfSome result.0 (λ ends. ends.1 ≡ last) }
+    ensures ahead { IfSome result.0
+        (λ ends. StandsAhead leaves.now.pairs leaves.now.rows ends.0 result.1) }
+{
+    if first == last {
+        return (None, ahead);
+    }
+    match leaves.next_in(first, ahead) {
+        (Some(next), ahead) => (Some((next, last)), ahead),
+        (None, ahead) => (None, ahead),
+    }
+}
+
+// The ends without the last leaf, and the run before what is then the last. Nothing is looked for before the first.
+#[inline(always)]
+fn without_last<'a, K, V>(
+    leaves: &'a Leaves<K, V>,
+    first: LeafId,
+    last: LeafId,
+    run: &'a [LeafId],
+) -> (Option<(LeafId, LeafId)>, &'a [LeafId])
+    requires has { Has leaves.now.pairs last }
+    requires runs { RunsBefore leaves.now.pairs last run.now }
+    ensures one { first ≡ last → result.0 ≡ None }
+    ensures more { first ≢ last → result.0
+        ≡ option_map (λ id. (first, id)) (number_before leaves.now.pairs last) }
+    ensures stays { IfSome result.0 (λ ends. ends.0 ≡ first) }
+    ensures runs { IfSome result.0 (λ ends. RunsBefore leaves.now.pairs ends.1 result.1.now) }
+{
+    if last == first {
+        return (None, run);
+    }
+    match leaves.prev_in(last, run) {
+        (Some(prev), before) => (Some((first, prev)), before),
+        (None, before) => (None, before),
+    }
+}
 
 /// The pairs of some leaves that stand in one row, from both ends.
 #[derive(Drop)]
 pub(crate) struct Walk<'a, K, V> {
     leaves: &'a Leaves<K, V>,
-    cursor: Cursor,
+    // the first and the last leaf
+    ends: Option<(LeafId, LeafId)>,
+    // what stands behind the first, and before the last in its row: a step that finds its leaf here searches no row
+    ahead: Ahead<'a>,
+    before: &'a [LeafId],
 }
 
 impl<'a, K, V> Model for Walk<'a, K, V> {
@@ -21,12 +77,12 @@ impl<'a, K, V> Model for Walk<'a, K, V> {
 
     ghost Value = { List (K × V) };
 
-    ghost use Rattle.art_walk.specs.Cursor.{leaves_left, FitsIn};
+    ghost use Rattle.art_walk.specs.Cursor.{ends_left, EndsFit, StandsBeside};
     ghost use Rattle.art_walk.specs.Pairs.{pairs_of};
 
-    ghost view = { λ it. pairs_of (leaves_left it.cursor it.leaves.now.pairs) };
+    ghost view = { λ it. pairs_of (ends_left it.ends it.leaves.now.pairs) };
 
-    ghost invariant = { λ it. FitsIn it.cursor it.leaves.now.pairs };
+    ghost invariant = { λ it. EndsFit it.ends it.leaves.now.pairs × StandsBeside it.ends it.ahead it.before.now it.leaves.now.pairs it.leaves.now.rows };
 }
 
 impl<'a, K, V> Walk<'a, K, V> {
@@ -35,7 +91,12 @@ impl<'a, K, V> Walk<'a, K, V> {
         requires { FitsIn cursor leaves.now.pairs }
         ensures { result ≡ pairs_of (leaves_left cursor leaves.now.pairs) }
     {
-        Walk { leaves, cursor }
+        Walk {
+            leaves,
+            ends: cursor.ends(),
+            ahead: Ahead::unknown(),
+            before: &[],
+        }
     }
 }
 
@@ -46,21 +107,29 @@ impl<'a, K, V> Iterator for Walk<'a, K, V> {
 
     ghost remaining = { item_count (λ rest. rest) };
 
+    #[inline(always)]
     fn next(&mut self) -> Option<(&'a K, &'a V)> {
-        match self.cursor.next(self.leaves, &mut Visits::new()) {
-            Some(found) => Some((found.1, found.2)),
-            None => None,
-        }
+        self.leaves.law();
+        let (first, last) = self.ends?;
+        let pair = self.leaves.read(first, &mut Visits::new());
+        let (ends, ahead) = without_first(self.leaves, first, last, self.ahead);
+        self.ends = ends;
+        self.ahead = ahead;
+        Some(pair)
     }
 }
 
 impl<'a, K, V> DoubleEndedIterator for Walk<'a, K, V> {
     ghost next_back_gives = { YieldsLastBy (λ item. (item.0.now, item.1.now)) (λ rest. rest) };
 
+    #[inline(always)]
     fn next_back(&mut self) -> Option<(&'a K, &'a V)> {
-        match self.cursor.next_back(self.leaves, &mut Visits::new()) {
-            Some(found) => Some((found.1, found.2)),
-            None => None,
-        }
+        self.leaves.law();
+        let (first, last) = self.ends?;
+        let pair = self.leaves.read(last, &mut Visits::new());
+        let (ends, before) = without_last(self.leaves, first, last, self.before);
+        self.ends = ends;
+        self.before = before;
+        Some(pair)
     }
 }

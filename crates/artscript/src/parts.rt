@@ -1,5 +1,5 @@
 //! The maps and the sets of each of the two types of keys, and the calls of them.
-use script_entries::{enter_bytes, enter_related, enter_three};
+use script_entries::{enter_bytes, enter_end, enter_related, enter_three};
 use script_maps::{Maps, Name, name_of};
 use script_sets::{Sets, set_name_of};
 use script_words::{Answered, Text, Unanswered, Words};
@@ -49,6 +49,8 @@ impl<const PREFIX_LEN: usize> BytesPart<PREFIX_LEN> {
         match name {
             Name::TryEntry => enter_bytes(&mut self.maps.first, words, text),
             Name::PrefixEntry => enter_related(&mut self.maps.first, words, text),
+            Name::FirstEntry => enter_end(&mut self.maps.first, true, words, text),
+            Name::LastEntry => enter_end(&mut self.maps.first, false, words, text),
             _ => self.maps.call_of_bytes(name, words, text),
         }
     }
@@ -105,6 +107,8 @@ impl<const PREFIX_LEN: usize> ThreePart<PREFIX_LEN> {
         match name {
             Name::TryEntry => enter_three(&mut self.maps.first, true, words, text),
             Name::Entry => enter_three(&mut self.maps.first, false, words, text),
+            Name::FirstEntry => enter_end(&mut self.maps.first, true, words, text),
+            Name::LastEntry => enter_end(&mut self.maps.first, false, words, text),
             _ => self.maps.call_of_three(name, words, text),
         }
     }

@@ -5,11 +5,13 @@ use Rattle.std.proofs.lemmas.List.{length-map}
 use Rattle.blart_keys.specs.declared.calls.TryInsertError.{TryInsertError}
 use Rattle.blart_keys.specs.Bounds.{in_order}
 use Rattle.blart_keys.specs.Content.{at, front_of, subtree, under, between, without, IsOver}
+use Rattle.blart_keys.specs.Outside.{outside}
 use Rattle.blart_keys.specs.Steps.{Puts}
-use Rattle.blart.specs.Command.{Insert, Get, Remove, PrefixGet, Overwrite, ListPrefix}
+use Rattle.blart_keys.specs.Stored.{kept}
+use Rattle.blart.specs.Command.{Insert, Get, Remove, RemovePrefix, PrefixGet, Overwrite, ListPrefix}
 use Rattle.blart.specs.Answers.{AnswersOrRefuses, inserted_text, value_text, found_text, listing, range_lines, pair_bytes}
 use Rattle.blart.specs.Content.{Stored, by_bytes, pair_of}
-use Rattle.blart.proofs.Views.{value-view, front-view, under-view, between-view, Puts-view, Over-view, subtree-view, without-view}
+use Rattle.blart.proofs.Views.{value-view, front-view, under-view, between-view, Puts-view, Over-view, subtree-view, without-view, outside-view}
 
 -- the bytes of what it holds
 abbrev stored_bytes : Vec ℕ Global × ℕ → List ℕ
@@ -29,13 +31,23 @@ removes S T key found text value same is left shown = inl (
   ap (λ t. t ∷ []) (shown ∙ ap value_text (is ∙ sym (value-view (λ (k : Vec ℕ Global). k.items) S found) ∙ ap (λ q. option_map (λ pair. pair.1) (at pair_bytes (by_bytes S) q)) (sym same))),
 )
 
+-- to `remove-prefix`
+pub removes_prefix : (S T : Stored) (key found : List ℕ) (count : ℕ) → key ≡ found → count ≡ length (under stored_bytes S found) → T ≡ outside stored_bytes S found
+    → AnswersOrRefuses (by_bytes S) (RemovePrefix key) ((codes "removed " ++ decimal count) ∷ []) (by_bytes T)
+removes_prefix S T key found count same is left =
+    let seen : length (under pair_bytes (by_bytes S) found) ≡ length (under stored_bytes S found) = ap (λ (l : List (List ℕ × ℕ)). length l) (under-view (λ (k : Vec ℕ Global). k.items) S found) ∙ length-map (under stored_bytes S found) pair_of in
+    inl (
+      ap by_bytes left ∙ sym (outside-view (λ (k : Vec ℕ Global). k.items) S found) ∙ ap (outside pair_bytes (by_bytes S)) (sym same),
+      ap (λ n. (codes "removed " ++ decimal n) ∷ []) (is ∙ sym seen ∙ ap (λ q. length (under pair_bytes (by_bytes S) q)) (sym same)),
+    )
+
 -- to `insert`
 pub inserts : (S T : Stored) (key text : List ℕ) (found : Vec ℕ Global) (value : ℕ) (r : Result (Option ℕ) TryInsertError) → key ≡ found.items
-    → Puts (λ (k : Vec ℕ Global). k.items) (option_map (λ pair. pair.1)) S (found, value) r T → text ≡ inserted_text r
+    → Puts (λ (k : Vec ℕ Global). k.items) (option_map (λ pair. pair.1)) S (found, value) (kept (λ (k : Vec ℕ Global). k.items) S (found, value)) r T → text ≡ inserted_text r
     → AnswersOrRefuses (by_bytes S) (Insert key value) (text ∷ []) (by_bytes T)
 inserts S T key text found value r same put shown =
     let seen = Puts-view (λ (k : Vec ℕ Global). k.items) S found value r T put in
-    inl (r, subst (λ k. Puts (λ k. k) (option_map (λ pair. pair.1)) (by_bytes S) (k, value) r (by_bytes T)) (sym same) seen, ap (λ t. t ∷ []) shown)
+    inl (r, subst (λ k. Puts (λ k. k) (option_map (λ pair. pair.1)) (by_bytes S) (k, value) (k, value) r (by_bytes T)) (sym same) seen, ap (λ t. t ∷ []) shown)
 
 -- to `prefix-get`
 pub finds : (S : Stored) (key found text : List ℕ) (front : Option (Vec ℕ Global × ℕ)) → key ≡ found → front ≡ front_of stored_bytes S found → text ≡ found_text (option_map pair_of front)

@@ -4,7 +4,7 @@ use Rattle.std.specs.Fmt.{digits}
 use Rattle.hex.proofs.OnLiterals.{hex_on_literals}
 use Rattle.blart_keys.specs.Content.{IsPut}
 use Rattle.blart_keys.proofs.ContentLemmas.{empty_content, put_between}
-use Rattle.blart.specs.Command.{words_of, command_of, Insert, Get, Remove, PrefixGet, Overwrite, ListAll, ListPrefix, ListRange}
+use Rattle.blart.specs.Command.{words_of, command_of, Insert, Get, Remove, RemovePrefix, PrefixGet, Overwrite, ListAll, ListPrefix, ListRange}
 use Rattle.blart.specs.Answers.{pair_bytes, range_lines}
 use Rattle.blart.specs.Replies.{Replies}
 
@@ -27,6 +27,14 @@ gets = refl
 removes : command_of (words_of (codes "remove 0A")) ≡ Some (Remove (10 ∷ []))
 unfolding hex_on_literals
 removes = refl
+
+removes_prefix : command_of (words_of (codes "remove-prefix 0A")) ≡ Some (RemovePrefix (10 ∷ []))
+unfolding hex_on_literals
+removes_prefix = refl
+
+removes_all : command_of (words_of (codes "remove-prefix -")) ≡ Some (RemovePrefix [])
+unfolding hex_on_literals
+removes_all = refl
 
 prefix_gets : command_of (words_of (codes "prefix-get 01020304")) ≡ Some (PrefixGet (1 ∷ 2 ∷ 3 ∷ 4 ∷ []))
 unfolding hex_on_literals

@@ -13,7 +13,8 @@ use Rattle.blart_keys.proofs.RankLemmas.{Member-from_Contains}
 use Rattle.blart_keys.proofs.ContentLemmas.{one_content, related_no_conflict}
 use Rattle.blart.proofs.Sending.{Sends-none, Sends-trans}
 use Rattle.blart.specs.Lines.{IsLine, ended, Splits}
-use Rattle.blart.specs.Command.{Command, Insert, Get, Remove, PrefixGet, Overwrite, ListAll, ListPrefix, ListRange, command_of, words_of}
+use Rattle.blart_keys.specs.Outside.{outside}
+use Rattle.blart.specs.Command.{Command, Insert, Get, Remove, RemovePrefix, PrefixGet, Overwrite, ListAll, ListPrefix, ListRange, command_of, words_of}
 use Rattle.blart.specs.Answers.{Pairs, Reply, Meets, AnswersOrRefuses, listing, range_lines, pair_bytes, value_text, value_at, found_text, inserted_text}
 use Rattle.blart.specs.Replies.{AnswersInTurn}
 use Rattle.blart.specs.Serves.{State, Serves}
@@ -60,6 +61,7 @@ command_answer S (Insert [] n) = insert_empty S n (conflict pair_bytes S []) (st
 command_answer S (Insert (b ∷ key) n) = (codes "refused memory" ∷ [], S, inr (λ e. cc, refl, refl))
 command_answer S (Get key) = (value_text (value_at S key) ∷ [], S, inl (refl, refl))
 command_answer S (Remove key) = (value_text (value_at S key) ∷ [], without pair_bytes S key, inl (refl, refl))
+command_answer S (RemovePrefix key) = ((codes "removed " ++ decimal (length (under pair_bytes S key))) ∷ [], outside pair_bytes S key, inl (refl, refl))
 command_answer S (PrefixGet key) = (found_text (front_of pair_bytes S key) ∷ [], S, inl (refl, refl))
 command_answer S (Overwrite [] n) = let T : Pairs = ([], n) ∷ [] in ((codes "len " ++ decimal (length T)) ∷ [], T, inl (inl (over_empty S n, refl)))
 command_answer S (Overwrite (b ∷ key) n) = (codes "refused memory" ∷ [], S, inr (λ e. cc, refl, refl))

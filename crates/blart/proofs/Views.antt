@@ -1,12 +1,15 @@
 -- Contents seen with the bytes of their keys in place of the keys.
-use Rattle.std.proofs.Common.{◌≡◌, ℕ, List, [], map, Option, Some, None, option_map, Result, Ok, Err, refl, sym, ap, ◌∙◌, ◌&&◌, bytes_eq, not}
+use Rattle.std.proofs.Common.{◌≡◌, ℕ, List, [], map, Option, Some, None, option_map, Result, Ok, Err, refl, sym, ap, subst, ◌∙◌, ◌&&◌, bytes_eq, not}
 use Rattle.std.specs.declared.ops.Bound.{Bound}
 use Rattle.blart_keys.specs.declared.calls.TryInsertError.{TryInsertError}
 use Rattle.blart_keys.specs.declared.calls.TryInsertError.TheVariants.{Prefix, Memory}
 use Rattle.blart_keys.specs.Bounds.{is_from_start, is_up_to_end}
 use Rattle.blart_keys.specs.Bytes.{begins, related, conflicts}
-use Rattle.blart_keys.specs.Content.{at, front_of, subtree, under, between, without, IsOver}
+use Rattle.blart_keys.specs.Content.{at, front_of, subtree, under, between, without, IsPut, IsOver}
+use Rattle.blart_keys.specs.Outside.{outside}
 use Rattle.blart_keys.specs.Steps.{bytes, Puts}
+use Rattle.blart_keys.specs.Stored.{kept}
+use Rattle.blart_keys.proofs.StoredLemmas.{kept_bytes}
 use Rattle.blart_keys.proofs.Mapped.{find-map, filter-map, list_any-map, put_map, over_map}
 
 module _ {K V : Type 0} (key_bytes : K → List ℕ) where
@@ -35,6 +38,10 @@ module _ {K V : Type 0} (key_bytes : K → List ℕ) where
   pub without-view : (S : List (K × V)) (q : List ℕ) → without first (map shown S) q ≡ map shown (without (bytes key_bytes) S q)
   without-view S q = filter-map shown (λ y. not (bytes_eq (first y) q)) S
 
+  -- the pairs whose bytes do not begin with some
+  pub outside-view : (S : List (K × V)) (q : List ℕ) → outside first (map shown S) q ≡ map shown (outside (bytes key_bytes) S q)
+  outside-view S q = filter-map shown (λ y. not (begins q (first y))) S
+
   -- the pairs whose bytes begin with some
   pub under-view : (S : List (K × V)) (q : List ℕ) → under first (map shown S) q ≡ map shown (under (bytes key_bytes) S q)
   under-view S q = filter-map shown (λ y. begins q (first y)) S
@@ -49,9 +56,13 @@ module _ {K V : Type 0} (key_bytes : K → List ℕ) where
 
   -- a put and its answer
   pub Puts-view : (S : List (K × V)) (key : K) (value : V) (r : Result (Option V) TryInsertError) (S' : List (K × V))
-      → Puts key_bytes (option_map (λ pair. pair.1)) S (key, value) r S' → Puts (λ k. k) (option_map (λ pair. pair.1)) (map shown S) (key_bytes key, value) r (map shown S')
-  Puts-view S key value (Ok answer) S' h =
-      (list_any-map shown (λ y. conflicts (first y) (key_bytes key)) S ∙ h.0, put_map shown first S S' (key, value) h.1, h.2 ∙ sym (value-view S (key_bytes key)))
+      → Puts key_bytes (option_map (λ pair. pair.1)) S (key, value) (kept key_bytes S (key, value)) r S'
+      → Puts (λ k. k) (option_map (λ pair. pair.1)) (map shown S) (key_bytes key, value) (key_bytes key, value) r (map shown S')
+  Puts-view S key value (Ok answer) S' h = (
+    list_any-map shown (λ y. conflicts (first y) (key_bytes key)) S ∙ h.0,
+    subst (λ k. IsPut first (map shown S) (k, value) (map shown S')) (kept_bytes key_bytes S (key, value)) (put_map shown first S S' (kept key_bytes S (key, value)) h.1),
+    h.2 ∙ sym (value-view S (key_bytes key)),
+  )
   Puts-view S key value (Err (Prefix e)) S' h = (list_any-map shown (λ y. conflicts (first y) (key_bytes key)) S ∙ h.0, ap (map shown) h.1)
   Puts-view S key value (Err (Memory e)) S' h = (
     list_any-map shown (λ y. conflicts (first y) (key_bytes key)) S ∙ h.0,

@@ -7,9 +7,10 @@ use Rattle.blart_keys.specs.declared.calls.TryInsertError.{TryInsertError}
 use Rattle.blart_keys.specs.declared.calls.TryInsertError.TheVariants.{Prefix, Memory}
 use Rattle.blart_keys.specs.Bounds.{in_order}
 use Rattle.blart_keys.specs.Content.{at, front_of, subtree, under, between, without, IsOver}
+use Rattle.blart_keys.specs.Outside.{outside}
 use Rattle.blart_keys.specs.Steps.{Puts}
 use Rattle.blart.specs.Lines.{ended}
-use Rattle.blart.specs.Command.{Command, Insert, Get, Remove, PrefixGet, Overwrite, ListAll, ListPrefix, ListRange, words_of, command_of}
+use Rattle.blart.specs.Command.{Command, Insert, Get, Remove, RemovePrefix, PrefixGet, Overwrite, ListAll, ListPrefix, ListRange, words_of, command_of}
 
 -- keys and their values
 abbrev pub Pairs : Type 0
@@ -62,9 +63,10 @@ range_lines S low high =
 -- from S, the command may be answered by these lines, and leave S'
 abbrev pub Answers : Pairs → Command → List (List ℕ) → Pairs → Type 0
 Answers S (Insert key n) lines S' =
-    (r : Result (Option ℕ) TryInsertError) × Puts (λ k. k) (option_map (λ pair. pair.1)) S (key, n) r S' × (lines ≡ inserted_text r ∷ [])
+    (r : Result (Option ℕ) TryInsertError) × Puts (λ k. k) (option_map (λ pair. pair.1)) S (key, n) (key, n) r S' × (lines ≡ inserted_text r ∷ [])
 Answers S (Get key) lines S' = (S' ≡ S) × (lines ≡ value_text (value_at S key) ∷ [])
 Answers S (Remove key) lines S' = (S' ≡ without pair_bytes S key) × (lines ≡ value_text (value_at S key) ∷ [])
+Answers S (RemovePrefix key) lines S' = (S' ≡ outside pair_bytes S key) × (lines ≡ (codes "removed " ++ decimal (length (under pair_bytes S key))) ∷ [])
 Answers S (PrefixGet key) lines S' = (S' ≡ S) × (lines ≡ found_text (front_of pair_bytes S key) ∷ [])
 Answers S (Overwrite key n) lines S' =
     (IsOver pair_bytes S (key, n) S' × (lines ≡ (codes "len " ++ decimal (length S')) ∷ []))
@@ -78,6 +80,7 @@ abbrev pub Decodes : Command → Type 0
 Decodes (Insert key n) = key ≢ []
 Decodes (Get key) = key ≢ []
 Decodes (Remove key) = key ≢ []
+Decodes (RemovePrefix key) = key ≢ []
 Decodes (PrefixGet key) = key ≢ []
 Decodes (Overwrite key n) = key ≢ []
 Decodes ListAll = ⊥

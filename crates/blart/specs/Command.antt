@@ -35,6 +35,7 @@ pub data Command : Type 0 where
   Insert : List ℕ → ℕ → Command
   Get : List ℕ → Command
   Remove : List ℕ → Command
+  RemovePrefix : List ℕ → Command
   PrefixGet : List ℕ → Command
   Overwrite : List ℕ → ℕ → Command
   ListAll : Command
@@ -52,6 +53,7 @@ command_of (name ∷ []) = if bytes_eq name (codes "list") then Some ListAll els
 command_of (name ∷ key ∷ []) =
     if bytes_eq name (codes "get") then option_map Get (key_of key)
     else if bytes_eq name (codes "remove") then option_map Remove (key_of key)
+    else if bytes_eq name (codes "remove-prefix") then option_map RemovePrefix (key_of key)
     else if bytes_eq name (codes "prefix-get") then option_map PrefixGet (key_of key)
     else if bytes_eq name (codes "prefix") then option_map ListPrefix (key_of key)
     else None

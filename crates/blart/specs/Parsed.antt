@@ -1,8 +1,8 @@
 -- What the code's commands mean.
 use Rattle.std.specs.Prelude.{◌≡◌, ◌<◌, ℕ, List, [], ◌∷◌, length, Option, Some, None, MatchOption}
-use Rattle.blart.specs.Command.{Command, Insert, Get, Remove, PrefixGet, Overwrite, ListAll, ListPrefix, ListRange, key_of, command_of}
+use Rattle.blart.specs.Command.{Command, Insert, Get, Remove, RemovePrefix, PrefixGet, Overwrite, ListAll, ListPrefix, ListRange, key_of, command_of}
 use Rattle.blart.specs.declared.command.Command.{Command as Parsed}
-use Rattle.blart.specs.declared.command.Command.TheVariants.{Insert as ParsedInsert, Get as ParsedGet, Remove as ParsedRemove, PrefixGet as ParsedPrefixGet, Overwrite as ParsedOverwrite, List as ParsedList, Prefix as ParsedPrefix, Range as ParsedRange}
+use Rattle.blart.specs.declared.command.Command.TheVariants.{Insert as ParsedInsert, Get as ParsedGet, Remove as ParsedRemove, RemovePrefix as ParsedRemovePrefix, PrefixGet as ParsedPrefixGet, Overwrite as ParsedOverwrite, List as ParsedList, Prefix as ParsedPrefix, Range as ParsedRange}
 use Rattle.blart.specs.declared.command.Words.{Words}
 use Rattle.blart.specs.declared.command.Words.TheVariants.{One, Two, Three, More}
 
@@ -11,6 +11,7 @@ abbrev pub Means : Parsed → Option Command → Type 0
 Means (ParsedInsert word n) command = (key : List ℕ) × (key_of word.now ≡ Some key) × (command ≡ Some (Insert key n))
 Means (ParsedGet word) command = (key : List ℕ) × (key_of word.now ≡ Some key) × (command ≡ Some (Get key))
 Means (ParsedRemove word) command = (key : List ℕ) × (key_of word.now ≡ Some key) × (command ≡ Some (Remove key))
+Means (ParsedRemovePrefix word) command = (key : List ℕ) × (key_of word.now ≡ Some key) × (command ≡ Some (RemovePrefix key))
 Means (ParsedPrefixGet word) command = (key : List ℕ) × (key_of word.now ≡ Some key) × (command ≡ Some (PrefixGet key))
 Means (ParsedOverwrite word n) command = (key : List ℕ) × (key_of word.now ≡ Some key) × (command ≡ Some (Overwrite key n))
 Means ParsedList command = command ≡ Some ListAll

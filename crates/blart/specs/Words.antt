@@ -5,12 +5,13 @@ pub use Rattle.std.specs.Prelude.{string_bytes}
 pub use Rattle.blart_keys.specs.Bytes.{begins, related, less, common}
 -- what a map has at some bytes; the first three stay closed in proofs
 unfoldable pub use Rattle.blart_keys.specs.Stored.{pair_at, pair_before, overlaps}
-pub use Rattle.blart_keys.specs.Stored.{value_at, value_before, has, shown, Updates, HasNothing, TakesPair, Overwrites, WritesAt, WritesBefore, Refuses, CanCount}
+pub use Rattle.blart_keys.specs.Stored.{value_at, value_before, has, kept_key, kept_pair, kept_item, kept, shown, Updates, HasNothing, TakesPair, Overwrites, WritesAt, WritesBefore, Refuses, CanCount}
 -- a map as a list of pairs: without the numbers under which they stand, closed in proofs
 unfoldable pub use Rattle.blart_map.specs.Content.{pairs}
 pub use Rattle.blart_map.specs.Content.{Numbered}
 pub use Rattle.blart_keys.specs.Steps.{bytes, Puts, Inserts, PutsOver}
 pub use Rattle.blart_keys.specs.Content.{IsContent, at, stores, front_of, under, between, conflict, subtree, without, IsPut, IsOver}
+pub use Rattle.blart_keys.specs.Outside.{outside}
 pub use Rattle.blart_keys.specs.Bounds.{bound_bytes, is_from_start, is_up_to_end, in_order, CanRange}
 pub use Rattle.blart_keys.specs.Fronts.{fronts}
 -- many pairs at once

@@ -16,6 +16,7 @@ pub(crate) enum Command<'a> {
     Insert(&'a [u8], u64),
     Get(&'a [u8]),
     Remove(&'a [u8]),
+    RemovePrefix(&'a [u8]),
     PrefixGet(&'a [u8]),
     Overwrite(&'a [u8], u64),
     List,
@@ -63,6 +64,8 @@ fn parse_two<'a>(name: &[u8], key: &'a [u8]) -> Option<Command<'a>>
         Some(Command::Get(key))
     } else if name == b"remove".as_slice() {
         Some(Command::Remove(key))
+    } else if name == b"remove-prefix".as_slice() {
+        Some(Command::RemovePrefix(key))
     } else if name == b"prefix-get".as_slice() {
         Some(Command::PrefixGet(key))
     } else if name == b"prefix".as_slice() {

@@ -8,7 +8,7 @@ ghost use Rattle.blart_map.specs.Content.{pairs};
 ghost use Rattle.blart.specs.Watched.{watched_inner, watched_failed};
 ghost use Rattle.blart.specs.Sent.{IsSent};
 ghost use Rattle.blart.specs.Lines.{ended};
-ghost use Rattle.blart.specs.Command.{key_of, Insert, Get, Remove, PrefixGet, Overwrite, ListPrefix, ListRange};
+ghost use Rattle.blart.specs.Command.{key_of, Insert, Get, Remove, RemovePrefix, PrefixGet, Overwrite, ListPrefix, ListRange};
 ghost use Rattle.blart.specs.Answers.{AnswersOrRefuses, listing, range_lines, found_text, inserted_text, value_text};
 ghost use Rattle.blart.specs.Texts.{text_of};
 ghost use Rattle.blart.specs.Content.{Stored, pair_of, content_of, by_bytes};
@@ -52,6 +52,10 @@ pub(crate) fn reply<W: Write>(
             let answer = remove(map, alloc, word);
             write_answer(answer, outbox, writer)
         }
+        Some(Command::RemovePrefix(word)) => {
+            let answer = remove_prefix(map, alloc, word);
+            write_answer(answer, outbox, writer)
+        }
         Some(Command::PrefixGet(word)) => write_front(map, alloc, word, outbox, writer),
         Some(Command::Overwrite(word, value)) => {
             let answer = overwrite(map, alloc, word, value);
@@ -92,6 +96,16 @@ fn remove(map: &mut Pairs, alloc: Global, word: &[u8]) -> Answer
 {
     match decode_key(alloc, word) {
         Some(key) => value_answer(map.remove(&key)),
+        None => Answer::RefusedMemory,
+    }
+}
+
+fn remove_prefix(map: &mut Pairs, alloc: Global, word: &[u8]) -> Answer
+    ensures { (key : List ℕ) → key_of word.now ≡ Some key
+        → AnswersOrRefuses (content_of map.old) (RemovePrefix key) (text_of result ∷ []) (content_of map.new) }
+{
+    match decode_key(alloc, word) {
+        Some(key) => Answer::Removed(map.remove_prefix(&key)),
         None => Answer::RefusedMemory,
     }
 }

@@ -20,6 +20,7 @@ pub(crate) enum Answer {
     Old(u64),
     End(usize),
     Len(usize),
+    Removed(usize),
     RefusedPrefix,
     RefusedMemory,
     RefusedBounds,
@@ -54,6 +55,7 @@ fn append_answer(answer: Answer, outbox: &mut Outbox)
         Answer::Old(number) => append_counted(b"old ", number, outbox),
         Answer::End(count) => append_counted(b"end ", count as u64, outbox),
         Answer::Len(count) => append_counted(b"len ", count as u64, outbox),
+        Answer::Removed(count) => append_counted(b"removed ", count as u64, outbox),
         Answer::RefusedPrefix => outbox.append(b"refused prefix"),
         Answer::RefusedMemory => outbox.append(b"refused memory"),
         Answer::RefusedBounds => outbox.append(b"refused bounds"),
@@ -61,9 +63,10 @@ fn append_answer(answer: Answer, outbox: &mut Outbox)
     }
 }
 
-// Adds a word of four bytes and the number's digits.
-fn append_counted(word: &[u8; 4], number: u64, outbox: &mut Outbox)
-    requires { length outbox.old + 31 ≤ 8192 }
+// Adds a word of at most eight bytes and the number's digits.
+fn append_counted(word: &[u8], number: u64, outbox: &mut Outbox)
+    requires short { length word.now ≤ 8 }
+    requires fits { length outbox.old + 31 ≤ 8192 }
     ensures after { outbox.new ≡ outbox.old ++ (word.now ++ decimal number) }
     ensures room { length outbox.new ≤ length outbox.old + 31 }
 {

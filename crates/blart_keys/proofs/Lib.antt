@@ -8,6 +8,7 @@ pub mod FrontSizes
 pub mod StepLemmas
 pub mod Mapped
 pub mod StoredLemmas
+pub mod OutsideLemmas
 pub mod WalkLemmas
 pub mod MergeLemmas
 pub mod PartsOfContents

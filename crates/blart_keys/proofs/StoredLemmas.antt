@@ -1,17 +1,16 @@
 -- What the words on stored pairs say after a call.
-use Rattle.std.proofs.Common.{◌≡◌, ◌≢◌, slice_get, zero, Contains, find, filter, append-nil, ℕ, suc, ◌+◌, ◌≤◌, Bool, true, false, not, ◌||◌, ◌⊎◌, inl, inr, List, [], ◌∷◌, ◌++◌, length, map, refl, sym, ap, ◌∙◌, subst, subst₂, arith, Option, Some, None, Result, Ok, Err, IfOk, IfErr, OnOk, OnErr, option_map, is_some, bytes_eq, cond, if◌then◌else◌}
+use Rattle.std.proofs.Common.{◌≡◌, ◌≢◌, slice_get, zero, Contains, find, filter, append-nil, ℕ, suc, ◌+◌, Bool, true, false, not, ◌||◌, ◌⊎◌, inl, inr, List, [], ◌∷◌, ◌++◌, length, map, refl, sym, ap, ◌∙◌, subst, subst₂, arith, Option, Some, None, Result, Ok, Err, IfOk, IfErr, OnOk, OnErr, option_map, is_some, bytes_eq, cond, if◌then◌else◌}
 use Rattle.std.proofs.lemmas.Bool.{false≢true, cases_Bool, cond-true, cond-false, not-true, false_from_ne_true}
 use Rattle.std.specs.Cmp.Lexicographic.{bytes_decides}
 use Rattle.blart_keys.specs.Bytes.{begins, related}
-use Rattle.blart_keys.specs.Content.{IsContent, at, stores, front_of, conflict, subtree, without, IsPut, IsOver}
+use Rattle.blart_keys.specs.Content.{IsContent, at, stores, front_of, subtree, without, IsPut, IsOver}
 use Rattle.blart_keys.specs.Steps.{bytes, Puts, Inserts}
 use Rattle.blart_keys.specs.declared.calls.TryInsertError.{TryInsertError}
 use Rattle.blart_keys.specs.declared.calls.TryInsertError.TheVariants.{Prefix, Memory}
-use Rattle.blart_keys.specs.Stored.{CanCount, pair_at, pair_before, overlaps, value_at, has, Updates, HasNothing, TakesPair, Overwrites, Refuses, written_at, written_at_front, WritesAt, WritesBefore}
+use Rattle.blart_keys.specs.Stored.{CanCount, kept_pair, kept, pair_at, pair_before, overlaps, value_at, has, Updates, HasNothing, TakesPair, Overwrites, Refuses, written_at, written_at_front, WritesAt, WritesBefore}
 use Rattle.blart_keys.specs.Walks.{TakesFirst, TakesLast}
 use Rattle.blart_keys.proofs.PartLemmas.{PartsBelow, PartsBelow-irrefl}
-use Rattle.blart_keys.proofs.RankLemmas.{Member, Contains-from_Member, Member-from_Contains, Member-append_right, each_member, filter_member, find_found, find_missing, find_none, member_filter, Ranked}
-use Rattle.blart_keys.proofs.ByteLemmas.{begins-itself, fronts_related}
+use Rattle.blart_keys.proofs.RankLemmas.{Member, Contains-from_Member, Member-from_Contains, Member-append_right, each_member, filter_member, find_none, member_filter, Ranked}
 use Rattle.blart_keys.proofs.ContentLemmas.{Before, Ranked-from_content, same_content, same_item, at_Some, at_None, at_member, at_absent, front_of_Some, front_of_None, front_of_member, front_of_stored, stores_found, stores_member, conflict_found, related-same}
 use Rattle.std.proofs.lemmas.List.{length-map}
 use Rattle.std.proofs.lemmas.List.Sums.{length-filter, count_by-le-length}
@@ -279,78 +278,111 @@ module _ {K V : Type 0} (kb : K → List ℕ) where
       len = changed_length (λ k. begins (kb k) q) v S;
     }
 
+  -- ---- what an insertion stores
+
+  -- it has the bytes of the pair that is put
+  pub kept_bytes : (S : List (K × V)) (x : K × V) → kb (kept kb S x).0 ≡ kb x.0
+  unfolding pair_at
+  kept_bytes S x = of (at (bytes kb) S (kb x.0)) refl
+    where
+      of : (o : Option (K × V)) → at (bytes kb) S (kb x.0) ≡ o → kb (kept_pair o x).0 ≡ kb x.0
+      of None e = refl
+      of (Some y) e = (at_Some (bytes kb) S (kb x.0) y e).1
+
+  -- new bytes are stored as they are put
+  pub kept_new : (S : List (K × V)) (x : K × V) → pair_at kb S (kb x.0) ≡ None → kept kb S x ≡ x
+  kept_new S x none = ap (λ o. kept_pair o x) none
+
   -- ---- what an insertion answers
 
-  module _ {R : Type 0} (tell : Option (K × V) → R) (S : List (K × V)) (x : K × V) (S' : List (K × V)) where
-    pub puts_old : (r : Result R TryInsertError) → Puts kb tell S x r S' → IfOk r (λ a. a ≡ tell (pair_at kb S (kb x.0)))
+  -- the words of a put, of a stored pair that has the bytes of another
+  module _ (S S' : List (K × V)) (x y : K × V) (same : kb y.0 ≡ kb x.0) (put : IsPut (bytes kb) S y S') where
+    updates_stored : IsContent (bytes kb) S → Updates kb S S' (kb x.0) (Some y)
+    updates_stored content = subst (λ q. Updates kb S S' q (Some y)) same (updates_put S S' y content put)
+
+    len_stored : IsContent (bytes kb) S → length S' ≡ length S + (if has kb S (kb x.0) then 0 else 1)
+    len_stored content = subst (λ q. length S' ≡ length S + (if has kb S q then 0 else 1)) same (len_put S S' y content put)
+
+    fronts_stored : (q : List ℕ) → begins (kb x.0) q ≡ true → pair_before kb S' q ≡ Some y
+    fronts_stored q b = before_put S S' y put q (subst (λ k. begins k q ≡ true) (sym same) b)
+
+    routes_stored : IsContent (bytes kb) S → (q : List ℕ) → pair_before kb S' q ≡ (if begins (kb x.0) q then Some y else pair_before kb S q)
+    routes_stored content q = subst (λ k. pair_before kb S' q ≡ (if begins k q then Some y else pair_before kb S q)) same (routes_put S S' y content put q)
+
+  module _ {R : Type 0} (tell : Option (K × V) → R) (S : List (K × V)) (x y : K × V) (same : kb y.0 ≡ kb x.0) (S' : List (K × V)) where
+    pub puts_old : (r : Result R TryInsertError) → Puts kb tell S x y r S' → IfOk r (λ a. a ≡ tell (pair_at kb S (kb x.0)))
     unfolding pair_at
     puts_old (Ok a) puts = puts.2
     puts_old (Err e) puts = tt
 
-    pub puts_updates : (r : Result R TryInsertError) → IsContent (bytes kb) S → Puts kb tell S x r S' → OnOk r (Updates kb S S' (kb x.0) (Some x))
-    puts_updates (Ok a) content puts = updates_put S S' x content puts.1
+    pub puts_updates : (r : Result R TryInsertError) → IsContent (bytes kb) S → Puts kb tell S x y r S' → OnOk r (Updates kb S S' (kb x.0) (Some y))
+    puts_updates (Ok a) content puts = updates_stored S S' x y same puts.1 content
     puts_updates (Err e) content puts = tt
 
-    pub puts_fronts : (r : Result R TryInsertError) → Puts kb tell S x r S' → OnOk r ((q : List ℕ) → begins (kb x.0) q ≡ true → pair_before kb S' q ≡ Some x)
-    puts_fronts (Ok a) puts = before_put S S' x puts.1
+    pub puts_fronts : (r : Result R TryInsertError) → Puts kb tell S x y r S' → OnOk r ((q : List ℕ) → begins (kb x.0) q ≡ true → pair_before kb S' q ≡ Some y)
+    puts_fronts (Ok a) puts = fronts_stored S S' x y same puts.1
     puts_fronts (Err e) puts = tt
 
-    pub puts_routes : (r : Result R TryInsertError) → IsContent (bytes kb) S → Puts kb tell S x r S' → OnOk r ((q : List ℕ) → pair_before kb S' q ≡ (if begins (kb x.0) q then Some x else pair_before kb S q))
-    puts_routes (Ok a) content puts = routes_put S S' x content puts.1
+    pub puts_routes : (r : Result R TryInsertError) → IsContent (bytes kb) S → Puts kb tell S x y r S' → OnOk r ((q : List ℕ) → pair_before kb S' q ≡ (if begins (kb x.0) q then Some y else pair_before kb S q))
+    puts_routes (Ok a) content puts = routes_stored S S' x y same puts.1 content
     puts_routes (Err e) content puts = tt
 
-    pub puts_free : (r : Result R TryInsertError) → Puts kb tell S x r S' → OnOk r (overlaps kb S (kb x.0) ≡ false)
+    pub puts_free : (r : Result R TryInsertError) → Puts kb tell S x y r S' → OnOk r (overlaps kb S (kb x.0) ≡ false)
     unfolding overlaps
     puts_free (Ok a) puts = puts.0
     puts_free (Err e) puts = tt
 
-    pub puts_why : (r : Result R TryInsertError) → Puts kb tell S x r S' → IfErr r (Refuses kb S (kb x.0))
+    pub puts_why : (r : Result R TryInsertError) → Puts kb tell S x y r S' → IfErr r (Refuses kb S (kb x.0))
     unfolding overlaps
     puts_why (Ok a) puts = tt
     puts_why (Err (Prefix e)) puts = puts.0
     puts_why (Err (Memory e)) puts = (puts.0, sym (stores_is S (kb x.0)) ∙ puts.1)
 
-    pub puts_err : (r : Result R TryInsertError) → Puts kb tell S x r S' → OnErr r (S' ≡ S)
+    pub puts_err : (r : Result R TryInsertError) → Puts kb tell S x y r S' → OnErr r (S' ≡ S)
     puts_err (Ok a) puts = tt
     puts_err (Err (Prefix e)) puts = puts.1
     puts_err (Err (Memory e)) puts = puts.2
 
-  pub puts_len : (S : List (K × V)) (x : K × V) (S' : List (K × V)) (r : Result (Option (K × V)) TryInsertError) → IsContent (bytes kb) S → Puts kb (λ pair. pair) S x r S' → IfOk r (λ old. length S' ≡ length S + (if is_some old then 0 else 1))
+  pub puts_len : (S : List (K × V)) (x y : K × V) (same : kb y.0 ≡ kb x.0) (S' : List (K × V)) (r : Result (Option (K × V)) TryInsertError) → IsContent (bytes kb) S → Puts kb (λ pair. pair) S x y r S' → IfOk r (λ old. length S' ≡ length S + (if is_some old then 0 else 1))
   unfolding pair_at
-  puts_len S x S' (Ok a) content puts = len_put S S' x content puts.1 ∙ ap (λ o. length S + (if is_some o then 0 else 1)) (sym puts.2)
-  puts_len S x S' (Err e) content puts = tt
+  puts_len S x y same S' (Ok a) content puts = len_stored S S' x y same puts.1 content ∙ ap (λ o. length S + (if is_some o then 0 else 1)) (sym puts.2)
+  puts_len S x y same S' (Err e) content puts = tt
 
   -- the same where the answer is the old value
-  pub len_of_value : (S S' : List (K × V)) (x : K × V) (old : Option V) → IsContent (bytes kb) S → IsPut (bytes kb) S x S' → old ≡ value_at kb S (kb x.0) → length S' ≡ length S + (if is_some old then 0 else 1)
-  len_of_value S S' x old content put e = len_put S S' x content put ∙ ap (λ b. length S + (if b then 0 else 1)) (sym (some_map (λ (p : K × V). p.1) (pair_at kb S (kb x.0))) ∙ ap (λ o. is_some o) (sym e))
+  len_of_value : (S S' : List (K × V)) (x y : K × V) (same : kb y.0 ≡ kb x.0) (old : Option V) → IsContent (bytes kb) S → IsPut (bytes kb) S y S' → old ≡ value_at kb S (kb x.0) → length S' ≡ length S + (if is_some old then 0 else 1)
+  len_of_value S S' x y same old content put e = len_stored S S' x y same put content ∙ ap (λ b. length S + (if b then 0 else 1)) (sym (some_map (λ (p : K × V). p.1) (pair_at kb S (kb x.0))) ∙ ap (λ o. is_some o) (sym e))
 
-  module _ {E : Type 0} (S : List (K × V)) (x : K × V) (S' : List (K × V)) where
-    pub inserts_old : (r : Result (Option V) E) → Inserts kb S x r S' → IfOk r (λ old. old ≡ value_at kb S (kb x.0))
+  pub puts_value_len : (S : List (K × V)) (x y : K × V) (same : kb y.0 ≡ kb x.0) (S' : List (K × V)) (r : Result (Option V) TryInsertError) → IsContent (bytes kb) S → Puts kb (option_map (λ pair. pair.1)) S x y r S' → IfOk r (λ old. length S' ≡ length S + (if is_some old then 0 else 1))
+  puts_value_len S x y same S' (Ok a) content puts = len_of_value S S' x y same a content puts.1 (puts_old (option_map (λ pair. pair.1)) S x y same S' (Ok a) puts)
+  puts_value_len S x y same S' (Err e) content puts = tt
+
+  module _ {E : Type 0} (S : List (K × V)) (x y : K × V) (same : kb y.0 ≡ kb x.0) (S' : List (K × V)) where
+    pub inserts_old : (r : Result (Option V) E) → Inserts kb S x y r S' → IfOk r (λ old. old ≡ value_at kb S (kb x.0))
     unfolding pair_at
     inserts_old (Ok old) put = put.1
     inserts_old (Err e) put = tt
 
-    pub inserts_updates : (r : Result (Option V) E) → IsContent (bytes kb) S → Inserts kb S x r S' → OnOk r (Updates kb S S' (kb x.0) (Some x))
-    inserts_updates (Ok old) content put = updates_put S S' x content put.0
+    pub inserts_updates : (r : Result (Option V) E) → IsContent (bytes kb) S → Inserts kb S x y r S' → OnOk r (Updates kb S S' (kb x.0) (Some y))
+    inserts_updates (Ok old) content put = updates_stored S S' x y same put.0 content
     inserts_updates (Err e) content put = tt
 
-    pub inserts_len : (r : Result (Option V) E) → IsContent (bytes kb) S → Inserts kb S x r S' → IfOk r (λ old. length S' ≡ length S + (if is_some old then 0 else 1))
-    inserts_len (Ok old) content put = len_of_value S S' x old content put.0 (inserts_old (Ok old) put)
+    pub inserts_len : (r : Result (Option V) E) → IsContent (bytes kb) S → Inserts kb S x y r S' → IfOk r (λ old. length S' ≡ length S + (if is_some old then 0 else 1))
+    inserts_len (Ok old) content put = len_of_value S S' x y same old content put.0 (inserts_old (Ok old) put)
     inserts_len (Err e) content put = tt
 
-    pub inserts_fronts : (r : Result (Option V) E) → Inserts kb S x r S' → OnOk r ((q : List ℕ) → begins (kb x.0) q ≡ true → pair_before kb S' q ≡ Some x)
-    inserts_fronts (Ok old) put = before_put S S' x put.0
+    pub inserts_fronts : (r : Result (Option V) E) → Inserts kb S x y r S' → OnOk r ((q : List ℕ) → begins (kb x.0) q ≡ true → pair_before kb S' q ≡ Some y)
+    inserts_fronts (Ok old) put = fronts_stored S S' x y same put.0
     inserts_fronts (Err e) put = tt
 
-    pub inserts_routes : (r : Result (Option V) E) → IsContent (bytes kb) S → Inserts kb S x r S' → OnOk r ((q : List ℕ) → pair_before kb S' q ≡ (if begins (kb x.0) q then Some x else pair_before kb S q))
-    inserts_routes (Ok old) content put = routes_put S S' x content put.0
+    pub inserts_routes : (r : Result (Option V) E) → IsContent (bytes kb) S → Inserts kb S x y r S' → OnOk r ((q : List ℕ) → pair_before kb S' q ≡ (if begins (kb x.0) q then Some y else pair_before kb S q))
+    inserts_routes (Ok old) content put = routes_stored S S' x y same put.0 content
     inserts_routes (Err e) content put = tt
 
-    pub inserts_err : (r : Result (Option V) E) → Inserts kb S x r S' → OnErr r (S' ≡ S)
+    pub inserts_err : (r : Result (Option V) E) → Inserts kb S x y r S' → OnErr r (S' ≡ S)
     inserts_err (Ok old) put = tt
     inserts_err (Err e) put = put.1
 
-    pub inserts_absent : (r : Result (Option V) E) → Inserts kb S x r S' → OnErr r (has kb S (kb x.0) ≡ false)
+    pub inserts_absent : (r : Result (Option V) E) → Inserts kb S x y r S' → OnErr r (has kb S (kb x.0) ≡ false)
     inserts_absent (Ok old) put = tt
     inserts_absent (Err e) put = sym (stores_is S (kb x.0)) ∙ put.0
 

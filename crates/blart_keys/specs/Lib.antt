@@ -1,6 +1,7 @@
 pub mod Bytes
 pub mod Bounds
 pub mod Content
+pub mod Outside
 pub mod Fronts
 pub mod Merges
 pub mod Walks

@@ -1,24 +1,41 @@
--- What a map has at some bytes, in the words that its users cite. The first three stay closed in their proofs.
+-- What a map has at some bytes, in the words that its users cite. `pair_at`, `pair_before` and `overlaps` stay closed in their proofs.
 use Rattle.std.specs.Prelude.{◌≡◌, ◌≢◌, ℕ, ◌^◌, ◌<◌, Bool, true, false, List, length, map, Option, None, Some, option_map, is_some, bytes_eq, if◌then◌else◌}
 use denote.Ref.{Bor}
 use Rattle.blart_keys.specs.declared.calls.TryInsertError.{TryInsertError}
 use Rattle.blart_keys.specs.declared.calls.TryInsertError.TheVariants.{Prefix, Memory}
 use Rattle.blart_keys.specs.Bytes.{begins, related}
 use Rattle.blart_keys.specs.Content.{at, conflict, front_of}
-use Rattle.blart_keys.specs.Steps.{bytes}
+
+-- the key of the pair that was there, or this one where there was none
+abbrev pub kept_key : {K V : Type 0} → Option (K × V) → K → K
+kept_key None key = key
+kept_key (Some old) key = old.0
+
+-- the pair, with the key of the one that was there
+abbrev pub kept_pair : {K V : Type 0} → Option (K × V) → K × V → K × V
+kept_pair old pair = (kept_key old pair.0, pair.1)
+
+-- the item that was there, or this one where there was none
+abbrev pub kept_item : {X : Type 0} → Option X → X → X
+kept_item None x = x
+kept_item (Some old) x = old
 
 module _ {K V : Type 0} (kb : K → List ℕ) where
+  -- the bytes of a pair are its key's
+  abbrev pub bytes : K × V → List ℕ
+  bytes pair = kb pair.0
+
   -- the pair whose key has the bytes q
   unfoldable pub pair_at : List (K × V) → List ℕ → Option (K × V)
-  pair_at S q = at (bytes kb) S q
+  pair_at S q = at bytes S q
 
   -- the pair whose key's bytes begin q
   unfoldable pub pair_before : List (K × V) → List ℕ → Option (K × V)
-  pair_before S q = front_of (bytes kb) S q
+  pair_before S q = front_of bytes S q
 
   -- some key is related to q and has other bytes
   unfoldable pub overlaps : List (K × V) → List ℕ → Bool
-  overlaps S q = conflict (bytes kb) S q
+  overlaps S q = conflict bytes S q
 
   -- the value of the key with the bytes q
   abbrev pub value_at : List (K × V) → List ℕ → Option V
@@ -31,6 +48,10 @@ module _ {K V : Type 0} (kb : K → List ℕ) where
   -- some key has the bytes q
   abbrev pub has : List (K × V) → List ℕ → Bool
   has S q = is_some (pair_at S q)
+
+  -- what an insertion of the pair stores: its value, under the stored key where its bytes are stored
+  abbrev pub kept : List (K × V) → K × V → K × V
+  kept S pair = kept_pair (pair_at S (kb pair.0)) pair
 
   -- S' has w at the bytes q, and at all others what S has
   abbrev pub Updates : List (K × V) → List (K × V) → List ℕ → Option (K × V) → Type 0

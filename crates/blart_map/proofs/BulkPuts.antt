@@ -2,12 +2,12 @@
 use Rattle.std.proofs.Common.{◌≡◌, ℕ, List, [], ◌∷◌, ◌++◌, Option, Some, refl, sym, subst, length, arith, Result, Ok, Err, OnErr}
 use Rattle.std.specs.Iterator.{Yields}
 use Rattle.blart_keys.specs.Bulk.{PutsAll}
-use Rattle.blart_keys.specs.Content.{IsPut}
+use Rattle.blart_keys.specs.Content.{at, IsPut}
 
 -- one more item is put
-pub puts_more : {X : Type 0} (bytes : X → List ℕ) (S : List X) (xs : List X) (T : List X) (x : X) (U : List X) → PutsAll bytes S xs T → IsPut bytes T x U → PutsAll bytes S (xs ++ x ∷ []) U
-puts_more bytes S [] T x U h put = (U, subst (λ R. IsPut bytes R x U) h put, refl)
-puts_more bytes S (y ∷ xs) T x U h put = (h.0, h.1, puts_more bytes h.0 xs T x U h.2 put)
+pub puts_more : {X : Type 0} (bytes : X → List ℕ) (keep : Option X → X → X) (S : List X) (xs : List X) (T : List X) (x : X) (U : List X) → PutsAll bytes keep S xs T → IsPut bytes T (keep (at bytes T (bytes x)) x) U → PutsAll bytes keep S (xs ++ x ∷ []) U
+puts_more bytes keep S [] T x U h put = (U, subst (λ R. IsPut bytes R (keep (at bytes R (bytes x)) x) U) h put, refl)
+puts_more bytes keep S (y ∷ xs) T x U h put = (h.0, h.1, puts_more bytes keep h.0 xs T x U h.2 put)
 
 -- of items that came the first came first
 pub first_came : {I A : Type 0} (steps : I → Option A → I → Type 0) (s : I) (xs : List A) (x : A) (rest : I) → Yields steps s (xs ++ x ∷ []) rest → (y : A) × (t : I) × steps s (Some y) t
@@ -15,8 +15,8 @@ first_came steps s [] x rest h = (x, h.0, h.1)
 first_came steps s (y ∷ xs) x rest h = (y, h.0, h.1)
 
 -- where nothing changes the items are put as before
-pub puts_same : {X : Type 0} (bytes : X → List ℕ) (S : List X) (xs : List X) (T U : List X) → PutsAll bytes S xs T → U ≡ T → PutsAll bytes S xs U
-puts_same bytes S xs T U h e = subst (PutsAll bytes S xs) (sym e) h
+pub puts_same : {X : Type 0} (bytes : X → List ℕ) (keep : Option X → X → X) (S : List X) (xs : List X) (T U : List X) → PutsAll bytes keep S xs T → U ≡ T → PutsAll bytes keep S xs U
+puts_same bytes keep S xs T U h e = subst (PutsAll bytes keep S xs) (sym e) h
 
 -- a list of no length is empty
 pub no_items : {X : Type 0} (xs : List X) → length xs ≡ 0 → xs ≡ []

@@ -11,14 +11,14 @@ use Rattle.blart_keys.proofs.Mapped.{filter-map}
 use Rattle.blart_keys.proofs.Options.{some_of}
 use Rattle.blart_keys.proofs.RankLemmas.{Member, filter_member}
 use Rattle.art_tree.specs.Leaves.{Numbered, leaf_in, Has, AreDistinct, first_number, last_number, with_value, bytes}
-use Rattle.art_tree.proofs.CallerLemmas.{leaf_in-member}
+use Rattle.art_tree.proofs.CallerLemmas.{leaf_in-member, AreDistinct-filter, two_ends, only_one}
 use Rattle.art_walk.specs.Pairs.{pairs_of}
 use Rattle.art_walk.specs.Cursor.{span_of, IsSpan}
 use Rattle.art_walk.proofs.Ranges.{subtree_span}
 use Rattle.blart_map.specs.InnerEntry.{only}
 use Rattle.blart_map.specs.Spans.{is_number, spans, Spans}
 use Rattle.blart_map.proofs.Setting.{rewritten}
-use Rattle.blart_map.proofs.Thinning.{first_has, AreDistinct-filter, ends, only_one}
+use Rattle.blart_map.proofs.Thinning.{first_has}
 
 is_number_Some : (o : Option ℕ) (i : ℕ) → is_number o i ≡ true → o ≡ Some i
 is_number_Some None i e = absurd (false≢true e)
@@ -114,7 +114,7 @@ module _ {K V : Type 0} (kb : K → List ℕ) (ps : List (Numbered K V)) (q : Li
     pub more_pairs : first ≢ last → None ≡ only (subtree (pair_bytes kb) (pairs_of ps) q)
     more_pairs off =
         let s = from_spans h in
-        let e = ends (subtree (bytes kb) ps q) first last s.first_is s.last_is off in
+        let e = two_ends (subtree (bytes kb) ps q) first last s.first_is s.last_is off in
         sym (ap only (subtree_pairs ∙ ap pairs_of e.is))
 
     -- there is one exactly where the ends are one

@@ -102,7 +102,7 @@ module _ {K V : Type 0} (kb : K → Bytes) (ps : List (Numbered K V)) where
 
     module _ (distinct : AreDistinct ps) (x : K × V) where
       -- a pair placed where none is related is put
-      pub placed : ((y : Numbered K V) → Member y ps → related (bytes kb y) (kb x.0) ≡ false) → (old new : List (Numbered K V)) (id : ℕ) → old ≡ ps → IsPut (bytes kb) old (id, x) new → Puts kb (λ pair. pair) (pairs_of ps) x (Ok None) (pairs_of new)
+      pub placed : ((y : Numbered K V) → Member y ps → related (bytes kb y) (kb x.0) ≡ false) → (old new : List (Numbered K V)) (id : ℕ) → old ≡ ps → IsPut (bytes kb) old (id, x) new → Puts kb (λ pair. pair) (pairs_of ps) x x (Ok None) (pairs_of new)
       placed alone old new id e put =
           let p = put_map (λ p. p.1) (pair_bytes kb) ps new (id, x) (subst (λ S. IsPut (bytes kb) S (id, x) new) e put) in (
             conflict_pairs (kb x.0) ∙ alone_no_conflict (bytes kb) ps (kb x.0) alone,
@@ -111,7 +111,7 @@ module _ {K V : Type 0} (kb : K → Bytes) (ps : List (Numbered K V)) where
           )
 
       -- where there was no memory for it the pairs stand
-      pub refused : ((y : Numbered K V) → Member y ps → related (bytes kb y) (kb x.0) ≡ false) → {R : Type 0} (tell : Option (K × V) → R) (new : List (Numbered K V)) → new ≡ ps → (e : _) → Puts kb tell (pairs_of ps) x (Err (Memory e)) (pairs_of new)
+      pub refused : ((y : Numbered K V) → Member y ps → related (bytes kb y) (kb x.0) ≡ false) → {R : Type 0} (tell : Option (K × V) → R) (new : List (Numbered K V)) → new ≡ ps → (e : _) → Puts kb tell (pairs_of ps) x x (Err (Memory e)) (pairs_of new)
       refused alone tell new same e = (
         conflict_pairs (kb x.0) ∙ alone_no_conflict (bytes kb) ps (kb x.0) alone,
         list_any-map (λ p. p.1) (λ y. bytes_eq (kb y.0) (kb x.0)) ps ∙ alone_absent (bytes kb) ps (kb x.0) alone,
@@ -119,7 +119,7 @@ module _ {K V : Type 0} (kb : K → Bytes) (ps : List (Numbered K V)) where
       )
 
       -- the pair of the same bytes is exchanged
-      pub exchanged : (id : ℕ) → IsGood kb ps (Exact id) (kb x.0) → (old : K × V) → leaf_in ps id ≡ Some old → (new : List (Numbered K V)) → new ≡ with_pair ps id x → Puts kb (λ pair. pair) (pairs_of ps) x (Ok (Some old)) (pairs_of new)
+      pub exchanged : (id : ℕ) → IsGood kb ps (Exact id) (kb x.0) → (old : K × V) → leaf_in ps id ≡ Some old → (new : List (Numbered K V)) → new ≡ with_pair ps id x → Puts kb (λ pair. pair) (pairs_of ps) x x (Ok (Some old)) (pairs_of new)
       exchanged id good old l new e =
           let r = at_Some (bytes kb) ps (kb x.0) (id, good.0) good.1 in
           let f : Some good.0 ≡ Some old = sym (leaf_in-member ps id good.0 distinct r.0) ∙ l in

@@ -4,12 +4,14 @@ pub mod BulkPuts
 pub mod CallerLemmas
 pub mod Cloning
 pub mod CountedPairs
+pub mod EndPairs
 pub mod EntryOf
 pub mod Extracting
 pub mod Filtered
 pub mod FreePlaces
 pub mod InnerPairs
 pub mod Inserting
+pub mod Keeping
 pub mod LentPairs
 pub mod Moving
 pub mod Numbers

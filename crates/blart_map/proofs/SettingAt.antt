@@ -3,7 +3,7 @@ use Rattle.std.proofs.Common.{◌≡◌, ◌+◌, ℕ, false, List, refl, sym, a
 use Rattle.std.specs.Option.{unwrap_or, UnwrapsOrElse}
 use Rattle.blart_keys.specs.Content.{IsContent, IsPut}
 use Rattle.blart_keys.specs.Steps.{bytes as pair_bytes}
-use Rattle.blart_keys.specs.Stored.{pair_at, value_at, has, Updates}
+use Rattle.blart_keys.specs.Stored.{kept_key, pair_at, value_at, has, Updates}
 use Rattle.blart_keys.proofs.ContentLemmas.{at_Some}
 use Rattle.blart_keys.proofs.Mapped.{content_map}
 use Rattle.art_tree.specs.Content.{IsOpen}
@@ -15,16 +15,16 @@ use Rattle.art_tree.proofs.CallerLemmas.{leaf_in-member}
 use Rattle.art_walk.specs.Pairs.{pairs_of}
 use Rattle.blart_map.proofs.EntryOf.{exact_pair, open_absent, open_pair}
 use Rattle.blart_map.proofs.Setting.{rewritten, rewritten_content, put_from_updates, placed_set}
-use Rattle.blart_map.specs.Lent.{kept_key, IsSetAt}
+use Rattle.blart_map.specs.Lent.{IsSetAt}
 
 module _ {K V : Type 0} (kb : K → List ℕ) (ps : List (Numbered K V)) (S : List (K × V)) (view : pairs_of ps ≡ S) (content : IsContent (bytes kb) ps) (distinct : AreDistinct ps) (key : K) where
   -- what is set, where the pair at the key's bytes is this one
   abbrev Set : List (K × V) → Option (K × V) → V → List (K × V) → Type 0
   Set S o w S' =
-      Updates kb S S' (kb key) (Some (kept_key kb o key, w))
+      Updates kb S S' (kb key) (Some (kept_key o key, w))
       × (value_at kb S' (kb key) ≡ Some w)
       × (length S' ≡ length S + (if is_some o then 0 else 1))
-      × IsPut (pair_bytes kb) S (kept_key kb o key, w) S'
+      × IsPut (pair_bytes kb) S (kept_key o key, w) S'
 
   set_of : (o : Option (K × V)) → o ≡ pair_at kb (pairs_of ps) (kb key) → (w : V) (S' : List (K × V)) → Set (pairs_of ps) o w S' → IsSetAt kb S key w S'
   set_of o e w S' h = subst (λ S. IsSetAt kb S key w S') view (subst (λ o. Set (pairs_of ps) o w S') e h)

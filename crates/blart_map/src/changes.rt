@@ -1,8 +1,10 @@
 //! Removals, and values to be written.
-ghost use Rattle.std.specs.Prelude.{◌≡◌, ◌+◌, [], length, option_map, is_some, IfSome, None, if◌then◌else◌};
-ghost use Rattle.blart_keys.specs.Content.{at, without};
+ghost use Rattle.std.specs.Prelude.{◌≡◌, ◌+◌, ℕ, List, [], length, option_map, is_some, IfSome, None, true, false, if◌then◌else◌};
+ghost use Rattle.blart_keys.specs.Bytes.{begins};
+ghost use Rattle.blart_keys.specs.Content.{at, under, without};
+ghost use Rattle.blart_keys.specs.Outside.{outside};
 ghost use Rattle.blart_keys.specs.Steps.{bytes};
-ghost use Rattle.blart_keys.specs.Stored.{pair_at, value_at, Updates, TakesPair, HasNothing};
+ghost use Rattle.blart_keys.specs.Stored.{pair_at, pair_before, value_at, Updates, TakesPair, HasNothing};
 ghost use Rattle.blart_keys.specs.Walks.{TakesFirst, TakesLast};
 ghost use Rattle.blart_map.specs.Content.{pairs};
 
@@ -49,6 +51,30 @@ impl<K: AsBytes + Drop, V: Drop, const PREFIX_LEN: usize> TreeMap<K, V, PREFIX_L
             Some(pair) => Some(pair.1),
             None => None,
         }
+    }
+
+    /// Removes the pairs whose keys' bytes begin with these, and answers how many there were; all of them where there are no bytes. Takes no memory; its cost is that of a removal for each of these pairs.
+    ///
+    /// ```
+    /// map.try_insert("car", 1)?;
+    /// map.try_insert("cat", 2)?;
+    /// map.try_insert("dog", 3)?;
+    /// assert_eq!(map.remove_prefix(b"ca"), 2);
+    /// assert_eq!(map.remove_prefix(b"ca"), 0);
+    /// assert_eq!(map.first_key_value(), Some((&"dog", &3)));
+    /// ```
+    pub fn remove_prefix(&mut self, prefix: &[u8]) -> usize
+        ensures gone { (q : List ℕ) → begins prefix.now q ≡ true
+            → pair_at K.bytes (pairs self.new) q ≡ None }
+        ensures others { (q : List ℕ) → begins prefix.now q ≡ false
+            → pair_at K.bytes (pairs self.new) q ≡ pair_at K.bytes (pairs self.old) q }
+        ensures fronts { (q : List ℕ) → begins prefix.now q ≡ false
+            → pair_before K.bytes (pairs self.new) q ≡ pair_before K.bytes (pairs self.old) q }
+        ensures len { length (pairs self.new) + result ≡ length (pairs self.old) }
+        ensures count { result ≡ length (under (bytes K.bytes) (pairs self.old) prefix.now) }
+        ensures rest { pairs self.new ≡ outside (bytes K.bytes) (pairs self.old) prefix.now }
+    {
+        self.tree.remove_prefix(prefix)
     }
 
     /// Removes the pair whose key's bytes are least, and gives it. Takes no memory.

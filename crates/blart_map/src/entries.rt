@@ -1,5 +1,5 @@
 //! The entry of a key.
-ghost use Rattle.std.specs.Prelude.{◌≡◌, not, is_ok, is_some, IfOk, IfSome};
+ghost use Rattle.std.specs.Prelude.{◌≡◌, ◌-◌, length, slice_get, not, is_ok, is_some, IfOk, IfSome};
 ghost use Rattle.std.specs.Borrow.{sem};
 ghost use Rattle.blart_keys.specs.Stored.{overlaps, pair_before};
 ghost use Rattle.blart_map.specs.Content.{pairs};
@@ -126,6 +126,70 @@ impl<K: AsBytes + Drop, V: Drop, const PREFIX_LEN: usize> TreeMap<K, V, PREFIX_L
     {
         self.numbers_law();
         match self.front_leaf(query.as_bytes()) {
+            Some(id) => Some(OccupiedEntry {
+                map: self,
+                id,
+                lender: PhantomData,
+            }),
+            None => None,
+        }
+    }
+
+    /// The entry of the pair whose key's bytes are least, if there is a pair. Takes no memory.
+    ///
+    /// ```
+    /// map.try_insert("cat", 1)?;
+    /// map.try_insert("dog", 2)?;
+    /// if let Some(entry) = map.first_entry() {
+    ///     assert_eq!(entry.remove_entry(), ("cat", 1));
+    /// }
+    /// assert_eq!(map.len(), 1);
+    /// ```
+    pub fn first_entry(
+        &mut self,
+    ) -> Option<OccupiedEntry<'_, K, V, PREFIX_LEN, TreeMap<K, V, PREFIX_LEN>>>
+        ensures* stands { sem 𝓛
+            (rests_if_none K.row V.row PREFIX_LEN.row K.AsBytes self.entry result) }
+        ensures found { is_some result ≡ is_some (slice_get (pairs self.old) 0) }
+        ensures same_map { IfSome result (λ o. o.map.ghost_name ≡ self.entry.ghost_name) }
+        ensures unchanged { IfSome result (λ o. o.map.now ≡ self.old) }
+        ensures pair { IfSome result (λ o. entry_pair (Occupied o)
+            ≡ slice_get (pairs self.old) 0) }
+    {
+        match self.first_leaf() {
+            Some(id) => Some(OccupiedEntry {
+                map: self,
+                id,
+                lender: PhantomData,
+            }),
+            None => None,
+        }
+    }
+
+    /// The entry of the pair whose key's bytes are greatest, if there is a pair. Takes no memory.
+    ///
+    /// ```
+    /// map.try_insert("cat", 1)?;
+    /// map.try_insert("dog", 2)?;
+    /// if let Some(mut entry) = map.last_entry() {
+    ///     *entry.get_mut() += 1;
+    /// }
+    /// assert_eq!(map.get(&"dog"), Some(&3));
+    /// ```
+    pub fn last_entry(
+        &mut self,
+    ) -> Option<OccupiedEntry<'_, K, V, PREFIX_LEN, TreeMap<K, V, PREFIX_LEN>>>
+        ensures* stands { sem 𝓛
+            (rests_if_none K.row V.row PREFIX_LEN.row K.AsBytes self.entry result) }
+        ensures found { is_some result
+            ≡ is_some (slice_get (pairs self.old) (length (pairs self.old) - 1)) }
+        ensures same_map { IfSome result (λ o. o.map.ghost_name ≡ self.entry.ghost_name) }
+        ensures unchanged { IfSome result (λ o. o.map.now ≡ self.old) }
+        ensures pair { IfSome result (λ o. entry_pair (Occupied o)
+            ≡ slice_get (pairs self.old) (length (pairs self.old) - 1)) }
+    {
+        self.numbers_law();
+        match self.last_leaf() {
             Some(id) => Some(OccupiedEntry {
                 map: self,
                 id,

@@ -4,7 +4,7 @@ ghost use Rattle.std.specs.Borrow.{sem};
 ghost use Rattle.std.specs.Fn.{FnOnceReturnsAt};
 ghost use denote.Ref.{Bor};
 ghost use Rattle.blart_keys.specs.Content.{stores, conflict, front_of, IsContent};
-ghost use Rattle.art_tree.specs.Leaves.{leaf_in, Has, AreDistinct, without_number, bytes};
+ghost use Rattle.art_tree.specs.Leaves.{leaf_in, first_number, last_number, Has, AreDistinct, without_number, bytes};
 ghost use Rattle.art_tree.specs.Points.{IsGood};
 ghost use Rattle.art_tree.specs.declared.tree.point.Point.TheVariants.{Related};
 ghost use Rattle.art_walk.specs.Cursor.{span_of, IsSpan};
@@ -92,6 +92,20 @@ impl<K: AsBytes + Drop, V: Drop, const PREFIX_LEN: usize> TreeMap<K, V, PREFIX_L
         ensures rest { self.new ≡ without_number self.old id }
     {
         self.tree.remove(id)
+    }
+
+    // The leaf of the first pair.
+    pub(crate) fn first_leaf(&self) -> Option<LeafId>
+        ensures { result ≡ first_number self.now }
+    {
+        self.tree.first()
+    }
+
+    // The leaf of the last pair.
+    pub(crate) fn last_leaf(&self) -> Option<LeafId>
+        ensures { result ≡ last_number self.now }
+    {
+        self.tree.last()
     }
 
     // The leaf whose key's bytes begin the query's.

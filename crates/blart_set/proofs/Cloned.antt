@@ -1,5 +1,5 @@
 -- Clones of elements that ascend, put one behind the other.
-use Rattle.std.proofs.Common.{◌≡◌, ◌≢◌, ℕ, true, inl, inr, List, [], ◌∷◌, ◌++◌, map, Some, refl, sym, ap, ◌∙◌, subst, append_assoc, append-nil}
+use Rattle.std.proofs.Common.{◌≡◌, ◌≢◌, ℕ, true, inl, inr, List, [], ◌∷◌, ◌++◌, map, Some, None, refl, sym, ap, ◌∙◌, subst, append_assoc, append-nil}
 use denote.Ref.{Bor}
 use Rattle.std.proofs.lemmas.Bool.{false≢true}
 use Rattle.std.specs.Iterator.{Drains, YieldsFirstRef}
@@ -7,7 +7,9 @@ use Rattle.std.specs.List.{AllByRecursion, AllZip}
 use Rattle.std.specs.Prelude.{Result, Ok, Err, MatchResult, IfOk, OnErr}
 use Rattle.blart_keys.specs.Bulk.{PutsAll}
 use Rattle.blart_keys.specs.Bytes.{less}
-use Rattle.blart_keys.specs.Content.{Ascends, IsPut}
+use Rattle.blart_keys.specs.Content.{at, Ascends, IsPut}
+use Rattle.blart_keys.specs.Stored.{kept_item}
+use Rattle.blart_keys.proofs.ContentLemmas.{at_absent}
 use Rattle.blart_keys.proofs.MergeLemmas.{Lower, same_ascending}
 use Rattle.blart_keys.proofs.PartLemmas.{less-irrefl}
 use Rattle.blart_keys.proofs.PutLemmas.{put_member, member_put}
@@ -47,13 +49,19 @@ module _ {K : Type 0} (kb : K → List ℕ) where
     ]),
   ))
 
+  -- its bytes are new
+  new_behind : (T : List K) (y : K) → Ranked (Lower kb) (T ++ y ∷ []) → at kb T (kb y) ≡ None
+  new_behind T y r = at_absent kb T (kb y) (λ x m e. false≢true (sym (less-irrefl (kb y)) ∙ subst (λ q. less q (kb y) ≡ true) e (Ranked-across (Lower kb) T (y ∷ []) r x y m (inl refl))))
+
   -- all of them are there then, in order
-  pub puts_in_order : (T ys S : List K) → Ranked (Lower kb) (T ++ ys) → PutsAll kb T ys S → S ≡ T ++ ys
+  pub puts_in_order : (T ys S : List K) → Ranked (Lower kb) (T ++ ys) → PutsAll kb kept_item T ys S → S ≡ T ++ ys
   puts_in_order T [] S r h = h ∙ sym (append-nil T)
   puts_in_order T (y ∷ ys) S r h =
       let on = subst (Ranked (Lower kb)) (sym (append_assoc T (y ∷ []) ys)) r in
-      let e = put_last T y h.0 (Ranked-left (Lower kb) (T ++ y ∷ []) ys on) h.1 in
-      puts_in_order (T ++ y ∷ []) ys S on (subst (λ R. PutsAll kb R ys S) e h.2) ∙ append_assoc T (y ∷ []) ys
+      let behind = Ranked-left (Lower kb) (T ++ y ∷ []) ys on in
+      let put = subst (λ o. IsPut kb T (kept_item o y) h.0) (new_behind T y behind) h.1 in
+      let e = put_last T y h.0 behind put in
+      puts_in_order (T ++ y ∷ []) ys S on (subst (λ R. PutsAll kb kept_item R ys S) e h.2) ∙ append_assoc T (y ∷ []) ys
 
   -- ---- clones of elements
 
@@ -81,7 +89,7 @@ module _ {K : Type 0} (kb : K → List ℕ) where
     -- a set into which clones were put of what an iterator gave, whose state shows that it gives U
     module _ {S A E : Type 0} (elements : A → List K) (rest : S → List K) (s : S) (U : List K) (shows : rest s ≡ U) (ascends : Ascends kb U) (keeps : KeepsBytes kb is_clone U) where
       pub all_cloned : (r : Result A E)
-          → IfOk r (λ set. (xs : List (Bor K)) × (ys : List K) × Drains (YieldsFirstRef rest) s xs × AllZip is_clone (map (λ x. x.now) xs) ys × PutsAll kb [] ys (elements set))
+          → IfOk r (λ set. (xs : List (Bor K)) × (ys : List K) × Drains (YieldsFirstRef rest) s xs × AllZip is_clone (map (λ x. x.now) xs) ys × PutsAll kb kept_item [] ys (elements set))
           → OnErr r ((x : Bor K) × (t : S) × YieldsFirstRef rest s (Some x) t)
           → MatchResult r (λ set. AreElementClones kb is_clone U (elements set)) (λ _. U ≢ [])
       all_cloned (Ok set) h n =

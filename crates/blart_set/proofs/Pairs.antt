@@ -1,5 +1,5 @@
 -- What the pairs of a map of units say of the list of its keys.
-use Rattle.std.proofs.Common.{◌≡◌, ℕ, ◌+◌, false, not, List, [], ◌∷◌, map, refl, sym, ap, ◌∙◌, Option, Some, None, option_map, bytes_eq}
+use Rattle.std.proofs.Common.{◌≡◌, ℕ, ◌+◌, false, not, List, [], ◌∷◌, map, refl, sym, ap, ◌∙◌, subst, Option, Some, None, option_map, bytes_eq}
 use Rattle.std.specs.Prelude.{if◌then◌else◌}
 use Rattle.std.specs.Option.{is_some, is_none, option_copied}
 use Rattle.std.specs.Result.{result_map_both}
@@ -17,7 +17,7 @@ use denote.Ref.{Bor}
 use Rattle.blart_keys.specs.Bytes.{begins, related, conflicts}
 use Rattle.blart_keys.specs.Content.{at, conflict, front_of, stores, subtree, without, under, between, IsContent, IsPut, IsOver}
 use Rattle.blart_keys.specs.Steps.{bytes}
-use Rattle.blart_keys.specs.Stored.{shown}
+use Rattle.blart_keys.specs.Stored.{shown, pair_at, kept_key, kept_item, kept}
 use Rattle.blart_keys.specs.Walks.{TakesFirst, TakesLast}
 use Rattle.blart_keys.proofs.Mapped.{find-map, list_any-map, filter-map, content_map, put_map, over_map}
 
@@ -90,34 +90,43 @@ module _ {K V : Type 0} where
       is_some-value (Some p) = refl
 
   module _ (kb : K → List ℕ) (S S' : List (K × V)) (x : K × V) where
-    pub inserts-new : {E : Type 0} (r : Result (Option V) E) → Inserts kb S x r S' → IfOk (told r) (λ new. new ≡ not (stores kb (keys kb S) (kb x.0)))
-    inserts-new (Ok o) h = new-keys kb S (kb x.0) o h.1
-    inserts-new (Err e) h = tt
+    -- what is stored of an element
+    kept-keys : (kept kb S x).0 ≡ kept_item (at kb (keys kb S) (kb x.0)) x.0
+    unfolding pair_at
+    kept-keys = same (at (bytes kb) S (kb x.0)) ∙ ap (λ o. kept_item o x.0) (sym (at-keys kb S (kb x.0)))
+      where
+        same : (o : Option (K × V)) → kept_key o x.0 ≡ kept_item (option_map (λ p. p.0) o) x.0
+        same None = refl
+        same (Some p) = refl
 
-    pub inserts-put : {E : Type 0} (r : Result (Option V) E) → Inserts kb S x r S' → OnOk (told r) (IsPut kb (keys kb S) x.0 (keys kb S'))
-    inserts-put (Ok o) h = put-keys kb S S' x h.0
+    pub inserts-new : {E : Type 0} (y : K × V) (r : Result (Option V) E) → Inserts kb S x y r S' → IfOk (told r) (λ new. new ≡ not (stores kb (keys kb S) (kb x.0)))
+    inserts-new y (Ok o) h = new-keys kb S (kb x.0) o h.1
+    inserts-new y (Err e) h = tt
+
+    pub inserts-put : {E : Type 0} (r : Result (Option V) E) → Inserts kb S x (kept kb S x) r S' → OnOk (told r) (IsPut kb (keys kb S) (kept_item (at kb (keys kb S) (kb x.0)) x.0) (keys kb S'))
+    inserts-put (Ok o) h = subst (λ z. IsPut kb (keys kb S) z (keys kb S')) kept-keys (put-keys kb S S' (kept kb S x) h.0)
     inserts-put (Err e) h = tt
 
-    pub inserts-absent : {E : Type 0} (r : Result (Option V) E) → Inserts kb S x r S' → OnErr (told r) (stores kb (keys kb S) (kb x.0) ≡ false)
-    inserts-absent (Ok o) h = tt
-    inserts-absent (Err e) h = stores-keys kb S (kb x.0) ∙ h.0
+    pub inserts-absent : {E : Type 0} (y : K × V) (r : Result (Option V) E) → Inserts kb S x y r S' → OnErr (told r) (stores kb (keys kb S) (kb x.0) ≡ false)
+    inserts-absent y (Ok o) h = tt
+    inserts-absent y (Err e) h = stores-keys kb S (kb x.0) ∙ h.0
 
-    pub puts-new : (r : Result (Option V) TryInsertError) → Puts kb (option_map (λ p. p.1)) S x r S' → IfOk (told r) (λ new. new ≡ not (stores kb (keys kb S) (kb x.0)))
-    puts-new (Ok o) h = new-keys kb S (kb x.0) o h.2
-    puts-new (Err e) h = tt
+    pub puts-new : (y : K × V) (r : Result (Option V) TryInsertError) → Puts kb (option_map (λ p. p.1)) S x y r S' → IfOk (told r) (λ new. new ≡ not (stores kb (keys kb S) (kb x.0)))
+    puts-new y (Ok o) h = new-keys kb S (kb x.0) o h.2
+    puts-new y (Err e) h = tt
 
-    pub puts-put : (r : Result (Option V) TryInsertError) → Puts kb (option_map (λ p. p.1)) S x r S' → OnOk (told r) (IsPut kb (keys kb S) x.0 (keys kb S'))
-    puts-put (Ok o) h = put-keys kb S S' x h.1
+    pub puts-put : (r : Result (Option V) TryInsertError) → Puts kb (option_map (λ p. p.1)) S x (kept kb S x) r S' → OnOk (told r) (IsPut kb (keys kb S) (kept_item (at kb (keys kb S) (kb x.0)) x.0) (keys kb S'))
+    puts-put (Ok o) h = subst (λ z. IsPut kb (keys kb S) z (keys kb S')) kept-keys (put-keys kb S S' (kept kb S x) h.1)
     puts-put (Err e) h = tt
 
-    pub puts-free : (r : Result (Option V) TryInsertError) → Puts kb (option_map (λ p. p.1)) S x r S' → OnOk (told r) (conflict kb (keys kb S) (kb x.0) ≡ false)
-    puts-free (Ok o) h = conflict-keys kb S (kb x.0) ∙ h.0
-    puts-free (Err e) h = tt
+    pub puts-free : (y : K × V) (r : Result (Option V) TryInsertError) → Puts kb (option_map (λ p. p.1)) S x y r S' → OnOk (told r) (conflict kb (keys kb S) (kb x.0) ≡ false)
+    puts-free y (Ok o) h = conflict-keys kb S (kb x.0) ∙ h.0
+    puts-free y (Err e) h = tt
 
-    pub puts-why : (r : Result (Option V) TryInsertError) → Puts kb (option_map (λ p. p.1)) S x r S' → IfErr (told r) (RefusesElement kb (keys kb S) (kb x.0))
-    puts-why (Ok o) h = tt
-    puts-why (Err (Prefix e)) h = conflict-keys kb S (kb x.0) ∙ h.0
-    puts-why (Err (Memory e)) h = (conflict-keys kb S (kb x.0) ∙ h.0, stores-keys kb S (kb x.0) ∙ h.1)
+    pub puts-why : (y : K × V) (r : Result (Option V) TryInsertError) → Puts kb (option_map (λ p. p.1)) S x y r S' → IfErr (told r) (RefusesElement kb (keys kb S) (kb x.0))
+    puts-why y (Ok o) h = tt
+    puts-why y (Err (Prefix e)) h = conflict-keys kb S (kb x.0) ∙ h.0
+    puts-why y (Err (Memory e)) h = (conflict-keys kb S (kb x.0) ∙ h.0, stores-keys kb S (kb x.0) ∙ h.1)
 
   -- what an insertion over all related pairs leaves
   pub over-puts : (kb : K → List ℕ) (S S' : List (K × V)) (x : K × V) {A E : Type 0} (r : Result A E) → PutsOver kb S x r S' → OnOk r (IsOver kb (keys kb S) x.0 (keys kb S'))

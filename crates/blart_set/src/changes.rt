@@ -1,6 +1,8 @@
 //! Removals.
-ghost use Rattle.std.specs.Prelude.{◌≡◌, ◌+◌, [], length, is_some, option_map, if◌then◌else◌};
-ghost use Rattle.blart_keys.specs.Content.{at, stores, without};
+ghost use Rattle.std.specs.Prelude.{◌≡◌, ◌+◌, ℕ, List, [], length, is_some, option_map, true, false, if◌then◌else◌};
+ghost use Rattle.blart_keys.specs.Bytes.{begins};
+ghost use Rattle.blart_keys.specs.Content.{at, stores, under, without};
+ghost use Rattle.blart_keys.specs.Outside.{outside};
 ghost use Rattle.blart_keys.specs.Walks.{TakesFirst, TakesLast};
 ghost use Rattle.blart_set.specs.Elements.{elements};
 
@@ -35,6 +37,27 @@ impl<K: AsBytes + Drop, const PREFIX_LEN: usize> TreeSet<K, PREFIX_LEN> {
             ≡ length (elements self.old) }
     {
         element_of(self.map.remove_entry(query))
+    }
+
+    /// Removes the elements whose bytes begin with these, and answers how many there were; all of them where there are no bytes. Takes no memory; its cost is that of a removal for each of these elements.
+    ///
+    /// ```
+    /// set.try_insert("car")?;
+    /// set.try_insert("cat")?;
+    /// set.try_insert("dog")?;
+    /// assert_eq!(set.remove_prefix(b"ca"), 2);
+    /// assert_eq!(set.len(), 1);
+    /// ```
+    pub fn remove_prefix(&mut self, prefix: &[u8]) -> usize
+        ensures gone { (q : List ℕ) → begins prefix.now q ≡ true
+            → stores K.bytes (elements self.new) q ≡ false }
+        ensures others { (q : List ℕ) → begins prefix.now q ≡ false
+            → stores K.bytes (elements self.new) q ≡ stores K.bytes (elements self.old) q }
+        ensures len { length (elements self.new) + result ≡ length (elements self.old) }
+        ensures count { result ≡ length (under K.bytes (elements self.old) prefix.now) }
+        ensures rest { elements self.new ≡ outside K.bytes (elements self.old) prefix.now }
+    {
+        self.map.remove_prefix(prefix)
     }
 
     /// Removes the element whose bytes are least, and gives it. Takes no memory.

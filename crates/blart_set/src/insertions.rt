@@ -1,7 +1,7 @@
 //! Insertions.
 ghost use Rattle.std.specs.Prelude.{◌≡◌, ◌+◌, [], true, false, not, length, is_some, OnOk, IfOk, OnErr, IfErr, if◌then◌else◌};
 ghost use Rattle.blart_keys.specs.Content.{at, conflict, stores, subtree, IsPut, IsOver};
-ghost use Rattle.blart_keys.specs.Stored.{overlaps};
+ghost use Rattle.blart_keys.specs.Stored.{kept_item, overlaps};
 ghost use Rattle.blart_map.specs.Content.{pairs};
 ghost use Rattle.blart_set.specs.Elements.{elements, RefusesElement};
 ghost use Rattle.std.specs.Option.{is_none};
@@ -15,7 +15,7 @@ use std::alloc::AllocError;
 
 #[tactic(auto, unfolding(crate::specs::Elements::elements))]
 impl<K: AsBytes + Drop, const PREFIX_LEN: usize> TreeSet<K, PREFIX_LEN> {
-    /// Puts the element in the place of one with the same bytes, or adds it. The answer is whether the bytes were new.
+    /// Adds the element, unless there is one with the same bytes: that one stays, and the one handed in is dropped then. The answer is whether the bytes were new.
     ///
     /// `Prefix` is answered exactly where the element conflicts. `Memory` is answered only where the bytes are new. A refused call leaves the set as it was.
     ///
@@ -27,7 +27,9 @@ impl<K: AsBytes + Drop, const PREFIX_LEN: usize> TreeSet<K, PREFIX_LEN> {
     pub fn try_insert(&mut self, element: K) -> Result<bool, TryInsertError>
         ensures new { IfOk result
             (λ new. new ≡ not (stores K.bytes (elements self.old) (K.bytes element))) }
-        ensures put { OnOk result (IsPut K.bytes (elements self.old) element (elements self.new)) }
+        ensures put { OnOk result (IsPut K.bytes (elements self.old)
+            (kept_item (at K.bytes (elements self.old) (K.bytes element)) element)
+            (elements self.new)) }
         ensures free { OnOk result
             (conflict K.bytes (elements self.old) (K.bytes element) ≡ false) }
         ensures len { IfOk result (λ new. length (elements self.new)
@@ -62,7 +64,7 @@ impl<K: AsBytes + Drop, const PREFIX_LEN: usize> TreeSet<K, PREFIX_LEN> {
 
 #[tactic(auto, unfolding(crate::specs::Elements::elements))]
 impl<K: NoPrefixesBytes + Drop, const PREFIX_LEN: usize> TreeSet<K, PREFIX_LEN> {
-    /// Puts the element in the place of one with the same bytes, or adds it. The answer is whether the bytes were new. Elements of this type never conflict.
+    /// Adds the element, unless there is one with the same bytes: that one stays, and the one handed in is dropped then. The answer is whether the bytes were new. Elements of this type never conflict.
     ///
     /// An error is answered only where the bytes are new, and leaves the set as it was.
     ///
@@ -73,7 +75,9 @@ impl<K: NoPrefixesBytes + Drop, const PREFIX_LEN: usize> TreeSet<K, PREFIX_LEN> 
     pub fn insert(&mut self, element: K) -> Result<bool, AllocError>
         ensures new { IfOk result
             (λ new. new ≡ not (stores K.bytes (elements self.old) (K.bytes element))) }
-        ensures put { OnOk result (IsPut K.bytes (elements self.old) element (elements self.new)) }
+        ensures put { OnOk result (IsPut K.bytes (elements self.old)
+            (kept_item (at K.bytes (elements self.old) (K.bytes element)) element)
+            (elements self.new)) }
         ensures len { IfOk result (λ new. length (elements self.new)
             ≡ length (elements self.old) + (if new then 1 else 0)) }
         ensures err { OnErr result (self.new ≡ self.old) }

@@ -4,8 +4,9 @@ ghost use Rattle.std.specs.Iterator.{IsFinite, Drains};
 ghost use Rattle.std.specs.List.{AllZip};
 ghost use denote.Ref.{Bor};
 ghost use Rattle.blart_keys.specs.Bulk.{PutsAll};
-ghost use Rattle.blart_keys.specs.Content.{IsPut};
+ghost use Rattle.blart_keys.specs.Content.{at, IsPut};
 ghost use Rattle.blart_keys.specs.Merges.{IsUnion, IsSymmetricDifference, intersection, difference};
+ghost use Rattle.blart_keys.specs.Stored.{kept_item};
 ghost use Rattle.blart_set.specs.Clones.{KeepsBytes, MakesClones};
 ghost use Rattle.blart_set.specs.Elements.{elements};
 
@@ -110,7 +111,7 @@ where
     requires ends { IsFinite (I.remaining items) }
     ensures made { IfOk result (λ set. (xs : List (Bor K)) × (ys : List K)
         × Drains I.next_gives items xs × AllZip K.is_clone (map (λ x. x.now) xs) ys
-        × PutsAll K.bytes [] ys (elements set)) }
+        × PutsAll K.bytes kept_item [] ys (elements set)) }
     ensures refused { OnErr result ((x : Bor K) × (rest : I) × I.next_gives items (Some x) rest) }
 {
     let mut set = TreeSet::with_prefix_len(alloc);
@@ -126,7 +127,8 @@ fn put_clone<K: NoPrefixesBytes + Clone + Drop, const P: usize>(
     element: &K,
 ) -> Result<(), AllocError>
     ensures { OnOk result ((y : K) × K.is_clone element.now y
-        × IsPut K.bytes (elements set.old) y (elements set.new)) }
+        × IsPut K.bytes (elements set.old)
+        (kept_item (at K.bytes (elements set.old) (K.bytes y)) y) (elements set.new)) }
 {
     set.put(element.clone()?)
 }

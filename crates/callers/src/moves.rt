@@ -8,7 +8,7 @@ use std::alloc::AllocError;
 use std::iter::Iterator;
 use std::ops::Bound;
 
-/// Moves the pair of a key, and answers whether there was one. A refusal leaves both maps as they were.
+/// Moves the pair of a key, and answers whether there was one. Where the other map has the key, its own stays, with the new value. A refusal leaves both maps as they were.
 pub fn move_one<K: AsBytes + Copy + Drop, V: Copy + Drop>(
     from: &mut Map<K, V>,
     to: &mut Map<K, V>,
@@ -18,6 +18,8 @@ pub fn move_one<K: AsBytes + Copy + Drop, V: Copy + Drop>(
     ensures gone { OnOk result (pair_at K.bytes (pairs from.new) (K.bytes key.now) ≡ None) }
     ensures left { (q : List ℕ) → q ≢ K.bytes key.now → pair_at K.bytes (pairs from.new) q ≡ pair_at K.bytes (pairs from.old) q }
     ensures there { has K.bytes (pairs from.old) (K.bytes key.now) ≡ true
+        → OnOk result (value_at K.bytes (pairs to.new) (K.bytes key.now) ≡ value_at K.bytes (pairs from.old) (K.bytes key.now)) }
+    ensures new { has K.bytes (pairs from.old) (K.bytes key.now) ≡ true → has K.bytes (pairs to.old) (K.bytes key.now) ≡ false
         → OnOk result (pair_at K.bytes (pairs to.new) (K.bytes key.now) ≡ pair_at K.bytes (pairs from.old) (K.bytes key.now)) }
     ensures others { (q : List ℕ) → q ≢ K.bytes key.now → pair_at K.bytes (pairs to.new) q ≡ pair_at K.bytes (pairs to.old) q }
     ensures refused { OnErr result ((from.new ≡ from.old) × (to.new ≡ to.old)) }
@@ -41,7 +43,7 @@ pub fn move_first_between<V: Copy + Drop>(
     ensures moved { let within = between (bytes u32_bytes) (pairs from.old) (Included (u32_bytes low)) (Excluded (u32_bytes high))
         in IfOk result (λ moved. moved ≡ is_some (slice_get within 0)) }
     ensures there { let within = between (bytes u32_bytes) (pairs from.old) (Included (u32_bytes low)) (Excluded (u32_bytes high))
-        in OnOk result (IfSome (slice_get within 0) (λ p. pair_at u32_bytes (pairs to.new) (u32_bytes p.0) ≡ Some p)) }
+        in OnOk result (IfSome (slice_get within 0) (λ p. value_at u32_bytes (pairs to.new) (u32_bytes p.0) ≡ Some p.1)) }
     ensures gone { let within = between (bytes u32_bytes) (pairs from.old) (Included (u32_bytes low)) (Excluded (u32_bytes high))
         in OnOk result (IfSome (slice_get within 0) (λ p. pair_at u32_bytes (pairs from.new) (u32_bytes p.0) ≡ None)) }
     ensures refused { OnErr result ((from.new ≡ from.old) × (to.new ≡ to.old)) }
@@ -86,6 +88,8 @@ pub fn add_or_give_back<K: AsBytes + Drop, V: Drop>(
 ) -> Result<Option<(K, V)>, AllocError>
     ensures given_back { IfOk result (λ back. back ≡ (if overlaps K.bytes (pairs store.old) (K.bytes key) then Some (key, value) else None)) }
     ensures stored { overlaps K.bytes (pairs store.old) (K.bytes key) ≡ false
+        → OnOk result (value_at K.bytes (pairs store.new) (K.bytes key) ≡ Some value) }
+    ensures new { overlaps K.bytes (pairs store.old) (K.bytes key) ≡ false → has K.bytes (pairs store.old) (K.bytes key) ≡ false
         → OnOk result (pair_at K.bytes (pairs store.new) (K.bytes key) ≡ Some (key, value)) }
     ensures others { (q : List ℕ) → q ≢ K.bytes key → pair_at K.bytes (pairs store.new) q ≡ pair_at K.bytes (pairs store.old) q }
     ensures refused { OnErr result (store.new ≡ store.old) }

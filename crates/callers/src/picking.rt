@@ -1,6 +1,6 @@
 //! Pairs that a closure picks.
 ghost use Rattle.std.specs.Prelude.{◌≡◌, leb, ltb, filter, not, take, IfOk, OnOk};
-ghost use Rattle.blart.specs.Words.{pairs, bytes, PutsAll};
+ghost use Rattle.blart.specs.Words.{pairs, bytes, kept_pair, PutsAll};
 
 use blart::{AsBytes, Map, NoPrefixesBytes, ZKey};
 use std::alloc::{AllocError, Global};
@@ -52,7 +52,7 @@ pub fn drain_below<K: AsBytes + Drop>(
     Ok(low)
 }
 
-/// Moves the pairs whose value is a bound or above it to another map, where a pair of the same bytes gives way.
+/// Moves the pairs whose value is a bound or above it to another map, where a key of the same bytes stays, with the new value.
 pub fn move_above<K: NoPrefixesBytes + Drop>(
     from: &mut Map<K, u64>,
     to: &mut Map<K, u64>,
@@ -60,7 +60,7 @@ pub fn move_above<K: NoPrefixesBytes + Drop>(
 ) -> Result<(), AllocError>
     ensures left { OnOk result
         (pairs from.new ≡ filter (λ p. not (leb bound p.1)) (pairs from.old)) }
-    ensures moved { OnOk result (PutsAll (bytes K.bytes) (pairs to.old)
+    ensures moved { OnOk result (PutsAll (bytes K.bytes) kept_pair (pairs to.old)
         (filter (λ p. leb bound p.1) (pairs from.old)) (pairs to.new)) }
 {
     let mut walk = from.take_walk(Bound::<&ZKey>::Unbounded, Bound::Unbounded);

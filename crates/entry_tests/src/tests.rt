@@ -1,5 +1,6 @@
 //! Entries and prefix entries: each call at each kind.
 
+mod end_entries;
 mod entries;
 mod prefix_entries;
 mod single_entries;

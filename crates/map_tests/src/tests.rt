@@ -5,8 +5,10 @@ mod bounds;
 mod counting;
 mod driving;
 mod dropping;
+mod dropping_keys;
 mod key_types;
 mod no_bytes;
+mod tagged;
 
 use blart_keys::AsBytes;
 use blart_map::{TreeMap, Values};

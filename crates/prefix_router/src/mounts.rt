@@ -1,6 +1,6 @@
 //! The table, on the public calls of the map.
 ghost use Rattle.std.specs.Prelude.{◌≡◌, ◌≤◌, ◌+◌, ℕ, List, [], true, false, length, OnOk, IfOk, OnErr, IfErr, None, Some, if◌then◌else◌};
-ghost use Rattle.blart.specs.Words.{pairs, begins, pair_before, value_at, has, overlaps, shown, bytes, under, vec_bytes, IsContent, CanCount, Updates, Overwrites, Refuses};
+ghost use Rattle.blart.specs.Words.{pairs, begins, pair_before, value_at, has, kept, overlaps, shown, bytes, under, vec_bytes, IsContent, CanCount, Updates, Overwrites, Refuses};
 
 use blart::map::{DEFAULT_PREFIX_LEN, Prefix, Visits};
 use blart::{TreeMap, TryInsertError};
@@ -59,16 +59,16 @@ impl<V: Drop> Mounts<V> {
         self.map.len()
     }
 
-    /// Mounts the target at the path, in the place of the one that was mounted there, which is the answer.
+    /// Mounts the target at the path, in the place of the one that was mounted there, which is the answer. A path that is mounted stays, and the one handed in is dropped then.
     ///
     /// `Prefix` is answered exactly where another mount begins the path or is begun by it; `Memory` only where nothing is mounted at the path. A refused call leaves the table as it was.
     pub fn mount(&mut self, path: Vec<u8>, target: V) -> Result<Option<V>, TryInsertError>
         ensures old { IfOk result (λ old. old ≡ value_at vec_bytes (pairs self.old) path.items) }
         ensures mounted { OnOk result
             (Updates vec_bytes (pairs self.old) (pairs self.new) path.items
-            (Some (path, target))) }
+            (Some (kept vec_bytes (pairs self.old) (path, target)))) }
         ensures routes { OnOk result ((r : List ℕ) → pair_before vec_bytes (pairs self.new) r
-            ≡ (if begins path.items r then Some (path, target)
+            ≡ (if begins path.items r then Some (kept vec_bytes (pairs self.old) (path, target))
             else pair_before vec_bytes (pairs self.old) r)) }
         ensures free { OnOk result (overlaps vec_bytes (pairs self.old) path.items ≡ false) }
         ensures why { IfErr result (Refuses vec_bytes (pairs self.old) path.items) }

@@ -1,6 +1,7 @@
 //! Runs over readers and writers that fail.
 
 mod films;
+mod hostile;
 mod lines;
 
 use blart::{RunError, Watched, fault_line, run};
@@ -171,18 +172,9 @@ fn a_read_fails_in_mid_stream(rt: HostRuntime) {
     }
 }
 
-// So many letters.
-fn letters(rt: &impl AllocGlobal, count: usize) -> Result<Vec<u8>, Fail> {
-    let mut text = Vec::new(rt.alloc());
-    for _ in 0..count {
-        text.push(b'a')?;
-    }
-    Ok(text)
-}
-
 #[test]
 fn a_line_of_many_letters_is_one_line(rt: HostRuntime) -> Result<(), Fail> {
-    let mut text = letters(&rt, 100_000)?;
+    let mut text = Vec::from_elem(rt.alloc(), b'a', 1_000_000)?;
     text.extend_from_slice(b"\nlist")?;
     let ends = Ends {
         piece: 5000,

@@ -2,13 +2,16 @@
 
 mod bulk;
 mod driving;
+mod dropped;
 mod entries;
 mod insertions;
 mod keys;
 mod prefix_entries;
 mod router;
+mod runs;
 mod steady;
 mod trees;
+mod walks;
 
 use blart_map::TreeMap;
 use std::process::Abort;

@@ -1,12 +1,14 @@
 //! The lines of a script that are calls of entries.
 //!
-//! [`enter_bytes`] and [`enter_three`] answer those of one key, and [`enter_related`] those of a key and all that conflict with it.
+//! [`enter_bytes`] and [`enter_three`] answer those of one key, [`enter_related`] those of a key and all that conflict with it, and [`enter_end`] those of the first pair and the last.
 #![tactic(auto)]
 
+mod end_entries;
 mod entries;
 mod entry_calls;
 mod prefix_calls;
 mod prefix_entries;
 
+pub use end_entries::enter_end;
 pub use entries::{enter_bytes, enter_three};
 pub use prefix_entries::enter_related;

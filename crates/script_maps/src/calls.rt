@@ -38,7 +38,9 @@ impl<K: ScriptKey, const PREFIX_LEN: usize> Maps<K, PREFIX_LEN> {
         match name {
             Name::New | Name::Clear | Name::Swap => self.renew(name, words, text),
             Name::PopFirst | Name::PopLast => self.pop(name, words, text),
-            Name::Remove | Name::RemoveEntry => self.remove(name, words, text),
+            Name::Remove | Name::RemoveEntry | Name::RemovePrefix => {
+                self.remove(name, words, text)
+            }
             Name::TryInsert | Name::ReplaceEntry => self.place(name, words, text),
             Name::PrefixInsert => self.place(name, words, text),
             Name::GetMut | Name::PrefixGetMut => self.write(name, words, text),
@@ -74,11 +76,12 @@ impl<K: ScriptKey, const PREFIX_LEN: usize> Maps<K, PREFIX_LEN> {
         }
     }
 
-    // The calls that take the pair of some bytes.
+    // The calls that take the pair of some bytes, or those below them.
     fn remove(&mut self, name: Name, mut words: Words<'_>, text: &mut Text) -> Answered {
         let query = words.last_bytes()?;
         match name {
             Name::Remove => Ok(self.first.remove(&query).show(text)?),
+            Name::RemovePrefix => Ok(self.first.remove_prefix(&query).show(text)?),
             _ => Ok(self.first.remove_entry(&query).show(text)?),
         }
     }

@@ -26,6 +26,7 @@ pub enum Name {
     PrefixInsert,
     Remove,
     RemoveEntry,
+    RemovePrefix,
     PopFirst,
     PopLast,
     Drive,
@@ -49,6 +50,8 @@ pub enum Name {
     Entry,
     TryEntry,
     PrefixEntry,
+    FirstEntry,
+    LastEntry,
     SplitOff,
     MakeClone,
     Append,
@@ -65,7 +68,7 @@ pub enum Name {
 }
 
 // The word that names each call.
-const NAMES: [(&str, Name); 59] = [
+const NAMES: [(&str, Name); 62] = [
     ("new", Name::New),
     ("clear", Name::Clear),
     ("swap", Name::Swap),
@@ -89,6 +92,7 @@ const NAMES: [(&str, Name); 59] = [
     ("prefix_insert", Name::PrefixInsert),
     ("remove", Name::Remove),
     ("remove_entry", Name::RemoveEntry),
+    ("remove_prefix", Name::RemovePrefix),
     ("pop_first", Name::PopFirst),
     ("pop_last", Name::PopLast),
     ("drive", Name::Drive),
@@ -112,6 +116,8 @@ const NAMES: [(&str, Name); 59] = [
     ("entry", Name::Entry),
     ("try_entry", Name::TryEntry),
     ("prefix_entry", Name::PrefixEntry),
+    ("first_entry", Name::FirstEntry),
+    ("last_entry", Name::LastEntry),
     ("split_off", Name::SplitOff),
     ("clone", Name::MakeClone),
     ("append", Name::Append),

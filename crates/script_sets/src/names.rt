@@ -19,6 +19,7 @@ pub enum SetName {
     Replace,
     PrefixInsert,
     Remove,
+    RemovePrefix,
     Take,
     PopFirst,
     PopLast,
@@ -55,7 +56,7 @@ pub enum SetName {
 }
 
 // The word that names each call.
-const NAMES: [(&str, SetName); 49] = [
+const NAMES: [(&str, SetName); 50] = [
     ("new", SetName::New),
     ("clear", SetName::Clear),
     ("swap", SetName::Swap),
@@ -72,6 +73,7 @@ const NAMES: [(&str, SetName); 49] = [
     ("replace", SetName::Replace),
     ("prefix_insert", SetName::PrefixInsert),
     ("remove", SetName::Remove),
+    ("remove_prefix", SetName::RemovePrefix),
     ("take", SetName::Take),
     ("pop_first", SetName::PopFirst),
     ("pop_last", SetName::PopLast),

@@ -38,7 +38,9 @@ impl<K: ScriptKey + OrderedBytes, const PREFIX_LEN: usize> Sets<K, PREFIX_LEN> {
         match name {
             SetName::New | SetName::Clear | SetName::Swap => self.renew(name, words, text),
             SetName::PopFirst | SetName::PopLast => self.pop(name, words, text),
-            SetName::Remove | SetName::Take => self.remove(name, words, text),
+            SetName::Remove | SetName::Take | SetName::RemovePrefix => {
+                self.remove(name, words, text)
+            }
             SetName::TryInsert | SetName::PrefixInsert => self.place(name, words, text),
             SetName::Retain | SetName::ExtractIf => self.pick(name, words, text),
             SetName::IntoIter => self.into_elements(words, text),
@@ -67,11 +69,12 @@ impl<K: ScriptKey + OrderedBytes, const PREFIX_LEN: usize> Sets<K, PREFIX_LEN> {
         }
     }
 
-    // The calls that take the element of some bytes.
+    // The calls that take the element of some bytes, or those below them.
     fn remove(&mut self, name: SetName, mut words: Words<'_>, text: &mut Text) -> Answered {
         let query = words.last_bytes()?;
         match name {
             SetName::Remove => Ok(self.first.remove(&query).show(text)?),
+            SetName::RemovePrefix => Ok(self.first.remove_prefix(&query).show(text)?),
             _ => Ok(self.first.take(&query).show(text)?),
         }
     }

@@ -1,22 +1,13 @@
 //! Calls of sets, refused at each request.
 use blart_set::TreeSet;
 use std::iter::{DoubleEndedIterator, IntoIterator, Iterator};
+use std::ops::Bound;
 use std::process::Abort;
 
 type Keys = TreeSet<[u8; 2], 2>;
 
-// Keys of three fronts with two bytes or more behind, in no order.
-const KEYS: [[u8; 2]; 9] = [
-    [2, 1],
-    [3, 3],
-    [1, 7],
-    [2, 2],
-    [9, 9],
-    [1, 3],
-    [2, 200],
-    [3, 0],
-    [0, 5],
-];
+// Keys in byte order, some of which begin alike.
+const KEYS: [[u8; 2]; 5] = [[0, 5], [1, 3], [1, 7], [2, 1], [2, 2]];
 
 // Says that a request was refused.
 fn say_refused(rt: &impl Print) {
@@ -42,59 +33,116 @@ fn keys_of(rt: &(impl Abort + AllocGlobal + Print), low: usize, high: usize) -> 
     set
 }
 
-// The set has the keys from one place to another, and nothing else.
+// The set has the keys from one place to another, in this order, and nothing else.
 fn assert_places(rt: &impl Abort, set: &Keys, low: usize, high: usize) {
     assert_eq!(rt; set.len(), high.wrapping_sub(low));
+    let mut walk = set.iter();
+    for place in low..high {
+        let key = walk.next().expect(rt, "an element");
+        assert_eq!(rt; KEYS.get(place), Some(key));
+    }
+    assert!(rt; walk.next().is_none());
+}
+
+// How an element is put in.
+#[derive(Clone, Copy)]
+enum Way {
+    Insert,
+    TryInsert,
+    Replace,
+    PrefixInsert,
+}
+
+// Puts in an element whose bytes are new. Answers whether there was memory.
+fn puts(set: &mut Keys, way: Way, key: [u8; 2]) -> bool {
+    match way {
+        Way::Insert => set.insert(key).is_ok(),
+        Way::TryInsert => set.try_insert(key).is_ok(),
+        Way::Replace => set.replace(key).is_ok(),
+        Way::PrefixInsert => set.prefix_insert(key).is_ok(),
+    }
+}
+
+// Puts in the key of a place, where those before it are in. A refused call leaves the set as it was, and there is memory the next time.
+fn put_next(rt: &(impl Abort + Print), set: &mut Keys, way: Way, place: usize, key: [u8; 2]) {
+    if !puts(set, way, key) {
+        say_refused(rt);
+        assert_places(rt, set, 0, place);
+        assert!(rt; puts(set, way, key));
+    }
+    assert_places(rt, set, 0, place.wrapping_add(1));
+}
+
+// Puts in all keys in turn.
+fn put_all(rt: &(impl Abort + AllocGlobal + Print), way: Way) {
+    let mut set = TreeSet::with_prefix_len(rt.alloc());
     for (place, key) in KEYS.iter().enumerate() {
-        assert_eq!(rt; set.contains(key), low <= place && place < high);
-    }
-}
-
-// A refused insertion leaves the set as it was.
-fn assert_insert(rt: &(impl Abort + Print), set: &mut Keys, key: [u8; 2]) {
-    if set.insert(key).is_err() {
-        say_refused(rt);
-        assert_places(rt, set, 0, 5);
-    }
-}
-
-// The same where an element with related bytes would be refused.
-fn assert_try_insert(rt: &(impl Abort + Print), set: &mut Keys, key: [u8; 2]) {
-    if set.try_insert(key).is_err() {
-        say_refused(rt);
-        assert!(rt; !set.contains(&key));
-    }
-}
-
-// The same where an old element would be given back.
-fn assert_replace(rt: &(impl Abort + Print), set: &mut Keys, key: [u8; 2]) {
-    if set.replace(key).is_err() {
-        say_refused(rt);
-        assert!(rt; !set.contains(&key));
+        put_next(rt, &mut set, way, place, *key);
     }
 }
 
 #[test]
 fn insert(rt: HostRuntime) {
-    let mut set = keys_of(&rt, 0, 5);
-    assert_insert(&rt, &mut set, [2, 200]);
-    assert_try_insert(&rt, &mut set, [2, 201]);
-    assert_replace(&rt, &mut set, [2, 202]);
-}
-
-// An element that is there is exchanged without memory.
-fn assert_exchange(rt: &impl Abort, set: &mut Keys, key: [u8; 2]) {
-    let old = set.replace(key).expect(rt, "no memory taken");
-    assert!(rt; old == Some(key));
+    put_all(&rt, Way::Insert);
 }
 
 #[test]
-fn replace_takes_no_memory(rt: HostRuntime) {
-    let mut set = keys_of(&rt, 0, 9);
+fn try_insert(rt: HostRuntime) {
+    put_all(&rt, Way::TryInsert);
+}
+
+#[test]
+fn replace(rt: HostRuntime) {
+    put_all(&rt, Way::Replace);
+}
+
+#[test]
+fn prefix_insert(rt: HostRuntime) {
+    put_all(&rt, Way::PrefixInsert);
+}
+
+// An element that is there is exchanged, or found to be there, without memory.
+fn assert_exchange(rt: &impl Abort, set: &mut Keys, key: [u8; 2]) {
+    let old = set.replace(key).expect(rt, "no memory taken");
+    assert!(rt; old == Some(key));
+    assert!(rt; matches!(set.insert(key), Ok(false)));
+    assert!(rt; matches!(set.try_insert(key), Ok(false)));
+    assert!(rt; set.prefix_insert(key).is_ok());
+}
+
+#[test]
+fn elements_that_are_there_take_no_memory(rt: HostRuntime) {
+    let mut set = keys_of(&rt, 0, 5);
     for place in 0..KEYS.len() {
         assert_exchange(&rt, &mut set, KEYS[place]);
     }
-    assert_places(&rt, &set, 0, 9);
+    assert_places(&rt, &set, 0, 5);
+}
+
+// What is taken out and looked up takes no memory.
+#[test]
+fn removals_take_no_memory(rt: HostRuntime) {
+    let mut set = keys_of(&rt, 0, 5);
+    assert!(rt; set.pop_first() == Some(KEYS[0]));
+    assert!(rt; set.pop_last() == Some(KEYS[4]));
+    assert!(rt; set.take(&KEYS[1]) == Some(KEYS[1]));
+    assert!(rt; !set.remove(&KEYS[1]));
+    assert!(rt; set.contains(&KEYS[2]));
+    assert_places(&rt, &set, 2, 4);
+    set.clear();
+    assert!(rt; set.is_empty());
+}
+
+#[test]
+fn elements_that_a_closure_picks_take_no_memory(rt: HostRuntime) {
+    let mut set = keys_of(&rt, 0, 5);
+    set.retain(|key| *key != KEYS[0]);
+    assert_places(&rt, &set, 1, 5);
+    let mut walk = set.extract_if(Bound::Unbounded, Bound::<&[u8; 2]>::Unbounded, |_| true);
+    assert!(rt; walk.next() == Some(KEYS[1]));
+    assert!(rt; walk.next_back() == Some(KEYS[4]));
+    drop(walk);
+    assert_places(&rt, &set, 2, 4);
 }
 
 // Whether there was memory to move all elements of the right set to the left one.
@@ -106,18 +154,18 @@ fn appends(left: &mut Keys, right: &mut Keys) -> bool {
 fn append_to(rt: &(impl Abort + Print), left: &mut Keys, right: &mut Keys) {
     if !appends(left, right) {
         say_refused(rt);
-        assert_places(rt, left, 0, 6);
-        assert_places(rt, right, 4, 9);
+        assert_places(rt, left, 0, 2);
+        assert_places(rt, right, 1, 5);
         assert!(rt; appends(left, right));
     }
-    assert_places(rt, left, 0, 9);
+    assert_places(rt, left, 0, 5);
     assert!(rt; right.is_empty());
 }
 
 #[test]
 fn append(rt: HostRuntime) {
-    let mut left = keys_of(&rt, 0, 6);
-    let mut right = keys_of(&rt, 4, 9);
+    let mut left = keys_of(&rt, 0, 2);
+    let mut right = keys_of(&rt, 1, 5);
     append_to(&rt, &mut left, &mut right);
 }
 
@@ -125,10 +173,10 @@ fn append(rt: HostRuntime) {
 #[test]
 fn append_takes_no_memory(rt: HostRuntime) {
     let mut left = TreeSet::with_prefix_len(rt.alloc());
-    let mut right = keys_of(&rt, 0, 9);
+    let mut right = keys_of(&rt, 0, 5);
     assert!(rt; appends(&mut left, &mut right));
     assert!(rt; appends(&mut left, &mut right));
-    assert_places(&rt, &left, 0, 9);
+    assert_places(&rt, &left, 0, 5);
 }
 
 // The set from these bytes on, if there was memory.
@@ -142,7 +190,7 @@ fn part(rt: &(impl Abort + Print), set: &mut Keys, query: [u8; 2]) -> Keys {
         Some(rest) => rest,
         None => {
             say_refused(rt);
-            assert_places(rt, set, 0, 9);
+            assert_places(rt, set, 0, 5);
             parted(set, query).expect(rt, "memory")
         }
     }
@@ -150,25 +198,21 @@ fn part(rt: &(impl Abort + Print), set: &mut Keys, query: [u8; 2]) -> Keys {
 
 #[test]
 fn split_off(rt: HostRuntime) {
-    let mut set = keys_of(&rt, 0, 9);
-    let rest = part(&rt, &mut set, [2, 2]);
-    assert_eq!(rt; set.len(), 4);
-    assert_eq!(rt; rest.len(), 5);
-    assert!(rt; !set.contains(&[2, 2]));
-    assert!(rt; rest.contains(&[2, 2]));
+    let mut set = keys_of(&rt, 0, 5);
+    let rest = part(&rt, &mut set, [2, 1]);
+    assert_places(&rt, &set, 0, 3);
+    assert_places(&rt, &rest, 3, 5);
 }
 
-// The elements are the first ones of the other set.
-fn assert_beginning(rt: &impl Abort, set: &Keys, all: &Keys) {
-    let mut walk = all.iter();
-    for key in set.iter() {
-        assert!(rt; walk.next() == Some(key));
-    }
-}
-
-// The set has the elements of the other one, and nothing else.
-fn assert_same(rt: &impl Abort, set: &Keys, all: &Keys) {
-    assert!(rt; *set == *all);
+// Where no element moves, or all do, nothing is refused.
+#[test]
+fn split_off_takes_no_memory(rt: HostRuntime) {
+    let mut set = keys_of(&rt, 0, 5);
+    let none = parted(&mut set, [9, 9]).expect(&rt, "no memory taken");
+    assert!(rt; none.is_empty());
+    let all = parted(&mut set, [0, 0]).expect(&rt, "no memory taken");
+    assert!(rt; set.is_empty());
+    assert_places(&rt, &all, 0, 5);
 }
 
 // Whether there was memory to put in copies of these elements.
@@ -181,15 +225,15 @@ fn extend_by(rt: &(impl Abort + Print), set: &mut Keys, all: &Keys) {
     if !extends_copied(set, all) {
         say_refused(rt);
         assert!(rt; set.len() < all.len());
-        assert_beginning(rt, set, all);
+        assert_places(rt, set, 0, set.len());
         assert!(rt; extends_copied(set, all));
     }
-    assert_same(rt, set, all);
+    assert_places(rt, set, 0, 5);
 }
 
 #[test]
 fn extend_copied(rt: HostRuntime) {
-    let all = keys_of(&rt, 0, 9);
+    let all = keys_of(&rt, 0, 5);
     let mut set = TreeSet::with_prefix_len(rt.alloc());
     extend_by(&rt, &mut set, &all);
 }
@@ -201,21 +245,20 @@ fn extends(set: &mut Keys, given: Keys) -> bool {
 
 #[test]
 fn extend(rt: HostRuntime) {
-    let all = keys_of(&rt, 0, 9);
     let mut set = TreeSet::with_prefix_len(rt.alloc());
-    if extends(&mut set, keys_of(&rt, 0, 9)) {
-        assert_same(&rt, &set, &all);
+    if extends(&mut set, keys_of(&rt, 0, 5)) {
+        assert_places(&rt, &set, 0, 5);
     } else {
         say_refused(&rt);
-        assert!(rt; set.len() < all.len());
-        assert_beginning(&rt, &set, &all);
+        assert!(rt; set.len() < 5);
+        assert_places(&rt, &set, 0, set.len());
     }
 }
 
-// The set, if there was memory, is this one.
-fn assert_made(rt: &(impl Abort + Print), made: Option<Keys>, all: &Keys) {
+// The set, if there was memory, has the keys from one place to another.
+fn assert_made(rt: &(impl Abort + Print), made: Option<Keys>, low: usize, high: usize) {
     match made {
-        Some(set) => assert_same(rt, &set, all),
+        Some(set) => assert_places(rt, &set, low, high),
         None => say_refused(rt),
     }
 }
@@ -227,9 +270,7 @@ fn collected(rt: &impl AllocGlobal, given: Keys) -> Option<Keys> {
 
 #[test]
 fn from_iter(rt: HostRuntime) {
-    let all = keys_of(&rt, 0, 9);
-    let made = collected(&rt, keys_of(&rt, 0, 9));
-    assert_made(&rt, made, &all);
+    assert_made(&rt, collected(&rt, keys_of(&rt, 0, 5)), 0, 5);
 }
 
 // A set of the elements of an array, if there was memory.
@@ -239,8 +280,7 @@ fn of_array(rt: &impl AllocGlobal, keys: [[u8; 2]; 3]) -> Option<Keys> {
 
 #[test]
 fn from_array(rt: HostRuntime) {
-    let all = keys_of(&rt, 0, 3);
-    assert_made(&rt, of_array(&rt, [KEYS[0], KEYS[1], KEYS[2]]), &all);
+    assert_made(&rt, of_array(&rt, [KEYS[2], KEYS[0], KEYS[1]]), 0, 3);
 }
 
 // A set of the elements of a vector, if there was memory.
@@ -255,9 +295,8 @@ fn vector_of(rt: &impl AllocGlobal, keys: [[u8; 2]; 3]) -> Option<Vec<[u8; 2]>> 
 
 #[test]
 fn from_vec(rt: HostRuntime) {
-    let all = keys_of(&rt, 0, 3);
-    match vector_of(&rt, [KEYS[0], KEYS[1], KEYS[2]]) {
-        Some(keys) => assert_made(&rt, of_vector(&rt, keys), &all),
+    match vector_of(&rt, [KEYS[2], KEYS[0], KEYS[1]]) {
+        Some(keys) => assert_made(&rt, of_vector(&rt, keys), 0, 3),
         None => say_refused(&rt),
     }
 }
@@ -269,9 +308,9 @@ fn cloned(set: &Keys) -> Option<Keys> {
 
 #[test]
 fn clone(rt: HostRuntime) {
-    let all = keys_of(&rt, 0, 9);
-    assert_made(&rt, cloned(&all), &all);
-    assert_places(&rt, &all, 0, 9);
+    let all = keys_of(&rt, 0, 5);
+    assert_made(&rt, cloned(&all), 0, 5);
+    assert_places(&rt, &all, 0, 5);
 }
 
 // The set of what is in either set, if there was memory.
@@ -295,40 +334,50 @@ fn symmetric_difference(left: &Keys, right: &Keys) -> Option<Keys> {
 }
 
 // A refused merge leaves both sets as they were.
+fn assert_sides(rt: &impl Abort, left: &Keys, right: &Keys) {
+    assert_places(rt, left, 0, 2);
+    assert_places(rt, right, 1, 3);
+}
+
 #[test]
 fn unions(rt: HostRuntime) {
-    let left = keys_of(&rt, 0, 6);
-    let right = keys_of(&rt, 4, 9);
-    assert_made(&rt, union(&left, &right), &keys_of(&rt, 0, 9));
-    assert_places(&rt, &left, 0, 6);
-    assert_places(&rt, &right, 4, 9);
+    let left = keys_of(&rt, 0, 2);
+    let right = keys_of(&rt, 1, 3);
+    assert_made(&rt, union(&left, &right), 0, 3);
+    assert_sides(&rt, &left, &right);
 }
 
 #[test]
 fn intersections(rt: HostRuntime) {
-    let left = keys_of(&rt, 0, 6);
-    let right = keys_of(&rt, 4, 9);
-    assert_made(&rt, intersection(&left, &right), &keys_of(&rt, 4, 6));
-    assert_places(&rt, &left, 0, 6);
-    assert_places(&rt, &right, 4, 9);
+    let left = keys_of(&rt, 0, 2);
+    let right = keys_of(&rt, 1, 3);
+    assert_made(&rt, intersection(&left, &right), 1, 2);
+    assert_sides(&rt, &left, &right);
 }
 
 #[test]
-fn differences(rt: HostRuntime) {
-    let left = keys_of(&rt, 0, 6);
-    let right = keys_of(&rt, 4, 9);
-    assert_made(&rt, difference(&left, &right), &keys_of(&rt, 0, 4));
-    assert_made(&rt, difference(&right, &left), &keys_of(&rt, 6, 9));
-    assert_places(&rt, &left, 0, 6);
-    assert_places(&rt, &right, 4, 9);
+fn what_the_left_one_has(rt: HostRuntime) {
+    let left = keys_of(&rt, 0, 2);
+    let right = keys_of(&rt, 1, 3);
+    assert_made(&rt, difference(&left, &right), 0, 1);
+    assert_sides(&rt, &left, &right);
 }
 
-// The set, if there was memory, has seven elements, and this is none of them.
-fn assert_seven(rt: &(impl Abort + Print), made: Option<Keys>, key: [u8; 2]) {
+#[test]
+fn what_the_right_one_has(rt: HostRuntime) {
+    let left = keys_of(&rt, 0, 2);
+    let right = keys_of(&rt, 1, 3);
+    assert_made(&rt, difference(&right, &left), 2, 3);
+    assert_sides(&rt, &left, &right);
+}
+
+// The set, if there was memory, has these two elements.
+fn assert_two(rt: &(impl Abort + Print), made: Option<Keys>, least: [u8; 2], greatest: [u8; 2]) {
     match made {
         Some(set) => {
-            assert_eq!(rt; set.len(), 7);
-            assert!(rt; !set.contains(&key));
+            assert_eq!(rt; set.len(), 2);
+            assert_eq!(rt; set.first(), Some(&least));
+            assert_eq!(rt; set.last(), Some(&greatest));
         }
         None => say_refused(rt),
     }
@@ -336,9 +385,11 @@ fn assert_seven(rt: &(impl Abort + Print), made: Option<Keys>, key: [u8; 2]) {
 
 #[test]
 fn what_one_of_two_has(rt: HostRuntime) {
-    let left = keys_of(&rt, 0, 6);
-    let right = keys_of(&rt, 4, 9);
-    assert_seven(&rt, symmetric_difference(&left, &right), [9, 9]);
+    let left = keys_of(&rt, 0, 2);
+    let right = keys_of(&rt, 1, 3);
+    let made = symmetric_difference(&left, &right);
+    assert_two(&rt, made, KEYS[0], KEYS[2]);
+    assert_sides(&rt, &left, &right);
 }
 
 // The set was made, and is empty.
@@ -350,11 +401,22 @@ fn assert_empty(rt: &impl Abort, made: Option<Keys>) {
 // An empty result takes no memory.
 #[test]
 fn merges_take_no_memory(rt: HostRuntime) {
-    let left = keys_of(&rt, 0, 4);
-    let right = keys_of(&rt, 4, 9);
+    let left = keys_of(&rt, 0, 2);
+    let right = keys_of(&rt, 2, 5);
     let none = TreeSet::with_prefix_len(rt.alloc());
     assert_empty(&rt, intersection(&left, &right));
     assert_empty(&rt, difference(&left, &left));
     assert_empty(&rt, symmetric_difference(&left, &left));
     assert_empty(&rt, union(&none, &none));
+}
+
+// Nothing makes an empty set without memory.
+#[test]
+fn no_elements_take_no_memory(rt: HostRuntime) {
+    let mut none = TreeSet::with_prefix_len(rt.alloc());
+    assert_empty(&rt, cloned(&none));
+    assert_empty(&rt, of_vector(&rt, Vec::new(rt.alloc())));
+    assert_empty(&rt, collected(&rt, TreeSet::with_prefix_len(rt.alloc())));
+    assert!(rt; extends(&mut none, TreeSet::with_prefix_len(rt.alloc())));
+    assert!(rt; none.is_empty());
 }

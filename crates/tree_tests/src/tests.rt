@@ -8,6 +8,7 @@ mod lending;
 mod looking_up;
 mod many_children;
 mod placing;
+mod prefixes;
 mod random;
 mod rows;
 mod seeking;

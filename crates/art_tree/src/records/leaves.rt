@@ -1,2 +1,2 @@
 //! The leaves, in rows in the order of their keys.
-pub use art_rows::{Leaves, Position};
+pub use art_rows::{Ahead, Leaves, Position};

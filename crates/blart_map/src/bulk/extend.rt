@@ -3,8 +3,9 @@ ghost use Rattle.std.specs.Prelude.{◌≡◌, false, map, OnOk, OnErr};
 ghost use Rattle.std.specs.Iterator.{IsFinite};
 ghost use Rattle.std.specs.Map.Iter.{deref_pair};
 ghost use Rattle.blart_keys.specs.Bulk.{PutsAll};
-ghost use Rattle.blart_keys.specs.Content.{stores, IsPut};
+ghost use Rattle.blart_keys.specs.Content.{at, stores, IsPut};
 ghost use Rattle.blart_keys.specs.Steps.{bytes};
+ghost use Rattle.blart_keys.specs.Stored.{kept_pair};
 ghost use Rattle.blart_map.specs.Bulk.{TakesItems};
 ghost use Rattle.blart_map.specs.Content.{pairs};
 
@@ -14,7 +15,7 @@ use std::alloc::AllocError;
 use std::iter::Iterator;
 
 impl<K: NoPrefixesBytes + Drop, V: Drop, const PREFIX_LEN: usize> TreeMap<K, V, PREFIX_LEN> {
-    /// Puts the pairs that the iterator gives, one after another: each takes the place of one with the same bytes, or is added.
+    /// Puts the pairs that the iterator gives, one after another, as [`TreeMap::insert`] does: of pairs with the same bytes the first key stays, with the last value.
     ///
     /// An error is answered only at a pair whose bytes are new. That pair is dropped, and the ones before it stay; the iterator is asked no further.
     ///
@@ -26,7 +27,7 @@ impl<K: NoPrefixesBytes + Drop, V: Drop, const PREFIX_LEN: usize> TreeMap<K, V, 
         requires can { I.can_next items }
         requires ends { IsFinite (I.remaining items) }
         ensures { TakesItems I.next_gives items result
-            (λ xs. PutsAll (bytes K.bytes) (pairs self.old) xs (pairs self.new))
+            (λ xs. PutsAll (bytes K.bytes) kept_pair (pairs self.old) xs (pairs self.new))
             (λ x. stores (bytes K.bytes) (pairs self.new) (K.bytes x.0) ≡ false) }
     {
         for item in items {
@@ -40,7 +41,9 @@ impl<K: NoPrefixesBytes + Drop, V: Drop, const PREFIX_LEN: usize> TreeMap<K, V, 
     // Puts one pair.
     pub(crate) fn put(&mut self, key: K, value: V) -> Result<(), AllocError>
         ensures put { OnOk result
-            (IsPut (bytes K.bytes) (pairs self.old) (key, value) (pairs self.new)) }
+            (IsPut (bytes K.bytes) (pairs self.old)
+            (kept_pair (at (bytes K.bytes) (pairs self.old) (K.bytes key)) (key, value))
+            (pairs self.new)) }
         ensures err { OnErr result (pairs self.new ≡ pairs self.old) }
         ensures new { OnErr result
             (stores (bytes K.bytes) (pairs self.new) (K.bytes key) ≡ false) }
@@ -70,7 +73,7 @@ impl<K: NoPrefixesBytes + Copy + Drop, V: Copy + Drop, const PREFIX_LEN: usize> 
         requires can { I.can_next items }
         requires ends { IsFinite (I.remaining items) }
         ensures { TakesItems I.next_gives items result
-            (λ xs. PutsAll (bytes K.bytes) (pairs self.old) (map deref_pair xs) (pairs self.new))
+            (λ xs. PutsAll (bytes K.bytes) kept_pair (pairs self.old) (map deref_pair xs) (pairs self.new))
             (λ x. stores (bytes K.bytes) (pairs self.new) (K.bytes x.0.now) ≡ false) }
     {
         for item in items {

@@ -3,6 +3,7 @@ ghost use Rattle.std.specs.Prelude.{◌≡◌, ◌≢◌, [], List, IfOk, OnOk, 
 ghost use Rattle.std.specs.Iterator.{IsFinite, Drains};
 ghost use Rattle.blart_keys.specs.Bulk.{PutsAll};
 ghost use Rattle.blart_keys.specs.Steps.{bytes};
+ghost use Rattle.blart_keys.specs.Stored.{kept_pair};
 ghost use Rattle.blart_map.specs.Content.{pairs};
 
 use crate::map::TreeMap;
@@ -11,7 +12,7 @@ use std::alloc::{AllocError, Global};
 use std::iter::Iterator;
 
 impl<K: NoPrefixesBytes + Drop, V: Drop, const PREFIX_LEN: usize> TreeMap<K, V, PREFIX_LEN> {
-    /// A map into which the pairs that the iterator gives were put, one after another: of two with the same bytes the later stays. No pairs take no memory.
+    /// A map into which the pairs that the iterator gives were put, one after another, as [`TreeMap::insert`] does: of pairs with the same bytes the first key stays, with the last value. No pairs take no memory.
     pub fn from_iter<I: Iterator<Item = (K, V)>>(
         alloc: Global,
         items: I,
@@ -19,7 +20,7 @@ impl<K: NoPrefixesBytes + Drop, V: Drop, const PREFIX_LEN: usize> TreeMap<K, V, 
         requires can { I.can_next items }
         requires ends { IsFinite (I.remaining items) }
         ensures made { IfOk result (λ map. (xs : List (K × V)) × Drains I.next_gives items xs
-            × PutsAll (bytes K.bytes) [] xs (pairs map)) }
+            × PutsAll (bytes K.bytes) kept_pair [] xs (pairs map)) }
         ensures refused { OnErr result ((x : K × V) × (rest : I)
             × I.next_gives items (Some x) rest) }
     {
@@ -28,14 +29,14 @@ impl<K: NoPrefixesBytes + Drop, V: Drop, const PREFIX_LEN: usize> TreeMap<K, V, 
         Ok(map)
     }
 
-    /// A map into which the pairs were put, one after another: of two with the same bytes the later stays. No pairs take no memory.
+    /// A map into which the pairs were put, one after another, as [`TreeMap::insert`] does: of pairs with the same bytes the first key stays, with the last value. No pairs take no memory.
     ///
     /// ```
     /// let map = Map::from_vec(alloc, vec![in alloc; (U32Key::new(2), 'b'), (U32Key::new(1), 'a')]?)?;
     /// assert_eq!(map.first_key_value(), Some((&U32Key::new(1), &'a')));
     /// ```
     pub fn from_vec(alloc: Global, items: Vec<(K, V)>) -> Result<Self, AllocError>
-        ensures made { IfOk result (λ map. PutsAll (bytes K.bytes) [] items.items (pairs map)) }
+        ensures made { IfOk result (λ map. PutsAll (bytes K.bytes) kept_pair [] items.items (pairs map)) }
         ensures refused { OnErr result (items.items ≢ []) }
     {
         let mut map = TreeMap::with_prefix_len(alloc);
@@ -53,14 +54,14 @@ impl<K: NoPrefixesBytes + Copy + Drop, V: Copy + Drop, const PREFIX_LEN: usize> 
     V,
     PREFIX_LEN,
 > {
-    /// A map into which the pairs were put, one after another: of two with the same bytes the later stays. No pairs take no memory.
+    /// A map into which the pairs were put, one after another, as [`TreeMap::insert`] does: of pairs with the same bytes the first key stays, with the last value. No pairs take no memory.
     ///
     /// ```
     /// let map = Map::from_array(alloc, [(2u8, 'b'), (1, 'a')])?;
     /// assert_eq!(map.len(), 2);
     /// ```
     pub fn from_array<const N: usize>(alloc: Global, items: [(K, V); N]) -> Result<Self, AllocError>
-        ensures made { IfOk result (λ map. PutsAll (bytes K.bytes) [] items (pairs map)) }
+        ensures made { IfOk result (λ map. PutsAll (bytes K.bytes) kept_pair [] items (pairs map)) }
         ensures refused { OnErr result (items ≢ []) }
     {
         let mut map = TreeMap::with_prefix_len(alloc);
@@ -71,7 +72,7 @@ impl<K: NoPrefixesBytes + Copy + Drop, V: Copy + Drop, const PREFIX_LEN: usize> 
     // Puts copies of the pairs, one after another.
     fn put_copies(&mut self, items: &[(K, V)]) -> Result<(), AllocError>
         ensures put { OnOk result
-            (PutsAll (bytes K.bytes) (pairs self.old) items.now (pairs self.new)) }
+            (PutsAll (bytes K.bytes) kept_pair (pairs self.old) items.now (pairs self.new)) }
         ensures refused { OnErr result (items.now ≢ []) }
     {
         for item in items {

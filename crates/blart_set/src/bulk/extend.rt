@@ -2,7 +2,8 @@
 ghost use Rattle.std.specs.Prelude.{◌≡◌, false, map, OnOk, OnErr};
 ghost use Rattle.std.specs.Iterator.{IsFinite};
 ghost use Rattle.blart_keys.specs.Bulk.{PutsAll};
-ghost use Rattle.blart_keys.specs.Content.{stores, IsPut};
+ghost use Rattle.blart_keys.specs.Content.{at, stores, IsPut};
+ghost use Rattle.blart_keys.specs.Stored.{kept_item};
 ghost use Rattle.blart_map.specs.Bulk.{TakesItems};
 ghost use Rattle.blart_set.specs.Elements.{elements};
 
@@ -12,7 +13,7 @@ use std::alloc::AllocError;
 use std::iter::Iterator;
 
 impl<K: NoPrefixesBytes + Drop, const PREFIX_LEN: usize> TreeSet<K, PREFIX_LEN> {
-    /// Puts the elements that the iterator gives, one after another: each takes the place of one with the same bytes, or is added.
+    /// Puts the elements that the iterator gives, one after another, as [`TreeSet::insert`] does: of elements with the same bytes the first stays.
     ///
     /// An error is answered only at an element whose bytes are new. That element is dropped, and the ones before it stay; the iterator is asked no further.
     ///
@@ -24,7 +25,7 @@ impl<K: NoPrefixesBytes + Drop, const PREFIX_LEN: usize> TreeSet<K, PREFIX_LEN> 
         requires can { I.can_next items }
         requires ends { IsFinite (I.remaining items) }
         ensures { TakesItems I.next_gives items result
-            (λ xs. PutsAll K.bytes (elements self.old) xs (elements self.new))
+            (λ xs. PutsAll K.bytes kept_item (elements self.old) xs (elements self.new))
             (λ x. stores K.bytes (elements self.new) (K.bytes x) ≡ false) }
     {
         for item in items {
@@ -38,7 +39,9 @@ impl<K: NoPrefixesBytes + Drop, const PREFIX_LEN: usize> TreeSet<K, PREFIX_LEN> 
     // Puts one element.
     pub(crate) fn put(&mut self, element: K) -> Result<(), AllocError>
         ensures put { OnOk result
-            (IsPut K.bytes (elements self.old) element (elements self.new)) }
+            (IsPut K.bytes (elements self.old)
+            (kept_item (at K.bytes (elements self.old) (K.bytes element)) element)
+            (elements self.new)) }
         ensures err { OnErr result (elements self.new ≡ elements self.old) }
         ensures new { OnErr result (stores K.bytes (elements self.new) (K.bytes element) ≡ false) }
     {
@@ -62,7 +65,7 @@ impl<K: NoPrefixesBytes + Copy + Drop, const PREFIX_LEN: usize> TreeSet<K, PREFI
         requires can { I.can_next items }
         requires ends { IsFinite (I.remaining items) }
         ensures { TakesItems I.next_gives items result
-            (λ xs. PutsAll K.bytes (elements self.old) (map (λ x. x.now) xs) (elements self.new))
+            (λ xs. PutsAll K.bytes kept_item (elements self.old) (map (λ x. x.now) xs) (elements self.new))
             (λ x. stores K.bytes (elements self.new) (K.bytes x.now) ≡ false) }
     {
         for item in items {

@@ -2,6 +2,7 @@
 ghost use Rattle.std.specs.Prelude.{◌≡◌, ◌≢◌, [], List, IfOk, OnOk, OnErr, Some};
 ghost use Rattle.std.specs.Iterator.{IsFinite, Drains};
 ghost use Rattle.blart_keys.specs.Bulk.{PutsAll};
+ghost use Rattle.blart_keys.specs.Stored.{kept_item};
 ghost use Rattle.blart_set.specs.Elements.{elements};
 
 use crate::set::TreeSet;
@@ -10,12 +11,12 @@ use std::alloc::{AllocError, Global};
 use std::iter::Iterator;
 
 impl<K: NoPrefixesBytes + Drop, const PREFIX_LEN: usize> TreeSet<K, PREFIX_LEN> {
-    /// A set into which the elements that the iterator gives were put, one after another: of two with the same bytes the later stays. No elements take no memory.
+    /// A set into which the elements that the iterator gives were put, one after another, as [`TreeSet::insert`] does: of elements with the same bytes the first stays. No elements take no memory.
     pub fn from_iter<I: Iterator<Item = K>>(alloc: Global, items: I) -> Result<Self, AllocError>
         requires can { I.can_next items }
         requires ends { IsFinite (I.remaining items) }
         ensures made { IfOk result (λ set. (xs : List K) × Drains I.next_gives items xs
-            × PutsAll K.bytes [] xs (elements set)) }
+            × PutsAll K.bytes kept_item [] xs (elements set)) }
         ensures refused { OnErr result ((x : K) × (rest : I) × I.next_gives items (Some x) rest) }
     {
         let mut set = TreeSet::with_prefix_len(alloc);
@@ -23,14 +24,14 @@ impl<K: NoPrefixesBytes + Drop, const PREFIX_LEN: usize> TreeSet<K, PREFIX_LEN> 
         Ok(set)
     }
 
-    /// A set into which the elements were put, one after another: of two with the same bytes the later stays. No elements take no memory.
+    /// A set into which the elements were put, one after another, as [`TreeSet::insert`] does: of elements with the same bytes the first stays. No elements take no memory.
     ///
     /// ```
     /// let set = TreeSet::from_vec(alloc, vec![in alloc; 3u8, 1, 2]?)?;
     /// assert_eq!(set.first(), Some(&1));
     /// ```
     pub fn from_vec(alloc: Global, items: Vec<K>) -> Result<Self, AllocError>
-        ensures made { IfOk result (λ set. PutsAll K.bytes [] items.items (elements set)) }
+        ensures made { IfOk result (λ set. PutsAll K.bytes kept_item [] items.items (elements set)) }
         ensures refused { OnErr result (items.items ≢ []) }
     {
         let mut set = TreeSet::with_prefix_len(alloc);
@@ -44,14 +45,14 @@ impl<K: NoPrefixesBytes + Drop, const PREFIX_LEN: usize> TreeSet<K, PREFIX_LEN> 
 }
 
 impl<K: NoPrefixesBytes + Copy + Drop, const PREFIX_LEN: usize> TreeSet<K, PREFIX_LEN> {
-    /// A set into which the elements were put, one after another: of two with the same bytes the later stays. No elements take no memory.
+    /// A set into which the elements were put, one after another, as [`TreeSet::insert`] does: of elements with the same bytes the first stays. No elements take no memory.
     ///
     /// ```
     /// let set = TreeSet::from_array(alloc, [3u8, 1, 2])?;
     /// assert_eq!(set.len(), 3);
     /// ```
     pub fn from_array<const N: usize>(alloc: Global, items: [K; N]) -> Result<Self, AllocError>
-        ensures made { IfOk result (λ set. PutsAll K.bytes [] items (elements set)) }
+        ensures made { IfOk result (λ set. PutsAll K.bytes kept_item [] items (elements set)) }
         ensures refused { OnErr result (items ≢ []) }
     {
         let mut set = TreeSet::with_prefix_len(alloc);
@@ -62,7 +63,7 @@ impl<K: NoPrefixesBytes + Copy + Drop, const PREFIX_LEN: usize> TreeSet<K, PREFI
     // Puts copies of the elements, one after another.
     fn put_copies(&mut self, items: &[K]) -> Result<(), AllocError>
         ensures put { OnOk result
-            (PutsAll K.bytes (elements self.old) items.now (elements self.new)) }
+            (PutsAll K.bytes kept_item (elements self.old) items.now (elements self.new)) }
         ensures refused { OnErr result (items.now ≢ []) }
     {
         for item in items {

@@ -1,4 +1,5 @@
 //! What is dropped, and when.
+use blart_keys::AsBytes;
 use blart_map::{IntoIter, TreeMap};
 use std::cell::Cell;
 use std::iter::{DoubleEndedIterator, IntoIterator, Iterator};
@@ -96,6 +97,75 @@ fn related_values_are_dropped_once(rt: HostRuntime) {
     map.clear();
     assert_eq!(rt; drops.get(), 5);
     put_over(&rt, &mut map, &drops);
+    drop(map);
+    assert_eq!(rt; drops.get(), 6);
+}
+
+// The values below some bytes go, each once.
+fn remove_below(rt: &impl Abort, map: &mut Values<'_>, drops: &Cell<usize>) {
+    assert_eq!(rt; map.remove_prefix(b"\x01\x02\x03"), 0);
+    assert_eq!(rt; drops.get(), 0);
+    assert_eq!(rt; map.remove_prefix(b"\x01"), 3);
+    assert_eq!(rt; drops.get(), 3);
+    assert_eq!(rt; map.remove_prefix(b"\x01"), 0);
+    assert_eq!(rt; drops.get(), 3);
+}
+
+#[test]
+fn values_below_some_bytes_are_dropped_once(rt: HostRuntime) {
+    let drops = Cell::new(0usize);
+    let mut map = Values::with_prefix_len(rt.alloc());
+    put_four(&rt, &mut map, &drops);
+    remove_below(&rt, &mut map, &drops);
+    drop(map);
+    assert_eq!(rt; drops.get(), 4);
+}
+
+// A key that counts how often one is dropped.
+struct CountedKey<'a> {
+    bytes: [u8; 2],
+    drops: &'a Cell<usize>,
+}
+
+impl Drop for CountedKey<'_> {
+    fn drop(self) {
+        let CountedKey { bytes: _, drops } = self;
+        drops.set(drops.get().wrapping_add(1));
+    }
+}
+
+impl AsBytes for CountedKey<'_> {
+    ghost use Rattle.std.specs.Prelude.{⊤};
+
+    ghost bytes = { λ s. s.bytes };
+
+    ghost IsValue = { λ s. ⊤ };
+
+    fn as_bytes(&self) -> &[u8] {
+        &self.bytes
+    }
+
+    fn value_law(&self) {}
+}
+
+type Keys<'a> = TreeMap<CountedKey<'a>, u8, 0>;
+
+// Six keys, four of them below 1.
+fn put_keys<'a>(rt: &impl Abort, map: &mut Keys<'a>, drops: &'a Cell<usize>) {
+    for bytes in [[1, 1], [2, 1], [1, 2], [1, 3], [3, 1], [1, 4]] {
+        let old = map.try_insert(CountedKey { bytes, drops }, 0);
+        assert!(rt; old.is_ok());
+    }
+    assert_eq!(rt; drops.get(), 0);
+}
+
+#[test]
+fn keys_below_some_bytes_are_dropped_once(rt: HostRuntime) {
+    let drops = Cell::new(0usize);
+    let mut map = Keys::with_prefix_len(rt.alloc());
+    put_keys(&rt, &mut map, &drops);
+    assert_eq!(rt; map.remove_prefix(&[1]), 4);
+    assert_eq!(rt; drops.get(), 4);
     drop(map);
     assert_eq!(rt; drops.get(), 6);
 }

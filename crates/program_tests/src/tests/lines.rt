@@ -49,6 +49,14 @@ fn tables_of_lines(rt: HostRuntime) {
             "prefix-get -\noverwrite 00\noverwrite 0 1\noverwrite 00 +1\nprefix-get 0\nprefix-get 00 1\noverwrite - 1\nprefix-get -\nlist\n",
             "none\nrefused line\nrefused line\nrefused line\nrefused line\nrefused line\nlen 1\n- 1\n- 1\nend 1\n",
         ),
+        (
+            "insert 0101 1\ninsert 0102 2\ninsert 02 3\nremove-prefix 01\nremove-prefix 01\nremove-prefix -\nlist\n",
+            "none\nnone\nnone\nremoved 2\nremoved 0\nremoved 1\nend 0\n",
+        ),
+        (
+            "remove-prefix\nremove-prefix 0\nremove-prefix 01 1\nremove-prefix -\nremove-Prefix 01\n",
+            "refused line\nrefused line\nrefused line\nremoved 0\nrefused line\n",
+        ),
         ("", ""),
     ];
     for (text, answers) in tables {

@@ -1,47 +1,99 @@
 //! Insertions by entries, refused at each request.
 use super::{KEYS, assert_first, say_refused};
-use blart_map::TreeMap;
+use blart_map::{Entry, TreeMap};
 use std::process::Abort;
 
 // How an entry is given a value.
 #[derive(Clone, Copy)]
 enum Way {
     OrInsert,
+    OrInsertEntry,
+    InsertEntry,
+    GetOrInsert,
+    Insert,
+    VacantInsertEntry,
+    OrDefault,
+    OrDefaultEntry,
     OrInsertWith,
     OrInsertWithKey,
-    OrInsertEntry,
     OrInsertWithEntry,
-    InsertEntry,
+    OrInsertWithKeyEntry,
+    GetOrInsertWith,
 }
 
-// Gives the entry of a new key a value, by a closure. Answers whether there was memory, and sets the mark where the closure ran.
-fn puts_with<const P: usize>(
+// Gives the entry of a new key a value, by a closure that sets the mark where it runs. Answers whether there was memory.
+fn puts_made<const P: usize>(
     map: &mut TreeMap<[u8; 2], usize, P>,
     way: Way,
     key: [u8; 2],
     value: usize,
     ran: &mut bool,
 ) -> bool {
-    let entry = map.entry(key);
+    let make = || {
+        *ran = true;
+        value
+    };
     match way {
-        Way::OrInsertWith => entry
-            .or_insert_with(|| {
-                *ran = true;
-                value
-            })
-            .is_ok(),
-        Way::OrInsertWithKey => entry
-            .or_insert_with_key(|_| {
-                *ran = true;
-                value
-            })
-            .is_ok(),
-        _ => entry
-            .or_insert_with_entry(|| {
-                *ran = true;
-                value
-            })
-            .is_ok(),
+        Way::OrInsertWith => map.entry(key).or_insert_with(make).is_ok(),
+        Way::OrInsertWithEntry => map.entry(key).or_insert_with_entry(make).is_ok(),
+        _ => map.get_or_insert_with(key, make).is_ok(),
+    }
+}
+
+// The same by a closure that is lent the key.
+fn puts_made_of_key<const P: usize>(
+    map: &mut TreeMap<[u8; 2], usize, P>,
+    way: Way,
+    key: [u8; 2],
+    value: usize,
+    ran: &mut bool,
+) -> bool {
+    let make = |_: &[u8; 2]| {
+        *ran = true;
+        value
+    };
+    match way {
+        Way::OrInsertWithKey => map.entry(key).or_insert_with_key(make).is_ok(),
+        _ => map.entry(key).or_insert_with_key_entry(make).is_ok(),
+    }
+}
+
+// The same by the entry of absent bytes.
+fn puts_vacant<const P: usize>(
+    rt: &impl Abort,
+    map: &mut TreeMap<[u8; 2], usize, P>,
+    way: Way,
+    key: [u8; 2],
+    value: usize,
+) -> bool {
+    match map.entry(key) {
+        Entry::Vacant(entry) => match way {
+            Way::Insert => entry.insert(value).is_ok(),
+            _ => entry.insert_entry(value).is_ok(),
+        },
+        Entry::Occupied(_) => panic!(rt; "the bytes are new"),
+    }
+}
+
+// The same with the default, which is written over.
+fn puts_default<const P: usize>(
+    map: &mut TreeMap<[u8; 2], usize, P>,
+    way: Way,
+    key: [u8; 2],
+    value: usize,
+) -> bool {
+    match way {
+        Way::OrDefault => match map.entry(key).or_default() {
+            Ok(lent) => {
+                *lent = value;
+                true
+            }
+            Err(_) => false,
+        },
+        _ => match map.entry(key).or_default_entry() {
+            Ok(mut entry) => entry.insert(value) == 0,
+            Err(_) => false,
+        },
     }
 }
 
@@ -53,17 +105,23 @@ fn puts<const P: usize>(
     key: [u8; 2],
     value: usize,
 ) -> bool {
-    match way {
-        Way::OrInsert => map.entry(key).or_insert(value).is_ok(),
-        Way::OrInsertEntry => map.entry(key).or_insert_entry(value).is_ok(),
-        Way::InsertEntry => map.entry(key).insert_entry(value).is_ok(),
-        Way::OrInsertWith | Way::OrInsertWithKey | Way::OrInsertWithEntry => {
-            let mut ran = false;
-            let put = puts_with(map, way, key, value, &mut ran);
-            assert_eq!(rt; ran, put);
-            put
+    let mut ran = false;
+    let put = match way {
+        Way::OrInsert => return map.entry(key).or_insert(value).is_ok(),
+        Way::OrInsertEntry => return map.entry(key).or_insert_entry(value).is_ok(),
+        Way::InsertEntry => return map.entry(key).insert_entry(value).is_ok(),
+        Way::GetOrInsert => return map.get_or_insert(key, value).is_ok(),
+        Way::Insert | Way::VacantInsertEntry => return puts_vacant(rt, map, way, key, value),
+        Way::OrDefault | Way::OrDefaultEntry => return puts_default(map, way, key, value),
+        Way::OrInsertWith | Way::OrInsertWithEntry | Way::GetOrInsertWith => {
+            puts_made(map, way, key, value, &mut ran)
         }
-    }
+        Way::OrInsertWithKey | Way::OrInsertWithKeyEntry => {
+            puts_made_of_key(map, way, key, value, &mut ran)
+        }
+    };
+    assert_eq!(rt; ran, put);
+    put
 }
 
 // Puts in the key of a place, where those before it are in. After a refusal the map is as before, and there is memory the next time.
@@ -120,6 +178,41 @@ fn or_insert_with_entry(rt: HostRuntime) {
 #[test]
 fn insert_entry(rt: HostRuntime) {
     put_all::<16>(&rt, Way::InsertEntry);
+}
+
+#[test]
+fn or_insert_with_key_entry(rt: HostRuntime) {
+    put_all::<2>(&rt, Way::OrInsertWithKeyEntry);
+}
+
+#[test]
+fn or_default(rt: HostRuntime) {
+    put_all::<2>(&rt, Way::OrDefault);
+}
+
+#[test]
+fn or_default_entry(rt: HostRuntime) {
+    put_all::<16>(&rt, Way::OrDefaultEntry);
+}
+
+#[test]
+fn get_or_insert(rt: HostRuntime) {
+    put_all::<2>(&rt, Way::GetOrInsert);
+}
+
+#[test]
+fn get_or_insert_with(rt: HostRuntime) {
+    put_all::<0>(&rt, Way::GetOrInsertWith);
+}
+
+#[test]
+fn insert_at_a_vacant_entry(rt: HostRuntime) {
+    put_all::<2>(&rt, Way::Insert);
+}
+
+#[test]
+fn insert_entry_at_a_vacant_entry(rt: HostRuntime) {
+    put_all::<2>(&rt, Way::VacantInsertEntry);
 }
 
 // {[1,2,3]: 1}: a stored key's entry takes no memory, and the closure of a refused call does not run.

@@ -9,39 +9,69 @@ enum Way {
     InsertEntry,
     OrInsert,
     OrInsertEntry,
+    OrDefault,
+    OrDefaultEntry,
     OrInsertWith,
     OrInsertWithKey,
     OrInsertWithEntry,
+    OrInsertWithKeyEntry,
 }
 
-// Gives the entry of a new key a value, by a closure. Answers whether there was memory, and sets the mark where the closure ran.
-fn puts_with<const P: usize>(
+// Gives the entry of a new key a value, by a closure that sets the mark where it runs. Answers whether there was memory.
+fn puts_made<const P: usize>(
     map: &mut TreeMap<[u8; 2], usize, P>,
     way: Way,
     key: [u8; 2],
     value: usize,
     ran: &mut bool,
 ) -> bool {
-    let entry = map.prefix_entry(key);
+    let make = || {
+        *ran = true;
+        value
+    };
     match way {
-        Way::OrInsertWith => entry
-            .or_insert_with(|| {
-                *ran = true;
-                value
-            })
-            .is_ok(),
-        Way::OrInsertWithKey => entry
-            .or_insert_with_key(|_| {
-                *ran = true;
-                value
-            })
-            .is_ok(),
-        _ => entry
-            .or_insert_with_entry(|| {
-                *ran = true;
-                value
-            })
-            .is_ok(),
+        Way::OrInsertWith => map.prefix_entry(key).or_insert_with(make).is_ok(),
+        _ => map.prefix_entry(key).or_insert_with_entry(make).is_ok(),
+    }
+}
+
+// The same by a closure that is lent the key.
+fn puts_made_of_key<const P: usize>(
+    map: &mut TreeMap<[u8; 2], usize, P>,
+    way: Way,
+    key: [u8; 2],
+    value: usize,
+    ran: &mut bool,
+) -> bool {
+    let make = |_: &[u8; 2]| {
+        *ran = true;
+        value
+    };
+    match way {
+        Way::OrInsertWithKey => map.prefix_entry(key).or_insert_with_key(make).is_ok(),
+        _ => map.prefix_entry(key).or_insert_with_key_entry(make).is_ok(),
+    }
+}
+
+// The same with the default, which is written over.
+fn puts_default<const P: usize>(
+    map: &mut TreeMap<[u8; 2], usize, P>,
+    way: Way,
+    key: [u8; 2],
+    value: usize,
+) -> bool {
+    match way {
+        Way::OrDefault => match map.prefix_entry(key).or_default() {
+            Ok(lent) => {
+                *lent = value;
+                true
+            }
+            Err(_) => false,
+        },
+        _ => match map.prefix_entry(key).or_default_entry() {
+            Ok(mut entry) => entry.insert(value) == 0,
+            Err(_) => false,
+        },
     }
 }
 
@@ -53,17 +83,19 @@ fn puts<const P: usize>(
     key: [u8; 2],
     value: usize,
 ) -> bool {
-    match way {
-        Way::InsertEntry => map.prefix_entry(key).insert_entry(value).is_ok(),
-        Way::OrInsert => map.prefix_entry(key).or_insert(value).is_ok(),
-        Way::OrInsertEntry => map.prefix_entry(key).or_insert_entry(value).is_ok(),
-        Way::OrInsertWith | Way::OrInsertWithKey | Way::OrInsertWithEntry => {
-            let mut ran = false;
-            let put = puts_with(map, way, key, value, &mut ran);
-            assert_eq!(rt; ran, put);
-            put
+    let mut ran = false;
+    let put = match way {
+        Way::InsertEntry => return map.prefix_entry(key).insert_entry(value).is_ok(),
+        Way::OrInsert => return map.prefix_entry(key).or_insert(value).is_ok(),
+        Way::OrInsertEntry => return map.prefix_entry(key).or_insert_entry(value).is_ok(),
+        Way::OrDefault | Way::OrDefaultEntry => return puts_default(map, way, key, value),
+        Way::OrInsertWith | Way::OrInsertWithEntry => { puts_made(map, way, key, value, &mut ran) }
+        Way::OrInsertWithKey | Way::OrInsertWithKeyEntry => {
+            puts_made_of_key(map, way, key, value, &mut ran)
         }
-    }
+    };
+    assert_eq!(rt; ran, put);
+    put
 }
 
 // Puts in the key of a place, where those before it are in. After a refusal the map is as before, and there is memory the next time.
@@ -120,6 +152,21 @@ fn or_insert_with_key(rt: HostRuntime) {
 #[test]
 fn or_insert_with_entry(rt: HostRuntime) {
     put_all::<2>(&rt, Way::OrInsertWithEntry);
+}
+
+#[test]
+fn or_insert_with_key_entry(rt: HostRuntime) {
+    put_all::<2>(&rt, Way::OrInsertWithKeyEntry);
+}
+
+#[test]
+fn or_default(rt: HostRuntime) {
+    put_all::<2>(&rt, Way::OrDefault);
+}
+
+#[test]
+fn or_default_entry(rt: HostRuntime) {
+    put_all::<0>(&rt, Way::OrDefaultEntry);
 }
 
 type Map = TreeMap<&'static [u8], usize, 2>;

@@ -5,10 +5,10 @@ use std::iter::{DoubleEndedIterator, Iterator};
 use std::ops::Bound;
 use std::process::Abort;
 
-type Map = TreeMap<&'static [u8], usize, 2>;
+pub(super) type Map = TreeMap<&'static [u8], usize, 2>;
 
 // A map of four keys, each with its place as value, or nothing where that was refused.
-fn four_keys(rt: &(impl Abort + AllocGlobal + Print)) -> Option<Map> {
+pub(super) fn four_keys(rt: &(impl Abort + AllocGlobal + Print)) -> Option<Map> {
     let keys: [&'static [u8]; 4] = [b"\x01", b"\x02\x01", b"\x02\x02", b"\x03"];
     let mut map = TreeMap::with_prefix_len(rt.alloc());
     for (place, key) in keys.iter().enumerate() {
@@ -21,7 +21,7 @@ fn four_keys(rt: &(impl Abort + AllocGlobal + Print)) -> Option<Map> {
 }
 
 // The map has these values, in this order.
-fn assert_values(rt: &impl Abort, map: &Map, want: &[usize]) {
+pub(super) fn assert_values(rt: &impl Abort, map: &Map, want: &[usize]) {
     assert_eq!(rt; map.len(), want.len());
     let mut values = map.values();
     for value in want {
@@ -100,6 +100,22 @@ fn related_pairs(rt: HostRuntime) {
     assert_values(&rt, &map, &[0, 7, 8]);
     assert!(rt; map.prefix_insert(b"", 9).is_ok());
     assert_values(&rt, &map, &[9]);
+    assert_eq!(rt; map.inner_nodes(), 0);
+}
+
+// The pairs below some bytes go, with the node that they stood at.
+#[test]
+fn pairs_below_some_bytes(rt: HostRuntime) {
+    let Some(mut map) = four_keys(&rt) else {
+        return;
+    };
+    assert_eq!(rt; map.remove_prefix(b"\x04"), 0);
+    assert_eq!(rt; map.inner_nodes(), 2);
+    assert_eq!(rt; map.remove_prefix(b"\x02"), 2);
+    assert_values(&rt, &map, &[0, 3]);
+    assert_eq!(rt; map.inner_nodes(), 1);
+    assert_eq!(rt; map.remove_prefix(b""), 2);
+    assert_values(&rt, &map, &[]);
     assert_eq!(rt; map.inner_nodes(), 0);
 }
 

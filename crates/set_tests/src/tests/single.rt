@@ -70,6 +70,17 @@ fn removals(rt: HostRuntime) {
     removing(&rt, &mut set);
 }
 
+#[test]
+fn removals_below_some_bytes(rt: HostRuntime) {
+    let mut set = set_of::<2>(&rt, &[1, 2, 3]);
+    assert!(rt; set.remove_prefix(&[4]) == 0);
+    assert!(rt; set.remove_prefix(&[2, 1]) == 0);
+    assert!(rt; set.remove_prefix(&[2]) == 1);
+    assert_elements(&rt, &set, &[1, 3]);
+    assert!(rt; set.remove_prefix(&[]) == 2);
+    assert_elements(&rt, &set, &[]);
+}
+
 fn popping(rt: &impl Abort, set: &mut Bytes<2>) {
     assert!(rt; set.pop_first() == Some(1));
     assert!(rt; set.pop_last() == Some(3));

@@ -1,5 +1,5 @@
 use Rattle.std.proofs.Common.{Some, None, refl}
-use Rattle.blart.specs.Command.{Insert, Get, Remove, PrefixGet, Overwrite, ListRange}
+use Rattle.blart.specs.Command.{Insert, Get, Remove, RemovePrefix, PrefixGet, Overwrite, ListRange}
 use Rattle.blart.specs.Content.{content_of}
 use Rattle.blart.specs.Texts.{text_of}
 use Rattle.std.specs.Prelude.{codes}
@@ -23,6 +23,12 @@ returns-in-Some-Remove g c =
     let (key, is_key, is) = rw c.in-Some-Remove.field-0-is at c.in-Some-Remove.ensures in
     replied_one _ _ _ _ (content_of c.args.map.now) c.args.line.now c.args.outbox.now c.write_answer-in-Some-Remove.new.outbox (content_of c.remove-answer.new.map) (Some (Remove key)) (text_of c.remove-answer.result)
     is (c.remove-answer.ensures key is_key) c.write_answer-in-Some-Remove.ensures
+
+pub returns-in-Some-RemovePrefix : goal.returns-in-Some-RemovePrefix
+returns-in-Some-RemovePrefix g c =
+    let (key, is_key, is) = rw c.in-Some-RemovePrefix.field-0-is at c.in-Some-RemovePrefix.ensures in
+    replied_one _ _ _ _ (content_of c.args.map.now) c.args.line.now c.args.outbox.now c.write_answer-in-Some-RemovePrefix.new.outbox (content_of c.remove_prefix-answer.new.map) (Some (RemovePrefix key)) (text_of c.remove_prefix-answer.result)
+    is (c.remove_prefix-answer.ensures key is_key) c.write_answer-in-Some-RemovePrefix.ensures
 
 pub returns-in-Some-PrefixGet : goal.returns-in-Some-PrefixGet
 returns-in-Some-PrefixGet g c =

@@ -3,6 +3,7 @@ use Rattle.std.proofs.lemmas.List.{map-append}
 use Rattle.std.specs.Iterator.{Yields, IsFinite}
 use Rattle.std.specs.List.{AllZip}
 use Rattle.std.proofs.iter.Next as it
+use Rattle.blart_keys.specs.Stored.{kept_item}
 use Rattle.blart_set.specs.Elements.{elements}
 use Rattle.blart_map.proofs.BulkPuts.{puts_more, first_came, on_err}
 use Rattle.blart_set.proofs.Cloned.{now, zip_more}
@@ -23,7 +24,7 @@ loop-item-preserved g c =
       record {
         clones = i.2.clones ++ made.0 ∷ [];
         zipped = subst (λ l. AllZip g.K.Clone.is_clone l (i.2.clones ++ made.0 ∷ [])) (sym (map-append now c.loop-item.yielded (c.in-Some.item ∷ []))) (zip_more g.K.Clone.is_clone (map now c.loop-item.yielded) i.2.clones c.in-Some.item.now made.0 i.2.zipped made.1);
-        put = puts_more g.K.AsBytes.bytes [] i.2.clones (elements c.loop-item.set) made.0 (elements c.put_clone.new.set) i.2.put made.2;
+        put = puts_more g.K.AsBytes.bytes kept_item [] i.2.clones (elements c.loop-item.set) made.0 (elements c.put_clone.new.set) i.2.put made.2;
       },
     )
 

@@ -2,6 +2,7 @@ use Rattle.std.proofs.Common.{subst}
 use Rattle.std.specs.Iterator.{Yields}
 use Rattle.std.proofs.iter.Next as it
 use Rattle.blart_keys.specs.Steps.{bytes}
+use Rattle.blart_keys.specs.Stored.{kept_pair}
 use Rattle.blart_map.specs.Content.{pairs}
 use Rattle.blart_map.proofs.BulkPuts.{puts_more, puts_same}
 use Rattle.blart_map.proofs.map.TreeMap.extend.Goals as goal
@@ -10,7 +11,7 @@ pub loop-item-preserved : goal.loop-item-preserved
 loop-item-preserved g c =
     let i = c.loop-item.invariant in
     let on = it.on c.in-Some.item c.in-Some.is c.next.ensures.goes i.1 in
-    (on.0, on.1, puts_more (bytes g.K.AsBytes.bytes) (pairs c.args.self.now) c.loop-item.yielded (pairs c.loop-item.self) c.in-Some.item (pairs c.put.new.self) i.2 c.in_default.ensures.put)
+    (on.0, on.1, puts_more (bytes g.K.AsBytes.bytes) kept_pair (pairs c.args.self.now) c.loop-item.yielded (pairs c.loop-item.self) c.in-Some.item (pairs c.put.new.self) i.2 c.in_default.ensures.put)
 
 pub returns-in-Err : goal.returns-in-Err
 returns-in-Err g c =
@@ -21,6 +22,6 @@ returns-in-Err g c =
       c.in-Some.item,
       c.next.new.self,
       it.Yields-more g.I.Iterator.next_gives c.args.items c.loop-item.yielded c.loop-item.item-iterator c.in-Some.item c.next.new.self came steps,
-      puts_same (bytes g.K.AsBytes.bytes) (pairs c.args.self.now) c.loop-item.yielded (pairs c.loop-item.self) (pairs c.put.new.self) i.2 c.in-Err.ensures.err,
+      puts_same (bytes g.K.AsBytes.bytes) kept_pair (pairs c.args.self.now) c.loop-item.yielded (pairs c.loop-item.self) (pairs c.put.new.self) i.2 c.in-Err.ensures.err,
       c.in-Err.ensures.new,
     )

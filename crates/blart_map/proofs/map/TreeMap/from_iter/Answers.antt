@@ -1,6 +1,7 @@
 use Rattle.std.proofs.Common.{subst}
 use Rattle.blart_keys.specs.Bulk.{PutsAll}
 use Rattle.blart_keys.specs.Steps.{bytes}
+use Rattle.blart_keys.specs.Stored.{kept_pair}
 use Rattle.blart_map.specs.Content.{pairs}
 use Rattle.blart_map.proofs.BulkPuts.{first_came, on_err}
 use Rattle.blart_map.proofs.map.TreeMap.from_iter.Goals as goal
@@ -13,4 +14,4 @@ returns-in_err-extend-clause-refused g c =
 pub returns-clause-made : goal.returns-clause-made
 returns-clause-made g c =
     let e = c.in_ok-extend.ensures in
-    (e.0, e.1, subst (λ S. PutsAll (bytes g.K.AsBytes.bytes) S e.0 (pairs c.extend.new.self)) c.with_prefix_len-map.ensures.empty e.2)
+    (e.0, e.1, subst (λ S. PutsAll (bytes g.K.AsBytes.bytes) kept_pair S e.0 (pairs c.extend.new.self)) c.with_prefix_len-map.ensures.empty e.2)

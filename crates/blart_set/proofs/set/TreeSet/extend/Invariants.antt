@@ -1,4 +1,5 @@
 use Rattle.blart_keys.specs.Bulk.{PutsAll}
+use Rattle.blart_keys.specs.Stored.{kept_item}
 use Rattle.blart_set.specs.Elements.{elements}
 use Rattle.blart_set.proofs.set.TreeSet.extend.Given as goal
 
@@ -6,4 +7,4 @@ abbrev pub invariant-loop-item : goal.invariant-loop-item
 invariant-loop-item g l =
     (goal.iterator-loop-item g).can_next l.item-iterator
     × (goal.iterator-loop-item g).is_finite l.item-iterator
-    × PutsAll g.K.AsBytes.bytes (elements l.initial.self) l.yielded (elements l.self)
+    × PutsAll g.K.AsBytes.bytes kept_item (elements l.initial.self) l.yielded (elements l.self)

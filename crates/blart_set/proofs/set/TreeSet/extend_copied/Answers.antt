@@ -4,6 +4,7 @@ use Rattle.std.specs.Iterator.{Yields}
 use Rattle.std.proofs.iter.Next as it
 use Rattle.blart_set.proofs.Cloned.{now}
 use Rattle.blart_keys.specs.Bulk.{PutsAll}
+use Rattle.blart_keys.specs.Stored.{kept_item}
 use Rattle.blart_set.specs.Elements.{elements}
 use Rattle.blart_map.proofs.BulkPuts.{puts_more, puts_same}
 use Rattle.blart_set.proofs.set.TreeSet.extend_copied.Goals as goal
@@ -12,8 +13,8 @@ pub loop-item-preserved : goal.loop-item-preserved
 loop-item-preserved g c =
     let i = c.loop-item.invariant in
     let on = it.on c.in-Some.item c.in-Some.is c.next.ensures.goes i.1 in
-    let more = puts_more g.K.AsBytes.bytes (elements c.args.self.now) (map now c.loop-item.yielded) (elements c.loop-item.self) c.in-Some.item.now (elements c.put.new.self) i.2 c.in_default.ensures.put in
-    (on.0, on.1, subst (λ xs. PutsAll g.K.AsBytes.bytes (elements c.args.self.now) xs (elements c.put.new.self)) (sym (map-append now c.loop-item.yielded (c.in-Some.item ∷ []))) more)
+    let more = puts_more g.K.AsBytes.bytes kept_item (elements c.args.self.now) (map now c.loop-item.yielded) (elements c.loop-item.self) c.in-Some.item.now (elements c.put.new.self) i.2 c.in_default.ensures.put in
+    (on.0, on.1, subst (λ xs. PutsAll g.K.AsBytes.bytes kept_item (elements c.args.self.now) xs (elements c.put.new.self)) (sym (map-append now c.loop-item.yielded (c.in-Some.item ∷ []))) more)
 
 pub returns-in-Err : goal.returns-in-Err
 returns-in-Err g c =
@@ -24,6 +25,6 @@ returns-in-Err g c =
       c.in-Some.item,
       c.next.new.self,
       it.Yields-more g.I.Iterator.next_gives c.args.items c.loop-item.yielded c.loop-item.item-iterator c.in-Some.item c.next.new.self came steps,
-      puts_same g.K.AsBytes.bytes (elements c.args.self.now) (map now c.loop-item.yielded) (elements c.loop-item.self) (elements c.put.new.self) i.2 c.in-Err.ensures.err,
+      puts_same g.K.AsBytes.bytes kept_item (elements c.args.self.now) (map now c.loop-item.yielded) (elements c.loop-item.self) (elements c.put.new.self) i.2 c.in-Err.ensures.err,
       c.in-Err.ensures.new,
     )

@@ -1,5 +1,6 @@
 use Rattle.std.proofs.Common.{subst}
 use Rattle.blart_keys.specs.Bulk.{PutsAll}
+use Rattle.blart_keys.specs.Stored.{kept_item}
 use Rattle.blart_set.specs.Elements.{elements}
 use Rattle.blart_map.proofs.BulkPuts.{first_came, on_err}
 use Rattle.blart_set.proofs.set.TreeSet.from_iter.Goals as goal
@@ -12,4 +13,4 @@ returns-in_err-extend-clause-refused g c =
 pub returns-clause-made : goal.returns-clause-made
 returns-clause-made g c =
     let e = c.in_ok-extend.ensures in
-    (e.0, e.1, subst (λ S. PutsAll g.K.AsBytes.bytes S e.0 (elements c.extend.new.self)) c.with_prefix_len-set.ensures e.2)
+    (e.0, e.1, subst (λ S. PutsAll g.K.AsBytes.bytes kept_item S e.0 (elements c.extend.new.self)) c.with_prefix_len-set.ensures e.2)

@@ -1,3 +1,4 @@
+use Rattle.blart_keys.specs.Stored.{kept}
 use Rattle.blart_map.specs.Content.{pairs}
 use Rattle.blart_set.specs.Elements.{elements}
 use Rattle.blart_set.proofs.Pairs.{inserts-new, inserts-put, inserts-absent}
@@ -5,7 +6,7 @@ use Rattle.blart_set.proofs.set.TreeSet.insert.Goals as goal
 
 pub returns-clause-new : goal.returns-clause-new
 unfolding elements
-returns-clause-new g c = rw (← c.self.view_is) (rw c.told.ensures (inserts-new g.K.AsBytes.bytes (pairs c.self.inside.map) (pairs c.insert.new.self) (c.args.element, tt) c.insert.result c.insert.ensures.put))
+returns-clause-new g c = rw (← c.self.view_is) (rw c.told.ensures (inserts-new g.K.AsBytes.bytes (pairs c.self.inside.map) (pairs c.insert.new.self) (c.args.element, tt) (kept g.K.AsBytes.bytes (pairs c.self.inside.map) (c.args.element, tt)) c.insert.result c.insert.ensures.put))
 
 pub returns-clause-put : goal.returns-clause-put
 unfolding elements
@@ -13,4 +14,4 @@ returns-clause-put g c = rw (← c.self.view_is) (rw c.told.ensures (inserts-put
 
 pub returns-clause-absent : goal.returns-clause-absent
 unfolding elements
-returns-clause-absent g c = rw (← c.self.view_is) (rw c.told.ensures (inserts-absent g.K.AsBytes.bytes (pairs c.self.inside.map) (pairs c.insert.new.self) (c.args.element, tt) c.insert.result c.insert.ensures.put))
+returns-clause-absent g c = rw (← c.self.view_is) (rw c.told.ensures (inserts-absent g.K.AsBytes.bytes (pairs c.self.inside.map) (pairs c.insert.new.self) (c.args.element, tt) (kept g.K.AsBytes.bytes (pairs c.self.inside.map) (c.args.element, tt)) c.insert.result c.insert.ensures.put))

@@ -1,6 +1,7 @@
 use Rattle.std.proofs.Common.{◌∷◌, [], ◌++◌, take, sym, ap, ◌∙◌, subst}
 use Rattle.std.proofs.lemmas.List.{take_more}
 use Rattle.blart_keys.specs.Bulk.{PutsAll}
+use Rattle.blart_keys.specs.Stored.{kept_item}
 use Rattle.blart_set.specs.Elements.{elements}
 use Rattle.blart_map.proofs.BulkPuts.{puts_more}
 use Rattle.blart_set.proofs.set.TreeSet.put_copies.Goals as goal
@@ -11,4 +12,4 @@ loop-item-preserved g c =
     let i = c.loop-item.item-index in
     let x = c.item-item.result in
     let more = take_more c.args.items.now i x c.loop-item-test.true ∙ ap (λ y. take i c.args.items.now ++ y ∷ []) (sym c.item-item.is) in
-    subst (λ xs. PutsAll kb (elements c.args.self.now) xs (elements c.put.new.self)) (sym more) (puts_more kb (elements c.args.self.now) (take i c.args.items.now) (elements c.loop-item.self) x (elements c.put.new.self) c.loop-item.invariant c.in_default.ensures.put)
+    subst (λ xs. PutsAll kb kept_item (elements c.args.self.now) xs (elements c.put.new.self)) (sym more) (puts_more kb kept_item (elements c.args.self.now) (take i c.args.items.now) (elements c.loop-item.self) x (elements c.put.new.self) c.loop-item.invariant c.in_default.ensures.put)

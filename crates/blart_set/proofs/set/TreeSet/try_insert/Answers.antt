@@ -1,3 +1,4 @@
+use Rattle.blart_keys.specs.Stored.{kept}
 use Rattle.blart_map.specs.Content.{pairs}
 use Rattle.blart_set.specs.Elements.{elements}
 use Rattle.blart_set.proofs.Pairs.{puts-new, puts-put, puts-free, puts-why}
@@ -5,7 +6,7 @@ use Rattle.blart_set.proofs.set.TreeSet.try_insert.Goals as goal
 
 pub returns-clause-new : goal.returns-clause-new
 unfolding elements
-returns-clause-new g c = rw (← c.self.view_is) (rw c.told.ensures (puts-new g.K.AsBytes.bytes (pairs c.self.inside.map) (pairs c.try_insert.new.self) (c.args.element, tt) c.try_insert.result c.try_insert.ensures.put))
+returns-clause-new g c = rw (← c.self.view_is) (rw c.told.ensures (puts-new g.K.AsBytes.bytes (pairs c.self.inside.map) (pairs c.try_insert.new.self) (c.args.element, tt) (kept g.K.AsBytes.bytes (pairs c.self.inside.map) (c.args.element, tt)) c.try_insert.result c.try_insert.ensures.put))
 
 pub returns-clause-put : goal.returns-clause-put
 unfolding elements
@@ -13,8 +14,8 @@ returns-clause-put g c = rw (← c.self.view_is) (rw c.told.ensures (puts-put g.
 
 pub returns-clause-free : goal.returns-clause-free
 unfolding elements
-returns-clause-free g c = rw (← c.self.view_is) (rw c.told.ensures (puts-free g.K.AsBytes.bytes (pairs c.self.inside.map) (pairs c.try_insert.new.self) (c.args.element, tt) c.try_insert.result c.try_insert.ensures.put))
+returns-clause-free g c = rw (← c.self.view_is) (rw c.told.ensures (puts-free g.K.AsBytes.bytes (pairs c.self.inside.map) (pairs c.try_insert.new.self) (c.args.element, tt) (kept g.K.AsBytes.bytes (pairs c.self.inside.map) (c.args.element, tt)) c.try_insert.result c.try_insert.ensures.put))
 
 pub returns-clause-why : goal.returns-clause-why
 unfolding elements
-returns-clause-why g c = rw (← c.self.view_is) (rw c.told.ensures (puts-why g.K.AsBytes.bytes (pairs c.self.inside.map) (pairs c.try_insert.new.self) (c.args.element, tt) c.try_insert.result c.try_insert.ensures.put))
+returns-clause-why g c = rw (← c.self.view_is) (rw c.told.ensures (puts-why g.K.AsBytes.bytes (pairs c.self.inside.map) (pairs c.try_insert.new.self) (c.args.element, tt) (kept g.K.AsBytes.bytes (pairs c.self.inside.map) (c.args.element, tt)) c.try_insert.result c.try_insert.ensures.put))

@@ -1,0 +1,138 @@
+-- What holds of the runs of numbers behind a number and before it.
+use Rattle.std.proofs.Common.{◌≡◌, ℕ, zero, suc, ◌+◌, ◌-◌, ◌<◌, ◌≤◌, List, [], ◌∷◌, ◌++◌, length, map, take, drop, refl, sym, ap, subst, ◌∙◌, Option, Some, None, arith}
+use Rattle.std.proofs.lemmas.List.{length-take-le, length-drop}
+use Rattle.std.specs.Prelude.{option_map, IfSome}
+use denote.Ref.{Bor}
+use Rattle.art_rows.specs.Numbers.{Numbered, leaf_in, Has, number_after, number_before, number_before_from, AreDistinct}
+use Rattle.art_rows.specs.Rows.{place_in, nth, numbers, position_at, RunsBehind, RunsBefore, StandsAhead}
+use Rattle.art_rows.specs.Filing.{Files}
+use Rattle.art_rows.specs.declared.ahead.Ahead.{Ahead}
+use Rattle.art_rows.specs.declared.leaves.Leaf.{Leaf}
+use Rattle.art_rows.specs.declared.row.Position.{Position}
+use Rattle.art_rows.proofs.FilingLemmas.{number_there, same_ids, if_some}
+use Rattle.art_rows.proofs.RowsLemmas.{nth-append_left, nth-append_right, nth-within, number_after-nth, number_before-nth, place_in-nth, standing, standing-numbers, standing-end, start_of}
+
+-- what stands behind a place
+nth-drop : (ns : List ℕ) (k j : ℕ) → nth (drop k ns) j ≡ nth ns (k + j)
+nth-drop ns zero j = (let e : 0 + j ≡ j = omega arith in sym (ap (nth ns) e))
+nth-drop [] (suc k) j = refl
+nth-drop (n ∷ ns) (suc k) j = (let e : suc k + j ≡ suc (k + j) = omega arith in nth-drop ns k j ∙ sym (ap (nth (n ∷ ns)) e))
+
+-- what stands before a place
+nth-take : (ns : List ℕ) (k j n : ℕ) → nth (take k ns) j ≡ Some n → nth ns j ≡ Some n
+nth-take ns zero j n e = absurd cc
+nth-take [] (suc k) j n e = absurd cc
+nth-take (m ∷ ns) (suc k) zero n e = e
+nth-take (m ∷ ns) (suc k) (suc j) n e = nth-take ns k j n e
+
+module _ {X : Type 0} (ps : List (Numbered X)) (distinct : AreDistinct ps) (i n : ℕ) (has : Has ps i) (rest : List ℕ) where
+  -- the first of a run is the number behind, and the others are a run behind that
+  pub behind_step : RunsBehind ps i (n ∷ rest) → (number_after ps i ≡ Some n) × RunsBehind ps n rest
+  behind_step r =
+      let ns : List ℕ = map (λ p. p.0) ps in
+      let k : ℕ = place_in ns i in
+      let a : k + 1 + 0 ≡ k + 1 = omega arith in
+      let b : nth ns (k + 1) ≡ Some n = sym (ap (nth ns) a) ∙ r 0 n refl in
+      let c : place_in ns n ≡ k + 1 = place_in-nth ps (k + 1) n distinct b in (
+        number_after-nth ps i has ∙ b,
+        λ j m e. let d : place_in ns n + 1 + j ≡ k + 1 + suc j = omega arith in ap (nth ns) d ∙ r (suc j) m e,
+      )
+
+  -- the number behind stands one place further
+  pub behind_index : number_after ps i ≡ Some n → place_in (map (λ p. p.0) ps) n ≡ place_in (map (λ p. p.0) ps) i + 1
+  behind_index e = place_in-nth ps (place_in (map (λ p. p.0) ps) i + 1) n distinct (sym (number_after-nth ps i has) ∙ e)
+
+  -- the same of all that stands behind
+  pub ahead_step : (rows : List (Numbered (List ℕ))) (a b : Ahead) → a.run.now ≡ n ∷ b.run.now → b.row ≡ a.row → b.run.now ≡ rest → StandsAhead ps rows i a → (number_after ps i ≡ Some n) × StandsAhead ps rows n b
+  ahead_step rows a b cut same is s =
+      let r = behind_step (subst (RunsBehind ps i) (cut ∙ ap (λ l. n ∷ l) is) s.run) in
+      let c : place_in (map (λ p. p.0) ps) n ≡ place_in (map (λ p. p.0) ps) i + 1 = behind_index r.0 in
+      let l : length a.run.now ≡ suc (length b.run.now) = ap length cut in
+      let e : place_in (map (λ p. p.0) ps) n + 1 + length b.run.now ≡ place_in (map (λ p. p.0) ps) i + 1 + length a.run.now = omega arith in (
+        r.0,
+        record {
+          run = subst (RunsBehind ps n) (sym is) r.1;
+          row = rw same (if_some a.row _ _ (λ t h. (ap (position_at rows) e ∙ h.0, h.1)) s.row);
+        },
+      )
+
+  -- the last of a run is the number before, and the others are a run before that
+  pub before_step : RunsBefore ps i (rest ++ n ∷ []) → (number_before ps i ≡ Some n) × RunsBefore ps n rest
+  before_step r =
+      let ns : List ℕ = map (λ p. p.0) ps in
+      let k : ℕ = place_in ns i in
+      let l : length (rest ++ n ∷ []) ≡ length rest + 1 = length_more rest in
+      let w : length (rest ++ n ∷ []) ≤ k = r.0 in
+      let z : k ≡ suc (k - 1) = omega arith in
+      let a : k + (length rest + 0) - length (rest ++ n ∷ []) ≡ k - 1 = omega arith in
+      let b : nth ns (k - 1) ≡ Some n = sym (ap (nth ns) a) ∙ r.1 (length rest + 0) n (nth-append_right rest (n ∷ []) 0) in
+      let c : place_in ns n ≡ k - 1 = place_in-nth ps (k - 1) n distinct b in (
+        number_before-nth None ps i (k - 1) has z ∙ b,
+        (
+          omega arith,
+          λ j m e.
+            let g : j < length rest = nth-within rest j m e in
+            let d : place_in ns n + j - length rest ≡ k + j - length (rest ++ n ∷ []) = omega arith in
+            ap (nth ns) d ∙ r.1 j m (nth-append_left rest (n ∷ []) j g ∙ e),
+        ),
+      )
+    where
+      length_more : (xs : List ℕ) → length (xs ++ n ∷ []) ≡ length xs + 1
+      length_more [] = refl
+      length_more (x ∷ xs) = (let e = length_more xs in omega arith)
+
+module _ {K V : Type 0} (leaves : ℕ → Option (Leaf K V)) (rows : List (Numbered (List ℕ))) (count : ℕ) (ps : List (Numbered (K × V))) (f : Files leaves rows count ps) (k : ℕ) (p : Position) (at : position_at rows k ≡ Some p) (ids : List ℕ) (is : leaf_in rows p.row ≡ Some ids) (n : ℕ) (there : nth ids p.place ≡ Some n) where
+  index_is : place_in (map (λ q. q.0) ps) n ≡ k
+  index_is = place_in-nth ps k n f.distinct (number_there leaves rows count ps f k p at ids is ∙ there)
+
+  -- the numbers of a row are numbers of the list
+  nth_of_row : (j m b : ℕ) → b + p.place ≡ k + j → nth ids j ≡ Some m → nth (map (λ q. q.0) ps) b ≡ Some m
+  nth_of_row j m b e h =
+      let s = standing rows k p at in
+      let same : s.ids ≡ ids = same_ids leaves rows count ps f k p at ids is in
+      let w : j < length ids = nth-within ids j m h in
+      let x = s.index in
+      let c : b ≡ length (numbers s.before) + j = omega arith in
+      let d : j < length s.ids = rw same w in
+      rw (f.joined, standing-numbers rows k p s, c) (nth-append_right (numbers s.before) (s.ids ++ numbers s.after) j ∙ nth-append_left s.ids (numbers s.after) j d ∙ ap (λ l. nth l j) same ∙ h)
+
+  -- what stands in a row behind a number is a run behind it
+  pub behind_in_row : RunsBehind ps n (drop (p.place + 1) ids)
+  behind_in_row j m e =
+      let i = index_is in
+      nth_of_row (p.place + 1 + j) m (place_in (map (λ q. q.0) ps) n + 1 + j) (omega arith) (sym (nth-drop ids (p.place + 1) j) ∙ e)
+
+  -- the row behind stands behind that run
+  pub row_behind_run : (r : ℕ) → number_after rows p.row ≡ Some r → position_at rows (place_in (map (λ q. q.0) ps) n + 1 + length (drop (p.place + 1) ids)) ≡ Some (start_of r)
+  row_behind_run r e =
+      let i = index_is in
+      let s = standing rows k p at in
+      let same : s.ids ≡ ids = same_ids leaves rows count ps f k p at ids is in
+      let w : p.place < length ids = nth-within ids p.place n there in
+      let l : length (drop (p.place + 1) ids) ≡ length ids - (p.place + 1) = length-drop (p.place + 1) ids in
+      let b : place_in (map (λ q. q.0) ps) n + 1 + length (drop (p.place + 1) ids) + p.place ≡ k + length s.ids = rw same (omega arith) in
+      standing-end rows k p s f.apart f.filled _ b ∙ ap (option_map start_of) e
+
+  -- what was looked up in a row and behind it stands ahead
+  pub ahead_there : (b : Ahead) → b.run.now ≡ drop (p.place + 1) ids → IfSome b.row (λ r. number_after rows p.row ≡ Some r.0) → IfSome b.row (λ r. leaf_in rows r.0 ≡ Some r.1.now) → StandsAhead ps rows n b
+  ahead_there b run row its = record { run = subst (RunsBehind ps n) (sym run) behind_in_row; row = go b.row row its }
+    where
+      go : (o : Option (ℕ × Bor (List ℕ))) → IfSome o (λ r. number_after rows p.row ≡ Some r.0) → IfSome o (λ r. leaf_in rows r.0 ≡ Some r.1.now)
+          → IfSome o (λ r. (position_at rows (place_in (map (λ q. q.0) ps) n + 1 + length b.run.now) ≡ Some (start_of r.0)) × (leaf_in rows r.0 ≡ Some r.1.now))
+      go None x y = tt
+      go (Some r) x y = (ap (λ l. position_at rows (place_in (map (λ q. q.0) ps) n + 1 + length l)) run ∙ row_behind_run r.0 x, y)
+
+  -- the number there is the one behind
+  pub next_there : (i : ℕ) → Has ps i → k ≡ place_in (map (λ q. q.0) ps) i + 1 → number_after ps i ≡ Some n
+  next_there i has e = number_after-nth ps i has ∙ ap (nth (map (λ q. q.0) ps)) (sym e) ∙ number_there leaves rows count ps f k p at ids is ∙ there
+
+  -- what stands in a row before a number is a run before it
+  pub before_in_row : RunsBefore ps n (take p.place ids)
+  before_in_row =
+      let i = index_is in
+      let w : p.place < length ids = nth-within ids p.place n there in
+      let l : length (take p.place ids) ≡ p.place = length-take-le p.place ids (omega arith) in
+      let s = (standing rows k p at).index in (
+        omega arith,
+        λ j m e. nth_of_row j m (place_in (map (λ q. q.0) ps) n + j - length (take p.place ids)) (omega arith) (nth-take ids p.place j m e),
+      )

@@ -1,0 +1,21 @@
+//! What stands behind a leaf in the rows.
+ghost use Rattle.std.specs.Prelude.{◌≡◌, [], None};
+
+use art_kinds::LeafId;
+
+/// What stands behind a leaf, as far as it was looked up: the rest of its row, and the row behind, under its number.
+#[derive(Clone, Copy)]
+pub struct Ahead<'a> {
+    pub(crate) run: &'a [LeafId],
+    pub(crate) row: Option<(usize, &'a [LeafId])>,
+}
+
+impl<'a> Ahead<'a> {
+    /// Nothing was looked up.
+    pub fn unknown() -> Self
+        ensures run { result.run.now ≡ [] }
+        ensures row { result.row ≡ None }
+    {
+        Ahead { run: &[], row: None }
+    }
+}
