@@ -71,9 +71,9 @@ module _ {X : Type 0} (ps : List (Numbered X)) (distinct : AreDistinct ps) (i n 
         (
           omega arith,
           λ j m e.
-            let g : j < length rest = nth-within rest j m e in
-            let d : place_in ns n + j - length rest ≡ k + j - length (rest ++ n ∷ []) = omega arith in
-            ap (nth ns) d ∙ r.1 j m (nth-append_left rest (n ∷ []) j g ∙ e),
+              let g : j < length rest = nth-within rest j m e in
+              let d : place_in ns n + j - length rest ≡ k + j - length (rest ++ n ∷ []) = omega arith in
+              ap (nth ns) d ∙ r.1 j m (nth-append_left rest (n ∷ []) j g ∙ e),
         ),
       )
     where

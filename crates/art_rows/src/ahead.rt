@@ -16,6 +16,9 @@ impl<'a> Ahead<'a> {
         ensures run { result.run.now ≡ [] }
         ensures row { result.row ≡ None }
     {
-        Ahead { run: &[], row: None }
+        Ahead {
+            run: &[],
+            row: None,
+        }
     }
 }
