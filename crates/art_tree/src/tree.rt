@@ -40,6 +40,8 @@ pub const DEFAULT_PREFIX_LEN: usize = 16;
 /// Pairs of a key and a value in the order of the keys' bytes, none of which begins another's.
 ///
 /// An inner node keeps the first `PREFIX_LEN` bytes of its compressed prefix; any length is good, 0 too.
+///
+/// A call that is said to take no memory is never refused. A removal may ask for a smaller inner node, and keeps the larger one where that is refused.
 #[derive(Drop)]
 pub struct Tree<K: AsBytes, V, const PREFIX_LEN: usize> {
     pub(crate) leaves: Leaves<K, V>,
@@ -144,7 +146,7 @@ impl<K: AsBytes + Drop, V: Drop, const PREFIX_LEN: usize> Tree<K, V, PREFIX_LEN>
         self.leaves.read(id, visits)
     }
 
-    /// Where the bytes stand, or would go. The point is good for them while the tree is unchanged.
+    /// Where the bytes stand, or would go. The point is good for them while the pairs are unchanged.
     pub fn point(&self, query: &[u8]) -> Point
         ensures { IsGood K.bytes self.now.pairs result query.now }
     {
@@ -194,7 +196,7 @@ impl<K: AsBytes + Drop, V: Drop, const PREFIX_LEN: usize> Tree<K, V, PREFIX_LEN>
         id
     }
 
-    /// How many inner nodes there are: one at each front where neighbouring keys part. Fewer than there are pairs, and none where there are none.
+    /// How many inner nodes there are: one at each front where neighbouring keys part. Fewer than there are pairs, and none where there is no pair or one.
     pub fn inner_nodes(&self) -> usize
         ensures value { result ≡ set.len (fronts (bytes K.bytes) self.now.pairs) }
         ensures fewer { result ≤ length self.now.pairs - 1 }

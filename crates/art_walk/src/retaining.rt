@@ -6,7 +6,7 @@ use crate::cursor::Cursor;
 use art_tree::{Tree, Visits};
 use blart_keys::AsBytes;
 
-/// Asks the closure once of each pair, in byte order of the keys, and removes those at which it answers `false`. The others stay with their values as the closure left them. Takes no memory; a pair is one visit.
+/// Asks the closure once of each pair, in byte order of the keys, and removes those at which it answers `false`. The others stay with their values as the closure left them. Takes no memory; each pair that it asks about is one visit, and each that goes costs a removal.
 pub fn retain<
     K: AsBytes + Drop,
     V: Drop,

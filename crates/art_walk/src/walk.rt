@@ -61,7 +61,7 @@ fn without_last<'a, K, V>(
     }
 }
 
-/// The pairs of some leaves that stand in one row, from both ends.
+/// The pairs of some leaves that stand one behind the other, from both ends.
 #[derive(Drop)]
 pub(crate) struct Walk<'a, K, V> {
     leaves: &'a Leaves<K, V>,

@@ -40,10 +40,11 @@ pub enum TryInsertError {
 /// ```
 #[derive(Drop)]
 pub enum Call<K, V> {
-    /// Put the pair in place of the one with its bytes, or insert it, unless its key conflicts. The
-    /// answer has the old value.
+    /// Give the stored key with these bytes the value, or insert the pair, unless its key conflicts.
+    /// A stored key stays. The answer has the old value.
     TryInsert(K, V),
-    /// The same, and the answer has the old pair.
+    /// Put the pair in place of the one with its bytes, or insert it, unless its key conflicts. The
+    /// answer has the old pair.
     ReplaceEntry(K, V),
     /// Insert the pair in place of all pairs whose keys are related to its key.
     PrefixInsert(K, V),

@@ -19,6 +19,8 @@ use std::marker::Model;
 ///
 /// An inner node keeps the first `PREFIX_LEN` bytes of its compressed prefix; any length is good, 0 too.
 ///
+/// A call that is said to take no memory is never refused. Where it removes pairs it may ask for a smaller inner node, and keeps the larger one where that is refused.
+///
 /// ```
 /// map.try_insert("car", 1)?;
 /// map.try_insert("cat", 2)?;

@@ -176,7 +176,7 @@ impl<'a, const P: usize> NodeRef<'a, P> {
     }
 }
 
-/// The inner nodes. A contract sees the node under each number, and the spare records of each kind. Memory is asked for in `reserve` and the two calls that make room, and in no other.
+/// The inner nodes. A contract sees the node under each number, and the spare records of each kind. Memory is asked for in `reserve`, and in `narrow`, which goes on where it is refused, and in no other call.
 #[derive(Drop)]
 pub struct Nodes<const P: usize> {
     pub(super) fours: Store<Inner<Few<4>, P>>,

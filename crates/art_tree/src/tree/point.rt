@@ -16,7 +16,7 @@ use crate::tree::stop::{Stop, stop_of};
 use crate::visits::Visits;
 use blart_keys::AsBytes;
 
-/// A place for a key that is related to no stored key. It is good for the bytes that it was found for, while the tree is unchanged.
+/// A place for a key that is related to no stored key. It is good for the bytes that it was found for, while the pairs are unchanged.
 #[derive(Clone, Copy)]
 pub struct Place {
     // A leaf whose key goes along with the bytes for `depth` bytes. No key goes on as they do.
