@@ -1,10 +1,9 @@
 -- All keys below an edge go but one, whose leaf takes the place of what stood there.
 use Rattle.std.proofs.Common.{◌≡◌, ◌≢◌, ℕ, ◌+◌, ◌≤◌, [], ◌∷◌, ◌++◌, length, refl, ap, arith, sym, subst, Option, Some, None, IsSome, ◌∙◌, inl, inr}
-use Rattle.std.specs.Option.{IsSomeAnd}
 use Rattle.std.proofs.lemmas.Bool.{cases_lt}
 use Rattle.art_tree.specs.Begins.{Bytes, Begins, next_byte}
 use Rattle.blart_keys.specs.Bytes.{common}
-use Rattle.art_tree.specs.Invariant.EdgesAbove.{LeadsTo}
+use Rattle.art_tree.specs.Invariant.EdgesAbove.{LeadsTo, TurnsTo, edge_front}
 use Rattle.art_kinds.specs.Nodes.{Node, Redirects}
 use Rattle.art_kinds.specs.Edges.{child_at}
 use Rattle.art_tree.specs.Invariant.Shape.{Shape, Keeps, Covers, CoversLeaf, NodeFits, RootFits, Parts}
@@ -14,6 +13,8 @@ use Rattle.art_tree.proofs.BeginsLemmas.{Begins-length, Begins-trans, Begins-lin
 use Rattle.art_tree.specs.Calls.Pruning.{Prunes, Uproots}
 use Rattle.art_tree.proofs.Invariant.Uprooting.{above_leaf, above_node}
 use Rattle.art_tree.proofs.Invariant.Prefixes.{turned_prefix}
+use Rattle.art_tree.proofs.Invariant.SameShapes.{rooted}
+use Rattle.art_tree.proofs.Invariant.SmallShapes.{shape_one}
 use Rattle.art_tree.proofs.Invariant.EdgesAbove.{Turns, turned_node}
 use Rattle.blart_keys.proofs.Options.{is_some, some_of}
 
@@ -191,9 +192,6 @@ module _ {P : ℕ} (keys : ℕ → Option Bytes) (nodes mid : ℕ → Option Nod
   pub leads_still : LeadsTo mid root (Some (p, b)) c
   leads_still = (leads.0, up.kept p off_below ∙ leads.1, leads.2)
 
-  pub edge_still : IsSomeAnd (mid p) (λ x. IsSome (child_at x.edges b))
-  edge_still = let Q : Option Node → Type 0 = λ o. IsSomeAnd o (λ x. IsSome (child_at x.edges b)) in subst Q (sym (up.kept p off_below ∙ leads.1)) (is_some (child_at leads.0.edges b) c leads.2)
-
   module _ (new : ℕ → Option Node) (i : ℕ) (red : Redirects mid new p b (Leaf i)) where
     edge_live : (e : ℕ × ℕ) → Some (p, b) ≡ Some e → IsSome (nodes e.0)
     edge_live e is = let z : (p, b) ≡ e = cc in subst (λ (w : ℕ × ℕ). IsSome (nodes w.0)) z (is_some (nodes p) leads.0 leads.1)
@@ -217,3 +215,14 @@ module _ {P : ℕ} (keys : ℕ → Option Bytes) (nodes mid : ℕ → Option Nod
     -- and the tree stands for the keys that are left
     pub shape_uprooted : (keys' : ℕ → Option Bytes) (k : Bytes) → Prunes keys keys' (s.front_of p ++ b ∷ []) i k → Shape P keys' new root
     shape_uprooted keys' k prunes = shape_pruned keys keys' nodes new root p b i k c s (is_some (nodes p) leads.0 leads.1) prunes cuts_uprooted
+
+module _ {P : ℕ} (keys : ℕ → Option Bytes) (nodes mid : ℕ → Option Node) (root : Option Child) (s : Shape P keys nodes root) (c : Child) where
+  -- also the way into the root
+  pub leads_on : (above : Option (ℕ × ℕ)) → LeadsTo nodes root above c → Uproots nodes mid s.front_of (edge_front s.front_of above) → LeadsTo mid root above c
+  leads_on None l up = l
+  leads_on (Some (p, b)) l up = leads_still keys nodes mid root s p b c l up
+
+  -- and where that leads to the leaf it is the whole tree
+  pub shape_led : (keys' : ℕ → Option Bytes) (new : ℕ → Option Node) (root' : Option Child) (i : ℕ) (k : Bytes) (above : Option (ℕ × ℕ)) → LeadsTo nodes root above c → Uproots nodes mid s.front_of (edge_front s.front_of above) → TurnsTo mid new root root' above (Leaf i) → Prunes keys keys' (edge_front s.front_of above) i k → Shape P keys' new root'
+  shape_led keys' new root' i k None l up t prunes = rooted keys' new (Some (Leaf i)) root' (shape_one keys' new (λ n. t.0 n ∙ up.gone n tt) i k prunes.now (λ j m e. prunes.only j m e tt)) (sym t.1)
+  shape_led keys' new root' i k (Some (p, b)) l up t prunes = rooted keys' new root root' (shape_uprooted keys nodes mid root s p b c l up new i t.0 keys' k prunes) (sym t.1)

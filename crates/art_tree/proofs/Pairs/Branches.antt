@@ -4,7 +4,7 @@ use Rattle.std.proofs.lemmas.Bool.{false_from_ne_true}
 use Rattle.blart_keys.specs.Bytes.{begins}
 use Rattle.blart_keys.specs.Content.{under}
 use Rattle.blart_keys.specs.Outside.{outside}
-use Rattle.blart_keys.proofs.RankLemmas.{Member, filter_member, member_filter, filter_none}
+use Rattle.blart_keys.proofs.RankLemmas.{Member, filter_member, member_filter}
 use Rattle.art_tree.specs.Begins.{Bytes, Begins}
 use Rattle.art_tree.specs.Leaves.{Numbered, leaf_in, AreDistinct, bytes, keys_in}
 use Rattle.art_tree.specs.Seeks.{ends}
@@ -36,10 +36,6 @@ branch_keys keys nodes root s q b is j k e h = go b.child (covers_above keys nod
     go (Inner n) over under = Begins-trans q (s.front_of n) k under.front (over.only j k e h)
 
 module _ {K V : Type 0} (key_bytes : K → Bytes) where
-  -- where each key begins with the bytes, nothing is outside
-  pub none_outside : (ps : List (Numbered K V)) (q : Bytes) → AreDistinct ps → ((j : ℕ) (k : Bytes) → keys_in key_bytes ps j ≡ Some k → Begins q k) → outside (bytes key_bytes) ps q ≡ []
-  none_outside ps q d all = filter_none (λ x. not (begins q (bytes key_bytes x))) ps (λ y m. ap not (begins-from_Begins q (bytes key_bytes y) (all y.0 (bytes key_bytes y) (key_of_member key_bytes ps y d m))))
-
   module _ (old new : List (Numbered K V)) (q g : Bytes) (last : ℕ) (distinct : AreDistinct new) (is : ends (under (bytes key_bytes) new q) ≡ Some (last, last)) (rest : outside (bytes key_bytes) new q ≡ outside (bytes key_bytes) old q)
       (stood : (j : ℕ) (x : K × V) → leaf_in new j ≡ Some x → leaf_in old j ≡ Some x) (along : Begins g q) (all : (j : ℕ) (k : Bytes) → keys_in key_bytes old j ≡ Some k → Begins g k → Begins q k) where
     stood_key : (j : ℕ) (l : Bytes) → keys_in key_bytes new j ≡ Some l → keys_in key_bytes old j ≡ Some l

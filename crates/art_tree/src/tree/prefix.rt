@@ -1,5 +1,5 @@
 //! The pairs below some bytes leave the tree.
-ghost use Rattle.std.specs.Prelude.{◌≡◌, ℕ, length, Some, IsSome};
+ghost use Rattle.std.specs.Prelude.{◌≡◌, ℕ, length, Some};
 ghost use Rattle.blart_keys.specs.Content.{IsContent, under};
 ghost use Rattle.blart_keys.specs.Outside.{outside};
 ghost use Rattle.art_tree.specs.Calls.Pruning.{IsBranch};
@@ -20,7 +20,7 @@ use crate::visits::Visits;
 use blart_keys::AsBytes;
 
 impl<K: AsBytes + Drop, V: Drop, const PREFIX_LEN: usize> Tree<K, V, PREFIX_LEN> {
-    /// Removes every pair whose bytes begin with these, and answers how many there were. Takes no memory. The number of each other leaf stays. Its cost is that of a [`Tree::span`] and of one [`Tree::remove`], and beside that of what goes: each leaf and each inner node leaves by itself, with no way down. Where every pair goes, so does every spare record.
+    /// Removes every pair whose bytes begin with these, and answers how many there were. Takes no memory. The number of each other leaf stays. Its cost is that of a [`Tree::span`] and of one [`Tree::remove`], and beside that of what goes: each leaf and each inner node leaves by itself, with no way down.
     pub fn remove_prefix(&mut self, prefix: &[u8]) -> usize
         ensures rest { self.new.pairs ≡ outside (bytes K.bytes) self.old.pairs prefix.now }
         ensures count { result ≡ length (under (bytes K.bytes) self.old.pairs prefix.now) }
@@ -34,7 +34,6 @@ impl<K: AsBytes + Drop, V: Drop, const PREFIX_LEN: usize> Tree<K, V, PREFIX_LEN>
     fn remove_branch(&mut self, prefix: &[u8])
         ensures { self.new.pairs ≡ outside (bytes K.bytes) self.old.pairs prefix.now }
     {
-        self.leaves.law();
         let Some(root) = self.root else {
             return;
         };
@@ -43,43 +42,36 @@ impl<K: AsBytes + Drop, V: Drop, const PREFIX_LEN: usize> Tree<K, V, PREFIX_LEN>
         else {
             return;
         };
-        if branch.above.is_none() {
-            self.clear();
-            return;
-        }
-        prune(&mut self.leaves, &mut self.nodes, &root, &branch, prefix);
+        let root = prune(&mut self.leaves, &mut self.nodes, &root, &branch, prefix);
+        self.root = Some(root);
         self.leaves.law();
         self.remove(branch.last);
     }
 }
 
-// Leaves of a branch the last leaf alone: the edge above leads to it then.
+// Leaves of a branch the last leaf alone: the edge above leads to it then. Answers the root.
 fn prune<K: AsBytes + Drop, V: Drop, const P: usize>(
     leaves: &mut Leaves<K, V>,
     nodes: &mut Nodes<P>,
     root: &Child,
     branch: &Branch,
     prefix: &[u8],
-)
+) -> Child
     requires sound { IsSound K.bytes P leaves.old nodes.old (Some root.now) }
-    requires above { IsSome branch.now.above }
     requires branch { (s : Shape P (keys_in K.bytes leaves.old.pairs) (at nodes.old) (Some root.now))
         → IsBranch (keys_in K.bytes leaves.old.pairs) (at nodes.old) (Some root.now) s.front_of prefix.now branch.now }
     requires ends { ends (under (bytes K.bytes) leaves.old.pairs prefix.now)
         ≡ Some (branch.now.first, branch.now.last) }
-    ensures sound { IsSound K.bytes P leaves.new nodes.new (Some root.now) }
+    ensures sound { IsSound K.bytes P leaves.new nodes.new (Some result) }
     ensures ends { ends (under (bytes K.bytes) leaves.new.pairs prefix.now)
         ≡ Some (branch.now.last, branch.now.last) }
     ensures rest { outside (bytes K.bytes) leaves.new.pairs prefix.now
         ≡ outside (bytes K.bytes) leaves.old.pairs prefix.now }
 {
-    let _root = root;
-    let Some(edge) = branch.above else {
-        unreachable!()
-    };
-    uproot(nodes, &edge, &branch.child, &branch.last);
+    let root = uproot(nodes, root, &branch.above, &branch.child, &branch.last);
     remove_leaves(leaves, branch.first, branch.last, prefix);
     leaves.law();
+    root
 }
 
 // Takes the leaves from one up to another out of the rows: of those whose bytes begin with these the last is left.

@@ -10,24 +10,27 @@ ghost use Rattle.art_kinds.specs.declared.records.ids.Child.{Child as Way};
 
 use crate::records::ids::{Child, LeafId, NodeId};
 use crate::records::nodes::Nodes;
+use crate::tree::descent::EdgeAbove;
+use crate::tree::place::lead;
 use crate::visits::Visits;
 
-/// Frees the nodes that hang below an edge, which leads to this leaf then.
+/// Frees the nodes that hang below an edge, which leads to this leaf then. Answers the root.
 pub(crate) fn uproot<const P: usize>(
     nodes: &mut Nodes<P>,
-    edge: &(NodeId, u8),
+    root: &Child,
+    above: &EdgeAbove,
     child: &Child,
     leaf: &LeafId,
-)
-    requires { (keys : ℕ → Option Bytes) × (root : Option Way)
-        × Shape P keys (at nodes.old) root × LeadsTo (at nodes.old) root (Some edge.now) child.now }
-    ensures { (keys keys' : ℕ → Option Bytes) (root : Option Way) (s : Shape P keys (at nodes.old) root) (k : Bytes)
-        → LeadsTo (at nodes.old) root (Some edge.now) child.now
-        → Prunes keys keys' (edge_front s.front_of (Some edge.now)) leaf.now k
-        → Shape P keys' (at nodes.new) root }
+) -> Child
+    requires { (keys : ℕ → Option Bytes)
+        × Shape P keys (at nodes.old) (Some root.now) × LeadsTo (at nodes.old) (Some root.now) above.now child.now }
+    ensures { (keys keys' : ℕ → Option Bytes) (s : Shape P keys (at nodes.old) (Some root.now)) (k : Bytes)
+        → LeadsTo (at nodes.old) (Some root.now) above.now child.now
+        → Prunes keys keys' (edge_front s.front_of above.now) leaf.now k
+        → Shape P keys' (at nodes.new) (Some result) }
 {
     free_child(nodes, child);
-    nodes.redirect(edge.0, edge.1, Child::Leaf(*leaf));
+    lead(nodes, root, above, &Child::Leaf(*leaf))
 }
 
 // Frees the nodes that hang below an edge.

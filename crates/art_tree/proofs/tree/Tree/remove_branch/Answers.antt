@@ -1,13 +1,10 @@
-use Rattle.std.proofs.Common.{◌≡◌, ◌∙◌, ℕ, List, [], Option, Some, None, lit<, sym, ap, subst, refl}
+use Rattle.std.proofs.Common.{◌≡◌, ◌∙◌, List, [], Some, lit<, sym, ap, subst, refl}
 use Rattle.blart_keys.specs.Outside.{outside}
 use Rattle.blart_keys.proofs.Options.{some_of, none_of}
 use Rattle.art_kinds.specs.Nodes.{at}
-use Rattle.art_tree.specs.Begins.{Begins}
 use Rattle.art_tree.specs.Leaves.{keys_in, bytes}
-use Rattle.art_tree.specs.Invariant.EdgesAbove.{edge_front}
 use Rattle.art_tree.proofs.Invariant.SameShapes.{rooted}
 use Rattle.art_tree.proofs.Invariant.Soundness.{rootless}
-use Rattle.art_tree.proofs.Pairs.Branches.{branch_keys, none_outside}
 use Rattle.art_tree.proofs.Pairs.Outside.{first_has, none_below, outside_last}
 use Rattle.art_tree.proofs.tree.Tree.remove_branch.Goals as goal
 
@@ -25,33 +22,21 @@ returns-in_default-branch_below g c =
     let q = c.args.prefix.now in
     subst (λ (S : List _). S ≡ outside (bytes kb) S q) (ap (λ t. t.pairs) c.self.view_is) (sym (none_below kb c.self.inside.leaves.pairs q c.in_default-branch_below.ensures.found))
 
-pub returns-then-is_none : goal.returns-then-is_none
-returns-then-is_none g c =
-    let kb = g.K.AsBytes.bytes in
-    let i = c.self.inside in
-    let q = c.args.prefix.now in
-    let keys = keys_in kb i.leaves.pairs in
-    let s = rooted keys (at i.nodes) i.root (Some c.in-Some.root) c.self.invariant.shape c.in-Some.is in
-    let b = c.in-Some-branch_below.branch in
-    let over : b.above ≡ None = none_of b.above (λ t. let z : _ ≡ _ = sym c.if-is_none.ensures ∙ t in cc) in
-    let gone = none_outside kb i.leaves.pairs q c.law.ensures.distinct (λ j k e. branch_keys keys (at i.nodes) (Some c.in-Some.root) s q b (c.in-Some-branch_below.ensures.branch s) j k e (subst (λ (a : Option (ℕ × ℕ)). Begins (edge_front s.front_of a) k) (sym over) tt)) in
-    c.clear.ensures.pairs ∙ sym gone ∙ ap (λ t. outside (bytes kb) t.pairs q) c.self.view_is
-
-pub prune-requires : goal.prune-requires
-prune-requires g c =
+pub prune-root-requires : goal.prune-root-requires
+prune-root-requires g c =
     let kb = g.K.AsBytes.bytes in
     let i = c.self.inside in
     let found = c.in-Some-branch_below.ensures in
-    (lit< tt, (record { content = c.self.invariant.content; shape = rooted (keys_in kb i.leaves.pairs) (at i.nodes) i.root (Some c.in-Some.root) c.self.invariant.shape c.in-Some.is }, (c.if-is_none.ensures, (found.branch, sym found.found))))
+    (lit< tt, (record { content = c.self.invariant.content; shape = rooted (keys_in kb i.leaves.pairs) (at i.nodes) i.root (Some c.in-Some.root) c.self.invariant.shape c.in-Some.is }, (found.branch, sym found.found)))
 
 pub remove-requires : goal.remove-requires
 remove-requires g c =
     let last = c.in-Some-branch_below.branch.last in
-    (lit< tt, first_has g.K.AsBytes.bytes c.prune.new.leaves.pairs c.args.prefix.now c.law-2.ensures.distinct last last c.prune.ensures.ends)
+    (lit< tt, first_has g.K.AsBytes.bytes c.prune-root.new.leaves.pairs c.args.prefix.now c.law.ensures.distinct last last c.prune-root.ensures.ends)
 
 pub returns : goal.returns
 returns g c =
     let kb = g.K.AsBytes.bytes in
     let q = c.args.prefix.now in
     let last = c.in-Some-branch_below.branch.last in
-    c.remove.ensures.rest ∙ outside_last kb c.prune.new.leaves.pairs q c.law-2.ensures.distinct last last c.prune.ensures.ends refl ∙ c.prune.ensures.rest ∙ ap (λ t. outside (bytes kb) t.pairs q) c.self.view_is
+    c.remove.ensures.rest ∙ outside_last kb c.prune-root.new.leaves.pairs q c.law.ensures.distinct last last c.prune-root.ensures.ends refl ∙ c.prune-root.ensures.rest ∙ ap (λ t. outside (bytes kb) t.pairs q) c.self.view_is
