@@ -38,7 +38,7 @@ LeadsIn nodes m b x = (y : Node) × (nodes m ≡ Some y) × (child_at y.edges b 
 abbrev pub IsNotLast : List Edge → ℕ → Type 0
 IsNotLast edges b = (d : ℕ) × (b < d) × IsSome (child_at edges d)
 
--- the nodes that are to go hang below one of them, each on one edge; all others stand
+-- the nodes that are to go hang below one of them, each on one edge, and all others stand; below a fresh one, and at each edge but the last of any, all are fresh and deeper
 pub record Loose (goes : ℕ → Bool) (before nodes : ℕ → Option Node) (head : ℕ) : Type 0 where
   pub fresh : ℕ → Bool
   pub rank : ℕ → ℕ
