@@ -1,3 +1,4 @@
+pub mod Freeing
 pub mod Joining
 pub mod PlacedShapes
 pub mod Unlinking

@@ -6,7 +6,10 @@ pub mod Losing
 pub mod Moving
 pub mod OneEdge
 pub mod Prefixes
+pub mod Pruning
+pub mod Rotating
 pub mod SameShapes
 pub mod SmallShapes
 pub mod Soundness
 pub mod Splitting
+pub mod Uprooting

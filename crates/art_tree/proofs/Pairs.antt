@@ -1,5 +1,6 @@
 pub mod Answers
 pub mod Bounds
+pub mod Branches
 pub mod Changes
 pub mod Filtering
 pub mod KeyChanges

@@ -1,6 +1,7 @@
 pub mod Descents
 pub mod Partings
 pub mod Placing
+pub mod Pruning
 pub mod Removing
 pub mod Seeking
 pub mod Spots

@@ -21,6 +21,7 @@ mod remove;
 mod search;
 mod seek;
 pub(crate) mod stop;
+mod uproot;
 
 use crate::lists::begins;
 use crate::records::ids::{Child, LeafId};

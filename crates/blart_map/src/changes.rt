@@ -53,7 +53,7 @@ impl<K: AsBytes + Drop, V: Drop, const PREFIX_LEN: usize> TreeMap<K, V, PREFIX_L
         }
     }
 
-    /// Removes the pairs whose keys' bytes begin with these, and answers how many there were; all of them where there are no bytes. Takes no memory; its cost is that of a removal for each of these pairs.
+    /// Removes the pairs whose keys' bytes begin with these, and answers how many there were; all of them where there are no bytes. Takes no memory. Its cost is that of a few ways down, however many pairs go, and beside that of what goes.
     ///
     /// ```
     /// map.try_insert("car", 1)?;

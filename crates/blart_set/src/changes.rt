@@ -39,7 +39,7 @@ impl<K: AsBytes + Drop, const PREFIX_LEN: usize> TreeSet<K, PREFIX_LEN> {
         element_of(self.map.remove_entry(query))
     }
 
-    /// Removes the elements whose bytes begin with these, and answers how many there were; all of them where there are no bytes. Takes no memory; its cost is that of a removal for each of these elements.
+    /// Removes the elements whose bytes begin with these, and answers how many there were; all of them where there are no bytes. Takes no memory. Its cost is that of a few ways down, however many elements go, and beside that of what goes.
     ///
     /// ```
     /// set.try_insert("car")?;

@@ -1,5 +1,6 @@
 -- The pairs that begin with some bytes go, from the first to the last.
-use Rattle.std.proofs.Common.{◌≡◌, ◌≢◌, ℕ, List, [], ◌∷◌, ◌++◌, not, true, Some, None, refl, sym, ap, ◌∙◌, subst, cond, option_map, append_assoc, eq-eqb}
+use Rattle.std.proofs.Common.{◌≡◌, ◌≢◌, ℕ, List, [], ◌∷◌, ◌++◌, not, true, Some, None, inl, inr, refl, sym, ap, ◌∙◌, subst, cond, option_map, append_assoc, eq-eqb}
+use Rattle.std.proofs.lemmas.Bool.Decides.{eqb_tells}
 use Rattle.blart_keys.specs.Bytes.{begins}
 use Rattle.blart_keys.specs.Content.{IsContent, under}
 use Rattle.blart_keys.specs.Outside.{outside}
@@ -9,7 +10,7 @@ use Rattle.blart_keys.proofs.OutsideLemmas.{outside_all}
 use Rattle.blart_keys.proofs.RankLemmas.{filter_member}
 use Rattle.art_tree.specs.Leaves.{Numbered, leaf_in, Has, AreDistinct, last_number, number_after, without_number, bytes}
 use Rattle.art_tree.specs.Seeks.{ends}
-use Rattle.art_rows.proofs.CallerLemmas.{Has-first, distinct_parts, number_after-split}
+use Rattle.art_rows.proofs.CallerLemmas.{Has-first, distinct_parts, number_after-split, others-without_number, leaf_in-without_now}
 use Rattle.art_tree.proofs.Pairs.Bounds.{are_ends, ends_are}
 use Rattle.art_tree.proofs.Pairs.Filtering.{AreDistinct-filter, filter-without, dropped_without, two_ends, only_one}
 use Rattle.art_tree.proofs.Pairs.Numbers.{Member-from_leaf_in, leaf_in-member}
@@ -33,7 +34,7 @@ module _ {K V : Type 0} where
 
     module _ (distinct : AreDistinct ps) (first last : ℕ) (is : ends (under (bytes key_bytes) ps q) ≡ Some (first, last)) where
       -- the first of them
-      first_there : (x : K × V) × (leaf_in ps first ≡ Some x) × (begins q (key_bytes x.0) ≡ true)
+      pub first_there : (x : K × V) × (leaf_in ps first ≡ Some x) × (begins q (key_bytes x.0) ≡ true)
       first_there =
           let below : List (Numbered K V) = under (bytes key_bytes) ps q in
           let has = some_of (leaf_in below first) (Has-first below first (are_ends below first last is).0) in
@@ -78,3 +79,15 @@ module _ {K V : Type 0} where
           let none : under (bytes key_bytes) (without_number ps first) q ≡ [] =
           filter-without (λ p. begins q (bytes key_bytes p)) ps first distinct ∙ ap (λ l. without_number l first) o.1 ∙ ap (λ b. cond b [] ((first, o.0) ∷ [])) (eq-eqb first first refl) in
           sym (outside_all (bytes key_bytes) (without_number ps first) q none) ∙ outside_without
+
+module _ {K V : Type 0} where
+  -- what stands once a pair is gone stood before
+  pub stood_without : (ps : List (Numbered K V)) (i : ℕ) → AreDistinct ps → (j : ℕ) (x : K × V) → leaf_in (without_number ps i) j ≡ Some x → leaf_in ps j ≡ Some x
+  stood_without ps i d j x e = elim (eqb_tells j i) [
+    | inl t ↦
+        let f : leaf_in (without_number ps i) i ≡ Some x = ap (leaf_in (without_number ps i)) (sym t.1) ∙ e in
+        let n : leaf_in (without_number ps i) i ≡ None = leaf_in-without_now ps i d in
+        let z : None ≡ Some x = sym n ∙ f in
+        absurd cc
+    | inr t ↦ sym (others-without_number ps i d j t.1) ∙ e
+  ]

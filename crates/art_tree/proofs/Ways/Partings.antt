@@ -5,15 +5,17 @@ use Rattle.std.proofs.lemmas.Bool.Decides.{eqb_tells}
 use Rattle.std.proofs.lemmas.List.{length-take-le}
 use Rattle.blart_keys.specs.Bytes.{related, common}
 use Rattle.blart_keys.proofs.ContentLemmas.{related-same}
-use Rattle.art_tree.specs.Invariant.EdgesAbove.{edge_front}
+use Rattle.art_tree.specs.Invariant.EdgesAbove.{LeadsTo, edge_front}
 use Rattle.art_tree.specs.Begins.{Bytes, Begins}
 use Rattle.art_tree.specs.Calls.Partings.{LeavesAt, KeyEnds, QueryEnds}
 use Rattle.art_tree.specs.Calls.Descents.{IsWayOf}
+use Rattle.art_tree.specs.Calls.Pruning.{IsBranch}
 use Rattle.art_tree.specs.Places.{LeavesMate}
 use Rattle.art_tree.specs.Leaves.{Numbered, keys_in}
 use Rattle.art_kinds.specs.Nodes.{Node}
 use Rattle.art_tree.specs.Invariant.Shape.{Shape, Covers}
-use Rattle.art_tree.specs.Calls.Spots.{SpotFits, PastLength, EdgeFits, child_under}
+use Rattle.art_tree.specs.Calls.Spots.{SpotFits, PastLength, EdgeFits, child_under, above_of}
+use Rattle.art_tree.specs.declared.tree.descent.Branch.{Branch}
 use Rattle.art_tree.specs.declared.tree.descent.Spot.{Spot}
 use Rattle.art_tree.specs.declared.tree.descent.Spot.TheVariants as spot
 use Rattle.art_kinds.specs.declared.records.ids.Child.{Child}
@@ -188,6 +190,26 @@ module _ {P : ℕ} {K V : Type 0} (key_bytes : K → List ℕ) (pairs : List (Nu
   -- so it does where the mate goes along with q to its end
   pub covers_reached : length q ≤ d → (sp : Spot) → SpotFits nodes (Some root) s.front_of mate d sp → (c : Child) → c ≡ child_under sp → Covers keys nodes s.front_of q c
   covers_reached l sp fits c e = let m : d ≤ length q = query_within mate q d d_is in covers_query (omega arith) sp fits c e
+
+  -- the edge above the spot
+  spot_edge : (sp : Spot) → SpotFits nodes (Some root) s.front_of mate d sp → EdgeFits nodes (Some root) s.front_of mate d (above_of sp) (child_under sp)
+  spot_edge (spot.Node above n) f = f.0
+  spot_edge (spot.Edge above c) f = f.0
+
+  -- and with it that is all that begins with q
+  pub branch_reached : length q ≤ d → (sp : Spot) → SpotFits nodes (Some root) s.front_of mate d sp → (b : Branch) → b.above ≡ above_of sp → b.child ≡ child_under sp → IsBranch keys nodes (Some root) s.front_of q b
+  branch_reached l sp fits b over under =
+      let e = spot_edge sp fits in
+      let m : d ≤ length q = query_within mate q d d_is in
+      let a : d ≡ length q = omega arith in
+      let q_is : take d mate ≡ q = ap (λ (n : ℕ). take n mate) a ∙ take_front q mate (mate_begun mate q d d_is a) in
+      let leads : LeadsTo nodes (Some root) (above_of sp) b.child = subst (λ (z : Child). LeadsTo nodes (Some root) (above_of sp) z) (sym under) e.leads in
+      let along : Begins (edge_front s.front_of (above_of sp)) q = subst (λ (z : Bytes). Begins (edge_front s.front_of (above_of sp)) z) q_is e.along in
+      record {
+        leads = subst (λ (z : Option (ℕ × ℕ)). LeadsTo nodes (Some root) z b.child) (sym over) leads;
+        along = subst (λ (z : Option (ℕ × ℕ)). Begins (edge_front s.front_of z) q) (sym over) along;
+        covers = covers_reached l sp fits b.child under;
+      }
 
   -- q ends
   pub parts_longer : d ≡ length q → d ≢ length mate → (sp : Spot) → SpotFits nodes (Some root) s.front_of mate d sp → (c : Child) → c ≡ child_under sp → QueryEnds P (keys_in key_bytes pairs) nodes c q

@@ -29,6 +29,11 @@ abbrev pub child_under : Spot → Child
 child_under (spot.Node above n) = Inner n
 child_under (spot.Edge above c) = c
 
+-- the edge above it
+abbrev pub above_of : Spot → Option (ℕ × ℕ)
+above_of (spot.Node above n) = above
+above_of (spot.Edge above c) = above
+
 -- the edge above leads to the node of an edge, if that is no way into the root
 abbrev pub LeadsToNodeOf : (ℕ → Option Node) → Option Child → Option (ℕ × ℕ) → Option (ℕ × ℕ) → Type 0
 LeadsToNodeOf nodes root above None = Unit {0}

@@ -23,7 +23,7 @@ pub(crate) enum Spot {
 
 impl Spot {
     ghost use Rattle.std.specs.Prelude.{◌≡◌};
-    ghost use Rattle.art_tree.specs.Calls.Spots.{child_under};
+    ghost use Rattle.art_tree.specs.Calls.Spots.{child_under, above_of};
 
     /// What stands at the spot or below it.
     pub(crate) fn child(&self) -> Child
@@ -34,6 +34,16 @@ impl Spot {
             Spot::Edge(_, child) => *child,
         }
     }
+
+    /// The edge above it.
+    pub(crate) fn above(&self) -> EdgeAbove
+        ensures { result ≡ above_of self.now }
+    {
+        match self {
+            Spot::Node(above, _) => *above,
+            Spot::Edge(above, _) => *above,
+        }
+    }
 }
 
 /// A leaf, the edge to it, and the edge above the node of that edge.
@@ -42,6 +52,15 @@ pub(crate) struct LeafSpot {
     pub(crate) id: LeafId,
     pub(crate) edge: EdgeAbove,
     pub(crate) above: EdgeAbove,
+}
+
+/// What stands for the keys that begin with some bytes: the edge above, what that leads to, and the leaves at both ends.
+#[derive(Clone, Copy)]
+pub(crate) struct Branch {
+    pub(crate) above: EdgeAbove,
+    pub(crate) child: Child,
+    pub(crate) first: LeafId,
+    pub(crate) last: LeafId,
 }
 
 /// A leaf whose key goes along with the query as far as any stored key does.

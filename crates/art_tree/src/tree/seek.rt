@@ -1,18 +1,21 @@
 //! The ends of the pairs within a bound, and of those below some bytes.
-ghost use Rattle.std.specs.Prelude.{◌≡◌, ◌+◌, ◌*◌, ◌≤◌, [], length, IfSome};
+ghost use Rattle.std.specs.Prelude.{◌≡◌, ◌+◌, ◌*◌, ◌≤◌, [], length, option_map, Some, IfSome};
 ghost use Rattle.blart_keys.specs.Bounds.{bound_bytes};
 ghost use Rattle.blart_keys.specs.Content.{under};
 ghost use Rattle.art_tree.specs.Leaves.{Has, keys_in, bytes};
 ghost use Rattle.art_tree.specs.Longest.{longest};
 ghost use Rattle.art_tree.specs.Seeks.{number_within, ends, bound_len};
 ghost use Rattle.art_tree.specs.Calls.Seeking.{IsPlaceOf, beside};
+ghost use Rattle.art_tree.specs.Calls.Pruning.{IsBranch};
+ghost use Rattle.art_kinds.specs.Nodes.{at};
+ghost use Rattle.art_tree.specs.Invariant.Shape.{Shape};
 ghost use Rattle.art_tree.specs.Invariant.Sound.{IsSound};
 
 use crate::records::ids::{Child, LeafId};
 use crate::records::leaves::Leaves;
 use crate::records::nodes::Nodes;
 use crate::tree::Tree;
-use crate::tree::descent::{end_under, locate};
+use crate::tree::descent::{Branch, end_under, locate};
 use crate::tree::parting::{Parting, leaf_before, leaf_beside, nearest_leaf, parting_of};
 use crate::visits::Visits;
 use blart_keys::AsBytes;
@@ -58,7 +61,10 @@ impl<K: AsBytes + Drop, V: Drop, const PREFIX_LEN: usize> Tree<K, V, PREFIX_LEN>
     {
         match self.root {
             None => None,
-            Some(root) => span_below(&self.leaves, &self.nodes, &root, front, visits),
+            Some(root) => {
+                let branch = branch_below(&self.leaves, &self.nodes, &root, front, visits)?;
+                Some((branch.first, branch.last))
+            }
         }
     }
 
@@ -120,16 +126,19 @@ fn place_below<K: AsBytes, V, const P: usize>(
     }
 }
 
-// The first and the last leaf whose bytes begin with these, in a tree with some pairs.
-fn span_below<K: AsBytes, V, const P: usize>(
+/// What stands for the keys that begin with some bytes, in a tree with some pairs. None where no key does.
+pub(crate) fn branch_below<K: AsBytes, V, const P: usize>(
     leaves: &Leaves<K, V>,
     nodes: &Nodes<P>,
     root: &Child,
     front: &[u8],
     visits: &mut Visits,
-) -> Option<(LeafId, LeafId)>
+) -> Option<Branch>
     requires { IsSound K.bytes P leaves.now nodes.now (Some root.now) }
-    ensures found { result ≡ ends (under (bytes K.bytes) leaves.now.pairs front.now) }
+    ensures found { option_map (λ b. (b.first, b.last)) result
+        ≡ ends (under (bytes K.bytes) leaves.now.pairs front.now) }
+    ensures branch { (s : Shape P (keys_in K.bytes leaves.now.pairs) (at nodes.now) (Some root.now))
+        → IfSome result (IsBranch (keys_in K.bytes leaves.now.pairs) (at nodes.now) (Some root.now) s.front_of front.now) }
     ensures counted { visits.new.count
         ≤ visits.old.count + (length front.now + 3) * (longest (bytes K.bytes) leaves.now.pairs + 1) }
     ensures grows { visits.old.count ≤ visits.new.count }
@@ -139,8 +148,14 @@ fn span_below<K: AsBytes, V, const P: usize>(
     if depth < front.len() {
         return None;
     }
-    let child = locate(nodes, root, key, depth, visits).child();
+    let spot = locate(nodes, root, key, depth, visits);
+    let child = spot.child();
     let first = end_under(nodes, &child, true, visits);
     let last = end_under(nodes, &child, false, visits);
-    Some((first, last))
+    Some(Branch {
+        above: spot.above(),
+        child,
+        first,
+        last,
+    })
 }
