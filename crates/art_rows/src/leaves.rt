@@ -375,12 +375,11 @@ impl<K, V> Leaves<K, V> {
         ensures ahead { IfSome result.0 (λ n. StandsAhead self.now.pairs self.now.rows n result.1) }
     {
         let _ = &self.rows;
-        let Some((row, ids)) = ahead.row else {
+        let Some((next, run)) = ahead.ids.split_first() else {
             return self.next_run(id);
         };
-        let (next, run) = ids.split_first().unwrap();
-        let row = self.row_told(row);
-        (Some(*next), Ahead { run, row })
+        let (row, ids) = self.row_told(ahead.row);
+        (Some(*next), Ahead { run, row, ids })
     }
 
     // The leaf behind this one, and what stands behind that.
@@ -393,22 +392,22 @@ impl<K, V> Leaves<K, V> {
         let Some(position) = self.forward(self.position_of(id)) else {
             return (None, Ahead::unknown());
         };
-        let ids = rows.read(position.row);
-        let run = ids.behind(position.place);
-        let row = self.row_told(position.row);
-        (Some(ids.at(position.place)), Ahead { run, row })
+        let own = rows.read(position.row);
+        let run = own.behind(position.place);
+        let (row, ids) = self.row_told(position.row);
+        (Some(own.at(position.place)), Ahead { run, row, ids })
     }
 
-    // The row behind another, and its numbers.
-    fn row_told(&self, row: usize) -> Option<(usize, &[LeafId])>
+    // The row behind another, and its numbers: none where there is no such row.
+    fn row_told(&self, row: usize) -> (usize, &[LeafId])
         requires { Has self.now.rows row }
-        ensures behind { IfSome result (λ r. number_after self.now.rows row ≡ Some r.0) }
-        ensures ids { IfSome result (λ r. leaf_in self.now.rows r.0 ≡ Some r.1.now) }
+        ensures behind { result.1.now ≢ [] → number_after self.now.rows row ≡ Some result.0 }
+        ensures ids { result.1.now ≢ [] → leaf_in self.now.rows result.0 ≡ Some result.1.now }
     {
         let rows = &self.rows;
         match rows.next_of(row) {
-            Some(next) => Some((next, rows.read(next).ids())),
-            None => None,
+            Some(next) => (next, rows.read(next).ids()),
+            None => (row, &[]),
         }
     }
 
@@ -562,8 +561,8 @@ impl<K: Drop, V: Drop> Leaves<K, V> {
         self.rows.next_of(row)
     }
 
-    /// Puts a pair behind the leaf `prev`, or in front of all. It asks for no memory.
-    pub fn insert(&mut self, prev: Option<LeafId>, key: K, value: V) -> LeafId
+    /// Puts a pair behind the leaf `prev`, or in front of all. `seen` is where `prev` may stand: where it does, no row is searched. It asks for no memory.
+    pub fn insert(&mut self, prev: Option<LeafId>, seen: Position, key: K, value: V) -> LeafId
         requires room { 0 < room self.old }
         requires prev { IfSome prev (Has self.old.pairs) }
         ensures fresh { leaf_in self.old.pairs result ≡ None }
@@ -573,7 +572,7 @@ impl<K: Drop, V: Drop> Leaves<K, V> {
         let _ = &self.rows;
         // The prover takes an `Option<LeafId>` that is passed on as moved, so this is a copy.
         let behind = prev;
-        let position = match self.spot(behind) {
+        let position = match self.spot(behind, seen) {
             None => return self.begin(prev, None, key, value),
             Some(position) => position,
         };
@@ -591,8 +590,8 @@ impl<K: Drop, V: Drop> Leaves<K, V> {
         self.put(prev, Position { row: fresh, place }, key, value)
     }
 
-    // Where a pair behind a leaf, or in front of all, has its place; nowhere while there is no row.
-    fn spot(&self, prev: Option<LeafId>) -> Option<Position>
+    // Where a pair behind a leaf, which may stand where it was seen, or in front of all, has its place; nowhere while there is no row.
+    fn spot(&self, prev: Option<LeafId>, seen: Position) -> Option<Position>
         requires { IfSome prev (Has self.now.pairs) }
         ensures some { IfSome result (λ p. IsSpot self.now.rows p (spot_index prev self.now.pairs)) }
         ensures none { IfNone result (self.now.rows ≡ []) }
@@ -601,7 +600,7 @@ impl<K: Drop, V: Drop> Leaves<K, V> {
         match prev {
             None => self.first_position(),
             Some(id) => {
-                let position = self.position_of(id);
+                let position = self.position_near(id, seen);
                 let _len = self.rows.read(position.row).len();
                 Some(Position {
                     row: position.row,

@@ -11,7 +11,7 @@ ghost use Rattle.art_tree.specs.Invariant.Sound.{IsSound};
 
 use crate::lists::common_len;
 use crate::records::ids::{Child, Edge, LeafId, NodeId};
-use crate::records::leaves::Leaves;
+use crate::records::leaves::{Leaves, Position};
 use crate::records::nodes::Nodes;
 use crate::tree::descent::{Spot, end_under, locate, mate_of};
 use crate::visits::Visits;
@@ -102,14 +102,17 @@ pub(crate) enum Beside {
     InFront(LeafId),
 }
 
-/// The leaf before a place.
-pub(crate) fn leaf_before<K: AsBytes, V>(leaves: &Leaves<K, V>, beside: &Beside) -> Option<LeafId>
+/// The leaf before a place, and where that may stand.
+pub(crate) fn leaf_before<K: AsBytes, V>(
+    leaves: &Leaves<K, V>,
+    beside: &Beside,
+) -> (Option<LeafId>, Position)
     requires { Has leaves.now.pairs (neighbour beside.now) }
-    ensures { result ≡ number_in_front leaves.now.pairs beside.now }
+    ensures { result.0 ≡ number_in_front leaves.now.pairs beside.now }
 {
     match beside {
-        Beside::Behind(id) => Some(*id),
-        Beside::InFront(id) => leaves.prev_of(*id),
+        Beside::Behind(id) => (Some(*id), Position::unknown()),
+        Beside::InFront(id) => leaves.prev_from(*id, Position::unknown()),
     }
 }
 

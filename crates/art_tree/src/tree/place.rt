@@ -14,7 +14,7 @@ ghost use Rattle.art_tree.specs.Invariant.Sound.{IsSound};
 ghost use Rattle.art_kinds.specs.declared.records.ids.Child.{Child as Way};
 
 use crate::records::ids::{Child, Edge, LeafId, NodeId};
-use crate::records::leaves::Leaves;
+use crate::records::leaves::{Leaves, Position};
 use crate::records::nodes::Nodes;
 use crate::tree::descent::{EdgeAbove, Spot, locate};
 use crate::tree::parting::leaf_before;
@@ -74,7 +74,7 @@ fn place_first<K: AsBytes + Drop, V: Drop, const P: usize>(
     ensures whole { IsSound K.bytes P leaves.new nodes.now (Some result.1) }
     ensures room { leaves_room leaves.old ≤ leaves_room leaves.new + 1 }
 {
-    let id = leaves.insert(None, key, value);
+    let id = leaves.insert(None, Position::unknown(), key, value);
     (id, Child::Leaf(id))
 }
 
@@ -100,8 +100,8 @@ fn place_beside<K: AsBytes + Drop, V: Drop, const P: usize>(
     let mut visits = Visits::new();
     let (mate, _) = leaves.read(place.mate, &mut visits);
     let spot = spot_for(nodes, root, place, mate.as_bytes());
-    let prev = leaf_before(leaves, &place.beside);
-    let id = leaves.insert(prev, key, value);
+    let (prev, seen) = leaf_before(leaves, &place.beside);
+    let id = leaves.insert(prev, seen, key, value);
     let (own, _) = leaves.read(id, &mut visits);
     let (mate, _) = leaves.read(place.mate, &mut visits);
     let leaf = NewLeaf {

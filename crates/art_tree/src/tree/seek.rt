@@ -121,7 +121,7 @@ fn place_below<K: AsBytes, V, const P: usize>(
         }
         Parting::Apart(departure) => {
             let beside = leaf_beside(nodes, &departure, query, visits);
-            Err(leaf_before(leaves, &beside))
+            Err(leaf_before(leaves, &beside).0)
         }
     }
 }

@@ -10,13 +10,13 @@ pub read-requires : goal.read-requires
 read-requires g c =
     let i = c.self.inside in
     let f = seen i.records i.rows _ c.self.view_is c.self.invariant in
-    has_row_at (slot_at i.records) i.rows.pairs (used_count i.records) _ f (index_of c.args.self.now.pairs c.in-Some.id) c.position_of-position.result (ap (λ t. position_at t.rows (index_of c.args.self.now.pairs c.in-Some.id)) c.self.view_is ∙ c.position_of-position.ensures)
+    has_row_at (slot_at i.records) i.rows.pairs (used_count i.records) _ f (index_of c.args.self.now.pairs c.in-Some.id) c.position_near-position.result (ap (λ t. position_at t.rows (index_of c.args.self.now.pairs c.in-Some.id)) c.self.view_is ∙ c.position_near-position.ensures)
 
 pub overflow_add-result : goal.overflow_add-result
 overflow_add-result g c =
     let i = c.self.inside in
     let f = seen i.records i.rows _ c.self.view_is c.self.invariant in
-    let w : c.position_of-position.result.place < length c.read.result.now = place_at (slot_at i.records) i.rows.pairs (used_count i.records) _ f (index_of c.args.self.now.pairs c.in-Some.id) c.position_of-position.result (ap (λ t. position_at t.rows (index_of c.args.self.now.pairs c.in-Some.id)) c.self.view_is ∙ c.position_of-position.ensures) _ c.read.ensures in
+    let w : c.position_near-position.result.place < length c.read.result.now = place_at (slot_at i.records) i.rows.pairs (used_count i.records) _ f (index_of c.args.self.now.pairs c.in-Some.id) c.position_near-position.result (ap (λ t. position_at t.rows (index_of c.args.self.now.pairs c.in-Some.id)) c.self.view_is ∙ c.position_near-position.ensures) _ c.read.ensures in
     search rules
 
 pub returns-in-None-clause-some : goal.returns-in-None-clause-some
@@ -35,4 +35,4 @@ pub returns-in-Some-clause-some : goal.returns-in-Some-clause-some
 returns-in-Some-clause-some g c =
     let i = c.self.inside in
     let f = seen i.records i.rows _ c.self.view_is c.self.invariant in
-    rw c.in-Some.is (spot_behind c.args.self.now.rows _ c.position_of-position.result c.position_of-position.ensures)
+    rw c.in-Some.is (spot_behind c.args.self.now.rows _ c.position_near-position.result c.position_near-position.ensures)

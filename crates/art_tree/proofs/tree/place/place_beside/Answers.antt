@@ -15,14 +15,14 @@ insert-id-requires-clause-prev g c =
     let kb = g.K.AsBytes.bytes in
     let l = c.args.leaves.now in
     let q = kb c.args.key in
-    let before = free_before kb l c.args.nodes.now (Some c.args.root.now) c.args.place.now q c.requires.whole c.law.ensures.distinct c.requires.free c.leaf_before-prev.result c.leaf_before-prev.ensures in
-    has_behind kb l.pairs q c.leaf_before-prev.result before
+    let before = free_before kb l c.args.nodes.now (Some c.args.root.now) c.args.place.now q c.requires.whole c.law.ensures.distinct c.requires.free c.leaf_before-prev.result.0 c.leaf_before-prev.ensures in
+    has_behind kb l.pairs q c.leaf_before-prev.result.0 before
 
 pub read-requires-2 : goal.read-requires-2
 read-requires-2 g c =
     let i = c.insert-id in
     let x : g.row.K.Denot × g.row.V.Denot = (c.args.key, c.args.value) in
-    let p = placed_free g.K.AsBytes.bytes c.args.leaves.now c.args.nodes.now (Some c.args.root.now) c.args.place.now i.new.self.pairs i.result x c.requires.whole c.law.ensures.distinct c.requires.free c.leaf_before-prev.result c.leaf_before-prev.ensures i.ensures.fresh i.ensures.placed in
+    let p = placed_free g.K.AsBytes.bytes c.args.leaves.now c.args.nodes.now (Some c.args.root.now) c.args.place.now i.new.self.pairs i.result x c.requires.whole c.law.ensures.distinct c.requires.free c.leaf_before-prev.result.0 c.leaf_before-prev.ensures i.ensures.fresh i.ensures.placed in
     is_some (leaf_in i.new.self.pairs i.result) x p.now
 
 pub read-requires-3 : goal.read-requires-3
@@ -30,7 +30,7 @@ read-requires-3 g c =
     let i = c.insert-id in
     let x : g.row.K.Denot × g.row.V.Denot = (c.args.key, c.args.value) in
     let y : g.row.K.Denot × g.row.V.Denot = (c.read.result.0.now, c.read.result.1.now) in
-    let p = placed_free g.K.AsBytes.bytes c.args.leaves.now c.args.nodes.now (Some c.args.root.now) c.args.place.now i.new.self.pairs i.result x c.requires.whole c.law.ensures.distinct c.requires.free c.leaf_before-prev.result c.leaf_before-prev.ensures i.ensures.fresh i.ensures.placed in
+    let p = placed_free g.K.AsBytes.bytes c.args.leaves.now c.args.nodes.now (Some c.args.root.now) c.args.place.now i.new.self.pairs i.result x c.requires.whole c.law.ensures.distinct c.requires.free c.leaf_before-prev.result.0 c.leaf_before-prev.ensures i.ensures.fresh i.ensures.placed in
     is_some (leaf_in i.new.self.pairs c.args.place.now.mate) y (kept_pair g.K.AsBytes.bytes c.args.leaves.now.pairs i.new.self.pairs i.result x p c.args.place.now.mate y c.read.ensures.value)
 
 pub add_leaf-top-requires : goal.add_leaf-top-requires
@@ -38,20 +38,20 @@ add_leaf-top-requires g c =
     let i = c.insert-id in
     let x : g.row.K.Denot × g.row.V.Denot = (c.args.key, c.args.value) in
     let s = c.requires.whole.shape in
-    let p = placed_free g.K.AsBytes.bytes c.args.leaves.now c.args.nodes.now (Some c.args.root.now) c.args.place.now i.new.self.pairs i.result x c.requires.whole c.law.ensures.distinct c.requires.free c.leaf_before-prev.result c.leaf_before-prev.ensures i.ensures.fresh i.ensures.placed in
+    let p = placed_free g.K.AsBytes.bytes c.args.leaves.now c.args.nodes.now (Some c.args.root.now) c.args.place.now i.new.self.pairs i.result x c.requires.whole c.law.ensures.distinct c.requires.free c.leaf_before-prev.result.0 c.leaf_before-prev.ensures i.ensures.fresh i.ensures.placed in
     (lit< tt, (free_spot g.K.AsBytes.bytes c.args.leaves.now.pairs i.new.self.pairs i.result x p (at c.args.nodes.now) c.args.root.now s c.args.place.now c.requires.free _ _ _ c.read.ensures.value c.read-3.ensures.value c.read-2.ensures.value _ _ _ c.as_bytes-2.ensures c.as_bytes.ensures c.as_bytes-3.ensures c.spot_for-spot.result (c.spot_for-spot.ensures _ s), c.requires.nodes_room))
 
 pub returns-clause-placed : goal.returns-clause-placed
 returns-clause-placed g c =
     let i = c.insert-id in
-    placed_free g.K.AsBytes.bytes c.args.leaves.now c.args.nodes.now (Some c.args.root.now) c.args.place.now i.new.self.pairs i.result (c.args.key, c.args.value) c.requires.whole c.law.ensures.distinct c.requires.free c.leaf_before-prev.result c.leaf_before-prev.ensures i.ensures.fresh i.ensures.placed
+    placed_free g.K.AsBytes.bytes c.args.leaves.now c.args.nodes.now (Some c.args.root.now) c.args.place.now i.new.self.pairs i.result (c.args.key, c.args.value) c.requires.whole c.law.ensures.distinct c.requires.free c.leaf_before-prev.result.0 c.leaf_before-prev.ensures i.ensures.fresh i.ensures.placed
 
 pub returns-clause-whole : goal.returns-clause-whole
 returns-clause-whole g c =
     let i = c.insert-id in
     let x : g.row.K.Denot × g.row.V.Denot = (c.args.key, c.args.value) in
     let s = c.requires.whole.shape in
-    let p = placed_free g.K.AsBytes.bytes c.args.leaves.now c.args.nodes.now (Some c.args.root.now) c.args.place.now i.new.self.pairs i.result x c.requires.whole c.law.ensures.distinct c.requires.free c.leaf_before-prev.result c.leaf_before-prev.ensures i.ensures.fresh i.ensures.placed in
+    let p = placed_free g.K.AsBytes.bytes c.args.leaves.now c.args.nodes.now (Some c.args.root.now) c.args.place.now i.new.self.pairs i.result x c.requires.whole c.law.ensures.distinct c.requires.free c.leaf_before-prev.result.0 c.leaf_before-prev.ensures i.ensures.fresh i.ensures.placed in
     record {
       content = p.put.content;
       shape = free_gains g.K.AsBytes.bytes c.args.leaves.now.pairs i.new.self.pairs i.result x p (at c.args.nodes.now) c.args.root.now s c.args.place.now c.requires.free _ _ _ c.read.ensures.value c.read-3.ensures.value c.read-2.ensures.value _ _ _ c.as_bytes-2.ensures c.as_bytes.ensures c.as_bytes-3.ensures c.spot_for-spot.result (c.spot_for-spot.ensures _ s)
