@@ -45,10 +45,11 @@ fn push_all_spoiled(
     Ok(())
 }
 
-const COMMANDS: [&str; 8] = [
+const COMMANDS: [&str; 9] = [
     "insert 0102 8",
     "get 0102",
     "remove 0102",
+    "remove-prefix 02",
     "prefix-get 010203",
     "overwrite 01 9",
     "prefix 01",
