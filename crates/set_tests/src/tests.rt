@@ -1,6 +1,5 @@
 //! What each call of a set answers.
 
-mod counting;
 mod joining;
 mod merging;
 mod picking;
