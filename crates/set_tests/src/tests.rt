@@ -1,5 +1,6 @@
 //! What each call of a set answers.
 
+mod counting;
 mod joining;
 mod merging;
 mod picking;

@@ -163,7 +163,7 @@ fn child_beside<const P: usize>(
     }
 }
 
-/// The edge beside a byte that a node lacks, and whether the byte is behind it. Of two, one to a leaf.
+/// The edge beside a byte that a node lacks, and whether the byte is behind it. Of two, the one before: keys that come in order have none after.
 pub(crate) fn edge_beside<const P: usize>(
     nodes: &Nodes<P>,
     id: &NodeId,
@@ -175,20 +175,11 @@ pub(crate) fn edge_beside<const P: usize>(
     ensures counted { visits.new.count ≡ visits.old.count + 1 }
 {
     let node = nodes.read(*id, visits);
-    match (node.edge_before(byte), node.edge_after(byte)) {
-        (Some(before), Some(after)) => {
-            if is_leaf(&after.to) && !is_leaf(&before.to) {
-                (after, false)
-            } else {
-                (before, true)
-            }
-        }
-        (Some(before), None) => (before, true),
-        (None, Some(after)) => (after, false),
-        (None, None) => unreachable!(),
+    if let Some(before) = node.edge_before(byte) {
+        return (before, true);
     }
-}
-
-fn is_leaf(child: &Child) -> bool {
-    matches!(child, Child::Leaf(_))
+    match node.edge_after(byte) {
+        Some(after) => (after, false),
+        None => unreachable!(),
+    }
 }

@@ -9,5 +9,5 @@ unreachable-requires g c =
     let r = c.requires in
     let x = c.read-node.result in
     no_edge_beside r.0 (at c.args.nodes.now) c.args.id.now c.args.byte r.1 r.2 x c.read-node.ensures.value
-    (subst (IsPrevious x.edges c.args.byte) c.in-None-None.is-0 c.edge_before.ensures)
-    (subst (IsNext x.edges c.args.byte) c.in-None-None.is-1 c.edge_after.ensures)
+    (subst (IsPrevious x.edges c.args.byte) c.in_default.is c.edge_before.ensures)
+    (subst (IsNext x.edges c.args.byte) c.in-None.is c.edge_after.ensures)
