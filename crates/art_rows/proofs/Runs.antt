@@ -1,15 +1,14 @@
 -- What holds of the runs of numbers behind a number and before it.
 use Rattle.std.proofs.Common.{◌≡◌, ◌≢◌, ℕ, zero, suc, ◌+◌, ◌-◌, ◌<◌, ◌≤◌, List, [], ◌∷◌, ◌++◌, length, map, take, drop, refl, sym, ap, subst, ◌∙◌, Option, Some, None, arith}
 use Rattle.std.proofs.lemmas.List.{length-take-le, length-drop}
-use Rattle.std.specs.Prelude.{option_map, IfSome}
-use denote.Ref.{Bor}
-use Rattle.art_rows.specs.Numbers.{Numbered, leaf_in, Has, number_after, number_before, number_before_from, AreDistinct}
+use Rattle.std.specs.Prelude.{option_map}
+use Rattle.art_rows.specs.Numbers.{Numbered, leaf_in, Has, number_after, number_before, AreDistinct}
 use Rattle.art_rows.specs.Rows.{place_in, nth, numbers, position_at, RunsBehind, RunsBefore, StandsAhead}
 use Rattle.art_rows.specs.Filing.{Files}
 use Rattle.art_rows.specs.declared.ahead.Ahead.{Ahead}
 use Rattle.art_rows.specs.declared.leaves.Leaf.{Leaf}
 use Rattle.art_rows.specs.declared.row.Position.{Position}
-use Rattle.art_rows.proofs.FilingLemmas.{number_there, same_ids, if_some}
+use Rattle.art_rows.proofs.FilingLemmas.{number_there, same_ids}
 use Rattle.art_rows.proofs.RowsLemmas.{nth-append_left, nth-append_right, nth-within, number_after-nth, number_before-nth, place_in-nth, standing, standing-numbers, standing-end, start_of}
 
 -- what stands behind a place

@@ -1,5 +1,5 @@
 -- Rows of numbers: which row has a number, at which place, and the numbers of all rows in order.
-use Rattle.std.specs.Prelude.{◌≡◌, ◌≢◌, ◌≤◌, ℕ, zero, suc, ◌+◌, ◌-◌, ◌*◌, ◌<◌, min, max, List, [], ◌∷◌, ◌++◌, length, map, Option, Some, None, Bool, true, false, IfSome, cond, eqb, ltb}
+use Rattle.std.specs.Prelude.{◌≡◌, ◌≢◌, ◌≤◌, ℕ, zero, suc, ◌+◌, ◌-◌, ◌*◌, ◌<◌, min, max, List, [], ◌∷◌, ◌++◌, length, map, Option, Some, None, Bool, true, false, cond, eqb, ltb}
 use Rattle.art_rows.specs.Numbers.{Numbered, leaf_in, AreDistinct}
 use Rattle.art_rows.specs.declared.ahead.Ahead.{Ahead}
 use Rattle.art_rows.specs.declared.row.Position.{Position}

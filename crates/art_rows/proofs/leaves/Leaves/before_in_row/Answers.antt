@@ -1,5 +1,5 @@
-use Rattle.std.proofs.Common.{◌≡◌, ◌+◌, ◌-◌, ◌<◌, Option, Some, None, sym, ap, ◌∙◌}
-use Rattle.std.specs.Prelude.{option_map, IfSome}
+use Rattle.std.proofs.Common.{◌≡◌, ◌-◌, ◌<◌, Some, sym, ap, ◌∙◌}
+use Rattle.std.specs.Prelude.{option_map}
 use Rattle.art_kinds.specs.Store.{slot_at, used_count}
 use Rattle.art_rows.specs.Numbers.{leaf_in, number_before}
 use Rattle.art_rows.specs.Rows.{nth}

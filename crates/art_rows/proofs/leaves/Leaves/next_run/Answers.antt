@@ -1,4 +1,4 @@
-use Rattle.std.proofs.Common.{◌≡◌, ◌+◌, ℕ, Some, drop, sym, ap, subst, ◌∙◌}
+use Rattle.std.proofs.Common.{◌≡◌, ◌+◌, ℕ, Some, sym, ap, subst, ◌∙◌}
 use Rattle.art_kinds.specs.Store.{slot_at, used_count}
 use Rattle.art_rows.specs.Filing.{Files}
 use Rattle.art_rows.specs.Rows.{position_at}

@@ -1,4 +1,4 @@
-use Rattle.std.proofs.Common.{◌≡◌, ◌∷◌, sym, subst}
+use Rattle.std.proofs.Common.{sym, subst}
 use Rattle.art_rows.specs.Rows.{RunsBefore}
 use Rattle.art_rows.proofs.Runs.{before_step}
 use Rattle.art_rows.proofs.leaves.Leaves.prev_in.Goals as goal
