@@ -1,14 +1,15 @@
 -- What holds of the runs of numbers behind a number and before it.
-use Rattle.std.proofs.Common.{◌≡◌, ◌≢◌, ℕ, zero, suc, ◌+◌, ◌-◌, ◌<◌, ◌≤◌, List, [], ◌∷◌, ◌++◌, length, map, take, drop, refl, sym, ap, subst, ◌∙◌, Option, Some, None, arith}
+use Rattle.std.proofs.Common.{◌≡◌, ℕ, zero, suc, ◌+◌, ◌-◌, ◌<◌, ◌≤◌, List, [], ◌∷◌, ◌++◌, length, map, take, drop, refl, sym, ap, subst, ◌∙◌, Option, Some, None, arith}
 use Rattle.std.proofs.lemmas.List.{length-take-le, length-drop}
-use Rattle.std.specs.Prelude.{option_map}
-use Rattle.art_rows.specs.Numbers.{Numbered, leaf_in, Has, number_after, number_before, AreDistinct}
+use Rattle.std.specs.Prelude.{option_map, IfSome}
+use denote.Ref.{Bor}
+use Rattle.art_rows.specs.Numbers.{Numbered, leaf_in, Has, number_after, number_before, number_before_from, AreDistinct}
 use Rattle.art_rows.specs.Rows.{place_in, nth, numbers, position_at, RunsBehind, RunsBefore, StandsAhead}
 use Rattle.art_rows.specs.Filing.{Files}
 use Rattle.art_rows.specs.declared.ahead.Ahead.{Ahead}
 use Rattle.art_rows.specs.declared.leaves.Leaf.{Leaf}
 use Rattle.art_rows.specs.declared.row.Position.{Position}
-use Rattle.art_rows.proofs.FilingLemmas.{number_there, same_ids}
+use Rattle.art_rows.proofs.FilingLemmas.{number_there, same_ids, if_some}
 use Rattle.art_rows.proofs.RowsLemmas.{nth-append_left, nth-append_right, nth-within, number_after-nth, number_before-nth, place_in-nth, standing, standing-numbers, standing-end, start_of}
 
 -- what stands behind a place
@@ -23,10 +24,6 @@ nth-take ns zero j n e = absurd cc
 nth-take [] (suc k) j n e = absurd cc
 nth-take (m ∷ ns) (suc k) zero n e = e
 nth-take (m ∷ ns) (suc k) (suc j) n e = nth-take ns k j n e
-
--- a list with a first number is not empty
-pub not_empty : (ns : List ℕ) (n : ℕ) (rest : List ℕ) → ns ≡ n ∷ rest → ns ≢ []
-not_empty ns n rest e h = (let z : [] ≡ n ∷ rest = sym h ∙ e in cc)
 
 module _ {X : Type 0} (ps : List (Numbered X)) (distinct : AreDistinct ps) (i n : ℕ) (has : Has ps i) (rest : List ℕ) where
   -- the first of a run is the number behind, and the others are a run behind that
@@ -46,8 +43,8 @@ module _ {X : Type 0} (ps : List (Numbered X)) (distinct : AreDistinct ps) (i n 
   behind_index e = place_in-nth ps (place_in (map (λ p. p.0) ps) i + 1) n distinct (sym (number_after-nth ps i has) ∙ e)
 
   -- the same of all that stands behind
-  pub ahead_step : (rows : List (Numbered (List ℕ))) (a b : Ahead) → a.run.now ≡ n ∷ b.run.now → b.row ≡ a.row → b.ids ≡ a.ids → b.run.now ≡ rest → StandsAhead ps rows i a → (number_after ps i ≡ Some n) × StandsAhead ps rows n b
-  ahead_step rows a b cut same kept is s =
+  pub ahead_step : (rows : List (Numbered (List ℕ))) (a b : Ahead) → a.run.now ≡ n ∷ b.run.now → b.row ≡ a.row → b.run.now ≡ rest → StandsAhead ps rows i a → (number_after ps i ≡ Some n) × StandsAhead ps rows n b
+  ahead_step rows a b cut same is s =
       let r = behind_step (subst (RunsBehind ps i) (cut ∙ ap (λ l. n ∷ l) is) s.run) in
       let c : place_in (map (λ p. p.0) ps) n ≡ place_in (map (λ p. p.0) ps) i + 1 = behind_index r.0 in
       let l : length a.run.now ≡ suc (length b.run.now) = ap length cut in
@@ -55,7 +52,7 @@ module _ {X : Type 0} (ps : List (Numbered X)) (distinct : AreDistinct ps) (i n 
         r.0,
         record {
           run = subst (RunsBehind ps n) (sym is) r.1;
-          row = rw (same, kept) (λ t. let h = s.row t in (ap (position_at rows) e ∙ h.0, h.1));
+          row = rw same (if_some a.row _ _ (λ t h. (ap (position_at rows) e ∙ h.0, h.1)) s.row);
         },
       )
 
@@ -117,11 +114,13 @@ module _ {K V : Type 0} (leaves : ℕ → Option (Leaf K V)) (rows : List (Numbe
       standing-end rows k p s f.apart f.filled _ b ∙ ap (option_map start_of) e
 
   -- what was looked up in a row and behind it stands ahead
-  pub ahead_there : (b : Ahead) → b.run.now ≡ drop (p.place + 1) ids → (b.ids.now ≢ [] → number_after rows p.row ≡ Some b.row) → (b.ids.now ≢ [] → leaf_in rows b.row ≡ Some b.ids.now) → StandsAhead ps rows n b
-  ahead_there b run row its = record {
-    run = subst (RunsBehind ps n) (sym run) behind_in_row;
-    row = λ t. (ap (λ l. position_at rows (place_in (map (λ q. q.0) ps) n + 1 + length l)) run ∙ row_behind_run b.row (row t), its t);
-  }
+  pub ahead_there : (b : Ahead) → b.run.now ≡ drop (p.place + 1) ids → IfSome b.row (λ r. number_after rows p.row ≡ Some r.0) → IfSome b.row (λ r. leaf_in rows r.0 ≡ Some r.1.now) → StandsAhead ps rows n b
+  ahead_there b run row its = record { run = subst (RunsBehind ps n) (sym run) behind_in_row; row = go b.row row its }
+    where
+      go : (o : Option (ℕ × Bor (List ℕ))) → IfSome o (λ r. number_after rows p.row ≡ Some r.0) → IfSome o (λ r. leaf_in rows r.0 ≡ Some r.1.now)
+          → IfSome o (λ r. (position_at rows (place_in (map (λ q. q.0) ps) n + 1 + length b.run.now) ≡ Some (start_of r.0)) × (leaf_in rows r.0 ≡ Some r.1.now))
+      go None x y = tt
+      go (Some r) x y = (ap (λ l. position_at rows (place_in (map (λ q. q.0) ps) n + 1 + length l)) run ∙ row_behind_run r.0 x, y)
 
   -- the number there is the one behind
   pub next_there : (i : ℕ) → Has ps i → k ≡ place_in (map (λ q. q.0) ps) i + 1 → number_after ps i ≡ Some n

@@ -1,5 +1,5 @@
 -- Rows of numbers: which row has a number, at which place, and the numbers of all rows in order.
-use Rattle.std.specs.Prelude.{◌≡◌, ◌≢◌, ◌≤◌, ℕ, zero, suc, ◌+◌, ◌-◌, ◌*◌, ◌<◌, min, max, List, [], ◌∷◌, ◌++◌, length, map, Option, Some, None, Bool, true, false, cond, eqb, ltb}
+use Rattle.std.specs.Prelude.{◌≡◌, ◌≤◌, ℕ, zero, suc, ◌+◌, ◌-◌, ◌*◌, ◌<◌, min, max, List, [], ◌∷◌, ◌++◌, length, map, Option, Some, None, Bool, true, false, IfSome, cond, eqb, ltb}
 use Rattle.art_rows.specs.Numbers.{Numbered, leaf_in, AreDistinct}
 use Rattle.art_rows.specs.declared.ahead.Ahead.{Ahead}
 use Rattle.art_rows.specs.declared.row.Position.{Position}
@@ -103,4 +103,4 @@ module _ {X : Type 0} where
   -- the run stands directly behind the number i, and the row behind the run, if it was looked up
   pub record StandsAhead (ps : List (Numbered X)) (rows : List (Numbered (List ℕ))) (i : ℕ) (ahead : Ahead) : Type 0 where
     pub run : RunsBehind ps i ahead.run.now
-    pub row : ahead.ids.now ≢ [] → (position_at rows (place_in (map (λ p. p.0) ps) i + 1 + length ahead.run.now) ≡ Some (record { row = ahead.row; place = 0 })) × (leaf_in rows ahead.row ≡ Some ahead.ids.now)
+    pub row : IfSome ahead.row (λ r. (position_at rows (place_in (map (λ p. p.0) ps) i + 1 + length ahead.run.now) ≡ Some (record { row = r.0; place = 0 })) × (leaf_in rows r.0 ≡ Some r.1.now))

@@ -375,11 +375,12 @@ impl<K, V> Leaves<K, V> {
         ensures ahead { IfSome result.0 (λ n. StandsAhead self.now.pairs self.now.rows n result.1) }
     {
         let _ = &self.rows;
-        let Some((next, run)) = ahead.ids.split_first() else {
+        let Some((row, ids)) = ahead.row else {
             return self.next_run(id);
         };
-        let (row, ids) = self.row_told(ahead.row);
-        (Some(*next), Ahead { run, row, ids })
+        let (next, run) = ids.split_first().unwrap();
+        let row = self.row_told(row);
+        (Some(*next), Ahead { run, row })
     }
 
     // The leaf behind this one, and what stands behind that.
@@ -392,22 +393,22 @@ impl<K, V> Leaves<K, V> {
         let Some(position) = self.forward(self.position_of(id)) else {
             return (None, Ahead::unknown());
         };
-        let own = rows.read(position.row);
-        let run = own.behind(position.place);
-        let (row, ids) = self.row_told(position.row);
-        (Some(own.at(position.place)), Ahead { run, row, ids })
+        let ids = rows.read(position.row);
+        let run = ids.behind(position.place);
+        let row = self.row_told(position.row);
+        (Some(ids.at(position.place)), Ahead { run, row })
     }
 
-    // The row behind another, and its numbers: none where there is no such row.
-    fn row_told(&self, row: usize) -> (usize, &[LeafId])
+    // The row behind another, and its numbers.
+    fn row_told(&self, row: usize) -> Option<(usize, &[LeafId])>
         requires { Has self.now.rows row }
-        ensures behind { result.1.now ≢ [] → number_after self.now.rows row ≡ Some result.0 }
-        ensures ids { result.1.now ≢ [] → leaf_in self.now.rows result.0 ≡ Some result.1.now }
+        ensures behind { IfSome result (λ r. number_after self.now.rows row ≡ Some r.0) }
+        ensures ids { IfSome result (λ r. leaf_in self.now.rows r.0 ≡ Some r.1.now) }
     {
         let rows = &self.rows;
         match rows.next_of(row) {
-            Some(next) => (next, rows.read(next).ids()),
-            None => (row, &[]),
+            Some(next) => Some((next, rows.read(next).ids())),
+            None => None,
         }
     }
 

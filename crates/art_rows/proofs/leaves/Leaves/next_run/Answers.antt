@@ -1,4 +1,4 @@
-use Rattle.std.proofs.Common.{◌≡◌, ◌+◌, ℕ, Some, sym, ap, subst, ◌∙◌}
+use Rattle.std.proofs.Common.{◌≡◌, ◌+◌, ℕ, Some, drop, sym, ap, subst, ◌∙◌}
 use Rattle.art_kinds.specs.Store.{slot_at, used_count}
 use Rattle.art_rows.specs.Filing.{Files}
 use Rattle.art_rows.specs.Rows.{position_at}
@@ -14,8 +14,8 @@ returns-in_default-clause-next g c =
     let f = seen i.records i.rows _ c.self.view_is c.self.invariant in
     sym (number_after-nth _ c.args.id c.requires ∙ none_there (slot_at i.records) i.rows.pairs (used_count i.records) _ f _ (ap (λ t. position_at t.rows (index_of c.args.self.now.pairs c.args.id + 1)) c.self.view_is ∙ sym (c.forward.ensures _ c.position_of.ensures) ∙ c.in_default.is))
 
-pub read-own-requires : goal.read-own-requires
-read-own-requires g c =
+pub read-ids-requires : goal.read-ids-requires
+read-ids-requires g c =
     let i = c.self.inside in
     let f = seen i.records i.rows _ c.self.view_is c.self.invariant in
     let k : ℕ = index_of c.args.self.now.pairs c.args.id + 1 in
@@ -28,7 +28,7 @@ at-requires g c =
     let f = seen i.records i.rows _ c.self.view_is c.self.invariant in
     let k : ℕ = index_of c.args.self.now.pairs c.args.id + 1 in
     let at : position_at i.rows.pairs k ≡ Some c.in-Some.position = ap (λ t. position_at t.rows k) c.self.view_is ∙ sym (c.forward.ensures _ c.position_of.ensures) ∙ c.in-Some.is in
-    place_at (slot_at i.records) i.rows.pairs (used_count i.records) _ f k c.in-Some.position at _ c.read-own.ensures
+    place_at (slot_at i.records) i.rows.pairs (used_count i.records) _ f k c.in-Some.position at _ c.read-ids.ensures
 
 pub behind-run-requires : goal.behind-run-requires
 behind-run-requires g c =
@@ -36,7 +36,7 @@ behind-run-requires g c =
     let f = seen i.records i.rows _ c.self.view_is c.self.invariant in
     let k : ℕ = index_of c.args.self.now.pairs c.args.id + 1 in
     let at : position_at i.rows.pairs k ≡ Some c.in-Some.position = ap (λ t. position_at t.rows k) c.self.view_is ∙ sym (c.forward.ensures _ c.position_of.ensures) ∙ c.in-Some.is in
-    place_at (slot_at i.records) i.rows.pairs (used_count i.records) _ f k c.in-Some.position at _ c.read-own.ensures
+    place_at (slot_at i.records) i.rows.pairs (used_count i.records) _ f k c.in-Some.position at _ c.read-ids.ensures
 
 pub returns-clause-next : goal.returns-clause-next
 returns-clause-next g c =
@@ -44,7 +44,7 @@ returns-clause-next g c =
     let f = seen i.records i.rows _ c.self.view_is c.self.invariant in
     let k : ℕ = index_of c.args.self.now.pairs c.args.id + 1 in
     let at : position_at i.rows.pairs k ≡ Some c.in-Some.position = ap (λ t. position_at t.rows k) c.self.view_is ∙ sym (c.forward.ensures _ c.position_of.ensures) ∙ c.in-Some.is in
-    sym (number_after-nth _ c.args.id c.requires ∙ number_there (slot_at i.records) i.rows.pairs (used_count i.records) _ f k c.in-Some.position at _ c.read-own.ensures ∙ c.at.ensures)
+    sym (number_after-nth _ c.args.id c.requires ∙ number_there (slot_at i.records) i.rows.pairs (used_count i.records) _ f k c.in-Some.position at _ c.read-ids.ensures ∙ c.at.ensures)
 
 pub row_told-row-requires : goal.row_told-row-requires
 row_told-row-requires g c =
@@ -60,4 +60,4 @@ returns-clause-ahead g c =
     let f = subst (λ rs. Files (slot_at i.records) rs (used_count i.records) c.args.self.now.pairs) (ap (λ t. t.rows) c.self.view_is) (seen i.records i.rows _ c.self.view_is c.self.invariant) in
     let k : ℕ = index_of c.args.self.now.pairs c.args.id + 1 in
     let at : position_at c.args.self.now.rows k ≡ Some c.in-Some.position = sym (c.forward.ensures _ c.position_of.ensures) ∙ c.in-Some.is in
-    ahead_there (slot_at i.records) c.args.self.now.rows (used_count i.records) _ f k c.in-Some.position at c.read-own.result.now (rw (← ap (λ t. t.rows) c.self.view_is) c.read-own.ensures) c.at.result c.at.ensures (record { run = c.behind-run.result; row = c.row_told-row.result.0; ids = c.row_told-row.result.1 }) c.behind-run.ensures c.row_told-row.ensures.behind c.row_told-row.ensures.ids
+    ahead_there (slot_at i.records) c.args.self.now.rows (used_count i.records) _ f k c.in-Some.position at c.read-ids.result.now (rw (← ap (λ t. t.rows) c.self.view_is) c.read-ids.ensures) c.at.result c.at.ensures (record { run = c.behind-run.result; row = c.row_told-row.result }) c.behind-run.ensures c.row_told-row.ensures.behind c.row_told-row.ensures.ids
