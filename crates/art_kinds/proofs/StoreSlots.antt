@@ -1,12 +1,12 @@
 -- The slots of a store: what a change of one leaves of the records and of the chain of spares.
-use Rattle.std.proofs.Common.{◌≡◌, ◌≢◌, ◌⊎◌, ℕ, zero, suc, ◌+◌, ◌-◌, ◌^◌, ◌<◌, List, [], ◌∷◌, map, length, get_or, set, Option, Some, None, is_some, IsSome, count_by, cond, refl, sym, ap, subst, ◌∙◌, inl, inr, arith, true≢false}
+use Rattle.std.proofs.Common.{◌≡◌, ◌≢◌, ◌⊎◌, ℕ, zero, suc, ◌+◌, ◌-◌, ◌^◌, ◌<◌, ◌≤◌, List, [], ◌∷◌, map, length, get_or, set, Option, Some, None, is_some, IsSome, count_by, cond, refl, sym, ap, subst, ◌∙◌, inl, inr, arith, true≢false}
 use Rattle.std.proofs.lemmas.List.{map-set, length-map, get_or-set_same, get_or-set_other}
-use Rattle.std.proofs.lemmas.Bool.{cases_eq}
+use Rattle.std.proofs.lemmas.Bool.{cases_eq, cases_lt, cond_below, cond_above}
 use Rattle.std.proofs.lemmas.List.Sums.{sum_by-set, sum_by-cons}
-use Rattle.art_kinds.specs.Slots.{used_of, AreLinked, HasSpares}
+use Rattle.art_kinds.specs.Chain.{used_of, AreLinked, HasSpares, room_of}
 use Rattle.art_kinds.specs.Store.{Store, slot_at, used_count, with_record}
-use Rattle.art_kinds.specs.declared.records.store.Slot.{Slot}
-use Rattle.art_kinds.specs.declared.records.store.Slot.TheVariants.{Used, Spare}
+use Rattle.art_kinds.specs.declared.records.slots.Slot.{Slot}
+use Rattle.art_kinds.specs.declared.records.slots.Slot.TheVariants.{Used, Spare}
 
 -- 1 for something, 0 for nothing
 abbrev pub one : {X : Type 0} → Option X → ℕ
@@ -54,6 +54,34 @@ module _ {X : Type 0} where
       let e : one y ≡ one x = ap one (h 0) in
       let ih : count_by is_some ys ≡ count_by is_some xs = count-same xs ys (λ j. h (suc j)) in
       omega (arith, sum_by-cons one x xs, sum_by-cons one y ys)
+
+  -- lists with the same at each place but one, which had nothing, count one more
+  pub count-more : (xs ys : List (Option X)) (i : ℕ) (x : X) → get_or xs i None ≡ None → get_or ys i None ≡ Some x → ((j : ℕ) → j ≢ i → get_or ys j None ≡ get_or xs j None) → count_by is_some ys ≡ count_by is_some xs + 1
+  count-more xs ys i x none now others =
+      let l : i < length ys = within ys i x now in
+      let u : count_by is_some (set ys i None) + one (get_or ys i None) ≡ count_by is_some ys + 0 = count-set ys i None l in
+      let v : one (get_or ys i None) ≡ 1 = ap one now in
+      let w : count_by is_some (set ys i None) ≡ count_by is_some xs = count-same xs (set ys i None) (λ j. by_place j (cases_eq j i)) in
+      omega arith
+    where
+      by_place : (j : ℕ) → (j ≡ i) ⊎ (j ≢ i) → get_or (set ys i None) j None ≡ get_or xs j None
+      by_place j (inl e) = ap (λ z. get_or (set ys i None) z None) e ∙ get_or-set_same ys i None None (within ys i x now) ∙ sym none ∙ ap (λ z. get_or xs z None) (sym e)
+      by_place j (inr h) = get_or-set_other ys i j None None h ∙ others j h
+
+-- room where the capacity is small
+pub room-small : (n c : ℕ) → c < 2 ^ 61 → c - n ≡ room_of n c
+room-small n c h = cond_below c (2 ^ 61) (c - n) 0 h
+
+-- no room where it may not be
+pub room-great : (n c : ℕ) → 2 ^ 61 ≤ c → 0 ≡ room_of n c
+room-great n c h = cond_above c (2 ^ 61) (c - n) 0 0 h refl
+
+-- room is for small numbers
+pub room-some : (n c : ℕ) → 0 < room_of n c → (c < 2 ^ 61) × (n < c)
+room-some n c h = elim (cases_lt c (2 ^ 61)) [
+  | inl p ↦ (p, omega (arith, room-small n c p))
+  | inr p ↦ absurd (omega (arith, room-great n c p))
+]
 
 module _ {T : Type 0} where
   -- the record at a number is that of the slot
@@ -162,6 +190,10 @@ module _ {T : Type 0} where
         numbered = numbered-set xs i (Used x) (Used y) found s.numbered;
       }
 
+  -- there are as many slots then
+  pub slots-rewrite : (xs : List (Option (Slot T))) (i : ℕ) (y : T) → IsSome (get_or (map used_of xs) i None) → count_by is_some (set xs i (Some (Used y))) ≡ count_by is_some xs
+  slots-rewrite xs i y h = let u = used_at xs i h in (counts-set xs i (Used u.0) (Used y) u.1).1
+
   -- a record is put into the first spare slot
   pub spares-fill : (xs : List (Option (Slot T))) (free : Option ℕ) (n i : ℕ) (next : Option ℕ) (y : T) → HasSpares xs free n → free ≡ Some i → get_or xs i None ≡ Some (Spare next) → HasSpares (set xs i (Some (Used y))) next (n - 1)
   spares-fill xs free n i next y s first found = by_count n s.linked s.all
@@ -207,6 +239,31 @@ module _ {T : Type 0} where
         fits = omega arith;
         numbered = numbered-set xs i (Used x) (Spare free) found s.numbered;
       }
+
+  -- a slot with a record is added
+  module _ (xs ys : List (Option (Slot T))) (i : ℕ) (y : T) (none : get_or xs i None ≡ None) (now : get_or ys i None ≡ Some (Used y)) (others : (j : ℕ) → j ≢ i → get_or ys j None ≡ get_or xs j None) where
+    -- each other number has what it had
+    pub others-put : (j : ℕ) → j ≢ i → get_or (map used_of ys) j None ≡ get_or (map used_of xs) j None
+    others-put j h = at-map ys j ∙ ap used_of (others j h) ∙ sym (at-map xs j)
+
+    -- there is a record more
+    pub used-put : count_by is_some (map used_of ys) ≡ count_by is_some (map used_of xs) + 1
+    used-put = count-more (map used_of xs) (map used_of ys) i y (at-map xs i ∙ ap used_of none) (at-map ys i ∙ ap used_of now) others-put
+
+    -- the chain stays
+    pub spares-put : (free : Option ℕ) (n : ℕ) → count_by is_some ys ≡ count_by is_some xs + 1 → count_by is_some ys < 2 ^ 61 → i < 2 ^ 61 → HasSpares xs free n → HasSpares ys free n
+    spares-put free n more fits small s =
+        let a = s.all in
+        let u = used-put in
+        record {
+          linked = linked-others xs ys i others n free (off_none xs i n none) s.linked;
+          all = omega arith;
+          fits = fits;
+          numbered = λ j x e. elim (cases_eq j i) [
+            | inl p ↦ subst (λ z. z < 2 ^ 61) (sym p) small
+            | inr p ↦ s.numbered j x (sym (others j p) ∙ e)
+          ];
+        }
 
   -- a spare slot is added
   module _ (xs ys : List (Option (Slot T))) (free : Option ℕ) (n i : ℕ) (none : get_or xs i None ≡ None) (now : get_or ys i None ≡ Some (Spare free)) (others : (j : ℕ) → j ≢ i → get_or ys j None ≡ get_or xs j None) where

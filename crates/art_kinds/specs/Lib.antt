@@ -2,6 +2,8 @@ pub mod Codes
 pub mod Edges
 pub mod Store
 pub mod Slots
+pub mod Chain
+pub mod SlotLends
 pub mod Lends
 pub mod Numbers
 pub mod Nodes

@@ -1,25 +1,17 @@
--- How a store lays out its records. No clause of another module cites this one.
-use Rattle.std.specs.Prelude.{◌≡◌, ◌+◌, ◌<◌, ◌^◌, ℕ, zero, suc, List, map, Option, Some, None, is_some, count_by, slice_index_or}
-use Rattle.art_kinds.specs.declared.records.store.Slot.{Slot}
-use Rattle.art_kinds.specs.declared.records.store.Slot.TheVariants.{Used, Spare}
+-- What a contract sees of the slots of a store.
+use Rattle.std.specs.Prelude.{ℕ, refl}
+use Rattle.std.specs.Coded.{Coded, code_by, coded×, coded_ℕ}
+use Rattle.art_kinds.specs.Store.{Store, store_code, with_record}
 
-module _ {T : Type 0} where
-  -- the record in a slot, if it has one
-  abbrev pub used_of : Option (Slot T) → Option T
-  used_of None = None
-  used_of (Some (Used x)) = Some x
-  used_of (Some (Spare _)) = None
+-- the records and how many slots are spare, as a store, and how many slots more there can be with no memory
+pub record Slots (T : Type 0) : Type 0 where
+  pub store : Store T
+  pub room : ℕ
 
-  -- from this number on, so many spare slots each name the next, and the last names none
-  abbrev pub AreLinked : List (Option (Slot T)) → ℕ → Option ℕ → Type 0
-  AreLinked slots zero from = from ≡ None
-  AreLinked slots (suc n) from =
-      (id : ℕ) × (next : Option ℕ) × (from ≡ Some id) × (slice_index_or slots id None ≡ Some (Spare next))
-      × AreLinked slots n next
+-- slots are coded as the pair of these
+abbrev pub slots_code : {T : Type 0} → Coded T → Coded (Slots T)
+slots_code {T} code = code_by (Store T × ℕ) (coded× (store_code code) coded_ℕ) (λ s. (s.store, s.room)) (λ p. record { store = p.0; room = p.1 }) (λ _. refl)
 
-  -- so many spare slots are linked, and with the records they are all the slots, whose numbers are small
-  pub record HasSpares (slots : List (Option (Slot T))) (free : Option ℕ) (spare : ℕ) : Type 0 where
-    pub linked : AreLinked slots spare free
-    pub all : count_by is_some (map used_of slots) + spare ≡ count_by is_some slots
-    pub fits : count_by is_some slots < 2 ^ 61
-    pub numbered : (i : ℕ) (x : Slot T) → slice_index_or slots i None ≡ Some x → i < 2 ^ 61
+-- the slots with another record at a number
+abbrev pub with_slot : {T : Type 0} → Slots T → ℕ → T → Slots T
+with_slot s id x = record s { store = with_record s.store id x }

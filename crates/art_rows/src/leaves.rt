@@ -279,25 +279,19 @@ impl<K, V> Leaves<K, V> {
         }
     }
 
-    /// The leaf behind this one, and where it stands. `seen` is where this one may stand: where it does, no row is searched, and no leaf is read.
+    /// The leaf behind this one. `seen` is where this one may stand, and then where that one does: where this one stands there, no row is searched, and no leaf is read.
     #[inline(always)]
-    pub fn next_from(&self, id: LeafId, seen: Position) -> (Option<LeafId>, Position)
+    pub fn next_from(&self, id: LeafId, seen: &mut Position) -> Option<LeafId>
         requires { Has self.now.pairs id }
-        ensures { result.0 ≡ number_after self.now.pairs id }
+        ensures { result ≡ number_after self.now.pairs id }
     {
-        match self.behind_in_row(id, seen) {
-            None => self.next_by_rows(id, seen),
-            Some(near) => {
-                let place = seen.place + 1;
-                (
-                    Some(near),
-                    Position {
-                        row: seen.row,
-                        place,
-                    },
-                )
-            }
+        if let Some(near) = self.behind_in_row(id, *seen) {
+            seen.place += 1;
+            return Some(near);
         }
+        let (next, at) = self.next_by_rows(id, *seen);
+        *seen = at;
+        next
     }
 
     // The same, whatever was seen. It stands apart, so that the way of most steps is short.
@@ -314,25 +308,19 @@ impl<K, V> Leaves<K, V> {
         }
     }
 
-    /// The leaf before this one, and where it stands. `seen` is where this one may stand: where it does, no row is searched, and no leaf is read.
+    /// The leaf before this one. `seen` is where this one may stand, and then where that one does: where this one stands there, no row is searched, and no leaf is read.
     #[inline(always)]
-    pub fn prev_from(&self, id: LeafId, seen: Position) -> (Option<LeafId>, Position)
+    pub fn prev_from(&self, id: LeafId, seen: &mut Position) -> Option<LeafId>
         requires { Has self.now.pairs id }
-        ensures { result.0 ≡ number_before self.now.pairs id }
+        ensures { result ≡ number_before self.now.pairs id }
     {
-        match self.before_in_row(id, seen) {
-            None => self.prev_by_rows(id, seen),
-            Some(near) => {
-                let place = seen.place - 1;
-                (
-                    Some(near),
-                    Position {
-                        row: seen.row,
-                        place,
-                    },
-                )
-            }
+        if let Some(near) = self.before_in_row(id, *seen) {
+            seen.place -= 1;
+            return Some(near);
         }
+        let (prev, at) = self.prev_by_rows(id, *seen);
+        *seen = at;
+        prev
     }
 
     // The same, whatever was seen. It stands apart, so that the way of most steps is short.
@@ -349,22 +337,26 @@ impl<K, V> Leaves<K, V> {
         }
     }
 
-    /// The leaf behind this one, and what stands behind that. `ahead` is what was told with this leaf, or nothing: where it has a leaf, no row is read.
+    /// The leaf behind this one; `ahead` is what stands behind this one, as far as it was looked up, and then what stands behind that. Where it has a leaf, no row is read.
     #[inline(always)]
-    pub fn next_in<'a>(&'a self, id: LeafId, ahead: Ahead<'a>) -> (Option<LeafId>, Ahead<'a>)
+    pub fn next_in<'a>(&'a self, id: LeafId, ahead: &mut Ahead<'a>) -> Option<LeafId>
         requires has { Has self.now.pairs id }
-        requires ahead { StandsAhead self.now.pairs self.now.rows id ahead }
-        ensures next { result.0 ≡ number_after self.now.pairs id }
-        ensures ahead { IfSome result.0 (λ n. StandsAhead self.now.pairs self.now.rows n result.1) }
+        requires ahead { StandsAhead self.now.pairs self.now.rows id ahead.old }
+        ensures next { result ≡ number_after self.now.pairs id }
+        ensures ahead { IfSome result (λ n. StandsAhead self.now.pairs self.now.rows n ahead.new) }
     {
         self.law();
-        match ahead.run.split_first() {
-            Some((next, run)) => (Some(*next), Ahead { run, ..ahead }),
-            None => self.next_row(id, ahead),
+        // the run alone is written on most steps
+        if let Some((next, run)) = ahead.run.split_first() {
+            ahead.run = run;
+            return Some(*next);
         }
+        let (next, behind) = self.next_row(id, *ahead);
+        *ahead = behind;
+        next
     }
 
-    // The same at the end of a row: the next one is the first of the row behind, which is known or else looked up.
+    // The leaf behind the last one of a row, and what stands behind that: the first of the row behind, which is known or else looked up.
     #[cold]
     #[inline(never)]
     fn next_row<'a>(&'a self, id: LeafId, ahead: Ahead<'a>) -> (Option<LeafId>, Ahead<'a>)

@@ -8,48 +8,44 @@ ghost use Rattle.art_walk.specs.Cursor.{nothing_left, left_between, leaves_left,
 use art_tree::{LeafId, Leaves, Position, Tree, Visits};
 use blart_keys::AsBytes;
 
-// The ends without the first leaf, and where the leaf behind it stands. Nothing is looked for behind the last.
+// The ends without the first leaf; `seen` is where that may stand, and then where the leaf behind it does. Nothing is looked for behind the last.
 #[inline(always)]
 fn without_first<K, V>(
     leaves: &Leaves<K, V>,
     first: LeafId,
     last: LeafId,
-    seen: Position,
-) -> (Option<(LeafId, LeafId)>, Position)
+    seen: &mut Position,
+) -> Option<(LeafId, LeafId)>
     requires { Has leaves.now.pairs first }
-    ensures one { first ≡ last → result.0 ≡ None }
-    ensures more { first ≢ last → result.0
+    ensures one { first ≡ last → result ≡ None }
+    ensures more { first ≢ last → result
         ≡ option_map (λ id. (id, last)) (number_after leaves.now.pairs first) }
 {
     if first == last {
-        return (None, seen);
+        return None;
     }
-    match leaves.next_from(first, seen) {
-        (Some(next), at) => (Some((next, last)), at),
-        (None, at) => (None, at),
-    }
+    let next = leaves.next_from(first, seen)?;
+    Some((next, last))
 }
 
-// The ends without the last leaf, and where the leaf before it stands. Nothing is looked for before the first.
+// The ends without the last leaf; `seen` is where that may stand, and then where the leaf before it does. Nothing is looked for before the first.
 #[inline(always)]
 fn without_last<K, V>(
     leaves: &Leaves<K, V>,
     first: LeafId,
     last: LeafId,
-    seen: Position,
-) -> (Option<(LeafId, LeafId)>, Position)
+    seen: &mut Position,
+) -> Option<(LeafId, LeafId)>
     requires { Has leaves.now.pairs last }
-    ensures one { first ≡ last → result.0 ≡ None }
-    ensures more { first ≢ last → result.0
+    ensures one { first ≡ last → result ≡ None }
+    ensures more { first ≢ last → result
         ≡ option_map (λ id. (first, id)) (number_before leaves.now.pairs last) }
 {
     if last == first {
-        return (None, seen);
+        return None;
     }
-    match leaves.prev_from(last, seen) {
-        (Some(prev), at) => (Some((first, prev)), at),
-        (None, at) => (None, at),
-    }
+    let prev = leaves.prev_from(last, seen)?;
+    Some((first, prev))
 }
 
 /// The leaves from one to another that are still to come, in byte order, or none. It holds no tree: each call is given the one that it goes over.
@@ -127,9 +123,8 @@ impl Cursor {
         leaves.law();
         let (first, last) = self.ends?;
         let (key, value) = leaves.read(first, visits);
-        let (ends, at) = without_first(leaves, first, last, self.first_at);
+        let ends = without_first(leaves, first, last, &mut self.first_at);
         self.ends = ends;
-        self.first_at = at;
         Some((first, key, value))
     }
 
@@ -151,9 +146,8 @@ impl Cursor {
         leaves.law();
         let (first, last) = self.ends?;
         let (key, value) = leaves.read(last, visits);
-        let (ends, at) = without_last(leaves, first, last, self.last_at);
+        let ends = without_last(leaves, first, last, &mut self.last_at);
         self.ends = ends;
-        self.last_at = at;
         Some((last, key, value))
     }
 

@@ -10,30 +10,28 @@ use art_tree::{Ahead, LeafId, Leaves, Visits};
 use std::iter::{DoubleEndedIterator, Iterator};
 use std::marker::Model;
 
-// The ends without the first leaf, and what stands behind the one that is the first then. Nothing is looked for behind the last.
+// The ends without the first leaf; `ahead` is what stands behind that, and then behind the one that is the first. Nothing is looked for behind the last.
 #[inline(always)]
 fn without_first<'a, K, V>(
     leaves: &'a Leaves<K, V>,
     first: LeafId,
     last: LeafId,
-    ahead: Ahead<'a>,
-) -> (Option<(LeafId, LeafId)>, Ahead<'a>)
+    ahead: &mut Ahead<'a>,
+) -> Option<(LeafId, LeafId)>
     requires has { Has leaves.now.pairs first }
-    requires ahead { StandsAhead leaves.now.pairs leaves.now.rows first ahead }
-    ensures one { first ≡ last → result.0 ≡ None }
-    ensures more { first ≢ last → result.0
+    requires ahead { StandsAhead leaves.now.pairs leaves.now.rows first ahead.old }
+    ensures one { first ≡ last → result ≡ None }
+    ensures more { first ≢ last → result
         ≡ option_map (λ id. (id, last)) (number_after leaves.now.pairs first) }
-    ensures stays { IfSome result.0 (λ ends. ends.1 ≡ last) }
-    ensures ahead { IfSome result.0
-        (λ ends. StandsAhead leaves.now.pairs leaves.now.rows ends.0 result.1) }
+    ensures stays { IfSome result (λ ends. ends.1 ≡ last) }
+    ensures ahead { IfSome result
+        (λ ends. StandsAhead leaves.now.pairs leaves.now.rows ends.0 ahead.new) }
 {
     if first == last {
-        return (None, ahead);
+        return None;
     }
-    match leaves.next_in(first, ahead) {
-        (Some(next), ahead) => (Some((next, last)), ahead),
-        (None, ahead) => (None, ahead),
-    }
+    let next = leaves.next_in(first, ahead)?;
+    Some((next, last))
 }
 
 // The ends without the last leaf, and the run before what is then the last. Nothing is looked for before the first.
@@ -112,9 +110,8 @@ impl<'a, K, V> Iterator for Walk<'a, K, V> {
         self.leaves.law();
         let (first, last) = self.ends?;
         let pair = self.leaves.read(first, &mut Visits::new());
-        let (ends, ahead) = without_first(self.leaves, first, last, self.ahead);
+        let ends = without_first(self.leaves, first, last, &mut self.ahead);
         self.ends = ends;
-        self.ahead = ahead;
         Some(pair)
     }
 }

@@ -1,61 +1,34 @@
 //! Records under numbers.
 ghost use Rattle.std.specs.Prelude.{◌≡◌, ◌≢◌, ℕ, ◌+◌, ◌^◌, ◌<◌, ◌≤◌, [], option_map, Some, None, IsSome, is_some, OnOk, OnErr};
 ghost use Rattle.art_kinds.specs.Store.{slot_at, used_count, SameRecords};
-ghost use Rattle.art_kinds.specs.Slots.{used_of};
-ghost use Rattle.std.specs.Borrow.{Lends, sem};
+ghost use Rattle.std.specs.Borrow.{sem};
 
-use slab::Slab;
+use crate::records::slots::Slots;
 use std::alloc::{AllocError, Global};
 use std::marker::Model;
 use std::mem;
 
-/// A store has no more slots than this, and their numbers are less, so that the counts of a few stores have a sum, and a number and a kind fit one word.
-const MOST: usize = (1 << 61) - 1;
-
-#[derive(Drop)]
-pub(crate) enum Slot<T> {
-    Used(T),
-    // A spare slot, with the number of the next one.
-    Spare(Option<usize>),
-}
-
-impl<T> Slot<T> {
-    ghost use Rattle.art_kinds.specs.contracts.records.store.Slot.{the_row};
-
-    fn record_mut(&mut self) -> &mut T
-        requires { IsSome (used_of (Some self.old)) }
-        ensures* lends { sem 𝓛 (Lends (the_row T.row) T.row self.entry result Slot.Used) }
-        ensures value { used_of (Some self.old) ≡ Some result.now }
-    {
-        match self {
-            Slot::Used(record) => record,
-            Slot::Spare(_) => unreachable!(),
-        }
-    }
-}
-
 /// Records under numbers. A number keeps its record until that is taken out. A contract sees the record at each number, and how many spare slots there are: a record that takes a spare slot asks for no memory.
+///
+/// A slot that a record left is spare, and so is a place that was only reserved, which is not written before a record comes there.
 #[derive(Drop)]
 pub struct Store<T> {
-    pub(super) slots: Slab<Slot<T>>,
-    // The first spare slot.
-    pub(super) free: Option<usize>,
-    pub(super) spare: usize,
+    pub(super) slots: Slots<T>,
+    // How many places of the slots' room are spare slots of the store.
+    pub(super) reserved: usize,
 }
 
 impl<T> Model for Store<T> {
-    ghost use Rattle.std.specs.Prelude.{map};
+    ghost use Rattle.std.specs.Prelude.{◌+◌, ◌≤◌};
     ghost use Rattle.art_kinds.specs.Store.{Store as Records, store_code};
 
     ghost Value = { Records T };
 
     ghost coded = { store_code T.code };
 
-    ghost use Rattle.art_kinds.specs.Slots.{used_of, HasSpares};
+    ghost view = { λ s. record s.slots.store { spare = s.slots.store.spare + s.reserved } };
 
-    ghost view = { λ s. record { slots = map used_of s.slots.slots; spare = s.spare } };
-
-    ghost invariant = { λ s. HasSpares s.slots.slots s.free s.spare };
+    ghost invariant = { λ s. s.reserved ≤ s.slots.room };
 }
 
 impl<T> Store<T> {
@@ -67,9 +40,8 @@ impl<T> Store<T> {
         ensures spare { result.spare ≡ 0 }
     {
         Store {
-            slots: Slab::new(alloc),
-            free: None,
-            spare: 0,
+            slots: Slots::new(alloc),
+            reserved: 0,
         }
     }
 
@@ -77,52 +49,51 @@ impl<T> Store<T> {
     pub fn spare(&self) -> usize
         ensures { result ≡ self.now.spare }
     {
-        self.spare
+        self.slots.spare() + self.reserved
     }
 
     /// How many records there are.
+    #[inline(always)]
     pub fn used(&self) -> usize
         ensures count { result ≡ used_count self.now }
         ensures small { result < 2 ^ 61 }
     {
-        self.slots.len() - self.spare
+        self.slots.used()
     }
 
     /// The record at a number, if there is one.
+    #[inline(always)]
     pub fn get(&self, id: usize) -> Option<&T>
         ensures { option_map (λ r. r.now) result ≡ slot_at self.now id }
     {
-        match self.slots.get(id) {
-            Some(Slot::Used(record)) => Some(record),
-            _ => None,
-        }
+        self.slots.get(id)
     }
 
     /// The record at a number.
+    #[inline(always)]
     pub fn read(&self, id: usize) -> &T
         requires { IsSome (slot_at self.now id) }
         ensures value { slot_at self.now id ≡ Some result.now }
     {
-        match self.slots.get(id) {
-            Some(Slot::Used(record)) => record,
-            _ => unreachable!(),
-        }
+        self.slots.read(id)
     }
 
     /// Whether there is a record at a number.
+    #[inline(always)]
     pub fn has(&self, id: usize) -> bool
         ensures { result ≡ is_some (slot_at self.now id) }
     {
-        matches!(self.slots.get(id), Some(Slot::Used(_)))
+        self.slots.has(id)
     }
 
     /// The record at a number, for writing.
+    #[inline(always)]
     pub fn get_mut(&mut self, id: usize) -> &mut T
         requires { IsSome (slot_at self.old id) }
         ensures* writes_back { sem 𝓛 (lends_record T.row self.entry id result) }
         ensures value { slot_at self.old id ≡ Some result.now }
     {
-        self.slots[id].record_mut()
+        self.slots.get_mut(id)
     }
 }
 
@@ -149,20 +120,15 @@ impl<T: Drop> Store<T> {
         ensures spare { self.new.spare + 1 ≡ self.old.spare }
         ensures used { used_count self.new ≡ used_count self.old + 1 }
     {
-        let id = match self.free {
-            Some(id) => id,
-            None => unreachable!(),
-        };
-        self.free = match &self.slots[id] {
-            Slot::Spare(next) => *next,
-            Slot::Used(_) => unreachable!(),
-        };
-        self.slots[id] = Slot::Used(fresh);
-        self.spare -= 1;
-        id
+        if self.slots.spare() > 0 {
+            return self.slots.fill(fresh);
+        }
+        self.reserved -= 1;
+        self.slots.put(fresh)
     }
 
     /// Takes a record out, and makes its slot a spare one.
+    #[inline(always)]
     pub fn take(&mut self, id: usize) -> T
         requires { IsSome (slot_at self.old id) }
         ensures value { slot_at self.old id ≡ Some result }
@@ -171,17 +137,11 @@ impl<T: Drop> Store<T> {
         ensures spare { self.new.spare ≡ self.old.spare + 1 }
         ensures used { used_count self.new + 1 ≡ used_count self.old }
     {
-        match mem::replace(&mut self.slots[id], Slot::Spare(self.free)) {
-            Slot::Used(record) => {
-                self.free = Some(id);
-                self.spare += 1;
-                record
-            }
-            Slot::Spare(_) => unreachable!(),
-        }
+        self.slots.take(id)
     }
 
     /// Drops a record, and makes its slot a spare one.
+    #[inline(always)]
     pub fn remove(&mut self, id: usize)
         requires { IsSome (slot_at self.old id) }
         ensures gone { slot_at self.new id ≡ None }
@@ -189,29 +149,7 @@ impl<T: Drop> Store<T> {
         ensures spare { self.new.spare ≡ self.old.spare + 1 }
         ensures used { used_count self.new + 1 ≡ used_count self.old }
     {
-        self.slots[id] = Slot::Spare(self.free);
-        self.free = Some(id);
-        self.spare += 1;
-    }
-
-    /// Adds a spare slot. Nothing changes where there is no memory.
-    pub fn add_spare(&mut self) -> Result<(), AllocError>
-        ensures same { SameRecords self.old self.new }
-        ensures used { used_count self.new ≡ used_count self.old }
-        ensures added { OnOk result (self.new.spare ≡ self.old.spare + 1) }
-        ensures refused { OnErr result (self.new.spare ≡ self.old.spare) }
-    {
-        if self.slots.len() >= MOST {
-            return Err(AllocError);
-        }
-        if self.slots.vacant_key() >= MOST {
-            return Err(AllocError);
-        }
-        self.slots.reserve(1)?;
-        let id = self.slots.insert_reserved(Slot::Spare(self.free));
-        self.free = Some(id);
-        self.spare += 1;
-        Ok(())
+        self.slots.remove(id);
     }
 
     /// Adds spare slots until there are so many. Where there is no memory, the records stand, and no spare slot is lost.
@@ -226,10 +164,12 @@ impl<T: Drop> Store<T> {
         if count <= spare {
             return Ok(());
         }
-        self.slots.reserve(count - spare)?;
-        for _ in spare..count {
-            self.add_spare()?;
-        }
+        // A slab that has grown may say any capacity, and only where that is small are the numbers still to come surely small. So the reserved places get their slots first, and keep what they promise.
+        self.slots.add_spares(self.reserved);
+        self.reserved = 0;
+        self.slots.grow(count - spare)?;
+        // A slab takes more than it is asked for. All of it is reserved, so that the next calls ask for nothing.
+        self.reserved = self.slots.room();
         Ok(())
     }
 
@@ -239,7 +179,6 @@ impl<T: Drop> Store<T> {
         ensures spare { self.new.spare ≡ 0 }
     {
         self.slots.clear();
-        self.free = None;
-        self.spare = 0;
+        self.reserved = 0;
     }
 }

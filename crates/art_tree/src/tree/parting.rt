@@ -112,7 +112,11 @@ pub(crate) fn leaf_before<K: AsBytes, V>(
 {
     match beside {
         Beside::Behind(id) => (Some(*id), Position::unknown()),
-        Beside::InFront(id) => leaves.prev_from(*id, Position::unknown()),
+        Beside::InFront(id) => {
+            let mut seen = Position::unknown();
+            let prev = leaves.prev_from(*id, &mut seen);
+            (prev, seen)
+        }
     }
 }
 

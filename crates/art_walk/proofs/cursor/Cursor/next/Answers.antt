@@ -12,11 +12,11 @@ without_first-ends-requires g c = has_first c.args.leaves.now.pairs c.law.ensure
 pub returns-clause-fits : goal.returns-clause-fits
 returns-clause-fits g c =
     (passed_first c.args.leaves.now.pairs c.law.ensures.distinct c.args.self.now.ends (c.in_ok-first.first, c.in_ok-first.last) c.in_ok-first.was c.requires
-    c.without_first-ends.result.0 (c.read.result.0.now, c.read.result.1.now) (number_after c.args.leaves.now.pairs c.in_ok-first.first)
+    c.without_first-ends.result (c.read.result.0.now, c.read.result.1.now) (number_after c.args.leaves.now.pairs c.in_ok-first.first)
     c.read.ensures.value refl c.without_first-ends.ensures.one c.without_first-ends.ensures.more).0
 
 pub returns-clause-takes : goal.returns-clause-takes
 returns-clause-takes g c =
     (passed_first c.args.leaves.now.pairs c.law.ensures.distinct c.args.self.now.ends (c.in_ok-first.first, c.in_ok-first.last) c.in_ok-first.was c.requires
-    c.without_first-ends.result.0 (c.read.result.0.now, c.read.result.1.now) (number_after c.args.leaves.now.pairs c.in_ok-first.first)
+    c.without_first-ends.result (c.read.result.0.now, c.read.result.1.now) (number_after c.args.leaves.now.pairs c.in_ok-first.first)
     c.read.ensures.value refl c.without_first-ends.ensures.one c.without_first-ends.ensures.more).1

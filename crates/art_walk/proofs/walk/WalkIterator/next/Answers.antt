@@ -12,9 +12,9 @@ pub invariant_of-self : goal.invariant_of-self
 invariant_of-self g c =
     let i = c.self.inside in (
       (passed_first i.leaves.now.pairs c.law.ensures.distinct i.ends (c.in_ok-first.first, c.in_ok-first.last) c.in_ok-first.was c.self.invariant.0
-          c.without_first-ends.result.0 (c.read-pair.result.0.now, c.read-pair.result.1.now) (number_after i.leaves.now.pairs c.in_ok-first.first)
+          c.without_first-ends.result (c.read-pair.result.0.now, c.read-pair.result.1.now) (number_after i.leaves.now.pairs c.in_ok-first.first)
           c.read-pair.ensures.value refl c.without_first-ends.ensures.one c.without_first-ends.ensures.more).0,
-      beside_first i.leaves.now.pairs i.leaves.now.rows c.in_ok-first.first c.in_ok-first.last i.ahead i.before.now c.without_first-ends.result.0 c.without_first-ends.result.1 c.without_first-ends.ensures.stays c.without_first-ends.ensures.ahead
+      beside_first i.leaves.now.pairs i.leaves.now.rows c.in_ok-first.first c.in_ok-first.last i.ahead i.before.now c.without_first-ends.result c.without_first-ends.new.ahead c.without_first-ends.ensures.stays c.without_first-ends.ensures.ahead
           (runs_before i.leaves.now.pairs i.leaves.now.rows c.in_ok-first.first c.in_ok-first.last i.ahead i.before.now i.ends c.in_ok-first.was c.self.invariant.1),
     )
 
@@ -22,7 +22,7 @@ pub returns-clause-steps : goal.returns-clause-steps
 returns-clause-steps g c =
     let i = c.self.inside in
     rw (← c.self.view_is) (ap pairs_of (passed_first i.leaves.now.pairs c.law.ensures.distinct i.ends (c.in_ok-first.first, c.in_ok-first.last) c.in_ok-first.was c.self.invariant.0
-    c.without_first-ends.result.0 (c.read-pair.result.0.now, c.read-pair.result.1.now) (number_after i.leaves.now.pairs c.in_ok-first.first)
+    c.without_first-ends.result (c.read-pair.result.0.now, c.read-pair.result.1.now) (number_after i.leaves.now.pairs c.in_ok-first.first)
     c.read-pair.ensures.value refl c.without_first-ends.ensures.one c.without_first-ends.ensures.more).1)
 
 pub returns-clause-goes : goal.returns-clause-goes

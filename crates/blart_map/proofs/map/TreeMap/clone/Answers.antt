@@ -1,6 +1,8 @@
 use Rattle.std.proofs.Common.{List, length, Contains, lit<, sym, ap, ◌∙◌, subst, arith}
+use Rattle.std.proofs.lemmas.Result.{err_from_is_err_and}
 use Rattle.blart_keys.specs.Content.{IsContent}
 use Rattle.blart_keys.specs.Steps.{bytes}
+use Rattle.blart_map.specs.Content.{pairs}
 use Rattle.blart_map.proofs.map.TreeMap.clone.Goals as goal
 
 pub clone_pairs-requires : goal.clone_pairs-requires
@@ -19,3 +21,14 @@ clone_pairs-requires g c =
         ),
       ),
     )
+
+pub returns-in_err-reserve-clause-refused : goal.returns-in_err-reserve-clause-refused
+unfolding pairs
+returns-in_err-reserve-clause-refused g c =
+    let p = err_from_is_err_and c.from_residual.result c.from_residual.ensures.1 in
+    rw p.1 (λ empty. omega (arith, c.in_err-reserve.ensures.refused, c.len.ensures, ap (λ (l : List _). length l) empty))
+
+pub returns-in_err-clone_pairs-clause-refused : goal.returns-in_err-clone_pairs-clause-refused
+returns-in_err-clone_pairs-clause-refused g c =
+    let p = err_from_is_err_and c.from_residual-in_err-clone_pairs.result c.from_residual-in_err-clone_pairs.ensures.1 in
+    rw p.1 (λ empty. c.in_err-clone_pairs.ensures.refused (c.iter.ensures.value ∙ empty))

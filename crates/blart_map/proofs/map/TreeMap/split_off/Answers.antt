@@ -1,5 +1,6 @@
 use Rattle.std.proofs.Common.{◌≡◌, List, length, lit<, sym, ap, ◌∙◌, arith}
 use Rattle.std.proofs.lemmas.List.{length-map}
+use Rattle.std.proofs.lemmas.Result.{err_from_is_err_and}
 use Rattle.blart_keys.specs.Steps.{bytes}
 use Rattle.blart_keys.specs.Stored.{pair_at}
 use Rattle.art_walk.specs.Pairs.{pairs_of}
@@ -39,3 +40,19 @@ returns-clause-kept g c = λ r.
 pub returns-clause-given : goal.returns-clause-given
 returns-clause-given g c = λ r.
     ap (λ S. pair_at g.K.AsBytes.bytes S r) (returns-clause-from g c) ∙ given_at g.K.AsBytes.bytes (g.Q.AsBytes.bytes c.args.query.now) (pairs c.args.self.now) r
+
+pub returns-in_err-part-clause-below : goal.returns-in_err-part-clause-below
+returns-in_err-part-clause-below g c =
+    let p = err_from_is_err_and c.from_residual.result c.from_residual.ensures.1 in
+    rw p.1 tt
+
+pub returns-in_err-part-clause-err : goal.returns-in_err-part-clause-err
+returns-in_err-part-clause-err g c =
+    let p = err_from_is_err_and c.from_residual.result c.from_residual.ensures.1 in
+    rw p.1 (c.in_err-part.ensures.err ∙ c.self.view_is)
+
+pub returns-in_err-part-clause-refused : goal.returns-in_err-part-clause-refused
+unfolding pairs
+returns-in_err-part-clause-refused g c =
+    let p = err_from_is_err_and c.from_residual.result c.from_residual.ensures.1 in
+    rw p.1 (λ empty. omega (arith, c.in_err-part.ensures.refused, c.count_from-count.ensures, ap (λ (l : List _). length l) empty))

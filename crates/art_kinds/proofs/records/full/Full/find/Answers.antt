@@ -1,4 +1,4 @@
-use Rattle.std.proofs.Common.{◌<◌, None, List, get_or, length, ap, sym, ◌∙◌, arith}
+use Rattle.std.proofs.Common.{◌<◌, None, List, length, ap, sym, ◌∙◌, arith}
 use Rattle.art_kinds.specs.Edges.{child_at}
 use Rattle.art_kinds.specs.declared.records.ids.Edge.{Edge}
 use Rattle.art_kinds.proofs.EdgeShifts.{get_or-any}

@@ -1,7 +1,6 @@
-use Rattle.std.proofs.Common.{◌∙◌, ap, sym, refl, Option, Some, None, is_some, ◌≡◌}
+use Rattle.std.proofs.Common.{◌∙◌, ap, sym, Option, is_some}
 use Rattle.art_kinds.specs.Inners.{nodes_of}
 use Rattle.art_kinds.specs.Nodes.{Node}
-use Rattle.art_kinds.specs.Store.{slot_at}
 use Rattle.art_kinds.specs.declared.records.ids.Kind.TheVariants.{Four, Sixteen, FortyEight, Full}
 use Rattle.art_kinds.proofs.Changes.{found_at, has_node}
 use Rattle.art_kinds.proofs.records.nodes.Nodes.has.Goals as goal
