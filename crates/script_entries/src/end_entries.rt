@@ -1,4 +1,6 @@
 //! What the entries of the first pair and of the last answer.
+ghost use Rattle.std.specs.Prelude.{◌≡◌, None, OnOk};
+
 use crate::entry_calls::{EntryCall, EntryLine, OccupiedCall};
 use blart_map::TreeMap;
 use script_words::{Answered, ScriptKey, Shown, Text, Unanswered, Words};
@@ -54,7 +56,9 @@ enum EndCall {
 }
 
 // The call of the line, if such an entry has it.
-fn end_call(line: EntryLine) -> Result<EndCall, Unanswered> {
+fn end_call(line: EntryLine) -> Result<EndCall, Unanswered>
+    ensures { OnOk result (line.add ≡ None) }
+{
     match (line.add, line.call) {
         (None, EntryCall::Key) => Ok(EndCall::Key),
         (None, EntryCall::Occupied(call)) => Ok(EndCall::Occupied(call)),

@@ -1,4 +1,7 @@
 //! The two maps of a script, and the calls that change them.
+ghost use Rattle.std.specs.Prelude.{◌≡◌, []};
+ghost use Rattle.blart_map.specs.Content.{pairs};
+
 use crate::names::Name;
 use blart_map::TreeMap;
 use script_words::{Answered, ScriptKey, Shown, Text, Words, written};
@@ -16,7 +19,10 @@ pub struct Maps<K: ScriptKey, const PREFIX_LEN: usize> {
 
 impl<K: ScriptKey, const PREFIX_LEN: usize> Maps<K, PREFIX_LEN> {
     /// Two maps with no pairs.
-    pub fn new(alloc: Global) -> Self {
+    pub fn new(alloc: Global) -> Self
+        ensures first { pairs result.first ≡ [] }
+        ensures second { pairs result.second ≡ [] }
+    {
         Maps {
             first: TreeMap::with_prefix_len(alloc),
             second: TreeMap::with_prefix_len(alloc),
@@ -25,7 +31,10 @@ impl<K: ScriptKey, const PREFIX_LEN: usize> Maps<K, PREFIX_LEN> {
     }
 
     /// Puts new maps in the place of both.
-    pub fn restart(&mut self) {
+    pub fn restart(&mut self)
+        ensures first { pairs self.new.first ≡ [] }
+        ensures second { pairs self.new.second ≡ [] }
+    {
         self.first = TreeMap::with_prefix_len(self.alloc);
         self.second = TreeMap::with_prefix_len(self.alloc);
     }

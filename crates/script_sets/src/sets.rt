@@ -1,4 +1,7 @@
 //! The two sets of a script, and the calls that change them.
+ghost use Rattle.std.specs.Prelude.{◌≡◌, []};
+ghost use Rattle.blart_set.specs.Elements.{elements};
+
 use crate::names::SetName;
 use blart_keys::OrderedBytes;
 use blart_set::TreeSet;
@@ -16,7 +19,10 @@ pub struct Sets<K: ScriptKey, const PREFIX_LEN: usize> {
 
 impl<K: ScriptKey + OrderedBytes, const PREFIX_LEN: usize> Sets<K, PREFIX_LEN> {
     /// Two sets with no elements.
-    pub fn new(alloc: Global) -> Self {
+    pub fn new(alloc: Global) -> Self
+        ensures first { elements result.first ≡ [] }
+        ensures second { elements result.second ≡ [] }
+    {
         Sets {
             first: TreeSet::with_prefix_len(alloc),
             second: TreeSet::with_prefix_len(alloc),
@@ -25,7 +31,10 @@ impl<K: ScriptKey + OrderedBytes, const PREFIX_LEN: usize> Sets<K, PREFIX_LEN> {
     }
 
     /// Puts new sets in the place of both.
-    pub fn restart(&mut self) {
+    pub fn restart(&mut self)
+        ensures first { elements self.new.first ≡ [] }
+        ensures second { elements self.new.second ≡ [] }
+    {
         self.first = TreeSet::with_prefix_len(self.alloc);
         self.second = TreeSet::with_prefix_len(self.alloc);
     }
