@@ -3,6 +3,7 @@
 mod chains;
 mod early;
 mod empty;
+mod kinds;
 mod long;
 
 use blart_map::TreeMap;

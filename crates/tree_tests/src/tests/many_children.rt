@@ -73,25 +73,27 @@ fn number_in(line: &str) -> u64 {
     number
 }
 
-// The most memory that the program has had, in KiB, as the system tells.
-fn peak(rt: &(impl Abort + AllocGlobal + Files)) -> u64 {
+// The memory that a line of what the system tells of the program says, in KiB.
+fn memory(rt: &(impl Abort + AllocGlobal + Files), name: &str) -> u64 {
     let told = fs::read_to_string(rt, "/proc/self/status").expect(rt, "a file of the system");
     for line in told.lines() {
-        if line.starts_with("VmPeak:") {
+        if line.starts_with(name) {
             return number_in(line);
         }
     }
-    panic!(rt; "no line VmPeak")
+    panic!(rt; "no line {name}")
 }
 
-// Room for a million pairs in an empty tree takes less than 600 MB.
+// Room for a million pairs in an empty tree takes less than 600 MB of addresses, and less than 20 MB are written before a pair comes.
 #[test]
 fn room_for_a_million(rt: HostRuntime) {
-    let before = peak(&rt);
+    let (most, held) = (memory(&rt, "VmPeak:"), memory(&rt, "VmRSS:"));
     let mut tree = Tree::<&[u8], u64, 16>::new(rt.alloc());
     tree.reserve(1_000_000).expect(&rt, "memory");
-    let taken = peak(&rt).saturating_sub(before);
+    let taken = memory(&rt, "VmPeak:").saturating_sub(most);
+    let written = memory(&rt, "VmRSS:").saturating_sub(held);
     assert!(rt; taken < 600_000_000 / 1024);
+    assert!(rt; written < 20_000_000 / 1024);
     add(&rt, &mut tree, b"key", 1);
     assert_eq!(rt; tree.len(), 1);
 }

@@ -3,7 +3,10 @@
 ghost use Rattle.std.specs.Prelude.{◌≡◌, ◌↔◌, IsTrue, IfOk};
 ghost use Rattle.std.specs.Ordering.{nat_cmp, int_cmp};
 
-use super::*;
+use blart_keys::{
+    AsBytes, I32Key, InsertPrefixError, NoPrefixesBytes, OrderedBytes, TryInsertError, U32Key,
+    U64Key, ZKey, ZKeyError,
+};
 use std::alloc::{AllocError, Global};
 use std::boxed::BoxedSlice;
 use std::cmp::Ordering;

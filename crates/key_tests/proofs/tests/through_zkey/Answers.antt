@@ -1,7 +1,7 @@
 use Rattle.std.proofs.Common.{◌≡◌, ◌∷◌, [], ◌∙◌}
 use Rattle.std.proofs.lemmas.List.{append_cancel_right}
 use Rattle.std.proofs.lemmas.Slice.Eq.{bytes_eq-Decides}
-use Rattle.blart_keys.proofs.tests.through_zkey.Goals as goal
+use Rattle.key_tests.proofs.tests.through_zkey.Goals as goal
 
 pub returns : goal.returns
 returns c =
