@@ -9,6 +9,7 @@ mod keys;
 mod prefix_entries;
 mod router;
 mod runs;
+mod sets;
 mod steady;
 mod trees;
 mod walks;

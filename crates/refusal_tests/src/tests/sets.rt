@@ -1,4 +1,5 @@
 //! Calls of sets, refused at each request.
+use super::say_refused;
 use blart_set::TreeSet;
 use std::iter::{DoubleEndedIterator, IntoIterator, Iterator};
 use std::ops::Bound;
@@ -8,11 +9,6 @@ type Keys = TreeSet<[u8; 2], 2>;
 
 // Keys in byte order, some of which begin alike.
 const KEYS: [[u8; 2]; 5] = [[0, 5], [1, 3], [1, 7], [2, 1], [2, 2]];
-
-// Says that a request was refused.
-fn say_refused(rt: &impl Print) {
-    let _ = println!(rt; "refused");
-}
 
 // Puts in an element whose bytes are new, at the second try if the first is refused.
 fn put(rt: &(impl Abort + Print), set: &mut Keys, key: [u8; 2]) {
