@@ -1,5 +1,4 @@
-use Rattle.std.proofs.Common.{◌≡◌, List, sym, ap, subst, subst₂, length, lit<, arith, rules}
-use Rattle.blart_keys.specs.Content.{IsContent}
+use Rattle.std.proofs.Common.{◌≡◌, sym, ap, subst, subst₂, length, rules}
 use Rattle.blart_keys.specs.Merges.{IsUnion}
 use Rattle.blart_keys.specs.Steps.{bytes}
 use Rattle.blart_keys.proofs.Mapped.{content_map}
@@ -15,13 +14,8 @@ returns-then-is_empty-clause-appended g c =
     let all = union_all (bytes kb) (pairs_of c.args.from.now.pairs) (content_map (λ p. p.1) (bytes kb) c.args.from.now.pairs c.law.ensures.content) in
     subst₂ (λ S ps. IsUnion (bytes kb) (pairs_of c.args.from.now.pairs) (pairs_of S) (pairs_of ps)) (sym (no_items c.args.to.now.pairs none)) (sym (ap (λ t. t.pairs) c.swap.ensures.y_after)) all
 
-pub move_all-requires : goal.move_all-requires
-move_all-requires g c =
-    let kb = g.K.AsBytes.bytes in
-    let same = c.take_leaves.ensures.pairs in
-    let content = subst (λ ps. IsContent (bytes kb) (pairs_of ps)) (sym same) (content_map (λ p. p.1) (bytes kb) c.args.from.now.pairs c.law.ensures.content) in
-    let count = ap (λ (l : List _). length l) same in
-    (lit< tt, (content, omega (arith, count, c.len.ensures, c.in_ok-reserve.ensures.ok)))
-
 pub returns-clause-appended : goal.returns-clause-appended
-returns-clause-appended g c = subst₂ (λ S T. IsUnion (bytes g.K.AsBytes.bytes) (pairs_of T) (pairs_of S) (pairs_of c.move_all.new.to.pairs)) c.in_ok-reserve.ensures.pairs c.take_leaves.ensures.pairs c.move_all.ensures
+returns-clause-appended g c = subst (λ ps. IsUnion (bytes g.K.AsBytes.bytes) (pairs_of c.args.from.now.pairs) (pairs_of ps) (pairs_of c.move_all.new.to.pairs)) c.in_ok-reserve.ensures.pairs c.move_all.ensures.appended
+
+pub move_all-requires : goal.move_all-requires
+move_all-requires g c = ?
