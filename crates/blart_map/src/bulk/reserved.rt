@@ -79,9 +79,7 @@ pub(crate) fn add_reserved<K: NoPrefixesBytes + Drop, V: Drop, const P: usize>(
             key.value_law();
             unreachable!()
         }
-        Point::Exact(id) => {
-            let _stored = id;
-        }
+        Point::Exact(_stored) => {}
         point => {
             tree.place(point, key, value);
         }

@@ -28,7 +28,7 @@ returns-in-Exact-clause-added g c =
     let kb = g.K.AsBytes.bytes in
     let ps = c.args.tree.now.pairs in
     let good = rw c.as_bytes.ensures at c.in-Exact.ensures in
-    λ absent. absurd (false≢true (sym absent ∙ exact_stored kb ps (kb c.args.key) c.in-Exact.id good))
+    λ absent. absurd (false≢true (sym absent ∙ exact_stored kb ps (kb c.args.key) c.in-Exact._stored good))
 
 pub returns-in_default-clause-added : goal.returns-in_default-clause-added
 returns-in_default-clause-added g c =
