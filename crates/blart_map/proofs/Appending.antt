@@ -1,6 +1,6 @@
 -- A list of pairs that another is moved into, pair by pair.
-use Rattle.std.proofs.Common.{◌≡◌, ◌≢◌, ℕ, false, inl, inr, List, [], ◌∷◌, ◌++◌, Option, Some, None, refl, sym, ap, ◌∙◌, subst, subst₂, Contains, bytes_eq}
-use Rattle.std.proofs.lemmas.Bool.{false_from_ne_true}
+use Rattle.std.proofs.Common.{◌≡◌, ◌≢◌, ℕ, true, false, ◌⊎◌, inl, inr, List, [], ◌∷◌, ◌++◌, Option, Some, None, refl, sym, ap, ◌∙◌, subst, subst₂, Contains, bytes_eq}
+use Rattle.std.proofs.lemmas.Bool.{cases_Bool, false_from_ne_true}
 use Rattle.std.specs.Cmp.Lexicographic.{bytes_decides}
 use Rattle.blart_keys.specs.Bulk.{IsAppended}
 use Rattle.blart_keys.specs.Content.{IsContent, IsPut, at, stores}
@@ -78,6 +78,82 @@ module _ {X : Type 0} (bytes : X → List ℕ) where
       before y f = false_from_ne_true _ (λ t.
           let r = stores_found bytes A (bytes y) t in
           stores_missing bytes (A ++ x ∷ []) (bytes y) r.0 f (Member-append_left r.0 A (x ∷ []) r.1) r.2)
+
+  -- one more is added where its bytes are new
+  pub union_step : (T A U U' : List X) (x : X) → IsUnion bytes T A U → stores bytes A (bytes x) ≡ false → (stores bytes U (bytes x) ≡ false → IsPut bytes U x U') → (stores bytes U (bytes x) ≡ true → U' ≡ U) → IsUnion bytes T (A ++ x ∷ []) U'
+  union_step T A U U' x u fresh put same = elim (cases_Bool (stores bytes U (bytes x))) [
+    | inl t ↦ subst (IsUnion bytes T (A ++ x ∷ [])) (sym (same t)) (stored t)
+    | inr f ↦ added f (put f)
+  ]
+    where
+      last : Member x (A ++ x ∷ [])
+      last = Member-append_right x A (x ∷ []) (inl refl)
+
+      more : (y : X) → Contains A y → Contains (A ++ x ∷ []) y
+      more y m = Contains-from_Member y (A ++ x ∷ []) (Member-append_left y A (x ∷ []) (Member-from_Contains y A m))
+
+      wider : (y : X) → Contains U y → Contains T y ⊎ (Contains (A ++ x ∷ []) y × (stores bytes T (bytes y) ≡ false))
+      wider y m = elim ((u.elements y).0 m) [
+        | inl a ↦ inl a
+        | inr b ↦ inr (more y b.0, b.1)
+      ]
+
+      -- an item of the list is an earlier one, or this one
+      earlier : (y : X) → Contains (A ++ x ∷ []) y → Contains A y ⊎ (x ≡ y)
+      earlier y m = elim (Member-append_cases y A (x ∷ []) (Member-from_Contains y (A ++ x ∷ []) m)) [
+        | inl n ↦ inl (Contains-from_Member y A n)
+        | inr (inl e) ↦ inr e
+        | inr (inr n) ↦ absurd n
+      ]
+
+      unmet : stores bytes U (bytes x) ≡ true → stores bytes T (bytes x) ≡ false → ⊥
+      unmet t f =
+          let r = stores_found bytes U (bytes x) t in
+          elim ((u.elements r.0).0 (Contains-from_Member r.0 U r.1)) [
+            | inl a ↦ stores_missing bytes T (bytes x) r.0 f (Member-from_Contains r.0 T a) r.2
+            | inr b ↦ stores_missing bytes A (bytes x) r.0 fresh (Member-from_Contains r.0 A b.0) r.2
+          ]
+
+      stored : stores bytes U (bytes x) ≡ true → IsUnion bytes T (A ++ x ∷ []) U
+      stored t = record {
+        ascends = u.ascends;
+        elements = λ y. (
+          wider y,
+          λ m. elim m [
+            | inl a ↦ (u.elements y).1 (inl a)
+            | inr b ↦ elim (earlier y b.0) [
+              | inl n ↦ (u.elements y).1 (inr (n, b.1))
+              | inr e ↦ absurd (unmet t (subst (λ z. stores bytes T (bytes z) ≡ false) (sym e) b.1))
+            ]
+          ],
+        );
+      }
+
+      lacks : stores bytes U (bytes x) ≡ false → stores bytes T (bytes x) ≡ false
+      lacks f = false_from_ne_true _ (λ t.
+          let r = stores_found bytes T (bytes x) t in
+          stores_missing bytes U (bytes x) r.0 f (Member-from_Contains r.0 U ((u.elements r.0).1 (inl (Contains-from_Member r.0 T r.1)))) r.2)
+
+      added : stores bytes U (bytes x) ≡ false → IsPut bytes U x U' → IsUnion bytes T (A ++ x ∷ []) U'
+      added f put = record {
+        ascends = put.content.ascends;
+        elements = λ y. (
+          λ m. elim (put_member bytes U U' x y put (Member-from_Contains y U' m)) [
+            | inl e ↦ inr (subst (Contains (A ++ x ∷ [])) (sym e) (Contains-from_Member x (A ++ x ∷ []) last), subst (λ z. stores bytes T (bytes z) ≡ false) (sym e) (lacks f))
+            | inr n ↦ wider y (Contains-from_Member y U n.0)
+          ],
+          λ m. elim m [
+            | inl a ↦ grown y ((u.elements y).1 (inl a))
+            | inr b ↦ elim (earlier y b.0) [
+              | inl n ↦ grown y ((u.elements y).1 (inr (n, b.1)))
+              | inr e ↦ subst (Contains U') e put.there
+            ]
+          ],
+        );
+      }
+        where
+          grown : (y : X) → Contains U y → Contains U' y
+          grown y m = Contains-from_Member y U' (member_put bytes U U' x y put (Member-from_Contains y U m) (stores_missing bytes U (bytes x) y f (Member-from_Contains y U m)))
 
   -- what is there afterwards: the item of the one, or else that of the other
   pub union_at : (T S U : List X) → IsContent bytes T → IsContent bytes S → IsUnion bytes T S U → (q : List ℕ) → at bytes U q ≡ or_else (at bytes T q) (at bytes S q)

@@ -1,11 +1,27 @@
 -- Placements for which there is room.
-use Rattle.std.proofs.Common.{◌≡◌, ℕ, false, List, sym, ◌∙◌, bytes_eq}
+use Rattle.std.proofs.Common.{◌≡◌, ℕ, true, false, List, sym, ◌∙◌, bytes_eq}
+use Rattle.blart_keys.specs.Bytes.{related}
 use Rattle.blart_keys.specs.Content.{stores}
 use Rattle.blart_keys.specs.Steps.{bytes as pair_bytes}
+use Rattle.blart_keys.proofs.ContentLemmas.{at_Some, stores_member}
 use Rattle.blart_keys.proofs.Mapped.{list_any-map}
 use Rattle.art_tree.specs.Leaves.{Numbered, bytes}
+use Rattle.art_tree.specs.Points.{IsGood}
+use Rattle.art_tree.specs.declared.tree.point.Point.TheVariants.{Exact}
 use Rattle.art_walk.specs.Pairs.{pairs_of}
+use Rattle.blart_keys.proofs.RankLemmas.{Member}
+use Rattle.blart_map.proofs.Inserting.{alone_absent}
 
 -- the bytes are new among the numbered pairs where they are among the pairs
 pub absent_numbered : {K V : Type 0} (kb : K → List ℕ) (ps : List (Numbered K V)) (q : List ℕ) → stores (pair_bytes kb) (pairs_of ps) q ≡ false → stores (bytes kb) ps q ≡ false
 absent_numbered kb ps q h = sym (list_any-map (λ p. p.1) (λ y. bytes_eq (kb y.0) q) ps) ∙ h
+
+-- where the point is a leaf's the bytes are stored
+pub exact_stored : {K V : Type 0} (kb : K → List ℕ) (ps : List (Numbered K V)) (q : List ℕ) (id : ℕ) → IsGood kb ps (Exact id) q → stores (pair_bytes kb) (pairs_of ps) q ≡ true
+exact_stored kb ps q id good =
+    let m = at_Some (bytes kb) ps q (id, good.0) good.1 in
+    list_any-map (λ p. p.1) (λ y. bytes_eq (kb y.0) q) ps ∙ stores_member (bytes kb) ps q (id, good.0) m.0 m.1
+
+-- where no key is related the bytes are new
+pub open_new : {K V : Type 0} (kb : K → List ℕ) (ps : List (Numbered K V)) (q : List ℕ) → ((y : Numbered K V) → Member y ps → related (bytes kb y) q ≡ false) → stores (pair_bytes kb) (pairs_of ps) q ≡ false
+open_new kb ps q alone = list_any-map (λ p. p.1) (λ y. bytes_eq (kb y.0) q) ps ∙ alone_absent (bytes kb) ps q alone

@@ -9,7 +9,7 @@ ghost use Rattle.art_walk.specs.Pairs.{pairs_of};
 ghost use Rattle.blart_map.specs.Bulk.{or_else};
 ghost use Rattle.blart_map.specs.Content.{pairs};
 
-use crate::bulk::reserved::put_reserved;
+use crate::bulk::reserved::{add_reserved, put_reserved};
 use crate::map::TreeMap;
 use art_tree::{Leaves, Tree};
 use blart_keys::NoPrefixesBytes;
@@ -19,7 +19,7 @@ use std::mem::{replace, swap};
 impl<K: NoPrefixesBytes + Drop, V: Drop, const PREFIX_LEN: usize> TreeMap<K, V, PREFIX_LEN> {
     /// Moves all pairs of the other map here. Where both have a key with the same bytes the other's pair stays. The other map is empty then. Where all of the other's keys lie behind, as after a [`TreeMap::split_off`], the pairs are those of the one and then those of the other.
     ///
-    /// It takes the memory for as many pairs as the other map has before any of them moves; an error leaves both maps as they were. Where either map is empty it takes none. Each pair costs an insertion here; the other map's inner nodes are freed whole.
+    /// The pairs of the map that has fewer move, one insertion each, and its records are freed whole; where that is this map, the two are exchanged. The memory for as many pairs is taken before any of them moves; an error leaves both maps as they were. Where either map is empty it takes none.
     ///
     /// ```
     /// left.insert(U32Key::new(1), 'a')?;
@@ -49,7 +49,7 @@ impl<K: NoPrefixesBytes + Drop, V: Drop, const PREFIX_LEN: usize> TreeMap<K, V, 
     }
 }
 
-// Moves all pairs of one tree into another: all of them at once where that is empty, or one by one once there is room.
+// Moves all pairs of one tree into another, once there is room. The tree that has fewer pairs is the one that is emptied.
 fn move_into<K: NoPrefixesBytes + Drop, V: Drop, const P: usize>(
     from: &mut Tree<K, V, P>,
     to: &mut Tree<K, V, P>,
@@ -64,24 +64,18 @@ fn move_into<K: NoPrefixesBytes + Drop, V: Drop, const P: usize>(
     ensures from_refused { OnErr result (from.old.pairs ≢ []) }
 {
     from.law();
-    if to.is_empty() {
+    to.law();
+    if to.len() < from.len() {
+        from.reserve(to.len())?;
         swap(from, to);
-        return Ok(());
+        let fewer = replace(from, Tree::new(alloc));
+        add_all(fewer.into_leaves(), to);
+    } else {
+        to.reserve(from.len())?;
+        let fewer = replace(from, Tree::new(alloc));
+        move_all(fewer.into_leaves(), to);
     }
-    to.reserve(from.len())?;
-    move_all(take_leaves(from, alloc), to);
     Ok(())
-}
-
-// Takes all leaves out of a tree, and frees its inner nodes.
-fn take_leaves<K: NoPrefixesBytes + Drop, V: Drop, const P: usize>(
-    from: &mut Tree<K, V, P>,
-    alloc: Global,
-) -> Leaves<K, V>
-    ensures pairs { result.pairs ≡ from.old.pairs }
-    ensures emptied { from.new.pairs ≡ [] }
-{
-    replace(from, Tree::new(alloc)).into_leaves()
 }
 
 // Moves all pairs of some leaves into a tree, which has the room: they win where both have the bytes.
@@ -100,5 +94,24 @@ fn move_all<K: NoPrefixesBytes + Drop, V: Drop, const P: usize>(
         from.law();
         let (key, value) = from.remove(id);
         put_reserved(to, key, value);
+    }
+}
+
+// Moves all pairs of some leaves into a tree, which has the room: the tree's win where both have the bytes.
+fn add_all<K: NoPrefixesBytes + Drop, V: Drop, const P: usize>(
+    from: Leaves<K, V>,
+    to: &mut Tree<K, V, P>,
+)
+    requires content { IsContent (bytes K.bytes) (pairs_of from.pairs) }
+    requires room { length from.pairs ≤ room to.old }
+    ensures { IsAppended (bytes K.bytes) (pairs_of from.pairs) (pairs_of to.old.pairs)
+        (pairs_of to.new.pairs) }
+{
+    to.law();
+    let mut from = from;
+    while let Some(id) = from.first() {
+        from.law();
+        let (key, value) = from.remove(id);
+        add_reserved(to, key, value);
     }
 }

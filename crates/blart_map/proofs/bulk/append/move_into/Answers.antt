@@ -1,27 +1,37 @@
-use Rattle.std.proofs.Common.{◌≡◌, List, sym, ap, subst, subst₂, length, lit<, arith, rules}
+use Rattle.std.proofs.Common.{List, sym, ap, ◌∙◌, subst, subst₂, length, lit<, arith}
 use Rattle.blart_keys.specs.Content.{IsContent}
 use Rattle.blart_keys.specs.Merges.{IsUnion}
 use Rattle.blart_keys.specs.Steps.{bytes}
 use Rattle.blart_keys.proofs.Mapped.{content_map}
+use Rattle.art_tree.specs.Content.{room}
 use Rattle.art_walk.specs.Pairs.{pairs_of}
-use Rattle.blart_map.proofs.Appending.{union_all}
-use Rattle.blart_map.proofs.BulkPuts.{no_items}
 use Rattle.blart_map.proofs.bulk.append.move_into.Goals as goal
 
-pub returns-then-is_empty-clause-appended : goal.returns-then-is_empty-clause-appended
-returns-then-is_empty-clause-appended g c =
+-- the pairs that were here are those that move
+pub add_all-requires : goal.add_all-requires
+add_all-requires g c =
     let kb = g.K.AsBytes.bytes in
-    let none : length c.args.to.now.pairs ≡ 0 = search rules in
-    let all = union_all (bytes kb) (pairs_of c.args.from.now.pairs) (content_map (λ p. p.1) (bytes kb) c.args.from.now.pairs c.law.ensures.content) in
-    subst₂ (λ S ps. IsUnion (bytes kb) (pairs_of c.args.from.now.pairs) (pairs_of S) (pairs_of ps)) (sym (no_items c.args.to.now.pairs none)) (sym (ap (λ t. t.pairs) c.swap.ensures.y_after)) all
+    let same = c.into_leaves.ensures ∙ ap (λ t. t.pairs) (c.replace-fewer.ensures.value ∙ c.swap.ensures.x_after) in
+    let content = subst (λ ps. IsContent (bytes kb) (pairs_of ps)) (sym same) (content_map (λ p. p.1) (bytes kb) c.args.to.now.pairs c.law-2.ensures.content) in
+    let count = ap (λ (l : List _). length l) same in
+    let there = ap room c.swap.ensures.y_after in
+    (lit< tt, (content, omega (arith, count, there, c.len-then-len.ensures, c.in_ok-reserve.ensures.ok)))
+
+pub returns-in_ok-reserve-clause-appended : goal.returns-in_ok-reserve-clause-appended
+returns-in_ok-reserve-clause-appended g c =
+    let moved = c.into_leaves.ensures ∙ ap (λ t. t.pairs) (c.replace-fewer.ensures.value ∙ c.swap.ensures.x_after) in
+    let stayed = ap (λ t. t.pairs) c.swap.ensures.y_after ∙ c.in_ok-reserve.ensures.pairs in
+    subst₂ (λ T S. IsUnion (bytes g.K.AsBytes.bytes) (pairs_of T) (pairs_of S) (pairs_of c.add_all.new.to.pairs)) stayed moved c.add_all.ensures
 
 pub move_all-requires : goal.move_all-requires
 move_all-requires g c =
     let kb = g.K.AsBytes.bytes in
-    let same = c.take_leaves.ensures.pairs in
+    let same = c.into_leaves-else-len.ensures ∙ ap (λ t. t.pairs) c.replace-fewer-else-len.ensures.value in
     let content = subst (λ ps. IsContent (bytes kb) (pairs_of ps)) (sym same) (content_map (λ p. p.1) (bytes kb) c.args.from.now.pairs c.law.ensures.content) in
     let count = ap (λ (l : List _). length l) same in
-    (lit< tt, (content, omega (arith, count, c.len.ensures, c.in_ok-reserve.ensures.ok)))
+    (lit< tt, (content, omega (arith, count, c.len-else-len.ensures, c.in_ok-reserve-2.ensures.ok)))
 
-pub returns-clause-appended : goal.returns-clause-appended
-returns-clause-appended g c = subst₂ (λ S T. IsUnion (bytes g.K.AsBytes.bytes) (pairs_of T) (pairs_of S) (pairs_of c.move_all.new.to.pairs)) c.in_ok-reserve.ensures.pairs c.take_leaves.ensures.pairs c.move_all.ensures
+pub returns-in_ok-reserve-2-clause-appended : goal.returns-in_ok-reserve-2-clause-appended
+returns-in_ok-reserve-2-clause-appended g c =
+    let moved = c.into_leaves-else-len.ensures ∙ ap (λ t. t.pairs) c.replace-fewer-else-len.ensures.value in
+    subst₂ (λ T S. IsUnion (bytes g.K.AsBytes.bytes) (pairs_of T) (pairs_of S) (pairs_of c.move_all.new.to.pairs)) moved c.in_ok-reserve-2.ensures.pairs c.move_all.ensures
