@@ -11,7 +11,7 @@ use std::alloc::AllocError;
 impl<K: NoPrefixesBytes + Drop, const PREFIX_LEN: usize> TreeSet<K, PREFIX_LEN> {
     /// Moves all elements of the other set here. Where both have the same bytes the other's element stays. The other set is empty then. Where all of the other's elements lie behind, as after a [`TreeSet::split_off`], the elements are those of the one and then those of the other.
     ///
-    /// It takes the memory for as many elements as the other set has before any of them moves; an error leaves both sets as they were. Where either set is empty it takes none.
+    /// The elements of the set that has fewer move, one insertion each; where that is this set, the two are exchanged. The memory for as many elements is taken before any of them moves; an error leaves both sets as they were. Where either set is empty it takes none.
     ///
     /// ```
     /// // left is {1, 2, 3}, right is {3, 4, 5}
