@@ -49,13 +49,20 @@ fn assert_first(rt: &impl Abort, map: &Pairs, count: usize) {
     assert_eq!(rt; NODES.get(count), Some(&map.inner_nodes()));
 }
 
-// A refused call leaves both maps as they were, and there is memory the next time.
-fn append_to(rt: &(impl Abort + Print), left: &mut Pairs, right: &mut Pairs) {
+// Moves the keys from one place on to the map of those before another. A refused call leaves both maps as they were, and there is memory the next time.
+fn append_to(
+    rt: &(impl Abort + Print),
+    left: &mut Pairs,
+    right: &mut Pairs,
+    end: usize,
+    start: usize,
+) {
+    let nodes = right.inner_nodes();
     if left.append(right).is_err() {
         say_refused(rt);
-        assert_first(rt, left, 2);
-        assert_places(rt, right, 1, 5);
-        assert_eq!(rt; right.inner_nodes(), 3);
+        assert_first(rt, left, end);
+        assert_places(rt, right, start, 5);
+        assert_eq!(rt; right.inner_nodes(), nodes);
         assert!(rt; left.append(right).is_ok());
     }
     assert_first(rt, left, 5);
@@ -63,10 +70,17 @@ fn append_to(rt: &(impl Abort + Print), left: &mut Pairs, right: &mut Pairs) {
 }
 
 #[test]
-fn append(rt: HostRuntime) {
+fn append_of_more(rt: HostRuntime) {
     let mut left = keys_of(&rt, 0, 2);
     let mut right = keys_of(&rt, 1, 5);
-    append_to(&rt, &mut left, &mut right);
+    append_to(&rt, &mut left, &mut right, 2, 1);
+}
+
+#[test]
+fn append_of_fewer(rt: HostRuntime) {
+    let mut left = keys_of(&rt, 0, 4);
+    let mut right = keys_of(&rt, 3, 5);
+    append_to(&rt, &mut left, &mut right, 4, 3);
 }
 
 // Where either map is empty nothing is refused.
