@@ -98,7 +98,8 @@ impl<K, V> Leaves<K, V> {
         self.rows.spare()
     }
 
-    // The place of a leaf.
+    // The place of a leaf. It stands apart, so that a step of a walk is short. Its answer goes in two registers: one that goes by memory, as a longer one does, would be cleared there on each step.
+    #[inline(never)]
     pub(crate) fn position_of(&self, id: LeafId) -> Position
         requires { Has self.now.pairs id }
         ensures { position_at self.now.rows (index_of self.now.pairs id) ≡ Some result }
@@ -108,7 +109,8 @@ impl<K, V> Leaves<K, V> {
         Position { row, place }
     }
 
-    // The place of a leaf, which may stand where it was seen.
+    // The place of a leaf, which may stand where it was seen. It stands apart as that does.
+    #[inline(never)]
     fn position_near(&self, id: LeafId, seen: Position) -> Position
         requires { Has self.now.pairs id }
         ensures { position_at self.now.rows (index_of self.now.pairs id) ≡ Some result }
@@ -172,6 +174,7 @@ impl<K, V> Leaves<K, V> {
     }
 
     /// The position behind this one.
+    #[inline(always)]
     pub(crate) fn forward(&self, position: Position) -> Option<Position>
         requires { (k : ℕ) × (position_at self.now.rows k ≡ Some position) }
         ensures { (k : ℕ) → position_at self.now.rows k ≡ Some position → result ≡ position_at self.now.rows (k + 1) }
@@ -191,6 +194,7 @@ impl<K, V> Leaves<K, V> {
     }
 
     /// The position before this one.
+    #[inline(always)]
     pub(crate) fn backward(&self, position: Position) -> Option<Position>
         requires { (k : ℕ) × (position_at self.now.rows k ≡ Some position) }
         ensures before { (k : ℕ) → position_at self.now.rows (k + 1) ≡ Some position → result ≡ position_at self.now.rows k }
@@ -294,9 +298,8 @@ impl<K, V> Leaves<K, V> {
         next
     }
 
-    // The same, whatever was seen. It stands apart, so that the way of most steps is short.
-    #[cold]
-    #[inline(never)]
+    // The same, whatever was seen.
+    #[inline(always)]
     fn next_by_rows(&self, id: LeafId, seen: Position) -> (Option<LeafId>, Position)
         requires { Has self.now.pairs id }
         ensures { result.0 ≡ number_after self.now.pairs id }
@@ -323,9 +326,8 @@ impl<K, V> Leaves<K, V> {
         prev
     }
 
-    // The same, whatever was seen. It stands apart, so that the way of most steps is short.
-    #[cold]
-    #[inline(never)]
+    // The same, whatever was seen.
+    #[inline(always)]
     fn prev_by_rows(&self, id: LeafId, seen: Position) -> (Option<LeafId>, Position)
         requires { Has self.now.pairs id }
         ensures { result.0 ≡ number_before self.now.pairs id }
@@ -357,8 +359,7 @@ impl<K, V> Leaves<K, V> {
     }
 
     // The leaf behind the last one of a row, and what stands behind that: the first of the row behind, which is known or else looked up.
-    #[cold]
-    #[inline(never)]
+    #[inline(always)]
     fn next_row<'a>(&'a self, id: LeafId, ahead: Ahead<'a>) -> (Option<LeafId>, Ahead<'a>)
         requires has { Has self.now.pairs id }
         requires ahead { StandsAhead self.now.pairs self.now.rows id ahead }
@@ -376,6 +377,7 @@ impl<K, V> Leaves<K, V> {
     }
 
     // The leaf behind this one, and what stands behind that.
+    #[inline(always)]
     fn next_run(&self, id: LeafId) -> (Option<LeafId>, Ahead<'_>)
         requires { Has self.now.pairs id }
         ensures next { result.0 ≡ number_after self.now.pairs id }
@@ -392,6 +394,7 @@ impl<K, V> Leaves<K, V> {
     }
 
     // The row behind another, and its numbers.
+    #[inline(always)]
     fn row_told(&self, row: usize) -> Option<(usize, &[LeafId])>
         requires { Has self.now.rows row }
         ensures behind { IfSome result (λ r. number_after self.now.rows row ≡ Some r.0) }
@@ -420,8 +423,7 @@ impl<K, V> Leaves<K, V> {
     }
 
     // The leaf before this one, and the numbers before that one in its row.
-    #[cold]
-    #[inline(never)]
+    #[inline(always)]
     fn prev_run(&self, id: LeafId) -> (Option<LeafId>, &[LeafId])
         requires { Has self.now.pairs id }
         ensures prev { result.0 ≡ number_before self.now.pairs id }

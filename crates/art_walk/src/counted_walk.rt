@@ -137,6 +137,7 @@ impl<'a, K: AsBytes + Drop, V: Drop, M, const PREFIX_LEN: usize> CountedWalk<
     }
 
     /// Lends the first value that is left.
+    #[inline(always)]
     pub fn next(&mut self) -> Option<&mut V>
         ensures* writes_back { sem 𝓛 (lends_first K.row V.row M.row PREFIX_LEN.row K.AsBytes self.entry result) }
         ensures end { IfNone result (counted_left self.old ≡ []) }
@@ -149,6 +150,7 @@ impl<'a, K: AsBytes + Drop, V: Drop, M, const PREFIX_LEN: usize> CountedWalk<
     }
 
     /// Lends the last value that is left.
+    #[inline(always)]
     pub fn next_back(&mut self) -> Option<&mut V>
         ensures* writes_back { sem 𝓛 (lends_last K.row V.row M.row PREFIX_LEN.row K.AsBytes self.entry result) }
         ensures end { IfNone result (counted_left self.old ≡ []) }

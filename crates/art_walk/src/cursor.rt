@@ -152,6 +152,7 @@ impl Cursor {
     }
 
     /// Passes the first leaf that is left, and gives its number. One visit where there is one, and else none.
+    #[inline(always)]
     pub fn step<K: AsBytes + Drop, V: Drop, const PREFIX_LEN: usize>(
         &mut self,
         tree: &Tree<K, V, PREFIX_LEN>,
@@ -171,6 +172,7 @@ impl Cursor {
     }
 
     /// Passes the last leaf that is left, and gives its number. One visit where there is one, and else none.
+    #[inline(always)]
     pub fn step_back<K: AsBytes + Drop, V: Drop, const PREFIX_LEN: usize>(
         &mut self,
         tree: &Tree<K, V, PREFIX_LEN>,

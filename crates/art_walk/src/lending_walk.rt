@@ -168,6 +168,7 @@ impl<'a, K: AsBytes + Drop, V: Drop, M, const PREFIX_LEN: usize> LendingWalk<
     ghost use Rattle.art_walk.specs.LendingWalk.{lending_left, lends_first, lends_last, lends_pair, lending_with};
 
     /// Lends the first value that is left.
+    #[inline(always)]
     pub fn next(&mut self) -> Option<&mut V>
         ensures* writes_back { sem 𝓛 (lends_first K.row V.row M.row PREFIX_LEN.row K.AsBytes self.entry result) }
         ensures end { IfNone result (lending_left self.old ≡ []) }
@@ -179,6 +180,7 @@ impl<'a, K: AsBytes + Drop, V: Drop, M, const PREFIX_LEN: usize> LendingWalk<
     }
 
     /// Lends the last value that is left.
+    #[inline(always)]
     pub fn next_back(&mut self) -> Option<&mut V>
         ensures* writes_back { sem 𝓛 (lends_last K.row V.row M.row PREFIX_LEN.row K.AsBytes self.entry result) }
         ensures end { IfNone result (lending_left self.old ≡ []) }

@@ -52,6 +52,7 @@ impl<K: AsBytes + Drop, V: Drop, const PREFIX_LEN: usize> TreeMap<K, V, PREFIX_L
     }
 
     /// Passes the first leaf that a cursor has left, and gives its number. One visit where there is one, and else none.
+    #[inline(always)]
     pub fn step(&self, cursor: &mut Cursor) -> Option<LeafId>
         requires { FitsIn cursor.old self.now }
         ensures fits { FitsIn cursor.new self.now }
@@ -65,6 +66,7 @@ impl<K: AsBytes + Drop, V: Drop, const PREFIX_LEN: usize> TreeMap<K, V, PREFIX_L
     }
 
     /// Passes the last leaf that a cursor has left, and gives its number. One visit where there is one, and else none.
+    #[inline(always)]
     pub fn step_back(&self, cursor: &mut Cursor) -> Option<LeafId>
         requires { FitsIn cursor.old self.now }
         ensures fits { FitsIn cursor.new self.now }

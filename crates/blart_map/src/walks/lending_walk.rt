@@ -106,6 +106,7 @@ impl<'a, K: AsBytes + Drop, V: Drop, M, const PREFIX_LEN: usize> LendingWalk<
     }
 
     /// Lends the first value that is left.
+    #[inline(always)]
     pub fn next(&mut self) -> Option<&mut V>
         ensures* writes_back { sem 𝓛 (lends_first K.row V.row M.row PREFIX_LEN.row K.AsBytes self.entry result) }
         ensures end { IfNone result (lending_left self.old ≡ []) }
@@ -117,6 +118,7 @@ impl<'a, K: AsBytes + Drop, V: Drop, M, const PREFIX_LEN: usize> LendingWalk<
     }
 
     /// Lends the last value that is left.
+    #[inline(always)]
     pub fn next_back(&mut self) -> Option<&mut V>
         ensures* writes_back { sem 𝓛 (lends_last K.row V.row M.row PREFIX_LEN.row K.AsBytes self.entry result) }
         ensures end { IfNone result (lending_left self.old ≡ []) }
