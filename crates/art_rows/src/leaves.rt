@@ -98,8 +98,7 @@ impl<K, V> Leaves<K, V> {
         self.rows.spare()
     }
 
-    // The place of a leaf. It stands apart, so that a step of a walk is short. Its answer goes in two registers: one that goes by memory, as a longer one does, would be cleared there on each step.
-    #[inline(never)]
+    // The place of a leaf.
     pub(crate) fn position_of(&self, id: LeafId) -> Position
         requires { Has self.now.pairs id }
         ensures { position_at self.now.rows (index_of self.now.pairs id) ≡ Some result }
@@ -109,7 +108,7 @@ impl<K, V> Leaves<K, V> {
         Position { row, place }
     }
 
-    // The place of a leaf, which may stand where it was seen. It stands apart as that does.
+    // The place of a leaf, which may stand where it was seen. It stands apart, so that a step of a cursor is short. Its answer goes in two registers: one that goes by memory, as a longer one does, would be cleared there on each step.
     #[inline(never)]
     fn position_near(&self, id: LeafId, seen: Position) -> Position
         requires { Has self.now.pairs id }
@@ -359,7 +358,8 @@ impl<K, V> Leaves<K, V> {
     }
 
     // The leaf behind the last one of a row, and what stands behind that: the first of the row behind, which is known or else looked up.
-    #[inline(always)]
+    #[cold]
+    #[inline(never)]
     fn next_row<'a>(&'a self, id: LeafId, ahead: Ahead<'a>) -> (Option<LeafId>, Ahead<'a>)
         requires has { Has self.now.pairs id }
         requires ahead { StandsAhead self.now.pairs self.now.rows id ahead }
@@ -377,7 +377,6 @@ impl<K, V> Leaves<K, V> {
     }
 
     // The leaf behind this one, and what stands behind that.
-    #[inline(always)]
     fn next_run(&self, id: LeafId) -> (Option<LeafId>, Ahead<'_>)
         requires { Has self.now.pairs id }
         ensures next { result.0 ≡ number_after self.now.pairs id }
@@ -394,7 +393,6 @@ impl<K, V> Leaves<K, V> {
     }
 
     // The row behind another, and its numbers.
-    #[inline(always)]
     fn row_told(&self, row: usize) -> Option<(usize, &[LeafId])>
         requires { Has self.now.rows row }
         ensures behind { IfSome result (λ r. number_after self.now.rows row ≡ Some r.0) }
@@ -423,7 +421,8 @@ impl<K, V> Leaves<K, V> {
     }
 
     // The leaf before this one, and the numbers before that one in its row.
-    #[inline(always)]
+    #[cold]
+    #[inline(never)]
     fn prev_run(&self, id: LeafId) -> (Option<LeafId>, &[LeafId])
         requires { Has self.now.pairs id }
         ensures prev { result.0 ≡ number_before self.now.pairs id }

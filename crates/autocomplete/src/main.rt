@@ -21,6 +21,16 @@ fn complete<const P: usize>(
     Ok(())
 }
 
+// Stores a word.
+fn store<const P: usize>(
+    rt: &impl AllocGlobal,
+    words: &mut TreeSet<ZKey, P>,
+    word: &str,
+) -> anyhow::Result<()> {
+    words.insert(ZKey::from_bytes(rt.alloc(), word.as_bytes())?)?;
+    Ok(())
+}
+
 fn main(rt: HostRuntime) -> anyhow::Result<()> {
     let mut words = TreeSet::new(rt.alloc());
     let mut lines = BufReader::new(rt.alloc(), rt.reader())?.lines(rt.alloc());
@@ -29,7 +39,7 @@ fn main(rt: HostRuntime) -> anyhow::Result<()> {
         if word.is_empty() {
             break;
         }
-        words.insert(ZKey::from_bytes(rt.alloc(), word.as_bytes())?)?;
+        store(&rt, &mut words, &word)?;
     }
     for line in lines {
         complete(&rt, &words, &line?)?;
