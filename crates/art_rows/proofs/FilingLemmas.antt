@@ -3,14 +3,14 @@ use Rattle.std.proofs.Common.{◌≡◌, ℕ, suc, ◌+◌, ◌-◌, ◌<◌, �
 use Rattle.std.specs.Prelude.{option_map, IfSome}
 use Rattle.std.proofs.lemmas.List.{length-map}
 use Rattle.art_rows.specs.Numbers.{Numbered, Numbers, leaf_in, Has, last_number, number_after, number_before, Lacks, AreDistinct}
-use Rattle.art_rows.specs.Rows.{among, place_in, nth, numbers, row_with, position_at}
+use Rattle.art_rows.specs.Rows.{among, place_in, nth, numbers, row_with, position_at, start_of}
 use Rattle.art_rows.specs.Leaves.{Leaves, index_of}
 use Rattle.art_rows.specs.Filing.{gather, Files, pairs_in, AllFiled, content}
 use Rattle.art_kinds.specs.Store.{Store, slot_at, used_count}
 use Rattle.art_rows.specs.declared.leaves.Leaf.{Leaf}
 use Rattle.art_rows.specs.declared.row.Position.{Position}
 use Rattle.art_rows.proofs.NumbersLemmas.{eqb_same, eqb_other, has_other, split, leaf_in-split}
-use Rattle.art_rows.proofs.RowsLemmas.{among-numbers, among-nth, number_after-nth, number_before-nth, nth-within, place_in-nth, position-split, position-here, Has-among, found, standing, standing-row, standing-number, standing-within, standing-behind, standing-earlier, standing-first, standing-not_first, standing-row_end, start_of, end_of, position-none, position-last, none-last, filled-row}
+use Rattle.art_rows.proofs.RowsLemmas.{among-numbers, among-nth, number_after-nth, number_before-nth, nth-within, place_in-nth, position-split, position-here, Has-among, found, standing, standing-row, standing-number, standing-within, standing-behind, standing-earlier, standing-first, standing-not_first, standing-row_end, end_of, position-none, position-last, none-last, filled-row}
 
 -- what follows of what there is
 pub if_some : {A : Type 0} (o : Option A) (P Q : A → Type 0) → ((x : A) → P x → Q x) → IfSome o P → IfSome o Q

@@ -5,7 +5,7 @@ use Rattle.std.specs.Option.{option_or}
 use Rattle.std.proofs.lemmas.Bool.Decides.{eqb_tells, nat_tests}
 use Rattle.std.proofs.lemmas.List.{length-append}
 use Rattle.art_rows.specs.Numbers.{Numbered, leaf_in, Has, first_number, last_number, number_after, number_before, number_before_from, Lacks, AreDistinct}
-use Rattle.art_rows.specs.Rows.{among, place_in, nth, numbers, row_with, position_at, AreFilled}
+use Rattle.art_rows.specs.Rows.{among, place_in, nth, numbers, row_with, position_at, AreFilled, start_of}
 use Rattle.art_rows.specs.declared.row.Position.{Position}
 use Rattle.art_rows.proofs.NumbersLemmas.{eqb_same, eqb_other, has_other, Has-last, leaf_in-append, last_number-cons, AreDistinct-parts, distinct_parts, leaf_in-split, number_after-split, number_before-split}
 
@@ -254,10 +254,6 @@ position-past r ids after j =
     let l : ltb (length ids + j) (length ids) ≡ false = grind (arith, nat_tests) in
     let m : length ids + j - length ids ≡ j = omega arith in
     rw (l, m) refl
-
--- the start of a row
-abbrev pub start_of : ℕ → Position
-start_of r = record { row = r; place = 0 }
 
 pub position-first : (rows : List (Numbered (List ℕ))) → AreFilled rows → position_at rows 0 ≡ option_map start_of (first_number rows)
 position-first [] f = refl

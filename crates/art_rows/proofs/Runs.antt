@@ -1,16 +1,15 @@
 -- What holds of the runs of numbers behind a number and before it.
 use Rattle.std.proofs.Common.{◌≡◌, ℕ, zero, suc, ◌+◌, ◌-◌, ◌<◌, ◌≤◌, List, [], ◌∷◌, ◌++◌, length, map, take, drop, refl, sym, ap, subst, ◌∙◌, Option, Some, None, arith}
 use Rattle.std.proofs.lemmas.List.{length-take-le, length-drop}
-use Rattle.std.specs.Prelude.{option_map, IfSome}
-use denote.Ref.{Bor}
+use Rattle.std.specs.Prelude.{option_map}
 use Rattle.art_rows.specs.Numbers.{Numbered, leaf_in, Has, number_after, number_before, number_before_from, AreDistinct}
-use Rattle.art_rows.specs.Rows.{place_in, nth, numbers, position_at, RunsBehind, RunsBefore, StandsAhead}
+use Rattle.art_rows.specs.Rows.{place_in, nth, numbers, position_at, RunsBehind, RunsBefore, StandsAhead, start_of}
 use Rattle.art_rows.specs.Filing.{Files}
 use Rattle.art_rows.specs.declared.ahead.Ahead.{Ahead}
 use Rattle.art_rows.specs.declared.leaves.Leaf.{Leaf}
 use Rattle.art_rows.specs.declared.row.Position.{Position}
-use Rattle.art_rows.proofs.FilingLemmas.{number_there, same_ids, if_some}
-use Rattle.art_rows.proofs.RowsLemmas.{nth-append_left, nth-append_right, nth-within, number_after-nth, number_before-nth, place_in-nth, standing, standing-numbers, standing-end, start_of}
+use Rattle.art_rows.proofs.FilingLemmas.{number_there, same_ids}
+use Rattle.art_rows.proofs.RowsLemmas.{nth-append_left, nth-append_right, nth-within, number_after-nth, number_before-nth, place_in-nth, standing, standing-numbers, standing-end}
 
 -- what stands behind a place
 nth-drop : (ns : List ℕ) (k j : ℕ) → nth (drop k ns) j ≡ nth ns (k + j)
@@ -52,7 +51,7 @@ module _ {X : Type 0} (ps : List (Numbered X)) (distinct : AreDistinct ps) (i n 
         r.0,
         record {
           run = subst (RunsBehind ps n) (sym is) r.1;
-          row = rw same (if_some a.row _ _ (λ t h. (ap (position_at rows) e ∙ h.0, h.1)) s.row);
+          row = ap (option_map start_of) same ∙ s.row ∙ sym (ap (position_at rows) e);
         },
       )
 
@@ -102,25 +101,20 @@ module _ {K V : Type 0} (leaves : ℕ → Option (Leaf K V)) (rows : List (Numbe
       let i = index_is in
       nth_of_row (p.place + 1 + j) m (place_in (map (λ q. q.0) ps) n + 1 + j) (omega arith) (sym (nth-drop ids (p.place + 1) j) ∙ e)
 
-  -- the row behind stands behind that run
-  pub row_behind_run : (r : ℕ) → number_after rows p.row ≡ Some r → position_at rows (place_in (map (λ q. q.0) ps) n + 1 + length (drop (p.place + 1) ids)) ≡ Some (start_of r)
-  row_behind_run r e =
+  -- the row behind, if there is one, stands behind that run
+  row_behind_run : position_at rows (place_in (map (λ q. q.0) ps) n + 1 + length (drop (p.place + 1) ids)) ≡ option_map start_of (number_after rows p.row)
+  row_behind_run =
       let i = index_is in
       let s = standing rows k p at in
       let same : s.ids ≡ ids = same_ids leaves rows count ps f k p at ids is in
       let w : p.place < length ids = nth-within ids p.place n there in
       let l : length (drop (p.place + 1) ids) ≡ length ids - (p.place + 1) = length-drop (p.place + 1) ids in
       let b : place_in (map (λ q. q.0) ps) n + 1 + length (drop (p.place + 1) ids) + p.place ≡ k + length s.ids = rw same (omega arith) in
-      standing-end rows k p s f.apart f.filled _ b ∙ ap (option_map start_of) e
+      standing-end rows k p s f.apart f.filled _ b
 
   -- what was looked up in a row and behind it stands ahead
-  pub ahead_there : (b : Ahead) → b.run.now ≡ drop (p.place + 1) ids → IfSome b.row (λ r. number_after rows p.row ≡ Some r.0) → IfSome b.row (λ r. leaf_in rows r.0 ≡ Some r.1.now) → StandsAhead ps rows n b
-  ahead_there b run row its = record { run = subst (RunsBehind ps n) (sym run) behind_in_row; row = go b.row row its }
-    where
-      go : (o : Option (ℕ × Bor (List ℕ))) → IfSome o (λ r. number_after rows p.row ≡ Some r.0) → IfSome o (λ r. leaf_in rows r.0 ≡ Some r.1.now)
-          → IfSome o (λ r. (position_at rows (place_in (map (λ q. q.0) ps) n + 1 + length b.run.now) ≡ Some (start_of r.0)) × (leaf_in rows r.0 ≡ Some r.1.now))
-      go None x y = tt
-      go (Some r) x y = (ap (λ l. position_at rows (place_in (map (λ q. q.0) ps) n + 1 + length l)) run ∙ row_behind_run r.0 x, y)
+  pub ahead_there : (b : Ahead) → b.run.now ≡ drop (p.place + 1) ids → b.row ≡ number_after rows p.row → StandsAhead ps rows n b
+  ahead_there b run row = record { run = subst (RunsBehind ps n) (sym run) behind_in_row; row = ap (option_map start_of) row ∙ sym row_behind_run ∙ ap (λ l. position_at rows (place_in (map (λ q. q.0) ps) n + 1 + length l)) (sym run) }
 
   -- the number there is the one behind
   pub next_there : (i : ℕ) → Has ps i → k ≡ place_in (map (λ q. q.0) ps) i + 1 → number_after ps i ≡ Some n

@@ -1,5 +1,5 @@
 -- Rows of numbers: which row has a number, at which place, and the numbers of all rows in order.
-use Rattle.std.specs.Prelude.{◌≡◌, ◌≤◌, ℕ, zero, suc, ◌+◌, ◌-◌, ◌*◌, ◌<◌, min, max, List, [], ◌∷◌, ◌++◌, length, map, Option, Some, None, Bool, true, false, IfSome, cond, eqb, ltb}
+use Rattle.std.specs.Prelude.{◌≡◌, ◌≤◌, ℕ, zero, suc, ◌+◌, ◌-◌, ◌*◌, ◌<◌, min, max, List, [], ◌∷◌, ◌++◌, length, map, Option, option_map, Some, None, Bool, true, false, cond, eqb, ltb}
 use Rattle.art_rows.specs.Numbers.{Numbered, leaf_in, AreDistinct}
 use Rattle.art_rows.specs.declared.ahead.Ahead.{Ahead}
 use Rattle.art_rows.specs.declared.row.Position.{Position}
@@ -87,6 +87,10 @@ abbrev pub row_start : List (Numbered (List ℕ)) → ℕ → ℕ
 row_start [] r = 0
 row_start (q ∷ qs) r = cond (eqb q.0 r) 0 (length q.1 + row_start qs r)
 
+-- the start of a row
+abbrev pub start_of : ℕ → Position
+start_of r = record { row = r; place = 0 }
+
 -- a position that says nothing
 abbrev pub nowhere : Position
 nowhere = record { row = 0; place = 0 }
@@ -100,7 +104,7 @@ module _ {X : Type 0} where
   abbrev pub RunsBefore : List (Numbered X) → ℕ → List ℕ → Type 0
   RunsBefore ps i run = (length run ≤ place_in (map (λ p. p.0) ps) i) × ((j n : ℕ) → nth run j ≡ Some n → nth (map (λ p. p.0) ps) (place_in (map (λ p. p.0) ps) i + j - length run) ≡ Some n)
 
-  -- the run stands directly behind the number i, and the row behind the run, if it was looked up
+  -- the run stands directly behind the number i, and the row, if there is one, behind the run
   pub record StandsAhead (ps : List (Numbered X)) (rows : List (Numbered (List ℕ))) (i : ℕ) (ahead : Ahead) : Type 0 where
     pub run : RunsBehind ps i ahead.run.now
-    pub row : IfSome ahead.row (λ r. (position_at rows (place_in (map (λ p. p.0) ps) i + 1 + length ahead.run.now) ≡ Some (record { row = r.0; place = 0 })) × (leaf_in rows r.0 ≡ Some r.1.now))
+    pub row : option_map start_of ahead.row ≡ position_at rows (place_in (map (λ p. p.0) ps) i + 1 + length ahead.run.now)

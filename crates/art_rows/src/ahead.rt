@@ -3,11 +3,11 @@ ghost use Rattle.std.specs.Prelude.{◌≡◌, [], None};
 
 use art_kinds::LeafId;
 
-/// What stands behind a leaf, as far as it was looked up: the rest of its row, and the row behind, under its number.
+/// What stands behind a leaf: the rest of its row, and the number of the row behind.
 #[derive(Clone, Copy)]
 pub struct Ahead<'a> {
     pub(crate) run: &'a [LeafId],
-    pub(crate) row: Option<(usize, &'a [LeafId])>,
+    pub(crate) row: Option<usize>,
 }
 
 impl<'a> Ahead<'a> {

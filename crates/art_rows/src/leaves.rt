@@ -338,7 +338,18 @@ impl<K, V> Leaves<K, V> {
         }
     }
 
-    /// The leaf behind this one; `ahead` is what stands behind this one, as far as it was looked up, and then what stands behind that. Where it has a leaf, no row is read.
+    /// What stands behind a leaf.
+    pub fn ahead(&self, id: LeafId) -> Ahead<'_>
+        requires { Has self.now.pairs id }
+        ensures { StandsAhead self.now.pairs self.now.rows id result }
+    {
+        let position = self.position_of(id);
+        let run = self.rows.read(position.row).behind(position.place);
+        let row = self.row_told(position.row);
+        Ahead { run, row }
+    }
+
+    /// The leaf behind this one; `ahead` is what stands behind this one, and then what stands behind that. Only at the end of a row is the next one read.
     #[inline(always)]
     pub fn next_in<'a>(&'a self, id: LeafId, ahead: &mut Ahead<'a>) -> Option<LeafId>
         requires has { Has self.now.pairs id }
@@ -352,55 +363,30 @@ impl<K, V> Leaves<K, V> {
             ahead.run = run;
             return Some(*next);
         }
-        let (next, behind) = self.next_row(id, *ahead);
-        *ahead = behind;
-        next
+        let rows = &self.rows;
+        let Some(row) = ahead.row else {
+            return None;
+        };
+        let ids = rows.read(row).ids();
+        let (next, rest) = ids.split_first().unwrap();
+        ahead.run = rest;
+        ahead.row = self.row_told(row);
+        Some(*next)
     }
 
-    // The leaf behind the last one of a row, and what stands behind that: the first of the row behind, which is known or else looked up.
+    // The row behind another. It is read here, so that a walk that comes to it later need not wait for it; and the answer goes in registers, so that no step of a walk clears a place for it.
     #[cold]
     #[inline(never)]
-    fn next_row<'a>(&'a self, id: LeafId, ahead: Ahead<'a>) -> (Option<LeafId>, Ahead<'a>)
-        requires has { Has self.now.pairs id }
-        requires ahead { StandsAhead self.now.pairs self.now.rows id ahead }
-        requires end { ahead.run.now ≡ [] }
-        ensures next { result.0 ≡ number_after self.now.pairs id }
-        ensures ahead { IfSome result.0 (λ n. StandsAhead self.now.pairs self.now.rows n result.1) }
-    {
-        let _ = &self.rows;
-        let Some((row, ids)) = ahead.row else {
-            return self.next_run(id);
-        };
-        let (next, run) = ids.split_first().unwrap();
-        let row = self.row_told(row);
-        (Some(*next), Ahead { run, row })
-    }
-
-    // The leaf behind this one, and what stands behind that.
-    fn next_run(&self, id: LeafId) -> (Option<LeafId>, Ahead<'_>)
-        requires { Has self.now.pairs id }
-        ensures next { result.0 ≡ number_after self.now.pairs id }
-        ensures ahead { IfSome result.0 (λ n. StandsAhead self.now.pairs self.now.rows n result.1) }
-    {
-        let rows = &self.rows;
-        let Some(position) = self.forward(self.position_of(id)) else {
-            return (None, Ahead::unknown());
-        };
-        let ids = rows.read(position.row);
-        let run = ids.behind(position.place);
-        let row = self.row_told(position.row);
-        (Some(ids.at(position.place)), Ahead { run, row })
-    }
-
-    // The row behind another, and its numbers.
-    fn row_told(&self, row: usize) -> Option<(usize, &[LeafId])>
+    fn row_told(&self, row: usize) -> Option<usize>
         requires { Has self.now.rows row }
-        ensures behind { IfSome result (λ r. number_after self.now.rows row ≡ Some r.0) }
-        ensures ids { IfSome result (λ r. leaf_in self.now.rows r.0 ≡ Some r.1.now) }
+        ensures { result ≡ number_after self.now.rows row }
     {
         let rows = &self.rows;
         match rows.next_of(row) {
-            Some(next) => Some((next, rows.read(next).ids())),
+            Some(next) => {
+                let _len = rows.read(next).len();
+                Some(next)
+            }
             None => None,
         }
     }

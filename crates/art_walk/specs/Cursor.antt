@@ -1,5 +1,5 @@
 -- What a cursor has still to come in a list of numbered pairs.
-use Rattle.std.specs.Prelude.{◌≡◌, ℕ, List, [], ◌∷◌, ◌++◌, Option, Some, None, cond, eqb}
+use Rattle.std.specs.Prelude.{◌≡◌, ◌≢◌, ℕ, List, [], ◌∷◌, ◌++◌, Option, Some, None, cond, eqb}
 use Rattle.art_tree.specs.Leaves.{Ahead, Numbered, Has, nowhere, RunsBefore, StandsAhead}
 use Rattle.art_walk.specs.declared.cursor.Cursor.{Cursor}
 
@@ -48,10 +48,10 @@ module _ {K V : Type 0} where
   abbrev pub FitsIn : Cursor → List (Numbered K V) → Type 0
   FitsIn c ps = EndsFit c.ends ps
 
-  -- this stands ahead of the first end, and this run before the last
+  -- this stands ahead of the first end, where that is not the last, and this run before the last
   abbrev pub StandsBeside : Option (ℕ × ℕ) → Ahead → List ℕ → List (Numbered K V) → List (ℕ × List ℕ) → Type 0
   StandsBeside None ahead before ps rows = Unit {0}
-  StandsBeside (Some e) ahead before ps rows = StandsAhead ps rows e.0 ahead × RunsBefore ps e.1 before
+  StandsBeside (Some e) ahead before ps rows = (e.0 ≢ e.1 → StandsAhead ps rows e.0 ahead) × RunsBefore ps e.1 before
 
   -- the first pair, if there is one, is passed, and this is its number
   abbrev pub PassesFirst : List (Numbered K V) → Option ℕ → List (Numbered K V) → Type 0

@@ -58,6 +58,7 @@ impl<'a, K, V, const PREFIX_LEN: usize> Iterator for Iter<'a, K, V, PREFIX_LEN> 
     ghost remaining = { item_count (λ rest. rest) };
 
     /// The first pair that is left.
+    #[inline(always)]
     fn next(&mut self) -> Option<(&'a K, &'a V)> {
         let pair = self.walk.next()?;
         self.left -= 1;
@@ -78,6 +79,7 @@ impl<'a, K, V, const PREFIX_LEN: usize> DoubleEndedIterator for Iter<'a, K, V, P
     ghost next_back_gives = { YieldsLastBy (λ item. (item.0.now, item.1.now)) (λ rest. rest) };
 
     /// The last pair that is left.
+    #[inline(always)]
     fn next_back(&mut self) -> Option<(&'a K, &'a V)> {
         let pair = self.walk.next_back()?;
         self.left -= 1;

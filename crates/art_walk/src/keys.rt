@@ -52,6 +52,7 @@ impl<'a, K, V, const PREFIX_LEN: usize> Iterator for Keys<'a, K, V, PREFIX_LEN> 
     ghost remaining = { item_count (λ rest. rest) };
 
     /// The first key that is left.
+    #[inline(always)]
     fn next(&mut self) -> Option<&'a K> {
         match self.pairs.next() {
             Some(pair) => Some(pair.0),
@@ -74,6 +75,7 @@ impl<'a, K, V, const PREFIX_LEN: usize> DoubleEndedIterator for Keys<'a, K, V, P
     ghost next_back_gives = { YieldsLastRef (λ rest. rest) };
 
     /// The last key that is left.
+    #[inline(always)]
     fn next_back(&mut self) -> Option<&'a K> {
         match self.pairs.next_back() {
             Some(pair) => Some(pair.0),

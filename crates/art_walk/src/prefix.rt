@@ -54,6 +54,7 @@ impl<'a, K, V, const PREFIX_LEN: usize> Iterator for Prefix<'a, K, V, PREFIX_LEN
     ghost remaining = { item_count (λ rest. rest) };
 
     /// The first pair that is left.
+    #[inline(always)]
     fn next(&mut self) -> Option<(&'a K, &'a V)> {
         self.walk.next()
     }
@@ -63,6 +64,7 @@ impl<'a, K, V, const PREFIX_LEN: usize> DoubleEndedIterator for Prefix<'a, K, V,
     ghost next_back_gives = { YieldsLastBy (λ item. (item.0.now, item.1.now)) (λ rest. rest) };
 
     /// The last pair that is left.
+    #[inline(always)]
     fn next_back(&mut self) -> Option<(&'a K, &'a V)> {
         self.walk.next_back()
     }

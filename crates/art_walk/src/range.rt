@@ -65,6 +65,7 @@ impl<'a, K, V, const PREFIX_LEN: usize> Iterator for Range<'a, K, V, PREFIX_LEN>
     ghost remaining = { item_count (λ rest. rest) };
 
     /// The first pair that is left.
+    #[inline(always)]
     fn next(&mut self) -> Option<(&'a K, &'a V)> {
         self.walk.next()
     }
@@ -74,6 +75,7 @@ impl<'a, K, V, const PREFIX_LEN: usize> DoubleEndedIterator for Range<'a, K, V, 
     ghost next_back_gives = { YieldsLastBy (λ item. (item.0.now, item.1.now)) (λ rest. rest) };
 
     /// The last pair that is left.
+    #[inline(always)]
     fn next_back(&mut self) -> Option<(&'a K, &'a V)> {
         self.walk.next_back()
     }

@@ -45,6 +45,7 @@ impl<'a, K, V, const PREFIX_LEN: usize> Iterator for SubtreeIter<'a, K, V, PREFI
     ghost remaining = { item_count (λ rest. rest) };
 
     /// The first pair that is left.
+    #[inline(always)]
     fn next(&mut self) -> Option<(&'a K, &'a V)> {
         self.walk.next()
     }
@@ -54,6 +55,7 @@ impl<'a, K, V, const PREFIX_LEN: usize> DoubleEndedIterator for SubtreeIter<'a, 
     ghost next_back_gives = { YieldsLastBy (λ item. (item.0.now, item.1.now)) (λ rest. rest) };
 
     /// The last pair that is left.
+    #[inline(always)]
     fn next_back(&mut self) -> Option<(&'a K, &'a V)> {
         self.walk.next_back()
     }

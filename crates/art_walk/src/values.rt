@@ -52,6 +52,7 @@ impl<'a, K, V, const PREFIX_LEN: usize> Iterator for Values<'a, K, V, PREFIX_LEN
     ghost remaining = { item_count (λ rest. rest) };
 
     /// The first value that is left.
+    #[inline(always)]
     fn next(&mut self) -> Option<&'a V> {
         match self.pairs.next() {
             Some(pair) => Some(pair.1),
@@ -74,6 +75,7 @@ impl<'a, K, V, const PREFIX_LEN: usize> DoubleEndedIterator for Values<'a, K, V,
     ghost next_back_gives = { YieldsLastRef (λ rest. rest) };
 
     /// The last value that is left.
+    #[inline(always)]
     fn next_back(&mut self) -> Option<&'a V> {
         match self.pairs.next_back() {
             Some(pair) => Some(pair.1),

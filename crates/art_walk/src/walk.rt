@@ -10,6 +10,17 @@ use art_tree::{Ahead, LeafId, Leaves, Visits};
 use std::iter::{DoubleEndedIterator, Iterator};
 use std::marker::Model;
 
+// What stands behind the first leaf. Where that is the last, nothing is looked up.
+fn ahead_of<K, V>(leaves: &Leaves<K, V>, first: LeafId, last: LeafId) -> Ahead<'_>
+    requires { Has leaves.now.pairs first }
+    ensures { first ≢ last → StandsAhead leaves.now.pairs leaves.now.rows first result }
+{
+    if first == last {
+        return Ahead::unknown();
+    }
+    leaves.ahead(first)
+}
+
 // The ends without the first leaf; `ahead` is what stands behind that, and then behind the one that is the first. Nothing is looked for behind the last.
 #[inline(always)]
 fn without_first<'a, K, V>(
@@ -19,7 +30,7 @@ fn without_first<'a, K, V>(
     ahead: &mut Ahead<'a>,
 ) -> Option<(LeafId, LeafId)>
     requires has { Has leaves.now.pairs first }
-    requires ahead { StandsAhead leaves.now.pairs leaves.now.rows first ahead.old }
+    requires ahead { first ≢ last → StandsAhead leaves.now.pairs leaves.now.rows first ahead.old }
     ensures one { first ≡ last → result ≡ None }
     ensures more { first ≢ last → result
         ≡ option_map (λ id. (id, last)) (number_after leaves.now.pairs first) }
@@ -65,7 +76,7 @@ pub(crate) struct Walk<'a, K, V> {
     leaves: &'a Leaves<K, V>,
     // the first and the last leaf
     ends: Option<(LeafId, LeafId)>,
-    // what stands behind the first, and before the last in its row: a step that finds its leaf here searches no row
+    // what stands behind the first, where that is not the last, and before the last in its row: a step that finds its leaf here searches no row
     ahead: Ahead<'a>,
     before: &'a [LeafId],
 }
@@ -89,10 +100,15 @@ impl<'a, K, V> Walk<'a, K, V> {
         requires { FitsIn cursor leaves.now.pairs }
         ensures { result ≡ pairs_of (leaves_left cursor leaves.now.pairs) }
     {
+        leaves.law();
+        let ahead = match cursor.ends() {
+            Some(ends) => ahead_of(leaves, ends.0, ends.1),
+            None => Ahead::unknown(),
+        };
         Walk {
             leaves,
             ends: cursor.ends(),
-            ahead: Ahead::unknown(),
+            ahead,
             before: &[],
         }
     }

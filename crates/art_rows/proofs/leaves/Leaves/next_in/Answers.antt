@@ -1,5 +1,15 @@
-use Rattle.std.proofs.Common.{refl, sym}
-use Rattle.art_rows.proofs.Runs.{ahead_step}
+use Rattle.std.proofs.Common.{◌≡◌, ◌+◌, ◌∷◌, ℕ, length, drop, Some, refl, sym, ap, subst, ◌∙◌, arith}
+use Rattle.std.specs.Prelude.{option_map}
+use Rattle.std.specs.Option.{MatchOption}
+use Rattle.std.specs.List.{IsFirstAndRest}
+use Rattle.art_kinds.specs.Store.{slot_at, used_count}
+use Rattle.art_rows.specs.Filing.{Files}
+use Rattle.art_rows.specs.Leaves.{index_of}
+use Rattle.art_rows.specs.Numbers.{leaf_in}
+use Rattle.art_rows.specs.Rows.{nth, position_at, start_of}
+use Rattle.art_rows.proofs.FilingLemmas.{seen, none_there, has_row_at, place_at}
+use Rattle.art_rows.proofs.RowsLemmas.{number_after-nth}
+use Rattle.art_rows.proofs.Runs.{ahead_step, ahead_there, next_there}
 use Rattle.art_rows.proofs.leaves.Leaves.next_in.Goals as goal
 
 pub returns-in-Some-clause-next : goal.returns-in-Some-clause-next
@@ -7,3 +17,52 @@ returns-in-Some-clause-next g c = sym (ahead_step c.args.self.now.pairs c.law.en
 
 pub returns-in-Some-clause-ahead : goal.returns-in-Some-clause-ahead
 returns-in-Some-clause-ahead g c = (ahead_step c.args.self.now.pairs c.law.ensures.distinct c.args.id c.in-Some.next.now c.requires.has c.in-Some.run'.now c.args.self.now.rows c.args.ahead.now (record { run = c.in-Some.run'; row = c.args.ahead.now.row }) c.in-Some.ensures.cases.0 refl refl c.requires.ahead).1
+
+pub returns-in_default-row-clause-next : goal.returns-in_default-row-clause-next
+returns-in_default-row-clause-next g c =
+    let i = c.self.inside in
+    let f = subst (λ rs. Files (slot_at i.records) rs (used_count i.records) c.args.self.now.pairs) (ap (λ t. t.rows) c.self.view_is) (seen i.records i.rows _ c.self.view_is c.self.invariant) in
+    let l : length c.args.ahead.now.run.now ≡ 0 = c.in_default.ensures.cases in
+    let k : ℕ = index_of c.args.self.now.pairs c.args.id + 1 + length c.args.ahead.now.run.now in
+    let e : index_of c.args.self.now.pairs c.args.id + 1 ≡ k = omega arith in
+    sym (number_after-nth _ c.args.id c.requires.has ∙ none_there (slot_at i.records) c.args.self.now.rows (used_count i.records) _ f _ (ap (position_at c.args.self.now.rows) e ∙ sym c.requires.ahead.row ∙ ap (option_map start_of) c.in_default-row.is))
+
+pub read-requires : goal.read-requires
+read-requires g c =
+    let i = c.self.inside in
+    let f = subst (λ rs. Files (slot_at i.records) rs (used_count i.records) c.args.self.now.pairs) (ap (λ t. t.rows) c.self.view_is) (seen i.records i.rows _ c.self.view_is c.self.invariant) in
+    let k : ℕ = index_of c.args.self.now.pairs c.args.id + 1 + length c.args.ahead.now.run.now in
+    let at : position_at c.args.self.now.rows k ≡ Some (start_of c.in-Some-row.row) = sym c.requires.ahead.row ∙ ap (option_map start_of) c.in-Some-row.is in
+    rw (ap (λ t. t.rows) c.self.view_is) (has_row_at (slot_at i.records) c.args.self.now.rows (used_count i.records) _ f k (start_of c.in-Some-row.row) at)
+
+pub unwrap-requires : goal.unwrap-requires
+unwrap-requires g c =
+    let i = c.self.inside in
+    let f = subst (λ rs. Files (slot_at i.records) rs (used_count i.records) c.args.self.now.pairs) (ap (λ t. t.rows) c.self.view_is) (seen i.records i.rows _ c.self.view_is c.self.invariant) in
+    let k : ℕ = index_of c.args.self.now.pairs c.args.id + 1 + length c.args.ahead.now.run.now in
+    let at : position_at c.args.self.now.rows k ≡ Some (start_of c.in-Some-row.row) = sym c.requires.ahead.row ∙ ap (option_map start_of) c.in-Some-row.is in
+    let is : leaf_in c.args.self.now.rows c.in-Some-row.row ≡ Some c.read.result.now = rw (← ap (λ t. t.rows) c.self.view_is) c.read.ensures in
+    c.split_first-2.ensures.variant.1 (rw c.ids-ids.ensures (place_at (slot_at i.records) c.args.self.now.rows (used_count i.records) _ f k (start_of c.in-Some-row.row) at c.read.result.now is))
+
+pub returns-clause-next : goal.returns-clause-next
+returns-clause-next g c =
+    let i = c.self.inside in
+    let f = subst (λ rs. Files (slot_at i.records) rs (used_count i.records) c.args.self.now.pairs) (ap (λ t. t.rows) c.self.view_is) (seen i.records i.rows _ c.self.view_is c.self.invariant) in
+    let k : ℕ = index_of c.args.self.now.pairs c.args.id + 1 + length c.args.ahead.now.run.now in
+    let at : position_at c.args.self.now.rows k ≡ Some (start_of c.in-Some-row.row) = sym c.requires.ahead.row ∙ ap (option_map start_of) c.in-Some-row.is in
+    let is : leaf_in c.args.self.now.rows c.in-Some-row.row ≡ Some c.read.result.now = rw (← ap (λ t. t.rows) c.self.view_is) c.read.ensures in
+    let cut : c.ids-ids.result.now ≡ c.unwrap.result.0.now ∷ c.unwrap.result.1.now = (subst (λ o. MatchOption o (length c.ids-ids.result.now ≡ 0) (λ p. IsFirstAndRest c.ids-ids.result.now p.0.now p.1.now)) c.unwrap.ensures c.split_first-2.ensures.cases).0 in
+    let same : c.read.result.now ≡ c.unwrap.result.0.now ∷ c.unwrap.result.1.now = sym c.ids-ids.ensures ∙ cut in
+    let l : length c.args.ahead.now.run.now ≡ 0 = c.in_default.ensures.cases in
+    sym (next_there (slot_at i.records) c.args.self.now.rows (used_count i.records) _ f k (start_of c.in-Some-row.row) at c.read.result.now is c.unwrap.result.0.now (ap (λ ns. nth ns 0) same) c.args.id c.requires.has (omega arith))
+
+pub returns-clause-ahead : goal.returns-clause-ahead
+returns-clause-ahead g c =
+    let i = c.self.inside in
+    let f = subst (λ rs. Files (slot_at i.records) rs (used_count i.records) c.args.self.now.pairs) (ap (λ t. t.rows) c.self.view_is) (seen i.records i.rows _ c.self.view_is c.self.invariant) in
+    let k : ℕ = index_of c.args.self.now.pairs c.args.id + 1 + length c.args.ahead.now.run.now in
+    let at : position_at c.args.self.now.rows k ≡ Some (start_of c.in-Some-row.row) = sym c.requires.ahead.row ∙ ap (option_map start_of) c.in-Some-row.is in
+    let is : leaf_in c.args.self.now.rows c.in-Some-row.row ≡ Some c.read.result.now = rw (← ap (λ t. t.rows) c.self.view_is) c.read.ensures in
+    let cut : c.ids-ids.result.now ≡ c.unwrap.result.0.now ∷ c.unwrap.result.1.now = (subst (λ o. MatchOption o (length c.ids-ids.result.now ≡ 0) (λ p. IsFirstAndRest c.ids-ids.result.now p.0.now p.1.now)) c.unwrap.ensures c.split_first-2.ensures.cases).0 in
+    let same : c.read.result.now ≡ c.unwrap.result.0.now ∷ c.unwrap.result.1.now = sym c.ids-ids.ensures ∙ cut in
+    ahead_there (slot_at i.records) c.args.self.now.rows (used_count i.records) _ f k (start_of c.in-Some-row.row) at c.read.result.now is c.unwrap.result.0.now (ap (λ ns. nth ns 0) same) (record { run = c.unwrap.result.1; row = c.row_told-ahead.result }) (sym (ap (drop 1) same)) c.row_told-ahead.ensures
