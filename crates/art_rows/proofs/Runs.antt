@@ -117,7 +117,7 @@ module _ {K V : Type 0} (leaves : ℕ → Option (Leaf K V)) (rows : List (Numbe
   ahead_there b run row = record { run = subst (RunsBehind ps n) (sym run) behind_in_row; row = ap (option_map start_of) row ∙ sym row_behind_run ∙ ap (λ l. position_at rows (place_in (map (λ q. q.0) ps) n + 1 + length l)) (sym run) }
 
   -- the number there is the one behind
-  pub next_there : (i : ℕ) → Has ps i → k ≡ place_in (map (λ q. q.0) ps) i + 1 → number_after ps i ≡ Some n
+  next_there : (i : ℕ) → Has ps i → k ≡ place_in (map (λ q. q.0) ps) i + 1 → number_after ps i ≡ Some n
   next_there i has e = number_after-nth ps i has ∙ ap (nth (map (λ q. q.0) ps)) (sym e) ∙ number_there leaves rows count ps f k p at ids is ∙ there
 
   -- what stands in a row before a number is a run before it
@@ -129,4 +129,15 @@ module _ {K V : Type 0} (leaves : ℕ → Option (Leaf K V)) (rows : List (Numbe
       let s = (standing rows k p at).index in (
         omega arith,
         λ j m e. nth_of_row j m (place_in (map (λ q. q.0) ps) n + j - length (take p.place ids)) (omega arith) (nth-take ids p.place j m e),
+      )
+
+module _ {K V : Type 0} (leaves : ℕ → Option (Leaf K V)) (rows : List (Numbered (List ℕ))) (count : ℕ) (ps : List (Numbered (K × V))) (f : Files leaves rows count ps) where
+  -- at the end of a run the number behind is the first of the row behind, and the others of that row stand ahead of it
+  pub ahead_row : (i n : ℕ) → Has ps i → (a b : Ahead) → length a.run.now ≡ 0 → StandsAhead ps rows i a → (r : ℕ) → a.row ≡ Some r → (ids : List ℕ) → leaf_in rows r ≡ Some ids → ids ≡ n ∷ b.run.now → b.row ≡ number_after rows r → (number_after ps i ≡ Some n) × StandsAhead ps rows n b
+  ahead_row i n has a b l s r row ids is cut behind =
+      let k : ℕ = place_in (map (λ q. q.0) ps) i + 1 + length a.run.now in
+      let at : position_at rows k ≡ Some (start_of r) = sym s.row ∙ ap (option_map start_of) row in
+      let there : nth ids 0 ≡ Some n = ap (λ ns. nth ns 0) cut in (
+        next_there leaves rows count ps f k (start_of r) at ids is n there i has (omega arith),
+        ahead_there leaves rows count ps f k (start_of r) at ids is n there b (sym (ap (drop 1) cut)) behind,
       )

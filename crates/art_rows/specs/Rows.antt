@@ -104,7 +104,7 @@ module _ {X : Type 0} where
   abbrev pub RunsBefore : List (Numbered X) → ℕ → List ℕ → Type 0
   RunsBefore ps i run = (length run ≤ place_in (map (λ p. p.0) ps) i) × ((j n : ℕ) → nth run j ≡ Some n → nth (map (λ p. p.0) ps) (place_in (map (λ p. p.0) ps) i + j - length run) ≡ Some n)
 
-  -- the run stands directly behind the number i, and the row, if there is one, behind the run
+  -- the run stands directly behind the number i, and behind the run the row, or nothing where none is named
   pub record StandsAhead (ps : List (Numbered X)) (rows : List (Numbered (List ℕ))) (i : ℕ) (ahead : Ahead) : Type 0 where
     pub run : RunsBehind ps i ahead.run.now
     pub row : option_map start_of ahead.row ≡ position_at rows (place_in (map (λ p. p.0) ps) i + 1 + length ahead.run.now)

@@ -1,4 +1,4 @@
-use Rattle.std.proofs.Common.{◌≡◌, ◌+◌, ◌∷◌, ℕ, length, drop, Some, refl, sym, ap, subst, ◌∙◌, arith}
+use Rattle.std.proofs.Common.{◌≡◌, ◌+◌, ℕ, length, Some, refl, sym, ap, subst, ◌∙◌, arith}
 use Rattle.std.specs.Prelude.{option_map}
 use Rattle.std.specs.Option.{MatchOption}
 use Rattle.std.specs.List.{IsFirstAndRest}
@@ -6,10 +6,10 @@ use Rattle.art_kinds.specs.Store.{slot_at, used_count}
 use Rattle.art_rows.specs.Filing.{Files}
 use Rattle.art_rows.specs.Leaves.{index_of}
 use Rattle.art_rows.specs.Numbers.{leaf_in}
-use Rattle.art_rows.specs.Rows.{nth, position_at, start_of}
+use Rattle.art_rows.specs.Rows.{position_at, start_of}
 use Rattle.art_rows.proofs.FilingLemmas.{seen, none_there, has_row_at, place_at}
 use Rattle.art_rows.proofs.RowsLemmas.{number_after-nth}
-use Rattle.art_rows.proofs.Runs.{ahead_step, ahead_there, next_there}
+use Rattle.art_rows.proofs.Runs.{ahead_step, ahead_row}
 use Rattle.art_rows.proofs.leaves.Leaves.next_in.Goals as goal
 
 pub returns-in-Some-clause-next : goal.returns-in-Some-clause-next
@@ -48,21 +48,12 @@ pub returns-clause-next : goal.returns-clause-next
 returns-clause-next g c =
     let i = c.self.inside in
     let f = subst (λ rs. Files (slot_at i.records) rs (used_count i.records) c.args.self.now.pairs) (ap (λ t. t.rows) c.self.view_is) (seen i.records i.rows _ c.self.view_is c.self.invariant) in
-    let k : ℕ = index_of c.args.self.now.pairs c.args.id + 1 + length c.args.ahead.now.run.now in
-    let at : position_at c.args.self.now.rows k ≡ Some (start_of c.in-Some-row.row) = sym c.requires.ahead.row ∙ ap (option_map start_of) c.in-Some-row.is in
-    let is : leaf_in c.args.self.now.rows c.in-Some-row.row ≡ Some c.read.result.now = rw (← ap (λ t. t.rows) c.self.view_is) c.read.ensures in
-    let cut : c.ids-ids.result.now ≡ c.unwrap.result.0.now ∷ c.unwrap.result.1.now = (subst (λ o. MatchOption o (length c.ids-ids.result.now ≡ 0) (λ p. IsFirstAndRest c.ids-ids.result.now p.0.now p.1.now)) c.unwrap.ensures c.split_first-2.ensures.cases).0 in
-    let same : c.read.result.now ≡ c.unwrap.result.0.now ∷ c.unwrap.result.1.now = sym c.ids-ids.ensures ∙ cut in
-    let l : length c.args.ahead.now.run.now ≡ 0 = c.in_default.ensures.cases in
-    sym (next_there (slot_at i.records) c.args.self.now.rows (used_count i.records) _ f k (start_of c.in-Some-row.row) at c.read.result.now is c.unwrap.result.0.now (ap (λ ns. nth ns 0) same) c.args.id c.requires.has (omega arith))
+    let cut = (subst (λ o. MatchOption o (length c.ids-ids.result.now ≡ 0) (λ p. IsFirstAndRest c.ids-ids.result.now p.0.now p.1.now)) c.unwrap.ensures c.split_first-2.ensures.cases).0 in
+    sym (ahead_row (slot_at i.records) c.args.self.now.rows (used_count i.records) _ f c.args.id c.unwrap.result.0.now c.requires.has c.args.ahead.now (record { run = c.unwrap.result.1; row = c.row_told-ahead.result }) c.in_default.ensures.cases c.requires.ahead c.in-Some-row.row c.in-Some-row.is c.read.result.now (rw (← ap (λ t. t.rows) c.self.view_is) c.read.ensures) (sym c.ids-ids.ensures ∙ cut) c.row_told-ahead.ensures).0
 
 pub returns-clause-ahead : goal.returns-clause-ahead
 returns-clause-ahead g c =
     let i = c.self.inside in
     let f = subst (λ rs. Files (slot_at i.records) rs (used_count i.records) c.args.self.now.pairs) (ap (λ t. t.rows) c.self.view_is) (seen i.records i.rows _ c.self.view_is c.self.invariant) in
-    let k : ℕ = index_of c.args.self.now.pairs c.args.id + 1 + length c.args.ahead.now.run.now in
-    let at : position_at c.args.self.now.rows k ≡ Some (start_of c.in-Some-row.row) = sym c.requires.ahead.row ∙ ap (option_map start_of) c.in-Some-row.is in
-    let is : leaf_in c.args.self.now.rows c.in-Some-row.row ≡ Some c.read.result.now = rw (← ap (λ t. t.rows) c.self.view_is) c.read.ensures in
-    let cut : c.ids-ids.result.now ≡ c.unwrap.result.0.now ∷ c.unwrap.result.1.now = (subst (λ o. MatchOption o (length c.ids-ids.result.now ≡ 0) (λ p. IsFirstAndRest c.ids-ids.result.now p.0.now p.1.now)) c.unwrap.ensures c.split_first-2.ensures.cases).0 in
-    let same : c.read.result.now ≡ c.unwrap.result.0.now ∷ c.unwrap.result.1.now = sym c.ids-ids.ensures ∙ cut in
-    ahead_there (slot_at i.records) c.args.self.now.rows (used_count i.records) _ f k (start_of c.in-Some-row.row) at c.read.result.now is c.unwrap.result.0.now (ap (λ ns. nth ns 0) same) (record { run = c.unwrap.result.1; row = c.row_told-ahead.result }) (sym (ap (drop 1) same)) c.row_told-ahead.ensures
+    let cut = (subst (λ o. MatchOption o (length c.ids-ids.result.now ≡ 0) (λ p. IsFirstAndRest c.ids-ids.result.now p.0.now p.1.now)) c.unwrap.ensures c.split_first-2.ensures.cases).0 in
+    (ahead_row (slot_at i.records) c.args.self.now.rows (used_count i.records) _ f c.args.id c.unwrap.result.0.now c.requires.has c.args.ahead.now (record { run = c.unwrap.result.1; row = c.row_told-ahead.result }) c.in_default.ensures.cases c.requires.ahead c.in-Some-row.row c.in-Some-row.is c.read.result.now (rw (← ap (λ t. t.rows) c.self.view_is) c.read.ensures) (sym c.ids-ids.ensures ∙ cut) c.row_told-ahead.ensures).1
