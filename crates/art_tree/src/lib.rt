@@ -5,6 +5,8 @@
 
 mod lists;
 mod records;
+#[cfg(test)]
+mod tests;
 mod tree;
 mod visits;
 

@@ -83,9 +83,6 @@ module _ {K V F : Type 0} (R : F → K × V → Bool → K × V → F → Type 0
       subst (λ l. Retains R start start_f l) (sym same) done
 
   module _ (ps left left' : List (Numbered K V)) (f f' : F) (id : ℕ) (y : K × V) (w : V) (b : Bool) (asks : R f y b (y.0, w) f') (first : left ≡ (id, y) ∷ left') (r : Retaining ps left f) where
-    pub step_row : ps ≡ r.kept ++ (id, y) ∷ left'
-    step_row = r.whole ∙ ap (λ l. r.kept ++ l) first
-
     step_then : (rest : List (K × V)) → Retains R (y ∷ pairs_of left') f rest → Retains R start start_f (pairs_of r.kept ++ rest)
     step_then rest a = r.then rest (subst (λ (l : List (Numbered K V)). Retains R (pairs_of l) f rest) (sym first) a)
 

@@ -12,7 +12,7 @@ use Rattle.art_walk.specs.Cursor.{from_number, through_number, EndsFit, ends_lef
 use Rattle.art_walk.specs.Lent.{numbers, bare, ends_fit, lent_fits, walk_fits, count_fits, written_all, IsLent, LentFirst, LentLast, written_last, numbers_written}
 use Rattle.art_walk.proofs.Changes.{left_without}
 use Rattle.art_walk.proofs.Steps.{some_inj}
-use Rattle.art_walk.proofs.Taking.{first_passed, first_named, last_passed, last_named}
+use Rattle.art_walk.proofs.Passing.{first_passed, first_named, last_passed, last_named}
 use Rattle.art_walk.proofs.Asking.{written_left}
 
 -- ---- a clause of what was lent
@@ -155,10 +155,10 @@ module _ {K V : Type 0} where
 
   module _ (ps : List (Numbered K V)) (distinct : AreDistinct ps) (old new : Cursor) (was : Option ℕ) (test : walk_fits old was (numbers ps) ≡ true) (fits : FitsIn new ps) (id : ℕ) (there : Has ps id) where
     pub first_fits_now : (x : K × V) × (leaves_left old ps ≡ (id, x) ∷ leaves_left new ps) → walk_fits new (Some id) (numbers ps) ≡ true
-    first_fits_now passed = let n = some_of (leaf_in ps id) there in to_test new (Some id) ps fits (there, first_passed ps ps distinct old new (from_test old was ps test) fits id n.0 n.1 passed)
+    first_fits_now passed = let n = some_of (leaf_in ps id) there in to_test new (Some id) ps fits (there, first_passed ps distinct old new (from_test old was ps test) fits id n.0 n.1 passed)
 
     pub last_fits_now : (x : K × V) × (leaves_left old ps ≡ leaves_left new ps ++ (id, x) ∷ []) → walk_fits new (Some id) (numbers ps) ≡ true
-    last_fits_now passed = let n = some_of (leaf_in ps id) there in to_test new (Some id) ps fits (there, last_passed ps ps distinct old new (from_test old was ps test) fits id n.0 n.1 passed)
+    last_fits_now passed = let n = some_of (leaf_in ps id) there in to_test new (Some id) ps fits (there, last_passed ps distinct old new (from_test old was ps test) fits id n.0 n.1 passed)
 
   -- ---- the pair that is lent
 
@@ -181,7 +181,7 @@ module _ {K V : Type 0} where
 
     module _ (passed : (x : K × V) × (leaves_left old ps ≡ (id, x) ∷ leaves_left new ps)) where
       lacks_first : Lacks (leaves_left new ps) id
-      lacks_first = first_passed ps ps distinct old new (from_test old was ps test) fits id (lent_key, v) lent_named passed
+      lacks_first = first_passed ps distinct old new (from_test old was ps test) fits id (lent_key, v) lent_named passed
 
       pub first_fits_with : (w : V) → walk_fits new (Some id) (numbers (with_value ps id w)) ≡ true
       first_fits_with = fits_with lacks_first
@@ -194,7 +194,7 @@ module _ {K V : Type 0} where
 
       pub first_splits : (w : V) → leaves_left old ps ≡ (id, (lent_key, v)) ∷ first_after w
       first_splits w =
-          first_named ps ps distinct old new (from_test old was ps test) fits id (lent_key, v) lent_named passed
+          first_named ps distinct old new (from_test old was ps test) fits id (lent_key, v) lent_named passed
           ∙ ap (λ l. (id, (lent_key, v)) ∷ l) (sym (first_same w))
 
       pub first_lent : (w : V) → IsLent ps (with_value ps id w) (leaves_left old ps) (first_after w) id lent_key v w
@@ -214,7 +214,7 @@ module _ {K V : Type 0} where
 
     module _ (passed : (x : K × V) × (leaves_left old ps ≡ leaves_left new ps ++ (id, x) ∷ [])) where
       lacks_last : Lacks (leaves_left new ps) id
-      lacks_last = last_passed ps ps distinct old new (from_test old was ps test) fits id (lent_key, v) lent_named passed
+      lacks_last = last_passed ps distinct old new (from_test old was ps test) fits id (lent_key, v) lent_named passed
 
       pub last_fits_with : (w : V) → walk_fits new (Some id) (numbers (with_value ps id w)) ≡ true
       last_fits_with = fits_with lacks_last
@@ -227,7 +227,7 @@ module _ {K V : Type 0} where
 
       pub last_splits : (w : V) → leaves_left old ps ≡ last_after w ++ (id, (lent_key, v)) ∷ []
       last_splits w =
-          last_named ps ps distinct old new (from_test old was ps test) fits id (lent_key, v) lent_named passed
+          last_named ps distinct old new (from_test old was ps test) fits id (lent_key, v) lent_named passed
           ∙ ap (λ l. l ++ (id, (lent_key, v)) ∷ []) (sym (last_same w))
 
       pub last_lent : (w : V) → IsLent ps (with_value ps id w) (leaves_left old ps) (last_after w) id lent_key v w

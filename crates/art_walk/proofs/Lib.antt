@@ -2,11 +2,8 @@ pub mod Changes
 pub mod Ranges
 pub mod Spans
 pub mod Steps
-pub mod Taking
+pub mod Passing
 pub mod Asking
 pub mod Lending
-pub mod LentPairs
 pub mod PairEnds
-pub mod CountedPairs
-pub mod TakePairs
 pub mod Runs

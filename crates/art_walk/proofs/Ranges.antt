@@ -13,8 +13,7 @@ use Rattle.blart_keys.proofs.ContentLemmas.{Before, Ranked-from_content, under_i
 use Rattle.blart_keys.proofs.PartsOfContents.{end_down, start_up, between_is_part, between_from, between_up, subtree_is_part}
 use Rattle.art_tree.specs.Leaves.{Numbered, leaf_in, first_number, last_number, AreDistinct, bytes}
 use Rattle.art_tree.specs.Seeks.{number_within, ends}
-use Rattle.art_tree.proofs.CallerLemmas.{leaf_in-member, leaf_in-split, last_number-append, split, are_ends}
-use Rattle.blart_keys.proofs.Options.{is_some}
+use Rattle.art_tree.proofs.CallerLemmas.{leaf_in-member, last_number-append, are_ends}
 use Rattle.art_walk.specs.Cursor.{span_of, IsSpan}
 use Rattle.art_walk.proofs.Spans.{Cut, EndsWith, ends_with, cut_span, cut_is_span}
 use Rattle.art_walk.proofs.Steps.{BeginsWith, begins_with, some_inj, no_last}
@@ -29,13 +28,6 @@ module _ {K V : Type 0} where
     first_is = f;
     last_is = l;
   }
-
-  -- the pair of a number is cut out at that number
-  pub one_cut : (ps : List (Numbered K V)) (id : ℕ) (x : K × V) → leaf_in ps id ≡ Some x → Cut ps id id ((id, x) ∷ [])
-  one_cut ps id x e =
-      let s = split ps id (is_some (leaf_in ps id) x e) in
-      let same : s.pair ≡ x = some_inj s.pair x (sym (ap (λ l. leaf_in l id) s.is ∙ leaf_in-split id s.pair s.after s.before s.lacks) ∙ e) in
-      record { before = s.before; after = s.after; is = s.is ∙ ap (λ y. s.before ++ (id, y) ∷ s.after) same; first_is = refl; last_is = refl }
 
 module _ {K V : Type 0} (key_bytes : K → List ℕ) (ps : List (Numbered K V)) (content : IsContent (bytes key_bytes) ps) where
   -- ---- below some bytes, and related to some

@@ -40,9 +40,6 @@ module _ {K V : Type 0} where
       pub first_pair : leaf_in ps first ≡ Some x
       first_pair = ap (λ l. leaf_in l first) front_is ∙ leaf_in-split first x (rest ++ c.after) c.before front_lacks.0
 
-      pub second_number : number_after ps first ≡ first_number (rest ++ c.after)
-      second_number = ap (λ l. number_after l first) front_is ∙ number_after-split first x (rest ++ c.after) c.before front_lacks.0
-
       -- where the ends are one, nothing else is left
       pub first_alone : first ≡ last → rest ≡ []
       first_alone e = go rest is

@@ -1,5 +1,5 @@
 //! A first and a last leaf that are still to come.
-ghost use Rattle.std.specs.Prelude.{◌≡◌, ◌≢◌, ◌+◌, [], option_map, is_some, IfSome, Some, None, if◌then◌else◌};
+ghost use Rattle.std.specs.Prelude.{◌≡◌, ◌≢◌, ◌+◌, option_map, is_some, IfSome, Some, None, if◌then◌else◌};
 ghost use Rattle.art_tree.specs.Leaves.{leaf_in, Has, number_after, number_before};
 ghost use Rattle.blart_keys.specs.Walks.{TakesFirst, TakesLast};
 ghost use Rattle.art_walk.specs.Pairs.{shown_leaf};

@@ -1,6 +1,5 @@
 //! What stops the program.
-use script_words::Text;
-use std::alloc::AllocError;
+use script::{Text, Unanswered};
 
 /// Why the program ended without its answers.
 #[derive(Drop)]
@@ -10,13 +9,13 @@ pub(crate) enum Failure {
     /// Standard output could not be written.
     Write,
     /// The program had no memory.
-    Memory(AllocError),
+    Memory,
     /// Two lengths of prefixes gave different answers; the text says to which line.
     Differs(Text),
 }
 
-impl From<AllocError> for Failure {
-    fn from(refused: AllocError) -> Self {
-        Failure::Memory(refused)
+impl From<Unanswered> for Failure {
+    fn from(_: Unanswered) -> Self {
+        Failure::Memory
     }
 }

@@ -1,8 +1,7 @@
 //! The same script over maps of several lengths of kept prefixes.
 use crate::failure::Failure;
-use crate::session::answers;
-use script_words::{Shown, Text};
-use std::alloc::{AllocError, Global};
+use script::{Answered, Shown, Text, answers};
+use std::alloc::Global;
 use std::iter::Iterator;
 
 /// The answers to the script, which are the same over maps of six lengths.
@@ -34,12 +33,7 @@ fn compare<const PREFIX_LEN: usize>(
 }
 
 // Adds the first line of the script whose answers differ, and these.
-fn show_difference(
-    script: &[u8],
-    expected: &Text,
-    got: &Text,
-    text: &mut Text,
-) -> Result<(), AllocError> {
+fn show_difference(script: &[u8], expected: &Text, got: &Text, text: &mut Text) -> Answered {
     let lines = script.split(|byte| *byte == b'\n');
     let first = expected.as_slice().split(|byte| *byte == b'\n');
     let second = got.as_slice().split(|byte| *byte == b'\n');

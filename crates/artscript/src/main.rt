@@ -5,8 +5,6 @@
 
 mod failure;
 mod lengths;
-mod parts;
-mod session;
 
 use crate::failure::Failure;
 use crate::lengths::answers_at_each_length;
@@ -44,7 +42,7 @@ fn report(rt: &HostRuntime, failure: Failure) -> std::io::Result<()> {
     match failure {
         Failure::Read => errors.write_all(b"read failed")?,
         Failure::Write => errors.write_all(b"write failed")?,
-        Failure::Memory(_) => errors.write_all(b"out of memory")?,
+        Failure::Memory => errors.write_all(b"out of memory")?,
         Failure::Differs(text) => errors.write_all(text.as_slice())?,
     }
     errors.write_all(b"\n")

@@ -1,48 +1,57 @@
-//! Completes what is typed. Lines of standard input are words, up to an empty line, and then beginnings, each answered by the first ten words that begin with it, in order.
+//! Completes what is typed: `autocomplete FILE` reads a list of words, one a line, and then answers each line of standard input by the first ten words that begin with it, in order.
 #![tactic(auto)]
 
+use anyhow::Context;
 use blart::{TreeSet, ZKey};
-use std::io::{self, BufRead, BufReader};
+use std::io::{BufRead, BufReader};
 use std::iter::{IntoIterator, Iterator};
+use std::{env, fs};
+
+type Words = TreeSet<ZKey, 16>;
 
 // How many words an answer has at most.
 const MOST: usize = 10;
 
-// Prints the first words that begin with these letters.
-fn complete<const P: usize>(
-    rt: &impl Print,
-    words: &TreeSet<ZKey, P>,
-    letters: &str,
-) -> anyhow::Result<()> {
-    println!(rt; "{letters}:")?;
-    for word in words.prefix(letters.as_bytes()).take(MOST) {
-        println!(rt; "  {}", std::str::from_utf8(word.to_bytes())?)?;
-    }
-    Ok(())
-}
-
-// Stores a word.
-fn store<const P: usize>(
-    rt: &impl AllocGlobal,
-    words: &mut TreeSet<ZKey, P>,
-    word: &str,
-) -> anyhow::Result<()> {
-    words.insert(ZKey::from_bytes(rt.alloc(), word.as_bytes())?)?;
-    Ok(())
-}
-
 fn main(rt: HostRuntime) -> anyhow::Result<()> {
-    let mut words = TreeSet::new(rt.alloc());
-    let mut lines = BufReader::new(rt.alloc(), rt.reader())?.lines(rt.alloc());
-    for line in lines.by_ref() {
-        let word = line?;
-        if word.is_empty() {
-            break;
-        }
-        store(&rt, &mut words, &word)?;
+    let path = path_of(&rt)?;
+    let text = fs::read_to_string(&rt, path.as_str()).context("the list of words")?;
+    let words = words_of(&rt, &text)?;
+    println!(rt; "{} words", words.len())?;
+    answer(&rt, &words)
+}
+
+// The file that is named.
+fn path_of(rt: &HostRuntime) -> anyhow::Result<String> {
+    match env::args(rt)?.into_iter().nth(1) {
+        Some(path) => Ok(path),
+        None => Err(anyhow::anyhow!("usage: autocomplete FILE")),
     }
-    for line in lines {
-        complete(&rt, &words, &line?)?;
+}
+
+// The words of a text, one a line.
+fn words_of(rt: &impl AllocGlobal, text: &str) -> anyhow::Result<Words> {
+    let mut words = TreeSet::new(rt.alloc());
+    for line in text.lines() {
+        words.insert(ZKey::from_bytes(rt.alloc(), line.as_bytes())?)?;
+    }
+    Ok(words)
+}
+
+// Answers each line of standard input after a prompt.
+fn answer(rt: &HostRuntime, words: &Words) -> anyhow::Result<()> {
+    print!(rt; "> ")?;
+    for line in BufReader::new(rt.alloc(), rt.reader())?.lines(rt.alloc()) {
+        complete(rt, words, &line?)?;
+        print!(rt; "> ")?;
+    }
+    println!(rt; "")?;
+    Ok(())
+}
+
+// Prints the first words that begin with these letters.
+fn complete(rt: &impl Print, words: &Words, letters: &str) -> anyhow::Result<()> {
+    for word in words.prefix(letters.as_bytes()).take(MOST) {
+        println!(rt; "{}", std::str::from_utf8(word.to_bytes())?)?;
     }
     Ok(())
 }

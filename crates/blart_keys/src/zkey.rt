@@ -1,6 +1,6 @@
 //! Bytes with one zero behind them, so that no key begins another.
 
-ghost use Rattle.std.specs.Prelude.{◌≡◌, ◌∷◌, [], ◌++◌, IfOk, IsErrOf, Contains, ◌↔◌, refl};
+ghost use Rattle.std.specs.Prelude.{◌≡◌, ℕ, List, ◌∷◌, [], ◌++◌, IfOk, IsErrOf, Contains, ◌↔◌, refl};
 ghost use Rattle.std.proofs.lemmas.Slice.Eq.{bytes_eq-Decides};
 ghost use Rattle.blart_keys.specs.Keys.{AreBytes, EndsInZero};
 ghost use Rattle.blart_keys.specs.KeyLaws.{zero_no_fronts};
@@ -71,7 +71,8 @@ impl ZKey {
 
     /// The bytes without the zero: those that the key was made from.
     pub fn to_bytes(&self) -> &[u8]
-        ensures { result.now ++ 0 ∷ [] ≡ ⟦<ZKey as AsBytes>⟧.bytes self.now }
+        ensures value { result.now ++ 0 ∷ [] ≡ ⟦<ZKey as AsBytes>⟧.bytes self.now }
+        ensures given { (b : List ℕ) → ⟦<ZKey as AsBytes>⟧.bytes self.now ≡ b ++ 0 ∷ [] → result.now ≡ b }
     {
         let all = self.bytes.as_slice();
         &all[..all.len() - 1]

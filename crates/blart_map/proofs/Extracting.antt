@@ -12,7 +12,7 @@ use Rattle.art_walk.specs.declared.cursor.Cursor.{Cursor}
 use Rattle.art_walk.specs.Cursor.{leaves_left, FitsIn}
 use Rattle.art_walk.specs.Lent.{walk_fits, numbers}
 use Rattle.art_walk.proofs.Lending.{to_test, from_test}
-use Rattle.art_walk.proofs.Taking.{first_passed, first_named, last_passed, last_named}
+use Rattle.art_walk.proofs.Passing.{first_passed, first_named, last_passed, last_named}
 use Rattle.art_walk.proofs.Asking.{written_fits, written_left, removed_fits, removed_left}
 use Rattle.blart_map.specs.ExtractIf.{Extracts}
 
@@ -63,10 +63,10 @@ module _ {K V : Type 0} where
 
     module _ (passed : (x : K × V) × (leaves_left old ps ≡ (id, x) ∷ leaves_left new ps)) where
       front_lacks : Lacks (leaves_left new ps) id
-      front_lacks = first_passed ps ps distinct old new (from_test old None ps test) fits id (k, v) named passed
+      front_lacks = first_passed ps distinct old new (from_test old None ps test) fits id (k, v) named passed
 
       pub front_splits : leaves_left old ps ≡ (id, (k, v)) ∷ leaves_left new ps
-      front_splits = first_named ps ps distinct old new (from_test old None ps test) fits id (k, v) named passed
+      front_splits = first_named ps distinct old new (from_test old None ps test) fits id (k, v) named passed
 
       pub front_fewer : suc (length (leaves_left new ps)) ≡ length (leaves_left old ps)
       front_fewer = sym (ap length front_splits)
@@ -85,10 +85,10 @@ module _ {K V : Type 0} where
 
     module _ (passed : (x : K × V) × (leaves_left old ps ≡ leaves_left new ps ++ (id, x) ∷ [])) where
       back_lacks : Lacks (leaves_left new ps) id
-      back_lacks = last_passed ps ps distinct old new (from_test old None ps test) fits id (k, v) named passed
+      back_lacks = last_passed ps distinct old new (from_test old None ps test) fits id (k, v) named passed
 
       back_is : leaves_left old ps ≡ leaves_left new ps ++ (id, (k, v)) ∷ []
-      back_is = last_named ps ps distinct old new (from_test old None ps test) fits id (k, v) named passed
+      back_is = last_named ps distinct old new (from_test old None ps test) fits id (k, v) named passed
 
       pub back_splits : reverse (leaves_left old ps) ≡ (id, (k, v)) ∷ reverse (leaves_left new ps)
       back_splits = ap reverse back_is ∙ reverse-append (leaves_left new ps) ((id, (k, v)) ∷ [])

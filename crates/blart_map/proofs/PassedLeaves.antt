@@ -11,7 +11,7 @@ use Rattle.art_walk.specs.declared.cursor.Cursor.{Cursor}
 use Rattle.art_walk.specs.Cursor.{leaves_left, FitsIn, PassesFirst, PassesLast}
 use Rattle.art_walk.specs.Pairs.{pairs_of}
 use Rattle.art_walk.proofs.Changes.{left_without}
-use Rattle.art_walk.proofs.Taking.{first_passed, first_named, last_passed, last_named}
+use Rattle.art_walk.proofs.Passing.{first_passed, first_named, last_passed, last_named}
 use Rattle.blart_map.specs.Passed.{WasFirst, WasLast, StaysLeft}
 use Rattle.blart_map.proofs.Numbers.{removed_pairs, pairs_content}
 
@@ -24,8 +24,8 @@ module _ {K V : Type 0} (ps : List (Numbered K V)) (distinct : AreDistinct ps) w
         record {
           pair = s.0;
           named = s.1;
-          splits = first_named ps ps distinct old new before fits id s.0 s.1 passes;
-          passed = first_passed ps ps distinct old new before fits id s.0 s.1 passes;
+          splits = first_named ps distinct old new before fits id s.0 s.1 passes;
+          passed = first_passed ps distinct old new before fits id s.0 s.1 passes;
         }
 
     pub was_last : (r : Option ℕ) → IfSome r (λ id. Has ps id) → PassesLast (leaves_left old ps) r (leaves_left new ps) → IfSome r (λ id. WasLast ps old id new)
@@ -35,8 +35,8 @@ module _ {K V : Type 0} (ps : List (Numbered K V)) (distinct : AreDistinct ps) w
         record {
           pair = s.0;
           named = s.1;
-          splits = last_named ps ps distinct old new before fits id s.0 s.1 passes;
-          passed = last_passed ps ps distinct old new before fits id s.0 s.1 passes;
+          splits = last_named ps distinct old new before fits id s.0 s.1 passes;
+          passed = last_passed ps distinct old new before fits id s.0 s.1 passes;
         }
 
   pub stays_left : (id : ℕ) (rs : List (Numbered K V)) → rs ≡ without_number ps id → StaysLeft ps id rs

@@ -9,7 +9,7 @@ use Rattle.art_walk.specs.Cursor.{leaves_left}
 use Rattle.art_walk.specs.Lent.{LentFirst, LentLast, NoneLent, written_last, count_written}
 use Rattle.blart_map.specs.declared.walks.counted_walk.CountedWalk.{CountedWalk}
 use Rattle.blart_map.specs.contracts.walks.counted_walk.CountedWalk.{the_row}
-use Rattle.art_walk.specs.contracts.counted_walk.WithKeys as with_keys
+use Rattle.art_walk.specs.contracts.openings.WithKeys as with_keys
 
 -- the pairs whose values are still to be lent
 abbrev pub counted_left : {K V M : Type 0} {p : ℕ} {g : Ghosts K} → CountedWalk K V M p g → List (Numbered K V)

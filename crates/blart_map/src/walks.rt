@@ -64,8 +64,10 @@ impl<K: AsBytes + Drop, V: Drop, const PREFIX_LEN: usize> TreeMap<K, V, PREFIX_L
     /// assert_eq!(cats.next(), Some((&"cat", &2)));
     /// assert_eq!(cats.next(), None);
     /// ```
+    #[tactic(auto, using(blart_keys::proofs::ContentLemmas::under_all))]
     pub fn prefix(&self, front: &[u8]) -> Prefix<'_, K, V, PREFIX_LEN>
         ensures value { result ≡ under (bytes K.bytes) (pairs self.now) front.now }
+        ensures whole { front.now ≡ [] → result ≡ pairs self.now }
         ensures fits { CanCount result }
     {
         self.prefix_counted(front, &mut Visits::new())

@@ -4,7 +4,7 @@ use Rattle.blart_keys.proofs.Options.{is_some}
 use Rattle.art_tree.specs.Leaves.{Numbered, leaf_in, with_value}
 use Rattle.art_walk.specs.Cursor.{leaves_left}
 use Rattle.art_walk.specs.Pairs.{pairs_of}
-use Rattle.art_walk.proofs.Taking.{first_passed, first_named}
+use Rattle.art_walk.proofs.Passing.{first_passed, first_named}
 use Rattle.art_walk.proofs.Asking.{retaining_end, retaining_kept, retaining_gone, asks_at, written_fits, written_left, written_distinct, written_row, written_named, removed_fits, removed_left, removed_distinct, removed_row, le_eq}
 use Rattle.art_walk.proofs.retaining.retain.Goals as goal
 
@@ -26,8 +26,8 @@ pairs-smaller-then-f g c =
     let ps = c.pairs.tree.pairs in
     let lv = c.leaf_mut-value.result in
     let y : g.row.K.Denot × g.row.V.Denot = (lv.0.now, lv.1.now) in
-    let lacks = first_passed ps ps c.pairs.invariant.2 c.pairs.cursor c.step.new.self c.pairs.invariant.1 c.in-Some.ensures.fits c.in-Some.id y c.leaf_mut-value.ensures.value c.in-Some.ensures.passes in
-    let named = first_named ps ps c.pairs.invariant.2 c.pairs.cursor c.step.new.self c.pairs.invariant.1 c.in-Some.ensures.fits c.in-Some.id y c.leaf_mut-value.ensures.value c.in-Some.ensures.passes in
+    let lacks = first_passed ps c.pairs.invariant.2 c.pairs.cursor c.step.new.self c.pairs.invariant.1 c.in-Some.ensures.fits c.in-Some.id y c.leaf_mut-value.ensures.value c.in-Some.ensures.passes in
+    let named = first_named ps c.pairs.invariant.2 c.pairs.cursor c.step.new.self c.pairs.invariant.1 c.in-Some.ensures.fits c.in-Some.id y c.leaf_mut-value.ensures.value c.in-Some.ensures.passes in
     le_eq _ _ (ap suc (ap length (written_left ps c.pairs.invariant.2 c.step.new.self c.in-Some.ensures.fits c.in-Some.id y c.f.new.arg3 lacks)) ∙ sym (ap length named))
 
 pub pairs-preserved-then-f : goal.pairs-preserved-then-f
@@ -40,8 +40,8 @@ pairs-preserved-then-f g c =
     let new = c.step.new.self in
     let fits = c.in-Some.ensures.fits in
     let id = c.in-Some.id in
-    let lacks = first_passed ps ps d c.pairs.cursor new c.pairs.invariant.1 fits id y c.leaf_mut-value.ensures.value c.in-Some.ensures.passes in
-    let named = first_named ps ps d c.pairs.cursor new c.pairs.invariant.1 fits id y c.leaf_mut-value.ensures.value c.in-Some.ensures.passes in
+    let lacks = first_passed ps d c.pairs.cursor new c.pairs.invariant.1 fits id y c.leaf_mut-value.ensures.value c.in-Some.ensures.passes in
+    let named = first_named ps d c.pairs.cursor new c.pairs.invariant.1 fits id y c.leaf_mut-value.ensures.value c.in-Some.ensures.passes in
     let asks = asks_at g.F.FnMut c.pairs.f lv.0 lv.1 _ c.f.result c.f.new.self c.f.ensures in
     let r = c.pairs.invariant.3 in
     let row = r.whole ∙ ap (λ l. r.kept ++ l) named in (
@@ -62,8 +62,8 @@ remove-pair-requires g c =
     let new = c.step.new.self in
     let fits = c.in-Some.ensures.fits in
     let id = c.in-Some.id in
-    let lacks = first_passed ps ps d c.pairs.cursor new c.pairs.invariant.1 fits id y c.leaf_mut-value.ensures.value c.in-Some.ensures.passes in
-    let named = first_named ps ps d c.pairs.cursor new c.pairs.invariant.1 fits id y c.leaf_mut-value.ensures.value c.in-Some.ensures.passes in
+    let lacks = first_passed ps d c.pairs.cursor new c.pairs.invariant.1 fits id y c.leaf_mut-value.ensures.value c.in-Some.ensures.passes in
+    let named = first_named ps d c.pairs.cursor new c.pairs.invariant.1 fits id y c.leaf_mut-value.ensures.value c.in-Some.ensures.passes in
     let r = c.pairs.invariant.3 in
     let row = r.whole ∙ ap (λ l. r.kept ++ l) named in
     (lit< tt, is_some (leaf_in (with_value ps id w) id) (y.0, w) (written_named ps d new fits id y w lacks r.kept (leaves_left new ps) row))
@@ -73,8 +73,8 @@ pairs-smaller g c =
     let ps = c.pairs.tree.pairs in
     let lv = c.leaf_mut-value.result in
     let y : g.row.K.Denot × g.row.V.Denot = (lv.0.now, lv.1.now) in
-    let lacks = first_passed ps ps c.pairs.invariant.2 c.pairs.cursor c.step.new.self c.pairs.invariant.1 c.in-Some.ensures.fits c.in-Some.id y c.leaf_mut-value.ensures.value c.in-Some.ensures.passes in
-    let named = first_named ps ps c.pairs.invariant.2 c.pairs.cursor c.step.new.self c.pairs.invariant.1 c.in-Some.ensures.fits c.in-Some.id y c.leaf_mut-value.ensures.value c.in-Some.ensures.passes in
+    let lacks = first_passed ps c.pairs.invariant.2 c.pairs.cursor c.step.new.self c.pairs.invariant.1 c.in-Some.ensures.fits c.in-Some.id y c.leaf_mut-value.ensures.value c.in-Some.ensures.passes in
+    let named = first_named ps c.pairs.invariant.2 c.pairs.cursor c.step.new.self c.pairs.invariant.1 c.in-Some.ensures.fits c.in-Some.id y c.leaf_mut-value.ensures.value c.in-Some.ensures.passes in
     le_eq _ _ (ap suc (ap length (removed_left ps c.pairs.invariant.2 c.step.new.self c.in-Some.ensures.fits c.in-Some.id y c.f.new.arg3 lacks c.remove-pair.new.self.pairs c.remove-pair.ensures.rest)) ∙ sym (ap length named))
 
 pub pairs-preserved : goal.pairs-preserved
@@ -89,8 +89,8 @@ pairs-preserved g c =
     let id = c.in-Some.id in
     let rs = c.remove-pair.new.self.pairs in
     let gone = c.remove-pair.ensures.rest in
-    let lacks = first_passed ps ps d c.pairs.cursor new c.pairs.invariant.1 fits id y c.leaf_mut-value.ensures.value c.in-Some.ensures.passes in
-    let named = first_named ps ps d c.pairs.cursor new c.pairs.invariant.1 fits id y c.leaf_mut-value.ensures.value c.in-Some.ensures.passes in
+    let lacks = first_passed ps d c.pairs.cursor new c.pairs.invariant.1 fits id y c.leaf_mut-value.ensures.value c.in-Some.ensures.passes in
+    let named = first_named ps d c.pairs.cursor new c.pairs.invariant.1 fits id y c.leaf_mut-value.ensures.value c.in-Some.ensures.passes in
     let asks = asks_at g.F.FnMut c.pairs.f lv.0 lv.1 _ c.f.result c.f.new.self c.f.ensures in
     let r = c.pairs.invariant.3 in
     let row = r.whole ∙ ap (λ l. r.kept ++ l) named in (

@@ -3,7 +3,7 @@ use Rattle.art_walk.specs.Pairs.{pairs_of}
 use Rattle.art_tree.proofs.CallerLemmas.{Has-last}
 use Rattle.art_walk.proofs.PairEnds.{last_pair}
 use Rattle.art_walk.proofs.Steps.{no_last}
-use Rattle.art_walk.proofs.Taking.{fewer_last}
+use Rattle.art_walk.proofs.Passing.{fewer_last}
 use Rattle.art_walk.proofs.into_iter.IntoIterDoubleEndedIterator.next_back.Goals as goal
 
 pub returns-in_default-clause-steps : goal.returns-in_default-clause-steps

@@ -1,7 +1,7 @@
-use Rattle.std.proofs.Common.{[], ◌∷◌, ◌++◌, sym, ap, ◌∙◌}
+use Rattle.std.proofs.Common.{◌∷◌, sym, ap, ◌∙◌}
 use Rattle.art_walk.specs.Pairs.{pairs_of}
 use Rattle.art_walk.proofs.PairEnds.{first_pair, first_has, no_first}
-use Rattle.art_walk.proofs.Taking.{fewer_first}
+use Rattle.art_walk.proofs.Passing.{fewer_first}
 use Rattle.art_walk.proofs.into_iter.IntoIterIterator.next.Goals as goal
 
 pub returns-in_default-clause-steps : goal.returns-in_default-clause-steps

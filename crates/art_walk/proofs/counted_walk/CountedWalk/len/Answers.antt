@@ -1,5 +1,0 @@
-use Rattle.art_walk.proofs.Lending.{count_is}
-use Rattle.art_walk.proofs.counted_walk.CountedWalk.len.Goals as goal
-
-pub returns : goal.returns
-returns g c = let s = c.args.self.now in count_is s.cursor s.lent s.left s.tree.now.pairs s.fits

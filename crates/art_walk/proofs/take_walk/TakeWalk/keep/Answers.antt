@@ -1,5 +1,0 @@
-use Rattle.art_walk.proofs.Lending.{kept_fits}
-use Rattle.art_walk.proofs.take_walk.TakeWalk.keep.Goals as goal
-
-pub invariant_of-self : goal.invariant_of-self
-invariant_of-self g c = let s = c.args.self.now in record { fits = kept_fits s.cursor s.lent s.tree.now.pairs s.fits }

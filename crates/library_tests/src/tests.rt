@@ -1,0 +1,6 @@
+//! Tests by what they show.
+
+mod code;
+mod examples;
+mod program;
+mod refused;

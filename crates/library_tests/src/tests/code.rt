@@ -1,0 +1,71 @@
+//! What no script can say: how often keys are asked, what a hasher is fed, when keys and values are dropped, closures, and calls that no line makes.
+
+mod asked;
+mod calls;
+mod closures;
+mod dropped;
+mod hashed;
+mod key_types;
+mod shapes;
+mod tagged;
+mod trees;
+
+use blart_keys::AsBytes;
+use blart_map::{TreeMap, Values};
+use std::iter::Iterator;
+use std::process::Abort;
+
+// Puts in a pair whose bytes are new.
+fn put<K: AsBytes + Drop, V: Drop, const P: usize>(
+    rt: &impl Abort,
+    map: &mut TreeMap<K, V, P>,
+    key: K,
+    value: V,
+) {
+    assert!(rt; matches!(map.try_insert(key, value), Ok(None)));
+}
+
+// A map of these keys, each with its place as value.
+fn map_of<K: AsBytes + Copy, const P: usize>(
+    rt: &(impl Abort + AllocGlobal),
+    keys: &[K],
+) -> TreeMap<K, usize, P> {
+    let mut map = TreeMap::with_prefix_len(rt.alloc());
+    for place in 0..keys.len() {
+        put(rt, &mut map, keys[place], place);
+    }
+    map
+}
+
+// The next value of a walk, if there is one.
+fn next_value<K: AsBytes + Drop, const P: usize>(
+    walk: &mut Values<'_, K, usize, P>,
+) -> Option<usize> {
+    walk.next().copied()
+}
+
+// The map has these values, in this order, and nothing else.
+fn assert_values<K: AsBytes + Drop, const P: usize>(
+    rt: &impl Abort,
+    map: &TreeMap<K, usize, P>,
+    want: &[usize],
+) {
+    assert_eq!(rt; map.len(), want.len());
+    let mut walk = map.values();
+    for place in 0..want.len() {
+        assert_eq!(rt; next_value(&mut walk), Some(want[place]));
+    }
+    assert_eq!(rt; next_value(&mut walk), None);
+}
+
+// Adds to a value that was lent, and gives it as it was.
+fn raise(lent: Option<&mut usize>, by: usize) -> Option<usize> {
+    match lent {
+        Some(value) => {
+            let was = *value;
+            *value = was.wrapping_add(by);
+            Some(was)
+        }
+        None => None,
+    }
+}

@@ -1,0 +1,130 @@
+//! When keys and values are dropped.
+use blart_keys::{AsBytes, NoPrefixesBytes};
+use blart_map::TreeMap;
+use std::cell::Cell;
+use std::iter::{DoubleEndedIterator, IntoIterator, Iterator};
+use std::process::Abort;
+
+// A value that counts how often one is dropped.
+struct Counted<'a> {
+    drops: &'a Cell<usize>,
+}
+
+impl Drop for Counted<'_> {
+    fn drop(self) {
+        let Counted { drops } = self;
+        drops.set(drops.get().wrapping_add(1));
+    }
+}
+
+type Values<'a> = TreeMap<[u8; 2], Counted<'a>, 2>;
+
+// Eight values, three of them under keys that begin with 1.
+fn put_eight<'a>(rt: &impl Abort, map: &mut Values<'a>, drops: &'a Cell<usize>) {
+    for key in [
+        [1, 1],
+        [2, 1],
+        [1, 2],
+        [3, 1],
+        [1, 3],
+        [4, 1],
+        [4, 2],
+        [5, 1],
+    ] {
+        super::put(rt, map, key, Counted { drops });
+    }
+    assert_eq!(rt; drops.get(), 0);
+}
+
+// Of the items one from each end is dropped where it comes, and the other six with the walk.
+fn take<W: DoubleEndedIterator>(rt: &impl Abort, mut walk: W, drops: &Cell<usize>)
+where
+    W::Item: Drop,
+    requires front { (s : W) → W.can_next s }
+    requires back { (s : W) → W.can_next_back s }
+{
+    drop(walk.next());
+    drop(walk.next_back());
+    assert_eq!(rt; drops.get(), 2);
+    drop(walk);
+    assert_eq!(rt; drops.get(), 8);
+    drops.set(0);
+}
+
+// A map of eight values.
+fn eight<'a>(rt: &(impl Abort + AllocGlobal), drops: &'a Cell<usize>) -> Values<'a> {
+    let mut map = Values::with_prefix_len(rt.alloc());
+    put_eight(rt, &mut map, drops);
+    map
+}
+
+#[test]
+fn by_walks_that_own(rt: HostRuntime) {
+    let drops = Cell::new(0usize);
+    take(&rt, eight(&rt, &drops).into_iter(), &drops);
+    take(&rt, eight(&rt, &drops).into_values(), &drops);
+    take(&rt, eight(&rt, &drops).into_keys(), &drops);
+}
+
+// A key of one byte that counts how often one is dropped.
+struct Marked<'a> {
+    bytes: [u8; 1],
+    drops: &'a Cell<usize>,
+}
+
+impl Drop for Marked<'_> {
+    fn drop(self) {
+        let Marked { bytes: _, drops } = self;
+        drops.set(drops.get().wrapping_add(1));
+    }
+}
+
+impl AsBytes for Marked<'_> {
+    ghost use Rattle.std.specs.Prelude.{◌≡◌, length};
+
+    ghost bytes = { λ s. s.bytes };
+
+    ghost IsValue = { λ s. length s.bytes ≡ 1 };
+
+    fn as_bytes(&self) -> &[u8] {
+        &self.bytes
+    }
+
+    fn value_law(&self) {
+        let _bytes = self.bytes;
+    }
+}
+
+impl NoPrefixesBytes for Marked<'_> {
+    ghost use Rattle.std.proofs.Common.{◌∙◌, sym};
+    ghost use Rattle.blart_keys.specs.KeyLaws.{begins_same_length};
+
+    ghost no_fronts = { λ x y a b h. begins_same_length x.bytes y.bytes (a ∙ sym b) h };
+}
+
+fn key_of(drops: &Cell<usize>) -> Marked<'_> {
+    Marked { bytes: [7], drops }
+}
+
+// On stored bytes the key handed in is dropped by the call. A replacement gives the stored one to its caller.
+fn insert_again<'a>(rt: &impl Abort, map: &mut TreeMap<Marked<'a>, u8, 2>, drops: &'a Cell<usize>) {
+    assert!(rt; map.insert(key_of(drops), 1).is_ok());
+    assert_eq!(rt; drops.get(), 0);
+    assert!(rt; map.insert(key_of(drops), 2).is_ok());
+    assert_eq!(rt; drops.get(), 1);
+    assert!(rt; map.try_insert(key_of(drops), 3).is_ok());
+    assert_eq!(rt; drops.get(), 2);
+    let old = map.replace_entry(key_of(drops), 4);
+    assert_eq!(rt; drops.get(), 2);
+    drop(old);
+    assert_eq!(rt; drops.get(), 3);
+}
+
+#[test]
+fn keys_for_stored_bytes(rt: HostRuntime) {
+    let drops = Cell::new(0usize);
+    let mut map = TreeMap::with_prefix_len(rt.alloc());
+    insert_again(&rt, &mut map, &drops);
+    assert_eq!(rt; map.remove_prefix(&[7]), 1);
+    assert_eq!(rt; drops.get(), 4);
+}

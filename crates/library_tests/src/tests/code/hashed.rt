@@ -1,0 +1,83 @@
+//! What a hasher is fed.
+ghost use Rattle.std.specs.Prelude.{◌+◌, ◌*◌, ◌%◌, ◌^◌, get_or};
+
+use blart_map::TreeMap;
+use blart_set::TreeSet;
+use std::hash::{Hash, Hasher};
+use std::process::Abort;
+
+// Records the first bytes of the words that it is fed, the last of them lowest. A number's first byte is its lowest one.
+#[derive(Drop)]
+struct Recorder {
+    words: u64,
+}
+
+impl Hasher for Recorder {
+    ghost write = { λ s bytes. record { words = (s.words * 256 + get_or bytes 0 0) % 2 ^ 64 } };
+
+    ghost finish = { λ s. s.words };
+
+    fn finish(&self) -> u64 {
+        self.words
+    }
+
+    fn write(&mut self, bytes: &[u8]) {
+        let first = if bytes.is_empty() { 0 } else { bytes[0] };
+        self.words = self.words.wrapping_mul(256).wrapping_add(first as u64);
+    }
+}
+
+// The words of a map or a set.
+fn words<T: Hash>(value: &T) -> u64 {
+    let mut recorder = Recorder { words: 0 };
+    value.hash(&mut recorder);
+    recorder.finish()
+}
+
+type Bytes<const P: usize> = TreeMap<u8, u8, P>;
+
+// A map of these pairs, put in this order.
+fn map_of<const P: usize>(rt: &(impl Abort + AllocGlobal), pairs: &[(u8, u8)]) -> Bytes<P> {
+    let mut map = TreeMap::with_prefix_len(rt.alloc());
+    for place in 0..pairs.len() {
+        let (key, value) = pairs[place];
+        assert!(rt; map.insert(key, value).is_ok());
+    }
+    map
+}
+
+// Two maps feed these words each, and are equal.
+fn assert_alike<const P: usize>(rt: &impl Abort, one: &Bytes<P>, other: &Bytes<P>, fed: u64) {
+    assert!(rt; *one == *other);
+    assert_eq!(rt; words(one), fed);
+    assert_eq!(rt; words(other), fed);
+}
+
+// The length comes first, and then each key and its value, in whatever order the pairs were put, and whatever was removed since.
+fn maps_feed<const P: usize>(rt: &(impl Abort + AllocGlobal)) {
+    let one = map_of::<P>(rt, &[(1, 10), (2, 20), (3, 30)]);
+    let mut other = map_of::<P>(rt, &[(3, 30), (9, 9), (2, 7), (1, 10), (2, 20)]);
+    assert_eq!(rt; other.remove(&9u8), Some(9));
+    assert_alike(rt, &one, &other, 0x03_01_0a_02_14_03_1e);
+    let clone = one.clone().expect(rt, "memory");
+    assert_alike(rt, &one, &clone, 0x03_01_0a_02_14_03_1e);
+    assert_alike(rt, &map_of::<P>(rt, &[]), &map_of::<P>(rt, &[]), 0);
+}
+
+#[test]
+fn maps(rt: HostRuntime) {
+    maps_feed::<0>(&rt);
+    maps_feed::<2>(&rt);
+    maps_feed::<16>(&rt);
+}
+
+// Of sets the length, and then each element.
+#[test]
+fn sets(rt: HostRuntime) {
+    let one: TreeSet<u8, 2> = TreeSet::from_array(rt.alloc(), [3, 1, 2]).expect(&rt, "memory");
+    let items = Vec::from_array(rt.alloc(), [3, 1, 2]).expect(&rt, "memory");
+    let other: TreeSet<u8, 2> = TreeSet::from_vec(rt.alloc(), items).expect(&rt, "memory");
+    assert!(rt; one == other);
+    assert_eq!(rt; words(&one), 0x03_01_02_03);
+    assert_eq!(rt; words(&other), 0x03_01_02_03);
+}

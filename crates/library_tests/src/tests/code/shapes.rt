@@ -1,0 +1,76 @@
+//! Chains of inner nodes.
+use super::put;
+use blart_map::TreeMap;
+use std::iter::{DoubleEndedIterator, Iterator};
+use std::process::Abort;
+
+type Map<const P: usize> = TreeMap<Vec<u8>, usize, P>;
+
+// A key of so many zeros and then another byte.
+fn zeros(rt: &(impl Abort + AllocGlobal), count: usize, last: u8) -> Vec<u8> {
+    let mut key = Vec::from_elem(rt.alloc(), 0u8, count).expect(rt, "memory");
+    assert!(rt; key.push(last).is_ok());
+    key
+}
+
+// The map has so many pairs and inner nodes, and its ends are the keys of these numbers.
+fn assert_size<const P: usize>(
+    rt: &impl Abort,
+    map: &Map<P>,
+    len: usize,
+    nodes: usize,
+    ends: (usize, usize),
+) {
+    assert_eq!(rt; map.len(), len);
+    assert_eq!(rt; map.inner_nodes(), nodes);
+    assert!(rt; matches!(map.first_key_value(), Some((_, first)) if *first == ends.0));
+    assert!(rt; matches!(map.last_key_value(), Some((_, last)) if *last == ends.1));
+}
+
+// For each number below 1,000 a key of so many zeros and then 1, so that each inner node has one below it.
+fn chain<const P: usize>(rt: &(impl Abort + AllocGlobal)) -> Map<P> {
+    let mut map = Map::<P>::with_prefix_len(rt.alloc());
+    for number in 0..1000usize {
+        put(rt, &mut map, zeros(rt, number, 1), number);
+    }
+    assert_size(rt, &map, 1000, 999, (999, 0));
+    map
+}
+
+// What begins with 500 zeros: from the key of 999 down to that of 500.
+fn assert_below<const P: usize>(rt: &impl Abort, map: &Map<P>) {
+    let front = [0u8; 500];
+    let mut walk = map.prefix(&front);
+    for step in 0..500usize {
+        let want = 999usize.wrapping_sub(step);
+        assert!(rt;
+            matches!(walk.next(), Some((key, number)) if key.len() == want.wrapping_add(1) && *number == want)
+        );
+    }
+    assert!(rt; walk.next_back().is_none());
+}
+
+// The chain is thinned, and a zero takes the place of all that it begins. Its clone stands, and is parted.
+fn take_apart<const P: usize>(rt: &(impl Abort + AllocGlobal)) {
+    let mut map = chain::<P>(rt);
+    assert_below(rt, &map);
+    let mut same = map.clone().expect(rt, "memory");
+    map.retain(|_, number| *number % 2 == 0);
+    assert_size(rt, &map, 500, 499, (998, 0));
+    let zero = Vec::from_elem(rt.alloc(), 0u8, 1).expect(rt, "memory");
+    assert!(rt; map.prefix_insert(zero, 7).is_ok());
+    assert_size(rt, &map, 2, 1, (7, 0));
+    let rest = same.split_off(&zeros(rt, 500, 1)).expect(rt, "memory");
+    assert_size(rt, &same, 499, 498, (999, 501));
+    assert_size(rt, &rest, 501, 500, (500, 0));
+}
+
+#[test]
+fn a_chain(rt: HostRuntime) {
+    take_apart::<16>(&rt);
+}
+
+#[test]
+fn a_chain_with_no_prefix_kept(rt: HostRuntime) {
+    take_apart::<0>(&rt);
+}

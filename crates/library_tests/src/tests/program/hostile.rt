@@ -1,0 +1,126 @@
+//! Lines that are no commands, and ends that fail where a line is half read or half answered.
+use super::{AMPLE, Ends, Full, SOUND, assert_outcome};
+use blart::RunError;
+use std::process::Abort;
+use std::test::Fail;
+
+// Spaces, letters and signs that no command has, a number of too many digits, and bytes that are no text; then the greatest number, and the most digits.
+const LINES: &[u8] =
+    b"get 01 \n list\nGET 01\nlist\r\nget --\ninsert 01 +5\ninsert 01 000000000000000000005\n\xff\x00\ninsert 01 18446744073709551615\ninsert 01 00000000000000000005\nget 01";
+
+const ANSWERS: &[u8] =
+    b"refused line\nrefused line\nrefused line\nrefused line\nrefused line\nrefused line\nrefused line\nrefused line\nnone\nold 18446744073709551615\n5\n";
+
+#[test]
+fn lines_at_the_edge_of_a_command(rt: HostRuntime) {
+    for piece in [1, 7, 1000] {
+        let ends = Ends { piece, ..SOUND };
+        assert_outcome(&rt, LINES, ends, Ok(()), ANSWERS);
+    }
+}
+
+// The line with another byte in a place.
+fn push_spoiled(text: &mut Vec<u8>, line: &[u8], place: usize, byte: u8) -> Result<(), Fail> {
+    let (front, back) = line.split_at(place.min(line.len()));
+    text.extend_from_slice(front)?;
+    text.push(byte)?;
+    if let Some((_, rest)) = back.split_first() {
+        text.extend_from_slice(rest)?;
+    }
+    text.push(b'\n')?;
+    Ok(())
+}
+
+// The line with another byte in each place in turn, each of which is refused.
+fn push_all_spoiled(
+    text: &mut Vec<u8>,
+    answers: &mut Vec<u8>,
+    line: &[u8],
+    byte: u8,
+) -> Result<(), Fail> {
+    for place in 0..line.len() {
+        push_spoiled(text, line, place, byte)?;
+        answers.extend_from_slice(b"refused line\n")?;
+    }
+    Ok(())
+}
+
+const COMMANDS: [&str; 9] = [
+    "insert 0102 8",
+    "get 0102",
+    "remove 0102",
+    "remove-prefix 02",
+    "prefix-get 010203",
+    "overwrite 01 9",
+    "prefix 01",
+    "range 01 02",
+    "list",
+];
+
+// The commands with a byte that none has in each place, beside one pair.
+fn spoil_commands(text: &mut Vec<u8>, answers: &mut Vec<u8>, byte: u8) -> Result<(), Fail> {
+    for command in COMMANDS {
+        push_all_spoiled(text, answers, command.as_bytes(), byte)?;
+    }
+    Ok(())
+}
+
+#[test]
+fn commands_with_a_byte_that_none_has(rt: HostRuntime) -> Result<(), Fail> {
+    for byte in [0, b'\r', b'+', b'Z', 255] {
+        let mut text = Vec::from_slice(rt.alloc(), b"insert 0102 7\n")?;
+        let mut answers = Vec::from_slice(rt.alloc(), b"none\n")?;
+        spoil_commands(&mut text, &mut answers, byte)?;
+        text.extend_from_slice(b"list")?;
+        answers.extend_from_slice(b"0102 7\nend 1\n")?;
+        assert_outcome(&rt, &text, SOUND, Ok(()), &answers);
+    }
+    Ok(())
+}
+
+// A last line without a line feed is answered at the end of the input, and not where a read failed.
+#[test]
+fn a_last_line_after_a_failed_read_is_not_answered(rt: HostRuntime) {
+    for piece in [1, 2, 3, 5, 1000] {
+        for (read_fails, ended, answers) in [
+            (false, Ok(()), "none\n5\n"),
+            (true, Err(RunError::Read), "none\n"),
+        ] {
+            let ends = Ends {
+                piece,
+                read_fails,
+                ..SOUND
+            };
+            assert_outcome(&rt, b"insert 01 5\nget 01", ends, ended, answers.as_bytes());
+        }
+    }
+}
+
+// A read that fails at once: nothing is written.
+#[test]
+fn a_read_fails_at_once(rt: HostRuntime) {
+    let ends = Ends {
+        read_fails: true,
+        ..SOUND
+    };
+    assert_outcome(&rt, b"", ends, Err(RunError::Read), b"");
+}
+
+// Whatever the room, what was written is a beginning of the answers.
+#[test]
+fn a_writer_is_full_after_any_byte(rt: HostRuntime) {
+    let answers: &[u8] = b"none\n01 5\nend 1\nrefused line\n";
+    for room in 0..answers.len() {
+        for most in [1, 4, AMPLE] {
+            let ends = Ends {
+                most,
+                room,
+                full: Full::TakesNothing,
+                ..SOUND
+            };
+            let written = answers.split_at(room).0;
+            let text = b"insert 01 5\nlist\nlast";
+            assert_outcome(&rt, text, ends, Err(RunError::Write), written);
+        }
+    }
+}

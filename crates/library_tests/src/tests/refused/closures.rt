@@ -1,0 +1,80 @@
+//! Closures, which run exactly where there is memory for what they make.
+use super::say_refused;
+use blart_map::TreeMap;
+use std::process::Abort;
+
+type Map = TreeMap<[u8; 2], usize, 2>;
+
+// The call that is handed the closure.
+#[derive(Clone, Copy)]
+enum Way {
+    OrInsertWith,
+    OrInsertWithEntry,
+    PrefixOrInsertWith,
+    PrefixOrInsertWithEntry,
+    GetOrInsertWith,
+}
+
+const WAYS: [Way; 5] = [
+    Way::OrInsertWith,
+    Way::OrInsertWithEntry,
+    Way::PrefixOrInsertWith,
+    Way::PrefixOrInsertWithEntry,
+    Way::GetOrInsertWith,
+];
+
+// Whether there was memory for the value, which is 7. The closure sets the mark.
+fn puts(map: &mut Map, way: Way, key: [u8; 2], ran: &mut bool) -> bool {
+    let make = || {
+        *ran = true;
+        7
+    };
+    match way {
+        Way::OrInsertWith => map.entry(key).or_insert_with(make).is_ok(),
+        Way::OrInsertWithEntry => map.entry(key).or_insert_with_entry(make).is_ok(),
+        Way::PrefixOrInsertWith => map.prefix_entry(key).or_insert_with(make).is_ok(),
+        Way::PrefixOrInsertWithEntry => map.prefix_entry(key).or_insert_with_entry(make).is_ok(),
+        Way::GetOrInsertWith => map.get_or_insert_with(key, make).is_ok(),
+    }
+}
+
+// The same by a closure that is lent the key.
+fn puts_by_key(map: &mut Map, way: Way, key: [u8; 2], ran: &mut bool) -> bool {
+    let make = |_: &[u8; 2]| {
+        *ran = true;
+        7
+    };
+    match way {
+        Way::OrInsertWith => map.entry(key).or_insert_with_key(make).is_ok(),
+        Way::OrInsertWithEntry => map.entry(key).or_insert_with_key_entry(make).is_ok(),
+        Way::PrefixOrInsertWith => map.prefix_entry(key).or_insert_with_key(make).is_ok(),
+        _ => map.prefix_entry(key).or_insert_with_key_entry(make).is_ok(),
+    }
+}
+
+// The closure ran if the value was put in. Else the map is empty.
+fn assert_ran(rt: &(impl Abort + Print), map: &Map, put: bool, ran: bool) {
+    assert_eq!(rt; ran, put);
+    if put {
+        assert_eq!(rt; map.get(&[1u8, 7]), Some(&7));
+    } else {
+        say_refused(rt);
+        assert!(rt; map.is_empty());
+    }
+}
+
+#[test]
+fn closures(rt: HostRuntime) {
+    for way in WAYS {
+        for of_key in [false, true] {
+            let mut map = Map::with_prefix_len(rt.alloc());
+            let mut ran = false;
+            let put = if of_key {
+                puts_by_key(&mut map, way, [1, 7], &mut ran)
+            } else {
+                puts(&mut map, way, [1, 7], &mut ran)
+            };
+            assert_ran(&rt, &map, put, ran);
+        }
+    }
+}

@@ -1,0 +1,49 @@
+//! Calls as values, of which one is refused while the others go on.
+use super::say_refused;
+use blart_map::{Call, Reply, TreeMap, TryInsertError, drive};
+use std::process::Abort;
+
+type Replies = Vec<Reply<[u8; 2], usize>>;
+
+// Whether there was memory for an insertion at new bytes.
+fn is_put(rt: &impl Abort, reply: Option<Reply<[u8; 2], usize>>) -> bool {
+    match reply {
+        Some(Reply::TryInsert(Ok(None))) => true,
+        Some(Reply::TryInsert(Err(TryInsertError::Memory(_)))) => false,
+        _ => panic!(rt; "another reply"),
+    }
+}
+
+// What the map has of the two keys is what the replies say.
+fn assert_driven(rt: &(impl Abort + Print), map: &TreeMap<[u8; 2], usize, 2>, replies: Replies) {
+    let mut replies = replies.into_iter();
+    let first = is_put(rt, replies.next());
+    let second = is_put(rt, replies.next());
+    if !first || !second {
+        say_refused(rt);
+    }
+    assert_eq!(rt; map.contains_key(&[1u8, 7]), first);
+    assert_eq!(rt; map.contains_key(&[2u8, 2]), second);
+    assert!(rt; matches!(replies.next(), Some(Reply::ContainsKey(true))) == second);
+    assert!(rt; replies.next().is_none());
+}
+
+#[test]
+fn a_refused_call_is_replied_to(rt: HostRuntime) {
+    let mut map = TreeMap::with_prefix_len(rt.alloc());
+    let Ok(calls) = vec![in rt.alloc();
+        Call::TryInsert([1u8, 7], 2usize),
+        Call::TryInsert([2, 2], 3),
+        Call::ContainsKey([2, 2]),
+    ] else {
+        say_refused(&rt);
+        return;
+    };
+    match drive(&mut map, calls) {
+        Ok(replies) => assert_driven(&rt, &map, replies),
+        Err(_) => {
+            say_refused(&rt);
+            assert!(rt; map.is_empty());
+        }
+    }
+}

@@ -1,0 +1,125 @@
+//! What is dropped where a request is refused: each value once.
+use super::say_refused;
+use blart_map::TreeMap;
+use std::cell::Cell;
+use std::iter::{DoubleEndedIterator, IntoIterator, Iterator};
+use std::process::Abort;
+
+// A value that counts how often one is dropped.
+struct Counted<'a> {
+    drops: &'a Cell<usize>,
+}
+
+impl Drop for Counted<'_> {
+    fn drop(self) {
+        let Counted { drops } = self;
+        drops.set(drops.get().wrapping_add(1));
+    }
+}
+
+type Values<'a> = TreeMap<[u8; 2], Counted<'a>, 2>;
+
+const KEYS: [[u8; 2]; 3] = [[2, 1], [1, 7], [2, 2]];
+
+// How a value is put in.
+#[derive(Clone, Copy)]
+enum Way {
+    Insert,
+    TryInsert,
+    ReplaceEntry,
+    PrefixInsert,
+    OrInsert,
+    PrefixOrInsert,
+}
+
+const WAYS: [Way; 6] = [
+    Way::Insert,
+    Way::TryInsert,
+    Way::ReplaceEntry,
+    Way::PrefixInsert,
+    Way::OrInsert,
+    Way::PrefixOrInsert,
+];
+
+// Hands in a value at new bytes. Answers whether there was memory.
+fn puts<'a>(map: &mut Values<'a>, way: Way, key: [u8; 2], drops: &'a Cell<usize>) -> bool {
+    let value = Counted { drops };
+    match way {
+        Way::Insert => map.insert(key, value).is_ok(),
+        Way::TryInsert => map.try_insert(key, value).is_ok(),
+        Way::ReplaceEntry => map.replace_entry(key, value).is_ok(),
+        Way::PrefixInsert => map.prefix_insert(key, value).is_ok(),
+        Way::OrInsert => map.entry(key).or_insert(value).is_ok(),
+        Way::PrefixOrInsert => map.prefix_entry(key).or_insert(value).is_ok(),
+    }
+}
+
+// A value that is refused is dropped, and one that is not with its map.
+#[test]
+fn values(rt: HostRuntime) {
+    for way in WAYS {
+        let drops = Cell::new(0usize);
+        let mut map = Values::with_prefix_len(rt.alloc());
+        if puts(&mut map, way, [1, 7], &drops) {
+            assert_eq!(rt; drops.get(), 0);
+        } else {
+            say_refused(&rt);
+            assert_eq!(rt; drops.get(), 1);
+        }
+        drop(map);
+        assert_eq!(rt; drops.get(), 1);
+    }
+}
+
+// A map of three values, of which a refused one is handed in again.
+fn three_values<'a>(rt: &(impl Abort + AllocGlobal + Print), drops: &'a Cell<usize>) -> Values<'a> {
+    let mut map = Values::with_prefix_len(rt.alloc());
+    for key in KEYS {
+        if !puts(&mut map, Way::Insert, key, drops) {
+            say_refused(rt);
+            assert!(rt; puts(&mut map, Way::Insert, key, drops));
+        }
+    }
+    map
+}
+
+// A refused `split_off` or `append` drops nothing.
+#[test]
+fn parts(rt: HostRuntime) {
+    let drops = Cell::new(0usize);
+    let mut map = three_values(&rt, &drops);
+    let before = drops.get();
+    let Ok(mut rest) = map.split_off(&[2u8, 1]) else {
+        say_refused(&rt);
+        assert_eq!(rt; drops.get(), before);
+        return;
+    };
+    assert_eq!(rt; drops.get(), before);
+    if map.append(&mut rest).is_err() {
+        say_refused(&rt);
+    }
+    assert_eq!(rt; drops.get(), before);
+    drop(map);
+    drop(rest);
+    assert_eq!(rt; drops.get(), before.wrapping_add(3));
+}
+
+// What a refused `extend` or `from_iter` was given is dropped once in all.
+#[test]
+fn given(rt: HostRuntime) {
+    let drops = Cell::new(0usize);
+    let given = three_values(&rt, &drops);
+    let before = drops.get();
+    let mut map = Values::with_prefix_len(rt.alloc());
+    if map.extend(given.into_iter()).is_err() {
+        say_refused(&rt);
+    }
+    let dropped = drops.get().wrapping_sub(before);
+    assert_eq!(rt; dropped.wrapping_add(map.len()), 3);
+    let made: Result<Values<'_>, _> = TreeMap::from_iter(rt.alloc(), map.into_iter());
+    if made.is_err() {
+        say_refused(&rt);
+    }
+    drop(made);
+    assert_eq!(rt; drops.get(), before.wrapping_add(3));
+}

@@ -1,0 +1,65 @@
+//! A table of mounts, refused at each request.
+use super::say_refused;
+use prefix_router::Mounts;
+use std::process::Abort;
+
+// Paths of which none begins another, in no order.
+const PATHS: [[u8; 4]; 3] = [*b"/app", *b"/img", *b"/api"];
+
+// The bytes as a path, at the second try if the first is refused.
+fn path(rt: &(impl Abort + AllocGlobal + Print), bytes: &[u8]) -> Vec<u8> {
+    match Vec::from_slice(rt.alloc(), bytes) {
+        Ok(path) => path,
+        Err(_) => {
+            say_refused(rt);
+            Vec::from_slice(rt.alloc(), bytes).expect(rt, "memory")
+        }
+    }
+}
+
+// The first so many paths are mounted, each with its place, and no other is.
+fn assert_mounted(rt: &impl Abort, mounts: &Mounts<usize>, count: usize) {
+    assert_eq!(rt; mounts.len(), count);
+    for (place, path) in PATHS.iter().enumerate() {
+        match mounts.resolve(path.as_slice()) {
+            Some((_, target)) => assert!(rt; *target == place && place < count),
+            None => assert!(rt; place >= count),
+        }
+    }
+}
+
+// Mounts a path that is related to no other. Answers whether there was memory.
+fn puts(mounts: &mut Mounts<usize>, over: bool, path: Vec<u8>, place: usize) -> bool {
+    if over {
+        mounts.mount_over(path, place).is_ok()
+    } else {
+        matches!(mounts.mount(path, place), Ok(None))
+    }
+}
+
+// Mounts the paths in turn. A refused call leaves the table as it was.
+fn all_mounted(rt: &(impl Abort + AllocGlobal + Print), over: bool) -> Mounts<usize> {
+    let mut mounts = Mounts::new(rt.alloc());
+    for (place, bytes) in PATHS.iter().enumerate() {
+        if !puts(&mut mounts, over, path(rt, bytes.as_slice()), place) {
+            say_refused(rt);
+            assert_mounted(rt, &mounts, place);
+            assert!(rt; puts(&mut mounts, over, path(rt, bytes.as_slice()), place));
+        }
+        assert_mounted(rt, &mounts, place.wrapping_add(1));
+    }
+    mounts
+}
+
+#[test]
+fn mounts(rt: HostRuntime) {
+    let _ = all_mounted(&rt, false);
+}
+
+// In the place of related mounts no memory is taken but for the path.
+#[test]
+fn mounts_over(rt: HostRuntime) {
+    let mut mounts = all_mounted(&rt, true);
+    assert!(rt; mounts.mount_over(path(&rt, b"/ap"), 7).is_ok());
+    assert_eq!(rt; mounts.len(), 2);
+}

@@ -1,0 +1,84 @@
+//! Room in a tree.
+ghost use Rattle.std.specs.Prelude.{◌≡◌};
+ghost use Rattle.art_tree.specs.Content.{Fits};
+
+use super::{KEYS, say_refused};
+use art_tree::{Point, Tree, Visits};
+use std::process::Abort;
+
+// The tree has the first so many of the keys, each with its place as value, and so many inner nodes.
+fn assert_keys<const P: usize>(
+    rt: &impl Abort,
+    tree: &Tree<[u8; 2], usize, P>,
+    count: usize,
+    nodes: usize,
+) {
+    assert_eq!(rt; tree.len(), count);
+    assert_eq!(rt; tree.inner_nodes(), nodes);
+    for (place, key) in KEYS.iter().take(count).enumerate() {
+        match tree.get(key, &mut Visits::new()) {
+            Some((_, own, value)) => assert!(rt; *own == *key && *value == place),
+            None => panic!(rt; "the key of place {place} is gone"),
+        }
+    }
+}
+
+// Makes room for the point of the key that comes next. After a refusal the tree is as before, and there is memory the next time.
+fn room_at<const P: usize>(
+    rt: &(impl Abort + Print),
+    tree: &mut Tree<[u8; 2], usize, P>,
+    point: &Point,
+    count: usize,
+)
+    ensures pairs { tree.new.pairs ≡ tree.old.pairs }
+    ensures fits { Fits tree.new point.now }
+{
+    let nodes = tree.inner_nodes();
+    if tree.make_room(point).is_ok() {
+        return;
+    }
+    say_refused(rt);
+    assert_keys(rt, tree, count, nodes);
+    tree.make_room(point).expect(rt, "one request is refused");
+}
+
+// Places the key that comes next, at the point that was found before room was made.
+fn place_next<const P: usize>(
+    rt: &(impl Abort + Print),
+    tree: &mut Tree<[u8; 2], usize, P>,
+    place: usize,
+    key: [u8; 2],
+) {
+    let point = tree.point(&key);
+    room_at(rt, tree, &point, place);
+    match point {
+        Point::Exact(_) | Point::Related { .. } => panic!(rt; "no key conflicts"),
+        Point::Empty | Point::Free(_) => {
+            tree.place(point, key, place);
+        }
+    }
+}
+
+#[test]
+fn make_room(rt: HostRuntime) {
+    let mut tree: Tree<[u8; 2], usize, 2> = Tree::new(rt.alloc());
+    for (place, key) in KEYS.iter().enumerate() {
+        place_next(&rt, &mut tree, place, *key);
+    }
+    assert_keys(&rt, &tree, KEYS.len(), 2);
+}
+
+#[test]
+fn reserve(rt: HostRuntime) {
+    let mut tree: Tree<[u8; 2], usize, 2> = Tree::new(rt.alloc());
+    for (place, key) in KEYS.iter().take(2).enumerate() {
+        place_next(&rt, &mut tree, place, *key);
+    }
+    tree.reserve(0).expect(&rt, "no memory is asked for");
+    if tree.reserve(12).is_err() {
+        say_refused(&rt);
+        assert_keys(&rt, &tree, 2, 1);
+        tree.reserve(12).expect(&rt, "one request is refused");
+    }
+    assert_keys(&rt, &tree, 2, 1);
+}

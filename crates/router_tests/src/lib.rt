@@ -1,5 +1,0 @@
-//! Tests of the table of mounts.
-#![tactic(auto)]
-
-#[cfg(test)]
-mod tests;

@@ -1,0 +1,63 @@
+//! Routes paths: `routes FILE` reads a table of mounts, each a path and a target on a line, with a space between, and then answers each line of standard input by the mount that begins it.
+#![tactic(auto)]
+
+use anyhow::Context;
+use prefix_router::Mounts;
+use std::io::{BufRead, BufReader};
+use std::iter::{IntoIterator, Iterator};
+use std::{env, fs};
+
+type Table = Mounts<String>;
+
+fn main(rt: HostRuntime) -> anyhow::Result<()> {
+    let path = path_of(&rt)?;
+    let text = fs::read_to_string(&rt, path.as_str()).context("the table")?;
+    let table = table_of(&rt, &text)?;
+    println!(rt; "{} mounts", table.len())?;
+    answer(&rt, &table)
+}
+
+// The file that is named.
+fn path_of(rt: &HostRuntime) -> anyhow::Result<String> {
+    match env::args(rt)?.into_iter().nth(1) {
+        Some(path) => Ok(path),
+        None => Err(anyhow::anyhow!("usage: routes FILE")),
+    }
+}
+
+// The mounts of a text, one a line.
+fn table_of(rt: &impl AllocGlobal, text: &str) -> anyhow::Result<Table> {
+    let mut table = Mounts::new(rt.alloc());
+    for line in text.lines() {
+        mount(rt, &mut table, line)?;
+    }
+    Ok(table)
+}
+
+// Mounts what a line says.
+fn mount(rt: &impl AllocGlobal, table: &mut Table, line: &str) -> anyhow::Result<()> {
+    let (path, target) = line.split_once(' ').context("a line without a target")?;
+    let path = Vec::from_slice(rt.alloc(), path.as_bytes())?;
+    table.mount(path, target.to_string(rt.alloc())?)?;
+    Ok(())
+}
+
+// Answers each line of standard input.
+fn answer(rt: &HostRuntime, table: &Table) -> anyhow::Result<()> {
+    for line in BufReader::new(rt.alloc(), rt.reader())?.lines(rt.alloc()) {
+        route(rt, table, &line?)?;
+    }
+    Ok(())
+}
+
+// Prints the target of the mount that begins the path, and what is left of the path.
+fn route(rt: &impl Print, table: &Table, path: &str) -> anyhow::Result<()> {
+    match table.resolve(path.as_bytes()) {
+        Some((mounted, target)) => {
+            let rest = path.get(mounted.len()..).unwrap_or("");
+            println!(rt; "{path}: {target}, {rest}")?;
+        }
+        None => println!(rt; "{path}: no mount")?,
+    }
+    Ok(())
+}

@@ -1,0 +1,67 @@
+//! What the entries of the first pair and of the last answer.
+ghost use Rattle.std.specs.Prelude.{◌≡◌, None, OnOk};
+
+use crate::entries::entry_calls::{EntryCall, EntryLine, OccupiedCall};
+use crate::words::{Answered, ScriptKey, Shown, Text, Unanswered, Words};
+use blart_map::TreeMap;
+use std::mem;
+
+// Adds what the call answers.
+macro_rules! show_end {
+    ($entry:expr, $call:expr, $text:expr) => {
+        match $call {
+            EndCall::Key => $entry.key().show($text),
+            EndCall::Occupied(call) => match call {
+                OccupiedCall::Get => $entry.get().show($text),
+                OccupiedCall::Insert(value) => $entry.insert(value).show($text),
+                OccupiedCall::GetMut(value) => mem::replace($entry.get_mut(), value).show($text),
+                OccupiedCall::IntoMut(value) => mem::replace($entry.into_mut(), value).show($text),
+                OccupiedCall::Remove => $entry.remove().show($text),
+                OccupiedCall::RemoveEntry => $entry.remove_entry().show($text),
+            },
+        }
+    };
+}
+
+/// Makes the call of the entry of the first pair, or of the last, and adds its answer.
+pub fn enter_end<K: ScriptKey, const P: usize>(
+    map: &mut TreeMap<K, u64, P>,
+    is_first: bool,
+    words: Words<'_>,
+    text: &mut Text,
+) -> Answered {
+    let line = EntryLine::read(words)?;
+    let call = end_call(line)?;
+    let found = if is_first {
+        map.first_entry()
+    } else {
+        map.last_entry()
+    };
+    match found {
+        Some(mut entry) => {
+            text.push(b"Some(")?;
+            show_end!(entry, call, text)?;
+            text.push(b")")?;
+        }
+        None => text.push(b"None")?,
+    }
+    Ok(())
+}
+
+// A call of an entry at an end.
+#[derive(Clone, Copy)]
+enum EndCall {
+    Key,
+    Occupied(OccupiedCall),
+}
+
+// The call of the line, if such an entry has it.
+fn end_call(line: EntryLine) -> Result<EndCall, Unanswered>
+    ensures { OnOk result (line.add ≡ None) }
+{
+    match (line.add, line.call) {
+        (None, EntryCall::Key) => Ok(EndCall::Key),
+        (None, EntryCall::Occupied(call)) => Ok(EndCall::Occupied(call)),
+        _ => Err(Unanswered::NoCall),
+    }
+}

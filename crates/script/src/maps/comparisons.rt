@@ -1,0 +1,21 @@
+//! How the first map and the second compare, and what the first is as text.
+use crate::maps::calls::Maps;
+use crate::maps::names::Name;
+use crate::words::{
+    Answered, ScriptKey, Shown, Text, Unanswered, Words, have_one_digest, show_debug,
+};
+
+impl<K: ScriptKey, const PREFIX_LEN: usize> Maps<K, PREFIX_LEN> {
+    /// Makes the call of this name, which compares the maps, and adds its answer.
+    pub(crate) fn compare(&self, name: Name, words: Words<'_>, text: &mut Text) -> Answered {
+        words.end()?;
+        match name {
+            Name::Equal => (self.first == self.second).show(text),
+            Name::PartialCmp => self.first.partial_cmp(&self.second).show(text),
+            Name::Cmp => self.first.cmp(&self.second).show(text),
+            Name::SameHash => have_one_digest(&self.first, &self.second).show(text),
+            Name::DebugText => show_debug(&self.first, text),
+            _ => Err(Unanswered::NoCall),
+        }
+    }
+}

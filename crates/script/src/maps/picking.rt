@@ -1,0 +1,245 @@
+//! Pairs that a closure picks, and pairs that are lent to be kept or taken.
+ghost use Rattle.std.specs.Prelude.{◌≡◌, true, false, is_some};
+ghost use Rattle.blart_map.specs.Content.{pairs};
+ghost use Rattle.blart_keys.specs.Bounds.{bound_bytes, CanRange};
+ghost use Rattle.blart_keys.specs.KeyBytes.{vec_bytes};
+
+use crate::maps::calls::Maps;
+use crate::maps::names::Name;
+use crate::words::{Answered, ScriptKey, Shown, Text, Unanswered, Words};
+use blart_map::{TakeWalk, bounds_in_order};
+use std::alloc::AllocError;
+use std::iter;
+use std::iter::{DoubleEndedIterator, Iterator};
+use std::ops::Bound;
+
+// What a closure does with a value.
+#[derive(Clone, Copy)]
+struct Pick {
+    modulus: u64,
+    rest: u64,
+    add: u64,
+}
+
+impl Pick {
+    // The next three words.
+    fn read(words: &mut Words<'_>) -> Result<Pick, Unanswered> {
+        let (modulus, rest) = (words.number()?, words.number()?);
+        let add = words.number()?;
+        if modulus == 0 {
+            return Err(Unanswered::NoCall);
+        }
+        Ok(Pick { modulus, rest, add })
+    }
+
+    // Adds to the value, and answers whether it leaves the rest.
+    fn picks(&self, value: &mut u64) -> bool {
+        *value = value.wrapping_add(self.add);
+        value.checked_rem(self.modulus) == Some(self.rest)
+    }
+}
+
+impl<K: ScriptKey, const PREFIX_LEN: usize> Maps<K, PREFIX_LEN> {
+    /// Makes the call of this name, which takes some pairs out, and adds its answer.
+    pub(crate) fn pick(&mut self, name: Name, words: Words<'_>, text: &mut Text) -> Answered {
+        match name {
+            Name::Retain => self.retain(words, text),
+            Name::ExtractIf => self.extract_if(words, text),
+            Name::TakeWalk => self.take_walk(words, text),
+            _ => Err(Unanswered::NoCall),
+        }
+    }
+
+    fn retain(&mut self, mut words: Words<'_>, text: &mut Text) -> Answered {
+        let pick = Pick::read(&mut words)?;
+        words.end()?;
+        let mut asked: u64 = 0;
+        self.first.retain(|_, value| {
+            asked = asked.wrapping_add(1);
+            pick.picks(value)
+        });
+        asked.show(text)
+    }
+
+    fn extract_if(&mut self, mut words: Words<'_>, text: &mut Text) -> Answered {
+        let (start, end) = words.bounds()?;
+        let pick = Pick::read(&mut words)?;
+        let letters = words.last_moves()?;
+        let (start, end) = (start.as_ref(), end.as_ref());
+        if !self.first.is_empty() && !bounds_in_order(start, end) {
+            return Err(Unanswered::NoCall);
+        }
+        let asked = match letters {
+            Some(letters) => self.extract_steps(start, end, pick, letters, text)?,
+            None => self.extract_all(start, end, pick, text)?,
+        };
+        text.push(b" ")?;
+        asked.show(text)
+    }
+
+    // Adds all pairs that are picked, and gives how often the closure was asked.
+    fn extract_all(
+        &mut self,
+        start: Bound<&Vec<u8>>,
+        end: Bound<&Vec<u8>>,
+        pick: Pick,
+        text: &mut Text,
+    ) -> Result<u64, Unanswered>
+        requires { CanRange (pairs self.old.first) (bound_bytes vec_bytes start)
+            (bound_bytes vec_bytes end) }
+    {
+        let left = self.first.len();
+        let mut asked: u64 = 0;
+        let mut walk = self.first.extract_if(start, end, |_, value| {
+            asked = asked.wrapping_add(1);
+            pick.picks(value)
+        });
+        text.push(b"[")?;
+        let mut part: &[u8] = b"";
+        for _ in iter::repeat_n((), left) {
+            if !show_pair(walk.next(), part, text)? {
+                break;
+            }
+            part = b", ";
+        }
+        text.push(b"]")?;
+        Ok(asked)
+    }
+
+    // Adds what each letter gave, and gives how often the closure was asked.
+    fn extract_steps(
+        &mut self,
+        start: Bound<&Vec<u8>>,
+        end: Bound<&Vec<u8>>,
+        pick: Pick,
+        letters: &[u8],
+        text: &mut Text,
+    ) -> Result<u64, Unanswered>
+        requires { CanRange (pairs self.old.first) (bound_bytes vec_bytes start)
+            (bound_bytes vec_bytes end) }
+    {
+        let mut asked: u64 = 0;
+        let mut walk = self.first.extract_if(start, end, |_, value| {
+            asked = asked.wrapping_add(1);
+            pick.picks(value)
+        });
+        let mut part: &[u8] = b"";
+        for letter in letters {
+            text.push(part)?;
+            if *letter == b'f' {
+                walk.next().show(text)?;
+            } else {
+                walk.next_back().show(text)?;
+            }
+            part = b" ";
+        }
+        Ok(asked)
+    }
+
+    fn take_walk(&mut self, mut words: Words<'_>, text: &mut Text) -> Answered {
+        let (start, end) = words.bounds()?;
+        let letters = words.last_decisions()?;
+        let (start, end) = (start.as_ref(), end.as_ref());
+        if !self.first.is_empty() && !bounds_in_order(start, end) {
+            return Err(Unanswered::NoCall);
+        }
+        let mut walk = self.first.take_walk(start, end);
+        take_steps(&mut walk, letters, text)
+    }
+}
+
+// Adds the pair, if there is one, behind what parts it from the one before, and gives whether there is.
+fn show_pair<K: ScriptKey>(
+    pair: Option<(K, u64)>,
+    part: &[u8],
+    text: &mut Text,
+) -> Result<bool, Unanswered> {
+    let Some(pair) = pair else {
+        return Ok(false);
+    };
+    text.push(part)?;
+    pair.show(text)?;
+    Ok(true)
+}
+
+// Adds what each letter gave, parted by spaces.
+fn take_steps<K: ScriptKey, const P: usize>(
+    walk: &mut TakeWalk<'_, K, u64, P>,
+    letters: &[u8],
+    text: &mut Text,
+) -> Answered {
+    let mut part: &[u8] = b"";
+    for letter in letters {
+        text.push(part)?;
+        if *letter == b'u' {
+            walk.undecided().show(text)?;
+        } else if walk.undecided() {
+            decide(walk, *letter, text)?;
+        } else {
+            lend(walk, *letter, text)?;
+        }
+        part = b" ";
+    }
+    Ok(())
+}
+
+// Keeps or takes the pair that is lent.
+fn decide<K: ScriptKey, const P: usize>(
+    walk: &mut TakeWalk<'_, K, u64, P>,
+    letter: u8,
+    text: &mut Text,
+) -> Answered
+    requires { is_some walk.old.lent ≡ true }
+{
+    match letter {
+        b'k' => {
+            walk.keep();
+            text.push(b"()")
+        }
+        b't' => walk.take().show(text),
+        _ => text.push(b"?"),
+    }
+}
+
+// Lends the pair at one end.
+fn lend<K: ScriptKey, const P: usize>(
+    walk: &mut TakeWalk<'_, K, u64, P>,
+    letter: u8,
+    text: &mut Text,
+) -> Answered
+    requires { is_some walk.old.lent ≡ false }
+{
+    match letter {
+        b'f' => lend_first(walk, text),
+        b'b' => lend_last(walk, text),
+        _ => text.push(b"?"),
+    }
+}
+
+// Lends the first pair.
+fn lend_first<K: ScriptKey, const P: usize>(
+    walk: &mut TakeWalk<'_, K, u64, P>,
+    text: &mut Text,
+) -> Answered
+    requires { is_some walk.old.lent ≡ false }
+{
+    if let Some(value) = walk.lend() {
+        let value = *value;
+        return Some((walk.key(), value)).show(text);
+    }
+    text.push(b"None")
+}
+
+// Lends the last pair.
+fn lend_last<K: ScriptKey, const P: usize>(
+    walk: &mut TakeWalk<'_, K, u64, P>,
+    text: &mut Text,
+) -> Answered
+    requires { is_some walk.old.lent ≡ false }
+{
+    if let Some(value) = walk.lend_back() {
+        let value = *value;
+        return Some((walk.key(), value)).show(text);
+    }
+    text.push(b"None")
+}

@@ -1,0 +1,97 @@
+//! What stands where a line was refused.
+//!
+//! That must be what the lines before it make in a session of their own, for which there is memory. A line of `extend` may have added some of its items, from the first on.
+use crate::refusals::answers::{PREFIX_LEN, answer};
+use crate::session::Session;
+use crate::words::{Answered, Text, Unanswered};
+use std::alloc::Global;
+use std::cell::Cell;
+use std::iter::Iterator;
+
+/// Whether what stands in the session is what the lines before the refused one make.
+pub(crate) fn stands(
+    alloc: Global,
+    session: &Session<'_, PREFIX_LEN>,
+    script: &[u8],
+    number: usize,
+    line: &[u8],
+) -> Result<bool, Unanswered> {
+    let mut found = Text::new(alloc);
+    session.list(&mut found)?;
+    let before = listing_after(alloc, script, number, b"")?;
+    if found.as_slice() == before.as_slice() {
+        return Ok(true);
+    }
+    if !keeps_a_front(line) {
+        return Ok(false);
+    }
+    has_a_front(alloc, &found, script, number, line)
+}
+
+// Whether the call of the line keeps the items before the refused one.
+fn keeps_a_front(line: &[u8]) -> bool {
+    line.starts_with(b"extend") || line.starts_with(b"set extend")
+}
+
+// Whether the listing is that of the lines before this one and of a front of its items.
+fn has_a_front(
+    alloc: Global,
+    found: &Text,
+    script: &[u8],
+    number: usize,
+    line: &[u8],
+) -> Result<bool, Unanswered> {
+    for (at, byte) in line.iter().enumerate() {
+        if *byte == b' ' {
+            let made = listing_after(alloc, script, number, &line[..at])?;
+            if found.as_slice() == made.as_slice() {
+                return Ok(true);
+            }
+        }
+    }
+    Ok(false)
+}
+
+// The listing of a session of the first lines of the script and one more.
+fn listing_after(
+    alloc: Global,
+    script: &[u8],
+    count: usize,
+    last: &[u8],
+) -> Result<Text, Unanswered> {
+    let drops = Cell::new(0u64);
+    let mut session = Session::new(alloc, &drops);
+    list_after(alloc, &mut session, script, count, last)
+}
+
+// The listing of the session after the first lines of the script and one more.
+fn list_after(
+    alloc: Global,
+    session: &mut Session<'_, PREFIX_LEN>,
+    script: &[u8],
+    count: usize,
+    last: &[u8],
+) -> Result<Text, Unanswered> {
+    let mut answers = Text::new(alloc);
+    for line in script.split(|byte| *byte == b'\n').take(count) {
+        answer(alloc, session, line, &mut answers)?;
+    }
+    answer(alloc, session, last, &mut answers)?;
+    let mut listing = Text::new(alloc);
+    session.list(&mut listing)?;
+    Ok(listing)
+}
+
+/// The line, and what stands in the session.
+pub(crate) fn changed(
+    alloc: Global,
+    session: &Session<'_, PREFIX_LEN>,
+    line: &[u8],
+) -> Result<Text, Unanswered> {
+    let mut text = Text::new(alloc);
+    text.push(b"refused, and not as before: ")?;
+    text.push(line)?;
+    text.push(b"\n")?;
+    session.list(&mut text)?;
+    Ok(text)
+}

@@ -1,0 +1,105 @@
+//! The calls that take, give or make many elements at once.
+ghost use Rattle.std.specs.Prelude.{◌≡◌};
+
+use crate::sets::calls::Sets;
+use crate::words::{Answered, FixedKey, ScriptKey, Shown, Text, Unanswered, Words};
+use blart_keys::NoPrefixesBytes;
+use blart_set::TreeSet;
+use std::alloc::{AllocError, Global};
+use std::iter::{IntoIterator, Iterator};
+
+impl<K: ScriptKey, const PREFIX_LEN: usize> Sets<K, PREFIX_LEN> {
+    /// Gives the elements from the bytes on to the second set, in the place of its own.
+    pub(crate) fn split_off(&mut self, mut words: Words<'_>, text: &mut Text) -> Answered {
+        let query = words.last_bytes()?;
+        let rest = self.first.split_off(&query);
+        put(&mut self.second, rest, text)
+    }
+}
+
+impl<K: ScriptKey + Clone, const PREFIX_LEN: usize> Sets<K, PREFIX_LEN> {
+    /// Puts a clone of the first set in the place of the second.
+    pub(crate) fn make_clone(&mut self, words: Words<'_>, text: &mut Text) -> Answered
+        requires { (k j : K) → K.is_clone k j → K.bytes j ≡ K.bytes k }
+    {
+        words.end()?;
+        let copy = self.first.clone();
+        put(&mut self.second, copy, text)
+    }
+}
+
+impl<K: ScriptKey + NoPrefixesBytes, const PREFIX_LEN: usize> Sets<K, PREFIX_LEN> {
+    /// Moves the elements of the second set to the first.
+    pub(crate) fn append(&mut self, words: Words<'_>, text: &mut Text) -> Answered {
+        words.end()?;
+        self.first.append(&mut self.second).show(text)
+    }
+
+    /// Inserts the elements in turn.
+    pub(crate) fn extend(&mut self, words: Words<'_>, text: &mut Text) -> Answered {
+        let items = elements_of(self.alloc, words)?;
+        self.first.extend(items.into_iter()).show(text)
+    }
+
+    /// Puts the set of the elements in the place of the first.
+    pub(crate) fn from_vec(&mut self, words: Words<'_>, text: &mut Text) -> Answered {
+        let items = elements_of(self.alloc, words)?;
+        let made = TreeSet::from_vec(self.alloc, items);
+        put(&mut self.first, made, text)
+    }
+
+    /// Puts the set of the elements in the place of the first.
+    pub(crate) fn from_iter(&mut self, words: Words<'_>, text: &mut Text) -> Answered {
+        let items = elements_of(self.alloc, words)?;
+        let made = TreeSet::from_iter(self.alloc, items.into_iter());
+        put(&mut self.first, made, text)
+    }
+}
+
+impl<K: FixedKey, const PREFIX_LEN: usize> Sets<K, PREFIX_LEN> {
+    /// Inserts copies of the elements in turn.
+    pub(crate) fn extend_copied(&mut self, words: Words<'_>, text: &mut Text) -> Answered {
+        let items: Vec<K> = elements_of(self.alloc, words)?;
+        self.first.extend_copied(items.iter()).show(text)
+    }
+
+    /// Puts the set of the two elements in the place of the first.
+    pub(crate) fn from_array(&mut self, words: Words<'_>, text: &mut Text) -> Answered {
+        let items: Vec<K> = elements_of(self.alloc, words)?;
+        let made = match items.as_slice() {
+            [one, other] => TreeSet::from_array(self.alloc, [*one, *other]),
+            _ => return Err(Unanswered::NoCall),
+        };
+        put(&mut self.first, made, text)
+    }
+}
+
+// Puts the set, if it was made, in the place of another, and adds whether it was.
+fn put<K: ScriptKey, const P: usize>(
+    place: &mut TreeSet<K, P>,
+    made: Result<TreeSet<K, P>, AllocError>,
+    text: &mut Text,
+) -> Answered {
+    match made {
+        Ok(set) => {
+            *place = set;
+            Ok::<(), AllocError>(()).show(text)
+        }
+        Err(refused) => Err::<(), AllocError>(refused).show(text),
+    }
+}
+
+// The elements that the words are.
+fn elements_of<K: ScriptKey>(alloc: Global, mut words: Words<'_>) -> Result<Vec<K>, Unanswered> {
+    let mut elements = Vec::new(alloc);
+    for _ in 0..u64::MAX {
+        if words.is_done() {
+            break;
+        }
+        let element = words.key()?;
+        if elements.push(element).is_err() {
+            return Err(Unanswered::Memory(AllocError));
+        }
+    }
+    Ok(elements)
+}

@@ -1,0 +1,64 @@
+//! How often merges and tests of both sets compare elements.
+use crate::sets::calls::Sets;
+use crate::sets::names::SetName;
+use crate::words::{Answered, Compared, ScriptKey, Shown, Text, Unanswered, Words};
+use blart_set::{TreeSet, TryInsertError};
+use std::alloc::Global;
+use std::cell::Cell;
+use std::iter::Iterator;
+
+impl<K: ScriptKey, const PREFIX_LEN: usize> Sets<K, PREFIX_LEN> {
+    /// Makes the call of this name over sets of the same bytes, and adds its answer and how often it compared elements.
+    pub(crate) fn count(&self, name: SetName, words: Words<'_>, text: &mut Text) -> Answered {
+        let Some(name) = uncounted(name) else {
+            return Err(Unanswered::NoCall);
+        };
+        let count = Cell::new(0u64);
+        let first = compared(self.alloc, &self.first, &count)?;
+        let second = compared(self.alloc, &self.second, &count)?;
+        let alloc = self.alloc;
+        let sets = Sets {
+            first,
+            second,
+            alloc,
+        };
+        match name {
+            SetName::IsDisjoint | SetName::IsSubset | SetName::IsSuperset => {
+                sets.relate(name, words, text)?
+            }
+            _ => sets.merge(name, words, text)?,
+        }
+        text.push(b" ")?;
+        count.get().show(text)
+    }
+}
+
+// The call whose comparisons the call of this name tells.
+fn uncounted(name: SetName) -> Option<SetName> {
+    match name {
+        SetName::UnionCounted => Some(SetName::Union),
+        SetName::IntersectionCounted => Some(SetName::Intersection),
+        SetName::DifferenceCounted => Some(SetName::Difference),
+        SetName::SymmetricDifferenceCounted => Some(SetName::SymmetricDifference),
+        SetName::IsDisjointCounted => Some(SetName::IsDisjoint),
+        SetName::IsSubsetCounted => Some(SetName::IsSubset),
+        SetName::IsSupersetCounted => Some(SetName::IsSuperset),
+        _ => None,
+    }
+}
+
+// A set of the same bytes, which count how often they are compared.
+fn compared<'a, K: ScriptKey, const P: usize>(
+    alloc: Global,
+    set: &'a TreeSet<K, P>,
+    count: &'a Cell<u64>,
+) -> Result<TreeSet<Compared<'a>, P>, Unanswered> {
+    let mut copy = TreeSet::with_prefix_len(alloc);
+    for element in set.iter() {
+        let bytes = element.as_bytes();
+        if let Err(TryInsertError::Memory(refused)) = copy.try_insert(Compared { bytes, count }) {
+            return Err(Unanswered::Memory(refused));
+        }
+    }
+    Ok(copy)
+}

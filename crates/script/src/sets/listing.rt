@@ -1,0 +1,23 @@
+//! All that both sets have.
+use crate::sets::calls::Sets;
+use crate::words::{Answered, ScriptKey, Shown, Text};
+use blart_set::TreeSet;
+use std::iter::{DoubleEndedIterator, Iterator};
+
+impl<K: ScriptKey, const PREFIX_LEN: usize> Sets<K, PREFIX_LEN> {
+    /// Adds the elements of both sets, and how many they are.
+    pub fn list(&self, text: &mut Text) -> Answered {
+        list_set(&self.first, text)?;
+        list_set(&self.second, text)
+    }
+}
+
+// Adds the set on a line of its own.
+fn list_set<K: ScriptKey, const P: usize>(set: &TreeSet<K, P>, text: &mut Text) -> Answered {
+    set.len().show(text)?;
+    for element in set.iter() {
+        text.push(b" ")?;
+        element.show(text)?;
+    }
+    text.push(b"\n")
+}

@@ -1,0 +1,151 @@
+//! Elements that a closure picks.
+ghost use Rattle.std.specs.Prelude.{◌≡◌};
+ghost use Rattle.blart_keys.specs.Bounds.{bound_bytes, CanRange};
+ghost use Rattle.blart_keys.specs.KeyBytes.{vec_bytes};
+ghost use Rattle.blart_set.specs.Elements.{elements};
+
+use crate::sets::calls::Sets;
+use crate::sets::names::SetName;
+use crate::words::{Answered, ScriptKey, Shown, Text, Unanswered, Words};
+use blart_set::bounds_in_order;
+use std::alloc::AllocError;
+use std::iter;
+use std::iter::{DoubleEndedIterator, Iterator};
+use std::ops::Bound;
+
+// What a closure looks for: the sum of an element's bytes leaves this rest.
+#[derive(Clone, Copy)]
+struct Pick {
+    modulus: u64,
+    rest: u64,
+}
+
+impl Pick {
+    // The next two words.
+    fn read(words: &mut Words<'_>) -> Result<Pick, Unanswered> {
+        let (modulus, rest) = (words.number()?, words.number()?);
+        if modulus == 0 {
+            return Err(Unanswered::NoCall);
+        }
+        Ok(Pick { modulus, rest })
+    }
+
+    // Whether the bytes leave the rest.
+    fn picks(&self, bytes: &[u8]) -> bool {
+        let mut sum = 0u64;
+        for byte in bytes {
+            sum = sum.wrapping_add(u64::from(*byte));
+        }
+        sum.checked_rem(self.modulus) == Some(self.rest)
+    }
+}
+
+impl<K: ScriptKey, const PREFIX_LEN: usize> Sets<K, PREFIX_LEN> {
+    /// Makes the call of this name, which takes some elements out, and adds its answer.
+    pub(crate) fn pick(&mut self, name: SetName, words: Words<'_>, text: &mut Text) -> Answered {
+        match name {
+            SetName::Retain => self.retain(words, text),
+            _ => self.extract_if(words, text),
+        }
+    }
+
+    fn retain(&mut self, mut words: Words<'_>, text: &mut Text) -> Answered {
+        let pick = Pick::read(&mut words)?;
+        words.end()?;
+        let mut asked: u64 = 0;
+        self.first.retain(|element| {
+            asked = asked.wrapping_add(1);
+            pick.picks(element.as_bytes())
+        });
+        asked.show(text)
+    }
+
+    fn extract_if(&mut self, mut words: Words<'_>, text: &mut Text) -> Answered {
+        let (start, end) = words.bounds()?;
+        let pick = Pick::read(&mut words)?;
+        let letters = words.last_moves()?;
+        let (start, end) = (start.as_ref(), end.as_ref());
+        if !self.first.is_empty() && !bounds_in_order(start, end) {
+            return Err(Unanswered::NoCall);
+        }
+        let asked = match letters {
+            Some(letters) => self.extract_steps(start, end, pick, letters, text)?,
+            None => self.extract_all(start, end, pick, text)?,
+        };
+        text.push(b" ")?;
+        asked.show(text)
+    }
+
+    // Adds all elements that are picked, and gives how often the closure was asked.
+    fn extract_all(
+        &mut self,
+        start: Bound<&Vec<u8>>,
+        end: Bound<&Vec<u8>>,
+        pick: Pick,
+        text: &mut Text,
+    ) -> Result<u64, Unanswered>
+        requires { CanRange (elements self.old.first) (bound_bytes vec_bytes start)
+            (bound_bytes vec_bytes end) }
+    {
+        let left = self.first.len();
+        let mut asked: u64 = 0;
+        let mut walk = self.first.extract_if(start, end, |element| {
+            asked = asked.wrapping_add(1);
+            pick.picks(element.as_bytes())
+        });
+        text.push(b"[")?;
+        let mut part: &[u8] = b"";
+        for _ in iter::repeat_n((), left) {
+            if !show_element(walk.next(), part, text)? {
+                break;
+            }
+            part = b", ";
+        }
+        text.push(b"]")?;
+        Ok(asked)
+    }
+
+    // Adds what each letter gave, and gives how often the closure was asked.
+    fn extract_steps(
+        &mut self,
+        start: Bound<&Vec<u8>>,
+        end: Bound<&Vec<u8>>,
+        pick: Pick,
+        letters: &[u8],
+        text: &mut Text,
+    ) -> Result<u64, Unanswered>
+        requires { CanRange (elements self.old.first) (bound_bytes vec_bytes start)
+            (bound_bytes vec_bytes end) }
+    {
+        let mut asked: u64 = 0;
+        let mut walk = self.first.extract_if(start, end, |element| {
+            asked = asked.wrapping_add(1);
+            pick.picks(element.as_bytes())
+        });
+        let mut part: &[u8] = b"";
+        for letter in letters {
+            text.push(part)?;
+            if *letter == b'f' {
+                walk.next().show(text)?;
+            } else {
+                walk.next_back().show(text)?;
+            }
+            part = b" ";
+        }
+        Ok(asked)
+    }
+}
+
+// Adds an element behind the part, if there is one, and answers whether there is.
+fn show_element<K: ScriptKey>(
+    element: Option<K>,
+    part: &[u8],
+    text: &mut Text,
+) -> Result<bool, Unanswered> {
+    let Some(element) = element else {
+        return Ok(false);
+    };
+    text.push(part)?;
+    element.show(text)?;
+    Ok(true)
+}

@@ -1,9 +1,0 @@
-use Rattle.std.proofs.Common.{ap, lit<}
-use Rattle.std.specs.Option.{is_some}
-use Rattle.tree_tests.proofs.tests.lending.pairs.Goals as goal
-
-pub key-requires : goal.key-requires
-key-requires g c = (lit< tt, ap is_some (c.next.follows.holds c.in-Some._value.now c.in-Some._value c.in-Some.is).1.is_last)
-
-pub pair-value-requires : goal.pair-value-requires
-pair-value-requires g c = (lit< tt, ap is_some (c.next.follows.holds c.in-Some._value.now c.in-Some._value c.in-Some.is).1.is_last)
