@@ -14,22 +14,38 @@ impl<K: ScriptKey, const PREFIX_LEN: usize> Sets<K, PREFIX_LEN> {
             return Err(Unanswered::NoCall);
         };
         let count = Cell::new(0u64);
-        let first = compared(self.alloc, &self.first, &count)?;
-        let second = compared(self.alloc, &self.second, &count)?;
-        let alloc = self.alloc;
-        let sets = Sets {
-            first,
-            second,
-            alloc,
-        };
-        match name {
-            SetName::IsDisjoint | SetName::IsSubset | SetName::IsSuperset => {
-                sets.relate(name, words, text)?
-            }
-            _ => sets.merge(name, words, text)?,
-        }
+        self.call_compared(&count, name, words, text)?;
         text.push(b" ")?;
         count.get().show(text)
+    }
+
+    // Makes the call over sets of the same bytes, and adds its answer.
+    fn call_compared(
+        &self,
+        count: &Cell<u64>,
+        name: SetName,
+        words: Words<'_>,
+        text: &mut Text,
+    ) -> Answered {
+        let sets = self.compared(count)?;
+        match name {
+            SetName::IsDisjoint | SetName::IsSubset | SetName::IsSuperset => {
+                sets.relate(name, words, text)
+            }
+            _ => sets.merge(name, words, text),
+        }
+    }
+
+    // Sets of the same bytes, which count how often they are compared.
+    fn compared<'a>(
+        &'a self,
+        count: &'a Cell<u64>,
+    ) -> Result<Sets<Compared<'a>, PREFIX_LEN>, Unanswered> {
+        Ok(Sets {
+            first: compared(self.alloc, &self.first, count)?,
+            second: compared(self.alloc, &self.second, count)?,
+            alloc: self.alloc,
+        })
     }
 }
 
