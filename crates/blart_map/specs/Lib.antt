@@ -14,6 +14,7 @@ pub mod Passed
 pub mod Places
 pub mod PrefixEntry
 pub mod PrefixKind
+pub mod PrefixLends
 pub mod Spans
 pub mod Written
 pub mod LendingWalk

@@ -7,10 +7,11 @@ use Rattle.blart_keys.specs.declared.AsBytes.{Ghosts}
 use Rattle.blart_keys.specs.Entries.{Kind, kind_of}
 use Rattle.blart_keys.specs.Steps.{bytes}
 use Rattle.blart_keys.specs.Stored.{pair_at, overlaps}
+use Rattle.art_tree.specs.Leaves.{with_value}
 use Rattle.blart_map.specs.Content.{Numbered}
 use Rattle.blart_map.specs.Entry as entry
-use Rattle.blart_map.specs.Entry.{entry_pair, entry_key, entry_bytes, IsSetEntry}
-use Rattle.blart_map.specs.InnerEntry.{inner_pair, IsOverEntry}
+use Rattle.blart_map.specs.Entry.{entry_pair, entry_key, entry_bytes, IsSet, IsSetEntry}
+use Rattle.blart_map.specs.InnerEntry.{inner_pair, over_leaf, IsOverSet, IsOverEntry}
 use Rattle.blart_map.specs.declared.occupied.OccupiedEntry.{OccupiedEntry}
 use Rattle.blart_map.specs.declared.prefix_entry.PrefixEntry.{PrefixEntry}
 use Rattle.blart_map.specs.declared.prefix_occupied.PrefixOccupied.{PrefixOccupied}
@@ -35,6 +36,16 @@ module _ {K V T : Type 0} {P : ℕ} {g : Ghosts K} where
   abbrev pub IsOccupiedSet : PrefixOccupied K V P T g → V → OccupiedEntry K V P T g → Type 0
   IsOccupiedSet (Leaf p) w o = IsSetEntry (entry.Occupied p) w o
   IsOccupiedSet (Inner e) w o = IsOverEntry e w o
+
+  -- the pairs of the map, once w is the value of the key, over all pairs to which it was related
+  abbrev pub occupied_with : PrefixOccupied K V P T g → V → List (Numbered K V)
+  occupied_with (Leaf o) w = with_value o.map.now o.id w
+  occupied_with (Inner e) w = over_leaf e w
+
+  -- the same as users see it
+  abbrev pub IsOccupiedWritten : PrefixOccupied K V P T g → V → List (Numbered K V) → Type 0
+  IsOccupiedWritten (Leaf o) w n = IsSet (entry.Occupied o) w n
+  IsOccupiedWritten (Inner e) w n = IsOverSet e w n
 
   -- the reference to the map
   abbrev pub prefix_ref : PrefixEntry K V P T g → MutBor (List (Numbered K V))

@@ -1,11 +1,15 @@
--- What the contract of the kind of a prefix entry cites.
+-- What the contracts of the kind of a prefix entry cite.
 pub use Rattle.blart_map.specs.declared.prefix_kind.PrefixKind.TheVariants.{Leaf, Inner, Vacant}
-use Rattle.std.specs.Prelude.{◌≡◌, ℕ, Bool, true, false, List, Option, Some, None}
+use Rattle.std.specs.Prelude.{◌≡◌, ℕ, Bool, true, false, List, Option, Some, None, option_map}
 use Rattle.std.specs.Borrow.{MutBor}
 use Rattle.blart_keys.specs.declared.AsBytes.{Ghosts}
+use Rattle.blart_keys.specs.Entries.{Kind}
 use Rattle.blart_map.specs.Content.{Numbered}
-use Rattle.blart_map.specs.Entry.{Occupied, entry_pair, entry_key, entry_bytes}
-use Rattle.blart_map.specs.PrefixEntry.{prefix_ref, prefix_bytes, prefix_pair, prefix_key, prefix_is_inner}
+use Rattle.blart_map.specs.Entry as entry
+use Rattle.blart_map.specs.Entry.{Occupied, entry_pair, entry_key, entry_bytes, IsSet, IsSetEntry}
+use Rattle.blart_map.specs.InnerEntry.{IsOverSet, IsOverEntry}
+use Rattle.blart_map.specs.declared.occupied.OccupiedEntry.{OccupiedEntry}
+use Rattle.blart_map.specs.PrefixEntry.{prefix_ref, prefix_bytes, prefix_pair, prefix_key, prefix_is_inner, prefix_kind}
 use Rattle.blart_map.specs.declared.prefix_entry.PrefixEntry.{PrefixEntry}
 use Rattle.blart_map.specs.declared.prefix_kind.PrefixKind.{PrefixKind}
 
@@ -40,6 +44,34 @@ module _ {K V T : Type 0} {P : ℕ} {g : Ghosts K} where
   kind_is_inner (Inner e) = true
   kind_is_inner (Vacant e) = false
 
+  -- the stored value
+  abbrev pub kind_value : PrefixKind K V P T g → Option V
+  kind_value k = option_map (λ p. p.1) (kind_pair k)
+
+  -- occupied, inner or vacant
+  abbrev pub kind_kind : PrefixKind K V P T g → Kind
+  kind_kind (Leaf o) = Kind.Occupied
+  kind_kind (Inner e) = Kind.Inner
+  kind_kind (Vacant e) = Kind.Vacant
+
+  -- the pairs, once w is the value of the key, over all pairs to which it was related
+  abbrev pub IsKindSet : PrefixKind K V P T g → V → List (Numbered K V) → Type 0
+  IsKindSet (Leaf o) w n = IsSet (entry.Occupied o) w n
+  IsKindSet (Inner e) w n = IsOverSet e w n
+  IsKindSet (Vacant e) w n = IsSet (entry.Vacant e) w n
+
+  -- o is the entry of the key, once w was set there, over all pairs to which it was related
+  abbrev pub IsKindSetEntry : PrefixKind K V P T g → V → OccupiedEntry K V P T g → Type 0
+  IsKindSetEntry (Leaf p) w o = IsSetEntry (entry.Occupied p) w o
+  IsKindSetEntry (Inner e) w o = IsOverEntry e w o
+  IsKindSetEntry (Vacant e) w o = IsSetEntry (entry.Vacant e) w o
+
+  -- o is the entry of the stored pair, or that of the key once w was set there
+  abbrev pub IsKindKeptOrSet : PrefixKind K V P T g → V → OccupiedEntry K V P T g → Type 0
+  IsKindKeptOrSet (Leaf p) w o = o ≡ p
+  IsKindKeptOrSet (Inner e) w o = IsOverEntry e w o
+  IsKindKeptOrSet (Vacant e) w o = IsSetEntry (entry.Vacant e) w o
+
   -- k is the entry e
   pub record IsKindOf (e : PrefixEntry K V P T g) (k : PrefixKind K V P T g) : Type 0 where
     pub same_map : (kind_ref k).ghost_name ≡ (prefix_ref e).ghost_name
@@ -48,3 +80,4 @@ module _ {K V T : Type 0} {P : ℕ} {g : Ghosts K} where
     pub pair : kind_pair k ≡ prefix_pair e
     pub key : kind_key k ≡ prefix_key e
     pub inner : kind_is_inner k ≡ prefix_is_inner e
+    pub kind : kind_kind k ≡ prefix_kind e

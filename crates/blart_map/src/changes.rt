@@ -1,4 +1,4 @@
-//! Removals, and values to be written.
+//! Removals.
 ghost use Rattle.std.specs.Prelude.{◌≡◌, ◌+◌, ℕ, List, [], length, option_map, is_some, IfSome, None, true, false, if◌then◌else◌};
 ghost use Rattle.blart_keys.specs.Bytes.{begins};
 ghost use Rattle.blart_keys.specs.Content.{at, under, without};

@@ -13,7 +13,7 @@ use std::alloc::AllocError;
 
 /// A key's place in a map: at its pair, or where none stands yet.
 ///
-/// A growing call answers want of memory on `Vacant` alone, and then the map is as it was. A closure or a default is called on `Vacant` alone, once there is room.
+/// A growing call is refused memory on `Vacant` alone, and then the map is as it was. A closure or a default is called on `Vacant` alone, once there is room.
 ///
 /// ```
 /// *map.try_entry("cat")?.or_insert(1)? = 2;
@@ -71,7 +71,7 @@ impl<'a, K: AsBytes + Drop, V: Drop, const PREFIX_LEN: usize> Entry<
     TreeMap<K, V, PREFIX_LEN>,
 > {
     ghost use Rattle.blart_map.specs.Entry.{entry_key, entry_value, IsSetEntry, IsKeptOrSet, IsKeptOrMade};
-    ghost use Rattle.blart_map.specs.EntryLends.{entry_lends_ok};
+    ghost use Rattle.blart_map.specs.EntryLends.{entry_lends_ok, entry_rests};
 
     /// The value, to be written, after placing the default where none is stored.
     pub fn or_insert(self, default: V) -> Result<&'a mut V, AllocError>
@@ -91,14 +91,13 @@ impl<'a, K: AsBytes + Drop, V: Drop, const PREFIX_LEN: usize> Entry<
         self,
         value: V,
     ) -> Result<OccupiedEntry<'a, K, V, PREFIX_LEN, TreeMap<K, V, PREFIX_LEN>>, AllocError>
+        ensures* stands { sem 𝓛
+            (entry_rests K.row V.row PREFIX_LEN.row K.AsBytes self.entry result) }
         ensures set { IfOk result (IsSetEntry self.entry value) }
         ensures absent { OnErr result (entry_value self.entry ≡ None) }
     {
         match self {
-            Entry::Occupied(mut entry) => {
-                entry.insert(value);
-                Ok(entry)
-            }
+            Entry::Occupied(entry) => entry.set(value),
             Entry::Vacant(entry) => entry.insert_entry(value),
         }
     }
@@ -108,11 +107,13 @@ impl<'a, K: AsBytes + Drop, V: Drop, const PREFIX_LEN: usize> Entry<
         self,
         default: V,
     ) -> Result<OccupiedEntry<'a, K, V, PREFIX_LEN, TreeMap<K, V, PREFIX_LEN>>, AllocError>
+        ensures* stands { sem 𝓛
+            (entry_rests K.row V.row PREFIX_LEN.row K.AsBytes self.entry result) }
         ensures set { IfOk result (IsKeptOrSet self.entry default) }
         ensures absent { OnErr result (entry_value self.entry ≡ None) }
     {
         match self {
-            Entry::Occupied(entry) => Ok(entry),
+            Entry::Occupied(entry) => entry.kept(),
             Entry::Vacant(entry) => entry.insert_entry(default),
         }
     }
@@ -176,11 +177,13 @@ impl<'a, K: AsBytes + Drop, V: Drop, const PREFIX_LEN: usize> Entry<
         default: F,
     ) -> Result<OccupiedEntry<'a, K, V, PREFIX_LEN, TreeMap<K, V, PREFIX_LEN>>, AllocError>
         requires { entry_value self ≡ None → F.pre default }
+        ensures* stands { sem 𝓛
+            (entry_rests K.row V.row PREFIX_LEN.row K.AsBytes self.entry result) }
         ensures set { IfOk result (IsKeptOrMade self.entry (F.post default)) }
         ensures absent { OnErr result (entry_value self.entry ≡ None) }
     {
         match self {
-            Entry::Occupied(entry) => Ok(entry),
+            Entry::Occupied(entry) => entry.kept(),
             Entry::Vacant(entry) => entry.insert_entry_with(default),
         }
     }
@@ -192,12 +195,14 @@ impl<'a, K: AsBytes + Drop, V: Drop, const PREFIX_LEN: usize> Entry<
     ) -> Result<OccupiedEntry<'a, K, V, PREFIX_LEN, TreeMap<K, V, PREFIX_LEN>>, AllocError>
         requires { entry_value self ≡ None
             → (p : Bor K) → entry_key self ≡ Some p.now → F.pre default p }
+        ensures* stands { sem 𝓛
+            (entry_rests K.row V.row PREFIX_LEN.row K.AsBytes self.entry result) }
         ensures set { IfOk result (IsKeptOrMade self.entry
             (λ v. IfSome (entry_key self.entry) (λ k. FnOnceReturnsAt F.FnOnce default k v))) }
         ensures absent { OnErr result (entry_value self.entry ≡ None) }
     {
         match self {
-            Entry::Occupied(entry) => Ok(entry),
+            Entry::Occupied(entry) => entry.kept(),
             Entry::Vacant(entry) => entry.insert_entry_with_key(default),
         }
     }
@@ -208,11 +213,13 @@ impl<'a, K: AsBytes + Drop, V: Drop, const PREFIX_LEN: usize> Entry<
     ) -> Result<OccupiedEntry<'a, K, V, PREFIX_LEN, TreeMap<K, V, PREFIX_LEN>>, AllocError>
     where
         V: Default,
+        ensures* stands { sem 𝓛
+            (entry_rests K.row V.row PREFIX_LEN.row K.AsBytes self.entry result) }
         ensures set { IfOk result (IsKeptOrMade self.entry V.is_default) }
         ensures absent { OnErr result (entry_value self.entry ≡ None) }
     {
         match self {
-            Entry::Occupied(entry) => Ok(entry),
+            Entry::Occupied(entry) => entry.kept(),
             Entry::Vacant(entry) => entry.insert_entry_with(|| V::default()),
         }
     }

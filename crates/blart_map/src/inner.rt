@@ -1,5 +1,5 @@
 //! A key to which pairs of a map are related.
-ghost use Rattle.std.specs.Prelude.{◌≡◌, true, option_map, option_copied, is_some, IfSome};
+ghost use Rattle.std.specs.Prelude.{◌≡◌, true, option_map, option_copied, is_some, IfSome, IfOk, OnErr};
 ghost use Rattle.std.specs.Option.{option_copied_mut};
 ghost use Rattle.std.specs.Borrow.{sem};
 ghost use Rattle.blart_keys.specs.Bytes.{related};
@@ -15,6 +15,7 @@ use crate::walks::lending_walk::{LendingWalk, SubtreeIterMut};
 use art_tree::LeafId;
 use art_walk::{Cursor, InSubtree, SubtreeIter};
 use blart_keys::AsBytes;
+use std::alloc::AllocError;
 use std::marker::PhantomData;
 
 /// A key that a map lacks, and that conflicts with some of its keys: the place of the pairs to which it is related. None of its calls takes memory.
@@ -129,6 +130,7 @@ impl<'a, K: AsBytes + Drop, V: Drop, const PREFIX_LEN: usize> InnerOccupiedEntry
     ghost use Rattle.blart_map.specs.Entry.{Occupied, entry_pair};
     ghost use Rattle.blart_map.specs.InnerEntry.{inner_pair, over_leaf, IsOverSet, IsOverEntry};
     ghost use Rattle.blart_map.specs.InnerLends.{inner_rests, inner_lends};
+    ghost use Rattle.blart_map.specs.PrefixLends.{inner_over_rests};
     ghost use Rattle.blart_map.specs.LendingWalk.{lending_left};
     ghost use Rattle.blart_map.specs.OnceWritten.{rewritten, once_written};
 
@@ -204,6 +206,32 @@ impl<'a, K: AsBytes + Drop, V: Drop, const PREFIX_LEN: usize> InnerOccupiedEntry
             id: last,
             lender: PhantomData,
         }
+    }
+
+    // As `insert_entry`, answered as by a call that may be refused: where that call is one of an enum, the check follows the map through this one.
+    pub(crate) fn over(
+        self,
+        value: V,
+    ) -> Result<OccupiedEntry<'a, K, V, PREFIX_LEN, TreeMap<K, V, PREFIX_LEN>>, AllocError>
+        ensures* stands { sem 𝓛
+            (inner_over_rests K.row V.row PREFIX_LEN.row K.AsBytes self.entry result) }
+        ensures set { IfOk result (IsOverEntry self.entry value) }
+        ensures never { OnErr result ⊥ }
+    {
+        let InnerOccupiedEntry {
+            map,
+            key,
+            first,
+            last: id,
+            ..
+        } = self;
+        map.numbers_law();
+        map.overwrite(first, id, key, value);
+        Ok(OccupiedEntry {
+            map,
+            id,
+            lender: PhantomData,
+        })
     }
 
     /// Removes the related pairs and places the key with the value, which is lent to be written.

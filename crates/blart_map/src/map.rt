@@ -242,7 +242,7 @@ impl<K: AsBytes + Drop, V: Drop, const PREFIX_LEN: usize> TreeMap<K, V, PREFIX_L
         matches!(self.tree.point(query.as_bytes()), Point::Related { .. })
     }
 
-    /// How many inner nodes stand: one at each front where neighbouring keys part. So there are fewer than pairs, and none where there is no pair or one.
+    /// How many inner nodes stand: one at each front where neighbouring keys part. So there are fewer than pairs where there are pairs, and none where there is one or none.
     #[tactic(auto, unfolding(crate::specs::Content::pairs))]
     pub fn inner_nodes(&self) -> usize
         ensures value { result ≡ set.len (fronts (bytes K.bytes) (pairs self.now)) }

@@ -1,15 +1,16 @@
 //! A pair that stands in a map.
-ghost use Rattle.std.specs.Prelude.{◌≡◌, Some};
+ghost use Rattle.std.specs.Prelude.{◌≡◌, Some, IfOk, OnErr};
 ghost use Rattle.std.specs.Borrow.{sem};
 ghost use Rattle.art_tree.specs.Leaves.{Has};
 
 use crate::map::TreeMap;
 use art_tree::LeafId;
 use blart_keys::AsBytes;
+use std::alloc::AllocError;
 use std::marker::PhantomData;
 use std::mem::replace;
 
-/// A pair that stands in a map. Nothing is searched for it again, and none of its calls takes memory.
+/// A pair that stands in a map. Reading and writing it search nothing; a removal goes down by its key. No call of it takes memory.
 ///
 /// `T` is the map's type, which stands here because a borrow of a type with a const parameter has to be known to live as long as it is lent.
 ///
@@ -100,7 +101,8 @@ impl<'a, K: AsBytes + Drop, V: Drop, const PREFIX_LEN: usize> OccupiedEntry<
     PREFIX_LEN,
     TreeMap<K, V, PREFIX_LEN>,
 > {
-    ghost use Rattle.blart_map.specs.Entry.{Occupied, entry_value, IsSet};
+    ghost use Rattle.blart_map.specs.Entry.{Occupied, entry_value, IsSet, IsSetEntry};
+    ghost use Rattle.blart_map.specs.EntryLends.{entry_rests};
     ghost use Rattle.blart_map.specs.MapLends.{map_lends_leaf};
     ghost use Rattle.art_tree.specs.Leaves.{with_value};
 
@@ -115,5 +117,49 @@ impl<'a, K: AsBytes + Drop, V: Drop, const PREFIX_LEN: usize> OccupiedEntry<
         let map = self.map;
         map.numbers_law();
         map.value_of(self.id)
+    }
+
+    // This entry, as a call that may be refused answers it: where that call is one of an enum, the check follows the map through this one.
+    pub(crate) fn kept(
+        self,
+    ) -> Result<OccupiedEntry<'a, K, V, PREFIX_LEN, TreeMap<K, V, PREFIX_LEN>>, AllocError>
+        ensures* stands { sem 𝓛
+            (entry_rests K.row V.row PREFIX_LEN.row K.AsBytes (Occupied self.entry) result) }
+        ensures same { IfOk result (λ o. o ≡ self.entry) }
+        ensures never { OnErr result ⊥ }
+    {
+        let OccupiedEntry { map, id, lender } = self;
+        Ok(OccupiedEntry { map, id, lender })
+    }
+
+    // The same, once the value is this one.
+    pub(crate) fn set(
+        self,
+        value: V,
+    ) -> Result<OccupiedEntry<'a, K, V, PREFIX_LEN, TreeMap<K, V, PREFIX_LEN>>, AllocError>
+        ensures* stands { sem 𝓛
+            (entry_rests K.row V.row PREFIX_LEN.row K.AsBytes (Occupied self.entry) result) }
+        ensures set { IfOk result (IsSetEntry (Occupied self.entry) value) }
+        ensures never { OnErr result ⊥ }
+    {
+        let OccupiedEntry { map, id, lender } = self;
+        map.numbers_law();
+        *map.value_of(id) = value;
+        Ok(OccupiedEntry { map, id, lender })
+    }
+
+    // Sets the value, and lends it to be written for as long as the map was lent.
+    pub(crate) fn write(self, value: V) -> &'a mut V
+        ensures* writes_back { sem 𝓛
+            (map_lends_leaf K.row V.row PREFIX_LEN.row K.AsBytes self.entry.map self.entry.id result) }
+        ensures value { result.now ≡ value }
+        ensures written { (w : V) → IsSet (Occupied self.entry) w
+            (with_value self.entry.map.now self.entry.id w) }
+    {
+        let map = self.map;
+        map.numbers_law();
+        let place = map.value_of(self.id);
+        *place = value;
+        place
     }
 }

@@ -15,7 +15,7 @@ use std::alloc::AllocError;
 
 /// A key's place in a map: at its pair, in the place of the pairs with which it conflicts, or where none stands yet.
 ///
-/// A growing call answers want of memory on `Vacant` alone. A closure or a default is called on `Vacant` and `Inner` alone, once there is room. On `Inner` such a call removes all pairs to which the key is related, and places the key. What the map is after a call that lends a value is said of the one that answers an entry: `or_insert_entry` of `or_insert`, and so on.
+/// A growing call is refused memory on `Vacant` alone. A closure or a default is called on `Vacant` and `Inner` alone, once there is room. On `Inner` such a call removes all pairs to which the key is related, and places the key. What the map becomes by a call that lends a value, or where a call is refused, is said of the same call of the entry's kind: `.kind().or_insert(..)` of `or_insert`, and so on.
 ///
 /// ```
 /// map.try_insert("car", 1)?;
@@ -72,7 +72,7 @@ impl<'a, K: AsBytes + Drop, V: Drop, const PREFIX_LEN: usize> PrefixEntry<
     ghost use Rattle.blart_map.specs.PrefixEntry.{prefix_kind, prefix_key, prefix_value, IsPrefixSet, IsPrefixKeptOrSet, IsPrefixKeptOrMade};
     ghost use Rattle.blart_map.specs.PrefixKind.{IsKindOf};
 
-    /// The entry as one of three kinds.
+    /// The entry as one of three kinds, of whose calls it is said what the map becomes.
     ///
     /// ```
     /// match map.prefix_entry("ca").kind() {
@@ -91,7 +91,7 @@ impl<'a, K: AsBytes + Drop, V: Drop, const PREFIX_LEN: usize> PrefixEntry<
         }
     }
 
-    /// Sets the value, on `Inner` over all pairs to which the key is related, and answers the entry of the key's pair.
+    /// Sets the value, on `Inner` over all pairs to which the key is related, and answers the entry of the key's pair. That a refused call leaves the map as it was is said of `.kind().insert_entry(..)`: see [`PrefixKind::insert_entry`].
     pub fn insert_entry(
         self,
         value: V,
@@ -105,7 +105,7 @@ impl<'a, K: AsBytes + Drop, V: Drop, const PREFIX_LEN: usize> PrefixEntry<
         }
     }
 
-    /// The entry of the key's pair, after placing the default where none is stored, over all pairs to which the key is related.
+    /// The entry of the key's pair, after placing the default where none is stored, over all pairs to which the key is related. That a refused call leaves the map as it was is said of `.kind().or_insert_entry(..)`: see [`PrefixKind::or_insert_entry`].
     pub fn or_insert_entry(
         self,
         default: V,
@@ -177,7 +177,7 @@ impl<'a, K: AsBytes + Drop, V: Drop, const PREFIX_LEN: usize> PrefixEntry<
         }
     }
 
-    /// As [`PrefixEntry::or_insert_entry`], and lends the value to be written.
+    /// As [`PrefixEntry::or_insert_entry`], and lends the value to be written. What the map becomes is said of `.kind().or_insert(..)`: see [`PrefixKind::or_insert`].
     pub fn or_insert(self, default: V) -> Result<&'a mut V, AllocError>
         ensures value { IfOk result
             (λ r. r.now ≡ unwrap_or (prefix_value self.entry) default) }
@@ -189,7 +189,7 @@ impl<'a, K: AsBytes + Drop, V: Drop, const PREFIX_LEN: usize> PrefixEntry<
         }
     }
 
-    /// As [`PrefixEntry::or_insert_with_entry`], and lends the value to be written.
+    /// As [`PrefixEntry::or_insert_with_entry`], and lends the value to be written. What the map becomes is said of `.kind().or_insert_with(..)`: see [`PrefixKind::or_insert_with`].
     pub fn or_insert_with<F: FnOnce() -> V + Drop>(
         self,
         default: F,
@@ -205,7 +205,7 @@ impl<'a, K: AsBytes + Drop, V: Drop, const PREFIX_LEN: usize> PrefixEntry<
         }
     }
 
-    /// As [`PrefixEntry::or_insert_with_key_entry`], and lends the value to be written.
+    /// As [`PrefixEntry::or_insert_with_key_entry`], and lends the value to be written. What the map becomes is said of `.kind().or_insert_with_key(..)`: see [`PrefixKind::or_insert_with_key`].
     pub fn or_insert_with_key<F: FnOnce(&K) -> V + Drop>(
         self,
         default: F,
@@ -222,7 +222,7 @@ impl<'a, K: AsBytes + Drop, V: Drop, const PREFIX_LEN: usize> PrefixEntry<
         }
     }
 
-    /// As [`PrefixEntry::or_default_entry`], and lends the value to be written.
+    /// As [`PrefixEntry::or_default_entry`], and lends the value to be written. What the map becomes is said of `.kind().or_default()`: see [`PrefixKind::or_default`].
     pub fn or_default(self) -> Result<&'a mut V, AllocError>
     where
         V: Default,

@@ -1,5 +1,6 @@
 //! A key whose bytes are stored in a map, or that conflicts there.
 ghost use Rattle.std.specs.Prelude.{◌≡◌, option_map, option_copied, Some};
+ghost use Rattle.std.specs.Borrow.{sem};
 ghost use Rattle.std.specs.Option.{option_copied_mut};
 
 use crate::inner::InnerOccupiedEntry;
@@ -83,7 +84,8 @@ impl<'a, K: AsBytes + Drop, V: Drop, const PREFIX_LEN: usize> PrefixOccupied<
     PREFIX_LEN,
     TreeMap<K, V, PREFIX_LEN>,
 > {
-    ghost use Rattle.blart_map.specs.PrefixEntry.{IsOccupiedSet};
+    ghost use Rattle.blart_map.specs.PrefixEntry.{IsOccupiedSet, IsOccupiedWritten, occupied_with};
+    ghost use Rattle.blart_map.specs.PrefixLends.{occupied_lends};
 
     /// Sets the value on `Leaf`, and on `Inner` removes the related pairs and places the key with it; answers the entry of the key's pair.
     pub fn insert_entry(
@@ -101,10 +103,16 @@ impl<'a, K: AsBytes + Drop, V: Drop, const PREFIX_LEN: usize> PrefixOccupied<
         }
     }
 
-    /// As [`PrefixOccupied::insert_entry`], of which is said what the map is afterwards, and lends the value to be written.
+    /// As [`PrefixOccupied::insert_entry`], and lends the value to be written. Once the borrow ends, the key has the last value written.
     pub fn insert(self, value: V) -> &'a mut V
-        ensures { result.now ≡ value }
+        ensures* writes_back { sem 𝓛
+            (occupied_lends K.row V.row PREFIX_LEN.row K.AsBytes self.entry result) }
+        ensures value { result.now ≡ value }
+        ensures written { (w : V) → IsOccupiedWritten self.entry w (occupied_with self.entry w) }
     {
-        self.insert_entry(value).into_mut()
+        match self {
+            PrefixOccupied::Leaf(entry) => entry.write(value),
+            PrefixOccupied::Inner(entry) => entry.insert(value),
+        }
     }
 }

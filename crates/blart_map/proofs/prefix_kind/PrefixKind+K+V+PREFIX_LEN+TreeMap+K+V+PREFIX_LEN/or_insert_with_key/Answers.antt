@@ -1,0 +1,12 @@
+use Rattle.std.proofs.Common.{rules, refl, sym, subst}
+use Rattle.blart_map.proofs.prefix_kind.PrefixKind+K+V+PREFIX_LEN+TreeMap+K+V+PREFIX_LEN.or_insert_with_key.Goals as goal
+
+pub returns-in-Inner : goal.returns-in-Inner
+returns-in-Inner g c =
+    let made = subst (λ v. g.F.FnOnce.post c.args.default (c.key.result, tt) v) (sym c.insert.ensures.value) c.default-value.ensures in
+    rw c.in-Inner.is ((refl, (λ w s. c.insert.ensures.written w), tt), record { writes_back = tt; value = (c.key.result, made, c.key.ensures); vacant = tt })
+
+pub returns-in-Vacant : goal.returns-in-Vacant
+returns-in-Vacant g c =
+    let f = c.insert_with_key.follows in
+    rw c.in-Vacant.is ((refl, f.holds, f.holds-at-none), record { writes_back = tt; value = c.insert_with_key.ensures.value; vacant = search rules })
