@@ -500,7 +500,7 @@ impl<K: Drop, V: Drop> Leaves<K, V> {
         (old_key, old_value)
     }
 
-    /// Makes places for so many leaves more. It fails where memory is wanting, and then changes nothing that a contract sees but, it may be, the number of places.
+    /// Makes places for so many leaves more. It fails where memory is refused, and then changes nothing that a contract sees but, it may be, the number of places.
     pub fn reserve(&mut self, n: usize) -> Result<(), AllocError>
         ensures pairs { self.new.pairs ≡ self.old.pairs }
         ensures rows { self.new.rows ≡ self.old.rows }

@@ -197,7 +197,7 @@ impl<K: AsBytes + Drop, V: Drop, const PREFIX_LEN: usize> Tree<K, V, PREFIX_LEN>
         id
     }
 
-    /// How many inner nodes there are: one at each front where neighbouring keys part. Fewer than there are pairs, and none where there is no pair or one.
+    /// How many inner nodes there are: one at each front where neighbouring keys part. Fewer than there are pairs where there are pairs, and none where there is one or none.
     pub fn inner_nodes(&self) -> usize
         ensures value { result ≡ set.len (fronts (bytes K.bytes) self.now.pairs) }
         ensures fewer { result ≤ length self.now.pairs - 1 }

@@ -87,7 +87,7 @@ Decodes ListAll = ⊥
 Decodes (ListPrefix key) = key ≢ []
 Decodes (ListRange low high) = (low ≢ []) ⊎ (high ≢ [])
 
--- a command is answered, or refused for want of memory where it decodes a key, and then S stays
+-- a command is answered, or refused out of memory where it decodes a key, and then S stays
 abbrev pub AnswersOrRefuses : Pairs → Command → List (List ℕ) → Pairs → Type 0
 AnswersOrRefuses S command lines S' =
     Answers S command lines S' ⊎ (Decodes command × (S' ≡ S) × (lines ≡ codes "refused memory" ∷ []))

@@ -7,7 +7,7 @@ ghost use Rattle.blart.specs.Watched.{watched_inner, watched_failed, takes_nothi
 use std::io;
 use std::io::{Read, Write};
 
-/// A reader or a writer with a mark: whether a call of it failed.
+/// A reader or a writer with a mark: whether a read or a write of it failed.
 #[derive(Drop)]
 pub struct Watched<T> {
     inner: T,

@@ -90,7 +90,7 @@ module _ {K V : Type 0} (kb : K → List ℕ) where
     pub others : (r : List ℕ) → begins r q ≡ false → pair_at S' r ≡ pair_at S r
     pub len : length S' ≡ length S
 
-  -- an insertion at q is refused for a conflict, or for want of memory where the bytes are new
+  -- an insertion at q is refused for a conflict, or out of memory where the bytes are new
   abbrev pub Refuses : List (K × V) → List ℕ → TryInsertError → Type 0
   Refuses S q (Prefix e) = overlaps S q ≡ true
   Refuses S q (Memory e) = (overlaps S q ≡ false) × (has S q ≡ false)

@@ -28,7 +28,7 @@ pub trait AsBytes {
 
 /// A key type of which no value's bytes are a proper front of another's.
 ///
-/// Two keys of such a type are related only where they are equal, so no insertion of one conflicts.
+/// Two keys of such a type are related only where their bytes are equal, so no insertion of one conflicts.
 ///
 /// ```
 /// map.insert(U32Key::new(1), 1)?;

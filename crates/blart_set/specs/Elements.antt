@@ -9,7 +9,7 @@ pub use Rattle.blart_map.specs.Content.{Numbered, pairs}
 unfoldable pub elements : {K V : Type 0} → List (Numbered K V) → List K
 elements leaves = map (λ p. p.0) (pairs leaves)
 
--- an insertion at q is refused for a conflict, or for want of memory where the bytes are new
+-- an insertion at q is refused for a conflict, or out of memory where the bytes are new
 abbrev pub RefusesElement : {K : Type 0} → (K → List ℕ) → List K → List ℕ → TryInsertError → Type 0
 RefusesElement kb S q (Prefix e) = conflict kb S q ≡ true
 RefusesElement kb S q (Memory e) = (conflict kb S q ≡ false) × (stores kb S q ≡ false)

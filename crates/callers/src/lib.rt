@@ -1,4 +1,5 @@
-//! Functions over maps as users write them, each with a contract that says its whole effect.
+//! Functions over maps, sets and routers as users write them, each with a contract that says its
+//! effect.
 //!
 //! They are proved from the contracts of `blart` alone.
 #![tactic(auto)]

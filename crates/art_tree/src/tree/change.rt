@@ -1,4 +1,4 @@
-//! Other changes to a tree, and the look-up of what begins a query.
+//! Changes to a tree that place nothing, and the look-up of the pair that begins a query.
 ghost use Rattle.std.specs.Prelude.{◌≡◌, ◌+◌, ◌<◌, ◌≤◌, [], length, option_map, Some, OnOk, OnErr};
 ghost use Rattle.std.specs.Borrow.{sem};
 ghost use Rattle.blart_keys.specs.Content.{front_of};

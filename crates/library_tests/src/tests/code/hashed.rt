@@ -53,14 +53,29 @@ fn assert_alike<const P: usize>(rt: &impl Abort, one: &Bytes<P>, other: &Bytes<P
     assert_eq!(rt; words(other), fed);
 }
 
+// A map that had a pair of this key, and lost it.
+fn without<const P: usize>(rt: &impl Abort, map: Bytes<P>, key: u8) -> Bytes<P> {
+    let mut map = map;
+    assert!(rt; map.remove(&key).is_some());
+    map
+}
+
+// A map and its clone.
+fn assert_clone_alike<const P: usize>(rt: &impl Abort, map: &Bytes<P>, fed: u64) {
+    let clone = map.clone().expect(rt, "memory");
+    assert_alike(rt, map, &clone, fed);
+}
+
 // The length comes first, and then each key and its value, in whatever order the pairs were put, and whatever was removed since.
 fn maps_feed<const P: usize>(rt: &(impl Abort + AllocGlobal)) {
     let one = map_of::<P>(rt, &[(1, 10), (2, 20), (3, 30)]);
-    let mut other = map_of::<P>(rt, &[(3, 30), (9, 9), (2, 7), (1, 10), (2, 20)]);
-    assert_eq!(rt; other.remove(&9u8), Some(9));
-    assert_alike(rt, &one, &other, 0x03_01_0a_02_14_03_1e);
-    let clone = one.clone().expect(rt, "memory");
-    assert_alike(rt, &one, &clone, 0x03_01_0a_02_14_03_1e);
+    assert_clone_alike(rt, &one, 0x03_01_0a_02_14_03_1e);
+    let put = map_of(rt, &[(3, 30), (9, 9), (2, 7), (1, 10), (2, 20)]);
+    assert_alike(rt, &one, &without(rt, put, 9), 0x03_01_0a_02_14_03_1e);
+}
+
+// Of no pairs the length alone.
+fn nothing_feeds<const P: usize>(rt: &(impl Abort + AllocGlobal)) {
     assert_alike(rt, &map_of::<P>(rt, &[]), &map_of::<P>(rt, &[]), 0);
 }
 
@@ -69,6 +84,7 @@ fn maps(rt: HostRuntime) {
     maps_feed::<0>(&rt);
     maps_feed::<2>(&rt);
     maps_feed::<16>(&rt);
+    nothing_feeds::<2>(&rt);
 }
 
 // Of sets the length, and then each element.
