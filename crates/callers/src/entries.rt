@@ -1,5 +1,5 @@
 //! Calls of entries.
-ghost use Rattle.std.specs.Prelude.{◌≡◌, ◌≢◌, ◌+◌, ◌<◌, ◌^◌, ℕ, List, true, false, not, unwrap_or, OnOk, IfOk, OnErr, IfSome, None, Some, if◌then◌else◌};
+ghost use Rattle.std.specs.Prelude.{◌≡◌, ◌≢◌, ◌+◌, ◌<◌, ◌^◌, ℕ, List, true, false, not, unwrap_or, OnOk, IfOk, OnErr, IfSome, None, Some, if◌then◌else◌, length};
 ghost use Rattle.std.specs.FinSet as set;
 ghost use Rattle.blart.specs.Words.{pairs, bytes, fronts, Updates, pair_at, pair_before, value_at, value_before, has, overlaps, slice_bytes, zkey_bytes};
 
@@ -149,5 +149,46 @@ pub fn redirect(routes: &mut Map<&'static str, u32>, path: &'static str, target:
             Some(old)
         }
         None => None,
+    }
+}
+
+/// Sets a score by its entry, which is dropped.
+pub fn set_score(scores: &mut Map<ZKey, u64>, player: ZKey, next: u64) -> Result<(), AllocError>
+    ensures refused { OnErr result (scores.new ≡ scores.old) }
+{
+    let _entry = scores.entry(player).insert_entry(next)?;
+    Ok(())
+}
+
+/// Sets the value of the first pair, and answers whether there is one.
+pub fn set_first(scores: &mut Map<ZKey, u64>, next: u64) -> bool
+    ensures none { result ≡ false → scores.new ≡ scores.old }
+    ensures len { length (pairs scores.new) ≡ length (pairs scores.old) }
+{
+    match scores.first_entry() {
+        Some(mut entry) => {
+            entry.insert(next);
+            true
+        }
+        None => false,
+    }
+}
+
+/// Sets the score of a player who has one, and answers whether that is so.
+pub fn update_score(scores: &mut Map<ZKey, u64>, player: ZKey, next: u64) -> bool
+    ensures is_player { result ≡ has zkey_bytes (pairs scores.old) (zkey_bytes player) }
+    ensures set { result ≡ true
+        → value_at zkey_bytes (pairs scores.new) (zkey_bytes player) ≡ Some next }
+    ensures none { result ≡ false → scores.new ≡ scores.old }
+{
+    match scores.entry(player) {
+        Entry::Occupied(mut entry) => {
+            let _old = entry.insert(next);
+            true
+        }
+        Entry::Vacant(entry) => {
+            entry.into_key();
+            false
+        }
     }
 }

@@ -60,3 +60,18 @@ pub fn count_over(counts: &mut Map<ZKey, u64>, word: ZKey) -> Result<(), AllocEr
     *n += 1;
     Ok(())
 }
+
+/// Sets the target of a section, in the place of those that it overlaps, by one call of its entry's kind.
+pub fn set_section(
+    sections: &mut Map<ZKey, u64>,
+    section: ZKey,
+    target: u64,
+) -> Result<(), AllocError>
+    ensures set { OnOk result (value_at zkey_bytes (pairs sections.new) (zkey_bytes section) ≡ Some target) }
+    ensures others { (q : List ℕ) → q ≢ zkey_bytes section → related q (zkey_bytes section) ≡ false
+        → pair_at zkey_bytes (pairs sections.new) q ≡ pair_at zkey_bytes (pairs sections.old) q }
+    ensures refused { OnErr result (sections.new ≡ sections.old) }
+{
+    *sections.prefix_entry(section).kind().or_insert(0)? = target;
+    Ok(())
+}

@@ -11,6 +11,8 @@ pub(crate) enum PrefixCall<'a> {
     GetKey,
     Value(ValueCall),
     Place(PlaceCall),
+    KindValue(ValueCall),
+    KindPlace(PlaceCall),
     Occupied(RelatedCall),
     OccupiedSet(SetCall),
     Leaf(OccupiedCall),
@@ -90,6 +92,7 @@ impl<'a> PrefixCall<'a> {
                 let add = words.number()?;
                 walk_of(Some(add), words)
             }
+            b"kind" => kind_call(words),
             name => call_of(name, words),
         }
     }
@@ -99,6 +102,16 @@ impl<'a> PrefixCall<'a> {
 fn walk_of<'a>(add: Option<u64>, mut words: Words<'a>) -> Result<PrefixCall<'a>, Unanswered> {
     let letters = words.last_moves()?;
     Ok(PrefixCall::Walk(WalkCall { add, letters }))
+}
+
+// The call of the entry's kind that the words which are left say.
+fn kind_call<'a>(mut words: Words<'_>) -> Result<PrefixCall<'a>, Unanswered> {
+    let name = words.word()?;
+    match named_call(name, words.last_number()?)? {
+        EntryCall::Value(call) => Ok(PrefixCall::KindValue(call)),
+        EntryCall::Place(call) => Ok(PrefixCall::KindPlace(call)),
+        _ => Err(Unanswered::NoCall),
+    }
 }
 
 // The call of this name, which the last words are the arguments of.

@@ -28,6 +28,8 @@ pub fn enter_related<const P: usize>(
         PrefixCall::GetKey => show_found_key(map, key, text),
         PrefixCall::Value(call) => show_value(map, key, call, text),
         PrefixCall::Place(call) => show_place(map, key, call, text),
+        PrefixCall::KindValue(call) => show_kind_value(map, key, call, text),
+        PrefixCall::KindPlace(call) => show_kind_place(map, key, call, text),
         PrefixCall::Occupied(call) => show_related(map, key, call, text),
         PrefixCall::OccupiedSet(call) => set_related(map, key, call, text),
         PrefixCall::Leaf(call) => show_leaf(map, key, call, text),
@@ -108,6 +110,42 @@ fn show_place<const P: usize>(
         PlaceCall::OrInsertWithEntry(value) => entry.or_insert_with_entry(|| value),
         PlaceCall::OrInsertWithKeyEntry => entry.or_insert_with_key_entry(length_of),
         PlaceCall::InsertEntry(value) => entry.insert_entry(value),
+    };
+    show_placed!(answer, text)
+}
+
+// Adds the value that the call of the entry's kind lends.
+fn show_kind_value<const P: usize>(
+    map: &mut BytesMap<P>,
+    key: Vec<u8>,
+    call: ValueCall,
+    text: &mut Text,
+) -> Answered {
+    let entry = map.prefix_entry(key);
+    text.push(kind_of(&entry))?;
+    let kind = entry.kind();
+    match call {
+        ValueCall::OrInsert(value) => value_of(kind.or_insert(value)).show(text),
+        ValueCall::OrDefault => value_of(kind.or_default()).show(text),
+        ValueCall::OrInsertWith(value) => value_of(kind.or_insert_with(|| value)).show(text),
+        ValueCall::OrInsertWithKey => value_of(kind.or_insert_with_key(length_of)).show(text),
+    }
+}
+
+// Adds the pair whose entry the call of the entry's kind answers.
+fn show_kind_place<const P: usize>(
+    map: &mut BytesMap<P>,
+    key: Vec<u8>,
+    call: PlaceCall,
+    text: &mut Text,
+) -> Answered {
+    let entry = map.prefix_entry(key);
+    text.push(kind_of(&entry))?;
+    let kind = entry.kind();
+    let answer = match call {
+        PlaceCall::OrInsertEntry(value) => kind.or_insert_entry(value),
+        PlaceCall::InsertEntry(value) => kind.insert_entry(value),
+        _ => return Err(Unanswered::NoCall),
     };
     show_placed!(answer, text)
 }
