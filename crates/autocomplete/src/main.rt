@@ -2,12 +2,10 @@
 #![tactic(auto)]
 
 use anyhow::Context;
-use blart::{TreeSet, ZKey};
+use blart::{Set, TreeSet, ZKey};
 use std::io::{BufRead, BufReader};
 use std::iter::{IntoIterator, Iterator};
 use std::{env, fs};
-
-type Words = TreeSet<ZKey, 16>;
 
 // How many words an answer has at most.
 const MOST: usize = 10;
@@ -29,7 +27,7 @@ fn path_of(rt: &HostRuntime) -> anyhow::Result<String> {
 }
 
 // The words of a text, one a line.
-fn words_of(rt: &impl AllocGlobal, text: &str) -> anyhow::Result<Words> {
+fn words_of(rt: &impl AllocGlobal, text: &str) -> anyhow::Result<Set<ZKey>> {
     let mut words = TreeSet::new(rt.alloc());
     for line in text.lines() {
         words.insert(ZKey::from_bytes(rt.alloc(), line.as_bytes())?)?;
@@ -38,7 +36,7 @@ fn words_of(rt: &impl AllocGlobal, text: &str) -> anyhow::Result<Words> {
 }
 
 // Answers each line of standard input after a prompt.
-fn answer(rt: &HostRuntime, words: &Words) -> anyhow::Result<()> {
+fn answer(rt: &HostRuntime, words: &Set<ZKey>) -> anyhow::Result<()> {
     print!(rt; "> ")?;
     for line in BufReader::new(rt.alloc(), rt.reader())?.lines(rt.alloc()) {
         complete(rt, words, &line?)?;
@@ -49,7 +47,7 @@ fn answer(rt: &HostRuntime, words: &Words) -> anyhow::Result<()> {
 }
 
 // Prints the first words that begin with these letters.
-fn complete(rt: &impl Print, words: &Words, letters: &str) -> anyhow::Result<()> {
+fn complete(rt: &impl Print, words: &Set<ZKey>, letters: &str) -> anyhow::Result<()> {
     for word in words.prefix(letters.as_bytes()).take(MOST) {
         println!(rt; "{}", std::str::from_utf8(word.to_bytes())?)?;
     }

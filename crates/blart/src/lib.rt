@@ -27,3 +27,6 @@ pub use watched::Watched;
 
 /// A [`TreeMap`] of which an inner node keeps 16 bytes of its compressed prefix.
 pub type Map<K, V> = TreeMap<K, V, { map::DEFAULT_PREFIX_LEN }>;
+
+/// A [`TreeSet`] of which an inner node keeps 16 bytes of its compressed prefix.
+pub type Set<K> = TreeSet<K, { map::DEFAULT_PREFIX_LEN }>;

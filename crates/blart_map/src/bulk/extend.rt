@@ -17,7 +17,7 @@ use std::iter::Iterator;
 impl<K: NoPrefixesBytes + Drop, V: Drop, const PREFIX_LEN: usize> TreeMap<K, V, PREFIX_LEN> {
     /// Puts the pairs that the iterator gives, one after another, as [`TreeMap::insert`] does: of pairs with the same bytes the first key stays, with the last value.
     ///
-    /// An error is answered only at a pair whose bytes are new. That pair is dropped, and the ones before it stay; the iterator is asked no further.
+    /// An error is answered only at a pair whose bytes are new. That pair is dropped, and the ones before it stay.
     ///
     /// ```
     /// map.extend(vec![in alloc; (U32Key::new(2), 'b'), (U32Key::new(1), 'a')]?.into_iter())?;

@@ -15,7 +15,7 @@ use std::iter::Iterator;
 impl<K: NoPrefixesBytes + Drop, const PREFIX_LEN: usize> TreeSet<K, PREFIX_LEN> {
     /// Puts the elements that the iterator gives, one after another, as [`TreeSet::insert`] does: of elements with the same bytes the first stays.
     ///
-    /// An error is answered only at an element whose bytes are new. That element is dropped, and the ones before it stay; the iterator is asked no further.
+    /// An error is answered only at an element whose bytes are new. That element is dropped, and the ones before it stay.
     ///
     /// ```
     /// set.extend(vec![in alloc; 3u8, 1, 2]?.into_iter())?;
