@@ -9,6 +9,8 @@ pub use Rattle.blart_keys.specs.Stored.{value_at, value_before, has, kept_key, k
 -- a map as a list of pairs: without the numbers under which they stand, closed in proofs
 unfoldable pub use Rattle.blart_map.specs.Content.{pairs}
 pub use Rattle.blart_map.specs.Content.{Numbered}
+-- that the entries of a map fit in memory
+pub use Rattle.blart_map.specs.EntryFits.{EntryFits, PrefixEntryFits}
 pub use Rattle.blart_keys.specs.Steps.{bytes, Puts, Inserts, PutsOver}
 pub use Rattle.blart_keys.specs.Content.{IsContent, at, stores, front_of, under, between, conflict, subtree, without, IsPut, IsOver}
 pub use Rattle.blart_keys.specs.Outside.{outside}

@@ -3,6 +3,7 @@ pub mod Content
 pub mod Driven
 pub mod Entry
 pub mod EntryLends
+pub mod EntryFits
 pub mod InnerEntry
 pub mod InnerLends
 pub mod Lent

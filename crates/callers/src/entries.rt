@@ -1,7 +1,9 @@
 //! Calls of entries.
 ghost use Rattle.std.specs.Prelude.{◌≡◌, ◌≢◌, ◌+◌, ◌<◌, ◌^◌, ℕ, List, true, false, not, unwrap_or, OnOk, IfOk, OnErr, IfSome, None, Some, if◌then◌else◌, length};
 ghost use Rattle.std.specs.FinSet as set;
-ghost use Rattle.blart.specs.Words.{pairs, bytes, fronts, Updates, pair_at, pair_before, value_at, value_before, has, overlaps, slice_bytes, zkey_bytes};
+ghost use denote.Builtin.{u64};
+ghost use denote.Param.{number};
+ghost use Rattle.blart.specs.Words.{pairs, bytes, fronts, Updates, pair_at, pair_before, value_at, value_before, has, overlaps, slice_bytes, zkey_bytes, EntryFits};
 
 use blart::map::Entry;
 use blart::{Map, NoPrefixesBytes, ZKey};
@@ -117,6 +119,20 @@ pub fn try_place<V: Drop>(store: &mut Map<ZKey, V>, key: ZKey, value: V) -> Resu
         }
         Entry::Occupied(_) => Ok(value),
     }
+}
+
+/// Adds one to the count of a word of any key type, by its entry.
+pub fn tally<W: NoPrefixesBytes + Drop>(counts: &mut Map<W, u64>, word: W) -> Result<(), AllocError>
+    requires fits { EntryFits W.row u64 (number 16) W.AsBytes }
+    requires small { unwrap_or (value_at W.bytes (pairs counts.old) (W.bytes word)) 0 + 1 < 2 ^ 64 }
+    ensures counted { OnOk result (value_at W.bytes (pairs counts.new) (W.bytes word)
+        ≡ Some (unwrap_or (value_at W.bytes (pairs counts.old) (W.bytes word)) 0 + 1)) }
+    ensures others { (q : List ℕ) → q ≢ W.bytes word
+        → pair_at W.bytes (pairs counts.new) q ≡ pair_at W.bytes (pairs counts.old) q }
+    ensures refused { OnErr result (counts.new ≡ counts.old) }
+{
+    *counts.entry(word).or_insert(0)? += 1;
+    Ok(())
 }
 
 /// Adds one to the count of a word of any key type, by the call of the map that lends.

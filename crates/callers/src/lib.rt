@@ -23,14 +23,16 @@ mod walks;
 pub use counts::{count, count_in_place, insert_if_absent, raise};
 pub use entries::{
     borrow_place, count_at, count_by_entry, redirect, score, set_first, set_route, set_score,
-    toggle, try_place, update_score,
+    tally, toggle, try_place, update_score,
 };
 pub use lending::raise_below;
 pub use moves::{add_or_give_back, len_with, len_without, move_first_between, move_one, rename};
 pub use owning::{into_values_vec, into_vec};
 pub use parts::{give_all, have_one_digest, later, part_and_join};
 pub use picking::{drain_below, drop_below, keep_first, move_above};
-pub use prefix_entries::{count_over, merge_routes, set_over, set_section};
+pub use prefix_entries::{
+    count_over, merge_routes, put_over, put_word_over, set_over, set_section,
+};
 pub use queues::{following, take_least, take_next, to_end};
 pub use router::{Handler, asked, site};
 pub use routes::{AddError, Table, hit, route, take_over};
