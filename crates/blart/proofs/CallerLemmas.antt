@@ -4,3 +4,5 @@ pub use Rattle.blart_map.proofs.CallerLemmas.{stores_is, pair_at-bytes, pair_bef
 pub use Rattle.blart_set.proofs.Laws.{union_left, union_right, union_count, union_stores, symmetric_left, symmetric_right, symmetric_count, clones_store, ordered_less, union_parts, union_unique, symmetric_unique, lacks_none}
 -- what a closure keeps of a set that tells of the element alone
 pub use Rattle.blart_set.proofs.Filtered.{filter_from_asked}
+-- a closure that may be called at each element: one that may always be called, or wherever what holds for all elements does
+pub use Rattle.blart_set.proofs.Callable.{callable_on_each_element, callable_on_such_elements}
