@@ -7,3 +7,4 @@ pub mod Asking
 pub mod Lending
 pub mod PairEnds
 pub mod Runs
+pub mod Callable

@@ -1,4 +1,5 @@
 //! The pairs that a closure keeps.
+ghost use Rattle.std.specs.Map.Calls.{CallableOnEachPair, CalledAtPair, TakesPair};
 ghost use Rattle.blart_keys.specs.Walks.{Retains, AsksPair};
 ghost use Rattle.art_walk.specs.Pairs.{pairs_of};
 
@@ -13,7 +14,7 @@ pub fn retain<
     F: FnMut(&K, &mut V) -> bool + Drop,
     const PREFIX_LEN: usize,
 >(tree: &mut Tree<K, V, PREFIX_LEN>, mut f: F)
-    requires { F.IsAlwaysCallable f }
+    requires { CallableOnEachPair (CalledAtPair F.FnMut) (TakesPair F.FnMut) f (pairs_of tree.old.pairs) }
     ensures { Retains (AsksPair F.FnMut) (pairs_of tree.old.pairs) f (pairs_of tree.new.pairs) }
 {
     tree.law();

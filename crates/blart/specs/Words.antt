@@ -29,7 +29,7 @@ pub use Rattle.blart_map.specs.CountedWalk.{counted_left}
 pub use Rattle.blart_map.specs.TakeWalk.{take_left, LentFirst, LentLast, NoneLent}
 -- what a walk that takes leaves
 pub use Rattle.blart_map.specs.OnceTaken.{taken_all, once_taken, still_to_take, once_extracted, still_to_extract}
-pub use Rattle.blart_map.specs.ExtractIf.{extract_left, Extracts, ExtractsNext, ExtractsNextBack}
+pub use Rattle.blart_map.specs.ExtractIf.{extract_left, CanExtract, CanExtractBack, Extracts, ExtractsNext, ExtractsNextBack}
 pub use Rattle.blart_map.specs.OnceWritten.{rewritten, all_rewritten, once_written, all_once_written}
 -- a set as a list of elements, closed in proofs, and merges of two
 unfoldable pub use Rattle.blart_set.specs.Elements.{elements}
@@ -37,6 +37,6 @@ pub use Rattle.blart_set.specs.Elements.{RefusesElement}
 pub use Rattle.blart_set.specs.Merging.{Merge, IsBeginning, Counts, united, parted, shared, lacking}
 pub use Rattle.blart_keys.specs.Merges.{IsUnion, IsSymmetricDifference, intersection, difference}
 -- a closure asked of an element
-pub use Rattle.blart_set.specs.Asking.{AsksElement}
+pub use Rattle.blart_set.specs.Asking.{AsksElement, CallableOnEachElement}
 -- clones of elements
 pub use Rattle.blart_set.specs.Clones.{KeepsBytes, IsElementClone, AreElementClones, MakesClones}

@@ -9,9 +9,11 @@ pub use Rattle.blart_keys.proofs.WalkLemmas.{walked_start, walked_first, walked_
 pub use Rattle.blart_map.proofs.Appending.{joined_parts}
 -- a new pair that an entry placed and then removed
 pub use Rattle.blart_map.proofs.TakenBack.{taken_back, taken_back_fronts}
--- what is kept by a closure that tells of the pair alone, and by one that counts
-pub use Rattle.blart_map.proofs.Filtered.{kept_by, kept_by_retained, take_from_kept, filter_from_retained}
+-- what is kept by a closure that tells of the pair alone, and by one that counts; what one writes that keeps each pair
+pub use Rattle.blart_map.proofs.Filtered.{kept_by, kept_by_retained, take_from_kept, filter_from_retained, map_from_retained}
 -- a pair that was lent and then kept, or taken
 pub use Rattle.blart_map.proofs.OnceTaken.{kept_first, taken_first, walk_kept, walk_taken, none_to_take, none_taken}
+-- a closure that may be called on each pair: one that may always be called, or wherever what holds for all pairs does
+pub use Rattle.art_walk.proofs.Callable.{callable_on_each_pair, callable_on_such_pairs}
 -- one step of a walk that extracts, where its closure tells of the pair alone
 pub use Rattle.blart_map.proofs.OnceExtracted.{extracted}

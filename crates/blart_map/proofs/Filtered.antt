@@ -1,5 +1,5 @@
--- What a closure that tells of the pair alone keeps, and what one that counts does.
-use Rattle.std.proofs.Common.{◌≡◌, ℕ, zero, suc, ◌-◌, ltb, take, arith, List, [], ◌∷◌, filter, Bool, true, false, cond, refl, ap, ◌∙◌}
+-- What a closure that tells of the pair alone keeps, what one that counts does, and what one that keeps each pair writes.
+use Rattle.std.proofs.Common.{◌≡◌, ℕ, zero, suc, ◌-◌, ltb, take, arith, List, [], ◌∷◌, filter, map, Bool, true, false, cond, refl, ap, ◌∙◌}
 use Rattle.std.proofs.lemmas.Bool.{lt-ltb}
 use Rattle.std.specs.Borrow.{Bor, MutBor}
 use Rattle.std.specs.Map.Calls.{CalledAtPair}
@@ -46,6 +46,25 @@ module _ {F K V : Type 0} (g : Mut F (Bor K × (MutBor V × Unit {0})) (Bool × 
     -- so what is kept is the filter
     pub filter_from_retained : (f : F) (old new : List (K × V)) → I f → Retains (AsksPair g) old f new → new ≡ filter test old
     filter_from_retained f old new i r = kept_by_retained (λ f s. I f) (λ s x. test x) (λ s x. s) (λ f s k v b w h. tells f k v b w h) f tt old new i r ∙ kept_all old
+
+  -- ---- it keeps each pair, with a value that it tells of the pair alone
+
+  module _ (I : F → Type 0) (value : K × V → V) (tells : (f : F) (k : K) (v : V) (b : Bool) (w : V) (h : F) → I f → CalledAtPair g f k v b w h → (b ≡ true) × (w ≡ value (k, v)) × I h) where
+    asked_written : (old : List (K × V)) (f : F) (answers : List Bool) (left : List (K × V)) (h : F) → I f → Asked (AsksPair g) old f answers left h → picked answers left ≡ map (λ p. (p.0, value p)) old
+    asked_written [] f [] [] h i a = refl
+    asked_written [] f [] (y ∷ left) h i a = absurd a
+    asked_written [] f (b ∷ answers) left h i a = absurd a
+    asked_written (x ∷ old) f [] left h i a = absurd a
+    asked_written (x ∷ old) f (b ∷ answers) [] h i a = absurd a
+    asked_written (x ∷ old) f (b ∷ answers) (y ∷ left) h i a =
+        let t = tells f x.0 x.1 b y.1 a.0 i a.1.called in
+        let same : y ≡ (x.0, value x) = λ j. (a.1.same_key j, t.1 j) in
+        let ih = asked_written old a.0 answers left h t.2 a.2 in
+        picked_first b answers y left ∙ ap (λ c. cond c (y ∷ picked answers left) (picked answers left)) t.0 ∙ ap (λ z. z ∷ picked answers left) same ∙ ap (λ l. (x.0, value x) ∷ l) ih
+
+    -- so what is kept are all pairs, with these values
+    pub map_from_retained : (f : F) (old new : List (K × V)) → I f → Retains (AsksPair g) old f new → new ≡ map (λ p. (p.0, value p)) old
+    map_from_retained f old new i r = r.kept ∙ asked_written old f r.answers r.left r.after i r.asked
 
 -- a closure that counts down keeps the first so many
 pub take_from_kept : {X : Type 0} (n : ℕ) (xs : List X) → kept_by (λ n x. ltb 0 n) (λ n x. n - 1) n xs ≡ take n xs

@@ -2,11 +2,12 @@
 use Rattle.std.specs.Prelude.{◌≡◌, ℕ, List, [], ◌∷◌, Option, Some, None, Bool, reverse}
 use Rattle.std.specs.Borrow.{Bor, MutBor}
 use Rattle.std.specs.Bool.{MatchBool}
-use Rattle.std.specs.Map.Calls.{CalledAtPair}
+use Rattle.std.specs.Map.Calls.{CallableOnEachPair, CalledAtPair, TakesPair}
 use denote.Param.Members.{Mut}
 use Rattle.blart_keys.specs.declared.AsBytes.{Ghosts}
 use Rattle.art_tree.specs.Leaves.{Numbered, leaf_in, with_value, without_number}
 use Rattle.art_walk.specs.Cursor.{leaves_left}
+use Rattle.art_walk.specs.Pairs.{pairs_of}
 use Rattle.blart_map.specs.declared.walks.extract_if.ExtractIf.{ExtractIf}
 
 -- the pairs that the closure may still be asked about
@@ -25,6 +26,14 @@ module _ {K V F : Type 0} (g : Mut F (Bor K × (MutBor V × Unit {0})) (Bool × 
       (Extracts (with_value S p.0 w) h coming result S' f' rest)
 
   module _ {p : ℕ} {k : Ghosts K} where
+    -- the closure may be called on each pair that is left, from the first on
+    abbrev pub CanExtract : ExtractIf K V F p k → Type 0
+    CanExtract s = CallableOnEachPair (CalledAtPair g) (TakesPair g) s.pred (pairs_of (extract_left s))
+
+    -- and from the last on
+    abbrev pub CanExtractBack : ExtractIf K V F p k → Type 0
+    CanExtractBack s = CallableOnEachPair (CalledAtPair g) (TakesPair g) s.pred (pairs_of (reverse (extract_left s)))
+
     -- one `next`
     abbrev pub ExtractsNext : ExtractIf K V F p k → Option (K × V) → ExtractIf K V F p k → Type 0
     ExtractsNext s result t = (t.map.ghost_name ≡ s.map.ghost_name) × Extracts s.map.now s.pred (extract_left s) result t.map.now t.pred (extract_left t)

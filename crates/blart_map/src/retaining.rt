@@ -1,4 +1,5 @@
 //! The pairs that a closure keeps.
+ghost use Rattle.std.specs.Map.Calls.{CallableOnEachPair, CalledAtPair, TakesPair};
 ghost use Rattle.blart_keys.specs.Walks.{Retains, AsksPair};
 ghost use Rattle.blart_map.specs.Content.{pairs};
 
@@ -20,7 +21,7 @@ impl<K: AsBytes + Drop, V: Drop, const PREFIX_LEN: usize> TreeMap<K, V, PREFIX_L
     /// ```
     #[tactic(auto, unfolding(crate::specs::Content::pairs))]
     pub fn retain<F: FnMut(&K, &mut V) -> bool + Drop>(&mut self, f: F)
-        requires { F.IsAlwaysCallable f }
+        requires { CallableOnEachPair (CalledAtPair F.FnMut) (TakesPair F.FnMut) f (pairs self.old) }
         ensures { Retains (AsksPair F.FnMut) (pairs self.old) f (pairs self.new) }
     {
         art_walk::retain(&mut self.tree, f)

@@ -1,3 +1,4 @@
+pub mod Callable
 pub mod Cloned
 pub mod Compared
 pub mod Extracted

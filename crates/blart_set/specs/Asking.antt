@@ -1,6 +1,7 @@
 -- A closure asked of an element.
-use Rattle.std.specs.Prelude.{◌≡◌, Bool}
-use Rattle.std.specs.Fn.{CalledAt}
+use Rattle.std.specs.Prelude.{◌≡◌, Bool, List, ◌∷◌, ◌++◌}
+use Rattle.std.specs.Fn.{CalledAt, TakesAt}
+use Rattle.std.specs.List.{FoldsTo}
 use denote.Ref.{Bor}
 use denote.Param.Members.{Mut}
 
@@ -8,3 +9,11 @@ module _ {F K : Type 0} (g : Mut F (Bor K × Unit {0}) Bool) where
   -- in the state f the closure was asked of the element, which it leaves as it is
   abbrev pub AsksElement : F → K → Bool → K → F → Type 0
   AsksElement f x answer left f' = CalledAt g f x answer f' × (left ≡ x)
+
+  -- a call at the element may leave f'
+  abbrev pub SomeCallAtElement : F → K → F → Type 0
+  SomeCallAtElement f x f' = (answer : Bool) × CalledAt g f x answer f'
+
+  -- the closure may be called at each element, as the calls at those before have left it
+  pub record CallableOnEachElement (f : F) (xs : List K) : Type 0 where
+    pub at : (before after : List K) (f' : F) (x : K) → xs ≡ before ++ x ∷ after → FoldsTo SomeCallAtElement f before f' → TakesAt g f' x

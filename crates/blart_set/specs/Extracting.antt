@@ -7,7 +7,7 @@ use Rattle.blart_keys.specs.Content.{without}
 use Rattle.blart_keys.specs.Walks.{ExtractsFirst}
 use Rattle.art_walk.specs.Cursor.{leaves_left}
 use Rattle.blart_set.specs.declared.extracting.ExtractIf.{ExtractIf}
-use Rattle.blart_set.specs.Asking.{AsksElement}
+use Rattle.blart_set.specs.Asking.{AsksElement, CallableOnEachElement}
 use Rattle.blart_set.specs.Elements.{elements}
 
 -- the elements that the closure may still be asked about
@@ -25,6 +25,14 @@ module _ {F K : Type 0} (g : Mut F (Bor K × Unit {0}) Bool) where
   AsksUpTo coming f result rest f' = (passed : List K) × ExtractsFirst (AsksElement g) coming f result passed rest f'
 
   module _ {p : ℕ} {k : Ghosts K} where
+    -- the closure may be called at each element that is left, from the first on
+    abbrev pub CanExtract : ExtractIf K F p k → Type 0
+    CanExtract s = CallableOnEachElement g s.pred (extract_left s)
+
+    -- and from the last on
+    abbrev pub CanExtractBack : ExtractIf K F p k → Type 0
+    CanExtractBack s = CallableOnEachElement g s.pred (reverse (extract_left s))
+
     -- one `next`
     pub record ExtractsNext (s : ExtractIf K F p k) (result : Option K) (t : ExtractIf K F p k) : Type 0 where
       pub same_set : t.set.ghost_name ≡ s.set.ghost_name

@@ -16,9 +16,9 @@ pub record IsBeginning {K : Type 0} (A B : List K) (m : Merge K) : Type 0 where
   pub right : m.right ≡ B
   pub compares : m.compares ≡ 0
 
--- at most as many comparisons were made as elements were consumed
+-- at most as many comparisons were made as elements were consumed, and none was forgotten
 abbrev pub Counts : {K : Type 0} → Merge K → Merge K → Type 0
-Counts old new = new.compares + (length new.left + length new.right) ≤ old.compares + (length old.left + length old.right)
+Counts old new = (old.compares ≤ new.compares) × (new.compares + (length new.left + length new.right) ≤ old.compares + (length old.left + length old.right))
 
 -- One `next` of a merge that has still to give `rest`. The first three are those of every iterator, `MakesProgress`, by whose names a loop cites them
 pub record Goes {K A : Type 0} (rest : Merge K → List K) (s : Merge K) (r : Option A) (t : Merge K) : Type 0 where

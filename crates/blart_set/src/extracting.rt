@@ -126,11 +126,11 @@ impl<K: AsBytes + Drop, const PREFIX_LEN: usize> TreeSet<K, PREFIX_LEN> {
 
 impl<'a, K: AsBytes + Drop, F: FnMut(&K) -> bool + Drop, const PREFIX_LEN: usize> Iterator
     for ExtractIf<'a, K, F, PREFIX_LEN> {
-    ghost use Rattle.blart_set.specs.Extracting.{extract_left, ExtractsNext};
+    ghost use Rattle.blart_set.specs.Extracting.{extract_left, CanExtract, ExtractsNext};
 
     type Item = K;
 
-    ghost can_next = { λ s. F.IsAlwaysCallable s.pred };
+    ghost can_next = { CanExtract F.FnMut };
 
     ghost next_gives = { ExtractsNext F.FnMut };
 
@@ -153,9 +153,9 @@ impl<
     F: FnMut(&K) -> bool + Drop,
     const PREFIX_LEN: usize,
 > DoubleEndedIterator for ExtractIf<'a, K, F, PREFIX_LEN> {
-    ghost use Rattle.blart_set.specs.Extracting.{ExtractsNextBack};
+    ghost use Rattle.blart_set.specs.Extracting.{CanExtractBack, ExtractsNextBack};
 
-    ghost can_next_back = { λ s. F.IsAlwaysCallable s.pred };
+    ghost can_next_back = { CanExtractBack F.FnMut };
 
     ghost next_back_gives = { ExtractsNextBack F.FnMut };
 

@@ -1,6 +1,6 @@
 //! The elements that a closure keeps.
 ghost use Rattle.blart_keys.specs.Walks.{Retains};
-ghost use Rattle.blart_set.specs.Asking.{AsksElement};
+ghost use Rattle.blart_set.specs.Asking.{AsksElement, CallableOnEachElement};
 ghost use Rattle.blart_set.specs.Elements.{elements};
 
 use crate::set::TreeSet;
@@ -18,7 +18,7 @@ impl<K: AsBytes + Drop, const PREFIX_LEN: usize> TreeSet<K, PREFIX_LEN> {
     /// assert_eq!(set.len(), 1);
     /// ```
     pub fn retain<F: FnMut(&K) -> bool + Drop>(&mut self, mut f: F)
-        requires { F.IsAlwaysCallable f }
+        requires { CallableOnEachElement F.FnMut f (elements self.old) }
         ensures { Retains (AsksElement F.FnMut) (elements self.old) f (elements self.new) }
     {
         self.law();

@@ -1,5 +1,5 @@
 //! Pairs that a closure picks.
-ghost use Rattle.std.specs.Prelude.{◌≡◌, leb, ltb, filter, not, take, IfOk, OnOk};
+ghost use Rattle.std.specs.Prelude.{◌≡◌, ◌+◌, ◌<◌, ◌^◌, leb, ltb, filter, map, not, take, All, IfOk, OnOk};
 ghost use Rattle.blart.specs.Words.{pairs, bytes, kept_pair, PutsAll};
 
 use blart::{AsBytes, Map, NoPrefixesBytes, ZKey};
@@ -24,6 +24,17 @@ pub fn keep_first<K: AsBytes + Drop, V: Drop>(map: &mut Map<K, V>, count: usize)
         let keeps = left > 0;
         left = left.saturating_sub(1);
         keeps
+    });
+}
+
+/// Adds one to each value, where none is the greatest of its type: a closure that may not be called on any pair, but on each of these.
+pub fn raise_all<K: AsBytes + Drop>(counts: &mut Map<K, u32>)
+    requires { All (λ p. p.1 + 1 < 2 ^ 32) (pairs counts.old) }
+    ensures { pairs counts.new ≡ map (λ p. (p.0, p.1 + 1)) (pairs counts.old) }
+{
+    counts.retain(|_, count| {
+        *count += 1;
+        true
     });
 }
 

@@ -88,11 +88,11 @@ impl<
     F: FnMut(&K, &mut V) -> bool + Drop,
     const PREFIX_LEN: usize,
 > Iterator for ExtractIf<'a, K, V, F, PREFIX_LEN> {
-    ghost use Rattle.blart_map.specs.ExtractIf.{extract_left, ExtractsNext};
+    ghost use Rattle.blart_map.specs.ExtractIf.{extract_left, CanExtract, ExtractsNext};
 
     type Item = (K, V);
 
-    ghost can_next = { λ s. F.IsAlwaysCallable s.pred };
+    ghost can_next = { CanExtract F.FnMut };
 
     ghost next_gives = { ExtractsNext F.FnMut };
 
@@ -118,9 +118,9 @@ impl<
     F: FnMut(&K, &mut V) -> bool + Drop,
     const PREFIX_LEN: usize,
 > DoubleEndedIterator for ExtractIf<'a, K, V, F, PREFIX_LEN> {
-    ghost use Rattle.blart_map.specs.ExtractIf.{ExtractsNextBack};
+    ghost use Rattle.blart_map.specs.ExtractIf.{CanExtractBack, ExtractsNextBack};
 
-    ghost can_next_back = { λ s. F.IsAlwaysCallable s.pred };
+    ghost can_next_back = { CanExtractBack F.FnMut };
 
     ghost next_back_gives = { ExtractsNextBack F.FnMut };
 

@@ -1,4 +1,4 @@
-use Rattle.std.proofs.Common.{List, ◌++◌, [], sym, ap, subst, ◌∙◌, suc, length, of_calls, lit<}
+use Rattle.std.proofs.Common.{List, ◌++◌, [], sym, ap, subst, ◌∙◌, suc, length, lit<, refl}
 use Rattle.blart_keys.specs.Walks.{Retains, AsksPair}
 use Rattle.blart_keys.proofs.Options.{is_some}
 use Rattle.art_tree.specs.Leaves.{Numbered, leaf_in, with_value}
@@ -6,12 +6,13 @@ use Rattle.art_walk.specs.Cursor.{leaves_left}
 use Rattle.art_walk.specs.Pairs.{pairs_of}
 use Rattle.art_walk.proofs.Passing.{first_passed, first_named}
 use Rattle.art_walk.proofs.Asking.{retaining_end, retaining_kept, retaining_gone, asks_at, written_fits, written_left, written_distinct, written_row, written_named, removed_fits, removed_left, removed_distinct, removed_row, le_eq}
+use Rattle.art_walk.proofs.Callable.{Callable, callable_first, callable_others}
 use Rattle.art_walk.proofs.retaining.retain.Goals as goal
 
 pub pairs-init : goal.pairs-init
 pairs-init g c =
     let left = c.all-cursor.ensures.left in (
-      search of_calls,
+      subst (λ (l : List (Numbered g.row.K.Denot g.row.V.Denot)). Callable g.F.FnMut c.args.f (pairs_of l)) (sym left) c.requires,
       c.all-cursor.ensures.fits,
       c.law.ensures.distinct,
       record {
@@ -20,6 +21,14 @@ pairs-init g c =
         then = λ rest r. subst (λ (l : List (Numbered g.row.K.Denot g.row.V.Denot)). Retains (AsksPair g.F.FnMut) (pairs_of l) c.args.f rest) left r;
       },
     )
+
+pub f-requires : goal.f-requires
+f-requires g c =
+    let ps = c.pairs.tree.pairs in
+    let lv = c.leaf_mut-value.result in
+    let y : g.row.K.Denot × g.row.V.Denot = (lv.0.now, lv.1.now) in
+    let named = first_named ps c.pairs.invariant.2 c.pairs.cursor c.step.new.self c.pairs.invariant.1 c.in-Some.ensures.fits c.in-Some.id y c.leaf_mut-value.ensures.value c.in-Some.ensures.passes in
+    callable_first g.F.FnMut c.pairs.f y (pairs_of (leaves_left c.pairs.cursor ps)) (pairs_of (leaves_left c.step.new.self ps)) (ap pairs_of named) c.pairs.invariant.0 lv.0 lv.1 refl refl
 
 pub pairs-smaller-then-f : goal.pairs-smaller-then-f
 pairs-smaller-then-f g c =
@@ -45,7 +54,7 @@ pairs-preserved-then-f g c =
     let asks = asks_at g.F.FnMut c.pairs.f lv.0 lv.1 _ c.f.result c.f.new.self c.f.ensures in
     let r = c.pairs.invariant.3 in
     let row = r.whole ∙ ap (λ l. r.kept ++ l) named in (
-      search of_calls,
+      callable_others g.F.FnMut c.pairs.f y (pairs_of (leaves_left c.pairs.cursor ps)) (pairs_of (leaves_left new ps)) (ap pairs_of named) c.pairs.invariant.0 c.f.result w c.f.new.self asks.called _ (ap pairs_of (written_left ps d new fits id y w lacks)),
       written_fits ps d new fits id y w lacks,
       written_distinct ps d new fits id y w lacks,
       retaining_kept (AsksPair g.F.FnMut) _ _ ps (leaves_left c.pairs.cursor ps) (leaves_left new ps) c.pairs.f c.f.new.self id y w c.f.result asks named r c.if-f.true (with_value ps id w) (leaves_left new (with_value ps id w))
@@ -94,7 +103,7 @@ pairs-preserved g c =
     let asks = asks_at g.F.FnMut c.pairs.f lv.0 lv.1 _ c.f.result c.f.new.self c.f.ensures in
     let r = c.pairs.invariant.3 in
     let row = r.whole ∙ ap (λ l. r.kept ++ l) named in (
-      search of_calls,
+      callable_others g.F.FnMut c.pairs.f y (pairs_of (leaves_left c.pairs.cursor ps)) (pairs_of (leaves_left new ps)) (ap pairs_of named) c.pairs.invariant.0 c.f.result w c.f.new.self asks.called _ (ap pairs_of (removed_left ps d new fits id y w lacks rs gone)),
       removed_fits ps d new fits id y w lacks rs gone,
       removed_distinct ps d new fits id y w lacks rs gone,
       retaining_gone (AsksPair g.F.FnMut) _ _ ps (leaves_left c.pairs.cursor ps) (leaves_left new ps) c.pairs.f c.f.new.self id y w c.f.result asks named r c.if-f.false rs (leaves_left new rs)

@@ -4,11 +4,12 @@ use Rattle.art_tree.specs.Leaves.{AreDistinct}
 use Rattle.art_walk.specs.Cursor.{leaves_left, FitsIn}
 use Rattle.art_walk.specs.Pairs.{pairs_of}
 use Rattle.art_walk.proofs.Asking.{Retaining}
+use Rattle.art_walk.proofs.Callable.{Callable}
 use Rattle.art_walk.proofs.retaining.retain.Given as goal
 
 abbrev pub invariant-pairs : goal.invariant-pairs
 invariant-pairs g l =
-    goal.F-IsAlwaysCallable g l.f × FitsIn l.cursor l.tree.pairs × AreDistinct l.tree.pairs
+    Callable g.F.FnMut l.f (pairs_of (leaves_left l.cursor l.tree.pairs)) × FitsIn l.cursor l.tree.pairs × AreDistinct l.tree.pairs
     × Retaining (AsksPair g.F.FnMut) (pairs_of l.initial.tree.pairs) l.initial.f l.tree.pairs (leaves_left l.cursor l.tree.pairs) l.f
 
 abbrev pub decreases-pairs : goal.decreases-pairs

@@ -1,14 +1,23 @@
-use Rattle.std.proofs.Common.{◌∷◌, length, suc, sym, ap, subst, ◌∙◌, lit<, of_calls, None}
+use Rattle.std.proofs.Common.{◌∷◌, length, suc, sym, ap, subst, ◌∙◌, lit<, None, refl}
 use Rattle.std.specs.Fn.{CalledAt}
 use Rattle.blart_keys.specs.Content.{without}
 use Rattle.art_walk.specs.Cursor.{leaves_left}
 use Rattle.art_walk.proofs.Lending.{from_test, to_test}
 use Rattle.blart_set.specs.Elements.{elements}
+use Rattle.blart_set.proofs.Callable.{callable_first, callable_others}
 use Rattle.blart_set.proofs.Extracted.{called_at, asks_none, asks_true, asks_false, elements_none, same_element, first_is, le_step, lt_step, le_eq}
 use Rattle.blart_set.proofs.extracting.ExtractIfIterator.next.Goals as goal
 
 pub step-requires : goal.step-requires
 step-requires g c = let at = c.loop-id.self in (lit< tt, from_test at.cursor None at.set.now at.fits)
+
+pub pred-requires : goal.pred-requires
+pred-requires g c =
+    let at = c.loop-id.self in
+    let ps = at.set.now in
+    let new = c.step.new.cursor in
+    let splits = first_is ps c.in-Some.id c.element.result.now c.element.ensures at.cursor new c.in-Some.ensures.first in
+    callable_first g.F.FnMut at.pred c.element.result.now (elements (leaves_left at.cursor ps)) (elements (leaves_left new ps)) splits c.loop-id.invariant.0 c.element.result refl
 
 pub invariant_of-self : goal.invariant_of-self
 invariant_of-self g c =
@@ -46,9 +55,13 @@ returns-then-pred-clause-goes g c =
     let new = c.step.new.cursor in
     let first = c.in-Some.ensures.first in
     let stays = c.take_element.ensures.left new c.in-Some.ensures.fits first.passed in
-    let splits = first_is ps c.in-Some.id c.take_element.result c.take_element.ensures.value at.cursor new first in
+    let x = c.take_element.result in
+    let same = same_element ps c.in-Some.id c.element.result.now c.element.ensures x c.take_element.ensures.value in
+    let called = subst (λ z. CalledAt g.F.FnMut at.pred z c.pred.result c.pred.new.self) same (called_at g.F.FnMut at.pred c.element.result c.pred.result c.pred.new.self c.pred.ensures) in
+    let splits = first_is ps c.in-Some.id x c.take_element.ensures.value at.cursor new first in
+    let can = callable_others g.F.FnMut at.pred x (elements (leaves_left at.cursor ps)) (elements (leaves_left new ps)) splits c.loop-id.invariant.0 c.pred.result c.pred.new.self called _ (ap elements stays.1) in
     let less = lt_step _ _ _ (ap suc (ap length (ap elements stays.1)) ∙ sym (ap length splits)) c.loop-id.invariant.3 in
-    record { on = λ finite. (search of_calls, finite, less); keeps = search of_calls; rests = λ _. tt }
+    record { on = λ finite. (can, finite, less); keeps = can; rests = λ _. tt }
 
 pub loop-id-smaller : goal.loop-id-smaller
 loop-id-smaller g c =
@@ -64,7 +77,7 @@ loop-id-preserved g c =
     let x = c.element.result.now in
     let called = called_at g.F.FnMut at.pred c.element.result c.pred.result c.pred.new.self c.pred.ensures in
     let splits = first_is ps c.in-Some.id x c.element.ensures at.cursor new c.in-Some.ensures.first in (
-      search of_calls,
+      callable_others g.F.FnMut at.pred x (elements (leaves_left at.cursor ps)) (elements (leaves_left new ps)) splits c.loop-id.invariant.0 c.pred.result c.pred.new.self called _ refl,
       c.loop-id.invariant.1,
       c.loop-id.invariant.2,
       le_step _ _ _ (sym (ap length splits)) c.loop-id.invariant.3,

@@ -1,10 +1,10 @@
 use Rattle.std.proofs.Common.{◌≡◌, ◌≤◌, length}
-use Rattle.blart_set.specs.Extracting.{extract_left, AsksUpTo}
+use Rattle.blart_set.specs.Extracting.{extract_left, CanExtract, AsksUpTo}
 use Rattle.blart_set.proofs.extracting.ExtractIfIterator.next.Given as goal
 
 abbrev pub invariant-loop-id : goal.invariant-loop-id
 invariant-loop-id g l =
-    goal.F-IsAlwaysCallable g l.self.pred
+    CanExtract g.F.FnMut l.self
     × (l.self.set.ghost_name ≡ l.fn.self.set.ghost_name)
     × (l.self.set.now ≡ l.fn.self.set.now)
     × (length (extract_left l.self) ≤ length (extract_left l.fn.self))

@@ -1,22 +1,32 @@
-use Rattle.std.proofs.Common.{◌∙◌, refl, sym, ap, subst, suc, length, of_calls, true}
+use Rattle.std.proofs.Common.{◌∙◌, refl, sym, ap, subst, suc, length, true}
 use Rattle.blart_keys.specs.Content.{IsContent, without}
 use Rattle.blart_keys.proofs.RankLemmas.{filter_all}
 use Rattle.blart_keys.proofs.PutLemmas.{without_content}
 use Rattle.art_walk.specs.Cursor.{leaves_left}
-use Rattle.blart_set.specs.Asking.{AsksElement}
+use Rattle.blart_set.specs.Asking.{AsksElement, CallableOnEachElement}
 use Rattle.blart_set.specs.Elements.{elements}
+use Rattle.blart_set.proofs.Callable.{callable_first, callable_others}
 use Rattle.blart_set.proofs.Extracted.{called_at, same_element, first_is, elements_none, le_eq}
 use Rattle.blart_set.proofs.Keeping.{Retaining, retaining_start, retaining_end, retaining_kept, retaining_gone}
 use Rattle.blart_set.proofs.set.TreeSet.retain.Goals as goal
 
 pub elements-init : goal.elements-init
 elements-init g c =
-    let all = elements c.args.self.now in (
-      search of_calls,
+    let all = elements c.args.self.now in
+    let left = c.cursor-cursor.ensures.left ∙ filter_all (λ x. true) all (λ x m. refl) in (
+      subst (λ l. CallableOnEachElement g.F.FnMut c.args.f l) (sym left) c.requires,
       c.cursor-cursor.ensures.fits,
       c.law.ensures.content,
-      retaining_start g.K.AsBytes.bytes (AsksElement g.F.FnMut) all c.args.f _ (c.cursor-cursor.ensures.left ∙ filter_all (λ x. true) all (λ x m. refl)),
+      retaining_start g.K.AsBytes.bytes (AsksElement g.F.FnMut) all c.args.f _ left,
     )
+
+pub f-requires : goal.f-requires
+f-requires g c =
+    let ps = c.elements.self in
+    let new = c.step.new.cursor in
+    let x = c.element.result.now in
+    let splits = first_is ps c.in-Some.id x c.element.ensures c.elements.cursor new c.in-Some.ensures.first in
+    callable_first g.F.FnMut c.elements.f x (elements (leaves_left c.elements.cursor ps)) (elements (leaves_left new ps)) splits c.elements.invariant.0 c.element.result refl
 
 pub elements-smaller-then-f : goal.elements-smaller-then-f
 elements-smaller-then-f g c = le_eq _ _ (sym (ap length c.in-Some.ensures.first.splits))
@@ -28,7 +38,7 @@ elements-preserved-then-f g c =
     let x = c.element.result.now in
     let splits = first_is ps c.in-Some.id x c.element.ensures c.elements.cursor new c.in-Some.ensures.first in
     let asks : AsksElement g.F.FnMut c.elements.f x c.f.result x c.f.new.self = (called_at g.F.FnMut c.elements.f c.element.result c.f.result c.f.new.self c.f.ensures, refl) in (
-      search of_calls,
+      callable_others g.F.FnMut c.elements.f x (elements (leaves_left c.elements.cursor ps)) (elements (leaves_left new ps)) splits c.elements.invariant.0 c.f.result c.f.new.self asks.0 _ refl,
       c.in-Some.ensures.fits,
       c.elements.invariant.2,
       retaining_kept g.K.AsBytes.bytes (AsksElement g.F.FnMut) _ _ (elements ps) (elements (leaves_left c.elements.cursor ps)) (elements (leaves_left new ps)) c.elements.f c.f.new.self x c.f.result asks splits c.elements.invariant.3 c.if-f.true,
@@ -53,7 +63,7 @@ elements-preserved g c =
     let asks : AsksElement g.F.FnMut c.elements.f x c.f.result x c.f.new.self = (called_at g.F.FnMut c.elements.f c.element.result c.f.result c.f.new.self c.f.ensures, refl) in
     let same = same_element ps c.in-Some.id x c.element.ensures c.take_element-element.result c.take_element-element.ensures.value in
     let gone = c.take_element-element.ensures.removed ∙ ap (λ z. without kb (elements ps) (kb z)) (sym same) in (
-      search of_calls,
+      callable_others g.F.FnMut c.elements.f x (elements (leaves_left c.elements.cursor ps)) (elements (leaves_left new ps)) splits c.elements.invariant.0 c.f.result c.f.new.self asks.0 _ (ap elements stays.1),
       stays.0,
       subst (λ l. IsContent kb l) (sym gone) (without_content kb (elements ps) (kb x) c.elements.invariant.2),
       subst (λ l. Retaining kb (AsksElement g.F.FnMut) (elements c.args.self.now) c.args.f (elements rs) l c.f.new.self) (sym (ap elements stays.1))

@@ -1,14 +1,14 @@
 use Rattle.std.proofs.Common.{length}
 use Rattle.blart_keys.specs.Content.{IsContent}
 use Rattle.art_walk.specs.Cursor.{leaves_left, FitsIn}
-use Rattle.blart_set.specs.Asking.{AsksElement}
+use Rattle.blart_set.specs.Asking.{AsksElement, CallableOnEachElement}
 use Rattle.blart_set.specs.Elements.{elements}
 use Rattle.blart_set.proofs.Keeping.{Retaining}
 use Rattle.blart_set.proofs.set.TreeSet.retain.Given as goal
 
 abbrev pub invariant-elements : goal.invariant-elements
 invariant-elements g l =
-    goal.F-IsAlwaysCallable g l.f × FitsIn l.cursor l.self × IsContent g.K.AsBytes.bytes (elements l.self)
+    CallableOnEachElement g.F.FnMut l.f (elements (leaves_left l.cursor l.self)) × FitsIn l.cursor l.self × IsContent g.K.AsBytes.bytes (elements l.self)
     × Retaining g.K.AsBytes.bytes (AsksElement g.F.FnMut) (elements l.initial.self) l.initial.f (elements l.self) (elements (leaves_left l.cursor l.self)) l.f
 
 abbrev pub decreases-elements : goal.decreases-elements

@@ -1,6 +1,8 @@
-use Rattle.std.proofs.Common.{◌∙◌, ap, subst, lit<, List, reverse, length, suc, of_calls, Some, None}
+use Rattle.std.proofs.Common.{◌∙◌, ap, subst, lit<, List, reverse, length, suc, Some, None, refl}
 use Rattle.art_tree.specs.Leaves.{Numbered, with_value}
 use Rattle.art_walk.specs.Cursor.{leaves_left}
+use Rattle.art_walk.specs.Pairs.{pairs_of}
+use Rattle.art_walk.proofs.Callable.{callable_first, callable_others}
 use Rattle.art_walk.proofs.Lending.{from_test, moved_last}
 use Rattle.blart_map.specs.ExtractIf.{Extracts}
 use Rattle.blart_map.proofs.Extracting.{le_eq, le_step, lt_step, has_with, is_removed, is_result, distinct_with, back_splits, back_fewer, back_same, back_test, back_same_removed, back_test_removed, called_at, extracts_true, extracts_false}
@@ -8,6 +10,11 @@ use Rattle.blart_map.proofs.walks.extract_if.ExtractIfDoubleEndedIterator.next_b
 
 pub step_back-requires : goal.step_back-requires
 step_back-requires g c = let at = c.loop-id.self in (lit< tt, from_test at.cursor None at.map.now at.fits)
+
+pub pred-requires : goal.pred-requires
+pred-requires g c =
+    let at = c.loop-id.self in
+    callable_first g.F.FnMut at.pred (c.leaf_mut-value.result.0.now, c.leaf_mut-value.result.1.now) (pairs_of (reverse (leaves_left at.cursor at.map.now))) (pairs_of (reverse (leaves_left c.step_back.new.cursor at.map.now))) (ap pairs_of (back_splits at.map.now c.loop-id.invariant.2 at.cursor c.step_back.new.cursor at.fits c.in-Some.ensures.fits c.in-Some.id c.leaf_mut-value.result.0.now c.leaf_mut-value.result.1.now c.leaf_mut-value.result.1.now c.leaf_mut-value.ensures.value c.in-Some.ensures.passes)) c.loop-id.invariant.0 c.leaf_mut-value.result.0 c.leaf_mut-value.result.1 refl refl
 
 pub take_leaf-requires : goal.take_leaf-requires
 take_leaf-requires g c =
@@ -43,8 +50,10 @@ pub returns-then-pred-clause-goes : goal.returns-then-pred-clause-goes
 returns-then-pred-clause-goes g c =
     let at = c.loop-id.self in
     let rs = c.take_leaf.new.self in
+    let called = called_at g.F.FnMut at.pred c.leaf_mut-value.result.0 c.leaf_mut-value.result.1 _ c.pred.result c.pred.new.self c.pred.ensures in
+    let can = callable_others g.F.FnMut at.pred (c.leaf_mut-value.result.0.now, c.leaf_mut-value.result.1.now) (pairs_of (reverse (leaves_left at.cursor at.map.now))) (pairs_of (reverse (leaves_left c.step_back.new.cursor at.map.now))) (ap pairs_of (back_splits at.map.now c.loop-id.invariant.2 at.cursor c.step_back.new.cursor at.fits c.in-Some.ensures.fits c.in-Some.id c.leaf_mut-value.result.0.now c.leaf_mut-value.result.1.now c.pred.new.arg3 c.leaf_mut-value.ensures.value c.in-Some.ensures.passes)) c.loop-id.invariant.0 c.pred.result c.pred.new.arg3 c.pred.new.self called _ (ap pairs_of (ap reverse (back_same_removed at.map.now c.loop-id.invariant.2 at.cursor c.step_back.new.cursor at.fits c.in-Some.ensures.fits c.in-Some.id c.leaf_mut-value.result.0.now c.leaf_mut-value.result.1.now c.pred.new.arg3 c.leaf_mut-value.ensures.value c.in-Some.ensures.passes rs c.take_leaf.ensures.rest))) in
     let less = lt_step _ _ _ (ap suc (ap length (back_same_removed at.map.now c.loop-id.invariant.2 at.cursor c.step_back.new.cursor at.fits c.in-Some.ensures.fits c.in-Some.id c.leaf_mut-value.result.0.now c.leaf_mut-value.result.1.now c.pred.new.arg3 c.leaf_mut-value.ensures.value c.in-Some.ensures.passes rs c.take_leaf.ensures.rest)) ∙ back_fewer at.map.now c.loop-id.invariant.2 at.cursor c.step_back.new.cursor at.fits c.in-Some.ensures.fits c.in-Some.id c.leaf_mut-value.result.0.now c.leaf_mut-value.result.1.now c.pred.new.arg3 c.leaf_mut-value.ensures.value c.in-Some.ensures.passes) c.loop-id.invariant.3 in
-    record { on = λ finite. (search of_calls, finite, less); keeps = search of_calls; rests = λ _. tt }
+    record { on = λ finite. (can, finite, less); keeps = can; rests = λ _. tt }
 
 pub loop-id-smaller : goal.loop-id-smaller
 loop-id-smaller g c =
@@ -56,7 +65,7 @@ loop-id-preserved g c =
     let at = c.loop-id.self in
     let called = called_at g.F.FnMut at.pred c.leaf_mut-value.result.0 c.leaf_mut-value.result.1 _ c.pred.result c.pred.new.self c.pred.ensures in
     let same = back_same at.map.now c.loop-id.invariant.2 at.cursor c.step_back.new.cursor at.fits c.in-Some.ensures.fits c.in-Some.id c.leaf_mut-value.result.0.now c.leaf_mut-value.result.1.now c.pred.new.arg3 c.leaf_mut-value.ensures.value c.in-Some.ensures.passes in (
-      search of_calls,
+      callable_others g.F.FnMut at.pred (c.leaf_mut-value.result.0.now, c.leaf_mut-value.result.1.now) (pairs_of (reverse (leaves_left at.cursor at.map.now))) (pairs_of (reverse (leaves_left c.step_back.new.cursor at.map.now))) (ap pairs_of (back_splits at.map.now c.loop-id.invariant.2 at.cursor c.step_back.new.cursor at.fits c.in-Some.ensures.fits c.in-Some.id c.leaf_mut-value.result.0.now c.leaf_mut-value.result.1.now c.pred.new.arg3 c.leaf_mut-value.ensures.value c.in-Some.ensures.passes)) c.loop-id.invariant.0 c.pred.result c.pred.new.arg3 c.pred.new.self called _ (ap pairs_of (ap reverse same)),
       c.loop-id.invariant.1,
       distinct_with at.map.now c.loop-id.invariant.2 at.cursor c.step_back.new.cursor at.fits c.in-Some.ensures.fits c.in-Some.id c.leaf_mut-value.result.0.now c.leaf_mut-value.result.1.now c.pred.new.arg3 c.leaf_mut-value.ensures.value,
       le_step _ _ _ (ap suc (ap length same) ∙ back_fewer at.map.now c.loop-id.invariant.2 at.cursor c.step_back.new.cursor at.fits c.in-Some.ensures.fits c.in-Some.id c.leaf_mut-value.result.0.now c.leaf_mut-value.result.1.now c.pred.new.arg3 c.leaf_mut-value.ensures.value c.in-Some.ensures.passes) c.loop-id.invariant.3,

@@ -1,11 +1,11 @@
 use Rattle.std.proofs.Common.{◌≡◌, ◌≤◌, length}
 use Rattle.art_tree.specs.Leaves.{AreDistinct}
-use Rattle.blart_map.specs.ExtractIf.{extract_left, Extracts}
+use Rattle.blart_map.specs.ExtractIf.{extract_left, CanExtract, Extracts}
 use Rattle.blart_map.proofs.walks.extract_if.ExtractIfIterator.next.Given as goal
 
 abbrev pub invariant-loop-id : goal.invariant-loop-id
 invariant-loop-id g l =
-    goal.F-IsAlwaysCallable g l.self.pred
+    CanExtract g.F.FnMut l.self
     × (l.self.map.ghost_name ≡ l.fn.self.map.ghost_name)
     × AreDistinct l.self.map.now
     × (length (extract_left l.self) ≤ length (extract_left l.fn.self))

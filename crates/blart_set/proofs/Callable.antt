@@ -1,0 +1,35 @@
+-- A closure that may be called at each element of a list, in turn.
+use Rattle.std.proofs.Common.{◌≡◌, ◌∙◌, List, [], ◌∷◌, ◌++◌, Bool, refl, sym, ap, subst}
+use Rattle.std.specs.Fn.{CalledAt, TakesAt}
+use Rattle.std.proofs.lemmas.List.Elements.{All-head, All-tail}
+use Rattle.std.specs.List.{All, FoldsTo}
+use denote.Ref.{Bor}
+use denote.Param.Members.{Mut}
+use denote.Param.Always.{always_mut, mut_next}
+use Rattle.blart_set.specs.Asking.{CallableOnEachElement, SomeCallAtElement}
+
+middle : {X : Type 0} (P : X → Type 0) (before after : List X) (x : X) → All P (before ++ x ∷ after) → P x
+middle P [] after x h = All-head P x after h
+middle P (y ∷ before) after x h = middle P before after x (All-tail P y (before ++ x ∷ after) h)
+
+module _ {F K : Type 0} (g : Mut F (Bor K × Unit {0}) Bool) where
+  module _ (f : F) (x : K) (xs rest : List K) (first : xs ≡ x ∷ rest) (can : CallableOnEachElement g f xs) where
+    -- at the first
+    pub callable_first : TakesAt g f x
+    callable_first = can.at [] rest f x first refl
+
+    -- and then at the others, as that call left it
+    pub callable_others : (b : Bool) (h : F) → CalledAt g f x b h → (others : List K) → others ≡ rest → CallableOnEachElement g h others
+    callable_others b h call others same = record { at = λ before after f' y e r. can.at (x ∷ before) after f' y (first ∙ ap (λ l. x ∷ l) (sym same ∙ e)) (h, (b, call), r) }
+
+  still : (before : List K) (f f' : F) → FoldsTo (SomeCallAtElement g) f before f' → always_mut g f → always_mut g f'
+  still [] f f' e h = subst (always_mut g) e h
+  still (x ∷ before) f f' r h = still before r.0 f' r.2 (mut_next g f _ _ _ _ r.1.1.called refl h)
+
+  -- one that may always be called
+  pub callable_on_each_element : (f : F) (xs : List K) → always_mut g f → CallableOnEachElement g f xs
+  callable_on_each_element f xs h = record { at = λ before after f' x e r y same. ((still before f f' r h).at ((y, tt) ∷ [])).0 }
+
+  -- one that may be called in any state at an element for which P holds, where it holds for all
+  pub callable_on_such_elements : (P : K → Type 0) → ((f : F) (x : K) → P x → TakesAt g f x) → (f : F) (xs : List K) → All P xs → CallableOnEachElement g f xs
+  callable_on_such_elements P takes f xs all = record { at = λ before after f' x e r. takes f' x (middle P before after x (subst (All P) e all)) }
