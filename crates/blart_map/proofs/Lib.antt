@@ -4,6 +4,7 @@ pub mod BulkPuts
 pub mod CallerLemmas
 pub mod Cloning
 pub mod CountedPairs
+pub mod EachWritten
 pub mod EndPairs
 pub mod EntryOf
 pub mod Extracting

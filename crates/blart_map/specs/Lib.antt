@@ -24,3 +24,4 @@ pub mod TakeWalk
 pub mod ExtractIf
 pub mod OnceWritten
 pub mod OnceTaken
+pub mod EachWritten
