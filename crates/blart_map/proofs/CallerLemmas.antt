@@ -15,3 +15,5 @@ pub use Rattle.blart_map.proofs.Filtered.{kept_by, kept_by_retained, take_from_k
 pub use Rattle.blart_map.proofs.OnceTaken.{kept_first, taken_first, walk_kept, walk_taken, none_to_take, none_taken}
 -- one step of a walk that extracts, where its closure tells of the pair alone
 pub use Rattle.blart_map.proofs.OnceExtracted.{extracted}
+-- the values that a closure leaves which shows a state
+pub use Rattle.blart_map.proofs.WrittenInTurn.{valued_by, valued_by_each}

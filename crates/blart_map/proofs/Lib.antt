@@ -32,4 +32,5 @@ pub mod TakenBack
 pub mod Thinning
 pub mod Walking
 pub mod Writing
+pub mod WrittenInTurn
 pub mod WrittenLeaf
