@@ -17,3 +17,5 @@ pub use Rattle.blart_map.proofs.OnceTaken.{kept_first, taken_first, walk_kept, w
 pub use Rattle.art_walk.proofs.Callable.{callable_on_each_pair, callable_on_such_pairs}
 -- one step of a walk that extracts, where its closure tells of the pair alone
 pub use Rattle.blart_map.proofs.OnceExtracted.{extracted}
+-- the values that a closure leaves which shows a state
+pub use Rattle.blart_map.proofs.WrittenInTurn.{valued_by, valued_by_each}

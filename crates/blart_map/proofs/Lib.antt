@@ -4,6 +4,7 @@ pub mod BulkPuts
 pub mod CallerLemmas
 pub mod Cloning
 pub mod CountedPairs
+pub mod EachWritten
 pub mod EndPairs
 pub mod EntryOf
 pub mod Extracting
@@ -31,4 +32,5 @@ pub mod TakenBack
 pub mod Thinning
 pub mod Walking
 pub mod Writing
+pub mod WrittenInTurn
 pub mod WrittenLeaf

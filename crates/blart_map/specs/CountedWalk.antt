@@ -15,6 +15,10 @@ use Rattle.art_walk.specs.contracts.openings.WithKeys as with_keys
 abbrev pub counted_left : {K V M : Type 0} {p : ℕ} {g : Ghosts K} → CountedWalk K V M p g → List (Numbered K V)
 counted_left s = leaves_left s.cursor s.map.now
 
+-- S is what the map holds, and all of it is still to be lent
+abbrev pub LendsAll : {K V M : Type 0} {p : ℕ} {g : Ghosts K} → CountedWalk K V M p g → List (Numbered K V) → Type 0
+LendsAll s S = (s.map.now ≡ S) × (counted_left s ≡ S)
+
 -- the walk, once the pair lent last has the value w
 abbrev pub counted_with : {K V M : Type 0} {p : ℕ} {g : Ghosts K} → CountedWalk K V M p g → V → CountedWalk K V M p g
 counted_with s w = record {

@@ -25,3 +25,4 @@ pub mod TakeWalk
 pub mod ExtractIf
 pub mod OnceWritten
 pub mod OnceTaken
+pub mod EachWritten

@@ -1,8 +1,11 @@
 //! All values, each lent to be written.
-ghost use Rattle.std.specs.Prelude.{◌≡◌, [], true, length, is_some, Some, None, MatchOption, IfNone, ⊤};
+ghost use Rattle.std.specs.Prelude.{◌≡◌, ℕ, List, [], true, length, map, option_map, is_some, Some, None, MatchOption, IfNone, ⊤};
 ghost use Rattle.std.specs.Borrow.{sem};
+ghost use Rattle.blart_keys.specs.Stored.{pair_at, value_at};
 ghost use Rattle.art_tree.specs.Leaves.{leaf_in};
 ghost use Rattle.art_walk.specs.Lent.{count_fits, numbers};
+ghost use Rattle.blart_map.specs.Content.{pairs, Numbered};
+ghost use Rattle.blart_map.specs.EachWritten.{WritesLeft, WritesEach, LeavesValue, LeavesPair, ActsOnValue, ActsOnPair};
 
 use crate::map::TreeMap;
 use art_tree::LeafId;
@@ -67,7 +70,37 @@ impl<'a, K: AsBytes + Drop, V: Drop, const PREFIX_LEN: usize> CountedWalk<
     WithKeys,
     PREFIX_LEN,
 > {
-    ghost use Rattle.blart_map.specs.CountedWalk.{counted_left, lends_pair, counted_with};
+    ghost use Rattle.blart_map.specs.CountedWalk.{counted_left, LendsAll, lends_pair, counted_with};
+    ghost use Rattle.blart_map.specs.OnceWritten.{all_once_written};
+
+    /// Calls the closure once with the key and the value of each pair that is left, in byte order of the keys. Each value is what the closure leaves, and the keys stay. Takes no memory; each call is one visit.
+    ///
+    /// Where each call leaves the value that a function `h` of the pair gives, and the closure as it was, the pairs become what `h` makes of them: the clauses `all` and `stored` say so of a walk that has lent nothing yet, `acts` of any. For every closure `each` and `left` say which calls were made, and that each value is what its call left.
+    ///
+    /// ```
+    /// map.try_insert("cat", 1)?;
+    /// map.try_insert("horse", 2)?;
+    /// map.iter_mut().for_each(|key, value| *value = value.wrapping_add(key.len()));
+    /// assert_eq!(map.get(&"horse"), Some(&7));
+    /// ```
+    pub fn for_each<F: FnMut(&K, &mut V) + Drop>(self, f: F)
+        requires { F.IsAlwaysCallable f }
+        ensures left { WritesLeft (LeavesPair F.FnMut) (counted_left self.entry)
+            self.entry.map.now f self.exit.0.now }
+        ensures each { (S T : List (Numbered K V)) → LendsAll self.entry S
+            → T ≡ self.exit.0.now → WritesEach (LeavesPair F.FnMut) (pairs S) f (pairs T) }
+        ensures acts { (h : K × V → K × V) → ActsOnPair F.FnMut f h
+            → pairs self.exit.0.now ≡ all_once_written (λ p. (h p).1) self.entry }
+        ensures all { (S T : List (Numbered K V)) (h : K × V → K × V) → LendsAll self.entry S
+            → T ≡ self.exit.0.now → ActsOnPair F.FnMut f h → pairs T ≡ map h (pairs S) }
+        ensures stored { (S T : List (Numbered K V)) (h : K × V → K × V) (q : List ℕ)
+            → LendsAll self.entry S → T ≡ self.exit.0.now → ActsOnPair F.FnMut f h
+            → pair_at K.bytes (pairs T) q ≡ option_map h (pair_at K.bytes (pairs S) q) }
+    {
+        let CountedWalk { map, cursor, .. } = self;
+        map.number_law();
+        map.write_pairs(cursor, f);
+    }
 
     /// The key of the value that was lent last. One was lent.
     pub fn key(&self) -> &K
@@ -100,7 +133,38 @@ impl<'a, K: AsBytes + Drop, V: Drop, const PREFIX_LEN: usize> CountedWalk<
     ValuesAlone,
     PREFIX_LEN,
 > {
-    ghost use Rattle.blart_map.specs.CountedWalk.{counted_left};
+    ghost use Rattle.blart_map.specs.CountedWalk.{counted_left, LendsAll};
+    ghost use Rattle.blart_map.specs.OnceWritten.{all_once_written};
+
+    /// Calls the closure once with each value that is left, in byte order of their keys. Each value is what the closure leaves, and the keys stay. Takes no memory; each call is one visit.
+    ///
+    /// Where each call leaves the value that a function `h` of the pair gives, and the closure as it was, the pairs become what `h` makes of them: the clauses `all` and `stored` say so of a walk that has lent nothing yet, `acts` of any. For every closure `each` and `left` say which calls were made, and that each value is what its call left.
+    ///
+    /// ```
+    /// map.try_insert("cat", 1)?;
+    /// map.try_insert("dog", 2)?;
+    /// map.values_mut().for_each(|value| *value = value.wrapping_add(1));
+    /// assert_eq!(map.get(&"dog"), Some(&3));
+    /// ```
+    pub fn for_each<F: FnMut(&mut V) + Drop>(self, f: F)
+        requires { F.IsAlwaysCallable f }
+        ensures left { WritesLeft (LeavesValue F.FnMut) (counted_left self.entry)
+            self.entry.map.now f self.exit.0.now }
+        ensures each { (S T : List (Numbered K V)) → LendsAll self.entry S
+            → T ≡ self.exit.0.now → WritesEach (LeavesValue F.FnMut) (pairs S) f (pairs T) }
+        ensures acts { (h : K × V → K × V) → ActsOnValue F.FnMut f h
+            → pairs self.exit.0.now ≡ all_once_written (λ p. (h p).1) self.entry }
+        ensures all { (S T : List (Numbered K V)) (h : K × V → K × V) → LendsAll self.entry S
+            → T ≡ self.exit.0.now → ActsOnValue F.FnMut f h → pairs T ≡ map h (pairs S) }
+        ensures stored { (S T : List (Numbered K V)) (h : V → V) (q : List ℕ)
+            → LendsAll self.entry S → T ≡ self.exit.0.now
+            → ActsOnValue F.FnMut f (λ (p : K × V). (p.0, h p.1))
+            → value_at K.bytes (pairs T) q ≡ option_map h (value_at K.bytes (pairs S) q) }
+    {
+        let CountedWalk { map, cursor, .. } = self;
+        map.number_law();
+        map.write_values(cursor, f);
+    }
 }
 
 impl<'a, K: AsBytes + Drop, V: Drop, M, const PREFIX_LEN: usize> CountedWalk<

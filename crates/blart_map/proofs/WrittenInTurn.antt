@@ -1,0 +1,22 @@
+-- What a closure that shows a state leaves, called at one value after the other.
+use Rattle.std.proofs.Common.{◌≡◌, List, [], ◌∷◌, sym, ap, ◌∙◌, refl}
+use Rattle.blart_map.specs.EachWritten.{CalledAtEach, with_values, WritesEach}
+
+-- the pairs with the values that a state and the pair give, where each pair changes the state
+abbrev pub valued_by : {S K V : Type 0} → (S → K × V → V) → (S → K × V → S) → S → List (K × V) → List (K × V)
+valued_by value next s [] = []
+valued_by value next s (x ∷ xs) = (x.0, value s x) ∷ valued_by value next (next s x) xs
+
+module _ {F K V S : Type 0} (R : F → K × V → V → F → Type 0) (Shows : F → S → Type 0) (value : S → K × V → V) (next : S → K × V → S)
+    (tells : (f : F) (s : S) (x : K × V) (w : V) (h : F) → Shows f s → R f x w h → (w ≡ value s x) × Shows h (next s x)) where
+  called_by : (xs : List (K × V)) (f : F) (s : S) (values : List V) (g : F) → Shows f s → CalledAtEach R xs f values g → with_values values xs ≡ valued_by value next s xs
+  called_by [] f s [] g i c = refl
+  called_by [] f s (w ∷ values) g i c = absurd c
+  called_by (x ∷ xs) f s [] g i c = absurd c
+  called_by (x ∷ xs) f s (w ∷ values) g i c =
+      let t = tells f s x w c.0 i c.1 in
+      ap (λ v. (x.0, v) ∷ with_values values xs) t.0 ∙ ap (λ l. (x.0, value s x) ∷ l) (called_by xs c.0 (next s x) values g t.1 c.2)
+
+  -- so these are the values
+  pub valued_by_each : (f : F) (s : S) (old new : List (K × V)) → Shows f s → WritesEach R old f new → new ≡ valued_by value next s old
+  valued_by_each f s old new i r = r.written ∙ called_by old f s r.values r.after i r.called

@@ -1,0 +1,41 @@
+use Rattle.std.proofs.Common.{sym, refl, ap, suc, length, ◌∙◌, of_calls}
+use Rattle.art_walk.specs.Cursor.{leaves_left}
+use Rattle.art_walk.proofs.Asking.{written_fits, written_left, written_distinct, le_eq}
+use Rattle.art_walk.proofs.Passing.{first_passed, first_named}
+use Rattle.blart_map.specs.EachWritten.{LeavesPair}
+use Rattle.blart_map.proofs.EachWritten.{writing_start, writing_step, writing_end, leaves_pair}
+use Rattle.blart_map.proofs.map.TreeMap.write_pairs.Goals as goal
+
+pub leaves-init : goal.leaves-init
+leaves-init g c = (search of_calls, c.requires.fits, c.number_law.ensures, writing_start (LeavesPair g.F.FnMut) _ _ _)
+
+pub leaves-smaller : goal.leaves-smaller
+leaves-smaller g c =
+    let ps = c.leaves.self in
+    let lv = c.leaf_mut-value.result in
+    let y : g.row.K.Denot × g.row.V.Denot = (lv.0.now, lv.1.now) in
+    let lacks = first_passed ps c.leaves.invariant.2 c.leaves.cursor c.step.new.cursor c.leaves.invariant.1 c.in-Some.ensures.fits c.in-Some.id y c.leaf_mut-value.ensures.value c.in-Some.ensures.passes in
+    let named = first_named ps c.leaves.invariant.2 c.leaves.cursor c.step.new.cursor c.leaves.invariant.1 c.in-Some.ensures.fits c.in-Some.id y c.leaf_mut-value.ensures.value c.in-Some.ensures.passes in
+    le_eq _ _ (ap suc (ap length (written_left ps c.leaves.invariant.2 c.step.new.cursor c.in-Some.ensures.fits c.in-Some.id y c.f.new.arg3 lacks)) ∙ sym (ap length named))
+
+pub leaves-preserved : goal.leaves-preserved
+leaves-preserved g c =
+    let ps = c.leaves.self in
+    let lv = c.leaf_mut-value.result in
+    let y : g.row.K.Denot × g.row.V.Denot = (lv.0.now, lv.1.now) in
+    let w = c.f.new.arg3 in
+    let d = c.leaves.invariant.2 in
+    let new = c.step.new.cursor in
+    let fits = c.in-Some.ensures.fits in
+    let id = c.in-Some.id in
+    let lacks = first_passed ps d c.leaves.cursor new c.leaves.invariant.1 fits id y c.leaf_mut-value.ensures.value c.in-Some.ensures.passes in
+    let named = first_named ps d c.leaves.cursor new c.leaves.invariant.1 fits id y c.leaf_mut-value.ensures.value c.in-Some.ensures.passes in
+    let leaves = leaves_pair g.F.FnMut c.leaves.f c.f.new.self y lv.0 lv.1 _ c.f.ensures refl refl in (
+      search of_calls,
+      written_fits ps d new fits id y w lacks,
+      written_distinct ps d new fits id y w lacks,
+      writing_step (LeavesPair g.F.FnMut) _ _ _ (leaves_left c.leaves.cursor ps) ps c.leaves.f c.leaves.invariant.3 id y w c.f.new.self (leaves_left new ps) _ leaves named (written_left ps d new fits id y w lacks),
+    )
+
+pub returns : goal.returns
+returns g c = writing_end (LeavesPair g.F.FnMut) _ _ _ _ _ _ c.leaves.invariant.3 c.in_default.ensures.passes.0

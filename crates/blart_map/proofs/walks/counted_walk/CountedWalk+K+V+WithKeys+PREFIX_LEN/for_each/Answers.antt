@@ -1,0 +1,32 @@
+use Rattle.std.proofs.Common.{lit<}
+use Rattle.art_walk.proofs.Lending.{from_test, count_test}
+use Rattle.blart_map.specs.CountedWalk.{counted_left}
+use Rattle.blart_map.specs.EachWritten.{LeavesPair}
+use Rattle.blart_map.proofs.EachWritten.{fits_after, writes_to, writes_all, writes_mapped, writes_stored, acts_on_pair}
+use Rattle.blart_map.proofs.walks.counted_walk.CountedWalk+K+V+WithKeys+PREFIX_LEN.for_each.Goals as goal
+
+pub write_pairs-requires : goal.write_pairs-requires
+write_pairs-requires g c =
+    let s = c.args.self in
+    (lit< tt, (from_test s.cursor s.lent s.map.now (count_test s.cursor s.lent s.left s.map.now s.fits), c.requires))
+
+pub invariant_of-self : goal.invariant_of-self
+invariant_of-self g c =
+    let s = c.args.self in
+    record { fits = fits_after (LeavesPair g.F.FnMut) s.cursor s.lent s.left (counted_left s) s.map.now c.write_pairs.new.self c.args.f c.write_pairs.ensures s.fits }
+
+pub returns : goal.returns
+returns g c =
+    let s = c.args.self in
+    let R = LeavesPair g.F.FnMut in
+    let f = c.args.f in
+    let d = c.number_law.ensures in
+    let r = c.write_pairs.ensures in
+    let new = c.write_pairs.new.self in
+    record {
+      left = r;
+      each = λ S T all e. writes_to R (counted_left s) s.map.now new S T f d r all.0 all.1 e;
+      acts = λ h acts. writes_all R h f (acts_on_pair g.F.FnMut f h acts) (counted_left s) s.map.now new r;
+      all = λ S T h all e acts. writes_mapped R h f (acts_on_pair g.F.FnMut f h acts) (counted_left s) s.map.now new S T d r all.0 all.1 e;
+      stored = λ S T h q all e acts. writes_stored R h f (acts_on_pair g.F.FnMut f h acts) g.K.AsBytes.bytes q (counted_left s) s.map.now new S T d r all.0 all.1 e;
+    }

@@ -1,0 +1,37 @@
+//! Closures called at each value that a walk lends.
+ghost use Rattle.art_walk.specs.Cursor.{leaves_left, FitsIn};
+ghost use Rattle.blart_map.specs.EachWritten.{WritesLeft, LeavesValue, LeavesPair};
+
+use crate::map::TreeMap;
+use art_walk::Cursor;
+use blart_keys::AsBytes;
+
+impl<K: AsBytes + Drop, V: Drop, const PREFIX_LEN: usize> TreeMap<K, V, PREFIX_LEN> {
+    // Calls the closure once at each value that the cursor has left, front to back.
+    pub(crate) fn write_values<F: FnMut(&mut V) + Drop>(&mut self, mut cursor: Cursor, mut f: F)
+        requires fits { FitsIn cursor self.old }
+        requires callable { F.IsAlwaysCallable f }
+        ensures { WritesLeft (LeavesValue F.FnMut) (leaves_left cursor self.old) self.old f
+            self.new }
+    {
+        self.number_law();
+        'leaves: while let Some(id) = self.step(&mut cursor) {
+            let (_, value) = self.leaf_mut(id);
+            f(value);
+        }
+    }
+
+    // The same with the key of each.
+    pub(crate) fn write_pairs<F: FnMut(&K, &mut V) + Drop>(&mut self, mut cursor: Cursor, mut f: F)
+        requires fits { FitsIn cursor self.old }
+        requires callable { F.IsAlwaysCallable f }
+        ensures { WritesLeft (LeavesPair F.FnMut) (leaves_left cursor self.old) self.old f
+            self.new }
+    {
+        self.number_law();
+        'leaves: while let Some(id) = self.step(&mut cursor) {
+            let (key, value) = self.leaf_mut(id);
+            f(key, value);
+        }
+    }
+}
