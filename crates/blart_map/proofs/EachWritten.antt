@@ -1,5 +1,5 @@
 -- Values that a closure writes one after the other.
-use Rattle.std.proofs.Common.{◌≡◌, ℕ, true, false, cond, List, [], ◌∷◌, Option, Some, None, option_map, bytes_eq, map, refl, sym, ap, ◌∙◌, subst}
+use Rattle.std.proofs.Common.{◌≡◌, ℕ, suc, eqb, length, true, false, cond, List, [], ◌∷◌, Option, Some, None, option_map, bytes_eq, map, refl, sym, ap, ◌∙◌, subst}
 use Rattle.std.proofs.lemmas.Bool.{ne_eqb, eq-eqb}
 use Rattle.std.specs.Borrow.{Bor, MutBor}
 use denote.Param.Members.{Mut, Called}
@@ -9,19 +9,19 @@ use Rattle.art_tree.specs.Leaves.{Numbered, AreDistinct, Lacks, with_value}
 use Rattle.art_walk.specs.Pairs.{pairs_of}
 use Rattle.art_tree.proofs.CallerLemmas.{numbers-with_value}
 use Rattle.art_walk.specs.declared.cursor.Cursor.{Cursor}
-use Rattle.art_walk.specs.Lent.{written_all, numbers, count_fits}
+use Rattle.art_walk.specs.Lent.{written_all, numbers, walk_fits, count_fits}
 use Rattle.blart_map.specs.Content.{pairs}
 use Rattle.blart_map.specs.EachWritten.{CalledAtEach, with_values, written_with, WritesLeft, WritesEach, LeavesValue, ActsOnValue, LeavesPair, ActsOnPair}
 
 module _ {K V : Type 0} where
   -- a pair in front that has another number stays
-  behind_front : (values : List V) (left ps : List (Numbered K V)) (p : Numbered K V) → Lacks left p.0 → written_with values left (p ∷ ps) ≡ p ∷ written_with values left ps
+  pub behind_front : (values : List V) (left ps : List (Numbered K V)) (p : Numbered K V) → Lacks left p.0 → written_with values left (p ∷ ps) ≡ p ∷ written_with values left ps
   behind_front [] left ps p l = refl
   behind_front (w ∷ values) [] ps p l = refl
   behind_front (w ∷ values) (q ∷ left) ps p l = rw (ne_eqb p.0 q.0 (λ e. l.0 (sym e))) (behind_front values left (with_value ps q.0 w) p l.1)
 
   -- the pair in front is written first
-  front_written : (w : V) (values : List V) (p : Numbered K V) (ps rest : List (Numbered K V)) → written_with (w ∷ values) (p ∷ rest) (p ∷ ps) ≡ written_with values rest ((p.0, (p.1.0, w)) ∷ ps)
+  pub front_written : (w : V) (values : List V) (p : Numbered K V) (ps rest : List (Numbered K V)) → written_with (w ∷ values) (p ∷ rest) (p ∷ ps) ≡ written_with values rest ((p.0, (p.1.0, w)) ∷ ps)
   front_written w values p ps rest = rw (eq-eqb p.0 p.0 refl) refl
 
   -- the numbers stay
@@ -30,8 +30,40 @@ module _ {K V : Type 0} where
   numbers_with (w ∷ values) [] ps = refl
   numbers_with (w ∷ values) (p ∷ left) ps = numbers_with values left (with_value ps p.0 w) ∙ numbers-with_value ps p.0 w
 
+  -- so do the keys
+  keys_with : (ps : List (Numbered K V)) (i : ℕ) (w : V) → map (λ p. p.0) (pairs_of (with_value ps i w)) ≡ map (λ p. p.0) (pairs_of ps)
+  keys_with [] i w = refl
+  keys_with (p ∷ ps) i w =
+      elim (eqb p.0 i) as (λ b. map (λ p. p.0) (pairs_of (cond b ((p.0, (p.1.0, w)) ∷ ps) (p ∷ with_value ps i w))) ≡ p.1.0 ∷ map (λ p. p.0) (pairs_of ps)) [
+        | true ↦ refl
+        | false ↦ ap (λ l. p.1.0 ∷ l) (keys_with ps i w)
+      ]
+
+  keys_written : (values : List V) (left ps : List (Numbered K V)) → map (λ p. p.0) (pairs_of (written_with values left ps)) ≡ map (λ p. p.0) (pairs_of ps)
+  keys_written [] left ps = refl
+  keys_written (w ∷ values) [] ps = refl
+  keys_written (w ∷ values) (p ∷ left) ps = keys_written values left (with_value ps p.0 w) ∙ keys_with ps p.0 w
+
+-- as many items as images
+images : {X Y : Type 0} (f : X → Y) (xs : List X) → length (map f xs) ≡ length xs
+images f [] = refl
+images f (x ∷ xs) = ap suc (images f xs)
+
 module _ {F K V : Type 0} (R : F → K × V → V → F → Type 0) where
+  -- the keys stay
+  pub same_keys : (left old new : List (Numbered K V)) (f : F) → WritesLeft R left old f new → map (λ p. p.0) (pairs new) ≡ map (λ p. p.0) (pairs old)
+  unfolding pairs
+  same_keys left old new f r = ap (λ l. map (λ p. p.0) (pairs_of l)) r.written ∙ keys_written r.values left old
+
+  -- and there are as many pairs
+  pub same_length : (left old new : List (Numbered K V)) (f : F) → WritesLeft R left old f new → length (pairs new) ≡ length (pairs old)
+  same_length left old new f r = sym (images (λ p. p.0) (pairs new)) ∙ ap length (same_keys left old new f r) ∙ images (λ p. p.0) (pairs old)
+
   -- a walk fits the list as before
+  pub walk_fits_after : (c : Cursor) (lent : Option ℕ) (left old new : List (Numbered K V)) (f : F) → WritesLeft R left old f new → walk_fits c lent (numbers old) ≡ true → walk_fits c lent (numbers new) ≡ true
+  walk_fits_after c lent left old new f r fits = ap (walk_fits c lent) (ap numbers r.written ∙ numbers_with r.values left old) ∙ fits
+
+  -- and counts as before
   pub fits_after : (c : Cursor) (lent : Option ℕ) (n : ℕ) (left old new : List (Numbered K V)) (f : F) → WritesLeft R left old f new → count_fits c lent n (numbers old) ≡ true → count_fits c lent n (numbers new) ≡ true
   fits_after c lent n left old new f r fits = ap (count_fits c lent n) (ap numbers r.written ∙ numbers_with r.values left old) ∙ fits
 

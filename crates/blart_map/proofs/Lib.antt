@@ -34,3 +34,4 @@ pub mod Walking
 pub mod Writing
 pub mod WrittenInTurn
 pub mod WrittenLeaf
+pub mod WrittenWhere

@@ -1,5 +1,5 @@
 -- What a walk that lends values leaves, where a closure is called at each of them.
-use Rattle.std.specs.Prelude.{◌≡◌, List, [], ◌∷◌}
+use Rattle.std.specs.Prelude.{◌≡◌, ℕ, List, [], ◌∷◌, Bool, true, false}
 use denote.Ref.{Bor, MutBor}
 use denote.Param.Members.{Mut, Called}
 use Rattle.art_tree.specs.Leaves.{Numbered, with_value}
@@ -69,3 +69,9 @@ module _ {F K V : Type 0} (g : Mut F (Bor K × (MutBor V × Unit {0})) (Unit {0}
   -- h keeps the key of each pair, and a call at the pair leaves the value that h gives, and the closure as it was
   abbrev pub ActsOnPair : F → (K × V → K × V) → Type 0
   ActsOnPair f h = (key : Bor K) (value left : MutBor V) (f' : F) → Called g f (key, (value, tt)) (tt, (left, tt)) f' → (f' ≡ f) × ((h (key.now, value.now)).0 ≡ key.now) × (left.now ≡ (h (key.now, value.now)).1)
+
+  -- h leaves each pair that fails the test, and a call at one that passes leaves the value that h gives, and the closure as it was
+  abbrev pub ActsWhere : F → (Numbered K V → Bool) → (K × V → K × V) → Type 0
+  ActsWhere f test h =
+      ((p : Numbered K V) → test p ≡ false → h p.1 ≡ p.1)
+      × ((i : ℕ) (key : Bor K) (value left : MutBor V) (f' : F) → test (i, (key.now, value.now)) ≡ true → Called g f (key, (value, tt)) (tt, (left, tt)) f' → (f' ≡ f) × ((h (key.now, value.now)).0 ≡ key.now) × (left.now ≡ (h (key.now, value.now)).1))

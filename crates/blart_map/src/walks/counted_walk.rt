@@ -87,6 +87,9 @@ impl<'a, K: AsBytes + Drop, V: Drop, const PREFIX_LEN: usize> CountedWalk<
         requires { F.IsAlwaysCallable f }
         ensures left { WritesLeft (LeavesPair F.FnMut) (counted_left self.entry)
             self.entry.map.now f self.exit.0.now }
+        ensures keys { map (λ p. p.0) (pairs self.exit.0.now)
+            ≡ map (λ p. p.0) (pairs self.entry.map.now) }
+        ensures len { length (pairs self.exit.0.now) ≡ length (pairs self.entry.map.now) }
         ensures each { (S T : List (Numbered K V)) → LendsAll self.entry S
             → T ≡ self.exit.0.now → WritesEach (LeavesPair F.FnMut) (pairs S) f (pairs T) }
         ensures acts { (h : K × V → K × V) → ActsOnPair F.FnMut f h
@@ -150,6 +153,9 @@ impl<'a, K: AsBytes + Drop, V: Drop, const PREFIX_LEN: usize> CountedWalk<
         requires { F.IsAlwaysCallable f }
         ensures left { WritesLeft (LeavesValue F.FnMut) (counted_left self.entry)
             self.entry.map.now f self.exit.0.now }
+        ensures keys { map (λ p. p.0) (pairs self.exit.0.now)
+            ≡ map (λ p. p.0) (pairs self.entry.map.now) }
+        ensures len { length (pairs self.exit.0.now) ≡ length (pairs self.entry.map.now) }
         ensures each { (S T : List (Numbered K V)) → LendsAll self.entry S
             → T ≡ self.exit.0.now → WritesEach (LeavesValue F.FnMut) (pairs S) f (pairs T) }
         ensures acts { (h : K × V → K × V) → ActsOnValue F.FnMut f h

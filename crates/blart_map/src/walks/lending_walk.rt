@@ -1,8 +1,10 @@
 //! Some values, each lent to be written.
-ghost use Rattle.std.specs.Prelude.{◌≡◌, [], true, is_some, Some, None, MatchOption, IfNone, ⊤};
+ghost use Rattle.std.specs.Prelude.{◌≡◌, List, [], Bool, true, length, map, filter, is_some, Some, None, MatchOption, IfNone, ⊤};
 ghost use Rattle.std.specs.Borrow.{sem};
 ghost use Rattle.art_tree.specs.Leaves.{leaf_in};
 ghost use Rattle.art_walk.specs.Lent.{walk_fits, numbers};
+ghost use Rattle.blart_map.specs.Content.{pairs, Numbered};
+ghost use Rattle.blart_map.specs.EachWritten.{WritesLeft, LeavesPair, ActsOnPair, ActsWhere};
 
 use crate::map::TreeMap;
 use art_tree::LeafId;
@@ -150,5 +152,46 @@ impl<'a, K: AsBytes + Drop, V: Drop, M, const PREFIX_LEN: usize> LendingWalk<
         self.map.number_law();
         let id = self.lent.unwrap();
         self.map.leaf_mut(id)
+    }
+}
+
+impl<'a, K: AsBytes + Drop, V: Drop, M: Drop, const PREFIX_LEN: usize> LendingWalk<
+    'a,
+    K,
+    V,
+    M,
+    PREFIX_LEN,
+> {
+    ghost use Rattle.blart_map.specs.LendingWalk.{lending_left};
+    ghost use Rattle.blart_map.specs.OnceWritten.{once_written};
+
+    /// Calls the closure once with the key and the value of each pair that is left, in byte order of the keys. Each value is what the closure leaves, and the keys stay. Takes no memory; each call is one visit.
+    ///
+    /// Where each call leaves the value that a function `h` of the pair gives, and the closure as it was, the pairs become what `h` makes of them: the clause `within` says so of a walk that has lent nothing yet, over the pairs that pass a test, `acts` of any. For every closure `left` says which calls were made, and that each value is what its call left.
+    ///
+    /// ```
+    /// map.try_insert("car", 1)?;
+    /// map.try_insert("dog", 2)?;
+    /// map.prefix_mut(b"ca").for_each(|_, value| *value = 0);
+    /// assert_eq!(map.get(&"car"), Some(&0));
+    /// assert_eq!(map.get(&"dog"), Some(&2));
+    /// ```
+    pub fn for_each<F: FnMut(&K, &mut V) + Drop>(self, f: F)
+        requires { F.IsAlwaysCallable f }
+        ensures left { WritesLeft (LeavesPair F.FnMut) (lending_left self.entry)
+            self.entry.map.now f self.exit.0.now }
+        ensures keys { map (λ p. p.0) (pairs self.exit.0.now)
+            ≡ map (λ p. p.0) (pairs self.entry.map.now) }
+        ensures len { length (pairs self.exit.0.now) ≡ length (pairs self.entry.map.now) }
+        ensures acts { (h : K × V → K × V) → ActsOnPair F.FnMut f h
+            → pairs self.exit.0.now ≡ once_written (λ p. (h p).1) self.entry }
+        ensures within { (S T : List (Numbered K V)) (test : Numbered K V → Bool)
+            (h : K × V → K × V) → T ≡ self.exit.0.now → self.entry.map.now ≡ S
+            → lending_left self.entry ≡ filter test S → ActsWhere F.FnMut f test h
+            → pairs T ≡ map h (pairs S) }
+    {
+        let LendingWalk { map, cursor, .. } = self;
+        map.number_law();
+        map.write_pairs(cursor, f);
     }
 }

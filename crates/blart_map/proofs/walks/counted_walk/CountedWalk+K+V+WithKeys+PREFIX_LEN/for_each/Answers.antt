@@ -2,7 +2,7 @@ use Rattle.std.proofs.Common.{lit<}
 use Rattle.art_walk.proofs.Lending.{from_test, count_test}
 use Rattle.blart_map.specs.CountedWalk.{counted_left}
 use Rattle.blart_map.specs.EachWritten.{LeavesPair}
-use Rattle.blart_map.proofs.EachWritten.{fits_after, writes_to, writes_all, writes_mapped, writes_stored, acts_on_pair}
+use Rattle.blart_map.proofs.EachWritten.{same_keys, same_length, fits_after, writes_to, writes_all, writes_mapped, writes_stored, acts_on_pair}
 use Rattle.blart_map.proofs.walks.counted_walk.CountedWalk+K+V+WithKeys+PREFIX_LEN.for_each.Goals as goal
 
 pub write_pairs-requires : goal.write_pairs-requires
@@ -25,6 +25,8 @@ returns g c =
     let new = c.write_pairs.new.self in
     record {
       left = r;
+      keys = same_keys R (counted_left s) s.map.now new f r;
+      len = same_length R (counted_left s) s.map.now new f r;
       each = λ S T all e. writes_to R (counted_left s) s.map.now new S T f d r all.0 all.1 e;
       acts = λ h acts. writes_all R h f (acts_on_pair g.F.FnMut f h acts) (counted_left s) s.map.now new r;
       all = λ S T h all e acts. writes_mapped R h f (acts_on_pair g.F.FnMut f h acts) (counted_left s) s.map.now new S T d r all.0 all.1 e;

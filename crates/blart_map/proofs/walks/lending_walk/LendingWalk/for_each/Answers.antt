@@ -1,0 +1,30 @@
+use Rattle.std.proofs.Common.{lit<}
+use Rattle.art_walk.proofs.Lending.{from_test}
+use Rattle.blart_map.specs.EachWritten.{LeavesPair}
+use Rattle.blart_map.specs.LendingWalk.{lending_left}
+use Rattle.blart_map.proofs.EachWritten.{same_keys, same_length, walk_fits_after, writes_all, acts_on_pair}
+use Rattle.blart_map.proofs.WrittenWhere.{writes_where, acts_within}
+use Rattle.blart_map.proofs.walks.lending_walk.LendingWalk.for_each.Goals as goal
+
+pub write_pairs-requires : goal.write_pairs-requires
+write_pairs-requires g c = let s = c.args.self in (lit< tt, (from_test s.cursor s.lent s.map.now s.fits, c.requires))
+
+pub invariant_of-self : goal.invariant_of-self
+invariant_of-self g c =
+    let s = c.args.self in
+    record { fits = walk_fits_after (LeavesPair g.F.FnMut) s.cursor s.lent (lending_left s) s.map.now c.write_pairs.new.self c.args.f c.write_pairs.ensures s.fits }
+
+pub returns : goal.returns
+returns g c =
+    let s = c.args.self in
+    let R = LeavesPair g.F.FnMut in
+    let f = c.args.f in
+    let r = c.write_pairs.ensures in
+    let new = c.write_pairs.new.self in
+    record {
+      left = r;
+      keys = same_keys R (lending_left s) s.map.now new f r;
+      len = same_length R (lending_left s) s.map.now new f r;
+      acts = λ h acts. writes_all R h f (acts_on_pair g.F.FnMut f h acts) (lending_left s) s.map.now new r;
+      within = λ S T test h e same some acts. writes_where R test h f acts.0 (acts_within g.F.FnMut f test h acts) (lending_left s) s.map.now new S T c.number_law.ensures r e same some;
+    }
