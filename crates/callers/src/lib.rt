@@ -22,8 +22,8 @@ mod walks;
 
 pub use counts::{count, count_in_place, insert_if_absent, raise};
 pub use entries::{
-    borrow_place, count_at, count_by_entry, redirect, score, set_first, set_route, set_score,
-    tally, toggle, try_place, update_score,
+    borrow_place, count_at, count_by_entry, redirect, replace_score, score, set_first, set_route,
+    set_score, tally, toggle, try_place, update_score,
 };
 pub use lending::raise_below;
 pub use moves::{add_or_give_back, len_with, len_without, move_first_between, move_one, rename};
