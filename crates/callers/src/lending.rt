@@ -1,8 +1,8 @@
 //! Values of a map that are written in a walk, and pairs that a closure picks.
-ghost use Rattle.std.specs.Prelude.{◌≡◌, ◌+◌, ◌%◌, ◌^◌, map, cond};
-ghost use Rattle.blart.specs.Words.{pairs, begins};
+ghost use Rattle.std.specs.Prelude.{◌≡◌, ◌+◌, ◌%◌, ◌^◌, ℕ, List, map, min, cond, option_map};
+ghost use Rattle.blart.specs.Words.{pairs, begins, value_at, zkey_bytes};
 
-use blart::{AsBytes, Map};
+use blart::{AsBytes, Map, ZKey};
 
 /// Adds one to each value below a prefix.
 pub fn raise_below<K: AsBytes + Drop>(scores: &mut Map<K, u64>, front: &[u8])
@@ -13,4 +13,31 @@ pub fn raise_below<K: AsBytes + Drop>(scores: &mut Map<K, u64>, front: &[u8])
     while let Some(value) = walk.next() {
         *value = value.wrapping_add(1);
     }
+}
+
+/// Lowers each value that is above a cap to it.
+pub fn cap_all<K: AsBytes + Drop>(scores: &mut Map<K, u64>, cap: u64)
+    ensures { pairs scores.new ≡ map (λ p. (p.0, min p.1 cap)) (pairs scores.old) }
+{
+    scores.values_mut().for_each(|value| {
+        if *value > cap {
+            *value = cap;
+        }
+    });
+}
+
+/// Adds one to each value, from the greatest on to zero.
+pub fn age_all(ages: &mut Map<ZKey, u64>)
+    ensures { (q : List ℕ) → value_at zkey_bytes (pairs ages.new) q
+        ≡ option_map (λ v. (v + 1) % 2 ^ 64) (value_at zkey_bytes (pairs ages.old) q) }
+{
+    ages.values_mut().for_each(|age| *age = age.wrapping_add(1));
+}
+
+/// Sets each value below a prefix to zero.
+pub fn clear_below<K: AsBytes + Drop>(scores: &mut Map<K, u64>, front: &[u8])
+    ensures { pairs scores.new
+        ≡ map (λ p. cond (begins front.now (K.bytes p.0)) (p.0, 0) p) (pairs scores.old) }
+{
+    scores.prefix_mut(front).for_each(|_, value| *value = 0);
 }
