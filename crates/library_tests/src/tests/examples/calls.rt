@@ -1,22 +1,18 @@
 //! Calls as values, and refused insertions.
-use super::Fail;
-use blart_map::{
-    Call, DEFAULT_PREFIX_LEN, InsertPrefixError, Reply, TreeMap, TryInsertError, drive,
-};
+use super::{Fail, Map};
+use blart_map::{Call, InsertPrefixError, Reply, TryInsertError, drive};
 use std::alloc::Global;
 use std::process::Abort;
 
 // The example of `blart_keys::InsertPrefixError`.
-fn insert_prefix_error(rt: &impl Abort, alloc: Global) -> Result<(), Fail> {
-    let mut map = TreeMap::new(alloc);
+fn insert_prefix_error(rt: &impl Abort, map: &mut Map) -> Result<(), TryInsertError> {
     map.try_insert("cat", 1)?;
     assert_eq!(rt; map.try_entry("ca").err(), Some(InsertPrefixError));
     Ok(())
 }
 
 // The example of `blart_keys::TryInsertError`.
-fn try_insert_error(rt: &impl Abort, alloc: Global) -> Result<(), Fail> {
-    let mut map = TreeMap::new(alloc);
+fn try_insert_error(rt: &impl Abort, map: &mut Map) -> Result<(), TryInsertError> {
     map.try_insert("cat", 1)?;
     let refused = map.try_insert("ca", 2);
     assert!(rt; matches!(refused, Err(TryInsertError::Prefix(_))));
@@ -24,8 +20,7 @@ fn try_insert_error(rt: &impl Abort, alloc: Global) -> Result<(), Fail> {
 }
 
 // The example of `blart_keys::Call`.
-fn call(rt: &impl Abort, alloc: Global) -> Result<(), Fail> {
-    let mut map = TreeMap::new(alloc);
+fn call(rt: &impl Abort, mut map: &mut Map, alloc: Global) -> Result<(), Fail> {
     let calls = vec![in alloc; Call::TryInsert("cat", 1), Call::PopLast]?;
     let replies = drive(&mut map, calls)?;
     assert_eq!(rt; replies.len(), 2);
@@ -34,8 +29,7 @@ fn call(rt: &impl Abort, alloc: Global) -> Result<(), Fail> {
 }
 
 // The example of `blart_keys::Reply`.
-fn reply(rt: &impl Abort, alloc: Global) -> Result<(), Fail> {
-    let mut map: TreeMap<_, u64, { DEFAULT_PREFIX_LEN }> = TreeMap::new(alloc);
+fn reply(rt: &impl Abort, mut map: &mut Map, alloc: Global) -> Result<(), Fail> {
     let replies = drive(&mut map, vec![in alloc; Call::ContainsKey("cat")]?)?;
     assert!(rt; matches!(replies.first(), Some(Reply::ContainsKey(false))));
     Ok(())
@@ -43,8 +37,8 @@ fn reply(rt: &impl Abort, alloc: Global) -> Result<(), Fail> {
 
 #[test]
 fn as_shown(rt: HostRuntime) {
-    insert_prefix_error(&rt, rt.alloc()).expect(&rt, "memory");
-    try_insert_error(&rt, rt.alloc()).expect(&rt, "memory");
-    call(&rt, rt.alloc()).expect(&rt, "memory");
-    reply(&rt, rt.alloc()).expect(&rt, "memory");
+    insert_prefix_error(&rt, &mut Map::new(rt.alloc())).expect(&rt, "memory");
+    try_insert_error(&rt, &mut Map::new(rt.alloc())).expect(&rt, "memory");
+    call(&rt, &mut Map::new(rt.alloc()), rt.alloc()).expect(&rt, "memory");
+    reply(&rt, &mut Map::new(rt.alloc()), rt.alloc()).expect(&rt, "memory");
 }

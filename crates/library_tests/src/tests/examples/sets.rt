@@ -1,5 +1,6 @@
 //! Sets, and walks over one.
-use super::{Fail, set_of};
+use super::set_of;
+use blart_map::TryInsertError;
 use blart_set::TreeSet;
 use std::alloc::Global;
 use std::iter::{DoubleEndedIterator, IntoIterator, Iterator};
@@ -7,7 +8,7 @@ use std::ops::Bound;
 use std::process::Abort;
 
 // The example of `blart_set::TreeSet`.
-fn tree_set(rt: &impl Abort, alloc: Global) -> Result<(), Fail> {
+fn tree_set(rt: &impl Abort, alloc: Global) -> Result<(), TryInsertError> {
     let mut set = TreeSet::new(alloc);
     assert!(rt; set.try_insert("cat")?);
     assert!(rt; set.try_insert("car")?);
