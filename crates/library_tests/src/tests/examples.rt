@@ -15,7 +15,7 @@ use std::alloc::{AllocError, AllocFailed};
 use std::process::Abort;
 
 // The map of the examples.
-type Map = TreeMap<&'static str, i32, 16>;
+type Map<'a> = TreeMap<&'a str, i32, 16>;
 
 // A set of these elements.
 fn set_of<K: NoPrefixesBytes + Copy, const N: usize>(

@@ -5,14 +5,14 @@ use std::alloc::Global;
 use std::process::Abort;
 
 // The example of `blart_keys::InsertPrefixError`.
-fn insert_prefix_error(rt: &impl Abort, map: &mut Map) -> Result<(), TryInsertError> {
+fn insert_prefix_error(rt: &impl Abort, map: &mut Map<'_>) -> Result<(), TryInsertError> {
     map.try_insert("cat", 1)?;
     assert_eq!(rt; map.try_entry("ca").err(), Some(InsertPrefixError));
     Ok(())
 }
 
 // The example of `blart_keys::TryInsertError`.
-fn try_insert_error(rt: &impl Abort, map: &mut Map) -> Result<(), TryInsertError> {
+fn try_insert_error(rt: &impl Abort, map: &mut Map<'_>) -> Result<(), TryInsertError> {
     map.try_insert("cat", 1)?;
     let refused = map.try_insert("ca", 2);
     assert!(rt; matches!(refused, Err(TryInsertError::Prefix(_))));
@@ -20,25 +20,32 @@ fn try_insert_error(rt: &impl Abort, map: &mut Map) -> Result<(), TryInsertError
 }
 
 // The example of `blart_keys::Call`.
-fn call(rt: &impl Abort, mut map: &mut Map, alloc: Global) -> Result<(), Fail> {
+fn call(rt: &impl Abort, mut map: Map<'_>, alloc: Global) -> Result<(), Fail> {
     let calls = vec![in alloc; Call::TryInsert("cat", 1), Call::PopLast]?;
     let replies = drive(&mut map, calls)?;
     assert_eq!(rt; replies.len(), 2);
     assert!(rt; map.is_empty());
+    drop(replies);
+    drop(map);
     Ok(())
 }
 
 // The example of `blart_keys::Reply`.
-fn reply(rt: &impl Abort, mut map: &mut Map, alloc: Global) -> Result<(), Fail> {
+fn reply(rt: &impl Abort, mut map: Map<'_>, alloc: Global) -> Result<(), Fail> {
     let replies = drive(&mut map, vec![in alloc; Call::ContainsKey("cat")]?)?;
     assert!(rt; matches!(replies.first(), Some(Reply::ContainsKey(false))));
+    drop(replies);
+    drop(map);
     Ok(())
 }
 
 #[test]
 fn as_shown(rt: HostRuntime) {
-    insert_prefix_error(&rt, &mut Map::new(rt.alloc())).expect(&rt, "memory");
-    try_insert_error(&rt, &mut Map::new(rt.alloc())).expect(&rt, "memory");
-    call(&rt, &mut Map::new(rt.alloc()), rt.alloc()).expect(&rt, "memory");
-    reply(&rt, &mut Map::new(rt.alloc()), rt.alloc()).expect(&rt, "memory");
+    let mut map = Map::new(rt.alloc());
+    insert_prefix_error(&rt, &mut map).expect(&rt, "memory");
+    map.clear();
+    try_insert_error(&rt, &mut map).expect(&rt, "memory");
+    drop(map);
+    call(&rt, Map::new(rt.alloc()), rt.alloc()).expect(&rt, "memory");
+    reply(&rt, Map::new(rt.alloc()), rt.alloc()).expect(&rt, "memory");
 }

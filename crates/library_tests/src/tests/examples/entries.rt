@@ -4,7 +4,7 @@ use blart_map::{Entry, TryInsertError};
 use std::process::Abort;
 
 // The example of `blart_map::Entry`.
-fn entry(rt: &impl Abort, map: &mut Map) -> Result<(), Fail> {
+fn entry(rt: &impl Abort, map: &mut Map<'_>) -> Result<(), Fail> {
     *map.try_entry("cat")?.or_insert(1)? = 2;
     let entry = map.try_entry("cat")?.and_modify(|value| *value = 3);
     assert_eq!(rt; *entry.or_insert(0)?, 3);
@@ -12,7 +12,7 @@ fn entry(rt: &impl Abort, map: &mut Map) -> Result<(), Fail> {
 }
 
 // The example of `blart_map::OccupiedEntry`.
-fn occupied_entry(rt: &impl Abort, map: &mut Map) -> Result<(), Fail> {
+fn occupied_entry(rt: &impl Abort, map: &mut Map<'_>) -> Result<(), Fail> {
     map.try_insert("cat", 1)?;
     if let Entry::Occupied(mut entry) = map.try_entry("cat")? {
         assert_eq!(rt; entry.insert(2), 1);
@@ -23,7 +23,7 @@ fn occupied_entry(rt: &impl Abort, map: &mut Map) -> Result<(), Fail> {
 }
 
 // The example of `blart_map::VacantEntry`.
-fn vacant_entry(rt: &impl Abort, map: &mut Map) -> Result<(), Fail> {
+fn vacant_entry(rt: &impl Abort, map: &mut Map<'_>) -> Result<(), Fail> {
     if let Entry::Vacant(entry) = map.try_entry("cat")? {
         *entry.insert(1)? = 2;
     }
@@ -32,7 +32,7 @@ fn vacant_entry(rt: &impl Abort, map: &mut Map) -> Result<(), Fail> {
 }
 
 // The example of `blart_map::TreeMap`.
-fn tree_map(rt: &impl Abort, map: &mut Map) -> Result<(), TryInsertError> {
+fn tree_map(rt: &impl Abort, map: &mut Map<'_>) -> Result<(), TryInsertError> {
     map.try_insert("car", 1)?;
     map.try_insert("cat", 2)?;
     assert_eq!(rt; map.get(&"cat"), Some(&2));
@@ -43,8 +43,13 @@ fn tree_map(rt: &impl Abort, map: &mut Map) -> Result<(), TryInsertError> {
 
 #[test]
 fn as_shown(rt: HostRuntime) {
-    entry(&rt, &mut Map::new(rt.alloc())).expect(&rt, "memory");
-    occupied_entry(&rt, &mut Map::new(rt.alloc())).expect(&rt, "memory");
-    vacant_entry(&rt, &mut Map::new(rt.alloc())).expect(&rt, "memory");
-    tree_map(&rt, &mut Map::new(rt.alloc())).expect(&rt, "memory");
+    let mut map = Map::new(rt.alloc());
+    entry(&rt, &mut map).expect(&rt, "memory");
+    map.clear();
+    occupied_entry(&rt, &mut map).expect(&rt, "memory");
+    map.clear();
+    vacant_entry(&rt, &mut map).expect(&rt, "memory");
+    map.clear();
+    tree_map(&rt, &mut map).expect(&rt, "memory");
+    drop(map);
 }

@@ -81,5 +81,7 @@ fn no_prefixes_bytes(
 
 #[test]
 fn no_prefixes_bytes_as_shown(rt: HostRuntime) {
-    no_prefixes_bytes(&rt, &mut TreeMap::new(rt.alloc())).expect(&rt, "memory");
+    let mut map = TreeMap::new(rt.alloc());
+    no_prefixes_bytes(&rt, &mut map).expect(&rt, "memory");
+    drop(map);
 }

@@ -5,7 +5,7 @@ use std::alloc::AllocError;
 use std::process::Abort;
 
 // The example of `blart_map::InnerOccupiedEntry`.
-fn inner_occupied_entry(rt: &impl Abort, map: &mut Map) -> Result<(), TryInsertError> {
+fn inner_occupied_entry(rt: &impl Abort, map: &mut Map<'_>) -> Result<(), TryInsertError> {
     map.try_insert("car", 1)?;
     map.try_insert("cat", 2)?;
     if let PrefixKind::Inner(entry) = map.prefix_entry("ca").kind() {
@@ -18,7 +18,7 @@ fn inner_occupied_entry(rt: &impl Abort, map: &mut Map) -> Result<(), TryInsertE
 }
 
 // The example of `blart_map::PrefixEntry`.
-fn prefix_entry(rt: &impl Abort, map: &mut Map) -> Result<(), Fail> {
+fn prefix_entry(rt: &impl Abort, map: &mut Map<'_>) -> Result<(), Fail> {
     map.try_insert("car", 1)?;
     map.try_insert("cat", 2)?;
     *map.prefix_entry("ca").or_insert(0)? = 1;
@@ -28,7 +28,7 @@ fn prefix_entry(rt: &impl Abort, map: &mut Map) -> Result<(), Fail> {
 }
 
 // The example of `blart_map::PrefixKind`.
-fn prefix_kind(rt: &impl Abort, map: &mut Map) -> Result<(), AllocError> {
+fn prefix_kind(rt: &impl Abort, map: &mut Map<'_>) -> Result<(), AllocError> {
     match map.prefix_entry("cat").kind() {
         PrefixKind::Leaf(entry) => *entry.into_mut() = 1,
         PrefixKind::Inner(entry) => *entry.insert(0) = 2,
@@ -39,7 +39,7 @@ fn prefix_kind(rt: &impl Abort, map: &mut Map) -> Result<(), AllocError> {
 }
 
 // The example of `blart_map::PrefixOccupied`.
-fn prefix_occupied(rt: &impl Abort, map: &mut Map) -> Result<(), TryInsertError> {
+fn prefix_occupied(rt: &impl Abort, map: &mut Map<'_>) -> Result<(), TryInsertError> {
     map.try_insert("car", 1)?;
     if let PrefixEntry::Occupied(entry) = map.prefix_entry("ca") {
         assert_eq!(rt; entry.get_key(), Some(&"car"));
@@ -51,8 +51,13 @@ fn prefix_occupied(rt: &impl Abort, map: &mut Map) -> Result<(), TryInsertError>
 
 #[test]
 fn as_shown(rt: HostRuntime) {
-    inner_occupied_entry(&rt, &mut Map::new(rt.alloc())).expect(&rt, "memory");
-    prefix_entry(&rt, &mut Map::new(rt.alloc())).expect(&rt, "memory");
-    prefix_kind(&rt, &mut Map::new(rt.alloc())).expect(&rt, "memory");
-    prefix_occupied(&rt, &mut Map::new(rt.alloc())).expect(&rt, "memory");
+    let mut map = Map::new(rt.alloc());
+    inner_occupied_entry(&rt, &mut map).expect(&rt, "memory");
+    map.clear();
+    prefix_entry(&rt, &mut map).expect(&rt, "memory");
+    map.clear();
+    prefix_kind(&rt, &mut map).expect(&rt, "memory");
+    map.clear();
+    prefix_occupied(&rt, &mut map).expect(&rt, "memory");
+    drop(map);
 }

@@ -5,7 +5,7 @@ use std::ops::Bound;
 use std::process::Abort;
 
 // The example of `blart_map::IterMut`.
-fn iter_mut(rt: &impl Abort, map: &mut Map) -> Result<(), TryInsertError> {
+fn iter_mut(rt: &impl Abort, map: &mut Map<'_>) -> Result<(), TryInsertError> {
     map.try_insert("cat", 1)?;
     let mut walk = map.iter_mut();
     if let Some(value) = walk.next_back() {
@@ -16,7 +16,7 @@ fn iter_mut(rt: &impl Abort, map: &mut Map) -> Result<(), TryInsertError> {
 }
 
 // The example of `blart_map::ValuesMut`.
-fn values_mut(rt: &impl Abort, map: &mut Map) -> Result<(), TryInsertError> {
+fn values_mut(rt: &impl Abort, map: &mut Map<'_>) -> Result<(), TryInsertError> {
     map.try_insert("cat", 1)?;
     let mut walk = map.values_mut();
     if let Some(value) = walk.next() {
@@ -27,7 +27,7 @@ fn values_mut(rt: &impl Abort, map: &mut Map) -> Result<(), TryInsertError> {
 }
 
 // The example of `blart_map::CountedWalk`.
-fn counted_walk(rt: &impl Abort, map: &mut Map) -> Result<(), TryInsertError> {
+fn counted_walk(rt: &impl Abort, map: &mut Map<'_>) -> Result<(), TryInsertError> {
     map.try_insert("cat", 1)?;
     let mut walk = map.iter_mut();
     assert_eq!(rt; walk.len(), 1);
@@ -35,11 +35,12 @@ fn counted_walk(rt: &impl Abort, map: &mut Map) -> Result<(), TryInsertError> {
         *value = 2;
     }
     assert_eq!(rt; walk.len(), 0);
+    drop(walk);
     Ok(())
 }
 
 // The example of `blart_map::RangeMut`.
-fn range_mut(rt: &impl Abort, map: &mut Map) -> Result<(), TryInsertError> {
+fn range_mut(rt: &impl Abort, map: &mut Map<'_>) -> Result<(), TryInsertError> {
     map.try_insert("cat", 1)?;
     let low = "b";
     let mut walk = map.range_mut(Bound::Included(&low), Bound::Unbounded);
@@ -51,7 +52,7 @@ fn range_mut(rt: &impl Abort, map: &mut Map) -> Result<(), TryInsertError> {
 }
 
 // The example of `blart_map::PrefixMut`.
-fn prefix_mut(rt: &impl Abort, map: &mut Map) -> Result<(), TryInsertError> {
+fn prefix_mut(rt: &impl Abort, map: &mut Map<'_>) -> Result<(), TryInsertError> {
     map.try_insert("cat", 1)?;
     let mut walk = map.prefix_mut(b"ca");
     if let Some(value) = walk.next() {
@@ -62,7 +63,7 @@ fn prefix_mut(rt: &impl Abort, map: &mut Map) -> Result<(), TryInsertError> {
 }
 
 // The example of `blart_map::SubtreeIterMut`.
-fn subtree_iter_mut(rt: &impl Abort, map: &mut Map) -> Result<(), TryInsertError> {
+fn subtree_iter_mut(rt: &impl Abort, map: &mut Map<'_>) -> Result<(), TryInsertError> {
     map.try_insert("cat", 1)?;
     if let PrefixKind::Inner(entry) = map.prefix_entry("ca").kind() {
         let mut walk = entry.iter_mut();
@@ -75,7 +76,7 @@ fn subtree_iter_mut(rt: &impl Abort, map: &mut Map) -> Result<(), TryInsertError
 }
 
 // The example of `blart_map::LendingWalk`.
-fn lending_walk(rt: &impl Abort, map: &mut Map) -> Result<(), TryInsertError> {
+fn lending_walk(rt: &impl Abort, map: &mut Map<'_>) -> Result<(), TryInsertError> {
     map.try_insert("car", 1)?;
     map.try_insert("cat", 2)?;
     let mut walk = map.prefix_mut(b"ca");
@@ -87,7 +88,7 @@ fn lending_walk(rt: &impl Abort, map: &mut Map) -> Result<(), TryInsertError> {
 }
 
 // The example of `blart_map::TakeWalk`.
-fn take_walk(rt: &impl Abort, map: &mut Map) -> Result<(), TryInsertError> {
+fn take_walk(rt: &impl Abort, map: &mut Map<'_>) -> Result<(), TryInsertError> {
     map.try_insert("cat", 1)?;
     let mut walk = map.take_walk(Bound::<&&str>::Unbounded, Bound::Unbounded);
     if let Some(value) = walk.lend() {
@@ -101,7 +102,7 @@ fn take_walk(rt: &impl Abort, map: &mut Map) -> Result<(), TryInsertError> {
 }
 
 // The example of `blart_map::ExtractIf`.
-fn extract_if(rt: &impl Abort, map: &mut Map) -> Result<(), TryInsertError> {
+fn extract_if(rt: &impl Abort, map: &mut Map<'_>) -> Result<(), TryInsertError> {
     map.try_insert("cat", 0)?;
     let mut walk = map.extract_if(
         Bound::<&&str>::Unbounded,
@@ -110,18 +111,29 @@ fn extract_if(rt: &impl Abort, map: &mut Map) -> Result<(), TryInsertError> {
     );
     assert_eq!(rt; walk.next(), Some(("cat", 0)));
     assert!(rt; walk.next().is_none());
+    drop(walk);
     Ok(())
 }
 
 #[test]
 fn as_shown(rt: HostRuntime) {
-    iter_mut(&rt, &mut Map::new(rt.alloc())).expect(&rt, "memory");
-    values_mut(&rt, &mut Map::new(rt.alloc())).expect(&rt, "memory");
-    counted_walk(&rt, &mut Map::new(rt.alloc())).expect(&rt, "memory");
-    range_mut(&rt, &mut Map::new(rt.alloc())).expect(&rt, "memory");
-    prefix_mut(&rt, &mut Map::new(rt.alloc())).expect(&rt, "memory");
-    subtree_iter_mut(&rt, &mut Map::new(rt.alloc())).expect(&rt, "memory");
-    lending_walk(&rt, &mut Map::new(rt.alloc())).expect(&rt, "memory");
-    take_walk(&rt, &mut Map::new(rt.alloc())).expect(&rt, "memory");
-    extract_if(&rt, &mut Map::new(rt.alloc())).expect(&rt, "memory");
+    let mut map = Map::new(rt.alloc());
+    iter_mut(&rt, &mut map).expect(&rt, "memory");
+    map.clear();
+    values_mut(&rt, &mut map).expect(&rt, "memory");
+    map.clear();
+    counted_walk(&rt, &mut map).expect(&rt, "memory");
+    map.clear();
+    range_mut(&rt, &mut map).expect(&rt, "memory");
+    map.clear();
+    prefix_mut(&rt, &mut map).expect(&rt, "memory");
+    map.clear();
+    subtree_iter_mut(&rt, &mut map).expect(&rt, "memory");
+    map.clear();
+    lending_walk(&rt, &mut map).expect(&rt, "memory");
+    map.clear();
+    take_walk(&rt, &mut map).expect(&rt, "memory");
+    map.clear();
+    extract_if(&rt, &mut map).expect(&rt, "memory");
+    drop(map);
 }
