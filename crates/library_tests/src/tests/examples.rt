@@ -8,11 +8,14 @@ mod prefix_entries;
 mod sets;
 mod walks;
 
-use blart_keys::{NoPrefixesBytes, ZKeyError};
-use blart_map::{InsertPrefixError, TryInsertError};
+use blart_keys::NoPrefixesBytes;
+use blart_map::{InsertPrefixError, TreeMap, TryInsertError};
 use blart_set::TreeSet;
 use std::alloc::{AllocError, AllocFailed};
 use std::process::Abort;
+
+// The map of the examples.
+type Map<'a> = TreeMap<&'a str, i32, 16>;
 
 // A set of these elements.
 fn set_of<K: NoPrefixesBytes + Copy, const N: usize>(
@@ -44,12 +47,6 @@ impl<T: Drop> From<AllocFailed<T>> for Fail {
 impl From<InsertPrefixError> for Fail {
     fn from(_: InsertPrefixError) -> Fail {
         Fail::Conflict
-    }
-}
-
-impl From<ZKeyError> for Fail {
-    fn from(_: ZKeyError) -> Fail {
-        Fail::Memory
     }
 }
 

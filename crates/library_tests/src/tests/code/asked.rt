@@ -122,6 +122,7 @@ fn asks_few<const P: usize>(rt: &(impl Abort + AllocGlobal)) {
     let mut map = Map::<P>::with_prefix_len(rt.alloc());
     put_thousand(rt, &mut map, &tally);
     look_up_thousand(rt, &map, &tally);
+    drop(map);
 }
 
 #[test]

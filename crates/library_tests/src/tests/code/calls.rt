@@ -21,6 +21,7 @@ fn removes_beside<const P: usize>(rt: &(impl Abort + AllocGlobal)) {
     let mut map = map_of::<u8, P>(rt, &[5, 2, 8, 4]);
     remove_first(rt, &mut map);
     assert_values(rt, &map, &[1, 0, 2]);
+    drop(map);
 }
 
 #[test]
@@ -66,6 +67,7 @@ fn a_value_that_is_there_or_placed(rt: HostRuntime) {
     assert!(rt; get_or_insert(&rt, &mut map, 3) == (1, false));
     assert!(rt; get_or_insert(&rt, &mut map, 4) == (7, true));
     assert_values(&rt, &map, &[1, 7, 0]);
+    drop(map);
 }
 
 // A pair under the key of no bytes, placed and taken back by its entry.
@@ -78,4 +80,5 @@ fn the_only_key_of_its_type(rt: HostRuntime) {
     let mut map = TreeMap::<[u8; 0], usize, 16>::new(rt.alloc());
     assert_eq!(rt; place_and_remove(&rt, &mut map), 0);
     assert!(rt; map.is_empty());
+    drop(map);
 }

@@ -63,6 +63,7 @@ fn doubles<const P: usize>(rt: &(impl Abort + AllocGlobal)) {
     }
     assert!(rt; extract_doubling(&mut map) == (20, 5));
     assert_values(rt, &map, &[2, 6, 10, 14, 18]);
+    drop(map);
 }
 
 #[test]
@@ -103,6 +104,7 @@ fn raises<const P: usize>(rt: &(impl Abort + AllocGlobal)) {
     raise_between(rt, &mut map);
     double_below(&mut map);
     assert_values(rt, &map, &[0, 100, 200, 200]);
+    drop(map);
 }
 
 #[test]

@@ -127,4 +127,5 @@ fn keys_for_stored_bytes(rt: HostRuntime) {
     insert_again(&rt, &mut map, &drops);
     assert_eq!(rt; map.remove_prefix(&[7]), 1);
     assert_eq!(rt; drops.get(), 4);
+    drop(map);
 }

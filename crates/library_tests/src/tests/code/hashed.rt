@@ -53,30 +53,35 @@ fn assert_alike<const P: usize>(rt: &impl Abort, one: &Bytes<P>, other: &Bytes<P
     assert_eq!(rt; words(other), fed);
 }
 
-// A map that had a pair of this key, and lost it.
-fn without<const P: usize>(rt: &impl Abort, map: Bytes<P>, key: u8) -> Bytes<P> {
-    let mut map = map;
+// The map had a pair of this key, and loses it.
+fn lose<const P: usize>(rt: &impl Abort, map: &mut Bytes<P>, key: u8) {
     assert!(rt; map.remove(&key).is_some());
-    map
 }
 
 // A map and its clone.
 fn assert_clone_alike<const P: usize>(rt: &impl Abort, map: &Bytes<P>, fed: u64) {
     let clone = map.clone().expect(rt, "memory");
     assert_alike(rt, map, &clone, fed);
+    drop(clone);
 }
 
 // The length comes first, and then each key and its value, in whatever order the pairs were put, and whatever was removed since.
 fn maps_feed<const P: usize>(rt: &(impl Abort + AllocGlobal)) {
     let one = map_of::<P>(rt, &[(1, 10), (2, 20), (3, 30)]);
     assert_clone_alike(rt, &one, 0x03_01_0a_02_14_03_1e);
-    let put = map_of(rt, &[(3, 30), (9, 9), (2, 7), (1, 10), (2, 20)]);
-    assert_alike(rt, &one, &without(rt, put, 9), 0x03_01_0a_02_14_03_1e);
+    let mut other = map_of::<P>(rt, &[(3, 30), (9, 9), (2, 7), (1, 10), (2, 20)]);
+    lose(rt, &mut other, 9);
+    assert_alike(rt, &one, &other, 0x03_01_0a_02_14_03_1e);
+    drop(one);
+    drop(other);
 }
 
 // Of no pairs the length alone.
 fn nothing_feeds<const P: usize>(rt: &(impl Abort + AllocGlobal)) {
-    assert_alike(rt, &map_of::<P>(rt, &[]), &map_of::<P>(rt, &[]), 0);
+    let (one, other) = (map_of::<P>(rt, &[]), map_of::<P>(rt, &[]));
+    assert_alike(rt, &one, &other, 0);
+    drop(one);
+    drop(other);
 }
 
 #[test]
@@ -87,13 +92,21 @@ fn maps(rt: HostRuntime) {
     nothing_feeds::<2>(&rt);
 }
 
+type Set = TreeSet<u8, 2>;
+
 // Of sets the length, and then each element.
+fn assert_sets_feed(rt: &impl Abort, one: &Set, other: &Set) {
+    assert!(rt; *one == *other);
+    assert!(rt; words(one) == 0x03_01_02_03);
+    assert!(rt; words(other) == 0x03_01_02_03);
+}
+
 #[test]
 fn sets(rt: HostRuntime) {
-    let one: TreeSet<u8, 2> = TreeSet::from_array(rt.alloc(), [3, 1, 2]).expect(&rt, "memory");
+    let one = Set::from_array(rt.alloc(), [3, 1, 2]).expect(&rt, "memory");
     let items = Vec::from_array(rt.alloc(), [3, 1, 2]).expect(&rt, "memory");
-    let other: TreeSet<u8, 2> = TreeSet::from_vec(rt.alloc(), items).expect(&rt, "memory");
-    assert!(rt; one == other);
-    assert_eq!(rt; words(&one), 0x03_01_02_03);
-    assert_eq!(rt; words(&other), 0x03_01_02_03);
+    let other = Set::from_vec(rt.alloc(), items).expect(&rt, "memory");
+    assert_sets_feed(&rt, &one, &other);
+    drop(one);
+    drop(other);
 }

@@ -5,9 +5,8 @@ use blart_keys::{
 };
 use std::alloc::AllocError;
 use std::boxed::BoxedSlice;
-use std::fmt::Debug;
+use std::fmt::{Debug, Display};
 use std::process::Abort;
-use std::test::Fail;
 
 // Two keys of these bytes, of which the first is less.
 fn assert_keys<K: OrderedBytes + Debug>(
@@ -15,8 +14,8 @@ fn assert_keys<K: OrderedBytes + Debug>(
     (low, low_bytes): (&K, &[u8]),
     (high, high_bytes): (&K, &[u8]),
 ) {
-    assert_eq!(rt; low.as_bytes(), low_bytes);
-    assert_eq!(rt; high.as_bytes(), high_bytes);
+    assert!(rt; *low.as_bytes() == *low_bytes);
+    assert!(rt; *high.as_bytes() == *high_bytes);
     assert!(rt; low < high && low == low && low != high);
 }
 
@@ -36,77 +35,100 @@ fn numbers(rt: HostRuntime) {
         (&&less, &[0x7f, 0xff, 0xff, 0xff]),
         (&&zero, &[0x80, 0, 0, 0]),
     );
-    assert_eq!(rt;
-        (one.get(), two.get(), least.get()),
-        (1, 1 << 40, -2147483648)
-    );
+    assert!(rt; one.get() == 1 && two.get() == 1 << 40);
+    assert!(rt; least.get() == -2147483648);
+}
+
+// The same of keys that own their bytes.
+fn assert_owners<K: OrderedBytes + Debug + Drop>(
+    rt: &impl Abort,
+    (low, low_bytes): (K, &[u8]),
+    (high, high_bytes): (K, &[u8]),
+) {
+    assert_keys(rt, (&low, low_bytes), (&high, high_bytes));
+    assert_keys(rt, (&&low, low_bytes), (&&high, high_bytes));
+}
+
+fn vector(rt: &(impl Abort + AllocGlobal), bytes: &[u8]) -> Vec<u8> {
+    Vec::from_slice(rt.alloc(), bytes).expect(rt, "memory")
+}
+
+fn boxed(rt: &(impl Abort + AllocGlobal), bytes: &[u8]) -> BoxedSlice<u8> {
+    BoxedSlice::from_slice(rt.alloc(), bytes).expect(rt, "memory")
 }
 
 #[test]
-fn bytes(rt: HostRuntime) -> Result<(), Fail> {
-    let alloc = rt.alloc();
+fn bytes(rt: HostRuntime) {
     assert_keys(&rt, (&7u8, &[7]), (&8, &[8]));
     assert_keys(&rt, (&[1u8, 2], &[1, 2]), (&[1, 3], &[1, 3]));
     let (ab, abc): (&[u8], &[u8]) = (b"ab", b"abc");
     assert_keys(&rt, (&ab, ab), (&abc, abc));
-    let (one, two) = (Vec::from_slice(alloc, ab)?, Vec::from_slice(alloc, abc)?);
-    assert_keys(&rt, (&one, ab), (&two, abc));
-    assert_keys(&rt, (&&one, ab), (&&two, abc));
-    let (one, two) = (
-        BoxedSlice::from_slice(alloc, ab)?,
-        BoxedSlice::from_slice(alloc, abc)?,
-    );
-    assert_keys(&rt, (&one, ab), (&two, abc));
-    Ok(())
+    assert_owners(&rt, (vector(&rt, ab), ab), (vector(&rt, abc), abc));
+    assert_owners(&rt, (boxed(&rt, ab), ab), (boxed(&rt, abc), abc));
+}
+
+fn string(rt: &(impl Abort + AllocGlobal), text: &str) -> String {
+    text.to_string(rt.alloc()).expect(rt, "memory")
 }
 
 #[test]
-fn texts(rt: HostRuntime) -> Result<(), Fail> {
-    let alloc = rt.alloc();
+fn texts(rt: HostRuntime) {
     let (ab, abc): (&[u8], &[u8]) = (b"ab", b"abc");
     assert_keys(&rt, (&"ab", ab), (&"abc", abc));
-    let (one, two) = ("ab".to_string(alloc)?, "abc".to_string(alloc)?);
-    assert_keys(&rt, (&one, ab), (&two, abc));
-    let (one, two) = (ZKey::from_bytes(alloc, ab)?, ZKey::from_bytes(alloc, abc)?);
-    assert_keys(&rt, (&one, b"ab\0"), (&two, b"abc\0"));
-    assert_eq!(rt; (one.to_bytes(), two.to_bytes()), (ab, abc));
-    assert_eq!(rt; ZKey::from_bytes(alloc, b"")?.as_bytes(), b"\0".as_slice());
+    assert_owners(&rt, (string(&rt, "ab"), ab), (string(&rt, "abc"), abc));
+}
+
+fn zkey(rt: &(impl Abort + AllocGlobal), bytes: &[u8]) -> ZKey {
+    ZKey::from_bytes(rt.alloc(), bytes).expect(rt, "memory")
+}
+
+// The key of these bytes gives them back, without the zero.
+fn assert_gives_back(rt: &(impl Abort + AllocGlobal), bytes: &[u8]) {
+    assert!(rt; *zkey(rt, bytes).to_bytes() == *bytes);
+}
+
+#[test]
+fn zkeys(rt: HostRuntime) {
+    let (ab, abc): (&[u8], &[u8]) = (b"ab\0", b"abc\0");
+    assert_owners(&rt, (zkey(&rt, b"ab"), ab), (zkey(&rt, b"abc"), abc));
+    assert_gives_back(&rt, b"ab");
+    assert_gives_back(&rt, b"abc");
+    assert!(rt; *zkey(&rt, b"").as_bytes() == *b"\0".as_slice());
     for bytes in [[1, 0, 2], [0, 1, 2], [1, 2, 0]] {
-        assert_eq!(rt;
-            ZKey::from_bytes(alloc, &bytes).err(),
-            Some(ZKeyError::InnerZero)
-        );
+        let made = ZKey::from_bytes(rt.alloc(), &bytes);
+        assert!(rt; made.err() == Some(ZKeyError::InnerZero));
     }
-    Ok(())
+}
+
+fn assert_debug<T: Debug>(rt: &(impl Abort + AllocGlobal), value: &T, want: &str) {
+    let text = format!(in rt.alloc(); "{value:?}").expect(rt, "memory");
+    assert!(rt; text.as_str() == want);
 }
 
 #[test]
-fn texts_by_debug(rt: HostRuntime) -> Result<(), Fail> {
-    let alloc = rt.alloc();
-    let keys = (U32Key::new(258), U64Key::new(1), I32Key::new(7).clone()?);
-    let text = format!(in alloc; "{:?} {:?} {:?}", keys.0, keys.1, keys.2)?;
-    assert_eq!(rt;
-        text.as_str(),
-        "U32Key { bytes: [0, 0, 1, 2] } U64Key { bytes: [0, 0, 0, 0, 0, 0, 0, 1] } I32Key { bytes: [128, 0, 0, 7] }"
-    );
-    let text = format!(in alloc; "{:?}", ZKey::from_bytes(alloc, b"ab")?)?;
-    assert_eq!(rt; text.as_str(), "ZKey { bytes: [97, 98, 0] }");
-    let text = format!(in alloc; "{:?} {:?}", ZKeyError::InnerZero, ZKeyError::Memory)?;
-    assert_eq!(rt; text.as_str(), "InnerZero Memory");
-    Ok(())
+fn texts_by_debug(rt: HostRuntime) {
+    assert_debug(&rt, &U32Key::new(258), "U32Key { bytes: [0, 0, 1, 2] }");
+    let text = "U64Key { bytes: [0, 0, 0, 0, 0, 0, 0, 1] }";
+    assert_debug(&rt, &U64Key::new(1), text);
+    let clone = I32Key::new(7).clone().expect(&rt, "memory");
+    assert_debug(&rt, &clone, "I32Key { bytes: [128, 0, 0, 7] }");
+    assert_debug(&rt, &zkey(&rt, b"ab"), "ZKey { bytes: [97, 98, 0] }");
+    assert_debug(&rt, &ZKeyError::InnerZero, "InnerZero");
+    assert_debug(&rt, &ZKeyError::Memory, "Memory");
+}
+
+fn assert_display<T: Display>(rt: &(impl Abort + AllocGlobal), value: &T, want: &str) {
+    let text = format!(in rt.alloc(); "{value}").expect(rt, "memory");
+    assert!(rt; text.as_str() == want);
 }
 
 #[test]
-fn texts_of_errors(rt: HostRuntime) -> Result<(), Fail> {
-    let alloc = rt.alloc();
-    let text = format!(in alloc; "{}, {}", ZKeyError::InnerZero, ZKeyError::Memory)?;
-    assert_eq!(rt; text.as_str(), "zero byte in key, out of memory");
+fn texts_of_errors(rt: HostRuntime) {
+    assert_display(&rt, &ZKeyError::InnerZero, "zero byte in key");
+    assert_display(&rt, &ZKeyError::Memory, "out of memory");
+    assert_display(&rt, &InsertPrefixError, "key conflicts");
     let conflict = TryInsertError::Prefix(InsertPrefixError);
+    assert_display(&rt, &conflict, "key conflicts");
     let memory = TryInsertError::Memory(AllocError);
-    let text = format!(in alloc; "{}, {}, {}", InsertPrefixError, conflict, memory)?;
-    assert_eq!(rt;
-        text.as_str(),
-        "key conflicts, key conflicts, out of memory"
-    );
-    Ok(())
+    assert_display(&rt, &memory, "out of memory");
 }

@@ -60,9 +60,12 @@ fn take_apart<const P: usize>(rt: &(impl Abort + AllocGlobal)) {
     let zero = Vec::from_elem(rt.alloc(), 0u8, 1).expect(rt, "memory");
     assert!(rt; map.prefix_insert(zero, 7).is_ok());
     assert_size(rt, &map, 2, 1, (7, 0));
+    drop(map);
     let rest = same.split_off(&zeros(rt, 500, 1)).expect(rt, "memory");
     assert_size(rt, &same, 499, 498, (999, 501));
+    drop(same);
     assert_size(rt, &rest, 501, 500, (500, 0));
+    drop(rest);
 }
 
 #[test]

@@ -58,4 +58,5 @@ fn by_entries(rt: HostRuntime) {
     assert_eq!(rt; map.prefix_entry(of_tag(3)).key().tag, 1);
     assert!(rt; map.prefix_entry(of_tag(4)).insert_entry(20).is_ok());
     assert_only(&rt, &map, 1, 20);
+    drop(map);
 }

@@ -22,15 +22,24 @@ fn add<K: AsBytes + Drop, V: Drop, const P: usize>(
     }
 }
 
+// Adds these keys, each with its place as value.
+fn add_all<'a, const P: usize>(
+    rt: &impl Abort,
+    tree: &mut Tree<&'a [u8], usize, P>,
+    keys: &[&'a [u8]],
+) {
+    for place in 0..keys.len() {
+        add(rt, tree, keys[place], place);
+    }
+}
+
 // A tree of these keys, each with its place as value.
 fn tree_of<'a, const P: usize>(
     rt: &(impl Abort + AllocGlobal),
     keys: &[&'a [u8]],
 ) -> Tree<&'a [u8], usize, P> {
     let mut tree = Tree::new(rt.alloc());
-    for place in 0..keys.len() {
-        add(rt, &mut tree, keys[place], place);
-    }
+    add_all(rt, &mut tree, keys);
     tree
 }
 
@@ -42,23 +51,46 @@ fn assert_children<const P: usize>(
     count: usize,
 ) {
     let children = tree.children_at(front, &mut Visits::new());
-    assert_eq!(rt; children, count, "at {front:?}");
+    assert!(rt; children == count, "at {front:?}");
+}
+
+// Forty zeros and a 1.
+fn first_far() -> [u8; 41] {
+    let mut key = [0; 41];
+    key[40] = 1;
+    key
+}
+
+// Forty zeros and a 2.
+fn second_far() -> [u8; 41] {
+    let mut key = [0; 41];
+    key[40] = 2;
+    key
+}
+
+// Twenty zeros and a 3.
+fn halfway() -> [u8; 21] {
+    let mut key = [0; 21];
+    key[20] = 3;
+    key
+}
+
+// Zeros with a 1 among them.
+fn beside() -> [u8; 40] {
+    let mut front = [0; 40];
+    front[30] = 1;
+    front
 }
 
 // Two keys part behind forty zeros, and a third from them behind twenty.
 fn children_far_down<const P: usize>(rt: &(impl Abort + AllocGlobal)) {
-    let mut keys = [[0u8; 41], [0; 41]];
-    keys[0][40] = 1;
-    keys[1][40] = 2;
-    let mut third = [0u8; 21];
-    third[20] = 3;
-    let mut other = [0u8; 40];
-    other[30] = 1;
-    let tree = tree_of::<P>(rt, &[&third, &keys[1], &keys[0]]);
+    let (first, second, third) = (first_far(), second_far(), halfway());
+    let tree = tree_of::<P>(rt, &[&third, &second, &first]);
     assert_children(rt, &tree, &[0; 20], 2);
     assert_children(rt, &tree, &[0; 40], 2);
     assert_children(rt, &tree, &[0; 30], 0);
-    assert_children(rt, &tree, &other, 0);
+    assert_children(rt, &tree, &beside(), 0);
+    drop(tree);
 }
 
 fn children<const P: usize>(rt: &(impl Abort + AllocGlobal)) {
@@ -67,6 +99,7 @@ fn children<const P: usize>(rt: &(impl Abort + AllocGlobal)) {
     assert_children(rt, &tree, b"\x02", 2);
     assert_children(rt, &tree, b"\x01", 0);
     assert_children(rt, &tree, b"\x09", 0);
+    drop(tree);
     children_far_down::<P>(rt);
 }
 
@@ -80,35 +113,52 @@ fn children_at_fronts(rt: HostRuntime) {
     children::<64>(&rt);
 }
 
+// A tree of two bytes a key.
+type Pairs = Tree<[u8; 2], usize, 2>;
+
 // Keys of two bytes, each below 49, of which each first byte begins 49.
-#[test]
-fn children_of_the_largest_kind(rt: HostRuntime) {
-    let mut tree: Tree<[u8; 2], usize, 2> = Tree::new(rt.alloc());
+fn add_squares(rt: &impl Abort, tree: &mut Pairs) {
     for place in 0..2401usize {
         let key = [(place / 49) as u8, (place % 49) as u8];
-        add(&rt, &mut tree, key, place);
+        add(rt, tree, key, place);
     }
-    assert_eq!(rt; tree.inner_nodes(), 50);
-    assert_eq!(rt; tree.children_at(&[48], &mut Visits::new()), 49);
-    assert_eq!(rt; tree.children_at(&[], &mut Visits::new()), 49);
 }
 
-fn four<const P: usize>(rt: &(impl Abort + AllocGlobal)) -> Tree<&'static [u8], usize, P> {
-    tree_of(rt, &[b"abcdx", b"abcdy", b"abd", b"b"])
+fn assert_squares(rt: &impl Abort, tree: &Pairs) {
+    assert!(rt; tree.inner_nodes() == 50);
+    assert!(rt; tree.children_at(&[48], &mut Visits::new()) == 49);
+    assert!(rt; tree.children_at(&[], &mut Visits::new()) == 49);
+}
+
+#[test]
+fn children_of_the_largest_kind(rt: HostRuntime) {
+    let mut tree = Pairs::new(rt.alloc());
+    add_squares(&rt, &mut tree);
+    assert_squares(&rt, &tree);
+    drop(tree);
 }
 
 // The leaf before the one of a key, and the leaf behind it.
-#[test]
-fn neighbours_of_a_leaf(rt: HostRuntime) {
-    let tree = four::<2>(&rt);
+fn assert_neighbours(rt: &impl Abort, tree: &Tree<&[u8], usize, 2>) {
     let first = tree.search(b"abcdx", &mut Visits::new());
     let second = tree.search(b"abcdy", &mut Visits::new());
     assert!(rt; first.is_some() && first == tree.first());
-    if let (Some(first), Some(second)) = (first, second) {
-        assert!(rt; tree.next_of(first) == Some(second));
-        assert!(rt; tree.prev_of(second) == Some(first));
-        assert!(rt; tree.prev_of(first).is_none());
+    match (first, second) {
+        (Some(first), Some(second)) => {
+            assert!(rt; tree.next_of(first) == Some(second));
+            assert!(rt; tree.prev_of(second) == Some(first));
+            assert!(rt; tree.prev_of(first).is_none());
+        }
+        _ => panic!(rt; "both keys are there"),
     }
+}
+
+#[test]
+fn neighbours_of_a_leaf(rt: HostRuntime) {
+    let keys: [&[u8]; 4] = [b"abcdx", b"abcdy", b"abd", b"b"];
+    let tree = tree_of(&rt, &keys);
+    assert_neighbours(&rt, &tree);
+    drop(tree);
 }
 
 // The number in a line.
@@ -133,16 +183,23 @@ fn memory(rt: &(impl Abort + AllocGlobal + Files), name: &str) -> u64 {
     panic!(rt; "no line {name}")
 }
 
-// Room for a million pairs in an empty tree takes less than 600 MB of addresses, and less than 20 MB are written before a pair comes.
-#[test]
-fn room_for_a_million(rt: HostRuntime) {
-    let (most, held) = (memory(&rt, "VmPeak:"), memory(&rt, "VmRSS:"));
-    let mut tree = Tree::<&[u8], u64, 16>::new(rt.alloc());
-    tree.reserve(1_000_000).expect(&rt, "memory");
-    let taken = memory(&rt, "VmPeak:").saturating_sub(most);
-    let written = memory(&rt, "VmRSS:").saturating_sub(held);
+type Texts = Tree<&'static [u8], u64, 16>;
+
+// Room for a million pairs takes less than 600 MB of addresses, and less than 20 MB are written before a pair comes.
+fn reserve_million(rt: &(impl Abort + AllocGlobal + Files), tree: &mut Texts) {
+    let (most, held) = (memory(rt, "VmPeak:"), memory(rt, "VmRSS:"));
+    tree.reserve(1_000_000).expect(rt, "memory");
+    let taken = memory(rt, "VmPeak:").saturating_sub(most);
+    let written = memory(rt, "VmRSS:").saturating_sub(held);
     assert!(rt; taken < 600_000_000 / 1024);
     assert!(rt; written < 20_000_000 / 1024);
+}
+
+#[test]
+fn room_for_a_million(rt: HostRuntime) {
+    let mut tree = Texts::new(rt.alloc());
+    reserve_million(&rt, &mut tree);
     add(&rt, &mut tree, b"key", 1);
-    assert_eq!(rt; tree.len(), 1);
+    assert!(rt; tree.len() == 1);
+    drop(tree);
 }

@@ -1,22 +1,18 @@
 //! Calls as values, and refused insertions.
-use super::Fail;
-use blart_map::{
-    Call, DEFAULT_PREFIX_LEN, InsertPrefixError, Reply, TreeMap, TryInsertError, drive,
-};
+use super::{Fail, Map};
+use blart_map::{Call, InsertPrefixError, Reply, TryInsertError, drive};
 use std::alloc::Global;
 use std::process::Abort;
 
 // The example of `blart_keys::InsertPrefixError`.
-fn insert_prefix_error(rt: &impl Abort, alloc: Global) -> Result<(), Fail> {
-    let mut map = TreeMap::new(alloc);
+fn insert_prefix_error(rt: &impl Abort, map: &mut Map<'_>) -> Result<(), TryInsertError> {
     map.try_insert("cat", 1)?;
     assert_eq!(rt; map.try_entry("ca").err(), Some(InsertPrefixError));
     Ok(())
 }
 
 // The example of `blart_keys::TryInsertError`.
-fn try_insert_error(rt: &impl Abort, alloc: Global) -> Result<(), Fail> {
-    let mut map = TreeMap::new(alloc);
+fn try_insert_error(rt: &impl Abort, map: &mut Map<'_>) -> Result<(), TryInsertError> {
     map.try_insert("cat", 1)?;
     let refused = map.try_insert("ca", 2);
     assert!(rt; matches!(refused, Err(TryInsertError::Prefix(_))));
@@ -24,27 +20,32 @@ fn try_insert_error(rt: &impl Abort, alloc: Global) -> Result<(), Fail> {
 }
 
 // The example of `blart_keys::Call`.
-fn call(rt: &impl Abort, alloc: Global) -> Result<(), Fail> {
-    let mut map = TreeMap::new(alloc);
+fn call(rt: &impl Abort, mut map: Map<'_>, alloc: Global) -> Result<(), Fail> {
     let calls = vec![in alloc; Call::TryInsert("cat", 1), Call::PopLast]?;
     let replies = drive(&mut map, calls)?;
     assert_eq!(rt; replies.len(), 2);
     assert!(rt; map.is_empty());
+    drop(replies);
+    drop(map);
     Ok(())
 }
 
 // The example of `blart_keys::Reply`.
-fn reply(rt: &impl Abort, alloc: Global) -> Result<(), Fail> {
-    let mut map: TreeMap<_, u64, { DEFAULT_PREFIX_LEN }> = TreeMap::new(alloc);
+fn reply(rt: &impl Abort, mut map: Map<'_>, alloc: Global) -> Result<(), Fail> {
     let replies = drive(&mut map, vec![in alloc; Call::ContainsKey("cat")]?)?;
     assert!(rt; matches!(replies.first(), Some(Reply::ContainsKey(false))));
+    drop(replies);
+    drop(map);
     Ok(())
 }
 
 #[test]
 fn as_shown(rt: HostRuntime) {
-    insert_prefix_error(&rt, rt.alloc()).expect(&rt, "memory");
-    try_insert_error(&rt, rt.alloc()).expect(&rt, "memory");
-    call(&rt, rt.alloc()).expect(&rt, "memory");
-    reply(&rt, rt.alloc()).expect(&rt, "memory");
+    let mut map = Map::new(rt.alloc());
+    insert_prefix_error(&rt, &mut map).expect(&rt, "memory");
+    map.clear();
+    try_insert_error(&rt, &mut map).expect(&rt, "memory");
+    drop(map);
+    call(&rt, Map::new(rt.alloc()), rt.alloc()).expect(&rt, "memory");
+    reply(&rt, Map::new(rt.alloc()), rt.alloc()).expect(&rt, "memory");
 }

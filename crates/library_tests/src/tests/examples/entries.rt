@@ -1,12 +1,10 @@
 //! A map, and entries of it.
-use super::Fail;
-use blart_map::{Entry, TreeMap};
-use std::alloc::Global;
+use super::{Fail, Map};
+use blart_map::{Entry, TryInsertError};
 use std::process::Abort;
 
 // The example of `blart_map::Entry`.
-fn entry(rt: &impl Abort, alloc: Global) -> Result<(), Fail> {
-    let mut map = TreeMap::new(alloc);
+fn entry(rt: &impl Abort, map: &mut Map<'_>) -> Result<(), Fail> {
     *map.try_entry("cat")?.or_insert(1)? = 2;
     let entry = map.try_entry("cat")?.and_modify(|value| *value = 3);
     assert_eq!(rt; *entry.or_insert(0)?, 3);
@@ -14,8 +12,7 @@ fn entry(rt: &impl Abort, alloc: Global) -> Result<(), Fail> {
 }
 
 // The example of `blart_map::OccupiedEntry`.
-fn occupied_entry(rt: &impl Abort, alloc: Global) -> Result<(), Fail> {
-    let mut map = TreeMap::new(alloc);
+fn occupied_entry(rt: &impl Abort, map: &mut Map<'_>) -> Result<(), Fail> {
     map.try_insert("cat", 1)?;
     if let Entry::Occupied(mut entry) = map.try_entry("cat")? {
         assert_eq!(rt; entry.insert(2), 1);
@@ -26,8 +23,7 @@ fn occupied_entry(rt: &impl Abort, alloc: Global) -> Result<(), Fail> {
 }
 
 // The example of `blart_map::VacantEntry`.
-fn vacant_entry(rt: &impl Abort, alloc: Global) -> Result<(), Fail> {
-    let mut map = TreeMap::new(alloc);
+fn vacant_entry(rt: &impl Abort, map: &mut Map<'_>) -> Result<(), Fail> {
     if let Entry::Vacant(entry) = map.try_entry("cat")? {
         *entry.insert(1)? = 2;
     }
@@ -36,8 +32,7 @@ fn vacant_entry(rt: &impl Abort, alloc: Global) -> Result<(), Fail> {
 }
 
 // The example of `blart_map::TreeMap`.
-fn tree_map(rt: &impl Abort, alloc: Global) -> Result<(), Fail> {
-    let mut map = TreeMap::new(alloc);
+fn tree_map(rt: &impl Abort, map: &mut Map<'_>) -> Result<(), TryInsertError> {
     map.try_insert("car", 1)?;
     map.try_insert("cat", 2)?;
     assert_eq!(rt; map.get(&"cat"), Some(&2));
@@ -48,8 +43,13 @@ fn tree_map(rt: &impl Abort, alloc: Global) -> Result<(), Fail> {
 
 #[test]
 fn as_shown(rt: HostRuntime) {
-    entry(&rt, rt.alloc()).expect(&rt, "memory");
-    occupied_entry(&rt, rt.alloc()).expect(&rt, "memory");
-    vacant_entry(&rt, rt.alloc()).expect(&rt, "memory");
-    tree_map(&rt, rt.alloc()).expect(&rt, "memory");
+    let mut map = Map::new(rt.alloc());
+    entry(&rt, &mut map).expect(&rt, "memory");
+    map.clear();
+    occupied_entry(&rt, &mut map).expect(&rt, "memory");
+    map.clear();
+    vacant_entry(&rt, &mut map).expect(&rt, "memory");
+    map.clear();
+    tree_map(&rt, &mut map).expect(&rt, "memory");
+    drop(map);
 }

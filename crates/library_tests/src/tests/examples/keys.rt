@@ -1,8 +1,7 @@
 //! Keys.
-use super::Fail;
 use blart_keys::{AsBytes, I32Key, U32Key, U64Key, ZKey, ZKeyError};
 use blart_map::TreeMap;
-use std::alloc::Global;
+use std::alloc::{AllocError, Global};
 use std::cmp::{Ord, Ordering, PartialOrd};
 use std::process::Abort;
 
@@ -50,7 +49,7 @@ fn numbers_as_shown(rt: HostRuntime) {
 }
 
 // The example of `blart_keys::ZKey`.
-fn zkey(rt: &impl Abort, alloc: Global) -> Result<(), Fail> {
+fn zkey(rt: &impl Abort, alloc: Global) -> Result<(), ZKeyError> {
     let key = ZKey::from_bytes(alloc, b"ab")?;
     assert_eq!(rt; key.as_bytes(), b"ab\0".as_slice());
     assert_eq!(rt; key.to_bytes(), b"ab".as_slice());
@@ -70,8 +69,10 @@ fn zkeys_as_shown(rt: HostRuntime) {
 }
 
 // The example of `blart_keys::NoPrefixesBytes`.
-fn no_prefixes_bytes(rt: &impl Abort, alloc: Global) -> Result<(), Fail> {
-    let mut map = TreeMap::new(alloc);
+fn no_prefixes_bytes(
+    rt: &impl Abort,
+    map: &mut TreeMap<U32Key, i32, 16>,
+) -> Result<(), AllocError> {
     map.insert(U32Key::new(1), 1)?;
     map.insert(U32Key::new(2), 2)?;
     assert_eq!(rt; map.len(), 2);
@@ -80,5 +81,7 @@ fn no_prefixes_bytes(rt: &impl Abort, alloc: Global) -> Result<(), Fail> {
 
 #[test]
 fn no_prefixes_bytes_as_shown(rt: HostRuntime) {
-    no_prefixes_bytes(&rt, rt.alloc()).expect(&rt, "memory");
+    let mut map = TreeMap::new(rt.alloc());
+    no_prefixes_bytes(&rt, &mut map).expect(&rt, "memory");
+    drop(map);
 }

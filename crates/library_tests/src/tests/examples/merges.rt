@@ -49,6 +49,8 @@ fn as_shown(rt: HostRuntime) {
     intersection(&rt, &left, &right);
     difference(&rt, &left, &right);
     symmetric_difference(&rt, &left, &right);
+    drop(left);
+    drop(right);
 }
 
 // The example of `blart_set::Compares`.

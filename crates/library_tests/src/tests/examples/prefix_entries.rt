@@ -1,12 +1,11 @@
 //! Prefix entries.
-use super::Fail;
-use blart_map::{PrefixEntry, PrefixKind, TreeMap};
-use std::alloc::Global;
+use super::{Fail, Map};
+use blart_map::{PrefixEntry, PrefixKind, TryInsertError};
+use std::alloc::AllocError;
 use std::process::Abort;
 
 // The example of `blart_map::InnerOccupiedEntry`.
-fn inner_occupied_entry(rt: &impl Abort, alloc: Global) -> Result<(), Fail> {
-    let mut map = TreeMap::new(alloc);
+fn inner_occupied_entry(rt: &impl Abort, map: &mut Map<'_>) -> Result<(), TryInsertError> {
     map.try_insert("car", 1)?;
     map.try_insert("cat", 2)?;
     if let PrefixKind::Inner(entry) = map.prefix_entry("ca").kind() {
@@ -19,8 +18,7 @@ fn inner_occupied_entry(rt: &impl Abort, alloc: Global) -> Result<(), Fail> {
 }
 
 // The example of `blart_map::PrefixEntry`.
-fn prefix_entry(rt: &impl Abort, alloc: Global) -> Result<(), Fail> {
-    let mut map = TreeMap::new(alloc);
+fn prefix_entry(rt: &impl Abort, map: &mut Map<'_>) -> Result<(), Fail> {
     map.try_insert("car", 1)?;
     map.try_insert("cat", 2)?;
     *map.prefix_entry("ca").or_insert(0)? = 1;
@@ -30,8 +28,7 @@ fn prefix_entry(rt: &impl Abort, alloc: Global) -> Result<(), Fail> {
 }
 
 // The example of `blart_map::PrefixKind`.
-fn prefix_kind(rt: &impl Abort, alloc: Global) -> Result<(), Fail> {
-    let mut map = TreeMap::new(alloc);
+fn prefix_kind(rt: &impl Abort, map: &mut Map<'_>) -> Result<(), AllocError> {
     match map.prefix_entry("cat").kind() {
         PrefixKind::Leaf(entry) => *entry.into_mut() = 1,
         PrefixKind::Inner(entry) => *entry.insert(0) = 2,
@@ -42,8 +39,7 @@ fn prefix_kind(rt: &impl Abort, alloc: Global) -> Result<(), Fail> {
 }
 
 // The example of `blart_map::PrefixOccupied`.
-fn prefix_occupied(rt: &impl Abort, alloc: Global) -> Result<(), Fail> {
-    let mut map = TreeMap::new(alloc);
+fn prefix_occupied(rt: &impl Abort, map: &mut Map<'_>) -> Result<(), TryInsertError> {
     map.try_insert("car", 1)?;
     if let PrefixEntry::Occupied(entry) = map.prefix_entry("ca") {
         assert_eq!(rt; entry.get_key(), Some(&"car"));
@@ -55,8 +51,13 @@ fn prefix_occupied(rt: &impl Abort, alloc: Global) -> Result<(), Fail> {
 
 #[test]
 fn as_shown(rt: HostRuntime) {
-    inner_occupied_entry(&rt, rt.alloc()).expect(&rt, "memory");
-    prefix_entry(&rt, rt.alloc()).expect(&rt, "memory");
-    prefix_kind(&rt, rt.alloc()).expect(&rt, "memory");
-    prefix_occupied(&rt, rt.alloc()).expect(&rt, "memory");
+    let mut map = Map::new(rt.alloc());
+    inner_occupied_entry(&rt, &mut map).expect(&rt, "memory");
+    map.clear();
+    prefix_entry(&rt, &mut map).expect(&rt, "memory");
+    map.clear();
+    prefix_kind(&rt, &mut map).expect(&rt, "memory");
+    map.clear();
+    prefix_occupied(&rt, &mut map).expect(&rt, "memory");
+    drop(map);
 }

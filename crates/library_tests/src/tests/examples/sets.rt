@@ -1,5 +1,6 @@
 //! Sets, and walks over one.
-use super::{Fail, set_of};
+use super::set_of;
+use blart_map::TryInsertError;
 use blart_set::TreeSet;
 use std::alloc::Global;
 use std::iter::{DoubleEndedIterator, IntoIterator, Iterator};
@@ -7,13 +8,14 @@ use std::ops::Bound;
 use std::process::Abort;
 
 // The example of `blart_set::TreeSet`.
-fn tree_set(rt: &impl Abort, alloc: Global) -> Result<(), Fail> {
+fn tree_set(rt: &impl Abort, alloc: Global) -> Result<(), TryInsertError> {
     let mut set = TreeSet::new(alloc);
     assert!(rt; set.try_insert("cat")?);
     assert!(rt; set.try_insert("car")?);
     assert!(rt; !set.try_insert("cat")?);
     assert!(rt; set.try_insert("ca").is_err());
     assert_eq!(rt; set.first(), Some(&"car"));
+    drop(set);
     Ok(())
 }
 
@@ -48,6 +50,7 @@ fn into_iter(rt: &impl Abort, set: TreeSet<u8, 16>) {
     let mut elements = set.into_iter();
     assert_eq!(rt; elements.next(), Some(1));
     assert_eq!(rt; elements.len(), 1);
+    drop(elements);
 }
 
 // The example of `blart_set::ExtractIf`.
@@ -57,6 +60,7 @@ fn extract_if(rt: &impl Abort, set: &mut TreeSet<u8, 16>) {
     assert_eq!(rt; walk.next_back(), Some(4));
     assert_eq!(rt; walk.next(), Some(2));
     // dropped here, it leaves {1, 3}
+    drop(walk);
 }
 
 #[test]
@@ -66,9 +70,16 @@ fn a_set_as_shown(rt: HostRuntime) {
 
 #[test]
 fn walks_as_shown(rt: HostRuntime) {
-    iter(&rt, &set_of(&rt, [1u8, 2]));
-    range(&rt, &set_of(&rt, [1u8, 2, 3]));
-    prefix(&rt, &set_of(&rt, [[1u8, 2], [3, 4]]));
-    into_iter(&rt, set_of(&rt, [1u8, 2]));
-    extract_if(&rt, &mut set_of(&rt, [1u8, 2, 3, 4]));
+    let set = set_of(&rt, [1u8, 2]);
+    iter(&rt, &set);
+    into_iter(&rt, set);
+    let set = set_of(&rt, [1u8, 2, 3]);
+    range(&rt, &set);
+    drop(set);
+    let set = set_of(&rt, [[1u8, 2], [3, 4]]);
+    prefix(&rt, &set);
+    drop(set);
+    let mut set = set_of(&rt, [1u8, 2, 3, 4]);
+    extract_if(&rt, &mut set);
+    drop(set);
 }

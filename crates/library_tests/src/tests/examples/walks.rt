@@ -1,13 +1,11 @@
 //! Walks that lend and take.
-use super::Fail;
-use blart_map::{PrefixKind, TreeMap};
-use std::alloc::Global;
+use super::Map;
+use blart_map::{PrefixKind, TryInsertError};
 use std::ops::Bound;
 use std::process::Abort;
 
 // The example of `blart_map::IterMut`.
-fn iter_mut(rt: &impl Abort, alloc: Global) -> Result<(), Fail> {
-    let mut map = TreeMap::new(alloc);
+fn iter_mut(rt: &impl Abort, map: &mut Map<'_>) -> Result<(), TryInsertError> {
     map.try_insert("cat", 1)?;
     let mut walk = map.iter_mut();
     if let Some(value) = walk.next_back() {
@@ -18,8 +16,7 @@ fn iter_mut(rt: &impl Abort, alloc: Global) -> Result<(), Fail> {
 }
 
 // The example of `blart_map::ValuesMut`.
-fn values_mut(rt: &impl Abort, alloc: Global) -> Result<(), Fail> {
-    let mut map = TreeMap::new(alloc);
+fn values_mut(rt: &impl Abort, map: &mut Map<'_>) -> Result<(), TryInsertError> {
     map.try_insert("cat", 1)?;
     let mut walk = map.values_mut();
     if let Some(value) = walk.next() {
@@ -30,8 +27,7 @@ fn values_mut(rt: &impl Abort, alloc: Global) -> Result<(), Fail> {
 }
 
 // The example of `blart_map::CountedWalk`.
-fn counted_walk(rt: &impl Abort, alloc: Global) -> Result<(), Fail> {
-    let mut map = TreeMap::new(alloc);
+fn counted_walk(rt: &impl Abort, map: &mut Map<'_>) -> Result<(), TryInsertError> {
     map.try_insert("cat", 1)?;
     let mut walk = map.iter_mut();
     assert_eq!(rt; walk.len(), 1);
@@ -39,12 +35,12 @@ fn counted_walk(rt: &impl Abort, alloc: Global) -> Result<(), Fail> {
         *value = 2;
     }
     assert_eq!(rt; walk.len(), 0);
+    drop(walk);
     Ok(())
 }
 
 // The example of `blart_map::RangeMut`.
-fn range_mut(rt: &impl Abort, alloc: Global) -> Result<(), Fail> {
-    let mut map = TreeMap::new(alloc);
+fn range_mut(rt: &impl Abort, map: &mut Map<'_>) -> Result<(), TryInsertError> {
     map.try_insert("cat", 1)?;
     let low = "b";
     let mut walk = map.range_mut(Bound::Included(&low), Bound::Unbounded);
@@ -56,8 +52,7 @@ fn range_mut(rt: &impl Abort, alloc: Global) -> Result<(), Fail> {
 }
 
 // The example of `blart_map::PrefixMut`.
-fn prefix_mut(rt: &impl Abort, alloc: Global) -> Result<(), Fail> {
-    let mut map = TreeMap::new(alloc);
+fn prefix_mut(rt: &impl Abort, map: &mut Map<'_>) -> Result<(), TryInsertError> {
     map.try_insert("cat", 1)?;
     let mut walk = map.prefix_mut(b"ca");
     if let Some(value) = walk.next() {
@@ -68,8 +63,7 @@ fn prefix_mut(rt: &impl Abort, alloc: Global) -> Result<(), Fail> {
 }
 
 // The example of `blart_map::SubtreeIterMut`.
-fn subtree_iter_mut(rt: &impl Abort, alloc: Global) -> Result<(), Fail> {
-    let mut map = TreeMap::new(alloc);
+fn subtree_iter_mut(rt: &impl Abort, map: &mut Map<'_>) -> Result<(), TryInsertError> {
     map.try_insert("cat", 1)?;
     if let PrefixKind::Inner(entry) = map.prefix_entry("ca").kind() {
         let mut walk = entry.iter_mut();
@@ -82,8 +76,7 @@ fn subtree_iter_mut(rt: &impl Abort, alloc: Global) -> Result<(), Fail> {
 }
 
 // The example of `blart_map::LendingWalk`.
-fn lending_walk(rt: &impl Abort, alloc: Global) -> Result<(), Fail> {
-    let mut map = TreeMap::new(alloc);
+fn lending_walk(rt: &impl Abort, map: &mut Map<'_>) -> Result<(), TryInsertError> {
     map.try_insert("car", 1)?;
     map.try_insert("cat", 2)?;
     let mut walk = map.prefix_mut(b"ca");
@@ -95,8 +88,7 @@ fn lending_walk(rt: &impl Abort, alloc: Global) -> Result<(), Fail> {
 }
 
 // The example of `blart_map::TakeWalk`.
-fn take_walk(rt: &impl Abort, alloc: Global) -> Result<(), Fail> {
-    let mut map = TreeMap::new(alloc);
+fn take_walk(rt: &impl Abort, map: &mut Map<'_>) -> Result<(), TryInsertError> {
     map.try_insert("cat", 1)?;
     let mut walk = map.take_walk(Bound::<&&str>::Unbounded, Bound::Unbounded);
     if let Some(value) = walk.lend() {
@@ -110,8 +102,7 @@ fn take_walk(rt: &impl Abort, alloc: Global) -> Result<(), Fail> {
 }
 
 // The example of `blart_map::ExtractIf`.
-fn extract_if(rt: &impl Abort, alloc: Global) -> Result<(), Fail> {
-    let mut map = TreeMap::new(alloc);
+fn extract_if(rt: &impl Abort, map: &mut Map<'_>) -> Result<(), TryInsertError> {
     map.try_insert("cat", 0)?;
     let mut walk = map.extract_if(
         Bound::<&&str>::Unbounded,
@@ -120,6 +111,7 @@ fn extract_if(rt: &impl Abort, alloc: Global) -> Result<(), Fail> {
     );
     assert_eq!(rt; walk.next(), Some(("cat", 0)));
     assert!(rt; walk.next().is_none());
+    drop(walk);
     Ok(())
 }
 
@@ -188,13 +180,23 @@ fn for_each_as_shown(rt: HostRuntime) {
 
 #[test]
 fn as_shown(rt: HostRuntime) {
-    iter_mut(&rt, rt.alloc()).expect(&rt, "memory");
-    values_mut(&rt, rt.alloc()).expect(&rt, "memory");
-    counted_walk(&rt, rt.alloc()).expect(&rt, "memory");
-    range_mut(&rt, rt.alloc()).expect(&rt, "memory");
-    prefix_mut(&rt, rt.alloc()).expect(&rt, "memory");
-    subtree_iter_mut(&rt, rt.alloc()).expect(&rt, "memory");
-    lending_walk(&rt, rt.alloc()).expect(&rt, "memory");
-    take_walk(&rt, rt.alloc()).expect(&rt, "memory");
-    extract_if(&rt, rt.alloc()).expect(&rt, "memory");
+    let mut map = Map::new(rt.alloc());
+    iter_mut(&rt, &mut map).expect(&rt, "memory");
+    map.clear();
+    values_mut(&rt, &mut map).expect(&rt, "memory");
+    map.clear();
+    counted_walk(&rt, &mut map).expect(&rt, "memory");
+    map.clear();
+    range_mut(&rt, &mut map).expect(&rt, "memory");
+    map.clear();
+    prefix_mut(&rt, &mut map).expect(&rt, "memory");
+    map.clear();
+    subtree_iter_mut(&rt, &mut map).expect(&rt, "memory");
+    map.clear();
+    lending_walk(&rt, &mut map).expect(&rt, "memory");
+    map.clear();
+    take_walk(&rt, &mut map).expect(&rt, "memory");
+    map.clear();
+    extract_if(&rt, &mut map).expect(&rt, "memory");
+    drop(map);
 }

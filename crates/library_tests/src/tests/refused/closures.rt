@@ -75,6 +75,7 @@ fn closures(rt: HostRuntime) {
                 puts(&mut map, way, [1, 7], &mut ran)
             };
             assert_ran(&rt, &map, put, ran);
+            drop(map);
         }
     }
 }

@@ -37,6 +37,7 @@ fn a_refused_call_is_replied_to(rt: HostRuntime) {
         Call::ContainsKey([2, 2]),
     ] else {
         say_refused(&rt);
+        drop(map);
         return;
     };
     match drive(&mut map, calls) {
@@ -46,4 +47,5 @@ fn a_refused_call_is_replied_to(rt: HostRuntime) {
             assert!(rt; map.is_empty());
         }
     }
+    drop(map);
 }

@@ -92,6 +92,7 @@ fn parts(rt: HostRuntime) {
     let Ok(mut rest) = map.split_off(&[2u8, 1]) else {
         say_refused(&rt);
         assert_eq!(rt; drops.get(), before);
+        drop(map);
         return;
     };
     assert_eq!(rt; drops.get(), before);

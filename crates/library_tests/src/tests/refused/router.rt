@@ -53,7 +53,7 @@ fn all_mounted(rt: &(impl Abort + AllocGlobal + Print), over: bool) -> Mounts<us
 
 #[test]
 fn mounts(rt: HostRuntime) {
-    let _ = all_mounted(&rt, false);
+    drop(all_mounted(&rt, false));
 }
 
 // In the place of related mounts no memory is taken but for the path.
@@ -62,4 +62,5 @@ fn mounts_over(rt: HostRuntime) {
     let mut mounts = all_mounted(&rt, true);
     assert!(rt; mounts.mount_over(path(&rt, b"/ap"), 7).is_ok());
     assert_eq!(rt; mounts.len(), 2);
+    drop(mounts);
 }

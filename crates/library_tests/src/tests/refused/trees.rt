@@ -66,6 +66,7 @@ fn make_room(rt: HostRuntime) {
         place_next(&rt, &mut tree, place, *key);
     }
     assert_keys(&rt, &tree, KEYS.len(), 2);
+    drop(tree);
 }
 
 #[test]
@@ -81,4 +82,5 @@ fn reserve(rt: HostRuntime) {
         tree.reserve(12).expect(&rt, "one request is refused");
     }
     assert_keys(&rt, &tree, 2, 1);
+    drop(tree);
 }
