@@ -1,6 +1,6 @@
 //! Calls as values, and refused insertions.
 use super::{Fail, Map};
-use blart_map::{Call, InsertPrefixError, Reply, TryInsertError, drive};
+use blart_map::{Call, InsertPrefixError, Reply, TreeMap, TryInsertError, drive};
 use std::alloc::Global;
 use std::process::Abort;
 
@@ -20,7 +20,11 @@ fn try_insert_error(rt: &impl Abort, map: &mut Map<'_>) -> Result<(), TryInsertE
 }
 
 // The example of `blart_keys::Call`.
-fn call(rt: &impl Abort, mut map: Map<'_>, alloc: Global) -> Result<(), Fail> {
+fn call<const P: usize>(
+    rt: &impl Abort,
+    mut map: TreeMap<&str, i32, P>,
+    alloc: Global,
+) -> Result<(), Fail> {
     let calls = vec![in alloc; Call::TryInsert("cat", 1), Call::PopLast]?;
     let replies = drive(&mut map, calls)?;
     assert_eq!(rt; replies.len(), 2);
@@ -31,7 +35,11 @@ fn call(rt: &impl Abort, mut map: Map<'_>, alloc: Global) -> Result<(), Fail> {
 }
 
 // The example of `blart_keys::Reply`.
-fn reply(rt: &impl Abort, mut map: Map<'_>, alloc: Global) -> Result<(), Fail> {
+fn reply<const P: usize>(
+    rt: &impl Abort,
+    mut map: TreeMap<&str, i32, P>,
+    alloc: Global,
+) -> Result<(), Fail> {
     let replies = drive(&mut map, vec![in alloc; Call::ContainsKey("cat")]?)?;
     assert!(rt; matches!(replies.first(), Some(Reply::ContainsKey(false))));
     drop(replies);

@@ -1,6 +1,7 @@
 //! A map, and entries of it.
 use super::{Fail, Map};
-use blart_map::{Entry, TryInsertError};
+use blart_map::{Entry, TreeMap, TryInsertError};
+use std::alloc::Global;
 use std::process::Abort;
 
 // The example of `blart_map::Entry`.
@@ -32,12 +33,14 @@ fn vacant_entry(rt: &impl Abort, map: &mut Map<'_>) -> Result<(), Fail> {
 }
 
 // The example of `blart_map::TreeMap`.
-fn tree_map(rt: &impl Abort, map: &mut Map<'_>) -> Result<(), TryInsertError> {
+fn tree_map<const P: usize>(rt: &impl Abort, alloc: Global) -> Result<(), TryInsertError> {
+    let mut map = TreeMap::<_, _, P>::with_prefix_len(alloc);
     map.try_insert("car", 1)?;
     map.try_insert("cat", 2)?;
     assert_eq!(rt; map.get(&"cat"), Some(&2));
     assert!(rt; map.try_insert("ca", 3).is_err());
     assert_eq!(rt; map.first_key_value(), Some((&"car", &1)));
+    drop(map);
     Ok(())
 }
 
@@ -49,7 +52,6 @@ fn as_shown(rt: HostRuntime) {
     occupied_entry(&rt, &mut map).expect(&rt, "memory");
     map.clear();
     vacant_entry(&rt, &mut map).expect(&rt, "memory");
-    map.clear();
-    tree_map(&rt, &mut map).expect(&rt, "memory");
     drop(map);
+    tree_map::<16>(&rt, rt.alloc()).expect(&rt, "memory");
 }
