@@ -32,7 +32,7 @@ pub use Rattle.blart_map.specs.OnceTaken.{taken_all, once_taken, still_to_take, 
 pub use Rattle.blart_map.specs.ExtractIf.{extract_left, CanExtract, CanExtractBack, Extracts, ExtractsNext, ExtractsNextBack}
 pub use Rattle.blart_map.specs.OnceWritten.{rewritten, all_rewritten, once_written, all_once_written}
 -- what a closure leaves that is called at each value
-pub use Rattle.blart_map.specs.EachWritten.{CalledAtEach, with_values, WritesEach, LeavesValue, LeavesPair, ActsOnValue, ActsOnPair, ActsWhere}
+pub use Rattle.blart_map.specs.EachWritten.{CalledAtEach, CallableInTurn, with_values, WritesEach, LeavesValue, TakesAtValue, LeavesPair, TakesAtPair, ActsOnValue, ActsOnPair, ActsWhere}
 -- a set as a list of elements, closed in proofs, and merges of two
 unfoldable pub use Rattle.blart_set.specs.Elements.{elements}
 pub use Rattle.blart_set.specs.Elements.{RefusesElement}

@@ -15,6 +15,8 @@ pub use Rattle.blart_map.proofs.Filtered.{kept_by, kept_by_retained, take_from_k
 pub use Rattle.blart_map.proofs.OnceTaken.{kept_first, taken_first, walk_kept, walk_taken, none_to_take, none_taken}
 -- a closure that may be called on each pair: one that may always be called, or wherever what holds for all pairs does
 pub use Rattle.art_walk.proofs.Callable.{callable_on_each_pair, callable_on_such_pairs}
+-- the same of one that `for_each` of a walk that lends calls: of the value alone, or with its key, and there over all pairs, or over those that pass a test
+pub use Rattle.blart_map.proofs.CallableInTurn.{callable_on_each_value, callable_on_such_values, callable_on_each_lent, callable_on_such_lent, callable_on_such_within}
 -- one step of a walk that extracts, where its closure tells of the pair alone
 pub use Rattle.blart_map.proofs.OnceExtracted.{extracted}
 -- the values that a closure leaves which shows a state

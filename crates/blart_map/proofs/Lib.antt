@@ -1,6 +1,7 @@
 pub mod Again
 pub mod Appending
 pub mod BulkPuts
+pub mod CallableInTurn
 pub mod CallerLemmas
 pub mod Cloning
 pub mod CountedPairs

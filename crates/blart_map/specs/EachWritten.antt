@@ -1,5 +1,7 @@
 -- What a walk that lends values leaves, where a closure is called at each of them.
-use Rattle.std.specs.Prelude.{◌≡◌, ℕ, List, [], ◌∷◌, Bool, true, false}
+use Rattle.std.specs.Prelude.{◌≡◌, ℕ, List, [], ◌∷◌, ◌++◌, Bool, true, false}
+use Rattle.std.specs.Fn.{Takes}
+use Rattle.std.specs.List.{FoldsTo}
 use denote.Ref.{Bor, MutBor}
 use denote.Param.Members.{Mut, Called}
 use Rattle.art_tree.specs.Leaves.{Numbered, with_value}
@@ -12,6 +14,14 @@ module _ {F K V : Type 0} (R : F → K × V → V → F → Type 0) where
   CalledAtEach [] f [] g = f ≡ g
   CalledAtEach (x ∷ xs) f (w ∷ values) g = (h : F) × R f x w h × CalledAtEach xs h values g
   CalledAtEach _ f _ g = ⊥
+
+  -- a call at the pair may leave f'
+  abbrev pub SomeCallAt : F → K × V → F → Type 0
+  SomeCallAt f x f' = (w : V) × R f x w f'
+
+  -- Q holds at each of these pairs, of the closure as the calls at those before have left it
+  pub record CallableInTurn (Q : F → K × V → Type 0) (f : F) (xs : List (K × V)) : Type 0 where
+    pub at : (before after : List (K × V)) (f' : F) (x : K × V) → xs ≡ before ++ x ∷ after → FoldsTo SomeCallAt f before f' → Q f' x
 
 module _ {K V : Type 0} where
   -- these pairs with these values
@@ -50,6 +60,10 @@ module _ {F K V : Type 0} (g : Mut F (MutBor V × Unit {0}) (Unit {0} × (MutBor
     pub called : Called g f (value, tt) (tt, (left, tt)) f'
     pub leaves : left.now ≡ w
 
+  -- it may be called at the value of this pair
+  abbrev pub TakesAtValue : F → K × V → Type 0
+  TakesAtValue f pair = (value : MutBor V) → value.now ≡ pair.1 → Takes g f (value, tt)
+
   -- h keeps the key of each pair, and a call at the value leaves the one that h gives, and the closure as it was
   abbrev pub ActsOnValue : F → (K × V → K × V) → Type 0
   ActsOnValue f h = (k : K) (value left : MutBor V) (f' : F) → Called g f (value, tt) (tt, (left, tt)) f' → (f' ≡ f) × ((h (k, value.now)).0 ≡ k) × (left.now ≡ (h (k, value.now)).1)
@@ -65,6 +79,10 @@ module _ {F K V : Type 0} (g : Mut F (Bor K × (MutBor V × Unit {0})) (Unit {0}
     pub left : MutBor V
     pub called : Called g f (key, (value, tt)) (tt, (left, tt)) f'
     pub leaves : left.now ≡ w
+
+  -- it may be called at the key and the value of this pair
+  abbrev pub TakesAtPair : F → K × V → Type 0
+  TakesAtPair f pair = (key : Bor K) (value : MutBor V) → key.now ≡ pair.0 → value.now ≡ pair.1 → Takes g f (key, (value, tt))
 
   -- h keeps the key of each pair, and a call at the pair leaves the value that h gives, and the closure as it was
   abbrev pub ActsOnPair : F → (K × V → K × V) → Type 0

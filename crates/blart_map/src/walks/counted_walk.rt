@@ -4,8 +4,9 @@ ghost use Rattle.std.specs.Borrow.{sem};
 ghost use Rattle.blart_keys.specs.Stored.{pair_at, value_at};
 ghost use Rattle.art_tree.specs.Leaves.{leaf_in};
 ghost use Rattle.art_walk.specs.Lent.{count_fits, numbers};
+ghost use Rattle.art_walk.specs.Pairs.{pairs_of};
 ghost use Rattle.blart_map.specs.Content.{pairs, Numbered};
-ghost use Rattle.blart_map.specs.EachWritten.{WritesLeft, WritesEach, LeavesValue, LeavesPair, ActsOnValue, ActsOnPair};
+ghost use Rattle.blart_map.specs.EachWritten.{CallableInTurn, WritesLeft, WritesEach, LeavesValue, TakesAtValue, LeavesPair, TakesAtPair, ActsOnValue, ActsOnPair};
 
 use crate::map::TreeMap;
 use art_tree::LeafId;
@@ -84,7 +85,8 @@ impl<'a, K: AsBytes + Drop, V: Drop, const PREFIX_LEN: usize> CountedWalk<
     /// assert_eq!(map.get(&"horse"), Some(&7));
     /// ```
     pub fn for_each<F: FnMut(&K, &mut V) + Drop>(self, f: F)
-        requires { F.IsAlwaysCallable f }
+        requires { CallableInTurn (LeavesPair F.FnMut) (TakesAtPair F.FnMut) f
+            (pairs_of (counted_left self)) }
         ensures left { WritesLeft (LeavesPair F.FnMut) (counted_left self.entry)
             self.entry.map.now f self.exit.0.now }
         ensures keys { map (λ p. p.0) (pairs self.exit.0.now)
@@ -150,7 +152,8 @@ impl<'a, K: AsBytes + Drop, V: Drop, const PREFIX_LEN: usize> CountedWalk<
     /// assert_eq!(map.get(&"dog"), Some(&3));
     /// ```
     pub fn for_each<F: FnMut(&mut V) + Drop>(self, f: F)
-        requires { F.IsAlwaysCallable f }
+        requires { CallableInTurn (LeavesValue F.FnMut) (TakesAtValue F.FnMut) f
+            (pairs_of (counted_left self)) }
         ensures left { WritesLeft (LeavesValue F.FnMut) (counted_left self.entry)
             self.entry.map.now f self.exit.0.now }
         ensures keys { map (λ p. p.0) (pairs self.exit.0.now)

@@ -1,6 +1,7 @@
 //! Closures called at each value that a walk lends.
 ghost use Rattle.art_walk.specs.Cursor.{leaves_left, FitsIn};
-ghost use Rattle.blart_map.specs.EachWritten.{WritesLeft, LeavesValue, LeavesPair};
+ghost use Rattle.art_walk.specs.Pairs.{pairs_of};
+ghost use Rattle.blart_map.specs.EachWritten.{CallableInTurn, WritesLeft, LeavesValue, TakesAtValue, LeavesPair, TakesAtPair};
 
 use crate::map::TreeMap;
 use art_walk::Cursor;
@@ -10,7 +11,8 @@ impl<K: AsBytes + Drop, V: Drop, const PREFIX_LEN: usize> TreeMap<K, V, PREFIX_L
     // Calls the closure once at each value that the cursor has left, front to back.
     pub(crate) fn write_values<F: FnMut(&mut V) + Drop>(&mut self, mut cursor: Cursor, mut f: F)
         requires fits { FitsIn cursor self.old }
-        requires callable { F.IsAlwaysCallable f }
+        requires callable { CallableInTurn (LeavesValue F.FnMut) (TakesAtValue F.FnMut) f
+            (pairs_of (leaves_left cursor self.old)) }
         ensures { WritesLeft (LeavesValue F.FnMut) (leaves_left cursor self.old) self.old f
             self.new }
     {
@@ -24,7 +26,8 @@ impl<K: AsBytes + Drop, V: Drop, const PREFIX_LEN: usize> TreeMap<K, V, PREFIX_L
     // The same with the key of each.
     pub(crate) fn write_pairs<F: FnMut(&K, &mut V) + Drop>(&mut self, mut cursor: Cursor, mut f: F)
         requires fits { FitsIn cursor self.old }
-        requires callable { F.IsAlwaysCallable f }
+        requires callable { CallableInTurn (LeavesPair F.FnMut) (TakesAtPair F.FnMut) f
+            (pairs_of (leaves_left cursor self.old)) }
         ensures { WritesLeft (LeavesPair F.FnMut) (leaves_left cursor self.old) self.old f
             self.new }
     {

@@ -3,8 +3,9 @@ ghost use Rattle.std.specs.Prelude.{◌≡◌, List, [], Bool, true, length, map
 ghost use Rattle.std.specs.Borrow.{sem};
 ghost use Rattle.art_tree.specs.Leaves.{leaf_in};
 ghost use Rattle.art_walk.specs.Lent.{walk_fits, numbers};
+ghost use Rattle.art_walk.specs.Pairs.{pairs_of};
 ghost use Rattle.blart_map.specs.Content.{pairs, Numbered};
-ghost use Rattle.blart_map.specs.EachWritten.{WritesLeft, LeavesPair, ActsOnPair, ActsWhere};
+ghost use Rattle.blart_map.specs.EachWritten.{CallableInTurn, WritesLeft, LeavesPair, TakesAtPair, ActsOnPair, ActsWhere};
 
 use crate::map::TreeMap;
 use art_tree::LeafId;
@@ -177,7 +178,8 @@ impl<'a, K: AsBytes + Drop, V: Drop, M: Drop, const PREFIX_LEN: usize> LendingWa
     /// assert_eq!(map.get(&"dog"), Some(&2));
     /// ```
     pub fn for_each<F: FnMut(&K, &mut V) + Drop>(self, f: F)
-        requires { F.IsAlwaysCallable f }
+        requires { CallableInTurn (LeavesPair F.FnMut) (TakesAtPair F.FnMut) f
+            (pairs_of (lending_left self)) }
         ensures left { WritesLeft (LeavesPair F.FnMut) (lending_left self.entry)
             self.entry.map.now f self.exit.0.now }
         ensures keys { map (λ p. p.0) (pairs self.exit.0.now)

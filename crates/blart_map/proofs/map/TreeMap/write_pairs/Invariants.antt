@@ -1,13 +1,14 @@
 use Rattle.std.proofs.Common.{length}
 use Rattle.art_tree.specs.Leaves.{AreDistinct}
 use Rattle.art_walk.specs.Cursor.{leaves_left, FitsIn}
-use Rattle.blart_map.specs.EachWritten.{LeavesPair}
+use Rattle.art_walk.specs.Pairs.{pairs_of}
+use Rattle.blart_map.specs.EachWritten.{CallableInTurn, LeavesPair, TakesAtPair}
 use Rattle.blart_map.proofs.EachWritten.{Writing}
 use Rattle.blart_map.proofs.map.TreeMap.write_pairs.Given as goal
 
 abbrev pub invariant-leaves : goal.invariant-leaves
 invariant-leaves g l =
-    goal.F-IsAlwaysCallable g l.f × FitsIn l.cursor l.self × AreDistinct l.self
+    CallableInTurn (LeavesPair g.F.FnMut) (TakesAtPair g.F.FnMut) l.f (pairs_of (leaves_left l.cursor l.self)) × FitsIn l.cursor l.self × AreDistinct l.self
     × Writing (LeavesPair g.F.FnMut) (leaves_left l.initial.cursor l.initial.self) l.initial.self l.initial.f (leaves_left l.cursor l.self) l.self l.f
 
 abbrev pub decreases-leaves : goal.decreases-leaves
