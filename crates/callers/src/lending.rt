@@ -1,5 +1,5 @@
 //! Values of a map that are written in a walk, and pairs that a closure picks.
-ghost use Rattle.std.specs.Prelude.{◌≡◌, ◌+◌, ◌%◌, ◌^◌, ℕ, List, map, min, cond, option_map};
+ghost use Rattle.std.specs.Prelude.{◌≡◌, ◌+◌, ◌%◌, ◌^◌, ◌<◌, All, ℕ, List, map, min, cond, option_map};
 ghost use Rattle.blart.specs.Words.{pairs, begins, value_at, zkey_bytes};
 
 use blart::{AsBytes, Map, ZKey};
@@ -40,4 +40,12 @@ pub fn clear_below<K: AsBytes + Drop>(scores: &mut Map<K, u64>, front: &[u8])
         ≡ map (λ p. cond (begins front.now (K.bytes p.0)) (p.0, 0) p) (pairs scores.old) }
 {
     scores.prefix_mut(front).for_each(|_, value| *value = 0);
+}
+
+/// Adds one to each value, where none is the greatest of its type.
+pub fn raise_each<K: AsBytes + Drop>(scores: &mut Map<K, u64>)
+    requires { All (λ p. p.1 + 1 < 2 ^ 64) (pairs scores.old) }
+    ensures { pairs scores.new ≡ map (λ p. (p.0, p.1 + 1)) (pairs scores.old) }
+{
+    scores.values_mut().for_each(|value| *value += 1);
 }

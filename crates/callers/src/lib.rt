@@ -25,7 +25,7 @@ pub use entries::{
     borrow_place, count_at, count_by_entry, redirect, replace_score, score, set_first, set_route,
     set_score, tally, toggle, try_place, update_score,
 };
-pub use lending::{age_all, cap_all, clear_below, raise_below};
+pub use lending::{age_all, cap_all, clear_below, raise_below, raise_each};
 pub use moves::{add_or_give_back, len_with, len_without, move_first_between, move_one, rename};
 pub use owning::{into_values_vec, into_vec};
 pub use parts::{give_all, have_one_digest, later, part_and_join};
