@@ -1,11 +1,12 @@
 //! Prefix entries.
 use super::{Fail, Map};
-use blart_map::{PrefixEntry, PrefixKind, TryInsertError};
-use std::alloc::AllocError;
+use blart_map::{PrefixEntry, PrefixKind, TreeMap};
+use std::alloc::{AllocError, Global};
 use std::process::Abort;
 
 // The example of `blart_map::InnerOccupiedEntry`.
-fn inner_occupied_entry(rt: &impl Abort, map: &mut Map<'_>) -> Result<(), TryInsertError> {
+fn inner_occupied_entry(rt: &impl Abort, alloc: Global) -> Result<(), Fail> {
+    let mut map = TreeMap::new(alloc);
     map.try_insert("car", 1)?;
     map.try_insert("cat", 2)?;
     if let PrefixKind::Inner(entry) = map.prefix_entry("ca").kind() {
@@ -39,7 +40,8 @@ fn prefix_kind(rt: &impl Abort, map: &mut Map<'_>) -> Result<(), AllocError> {
 }
 
 // The example of `blart_map::PrefixOccupied`.
-fn prefix_occupied(rt: &impl Abort, map: &mut Map<'_>) -> Result<(), TryInsertError> {
+fn prefix_occupied(rt: &impl Abort, alloc: Global) -> Result<(), Fail> {
+    let mut map = TreeMap::new(alloc);
     map.try_insert("car", 1)?;
     if let PrefixEntry::Occupied(entry) = map.prefix_entry("ca") {
         assert_eq!(rt; entry.get_key(), Some(&"car"));
@@ -52,12 +54,10 @@ fn prefix_occupied(rt: &impl Abort, map: &mut Map<'_>) -> Result<(), TryInsertEr
 #[test]
 fn as_shown(rt: HostRuntime) {
     let mut map = Map::new(rt.alloc());
-    inner_occupied_entry(&rt, &mut map).expect(&rt, "memory");
-    map.clear();
     prefix_entry(&rt, &mut map).expect(&rt, "memory");
     map.clear();
     prefix_kind(&rt, &mut map).expect(&rt, "memory");
-    map.clear();
-    prefix_occupied(&rt, &mut map).expect(&rt, "memory");
     drop(map);
+    inner_occupied_entry(&rt, rt.alloc()).expect(&rt, "memory");
+    prefix_occupied(&rt, rt.alloc()).expect(&rt, "memory");
 }
