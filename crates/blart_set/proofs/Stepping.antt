@@ -1,5 +1,5 @@
 -- One step of two sets walked side by side.
-use Rattle.std.proofs.Common.{Less, Equal, Greater, ◌≡◌, ℕ, ◌+◌, ◌<◌, Bool, true, false, not, inl, inr, List, ◌∷◌, ◌⊎◌, length, drop, refl, sym, ap, ◌∙◌, subst, cond, filter, arith, Some, None}
+use Rattle.std.proofs.Common.{Less, Equal, Greater, ◌≡◌, ℕ, ◌+◌, ◌<◌, Bool, true, false, not, inl, inr, List, [], ◌∷◌, ◌⊎◌, length, drop, refl, sym, ap, ◌∙◌, subst, cond, filter, arith, Some, None}
 use Rattle.std.specs.Set.{sorted_merge}
 use Rattle.std.specs.Cmp.Lexicographic.{bytes_decides}
 use denote.Ref.{Bor}
@@ -137,6 +137,9 @@ module _ {K : Type 0} (kb : K → List ℕ) where
       none : (A : List K) → filter (λ x. stores kb [] (kb x)) A ≡ []
       none [] = refl
       none (x ∷ A) = none A
+
+  pub lacking_over : (m : Merge K) → m.left ≡ [] → lacking kb m ≡ []
+  lacking_over m e = ap (λ l. filter (λ x. not (stores kb m.right (kb x))) l) e
 
 -- a list with one more before it is longer
 pub longer : {K : Type 0} (A B : List K) (x : K) → A ≡ x ∷ B → length B < length A
