@@ -15,6 +15,7 @@ fn inner_occupied_entry(rt: &impl Abort, alloc: Global) -> Result<(), Fail> {
     }
     assert_eq!(rt; map.get(&"ca"), Some(&4));
     assert_eq!(rt; map.len(), 1);
+    drop(map);
     Ok(())
 }
 
@@ -48,6 +49,7 @@ fn prefix_occupied(rt: &impl Abort, alloc: Global) -> Result<(), Fail> {
         *entry.insert(2) = 3;
     }
     assert_eq!(rt; map.get(&"ca"), Some(&3));
+    drop(map);
     Ok(())
 }
 
