@@ -1,6 +1,6 @@
 //! Walks that lend and take.
 use super::Map;
-use blart_map::{PrefixKind, TryInsertError};
+use blart_map::{PrefixKind, TreeMap, TryInsertError};
 use std::ops::Bound;
 use std::process::Abort;
 
@@ -115,10 +115,12 @@ fn extract_if(rt: &impl Abort, map: &mut Map<'_>) -> Result<(), TryInsertError> 
     Ok(())
 }
 
+// A map whose values are lengths.
+type Counts<'a> = TreeMap<&'a str, usize, 16>;
+
 // The examples of `for_each`.
-fn values_for_each(rt: &impl Abort, alloc: Global) -> Result<(), Fail> {
-    let mut map = TreeMap::new(alloc);
-    map.try_insert("cat", 1usize)?;
+fn values_for_each(rt: &impl Abort, map: &mut Counts<'_>) -> Result<(), TryInsertError> {
+    map.try_insert("cat", 1)?;
     map.try_insert("dog", 2)?;
     map.values_mut()
         .for_each(|value| *value = value.wrapping_add(1));
@@ -127,9 +129,8 @@ fn values_for_each(rt: &impl Abort, alloc: Global) -> Result<(), Fail> {
     Ok(())
 }
 
-fn pairs_for_each(rt: &impl Abort, alloc: Global) -> Result<(), Fail> {
-    let mut map = TreeMap::new(alloc);
-    map.try_insert("cat", 1usize)?;
+fn pairs_for_each(rt: &impl Abort, map: &mut Counts<'_>) -> Result<(), TryInsertError> {
+    map.try_insert("cat", 1)?;
     map.try_insert("horse", 2)?;
     map.iter_mut()
         .for_each(|key, value| *value = value.wrapping_add(key.len()));
@@ -138,9 +139,8 @@ fn pairs_for_each(rt: &impl Abort, alloc: Global) -> Result<(), Fail> {
     Ok(())
 }
 
-fn prefix_for_each(rt: &impl Abort, alloc: Global) -> Result<(), Fail> {
-    let mut map = TreeMap::new(alloc);
-    map.try_insert("car", 1usize)?;
+fn prefix_for_each(rt: &impl Abort, map: &mut Counts<'_>) -> Result<(), TryInsertError> {
+    map.try_insert("car", 1)?;
     map.try_insert("dog", 2)?;
     map.prefix_mut(b"ca").for_each(|_, value| *value = 0);
     assert_eq!(rt; map.get(&"car"), Some(&0));
@@ -149,15 +149,14 @@ fn prefix_for_each(rt: &impl Abort, alloc: Global) -> Result<(), Fail> {
 }
 
 // The calls come front to back, also where the walk has lent from both ends.
-fn for_each_in_order(rt: &impl Abort, alloc: Global) -> Result<(), Fail> {
-    let mut map = TreeMap::new(alloc);
+fn for_each_in_order(rt: &impl Abort, map: &mut Counts<'_>) -> Result<(), TryInsertError> {
     for letter in ["a", "b", "c", "d", "e"] {
-        map.try_insert(letter, 9u8)?;
+        map.try_insert(letter, 9)?;
     }
     let mut walk = map.values_mut();
     assert!(rt; walk.next().is_some());
     assert!(rt; walk.next_back().is_some());
-    let mut count = 0u8;
+    let mut count = 0;
     walk.for_each(|value| {
         *value = count;
         count = count.wrapping_add(1);
@@ -172,10 +171,15 @@ fn for_each_in_order(rt: &impl Abort, alloc: Global) -> Result<(), Fail> {
 
 #[test]
 fn for_each_as_shown(rt: HostRuntime) {
-    values_for_each(&rt, rt.alloc()).expect(&rt, "memory");
-    pairs_for_each(&rt, rt.alloc()).expect(&rt, "memory");
-    prefix_for_each(&rt, rt.alloc()).expect(&rt, "memory");
-    for_each_in_order(&rt, rt.alloc()).expect(&rt, "memory");
+    let mut map = Counts::new(rt.alloc());
+    values_for_each(&rt, &mut map).expect(&rt, "memory");
+    map.clear();
+    pairs_for_each(&rt, &mut map).expect(&rt, "memory");
+    map.clear();
+    prefix_for_each(&rt, &mut map).expect(&rt, "memory");
+    map.clear();
+    for_each_in_order(&rt, &mut map).expect(&rt, "memory");
+    drop(map);
 }
 
 #[test]
