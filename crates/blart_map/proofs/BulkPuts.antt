@@ -1,6 +1,7 @@
 -- Pairs put one after another.
-use Rattle.std.proofs.Common.{◌≡◌, ℕ, List, [], ◌∷◌, ◌++◌, Option, Some, refl, sym, subst, length, arith, Result, Ok, Err, OnErr}
-use Rattle.std.specs.Iterator.{Yields}
+use Rattle.std.proofs.Common.{◌≡◌, ◌∙◌, ℕ, List, [], ◌∷◌, ◌++◌, Option, Some, refl, sym, subst, length, arith, map-id, Result, Ok, Err, IfOk, OnErr}
+use Rattle.std.specs.Iterator.{Yields, Drains}
+use Rattle.std.proofs.lemmas.Iterator.{YieldsList, items_from_drains}
 use Rattle.blart_keys.specs.Bulk.{PutsAll}
 use Rattle.blart_keys.specs.Content.{at, IsPut}
 
@@ -18,10 +19,14 @@ first_came steps s (y ∷ xs) x rest h = (y, h.0, h.1)
 pub puts_same : {X : Type 0} (bytes : X → List ℕ) (keep : Option X → X → X) (S : List X) (xs : List X) (T U : List X) → PutsAll bytes keep S xs T → U ≡ T → PutsAll bytes keep S xs U
 puts_same bytes keep S xs T U h e = subst (PutsAll bytes keep S xs) (sym e) h
 
--- a list of no length is empty
-pub no_items : {X : Type 0} (xs : List X) → length xs ≡ 0 → xs ≡ []
-no_items [] e = refl
-no_items (x ∷ xs) e = absurd (omega arith)
+-- what holds of the items that were drained holds of all that there were
+pub of_all : {S A : Type 0} {steps : S → Option A → S → Type 0} {s : S} {all : List A} → YieldsList steps (λ y. y) s all → (P : List A → Type 0) → (xs : List A) × Drains steps s xs × P xs → P all
+of_all e P d = subst P (sym (map-id d.0) ∙ items_from_drains d.0 (d.1.1.0, d.1.1.1, λ _. (d.1.0, d.1.1.2)) e) d.2
+
+-- what follows at a value follows at `Ok`
+pub on_ok : {A E : Type 0} {P Q : A → Type 0} (r : Result A E) → ((a : A) → P a → Q a) → IfOk r P → IfOk r Q
+on_ok (Ok a) f p = f a p
+on_ok (Err e) f p = p
 
 -- what holds anyway holds at an error
 pub on_err : {A E P : Type 0} (r : Result A E) → P → OnErr r P

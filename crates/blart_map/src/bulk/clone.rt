@@ -25,7 +25,6 @@ impl<K: AsBytes + Clone, V: Clone, const PREFIX_LEN: usize> TreeMap<K, V, PREFIX
     /// let copy = map.clone()?;
     /// assert!(copy == map);
     /// ```
-    #[tactic(auto, unfolding(crate::specs::Content::pairs))]
     pub fn clone(&self) -> Result<Self, AllocError>
         requires { (k j : K) (v : V) → Contains (pairs self.now) (k, v) → K.is_clone k j
             → K.bytes j ≡ K.bytes k }
@@ -33,14 +32,24 @@ impl<K: AsBytes + Clone, V: Clone, const PREFIX_LEN: usize> TreeMap<K, V, PREFIX
             AreClones K.bytes K.is_clone V.is_clone (pairs self.now) (pairs copy)) }
         ensures refused { OnErr result (pairs self.now ≢ []) }
     {
-        let mut tree = Tree::new(self.alloc);
-        self.law();
-        tree.reserve(self.len())?;
-        clone_pairs(self.iter(), &mut tree)?;
-        Ok(TreeMap {
-            tree,
-            alloc: self.alloc,
-        })
+        let mut copy = TreeMap::with_prefix_len(self.alloc);
+        copy.fill(self)?;
+        Ok(copy)
+    }
+
+    // Fills an empty map with clones of the other's pairs.
+    #[tactic(auto, unfolding(crate::specs::Content::pairs))]
+    fn fill(&mut self, other: &Self) -> Result<(), AllocError>
+        requires keys { (k j : K) (v : V) → Contains (pairs other.now) (k, v) → K.is_clone k j
+            → K.bytes j ≡ K.bytes k }
+        requires empty { pairs self.old ≡ [] }
+        ensures cloned { OnOk result
+            (AreClones K.bytes K.is_clone V.is_clone (pairs other.now) (pairs self.new)) }
+        ensures refused { OnErr result (pairs other.now ≢ []) }
+    {
+        other.law();
+        self.tree.reserve(other.len())?;
+        clone_pairs(other.iter(), &mut self.tree)
     }
 }
 

@@ -39,13 +39,7 @@ impl<K: NoPrefixesBytes + Drop, V: Drop, const PREFIX_LEN: usize> TreeMap<K, V, 
         ensures made { IfOk result (λ map. PutsAll (bytes K.bytes) kept_pair [] items.items (pairs map)) }
         ensures refused { OnErr result (items.items ≢ []) }
     {
-        let mut map = TreeMap::with_prefix_len(alloc);
-        for item in items {
-            if let Err(refused) = map.put(item.0, item.1) {
-                return Err(refused);
-            }
-        }
-        Ok(map)
+        TreeMap::from_iter(alloc, items.into_iter())
     }
 }
 
@@ -76,9 +70,7 @@ impl<K: NoPrefixesBytes + Copy + Drop, V: Copy + Drop, const PREFIX_LEN: usize> 
         ensures refused { OnErr result (items.now ≢ []) }
     {
         for item in items {
-            if let Err(refused) = self.put(item.0, item.1) {
-                return Err(refused);
-            }
+            self.put(item.0, item.1)?;
         }
         Ok(())
     }
