@@ -1,12 +1,12 @@
 -- A node gets a child, loses one, or has one led elsewhere.
-use Rattle.std.proofs.Common.{◌≡◌, ◌≢◌, ℕ, zero, suc, ◌+◌, ◌-◌, ◌<◌, ◌≤◌, List, [], ◌∷◌, ◌++◌, length, get_or, take, drop, set, Some, None, IsSome, refl, arith, cond, eqb, true, false, sym, ap, ◌∙◌, subst, eq-eqb, inl, inr}
+use Rattle.std.proofs.Common.{◌≡◌, ◌≢◌, ℕ, zero, suc, ◌+◌, ◌-◌, ◌<◌, ◌≤◌, List, [], ◌∷◌, ◌++◌, length, get_or, take, drop, set, Some, None, IsSome, refl, arith, eqb, true, false, sym, ap, ◌∙◌, subst, eq-eqb, inl, inr}
 use Rattle.std.proofs.lemmas.Bool.{ne_eqb}
-use Rattle.std.proofs.lemmas.Bool.Decides.{eqb_tells, leb_tells}
+use Rattle.std.proofs.lemmas.Bool.Decides.{eqb_tells}
 use Rattle.std.proofs.lemmas.List.{length-take-le}
 use Rattle.art_kinds.specs.Edges.{child_at, AscendsAbove, Ascends, edges_with, edges_without, edges_with_child, AddsChild, DropsChild, RedirectsChild, Sorted}
 use Rattle.art_kinds.specs.declared.records.ids.Child.{Child}
 use Rattle.art_kinds.specs.declared.records.ids.Edge.{Edge}
-use Rattle.art_kinds.proofs.EdgeShifts.{AllBytes, child_at-edges_with, edges_with-Ascends, length-edges_with, child_at-edges_without, edges_without-Ascends, length-edges_without}
+use Rattle.art_kinds.proofs.EdgeShifts.{child_at-edges_with, edges_with-Ascends, length-edges_with, child_at-edges_without, edges_without-Ascends, length-edges_without}
 
 -- an edge more adds a child
 pub edges_with-adds : (es : List Edge) (e : Edge) → Ascends es → child_at es e.byte ≡ None → AddsChild es (edges_with es e) e.byte e.to
@@ -92,20 +92,6 @@ module _ (b : ℕ) (to : Child) where
   redone-here (x ∷ es) i zero d l m h = absurd (omega arith)
   redone-here (x ∷ es) zero (suc n) d l m h = let t : eqb x.byte b ≡ true = eq-eqb x.byte b h in rw t refl
   redone-here (x ∷ es) (suc i) (suc n) d l m h = ap (λ (t : List Edge). x ∷ t) (redone-here es i n d (omega arith) (omega arith) h)
-
--- the edges have bytes
-bytes_of : (es : List Edge) → ((b : ℕ) → 256 ≤ b → child_at es b ≡ None) → AllBytes es
-bytes_of [] h = tt
-bytes_of (x ∷ es) h =
-    elim (leb_tells 256 x.byte) [
-      | inl p ↦ (
-          let t : eqb x.byte x.byte ≡ true = eq-eqb x.byte x.byte refl in
-          let f : Some x.to ≡ None = rw t at (h x.byte p.1) in
-          absurd cc)
-      | inr p ↦ (
-          let l : x.byte < 256 = p.1 in
-          (l, bytes_of es (λ b m. (let t : eqb x.byte b ≡ false = ne_eqb x.byte b (λ z. omega (arith, z)) in let g : cond (eqb x.byte b) (Some x.to) (child_at es b) ≡ None = h b m in rw t at g))))
-    ]
 
 module _ (n r : ℕ) (es fs : List Edge) (s : Sorted n r es) where
   -- so many edges are in use

@@ -34,13 +34,6 @@ pub AscendsAbove-Ascends : (k : ℕ) (es : List Edge) → AscendsAbove k es → 
 AscendsAbove-Ascends k [] a = tt
 AscendsAbove-Ascends k (x ∷ es) a = a.1
 
--- no more stand before a byte than there are
-pub count_within : (es : List Edge) (b : ℕ) → edges_below es b ≤ length es
-count_within [] b = omega arith
-count_within (x ∷ es) b =
-    let ih : edges_below es b ≤ length es = count_within es b in
-    elim (leb_tells (suc x.byte) b) [ inl p ↦ rw p.0 (omega arith) | inr p ↦ rw p.0 (omega arith) ]
-
 -- ---- one edge more
 
 -- it goes behind those before its byte
@@ -278,18 +271,3 @@ AscendsAbove-short k (x ∷ es) l a h =
 pub Ascends-short : (es : List Edge) → Ascends es → AllBytes es → length es ≤ 256
 Ascends-short [] a h = omega arith
 Ascends-short (x ∷ es) a h = let ih : x.byte + length es < 256 = AscendsAbove-short x.byte es h.0 a h.1 in omega arith
-
-AllBytes-edges_with : (es : List Edge) (e : Edge) → e.byte < 256 → AllBytes es → AllBytes (edges_with es e)
-AllBytes-edges_with [] e l h = (l, tt)
-AllBytes-edges_with (x ∷ es) e l h =
-    elim (leb_tells (suc x.byte) e.byte) [
-      | inl p ↦ rw p.0 (h.0, AllBytes-edges_with es e l h.1)
-      | inr p ↦ rw p.0 (l, h)
-    ]
-
--- where a byte has no edge, there are fewer than 256
-pub short-absent : (es : List Edge) (e : Edge) → Ascends es → AllBytes es → e.byte < 256 → child_at es e.byte ≡ None → length es < 256
-short-absent es e a h l n =
-    let k : length (edges_with es e) ≤ 256 = Ascends-short (edges_with es e) (edges_with-Ascends es e a n) (AllBytes-edges_with es e l h) in
-    let q : length (edges_with es e) ≡ suc (length es) = length-edges_with es e in
-    omega arith

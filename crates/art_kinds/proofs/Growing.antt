@@ -3,7 +3,7 @@ use Rattle.std.proofs.Common.{◌≡◌, ◌≢◌, ℕ, zero, suc, ◌+◌, ◌
 use Rattle.std.proofs.Math.Nat.{mul-le-mul_left}
 use Rattle.std.proofs.lemmas.Bool.{cases_eq}
 use Rattle.std.proofs.lemmas.Bool.Decides.{leb_tells}
-use Rattle.art_kinds.specs.Nodes.{Node, Nodes, store_of, at, over, grown, floor, places, takes, figure, serves, HasPlace, FitsMore, FitsNew, Lowers, MoreSpares, Makes, Renames, room}
+use Rattle.art_kinds.specs.Nodes.{Node, Nodes, store_of, at, over, grown, floor, places, takes, figure, serves, HasPlace, FitsMore, Lowers, MoreSpares, Makes, Renames, room}
 use Rattle.art_kinds.specs.declared.records.ids.Edge.{Edge}
 use Rattle.art_kinds.specs.Store.{Store, slot_at}
 use Rattle.art_kinds.specs.Inners.{nodes_in}
@@ -191,21 +191,6 @@ has_place t m d j x md mj is few z e l =
     let h : length x.edges < places d = few (omega arith) in
     subst (λ (y : Node). length y.edges < places (m % 4)) g (subst (λ k. length x.edges < places k) (sym md) h)
 
--- a node that keeps its number
-pub renames_not : (s : Nodes) (n : ℕ) (x : Node) → at s n ≡ Some x → Renames (at s) (at s) n n
-renames_not s n x is = record {
-  node = x;
-  was = is;
-  is = is;
-  fresh = λ off. absurd (off refl);
-  gone = λ off. absurd (off refl);
-  others = λ j p q. refl;
-}
-
--- where nothing changes no figure falls
-pub lowers_not : (s : Nodes) (k : ℕ) → Lowers k s s
-lowers_not s k = record { this = omega arith; others = λ j l off. omega arith }
-
 -- a store keeps its nodes, and gets more spare records
 pub record Kept (a b : Store Node) : Type 0 where
   pub same : (j : ℕ) → slot_at b j ≡ slot_at a j
@@ -255,10 +240,6 @@ spare_next v n d m l h x is full = subst (λ k. 0 < (store_of v (k + 1)).spare) 
 -- a store of records that gets spare records
 pub kept_in : {P : ℕ} (a b : Store (Inner (List Edge) P)) → ((j : ℕ) → slot_at b j ≡ slot_at a j) → a.spare ≤ b.spare → Kept (nodes_in a) (nodes_in b)
 kept_in a b same up = record { same = λ j. node_at b j (slot_at a j) (same j) ∙ sym (node_at a j (slot_at a j) refl); spares = up }
-
--- where there is room for a placement, a new node fits
-pub fits_new : (s : Nodes) → 1 ≤ room s → FitsNew s
-fits_new s h = (room-figures s 1 h).0
 
 -- and each node fits an edge more
 pub fits_more : (s : Nodes) (n : ℕ) → 1 ≤ room s → FitsMore s n

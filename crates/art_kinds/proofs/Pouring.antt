@@ -4,7 +4,7 @@ use Rattle.std.proofs.lemmas.Bool.{ne_eqb, cases_eq}
 use Rattle.std.proofs.lemmas.Bool.Decides.{eqb_tells, leb_tells}
 use Rattle.std.proofs.lemmas.List.{length-replicate}
 use Rattle.std.proofs.lemmas.List.Sums.{sum_by-cons}
-use Rattle.art_kinds.specs.Edges.{child_at, AscendsAbove, Ascends, AddsChild, IsIndex, Filled, table}
+use Rattle.art_kinds.specs.Edges.{child_at, AscendsAbove, Ascends, AddsChild, IsIndex, table}
 use Rattle.art_kinds.specs.declared.records.ids.Child.{Child}
 use Rattle.art_kinds.specs.declared.records.ids.Edge.{Edge}
 use Rattle.art_kinds.proofs.EdgeShifts.{same_edges, AscendsAbove-Ascends, AscendsAbove-absent}
@@ -84,10 +84,6 @@ empty_index c = record {
 no_child : (n : ℕ) → count_by is_some (replicate {A = Option Child} n None) ≡ 0
 no_child zero = refl
 no_child (suc n) = let ih : count_by is_some (replicate {A = Option Child} n None) ≡ 0 = no_child n in omega (arith, ih, sum_by-cons one None (replicate {A = Option Child} n None))
-
--- a table with no child
-pub empty_table : Filled 0 (replicate {A = Option Child} 256 None)
-empty_table = record { wide = length-replicate {A = Option Child} 256 None; counted = no_child 256 }
 
 -- an edge in the front
 pub get-take : (es : List Edge) (n i : ℕ) (d : Edge) → i < n → get_or (take n es) i d ≡ get_or es i d

@@ -1,5 +1,5 @@
 -- How much room the spare records give.
-use Rattle.std.proofs.Common.{◌≡◌, ◌≢◌, ℕ, zero, suc, ◌+◌, ◌-◌, ◌*◌, ◌/◌, ◌<◌, ◌≤◌, List, [], ◌∷◌, length, get_or, Option, Some, None, is_some, count_by, sum_by, refl, sym, ap, subst, ◌∙◌, inl, inr, arith}
+use Rattle.std.proofs.Common.{◌≡◌, ◌≢◌, ℕ, zero, suc, ◌+◌, ◌*◌, ◌<◌, ◌≤◌, List, [], ◌∷◌, length, get_or, Option, Some, None, is_some, count_by, sum_by, refl, sym, ap, subst, ◌∙◌, inl, inr, arith}
 use Rattle.std.specs.Prelude.{min}
 use Rattle.std.proofs.lemmas.Bool.{cases_eq}
 use Rattle.std.proofs.lemmas.List.Sums.{sum_by-cons}
@@ -110,16 +110,6 @@ serves-13 m n g h l e = omega arith
 pub serves-33 : (m n g h : ℕ) → n + 1 ≡ m → h + 32 ≡ g → serves m 33 g ≤ serves n 33 h + 1
 serves-33 m n g h l e = omega arith
 
--- a spare record more
-pub serves-more-4 : (m n g : ℕ) → m ≤ n → serves m 4 g ≤ serves n 4 g
-serves-more-4 m n g l = omega arith
-
-pub serves-more-13 : (m n g : ℕ) → m ≤ n → serves m 13 g ≤ serves n 13 g
-serves-more-13 m n g l = omega arith
-
-pub serves-more-33 : (m n g : ℕ) → m ≤ n → serves m 33 g ≤ serves n 33 g
-serves-more-33 m n g l = omega arith
-
 -- where a node is at the edge of its kind, a placement to be served has a spare record
 pub serves-one-4 : (m g : ℕ) → 0 < serves m 4 g → 3 ≤ g → 0 < m
 serves-one-4 m g h l = omega arith
@@ -129,19 +119,6 @@ serves-one-13 m g h l = omega arith
 
 pub serves-one-33 : (m g : ℕ) → 0 < serves m 33 g → 32 ≤ g → 0 < m
 serves-one-33 m g h l = omega arith
-
--- so many spare records serve n placements, where so many nodes are live in the kind below
-pub enough-few : (n c g : ℕ) → n ≤ serves n c g
-enough-few n c g = omega arith
-
-pub enough-4 : (n l g : ℕ) → l < n → g ≤ 3 * l → n ≤ serves (l + (n - l) / 4) 4 g
-enough-4 n l g h k = omega arith
-
-pub enough-13 : (n l g : ℕ) → l < n → g ≤ 12 * l → n ≤ serves (l + (n - l) / 13) 13 g
-enough-13 n l g h k = omega arith
-
-pub enough-33 : (n l g : ℕ) → l < n → g ≤ 32 * l → n ≤ serves (l + (n - l) / 33) 33 g
-enough-33 n l g h k = omega arith
 
 -- four that fall by one at most: so does the least
 at_most : (a b c d w x y z : ℕ) → a ≤ w + 1 → b ≤ x + 1 → c ≤ y + 1 → d ≤ z + 1 → min (min a b) (min c d) ≤ min (min w x) (min y z) + 1
@@ -157,14 +134,6 @@ all_of n a b c d p q r s = omega arith
 -- where no figure falls by more than one, room does not
 pub room-falls : (s t : Nodes) → ((j : ℕ) → j < 4 → figure s j ≤ figure t j + 1) → room s ≤ room t + 1
 room-falls s t f = at_most (figure s 0) (figure s 1) (figure s 2) (figure s 3) (figure t 0) (figure t 1) (figure t 2) (figure t 3) (f 0 (omega arith)) (f 1 (omega arith)) (f 2 (omega arith)) (f 3 (omega arith))
-
--- where one figure falls by one, room does by one at most
-pub room-lowered : (k : ℕ) (s t : Nodes) → Lowers k s t → room s ≤ room t + 1
-room-lowered k s t h =
-    room-falls s t (λ j l. elim (cases_eq j k) [
-      | inl p ↦ subst (λ z. figure s z ≤ figure t z + 1) (sym p) h.this
-      | inr p ↦ (let q : figure s j ≤ figure t j = h.others j l p in omega arith)
-    ])
 
 -- a placement that widens a node and adds an edge lowers two different figures
 pub room-placed : (k n : ℕ) (s t u : Nodes) → k ≢ n → Lowers k s t → Lowers n t u → room s ≤ room u + 1

@@ -20,11 +20,6 @@ module _ {X : Type 0} where
   within (y ∷ xs) zero x e = omega arith
   within (y ∷ xs) (suc i) x e = omega (arith, within xs i x e)
 
-  -- something is a value
-  pub some_of : (o : Option X) → IsSome o → (x : X) × (o ≡ Some x)
-  some_of None h = absurd (true≢false (sym h))
-  some_of (Some x) h = (x, refl)
-
   -- how a write of one place changes the count
   pub count-set : (xs : List (Option X)) (i : ℕ) (o : Option X) → i < length xs → count_by is_some (set xs i o) + one (get_or xs i None) ≡ count_by is_some xs + one o
   count-set xs i o l = sum_by-set one xs i o None l

@@ -2,7 +2,7 @@
 use Rattle.std.proofs.Common.{◌≡◌, ◌≢◌, ℕ, zero, suc, ◌+◌, ◌-◌, ◌<◌, ◌≤◌, List, [], ◌∷◌, length, get_or, set, Option, Some, None, IsSome, is_some, count_by, refl, arith, cond, eqb, true, false, true≢false, inl, inr, sym, ap, ◌∙◌, subst, eq-eqb, zero-add}
 use Rattle.std.proofs.lemmas.Bool.{ne_eqb}
 use Rattle.std.proofs.lemmas.Bool.Decides.{leb_tells}
-use Rattle.std.proofs.lemmas.List.{get_or-set_same, get_or-set_other, length-set}
+use Rattle.std.proofs.lemmas.List.{get_or-set_same, get_or-set_other}
 use Rattle.std.proofs.lemmas.List.Sums.{sum_by-set, sum_by-cons}
 use Rattle.art_kinds.specs.Edges.{child_at, AscendsAbove, Ascends, AddsChild, DropsChild, RedirectsChild, IsFrom, IsNext, IsPrevious, IsEnd, Filled, edges_from, edges_of}
 use Rattle.art_kinds.specs.declared.records.ids.Child.{Child}
@@ -149,10 +149,6 @@ pub next-of-from : (es : List Edge) (b : ℕ) (o : Option Edge) → IsFrom es (b
 next-of-from es b None h = λ c l. h c (omega arith)
 next-of-from es b (Some e) h = (let l : b + 1 ≤ e.byte = h.0 in omega arith, h.1, λ c lo hi. h.2 c (omega arith) hi)
 
--- the edge from 0 on is the least
-pub least-of-from : (es : List Edge) (e : Edge) → IsFrom es 0 (Some e) → IsEnd true es e
-least-of-from es e h = record { there = h.1; end = λ c hi. h.2 c (omega arith) hi }
-
 -- an edge stands somewhere, where there is one
 first_there : (x : Edge) (es : List Edge) → child_at (x ∷ es) x.byte ≡ Some x.to
 first_there x es = let t : eqb x.byte x.byte ≡ true = eq-eqb x.byte x.byte refl in rw t refl
@@ -186,14 +182,6 @@ count-le (Some c ∷ t) = omega (arith, count-le t, sum_by-cons one (Some c) t)
 
 pub filled-few : (n : ℕ) (t : List (Option Child)) → Filled n t → n ≤ 256
 filled-few n t f = let w = f.wide in let c = f.counted in omega (arith, count-le t)
-
--- a place without a child leaves room
-pub filled-room : (n : ℕ) (t : List (Option Child)) (b : ℕ) (to : Child) → b < length t → Filled n t → child_at (edges_of t) b ≡ None → n < 256
-filled-room n t b to l f none =
-    let w : length t ≡ 256 = f.wide in
-    let c : count_by is_some t ≡ n = f.counted in
-    let m : one (get_or t b None) ≡ 0 = one-none (get_or t b None) (sym (child_at-edges t b) ∙ none) in
-    omega (arith, m, count-set t b (Some to) l, count-le (set t b (Some to)), length-set t b (Some to))
 
 pub filled-same : (t u : List (Option Child)) (n b : ℕ) (to : Child) → length u ≡ length t → Filled n t → RedirectsChild (edges_of t) (edges_of u) b to → Filled n u
 filled-same t u n b to same f a =

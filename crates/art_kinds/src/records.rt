@@ -7,3 +7,5 @@ mod link;
 pub(crate) mod nodes;
 mod slots;
 pub(crate) mod store;
+#[cfg(test)]
+mod tests;

@@ -29,17 +29,6 @@ numbers-placed {K = K} {V = V} (Some i) x (p ∷ ps) h = elim (eqb_tells p.0 i) 
     step m ns k = (let e : suc k + 1 ≡ suc (k + 1) = omega arith in rw e refl)
 
 module _ {K V : Type 0} (leaves : ℕ → Option (Leaf K V)) (rows : List (Numbered (List ℕ))) (count : ℕ) (ps : List (Numbered (K × V))) (f : Files leaves rows count ps) where
-  -- the same records in the same rows
-  pub files_same : (still : ℕ → Option (Leaf K V)) → ((j : ℕ) → still j ≡ leaves j) → Files still rows count ps
-  files_same still same = record {
-    distinct = f.distinct;
-    each = λ j. same j ∙ f.each j;
-    joined = f.joined;
-    filled = f.filled;
-    apart = f.apart;
-    counted = f.counted;
-  }
-
   -- a record is out, and its number out of its row
   pub files_removed : (id : ℕ) → Has ps id → (new : List (Numbered (List ℕ))) → TakesOut rows new (index_of ps id) id → (taken : ℕ → Option (Leaf K V)) → taken id ≡ None → ((j : ℕ) → j ≢ id → taken j ≡ leaves j) → (less : ℕ) → less + 1 ≡ count → Files taken new less (without_number ps id)
   files_removed id has new out taken gone rest less one = record {

@@ -10,7 +10,7 @@ use Rattle.art_kinds.specs.Store.{Store, slot_at, used_count}
 use Rattle.art_rows.specs.declared.leaves.Leaf.{Leaf}
 use Rattle.art_rows.specs.declared.row.Position.{Position}
 use Rattle.art_rows.proofs.NumbersLemmas.{eqb_same, eqb_other, has_other, split, leaf_in-split}
-use Rattle.art_rows.proofs.RowsLemmas.{among-numbers, among-nth, number_after-nth, number_before-nth, nth-within, place_in-nth, position-split, position-here, Has-among, found, standing, standing-row, standing-number, standing-within, standing-behind, standing-earlier, standing-first, standing-not_first, standing-row_end, end_of, position-none, position-last, none-last, filled-row}
+use Rattle.art_rows.proofs.RowsLemmas.{among-numbers, number_after-nth, number_before-nth, nth-within, place_in-nth, position-split, position-here, found, standing, standing-row, standing-number, standing-within, standing-behind, standing-earlier, standing-first, standing-not_first, standing-row_end, end_of, position-none, position-last, none-last, filled-row}
 
 -- what follows of what there is
 pub if_some : {A : Type 0} (o : Option A) (P Q : A → Type 0) → ((x : A) → P x → Q x) → IfSome o P → IfSome o Q
@@ -169,10 +169,6 @@ module _ {K V : Type 0} (leaves : ℕ → Option (Leaf K V)) (rows : List (Numbe
     -- or there is none
     pub backward_none : p.place ≤ 0 → number_before rows p.row ≡ None → k ≡ 0
     backward_none z e = standing-first rows k p (standing rows k p at) f.apart f.filled (omega arith) e
-
-    -- the pair at a position
-    pub pair_there : (n : ℕ) → nth (map (λ q. q.0) ps) k ≡ Some n → Has ps n
-    pair_there n e = Has-among ps n (among-nth (map (λ q. q.0) ps) k n e)
 
   -- a leaf stands where its number is
   pub stands_there : (i : ℕ) (p : Position) (ids : List ℕ) → leaf_in rows p.row ≡ Some ids → nth ids p.place ≡ Some i → position_at rows (index_of ps i) ≡ Some p

@@ -1,5 +1,5 @@
 -- What holds of lists of numbered pairs.
-use Rattle.std.proofs.Common.{◌≡◌, ◌≢◌, ℕ, ◌+◌, List, [], ◌∷◌, ◌++◌, length, map, refl, sym, ap, subst, append_assoc, ◌∙◌, Option, Some, None, IsSome, true, false, cond, eqb, inl, inr, arith}
+use Rattle.std.proofs.Common.{◌≡◌, ◌≢◌, ℕ, ◌+◌, List, [], ◌∷◌, ◌++◌, length, map, refl, sym, ap, subst, ◌∙◌, Option, Some, None, IsSome, true, false, cond, eqb, inl, inr, arith}
 use Rattle.std.specs.Prelude.{option_map, IfSome}
 use Rattle.std.specs.Option.{option_or}
 use Rattle.std.proofs.lemmas.Bool.Decides.{eqb_tells}
@@ -125,11 +125,6 @@ module _ {X : Type 0} where
   distinct_parts (q ∷ before) after p d =
       let r = distinct_parts before after p d.1 in
       ((λ e. (Lacks-parts before after p q.0 d.0).1 (sym e), r.0), r.1)
-
-  -- a number that neither list has
-  pub Lacks-append : (xs ys : List (Numbered X)) (i : ℕ) → Lacks xs i → Lacks ys i → Lacks (xs ++ ys) i
-  Lacks-append [] ys i l m = m
-  Lacks-append (x ∷ xs) ys i l m = (l.0, Lacks-append xs ys i l.1 m)
 
   -- the last number of a list that is not empty
   pub last_number-cons : (p : Numbered X) (ps : List (Numbered X)) → last_number (p ∷ ps) ≡ option_or (last_number ps) (Some p.0)
@@ -524,21 +519,9 @@ module _ {X : Type 0} where
     | inr t ↦ rw t.0 (ap (λ ns. p.0 ∷ ns) (numbers-with_pair ps i y))
   ]
 
-  -- a number that was lacking is lacking still
-  pub Lacks-with_pair : (ps : List (Numbered X)) (i : ℕ) (y : X) (j : ℕ) → Lacks ps j → Lacks (with_pair ps i y) j
-  Lacks-with_pair ps i y j l = same_lacks ps (with_pair ps i y) j (sym (numbers-with_pair ps i y)) l
-
   -- the numbers are distinct still
   pub AreDistinct-with_pair : (ps : List (Numbered X)) (i : ℕ) (y : X) → AreDistinct ps → AreDistinct (with_pair ps i y)
   AreDistinct-with_pair ps i y d = same_distinct ps (with_pair ps i y) (sym (numbers-with_pair ps i y)) d
-
-  -- the pair that it was changes nothing
-  pub with_pair-same : (ps : List (Numbered X)) (i : ℕ) (y : X) → leaf_in ps i ≡ Some y → with_pair ps i y ≡ ps
-  with_pair-same [] i y e = refl
-  with_pair-same (p ∷ ps) i y e = elim (eqb_tells p.0 i) [
-    | inl t ↦ (let f : Some p.1 ≡ Some y = rw t.0 at e in let g : y ≡ p.1 = cc in rw t.0 (ap (λ (x : X). (p.0, x) ∷ ps) g))
-    | inr t ↦ rw t.0 (ap (λ s. p ∷ s) (with_pair-same ps i y (rw t.0 at e)))
-  ]
 
   -- ---- numbers that there are
 
@@ -608,11 +591,6 @@ module _ {X : Type 0} where
   leaf_in-append [] ys i = refl
   leaf_in-append (x ∷ xs) ys i = elim (eqb_tells x.0 i) [ inl t ↦ rw t.0 refl | inr t ↦ rw t.0 (leaf_in-append xs ys i) ]
 
-  -- the first number of two lists
-  pub first_number-append : (xs ys : List (Numbered X)) → first_number (xs ++ ys) ≡ option_or (first_number xs) (first_number ys)
-  first_number-append [] ys = refl
-  first_number-append (x ∷ xs) ys = refl
-
   -- the last number of two lists
   pub last_number-append : (xs ys : List (Numbered X)) → last_number (xs ++ ys) ≡ option_or (last_number ys) (last_number xs)
   last_number-append [] ys = sym (option_or-none (last_number ys))
@@ -628,32 +606,11 @@ module _ {X : Type 0} where
       lacks_left [] ys i l = tt
       lacks_left (x ∷ xs) ys i l = (l.0, lacks_left xs ys i l.1)
 
-  -- the number behind one has that one before it
-  pub before-after : (ps : List (Numbered X)) (i j : ℕ) → AreDistinct ps → Has ps i → number_after ps i ≡ Some j → number_before ps j ≡ Some i
-  before-after ps i j d h e =
-      let s = split ps i h in
-      let f : first_number s.after ≡ Some j = sym (number_after-split i s.pair s.after s.before s.lacks) ∙ ap (λ qs. number_after qs i) (sym s.is) ∙ e in
-      go s.after f s.is
-    where
-      go : (after : List (Numbered X)) → first_number after ≡ Some j → ps ≡ (split ps i h).before ++ (i, (split ps i h).pair) ∷ after → number_before ps j ≡ Some i
-      go [] f is = cc
-      go (q ∷ after) f is =
-          let s = split ps i h in
-          let a : q.0 ≡ j = cc in
-          let front : List (Numbered X) = s.before ++ (i, s.pair) ∷ [] in
-          let eq : ps ≡ front ++ q ∷ after = is ∙ sym (append_assoc s.before ((i, s.pair) ∷ []) (q ∷ after)) in
-          let l : Lacks front q.0 = (distinct_parts front after q (subst (λ qs. AreDistinct qs) eq d)).0 in
-          ap (λ qs. number_before qs j) eq ∙ ap (λ n. number_before (front ++ q ∷ after) n) (sym a) ∙ number_before-split q.0 q.1 after front l ∙ last_number-append s.before ((i, s.pair) ∷ [])
-
   -- ---- further forms
 
   -- the number that was taken out names nothing
   pub leaf_in-without_now : (ps : List (Numbered X)) (i : ℕ) → AreDistinct ps → leaf_in (without_number ps i) i ≡ None
   leaf_in-without_now ps i d = leaf_in_lacking (without_number ps i) i (Lacks-without_now ps i d)
-
-  -- as many pairs
-  pub length-with_pair : (ps : List (Numbered X)) (i : ℕ) (y : X) → length (with_pair ps i y) ≡ length ps
-  length-with_pair ps i y = same_length (with_pair ps i y) ps (numbers-with_pair ps i y)
 
   -- a pair that is not the place is passed
   with_pair_behind-pass : (o : Option ℕ) (x p : Numbered X) (ps : List (Numbered X)) → IsSome o → is_at o p.0 ≡ false → with_pair_behind o x (p ∷ ps) ≡ p ∷ with_pair_behind o x ps
@@ -662,29 +619,3 @@ module _ {X : Type 0} where
     | inl t ↦ (let f : eqb i p.0 ≡ true = rw t.1 (eqb_same i) in let g : true ≡ false = sym f ∙ n in cc)
     | inr t ↦ rw t.0 refl
   ]
-
-  -- behind the last of those before, a pair stands between the two parts
-  pub with_pair_behind-between : (x : Numbered X) (before after : List (Numbered X)) → AreDistinct before → with_pair_behind (last_number before) x (before ++ after) ≡ before ++ x ∷ after
-  with_pair_behind-between x [] after d = refl
-  with_pair_behind-between x (p ∷ []) after d = rw (eqb_same p.0) refl
-  with_pair_behind-between x (p ∷ q ∷ before) after d =
-      with_pair_behind-pass (last_number (q ∷ before)) x p (q ∷ before ++ after) (last_is_some q before) (is_at-last (q ∷ before) p.0 d.0) ∙ ap (λ ps. p ∷ ps) (with_pair_behind-between x (q ∷ before) after d.1)
-    where
-      last_is_some : (q : Numbered X) (ps : List (Numbered X)) → IsSome (last_number (q ∷ ps))
-      last_is_some q [] = refl
-      last_is_some q (r ∷ ps) = last_is_some r ps
-
-  -- the number before one has that one behind it
-  pub after-before : (ps : List (Numbered X)) (i j : ℕ) → AreDistinct ps → Has ps i → number_before ps i ≡ Some j → number_after ps j ≡ Some i
-  after-before ps i j d h e =
-      let s = split ps i h in
-      let f : last_number s.before ≡ Some j = sym (number_before-split i s.pair s.after s.before s.lacks) ∙ ap (λ qs. number_before qs i) (sym s.is) ∙ e in
-      rw s.is (after_last s.before (i, s.pair) s.after j f (AreDistinct-parts s.before ((i, s.pair) ∷ s.after) (subst (λ qs. AreDistinct qs) s.is d)).0)
-    where
-      after_last : (before : List (Numbered X)) (p : Numbered X) (after : List (Numbered X)) (j : ℕ) → last_number before ≡ Some j → AreDistinct before → number_after (before ++ p ∷ after) j ≡ Some p.0
-      after_last [] p after j e d = absurd (cc)
-      after_last (q ∷ []) p after j e d = (let a : q.0 ≡ j = cc in rw (a, eqb_same j) refl)
-      after_last (q ∷ r ∷ before) p after j e d = elim (eqb_tells q.0 j) [
-        | inl t ↦ absurd (has_not_lacks (r ∷ before) j (Has-last (r ∷ before) j e) (subst (λ k. Lacks (r ∷ before) k) t.1 d.0))
-        | inr t ↦ rw t.0 (after_last (r ∷ before) p after j e d.1)
-      ]

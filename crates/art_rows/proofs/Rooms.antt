@@ -71,9 +71,6 @@ room_gone before (q ∷ after) r ids spare e =
 
 -- ---- the larger figure
 
-pub more_longer : (before after : List (Numbered (List ℕ))) (r : ℕ) (ids more : List ℕ) (spare : ℕ) → length more ≡ length ids + 1 → row_room (before ++ (r, ids) ∷ after) spare ≤ row_room (before ++ (r, more) ∷ after) spare + 1
-more_longer before after r ids more spare e = (let a = room_longer before after r ids more spare e in omega arith)
-
 pub more_begun : (before : List (Numbered (List ℕ))) (r s n : ℕ) (ids : List ℕ) (spare less : ℕ) → length ids ≡ 32 → less + 1 ≡ spare → row_room (before ++ (r, ids) ∷ []) spare ≤ row_room (before ++ (r, ids) ∷ (s, n ∷ []) ∷ []) less + 1
 more_begun before r s n ids spare less e h = (let a = room_begun before r s n ids spare less e h in omega arith)
 
@@ -231,13 +228,3 @@ above-numbers (r ∷ q ∷ rs) = (let n = length-append r.1 (numbers (q ∷ rs))
 -- so many rows are enough
 pub room_enough : (rows : List (Numbered (List ℕ))) (n spare : ℕ) → n / 16 + length (numbers rows) / 16 + 2 ≤ spare → n ≤ half_room rows spare
 room_enough rows n spare h = (let a = above-numbers rows in let m : min 1 (length rows) ≤ 1 = omega arith in omega arith)
-
--- ---- one place for a position
-
--- a position says how many numbers stand before it
-pub position_index : (rows : List (Numbered (List ℕ))) (k : ℕ) (p : Position) → AreDistinct rows → position_at rows k ≡ Some p → k ≡ row_start rows p.row + p.place
-position_index rows k p d at =
-    let s = standing rows k p at in
-    let e = ap (λ rs. row_start rs p.row) s.is ∙ row_start-split s.before s.after p.row s.ids (standing-lacks rows k p s d).0 in
-    let i = s.index in
-    omega arith

@@ -75,10 +75,6 @@ pub record TakesOut (rows new : List (Numbered (List ℕ))) (k n : ℕ) : Type 0
   pub others : (i : ℕ) → n ≢ i → row_with new i ≡ row_with rows i
 
 module _ (rows : List (Numbered (List ℕ))) (k : ℕ) (p : Position) (s : Standing rows k p) (d : AreDistinct rows) (f : AreFilled rows) (n : ℕ) (there : nth (numbers rows) k ≡ Some n) where
-  -- the row without the number
-  rest : List ℕ
-  rest = take p.place s.ids ++ drop (p.place + 1) s.ids
-
   nth_there : nth s.ids p.place ≡ Some n
   nth_there = sym (standing-number rows k p s) ∙ there
 

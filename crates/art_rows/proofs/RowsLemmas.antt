@@ -1,5 +1,5 @@
 -- What holds of rows of numbers.
-use Rattle.std.proofs.Common.{◌≡◌, ℕ, zero, suc, ◌+◌, ◌-◌, ◌<◌, ◌≤◌, List, [], ◌∷◌, ◌++◌, length, get_or, map, refl, sym, ap, subst, ◌∙◌, append_assoc, Option, Some, None, IsSome, Bool, true, false, cond, eqb, ltb, inl, inr, ◌⊎◌, arith}
+use Rattle.std.proofs.Common.{◌≡◌, ℕ, zero, suc, ◌+◌, ◌-◌, ◌<◌, ◌≤◌, List, [], ◌∷◌, ◌++◌, length, map, refl, sym, ap, subst, ◌∙◌, append_assoc, Option, Some, None, IsSome, Bool, true, false, cond, eqb, ltb, inl, inr, ◌⊎◌, arith}
 use Rattle.std.specs.Prelude.{option_map}
 use Rattle.std.specs.Option.{option_or}
 use Rattle.std.proofs.lemmas.Bool.Decides.{eqb_tells, nat_tests}
@@ -54,11 +54,6 @@ pub nth-append_right : {X : Type 0} (xs ys : List X) (k : ℕ) → nth (xs ++ ys
 nth-append_right [] ys k = (let e : 0 + k ≡ k = omega arith in ap (nth ys) e)
 nth-append_right (x ∷ xs) ys k = (let e : suc (length xs) + k ≡ suc (length xs + k) = omega arith in ap (nth (x ∷ (xs ++ ys))) e ∙ nth-append_right xs ys k)
 
-pub nth-some : {X : Type 0} (xs : List X) (k : ℕ) → k < length xs → (n : X) × (nth xs k ≡ Some n)
-nth-some [] k h = absurd (omega arith)
-nth-some (x ∷ xs) zero h = (x, refl)
-nth-some (x ∷ xs) (suc k) h = nth-some xs k (omega arith)
-
 pub nth-within : {X : Type 0} (xs : List X) (k : ℕ) (n : X) → nth xs k ≡ Some n → k < length xs
 nth-within [] k n h = absurd cc
 nth-within (x ∷ xs) zero n h = omega arith
@@ -79,22 +74,6 @@ module _ {X : Type 0} where
   pub Has-among : (ps : List (Numbered X)) (i : ℕ) → among (map (λ p. p.0) ps) i ≡ true → Has ps i
   Has-among [] i h = h
   Has-among (p ∷ ps) i h = elim (eqb_tells p.0 i) [ inl t ↦ rw t.0 refl | inr t ↦ rw t.0 (Has-among ps i (rw t.0 at h)) ]
-
-  -- what stands at a place of the numbers and under the number there
-  pub nth-leaf_in : (ps : List (Numbered X)) (k n : ℕ) (x : X) → AreDistinct ps → nth (map (λ p. p.0) ps) k ≡ Some n → leaf_in ps n ≡ Some x → nth ps k ≡ Some (n, x)
-  nth-leaf_in [] k n x d a e = absurd cc
-  nth-leaf_in (p ∷ ps) zero n x d a e =
-      let b : p.0 ≡ n = cc in
-      let f : Some p.1 ≡ Some x = rw (b, eqb_same n) at e in
-      let g : p.1 ≡ x = cc in
-      ap Some (pair_is p n x b g)
-    where
-      pair_is : (p : Numbered X) (i : ℕ) (x : X) → p.0 ≡ i → p.1 ≡ x → p ≡ (i, x)
-      pair_is p i x a b = rw (← a, ← b) refl
-  nth-leaf_in (p ∷ ps) (suc k) n x d a e =
-      let h : Has ps n = Has-among ps n (among-nth (map (λ p. p.0) ps) k n a) in
-      let m : eqb p.0 n ≡ false = eqb_other p.0 n (λ t. has_other ps n p.0 h d.0 (sym t)) in
-      nth-leaf_in ps k n x d.1 a (rw m at e)
 
   -- a number is at the place where it stands
   pub place_in-nth : (ps : List (Numbered X)) (k n : ℕ) → AreDistinct ps → nth (map (λ p. p.0) ps) k ≡ Some n → place_in (map (λ p. p.0) ps) n ≡ k
@@ -297,12 +276,6 @@ position-last (q ∷ t ∷ rs) d f r ids e g =
     let l : ltb (length (q.1 ++ numbers (t ∷ rs)) - 1) (length q.1) ≡ false = grind (arith, nat_tests) in
     let m : length (q.1 ++ numbers (t ∷ rs)) - 1 - length q.1 ≡ length (numbers (t ∷ rs)) - 1 = omega arith in
     rw (l, m) i
-
--- the number at a place, as an element
-pub nth-is : (xs : List ℕ) (k : ℕ) → k < length xs → nth xs k ≡ Some (get_or xs k 0)
-nth-is [] k h = absurd (omega arith)
-nth-is (x ∷ xs) zero h = refl
-nth-is (x ∷ xs) (suc k) h = nth-is xs k (omega arith)
 
 module _ (rows : List (Numbered (List ℕ))) (k : ℕ) (p : Position) (s : Standing rows k p) where
   -- the numbers of a row before which others stand

@@ -226,28 +226,6 @@ impl<K, V> Leaves<K, V> {
         (&leaf.key, &leaf.value)
     }
 
-    /// The pair of a leaf, and the leaf behind it. It reads one record.
-    pub fn read_with_next(&self, id: LeafId, visits: &mut Visits) -> (&K, &V, Option<LeafId>)
-        requires { Has self.now.pairs id }
-        ensures value { leaf_in self.now.pairs id ≡ Some (result.0.now, result.1.now) }
-        ensures next { result.2 ≡ number_after self.now.pairs id }
-        ensures counted { visits.new.count ≡ visits.old.count + 1 }
-    {
-        let (key, value) = self.read(id, visits);
-        (key, value, self.next_of(id))
-    }
-
-    /// The pair of a leaf, and the leaf before it. It reads one record.
-    pub fn read_with_prev(&self, id: LeafId, visits: &mut Visits) -> (&K, &V, Option<LeafId>)
-        requires { Has self.now.pairs id }
-        ensures value { leaf_in self.now.pairs id ≡ Some (result.0.now, result.1.now) }
-        ensures prev { result.2 ≡ number_before self.now.pairs id }
-        ensures counted { visits.new.count ≡ visits.old.count + 1 }
-    {
-        let (key, value) = self.read(id, visits);
-        (key, value, self.prev_of(id))
-    }
-
     /// The first leaf.
     pub fn first(&self) -> Option<LeafId>
         ensures { result ≡ first_number self.now.pairs }

@@ -123,11 +123,6 @@ Begins-edge_front [] k b h = tt
 Begins-edge_front (x ∷ g) [] b h = absurd h
 Begins-edge_front (x ∷ g) (y ∷ k) b h = (h.0, Begins-edge_front g k b h.1)
 
--- a front begins its edges
-pub Begins-front_edge : (g : Bytes) (b : ℕ) → Begins g (g ++ b ∷ [])
-Begins-front_edge [] b = tt
-Begins-front_edge (x ∷ g) b = (refl, Begins-front_edge g b)
-
 -- a list begins another, or does not
 pub Begins-cases : (t k : Bytes) → Begins t k ⊎ (Begins t k → ⊥)
 Begins-cases [] k = inl tt

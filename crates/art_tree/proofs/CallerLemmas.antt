@@ -25,7 +25,6 @@ pub use Rattle.art_tree.proofs.Pairs.Filtering.{AreDistinct-filter, filter-witho
 -- the keys of the pairs
 pub use Rattle.art_tree.proofs.Pairs.Keys.{key_of_member, member_of_key}
 -- a key that is related to one alone
-pub use Rattle.art_tree.proofs.Pairs.Changes.{takes_alone, related_has}
 -- the ends of what is within a bound, or below some bytes
 pub use Rattle.art_tree.proofs.Pairs.Bounds.{are_ends, no_pairs_between, number_within_has}
 

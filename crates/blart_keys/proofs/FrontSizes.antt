@@ -8,7 +8,7 @@ use Rattle.std.specs.Cmp.Lexicographic.{nat_list_cmp_total}
 use Rattle.std.proofs.lemmas.Map.Lookups.{exact_bytes, exact_unsigned}
 use Rattle.std.specs.FinSet as set
 use Rattle.std.specs.FinMap.{IsAntisymmetric}
-use Rattle.blart_keys.specs.Bytes.{begins, common}
+use Rattle.blart_keys.specs.Bytes.{begins}
 use Rattle.blart_keys.specs.Content.{under}
 use Rattle.blart_keys.specs.Fronts.{commons, fronts, parts}
 use Rattle.blart_keys.proofs.ByteLemmas.{begins-trans, begins-append}
@@ -70,12 +70,6 @@ module _ {X : Type 0} (bytes : X → List ℕ) where
   -- m items have at most m - 1 fronts
   pub front_count : (S : List X) → set.len (fronts bytes S) ≤ length S - 1
   front_count S = subst (λ n. set.len (fronts bytes S) ≤ n) (length-commons S) (len_at_most nat_list_cmp_total exact_bytes (commons bytes S))
-
-  -- the commons of two rows that stand side by side
-  pub commons-append : (A : List X) (x y : X) (B : List X) → commons bytes ((A ++ x ∷ []) ++ (y ∷ B)) ≡ commons bytes (A ++ x ∷ []) ++ (common (bytes x) (bytes y) ∷ commons bytes (y ∷ B))
-  commons-append [] x y B = refl
-  commons-append (z ∷ []) x y B = refl
-  commons-append (z ∷ w ∷ A) x y B = ap (λ l. common (bytes z) (bytes w) ∷ l) (commons-append (w ∷ A) x y B)
 
   -- ---- parts
 

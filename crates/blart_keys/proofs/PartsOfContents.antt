@@ -1,17 +1,15 @@
--- Which parts of a content stand in one row, and what a new item does to its fronts.
-use Rattle.std.proofs.Common.{◌≡◌, ◌≢◌, ℕ, ◌<◌, ◌≤◌, Bool, true, false, ◌&&◌, ◌⊎◌, inl, inr, List, [], ◌∷◌, ◌++◌, length, length-append, filter, refl, sym, ◌∙◌, subst, arith}
-use Rattle.std.proofs.lemmas.Bool.{false≢true, cases_order, or_cases, or_left, or_right, and_parts, and_from, not-true, not_from_false, false_from_ne_true}
+-- Which parts of a content stand in one row.
+use Rattle.std.proofs.Common.{◌≡◌, ℕ, Bool, true, false, ◌&&◌, inl, inr, List, filter, refl, sym, ◌∙◌}
+use Rattle.std.proofs.lemmas.Bool.{false≢true, or_cases, or_left, or_right, and_parts, and_from, not-true, not_from_false, false_from_ne_true}
 use Rattle.std.specs.declared.ops.Bound.{Bound}
 use Rattle.std.specs.declared.ops.Bound.TheVariants.{Included, Excluded, Unbounded}
 use Rattle.blart_keys.specs.Bytes.{begins, related, less}
 use Rattle.blart_keys.specs.Bounds.{is_from_start, is_up_to_end}
-use Rattle.blart_keys.specs.Content.{IsContent, IsPut, between}
-use Rattle.blart_keys.proofs.ByteLemmas.{begins-trans, begins_shorter, fronts_related, begins-append}
-use Rattle.blart_keys.proofs.PartLemmas.{less-trans, less-irrefl, less-from_PartsBelow, PartsBelow-trans, related-from_PartsBelow, begins_between, Branch, parts_at_branch}
-use Rattle.blart_keys.proofs.RankLemmas.{Member, filter_is_part, filter_twice, IsPart}
+use Rattle.blart_keys.specs.Content.{IsContent, between}
+use Rattle.blart_keys.proofs.ByteLemmas.{begins-trans, fronts_related}
+use Rattle.blart_keys.proofs.PartLemmas.{less-trans, less-from_PartsBelow, PartsBelow-trans, related-from_PartsBelow, begins_between}
+use Rattle.blart_keys.proofs.RankLemmas.{filter_is_part, filter_twice, IsPart}
 use Rattle.blart_keys.proofs.ContentLemmas.{Before, Ranked-from_content}
-use Rattle.blart_keys.proofs.FrontLemmas.{Branches}
-use Rattle.blart_keys.proofs.PutLemmas.{put_member}
 
 -- ---- rows
 
@@ -88,53 +86,3 @@ module _ {X : Type 0} (bytes : X → List ℕ) where
   -- the items related to q stand in one row
   pub subtree_is_part : (S : List X) (q : List ℕ) → IsContent bytes S → IsPart (λ x. related (bytes x) q) S
   subtree_is_part S q c = filter_is_part (Before bytes) (λ x. related (bytes x) q) (related_convex q) S (Ranked-from_content bytes S c)
-
-  -- ---- fronts after a put
-
-  -- f branches x off an item
-  pub record Leaves (S : List X) (f : List ℕ) (x : X) : Type 0 where
-    pub from : X
-    pub there : Member from S
-    pub branch : Branch f (bytes from) (bytes x) ⊎ Branch f (bytes x) (bytes from)
-
-  -- the fronts after a put are those before and those at which the new item leaves
-  pub branches_put : (S S' : List X) (x : X) (f : List ℕ) → IsPut bytes S x S' → Branches bytes S' f → Branches bytes S f ⊎ Leaves S f x
-  branches_put S S' x f p b = elim (put_member bytes S S' x b.x p b.x_there) [
-    | inl e ↦ elim (put_member bytes S S' x b.y p b.y_there) [
-      | inl g ↦ absurd (itself (bytes x) (subst (λ w. Branch f (bytes x) (bytes w)) g (subst (λ w. Branch f (bytes w) (bytes b.y)) e b.branch)))
-      | inr n ↦ inr (record { from = b.y; there = n.0; branch = inr (subst (λ w. Branch f (bytes w) (bytes b.y)) e b.branch) })
-    ]
-    | inr m ↦ elim (put_member bytes S S' x b.y p b.y_there) [
-      | inl g ↦ inr (record { from = b.x; there = m.0; branch = inl (subst (λ w. Branch f (bytes b.x) (bytes w)) g b.branch) })
-      | inr n ↦ inl (record { x = b.x; y = b.y; x_there = m.0; y_there = n.0; branch = b.branch })
-    ]
-  ]
-    where
-      itself : (a : List ℕ) → Branch f a a → ⊥
-      itself a r = false≢true (sym (less-irrefl a) ∙ less-from_PartsBelow a a (parts_at_branch f a a r))
-
-  -- the byte with which an item goes on, and that of x
-  goes : (f : List ℕ) (x : X) (S : List X) (l : Leaves S f x) → (n : ℕ) × (m : ℕ) × (n ≢ m) × (begins (f ++ n ∷ []) (bytes l.from) ≡ true) × (begins (f ++ m ∷ []) (bytes x) ≡ true)
-  goes f x S l = elim l.branch [
-    | inl r ↦ (r.low, r.high, (λ e. let b : r.low < r.high = r.below in absurd (omega arith)), r.first, r.second)
-    | inr r ↦ (r.high, r.low, (λ e. let b : r.low < r.high = r.below in absurd (omega arith)), r.second, r.first)
-  ]
-
-  -- a shorter front at which x leaves was a front before: only the longest can be new
-  pub shorter_is_old : (S : List X) (x : X) (f g : List ℕ) → Leaves S f x → Leaves S g x → length f < length g → Branches bytes S f
-  shorter_is_old S x f g l k short =
-      let p = goes f x S l in
-      let q = goes g x S k in
-      -- the other item goes on from f as x does
-      let on : begins (f ++ p.1 ∷ []) (bytes k.from) ≡ true =
-      begins-trans (f ++ p.1 ∷ []) g (bytes k.from)
-      (begins_shorter (f ++ p.1 ∷ []) g (bytes x) p.4 (begins-trans g (g ++ q.1 ∷ []) (bytes x) (begins-append g (q.1 ∷ [])) q.4) (long f p.1 g short))
-      (begins-trans g (g ++ q.0 ∷ []) (bytes k.from) (begins-append g (q.0 ∷ [])) q.3) in
-      elim (cases_order p.0 p.1) [
-        | inl e ↦ absurd (p.2 e)
-        | inr (inl m) ↦ record { x = l.from; y = k.from; x_there = l.there; y_there = k.there; branch = record { low = p.0; high = p.1; below = m; first = p.3; second = on } }
-        | inr (inr m) ↦ record { x = k.from; y = l.from; x_there = k.there; y_there = l.there; branch = record { low = p.1; high = p.0; below = m; first = on; second = p.3 } }
-      ]
-    where
-      long : (f : List ℕ) (n : ℕ) (g : List ℕ) → length f < length g → length (f ++ n ∷ []) ≤ length g
-      long f n g s = omega (arith, length-append f (n ∷ []))

@@ -338,11 +338,6 @@ module _ {K V : Type 0} (kb : K → List ℕ) where
     puts_why (Err (Prefix e)) puts = puts.0
     puts_why (Err (Memory e)) puts = (puts.0, sym (stores_is S (kb x.0)) ∙ puts.1)
 
-    pub puts_err : (r : Result R TryInsertError) → Puts kb tell S x y r S' → OnErr r (S' ≡ S)
-    puts_err (Ok a) puts = tt
-    puts_err (Err (Prefix e)) puts = puts.1
-    puts_err (Err (Memory e)) puts = puts.2
-
   pub puts_len : (S : List (K × V)) (x y : K × V) (same : kb y.0 ≡ kb x.0) (S' : List (K × V)) (r : Result (Option (K × V)) TryInsertError) → IsContent (bytes kb) S → Puts kb (λ pair. pair) S x y r S' → IfOk r (λ old. length S' ≡ length S + (if is_some old then 0 else 1))
   unfolding pair_at
   puts_len S x y same S' (Ok a) content puts = len_stored S S' x y same puts.1 content ∙ ap (λ o. length S + (if is_some o then 0 else 1)) (sym puts.2)
@@ -377,10 +372,6 @@ module _ {K V : Type 0} (kb : K → List ℕ) where
     pub inserts_routes : (r : Result (Option V) E) → IsContent (bytes kb) S → Inserts kb S x y r S' → OnOk r ((q : List ℕ) → pair_before kb S' q ≡ (if begins (kb x.0) q then Some y else pair_before kb S q))
     inserts_routes (Ok old) content put = routes_stored S S' x y same put.0 content
     inserts_routes (Err e) content put = tt
-
-    pub inserts_err : (r : Result (Option V) E) → Inserts kb S x y r S' → OnErr r (S' ≡ S)
-    inserts_err (Ok old) put = tt
-    inserts_err (Err e) put = put.1
 
     pub inserts_absent : (r : Result (Option V) E) → Inserts kb S x y r S' → OnErr r (has kb S (kb x.0) ≡ false)
     inserts_absent (Ok old) put = tt

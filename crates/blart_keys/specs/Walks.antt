@@ -61,11 +61,6 @@ module _ {F X : Type 0} (R : F → X → Bool → X → F → Type 0) where
     pub passed : AllFalse answers
     pub end : EndsAt coming before result between rest g
 
--- The same from the back: one `next_back` of `extract_if`.
-module _ {F X : Type 0} (R : F → X → Bool → X → F → Type 0) where
-  abbrev pub ExtractsLast : List X → F → Option X → List X → List X → F → Type 0
-  ExtractsLast coming f result kept rest g = ExtractsFirst R (reverse coming) f result (reverse kept) (reverse rest) g
-
 -- a closure asked of a pair may change its value, and not its key
 module _ {F K V : Type 0} (g : Mut F (Bor K × (MutBor V × Unit {0})) (Bool × (MutBor V × Unit {0}))) where
   pub record AsksPair (f : F) (pair : K × V) (answer : Bool) (left : K × V) (f' : F) : Type 0 where

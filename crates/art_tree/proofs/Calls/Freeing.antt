@@ -1,11 +1,11 @@
 -- What the steps ask and give by which the nodes below an edge are freed.
-use Rattle.std.proofs.Common.{◌≡◌, ◌≢◌, ℕ, ◌+◌, ◌-◌, ◌*◌, ◌^◌, ◌<◌, ◌≤◌, List, Bool, true, false, refl, ap, arith, sym, subst, Option, Some, None, IsSome, is_some, ◌∙◌, inl, inr}
+use Rattle.std.proofs.Common.{◌≡◌, ◌≢◌, ℕ, ◌+◌, ◌-◌, ◌*◌, ◌^◌, ◌<◌, List, Bool, true, false, refl, ap, arith, sym, subst, Option, Some, None, IsSome, is_some, ◌∙◌, inl, inr}
 use Rattle.std.proofs.lemmas.Bool.{cases_lt}
 use Rattle.art_kinds.specs.Nodes.{Node, Nodes, Redirects, Frees, at, live}
 use Rattle.art_kinds.specs.Edges.{child_at, IsNext, IsEnd}
 use Rattle.art_kinds.specs.declared.records.ids.Edge.{Edge}
-use Rattle.art_kinds.specs.declared.records.ids.Child.TheVariants.{Leaf, Inner}
-use Rattle.art_tree.specs.Calls.Pruning.{Loose, LeadsIn, IsNotLast, IsFirstNode, HasFirstNode, IsDeeper, Advances}
+use Rattle.art_kinds.specs.declared.records.ids.Child.TheVariants.{Inner}
+use Rattle.art_tree.specs.Calls.Pruning.{Loose, LeadsIn, IsNotLast, IsFirstNode, HasFirstNode, IsDeeper}
 use Rattle.art_tree.proofs.Invariant.Rotating.{child_raised, raised_deeper, head_gone}
 use Rattle.art_tree.proofs.Ways.Depths.{depth_of}
 use Rattle.blart_keys.proofs.Options.{is_some as has_some}
@@ -20,17 +20,6 @@ no_edge None e = refl
 no_edge (Some x) e = absurd cc
 
 module _ (es : List Edge) (b : ℕ) where
-  -- up to an edge to a leaf, before which none leads to a node, none leads to a node
-  pub past_leaf : (i : ℕ) → child_at es b ≡ Some (Leaf i) → ((d x : ℕ) → d < b → child_at es d ≡ Some (Inner x) → ⊥) → (d x : ℕ) → d ≤ b → child_at es d ≡ Some (Inner x) → ⊥
-  past_leaf i leaf first d x le e = elim (cases_lt d b) [
-    | inl lt ↦ first d x lt e
-    | inr ge ↦
-        let same : d ≡ b = omega arith in
-        let f : child_at es b ≡ Some (Inner x) = ap (child_at es) (sym same) ∙ e in
-        let z : Some (Leaf i) ≡ Some (Inner x) = sym leaf ∙ f in
-        cc
-  ]
-
   -- behind the last edge of all there is no node
   pub none_behind : (d x : ℕ) → IsNext es b None → b < d → child_at es d ≡ Some (Inner x) → ⊥
   none_behind d x next lt e = let z : None ≡ Some (Inner x) = sym (next d lt) ∙ e in cc
@@ -102,20 +91,6 @@ module _ (goes : ℕ → Bool) (before nodes : ℕ → Option Node) (head : ℕ)
 -- how much is left to do where the nodes below one are to go
 abbrev pub left : Nodes → ℕ → ℕ
 left nodes n = live nodes * (2 ^ 64 + 1) + (2 ^ 64 - depth_of (at nodes n))
-
--- each step does some of it
-pub left_falls : (old new : Nodes) (n m : ℕ) → Advances old new n m → left new m < left old n
-left_falls old new n m (inl gone) =
-    let a : live new < live old = gone in
-    omega arith
-left_falls old new n m (inr stands) =
-    let a : live new ≡ live old = stands.0 in
-    let d : IsDeeper (at old) (at new) n m = stands.1 in
-    let b : d.was.depth < 2 ^ 64 = stands.2 in
-    let e : depth_of (at old n) ≡ d.was.depth = ap depth_of d.was_is in
-    let f : depth_of (at new m) ≡ d.is.depth = ap depth_of d.is_is in
-    let h : d.was.depth < d.is.depth = d.deeper in
-    omega arith
 
 -- where no edge of a node leads to a node, none does
 pub none_below : (nodes : ℕ → Option Node) (n : ℕ) (o : Option (ℕ × ℕ)) → HasFirstNode nodes n o → o ≡ None → (y : Node) (b x : ℕ) → nodes n ≡ Some y → child_at y.edges b ≡ Some (Inner x) → ⊥

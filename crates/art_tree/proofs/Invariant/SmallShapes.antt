@@ -1,12 +1,10 @@
 -- The tree with no leaf, and with one.
 use Rattle.std.proofs.Common.{◌≡◌, ◌≢◌, ℕ, ◌<◌, ◌≤◌, [], length, Option, Some, None, IsSome, refl, sym, subst, ap, ◌∙◌, arith, inl, inr}
 use Rattle.std.proofs.lemmas.Bool.{cases_lt}
-use Rattle.std.proofs.lemmas.Bool.Decides.{eqb_tells}
 use Rattle.art_tree.specs.Begins.{Bytes, Begins, next_byte}
 use Rattle.blart_keys.specs.Bytes.{common}
 use Rattle.art_tree.proofs.BeginsLemmas.{Begins-length, Begins-itself, Begins-next, common-left, common-greatest, common_at, Begins-equal}
 use Rattle.art_tree.proofs.Invariant.Growing.{Parts-two, Gains, kept_cases}
-use Rattle.art_tree.specs.Calls.Removing.{Loses}
 use Rattle.blart_keys.proofs.Options.{some_of, not_some, none_of}
 use Rattle.art_kinds.specs.Nodes.{Node}
 use Rattle.art_tree.specs.Invariant.Shape.{Shape, Parts}
@@ -66,29 +64,7 @@ no_nodes keys nodes s n = none_of (nodes n) (λ h.
     let g : keys p.i ≡ Some p.k = p.k_is in
     cc)
 
--- a tree whose root is a leaf has no node
-pub leaf_alone : {P : ℕ} → (keys : ℕ → Option Bytes) (nodes : ℕ → Option Node) (i : ℕ) → Shape P keys nodes (Some (Leaf i)) → (n : ℕ) → nodes n ≡ None
-leaf_alone keys nodes i s n = none_of (nodes n) (λ h.
-    let x = some_of (nodes n) h in
-    let p = (s.node n x.0 x.1).parts in
-    Parts-two keys (s.front_of n) p i (s.top.only p.i p.k p.k_is tt) (s.top.only p.j p.l p.l_is tt))
-
 -- the first key: its leaf is the root
 pub first_key : {P : ℕ} → (keys keys' : ℕ → Option Bytes) (nodes : ℕ → Option Node) (i : ℕ) (k : Bytes) → Shape P keys nodes None → Gains keys keys' i k → Shape P keys' nodes (Some (Leaf i))
 first_key keys keys' nodes i k s g = shape_one keys' nodes (no_nodes keys nodes s) i k g.has
     (λ j l e. elim (kept_cases keys keys' i k g j l e) [ inl o ↦ (let f : keys j ≡ None = s.top j in absurd cc) | inr o ↦ o.0 ])
-
--- the last key goes: nothing is left
-pub last_key : {P : ℕ} → (keys keys' : ℕ → Option Bytes) (nodes : ℕ → Option Node) (i : ℕ) (k : Bytes) → Shape P keys nodes (Some (Leaf i)) → Loses keys keys' i k → Shape P keys' nodes None
-last_key keys keys' nodes i k s g = shape_empty keys' nodes (leaf_alone keys nodes i s) gone
-  where
-    gone_at : (j : ℕ) (o : Option Bytes) → keys' j ≡ o → keys' j ≡ None
-    gone_at j None e = e
-    gone_at j (Some l) e =
-        elim (eqb_tells j i) [
-          | inl z ↦ ap keys' z.1 ∙ g.gone
-          | inr z ↦ absurd (z.1 (s.top.only j l (sym (g.others j z.1) ∙ e) tt))
-        ]
-
-    gone : (j : ℕ) → keys' j ≡ None
-    gone j = gone_at j (keys' j) refl

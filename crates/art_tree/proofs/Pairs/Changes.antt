@@ -1,18 +1,18 @@
 -- A content that loses a pair, or has another under a number.
-use Rattle.std.proofs.Common.{◌≡◌, ◌≢◌, ℕ, ◌<◌, ◌⊎◌, inl, inr, List, [], ◌∷◌, Some, Bool, true, false, refl, sym, ap, subst, ◌∙◌, filter, option_map}
-use Rattle.std.proofs.lemmas.Bool.{false≢true, cases_Bool, cond-true, cond-false, false_from_ne_true}
+use Rattle.std.proofs.Common.{◌≡◌, ◌≢◌, ℕ, ◌<◌, ◌⊎◌, inl, inr, List, [], ◌∷◌, Some, Bool, false, refl, sym, ap, subst, ◌∙◌, filter}
+use Rattle.std.proofs.lemmas.Bool.{false≢true}
 use Rattle.std.proofs.lemmas.Bool.Decides.{eqb_tells}
 use Rattle.blart_keys.specs.Bytes.{related, PartsBelow}
-use Rattle.blart_keys.specs.Content.{IsContent, at, subtree}
-use Rattle.blart_keys.proofs.RankLemmas.{Member, Ranked, Contains-from_Member, Member-from_Contains, each_member, from_each_member, filter_member, member_filter}
-use Rattle.blart_keys.proofs.ContentLemmas.{Before, Ranked-from_content, content_from_Ranked, at_Some}
+use Rattle.blart_keys.specs.Content.{IsContent}
+use Rattle.blart_keys.proofs.RankLemmas.{Member, Ranked, Contains-from_Member, each_member, from_each_member, filter_member}
+use Rattle.blart_keys.proofs.ContentLemmas.{Before, Ranked-from_content, content_from_Ranked}
 use Rattle.art_tree.specs.Begins.{Bytes, Begins}
 use Rattle.art_tree.specs.Leaves.{Numbered, leaf_in, Has, Lacks, AreDistinct, first_number, last_number, without_number, with_pair, with_value, bytes, keys_in}
 use Rattle.art_tree.specs.Takes.{MayTake}
 use Rattle.art_tree.proofs.BeginsLemmas.{related_cases, related-from_front, related-from_begun}
-use Rattle.art_rows.proofs.CallerLemmas.{has_not_lacks, Has-first, Has-last}
+use Rattle.art_rows.proofs.CallerLemmas.{has_not_lacks, Has-last}
 use Rattle.art_tree.proofs.Pairs.Numbers.{Member-from_leaf_in, leaf_in-member}
-use Rattle.blart_keys.proofs.Options.{is_some, some_of, mapped_some}
+use Rattle.blart_keys.proofs.Options.{is_some, some_of}
 use Rattle.art_tree.proofs.Pairs.Keys.{member_of_key}
 
 -- ---- a key that is related to another parts from all others as that does
@@ -156,20 +156,6 @@ module _ {K V : Type 0} (key_bytes : K → Bytes) where
   -- ---- which keys a leaf may take
 
   module _ (ps : List (Numbered K V)) (content : IsContent (bytes key_bytes) ps) (distinct : AreDistinct ps) (i : ℕ) (q : Bytes) where
-    lacks_filter : (test : Numbered K V → Bool) (qs : List (Numbered K V)) (j : ℕ) → Lacks qs j → Lacks (filter test qs) j
-    lacks_filter test [] j l = tt
-    lacks_filter test (p ∷ qs) j l = elim (cases_Bool (test p)) [
-      | inl t ↦ subst (λ zs. Lacks zs j) (sym (cond-true (test p) (p ∷ filter test qs) (filter test qs) t)) (l.0, lacks_filter test qs j l.1)
-      | inr f ↦ subst (λ zs. Lacks zs j) (sym (cond-false (test p) (p ∷ filter test qs) (filter test qs) f)) (lacks_filter test qs j l.1)
-    ]
-
-    distinct_filter : (test : Numbered K V → Bool) (qs : List (Numbered K V)) → AreDistinct qs → AreDistinct (filter test qs)
-    distinct_filter test [] d = tt
-    distinct_filter test (p ∷ qs) d = elim (cases_Bool (test p)) [
-      | inl t ↦ subst (λ zs. AreDistinct zs) (sym (cond-true (test p) (p ∷ filter test qs) (filter test qs) t)) (lacks_filter test qs p.0 d.0, distinct_filter test qs d.1)
-      | inr f ↦ subst (λ zs. AreDistinct zs) (sym (cond-false (test p) (p ∷ filter test qs) (filter test qs) f)) (distinct_filter test qs d.1)
-    ]
-
     -- a list that begins and ends with one number has one pair
     one_number : (qs : List (Numbered K V)) → AreDistinct qs → first_number qs ≡ Some i → last_number qs ≡ Some i → (y : Numbered K V) → Member y qs → y.0 ≡ i
     one_number [] d f l y m = absurd m
@@ -179,29 +165,3 @@ module _ {K V : Type 0} (key_bytes : K → Bytes) where
         let h : Some p.0 ≡ Some i = f in
         let g : p.0 ≡ i = cc in
         absurd (has_not_lacks (r ∷ qs) i (Has-last (r ∷ qs) i l) (subst (λ (z : ℕ). Lacks (r ∷ qs) z) g d.0))
-
-    -- and bytes that are related to its key alone
-    pub takes_alone : first_number (subtree (bytes key_bytes) ps q) ≡ Some i → last_number (subtree (bytes key_bytes) ps q) ≡ Some i → MayTake key_bytes ps i q
-    takes_alone f l =
-        let test : Numbered K V → Bool = λ x. related (bytes key_bytes x) q in
-        let only = one_number (filter test ps) (distinct_filter test ps distinct) f l in
-        record {
-          own = λ x e.
-              let has = some_of (leaf_in (filter test ps) i) (Has-first (filter test ps) i f) in
-              let m = filter_member test ps (i, has.0) (Member-from_leaf_in (filter test ps) i has.0 has.1) in
-              let is : leaf_in ps i ≡ Some has.0 = leaf_in-member ps i has.0 distinct m.0 in
-              let h : has.0 ≡ x = cc in
-              subst (λ (z : K × V). related (key_bytes z.0) q ≡ true) h m.1;
-          others = λ p there off. false_from_ne_true (related (bytes key_bytes p) q) (λ t. off (only p (member_filter test ps p (Member-from_Contains p ps there) t)));
-        }
-
-  -- what a look-up finds has a leaf
-  pub found_has : (ps : List (Numbered K V)) (q : Bytes) (i : ℕ) → AreDistinct ps → option_map (λ (p : Numbered K V). p.0) (at (bytes key_bytes) ps q) ≡ Some i → Has ps i
-  found_has ps q i d e =
-      let x = mapped_some (λ (p : Numbered K V). p.0) (at (bytes key_bytes) ps q) i e in
-      let m = at_Some (bytes key_bytes) ps q x.0 x.1 in
-      subst (λ (z : ℕ). Has ps z) x.2 (is_some (leaf_in ps x.0.0) x.0.1 (leaf_in-member ps x.0.0 x.0.1 d m.0))
-
-  -- the first of the pairs that are related to q has a leaf
-  pub related_has : (ps : List (Numbered K V)) (q : Bytes) (i : ℕ) → AreDistinct ps → first_number (subtree (bytes key_bytes) ps q) ≡ Some i → Has ps i
-  related_has ps q i d f = passing_has ps (λ x. related (bytes key_bytes x) q) i d (Has-first (subtree (bytes key_bytes) ps q) i f)
