@@ -1,15 +1,14 @@
 -- What a list of numbered pairs says of the list of its pairs.
-use Rattle.std.proofs.Common.{bytes_eq, cond, ◌||◌, ◌≡◌, ℕ, suc, ◌+◌, ◌-◌, arith, slice_get, length-append, Bool, true, false, List, [], ◌∷◌, ◌++◌, length, refl, sym, ap, ◌∙◌, subst, Option, Some, None, option_map, find, inl, inr}
+use Rattle.std.proofs.Common.{bytes_eq, ◌||◌, ◌≡◌, ℕ, suc, ◌+◌, ◌-◌, arith, slice_get, length-append, Bool, true, false, cond, filter, List, [], ◌∷◌, ◌++◌, length, refl, sym, ap, ◌∙◌, subst, Option, Some, None, option_map, find, inl, inr}
 use Rattle.std.proofs.lemmas.Bool.{cases_Bool}
 use Rattle.std.proofs.lemmas.List.{map-append}
 use Rattle.blart_keys.specs.Content.{IsContent, at, without}
 use Rattle.blart_keys.specs.Steps.{bytes as pair_bytes}
 use Rattle.blart_keys.proofs.RankLemmas.{find_found}
-use Rattle.std.specs.List.{list_any}
 use Rattle.std.specs.Option.{is_some}
 use Rattle.blart_keys.proofs.ContentLemmas.{at_Some}
 use Rattle.blart_keys.proofs.PutLemmas.{without_cut}
-use Rattle.art_tree.specs.Leaves.{Numbered, leaf_in, Has, AreDistinct, with_pair, without_number, bytes}
+use Rattle.art_tree.specs.Leaves.{Numbered, leaf_in, Has, AreDistinct, Lacks, with_pair, without_number, bytes}
 use Rattle.art_tree.proofs.CallerLemmas.{with_pair-split, leaf_in-member}
 use Rattle.blart_keys.proofs.Options.{is_some as has_value, mapped_some}
 use Rattle.art_walk.specs.Pairs.{pairs_of}
@@ -26,6 +25,11 @@ module _ {K V : Type 0} where
   pub no_pairs : (ps : List (Numbered K V)) → pairs_of ps ≡ [] → ps ≡ []
   no_pairs [] e = refl
   no_pairs (p ∷ ps) e = absurd cc
+
+  -- a number that no pair has is that of none that passes a test
+  pub lacks_filter : (t : Numbered K V → Bool) (ps : List (Numbered K V)) (i : ℕ) → Lacks ps i → Lacks (filter t ps) i
+  lacks_filter t [] i l = l
+  lacks_filter t (p ∷ ps) i l = elim (t p) as (λ b. Lacks (cond b (p ∷ filter t ps) (filter t ps)) i) [ true ↦ (l.0, lacks_filter t ps i l.1) | false ↦ lacks_filter t ps i l.1 ]
 
   -- ---- a pair under its number
 
@@ -84,11 +88,6 @@ slice_get-last (y ∷ xs) x =
 pub is_some-map : {A B : Type 0} (f : A → B) (o : Option A) → is_some (option_map f o) ≡ is_some o
 is_some-map f None = refl
 is_some-map f (Some x) = refl
-
--- an item passes a test where one is found
-pub list_any-find : {X : Type 0} (test : X → Bool) (xs : List X) → list_any test xs ≡ is_some (find test xs)
-list_any-find test [] = refl
-list_any-find test (x ∷ xs) = elim (test x) as (λ b. b || list_any test xs ≡ is_some (cond b (Some x) (find test xs))) [ true ↦ refl | false ↦ list_any-find test xs ]
 
 -- the pairs with other bytes are the same with numbers and without
 pub without_pairs : {K V : Type 0} (key_bytes : K → List ℕ) (q : List ℕ) (ps : List (Numbered K V)) → pairs_of (without (bytes key_bytes) ps q) ≡ without (pair_bytes key_bytes) (pairs_of ps) q

@@ -13,6 +13,7 @@ use Rattle.blart_map.specs.TakeWalk.{take_left}
 use Rattle.blart_map.specs.declared.walks.take_walk.TakeWalk.{TakeWalk}
 use Rattle.blart_keys.specs.declared.AsBytes.{Ghosts}
 use Rattle.std.specs.Prelude.{MatchOption, ⊤}
+use Rattle.blart_map.proofs.Numbers.{lacks_filter}
 
 module _ {K V : Type 0} (test : K × V → Bool) where
   -- ---- all at once
@@ -25,10 +26,6 @@ module _ {K V : Type 0} (test : K × V → Bool) where
         | true ↦ rw (ne_eqb p.0 q.0 (λ e. l.0 (sym e))) (behind_front left (without_number ps q.0) p l.1)
         | false ↦ behind_front left ps p l.1
       ]
-
-  lacks_filter : (t : Numbered K V → Bool) (ps : List (Numbered K V)) (i : ℕ) → Lacks ps i → Lacks (filter t ps) i
-  lacks_filter t [] i l = l
-  lacks_filter t (p ∷ ps) i l = elim (t p) as (λ b. Lacks (cond b (p ∷ filter t ps) (filter t ps)) i) [ true ↦ (l.0, lacks_filter t ps i l.1) | false ↦ lacks_filter t ps i l.1 ]
 
   -- the pair in front goes first
   front_taken : (p : Numbered K V) (ps : List (Numbered K V)) → without_number (p ∷ ps) p.0 ≡ ps

@@ -8,16 +8,13 @@ use Rattle.art_walk.specs.Pairs.{pairs_of}
 use Rattle.art_walk.specs.Lent.{written_all}
 use Rattle.blart_map.specs.Content.{pairs}
 use Rattle.blart_map.specs.OnceWritten.{rewritten, all_rewritten}
+use Rattle.blart_map.proofs.Numbers.{lacks_filter}
 
 module _ {K V : Type 0} (f : K × V → V) where
   -- a pair in front that has another number stays
   behind_front : (left ps : List (Numbered K V)) (p : Numbered K V) → Lacks left p.0 → written_all f left (p ∷ ps) ≡ p ∷ written_all f left ps
   behind_front [] ps p l = refl
   behind_front (q ∷ left) ps p l = rw (ne_eqb p.0 q.0 (λ e. l.0 (sym e))) (behind_front left (with_value ps q.0 (f q.1)) p l.1)
-
-  lacks_filter : (t : Numbered K V → Bool) (ps : List (Numbered K V)) (i : ℕ) → Lacks ps i → Lacks (filter t ps) i
-  lacks_filter t [] i l = l
-  lacks_filter t (p ∷ ps) i l = elim (t p) as (λ b. Lacks (cond b (p ∷ filter t ps) (filter t ps)) i) [ true ↦ (l.0, lacks_filter t ps i l.1) | false ↦ lacks_filter t ps i l.1 ]
 
   -- the pair in front is written first
   front_written : (p : Numbered K V) (ps rest : List (Numbered K V)) → written_all f (p ∷ rest) (p ∷ ps) ≡ written_all f rest ((p.0, (p.1.0, f p.1)) ∷ ps)

@@ -1,38 +1,20 @@
 -- The value that a call of a prefix entry lends.
-use Rattle.std.proofs.Common.{◌≡◌, ℕ, Option, Some, None, option_map, refl, sym, ap, ◌∙◌, subst}
-use Rattle.std.specs.Option.{unwrap_or, UnwrapsOrElse}
+use Rattle.std.proofs.Common.{◌≡◌, ℕ, Option, Some, option_map, refl, sym, ap, ◌∙◌, subst}
+use Rattle.std.specs.Option.{UnwrapsOrElse}
 use Rattle.blart_keys.specs.declared.AsBytes.{Ghosts}
 use Rattle.blart_map.specs.Entry as entry
-use Rattle.blart_map.specs.Entry.{entry_value, entry_key, entry_pair}
-use Rattle.blart_map.specs.PrefixEntry.{Occupied, Vacant, Leaf, Inner, prefix_value, IsPrefixKeptOrSet, IsPrefixKeptOrMade, IsOccupiedSet}
+use Rattle.blart_map.specs.Entry.{entry_value}
+use Rattle.blart_map.specs.PrefixEntry.{Occupied, Vacant, Leaf, Inner, prefix_value, IsPrefixKeptOrMade}
 use Rattle.blart_map.specs.declared.occupied.OccupiedEntry.{OccupiedEntry}
 use Rattle.blart_map.specs.declared.prefix_entry.PrefixEntry.{PrefixEntry}
-use Rattle.blart_map.specs.declared.prefix_occupied.PrefixOccupied.{PrefixOccupied}
 
 some_value : {K V : Type 0} (k : K) (w r : V) (o : Option (K × V)) → o ≡ Some (k, w) → option_map (λ p. p.1) o ≡ Some r → r ≡ w
 some_value k w r o e f = let h : Some w ≡ Some r = sym (ap (option_map (λ p. p.1)) e) ∙ f in cc
-
-or_value : {V : Type 0} (o : Option V) (r d : V) → o ≡ Some r → r ≡ unwrap_or o d
-or_value o r d e = sym (ap (λ o. unwrap_or o d) e)
 
 or_made : {V : Type 0} (o : Option V) (r : V) (P : V → Type 0) → o ≡ Some r → UnwrapsOrElse o P r
 or_made o r P e = subst (λ o. UnwrapsOrElse o P r) (sym e) refl
 
 module _ {K V T : Type 0} {P : ℕ} {g : Ghosts K} where
-  -- what was set is lent
-  pub set_value : (e : PrefixOccupied K V P T g) (w r : V) (o : OccupiedEntry K V P T g) → IsOccupiedSet e w o → entry_value (entry.Occupied o) ≡ Some r → r ≡ w
-  set_value (Leaf p) w r o h f = of_key (entry_key (entry.Occupied p)) h.pair
-    where
-      of_key : (k : Option K) → entry_pair (entry.Occupied o) ≡ option_map (λ k. (k, w)) k → r ≡ w
-      of_key None e = absurd (let a : None ≡ Some r = sym (ap (option_map (λ (p : K × V). p.1)) e) ∙ f in cc)
-      of_key (Some k) e = some_value k w r _ e f
-  set_value (Inner e) w r o h f = some_value e.key w r _ h.pair f
-
-  -- the stored value is lent, or else the one that was set
-  pub kept_value : (e : PrefixEntry K V P T g) (w r : V) (o : OccupiedEntry K V P T g) → IsPrefixKeptOrSet e w o → entry_value (entry.Occupied o) ≡ Some r → r ≡ unwrap_or (prefix_value e) w
-  kept_value (Occupied (Leaf p)) w r o h f = or_value (prefix_value (Occupied (Leaf p))) r w (ap (λ o. entry_value (entry.Occupied o)) (sym h) ∙ f)
-  kept_value (Occupied (Inner e)) w r o h f = some_value e.key w r _ h.pair f
-  kept_value (Vacant e) w r o h f = some_value e.key w r _ h.pair f
 
   -- the stored value is lent, or else one of this kind
   pub made_value : (e : PrefixEntry K V P T g) (Made : V → Type 0) (r : V) (o : OccupiedEntry K V P T g) → IsPrefixKeptOrMade e Made o → entry_value (entry.Occupied o) ≡ Some r → UnwrapsOrElse (prefix_value e) Made r

@@ -70,9 +70,6 @@ module _ {K V : Type 0} (kb : K → List ℕ) where
     rewritten_content i x l w = subst (IsContent (pair_bytes kb)) (sym (written_there i x l w)) (content_written (pairs_of ps) (kb x.0) w whole)
 
     module _ (i : ℕ) (has : Has ps i) where
-      -- the bytes of the pair
-      abbrev own : List ℕ
-      own = unwrap_or (keys_in kb ps i) []
 
       -- a value written there, as an entry says it
       pub occupied_set : (w : V) → Updates kb (pairs_of ps) (pairs_of (with_value ps i w)) (unwrap_or (keys_in kb ps i) []) (option_map (λ k. (k, w)) (option_map (λ p. p.0) (leaf_in ps i)))

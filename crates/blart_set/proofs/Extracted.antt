@@ -19,9 +19,6 @@ module _ {F K : Type 0} (g : Mut F (Bor K × Unit {0}) Bool) where
   pub called_at : (f : F) (x : Bor K) (b : Bool) (h : F) → Called g f (x, tt) b h → CalledAt g f x.now b h
   called_at f x b h m = record { shown = x; shows = refl; called = m }
 
-  R : F → K → Bool → K → F → Type 0
-  R = AsksElement g
-
   -- nothing is left to be asked about
   pub asks_none : (coming rest : List K) (f : F) → coming ≡ [] → rest ≡ [] → AsksUpTo g coming f None rest f
   asks_none coming rest f e l = ([], record { before = []; answers = []; between = f; asked = refl; passed = tt; end = (e, l, refl) })

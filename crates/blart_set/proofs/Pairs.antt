@@ -1,7 +1,7 @@
 -- What the pairs of a map of units say of the list of its keys.
 use Rattle.std.proofs.Common.{◌≡◌, ℕ, ◌+◌, false, not, List, [], ◌∷◌, map, refl, sym, ap, ◌∙◌, subst, Option, Some, None, option_map, bytes_eq}
 use Rattle.std.specs.Prelude.{if◌then◌else◌}
-use Rattle.std.specs.Option.{is_some, is_none, option_copied}
+use Rattle.std.specs.Option.{is_some, is_none}
 use Rattle.std.specs.Result.{result_map_both}
 use Rattle.std.proofs.lemmas.List.{map-append}
 use Rattle.std.specs.Prelude.{Result, Ok, Err, OnOk, OnErr, IfOk, IfErr}
@@ -13,11 +13,10 @@ use Rattle.blart_keys.specs.declared.calls.TryInsertError.{TryInsertError}
 use Rattle.blart_keys.specs.declared.calls.TryInsertError.TheVariants.{Prefix, Memory}
 use Rattle.blart_set.specs.Elements.{RefusesElement}
 use Rattle.blart_keys.proofs.StoredLemmas.{some-at}
-use denote.Ref.{Bor}
 use Rattle.blart_keys.specs.Bytes.{begins, related, conflicts}
 use Rattle.blart_keys.specs.Content.{at, conflict, front_of, stores, subtree, without, under, between, IsContent, IsPut, IsOver}
 use Rattle.blart_keys.specs.Steps.{bytes}
-use Rattle.blart_keys.specs.Stored.{shown, pair_at, kept_key, kept_item, kept}
+use Rattle.blart_keys.specs.Stored.{pair_at, kept_key, kept_item, kept}
 use Rattle.blart_keys.specs.Walks.{TakesFirst, TakesLast}
 use Rattle.blart_keys.proofs.Mapped.{find-map, list_any-map, filter-map, content_map, put_map, over_map}
 
@@ -26,11 +25,6 @@ use Rattle.blart_keys.proofs.Mapped.{find-map, list_any-map, filter-map, content
 module _ {V E : Type 0} where
   abbrev pub told : Result (Option V) E → Result Bool E
   told r = result_map_both is_none (λ e. e) r
-
-  pub told-len : (m n : ℕ) (r : Result (Option V) E) → IfOk r (λ old. m ≡ n + (if is_some old then 0 else 1)) → IfOk (told r) (λ new. m ≡ n + (if new then 1 else 0))
-  told-len m n (Ok None) h = h
-  told-len m n (Ok (Some v)) h = h
-  told-len m n (Err e) h = tt
 
 module _ {K V : Type 0} (kb : K → List ℕ) (S : List (K × V)) where
   abbrev pub keys : List K
@@ -64,10 +58,6 @@ module _ {K V : Type 0} (kb : K → List ℕ) (S : List (K × V)) where
   over-keys S' x p = over_map (λ p. p.0) kb S S' x p
 
 module _ {K V : Type 0} where
-  -- the key of a pair behind two references
-  pub shown-key : (r : Option (Bor K × Bor V)) → option_copied (option_map (λ p. p.0) r) ≡ option_map (λ p. p.0) (shown r)
-  shown-key None = refl
-  shown-key (Some p) = refl
 
   pub takes_first-keys : (S S' : List (K × V)) (r : Option (K × V)) → TakesFirst S r S' → TakesFirst (map (λ p. p.0) S) (option_map (λ p. p.0) r) (map (λ p. p.0) S')
   takes_first-keys S S' None h = (ap (map (λ p. p.0)) h.0, ap (map (λ p. p.0)) h.1)
@@ -76,10 +66,6 @@ module _ {K V : Type 0} where
   pub takes_last-keys : (S S' : List (K × V)) (r : Option (K × V)) → TakesLast S r S' → TakesLast (map (λ p. p.0) S) (option_map (λ p. p.0) r) (map (λ p. p.0) S')
   takes_last-keys S S' None h = (ap (map (λ p. p.0)) h.0, ap (map (λ p. p.0)) h.1)
   takes_last-keys S S' (Some p) h = ap (map (λ p. p.0)) h ∙ map-append (λ (p : K × V). p.0) S' (p ∷ [])
-
-  pub is_some-key : (r : Option (K × V)) → is_some (option_map (λ p. p.0) r) ≡ is_some r
-  is_some-key None = refl
-  is_some-key (Some p) = refl
 
   -- new bytes are those that nothing has
   new-keys : (kb : K → List ℕ) (S : List (K × V)) (q : List ℕ) (o : Option V) → o ≡ option_map (λ p. p.1) (at (bytes kb) S q) → is_none o ≡ not (stores kb (keys kb S) q)

@@ -63,9 +63,6 @@ module _ {K : Type 0} (kb : K → List ℕ) where
     united_step (Right y) h = ap (merged true m.left) h.0 ∙ ap (λ l. merged true l (y.now ∷ n.right)) (sym h.1) ∙ right_first true n.left y.now n.right h.2
     united_step (Both x) h = ap (λ l. merged true l m.right) h.0 ∙ ap (merged true (x.now ∷ n.left)) h.1.1 ∙ both_first true x.now n.left h.1.0 n.right h.1.2
 
-    pub united_end : Steps kb m None n → (united kb m ≡ []) × (united kb n ≡ [])
-    united_end h = (ap (λ l. merged true l m.right) h.0 ∙ h.1, ap (λ l. merged true l n.right) h.2 ∙ h.3)
-
     pub parted_one : (side : Side K) (e : Bor K) → one_element side ≡ Some e → Steps kb m (Some side) n → parted kb m ≡ e.now ∷ parted kb n
     parted_one (Left x) e g h =
         let i : x ≡ e = cc in
@@ -79,9 +76,6 @@ module _ {K : Type 0} (kb : K → List ℕ) where
     parted_skip (Left x) g h = absurd cc
     parted_skip (Right y) g h = absurd cc
     parted_skip (Both x) g h = ap (λ l. merged false l m.right) h.0 ∙ ap (merged false (x.now ∷ n.left)) h.1.1 ∙ both_first false x.now n.left h.1.0 n.right h.1.2
-
-    pub parted_end : Steps kb m None n → (parted kb m ≡ []) × (parted kb n ≡ [])
-    parted_end h = (ap (λ l. merged false l m.right) h.0 ∙ h.1, ap (λ l. merged false l n.right) h.2 ∙ h.3)
 
     -- the elements of the left side with bytes that the other has, or lacks
     abbrev kept : (Bool → Bool) → List K → List K → List K
@@ -123,12 +117,6 @@ module _ {K : Type 0} (kb : K → List ℕ) where
     lacking_skip (Right y) g h = kept_right not y h
     lacking_skip (Both x) g h = kept_both not x h
 
-    -- a step leaves less
-    pub fewer : (side : Side K) → Steps kb m (Some side) n → length n.left + length n.right < length m.left + length m.right
-    fewer (Left x) h = rw h.0 (rw h.1 (omega arith))
-    fewer (Right y) h = rw h.0 (rw h.1 (omega arith))
-    fewer (Both x) h = rw h.0 (rw h.1.1 (omega arith))
-
   -- where a side has nothing left both have nothing in common
   pub shared_over : (m : Merge K) → (m.left ≡ []) ⊎ (m.right ≡ []) → shared kb m ≡ []
   shared_over m (inl e) = ap (λ l. filter (λ x. stores kb m.right (kb x)) l) e
@@ -137,9 +125,6 @@ module _ {K : Type 0} (kb : K → List ℕ) where
       none : (A : List K) → filter (λ x. stores kb [] (kb x)) A ≡ []
       none [] = refl
       none (x ∷ A) = none A
-
-  pub lacking_over : (m : Merge K) → m.left ≡ [] → lacking kb m ≡ []
-  lacking_over m e = ap (λ l. filter (λ x. not (stores kb m.right (kb x))) l) e
 
 -- a list with one more before it is longer
 pub longer : {K : Type 0} (A B : List K) (x : K) → A ≡ x ∷ B → length B < length A
