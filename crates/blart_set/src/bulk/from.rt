@@ -34,13 +34,7 @@ impl<K: NoPrefixesBytes + Drop, const PREFIX_LEN: usize> TreeSet<K, PREFIX_LEN> 
         ensures made { IfOk result (λ set. PutsAll K.bytes kept_item [] items.items (elements set)) }
         ensures refused { OnErr result (items.items ≢ []) }
     {
-        let mut set = TreeSet::with_prefix_len(alloc);
-        for item in items {
-            if let Err(refused) = set.put(item) {
-                return Err(refused);
-            }
-        }
-        Ok(set)
+        TreeSet::from_iter(alloc, items.into_iter())
     }
 }
 
@@ -67,9 +61,7 @@ impl<K: NoPrefixesBytes + Copy + Drop, const PREFIX_LEN: usize> TreeSet<K, PREFI
         ensures refused { OnErr result (items.now ≢ []) }
     {
         for item in items {
-            if let Err(refused) = self.put(*item) {
-                return Err(refused);
-            }
+            self.put(*item)?;
         }
         Ok(())
     }

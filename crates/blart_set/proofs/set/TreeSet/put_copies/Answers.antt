@@ -12,4 +12,4 @@ loop-item-preserved g c =
     let i = c.loop-item.item-index in
     let x = c.item-item.result in
     let more = take_more c.args.items.now i x c.loop-item-test.true ∙ ap (λ y. take i c.args.items.now ++ y ∷ []) (sym c.item-item.is) in
-    subst (λ xs. PutsAll kb kept_item (elements c.args.self.now) xs (elements c.put.new.self)) (sym more) (puts_more kb kept_item (elements c.args.self.now) (take i c.args.items.now) (elements c.loop-item.self) x (elements c.put.new.self) c.loop-item.invariant c.in_default.ensures.put)
+    subst (λ xs. PutsAll kb kept_item (elements c.args.self.now) xs (elements c.put.new.self)) (sym more) (puts_more kb kept_item (elements c.args.self.now) (take i c.args.items.now) (elements c.loop-item.self) x (elements c.put.new.self) c.loop-item.invariant c.in_ok-put.ensures.put)
