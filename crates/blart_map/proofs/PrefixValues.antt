@@ -15,7 +15,6 @@ or_made : {V : Type 0} (o : Option V) (r : V) (P : V → Type 0) → o ≡ Some 
 or_made o r P e = subst (λ o. UnwrapsOrElse o P r) (sym e) refl
 
 module _ {K V T : Type 0} {P : ℕ} {g : Ghosts K} where
-
   -- the stored value is lent, or else one of this kind
   pub made_value : (e : PrefixEntry K V P T g) (Made : V → Type 0) (r : V) (o : OccupiedEntry K V P T g) → IsPrefixKeptOrMade e Made o → entry_value (entry.Occupied o) ≡ Some r → UnwrapsOrElse (prefix_value e) Made r
   made_value (Occupied (Leaf p)) Made r o h f = or_made (prefix_value (Occupied (Leaf p))) r Made (ap (λ o. entry_value (entry.Occupied o)) (sym h) ∙ f)

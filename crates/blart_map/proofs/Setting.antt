@@ -70,7 +70,6 @@ module _ {K V : Type 0} (kb : K → List ℕ) where
     rewritten_content i x l w = subst (IsContent (pair_bytes kb)) (sym (written_there i x l w)) (content_written (pairs_of ps) (kb x.0) w whole)
 
     module _ (i : ℕ) (has : Has ps i) where
-
       -- a value written there, as an entry says it
       pub occupied_set : (w : V) → Updates kb (pairs_of ps) (pairs_of (with_value ps i w)) (unwrap_or (keys_in kb ps i) []) (option_map (λ k. (k, w)) (option_map (λ p. p.0) (leaf_in ps i)))
           × (value_at kb (pairs_of (with_value ps i w)) (unwrap_or (keys_in kb ps i) []) ≡ Some w) × (length (pairs_of (with_value ps i w)) ≡ length (pairs_of ps) + 0) × (with_value ps i w ≡ with_value ps i w)

@@ -58,7 +58,6 @@ module _ {K V : Type 0} (kb : K → List ℕ) (S : List (K × V)) where
   over-keys S' x p = over_map (λ p. p.0) kb S S' x p
 
 module _ {K V : Type 0} where
-
   pub takes_first-keys : (S S' : List (K × V)) (r : Option (K × V)) → TakesFirst S r S' → TakesFirst (map (λ p. p.0) S) (option_map (λ p. p.0) r) (map (λ p. p.0) S')
   takes_first-keys S S' None h = (ap (map (λ p. p.0)) h.0, ap (map (λ p. p.0)) h.1)
   takes_first-keys S S' (Some p) h = ap (map (λ p. p.0)) h
