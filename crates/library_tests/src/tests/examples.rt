@@ -5,6 +5,7 @@ mod entries;
 mod keys;
 mod merges;
 mod prefix_entries;
+mod readme;
 mod sets;
 mod walks;
 

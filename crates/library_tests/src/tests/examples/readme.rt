@@ -1,0 +1,48 @@
+//! The code of the README.
+use super::Fail;
+use blart_map::{TreeMap, TryInsertError};
+use prefix_router::Mounts;
+use std::alloc::Global;
+use std::iter::Iterator;
+use std::process::Abort;
+
+// The example of `README::map`.
+fn map(rt: &impl Abort, alloc: Global) -> Result<(), TryInsertError> {
+    let mut map = TreeMap::new(alloc);
+    map.try_insert("car", 1)?;
+    map.try_insert("cat", 2)?;
+    assert_eq!(rt; map.get(&"cat"), Some(&2));
+    assert!(rt; map.try_insert("ca", 3).is_err());
+    assert_eq!(rt; map.prefix(b"ca").next(), Some((&"car", &1)));
+    drop(map);
+    Ok(())
+}
+
+// The example of `README::fronts`.
+fn fronts(rt: &impl Abort, alloc: Global) -> Result<(), TryInsertError> {
+    let mut map = TreeMap::new(alloc);
+    map.try_insert("/static/", 7)?;
+    assert_eq!(rt; map.prefix_get(&"/static/logo.png"), Some(&7));
+    assert_eq!(rt; map.prefix_get(&"/stat"), None);
+    drop(map);
+    Ok(())
+}
+
+// The example of `README::router`.
+fn router(rt: &impl Abort, alloc: Global) -> Result<(), Fail> {
+    let mut mounts = Mounts::new(alloc);
+    mounts.mount(Vec::from_slice(alloc, b"/api")?, 1)?;
+    mounts.mount(Vec::from_slice(alloc, b"/app")?, 2)?;
+    assert!(rt; mounts.mount(Vec::from_slice(alloc, b"/api/v1")?, 3).is_err());
+    let target = mounts.resolve(b"/api/v1/users").map(|(_, target)| *target);
+    assert_eq!(rt; target, Some(1));
+    drop(mounts);
+    Ok(())
+}
+
+#[test]
+fn the_readme(rt: HostRuntime) {
+    map(&rt, rt.alloc()).expect(&rt, "memory");
+    fronts(&rt, rt.alloc()).expect(&rt, "memory");
+    router(&rt, rt.alloc()).expect(&rt, "memory");
+}
