@@ -3,8 +3,6 @@
 //! [`enter_bytes`] and [`enter_three`] answer those of one key, [`enter_related`] those of a key and all that conflict with it, and [`enter_end`] those of the first pair and the last.
 mod by_key;
 mod end_entries;
-mod entry_calls;
-mod prefix_calls;
 mod prefix_entries;
 
 pub use by_key::{enter_bytes, enter_three};

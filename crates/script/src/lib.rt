@@ -8,8 +8,7 @@ mod maps;
 mod refusals;
 mod session;
 mod sets;
-mod words;
 
 pub use refusals::{Outcome, refuse};
+pub use script_words::{Answered, Shown, Text, Unanswered};
 pub use session::answers;
-pub use words::{Answered, Shown, Text, Unanswered};

@@ -1,6 +1,6 @@
 //! The lines of a script that are calls of maps, but for those of entries.
 //!
-//! [`Maps`] are the two maps of a part of a script. [`name_of`] tells which call a word names.
+//! [`Maps`] are the two maps of a part of a script.
 mod bulk;
 mod calls;
 mod comparisons;
@@ -9,10 +9,9 @@ mod inserts;
 mod lending;
 mod listing;
 mod look_ups;
-mod names;
 mod owning;
 mod picking;
+mod within;
 
 pub use calls::Maps;
 pub use listing::list_map;
-pub use names::{Name, name_of};

@@ -6,10 +6,11 @@ mod mounts;
 mod parts;
 
 use crate::session::parts::{Keyed, Part};
-use crate::words::{Answered, Text, Unanswered, Words};
+use script_words::{Answered, Text, Unanswered, Words};
 use std::alloc::Global;
 use std::cell::Cell;
 use std::iter::Iterator;
+use std::mem;
 
 /// The answers to the lines of the script, each ended by a line feed.
 pub fn answers<const PREFIX_LEN: usize>(alloc: Global, script: &[u8]) -> Result<Text, Unanswered> {
@@ -26,7 +27,9 @@ fn reply_from_start<const PREFIX_LEN: usize>(
 ) -> Answered {
     let drops = Cell::new(0u64);
     let mut session = Session::<PREFIX_LEN>::new(alloc, &drops);
-    session.reply_all(alloc, script, text)
+    let answered = session.reply_all(alloc, script, text);
+    drop(session);
+    answered
 }
 
 /// The part that calls are of, and how many values it has dropped, of a part that counts them.
@@ -69,17 +72,19 @@ impl<'a, const PREFIX_LEN: usize> Session<'a, PREFIX_LEN> {
             return text.push(line);
         }
         let mut answer = Text::new(alloc);
-        match self.call(alloc, line, &mut answer) {
+        let replied = match self.call(alloc, line, &mut answer) {
             Ok(()) => text.push(answer.as_slice()),
             Err(Unanswered::NoCall) => text.push(b"?"),
             Err(refused) => Err(refused),
-        }
+        };
+        drop(answer);
+        replied
     }
 
     /// Makes the call that the line is, and adds its answer.
     pub fn call(&mut self, alloc: Global, line: &[u8], text: &mut Text) -> Answered {
         if let Some(part) = Keyed::begun(alloc, self.drops, line) {
-            self.part = part;
+            drop(mem::replace(&mut self.part, part));
             self.drops.set(0);
             return text.push(b"()");
         }

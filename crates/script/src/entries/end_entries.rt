@@ -1,9 +1,6 @@
 //! What the entries of the first pair and of the last answer.
-ghost use Rattle.std.specs.Prelude.{◌≡◌, None, OnOk};
-
-use crate::entries::entry_calls::{EntryCall, EntryLine, OccupiedCall};
-use crate::words::{Answered, ScriptKey, Shown, Text, Unanswered, Words};
 use blart_map::TreeMap;
+use script_words::{Answered, EndCall, OccupiedCall, ScriptKey, Shown, Text, Words};
 use std::mem;
 
 // Adds what the call answers.
@@ -30,8 +27,7 @@ pub fn enter_end<K: ScriptKey, const P: usize>(
     words: Words<'_>,
     text: &mut Text,
 ) -> Answered {
-    let line = EntryLine::read(words)?;
-    let call = end_call(line)?;
+    let call = EndCall::read(words)?;
     let found = if is_first {
         map.first_entry()
     } else {
@@ -46,22 +42,4 @@ pub fn enter_end<K: ScriptKey, const P: usize>(
         None => text.push(b"None")?,
     }
     Ok(())
-}
-
-// A call of an entry at an end.
-#[derive(Clone, Copy)]
-enum EndCall {
-    Key,
-    Occupied(OccupiedCall),
-}
-
-// The call of the line, if such an entry has it.
-fn end_call(line: EntryLine) -> Result<EndCall, Unanswered>
-    ensures { OnOk result (line.add ≡ None) }
-{
-    match (line.add, line.call) {
-        (None, EntryCall::Key) => Ok(EndCall::Key),
-        (None, EntryCall::Occupied(call)) => Ok(EndCall::Occupied(call)),
-        _ => Err(Unanswered::NoCall),
-    }
 }

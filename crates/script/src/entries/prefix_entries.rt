@@ -2,13 +2,12 @@
 //!
 //! An entry is made and used in one function, which ends its loan of the map.
 use crate::entries::by_key::MapOf;
-use crate::entries::entry_calls::{OccupiedCall, PlaceCall, VacantCall, ValueCall};
-use crate::entries::prefix_calls::{PrefixCall, RelatedCall, SetCall, WalkCall};
-use crate::words::{
-    Answered, Left, Lending, ScriptKey, Shown, Text, Unanswered, Words, length_of, raise,
+use blart_map::{PrefixEntry, PrefixKind, PrefixOccupied, SubtreeIter, SubtreeIterMut, TreeMap};
+use script_words::{
+    Answered, Left, Lending, OccupiedCall, PlaceCall, PrefixCall, RelatedCall, ScriptKey, SetCall,
+    Shown, Text, Unanswered, VacantCall, ValueCall, WalkCall, Words, length_of, raise,
     show_lending, show_walk, text_of, value_of, written,
 };
-use blart_map::{PrefixEntry, PrefixKind, PrefixOccupied, SubtreeIter, SubtreeIterMut, TreeMap};
 use std::alloc::{AllocError, Global};
 use std::iter::{DoubleEndedIterator, Iterator};
 use std::mem;
@@ -50,12 +49,21 @@ fn kind_of<const P: usize>(entry: &PrefixEntry<'_, Vec<u8>, u64, P, BytesMap<P>>
     }
 }
 
+// Adds the word of an entry's kind, and the value.
+fn show_behind<T: Shown>(kind: &[u8], value: &T, text: &mut Text) -> Answered {
+    text.push(kind)?;
+    value.show(text)
+}
+
 // Adds the pair of an entry, or that there was no memory.
 macro_rules! show_placed {
-    ($placed:expr, $text:expr) => {
+    ($kind:expr, $placed:expr, $text:expr) => {
         match $placed {
-            Ok(place) => Ok::<_, AllocError>((place.key(), place.get())).show($text),
-            Err(refused) => Err::<(), AllocError>(refused).show($text),
+            Ok(place) => {
+                let pair = (place.key(), place.get());
+                show_behind($kind, &Ok::<_, AllocError>(pair), $text)
+            }
+            Err(refused) => show_behind($kind, &Err::<(), AllocError>(refused), $text),
         }
     };
 }
@@ -63,8 +71,10 @@ macro_rules! show_placed {
 // Adds the entry's key.
 fn show_key<const P: usize>(map: &mut BytesMap<P>, key: Vec<u8>, text: &mut Text) -> Answered {
     let entry = map.prefix_entry(key);
-    text.push(kind_of(&entry))?;
-    entry.key().show(text)
+    let kind = kind_of(&entry);
+    let answered = show_behind(kind, entry.key(), text);
+    drop(entry);
+    answered
 }
 
 // Adds the key of the entry's pair, where it has one.
@@ -74,8 +84,10 @@ fn show_found_key<const P: usize>(
     text: &mut Text,
 ) -> Answered {
     let entry = map.prefix_entry(key);
-    text.push(kind_of(&entry))?;
-    entry.get_key().show(text)
+    let kind = kind_of(&entry);
+    let answered = show_behind(kind, &entry.get_key(), text);
+    drop(entry);
+    answered
 }
 
 // Adds the value that the call lends.
@@ -86,13 +98,14 @@ fn show_value<const P: usize>(
     text: &mut Text,
 ) -> Answered {
     let entry = map.prefix_entry(key);
-    text.push(kind_of(&entry))?;
-    match call {
-        ValueCall::OrInsert(value) => value_of(entry.or_insert(value)).show(text),
-        ValueCall::OrDefault => value_of(entry.or_default()).show(text),
-        ValueCall::OrInsertWith(value) => value_of(entry.or_insert_with(|| value)).show(text),
-        ValueCall::OrInsertWithKey => value_of(entry.or_insert_with_key(length_of)).show(text),
-    }
+    let kind = kind_of(&entry);
+    let lent = match call {
+        ValueCall::OrInsert(value) => entry.or_insert(value),
+        ValueCall::OrDefault => entry.or_default(),
+        ValueCall::OrInsertWith(value) => entry.or_insert_with(|| value),
+        ValueCall::OrInsertWithKey => entry.or_insert_with_key(length_of),
+    };
+    show_behind(kind, &value_of(lent), text)
 }
 
 // Adds the pair whose entry the call answers.
@@ -103,7 +116,7 @@ fn show_place<const P: usize>(
     text: &mut Text,
 ) -> Answered {
     let entry = map.prefix_entry(key);
-    text.push(kind_of(&entry))?;
+    let kind = kind_of(&entry);
     let answer = match call {
         PlaceCall::OrInsertEntry(value) => entry.or_insert_entry(value),
         PlaceCall::OrDefaultEntry => entry.or_default_entry(),
@@ -111,7 +124,7 @@ fn show_place<const P: usize>(
         PlaceCall::OrInsertWithKeyEntry => entry.or_insert_with_key_entry(length_of),
         PlaceCall::InsertEntry(value) => entry.insert_entry(value),
     };
-    show_placed!(answer, text)
+    show_placed!(kind, answer, text)
 }
 
 // Adds the value that the call of the entry's kind lends.
@@ -122,14 +135,14 @@ fn show_kind_value<const P: usize>(
     text: &mut Text,
 ) -> Answered {
     let entry = map.prefix_entry(key);
-    text.push(kind_of(&entry))?;
-    let kind = entry.kind();
-    match call {
-        ValueCall::OrInsert(value) => value_of(kind.or_insert(value)).show(text),
-        ValueCall::OrDefault => value_of(kind.or_default()).show(text),
-        ValueCall::OrInsertWith(value) => value_of(kind.or_insert_with(|| value)).show(text),
-        ValueCall::OrInsertWithKey => value_of(kind.or_insert_with_key(length_of)).show(text),
-    }
+    let kind = kind_of(&entry);
+    let lent = match call {
+        ValueCall::OrInsert(value) => entry.kind().or_insert(value),
+        ValueCall::OrDefault => entry.kind().or_default(),
+        ValueCall::OrInsertWith(value) => entry.kind().or_insert_with(|| value),
+        ValueCall::OrInsertWithKey => entry.kind().or_insert_with_key(length_of),
+    };
+    show_behind(kind, &value_of(lent), text)
 }
 
 // Adds the pair whose entry the call of the entry's kind answers.
@@ -140,14 +153,13 @@ fn show_kind_place<const P: usize>(
     text: &mut Text,
 ) -> Answered {
     let entry = map.prefix_entry(key);
-    text.push(kind_of(&entry))?;
-    let kind = entry.kind();
+    let kind = kind_of(&entry);
     let answer = match call {
-        PlaceCall::OrInsertEntry(value) => kind.or_insert_entry(value),
-        PlaceCall::InsertEntry(value) => kind.insert_entry(value),
+        PlaceCall::OrInsertEntry(value) => entry.kind().or_insert_entry(value),
+        PlaceCall::InsertEntry(value) => entry.kind().insert_entry(value),
         _ => return Err(Unanswered::NoCall),
     };
-    show_placed!(answer, text)
+    show_placed!(kind, answer, text)
 }
 
 // Adds what the call answers of an entry to which pairs are related.
@@ -158,16 +170,22 @@ fn show_related<const P: usize>(
     text: &mut Text,
 ) -> Answered {
     let mut entry = map.prefix_entry(key);
-    text.push(kind_of(&entry))?;
-    let PrefixEntry::Occupied(related) = &mut entry else {
-        return Err(Unanswered::NoCall);
+    let kind = kind_of(&entry);
+    let answered = match &mut entry {
+        PrefixEntry::Occupied(related) => match call {
+            RelatedCall::Key => show_behind(kind, related.key(), text),
+            RelatedCall::Get => show_behind(kind, &related.get(), text),
+            RelatedCall::GetKey => show_behind(kind, &related.get_key(), text),
+            RelatedCall::GetMut(value) => show_behind(
+                kind,
+                &written(related.get_mut(), value),
+                text,
+            ),
+        },
+        PrefixEntry::Vacant(_) => Err(Unanswered::NoCall),
     };
-    match call {
-        RelatedCall::Key => related.key().show(text),
-        RelatedCall::Get => related.get().show(text),
-        RelatedCall::GetKey => related.get_key().show(text),
-        RelatedCall::GetMut(value) => written(related.get_mut(), value).show(text),
-    }
+    drop(entry);
+    answered
 }
 
 // Puts a pair in the place of the related ones, and adds what the call answers.
@@ -177,13 +195,13 @@ fn set_related<const P: usize>(
     call: SetCall,
     text: &mut Text,
 ) -> Answered {
-    text.push(kind_of(&map.prefix_entry(key.clone()?)))?;
+    let kind = kind_of(&map.prefix_entry(key.clone()?));
     match map.prefix_entry(key) {
         PrefixEntry::Occupied(related) => match call {
-            SetCall::Insert(value) => (*related.insert(value)).show(text),
+            SetCall::Insert(value) => show_behind(kind, &*related.insert(value), text),
             SetCall::InsertEntry(value) => {
                 let place = related.insert_entry(value);
-                (place.key(), place.get()).show(text)
+                show_behind(kind, &(place.key(), place.get()), text)
             }
         },
         PrefixEntry::Vacant(_) => Err(Unanswered::NoCall),
@@ -198,18 +216,26 @@ fn show_leaf<const P: usize>(
     text: &mut Text,
 ) -> Answered {
     let entry = map.prefix_entry(key);
-    text.push(kind_of(&entry))?;
+    let kind = kind_of(&entry);
     if !matches!(entry, PrefixEntry::Occupied(PrefixOccupied::Leaf(_))) {
         return Err(Unanswered::NoCall);
     }
     match entry.or_insert_entry(0) {
         Ok(mut place) => match call {
-            OccupiedCall::Get => place.get().show(text),
-            OccupiedCall::Insert(value) => place.insert(value).show(text),
-            OccupiedCall::GetMut(value) => mem::replace(place.get_mut(), value).show(text),
-            OccupiedCall::IntoMut(value) => mem::replace(place.into_mut(), value).show(text),
-            OccupiedCall::Remove => place.remove().show(text),
-            OccupiedCall::RemoveEntry => place.remove_entry().show(text),
+            OccupiedCall::Get => show_behind(kind, place.get(), text),
+            OccupiedCall::Insert(value) => show_behind(kind, &place.insert(value), text),
+            OccupiedCall::GetMut(value) => show_behind(
+                kind,
+                &mem::replace(place.get_mut(), value),
+                text,
+            ),
+            OccupiedCall::IntoMut(value) => show_behind(
+                kind,
+                &mem::replace(place.into_mut(), value),
+                text,
+            ),
+            OccupiedCall::Remove => show_behind(kind, &place.remove(), text),
+            OccupiedCall::RemoveEntry => show_behind(kind, &place.remove_entry(), text),
         },
         Err(refused) => Err(Unanswered::Memory(refused)),
     }
@@ -223,13 +249,13 @@ fn show_inner<const P: usize>(
     text: &mut Text,
 ) -> Answered {
     let entry = map.prefix_entry(key);
-    text.push(kind_of(&entry))?;
+    let kind = kind_of(&entry);
     match entry.kind() {
         PrefixKind::Inner(mut inner) => match call {
-            RelatedCall::Key => inner.key().show(text),
-            RelatedCall::Get => inner.get().show(text),
-            RelatedCall::GetKey => inner.get_key().show(text),
-            RelatedCall::GetMut(value) => written(inner.get_mut(), value).show(text),
+            RelatedCall::Key => show_behind(kind, inner.key(), text),
+            RelatedCall::Get => show_behind(kind, &inner.get(), text),
+            RelatedCall::GetKey => show_behind(kind, &inner.get_key(), text),
+            RelatedCall::GetMut(value) => show_behind(kind, &written(inner.get_mut(), value), text),
         },
         _ => Err(Unanswered::NoCall),
     }
@@ -243,13 +269,13 @@ fn set_inner<const P: usize>(
     text: &mut Text,
 ) -> Answered {
     let entry = map.prefix_entry(key);
-    text.push(kind_of(&entry))?;
+    let kind = kind_of(&entry);
     match entry.kind() {
         PrefixKind::Inner(inner) => match call {
-            SetCall::Insert(value) => (*inner.insert(value)).show(text),
+            SetCall::Insert(value) => show_behind(kind, &*inner.insert(value), text),
             SetCall::InsertEntry(value) => {
                 let place = inner.insert_entry(value);
-                (place.key(), place.get()).show(text)
+                show_behind(kind, &(place.key(), place.get()), text)
             }
         },
         _ => Err(Unanswered::NoCall),
@@ -264,14 +290,14 @@ fn set_only<const P: usize>(
     text: &mut Text,
 ) -> Answered {
     let entry = map.prefix_entry(key);
-    text.push(kind_of(&entry))?;
+    let kind = kind_of(&entry);
     match entry.kind() {
         PrefixKind::Inner(inner) => match inner.get_key_value_mut() {
             Some(mut place) => {
                 let old = place.insert(value);
-                Some((place.key(), old)).show(text)
+                show_behind(kind, &Some((place.key(), old)), text)
             }
-            None => text.push(b"None"),
+            None => show_behind(kind, &None::<()>, text),
         },
         _ => Err(Unanswered::NoCall),
     }
@@ -285,12 +311,12 @@ fn show_vacant<const P: usize>(
     text: &mut Text,
 ) -> Answered {
     let entry = map.prefix_entry(key);
-    text.push(kind_of(&entry))?;
+    let kind = kind_of(&entry);
     match entry.kind() {
         PrefixKind::Vacant(entry) => match call {
-            VacantCall::IntoKey => entry.into_key().show(text),
-            VacantCall::Insert(value) => value_of(entry.insert(value)).show(text),
-            VacantCall::InsertEntry(value) => show_placed!(entry.insert_entry(value), text),
+            VacantCall::IntoKey => show_behind(kind, &entry.into_key(), text),
+            VacantCall::Insert(value) => show_behind(kind, &value_of(entry.insert(value)), text),
+            VacantCall::InsertEntry(value) => show_placed!(kind, entry.insert_entry(value), text),
         },
         _ => Err(Unanswered::NoCall),
     }

@@ -2,17 +2,17 @@
 ghost use Rattle.std.specs.Prelude.{◌≡◌};
 
 use crate::maps::calls::Maps;
-use crate::words::{Answered, FixedKey, ScriptKey, Shown, Text, Unanswered, Words};
 use blart_keys::NoPrefixesBytes;
 use blart_map::TreeMap;
-use std::alloc::{AllocError, Global};
+use script_words::{Answered, FixedKey, ScriptKey, Shown, Text, Unanswered, Words, pairs_of};
+use std::alloc::AllocError;
 use std::iter::{IntoIterator, Iterator};
+use std::mem;
 
 impl<K: ScriptKey, const PREFIX_LEN: usize> Maps<K, PREFIX_LEN> {
     /// Gives the pairs from the bytes on to the second map, in the place of its own.
-    pub(crate) fn split_off(&mut self, mut words: Words<'_>, text: &mut Text) -> Answered {
-        let query = words.last_bytes()?;
-        let rest = self.first.split_off(&query);
+    pub(crate) fn split_off(&mut self, query: &Vec<u8>, text: &mut Text) -> Answered {
+        let rest = self.first.split_off(query);
         put(&mut self.second, rest, text)
     }
 }
@@ -61,17 +61,27 @@ impl<K: FixedKey, const PREFIX_LEN: usize> Maps<K, PREFIX_LEN> {
     pub(crate) fn extend_copied(&mut self, words: Words<'_>, text: &mut Text) -> Answered {
         let items: Vec<(K, u64)> = pairs_of(self.alloc, words)?;
         let lent = items.iter().map(|pair| (&pair.0, &pair.1));
-        self.first.extend_copied(lent).show(text)
+        let answered = self.first.extend_copied(lent).show(text);
+        drop(items);
+        answered
     }
 
     /// Puts the map of the two pairs in the place of the first.
     pub(crate) fn from_array(&mut self, words: Words<'_>, text: &mut Text) -> Answered {
         let items: Vec<(K, u64)> = pairs_of(self.alloc, words)?;
-        let made = match items.as_slice() {
-            [one, other] => TreeMap::from_array(self.alloc, [*one, *other]),
-            _ => return Err(Unanswered::NoCall),
-        };
-        put(&mut self.first, made, text)
+        let answered = self.put_two(items.as_slice(), text);
+        drop(items);
+        answered
+    }
+
+    fn put_two(&mut self, items: &[(K, u64)], text: &mut Text) -> Answered {
+        match items {
+            [one, other] => {
+                let made = TreeMap::from_array(self.alloc, [*one, *other]);
+                put(&mut self.first, made, text)
+            }
+            _ => Err(Unanswered::NoCall),
+        }
     }
 }
 
@@ -83,28 +93,9 @@ fn put<K: ScriptKey, const P: usize>(
 ) -> Answered {
     match made {
         Ok(map) => {
-            *place = map;
+            drop(mem::replace(place, map));
             Ok::<(), AllocError>(()).show(text)
         }
         Err(refused) => Err::<(), AllocError>(refused).show(text),
     }
-}
-
-// The pairs that the words are.
-fn pairs_of<K: ScriptKey>(
-    alloc: Global,
-    mut words: Words<'_>,
-) -> Result<Vec<(K, u64)>, Unanswered> {
-    let mut pairs = Vec::new(alloc);
-    for _ in 0..u64::MAX {
-        if words.is_done() {
-            break;
-        }
-        let word = words.word()?;
-        let pair = Words::new(word, b':', alloc).last_pair()?;
-        if pairs.push(pair).is_err() {
-            return Err(Unanswered::Memory(AllocError));
-        }
-    }
-    Ok(pairs)
 }

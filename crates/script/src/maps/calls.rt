@@ -2,9 +2,8 @@
 ghost use Rattle.std.specs.Prelude.{◌≡◌, []};
 ghost use Rattle.blart_map.specs.Content.{pairs};
 
-use crate::maps::names::Name;
-use crate::words::{Answered, ScriptKey, Shown, Text, Words, written};
 use blart_map::TreeMap;
+use script_words::{Answered, MapName, ScriptKey, Shown, Text, Words, written};
 use std::alloc::Global;
 use std::mem;
 
@@ -31,84 +30,113 @@ impl<K: ScriptKey, const PREFIX_LEN: usize> Maps<K, PREFIX_LEN> {
     }
 
     /// Makes the call of this name with these words behind it, and adds its answer.
-    pub(crate) fn call(&mut self, name: Name, words: Words<'_>, text: &mut Text) -> Answered {
+    pub(crate) fn call(&mut self, name: MapName, words: Words<'_>, text: &mut Text) -> Answered {
         match name {
-            Name::New | Name::Clear | Name::Swap => self.renew(name, words, text),
-            Name::PopFirst | Name::PopLast => self.pop(name, words, text),
-            Name::Remove | Name::RemoveEntry | Name::RemovePrefix => {
+            MapName::New | MapName::Clear | MapName::Swap => self.renew(name, words, text),
+            MapName::PopFirst | MapName::PopLast => self.pop(name, words, text),
+            MapName::Remove | MapName::RemoveEntry | MapName::RemovePrefix => {
                 self.remove(name, words, text)
             }
-            Name::TryInsert | Name::ReplaceEntry => self.place(name, words, text),
-            Name::PrefixInsert => self.place(name, words, text),
-            Name::GetMut | Name::PrefixGetMut => self.write(name, words, text),
-            Name::PrefixGetKeyValueMut => self.prefix_get_key_value_mut(words, text),
-            Name::Drive => self.drive(words, text),
-            Name::SplitOff => self.split_off(words, text),
-            Name::IntoIter | Name::IntoKeys | Name::IntoValues => self.own(name, words, text),
-            Name::Retain | Name::ExtractIf | Name::TakeWalk => self.pick(name, words, text),
-            Name::IterMut | Name::ValuesMut | Name::RangeMut | Name::PrefixMut => {
-                self.lend(name, words, text)
-            }
-            Name::Equal | Name::PartialCmp | Name::Cmp | Name::SameHash | Name::DebugText => {
-                self.compare(name, words, text)
-            }
+            MapName::TryInsert | MapName::ReplaceEntry => self.place(name, words, text),
+            MapName::PrefixInsert => self.place(name, words, text),
+            MapName::GetMut | MapName::PrefixGetMut => self.write(name, words, text),
+            MapName::PrefixGetKeyValueMut => self.write(name, words, text),
+            MapName::Drive => self.drive(words, text),
+            MapName::SplitOff => self.remove(name, words, text),
+            MapName::IntoIter | MapName::IntoKeys | MapName::IntoValues => self.own(
+                name, words, text,
+            ),
+            MapName::Retain => self.retain(words, text),
+            MapName::ExtractIf | MapName::TakeWalk => self.within(name, words, text),
+            MapName::Range | MapName::RangeCounted => self.within(name, words, text),
+            MapName::RangeMut => self.within(name, words, text),
+            MapName::Prefix | MapName::PrefixCounted => self.below(name, words, text),
+            MapName::PrefixMut => self.below(name, words, text),
+            MapName::IterMut => self.iter_mut(words, text),
+            MapName::ValuesMut => self.values_mut(words, text),
+            MapName::Equal
+            | MapName::PartialCmp
+            | MapName::Cmp
+            | MapName::SameHash
+            | MapName::DebugText => { self.compare(name, words, text) }
             _ => self.look_up(name, words, text),
         }
     }
 
     // The calls that put a whole map in the place of the first.
-    fn renew(&mut self, name: Name, words: Words<'_>, text: &mut Text) -> Answered {
+    fn renew(&mut self, name: MapName, words: Words<'_>, text: &mut Text) -> Answered {
         words.end()?;
         match name {
-            Name::New => self.first = TreeMap::with_prefix_len(self.alloc),
-            Name::Clear => self.first.clear(),
+            MapName::New => drop(mem::replace(
+                &mut self.first,
+                TreeMap::with_prefix_len(self.alloc),
+            )),
+            MapName::Clear => self.first.clear(),
             _ => mem::swap(&mut self.first, &mut self.second),
         }
         ().show(text)
     }
 
     // The calls that take the pair at one end.
-    fn pop(&mut self, name: Name, words: Words<'_>, text: &mut Text) -> Answered {
+    fn pop(&mut self, name: MapName, words: Words<'_>, text: &mut Text) -> Answered {
         words.end()?;
         match name {
-            Name::PopFirst => self.first.pop_first().show(text),
+            MapName::PopFirst => self.first.pop_first().show(text),
             _ => self.first.pop_last().show(text),
         }
     }
 
-    // The calls that take the pair of some bytes, or those below them.
-    fn remove(&mut self, name: Name, mut words: Words<'_>, text: &mut Text) -> Answered {
+    // The calls that take the pair of some bytes, those below them, or those from them on.
+    fn remove(&mut self, name: MapName, mut words: Words<'_>, text: &mut Text) -> Answered {
         let query = words.last_bytes()?;
+        let answered = self.remove_at(name, &query, text);
+        drop(query);
+        answered
+    }
+
+    fn remove_at(&mut self, name: MapName, query: &Vec<u8>, text: &mut Text) -> Answered {
         match name {
-            Name::Remove => self.first.remove(&query).show(text),
-            Name::RemovePrefix => self.first.remove_prefix(&query).show(text),
-            _ => self.first.remove_entry(&query).show(text),
+            MapName::Remove => self.first.remove(query).show(text),
+            MapName::RemovePrefix => self.first.remove_prefix(query).show(text),
+            MapName::RemoveEntry => self.first.remove_entry(query).show(text),
+            _ => self.split_off(query, text),
         }
     }
 
     // The calls that place a pair.
-    fn place(&mut self, name: Name, mut words: Words<'_>, text: &mut Text) -> Answered {
+    fn place(&mut self, name: MapName, mut words: Words<'_>, text: &mut Text) -> Answered {
         let (key, value) = words.last_pair()?;
         match name {
-            Name::TryInsert => self.first.try_insert(key, value).show(text),
-            Name::ReplaceEntry => self.first.replace_entry(key, value).show(text),
+            MapName::TryInsert => self.first.try_insert(key, value).show(text),
+            MapName::ReplaceEntry => self.first.replace_entry(key, value).show(text),
             _ => self.first.prefix_insert(key, value).show(text),
         }
     }
 
     // The calls that lend a value to be written.
-    fn write(&mut self, name: Name, mut words: Words<'_>, text: &mut Text) -> Answered {
+    fn write(&mut self, name: MapName, mut words: Words<'_>, text: &mut Text) -> Answered {
         let (query, value) = words.last_bytes_and_number()?;
-        let old = match name {
-            Name::GetMut => written(self.first.get_mut(&query), value),
-            _ => written(self.first.prefix_get_mut(&query), value),
-        };
-        old.show(text)
+        let answered = self.write_at(name, &query, value, text);
+        drop(query);
+        answered
     }
 
-    fn prefix_get_key_value_mut(&mut self, mut words: Words<'_>, text: &mut Text) -> Answered {
-        let (query, value) = words.last_bytes_and_number()?;
-        match self.first.prefix_get_key_value_mut(&query) {
+    fn write_at(
+        &mut self,
+        name: MapName,
+        query: &Vec<u8>,
+        value: u64,
+        text: &mut Text,
+    ) -> Answered {
+        match name {
+            MapName::GetMut => written(self.first.get_mut(query), value).show(text),
+            MapName::PrefixGetMut => written(self.first.prefix_get_mut(query), value).show(text),
+            _ => self.write_pair(query, value, text),
+        }
+    }
+
+    fn write_pair(&mut self, query: &Vec<u8>, value: u64, text: &mut Text) -> Answered {
+        match self.first.prefix_get_key_value_mut(query) {
             Some(mut entry) => {
                 let old = entry.insert(value);
                 Some((entry.key(), old)).show(text)

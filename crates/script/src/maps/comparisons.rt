@@ -1,20 +1,19 @@
 //! How the first map and the second compare, and what the first is as text.
 use crate::maps::calls::Maps;
-use crate::maps::names::Name;
-use crate::words::{
-    Answered, ScriptKey, Shown, Text, Unanswered, Words, have_one_digest, show_debug,
+use script_words::{
+    Answered, MapName, ScriptKey, Shown, Text, Unanswered, Words, have_one_digest, show_debug,
 };
 
 impl<K: ScriptKey, const PREFIX_LEN: usize> Maps<K, PREFIX_LEN> {
     /// Makes the call of this name, which compares the maps, and adds its answer.
-    pub(crate) fn compare(&self, name: Name, words: Words<'_>, text: &mut Text) -> Answered {
+    pub(crate) fn compare(&self, name: MapName, words: Words<'_>, text: &mut Text) -> Answered {
         words.end()?;
         match name {
-            Name::Equal => (self.first == self.second).show(text),
-            Name::PartialCmp => self.first.partial_cmp(&self.second).show(text),
-            Name::Cmp => self.first.cmp(&self.second).show(text),
-            Name::SameHash => have_one_digest(&self.first, &self.second).show(text),
-            Name::DebugText => show_debug(&self.first, text),
+            MapName::Equal => (self.first == self.second).show(text),
+            MapName::PartialCmp => self.first.partial_cmp(&self.second).show(text),
+            MapName::Cmp => self.first.cmp(&self.second).show(text),
+            MapName::SameHash => have_one_digest(&self.first, &self.second).show(text),
+            MapName::DebugText => show_debug(&self.first, text),
             _ => Err(Unanswered::NoCall),
         }
     }

@@ -1,13 +1,13 @@
 //! The call that makes calls in turn.
 use crate::maps::calls::Maps;
-use crate::words::{Answered, ScriptKey, Shown, Text, Unanswered, Words, show_list};
-use blart_map::{Call, drive};
-use std::alloc::{AllocError, Global};
+use blart_map::drive;
+use script_words::{Answered, ScriptKey, Shown, Text, Words, show_list, turns_of};
+use std::alloc::AllocError;
 
 impl<K: ScriptKey, const PREFIX_LEN: usize> Maps<K, PREFIX_LEN> {
     /// Makes the calls that the words are, and adds their replies.
     pub(crate) fn drive(&mut self, words: Words<'_>, text: &mut Text) -> Answered {
-        let calls = calls_of(self.alloc, words)?;
+        let calls = turns_of(self.alloc, words)?;
         match drive(&mut self.first, calls) {
             Ok(replies) => {
                 text.push(b"Ok(")?;
@@ -17,94 +17,5 @@ impl<K: ScriptKey, const PREFIX_LEN: usize> Maps<K, PREFIX_LEN> {
             Err(error) => Err::<(), AllocError>(error).show(text)?,
         }
         Ok(())
-    }
-}
-
-// The calls that the words are.
-fn calls_of<K: ScriptKey>(
-    alloc: Global,
-    mut words: Words<'_>,
-) -> Result<Vec<Call<K, u64>>, Unanswered> {
-    let mut calls = Vec::new(alloc);
-    for _ in 0..u64::MAX {
-        if words.is_done() {
-            break;
-        }
-        let word = words.word()?;
-        if calls.push(call_of(Words::new(word, b':', alloc))?).is_err() {
-            return Err(Unanswered::Memory(AllocError));
-        }
-    }
-    Ok(calls)
-}
-
-// The name of a call that is made in turn.
-#[derive(Clone, Copy)]
-enum TurnName {
-    TryInsert,
-    ReplaceEntry,
-    PrefixInsert,
-    RemoveEntry,
-    ContainsKey,
-    PopFirst,
-    PopLast,
-    Clear,
-}
-
-// The word that names each call.
-const NAMES: [(&str, TurnName); 8] = [
-    ("TryInsert", TurnName::TryInsert),
-    ("ReplaceEntry", TurnName::ReplaceEntry),
-    ("PrefixInsert", TurnName::PrefixInsert),
-    ("RemoveEntry", TurnName::RemoveEntry),
-    ("ContainsKey", TurnName::ContainsKey),
-    ("PopFirst", TurnName::PopFirst),
-    ("PopLast", TurnName::PopLast),
-    ("Clear", TurnName::Clear),
-];
-
-// The name that the word is.
-fn turn_of(word: &[u8]) -> Option<TurnName> {
-    for (text, name) in &NAMES {
-        if text.as_bytes() == word {
-            return Some(*name);
-        }
-    }
-    None
-}
-
-// The call that the parts of a word are.
-fn call_of<K: ScriptKey>(mut parts: Words<'_>) -> Result<Call<K, u64>, Unanswered> {
-    let Some(name) = turn_of(parts.word()?) else {
-        return Err(Unanswered::NoCall);
-    };
-    match name {
-        TurnName::TryInsert => {
-            let (key, value) = parts.last_pair()?;
-            Ok(Call::TryInsert(key, value))
-        }
-        TurnName::ReplaceEntry => {
-            let (key, value) = parts.last_pair()?;
-            Ok(Call::ReplaceEntry(key, value))
-        }
-        TurnName::PrefixInsert => {
-            let (key, value) = parts.last_pair()?;
-            Ok(Call::PrefixInsert(key, value))
-        }
-        TurnName::RemoveEntry => Ok(Call::RemoveEntry(parts.last_key()?)),
-        TurnName::ContainsKey => Ok(Call::ContainsKey(parts.last_key()?)),
-        _ => {
-            parts.end()?;
-            Ok(bare_call(name))
-        }
-    }
-}
-
-// The call of this name, which has no arguments.
-fn bare_call<K>(name: TurnName) -> Call<K, u64> {
-    match name {
-        TurnName::PopFirst => Call::PopFirst,
-        TurnName::PopLast => Call::PopLast,
-        _ => Call::Clear,
     }
 }

@@ -2,15 +2,14 @@
 ghost use Rattle.std.specs.Prelude.{◌≡◌};
 
 use crate::maps::calls::Maps;
-use crate::maps::names::Name;
-use crate::words::{Answered, FixedKey, ScriptKey, Shown, Text, Words, value_of};
 use blart_keys::NoPrefixesBytes;
+use script_words::{Answered, FixedKey, MapName, ScriptKey, Shown, Text, Words, value_of};
 
 impl<const PREFIX_LEN: usize> Maps<Vec<u8>, PREFIX_LEN> {
     /// Makes the call of this name with these words behind it, and adds its answer.
-    pub fn call_of_bytes(&mut self, name: Name, words: Words<'_>, text: &mut Text) -> Answered {
+    pub fn call_of_bytes(&mut self, name: MapName, words: Words<'_>, text: &mut Text) -> Answered {
         match name {
-            Name::MakeClone => self.make_clone(words, text),
+            MapName::MakeClone => self.make_clone(words, text),
             _ => self.call(name, words, text),
         }
     }
@@ -18,13 +17,13 @@ impl<const PREFIX_LEN: usize> Maps<Vec<u8>, PREFIX_LEN> {
 
 impl<K: FixedKey, const PREFIX_LEN: usize> Maps<K, PREFIX_LEN> {
     /// Makes the call of this name with these words behind it, and adds its answer.
-    pub fn call_of_fixed(&mut self, name: Name, words: Words<'_>, text: &mut Text) -> Answered
+    pub fn call_of_fixed(&mut self, name: MapName, words: Words<'_>, text: &mut Text) -> Answered
         requires { (k j : K) → K.is_clone k j → K.bytes j ≡ K.bytes k }
     {
         match name {
-            Name::MakeClone => self.make_clone(words, text),
-            Name::ExtendCopied => self.extend_copied(words, text),
-            Name::FromArray => self.from_array(words, text),
+            MapName::MakeClone => self.make_clone(words, text),
+            MapName::ExtendCopied => self.extend_copied(words, text),
+            MapName::FromArray => self.from_array(words, text),
             _ => self.call_of_apart(name, words, text),
         }
     }
@@ -32,14 +31,14 @@ impl<K: FixedKey, const PREFIX_LEN: usize> Maps<K, PREFIX_LEN> {
 
 impl<K: ScriptKey + NoPrefixesBytes, const PREFIX_LEN: usize> Maps<K, PREFIX_LEN> {
     /// Makes the call of this name with these words behind it, and adds its answer.
-    pub fn call_of_apart(&mut self, name: Name, words: Words<'_>, text: &mut Text) -> Answered {
+    pub fn call_of_apart(&mut self, name: MapName, words: Words<'_>, text: &mut Text) -> Answered {
         match name {
-            Name::Insert => self.insert(words, text),
-            Name::GetOrInsert => self.get_or_insert(words, text),
-            Name::Append => self.append(words, text),
-            Name::Extend => self.extend(words, text),
-            Name::FromVec => self.from_vec(words, text),
-            Name::FromIter => self.from_iter(words, text),
+            MapName::Insert => self.insert(words, text),
+            MapName::GetOrInsert => self.get_or_insert(words, text),
+            MapName::Append => self.append(words, text),
+            MapName::Extend => self.extend(words, text),
+            MapName::FromVec => self.from_vec(words, text),
+            MapName::FromIter => self.from_iter(words, text),
             _ => self.call(name, words, text),
         }
     }

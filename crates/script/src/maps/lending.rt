@@ -1,25 +1,19 @@
 //! Walks that lend values, which are written as they pass.
+ghost use Rattle.blart_keys.specs.Bounds.{bound_bytes, CanRange};
+ghost use Rattle.blart_keys.specs.KeyBytes.{vec_bytes};
+ghost use Rattle.blart_map.specs.Content.{pairs};
+
 use crate::maps::calls::Maps;
-use crate::maps::names::Name;
-use crate::words::{
+use blart_map::{IterMut, PrefixMut, RangeMut, ValuesMut};
+use script_words::{
     Answered, Lending, ScriptKey, Text, Unanswered, Words, raise, show_lending, text_of,
 };
-use blart_map::{IterMut, PrefixMut, RangeMut, ValuesMut, bounds_in_order};
-use std::alloc::{AllocError, Global};
+use std::alloc::Global;
+use std::ops::Bound;
 
 impl<K: ScriptKey, const PREFIX_LEN: usize> Maps<K, PREFIX_LEN> {
-    /// Makes the call of this name, which opens a walk that lends values, and adds its answer.
-    pub(crate) fn lend(&mut self, name: Name, words: Words<'_>, text: &mut Text) -> Answered {
-        match name {
-            Name::IterMut => self.iter_mut(words, text),
-            Name::ValuesMut => self.values_mut(words, text),
-            Name::RangeMut => self.range_mut(words, text),
-            Name::PrefixMut => self.prefix_mut(words, text),
-            _ => Err(Unanswered::NoCall),
-        }
-    }
-
-    fn iter_mut(&mut self, mut words: Words<'_>, text: &mut Text) -> Answered {
+    /// Adds to the value of each pair, and adds the pairs.
+    pub(crate) fn iter_mut(&mut self, mut words: Words<'_>, text: &mut Text) -> Answered {
         let add = words.number()?;
         let letters = words.last_steps()?;
         let walk = RaisingPairs {
@@ -29,7 +23,8 @@ impl<K: ScriptKey, const PREFIX_LEN: usize> Maps<K, PREFIX_LEN> {
         show_lending(walk, letters, text)
     }
 
-    fn values_mut(&mut self, mut words: Words<'_>, text: &mut Text) -> Answered {
+    /// Adds to each value, and adds the values.
+    pub(crate) fn values_mut(&mut self, mut words: Words<'_>, text: &mut Text) -> Answered {
         let add = words.number()?;
         let letters = words.last_steps()?;
         let walk = RaisingValues {
@@ -39,14 +34,19 @@ impl<K: ScriptKey, const PREFIX_LEN: usize> Maps<K, PREFIX_LEN> {
         show_lending(walk, letters, text)
     }
 
-    fn range_mut(&mut self, mut words: Words<'_>, text: &mut Text) -> Answered {
-        let (start, end) = words.bounds()?;
+    /// Adds to the values of the pairs within two bounds, and adds the pairs.
+    pub(crate) fn range_mut(
+        &mut self,
+        start: Bound<&Vec<u8>>,
+        end: Bound<&Vec<u8>>,
+        mut words: Words<'_>,
+        text: &mut Text,
+    ) -> Answered
+        requires { CanRange (pairs self.old.first) (bound_bytes vec_bytes start)
+            (bound_bytes vec_bytes end) }
+    {
         let add = words.number()?;
         let letters = words.last_moves()?;
-        let (start, end) = (start.as_ref(), end.as_ref());
-        if !self.first.is_empty() && !bounds_in_order(start, end) {
-            return Err(Unanswered::NoCall);
-        }
         let walk = RaisingRange {
             walk: self.first.range_mut(start, end),
             add,
@@ -54,12 +54,17 @@ impl<K: ScriptKey, const PREFIX_LEN: usize> Maps<K, PREFIX_LEN> {
         show_lending(walk, letters, text)
     }
 
-    fn prefix_mut(&mut self, mut words: Words<'_>, text: &mut Text) -> Answered {
-        let front = words.bytes()?;
+    /// Adds to the values of the pairs below some bytes, and adds the pairs.
+    pub(crate) fn prefix_mut(
+        &mut self,
+        front: &Vec<u8>,
+        mut words: Words<'_>,
+        text: &mut Text,
+    ) -> Answered {
         let add = words.number()?;
         let letters = words.last_moves()?;
         let walk = RaisingBelow {
-            walk: self.first.prefix_mut(&front),
+            walk: self.first.prefix_mut(front),
             add,
         };
         show_lending(walk, letters, text)

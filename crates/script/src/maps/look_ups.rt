@@ -1,115 +1,128 @@
 //! The calls that leave the maps as they are.
+ghost use Rattle.blart_keys.specs.Bounds.{bound_bytes, CanRange};
+ghost use Rattle.blart_keys.specs.KeyBytes.{vec_bytes};
+ghost use Rattle.blart_map.specs.Content.{pairs};
+
 use crate::maps::calls::Maps;
-use crate::maps::names::Name;
-use crate::words::{Answered, Left, ScriptKey, Shown, Text, Unanswered, Words, show_walk};
-use blart_map::{Visits, bounds_in_order};
+use crate::maps::within::show_order;
+use blart_map::Visits;
+use script_words::{Answered, Left, MapName, ScriptKey, Shown, Text, Unanswered, Words, show_walk};
+use std::ops::Bound;
 
 impl<K: ScriptKey, const PREFIX_LEN: usize> Maps<K, PREFIX_LEN> {
     /// Makes the call of this name, which leaves the maps as they are, and adds its answer.
-    pub(crate) fn look_up(&self, name: Name, words: Words<'_>, text: &mut Text) -> Answered {
+    pub(crate) fn look_up(&self, name: MapName, words: Words<'_>, text: &mut Text) -> Answered {
         match name {
-            Name::Len | Name::InnerNodes | Name::IsEmpty => self.tell(name, words, text),
-            Name::FirstKeyValue | Name::LastKeyValue => self.tell(name, words, text),
-            Name::Get | Name::PrefixGet | Name::ContainsKey => self.find(name, words, text),
-            Name::GetKeyValue | Name::PrefixGetKeyValue => self.find(name, words, text),
-            Name::Conflicts => self.find(name, words, text),
-            Name::GetKeyValueCounted | Name::PrefixGetKeyValueCounted => {
-                self.find_counted(name, words, text)
-            }
-            Name::Index => self.index(words, text),
-            Name::BoundsInOrder => show_order(words, text),
-            Name::Iter | Name::Keys | Name::Values => self.walk(name, words, text),
-            Name::Range | Name::RangeCounted => self.range(name, words, text),
-            Name::Prefix | Name::PrefixCounted => self.prefix(name, words, text),
+            MapName::BoundsInOrder => show_order(words, text),
+            MapName::Iter | MapName::Keys | MapName::Values => self.walk(name, words, text),
+            MapName::Len | MapName::InnerNodes | MapName::IsEmpty => self.tell(name, words, text),
+            MapName::FirstKeyValue | MapName::LastKeyValue => self.tell(name, words, text),
+            MapName::Get | MapName::PrefixGet | MapName::Index => self.find(name, words, text),
+            MapName::ContainsKey | MapName::Conflicts => self.find(name, words, text),
+            MapName::GetKeyValue | MapName::PrefixGetKeyValue => self.find(name, words, text),
+            MapName::GetKeyValueCounted => self.find(name, words, text),
+            MapName::PrefixGetKeyValueCounted => self.find(name, words, text),
             _ => Err(Unanswered::NoCall),
         }
     }
 
     // The calls with no argument.
-    fn tell(&self, name: Name, words: Words<'_>, text: &mut Text) -> Answered {
+    fn tell(&self, name: MapName, words: Words<'_>, text: &mut Text) -> Answered {
         words.end()?;
         match name {
-            Name::Len => self.first.len().show(text),
-            Name::InnerNodes => self.first.inner_nodes().show(text),
-            Name::IsEmpty => self.first.is_empty().show(text),
-            Name::FirstKeyValue => self.first.first_key_value().show(text),
-            Name::LastKeyValue => self.first.last_key_value().show(text),
+            MapName::Len => self.first.len().show(text),
+            MapName::InnerNodes => self.first.inner_nodes().show(text),
+            MapName::IsEmpty => self.first.is_empty().show(text),
+            MapName::FirstKeyValue => self.first.first_key_value().show(text),
+            MapName::LastKeyValue => self.first.last_key_value().show(text),
             _ => Err(Unanswered::NoCall),
         }
     }
 
     // The calls that look for some bytes.
-    fn find(&self, name: Name, mut words: Words<'_>, text: &mut Text) -> Answered {
+    fn find(&self, name: MapName, mut words: Words<'_>, text: &mut Text) -> Answered {
         let query = words.last_bytes()?;
+        let answered = self.find_at(name, &query, text);
+        drop(query);
+        answered
+    }
+
+    fn find_at(&self, name: MapName, query: &Vec<u8>, text: &mut Text) -> Answered {
         match name {
-            Name::Get => self.first.get(&query).show(text),
-            Name::PrefixGet => self.first.prefix_get(&query).show(text),
-            Name::GetKeyValue => self.first.get_key_value(&query).show(text),
-            Name::PrefixGetKeyValue => self.first.prefix_get_key_value(&query).show(text),
-            Name::ContainsKey => self.first.contains_key(&query).show(text),
-            Name::Conflicts => self.first.conflicts(&query).show(text),
-            _ => Err(Unanswered::NoCall),
+            MapName::Get => self.first.get(query).show(text),
+            MapName::PrefixGet => self.first.prefix_get(query).show(text),
+            MapName::ContainsKey => self.first.contains_key(query).show(text),
+            MapName::Conflicts => self.first.conflicts(query).show(text),
+            MapName::Index => self.index(query, text),
+            _ => self.find_pair(name, query).show(text),
         }
     }
 
-    // The look-ups that count their visits.
-    fn find_counted(&self, name: Name, mut words: Words<'_>, text: &mut Text) -> Answered {
-        let query = words.last_bytes()?;
-        let mut visits = Visits::new();
-        let found = match name {
-            Name::GetKeyValueCounted => self.first.get_key_value_counted(&query, &mut visits),
-            _ => self.first.prefix_get_key_value_counted(&query, &mut visits),
-        };
-        found.show(text)
+    // The pair that a look-up finds.
+    fn find_pair(&self, name: MapName, query: &Vec<u8>) -> Option<(&K, &u64)> {
+        match name {
+            MapName::GetKeyValue => self.first.get_key_value(query),
+            MapName::PrefixGetKeyValue => self.first.prefix_get_key_value(query),
+            MapName::GetKeyValueCounted => {
+                self.first.get_key_value_counted(query, &mut Visits::new())
+            }
+            _ => self
+                .first
+                .prefix_get_key_value_counted(query, &mut Visits::new()),
+        }
     }
 
-    fn index(&self, mut words: Words<'_>, text: &mut Text) -> Answered {
-        let query = words.last_bytes()?;
-        if !self.first.contains_key(&query) {
+    fn index(&self, query: &Vec<u8>, text: &mut Text) -> Answered {
+        if !self.first.contains_key(query) {
             return Err(Unanswered::NoCall);
         }
-        self.first[&query].show(text)
+        self.first[query].show(text)
     }
 
     // The walks over all pairs.
-    fn walk(&self, name: Name, mut words: Words<'_>, text: &mut Text) -> Answered {
+    fn walk(&self, name: MapName, mut words: Words<'_>, text: &mut Text) -> Answered {
         let steps = words.last_steps()?;
         match name {
-            Name::Iter => show_walk(self.first.iter(), Left::Told, steps, text),
-            Name::Keys => show_walk(self.first.keys(), Left::Told, steps, text),
-            Name::Values => show_walk(self.first.values(), Left::Told, steps, text),
+            MapName::Iter => show_walk(self.first.iter(), Left::Told, steps, text),
+            MapName::Keys => show_walk(self.first.keys(), Left::Told, steps, text),
+            MapName::Values => show_walk(self.first.values(), Left::Told, steps, text),
             _ => Err(Unanswered::NoCall),
         }
     }
 
-    fn range(&self, name: Name, mut words: Words<'_>, text: &mut Text) -> Answered {
-        let (start, end) = words.bounds()?;
+    /// The walks over the pairs within two bounds.
+    pub(crate) fn range(
+        &self,
+        name: MapName,
+        start: Bound<&Vec<u8>>,
+        end: Bound<&Vec<u8>>,
+        mut words: Words<'_>,
+        text: &mut Text,
+    ) -> Answered
+        requires { CanRange (pairs self.now.first) (bound_bytes vec_bytes start)
+            (bound_bytes vec_bytes end) }
+    {
         let steps = words.last_steps()?;
-        let (start, end) = (start.as_ref(), end.as_ref());
-        if !self.first.is_empty() && !bounds_in_order(start, end) {
-            return Err(Unanswered::NoCall);
-        }
         let walk = match name {
-            Name::RangeCounted => self.first.range_counted(start, end, &mut Visits::new()),
+            MapName::RangeCounted => self.first.range_counted(start, end, &mut Visits::new()),
             _ => self.first.range(start, end),
         };
         show_walk(walk, Left::Untold, steps, text)
     }
 
-    fn prefix(&self, name: Name, mut words: Words<'_>, text: &mut Text) -> Answered {
-        let front = words.bytes()?;
+    /// The walks over the pairs below some bytes.
+    pub(crate) fn prefix(
+        &self,
+        name: MapName,
+        front: &Vec<u8>,
+        mut words: Words<'_>,
+        text: &mut Text,
+    ) -> Answered {
         let steps = words.last_steps()?;
         let walk = match name {
-            Name::PrefixCounted => self.first.prefix_counted(&front, &mut Visits::new()),
-            _ => self.first.prefix(&front),
+            MapName::PrefixCounted => self.first.prefix_counted(front, &mut Visits::new()),
+            _ => self.first.prefix(front),
         };
         show_walk(walk, Left::Untold, steps, text)
     }
-}
-
-// Adds whether two bounds are in order.
-fn show_order(mut words: Words<'_>, text: &mut Text) -> Answered {
-    let (start, end) = words.bounds()?;
-    words.end()?;
-    bounds_in_order(start.as_ref(), end.as_ref()).show(text)
 }

@@ -5,53 +5,17 @@ ghost use Rattle.blart_keys.specs.Bounds.{bound_bytes, CanRange};
 ghost use Rattle.blart_keys.specs.KeyBytes.{vec_bytes};
 
 use crate::maps::calls::Maps;
-use crate::maps::names::Name;
-use crate::words::{Answered, ScriptKey, Shown, Text, Unanswered, Words};
-use blart_map::{TakeWalk, bounds_in_order};
+use blart_map::TakeWalk;
+use script_words::{Answered, ScriptKey, Shown, Text, Unanswered, ValuePick, Words};
 use std::alloc::AllocError;
 use std::iter;
 use std::iter::{DoubleEndedIterator, Iterator};
 use std::ops::Bound;
 
-// What a closure does with a value.
-#[derive(Clone, Copy)]
-struct Pick {
-    modulus: u64,
-    rest: u64,
-    add: u64,
-}
-
-impl Pick {
-    // The next three words.
-    fn read(words: &mut Words<'_>) -> Result<Pick, Unanswered> {
-        let (modulus, rest) = (words.number()?, words.number()?);
-        let add = words.number()?;
-        if modulus == 0 {
-            return Err(Unanswered::NoCall);
-        }
-        Ok(Pick { modulus, rest, add })
-    }
-
-    // Adds to the value, and answers whether it leaves the rest.
-    fn picks(&self, value: &mut u64) -> bool {
-        *value = value.wrapping_add(self.add);
-        value.checked_rem(self.modulus) == Some(self.rest)
-    }
-}
-
 impl<K: ScriptKey, const PREFIX_LEN: usize> Maps<K, PREFIX_LEN> {
-    /// Makes the call of this name, which takes some pairs out, and adds its answer.
-    pub(crate) fn pick(&mut self, name: Name, words: Words<'_>, text: &mut Text) -> Answered {
-        match name {
-            Name::Retain => self.retain(words, text),
-            Name::ExtractIf => self.extract_if(words, text),
-            Name::TakeWalk => self.take_walk(words, text),
-            _ => Err(Unanswered::NoCall),
-        }
-    }
-
-    fn retain(&mut self, mut words: Words<'_>, text: &mut Text) -> Answered {
-        let pick = Pick::read(&mut words)?;
+    /// Keeps the pairs that are picked, and adds how often the closure was asked.
+    pub(crate) fn retain(&mut self, mut words: Words<'_>, text: &mut Text) -> Answered {
+        let pick = ValuePick::read(&mut words)?;
         words.end()?;
         let mut asked: u64 = 0;
         self.first.retain(|_, value| {
@@ -61,14 +25,19 @@ impl<K: ScriptKey, const PREFIX_LEN: usize> Maps<K, PREFIX_LEN> {
         asked.show(text)
     }
 
-    fn extract_if(&mut self, mut words: Words<'_>, text: &mut Text) -> Answered {
-        let (start, end) = words.bounds()?;
-        let pick = Pick::read(&mut words)?;
+    /// Takes out the pairs that are picked, and adds them and how often the closure was asked.
+    pub(crate) fn extract_if(
+        &mut self,
+        start: Bound<&Vec<u8>>,
+        end: Bound<&Vec<u8>>,
+        mut words: Words<'_>,
+        text: &mut Text,
+    ) -> Answered
+        requires { CanRange (pairs self.old.first) (bound_bytes vec_bytes start)
+            (bound_bytes vec_bytes end) }
+    {
+        let pick = ValuePick::read(&mut words)?;
         let letters = words.last_moves()?;
-        let (start, end) = (start.as_ref(), end.as_ref());
-        if !self.first.is_empty() && !bounds_in_order(start, end) {
-            return Err(Unanswered::NoCall);
-        }
         let asked = match letters {
             Some(letters) => self.extract_steps(start, end, pick, letters, text)?,
             None => self.extract_all(start, end, pick, text)?,
@@ -82,7 +51,7 @@ impl<K: ScriptKey, const PREFIX_LEN: usize> Maps<K, PREFIX_LEN> {
         &mut self,
         start: Bound<&Vec<u8>>,
         end: Bound<&Vec<u8>>,
-        pick: Pick,
+        pick: ValuePick,
         text: &mut Text,
     ) -> Result<u64, Unanswered>
         requires { CanRange (pairs self.old.first) (bound_bytes vec_bytes start)
@@ -111,7 +80,7 @@ impl<K: ScriptKey, const PREFIX_LEN: usize> Maps<K, PREFIX_LEN> {
         &mut self,
         start: Bound<&Vec<u8>>,
         end: Bound<&Vec<u8>>,
-        pick: Pick,
+        pick: ValuePick,
         letters: &[u8],
         text: &mut Text,
     ) -> Result<u64, Unanswered>
@@ -136,13 +105,18 @@ impl<K: ScriptKey, const PREFIX_LEN: usize> Maps<K, PREFIX_LEN> {
         Ok(asked)
     }
 
-    fn take_walk(&mut self, mut words: Words<'_>, text: &mut Text) -> Answered {
-        let (start, end) = words.bounds()?;
+    /// Lends the pairs within two bounds, to be kept or taken, and adds what each letter gave.
+    pub(crate) fn take_walk(
+        &mut self,
+        start: Bound<&Vec<u8>>,
+        end: Bound<&Vec<u8>>,
+        mut words: Words<'_>,
+        text: &mut Text,
+    ) -> Answered
+        requires { CanRange (pairs self.old.first) (bound_bytes vec_bytes start)
+            (bound_bytes vec_bytes end) }
+    {
         let letters = words.last_decisions()?;
-        let (start, end) = (start.as_ref(), end.as_ref());
-        if !self.first.is_empty() && !bounds_in_order(start, end) {
-            return Err(Unanswered::NoCall);
-        }
         let mut walk = self.first.take_walk(start, end);
         take_steps(&mut walk, letters, text)
     }

@@ -2,7 +2,7 @@
 use crate::refusals::failure::Failure;
 use crate::refusals::standing::{changed, stands};
 use crate::session::Session;
-use crate::words::{Answered, Text, Unanswered};
+use script_words::{Answered, Text, Unanswered};
 use std::alloc::Global;
 use std::cell::Cell;
 use std::iter::Iterator;
@@ -31,8 +31,12 @@ pub(crate) fn answer_script(alloc: Global, script: &[u8]) -> Result<Answers, Fai
     };
     let drops = Cell::new(0u64);
     let mut session = Session::new(alloc, &drops);
-    answer_all(alloc, &mut session, script, &mut answers)?;
-    Ok(answers)
+    let answered = answer_all(alloc, &mut session, script, &mut answers);
+    drop(session);
+    match answered {
+        Ok(()) => Ok(answers),
+        Err(failure) => Err(failure),
+    }
 }
 
 // Adds what stands for each line of the script.

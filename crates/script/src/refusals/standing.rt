@@ -3,7 +3,7 @@
 //! That must be what the lines before it make in a session of their own, for which there is memory. A line of `extend` may have added some of its items, from the first on.
 use crate::refusals::answers::{PREFIX_LEN, answer};
 use crate::session::Session;
-use crate::words::{Answered, Text, Unanswered};
+use script_words::{Answered, Text, Unanswered};
 use std::alloc::Global;
 use std::cell::Cell;
 use std::iter::Iterator;
@@ -61,7 +61,9 @@ fn listing_after(
 ) -> Result<Text, Unanswered> {
     let drops = Cell::new(0u64);
     let mut session = Session::new(alloc, &drops);
-    list_after(alloc, &mut session, script, count, last)
+    let listing = list_after(alloc, &mut session, script, count, last);
+    drop(session);
+    listing
 }
 
 // The listing of the session after the first lines of the script and one more.

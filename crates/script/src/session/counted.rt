@@ -1,7 +1,7 @@
 //! A map whose values count how often one is dropped, and the calls of it.
-use crate::maps::{Name, list_map};
-use crate::words::{Answered, Left, Shown, Text, Unanswered, Words, show_walk};
+use crate::maps::list_map;
 use blart_map::TreeMap;
+use script_words::{Answered, Left, MapName, Shown, Text, Unanswered, Words, show_walk};
 use std::alloc::{AllocError, Global};
 use std::cell::Cell;
 use std::iter::IntoIterator;
@@ -50,65 +50,73 @@ impl<'a, const PREFIX_LEN: usize> CountedMap<'a, PREFIX_LEN> {
     }
 
     /// Makes the call of this name with these words behind it, and adds its answer.
-    pub(crate) fn call(&mut self, name: Name, words: Words<'_>, text: &mut Text) -> Answered {
+    pub(crate) fn call(&mut self, name: MapName, words: Words<'_>, text: &mut Text) -> Answered {
         match name {
-            Name::TryInsert | Name::ReplaceEntry | Name::PrefixInsert => {
+            MapName::TryInsert | MapName::ReplaceEntry | MapName::PrefixInsert => {
                 self.place(name, words, text)
             }
-            Name::Remove | Name::RemoveEntry | Name::RemovePrefix => {
+            MapName::Remove | MapName::RemoveEntry | MapName::RemovePrefix => {
                 self.remove(name, words, text)
             }
-            Name::IntoIter | Name::IntoKeys | Name::IntoValues => self.own(name, words, text),
+            MapName::IntoIter | MapName::IntoKeys | MapName::IntoValues => self.own(
+                name, words, text,
+            ),
             _ => self.bare(name, words, text),
         }
     }
 
     // The calls with no argument.
-    fn bare(&mut self, name: Name, words: Words<'_>, text: &mut Text) -> Answered {
+    fn bare(&mut self, name: MapName, words: Words<'_>, text: &mut Text) -> Answered {
         words.end()?;
         match name {
-            Name::Clear => {
+            MapName::Clear => {
                 self.map.clear();
                 ().show(text)
             }
-            Name::PopFirst => self.map.pop_first().show(text),
-            Name::PopLast => self.map.pop_last().show(text),
-            Name::Len => self.map.len().show(text),
-            Name::Drops => self.drops.get().show(text),
-            Name::Iter => show_walk(self.map.iter(), Left::Told, None, text),
+            MapName::PopFirst => self.map.pop_first().show(text),
+            MapName::PopLast => self.map.pop_last().show(text),
+            MapName::Len => self.map.len().show(text),
+            MapName::Drops => self.drops.get().show(text),
+            MapName::Iter => show_walk(self.map.iter(), Left::Told, None, text),
             _ => Err(Unanswered::NoCall),
         }
     }
 
     // The calls that place a pair.
-    fn place(&mut self, name: Name, mut words: Words<'_>, text: &mut Text) -> Answered {
+    fn place(&mut self, name: MapName, mut words: Words<'_>, text: &mut Text) -> Answered {
         let (key, number) = words.last_pair()?;
         let drops = self.drops;
         let value = Counted { number, drops };
         match name {
-            Name::TryInsert => self.map.try_insert(key, value).show(text),
-            Name::ReplaceEntry => self.map.replace_entry(key, value).show(text),
+            MapName::TryInsert => self.map.try_insert(key, value).show(text),
+            MapName::ReplaceEntry => self.map.replace_entry(key, value).show(text),
             _ => self.map.prefix_insert(key, value).show(text),
         }
     }
 
     // The calls that take the pair of some bytes, or those below them.
-    fn remove(&mut self, name: Name, mut words: Words<'_>, text: &mut Text) -> Answered {
+    fn remove(&mut self, name: MapName, mut words: Words<'_>, text: &mut Text) -> Answered {
         let query = words.last_bytes()?;
+        let answered = self.remove_at(name, &query, text);
+        drop(query);
+        answered
+    }
+
+    fn remove_at(&mut self, name: MapName, query: &Vec<u8>, text: &mut Text) -> Answered {
         match name {
-            Name::Remove => self.map.remove(&query).show(text),
-            Name::RemovePrefix => self.map.remove_prefix(&query).show(text),
-            _ => self.map.remove_entry(&query).show(text),
+            MapName::Remove => self.map.remove(query).show(text),
+            MapName::RemovePrefix => self.map.remove_prefix(query).show(text),
+            _ => self.map.remove_entry(query).show(text),
         }
     }
 
     // The calls that take the map apart.
-    fn own(&mut self, name: Name, mut words: Words<'_>, text: &mut Text) -> Answered {
+    fn own(&mut self, name: MapName, mut words: Words<'_>, text: &mut Text) -> Answered {
         let letters = words.last_steps()?;
         let map = mem::replace(&mut self.map, TreeMap::with_prefix_len(self.alloc));
         match name {
-            Name::IntoIter => show_walk(map.into_iter(), Left::Told, letters, text),
-            Name::IntoKeys => show_walk(map.into_keys(), Left::Told, letters, text),
+            MapName::IntoIter => show_walk(map.into_iter(), Left::Told, letters, text),
+            MapName::IntoKeys => show_walk(map.into_keys(), Left::Told, letters, text),
             _ => show_walk(map.into_values(), Left::Told, letters, text),
         }
     }

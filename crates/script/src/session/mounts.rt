@@ -1,7 +1,7 @@
 //! The table of mounts of a part of a script, and the calls of it.
-use crate::words::{Answered, Left, Shown, Text, Unanswered, Words, show_walk};
 use blart_map::Visits;
 use prefix_router::Mounts;
+use script_words::{Answered, Left, Shown, Text, Unanswered, Words, show_walk};
 use std::alloc::{AllocError, Global};
 use std::iter::Iterator;
 
@@ -30,46 +30,59 @@ impl Table {
 
     /// Makes the call that the words are, and adds its answer.
     pub(crate) fn call(&mut self, mut words: Words<'_>, text: &mut Text) -> Answered {
-        match words.word()? {
-            b"mount" => {
-                let (path, target) = words.last_pair()?;
-                self.mounts.mount(path, target).show(text)
-            }
-            b"mount_over" => {
-                let (path, target) = words.last_pair()?;
-                self.mounts.mount_over(path, target).show(text)
-            }
-            b"unmount" => {
-                let path = words.last_bytes()?;
-                self.mounts.unmount(&path).show(text)
-            }
-            word => self.look_up(word, words, text),
+        let word = words.word()?;
+        match word {
+            b"len" => self.tell(words, text),
+            b"mount" | b"mount_over" => self.place(word, words, text),
+            b"unmount" | b"resolve" | b"resolve_counted" => self.find(word, words, text),
+            b"under" => self.walk(words, text),
+            _ => Err(Unanswered::NoCall),
         }
     }
 
-    // The calls that leave the table as it is.
-    fn look_up(&self, word: &[u8], mut words: Words<'_>, text: &mut Text) -> Answered {
+    fn tell(&self, words: Words<'_>, text: &mut Text) -> Answered {
+        words.end()?;
+        self.mounts.len().show(text)
+    }
+
+    // The calls that place a mount.
+    fn place(&mut self, word: &[u8], mut words: Words<'_>, text: &mut Text) -> Answered {
+        let (path, target) = words.last_pair()?;
         match word {
-            b"len" => {
-                words.end()?;
-                self.mounts.len().show(text)
-            }
-            b"resolve" => {
-                let path = words.last_bytes()?;
-                self.mounts.resolve(&path).show(text)
-            }
-            b"resolve_counted" => {
-                let path = words.last_bytes()?;
-                let mut visits = Visits::new();
-                self.mounts.resolve_counted(&path, &mut visits).show(text)
-            }
-            b"under" => {
-                let front = words.bytes()?;
-                let letters = words.last_moves()?;
-                let walk = self.mounts.under(&front);
-                show_walk(walk, Left::Untold, letters, text)
-            }
-            _ => Err(Unanswered::NoCall),
+            b"mount" => self.mounts.mount(path, target).show(text),
+            _ => self.mounts.mount_over(path, target).show(text),
         }
+    }
+
+    // The calls that look for a path.
+    fn find(&mut self, word: &[u8], mut words: Words<'_>, text: &mut Text) -> Answered {
+        let path = words.last_bytes()?;
+        let answered = self.find_at(word, &path, text);
+        drop(path);
+        answered
+    }
+
+    fn find_at(&mut self, word: &[u8], path: &Vec<u8>, text: &mut Text) -> Answered {
+        match word {
+            b"unmount" => self.mounts.unmount(path).show(text),
+            b"resolve" => self.mounts.resolve(path).show(text),
+            _ => self
+                .mounts
+                .resolve_counted(path, &mut Visits::new())
+                .show(text),
+        }
+    }
+
+    // The walk over the mounts under some bytes.
+    fn walk(&self, mut words: Words<'_>, text: &mut Text) -> Answered {
+        let front = words.bytes()?;
+        let answered = self.walk_under(&front, words, text);
+        drop(front);
+        answered
+    }
+
+    fn walk_under(&self, front: &Vec<u8>, mut words: Words<'_>, text: &mut Text) -> Answered {
+        let letters = words.last_moves()?;
+        show_walk(self.mounts.under(front), Left::Untold, letters, text)
     }
 }

@@ -2,37 +2,16 @@
 ghost use Rattle.std.specs.Prelude.{◌≡◌};
 
 use crate::entries::{enter_bytes, enter_end, enter_related, enter_three};
-use crate::maps::{Maps, Name, name_of};
+use crate::maps::Maps;
 use crate::session::counted::CountedMap;
 use crate::session::mounts::Table;
-use crate::sets::{SetName, Sets, set_name_of};
-use crate::words::{Answered, FixedKey, ScriptKey, Tagged, Text, Unanswered, Words};
+use crate::sets::Sets;
 use blart_keys::{I32Key, U64Key, ZKey};
+use script_words::{
+    Answered, FixedKey, LineCall, MapName, ScriptKey, Tagged, Text, Unanswered, Words,
+};
 use std::alloc::{AllocError, Global};
 use std::cell::Cell;
-
-/// A call of the maps, or of the sets.
-#[derive(Clone, Copy)]
-pub(crate) enum Call {
-    Map(Name),
-    Set(SetName),
-}
-
-impl Call {
-    /// The call that the next word names, or the next two.
-    pub(crate) fn read(words: &mut Words<'_>) -> Result<Call, Unanswered> {
-        let word = words.word()?;
-        let call = if word == b"set".as_slice() {
-            set_name_of(words.word()?).map(Call::Set)
-        } else {
-            name_of(word).map(Call::Map)
-        };
-        match call {
-            Some(call) => Ok(call),
-            None => Err(Unanswered::NoCall),
-        }
-    }
-}
 
 /// Two maps and two sets.
 #[derive(Drop)]
@@ -58,51 +37,56 @@ impl<K: ScriptKey, const PREFIX_LEN: usize> Part<K, PREFIX_LEN> {
 }
 
 impl<const PREFIX_LEN: usize> Part<Vec<u8>, PREFIX_LEN> {
-    fn call_of_bytes(&mut self, call: Call, words: Words<'_>, text: &mut Text) -> Answered {
+    fn call_of_bytes(&mut self, call: LineCall, words: Words<'_>, text: &mut Text) -> Answered {
         let map = &mut self.maps.first;
         match call {
-            Call::Map(Name::TryEntry) => enter_bytes(map, words, text),
-            Call::Map(Name::PrefixEntry) => enter_related(map, words, text),
-            Call::Map(Name::FirstEntry) => enter_end(map, true, words, text),
-            Call::Map(Name::LastEntry) => enter_end(map, false, words, text),
-            Call::Map(name) => self.maps.call_of_bytes(name, words, text),
-            Call::Set(name) => self.sets.call_of_bytes(name, words, text),
+            LineCall::Map(MapName::TryEntry) => enter_bytes(map, words, text),
+            LineCall::Map(MapName::PrefixEntry) => enter_related(map, words, text),
+            LineCall::Map(MapName::FirstEntry) => enter_end(map, true, words, text),
+            LineCall::Map(MapName::LastEntry) => enter_end(map, false, words, text),
+            LineCall::Map(name) => self.maps.call_of_bytes(name, words, text),
+            LineCall::Set(name) => self.sets.call_of_bytes(name, words, text),
         }
     }
 }
 
 impl<const PREFIX_LEN: usize> Part<[u8; 3], PREFIX_LEN> {
-    fn call_of_three(&mut self, call: Call, words: Words<'_>, text: &mut Text) -> Answered {
+    fn call_of_three(&mut self, call: LineCall, words: Words<'_>, text: &mut Text) -> Answered {
         match call {
-            Call::Map(Name::TryEntry) => enter_three(&mut self.maps.first, true, words, text),
-            Call::Map(Name::Entry) => enter_three(&mut self.maps.first, false, words, text),
+            LineCall::Map(MapName::TryEntry) => enter_three(
+                &mut self.maps.first,
+                true,
+                words,
+                text,
+            ),
+            LineCall::Map(MapName::Entry) => enter_three(&mut self.maps.first, false, words, text),
             _ => self.call_of_fixed(call, words, text),
         }
     }
 }
 
 impl<K: FixedKey, const PREFIX_LEN: usize> Part<K, PREFIX_LEN> {
-    fn call_of_fixed(&mut self, call: Call, words: Words<'_>, text: &mut Text) -> Answered
+    fn call_of_fixed(&mut self, call: LineCall, words: Words<'_>, text: &mut Text) -> Answered
         requires { (k j : K) → K.is_clone k j → K.bytes j ≡ K.bytes k }
     {
         let map = &mut self.maps.first;
         match call {
-            Call::Map(Name::FirstEntry) => enter_end(map, true, words, text),
-            Call::Map(Name::LastEntry) => enter_end(map, false, words, text),
-            Call::Map(name) => self.maps.call_of_fixed(name, words, text),
-            Call::Set(name) => self.sets.call_of_fixed(name, words, text),
+            LineCall::Map(MapName::FirstEntry) => enter_end(map, true, words, text),
+            LineCall::Map(MapName::LastEntry) => enter_end(map, false, words, text),
+            LineCall::Map(name) => self.maps.call_of_fixed(name, words, text),
+            LineCall::Set(name) => self.sets.call_of_fixed(name, words, text),
         }
     }
 }
 
 impl<const PREFIX_LEN: usize> Part<ZKey, PREFIX_LEN> {
-    fn call_of_zkeys(&mut self, call: Call, words: Words<'_>, text: &mut Text) -> Answered {
+    fn call_of_zkeys(&mut self, call: LineCall, words: Words<'_>, text: &mut Text) -> Answered {
         let map = &mut self.maps.first;
         match call {
-            Call::Map(Name::FirstEntry) => enter_end(map, true, words, text),
-            Call::Map(Name::LastEntry) => enter_end(map, false, words, text),
-            Call::Map(name) => self.maps.call_of_apart(name, words, text),
-            Call::Set(name) => self.sets.call_of_apart(name, words, text),
+            LineCall::Map(MapName::FirstEntry) => enter_end(map, true, words, text),
+            LineCall::Map(MapName::LastEntry) => enter_end(map, false, words, text),
+            LineCall::Map(name) => self.maps.call_of_apart(name, words, text),
+            LineCall::Set(name) => self.sets.call_of_apart(name, words, text),
         }
     }
 }
@@ -161,7 +145,7 @@ impl<'a, const PREFIX_LEN: usize> Keyed<'a, PREFIX_LEN> {
         if let Keyed::Mounts(table) = self {
             return table.call(words, text);
         }
-        let call = Call::read(&mut words)?;
+        let call = LineCall::read(&mut words)?;
         match self {
             Keyed::Bytes(part) => part.call_of_bytes(call, words, text),
             Keyed::Byte(part) => part.call_of_fixed(call, words, text),
@@ -171,8 +155,8 @@ impl<'a, const PREFIX_LEN: usize> Keyed<'a, PREFIX_LEN> {
             Keyed::Zero(part) => part.call_of_zkeys(call, words, text),
             Keyed::Tagged(part) => part.call_of_fixed(call, words, text),
             Keyed::Counted(part) => match call {
-                Call::Map(name) => part.call(name, words, text),
-                Call::Set(_) => Err(Unanswered::NoCall),
+                LineCall::Map(name) => part.call(name, words, text),
+                LineCall::Set(_) => Err(Unanswered::NoCall),
             },
             Keyed::Mounts(_) => Err(Unanswered::NoCall),
         }

@@ -2,17 +2,17 @@
 ghost use Rattle.std.specs.Prelude.{◌≡◌};
 
 use crate::sets::calls::Sets;
-use crate::words::{Answered, FixedKey, ScriptKey, Shown, Text, Unanswered, Words};
 use blart_keys::NoPrefixesBytes;
 use blart_set::TreeSet;
-use std::alloc::{AllocError, Global};
+use script_words::{Answered, FixedKey, ScriptKey, Shown, Text, Unanswered, Words, elements_of};
+use std::alloc::AllocError;
 use std::iter::{IntoIterator, Iterator};
+use std::mem;
 
 impl<K: ScriptKey, const PREFIX_LEN: usize> Sets<K, PREFIX_LEN> {
     /// Gives the elements from the bytes on to the second set, in the place of its own.
-    pub(crate) fn split_off(&mut self, mut words: Words<'_>, text: &mut Text) -> Answered {
-        let query = words.last_bytes()?;
-        let rest = self.first.split_off(&query);
+    pub(crate) fn split_off(&mut self, query: &Vec<u8>, text: &mut Text) -> Answered {
+        let rest = self.first.split_off(query);
         put(&mut self.second, rest, text)
     }
 }
@@ -60,17 +60,27 @@ impl<K: FixedKey, const PREFIX_LEN: usize> Sets<K, PREFIX_LEN> {
     /// Inserts copies of the elements in turn.
     pub(crate) fn extend_copied(&mut self, words: Words<'_>, text: &mut Text) -> Answered {
         let items: Vec<K> = elements_of(self.alloc, words)?;
-        self.first.extend_copied(items.iter()).show(text)
+        let answered = self.first.extend_copied(items.iter()).show(text);
+        drop(items);
+        answered
     }
 
     /// Puts the set of the two elements in the place of the first.
     pub(crate) fn from_array(&mut self, words: Words<'_>, text: &mut Text) -> Answered {
         let items: Vec<K> = elements_of(self.alloc, words)?;
-        let made = match items.as_slice() {
-            [one, other] => TreeSet::from_array(self.alloc, [*one, *other]),
-            _ => return Err(Unanswered::NoCall),
-        };
-        put(&mut self.first, made, text)
+        let answered = self.put_two(items.as_slice(), text);
+        drop(items);
+        answered
+    }
+
+    fn put_two(&mut self, items: &[K], text: &mut Text) -> Answered {
+        match items {
+            [one, other] => {
+                let made = TreeSet::from_array(self.alloc, [*one, *other]);
+                put(&mut self.first, made, text)
+            }
+            _ => Err(Unanswered::NoCall),
+        }
     }
 }
 
@@ -82,24 +92,9 @@ fn put<K: ScriptKey, const P: usize>(
 ) -> Answered {
     match made {
         Ok(set) => {
-            *place = set;
+            drop(mem::replace(place, set));
             Ok::<(), AllocError>(()).show(text)
         }
         Err(refused) => Err::<(), AllocError>(refused).show(text),
     }
-}
-
-// The elements that the words are.
-fn elements_of<K: ScriptKey>(alloc: Global, mut words: Words<'_>) -> Result<Vec<K>, Unanswered> {
-    let mut elements = Vec::new(alloc);
-    for _ in 0..u64::MAX {
-        if words.is_done() {
-            break;
-        }
-        let element = words.key()?;
-        if elements.push(element).is_err() {
-            return Err(Unanswered::Memory(AllocError));
-        }
-    }
-    Ok(elements)
 }

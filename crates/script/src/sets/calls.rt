@@ -2,10 +2,9 @@
 ghost use Rattle.std.specs.Prelude.{◌≡◌, []};
 ghost use Rattle.blart_set.specs.Elements.{elements};
 
-use crate::sets::names::SetName;
-use crate::words::{Answered, FixedKey, ScriptKey, Shown, Text, Words};
 use blart_keys::{AsBytes, NoPrefixesBytes};
 use blart_set::TreeSet;
+use script_words::{Answered, FixedKey, ScriptKey, SetName, Shown, Text, Words};
 use std::alloc::Global;
 use std::mem;
 
@@ -39,9 +38,10 @@ impl<K: ScriptKey, const PREFIX_LEN: usize> Sets<K, PREFIX_LEN> {
                 self.remove(name, words, text)
             }
             SetName::TryInsert | SetName::PrefixInsert => self.place(name, words, text),
-            SetName::Retain | SetName::ExtractIf => self.pick(name, words, text),
+            SetName::Retain => self.retain(words, text),
+            SetName::ExtractIf | SetName::Range => self.within(name, words, text),
             SetName::IntoIter => self.into_elements(words, text),
-            SetName::SplitOff => self.split_off(words, text),
+            SetName::SplitOff => self.remove(name, words, text),
             SetName::Equal | SetName::PartialCmp | SetName::Cmp => self.compare(name, words, text),
             SetName::SameHash | SetName::DebugText => self.compare(name, words, text),
             _ => self.look_up(name, words, text),
@@ -52,7 +52,10 @@ impl<K: ScriptKey, const PREFIX_LEN: usize> Sets<K, PREFIX_LEN> {
     fn renew(&mut self, name: SetName, words: Words<'_>, text: &mut Text) -> Answered {
         words.end()?;
         match name {
-            SetName::New => self.first = TreeSet::with_prefix_len(self.alloc),
+            SetName::New => drop(mem::replace(
+                &mut self.first,
+                TreeSet::with_prefix_len(self.alloc),
+            )),
             SetName::Clear => self.first.clear(),
             _ => mem::swap(&mut self.first, &mut self.second),
         }
@@ -68,13 +71,20 @@ impl<K: ScriptKey, const PREFIX_LEN: usize> Sets<K, PREFIX_LEN> {
         }
     }
 
-    // The calls that take the element of some bytes, or those below them.
+    // The calls that take the element of some bytes, those below them, or those from them on.
     fn remove(&mut self, name: SetName, mut words: Words<'_>, text: &mut Text) -> Answered {
         let query = words.last_bytes()?;
+        let answered = self.remove_at(name, &query, text);
+        drop(query);
+        answered
+    }
+
+    fn remove_at(&mut self, name: SetName, query: &Vec<u8>, text: &mut Text) -> Answered {
         match name {
-            SetName::Remove => self.first.remove(&query).show(text),
-            SetName::RemovePrefix => self.first.remove_prefix(&query).show(text),
-            _ => self.first.take(&query).show(text),
+            SetName::Remove => self.first.remove(query).show(text),
+            SetName::RemovePrefix => self.first.remove_prefix(query).show(text),
+            SetName::Take => self.first.take(query).show(text),
+            _ => self.split_off(query, text),
         }
     }
 

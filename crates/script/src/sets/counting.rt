@@ -1,9 +1,7 @@
 //! How often merges and tests of both sets compare elements.
 use crate::sets::calls::Sets;
-use crate::sets::names::SetName;
-use crate::words::{Answered, Compared, ScriptKey, Shown, Text, Unanswered, Words};
 use blart_set::{TreeSet, TryInsertError};
-use std::alloc::Global;
+use script_words::{Answered, Compared, ScriptKey, SetName, Shown, Text, Unanswered, Words};
 use std::cell::Cell;
 use std::iter::Iterator;
 
@@ -28,12 +26,14 @@ impl<K: ScriptKey, const PREFIX_LEN: usize> Sets<K, PREFIX_LEN> {
         text: &mut Text,
     ) -> Answered {
         let sets = self.compared(count)?;
-        match name {
+        let answered = match name {
             SetName::IsDisjoint | SetName::IsSubset | SetName::IsSuperset => {
                 sets.relate(name, words, text)
             }
             _ => sets.merge(name, words, text),
-        }
+        };
+        drop(sets);
+        answered
     }
 
     // Sets of the same bytes, which count how often they are compared.
@@ -41,11 +41,28 @@ impl<K: ScriptKey, const PREFIX_LEN: usize> Sets<K, PREFIX_LEN> {
         &'a self,
         count: &'a Cell<u64>,
     ) -> Result<Sets<Compared<'a>, PREFIX_LEN>, Unanswered> {
-        Ok(Sets {
-            first: compared(self.alloc, &self.first, count)?,
-            second: compared(self.alloc, &self.second, count)?,
+        let mut sets = Sets {
+            first: TreeSet::with_prefix_len(self.alloc),
+            second: TreeSet::with_prefix_len(self.alloc),
             alloc: self.alloc,
-        })
+        };
+        match self.fill(&mut sets, count) {
+            Ok(()) => Ok(sets),
+            Err(refused) => {
+                drop(sets);
+                Err(refused)
+            }
+        }
+    }
+
+    // Adds the bytes of both sets to those of the others.
+    fn fill<'a>(
+        &'a self,
+        sets: &mut Sets<Compared<'a>, PREFIX_LEN>,
+        count: &'a Cell<u64>,
+    ) -> Answered {
+        add_all(&mut sets.first, &self.first, count)?;
+        add_all(&mut sets.second, &self.second, count)
     }
 }
 
@@ -63,18 +80,17 @@ fn uncounted(name: SetName) -> Option<SetName> {
     }
 }
 
-// A set of the same bytes, which count how often they are compared.
-fn compared<'a, K: ScriptKey, const P: usize>(
-    alloc: Global,
+// Adds the bytes of the elements, which count how often they are compared.
+fn add_all<'a, K: ScriptKey, const P: usize>(
+    copy: &mut TreeSet<Compared<'a>, P>,
     set: &'a TreeSet<K, P>,
     count: &'a Cell<u64>,
-) -> Result<TreeSet<Compared<'a>, P>, Unanswered> {
-    let mut copy = TreeSet::with_prefix_len(alloc);
+) -> Answered {
     for element in set.iter() {
         let bytes = element.as_bytes();
         if let Err(TryInsertError::Memory(refused)) = copy.try_insert(Compared { bytes, count }) {
             return Err(Unanswered::Memory(refused));
         }
     }
-    Ok(copy)
+    Ok(())
 }

@@ -1,8 +1,7 @@
 //! The calls that leave the sets as they are.
 use crate::sets::calls::Sets;
-use crate::sets::names::SetName;
-use crate::words::{Answered, ScriptKey, Shown, Text, Words};
 use blart_keys::OrderedBytes;
+use script_words::{Answered, ScriptKey, SetName, Shown, Text, Words};
 
 impl<K: ScriptKey, const PREFIX_LEN: usize> Sets<K, PREFIX_LEN> {
     /// Makes the call of this name, which leaves the sets as they are, and adds its answer.
@@ -13,7 +12,6 @@ impl<K: ScriptKey, const PREFIX_LEN: usize> Sets<K, PREFIX_LEN> {
             SetName::Contains | SetName::Conflicts => self.find(name, words, text),
             SetName::Get | SetName::PrefixGet => self.find(name, words, text),
             SetName::Iter => self.iter(words, text),
-            SetName::Range => self.range(words, text),
             SetName::Prefix => self.prefix(words, text),
             SetName::IsDisjoint | SetName::IsSubset => self.relate(name, words, text),
             SetName::IsSuperset => self.relate(name, words, text),
@@ -38,11 +36,17 @@ impl<K: ScriptKey, const PREFIX_LEN: usize> Sets<K, PREFIX_LEN> {
     // The calls that look for some bytes.
     fn find(&self, name: SetName, mut words: Words<'_>, text: &mut Text) -> Answered {
         let query = words.last_bytes()?;
+        let answered = self.find_at(name, &query, text);
+        drop(query);
+        answered
+    }
+
+    fn find_at(&self, name: SetName, query: &Vec<u8>, text: &mut Text) -> Answered {
         match name {
-            SetName::Contains => self.first.contains(&query).show(text),
-            SetName::Conflicts => self.first.conflicts(&query).show(text),
-            SetName::Get => self.first.get(&query).show(text),
-            _ => self.first.prefix_get(&query).show(text),
+            SetName::Contains => self.first.contains(query).show(text),
+            SetName::Conflicts => self.first.conflicts(query).show(text),
+            SetName::Get => self.first.get(query).show(text),
+            _ => self.first.prefix_get(query).show(text),
         }
     }
 }

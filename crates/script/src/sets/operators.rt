@@ -2,9 +2,10 @@
 ghost use Rattle.std.specs.Prelude.{◌≡◌};
 
 use crate::sets::calls::Sets;
-use crate::sets::names::SetName;
-use crate::words::{Answered, FixedKey, ScriptKey, Shown, Text, Unanswered, Words, show_items};
 use blart_set::TreeSet;
+use script_words::{
+    Answered, FixedKey, ScriptKey, SetName, Shown, Text, Unanswered, Words, show_items,
+};
 use std::alloc::AllocError;
 
 impl<K: FixedKey, const PREFIX_LEN: usize> Sets<K, PREFIX_LEN> {
@@ -29,7 +30,11 @@ fn show_made<K: ScriptKey, const P: usize>(
     text: &mut Text,
 ) -> Answered {
     match made {
-        Ok(set) => show_elements(&set, text),
+        Ok(set) => {
+            let answered = show_elements(&set, text);
+            drop(set);
+            answered
+        }
         Err(refused) => Err::<(), AllocError>(refused).show(text),
     }
 }

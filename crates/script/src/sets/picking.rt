@@ -5,52 +5,16 @@ ghost use Rattle.blart_keys.specs.KeyBytes.{vec_bytes};
 ghost use Rattle.blart_set.specs.Elements.{elements};
 
 use crate::sets::calls::Sets;
-use crate::sets::names::SetName;
-use crate::words::{Answered, ScriptKey, Shown, Text, Unanswered, Words};
-use blart_set::bounds_in_order;
+use script_words::{Answered, BytesPick, ScriptKey, Shown, Text, Unanswered, Words};
 use std::alloc::AllocError;
 use std::iter;
 use std::iter::{DoubleEndedIterator, Iterator};
 use std::ops::Bound;
 
-// What a closure looks for: the sum of an element's bytes leaves this rest.
-#[derive(Clone, Copy)]
-struct Pick {
-    modulus: u64,
-    rest: u64,
-}
-
-impl Pick {
-    // The next two words.
-    fn read(words: &mut Words<'_>) -> Result<Pick, Unanswered> {
-        let (modulus, rest) = (words.number()?, words.number()?);
-        if modulus == 0 {
-            return Err(Unanswered::NoCall);
-        }
-        Ok(Pick { modulus, rest })
-    }
-
-    // Whether the bytes leave the rest.
-    fn picks(&self, bytes: &[u8]) -> bool {
-        let mut sum = 0u64;
-        for byte in bytes {
-            sum = sum.wrapping_add(u64::from(*byte));
-        }
-        sum.checked_rem(self.modulus) == Some(self.rest)
-    }
-}
-
 impl<K: ScriptKey, const PREFIX_LEN: usize> Sets<K, PREFIX_LEN> {
-    /// Makes the call of this name, which takes some elements out, and adds its answer.
-    pub(crate) fn pick(&mut self, name: SetName, words: Words<'_>, text: &mut Text) -> Answered {
-        match name {
-            SetName::Retain => self.retain(words, text),
-            _ => self.extract_if(words, text),
-        }
-    }
-
-    fn retain(&mut self, mut words: Words<'_>, text: &mut Text) -> Answered {
-        let pick = Pick::read(&mut words)?;
+    /// Keeps the elements that are picked, and adds how often the closure was asked.
+    pub(crate) fn retain(&mut self, mut words: Words<'_>, text: &mut Text) -> Answered {
+        let pick = BytesPick::read(&mut words)?;
         words.end()?;
         let mut asked: u64 = 0;
         self.first.retain(|element| {
@@ -60,14 +24,19 @@ impl<K: ScriptKey, const PREFIX_LEN: usize> Sets<K, PREFIX_LEN> {
         asked.show(text)
     }
 
-    fn extract_if(&mut self, mut words: Words<'_>, text: &mut Text) -> Answered {
-        let (start, end) = words.bounds()?;
-        let pick = Pick::read(&mut words)?;
+    /// Takes out the elements that are picked, and adds them and how often the closure was asked.
+    pub(crate) fn extract_if(
+        &mut self,
+        start: Bound<&Vec<u8>>,
+        end: Bound<&Vec<u8>>,
+        mut words: Words<'_>,
+        text: &mut Text,
+    ) -> Answered
+        requires { CanRange (elements self.old.first) (bound_bytes vec_bytes start)
+            (bound_bytes vec_bytes end) }
+    {
+        let pick = BytesPick::read(&mut words)?;
         let letters = words.last_moves()?;
-        let (start, end) = (start.as_ref(), end.as_ref());
-        if !self.first.is_empty() && !bounds_in_order(start, end) {
-            return Err(Unanswered::NoCall);
-        }
         let asked = match letters {
             Some(letters) => self.extract_steps(start, end, pick, letters, text)?,
             None => self.extract_all(start, end, pick, text)?,
@@ -81,7 +50,7 @@ impl<K: ScriptKey, const PREFIX_LEN: usize> Sets<K, PREFIX_LEN> {
         &mut self,
         start: Bound<&Vec<u8>>,
         end: Bound<&Vec<u8>>,
-        pick: Pick,
+        pick: BytesPick,
         text: &mut Text,
     ) -> Result<u64, Unanswered>
         requires { CanRange (elements self.old.first) (bound_bytes vec_bytes start)
@@ -110,7 +79,7 @@ impl<K: ScriptKey, const PREFIX_LEN: usize> Sets<K, PREFIX_LEN> {
         &mut self,
         start: Bound<&Vec<u8>>,
         end: Bound<&Vec<u8>>,
-        pick: Pick,
+        pick: BytesPick,
         letters: &[u8],
         text: &mut Text,
     ) -> Result<u64, Unanswered>

@@ -5,7 +5,7 @@ use Rattle.std.specs.Str.Parse.{digits_value}
 use Rattle.std.proofs.lemmas.Bool.Decides.{nat_tests}
 use Rattle.std.proofs.lemmas.Int.Digits.{digits_value_more}
 use Rattle.std.proofs.lemmas.Str.Parse.{digits_value-take-le}
-use Rattle.script.specs.Words.{below_limit}
+use Rattle.script_words.specs.Words.{below_limit}
 
 -- what is refused is too large
 below_limit_none : (n : ℕ) → None ≡ below_limit n → 18446744073709551615 < n

@@ -1,16 +1,17 @@
 //! The calls of entries, and their words.
-use crate::words::{Unanswered, Words};
+use crate::answered::Unanswered;
+use crate::reading::Words;
 
 /// A call of an entry, and what is added before it to a value that is stored.
 #[derive(Clone, Copy)]
-pub(crate) struct EntryLine {
-    pub(crate) add: Option<u64>,
-    pub(crate) call: EntryCall,
+pub struct EntryLine {
+    pub add: Option<u64>,
+    pub call: EntryCall,
 }
 
 /// A call of an entry.
 #[derive(Clone, Copy)]
-pub(crate) enum EntryCall {
+pub enum EntryCall {
     Key,
     Value(ValueCall),
     Place(PlaceCall),
@@ -20,7 +21,7 @@ pub(crate) enum EntryCall {
 
 /// A call of every entry that lends the value.
 #[derive(Clone, Copy)]
-pub(crate) enum ValueCall {
+pub enum ValueCall {
     OrInsert(u64),
     OrDefault,
     OrInsertWith(u64),
@@ -29,7 +30,7 @@ pub(crate) enum ValueCall {
 
 /// A call of every entry that answers the entry of the pair.
 #[derive(Clone, Copy)]
-pub(crate) enum PlaceCall {
+pub enum PlaceCall {
     OrInsertEntry(u64),
     OrDefaultEntry,
     OrInsertWithEntry(u64),
@@ -39,7 +40,7 @@ pub(crate) enum PlaceCall {
 
 /// A call of an entry at a pair.
 #[derive(Clone, Copy)]
-pub(crate) enum OccupiedCall {
+pub enum OccupiedCall {
     Get,
     Insert(u64),
     GetMut(u64),
@@ -50,7 +51,7 @@ pub(crate) enum OccupiedCall {
 
 /// A call of an entry where no pair stands.
 #[derive(Clone, Copy)]
-pub(crate) enum VacantCall {
+pub enum VacantCall {
     IntoKey,
     Insert(u64),
     InsertEntry(u64),
@@ -105,7 +106,7 @@ const NAMES: [(&str, EntryName); 19] = [
 
 impl EntryLine {
     /// What the words that are left say.
-    pub(crate) fn read(mut words: Words<'_>) -> Result<EntryLine, Unanswered> {
+    pub fn read(mut words: Words<'_>) -> Result<EntryLine, Unanswered> {
         let mut name = words.word()?;
         let mut add = None;
         if name == b"and_modify".as_slice() {
@@ -118,7 +119,7 @@ impl EntryLine {
 }
 
 /// The call of this name with this number, or without one.
-pub(crate) fn named_call(name: &[u8], number: Option<u64>) -> Result<EntryCall, Unanswered> {
+pub fn named_call(name: &[u8], number: Option<u64>) -> Result<EntryCall, Unanswered> {
     let Some(name) = name_of(name) else {
         return Err(Unanswered::NoCall);
     };

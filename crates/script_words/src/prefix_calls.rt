@@ -1,12 +1,11 @@
 //! The calls of prefix entries, and their words.
-use crate::entries::entry_calls::{
-    EntryCall, OccupiedCall, PlaceCall, VacantCall, ValueCall, named_call,
-};
-use crate::words::{Unanswered, Words};
+use crate::answered::Unanswered;
+use crate::entry_calls::{EntryCall, OccupiedCall, PlaceCall, VacantCall, ValueCall, named_call};
+use crate::reading::Words;
 
 /// A call of a prefix entry.
 #[derive(Clone, Copy)]
-pub(crate) enum PrefixCall<'a> {
+pub enum PrefixCall<'a> {
     Key,
     GetKey,
     Value(ValueCall),
@@ -25,7 +24,7 @@ pub(crate) enum PrefixCall<'a> {
 
 /// A call of an entry that is at a pair or in the place of pairs, and that leaves these there.
 #[derive(Clone, Copy)]
-pub(crate) enum RelatedCall {
+pub enum RelatedCall {
     Key,
     Get,
     GetKey,
@@ -34,16 +33,16 @@ pub(crate) enum RelatedCall {
 
 /// A call of an entry that puts a pair in the place of those which are there.
 #[derive(Clone, Copy)]
-pub(crate) enum SetCall {
+pub enum SetCall {
     Insert(u64),
     InsertEntry(u64),
 }
 
 /// A walk over the pairs that an entry stands for: what is added to each value that is lent, if they are lent, and the letters of its steps.
 #[derive(Clone, Copy)]
-pub(crate) struct WalkCall<'a> {
-    pub(crate) add: Option<u64>,
-    pub(crate) letters: Option<&'a [u8]>,
+pub struct WalkCall<'a> {
+    pub add: Option<u64>,
+    pub letters: Option<&'a [u8]>,
 }
 
 // The name of a call that prefix entries alone have, or that theirs differs in.
@@ -85,7 +84,7 @@ const NAMES: [(&str, PrefixName); 14] = [
 
 impl<'a> PrefixCall<'a> {
     /// What the words that are left say.
-    pub(crate) fn read(mut words: Words<'a>) -> Result<PrefixCall<'a>, Unanswered> {
+    pub fn read(mut words: Words<'a>) -> Result<PrefixCall<'a>, Unanswered> {
         match words.word()? {
             b"iter" => walk_of(None, words),
             b"iter_mut" => {

@@ -1,9 +1,9 @@
 use Rattle.std.proofs.Common.{◌∙◌, ap, take_all}
 use Rattle.std.specs.Str.Parse.{digits_value}
 use Rattle.std.proofs.lemmas.Int.Digits.{digits_value_more}
-use Rattle.script.specs.Words.{below_limit}
-use Rattle.script.proofs.Numbers.{too_large, below_limit_some, below_limit_small}
-use Rattle.script.proofs.words.reading.value_of.Goals as goal
+use Rattle.script_words.specs.Words.{below_limit}
+use Rattle.script_words.proofs.Numbers.{too_large, below_limit_some, below_limit_small}
+use Rattle.script_words.proofs.reading.value_of.Goals as goal
 
 pub returns-in_err-value : goal.returns-in_err-value
 returns-in_err-value c =
