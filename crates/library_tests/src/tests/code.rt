@@ -50,12 +50,12 @@ fn assert_values<K: AsBytes + Drop, const P: usize>(
     map: &TreeMap<K, usize, P>,
     want: &[usize],
 ) {
-    assert_eq!(rt; map.len(), want.len());
+    assert!(rt; map.len() == want.len());
     let mut walk = map.values();
     for place in 0..want.len() {
-        assert_eq!(rt; next_value(&mut walk), Some(want[place]));
+        assert!(rt; next_value(&mut walk) == Some(want[place]));
     }
-    assert_eq!(rt; next_value(&mut walk), None);
+    assert!(rt; next_value(&mut walk).is_none());
 }
 
 // Adds to a value that was lent, and gives it as it was.

@@ -7,7 +7,6 @@ use blart::{RunError, Watched, fault_line, run};
 use std::io;
 use std::io::{ErrorKind, Read, Write};
 use std::process::Abort;
-use std::test::Fail;
 
 // Gives the text in pieces of so many bytes, and then an error or the end.
 #[derive(Drop)]
@@ -83,7 +82,7 @@ const SOUND: Ends = Ends {
 };
 
 // What a run ended with, its two marks, and what was written.
-#[derive(Debug, Drop)]
+#[derive(Drop)]
 struct Outcome {
     result: Result<(), RunError>,
     marks: (bool, bool),
@@ -120,9 +119,10 @@ fn assert_outcome(
 ) {
     let got = run_over(rt, text, ends);
     let marks = (ended == Err(RunError::Read), ended == Err(RunError::Write));
-    assert_eq!(rt; got.result, ended);
-    assert_eq!(rt; got.marks, marks);
-    assert_eq!(rt; got.written.as_slice(), written);
+    assert!(rt; got.result == ended);
+    assert!(rt; got.marks == marks);
+    assert!(rt; *got.written.as_slice() == *written);
+    drop(got);
 }
 
 #[test]
@@ -158,42 +158,50 @@ fn a_writer_takes_nothing(rt: HostRuntime) {
     assert_outcome(&rt, b"insert 01 5\n", ends, Err(RunError::Write), b"");
 }
 
+// Adds some bytes to a text, so many times.
+fn push(rt: &impl Abort, text: &mut Vec<u8>, bytes: &[u8], count: usize) {
+    for _ in 0..count {
+        text.extend_from_slice(bytes).expect(rt, "memory");
+    }
+}
+
 #[test]
-fn a_line_of_many_letters_is_one_line(rt: HostRuntime) -> Result<(), Fail> {
-    let mut text = Vec::from_elem(rt.alloc(), b'a', 1_000_000)?;
-    text.extend_from_slice(b"\nlist")?;
+fn a_line_of_many_letters_is_one_line(rt: HostRuntime) {
+    let mut text = Vec::new(rt.alloc());
+    push(&rt, &mut text, b"a", 1_000_000);
+    push(&rt, &mut text, b"\nlist", 1);
     let ends = Ends {
         piece: 5000,
         ..SOUND
     };
     assert_outcome(&rt, &text, ends, Ok(()), b"refused line\nend 0\n");
-    Ok(())
+    drop(text);
 }
 
-// A key as text: so many bytes, of which each has this digit first.
-fn push_key(text: &mut Vec<u8>, digits: [u8; 2], count: usize) -> Result<(), Fail> {
-    for _ in 0..count {
-        text.extend_from_slice(&digits)?;
-    }
-    Ok(())
+// Adds an insertion of a key of 5,000 bytes, whose digits come in pairs, and what answers it.
+fn push_insertion(rt: &impl Abort, text: &mut Vec<u8>, answers: &mut Vec<u8>, digits: &[u8]) {
+    push(rt, text, b"insert ", 1);
+    push(rt, text, digits, 5000);
+    push(rt, text, b" 3\n", 1);
+    push(rt, answers, b"none\n", 1);
+}
+
+// Adds what lists such a key.
+fn push_listed(rt: &impl Abort, answers: &mut Vec<u8>, digits: &[u8]) {
+    push(rt, answers, digits, 5000);
+    push(rt, answers, b" 3\n", 1);
 }
 
 #[test]
-fn answers_are_longer_than_the_room_that_waits(rt: HostRuntime) -> Result<(), Fail> {
+fn answers_are_longer_than_the_room_that_waits(rt: HostRuntime) {
     let mut text: Vec<u8> = Vec::new(rt.alloc());
     let mut answers: Vec<u8> = Vec::new(rt.alloc());
-    for first in [b'1', b'2'] {
-        text.extend_from_slice(b"insert ")?;
-        push_key(&mut text, [first, b'A'], 5000)?;
-        text.extend_from_slice(b" 3\n")?;
-        answers.extend_from_slice(b"none\n")?;
-    }
-    text.extend_from_slice(b"list")?;
-    for first in [b'1', b'2'] {
-        push_key(&mut answers, [first, b'a'], 5000)?;
-        answers.extend_from_slice(b" 3\n")?;
-    }
-    answers.extend_from_slice(b"end 2\n")?;
+    push_insertion(&rt, &mut text, &mut answers, b"1A");
+    push_insertion(&rt, &mut text, &mut answers, b"2A");
+    push(&rt, &mut text, b"list", 1);
+    push_listed(&rt, &mut answers, b"1a");
+    push_listed(&rt, &mut answers, b"2a");
+    push(&rt, &mut answers, b"end 2\n", 1);
     for most in [7, AMPLE] {
         let ends = Ends {
             piece: 3000,
@@ -202,32 +210,24 @@ fn answers_are_longer_than_the_room_that_waits(rt: HostRuntime) -> Result<(), Fa
         };
         assert_outcome(&rt, &text, ends, Ok(()), &answers);
     }
-    Ok(())
+    drop(text);
+    drop(answers);
 }
 
 // The error's text, and the line that the program writes of it.
-fn assert_texts(
-    rt: &(impl Abort + AllocGlobal),
-    error: RunError,
-    text: &str,
-    line: &str,
-) -> Result<(), Fail> {
-    let own = error.to_string(rt.alloc())?;
-    assert_eq!(rt; own.as_str(), text);
-    assert_eq!(rt; fault_line(error), line);
-    Ok(())
+fn assert_texts(rt: &(impl Abort + AllocGlobal), error: RunError, text: &str, line: &str) {
+    let own = error.to_string(rt.alloc()).expect(rt, "memory");
+    assert!(rt; own.as_str() == text);
+    drop(own);
+    assert!(rt; fault_line(error) == line);
 }
 
 #[test]
-fn texts_of_errors(rt: HostRuntime) -> Result<(), Fail> {
-    assert_texts(&rt, RunError::Read, "read failed", "artmap: read failed")?;
-    assert_texts(&rt, RunError::Write, "write failed", "artmap: write failed")?;
-    assert_texts(
-        &rt,
-        RunError::Memory,
-        "out of memory",
-        "artmap: out of memory",
-    )
+fn texts_of_errors(rt: HostRuntime) {
+    assert_texts(&rt, RunError::Read, "read failed", "artmap: read failed");
+    assert_texts(&rt, RunError::Write, "write failed", "artmap: write failed");
+    let line = "artmap: out of memory";
+    assert_texts(&rt, RunError::Memory, "out of memory", line);
 }
 
 // A read takes so many bytes, or fails, and then the reader is marked so.
@@ -238,11 +238,9 @@ fn assert_read(
     is_marked: bool,
 ) {
     let mut buf = [0; 4];
-    match reader.read(&mut buf) {
-        Ok(got) => assert_eq!(rt; Some(got), count),
-        Err(_) => assert_eq!(rt; None, count),
-    }
-    assert_eq!(rt; reader.failed(), is_marked);
+    let got = reader.read(&mut buf).ok();
+    assert!(rt; got == count);
+    assert!(rt; reader.failed() == is_marked);
 }
 
 #[test]
@@ -266,10 +264,10 @@ fn assert_write(
     is_marked: bool,
 ) {
     match writer.write(text) {
-        Ok(got) => assert_eq!(rt; got, count),
+        Ok(got) => assert!(rt; got == count),
         Err(_) => panic!(rt; "the write fails"),
     }
-    assert_eq!(rt; writer.failed(), is_marked);
+    assert!(rt; writer.failed() == is_marked);
 }
 
 #[test]
@@ -286,7 +284,7 @@ fn a_writer_remembers_that_it_took_nothing(rt: HostRuntime) {
     assert_write(&rt, &mut writer, b"z", 0, true);
     assert!(rt; writer.flush().is_ok());
     assert!(rt; writer.failed());
-    assert_eq!(rt; writer.into_inner().taken.as_slice(), b"xyz".as_slice());
+    assert!(rt; writer.into_inner().taken.as_slice() == b"xyz".as_slice());
 }
 
 #[test]

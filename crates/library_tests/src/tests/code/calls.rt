@@ -47,8 +47,8 @@ fn maps_in_loops(rt: HostRuntime) {
     for (_, value) in &map {
         digits = digits.wrapping_mul(10).wrapping_add(*value);
     }
-    assert_eq!(rt; digits, 102);
-    assert_eq!(rt; digits_of(map.into_iter()), 102);
+    assert!(rt; digits == 102);
+    assert!(rt; digits_of(map.into_iter()) == 102);
 }
 
 // The closure is called where there is no pair alone.
@@ -78,7 +78,7 @@ fn place_and_remove(rt: &impl Abort, map: &mut TreeMap<[u8; 0], usize, 16>) -> u
 #[test]
 fn the_only_key_of_its_type(rt: HostRuntime) {
     let mut map = TreeMap::<[u8; 0], usize, 16>::new(rt.alloc());
-    assert_eq!(rt; place_and_remove(&rt, &mut map), 0);
+    assert!(rt; place_and_remove(&rt, &mut map) == 0);
     assert!(rt; map.is_empty());
     drop(map);
 }

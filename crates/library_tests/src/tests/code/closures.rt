@@ -1,5 +1,5 @@
 //! Closures that count and write, and values that are lent.
-use super::{assert_values, put, raise};
+use super::{assert_values, map_of, put, raise};
 use blart_keys::I32Key;
 use blart_map::{TreeMap, bounds_in_order};
 use std::iter::{DoubleEndedIterator, Iterator};
@@ -14,21 +14,21 @@ fn extract_by_count<const P: usize>(rt: &impl Abort, map: &mut TreeMap<u8, usize
         asked = asked.wrapping_add(1);
         asked % 2 == 0
     });
-    assert!(rt; walk.next() == Some((2, 1)));
-    assert!(rt; walk.next_back() == Some((5, 1)));
+    assert!(rt; walk.next() == Some((2, 21)));
+    assert!(rt; walk.next_back() == Some((5, 51)));
+    drop(walk);
     asked
 }
 
-// The keys 1 to 6 with value 0: a kept value stays as the closure left it, and pairs that are not reached stay as they were.
+// The keys 1 to 6, each with ten times itself as value: a kept value stays as the closure left it, and pairs that are not reached stay as they were.
 fn asks_once<const P: usize>(rt: &(impl Abort + AllocGlobal)) {
     let mut map = TreeMap::<u8, usize, P>::with_prefix_len(rt.alloc());
     for key in 1..7u8 {
-        put(rt, &mut map, key, 0);
+        put(rt, &mut map, key, 10 * key as usize);
     }
-    assert_eq!(rt; extract_by_count(rt, &mut map), 4);
-    assert_values(rt, &map, &[1, 0, 0, 1]);
-    let keys = map.into_keys();
-    assert!(rt; keys.eq([1u8, 3, 4, 6].into_iter()));
+    assert!(rt; extract_by_count(rt, &mut map) == 4);
+    assert_values(rt, &map, &[11, 30, 40, 61]);
+    drop(map);
 }
 
 #[test]
@@ -81,9 +81,9 @@ fn raise_between<const P: usize>(rt: &impl Abort, map: &mut Names<P>) {
     assert!(rt; bounds_in_order(Bound::Included(&low), Bound::Included(&high)));
     let mut walk = map.range_mut(Bound::Included(&low), Bound::Included(&high));
     for _ in 0..3 {
-        assert_eq!(rt; raise(walk.next(), 100), Some(0));
+        assert!(rt; raise(walk.next(), 100) == Some(0));
     }
-    assert_eq!(rt; raise(walk.next(), 100), None);
+    assert!(rt; walk.next().is_none());
 }
 
 // Doubles the values of the two names that begin with C.
@@ -112,4 +112,40 @@ fn lent_values_are_raised_and_doubled(rt: HostRuntime) {
     raises::<0>(&rt);
     raises::<2>(&rt);
     raises::<16>(&rt);
+}
+
+// A map of bytes.
+type Letters = TreeMap<u8, usize, 2>;
+
+// Adds 1 to each value, and then its key; what begins with 20 gets 0.
+fn call_on_each(rt: &impl Abort, map: &mut Letters) {
+    map.values_mut()
+        .for_each(|value| *value = value.wrapping_add(1));
+    assert_values(rt, map, &[1, 2, 3, 4, 5]);
+    map.iter_mut()
+        .for_each(|key, value| *value = value.wrapping_add(*key as usize));
+    assert_values(rt, map, &[11, 22, 33, 44, 55]);
+    map.prefix_mut(&[20]).for_each(|_, value| *value = 0);
+    assert_values(rt, map, &[11, 0, 33, 44, 55]);
+}
+
+// The calls come front to back, also where the walk has lent from both ends.
+fn count_the_rest(map: &mut Letters) {
+    let mut walk = map.values_mut();
+    raise(walk.next(), 0);
+    raise(walk.next_back(), 0);
+    let mut count = 0;
+    walk.for_each(|value| {
+        *value = count;
+        count = count.wrapping_add(1);
+    });
+}
+
+#[test]
+fn for_each_in_order(rt: HostRuntime) {
+    let mut map: Letters = map_of(&rt, &[10, 20, 30, 40, 50]);
+    call_on_each(&rt, &mut map);
+    count_the_rest(&mut map);
+    assert_values(&rt, &map, &[11, 0, 1, 2, 55]);
+    drop(map);
 }

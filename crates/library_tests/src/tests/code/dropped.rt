@@ -33,7 +33,7 @@ fn put_eight<'a>(rt: &impl Abort, map: &mut Values<'a>, drops: &'a Cell<usize>) 
     ] {
         super::put(rt, map, key, Counted { drops });
     }
-    assert_eq!(rt; drops.get(), 0);
+    assert!(rt; drops.get() == 0);
 }
 
 // Of the items one from each end is dropped where it comes, and the other six with the walk.
@@ -45,9 +45,9 @@ where
 {
     drop(walk.next());
     drop(walk.next_back());
-    assert_eq!(rt; drops.get(), 2);
+    assert!(rt; drops.get() == 2);
     drop(walk);
-    assert_eq!(rt; drops.get(), 8);
+    assert!(rt; drops.get() == 8);
     drops.set(0);
 }
 
@@ -109,15 +109,15 @@ fn key_of(drops: &Cell<usize>) -> Marked<'_> {
 // On stored bytes the key handed in is dropped by the call. A replacement gives the stored one to its caller.
 fn insert_again<'a>(rt: &impl Abort, map: &mut TreeMap<Marked<'a>, u8, 2>, drops: &'a Cell<usize>) {
     assert!(rt; map.insert(key_of(drops), 1).is_ok());
-    assert_eq!(rt; drops.get(), 0);
+    assert!(rt; drops.get() == 0);
     assert!(rt; map.insert(key_of(drops), 2).is_ok());
-    assert_eq!(rt; drops.get(), 1);
+    assert!(rt; drops.get() == 1);
     assert!(rt; map.try_insert(key_of(drops), 3).is_ok());
-    assert_eq!(rt; drops.get(), 2);
+    assert!(rt; drops.get() == 2);
     let old = map.replace_entry(key_of(drops), 4);
-    assert_eq!(rt; drops.get(), 2);
+    assert!(rt; drops.get() == 2);
     drop(old);
-    assert_eq!(rt; drops.get(), 3);
+    assert!(rt; drops.get() == 3);
 }
 
 #[test]
@@ -125,7 +125,7 @@ fn keys_for_stored_bytes(rt: HostRuntime) {
     let drops = Cell::new(0usize);
     let mut map = TreeMap::with_prefix_len(rt.alloc());
     insert_again(&rt, &mut map, &drops);
-    assert_eq!(rt; map.remove_prefix(&[7]), 1);
-    assert_eq!(rt; drops.get(), 4);
+    assert!(rt; map.remove_prefix(&[7]) == 1);
+    assert!(rt; drops.get() == 4);
     drop(map);
 }

@@ -49,8 +49,8 @@ fn map_of<const P: usize>(rt: &(impl Abort + AllocGlobal), pairs: &[(u8, u8)]) -
 // Two maps feed these words each, and are equal.
 fn assert_alike<const P: usize>(rt: &impl Abort, one: &Bytes<P>, other: &Bytes<P>, fed: u64) {
     assert!(rt; *one == *other);
-    assert_eq!(rt; words(one), fed);
-    assert_eq!(rt; words(other), fed);
+    assert!(rt; words(one) == fed);
+    assert!(rt; words(other) == fed);
 }
 
 // The map had a pair of this key, and loses it.

@@ -47,6 +47,8 @@ fn assert_owners<K: OrderedBytes + Debug + Drop>(
 ) {
     assert_keys(rt, (&low, low_bytes), (&high, high_bytes));
     assert_keys(rt, (&&low, low_bytes), (&&high, high_bytes));
+    drop(low);
+    drop(high);
 }
 
 fn vector(rt: &(impl Abort + AllocGlobal), bytes: &[u8]) -> Vec<u8> {

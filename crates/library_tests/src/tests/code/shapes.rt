@@ -21,8 +21,8 @@ fn assert_size<const P: usize>(
     nodes: usize,
     ends: (usize, usize),
 ) {
-    assert_eq!(rt; map.len(), len);
-    assert_eq!(rt; map.inner_nodes(), nodes);
+    assert!(rt; map.len() == len);
+    assert!(rt; map.inner_nodes() == nodes);
     assert!(rt; matches!(map.first_key_value(), Some((_, first)) if *first == ends.0));
     assert!(rt; matches!(map.last_key_value(), Some((_, last)) if *last == ends.1));
 }
@@ -50,18 +50,31 @@ fn assert_below<const P: usize>(rt: &impl Abort, map: &Map<P>) {
     assert!(rt; walk.next_back().is_none());
 }
 
-// The chain is thinned, and a zero takes the place of all that it begins. Its clone stands, and is parted.
+// The chain is thinned, and a zero takes the place of all that it begins.
+fn thin<const P: usize>(rt: &(impl Abort + AllocGlobal), map: &mut Map<P>) {
+    map.retain(|_, number| *number % 2 == 0);
+    assert_size(rt, map, 500, 499, (998, 0));
+    let zero = Vec::from_elem(rt.alloc(), 0u8, 1).expect(rt, "memory");
+    assert!(rt; map.prefix_insert(zero, 7).is_ok());
+    assert_size(rt, map, 2, 1, (7, 0));
+}
+
+// The pairs from the key of 500 on leave the chain.
+fn part<const P: usize>(rt: &(impl Abort + AllocGlobal), map: &mut Map<P>) -> Map<P> {
+    let key = zeros(rt, 500, 1);
+    let rest = map.split_off(&key).expect(rt, "memory");
+    drop(key);
+    rest
+}
+
+// The chain is thinned. Its clone stands, and is parted.
 fn take_apart<const P: usize>(rt: &(impl Abort + AllocGlobal)) {
     let mut map = chain::<P>(rt);
     assert_below(rt, &map);
     let mut same = map.clone().expect(rt, "memory");
-    map.retain(|_, number| *number % 2 == 0);
-    assert_size(rt, &map, 500, 499, (998, 0));
-    let zero = Vec::from_elem(rt.alloc(), 0u8, 1).expect(rt, "memory");
-    assert!(rt; map.prefix_insert(zero, 7).is_ok());
-    assert_size(rt, &map, 2, 1, (7, 0));
+    thin(rt, &mut map);
     drop(map);
-    let rest = same.split_off(&zeros(rt, 500, 1)).expect(rt, "memory");
+    let rest = part(rt, &mut same);
     assert_size(rt, &same, 499, 498, (999, 501));
     drop(same);
     assert_size(rt, &rest, 501, 500, (500, 0));

@@ -20,31 +20,33 @@ fn try_insert_error(rt: &impl Abort, map: &mut Map<'_>) -> Result<(), TryInsertE
 }
 
 // The example of `blart_keys::Call`.
-fn call<const P: usize>(
-    rt: &impl Abort,
-    mut map: TreeMap<&str, i32, P>,
-    alloc: Global,
-) -> Result<(), Fail> {
-    let calls = vec![in alloc; Call::TryInsert("cat", 1), Call::PopLast]?;
-    let replies = drive(&mut map, calls)?;
-    assert_eq!(rt; replies.len(), 2);
-    assert!(rt; map.is_empty());
-    drop(replies);
+fn call(rt: &impl Abort, alloc: Global) -> Result<(), Fail> {
+    let mut map = TreeMap::<&str, i32, 16>::new(alloc);
+    let mut run = || -> Result<(), Fail> {
+        let calls = vec![in alloc; Call::TryInsert("cat", 1), Call::PopLast]?;
+        let replies = drive(&mut map, calls)?;
+        assert_eq!(rt; replies.len(), 2);
+        assert!(rt; map.is_empty());
+        drop(replies);
+        Ok(())
+    };
+    let ran = run();
     drop(map);
-    Ok(())
+    ran
 }
 
 // The example of `blart_keys::Reply`.
-fn reply<const P: usize>(
-    rt: &impl Abort,
-    mut map: TreeMap<&str, i32, P>,
-    alloc: Global,
-) -> Result<(), Fail> {
-    let replies = drive(&mut map, vec![in alloc; Call::ContainsKey("cat")]?)?;
-    assert!(rt; matches!(replies.first(), Some(Reply::ContainsKey(false))));
-    drop(replies);
+fn reply(rt: &impl Abort, alloc: Global) -> Result<(), Fail> {
+    let mut map = TreeMap::<&str, i32, 16>::new(alloc);
+    let mut run = || -> Result<(), Fail> {
+        let replies = drive(&mut map, vec![in alloc; Call::ContainsKey("cat")]?)?;
+        assert!(rt; matches!(replies.first(), Some(Reply::ContainsKey(false))));
+        drop(replies);
+        Ok(())
+    };
+    let ran = run();
     drop(map);
-    Ok(())
+    ran
 }
 
 #[test]
@@ -54,6 +56,6 @@ fn as_shown(rt: HostRuntime) {
     map.clear();
     try_insert_error(&rt, &mut map).expect(&rt, "memory");
     drop(map);
-    call(&rt, Map::new(rt.alloc()), rt.alloc()).expect(&rt, "memory");
-    reply(&rt, Map::new(rt.alloc()), rt.alloc()).expect(&rt, "memory");
+    call(&rt, rt.alloc()).expect(&rt, "memory");
+    reply(&rt, rt.alloc()).expect(&rt, "memory");
 }

@@ -33,15 +33,19 @@ fn vacant_entry(rt: &impl Abort, map: &mut Map<'_>) -> Result<(), Fail> {
 }
 
 // The example of `blart_map::TreeMap`.
-fn tree_map<const P: usize>(rt: &impl Abort, alloc: Global) -> Result<(), TryInsertError> {
-    let mut map = TreeMap::<_, _, P>::with_prefix_len(alloc);
-    map.try_insert("car", 1)?;
-    map.try_insert("cat", 2)?;
-    assert_eq!(rt; map.get(&"cat"), Some(&2));
-    assert!(rt; map.try_insert("ca", 3).is_err());
-    assert_eq!(rt; map.first_key_value(), Some((&"car", &1)));
+fn tree_map(rt: &impl Abort, alloc: Global) -> Result<(), TryInsertError> {
+    let mut map = TreeMap::<&str, i32, 16>::new(alloc);
+    let mut run = || -> Result<(), TryInsertError> {
+        map.try_insert("car", 1)?;
+        map.try_insert("cat", 2)?;
+        assert_eq!(rt; map.get(&"cat"), Some(&2));
+        assert!(rt; map.try_insert("ca", 3).is_err());
+        assert_eq!(rt; map.first_key_value(), Some((&"car", &1)));
+        Ok(())
+    };
+    let ran = run();
     drop(map);
-    Ok(())
+    ran
 }
 
 #[test]
@@ -53,5 +57,5 @@ fn as_shown(rt: HostRuntime) {
     map.clear();
     vacant_entry(&rt, &mut map).expect(&rt, "memory");
     drop(map);
-    tree_map::<16>(&rt, rt.alloc()).expect(&rt, "memory");
+    tree_map(&rt, rt.alloc()).expect(&rt, "memory");
 }

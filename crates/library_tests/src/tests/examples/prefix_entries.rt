@@ -1,11 +1,11 @@
 //! Prefix entries.
 use super::{Fail, Map};
-use blart_map::{PrefixEntry, PrefixKind, TreeMap};
+use blart_map::{PrefixEntry, PrefixKind, TreeMap, TryInsertError};
 use std::alloc::{AllocError, Global};
 use std::process::Abort;
 
 // The example of `blart_map::InnerOccupiedEntry`.
-fn inner_occupied_entry(rt: &impl Abort, alloc: Global) -> Result<(), Fail> {
+fn inner_occupied_entry(rt: &impl Abort, alloc: Global) -> Result<(), TryInsertError> {
     let mut map = TreeMap::new(alloc);
     map.try_insert("car", 1)?;
     map.try_insert("cat", 2)?;
@@ -41,7 +41,7 @@ fn prefix_kind(rt: &impl Abort, map: &mut Map<'_>) -> Result<(), AllocError> {
 }
 
 // The example of `blart_map::PrefixOccupied`.
-fn prefix_occupied(rt: &impl Abort, alloc: Global) -> Result<(), Fail> {
+fn prefix_occupied(rt: &impl Abort, alloc: Global) -> Result<(), TryInsertError> {
     let mut map = TreeMap::new(alloc);
     map.try_insert("car", 1)?;
     if let PrefixEntry::Occupied(entry) = map.prefix_entry("ca") {

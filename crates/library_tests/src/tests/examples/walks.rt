@@ -1,6 +1,6 @@
 //! Walks that lend and take.
 use super::Map;
-use blart_map::{PrefixKind, TreeMap, TryInsertError};
+use blart_map::{PrefixKind, TryInsertError};
 use std::ops::Bound;
 use std::process::Abort;
 
@@ -113,73 +113,6 @@ fn extract_if(rt: &impl Abort, map: &mut Map<'_>) -> Result<(), TryInsertError> 
     assert!(rt; walk.next().is_none());
     drop(walk);
     Ok(())
-}
-
-// A map whose values are lengths.
-type Counts<'a> = TreeMap<&'a str, usize, 16>;
-
-// The examples of `for_each`.
-fn values_for_each(rt: &impl Abort, map: &mut Counts<'_>) -> Result<(), TryInsertError> {
-    map.try_insert("cat", 1)?;
-    map.try_insert("dog", 2)?;
-    map.values_mut()
-        .for_each(|value| *value = value.wrapping_add(1));
-    assert_eq!(rt; map.get(&"cat"), Some(&2));
-    assert_eq!(rt; map.get(&"dog"), Some(&3));
-    Ok(())
-}
-
-fn pairs_for_each(rt: &impl Abort, map: &mut Counts<'_>) -> Result<(), TryInsertError> {
-    map.try_insert("cat", 1)?;
-    map.try_insert("horse", 2)?;
-    map.iter_mut()
-        .for_each(|key, value| *value = value.wrapping_add(key.len()));
-    assert_eq!(rt; map.get(&"cat"), Some(&4));
-    assert_eq!(rt; map.get(&"horse"), Some(&7));
-    Ok(())
-}
-
-fn prefix_for_each(rt: &impl Abort, map: &mut Counts<'_>) -> Result<(), TryInsertError> {
-    map.try_insert("car", 1)?;
-    map.try_insert("dog", 2)?;
-    map.prefix_mut(b"ca").for_each(|_, value| *value = 0);
-    assert_eq!(rt; map.get(&"car"), Some(&0));
-    assert_eq!(rt; map.get(&"dog"), Some(&2));
-    Ok(())
-}
-
-// The calls come front to back, also where the walk has lent from both ends.
-fn for_each_in_order(rt: &impl Abort, map: &mut Counts<'_>) -> Result<(), TryInsertError> {
-    for letter in ["a", "b", "c", "d", "e"] {
-        map.try_insert(letter, 9)?;
-    }
-    let mut walk = map.values_mut();
-    assert!(rt; walk.next().is_some());
-    assert!(rt; walk.next_back().is_some());
-    let mut count = 0;
-    walk.for_each(|value| {
-        *value = count;
-        count = count.wrapping_add(1);
-    });
-    assert_eq!(rt; map.get(&"a"), Some(&9));
-    assert_eq!(rt; map.get(&"b"), Some(&0));
-    assert_eq!(rt; map.get(&"c"), Some(&1));
-    assert_eq!(rt; map.get(&"d"), Some(&2));
-    assert_eq!(rt; map.get(&"e"), Some(&9));
-    Ok(())
-}
-
-#[test]
-fn for_each_as_shown(rt: HostRuntime) {
-    let mut map = Counts::new(rt.alloc());
-    values_for_each(&rt, &mut map).expect(&rt, "memory");
-    map.clear();
-    pairs_for_each(&rt, &mut map).expect(&rt, "memory");
-    map.clear();
-    prefix_for_each(&rt, &mut map).expect(&rt, "memory");
-    map.clear();
-    for_each_in_order(&rt, &mut map).expect(&rt, "memory");
-    drop(map);
 }
 
 #[test]

@@ -1,8 +1,7 @@
 //! Lines that are no commands, and ends that fail where a line is half read or half answered.
-use super::{AMPLE, Ends, Full, SOUND, assert_outcome};
+use super::{AMPLE, Ends, Full, SOUND, assert_outcome, push};
 use blart::RunError;
 use std::process::Abort;
-use std::test::Fail;
 
 // Spaces, letters and signs that no command has, a number of too many digits, and bytes that are no text; then the greatest number, and the most digits.
 const LINES: &[u8] =
@@ -19,30 +18,21 @@ fn lines_at_the_edge_of_a_command(rt: HostRuntime) {
     }
 }
 
-// The line with another byte in a place.
-fn push_spoiled(text: &mut Vec<u8>, line: &[u8], place: usize, byte: u8) -> Result<(), Fail> {
-    let (front, back) = line.split_at(place.min(line.len()));
-    text.extend_from_slice(front)?;
-    text.push(byte)?;
-    if let Some((_, rest)) = back.split_first() {
-        text.extend_from_slice(rest)?;
-    }
-    text.push(b'\n')?;
-    Ok(())
-}
-
 // The line with another byte in each place in turn, each of which is refused.
 fn push_all_spoiled(
+    rt: &impl Abort,
     text: &mut Vec<u8>,
     answers: &mut Vec<u8>,
     line: &[u8],
     byte: u8,
-) -> Result<(), Fail> {
+) {
     for place in 0..line.len() {
-        push_spoiled(text, line, place, byte)?;
-        answers.extend_from_slice(b"refused line\n")?;
+        push(rt, text, &line[..place], 1);
+        push(rt, text, &[byte], 1);
+        push(rt, text, &line[place + 1..], 1);
+        push(rt, text, b"\n", 1);
+        push(rt, answers, b"refused line\n", 1);
     }
-    Ok(())
 }
 
 const COMMANDS: [&str; 9] = [
@@ -58,24 +48,26 @@ const COMMANDS: [&str; 9] = [
 ];
 
 // The commands with a byte that none has in each place, beside one pair.
-fn spoil_commands(text: &mut Vec<u8>, answers: &mut Vec<u8>, byte: u8) -> Result<(), Fail> {
+fn spoil_commands(rt: &impl Abort, text: &mut Vec<u8>, answers: &mut Vec<u8>, byte: u8) {
+    push(rt, text, b"insert 0102 7\n", 1);
+    push(rt, answers, b"none\n", 1);
     for command in COMMANDS {
-        push_all_spoiled(text, answers, command.as_bytes(), byte)?;
+        push_all_spoiled(rt, text, answers, command.as_bytes(), byte);
     }
-    Ok(())
+    push(rt, text, b"list", 1);
+    push(rt, answers, b"0102 7\nend 1\n", 1);
 }
 
 #[test]
-fn commands_with_a_byte_that_none_has(rt: HostRuntime) -> Result<(), Fail> {
+fn commands_with_a_byte_that_none_has(rt: HostRuntime) {
     for byte in [0, b'\r', b'+', b'Z', 255] {
-        let mut text = Vec::from_slice(rt.alloc(), b"insert 0102 7\n")?;
-        let mut answers = Vec::from_slice(rt.alloc(), b"none\n")?;
-        spoil_commands(&mut text, &mut answers, byte)?;
-        text.extend_from_slice(b"list")?;
-        answers.extend_from_slice(b"0102 7\nend 1\n")?;
+        let mut text = Vec::new(rt.alloc());
+        let mut answers = Vec::new(rt.alloc());
+        spoil_commands(&rt, &mut text, &mut answers, byte);
         assert_outcome(&rt, &text, SOUND, Ok(()), &answers);
+        drop(text);
+        drop(answers);
     }
-    Ok(())
 }
 
 // A last line without a line feed is answered at the end of the input, and not where a read failed.
