@@ -9,35 +9,51 @@ use std::process::Abort;
 // The example of `README::map`.
 fn map(rt: &impl Abort, alloc: Global) -> Result<(), TryInsertError> {
     let mut map = TreeMap::new(alloc);
-    map.try_insert("car", 1)?;
-    map.try_insert("cat", 2)?;
-    assert_eq!(rt; map.get(&"cat"), Some(&2));
-    assert!(rt; map.try_insert("ca", 3).is_err());
-    assert_eq!(rt; map.prefix(b"ca").next(), Some((&"car", &1)));
+    let mut run = || -> Result<(), TryInsertError> {
+        map.try_insert("car", 1)?;
+        map.try_insert("cat", 2)?;
+        assert_eq!(rt; map.get(&"cat"), Some(&2));
+        assert!(rt; map.try_insert("ca", 3).is_err());
+        assert_eq!(rt; map.prefix(b"ca").next(), Some((&"car", &1)));
+        Ok(())
+    };
+    let ran = run();
     drop(map);
-    Ok(())
+    ran
 }
 
 // The example of `README::fronts`.
 fn fronts(rt: &impl Abort, alloc: Global) -> Result<(), TryInsertError> {
     let mut map = TreeMap::new(alloc);
-    map.try_insert("/static/", 7)?;
-    assert_eq!(rt; map.prefix_get(&"/static/logo.png"), Some(&7));
-    assert_eq!(rt; map.prefix_get(&"/stat"), None);
+    let mut run = || -> Result<(), TryInsertError> {
+        map.try_insert("/static/", 7)?;
+        assert_eq!(rt; map.prefix_get(&"/static/logo.png"), Some(&7));
+        assert_eq!(rt; map.prefix_get(&"/stat"), None);
+        Ok(())
+    };
+    let ran = run();
     drop(map);
-    Ok(())
+    ran
 }
 
 // The example of `README::router`.
 fn router(rt: &impl Abort, alloc: Global) -> Result<(), Fail> {
     let mut mounts = Mounts::new(alloc);
-    mounts.mount(Vec::from_slice(alloc, b"/api")?, 1)?;
-    mounts.mount(Vec::from_slice(alloc, b"/app")?, 2)?;
-    assert!(rt; mounts.mount(Vec::from_slice(alloc, b"/api/v1")?, 3).is_err());
-    let target = mounts.resolve(b"/api/v1/users").map(|(_, target)| *target);
-    assert_eq!(rt; target, Some(1));
+    let mut run = || -> Result<(), Fail> {
+        mounts.mount(Vec::from_slice(alloc, b"/api")?, 1)?;
+        mounts.mount(Vec::from_slice(alloc, b"/app")?, 2)?;
+        assert!(rt;
+            mounts
+                .mount(Vec::from_slice(alloc, b"/api/v1")?, 3)
+                .is_err()
+        );
+        let target = mounts.resolve(b"/api/v1/users").map(|(_, target)| *target);
+        assert_eq!(rt; target, Some(1));
+        Ok(())
+    };
+    let ran = run();
     drop(mounts);
-    Ok(())
+    ran
 }
 
 #[test]
