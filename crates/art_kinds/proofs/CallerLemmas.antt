@@ -1,5 +1,3 @@
 -- What callers need: the node under a number by its kind and place, and the room for placements.
 pub use Rattle.art_kinds.proofs.Growing.{at_is, fits_more}
 pub use Rattle.art_kinds.proofs.Rooms.{room-same, room-placed, Lowers-same}
--- a store with another record under a number
-pub use Rattle.art_kinds.proofs.StoreSlots.{with-now, with-others, with-count}

@@ -7,13 +7,13 @@ use Rattle.art_kinds.specs.Inners.{seen, node_of, nodes_in, Fits, IsStore}
 use Rattle.art_kinds.specs.Edges.{child_at, AddsChild, DropsChild, RedirectsChild}
 use Rattle.art_kinds.specs.Nodes.{Node, Nodes, store_of, at, live, over, grown, floor, places, takes, figure, serves, HasPlace, Lowers, MoreSpares, SameSpares, AddsEdgeTo, Redirects, DropsEdge, Reprefixes, Frees}
 use Rattle.art_kinds.specs.Numbers.{number, digit, digit-lt}
-use Rattle.art_kinds.specs.Store.{Store, slot_at, used_count, with_record}
+use Rattle.art_slots.specs.Store.{Store, slot_at, used_count, with_record}
 use Rattle.art_kinds.specs.declared.records.ids.Child.{Child}
 use Rattle.art_kinds.specs.declared.records.ids.Edge.{Edge}
 use Rattle.art_kinds.specs.declared.records.ids.Kind.{Kind}
 use Rattle.art_kinds.specs.declared.records.ids.NodeId.TheInside.{Inside}
 use Rattle.art_kinds.specs.declared.records.nodes.Inner.{Inner}
-use Rattle.art_kinds.proofs.StoreSlots.{one, with-now, with-others, with-count}
+use Rattle.art_slots.proofs.StoreSlots.{one, with-now, with-others, with-count}
 use Rattle.art_kinds.proofs.Rooms.{sum-least, grown-change, grown-most, serves-grown, serves-less}
 
 -- what holds of something holds of its value

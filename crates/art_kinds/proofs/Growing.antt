@@ -5,7 +5,7 @@ use Rattle.std.proofs.lemmas.Bool.{cases_eq}
 use Rattle.std.proofs.lemmas.Bool.Decides.{leb_tells}
 use Rattle.art_kinds.specs.Nodes.{Node, Nodes, store_of, at, over, grown, floor, places, takes, figure, serves, HasPlace, FitsMore, Lowers, MoreSpares, Makes, Renames, room}
 use Rattle.art_kinds.specs.declared.records.ids.Edge.{Edge}
-use Rattle.art_kinds.specs.Store.{Store, slot_at}
+use Rattle.art_slots.specs.Store.{Store, slot_at}
 use Rattle.art_kinds.specs.Inners.{nodes_in}
 use Rattle.art_kinds.specs.declared.records.nodes.Inner.{Inner}
 use Rattle.art_kinds.proofs.Changes.{node_at}

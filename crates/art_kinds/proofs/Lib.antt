@@ -4,9 +4,7 @@ pub mod EdgeFills
 pub mod EdgeNexts
 pub mod Tables
 pub mod Results
-pub mod Walks
 pub mod Places
-pub mod StoreSlots
 pub mod Rooms
 pub mod Changes
 pub mod Growing

@@ -3,9 +3,9 @@ use Rattle.std.proofs.Common.{◌≡◌, ◌≢◌, ℕ, zero, suc, ◌+◌, ◌
 use Rattle.std.specs.Prelude.{min}
 use Rattle.std.proofs.lemmas.Bool.{cases_eq}
 use Rattle.std.proofs.lemmas.List.Sums.{sum_by-cons}
-use Rattle.art_kinds.specs.Store.{Store, slot_at, used_count}
+use Rattle.art_slots.specs.Store.{Store, slot_at, used_count}
 use Rattle.art_kinds.specs.Nodes.{Node, Nodes, over, grown, serves, figure, room, Lowers, SameSpares, MoreSpares}
-use Rattle.art_kinds.proofs.StoreSlots.{one}
+use Rattle.art_slots.proofs.StoreSlots.{one}
 
 module _ {X : Type 0} (f : Option X → ℕ) (zeros : f None ≡ 0) where
   -- in no list there is nothing

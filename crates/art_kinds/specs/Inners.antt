@@ -1,7 +1,7 @@
 -- The nodes of records.
 use Rattle.std.specs.Prelude.{◌≡◌, ◌≤◌, ◌<◌, ◌+◌, ◌^◌, ℕ, List, Option, Some, None, map, take, length}
 use Rattle.art_kinds.specs.Nodes.{Node, Nodes}
-use Rattle.art_kinds.specs.Store.{Store, slot_at, used_count}
+use Rattle.art_slots.specs.Store.{Store, slot_at, used_count}
 use Rattle.art_kinds.specs.declared.records.ids.Edge.{Edge}
 use Rattle.art_kinds.specs.declared.records.nodes.Inner.{Inner}
 

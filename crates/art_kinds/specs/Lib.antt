@@ -1,10 +1,5 @@
 pub mod Codes
 pub mod Edges
-pub mod Store
-pub mod Slots
-pub mod Chain
-pub mod SlotLends
-pub mod Lends
 pub mod Numbers
 pub mod Nodes
 pub mod Inners

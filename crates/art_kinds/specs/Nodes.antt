@@ -5,7 +5,7 @@ use Rattle.art_kinds.specs.declared.records.ids.Edge.{Edge}
 use Rattle.art_kinds.specs.declared.records.ids.Child.{Child}
 use Rattle.art_kinds.specs.Edges.{child_at, AddsChild, DropsChild, Ascends}
 use Rattle.art_kinds.specs.Codes.{edge_code}
-use Rattle.art_kinds.specs.Store.{Store, slot_at, store_code, used_count}
+use Rattle.art_slots.specs.Store.{Store, slot_at, store_code, used_count}
 
 -- a node: the length of its front, the first bytes of its compressed prefix, and its edges
 pub record Node : Type 0 where

@@ -4,9 +4,6 @@
 #![tactic(auto)]
 
 mod records;
-mod visits;
 
-pub use records::ids::{Child, Edge, Kind, LeafId, NodeId};
+pub use records::ids::{Child, Edge, Kind, NodeId};
 pub use records::nodes::{NodeRef, Nodes};
-pub use records::store::Store;
-pub use visits::Visits;

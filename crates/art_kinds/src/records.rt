@@ -5,7 +5,5 @@ pub(crate) mod ids;
 pub(crate) mod indexed;
 mod link;
 pub(crate) mod nodes;
-mod slots;
-pub(crate) mod store;
 #[cfg(test)]
 mod tests;

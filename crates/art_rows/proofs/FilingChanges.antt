@@ -7,10 +7,10 @@ use Rattle.art_rows.specs.Numbers.{Numbered, leaf_in, Has, with_pair_behind, wit
 use Rattle.art_rows.specs.Rows.{among, nth, numbers, row_with, position_at, AreFilled, IsSpot, IsSplit, row_end}
 use Rattle.art_rows.specs.Leaves.{with_value, index_of, spot_index}
 use Rattle.art_rows.specs.Filing.{filed, Files, in_row}
-use Rattle.art_kinds.specs.Store.{Store, slot_at, used_count, with_record}
+use Rattle.art_slots.specs.Store.{Store, slot_at, used_count, with_record}
 use Rattle.art_rows.specs.declared.leaves.Leaf.{Leaf}
 use Rattle.art_rows.specs.declared.row.Position.{Position}
-use Rattle.art_kinds.proofs.CallerLemmas.{with-now, with-others, with-count}
+use Rattle.art_slots.proofs.CallerLemmas.{with-now, with-others, with-count}
 use Rattle.art_rows.proofs.NumbersLemmas.{eqb_same, leaf_in-without_number, AreDistinct-without_number, length-without_number, leaf_in-with_pair, leaf_in-with_now, numbers-with_pair, same_distinct, same_length, Lacks-from_leaf_in, AreDistinct-with_pair_behind, leaf_in-with_pair_behind, length-with_pair_behind, Has-tail, split, leaf_in-split, with_pair-split, with_pair_behind-split}
 use Rattle.art_rows.proofs.RowChanges.{among-take, among-parts, row_with-append, PutsIn, puts_in, puts_row, spot-row, among-lacking, TakesOut, takes_one, takes_more, numbers-without}
 use Rattle.art_rows.proofs.RowsLemmas.{Has-among, among-append, numbers-append, AreFilled-parts, AreFilled-append, standing, standing-row, nth-place, among-numbers}

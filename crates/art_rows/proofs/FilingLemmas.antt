@@ -6,7 +6,7 @@ use Rattle.art_rows.specs.Numbers.{Numbered, Numbers, leaf_in, Has, last_number,
 use Rattle.art_rows.specs.Rows.{among, place_in, nth, numbers, row_with, position_at, start_of}
 use Rattle.art_rows.specs.Leaves.{Leaves, index_of}
 use Rattle.art_rows.specs.Filing.{gather, Files, pairs_in, AllFiled, content}
-use Rattle.art_kinds.specs.Store.{Store, slot_at, used_count}
+use Rattle.art_slots.specs.Store.{Store, slot_at, used_count}
 use Rattle.art_rows.specs.declared.leaves.Leaf.{Leaf}
 use Rattle.art_rows.specs.declared.row.Position.{Position}
 use Rattle.art_rows.proofs.NumbersLemmas.{eqb_same, eqb_other, has_other, split, leaf_in-split}

@@ -4,9 +4,9 @@ use Rattle.std.specs.Prelude.{option_map, IfSome}
 use Rattle.std.proofs.lemmas.Bool.Decides.{eqb_tells}
 use Rattle.art_rows.specs.Numbers.{Numbered, Numbers, leaf_in, Has, first_number, number_after, number_before, behind, with_pair_behind, without_number, with_pair, Lacks, AreDistinct}
 use Rattle.art_rows.specs.Links.{is_at, end_with, follow, linked, Links, AllLinked, pairs_in, content, with_next, with_prev}
-use Rattle.art_kinds.specs.Store.{Store, slot_at, used_count, with_record}
+use Rattle.art_slots.specs.Store.{Store, slot_at, used_count, with_record}
 use Rattle.art_rows.specs.declared.chain.Link.{Link}
-use Rattle.art_kinds.proofs.CallerLemmas.{with-now, with-others, with-count}
+use Rattle.art_slots.proofs.CallerLemmas.{with-now, with-others, with-count}
 use Rattle.art_rows.proofs.NumbersLemmas.{eqb_same, eqb_other, has_other, Lacks-from_leaf_in, is_at-behind, is_at-has, leaf_in-with_pair_behind, number_after-with_pair_behind, number_before-with_pair_behind, AreDistinct-with_pair_behind, first_number-with_pair_behind, last_number-with_pair_behind, length-with_pair_behind, leaf_in-without_number, number_after-without_number, number_before-without_number, AreDistinct-without_number, first_number-without_number, last_number-without_number, length-without_number, Has-before, Has-behind, leaf_in-with_pair, leaf_in-with_now, numbers-with_pair, before_other, after_other, same_first, same_last, same_after, same_before, same_distinct, same_length}
 
 module _ {X : Type 0} (leaves : ℕ → Option (Link X)) where

@@ -1,6 +1,6 @@
 -- How leaf records and rows name one another.
 use Rattle.std.specs.Prelude.{◌≡◌, ℕ, List, [], ◌∷◌, map, length, Option, option_map, Some, None, cond}
-use Rattle.art_kinds.specs.Store.{Store, slot_at as at, used_count}
+use Rattle.art_slots.specs.Store.{Store, slot_at as at, used_count}
 use Rattle.art_rows.specs.Numbers.{Numbered, Numbers, leaf_in, AreDistinct}
 use Rattle.art_rows.specs.Rows.{among, numbers, row_with, AreFilled}
 use Rattle.art_rows.specs.Leaves.{Leaves}

@@ -1,6 +1,6 @@
 -- How the leaf records are linked.
 use Rattle.std.specs.Prelude.{◌≡◌, ℕ, zero, suc, List, [], ◌∷◌, length, Option, option_map, Some, None, Bool, false, cond, eqb}
-use Rattle.art_kinds.specs.Store.{Store, slot_at as at, used_count}
+use Rattle.art_slots.specs.Store.{Store, slot_at as at, used_count}
 use Rattle.art_rows.specs.Numbers.{Numbered as Pair, Numbers as Content, leaf_in, first_number, last_number, number_after, number_before, AreDistinct}
 use Rattle.art_rows.specs.declared.chain.Link.{Link}
 

@@ -1,7 +1,7 @@
 //! What stands behind a leaf in the rows.
 ghost use Rattle.std.specs.Prelude.{◌≡◌, [], None};
 
-use art_kinds::LeafId;
+use art_slots::LeafId;
 
 /// What stands behind a leaf: the rest of its row, and the number of the row behind.
 #[derive(Clone, Copy)]

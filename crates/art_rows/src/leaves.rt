@@ -1,6 +1,6 @@
 //! The leaf records, in rows in the order of their keys.
 ghost use Rattle.std.specs.Prelude.{◌≡◌, ◌≢◌, ◌+◌, ◌-◌, ◌<◌, ◌≤◌, ◌++◌, ◌⊎◌, ℕ, [], ◌∷◌, length, map, option_map, take, drop, Some, None, IsSome, IfSome, IfNone, true, OnOk, OnErr};
-ghost use Rattle.art_kinds.specs.Store.{slot_at, used_count};
+ghost use Rattle.art_slots.specs.Store.{slot_at, used_count};
 ghost use Rattle.art_rows.specs.Numbers.{leaf_in, Has, AreDistinct, first_number, last_number, number_after, number_before, with_pair_behind, without_number, with_pair};
 ghost use Rattle.art_rows.specs.Rows.{position_at, nth, numbers, IsSpot, IsSplit, row_end, row_room, row_start, among, RunsBefore, StandsAhead};
 ghost use Rattle.art_rows.specs.declared.row.Position.{Position};
@@ -12,7 +12,7 @@ ghost use Rattle.std.specs.Borrow.{sem};
 use crate::ahead::Ahead;
 use crate::chain::Chain;
 use crate::row::{HALF, Position, ROW, Row};
-use art_kinds::{LeafId, Store, Visits};
+use art_slots::{LeafId, Store, Visits};
 use std::alloc::{AllocError, Global};
 use std::marker::Model;
 use std::mem;

@@ -9,6 +9,6 @@ mod leaves;
 mod row;
 
 pub use ahead::Ahead;
-pub use art_kinds::{LeafId, Visits};
+pub use art_slots::{LeafId, Visits};
 pub use leaves::Leaves;
 pub use row::Position;

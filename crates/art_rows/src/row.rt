@@ -2,7 +2,7 @@
 ghost use Rattle.std.specs.Prelude.{◌≡◌, ℕ, ◌+◌, ◌-◌, ◌<◌, ◌≤◌, [], ◌∷◌, ◌++◌, length, take, drop, Some, true, IfSome};
 ghost use Rattle.art_rows.specs.Rows.{place_in, nth, nowhere};
 
-use art_kinds::LeafId;
+use art_slots::LeafId;
 use std::marker::Model;
 
 /// How many numbers a row has room for.

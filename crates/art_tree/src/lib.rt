@@ -4,14 +4,11 @@
 #![tactic(auto)]
 
 mod lists;
-mod records;
 #[cfg(test)]
 mod tests;
 mod tree;
-mod visits;
 
-pub use records::ids::LeafId;
-pub use records::leaves::{Ahead, Leaves, Position};
+pub use art_rows::{Ahead, Leaves, Position};
+pub use art_slots::{LeafId, Visits};
 pub use tree::point::{Place, Point};
 pub use tree::{DEFAULT_PREFIX_LEN, Tree};
-pub use visits::Visits;

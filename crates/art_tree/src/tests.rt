@@ -1,10 +1,8 @@
 //! A tree of a thousand keys taken apart: what its fields hold, and that nothing else is there.
-use crate::records::ids::Child;
-use crate::records::nodes::Nodes;
 use crate::tree::Tree;
 use crate::tree::point::Point;
-use crate::visits::Visits;
-use art_kinds::NodeRef;
+use art_kinds::{Child, NodeRef, Nodes};
+use art_slots::Visits;
 use std::process::Abort;
 
 // The bytes of which the keys are all triples, in no order.

@@ -24,13 +24,12 @@ pub(crate) mod stop;
 mod uproot;
 
 use crate::lists::begins;
-use crate::records::ids::{Child, LeafId};
-use crate::records::leaves::Leaves;
-use crate::records::nodes::Nodes;
 use crate::tree::descent::children_of;
 use crate::tree::place::place_at;
 use crate::tree::point::{Point, point_below};
-use crate::visits::Visits;
+use art_kinds::{Child, Nodes};
+use art_rows::Leaves;
+use art_slots::{LeafId, Visits};
 use blart_keys::AsBytes;
 use std::alloc::{AllocError, Global};
 use std::marker::Model;

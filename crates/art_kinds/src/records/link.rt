@@ -2,7 +2,8 @@
 ghost use Rattle.std.specs.Prelude.{◌≡◌, ◌%◌, Some, None};
 ghost use Rattle.art_kinds.specs.Numbers.{kind_of as kind_spec};
 
-use crate::records::ids::{Child, Kind, LeafId, NodeId};
+use crate::records::ids::{Child, Kind, NodeId};
+use art_slots::LeafId;
 use std::marker::Model;
 
 /// What stands below an edge: its number times eight, and its kind. A contract sees the child.

@@ -1,15 +1,14 @@
 //! The inner nodes under their numbers.
 ghost use Rattle.std.specs.Prelude.{true, false, ◌≡◌, ◌≢◌, ℕ, ◌+◌, ◌%◌, ◌*◌, ◌/◌, ◌-◌, ◌<◌, ◌≤◌, ◌^◌, ◌++◌, ◌∷◌, length, take, drop, slice_get, None, Some, IsSome, is_some, IsSomeAnd, OnOk, OnErr};
 ghost use Rattle.art_kinds.specs.Edges.{child_at, Ascends, IsNext, IsPrevious, IsEnd};
-ghost use Rattle.art_kinds.specs.Store.{slot_at};
+ghost use Rattle.art_slots.specs.Store.{slot_at};
 ghost use Rattle.art_kinds.specs.Nodes.{at, live, room, FitsNew, FitsMore, HasPlace, Lowers, SameNodes, SameSpares, MoreSpares, Makes, Renames, AddsEdgeTo, Redirects, DropsEdge, Reprefixes, JoinsPrefix, CutsPrefix, Frees};
 
 use crate::records::few::Few;
 use crate::records::full::Full;
 use crate::records::ids::{Child, Edge, Kind, NodeId};
 use crate::records::indexed::Indexed;
-use crate::records::store::Store;
-use crate::visits::Visits;
+use art_slots::{Store, Visits};
 use std::alloc::{AllocError, Global};
 use std::marker::Model;
 

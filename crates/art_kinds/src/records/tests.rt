@@ -3,10 +3,10 @@ ghost use Rattle.std.specs.Prelude.{◌<◌};
 
 use crate::records::few::Few;
 use crate::records::full::Full;
-use crate::records::ids::{Child, Edge, Kind, LeafId, NodeId};
+use crate::records::ids::{Child, Edge, Kind, NodeId};
 use crate::records::indexed::Indexed;
 use crate::records::nodes::{Inner, Nodes};
-use crate::visits::Visits;
+use art_slots::{LeafId, Visits};
 use std::process::Abort;
 
 // The number of the leaf below each byte that has one.

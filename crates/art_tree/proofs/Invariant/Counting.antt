@@ -17,7 +17,7 @@ use Rattle.blart_keys.proofs.FrontSizes.{member_of_set, set_has_member, Distinct
 use Rattle.art_tree.specs.Begins.{Bytes, Begins, next_byte}
 use Rattle.art_kinds.specs.Edges.{child_at, AscendsAbove, Ascends}
 use Rattle.art_tree.specs.Leaves.{Numbered, AreDistinct, bytes, keys_in}
-use Rattle.art_kinds.specs.Store.{slot_at, used_count}
+use Rattle.art_slots.specs.Store.{slot_at, used_count}
 use Rattle.art_kinds.specs.Nodes.{Node, Nodes, store_of, at, live}
 use Rattle.art_kinds.proofs.CallerLemmas.{at_is}
 use Rattle.art_tree.specs.Invariant.Shape.{Shape, NodeFits}

@@ -2,7 +2,7 @@
 use Rattle.std.proofs.Common.{◌≡◌, ℕ, zero, suc, ◌+◌, ◌-◌, ◌/◌, ◌%◌, ◌<◌, ◌≤◌, List, [], ◌∷◌, ◌++◌, length, max, get_or, refl, ap, Option, Some, None, IsSome, true, false, arith}
 use Rattle.art_tree.specs.Begins.{Bytes}
 use Rattle.art_kinds.specs.Edges.{child_at}
-use Rattle.art_kinds.specs.Store.{slot_at}
+use Rattle.art_slots.specs.Store.{slot_at}
 use Rattle.art_kinds.specs.Nodes.{Node, Nodes, store_of, at}
 use Rattle.art_tree.specs.Invariant.Shape.{Shape, Covers}
 use Rattle.art_kinds.specs.declared.records.ids.Child.{Child}

@@ -1,8 +1,8 @@
 //! A tree taken apart.
 ghost use Rattle.std.specs.Prelude.{◌≡◌};
 
-use crate::records::leaves::Leaves;
 use crate::tree::Tree;
+use art_rows::Leaves;
 use blart_keys::AsBytes;
 
 impl<K: AsBytes + Drop, V: Drop, const PREFIX_LEN: usize> Tree<K, V, PREFIX_LEN> {

@@ -8,9 +8,9 @@ ghost use Rattle.art_tree.specs.Takes.{MayTake};
 ghost use Rattle.art_tree.specs.TreeLends.{lends_leaf};
 
 use crate::lists::begins;
-use crate::records::ids::{Child, LeafId};
 use crate::tree::Tree;
-use crate::visits::Visits;
+use art_kinds::Child;
+use art_slots::{LeafId, Visits};
 use blart_keys::AsBytes;
 use std::alloc::AllocError;
 

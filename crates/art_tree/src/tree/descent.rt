@@ -7,9 +7,8 @@ ghost use Rattle.art_tree.specs.Calls.Descents.{IsSubtree, IsRoot, HasEdges, Goe
 ghost use Rattle.art_tree.specs.Calls.Spots.{SpotFits};
 ghost use Rattle.art_kinds.specs.declared.records.ids.Child.{Child as Way};
 
-use crate::records::ids::{Child, LeafId, NodeId};
-use crate::records::nodes::Nodes;
-use crate::visits::Visits;
+use art_kinds::{Child, NodeId, Nodes};
+use art_slots::{LeafId, Visits};
 
 /// The edge above a child: from a node by a byte. None is the way into the root.
 pub(crate) type EdgeAbove = Option<(NodeId, u8)>;

@@ -10,11 +10,10 @@ ghost use Rattle.art_kinds.specs.Nodes.{at};
 ghost use Rattle.art_tree.specs.Invariant.Sound.{IsSound};
 
 use crate::lists::common_len;
-use crate::records::ids::{Child, Edge, LeafId, NodeId};
-use crate::records::leaves::{Leaves, Position};
-use crate::records::nodes::Nodes;
 use crate::tree::descent::{Spot, end_under, locate, mate_of};
-use crate::visits::Visits;
+use art_kinds::{Child, Edge, NodeId, Nodes};
+use art_rows::{Leaves, Position};
+use art_slots::{LeafId, Visits};
 use blart_keys::AsBytes;
 
 /// How a query and the stored key that goes along with it the furthest part.

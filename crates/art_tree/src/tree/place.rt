@@ -13,13 +13,12 @@ ghost use Rattle.art_tree.specs.Points.{IsFree, IsGood};
 ghost use Rattle.art_tree.specs.Invariant.Sound.{IsSound};
 ghost use Rattle.art_kinds.specs.declared.records.ids.Child.{Child as Way};
 
-use crate::records::ids::{Child, Edge, LeafId, NodeId};
-use crate::records::leaves::{Leaves, Position};
-use crate::records::nodes::Nodes;
 use crate::tree::descent::{EdgeAbove, Spot, locate};
 use crate::tree::parting::leaf_before;
 use crate::tree::point::{Place, Point};
-use crate::visits::Visits;
+use art_kinds::{Child, Edge, NodeId, Nodes};
+use art_rows::{Leaves, Position};
+use art_slots::{LeafId, Visits};
 use blart_keys::AsBytes;
 
 // A leaf that joins the tree. Its key leaves that of another, the mate, at this depth.

@@ -7,13 +7,12 @@ ghost use Rattle.art_kinds.specs.Nodes.{at};
 ghost use Rattle.art_tree.specs.Points.{IsGood};
 ghost use Rattle.art_tree.specs.Invariant.Sound.{IsSound};
 
-use crate::records::ids::{Child, Edge, LeafId};
-use crate::records::leaves::Leaves;
-use crate::records::nodes::Nodes;
 use crate::tree::descent::{EdgeAbove, end_under};
 use crate::tree::parting::{Beside, edge_beside};
 use crate::tree::stop::{Stop, stop_of};
-use crate::visits::Visits;
+use art_kinds::{Child, Edge, Nodes};
+use art_rows::Leaves;
+use art_slots::{LeafId, Visits};
 use blart_keys::AsBytes;
 
 /// A place for a key that is related to no stored key. It is good for the bytes that it was found for, while the pairs are unchanged.

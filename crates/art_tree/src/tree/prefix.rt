@@ -9,14 +9,13 @@ ghost use Rattle.art_tree.specs.Leaves.{leaf_in, keys_in, bytes};
 ghost use Rattle.art_tree.specs.Seeks.{ends};
 ghost use Rattle.art_kinds.specs.Nodes.{at};
 
-use crate::records::ids::{Child, LeafId};
-use crate::records::leaves::Leaves;
-use crate::records::nodes::Nodes;
 use crate::tree::Tree;
 use crate::tree::descent::Branch;
 use crate::tree::seek::branch_below;
 use crate::tree::uproot::uproot;
-use crate::visits::Visits;
+use art_kinds::{Child, Nodes};
+use art_rows::Leaves;
+use art_slots::{LeafId, Visits};
 use blart_keys::AsBytes;
 
 impl<K: AsBytes + Drop, V: Drop, const PREFIX_LEN: usize> Tree<K, V, PREFIX_LEN> {

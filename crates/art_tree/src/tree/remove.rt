@@ -12,14 +12,13 @@ ghost use Rattle.art_tree.specs.Invariant.Sound.{IsSound};
 ghost use Rattle.art_kinds.specs.declared.records.ids.Child.{Child as Way};
 ghost use Rattle.art_kinds.specs.declared.records.ids.Child.TheVariants.{Leaf, Inner};
 
-use crate::records::ids::{Child, Edge, LeafId, NodeId};
-use crate::records::leaves::Leaves;
-use crate::records::nodes::Nodes;
 use crate::tree::Tree;
 use crate::tree::descent::{EdgeAbove, LeafSpot};
 use crate::tree::place::lead;
 use crate::tree::search::pair_toward;
-use crate::visits::Visits;
+use art_kinds::{Child, Edge, NodeId, Nodes};
+use art_rows::Leaves;
+use art_slots::{LeafId, Visits};
 use blart_keys::AsBytes;
 
 impl<K: AsBytes + Drop, V: Drop, const PREFIX_LEN: usize> Tree<K, V, PREFIX_LEN> {

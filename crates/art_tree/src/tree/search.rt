@@ -10,12 +10,11 @@ ghost use Rattle.art_tree.specs.Invariant.Shape.{Shape};
 ghost use Rattle.art_tree.specs.Invariant.Sound.{IsSound};
 
 use crate::lists::begins;
-use crate::records::ids::{Child, LeafId};
-use crate::records::leaves::Leaves;
-use crate::records::nodes::Nodes;
 use crate::tree::Tree;
 use crate::tree::descent::LeafSpot;
-use crate::visits::Visits;
+use art_kinds::{Child, Nodes};
+use art_rows::Leaves;
+use art_slots::{LeafId, Visits};
 use blart_keys::AsBytes;
 
 impl<K: AsBytes + Drop, V: Drop, const PREFIX_LEN: usize> Tree<K, V, PREFIX_LEN> {

@@ -11,13 +11,12 @@ ghost use Rattle.art_kinds.specs.Nodes.{at};
 ghost use Rattle.art_tree.specs.Invariant.Shape.{Shape};
 ghost use Rattle.art_tree.specs.Invariant.Sound.{IsSound};
 
-use crate::records::ids::{Child, LeafId};
-use crate::records::leaves::Leaves;
-use crate::records::nodes::Nodes;
 use crate::tree::Tree;
 use crate::tree::descent::{Branch, end_under, locate};
 use crate::tree::parting::{Parting, leaf_before, leaf_beside, nearest_leaf, parting_of};
-use crate::visits::Visits;
+use art_kinds::{Child, Nodes};
+use art_rows::Leaves;
+use art_slots::{LeafId, Visits};
 use blart_keys::AsBytes;
 use std::ops::Bound;
 

@@ -7,11 +7,10 @@ ghost use Rattle.art_tree.specs.Invariant.Sound.{IsSound};
 ghost use Rattle.art_kinds.specs.declared.records.ids.Child.TheVariants.{Leaf, Inner};
 
 use crate::lists::{common_len, common_len_behind};
-use crate::records::ids::{Child, LeafId, NodeId};
-use crate::records::leaves::Leaves;
-use crate::records::nodes::Nodes;
 use crate::tree::descent::{EdgeAbove, end_under};
-use crate::visits::Visits;
+use art_kinds::{Child, NodeId, Nodes};
+use art_rows::Leaves;
+use art_slots::{LeafId, Visits};
 use blart_keys::AsBytes;
 
 /// Where a way down by the bytes of a query ends.

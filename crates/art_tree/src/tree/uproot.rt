@@ -8,11 +8,10 @@ ghost use Rattle.art_tree.specs.Calls.Pruning.{Prunes, Uproots, Loose, LeadsIn, 
 ghost use Rattle.art_kinds.specs.Nodes.{Node, at, live};
 ghost use Rattle.art_kinds.specs.declared.records.ids.Child.{Child as Way};
 
-use crate::records::ids::{Child, LeafId, NodeId};
-use crate::records::nodes::Nodes;
 use crate::tree::descent::EdgeAbove;
 use crate::tree::place::lead;
-use crate::visits::Visits;
+use art_kinds::{Child, NodeId, Nodes};
+use art_slots::{LeafId, Visits};
 
 /// Frees the nodes that hang below an edge, which leads to this leaf then. Answers the root.
 pub(crate) fn uproot<const P: usize>(

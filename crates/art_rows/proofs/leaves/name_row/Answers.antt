@@ -1,5 +1,5 @@
 use Rattle.std.proofs.Common.{take, sym, subst, IsSome}
-use Rattle.art_kinds.specs.Store.{slot_at}
+use Rattle.art_slots.specs.Store.{slot_at}
 use Rattle.art_rows.proofs.RowsLemmas.{among-nth}
 use Rattle.art_rows.proofs.FilingChanges.{in_row_some, naming_step}
 use Rattle.art_rows.proofs.leaves.name_row.Goals as goal

@@ -1,5 +1,5 @@
 use Rattle.std.proofs.Common.{List, refl, ap, ◌∙◌}
-use Rattle.art_kinds.specs.Store.{with_record}
+use Rattle.art_slots.specs.Store.{with_record}
 use Rattle.art_rows.specs.Numbers.{Numbers, Numbered, with_pair}
 use Rattle.art_rows.proofs.LinksLemmas.{seen, all_linked, pairs_are, stored_pair, store_changed}
 use Rattle.art_rows.proofs.chain.Chain.get_mut.Goals as goal

@@ -1,7 +1,7 @@
 use Rattle.std.proofs.Common.{◌≡◌}
 use Rattle.std.specs.Prelude.{IfSome}
 use Rattle.art_rows.specs.Numbers.{Has, behind}
-use Rattle.art_kinds.specs.Store.{slot_at}
+use Rattle.art_slots.specs.Store.{slot_at}
 use Rattle.art_rows.proofs.LinksLemmas.{seen, all_linked, pairs_are, still_linked, made_before, made_behind, store_inserted}
 use Rattle.art_rows.proofs.chain.Chain.insert.Goals.{in-None, in-Some}
 use Rattle.art_rows.proofs.chain.Chain.insert.Goals as goal

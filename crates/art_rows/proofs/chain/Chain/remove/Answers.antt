@@ -1,5 +1,5 @@
 use Rattle.std.proofs.Common.{refl}
-use Rattle.art_kinds.specs.Store.{slot_at}
+use Rattle.art_slots.specs.Store.{slot_at}
 use Rattle.art_rows.proofs.LinksLemmas.{seen, all_linked, pairs_are, still_linked, taken_before, taken_after, store_removed}
 use Rattle.art_rows.proofs.chain.Chain.remove.Goals as goal
 

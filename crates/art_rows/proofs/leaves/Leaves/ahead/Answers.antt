@@ -1,5 +1,5 @@
 use Rattle.std.proofs.Common.{◌≡◌, ℕ, map, Some, sym, ap, subst, ◌∙◌}
-use Rattle.art_kinds.specs.Store.{slot_at, used_count}
+use Rattle.art_slots.specs.Store.{slot_at, used_count}
 use Rattle.art_rows.specs.Filing.{Files}
 use Rattle.art_rows.specs.Leaves.{index_of}
 use Rattle.art_rows.specs.Numbers.{leaf_in}

@@ -1,5 +1,5 @@
 use Rattle.std.proofs.Common.{◌≡◌, ◌<◌, ◌+◌, ◌-◌, sym, ◌∙◌, arith}
-use Rattle.art_kinds.specs.Store.{slot_at, used_count}
+use Rattle.art_slots.specs.Store.{slot_at, used_count}
 use Rattle.art_rows.proofs.FilingLemmas.{seen, has_row_at, backward_within, not_first_within, backward_end, not_first_end, backward_none, row_filled}
 use Rattle.art_rows.proofs.NumbersLemmas.{Has-before}
 use Rattle.art_rows.proofs.leaves.Leaves.backward.Goals as goal

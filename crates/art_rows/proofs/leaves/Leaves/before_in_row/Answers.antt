@@ -1,6 +1,6 @@
 use Rattle.std.proofs.Common.{◌≡◌, ◌-◌, ◌<◌, Some, sym, ap, ◌∙◌}
 use Rattle.std.specs.Prelude.{option_map}
-use Rattle.art_kinds.specs.Store.{slot_at, used_count}
+use Rattle.art_slots.specs.Store.{slot_at, used_count}
 use Rattle.art_rows.specs.Numbers.{leaf_in, number_before}
 use Rattle.art_rows.specs.Rows.{nth}
 use Rattle.art_rows.proofs.FilingLemmas.{seen, before_there, if_some}

@@ -1,8 +1,8 @@
 use Rattle.std.proofs.Common.{◌≡◌, sym, ap, subst, ◌∙◌, Some}
-use Rattle.art_kinds.specs.Store.{slot_at, used_count, with_record}
+use Rattle.art_slots.specs.Store.{slot_at, used_count, with_record}
 use Rattle.art_rows.specs.Numbers.{Has, with_pair_behind}
 use Rattle.std.specs.Prelude.{IfSome}
-use Rattle.art_kinds.proofs.CallerLemmas.{with-now, with-others, with-count}
+use Rattle.art_slots.proofs.CallerLemmas.{with-now, with-others, with-count}
 use Rattle.art_rows.specs.declared.leaves.Leaf.{Leaf}
 use Rattle.art_rows.specs.Rows.{row_end}
 use Rattle.art_rows.specs.Leaves.{spot_index}

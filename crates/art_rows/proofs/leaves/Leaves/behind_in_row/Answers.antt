@@ -1,6 +1,6 @@
 use Rattle.std.proofs.Common.{◌≡◌, ◌+◌, ◌<◌, ◌≤◌, Some, sym, ap, ◌∙◌, length, arith}
 use Rattle.std.specs.Prelude.{option_map}
-use Rattle.art_kinds.specs.Store.{slot_at, used_count}
+use Rattle.art_slots.specs.Store.{slot_at, used_count}
 use Rattle.art_rows.specs.Numbers.{leaf_in, number_after}
 use Rattle.art_rows.specs.Rows.{nth}
 use Rattle.art_rows.proofs.FilingLemmas.{seen, behind_there, if_some}

@@ -1,5 +1,5 @@
 use Rattle.std.proofs.Common.{refl}
-use Rattle.art_kinds.specs.Store.{with_record}
+use Rattle.art_slots.specs.Store.{with_record}
 use Rattle.art_rows.proofs.FilingLemmas.{seen, all_filed, pairs_are}
 use Rattle.art_rows.proofs.FilingChanges.{files_changed_at}
 use Rattle.art_rows.proofs.leaves.Leaves.exchange.Goals as goal

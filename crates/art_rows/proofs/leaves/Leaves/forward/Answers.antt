@@ -1,6 +1,6 @@
 use Rattle.std.proofs.Common.{◌<◌, length, sym, ap, ◌∙◌, rules}
 use Rattle.std.specs.Prelude.{option_map}
-use Rattle.art_kinds.specs.Store.{slot_at, used_count}
+use Rattle.art_slots.specs.Store.{slot_at, used_count}
 use Rattle.art_rows.proofs.FilingLemmas.{seen, has_row_at, place_at, forward_within, forward_behind}
 use Rattle.art_rows.specs.Rows.{start_of}
 use Rattle.art_rows.proofs.leaves.Leaves.forward.Goals as goal

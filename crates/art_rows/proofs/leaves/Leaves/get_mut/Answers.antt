@@ -1,5 +1,5 @@
 use Rattle.std.proofs.Common.{◌≡◌, List, refl, Some, ap, sym, ◌∙◌, subst}
-use Rattle.art_kinds.specs.Store.{slot_at, used_count, with_record}
+use Rattle.art_slots.specs.Store.{slot_at, used_count, with_record}
 use Rattle.art_rows.specs.Numbers.{Numbered}
 use Rattle.art_rows.specs.Leaves.{Leaves, with_value}
 use Rattle.art_rows.proofs.FilingLemmas.{seen, all_filed, pairs_are, record_is}

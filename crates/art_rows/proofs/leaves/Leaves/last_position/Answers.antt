@@ -1,5 +1,5 @@
 use Rattle.std.proofs.Common.{sym, ap, ◌∙◌, arith}
-use Rattle.art_kinds.specs.Store.{slot_at, used_count}
+use Rattle.art_slots.specs.Store.{slot_at, used_count}
 use Rattle.art_rows.proofs.FilingLemmas.{seen, last_there, last_none, row_filled}
 use Rattle.art_rows.proofs.NumbersLemmas.{Has-last}
 use Rattle.art_rows.proofs.leaves.Leaves.last_position.Goals as goal

@@ -2,7 +2,7 @@ use Rattle.std.proofs.Common.{◌≡◌, ◌+◌, ℕ, length, Some, refl, sym, 
 use Rattle.std.specs.Prelude.{option_map}
 use Rattle.std.specs.Option.{MatchOption}
 use Rattle.std.specs.List.{IsFirstAndRest}
-use Rattle.art_kinds.specs.Store.{slot_at, used_count}
+use Rattle.art_slots.specs.Store.{slot_at, used_count}
 use Rattle.art_rows.specs.Filing.{Files}
 use Rattle.art_rows.specs.Leaves.{index_of}
 use Rattle.art_rows.specs.Numbers.{leaf_in}

@@ -1,5 +1,5 @@
 use Rattle.std.proofs.Common.{◌+◌, sym, ap, ◌∙◌}
-use Rattle.art_kinds.specs.Store.{slot_at, used_count}
+use Rattle.art_slots.specs.Store.{slot_at, used_count}
 use Rattle.art_rows.specs.Rows.{position_at}
 use Rattle.art_rows.proofs.FilingLemmas.{seen, none_there}
 use Rattle.art_rows.specs.Leaves.{index_of}

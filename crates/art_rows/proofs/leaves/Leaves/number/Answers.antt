@@ -1,5 +1,5 @@
 use Rattle.std.proofs.Common.{◌∙◌}
-use Rattle.art_kinds.specs.Store.{slot_at, used_count}
+use Rattle.art_slots.specs.Store.{slot_at, used_count}
 use Rattle.art_rows.proofs.FilingLemmas.{seen, has_row_at, place_at, number_there}
 use Rattle.art_rows.proofs.leaves.Leaves.number.Goals as goal
 

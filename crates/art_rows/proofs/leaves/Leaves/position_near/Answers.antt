@@ -1,6 +1,6 @@
 use Rattle.std.proofs.Common.{◌≡◌, Some, sym, ap, ◌∙◌}
 use Rattle.std.specs.Prelude.{option_map}
-use Rattle.art_kinds.specs.Store.{slot_at, used_count}
+use Rattle.art_slots.specs.Store.{slot_at, used_count}
 use Rattle.art_rows.specs.Numbers.{leaf_in}
 use Rattle.art_rows.specs.Leaves.{index_of}
 use Rattle.art_rows.specs.Rows.{position_at}

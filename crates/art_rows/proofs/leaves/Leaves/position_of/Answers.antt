@@ -1,5 +1,5 @@
 use Rattle.std.proofs.Common.{◌≡◌, Some, refl, ap, subst}
-use Rattle.art_kinds.specs.Store.{slot_at, used_count}
+use Rattle.art_slots.specs.Store.{slot_at, used_count}
 use Rattle.art_rows.proofs.FilingLemmas.{seen, row_has, located}
 use Rattle.art_rows.proofs.leaves.Leaves.position_of.Goals as goal
 

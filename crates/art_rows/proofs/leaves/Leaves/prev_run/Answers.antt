@@ -1,5 +1,5 @@
 use Rattle.std.proofs.Common.{None, sym, ap, subst, ◌∙◌, inl, inr}
-use Rattle.art_kinds.specs.Store.{slot_at, used_count}
+use Rattle.art_slots.specs.Store.{slot_at, used_count}
 use Rattle.art_rows.specs.Rows.{position_at, RunsBefore}
 use Rattle.art_rows.proofs.FilingLemmas.{seen, none_there, has_row_at, place_at, number_there}
 use Rattle.art_rows.proofs.RowsLemmas.{number_before-nth, number_before-first, before_cases}

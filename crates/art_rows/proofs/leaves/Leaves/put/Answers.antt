@@ -1,5 +1,5 @@
 use Rattle.std.proofs.Common.{◌≡◌, refl, sym, ap, subst, ◌∙◌, Some}
-use Rattle.art_kinds.specs.Store.{slot_at, used_count}
+use Rattle.art_slots.specs.Store.{slot_at, used_count}
 use Rattle.art_rows.specs.Rows.{IsSpot}
 use Rattle.art_rows.specs.Leaves.{spot_index}
 use Rattle.art_rows.proofs.FilingLemmas.{seen, all_filed, pairs_are, no_record}

@@ -1,6 +1,6 @@
 use Rattle.std.proofs.Common.{◌≡◌, ◌+◌, ◌/◌, ◌≤◌, min, length, sym, ◌∙◌, arith, Ok, Err}
 use Rattle.std.specs.Prelude.{Result, OnOk}
-use Rattle.art_kinds.specs.Store.{slot_at, used_count}
+use Rattle.art_slots.specs.Store.{slot_at, used_count}
 use Rattle.art_rows.specs.Rows.{numbers, row_room}
 use Rattle.art_rows.proofs.FilingLemmas.{seen, how_many}
 use Rattle.art_rows.proofs.Rooms.{room_enough}

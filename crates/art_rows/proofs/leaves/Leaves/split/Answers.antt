@@ -1,5 +1,5 @@
 use Rattle.std.proofs.Common.{◌≡◌, Bool, cond, true, false, length, refl, sym, ap, subst, ◌∙◌, Some}
-use Rattle.art_kinds.specs.Store.{slot_at, used_count}
+use Rattle.art_slots.specs.Store.{slot_at, used_count}
 use Rattle.std.specs.Prelude.{IfSome}
 use Rattle.art_rows.proofs.RowsLemmas.{among-append}
 use Rattle.art_rows.specs.Numbers.{leaf_in, Has, with_pair, AreDistinct}

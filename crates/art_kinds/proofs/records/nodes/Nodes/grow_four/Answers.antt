@@ -1,7 +1,7 @@
 use Rattle.std.proofs.Common.{◌≡◌, ◌+◌, ◌*◌, ◌∙◌, List, Some, None, ap, length, subst, sym, arith}
 use Rattle.art_kinds.specs.Inners.{nodes_of, nodes_in, seen, Fits, IsStore}
 use Rattle.art_kinds.specs.Nodes.{Nodes, at, live, Lowers, Renames}
-use Rattle.art_kinds.specs.Store.{slot_at}
+use Rattle.art_slots.specs.Store.{slot_at}
 use Rattle.art_kinds.specs.declared.records.ids.Edge.{Edge}
 use Rattle.art_kinds.specs.declared.records.nodes.Inner.{Inner}
 use Rattle.art_kinds.proofs.Changes.{node_at, other_nodes, all_written, all_changed, live-nodes, holds_of, but_0_1}

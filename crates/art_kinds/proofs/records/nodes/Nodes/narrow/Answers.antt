@@ -1,7 +1,7 @@
 use Rattle.std.proofs.Common.{◌≡◌, ◌<◌, ◌∙◌, Option, Some, IsSome, length, lit<, sym, subst, arith}
 use Rattle.art_kinds.specs.Inners.{nodes_of, seen}
 use Rattle.art_kinds.specs.Nodes.{Node, at}
-use Rattle.art_kinds.specs.Store.{slot_at}
+use Rattle.art_slots.specs.Store.{slot_at}
 use Rattle.art_kinds.specs.declared.records.ids.Kind.TheVariants.{Sixteen, FortyEight, Full}
 use Rattle.art_kinds.proofs.Changes.{found_at, live_in, node_at, digit_of, place_of, such}
 use Rattle.art_kinds.proofs.Growing.{at_is}

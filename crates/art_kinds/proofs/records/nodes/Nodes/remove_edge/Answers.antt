@@ -2,7 +2,7 @@ use Rattle.std.proofs.Common.{◌≡◌, ◌≤◌, ◌∙◌, List, Option, Som
 use Rattle.art_kinds.specs.Inners.{nodes_of, nodes_in, seen}
 use Rattle.art_kinds.specs.Edges.{child_at}
 use Rattle.art_kinds.specs.Nodes.{Node, Nodes, at}
-use Rattle.art_kinds.specs.Store.{with_record}
+use Rattle.art_slots.specs.Store.{with_record}
 use Rattle.art_kinds.specs.declared.records.ids.Edge.{Edge}
 use Rattle.art_kinds.specs.declared.records.ids.Kind.TheVariants.{Four, Sixteen, FortyEight, Full}
 use Rattle.art_kinds.specs.declared.records.nodes.Inner.{Inner}

@@ -1,0 +1,3 @@
+pub mod CallerLemmas
+pub mod StoreSlots
+pub mod Walks

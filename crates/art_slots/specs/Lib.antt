@@ -1,0 +1,5 @@
+pub mod Store
+pub mod Slots
+pub mod Chain
+pub mod SlotLends
+pub mod Lends

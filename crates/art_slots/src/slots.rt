@@ -1,0 +1,268 @@
+//! The slots of a store: the records and the spare slots, in a slab.
+ghost use Rattle.std.specs.Prelude.{◌≡◌, ◌≢◌, ℕ, ◌+◌, ◌^◌, ◌<◌, ◌≤◌, [], option_map, Some, None, IsSome, is_some, OnOk};
+ghost use Rattle.art_slots.specs.Store.{slot_at, used_count, SameRecords};
+ghost use Rattle.art_slots.specs.Chain.{used_of};
+ghost use Rattle.std.specs.Borrow.{Lends, sem};
+
+use slab::Slab;
+use std::alloc::{AllocError, Global};
+use std::marker::Model;
+use std::mem;
+
+/// There are no more slots than this, and their numbers are less, so that the counts of a few stores have a sum, and a number and a kind fit one word.
+const MOST: usize = (1 << 61) - 1;
+
+#[derive(Drop)]
+pub(crate) enum Slot<T> {
+    Used(T),
+    // A spare slot, with the number of the next one.
+    Spare(Option<usize>),
+}
+
+impl<T> Slot<T> {
+    ghost use Rattle.art_slots.specs.contracts.slots.Slot.{the_row};
+
+    fn record_mut(&mut self) -> &mut T
+        requires { IsSome (used_of (Some self.old)) }
+        ensures* lends { sem 𝓛 (Lends (the_row T.row) T.row self.entry result Slot.Used) }
+        ensures value { used_of (Some self.old) ≡ Some result.now }
+    {
+        match self {
+            Slot::Used(record) => record,
+            Slot::Spare(_) => unreachable!(),
+        }
+    }
+}
+
+/// Records under numbers, in slots. A slot that a record leaves is spare, and names the next spare one. A contract sees the records and how many slots are spare as a store, and the room: how many slots more there can be with no memory.
+///
+/// The room is the slab's, and none where a number of that slab may be too great.
+#[derive(Drop)]
+pub(crate) struct Slots<T> {
+    slab: Slab<Slot<T>>,
+    // The first spare slot.
+    free: Option<usize>,
+    spare: usize,
+}
+
+impl<T> Model for Slots<T> {
+    ghost use Rattle.std.specs.Prelude.{map};
+    ghost use Rattle.slab.specs.Slab.{slab_len};
+    ghost use Rattle.art_slots.specs.Slots.{Slots as Records, slots_code};
+
+    ghost Value = { Records T };
+
+    ghost coded = { slots_code T.code };
+
+    ghost use Rattle.art_slots.specs.Chain.{used_of, HasSpares, room_of};
+
+    ghost view = { λ s. record { store = record { slots = map used_of s.slab.slots; spare = s.spare }; room = room_of (slab_len s.slab) s.slab.capacity } };
+
+    ghost invariant = { λ s. HasSpares s.slab.slots s.free s.spare };
+}
+
+impl<T> Slots<T> {
+    ghost use Rattle.art_slots.specs.SlotLends.{lends_slot};
+
+    /// No slots, which ask for no memory.
+    pub fn new(alloc: Global) -> Self
+        ensures empty { result.store.slots ≡ [] }
+        ensures spare { result.store.spare ≡ 0 }
+        ensures room { result.room ≡ 0 }
+    {
+        Slots {
+            slab: Slab::new(alloc),
+            free: None,
+            spare: 0,
+        }
+    }
+
+    /// How many slots are spare.
+    pub fn spare(&self) -> usize
+        ensures value { result ≡ self.now.store.spare }
+        ensures small { result + self.now.room < 2 ^ 61 }
+    {
+        self.spare
+    }
+
+    /// How many slots more there can be with no memory.
+    pub fn room(&self) -> usize
+        ensures { result ≡ self.now.room }
+    {
+        let capacity = self.slab.capacity();
+        if capacity > MOST {
+            return 0;
+        }
+        capacity - self.slab.len()
+    }
+
+    /// How many records there are.
+    pub fn used(&self) -> usize
+        ensures count { result ≡ used_count self.now.store }
+        ensures small { result < 2 ^ 61 }
+    {
+        self.slab.len() - self.spare
+    }
+
+    /// The record at a number, if there is one.
+    pub fn get(&self, id: usize) -> Option<&T>
+        ensures { option_map (λ r. r.now) result ≡ slot_at self.now.store id }
+    {
+        match self.slab.get(id) {
+            Some(Slot::Used(record)) => Some(record),
+            _ => None,
+        }
+    }
+
+    /// The record at a number.
+    pub fn read(&self, id: usize) -> &T
+        requires { IsSome (slot_at self.now.store id) }
+        ensures value { slot_at self.now.store id ≡ Some result.now }
+    {
+        match self.slab.get(id) {
+            Some(Slot::Used(record)) => record,
+            _ => unreachable!(),
+        }
+    }
+
+    /// Whether there is a record at a number.
+    pub fn has(&self, id: usize) -> bool
+        ensures { result ≡ is_some (slot_at self.now.store id) }
+    {
+        matches!(self.slab.get(id), Some(Slot::Used(_)))
+    }
+
+    /// The record at a number, for writing.
+    pub fn get_mut(&mut self, id: usize) -> &mut T
+        requires { IsSome (slot_at self.old.store id) }
+        ensures* writes_back { sem 𝓛 (lends_slot T.row self.entry id result) }
+        ensures value { slot_at self.old.store id ≡ Some result.now }
+    {
+        self.slab[id].record_mut()
+    }
+}
+
+impl<T: Drop> Slots<T> {
+    /// Puts a record into the first spare slot, and gives its number.
+    #[inline(always)]
+    pub fn fill(&mut self, fresh: T) -> usize
+        requires { 0 < self.old.store.spare }
+        ensures small { result < 2 ^ 61 }
+        ensures fresh { slot_at self.old.store result ≡ None }
+        ensures now { slot_at self.new.store result ≡ Some fresh }
+        ensures others { (j : ℕ) → j ≢ result → slot_at self.new.store j ≡ slot_at self.old.store j }
+        ensures spare { self.new.store.spare + 1 ≡ self.old.store.spare }
+        ensures used { used_count self.new.store ≡ used_count self.old.store + 1 }
+        ensures room { self.new.room ≡ self.old.room }
+    {
+        let id = match self.free {
+            Some(id) => id,
+            None => unreachable!(),
+        };
+        self.free = match &self.slab[id] {
+            Slot::Spare(next) => *next,
+            Slot::Used(_) => unreachable!(),
+        };
+        self.slab[id] = Slot::Used(fresh);
+        self.spare -= 1;
+        id
+    }
+
+    /// Puts a record into a new slot, and gives its number.
+    #[inline(always)]
+    pub fn put(&mut self, fresh: T) -> usize
+        requires { 0 < self.old.room }
+        ensures small { result < 2 ^ 61 }
+        ensures fresh { slot_at self.old.store result ≡ None }
+        ensures now { slot_at self.new.store result ≡ Some fresh }
+        ensures others { (j : ℕ) → j ≢ result → slot_at self.new.store j ≡ slot_at self.old.store j }
+        ensures spare { self.new.store.spare ≡ self.old.store.spare }
+        ensures used { used_count self.new.store ≡ used_count self.old.store + 1 }
+        ensures room { self.new.room + 1 ≡ self.old.room }
+    {
+        self.slab.insert_reserved(Slot::Used(fresh))
+    }
+
+    /// Makes a new slot, a spare one.
+    pub fn add_spare(&mut self)
+        requires { 0 < self.old.room }
+        ensures same { SameRecords self.old.store self.new.store }
+        ensures used { used_count self.new.store ≡ used_count self.old.store }
+        ensures spare { self.new.store.spare ≡ self.old.store.spare + 1 }
+        ensures room { self.new.room + 1 ≡ self.old.room }
+    {
+        let id = self.slab.insert_reserved(Slot::Spare(self.free));
+        self.free = Some(id);
+        self.spare += 1;
+    }
+
+    /// Makes so many new slots, spare ones.
+    pub fn add_spares(&mut self, count: usize)
+        requires { count ≤ self.old.room }
+        ensures same { SameRecords self.old.store self.new.store }
+        ensures used { used_count self.new.store ≡ used_count self.old.store }
+        ensures spare { self.new.store.spare ≡ self.old.store.spare + count }
+        ensures room { self.new.room + count ≡ self.old.room }
+    {
+        for _ in 0..count {
+            self.add_spare();
+        }
+    }
+
+    /// Asks for memory where there is not so much room. The records and the spare slots stand whatever the answer; where it is no, there may be less room than before.
+    pub fn grow(&mut self, count: usize) -> Result<(), AllocError>
+        ensures same { self.new.store ≡ self.old.store }
+        ensures room { OnOk result (count ≤ self.new.room) }
+    {
+        self.slab.reserve(count)?;
+        if self.slab.capacity() > MOST {
+            return Err(AllocError);
+        }
+        Ok(())
+    }
+
+    /// Takes a record out, and makes its slot a spare one.
+    pub fn take(&mut self, id: usize) -> T
+        requires { IsSome (slot_at self.old.store id) }
+        ensures value { slot_at self.old.store id ≡ Some result }
+        ensures gone { slot_at self.new.store id ≡ None }
+        ensures others { (j : ℕ) → j ≢ id → slot_at self.new.store j ≡ slot_at self.old.store j }
+        ensures spare { self.new.store.spare ≡ self.old.store.spare + 1 }
+        ensures used { used_count self.new.store + 1 ≡ used_count self.old.store }
+        ensures room { self.new.room ≡ self.old.room }
+    {
+        match mem::replace(&mut self.slab[id], Slot::Spare(self.free)) {
+            Slot::Used(record) => {
+                self.free = Some(id);
+                self.spare += 1;
+                record
+            }
+            Slot::Spare(_) => unreachable!(),
+        }
+    }
+
+    /// Drops a record, and makes its slot a spare one.
+    pub fn remove(&mut self, id: usize)
+        requires { IsSome (slot_at self.old.store id) }
+        ensures gone { slot_at self.new.store id ≡ None }
+        ensures others { (j : ℕ) → j ≢ id → slot_at self.new.store j ≡ slot_at self.old.store j }
+        ensures spare { self.new.store.spare ≡ self.old.store.spare + 1 }
+        ensures used { used_count self.new.store + 1 ≡ used_count self.old.store }
+        ensures room { self.new.room ≡ self.old.room }
+    {
+        self.slab[id] = Slot::Spare(self.free);
+        self.free = Some(id);
+        self.spare += 1;
+    }
+
+    /// Drops every record and every slot, and keeps the memory.
+    pub fn clear(&mut self)
+        ensures empty { self.new.store.slots ≡ [] }
+        ensures spare { self.new.store.spare ≡ 0 }
+        ensures room { self.old.room ≤ self.new.room }
+    {
+        self.slab.clear();
+        self.free = None;
+        self.spare = 0;
+    }
+}

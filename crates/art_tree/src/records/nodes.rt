@@ -1,2 +1,0 @@
-//! The inner nodes, in records of four kinds.
-pub use art_kinds::Nodes;
