@@ -6,18 +6,18 @@ pub use Rattle.blart_keys.proofs.StoredLemmas.{updates_put, len_put, before_put,
 -- what came from both ends of a walk
 pub use Rattle.blart_keys.proofs.WalkLemmas.{walked_start, walked_first, walked_last, walked_end}
 -- a map parted in two, and joined again
-pub use Rattle.blart_map.proofs.Appending.{joined_parts}
+pub use Rattle.blart_map.proofs.Moved.Appending.{joined_parts}
 -- a new pair that an entry placed and then removed
-pub use Rattle.blart_map.proofs.TakenBack.{taken_back, taken_back_fronts}
+pub use Rattle.blart_map.proofs.Placed.TakenBack.{taken_back, taken_back_fronts}
 -- what is kept by a closure that tells of the pair alone, and by one that counts; what one writes that keeps each pair
-pub use Rattle.blart_map.proofs.Filtered.{kept_by, kept_by_retained, take_from_kept, filter_from_retained, map_from_retained}
+pub use Rattle.blart_map.proofs.Taken.Filtered.{kept_by, kept_by_retained, take_from_kept, filter_from_retained, map_from_retained}
 -- a pair that was lent and then kept, or taken
-pub use Rattle.blart_map.proofs.OnceTaken.{kept_first, taken_first, walk_kept, walk_taken, none_to_take, none_taken}
+pub use Rattle.blart_map.proofs.Taken.OnceTaken.{kept_first, taken_first, walk_kept, walk_taken, none_to_take, none_taken}
 -- a closure that may be called on each pair: one that may always be called, or wherever what holds for all pairs does
 pub use Rattle.art_walk.proofs.Callable.{callable_on_each_pair, callable_on_such_pairs}
 -- the same of one that `for_each` of a walk that lends calls: of the value alone, or with its key, and there over all pairs, or over those that pass a test
-pub use Rattle.blart_map.proofs.CallableInTurn.{callable_on_each_value, callable_on_such_values, callable_on_each_lent, callable_on_such_lent, callable_on_such_within}
+pub use Rattle.blart_map.proofs.Written.CallableInTurn.{callable_on_each_value, callable_on_such_values, callable_on_each_lent, callable_on_such_lent, callable_on_such_within}
 -- one step of a walk that extracts, where its closure tells of the pair alone
-pub use Rattle.blart_map.proofs.OnceExtracted.{extracted}
+pub use Rattle.blart_map.proofs.Taken.OnceExtracted.{extracted}
 -- the values that a closure leaves which shows a state
-pub use Rattle.blart_map.proofs.WrittenInTurn.{valued_by, valued_by_each}
+pub use Rattle.blart_map.proofs.Written.WrittenInTurn.{valued_by, valued_by_each}

@@ -2,7 +2,7 @@ use Rattle.std.proofs.Common.{◌∙◌, lit<, ap, sym, Err}
 use Rattle.std.proofs.lemmas.Bool.{false≢true}
 use Rattle.blart_keys.proofs.Options.{is_some}
 use Rattle.art_tree.specs.Leaves.{leaf_in}
-use Rattle.blart_map.proofs.Inserting.{conflict_pairs, related_first, unrelated_point, lawful}
+use Rattle.blart_map.proofs.Placed.Inserting.{conflict_pairs, related_first, unrelated_point, lawful}
 use Rattle.blart_map.proofs.insertions.put_lawful.Goals as goal
 
 pub leaf-requires : goal.leaf-requires

@@ -2,7 +2,7 @@ use Rattle.std.proofs.Common.{refl, ◌≡◌, ◌≢◌, ◌∙◌, ◌+◌, ar
 use Rattle.std.proofs.lemmas.Bool.{false≢true}
 use Rattle.art_tree.proofs.CallerLemmas.{length-without_number}
 use Rattle.blart_map.specs.Spans.{Spans, thinned}
-use Rattle.blart_map.proofs.Thinning.{first_has, next_there, unrelated_without, stand_on, thinned_without, thinned_one, same_number}
+use Rattle.blart_map.proofs.Related.Thinning.{first_has, next_there, unrelated_without, stand_on, thinned_without, thinned_one, same_number}
 use Rattle.blart_map.proofs.over.leave_one.Goals as goal
 
 pub next_of-requires : goal.next_of-requires

@@ -2,7 +2,7 @@ use Rattle.std.proofs.Common.{lit<, subst, ap, ◌∙◌}
 use Rattle.art_tree.specs.Leaves.{leaf_in, with_pair}
 use Rattle.art_tree.proofs.CallerLemmas.{leaf_in-with_now}
 use Rattle.blart_map.specs.Spans.{LeavesOne}
-use Rattle.blart_map.proofs.Thinning.{first_has, one_takes, over_one}
+use Rattle.blart_map.proofs.Related.Thinning.{first_has, one_takes, over_one}
 use Rattle.blart_map.proofs.over.put_over.Goals as goal
 
 pub swap-requires : goal.swap-requires

@@ -1,4 +1,4 @@
-use Rattle.blart_map.proofs.FreePlaces.{never_taken}
+use Rattle.blart_map.proofs.Placed.FreePlaces.{never_taken}
 use Rattle.blart_map.proofs.placing.room_for.Goals as goal
 
 pub unreachable-requires : goal.unreachable-requires

@@ -5,7 +5,7 @@ use Rattle.std.specs.List.{AllZip}
 use Rattle.std.proofs.iter.Next as it
 use Rattle.blart_keys.specs.Stored.{kept_item}
 use Rattle.blart_set.specs.Elements.{elements}
-use Rattle.blart_map.proofs.BulkPuts.{puts_more, first_came, on_err}
+use Rattle.blart_map.proofs.Moved.BulkPuts.{puts_more, first_came, on_err}
 use Rattle.blart_set.proofs.Cloned.{now, zip_more}
 use Rattle.blart_set.proofs.operators.of_clones.Goals as goal
 

@@ -5,8 +5,8 @@ use Rattle.blart_keys.specs.Steps.{bytes}
 use Rattle.blart_keys.proofs.Mapped.{content_map}
 use Rattle.art_walk.specs.Pairs.{pairs_of}
 use Rattle.art_tree.proofs.CallerLemmas.{length-without_number}
-use Rattle.blart_map.proofs.Appending.{fresh_behind, union_start, union_more}
-use Rattle.blart_map.proofs.Moving.{first_pair, first_has, no_first}
+use Rattle.blart_map.proofs.Moved.Appending.{fresh_behind, union_start, union_more}
+use Rattle.blart_map.proofs.Moved.Moving.{first_pair, first_has, no_first}
 use Rattle.blart_map.proofs.bulk.append.move_all.Goals as goal
 
 pub loop-id-init : goal.loop-id-init

@@ -6,9 +6,9 @@ use Rattle.blart_keys.proofs.RankLemmas.{Contains-from_Member, Member-append_rig
 use Rattle.art_tree.specs.Content.{room}
 use Rattle.art_walk.specs.Pairs.{pairs_of}
 use Rattle.blart_map.specs.Bulk.{AreClones}
-use Rattle.blart_map.proofs.Cloning.{clone_behind, clones_more}
-use Rattle.blart_map.proofs.Inserting.{alone_no_conflict, alone_absent}
-use Rattle.blart_map.proofs.Moving.{behind_unrelated, put_back}
+use Rattle.blart_map.proofs.Moved.Cloning.{clone_behind, clones_more}
+use Rattle.blart_map.proofs.Placed.Inserting.{alone_no_conflict, alone_absent}
+use Rattle.blart_map.proofs.Moved.Moving.{behind_unrelated, put_back}
 use Rattle.blart_map.proofs.bulk.clone.clone_pairs.Goals as goal
 
 pub place_reserved-requires : goal.place_reserved-requires

@@ -2,8 +2,8 @@ use Rattle.std.proofs.Common.{lit<, refl, sym, ◌∙◌}
 use Rattle.std.proofs.lemmas.Bool.{false≢true}
 use Rattle.blart_keys.proofs.Options.{is_some}
 use Rattle.art_tree.specs.Leaves.{leaf_in}
-use Rattle.blart_map.proofs.Inserting.{related_first, lawful, opens_else, open_alone, placed}
-use Rattle.blart_map.proofs.Reserved.{exact_stored, open_new}
+use Rattle.blart_map.proofs.Placed.Inserting.{related_first, lawful, opens_else, open_alone, placed}
+use Rattle.blart_map.proofs.Placed.Reserved.{exact_stored, open_new}
 use Rattle.blart_map.proofs.bulk.reserved.add_reserved.Goals as goal
 
 pub leaf-requires : goal.leaf-requires

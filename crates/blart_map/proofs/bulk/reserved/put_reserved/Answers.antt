@@ -1,7 +1,7 @@
 use Rattle.std.proofs.Common.{lit<, refl}
 use Rattle.blart_keys.proofs.Options.{is_some}
 use Rattle.art_tree.specs.Leaves.{leaf_in}
-use Rattle.blart_map.proofs.Inserting.{related_first, lawful, opens_else, open_alone, exact_has, exact_takes, placed, exchanged}
+use Rattle.blart_map.proofs.Placed.Inserting.{related_first, lawful, opens_else, open_alone, exact_has, exact_takes, placed, exchanged}
 use Rattle.blart_map.proofs.bulk.reserved.put_reserved.Goals as goal
 
 pub leaf-requires : goal.leaf-requires

@@ -4,8 +4,8 @@ use Rattle.blart_keys.proofs.Mapped.{content_map}
 use Rattle.art_tree.specs.Content.{room}
 use Rattle.art_walk.specs.Pairs.{pairs_of}
 use Rattle.art_tree.proofs.CallerLemmas.{length-without_number}
-use Rattle.blart_map.proofs.Inserting.{alone_no_conflict, alone_absent}
-use Rattle.blart_map.proofs.Moving.{first_moved, first_has, no_first, low_content, low_behind, behind_unrelated, put_back}
+use Rattle.blart_map.proofs.Placed.Inserting.{alone_no_conflict, alone_absent}
+use Rattle.blart_map.proofs.Moved.Moving.{first_moved, first_has, no_first, low_content, low_behind, behind_unrelated, put_back}
 use Rattle.blart_map.proofs.bulk.split_off.move_first.Goals as goal
 
 pub unreachable-requires : goal.unreachable-requires

@@ -6,8 +6,8 @@ use Rattle.art_tree.specs.Content.{room}
 use Rattle.art_walk.specs.Pairs.{pairs_of}
 use Rattle.art_walk.proofs.Steps.{no_last}
 use Rattle.art_tree.proofs.CallerLemmas.{length-without_number, Has-last}
-use Rattle.blart_map.proofs.Inserting.{alone_no_conflict, alone_absent}
-use Rattle.blart_map.proofs.Moving.{ahead_unrelated, put_front}
+use Rattle.blart_map.proofs.Placed.Inserting.{alone_no_conflict, alone_absent}
+use Rattle.blart_map.proofs.Moved.Moving.{ahead_unrelated, put_front}
 use Rattle.blart_map.proofs.Numbers.{last_pair}
 use Rattle.blart_map.proofs.bulk.split_off.move_last.Goals as goal
 

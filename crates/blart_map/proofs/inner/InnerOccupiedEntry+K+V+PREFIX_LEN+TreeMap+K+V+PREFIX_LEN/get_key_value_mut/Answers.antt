@@ -1,6 +1,6 @@
 use Rattle.std.proofs.Common.{lit<, refl, ◌∙◌}
 use Rattle.blart_map.specs.Content.{pairs}
-use Rattle.blart_map.proofs.InnerPairs.{inner_has, only_tested, only_answered}
+use Rattle.blart_map.proofs.Related.InnerPairs.{inner_has, only_tested, only_answered}
 use Rattle.blart_map.proofs.inner.InnerOccupiedEntry+K+V+PREFIX_LEN+TreeMap+K+V+PREFIX_LEN.get_key_value_mut.Goals as goal
 
 pub only_entry-requires : goal.only_entry-requires

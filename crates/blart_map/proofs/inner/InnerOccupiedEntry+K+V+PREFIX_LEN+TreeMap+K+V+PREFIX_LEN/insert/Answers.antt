@@ -3,7 +3,7 @@ use Rattle.art_tree.specs.Leaves.{with_value}
 use Rattle.blart_map.specs.Content.{pairs}
 use Rattle.blart_map.specs.InnerEntry.{over_leaf, IsOverSet}
 use Rattle.blart_map.specs.Spans.{thinned}
-use Rattle.blart_map.proofs.OverWritten.{written_now, over_written}
+use Rattle.blart_map.proofs.Related.OverWritten.{written_now, over_written}
 use Rattle.blart_map.proofs.inner.InnerOccupiedEntry+K+V+PREFIX_LEN+TreeMap+K+V+PREFIX_LEN.insert.Goals as goal
 
 pub returns : goal.returns

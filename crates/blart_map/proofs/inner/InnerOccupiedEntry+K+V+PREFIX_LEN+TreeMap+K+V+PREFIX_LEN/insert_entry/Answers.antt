@@ -8,7 +8,7 @@ use Rattle.blart_keys.specs.Steps.{bytes as pair_bytes}
 use Rattle.art_tree.specs.Leaves.{leaf_in}
 use Rattle.art_walk.specs.Pairs.{pairs_of}
 use Rattle.blart_map.specs.Content.{pairs}
-use Rattle.blart_map.proofs.InnerPairs.{from_spans}
+use Rattle.blart_map.proofs.Related.InnerPairs.{from_spans}
 use Rattle.blart_map.proofs.inner.InnerOccupiedEntry+K+V+PREFIX_LEN+TreeMap+K+V+PREFIX_LEN.insert_entry.Goals as goal
 
 pub overwrite-requires : goal.overwrite-requires

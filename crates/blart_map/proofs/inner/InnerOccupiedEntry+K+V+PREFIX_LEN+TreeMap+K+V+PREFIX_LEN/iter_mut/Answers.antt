@@ -2,9 +2,9 @@ use Rattle.std.proofs.Common.{lit<, refl, sym, ap, ◌∙◌, subst}
 use Rattle.blart_keys.specs.Bytes.{related}
 use Rattle.art_walk.specs.declared.cursor.Cursor.{Cursor}
 use Rattle.art_walk.specs.Cursor.{FitsIn, leaves_left}
-use Rattle.blart_map.proofs.InnerPairs.{inner_span}
-use Rattle.blart_map.proofs.OnceWritten.{opened_written}
-use Rattle.blart_map.proofs.Opening.{opens}
+use Rattle.blart_map.proofs.Related.InnerPairs.{inner_span}
+use Rattle.blart_map.proofs.Written.OnceWritten.{opened_written}
+use Rattle.blart_map.proofs.Passed.Opening.{opens}
 use Rattle.blart_map.proofs.inner.InnerOccupiedEntry+K+V+PREFIX_LEN+TreeMap+K+V+PREFIX_LEN.iter_mut.Goals as goal
 
 pub of-requires : goal.of-requires

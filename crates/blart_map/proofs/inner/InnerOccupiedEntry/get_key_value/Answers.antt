@@ -1,6 +1,6 @@
 use Rattle.std.proofs.Common.{lit<, sym, ◌∙◌}
 use Rattle.blart_map.specs.Content.{pairs}
-use Rattle.blart_map.proofs.InnerPairs.{tested, tested_not, inner_has, one_pair, more_pairs}
+use Rattle.blart_map.proofs.Related.InnerPairs.{tested, tested_not, inner_has, one_pair, more_pairs}
 use Rattle.blart_map.proofs.inner.InnerOccupiedEntry.get_key_value.Goals as goal
 
 pub pair_of-requires : goal.pair_of-requires

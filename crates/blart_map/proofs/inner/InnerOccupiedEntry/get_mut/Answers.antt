@@ -1,6 +1,6 @@
 use Rattle.std.proofs.Common.{lit<, refl, sym, ap, ◌∙◌, option_map}
 use Rattle.blart_map.specs.Content.{pairs}
-use Rattle.blart_map.proofs.InnerPairs.{spans_written, tested, tested_not, inner_has, one_pair, more_pairs, only_written}
+use Rattle.blart_map.proofs.Related.InnerPairs.{spans_written, tested, tested_not, inner_has, one_pair, more_pairs, only_written}
 use Rattle.blart_map.proofs.inner.InnerOccupiedEntry.get_mut.Goals as goal
 
 pub value_of-requires : goal.value_of-requires

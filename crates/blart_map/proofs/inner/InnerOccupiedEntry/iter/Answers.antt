@@ -4,7 +4,7 @@ use Rattle.blart_keys.specs.Stored.{CanCount}
 use Rattle.blart_keys.proofs.StoredLemmas.{can_count_filter}
 use Rattle.art_walk.specs.Pairs.{pairs_of}
 use Rattle.blart_map.specs.Content.{pairs}
-use Rattle.blart_map.proofs.InnerPairs.{inner_span, subtree_pairs}
+use Rattle.blart_map.proofs.Related.InnerPairs.{inner_span, subtree_pairs}
 use Rattle.blart_map.proofs.inner.InnerOccupiedEntry.iter.Goals as goal
 
 pub iter_between-requires : goal.iter_between-requires

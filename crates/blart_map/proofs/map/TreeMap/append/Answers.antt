@@ -2,7 +2,7 @@ use Rattle.std.proofs.Common.{ap}
 use Rattle.std.proofs.lemmas.Result.{on_ok_weaker}
 use Rattle.art_walk.specs.Pairs.{pairs_of}
 use Rattle.blart_map.specs.Content.{pairs}
-use Rattle.blart_map.proofs.Appending.{appended_at, joined_at}
+use Rattle.blart_map.proofs.Moved.Appending.{appended_at, joined_at}
 use Rattle.blart_map.proofs.map.TreeMap.append.Goals as goal
 
 pub returns-clause-found : goal.returns-clause-found

@@ -1,7 +1,7 @@
 use Rattle.std.proofs.Common.{refl}
 use Rattle.blart_map.specs.Content.{pairs}
-use Rattle.blart_map.proofs.Inserting.{exact_has, opens}
-use Rattle.blart_map.proofs.EntryOf.{exact_bytes, exact_pair, exact_kind, exact_some, open_absent, open_free, open_pair, open_kind}
+use Rattle.blart_map.proofs.Placed.Inserting.{exact_has, opens}
+use Rattle.blart_map.proofs.Related.EntryOf.{exact_bytes, exact_pair, exact_kind, exact_some, open_absent, open_free, open_pair, open_kind}
 use Rattle.blart_map.proofs.map.TreeMap.entry.Goals as goal
 
 pub invariant_of-result : goal.invariant_of-result

@@ -2,8 +2,8 @@ use Rattle.std.proofs.Common.{ap, refl, ◌∙◌, ◌&&◌}
 use Rattle.blart_keys.specs.Bounds.{bound_bytes, slice_bound, is_from_start, is_up_to_end}
 use Rattle.blart_keys.specs.Content.{between}
 use Rattle.art_tree.specs.Leaves.{bytes}
-use Rattle.blart_map.proofs.OnceTaken.{opened_taken, opened_left}
-use Rattle.blart_map.proofs.Opening.{opens}
+use Rattle.blart_map.proofs.Taken.OnceTaken.{opened_taken, opened_left}
+use Rattle.blart_map.proofs.Passed.Opening.{opens}
 use Rattle.blart_map.proofs.map.TreeMap.extract_if.Goals as goal
 
 pub invariant_of-result : goal.invariant_of-result

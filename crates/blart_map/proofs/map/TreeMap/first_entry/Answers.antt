@@ -1,6 +1,6 @@
 use Rattle.std.proofs.Common.{refl, ap, sym, ◌∙◌, is_some}
 use Rattle.blart_map.specs.Content.{pairs}
-use Rattle.blart_map.proofs.EndPairs.{first_there, named_has, no_first_pair}
+use Rattle.blart_map.proofs.Passed.EndPairs.{first_there, named_has, no_first_pair}
 use Rattle.blart_map.proofs.map.TreeMap.first_entry.Goals as goal
 
 pub invariant_of-self : goal.invariant_of-self

@@ -3,7 +3,7 @@ use Rattle.blart_keys.specs.Bulk.{PutsAll}
 use Rattle.blart_keys.specs.Steps.{bytes}
 use Rattle.blart_keys.specs.Stored.{kept_pair}
 use Rattle.blart_map.specs.Content.{pairs}
-use Rattle.blart_map.proofs.BulkPuts.{first_came, on_err}
+use Rattle.blart_map.proofs.Moved.BulkPuts.{first_came, on_err}
 use Rattle.blart_map.proofs.map.TreeMap.from_iter.Goals as goal
 
 pub returns-in_err-extend-clause-refused : goal.returns-in_err-extend-clause-refused

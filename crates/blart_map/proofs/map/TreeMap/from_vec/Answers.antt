@@ -4,7 +4,7 @@ use Rattle.blart_keys.specs.Bulk.{PutsAll}
 use Rattle.blart_keys.specs.Steps.{bytes}
 use Rattle.blart_keys.specs.Stored.{kept_pair}
 use Rattle.blart_map.specs.Content.{pairs}
-use Rattle.blart_map.proofs.BulkPuts.{of_all, on_ok}
+use Rattle.blart_map.proofs.Moved.BulkPuts.{of_all, on_ok}
 use Rattle.blart_map.proofs.map.TreeMap.from_vec.Goals as goal
 
 pub returns-clause-made : goal.returns-clause-made

@@ -2,9 +2,9 @@ use Rattle.std.proofs.Common.{lit<, refl, sym, ap, ◌∙◌, ◌≡◌, Some, o
 use Rattle.std.proofs.lemmas.Bool.{false≢true}
 use Rattle.art_walk.specs.Pairs.{pairs_of}
 use Rattle.blart_map.specs.Content.{pairs}
-use Rattle.blart_map.proofs.EntryOf.{open_absent, open_free}
-use Rattle.blart_map.proofs.Inserting.{exact_has, opens}
-use Rattle.blart_map.proofs.SettingAt.{exact_set_at, exact_value_at, open_has, open_value_at, open_set_at}
+use Rattle.blart_map.proofs.Related.EntryOf.{open_absent, open_free}
+use Rattle.blart_map.proofs.Placed.Inserting.{exact_has, opens}
+use Rattle.blart_map.proofs.Placed.SettingAt.{exact_set_at, exact_value_at, open_has, open_value_at, open_set_at}
 use Rattle.blart_map.proofs.map.TreeMap.get_or_insert.Goals as goal
 
 pub value_of-requires : goal.value_of-requires

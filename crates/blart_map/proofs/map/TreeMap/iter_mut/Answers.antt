@@ -1,5 +1,5 @@
 use Rattle.blart_map.specs.CountedWalk.{counted_left}
-use Rattle.blart_map.proofs.OnceWritten.{all_opened}
+use Rattle.blart_map.proofs.Written.OnceWritten.{all_opened}
 use Rattle.blart_map.proofs.map.TreeMap.iter_mut.Goals as goal
 
 pub returns-clause-all : goal.returns-clause-all

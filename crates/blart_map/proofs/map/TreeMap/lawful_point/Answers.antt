@@ -1,7 +1,7 @@
 use Rattle.std.proofs.Common.{lit<}
 use Rattle.blart_keys.proofs.Options.{is_some}
 use Rattle.art_tree.specs.Leaves.{leaf_in}
-use Rattle.blart_map.proofs.Inserting.{related_first, lawful}
+use Rattle.blart_map.proofs.Placed.Inserting.{related_first, lawful}
 use Rattle.blart_map.proofs.map.TreeMap.lawful_point.Goals as goal
 
 pub pair_of-requires : goal.pair_of-requires

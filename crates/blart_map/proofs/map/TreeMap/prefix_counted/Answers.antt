@@ -6,7 +6,7 @@ use Rattle.blart_keys.proofs.StoredLemmas.{can_count_filter}
 use Rattle.art_walk.specs.Pairs.{pairs_of}
 use Rattle.blart_map.proofs.Numbers.{no_pairs}
 use Rattle.blart_map.specs.Content.{pairs}
-use Rattle.blart_map.proofs.Walking.{longest_pairs}
+use Rattle.blart_map.proofs.Passed.Walking.{longest_pairs}
 use Rattle.blart_map.proofs.map.TreeMap.prefix_counted.Goals as goal
 
 pub returns-clause-value : goal.returns-clause-value

@@ -6,7 +6,7 @@ use Rattle.art_tree.specs.Leaves.{with_value}
 use Rattle.art_walk.specs.Pairs.{pairs_of}
 use Rattle.blart_map.specs.Content.{pairs}
 use Rattle.blart_map.proofs.Numbers.{found_has, found_value, found_none}
-use Rattle.blart_map.proofs.Writing.{written_front}
+use Rattle.blart_map.proofs.Written.Writing.{written_front}
 use Rattle.blart_map.proofs.map.TreeMap.prefix_get_mut.Goals as goal
 
 pub value_mut-requires : goal.value_mut-requires

@@ -1,7 +1,7 @@
 use Rattle.std.proofs.Common.{lit<}
 use Rattle.blart_keys.specs.Bytes.{begins}
-use Rattle.blart_map.proofs.OnceWritten.{opened_written}
-use Rattle.blart_map.proofs.Opening.{opens}
+use Rattle.blart_map.proofs.Written.OnceWritten.{opened_written}
+use Rattle.blart_map.proofs.Passed.Opening.{opens}
 use Rattle.blart_map.proofs.map.TreeMap.prefix_mut.Goals as goal
 
 pub of-requires : goal.of-requires

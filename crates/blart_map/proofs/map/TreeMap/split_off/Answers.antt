@@ -5,7 +5,7 @@ use Rattle.blart_keys.specs.Steps.{bytes}
 use Rattle.blart_keys.specs.Stored.{pair_at}
 use Rattle.art_walk.specs.Pairs.{pairs_of}
 use Rattle.blart_map.specs.Content.{pairs}
-use Rattle.blart_map.proofs.Parting.{parted, from_short, kept_at, given_at}
+use Rattle.blart_map.proofs.Moved.Parting.{parted, from_short, kept_at, given_at}
 use Rattle.blart_map.proofs.map.TreeMap.split_off.Goals as goal
 
 pub part-requires : goal.part-requires

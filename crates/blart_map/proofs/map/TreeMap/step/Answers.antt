@@ -1,4 +1,4 @@
-use Rattle.blart_map.proofs.PassedLeaves.{was_first}
+use Rattle.blart_map.proofs.Passed.PassedLeaves.{was_first}
 use Rattle.blart_map.proofs.map.TreeMap.step.Goals as goal
 
 pub returns-clause-first : goal.returns-clause-first

@@ -1,4 +1,4 @@
-use Rattle.blart_map.proofs.PassedLeaves.{was_last}
+use Rattle.blart_map.proofs.Passed.PassedLeaves.{was_last}
 use Rattle.blart_map.proofs.map.TreeMap.step_back.Goals as goal
 
 pub returns-clause-last : goal.returns-clause-last

@@ -1,5 +1,5 @@
 use Rattle.blart_map.specs.Content.{pairs}
-use Rattle.blart_map.proofs.PassedLeaves.{stays_left, taken_pairs}
+use Rattle.blart_map.proofs.Passed.PassedLeaves.{stays_left, taken_pairs}
 use Rattle.blart_map.proofs.map.TreeMap.take_leaf.Goals as goal
 
 pub returns-clause-removed : goal.returns-clause-removed

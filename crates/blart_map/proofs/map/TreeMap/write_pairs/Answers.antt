@@ -4,8 +4,8 @@ use Rattle.art_walk.specs.Pairs.{pairs_of}
 use Rattle.art_walk.proofs.Asking.{written_fits, written_left, written_distinct, le_eq}
 use Rattle.art_walk.proofs.Passing.{first_passed, first_named}
 use Rattle.blart_map.specs.EachWritten.{LeavesPair, TakesAtPair}
-use Rattle.blart_map.proofs.CallableInTurn.{callable_first, callable_others}
-use Rattle.blart_map.proofs.EachWritten.{writing_start, writing_step, writing_end, leaves_pair}
+use Rattle.blart_map.proofs.Written.CallableInTurn.{callable_first, callable_others}
+use Rattle.blart_map.proofs.Written.EachWritten.{writing_start, writing_step, writing_end, leaves_pair}
 use Rattle.blart_map.proofs.map.TreeMap.write_pairs.Goals as goal
 
 pub leaves-init : goal.leaves-init

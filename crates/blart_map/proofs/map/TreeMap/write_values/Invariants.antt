@@ -3,7 +3,7 @@ use Rattle.art_tree.specs.Leaves.{AreDistinct}
 use Rattle.art_walk.specs.Cursor.{leaves_left, FitsIn}
 use Rattle.art_walk.specs.Pairs.{pairs_of}
 use Rattle.blart_map.specs.EachWritten.{CallableInTurn, LeavesValue, TakesAtValue}
-use Rattle.blart_map.proofs.EachWritten.{Writing}
+use Rattle.blart_map.proofs.Written.EachWritten.{Writing}
 use Rattle.blart_map.proofs.map.TreeMap.write_values.Given as goal
 
 abbrev pub invariant-leaves : goal.invariant-leaves

@@ -1,4 +1,4 @@
-use Rattle.blart_map.proofs.PrefixValues.{made_value}
+use Rattle.blart_map.proofs.Related.PrefixValues.{made_value}
 use Rattle.blart_map.proofs.prefix_entry.PrefixEntry+K+V+PREFIX_LEN+TreeMap+K+V+PREFIX_LEN.or_insert_with_key.Goals as goal
 
 pub returns-in-Ok-clause-value : goal.returns-in-Ok-clause-value

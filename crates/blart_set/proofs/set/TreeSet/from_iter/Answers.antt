@@ -2,7 +2,7 @@ use Rattle.std.proofs.Common.{subst}
 use Rattle.blart_keys.specs.Bulk.{PutsAll}
 use Rattle.blart_keys.specs.Stored.{kept_item}
 use Rattle.blart_set.specs.Elements.{elements}
-use Rattle.blart_map.proofs.BulkPuts.{first_came, on_err}
+use Rattle.blart_map.proofs.Moved.BulkPuts.{first_came, on_err}
 use Rattle.blart_set.proofs.set.TreeSet.from_iter.Goals as goal
 
 pub returns-in_err-extend-clause-refused : goal.returns-in_err-extend-clause-refused

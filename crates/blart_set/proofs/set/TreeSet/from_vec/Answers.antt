@@ -3,7 +3,7 @@ use Rattle.std.proofs.lemmas.Iterator.Adapters.{YieldsList-from_vec}
 use Rattle.blart_keys.specs.Bulk.{PutsAll}
 use Rattle.blart_keys.specs.Stored.{kept_item}
 use Rattle.blart_set.specs.Elements.{elements}
-use Rattle.blart_map.proofs.BulkPuts.{of_all, on_ok}
+use Rattle.blart_map.proofs.Moved.BulkPuts.{of_all, on_ok}
 use Rattle.blart_set.proofs.set.TreeSet.from_vec.Goals as goal
 
 pub returns-clause-made : goal.returns-clause-made

@@ -4,7 +4,7 @@ use Rattle.art_walk.proofs.Lending.{from_test, count_test}
 use Rattle.blart_map.specs.Content.{pairs}
 use Rattle.blart_map.specs.CountedWalk.{counted_left}
 use Rattle.blart_map.specs.EachWritten.{LeavesValue}
-use Rattle.blart_map.proofs.EachWritten.{same_keys, same_length, fits_after, writes_to, writes_all, writes_mapped, writes_stored, value_mapped, acts_on_value}
+use Rattle.blart_map.proofs.Written.EachWritten.{same_keys, same_length, fits_after, writes_to, writes_all, writes_mapped, writes_stored, value_mapped, acts_on_value}
 use Rattle.blart_map.proofs.walks.counted_walk.CountedWalk+K+V+ValuesAlone+PREFIX_LEN.for_each.Goals as goal
 
 pub write_values-requires : goal.write_values-requires

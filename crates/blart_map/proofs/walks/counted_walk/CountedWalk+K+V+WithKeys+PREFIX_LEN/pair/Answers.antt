@@ -1,7 +1,7 @@
 use Rattle.std.proofs.Common.{refl, sym, ap, ◌∙◌, lit<}
 use Rattle.art_walk.specs.Lent.{count_fits, numbers, written_last, count_written}
 use Rattle.art_walk.proofs.Lending.{count_test, has_lent, same_left}
-use Rattle.blart_map.proofs.CountedPairs.{same_walk, pair_there}
+use Rattle.blart_map.proofs.Written.CountedPairs.{same_walk, pair_there}
 use Rattle.blart_map.proofs.walks.counted_walk.CountedWalk+K+V+WithKeys+PREFIX_LEN.pair.Goals as goal
 
 pub leaf_mut-requires : goal.leaf_mut-requires

@@ -1,4 +1,4 @@
-use Rattle.blart_map.proofs.Opening.{opens_counted}
+use Rattle.blart_map.proofs.Passed.Opening.{opens_counted}
 use Rattle.blart_map.proofs.walks.counted_walk.CountedWalk.all.Goals as goal
 
 pub invariant_of-result : goal.invariant_of-result

@@ -5,7 +5,7 @@ use Rattle.art_walk.specs.Pairs.{pairs_of}
 use Rattle.art_walk.proofs.Callable.{callable_first, callable_others}
 use Rattle.art_walk.proofs.Lending.{from_test, moved_last}
 use Rattle.blart_map.specs.ExtractIf.{Extracts}
-use Rattle.blart_map.proofs.Extracting.{le_eq, le_step, lt_step, has_with, is_removed, is_result, distinct_with, back_splits, back_fewer, back_same, back_test, back_same_removed, back_test_removed, called_at, extracts_true, extracts_false}
+use Rattle.blart_map.proofs.Taken.Extracting.{le_eq, le_step, lt_step, has_with, is_removed, is_result, distinct_with, back_splits, back_fewer, back_same, back_test, back_same_removed, back_test_removed, called_at, extracts_true, extracts_false}
 use Rattle.blart_map.proofs.walks.extract_if.ExtractIfDoubleEndedIterator.next_back.Goals as goal
 
 pub step_back-requires : goal.step_back-requires

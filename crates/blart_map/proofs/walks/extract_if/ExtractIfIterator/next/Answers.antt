@@ -5,7 +5,7 @@ use Rattle.art_walk.specs.Pairs.{pairs_of}
 use Rattle.art_walk.proofs.Callable.{callable_first, callable_others}
 use Rattle.art_walk.proofs.Lending.{from_test, moved_first}
 use Rattle.blart_map.specs.ExtractIf.{Extracts}
-use Rattle.blart_map.proofs.Extracting.{le_eq, le_step, lt_step, has_with, is_removed, is_result, distinct_with, front_splits, front_fewer, front_same, front_test, front_same_removed, front_test_removed, called_at, extracts_true, extracts_false}
+use Rattle.blart_map.proofs.Taken.Extracting.{le_eq, le_step, lt_step, has_with, is_removed, is_result, distinct_with, front_splits, front_fewer, front_same, front_test, front_same_removed, front_test_removed, called_at, extracts_true, extracts_false}
 use Rattle.blart_map.proofs.walks.extract_if.ExtractIfIterator.next.Goals as goal
 
 pub step-requires : goal.step-requires

@@ -1,7 +1,7 @@
 use Rattle.std.proofs.Common.{refl, sym, ap, ◌∙◌, lit<}
 use Rattle.art_walk.specs.Lent.{walk_fits, numbers, written_last, fits_written}
 use Rattle.art_walk.proofs.Lending.{has_lent, same_left}
-use Rattle.blart_map.proofs.TakePairs.{same_walk, pair_there}
+use Rattle.blart_map.proofs.Taken.TakePairs.{same_walk, pair_there}
 use Rattle.blart_map.proofs.walks.take_walk.TakeWalk.pair.Goals as goal
 
 pub leaf_mut-requires : goal.leaf_mut-requires

@@ -6,7 +6,7 @@ use Rattle.art_tree.specs.Leaves.{Numbered, AreDistinct, Lacks}
 use Rattle.art_walk.specs.Pairs.{pairs_of}
 use Rattle.blart_map.specs.Content.{pairs}
 use Rattle.blart_map.specs.EachWritten.{CalledAtEach, written_with, WritesLeft, LeavesPair, ActsWhere}
-use Rattle.blart_map.proofs.EachWritten.{behind_front, front_written}
+use Rattle.blart_map.proofs.Written.EachWritten.{behind_front, front_written}
 use Rattle.blart_map.proofs.Numbers.{lacks_filter}
 
 module _ {F K V : Type 0} (R : F → K × V → V → F → Type 0) (t : Numbered K V → Bool) (h : K × V → K × V) (f : F)

@@ -18,8 +18,8 @@ use Rattle.art_tree.specs.declared.tree.point.Point.{Point}
 use Rattle.art_tree.specs.declared.tree.point.Point.TheVariants.{Exact, Related}
 use Rattle.art_tree.proofs.CallerLemmas.{leaf_in-member}
 use Rattle.art_walk.specs.Pairs.{pairs_of}
-use Rattle.blart_map.proofs.Inserting.{conflict_pairs, open_alone, alone_absent, alone_no_conflict, alone_none}
-use Rattle.blart_map.proofs.Setting.{pair_there}
+use Rattle.blart_map.proofs.Placed.Inserting.{conflict_pairs, open_alone, alone_absent, alone_no_conflict, alone_none}
+use Rattle.blart_map.proofs.Placed.Setting.{pair_there}
 
 module _ {K V : Type 0} (kb : K → List ℕ) (ps : List (Numbered K V)) (content : IsContent (bytes kb) ps) (distinct : AreDistinct ps) (q : List ℕ) where
   -- ---- at a leaf

@@ -17,8 +17,8 @@ use Rattle.art_walk.specs.Cursor.{span_of, IsSpan}
 use Rattle.art_walk.proofs.Ranges.{subtree_span}
 use Rattle.blart_map.specs.InnerEntry.{only}
 use Rattle.blart_map.specs.Spans.{is_number, spans, Spans}
-use Rattle.blart_map.proofs.Setting.{rewritten}
-use Rattle.blart_map.proofs.Thinning.{first_has}
+use Rattle.blart_map.proofs.Placed.Setting.{rewritten}
+use Rattle.blart_map.proofs.Related.Thinning.{first_has}
 
 is_number_Some : (o : Option ℕ) (i : ℕ) → is_number o i ≡ true → o ≡ Some i
 is_number_Some None i e = absurd (false≢true e)

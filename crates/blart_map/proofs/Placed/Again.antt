@@ -5,7 +5,7 @@ use Rattle.std.specs.Option.{unwrap_or}
 use Rattle.blart_keys.specs.Stored.{value_at, Updates}
 use Rattle.art_tree.specs.Leaves.{Numbered, leaf_in, keys_in, with_value}
 use Rattle.art_walk.specs.Pairs.{pairs_of}
-use Rattle.blart_map.proofs.Setting.{bytes_written, pair_written}
+use Rattle.blart_map.proofs.Placed.Setting.{bytes_written, pair_written}
 
 module _ {K V : Type 0} where
   -- the last value written stays

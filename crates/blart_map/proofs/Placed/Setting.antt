@@ -13,8 +13,8 @@ use Rattle.art_tree.specs.Leaves.{Numbered, leaf_in, keys_in, Has, AreDistinct, 
 use Rattle.art_tree.proofs.CallerLemmas.{Member-from_leaf_in}
 use Rattle.art_walk.specs.Pairs.{pairs_of}
 use Rattle.blart_map.proofs.Numbers.{removed_pairs}
-use Rattle.blart_map.proofs.Writing.{written_found}
-use Rattle.blart_map.proofs.WrittenLeaf.{leaf_in-written}
+use Rattle.blart_map.proofs.Written.Writing.{written_found}
+use Rattle.blart_map.proofs.Written.WrittenLeaf.{leaf_in-written}
 
 module _ {K V : Type 0} (kb : K → List ℕ) where
   -- a key keeps its bytes where a value is written

@@ -10,9 +10,9 @@ use Rattle.art_tree.specs.Leaves.{Numbered, leaf_in, AreDistinct, with_value, by
 use Rattle.art_tree.specs.Points.{IsGood}
 use Rattle.art_tree.specs.declared.tree.point.Point.TheVariants.{Exact}
 use Rattle.art_walk.specs.Pairs.{pairs_of}
-use Rattle.blart_map.proofs.EntryOf.{exact_pair}
-use Rattle.blart_map.proofs.Inserting.{conflict_pairs, unrelated_point}
-use Rattle.blart_map.proofs.SettingAt.{exact_set_at}
+use Rattle.blart_map.proofs.Related.EntryOf.{exact_pair}
+use Rattle.blart_map.proofs.Placed.Inserting.{conflict_pairs, unrelated_point}
+use Rattle.blart_map.proofs.Placed.SettingAt.{exact_set_at}
 
 module _ {K V : Type 0} (kb : K → List ℕ) where
   -- a value written where the key's bytes are stored

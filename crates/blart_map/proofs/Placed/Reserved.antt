@@ -10,7 +10,7 @@ use Rattle.art_tree.specs.Points.{IsGood}
 use Rattle.art_tree.specs.declared.tree.point.Point.TheVariants.{Exact}
 use Rattle.art_walk.specs.Pairs.{pairs_of}
 use Rattle.blart_keys.proofs.RankLemmas.{Member}
-use Rattle.blart_map.proofs.Inserting.{alone_absent}
+use Rattle.blart_map.proofs.Placed.Inserting.{alone_absent}
 
 -- the bytes are new among the numbered pairs where they are among the pairs
 pub absent_numbered : {K V : Type 0} (kb : K → List ℕ) (ps : List (Numbered K V)) (q : List ℕ) → stores (pair_bytes kb) (pairs_of ps) q ≡ false → stores (bytes kb) ps q ≡ false

@@ -13,8 +13,8 @@ use Rattle.art_tree.specs.declared.tree.point.Point.{Point}
 use Rattle.art_tree.specs.declared.tree.point.Point.TheVariants.{Exact}
 use Rattle.art_tree.proofs.CallerLemmas.{leaf_in-member}
 use Rattle.art_walk.specs.Pairs.{pairs_of}
-use Rattle.blart_map.proofs.EntryOf.{exact_pair, open_absent, open_pair}
-use Rattle.blart_map.proofs.Setting.{rewritten, rewritten_content, put_from_updates, placed_set}
+use Rattle.blart_map.proofs.Related.EntryOf.{exact_pair, open_absent, open_pair}
+use Rattle.blart_map.proofs.Placed.Setting.{rewritten, rewritten_content, put_from_updates, placed_set}
 use Rattle.blart_map.specs.Lent.{IsSetAt}
 
 module _ {K V : Type 0} (kb : K → List ℕ) (ps : List (Numbered K V)) (S : List (K × V)) (view : pairs_of ps ≡ S) (content : IsContent (bytes kb) ps) (distinct : AreDistinct ps) (key : K) where

@@ -12,7 +12,7 @@ use Rattle.blart_map.specs.Content.{pairs}
 use Rattle.blart_map.specs.declared.walks.extract_if.ExtractIf.{ExtractIf}
 use Rattle.blart_map.specs.ExtractIf.{extract_left, Extracts, ExtractsNext}
 use Rattle.blart_map.specs.OnceTaken.{taken_all, once_extracted, still_to_extract}
-use Rattle.blart_map.proofs.OnceTaken.{same_value}
+use Rattle.blart_map.proofs.Taken.OnceTaken.{same_value}
 
 module _ {K V F : Type 0} (g : Mut F (Bor K × (MutBor V × Unit {0})) (Bool × (MutBor V × Unit {0}))) (I : F → Type 0) (test : K × V → Bool)
     (tells : (f : F) (k : K) (v : V) (b : Bool) (w : V) (h : F) → I f → CalledAtPair g f k v b w h → (b ≡ test (k, v)) × (w ≡ v) × I h) where

@@ -11,7 +11,7 @@ use Rattle.blart_keys.proofs.Mapped.{content_map}
 use Rattle.blart_keys.proofs.StoredLemmas.{overwrites_over}
 use Rattle.art_tree.specs.Leaves.{Numbered, leaf_in, AreDistinct, with_value, with_pair, bytes}
 use Rattle.art_walk.specs.Pairs.{pairs_of}
-use Rattle.blart_map.proofs.Setting.{rewritten, rewritten_content, put_from_updates}
+use Rattle.blart_map.proofs.Placed.Setting.{rewritten, rewritten_content, put_from_updates}
 
 module _ {K V : Type 0} where
   -- a value written at the pair that a number has now

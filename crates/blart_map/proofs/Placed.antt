@@ -1,0 +1,9 @@
+-- What a placement makes of the pairs.
+pub mod Again
+pub mod FreePlaces
+pub mod Inserting
+pub mod Keeping
+pub mod Reserved
+pub mod Setting
+pub mod SettingAt
+pub mod TakenBack

@@ -1,0 +1,10 @@
+-- What walks that lend make of the pairs, and closures that write.
+pub mod CallableInTurn
+pub mod CountedPairs
+pub mod EachWritten
+pub mod LentPairs
+pub mod OnceWritten
+pub mod Writing
+pub mod WrittenInTurn
+pub mod WrittenLeaf
+pub mod WrittenWhere
