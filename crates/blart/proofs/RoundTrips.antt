@@ -12,7 +12,7 @@ use Rattle.hex.specs.Hex.{IsBytes, encode_lower, lower_digits}
 use Rattle.hex.proofs.HexLemmas.{length-encode_with, decode_of-encode_lower}
 use Rattle.blart.specs.Command.{key_of, is_numeral, number_of}
 use Rattle.blart.specs.Answers.{key_text}
-use Rattle.blart.proofs.Parsing.{below_limit_small}
+use Rattle.blart.proofs.Numbers.{below_limit_small}
 
 by_length : (a b : List ℕ) (t : Bool) → length a ≢ length b → bytes_eq a b ≡ t → bytes_eq a b ≡ false
 by_length a b true apart is = absurd (apart (ap length ((bytes_eq-Decides a b).0 is)))

@@ -1,7 +1,7 @@
 //! The commands that a line may be.
 ghost use Rattle.std.specs.Prelude.{◌≡◌, ◌==◌, ◌<◌, ◌+◌, ◌*◌, true, [], ◌∷◌, length, IfSome, MatchOption, is_some};
 ghost use Rattle.std.specs.List.{position, list_all};
-ghost use Rattle.std.specs.Char.{is_ascii_digit, digit_value};
+ghost use Rattle.std.specs.Char.{is_ascii_digit};
 ghost use Rattle.std.specs.Str.Parse.{digits_value};
 ghost use Rattle.hex.specs.Hex.{is_hex_digit, decode_of};
 ghost use Rattle.blart.specs.Command.{key_of, from_ok, below_limit, number_of, words_of};
@@ -199,22 +199,13 @@ fn is_all_digits(text: &[u8]) -> bool
     text.iter().all(|b| b.is_ascii_digit())
 }
 
-// The value of some digits, if it is below 2^64.
+// The value of the digits, if it is below 2^64.
 fn value_of(digits: &[u8]) -> Option<u64>
-    requires { list_all is_ascii_digit digits.now ≡ true }
+    requires { spec.is_numeral digits.now ≡ true }
     ensures { result ≡ below_limit (digits_value 10 digits.now) }
 {
-    let mut value: u64 = 0;
-    for byte in digits {
-        value = next_value(value, *byte)?;
+    match str::from_utf8(digits) {
+        Ok(text) => text.parse().ok(),
+        Err(_) => unreachable!(),
     }
-    Some(value)
-}
-
-// The value with one digit more, if it is below 2^64.
-fn next_value(value: u64, digit: u8) -> Option<u64>
-    requires { is_ascii_digit digit ≡ true }
-    ensures { result ≡ below_limit (value * 10 + digit_value digit) }
-{
-    value.checked_mul(10)?.checked_add(u64::from(digit - b'0'))
 }

@@ -80,20 +80,8 @@ fn append_decimal(number: u64, outbox: &mut Outbox)
     ensures after { outbox.new ≡ outbox.old ++ decimal number }
     ensures room { length outbox.new ≤ length outbox.old + 20 }
 {
-    append_number(number, outbox);
-}
-
-// Adds the number's digits, where there is room for as many as it has.
-fn append_number(number: u64, outbox: &mut Outbox)
-    requires { length outbox.old + length (decimal number) ≤ 8192 }
-    ensures { outbox.new ≡ outbox.old ++ decimal number }
-{
-    if number < 10 {
-        outbox.push(48 + number as u8);
-    } else {
-        append_number(number / 10, outbox);
-        outbox.push(48 + (number % 10) as u8);
-    }
+    let mut digits = itoa::Buffer::new();
+    outbox.append(digits.format(number).as_bytes());
 }
 
 /// Writes the pair as a line.

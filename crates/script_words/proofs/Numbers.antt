@@ -1,33 +1,43 @@
--- Decimal digits and their value.
-use Rattle.std.proofs.Common.{◌≡◌, ℕ, ◌+◌, ◌*◌, ◌<◌, ◌≤◌, List, length, take, get_or, Some, None, arith}
-use Rattle.std.specs.Char.{digit_value}
-use Rattle.std.specs.Str.Parse.{digits_value}
+-- Decimal digits, read as a number.
+use Rattle.std.proofs.Common.{◌≡◌, ℕ, ◌<◌, ◌^◌, List, [], ◌∷◌, length, Bool, true, false, None, Result, Ok, Err, refl, ap, arith}
+use Rattle.std.specs.Prelude.{◌&&◌, nat_le}
+use Rattle.std.specs.Result.{OkIff, result_ok}
+use Rattle.std.specs.List.{list_all}
+use Rattle.std.specs.Char.{is_ascii_digit}
+use Rattle.std.specs.Str.{IsUtf8, all_ascii_digits}
+use Rattle.std.specs.Str.Parse.{digits_value, ParsesUnsigned}
 use Rattle.std.proofs.lemmas.Bool.Decides.{nat_tests}
-use Rattle.std.proofs.lemmas.Int.Digits.{digits_value_more}
-use Rattle.std.proofs.lemmas.Str.Parse.{digits_value-take-le}
-use Rattle.script_words.specs.Words.{below_limit}
+use Rattle.std.proofs.lemmas.Fmt.{IsAscii-from_digits}
+use Rattle.std.proofs.lemmas.Str.{IsUtf8-from_ascii}
+use Rattle.std.proofs.lemmas.Str.Parse.{IsNumeralModel, numerals_by_value, tells_all_ascii_digits, parse_digits}
+use Rattle.script_words.specs.Words.{below_limit, is_numeral}
 
--- what is refused is too large
-below_limit_none : (n : ℕ) → None ≡ below_limit n → 18446744073709551615 < n
-below_limit_none n h = grind (arith, nat_tests)
+-- the kit's lemmas on digits, by the kit's own test
+digits : IsNumeralModel (λ ds. all_ascii_digits ds ≡ true) (digits_value 10)
+digits = numerals_by_value _ tells_all_ascii_digits
 
--- what is kept is the number
-pub below_limit_some : (n v : ℕ) → Some v ≡ below_limit n → (v ≡ n) × (v ≤ 18446744073709551615)
-below_limit_some n v h = (grind (arith, nat_tests), grind (arith, nat_tests))
+-- both tests of digits are one
+same_test : (ds : List ℕ) → all_ascii_digits ds ≡ list_all is_ascii_digit ds
+same_test [] = refl
+same_test (c ∷ cs) = ap (λ t. is_ascii_digit c && t) (same_test cs)
 
--- a number too large is refused
-below_limit_large : (n : ℕ) → 18446744073709551615 < n → None ≡ below_limit n
-below_limit_large n h = grind (arith, nat_tests)
+all_digits : (ds : List ℕ) → is_numeral ds ≡ true → (all_ascii_digits ds ≡ true) × (0 < length ds)
+all_digits ds h = (grind (arith, nat_tests, same_test ds), grind (arith, nat_tests))
 
--- a number that fits is kept
-pub below_limit_small : (n : ℕ) → n ≤ 18446744073709551615 → Some n ≡ below_limit n
-below_limit_small n h = grind (arith, nat_tests)
+-- digits are a text
+pub is_text : (ds : List ℕ) → is_numeral ds ≡ true → IsUtf8 ds
+is_text ds h = IsUtf8-from_ascii ds (IsAscii-from_digits ds (digits.to ds (all_digits ds h).0))
 
--- a front of the digits is too large, and so are all
-pub too_large : (digits : List ℕ) (i value : ℕ) → i < length digits → value ≡ digits_value 10 (take i digits) → None ≡ below_limit (value * 10 + digit_value (get_or digits i 0))
-    → None ≡ below_limit (digits_value 10 digits)
-too_large digits i value lt is h =
-    let more = digits_value_more 10 digits i lt in
-    let front = digits_value-take-le 10 digits (i + 1) (omega arith) in
-    let large : 18446744073709551615 < digits_value 10 (take (i + 1) digits) = rw (more, ← is) (below_limit_none _ h) in
-    below_limit_large (digits_value 10 digits) (omega arith)
+kept : {E : Type 0} (r : Result ℕ E) (some v : ℕ) → 0 < some → OkIff r ((0 < some) × (v < 2 ^ 64)) v → result_ok r ≡ below_limit v
+kept (Ok x) some v p h = grind (arith, nat_tests, h.0.1, h.1)
+kept (Err e) some v p h = by_limit (nat_le v 18446744073709551615) refl
+  where
+    by_limit : (t : Bool) → nat_le v 18446744073709551615 ≡ t → None ≡ below_limit v
+    by_limit true k = absurd (h (p, grind (arith, nat_tests)))
+    by_limit false k = rw k refl
+
+-- what is read of them is their value, if it is below 2^64
+pub value_read : {E : Type 0} (ds : List ℕ) (r : Result ℕ E) → is_numeral ds ≡ true → ParsesUnsigned 64 10 ds r → result_ok r ≡ below_limit (digits_value 10 ds)
+value_read ds r h parsed =
+    let d = all_digits ds h in
+    kept r (length ds) (digits_value 10 ds) d.1 (parse_digits digits 64 ds r parsed d.0)

@@ -1,5 +1,6 @@
 //! The calls of entries, and their words.
 use crate::answered::Unanswered;
+use crate::named::named;
 use crate::reading::Words;
 
 /// A call of an entry, and what is added before it to a value that is stored.
@@ -120,7 +121,7 @@ impl EntryLine {
 
 /// The call of this name with this number, or without one.
 pub fn named_call(name: &[u8], number: Option<u64>) -> Result<EntryCall, Unanswered> {
-    let Some(name) = name_of(name) else {
+    let Some(name) = named(&NAMES, name) else {
         return Err(Unanswered::NoCall);
     };
     let found = match number {
@@ -131,16 +132,6 @@ pub fn named_call(name: &[u8], number: Option<u64>) -> Result<EntryCall, Unanswe
         Some(call) => Ok(call),
         None => Err(Unanswered::NoCall),
     }
-}
-
-// The name that the word is.
-fn name_of(word: &[u8]) -> Option<EntryName> {
-    for (text, name) in &NAMES {
-        if text.as_bytes() == word {
-            return Some(*name);
-        }
-    }
-    None
 }
 
 // The call of this name that has no argument.

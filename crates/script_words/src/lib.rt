@@ -13,6 +13,7 @@ mod keys;
 mod line_calls;
 mod lists;
 mod map_names;
+mod named;
 mod picks;
 mod prefix_calls;
 mod reading;

@@ -1,4 +1,5 @@
 //! The names of the calls.
+use crate::named::named;
 
 /// A call of a map, or of both maps of a script.
 #[derive(Clone, Copy)]
@@ -150,10 +151,5 @@ const NAMES: [(&str, MapName); 68] = [
 
 /// The call that the word names.
 pub fn map_name_of(word: &[u8]) -> Option<MapName> {
-    for (text, name) in &NAMES {
-        if text.as_bytes() == word {
-            return Some(*name);
-        }
-    }
-    None
+    named(&NAMES, word)
 }

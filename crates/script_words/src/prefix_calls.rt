@@ -1,6 +1,7 @@
 //! The calls of prefix entries, and their words.
 use crate::answered::Unanswered;
 use crate::entry_calls::{EntryCall, OccupiedCall, PlaceCall, VacantCall, ValueCall, named_call};
+use crate::named::named;
 use crate::reading::Words;
 
 /// A call of a prefix entry.
@@ -116,7 +117,7 @@ fn kind_call<'a>(mut words: Words<'_>) -> Result<PrefixCall<'a>, Unanswered> {
 // The call of this name, which the last words are the arguments of.
 fn call_of<'a>(word: &[u8], words: Words<'_>) -> Result<PrefixCall<'a>, Unanswered> {
     let number = words.last_number()?;
-    let Some(name) = name_of(word) else {
+    let Some(name) = named(&NAMES, word) else {
         return shared_call(named_call(word, number)?);
     };
     let found = match number {
@@ -127,16 +128,6 @@ fn call_of<'a>(word: &[u8], words: Words<'_>) -> Result<PrefixCall<'a>, Unanswer
         Some(call) => Ok(call),
         None => Err(Unanswered::NoCall),
     }
-}
-
-// The name that the word is.
-fn name_of(word: &[u8]) -> Option<PrefixName> {
-    for (text, name) in &NAMES {
-        if text.as_bytes() == word {
-            return Some(*name);
-        }
-    }
-    None
 }
 
 // The call of prefix entries that has the name of a call of entries.

@@ -1,7 +1,7 @@
 //! The words of a line, and what they stand for.
-ghost use Rattle.std.specs.Prelude.{◌≡◌, ◌+◌, ◌*◌, true, IfOk, Some, Contains};
+ghost use Rattle.std.specs.Prelude.{◌≡◌, true, IfOk, Some, Contains};
 ghost use Rattle.std.specs.List.{list_all};
-ghost use Rattle.std.specs.Char.{is_ascii_digit, digit_value};
+ghost use Rattle.std.specs.Char.{is_ascii_digit};
 ghost use Rattle.std.specs.Str.Parse.{digits_value};
 ghost use Rattle.script_words.specs.Words.{read_bytes, read_number, below_limit};
 ghost use Rattle.script_words.specs.Words as spec;
@@ -337,20 +337,11 @@ fn is_all_digits(word: &[u8]) -> bool
 
 // The value of the digits, where it is below 2^64.
 fn value_of(digits: &[u8]) -> Option<u64>
-    requires { list_all is_ascii_digit digits.now ≡ true }
+    requires { spec.is_numeral digits.now ≡ true }
     ensures { result ≡ below_limit (digits_value 10 digits.now) }
 {
-    let mut value: u64 = 0;
-    for byte in digits {
-        value = next_value(value, *byte)?;
+    match str::from_utf8(digits) {
+        Ok(text) => text.parse().ok(),
+        Err(_) => unreachable!(),
     }
-    Some(value)
-}
-
-// The value with one digit more, where it is below 2^64.
-fn next_value(value: u64, digit: u8) -> Option<u64>
-    requires { is_ascii_digit digit ≡ true }
-    ensures { result ≡ below_limit (value * 10 + digit_value digit) }
-{
-    value.checked_mul(10)?.checked_add(u64::from(digit - b'0'))
 }

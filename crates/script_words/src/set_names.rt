@@ -1,4 +1,5 @@
 //! The names of the calls of sets.
+use crate::named::named;
 
 /// A call of a set, or of both sets of a script.
 #[derive(Clone, Copy)]
@@ -128,10 +129,5 @@ const NAMES: [(&str, SetName); 57] = [
 
 /// The call that the word names.
 pub fn set_name_of(word: &[u8]) -> Option<SetName> {
-    for (text, name) in &NAMES {
-        if text.as_bytes() == word {
-            return Some(*name);
-        }
-    }
-    None
+    named(&NAMES, word)
 }

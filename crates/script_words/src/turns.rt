@@ -1,6 +1,7 @@
 //! Calls that are made in turn.
 use crate::answered::Unanswered;
 use crate::keys::ScriptKey;
+use crate::named::named;
 use crate::reading::Words;
 use blart_keys::Call;
 use std::alloc::{AllocError, Global};
@@ -48,19 +49,9 @@ const NAMES: [(&str, TurnName); 8] = [
     ("Clear", TurnName::Clear),
 ];
 
-// The name that the word is.
-fn turn_of(word: &[u8]) -> Option<TurnName> {
-    for (text, name) in &NAMES {
-        if text.as_bytes() == word {
-            return Some(*name);
-        }
-    }
-    None
-}
-
 // The call that the parts of a word are.
 fn call_of<K: ScriptKey>(mut parts: Words<'_>) -> Result<Call<K, u64>, Unanswered> {
-    let Some(name) = turn_of(parts.word()?) else {
+    let Some(name) = named(&NAMES, parts.word()?) else {
         return Err(Unanswered::NoCall);
     };
     match name {
