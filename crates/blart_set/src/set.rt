@@ -15,7 +15,6 @@ use std::marker::Model;
 /// A byte list is less than another where its byte is less at the first place where they differ, or where it begins the other. Two elements are related if the bytes of one begin those of the other. An element conflicts with a set that has a related one with other bytes.
 ///
 /// ```
-/// let mut set = TreeSet::new(alloc);
 /// assert!(set.try_insert("cat")?);
 /// assert!(set.try_insert("car")?);
 /// assert!(!set.try_insert("cat")?);

@@ -2,20 +2,17 @@
 use super::set_of;
 use blart_map::TryInsertError;
 use blart_set::TreeSet;
-use std::alloc::Global;
 use std::iter::{DoubleEndedIterator, IntoIterator, Iterator};
 use std::ops::Bound;
 use std::process::Abort;
 
 // The example of `blart_set::TreeSet`.
-fn tree_set(rt: &impl Abort, alloc: Global) -> Result<(), TryInsertError> {
-    let mut set = TreeSet::new(alloc);
+fn tree_set(rt: &impl Abort, set: &mut TreeSet<&str, 16>) -> Result<(), TryInsertError> {
     assert!(rt; set.try_insert("cat")?);
     assert!(rt; set.try_insert("car")?);
     assert!(rt; !set.try_insert("cat")?);
     assert!(rt; set.try_insert("ca").is_err());
     assert_eq!(rt; set.first(), Some(&"car"));
-    drop(set);
     Ok(())
 }
 
@@ -65,7 +62,9 @@ fn extract_if(rt: &impl Abort, set: &mut TreeSet<u8, 16>) {
 
 #[test]
 fn a_set_as_shown(rt: HostRuntime) {
-    tree_set(&rt, rt.alloc()).expect(&rt, "memory");
+    let mut set = TreeSet::new(rt.alloc());
+    tree_set(&rt, &mut set).expect(&rt, "memory");
+    drop(set);
 }
 
 #[test]
