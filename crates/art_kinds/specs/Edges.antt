@@ -1,5 +1,5 @@
 -- Edges by their bytes.
-use Rattle.std.specs.Prelude.{◌≡◌, ◌≢◌, ◌<◌, ◌≤◌, ℕ, Bool, true, false, List, [], ◌∷◌, Option, Some, None, cond, eqb, ltb, suc, ◌+◌, length, take, map, is_some, count_by, slice_index_or}
+use Rattle.std.specs.Prelude.{◌≡◌, ◌≢◌, ◌<◌, ◌≤◌, ℕ, Bool, true, false, List, [], ◌∷◌, Option, Some, None, if◌then◌else◌, eqb, ltb, suc, ◌+◌, length, take, map, is_some, count_by, slice_index_or}
 use Rattle.art_kinds.specs.declared.records.ids.Child.{Child}
 use Rattle.art_kinds.specs.declared.records.ids.Edge.{Edge}
 use Rattle.art_kinds.specs.declared.records.ids.Child.TheVariants.{Leaf}
@@ -7,7 +7,7 @@ use Rattle.art_kinds.specs.declared.records.ids.Child.TheVariants.{Leaf}
 -- what stands below the edge at a byte
 abbrev pub child_at : List Edge → ℕ → Option Child
 child_at [] b = None
-child_at (e ∷ es) b = cond (eqb e.byte b) (Some e.to) (child_at es b)
+child_at (e ∷ es) b = if eqb e.byte b then Some e.to else child_at es b
 
 -- each byte is less than those behind it
 abbrev pub AscendsAbove : ℕ → List Edge → Type 0
@@ -22,22 +22,22 @@ Ascends (e ∷ es) = AscendsAbove e.byte es
 -- how many bytes stand before a byte
 abbrev pub count_below : List ℕ → ℕ → ℕ
 count_below [] b = 0
-count_below (x ∷ xs) b = cond (ltb x b) (suc (count_below xs b)) 0
+count_below (x ∷ xs) b = if ltb x b then suc (count_below xs b) else 0
 
 -- the edges with one more, in front of the first that is not before it
 abbrev pub edges_with : List Edge → Edge → List Edge
 edges_with [] e = e ∷ []
-edges_with (x ∷ xs) e = cond (ltb x.byte e.byte) (x ∷ edges_with xs e) (e ∷ x ∷ xs)
+edges_with (x ∷ xs) e = if ltb x.byte e.byte then x ∷ edges_with xs e else e ∷ x ∷ xs
 
 -- the edges but the one at a byte
 abbrev pub edges_without : List Edge → ℕ → List Edge
 edges_without [] b = []
-edges_without (x ∷ xs) b = cond (eqb x.byte b) xs (x ∷ edges_without xs b)
+edges_without (x ∷ xs) b = if eqb x.byte b then xs else x ∷ edges_without xs b
 
 -- the edges, the first at a byte led elsewhere
 abbrev pub edges_with_child : List Edge → ℕ → Child → List Edge
 edges_with_child [] b to = []
-edges_with_child (e ∷ es) b to = cond (eqb e.byte b) (record { byte = b; to = to } ∷ es) (e ∷ edges_with_child es b to)
+edges_with_child (e ∷ es) b to = if eqb e.byte b then record { byte = b; to = to } ∷ es else e ∷ edges_with_child es b to
 
 -- one child more
 pub record AddsChild (old new : List Edge) (b : ℕ) (to : Child) : Type 0 where
@@ -75,7 +75,7 @@ pub record Sorted (count room : ℕ) (edges : List Edge) : Type 0 where
 -- the first edge behind a byte
 abbrev pub after : List Edge → ℕ → Option Edge
 after [] b = None
-after (e ∷ es) b = cond (ltb b e.byte) (Some e) (after es b)
+after (e ∷ es) b = if ltb b e.byte then Some e else after es b
 
 -- the edge found behind another, or else that one
 abbrev pub later : Option Edge → Edge → Edge
@@ -85,7 +85,7 @@ later (Some x) e = x
 -- the last edge before a byte
 abbrev pub before : List Edge → ℕ → Option Edge
 before [] b = None
-before (e ∷ es) b = cond (ltb e.byte b) (Some (later (before es b) e)) None
+before (e ∷ es) b = if ltb e.byte b then Some (later (before es b) e) else None
 
 -- the edge before a byte, with none between
 abbrev pub IsPrevious : List Edge → ℕ → Option Edge → Type 0
@@ -124,7 +124,7 @@ pub record Filled (count : ℕ) (t : List (Option Child)) : Type 0 where
 
 -- the child in a place, or none
 abbrev pub child_under : List Child → ℕ → Option Child
-child_under children s = cond (ltb s 48) (Some (slice_index_or children s (Leaf 0))) None
+child_under children s = if ltb s 48 then Some (slice_index_or children s (Leaf 0)) else None
 
 -- the table of an index of places
 abbrev pub table : List ℕ → List Child → List (Option Child)
@@ -141,7 +141,7 @@ pub record IsIndex (count : ℕ) (index : List ℕ) (children : List Child) : Ty
 
 -- one number in the place of another
 abbrev pub moved : ℕ → ℕ → ℕ → ℕ
-moved from to p = cond (eqb p from) to p
+moved from to p = if eqb p from then to else p
 
 -- the edges of bytes beside children
 abbrev pub paired : List ℕ → List Child → List Edge

@@ -1,5 +1,5 @@
 -- How leaf records and rows name one another.
-use Rattle.std.specs.Prelude.{◌≡◌, ℕ, List, [], ◌∷◌, map, length, Option, option_map, Some, None, cond}
+use Rattle.std.specs.Prelude.{◌≡◌, ℕ, List, [], ◌∷◌, map, length, Option, option_map, Some, None, if◌then◌else◌}
 use Rattle.art_slots.specs.Store.{Store, slot_at as at, used_count}
 use Rattle.art_rows.specs.Numbers.{Numbered, Numbers, leaf_in, AreDistinct}
 use Rattle.art_rows.specs.Rows.{among, numbers, row_with, AreFilled}
@@ -44,4 +44,4 @@ module _ {K V : Type 0} where
 
   -- the records, those under these numbers in another row
   abbrev pub in_row : (ℕ → Option (Leaf K V)) → List ℕ → ℕ → ℕ → Option (Leaf K V)
-  in_row leaves ns r j = cond (among ns j) (option_map (λ (x : Leaf K V). record x { row = r }) (leaves j)) (leaves j)
+  in_row leaves ns r j = if among ns j then option_map (λ (x : Leaf K V). record x { row = r }) (leaves j) else leaves j

@@ -1,5 +1,5 @@
 -- What a contract sees of leaves in rows.
-use Rattle.std.specs.Prelude.{◌+◌, ℕ, min, List, [], ◌∷◌, map, Option, Some, None, refl, cond, eqb}
+use Rattle.std.specs.Prelude.{◌+◌, ℕ, min, List, [], ◌∷◌, map, Option, Some, None, refl, if◌then◌else◌, eqb}
 use Rattle.std.specs.Coded.{Coded, code_by, coded×, coded_ℕ, coded_list}
 use Rattle.art_rows.specs.Numbers.{Numbered}
 use Rattle.art_rows.specs.Rows.{place_in, row_room}
@@ -37,4 +37,4 @@ module _ {K V : Type 0} where
   -- the pairs, with another value under a number
   abbrev pub with_value : List (Numbered (K × V)) → ℕ → V → List (Numbered (K × V))
   with_value [] i v = []
-  with_value (p ∷ ps) i v = cond (eqb p.0 i) ((p.0, (p.1.0, v)) ∷ ps) (p ∷ with_value ps i v)
+  with_value (p ∷ ps) i v = if eqb p.0 i then (p.0, (p.1.0, v)) ∷ ps else p ∷ with_value ps i v

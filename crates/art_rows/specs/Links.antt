@@ -1,5 +1,5 @@
 -- How the leaf records are linked.
-use Rattle.std.specs.Prelude.{◌≡◌, ℕ, zero, suc, List, [], ◌∷◌, length, Option, option_map, Some, None, Bool, false, cond, eqb}
+use Rattle.std.specs.Prelude.{◌≡◌, ℕ, zero, suc, List, [], ◌∷◌, length, Option, option_map, Some, None, Bool, false, if◌then◌else◌, eqb}
 use Rattle.art_slots.specs.Store.{Store, slot_at as at, used_count}
 use Rattle.art_rows.specs.Numbers.{Numbered as Pair, Numbers as Content, leaf_in, first_number, last_number, number_after, number_before, AreDistinct}
 use Rattle.art_rows.specs.declared.chain.Link.{Link}
@@ -55,8 +55,8 @@ module _ {X : Type 0} where
 
   -- the leaves, with one linked to another behind it
   abbrev pub with_next : (ℕ → Option (Link X)) → Option ℕ → Option ℕ → ℕ → Option (Link X)
-  with_next leaves i to j = cond (is_at i j) (option_map (λ (x : Link X). record x { next = to }) (leaves j)) (leaves j)
+  with_next leaves i to j = if is_at i j then option_map (λ (x : Link X). record x { next = to }) (leaves j) else leaves j
 
   -- the leaves, with one linked to another before it
   abbrev pub with_prev : (ℕ → Option (Link X)) → Option ℕ → Option ℕ → ℕ → Option (Link X)
-  with_prev leaves i to j = cond (is_at i j) (option_map (λ (x : Link X). record x { prev = to }) (leaves j)) (leaves j)
+  with_prev leaves i to j = if is_at i j then option_map (λ (x : Link X). record x { prev = to }) (leaves j) else leaves j

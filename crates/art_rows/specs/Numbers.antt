@@ -1,5 +1,5 @@
 -- What a contract sees of the leaves: the pairs in order, each under its number, and the spare records.
-use Rattle.std.specs.Prelude.{◌≡◌, ◌≢◌, ℕ, List, [], ◌∷◌, Option, Some, None, IsSome, refl, cond, eqb}
+use Rattle.std.specs.Prelude.{◌≡◌, ◌≢◌, ℕ, List, [], ◌∷◌, Option, Some, None, IsSome, refl, if◌then◌else◌, eqb}
 use Rattle.std.specs.Coded.{Coded, code_by, coded×, coded_ℕ, coded_list}
 
 -- a leaf's number, and its key and value
@@ -24,7 +24,7 @@ module _ {X : Type 0} where
   -- the key and the value under a number
   abbrev pub leaf_in : List (Numbered X) → ℕ → Option X
   leaf_in [] i = None
-  leaf_in (p ∷ ps) i = cond (eqb p.0 i) (Some p.1) (leaf_in ps i)
+  leaf_in (p ∷ ps) i = if eqb p.0 i then Some p.1 else leaf_in ps i
 
   -- a leaf has the number
   abbrev pub Has : List (Numbered X) → ℕ → Type 0
@@ -44,12 +44,12 @@ module _ {X : Type 0} where
   -- the number behind a number
   abbrev pub number_after : List (Numbered X) → ℕ → Option ℕ
   number_after [] i = None
-  number_after (p ∷ ps) i = cond (eqb p.0 i) (first_number ps) (number_after ps i)
+  number_after (p ∷ ps) i = if eqb p.0 i then first_number ps else number_after ps i
 
   -- the number before a number, where `back` stands before the list
   abbrev pub number_before_from : Option ℕ → List (Numbered X) → ℕ → Option ℕ
   number_before_from back [] i = None
-  number_before_from back (p ∷ ps) i = cond (eqb p.0 i) back (number_before_from (Some p.0) ps i)
+  number_before_from back (p ∷ ps) i = if eqb p.0 i then back else number_before_from (Some p.0) ps i
 
   -- the number before a number
   abbrev pub number_before : List (Numbered X) → ℕ → Option ℕ
@@ -64,17 +64,17 @@ module _ {X : Type 0} where
   abbrev pub with_pair_behind : Option ℕ → Numbered X → List (Numbered X) → List (Numbered X)
   with_pair_behind None x ps = x ∷ ps
   with_pair_behind (Some i) x [] = []
-  with_pair_behind (Some i) x (p ∷ ps) = cond (eqb p.0 i) (p ∷ x ∷ ps) (p ∷ with_pair_behind (Some i) x ps)
+  with_pair_behind (Some i) x (p ∷ ps) = if eqb p.0 i then p ∷ x ∷ ps else p ∷ with_pair_behind (Some i) x ps
 
   -- the pairs but that of a number
   abbrev pub without_number : List (Numbered X) → ℕ → List (Numbered X)
   without_number [] i = []
-  without_number (p ∷ ps) i = cond (eqb p.0 i) ps (p ∷ without_number ps i)
+  without_number (p ∷ ps) i = if eqb p.0 i then ps else p ∷ without_number ps i
 
   -- the pairs, with another key and value under a number
   abbrev pub with_pair : List (Numbered X) → ℕ → X → List (Numbered X)
   with_pair [] i x = []
-  with_pair (p ∷ ps) i x = cond (eqb p.0 i) ((p.0, x) ∷ ps) (p ∷ with_pair ps i x)
+  with_pair (p ∷ ps) i x = if eqb p.0 i then (p.0, x) ∷ ps else p ∷ with_pair ps i x
 
   -- no pair of this list has the number
   abbrev pub Lacks : List (Numbered X) → ℕ → Type 0

@@ -1,5 +1,5 @@
 -- Rows of numbers: which row has a number, at which place, and the numbers of all rows in order.
-use Rattle.std.specs.Prelude.{◌≡◌, ◌≤◌, ℕ, zero, suc, ◌+◌, ◌-◌, ◌*◌, ◌<◌, min, max, List, [], ◌∷◌, ◌++◌, length, map, Option, option_map, Some, None, Bool, true, false, cond, eqb, ltb}
+use Rattle.std.specs.Prelude.{◌≡◌, ◌≤◌, ℕ, zero, suc, ◌+◌, ◌-◌, ◌*◌, ◌<◌, min, max, List, [], ◌∷◌, ◌++◌, length, map, Option, option_map, Some, None, Bool, true, false, if◌then◌else◌, eqb, ltb}
 use Rattle.art_rows.specs.Numbers.{Numbered, leaf_in, AreDistinct}
 use Rattle.art_rows.specs.declared.ahead.Ahead.{Ahead}
 use Rattle.art_rows.specs.declared.row.Position.{Position}
@@ -8,12 +8,12 @@ use Rattle.art_rows.specs.declared.row.TheConstants.{HALF}
 -- the number is in the list
 abbrev pub among : List ℕ → ℕ → Bool
 among [] i = false
-among (n ∷ ns) i = cond (eqb n i) true (among ns i)
+among (n ∷ ns) i = if eqb n i then true else among ns i
 
 -- how many numbers stand before this one
 abbrev pub place_in : List ℕ → ℕ → ℕ
 place_in [] i = 0
-place_in (n ∷ ns) i = cond (eqb n i) 0 (suc (place_in ns i))
+place_in (n ∷ ns) i = if eqb n i then 0 else suc (place_in ns i)
 
 -- what stands at a place
 abbrev pub nth : {X : Type 0} → List X → ℕ → Option X
@@ -29,12 +29,12 @@ numbers (r ∷ rs) = r.1 ++ numbers rs
 -- the row that has a number
 abbrev pub row_with : List (Numbered (List ℕ)) → ℕ → ℕ
 row_with [] i = 0
-row_with (r ∷ rs) i = cond (among r.1 i) r.0 (row_with rs i)
+row_with (r ∷ rs) i = if among r.1 i then r.0 else row_with rs i
 
 -- the row and the place in it of the number that has so many before it
 abbrev pub position_at : List (Numbered (List ℕ)) → ℕ → Option Position
 position_at [] k = None
-position_at (r ∷ rs) k = cond (ltb k (length r.1)) (Some (record { row = r.0; place = k })) (position_at rs (k - length r.1))
+position_at (r ∷ rs) k = if ltb k (length r.1) then Some (record { row = r.0; place = k }) else position_at rs (k - length r.1)
 
 -- each row has a number
 abbrev pub AreFilled : List (Numbered (List ℕ)) → Type 0
@@ -66,7 +66,7 @@ pub record IsSplit (old new : List (Numbered (List ℕ))) (r s : ℕ) : Type 0 w
 abbrev pub row_end : Option ℕ → List (Numbered (List ℕ)) → ℕ
 row_end None rows = 0
 row_end (Some r) [] = 0
-row_end (Some r) (q ∷ qs) = length q.1 + cond (eqb q.0 r) 0 (row_end (Some r) qs)
+row_end (Some r) (q ∷ qs) = length q.1 + (if eqb q.0 r then 0 else row_end (Some r) qs)
 
 -- how many numbers the rows have above half of each, and above one in the last
 abbrev pub above_half : List (Numbered (List ℕ)) → ℕ
@@ -85,7 +85,7 @@ row_room rows spare = max spare (half_room rows spare)
 -- how many numbers stand before those of a row
 abbrev pub row_start : List (Numbered (List ℕ)) → ℕ → ℕ
 row_start [] r = 0
-row_start (q ∷ qs) r = cond (eqb q.0 r) 0 (length q.1 + row_start qs r)
+row_start (q ∷ qs) r = if eqb q.0 r then 0 else length q.1 + row_start qs r
 
 -- the start of a row
 abbrev pub start_of : ℕ → Position

@@ -1,5 +1,5 @@
 -- How slots lay out their records. No clause of another module cites this one.
-use Rattle.std.specs.Prelude.{◌≡◌, ◌+◌, ◌-◌, ◌<◌, ◌^◌, ℕ, zero, suc, List, map, Option, Some, None, is_some, count_by, slice_index_or, cond, ltb}
+use Rattle.std.specs.Prelude.{◌≡◌, ◌+◌, ◌-◌, ◌<◌, ◌^◌, ℕ, zero, suc, List, map, Option, Some, None, is_some, count_by, slice_index_or, if◌then◌else◌, ltb}
 use Rattle.art_slots.specs.declared.slots.Slot.{Slot}
 use Rattle.art_slots.specs.declared.slots.Slot.TheVariants.{Used, Spare}
 
@@ -26,4 +26,4 @@ module _ {T : Type 0} where
 
 -- how many slots more there can be with no memory, where there are so many and places for so many: none where a place's number may be too great
 abbrev pub room_of : (slots capacity : ℕ) → ℕ
-room_of slots capacity = cond (ltb capacity (2 ^ 61)) (capacity - slots) 0
+room_of slots capacity = if ltb capacity (2 ^ 61) then capacity - slots else 0

@@ -1,5 +1,5 @@
 -- What a cursor has still to come in a list of numbered pairs.
-use Rattle.std.specs.Prelude.{◌≡◌, ◌≢◌, ℕ, List, [], ◌∷◌, ◌++◌, Option, Some, None, cond, eqb}
+use Rattle.std.specs.Prelude.{◌≡◌, ◌≢◌, ℕ, List, [], ◌∷◌, ◌++◌, Option, Some, None, if◌then◌else◌, eqb}
 use Rattle.art_tree.specs.Leaves.{Ahead, Numbered, Has, nowhere, RunsBefore, StandsAhead}
 use Rattle.art_walk.specs.declared.cursor.Cursor.{Cursor}
 
@@ -15,12 +15,12 @@ module _ {K V : Type 0} where
   -- the pairs from that of a number on
   abbrev pub from_number : List (Numbered K V) → ℕ → List (Numbered K V)
   from_number [] i = []
-  from_number (p ∷ ps) i = cond (eqb p.0 i) (p ∷ ps) (from_number ps i)
+  from_number (p ∷ ps) i = if eqb p.0 i then p ∷ ps else from_number ps i
 
   -- the pairs through that of a number
   abbrev pub through_number : List (Numbered K V) → ℕ → List (Numbered K V)
   through_number [] i = []
-  through_number (p ∷ ps) i = p ∷ cond (eqb p.0 i) [] (through_number ps i)
+  through_number (p ∷ ps) i = p ∷ (if eqb p.0 i then [] else through_number ps i)
 
   -- the pairs from one number through another
   abbrev pub span_of : List (Numbered K V) → ℕ → ℕ → List (Numbered K V)

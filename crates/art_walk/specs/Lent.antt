@@ -1,5 +1,5 @@
 -- What a walk lent: once the loan is over, the value of one pair was written, and nothing else differs.
-use Rattle.std.specs.Prelude.{◌≡◌, ℕ, List, [], ◌∷◌, ◌++◌, Option, Some, None, Bool, true, false, cond, is_some, map, eqb, length}
+use Rattle.std.specs.Prelude.{◌≡◌, ℕ, List, [], ◌∷◌, ◌++◌, Option, Some, None, Bool, true, false, if◌then◌else◌, is_some, map, eqb, length}
 use Rattle.std.specs.Option.{is_none}
 use Rattle.std.proofs.Common.{ap, refl, ◌∙◌}
 use Rattle.art_tree.proofs.CallerLemmas.{numbers-with_value}
@@ -24,15 +24,15 @@ ends_fit (Some e) ns = is_some (leaf_in (from_number (bare ns) e.0) e.1)
 -- whether the number lent last, if there is one, is among these, and is none of those that are left
 abbrev pub lent_fits : Option ℕ → List (Numbered (Unit {0}) (Unit {0})) → List (Numbered (Unit {0}) (Unit {0})) → Bool
 lent_fits None ps left = true
-lent_fits (Some i) ps left = cond (is_some (leaf_in ps i)) (is_none (leaf_in left i)) false
+lent_fits (Some i) ps left = if is_some (leaf_in ps i) then is_none (leaf_in left i) else false
 
 -- whether a walk that lends fits these numbers: its ends do, and the number that it lent last does
 abbrev pub walk_fits : Cursor → Option ℕ → List ℕ → Bool
-walk_fits c lent ns = cond (ends_fit c.ends ns) (lent_fits lent (bare ns) (leaves_left c (bare ns))) false
+walk_fits c lent ns = if ends_fit c.ends ns then lent_fits lent (bare ns) (leaves_left c (bare ns)) else false
 
 -- whether a walk that counts fits these numbers: it does, and so many are left
 abbrev pub count_fits : Cursor → Option ℕ → ℕ → List ℕ → Bool
-count_fits c lent left ns = cond (walk_fits c lent ns) (eqb left (length (leaves_left c (bare ns)))) false
+count_fits c lent left ns = if walk_fits c lent ns then eqb left (length (leaves_left c (bare ns))) else false
 
 module _ {K V : Type 0} where
   -- the list, once each of the pairs that are left has the value that f gives it

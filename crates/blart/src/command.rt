@@ -114,7 +114,8 @@ fn split_line(line: &[u8]) -> Words<'_>
 
 // The first word, and what follows the space after it if there is one.
 fn split_word(text: &[u8]) -> (&[u8], Option<&[u8]>)
-    ensures { MatchOption result.1 (words_of text.now ≡ result.0.now ∷ []) (λ rest. words_of text.now ≡ result.0.now ∷ words_of rest.now) }
+    ensures { MatchOption result.1 (words_of text.now ≡ result.0.now ∷ [])
+        (λ rest. words_of text.now ≡ result.0.now ∷ words_of rest.now) }
 {
     match space(text) {
         Some(at) => (front(text, at), Some(rest_after(text, at + 1))),

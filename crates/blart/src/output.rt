@@ -71,7 +71,8 @@ impl Outbox {
     /// Sends all that waits.
     pub(crate) fn flush<W: Write>(&mut self, writer: &mut Watched<W>) -> Result<(), RunError>
         requires { watched_failed writer.old ≡ false }
-        ensures sent { IsSent result (W.contents (watched_inner writer.old)) (W.contents (watched_inner writer.new))
+        ensures sent { IsSent result (W.contents (watched_inner writer.old))
+            (W.contents (watched_inner writer.new))
             (watched_failed writer.new) self.old self.new }
         ensures empty { OnOk result (self.new ≡ []) }
     {
@@ -88,7 +89,8 @@ impl Outbox {
     ) -> Result<(), RunError>
         requires mark { watched_failed writer.old ≡ false }
         requires fits { count ≤ ROOM }
-        ensures sent { IsSent result (W.contents (watched_inner writer.old)) (W.contents (watched_inner writer.new))
+        ensures sent { IsSent result (W.contents (watched_inner writer.old))
+            (W.contents (watched_inner writer.new))
             (watched_failed writer.new) self.old self.new }
         ensures room { OnOk result (length self.new + count ≤ ROOM) }
     {
@@ -102,7 +104,8 @@ impl Outbox {
 // Writes all the bytes. After an error a front of them was written.
 fn send<W: Write>(writer: &mut Watched<W>, bytes: &[u8]) -> Result<(), RunError>
     requires { watched_failed writer.old ≡ false }
-    ensures { IsSent result (W.contents (watched_inner writer.old)) (W.contents (watched_inner writer.new))
+    ensures { IsSent result (W.contents (watched_inner writer.old))
+        (W.contents (watched_inner writer.new))
         (watched_failed writer.new) bytes.now [] }
 {
     let mut sent = 0;

@@ -36,7 +36,8 @@ pub fn run<R: Read, W: Write>(
     requires reader { watched_failed reader.old ≡ false }
     requires writer { watched_failed writer.old ≡ false }
     // Where both tell their bytes, and the input is short enough for the reads that there are.
-    ensures answered { (input before : List ℕ) → R.remaining (watched_inner reader.old) ≡ Some input → length input < 2 ^ 64 - 1
+    ensures answered { (input before : List ℕ) → R.remaining (watched_inner reader.old) ≡ Some input
+        → length input < 2 ^ 64 - 1
         → W.contents (watched_inner writer.old) ≡ Some before
         → (read rest written : List ℕ) × (input ≡ read ++ rest)
         × (R.remaining (watched_inner reader.new) ≡ Some rest)
@@ -59,8 +60,10 @@ fn read_all<R: Read, W: Write>(
     requires writer { watched_failed writer.old ≡ false }
     requires line { IsLine session.old.line.items }
     requires none { session.old.outbox ≡ [] }
-    ensures { IsReadAll result (R.remaining (watched_inner reader.old)) (R.remaining (watched_inner reader.new)) (watched_failed reader.new)
-        (W.contents (watched_inner writer.old)) (W.contents (watched_inner writer.new)) (watched_failed writer.new)
+    ensures { IsReadAll result (R.remaining (watched_inner reader.old))
+        (R.remaining (watched_inner reader.new)) (watched_failed reader.new)
+        (W.contents (watched_inner writer.old)) (W.contents (watched_inner writer.new))
+        (watched_failed writer.new)
         (state_of session.old) (state_of session.new) }
 {
     let mut chunk = [0; 8192];

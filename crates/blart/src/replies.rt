@@ -36,8 +36,10 @@ pub(crate) fn reply<W: Write>(
     writer: &mut Watched<W>,
 ) -> Result<(), RunError>
     requires { watched_failed writer.old ≡ false }
-    ensures { IsReplied result (W.contents (watched_inner writer.old)) (W.contents (watched_inner writer.new))
-        (watched_failed writer.new) (content_of map.old) line.now outbox.old outbox.new (content_of map.new) }
+    ensures { IsReplied result (W.contents (watched_inner writer.old))
+        (W.contents (watched_inner writer.new))
+        (watched_failed writer.new) (content_of map.old) line.now outbox.old outbox.new
+        (content_of map.new) }
 {
     match parse(line) {
         Some(Command::Insert(word, value)) => {
@@ -72,7 +74,8 @@ pub(crate) fn reply<W: Write>(
 
 fn insert(map: &mut Pairs, alloc: Global, word: &[u8], value: u64) -> Answer
     ensures { (key : List ℕ) → key_of word.now ≡ Some key
-        → AnswersOrRefuses (content_of map.old) (Insert key value) (text_of result ∷ []) (content_of map.new) }
+        → AnswersOrRefuses (content_of map.old) (Insert key value) (text_of result ∷ [])
+        (content_of map.new) }
 {
     match decode_key(alloc, word) {
         Some(key) => inserted_answer(map.try_insert(key, value)),
@@ -92,7 +95,8 @@ fn get(map: &Pairs, alloc: Global, word: &[u8]) -> Answer
 
 fn remove(map: &mut Pairs, alloc: Global, word: &[u8]) -> Answer
     ensures { (key : List ℕ) → key_of word.now ≡ Some key
-        → AnswersOrRefuses (content_of map.old) (Remove key) (text_of result ∷ []) (content_of map.new) }
+        → AnswersOrRefuses (content_of map.old) (Remove key) (text_of result ∷ [])
+        (content_of map.new) }
 {
     match decode_key(alloc, word) {
         Some(key) => value_answer(map.remove(&key)),
@@ -102,7 +106,8 @@ fn remove(map: &mut Pairs, alloc: Global, word: &[u8]) -> Answer
 
 fn remove_prefix(map: &mut Pairs, alloc: Global, word: &[u8]) -> Answer
     ensures { (key : List ℕ) → key_of word.now ≡ Some key
-        → AnswersOrRefuses (content_of map.old) (RemovePrefix key) (text_of result ∷ []) (content_of map.new) }
+        → AnswersOrRefuses (content_of map.old) (RemovePrefix key) (text_of result ∷ [])
+        (content_of map.new) }
 {
     match decode_key(alloc, word) {
         Some(key) => Answer::Removed(map.remove_prefix(&key)),
@@ -112,7 +117,8 @@ fn remove_prefix(map: &mut Pairs, alloc: Global, word: &[u8]) -> Answer
 
 fn overwrite(map: &mut Pairs, alloc: Global, word: &[u8], value: u64) -> Answer
     ensures { (key : List ℕ) → key_of word.now ≡ Some key
-        → AnswersOrRefuses (content_of map.old) (Overwrite key value) (text_of result ∷ []) (content_of map.new) }
+        → AnswersOrRefuses (content_of map.old) (Overwrite key value) (text_of result ∷ [])
+        (content_of map.new) }
 {
     match decode_key(alloc, word) {
         Some(key) => match map.prefix_insert(key, value) {
@@ -125,7 +131,8 @@ fn overwrite(map: &mut Pairs, alloc: Global, word: &[u8], value: u64) -> Answer
 
 // The word's key, if there is memory for it.
 fn decode_key(alloc: Global, word: &[u8]) -> Option<Vec<u8>>
-    ensures { (key : List ℕ) → key_of word.now ≡ Some key → MatchOption result (key ≢ []) (λ found. key ≡ found.items) }
+    ensures { (key : List ℕ) → key_of word.now ≡ Some key
+        → MatchOption result (key ≢ []) (λ found. key ≡ found.items) }
 {
     if word == b"-".as_slice() {
         return Some(Vec::new(alloc));
@@ -163,7 +170,8 @@ fn write_front<W: Write>(
 ) -> Result<(), RunError>
     requires { watched_failed writer.old ≡ false }
     ensures { (key : List ℕ) → key_of word.now ≡ Some key
-        → (text : List ℕ) × AnswersOrRefuses (content_of map.now) (PrefixGet key) (text ∷ []) (content_of map.now)
+        → (text : List ℕ) × AnswersOrRefuses (content_of map.now) (PrefixGet key) (text ∷ [])
+        (content_of map.now)
         × IsSent result (W.contents (watched_inner writer.old)) (W.contents (watched_inner writer.new))
         (watched_failed writer.new) (outbox.old ++ ended text) outbox.new }
 {
@@ -180,8 +188,11 @@ fn write_found<W: Write>(
     writer: &mut Watched<W>,
 ) -> Result<(), RunError>
     requires { watched_failed writer.old ≡ false }
-    ensures { IsSent result (W.contents (watched_inner writer.old)) (W.contents (watched_inner writer.new))
-        (watched_failed writer.new) (outbox.old ++ ended (found_text (option_map pair_of (option_map (λ pair. (pair.0.now, pair.1.now)) found.entry)))) outbox.new }
+    ensures { IsSent result (W.contents (watched_inner writer.old))
+        (W.contents (watched_inner writer.new))
+        (watched_failed writer.new) (outbox.old ++ ended
+        (found_text (option_map pair_of (option_map (λ pair. (pair.0.now, pair.1.now)) found.entry))))
+        outbox.new }
 {
     match found {
         Some((key, value)) => write_pair(key, *value, outbox, writer),
@@ -196,8 +207,10 @@ fn write_list<W: Write>(
     writer: &mut Watched<W>,
 ) -> Result<(), RunError>
     requires { watched_failed writer.old ≡ false }
-    ensures { IsSent result (W.contents (watched_inner writer.old)) (W.contents (watched_inner writer.new))
-        (watched_failed writer.new) (outbox.old ++ flat_map ended (listing (content_of map.now))) outbox.new }
+    ensures { IsSent result (W.contents (watched_inner writer.old))
+        (W.contents (watched_inner writer.new))
+        (watched_failed writer.new) (outbox.old ++ flat_map ended (listing (content_of map.now)))
+        outbox.new }
 {
     write_listing(map.iter(), outbox, writer)
 }
@@ -212,7 +225,8 @@ fn write_prefix<W: Write>(
 ) -> Result<(), RunError>
     requires { watched_failed writer.old ≡ false }
     ensures { (key : List ℕ) → key_of word.now ≡ Some key
-        → (lines : List (List ℕ)) × AnswersOrRefuses (content_of map.now) (ListPrefix key) lines (content_of map.now)
+        → (lines : List (List ℕ)) × AnswersOrRefuses (content_of map.now) (ListPrefix key) lines
+        (content_of map.now)
         × IsSent result (W.contents (watched_inner writer.old)) (W.contents (watched_inner writer.new))
         (watched_failed writer.new) (outbox.old ++ flat_map ended lines) outbox.new }
 {
@@ -233,7 +247,8 @@ fn write_range<W: Write>(
 ) -> Result<(), RunError>
     requires { watched_failed writer.old ≡ false }
     ensures { (low high : List ℕ) → key_of first.now ≡ Some low → key_of second.now ≡ Some high
-        → (lines : List (List ℕ)) × AnswersOrRefuses (content_of map.now) (ListRange low high) lines (content_of map.now)
+        → (lines : List (List ℕ)) × AnswersOrRefuses (content_of map.now) (ListRange low high) lines
+        (content_of map.now)
         × IsSent result (W.contents (watched_inner writer.old)) (W.contents (watched_inner writer.new))
         (watched_failed writer.new) (outbox.old ++ flat_map ended lines) outbox.new }
 {
@@ -246,7 +261,8 @@ fn write_range<W: Write>(
 // The words' keys, if there is memory for both.
 fn decode_both(alloc: Global, first: &[u8], second: &[u8]) -> Option<(Vec<u8>, Vec<u8>)>
     ensures { (low high : List ℕ) → key_of first.now ≡ Some low → key_of second.now ≡ Some high
-        → MatchOption result ((low ≢ []) ⊎ (high ≢ [])) (λ found. (low ≡ found.0.items) × (high ≡ found.1.items)) }
+        → MatchOption result ((low ≢ []) ⊎ (high ≢ []))
+        (λ found. (low ≡ found.0.items) × (high ≡ found.1.items)) }
 {
     Some((decode_key(alloc, first)?, decode_key(alloc, second)?))
 }
@@ -260,8 +276,10 @@ fn write_between<W: Write>(
     writer: &mut Watched<W>,
 ) -> Result<(), RunError>
     requires { watched_failed writer.old ≡ false }
-    ensures { IsSent result (W.contents (watched_inner writer.old)) (W.contents (watched_inner writer.new))
-        (watched_failed writer.new) (outbox.old ++ flat_map ended (range_lines (content_of map.now) low.now.items high.now.items)) outbox.new }
+    ensures { IsSent result (W.contents (watched_inner writer.old))
+        (W.contents (watched_inner writer.new))
+        (watched_failed writer.new) (outbox.old ++ flat_map ended
+        (range_lines (content_of map.now) low.now.items high.now.items)) outbox.new }
 {
     if !is_range(map, low, high) {
         return write_answer(Answer::RefusedBounds, outbox, writer);
@@ -272,7 +290,8 @@ fn write_between<W: Write>(
 
 // Whether the bounds are in order, or there are no pairs.
 fn is_range(map: &Pairs, low: &Vec<u8>, high: &Vec<u8>) -> bool
-    ensures { result ≡ ((length (pairs map.now) == 0) || in_order (Included low.now.items) (Excluded high.now.items)) }
+    ensures { result ≡ ((length (pairs map.now) == 0)
+        || in_order (Included low.now.items) (Excluded high.now.items)) }
 {
     map.is_empty() || bounds_in_order(Bound::Included(low), Bound::Excluded(high))
 }
@@ -288,7 +307,8 @@ fn write_listing<'a, I: Iterator<Item = (&'a Vec<u8>, &'a u64)> + Drop, W: Write
     requires ends { UpTo (I.remaining walk) (2 ^ 64 - 1) }
     ensures { (pairs : Stored) → AlwaysYields I.next_gives (λ item. (item.0.now, item.1.now)) walk pairs
         → IsSent result (W.contents (watched_inner writer.old)) (W.contents (watched_inner writer.new))
-        (watched_failed writer.new) (outbox.old ++ flat_map ended (listing (by_bytes pairs))) outbox.new }
+        (watched_failed writer.new) (outbox.old ++ flat_map ended (listing (by_bytes pairs)))
+        outbox.new }
 {
     let mut count = 0;
     for (key, value) in walk {

@@ -39,7 +39,8 @@ impl Session {
     // Adds the bytes to the line. Where memory is refused, what waits is sent.
     fn grow<W: Write>(&mut self, writer: &mut Watched<W>, bytes: &[u8]) -> Result<(), RunError>
         requires { watched_failed writer.old ≡ false }
-        ensures { IsGrown result (W.contents (watched_inner writer.old)) (W.contents (watched_inner writer.new))
+        ensures { IsGrown result (W.contents (watched_inner writer.old))
+            (W.contents (watched_inner writer.new))
             (watched_failed writer.new) bytes.now (state_of self.old) (state_of self.new) }
     {
         if self.line.extend_from_slice(bytes).is_err() {
@@ -52,7 +53,8 @@ impl Session {
     // Answers the line, and begins the next.
     fn answer<W: Write>(&mut self, writer: &mut Watched<W>) -> Result<(), RunError>
         requires { watched_failed writer.old ≡ false }
-        ensures { IsAnswered result (W.contents (watched_inner writer.old)) (W.contents (watched_inner writer.new))
+        ensures { IsAnswered result (W.contents (watched_inner writer.old))
+            (W.contents (watched_inner writer.new))
             (watched_failed writer.new) (state_of self.old) (state_of self.new) }
     {
         reply(
@@ -71,7 +73,8 @@ impl Session {
         requires mark { watched_failed writer.old ≡ false }
         requires some { 0 < length bytes.now }
         requires line { IsLine self.old.line.items }
-        ensures { IsStepped result (W.contents (watched_inner writer.old)) (W.contents (watched_inner writer.new))
+        ensures { IsStepped result (W.contents (watched_inner writer.old))
+            (W.contents (watched_inner writer.new))
             (watched_failed writer.new) bytes.now (state_of self.old) (state_of self.new) }
     {
         match first_feed(bytes) {
@@ -95,7 +98,8 @@ impl Session {
     ) -> Result<(), RunError>
         requires mark { watched_failed writer.old ≡ false }
         requires line { IsLine self.old.line.items }
-        ensures served { IsServed result (W.contents (watched_inner writer.old)) (W.contents (watched_inner writer.new))
+        ensures served { IsServed result (W.contents (watched_inner writer.old))
+            (W.contents (watched_inner writer.new))
             (watched_failed writer.new) bytes.now (state_of self.old) (state_of self.new) }
         ensures sent { OnOk result (self.new.outbox ≡ []) }
     {
@@ -109,7 +113,8 @@ impl Session {
     /// Answers the last line, if any bytes of it came, and sends all answers.
     pub(crate) fn finish<W: Write>(&mut self, writer: &mut Watched<W>) -> Result<(), RunError>
         requires { watched_failed writer.old ≡ false }
-        ensures { IsFinished result (W.contents (watched_inner writer.old)) (W.contents (watched_inner writer.new))
+        ensures { IsFinished result (W.contents (watched_inner writer.old))
+            (W.contents (watched_inner writer.new))
             (watched_failed writer.new) (state_of self.old) }
     {
         if self.line.is_empty() {
@@ -122,7 +127,8 @@ impl Session {
 
 // Where the first line feed is.
 fn first_feed(bytes: &[u8]) -> Option<usize>
-    ensures { MatchOption result (IsLine bytes.now) (λ at. (at < length bytes.now) × (slice_index bytes.now at ≡ 10) × IsLine (take at bytes.now)) }
+    ensures { MatchOption result (IsLine bytes.now)
+        (λ at. (at < length bytes.now) × (slice_index bytes.now at ≡ 10) × IsLine (take at bytes.now)) }
 {
     for (at, byte) in bytes.iter().enumerate() {
         if *byte == b'\n' {

@@ -34,7 +34,8 @@ pub(crate) fn write_answer<W: Write>(
     writer: &mut Watched<W>,
 ) -> Result<(), RunError>
     requires { watched_failed writer.old ≡ false }
-    ensures { IsSent result (W.contents (watched_inner writer.old)) (W.contents (watched_inner writer.new))
+    ensures { IsSent result (W.contents (watched_inner writer.old))
+        (W.contents (watched_inner writer.new))
         (watched_failed writer.new) (outbox.old ++ ended (text_of answer)) outbox.new }
 {
     outbox.make_room(writer, 32)?;
@@ -92,7 +93,8 @@ pub(crate) fn write_pair<W: Write>(
     writer: &mut Watched<W>,
 ) -> Result<(), RunError>
     requires { watched_failed writer.old ≡ false }
-    ensures { IsSent result (W.contents (watched_inner writer.old)) (W.contents (watched_inner writer.new))
+    ensures { IsSent result (W.contents (watched_inner writer.old))
+        (W.contents (watched_inner writer.new))
         (watched_failed writer.new) (outbox.old ++ ended (pair_text (key.now, value))) outbox.new }
 {
     write_key(key, outbox, writer)?;
@@ -106,7 +108,8 @@ fn write_value<W: Write>(
     writer: &mut Watched<W>,
 ) -> Result<(), RunError>
     requires { watched_failed writer.old ≡ false }
-    ensures { IsSent result (W.contents (watched_inner writer.old)) (W.contents (watched_inner writer.new))
+    ensures { IsSent result (W.contents (watched_inner writer.old))
+        (W.contents (watched_inner writer.new))
         (watched_failed writer.new) (outbox.old ++ (32 ∷ ended (decimal value))) outbox.new }
 {
     outbox.make_room(writer, 22)?;
@@ -122,7 +125,8 @@ fn write_key<W: Write>(
     writer: &mut Watched<W>,
 ) -> Result<(), RunError>
     requires { watched_failed writer.old ≡ false }
-    ensures { IsSent result (W.contents (watched_inner writer.old)) (W.contents (watched_inner writer.new))
+    ensures { IsSent result (W.contents (watched_inner writer.old))
+        (W.contents (watched_inner writer.new))
         (watched_failed writer.new) (outbox.old ++ key_text key.now) outbox.new }
 {
     if key.is_empty() {
@@ -134,7 +138,8 @@ fn write_key<W: Write>(
 
 fn write_dash<W: Write>(outbox: &mut Outbox, writer: &mut Watched<W>) -> Result<(), RunError>
     requires { watched_failed writer.old ≡ false }
-    ensures { IsSent result (W.contents (watched_inner writer.old)) (W.contents (watched_inner writer.new))
+    ensures { IsSent result (W.contents (watched_inner writer.old))
+        (W.contents (watched_inner writer.new))
         (watched_failed writer.new) (outbox.old ++ codes "-") outbox.new }
 {
     outbox.make_room(writer, 1)?;
@@ -149,7 +154,8 @@ fn write_digits<W: Write>(
     writer: &mut Watched<W>,
 ) -> Result<(), RunError>
     requires { watched_failed writer.old ≡ false }
-    ensures { IsSent result (W.contents (watched_inner writer.old)) (W.contents (watched_inner writer.new))
+    ensures { IsSent result (W.contents (watched_inner writer.old))
+        (W.contents (watched_inner writer.new))
         (watched_failed writer.new) (outbox.old ++ encode_lower key.now) outbox.new }
 {
     for byte in key {
@@ -165,8 +171,11 @@ fn write_byte<W: Write>(
     writer: &mut Watched<W>,
 ) -> Result<(), RunError>
     requires { watched_failed writer.old ≡ false }
-    ensures { IsSent result (W.contents (watched_inner writer.old)) (W.contents (watched_inner writer.new))
-        (watched_failed writer.new) (outbox.old ++ (slice_index lower_digits (byte / 16) ∷ slice_index lower_digits (byte % 16) ∷ [])) outbox.new }
+    ensures { IsSent result (W.contents (watched_inner writer.old))
+        (W.contents (watched_inner writer.new))
+        (watched_failed writer.new) (outbox.old
+        ++ (slice_index lower_digits (byte / 16) ∷ slice_index lower_digits (byte % 16) ∷ []))
+        outbox.new }
 {
     outbox.make_room(writer, 2)?;
     outbox.push(digit(byte / 16));

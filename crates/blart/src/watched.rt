@@ -63,7 +63,8 @@ impl<W: Write> Write for Watched<W> {
         ensures bound { WritesAtMost result buf.now }
         ensures bytes { WriteAppends (W.contents (watched_inner self.old))
             (W.contents (watched_inner self.new)) result buf.now }
-        ensures mark { watched_failed self.new ≡ (watched_failed self.old || takes_nothing result buf.now) }
+        ensures mark { watched_failed self.new
+            ≡ (watched_failed self.old || takes_nothing result buf.now) }
     {
         let result = self.inner.write(buf);
         let took_nothing = match &result {
@@ -75,7 +76,8 @@ impl<W: Write> Write for Watched<W> {
     }
 
     fn flush(&mut self) -> io::Result<()>
-        ensures bytes { Keeps (W.contents (watched_inner self.old)) (W.contents (watched_inner self.new)) }
+        ensures bytes { Keeps (W.contents (watched_inner self.old))
+            (W.contents (watched_inner self.new)) }
         ensures mark { watched_failed self.new ≡ watched_failed self.old }
     {
         self.inner.flush()

@@ -1,5 +1,5 @@
 -- What a map will be, once a walk has taken the pairs that pass a test.
-use Rattle.std.specs.Prelude.{ℕ, List, [], ◌∷◌, filter, Bool, cond}
+use Rattle.std.specs.Prelude.{ℕ, List, [], ◌∷◌, filter, Bool, if◌then◌else◌}
 use Rattle.blart_keys.specs.declared.AsBytes.{Ghosts}
 use Rattle.art_tree.specs.Leaves.{Numbered, without_number}
 use Rattle.blart_map.specs.Content.{pairs}
@@ -12,7 +12,7 @@ module _ {K V : Type 0} where
   -- the list, once those of the pairs left that pass the test are taken
   abbrev pub taken_all : (K × V → Bool) → List (Numbered K V) → List (Numbered K V) → List (Numbered K V)
   taken_all test [] ps = ps
-  taken_all test (p ∷ left) ps = taken_all test left (cond (test p.1) (without_number ps p.0) ps)
+  taken_all test (p ∷ left) ps = taken_all test left (if test p.1 then without_number ps p.0 else ps)
 
 module _ {K V : Type 0} {p : ℕ} {g : Ghosts K} where
   -- the pairs of the map, once those that are still to be lent and pass the test are taken

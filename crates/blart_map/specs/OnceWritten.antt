@@ -1,5 +1,5 @@
 -- What a map will be, once a walk has lent all values that it has left.
-use Rattle.std.specs.Prelude.{ℕ, List, map, cond, Bool}
+use Rattle.std.specs.Prelude.{ℕ, List, map, if◌then◌else◌, Bool}
 use Rattle.blart_keys.specs.declared.AsBytes.{Ghosts}
 use Rattle.art_walk.specs.Lent.{written_all}
 use Rattle.blart_map.specs.Content.{pairs}
@@ -11,7 +11,7 @@ use Rattle.blart_map.specs.CountedWalk.{counted_left}
 module _ {K V : Type 0} where
   -- the pairs, those that pass the test with the value that f gives them
   abbrev pub rewritten : (K × V → Bool) → (K × V → V) → List (K × V) → List (K × V)
-  rewritten test f S = map (λ x. cond (test x) (x.0, f x) x) S
+  rewritten test f S = map (λ x. if test x then (x.0, f x) else x) S
 
   -- the pairs, each with the value that f gives it
   abbrev pub all_rewritten : (K × V → V) → List (K × V) → List (K × V)

@@ -1,5 +1,5 @@
 -- The leaves whose keys are related to some bytes.
-use Rattle.std.specs.Prelude.{◌≡◌, ◌↔◌, ℕ, Bool, true, false, cond, eqb, List, filter, Option, Some, None}
+use Rattle.std.specs.Prelude.{◌≡◌, ◌↔◌, ℕ, Bool, true, false, if◌then◌else◌, eqb, List, filter, Option, Some, None}
 use Rattle.blart_keys.specs.Bytes.{related}
 use Rattle.blart_keys.specs.Content.{subtree}
 use Rattle.art_tree.specs.Leaves.{Numbered, leaf_in, first_number, last_number, bytes}
@@ -17,7 +17,7 @@ module _ {K V : Type 0} (key_bytes : K → List ℕ) where
 
   -- whether they do
   abbrev pub spans : List (Numbered K V) → List ℕ → ℕ → ℕ → Bool
-  spans pairs q first last = cond (is_number (first_number (subtree (bytes key_bytes) pairs q)) first) (is_number (last_number (subtree (bytes key_bytes) pairs q)) last) false
+  spans pairs q first last = if is_number (first_number (subtree (bytes key_bytes) pairs q)) first then is_number (last_number (subtree (bytes key_bytes) pairs q)) last else false
 
   -- the numbers of pairs not related to q name what they named
   abbrev pub UnrelatedStand : List (Numbered K V) → List ℕ → List (Numbered K V) → Type 0
@@ -25,7 +25,7 @@ module _ {K V : Type 0} (key_bytes : K → List ℕ) where
 
   -- the pairs, without those related to q that have another number
   abbrev pub thinned : List (Numbered K V) → List ℕ → ℕ → List (Numbered K V)
-  thinned pairs q id = filter (λ p. cond (related (key_bytes p.1.0) q) (eqb p.0 id) true) pairs
+  thinned pairs q id = filter (λ p. if related (key_bytes p.1.0) q then eqb p.0 id else true) pairs
 
   -- of the pairs related to q that of the number is left, and all others stand
   pub record LeavesOne (old : List (Numbered K V)) (q : List ℕ) (id : ℕ) (new : List (Numbered K V)) : Type 0 where

@@ -51,7 +51,8 @@ impl<K: AsBytes + Drop, V: Drop, const PREFIX_LEN: usize> Tree<K, V, PREFIX_LEN>
     /// The key of a leaf, and its value to be written.
     pub fn leaf_mut(&mut self, id: LeafId) -> (&K, &mut V)
         requires { Has self.old.pairs id }
-        ensures* writes_back { sem 𝓛 (lends_leaf K.row V.row PREFIX_LEN.row K.AsBytes self.entry id result.1) }
+        ensures* writes_back { sem 𝓛
+            (lends_leaf K.row V.row PREFIX_LEN.row K.AsBytes self.entry id result.1) }
         ensures value { leaf_in self.old.pairs id ≡ Some (result.0.now, result.1.now) }
     {
         self.leaves.get_mut(id)
@@ -60,7 +61,8 @@ impl<K: AsBytes + Drop, V: Drop, const PREFIX_LEN: usize> Tree<K, V, PREFIX_LEN>
     /// The value of a leaf, to be written.
     pub fn value_mut(&mut self, id: LeafId) -> &mut V
         requires { Has self.old.pairs id }
-        ensures* writes_back { sem 𝓛 (lends_leaf K.row V.row PREFIX_LEN.row K.AsBytes self.entry id result) }
+        ensures* writes_back { sem 𝓛
+            (lends_leaf K.row V.row PREFIX_LEN.row K.AsBytes self.entry id result) }
         ensures value { option_map (λ p. p.1) (leaf_in self.old.pairs id) ≡ Some result.now }
     {
         self.leaf_mut(id).1

@@ -110,9 +110,11 @@ pub(crate) fn end_under<const P: usize>(
     visits: &mut Visits,
 ) -> LeafId
     requires { IsSubtree P (at nodes.now) child.now }
-    ensures ends { (keys : ℕ → Option Bytes) (root : Option Way) (s : Shape P keys (at nodes.now) root) (g : Bytes)
+    ensures ends { (keys : ℕ → Option Bytes) (root : Option Way) (s : Shape P keys (at nodes.now) root)
+        (g : Bytes)
         → Covers keys (at nodes.now) s.front_of g child.now → IsEndUnder keys is_first g result }
-    ensures counted { (keys : ℕ → Option Bytes) (root : Option Way) (s : Shape P keys (at nodes.now) root) (g key : Bytes)
+    ensures counted { (keys : ℕ → Option Bytes) (root : Option Way)
+        (s : Shape P keys (at nodes.now) root) (g key : Bytes)
         → Covers keys (at nodes.now) s.front_of g child.now → keys result ≡ Some key
         → visits.new.count + length g ≤ visits.old.count + length key }
     ensures grows { visits.old.count ≤ visits.new.count }
@@ -135,7 +137,8 @@ pub(crate) fn locate<const P: usize>(
     visits: &mut Visits,
 ) -> Spot
     requires { IsWayOf P (at nodes.now) root.now mate.now depth }
-    ensures spot { (keys : ℕ → Option Bytes) (s : Shape P keys (at nodes.now) (Some root.now)) (i : ℕ) → keys i ≡ Some mate.now
+    ensures spot { (keys : ℕ → Option Bytes) (s : Shape P keys (at nodes.now) (Some root.now)) (i : ℕ)
+        → keys i ≡ Some mate.now
         → SpotFits (at nodes.now) (Some root.now) s.front_of mate.now depth result }
     ensures counted { visits.new.count ≤ visits.old.count + depth + 1 }
     ensures grows { visits.old.count ≤ visits.new.count }

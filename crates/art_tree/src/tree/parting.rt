@@ -48,7 +48,8 @@ pub(crate) fn nearest_leaf<'a, K: AsBytes, V, const P: usize>(
     visits: &mut Visits,
 ) -> (LeafId, &'a [u8], usize)
     requires { IsSound K.bytes P leaves.now nodes.now (Some root.now) }
-    ensures nearest { IsNearest (keys_in K.bytes leaves.now.pairs) query.now result.0 result.1.now result.2 }
+    ensures nearest { IsNearest (keys_in K.bytes leaves.now.pairs) query.now result.0 result.1.now
+        result.2 }
     ensures counted { visits.new.count
         ≤ visits.old.count + longest (bytes K.bytes) leaves.now.pairs + 1 }
     ensures grows { visits.old.count ≤ visits.new.count }
@@ -173,7 +174,8 @@ pub(crate) fn edge_beside<const P: usize>(
     byte: u8,
     visits: &mut Visits,
 ) -> (Edge, bool)
-    requires { (keys : ℕ → Option Bytes) × (q : Bytes) × LeavesAtNode P keys (at nodes.now) id.now byte q }
+    requires { (keys : ℕ → Option Bytes) × (q : Bytes)
+        × LeavesAtNode P keys (at nodes.now) id.now byte q }
     ensures edge { IsEdgeBeside (at nodes.now) id.now byte result.0 result.1 }
     ensures counted { visits.new.count ≡ visits.old.count + 1 }
 {

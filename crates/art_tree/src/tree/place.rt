@@ -116,7 +116,8 @@ fn place_beside<K: AsBytes + Drop, V: Drop, const P: usize>(
 // Where a key leaves the mate's at the depth of a place: at the end of the place's edge, where that shows, or else at the end of a way down.
 fn spot_for<const P: usize>(nodes: &Nodes<P>, root: &Child, place: &Place, mate: &[u8]) -> Spot
     requires { HasMate P (at nodes.now) root.now place.now mate.now }
-    ensures { (keys : ℕ → Option Bytes) (s : Shape P keys (at nodes.now) (Some root.now)) → keys place.now.mate ≡ Some mate.now
+    ensures { (keys : ℕ → Option Bytes) (s : Shape P keys (at nodes.now) (Some root.now))
+        → keys place.now.mate ≡ Some mate.now
         → SpotFits (at nodes.now) (Some root.now) s.front_of mate.now place.now.depth result }
 {
     match spot_shown(nodes, root, place) {
@@ -127,7 +128,8 @@ fn spot_for<const P: usize>(nodes: &Nodes<P>, root: &Child, place: &Place, mate:
 
 // The spot at the end of a place's edge, where the mate's leaf is at hand to show it.
 fn spot_shown<const P: usize>(nodes: &Nodes<P>, root: &Child, place: &Place) -> Option<Spot>
-    ensures { IfSome result (λ spot. (keys : ℕ → Option Bytes) (s : Shape P keys (at nodes.now) (Some root.now)) (mate : Bytes)
+    ensures { IfSome result (λ spot. (keys : ℕ → Option Bytes)
+        (s : Shape P keys (at nodes.now) (Some root.now)) (mate : Bytes)
         → keys place.now.mate ≡ Some mate → place.now.depth ≤ length mate
         → SpotFits (at nodes.now) (Some root.now) s.front_of mate place.now.depth spot) }
 {
@@ -181,7 +183,8 @@ fn is_within<const P: usize>(nodes: &Nodes<P>, above: &EdgeAbove, depth: usize) 
 
 // Whether a node is as deep as a place and has the mate below the place's byte.
 fn is_over_mate<const P: usize>(nodes: &Nodes<P>, id: &NodeId, place: &Place) -> bool
-    ensures { result ≡ true → IsOverLeaf (at nodes.now) id.now place.now.depth place.now.byte place.now.mate }
+    ensures { result ≡ true
+        → IsOverLeaf (at nodes.now) id.now place.now.depth place.now.byte place.now.mate }
 {
     if !nodes.has(*id) {
         return false;
@@ -206,7 +209,8 @@ fn add_leaf<const P: usize>(
     spot: &Spot,
     leaf: &NewLeaf<'_>,
 ) -> Child
-    requires spot_fits { IsSpotFor P (at nodes.old) root.now spot.now leaf.now.key.now leaf.now.mate.now leaf.now.depth }
+    requires spot_fits { IsSpotFor P (at nodes.old) root.now spot.now
+        leaf.now.key.now leaf.now.mate.now leaf.now.depth }
     requires fits { 0 < room nodes.old }
     ensures gains { TreeGains P (at nodes.old) (at nodes.new) root.now result
         spot.now leaf.now.key.now leaf.now.mate.now leaf.now.depth leaf.now.id }
@@ -275,7 +279,8 @@ pub(crate) fn lead<const P: usize>(
     to: &Child,
 ) -> Child
     requires { (child : Way) × LeadsTo (at nodes.old) (Some root.now) above.now child }
-    ensures turned { TurnsTo (at nodes.old) (at nodes.new) (Some root.now) (Some result) above.now to.now }
+    ensures turned { TurnsTo (at nodes.old) (at nodes.new) (Some root.now) (Some result)
+        above.now to.now }
     ensures spares { SameSpares nodes.old nodes.new }
 {
     match above {
@@ -297,7 +302,8 @@ fn fork<const P: usize>(
 ) -> NodeId
     requires fits { FitsNew nodes.old }
     requires apart { one.now.byte ≢ other.now.byte }
-    ensures made { Forks (at nodes.old) (at nodes.new) result depth (take P prefix.now) one.now other.now }
+    ensures made { Forks (at nodes.old) (at nodes.new) result depth
+        (take P prefix.now) one.now other.now }
     ensures room { room nodes.old ≤ room nodes.new + 1 }
 {
     if one.byte < other.byte {
@@ -355,7 +361,8 @@ pub(crate) fn cut_prefix<const P: usize>(
     requires live { DepthWithin (at nodes.old) child.now start (length key.now) }
     requires kept { KeepsFrom P (at nodes.old) child.now key.now from }
     requires behind { from ≤ start }
-    ensures cut { Cuts (at nodes.old) (at nodes.new) child.now (λ end. take P (slice_range key.now start end)) }
+    ensures cut { Cuts (at nodes.old) (at nodes.new) child.now
+        (λ end. take P (slice_range key.now start end)) }
     ensures spares { SameSpares nodes.old nodes.new }
 {
     match child {

@@ -87,10 +87,13 @@ fn place_under<const P: usize>(
     depth: usize,
     above: &EdgeAbove,
 ) -> Place
-    requires { (keys : ℕ → Option Bytes) × (q : Bytes) × IsPlaceUnder P keys (at nodes.now) q depth edge.now.to is_behind }
-    ensures leaves { (keys : ℕ → Option Bytes) (q : Bytes) → IsPlaceUnder P keys (at nodes.now) q depth edge.now.to is_behind
+    requires { (keys : ℕ → Option Bytes) × (q : Bytes)
+        × IsPlaceUnder P keys (at nodes.now) q depth edge.now.to is_behind }
+    ensures leaves { (keys : ℕ → Option Bytes) (q : Bytes)
+        → IsPlaceUnder P keys (at nodes.now) q depth edge.now.to is_behind
         → LeavesMate keys result.mate result.depth q }
-    ensures beside { (keys : ℕ → Option Bytes) (q : Bytes) → IsPlaceUnder P keys (at nodes.now) q depth edge.now.to is_behind
+    ensures beside { (keys : ℕ → Option Bytes) (q : Bytes)
+        → IsPlaceUnder P keys (at nodes.now) q depth edge.now.to is_behind
         → IsBeside keys q result.beside }
 {
     let mate = end_under(nodes, &edge.to, !is_behind, &mut Visits::new());

@@ -58,7 +58,8 @@ fn prune<K: AsBytes + Drop, V: Drop, const P: usize>(
 ) -> Child
     requires sound { IsSound K.bytes P leaves.old nodes.old (Some root.now) }
     requires branch { (s : Shape P (keys_in K.bytes leaves.old.pairs) (at nodes.old) (Some root.now))
-        → IsBranch (keys_in K.bytes leaves.old.pairs) (at nodes.old) (Some root.now) s.front_of prefix.now branch.now }
+        → IsBranch (keys_in K.bytes leaves.old.pairs) (at nodes.old)
+        (Some root.now) s.front_of prefix.now branch.now }
     requires ends { ends (under (bytes K.bytes) leaves.old.pairs prefix.now)
         ≡ Some (branch.now.first, branch.now.last) }
     ensures sound { IsSound K.bytes P leaves.new nodes.new (Some result) }
@@ -86,7 +87,8 @@ fn remove_leaves<K: AsBytes + Drop, V: Drop>(
     ensures ends { ends (under (bytes K.bytes) leaves.new.pairs prefix.now) ≡ Some (last, last) }
     ensures rest { outside (bytes K.bytes) leaves.new.pairs prefix.now
         ≡ outside (bytes K.bytes) leaves.old.pairs prefix.now }
-    ensures stood { (j : ℕ) (x : K × V) → leaf_in leaves.new.pairs j ≡ Some x → leaf_in leaves.old.pairs j ≡ Some x }
+    ensures stood { (j : ℕ) (x : K × V) → leaf_in leaves.new.pairs j ≡ Some x
+        → leaf_in leaves.old.pairs j ≡ Some x }
 {
     let mut id = first;
     'each: while id != last {

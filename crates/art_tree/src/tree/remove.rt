@@ -176,7 +176,8 @@ fn shrink<const P: usize>(
 ) -> Child
     requires { (keys : ℕ → Option Bytes) × (i : ℕ)
         × IsLeafOf P keys (at nodes.old) (Some root.now) above.now node.now byte i }
-    ensures { (keys keys' : ℕ → Option Bytes) (i : ℕ) (h : IsLeafOf P keys (at nodes.old) (Some root.now) above.now node.now byte i)
+    ensures { (keys keys' : ℕ → Option Bytes) (i : ℕ)
+        (h : IsLeafOf P keys (at nodes.old) (Some root.now) above.now node.now byte i)
         → 2 < length h.node.edges → Loses keys keys' i h.key
         → Shape P keys' (at nodes.new) (Some result) }
 {
@@ -195,7 +196,8 @@ fn merge<const P: usize>(
 ) -> Child
     requires leads { LeadsTo (at nodes.old) (Some root.now) above.now (Inner node.now) }
     requires live { IsSome (at nodes.old node.now) }
-    ensures { Merged (at nodes.old) (at nodes.new) (Some root.now) (Some result) above.now node.now to.now }
+    ensures { Merged (at nodes.old) (at nodes.new) (Some root.now) (Some result)
+        above.now node.now to.now }
 {
     let root = lead(nodes, root, above, to);
     nodes.free(*node);
@@ -223,8 +225,10 @@ fn other_edge<const P: usize>(nodes: &Nodes<P>, node: &NodeId, byte: u8) -> Edge
 fn join_child<const P: usize>(nodes: &mut Nodes<P>, node: &NodeId, edge: &Edge)
     requires { (keys : ℕ → Option Bytes) × (above : Option (ℕ × ℕ))
         × IsChildBelow P keys (at nodes.old) above node.now edge.now }
-    ensures { (keys : ℕ → Option Bytes) (above : Option (ℕ × ℕ)) (h : IsChildBelow P keys (at nodes.old) above node.now edge.now)
-        → CutsBehind P (at nodes.old) (at nodes.new) h.shape.front_of (edge_front h.shape.front_of above) edge.now.to }
+    ensures { (keys : ℕ → Option Bytes) (above : Option (ℕ × ℕ))
+        (h : IsChildBelow P keys (at nodes.old) above node.now edge.now)
+        → CutsBehind P (at nodes.old) (at nodes.new) h.shape.front_of
+        (edge_front h.shape.front_of above) edge.now.to }
 {
     match edge.to {
         Child::Leaf(_) => {}

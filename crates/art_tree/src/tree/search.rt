@@ -94,7 +94,8 @@ pub(crate) fn pair_toward<'a, K: AsBytes, V, const P: usize>(
     visits: &mut Visits,
 ) -> Option<(LeafSpot, &'a K, &'a V)>
     requires { IsSound K.bytes P leaves.now nodes.now root.now }
-    ensures found { IsFrontAlone K.bytes leaves.now.pairs query.now (option_map (λ f. (f.0.id, (f.1.now, f.2.now))) result) }
+    ensures found { IsFrontAlone K.bytes leaves.now.pairs query.now
+        (option_map (λ f. (f.0.id, (f.1.now, f.2.now))) result) }
     ensures spot { IfSome result (λ f. IsLeafSpot (nodes_at nodes.now) root.now f.0) }
     ensures counted { visits.new.count ≤ visits.old.count + length query.now + 1 }
     ensures grows { visits.old.count ≤ visits.new.count }

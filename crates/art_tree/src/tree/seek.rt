@@ -26,7 +26,8 @@ impl<K: AsBytes + Drop, V: Drop, const PREFIX_LEN: usize> Tree<K, V, PREFIX_LEN>
         ensures found { result
             ≡ number_within (bytes K.bytes) self.now.pairs (bound_bytes (λ b. b) bound.entry) is_start }
         ensures counted { visits.new.count
-            ≤ visits.old.count + (bound_len (bound_bytes (λ b. b) bound.entry) + 2) * (longest (bytes K.bytes) self.now.pairs + 1) + 1 }
+            ≤ visits.old.count + (bound_len (bound_bytes (λ b. b) bound.entry) + 2)
+            * (longest (bytes K.bytes) self.now.pairs + 1) + 1 }
         ensures grows { visits.old.count ≤ visits.new.count }
         ensures empty { self.now.pairs ≡ [] → visits.new.count ≡ visits.old.count }
     {
@@ -85,7 +86,8 @@ impl<K: AsBytes + Drop, V: Drop, const PREFIX_LEN: usize> Tree<K, V, PREFIX_LEN>
     fn find_place(&self, query: &[u8], visits: &mut Visits) -> Result<LeafId, Option<LeafId>>
         ensures stands { IsPlaceOf (keys_in K.bytes self.now.pairs) query.now result }
         ensures counted { visits.new.count
-            ≤ visits.old.count + (length query.now + 2) * (longest (bytes K.bytes) self.now.pairs + 1) + 1 }
+            ≤ visits.old.count + (length query.now + 2) * (longest (bytes K.bytes) self.now.pairs + 1)
+            + 1 }
         ensures grows { visits.old.count ≤ visits.new.count }
         ensures empty { self.now.pairs ≡ [] → visits.new.count ≡ visits.old.count }
     {
@@ -107,7 +109,8 @@ fn place_below<K: AsBytes, V, const P: usize>(
     requires { IsSound K.bytes P leaves.now nodes.now (Some root.now) }
     ensures stands { IsPlaceOf (keys_in K.bytes leaves.now.pairs) query.now result }
     ensures counted { visits.new.count
-        ≤ visits.old.count + (length query.now + 2) * (longest (bytes K.bytes) leaves.now.pairs + 1) + 1 }
+        ≤ visits.old.count + (length query.now + 2) * (longest (bytes K.bytes) leaves.now.pairs + 1)
+        + 1 }
     ensures grows { visits.old.count ≤ visits.new.count }
 {
     leaves.law();
@@ -137,7 +140,8 @@ pub(crate) fn branch_below<K: AsBytes, V, const P: usize>(
     ensures found { option_map (λ b. (b.first, b.last)) result
         ≡ ends (under (bytes K.bytes) leaves.now.pairs front.now) }
     ensures branch { (s : Shape P (keys_in K.bytes leaves.now.pairs) (at nodes.now) (Some root.now))
-        → IfSome result (IsBranch (keys_in K.bytes leaves.now.pairs) (at nodes.now) (Some root.now) s.front_of front.now) }
+        → IfSome result (IsBranch (keys_in K.bytes leaves.now.pairs) (at nodes.now)
+        (Some root.now) s.front_of front.now) }
     ensures counted { visits.new.count
         ≤ visits.old.count + (length front.now + 3) * (longest (bytes K.bytes) leaves.now.pairs + 1) }
     ensures grows { visits.old.count ≤ visits.new.count }

@@ -22,8 +22,10 @@ pub(crate) fn uproot<const P: usize>(
     leaf: &LeafId,
 ) -> Child
     requires { (keys : ℕ → Option Bytes)
-        × Shape P keys (at nodes.old) (Some root.now) × LeadsTo (at nodes.old) (Some root.now) above.now child.now }
-    ensures { (keys keys' : ℕ → Option Bytes) (s : Shape P keys (at nodes.old) (Some root.now)) (k : Bytes)
+        × Shape P keys (at nodes.old) (Some root.now)
+        × LeadsTo (at nodes.old) (Some root.now) above.now child.now }
+    ensures { (keys keys' : ℕ → Option Bytes) (s : Shape P keys (at nodes.old) (Some root.now))
+        (k : Bytes)
         → LeadsTo (at nodes.old) (Some root.now) above.now child.now
         → Prunes keys keys' (edge_front s.front_of above.now) leaf.now k
         → Shape P keys' (at nodes.new) (Some result) }
@@ -36,7 +38,8 @@ pub(crate) fn uproot<const P: usize>(
 fn free_child<const P: usize>(nodes: &mut Nodes<P>, child: &Child)
     requires { (keys : ℕ → Option Bytes) × (root : Option Way) × (above : Option (ℕ × ℕ))
         × Shape P keys (at nodes.old) root × LeadsTo (at nodes.old) root above child.now }
-    ensures { (keys : ℕ → Option Bytes) (root : Option Way) (above : Option (ℕ × ℕ)) (s : Shape P keys (at nodes.old) root)
+    ensures { (keys : ℕ → Option Bytes) (root : Option Way) (above : Option (ℕ × ℕ))
+        (s : Shape P keys (at nodes.old) root)
         → LeadsTo (at nodes.old) root above child.now
         → Uproots (at nodes.old) (at nodes.new) s.front_of (edge_front s.front_of above) }
 {
@@ -85,9 +88,11 @@ fn first_node<const P: usize>(nodes: &Nodes<P>, id: NodeId) -> Option<(u8, NodeI
 
 // Goes on to a node below: by the last edge of all the upper node is freed, and by another the lower one is turned above it.
 fn advance<const P: usize>(nodes: &mut Nodes<P>, head: NodeId, byte: u8, below: NodeId)
-    requires loose { (goes : ℕ → Bool) × (before : ℕ → Option Node) × Loose goes before (at nodes.old) head }
+    requires loose { (goes : ℕ → Bool) × (before : ℕ → Option Node)
+        × Loose goes before (at nodes.old) head }
     requires first { HasFirstNode (at nodes.old) head (Some (byte, below)) }
-    ensures loose { (goes : ℕ → Bool) (before : ℕ → Option Node) → Loose goes before (at nodes.old) head → Loose goes before (at nodes.new) below }
+    ensures loose { (goes : ℕ → Bool) (before : ℕ → Option Node) → Loose goes before (at nodes.old) head
+        → Loose goes before (at nodes.new) below }
     ensures advances { Advances nodes.old nodes.new head below }
 {
     let node = nodes.read(head, &mut Visits::new());
@@ -102,10 +107,12 @@ fn advance<const P: usize>(nodes: &mut Nodes<P>, head: NodeId, byte: u8, below: 
 
 // Turns a node above the one that it hangs on: what hung at its last edge hangs where it hung.
 fn raise<const P: usize>(nodes: &mut Nodes<P>, head: NodeId, byte: u8, below: NodeId)
-    requires loose { (goes : ℕ → Bool) × (before : ℕ → Option Node) × Loose goes before (at nodes.old) head }
+    requires loose { (goes : ℕ → Bool) × (before : ℕ → Option Node)
+        × Loose goes before (at nodes.old) head }
     requires leads { LeadsIn (at nodes.old) head byte below }
     requires behind { (y : Node) → at nodes.old head ≡ Some y → IsNotLast y.edges byte }
-    ensures loose { (goes : ℕ → Bool) (before : ℕ → Option Node) → Loose goes before (at nodes.old) head → Loose goes before (at nodes.new) below }
+    ensures loose { (goes : ℕ → Bool) (before : ℕ → Option Node) → Loose goes before (at nodes.old) head
+        → Loose goes before (at nodes.new) below }
     ensures deeper { IsDeeper (at nodes.old) (at nodes.new) head below }
     ensures live { live nodes.new ≡ live nodes.old }
 {
