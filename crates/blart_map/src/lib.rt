@@ -16,7 +16,6 @@ mod inner;
 mod insertions;
 mod into_walks;
 mod map;
-mod numbered;
 mod occupied;
 mod over;
 mod placing;
