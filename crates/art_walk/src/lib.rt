@@ -3,6 +3,7 @@
 //! A [`Cursor`] knows the first and the last leaf that are still to come. The walks are seen as the list of what they have still to give, in byte order of the keys.
 #![tactic(auto)]
 
+mod bounded_iter;
 mod cursor;
 mod into_iter;
 mod into_keys;
@@ -10,14 +11,12 @@ mod into_values;
 mod iter;
 mod keys;
 mod openings;
-mod prefix;
-mod range;
 mod retaining;
 mod seeks;
-mod subtree_iter;
 mod values;
 mod walk;
 
+pub use bounded_iter::{BoundedIter, Prefix, Range, SubtreeIter};
 pub use cursor::Cursor;
 pub use into_iter::IntoIter;
 pub use into_keys::IntoKeys;
@@ -25,8 +24,5 @@ pub use into_values::IntoValues;
 pub use iter::Iter;
 pub use keys::Keys;
 pub use openings::{BelowFront, InRange, InSubtree, ValuesAlone, WithKeys};
-pub use prefix::Prefix;
-pub use range::Range;
 pub use retaining::retain;
-pub use subtree_iter::SubtreeIter;
 pub use values::Values;

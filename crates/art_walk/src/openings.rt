@@ -1,4 +1,4 @@
-//! Types that say how a walk that lends values was opened, by which walks that differ in nothing else are told apart.
+//! Types that say how a walk was opened, by which walks that differ in nothing else are told apart.
 
 /// Says that a walk lends values with their keys.
 #[derive(Drop)]

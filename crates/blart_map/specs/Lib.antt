@@ -7,7 +7,6 @@ pub mod EntryFits
 pub mod InnerEntry
 pub mod InnerLends
 pub mod Lent
-pub mod MapLends
 pub mod Modified
 pub mod OccupiedEntry
 pub mod OccupiedLends

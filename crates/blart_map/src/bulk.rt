@@ -3,5 +3,4 @@ mod append;
 mod clone;
 mod extend;
 mod from;
-mod reserved;
 mod split_off;

@@ -213,7 +213,6 @@ impl<K: NoPrefixesBytes + Drop, V: Drop, const PREFIX_LEN: usize> TreeMap<K, V, 
         ensures unchanged { (entry_ref result).now ≡ self.old }
         ensures is_for { IsEntryFor (pairs self.old) key result }
     {
-        self.numbers_law();
         match self.lawful_point(&key) {
             Point::Exact(id) => Entry::Occupied(OccupiedEntry {
                 map: self,

@@ -27,12 +27,11 @@ impl<K: NoPrefixesBytes + Drop, V: Drop, const PREFIX_LEN: usize> TreeMap<K, V, 
             (λ r. r.now ≡ unwrap_or (value_at K.bytes (pairs self.old) (K.bytes key)) value) }
         ensures absent { OnErr result (has K.bytes (pairs self.old) (K.bytes key) ≡ false) }
     {
-        self.numbers_law();
         match self.lawful_point(&key) {
-            Point::Exact(id) => Ok(self.value_of(id)),
+            Point::Exact(id) => Ok(self.value_mut(id)),
             Point::Related { .. } => unreachable!(),
             Point::Empty | Point::Free(_) => match self.place_new(key, value) {
-                Ok(id) => Ok(self.value_of(id)),
+                Ok(id) => Ok(self.value_mut(id)),
                 Err(refused) => Err(refused),
             },
         }
@@ -53,12 +52,11 @@ impl<K: NoPrefixesBytes + Drop, V: Drop, const PREFIX_LEN: usize> TreeMap<K, V, 
             (value_at K.bytes (pairs self.old) (K.bytes key)) (F.post value) r.now) }
         ensures absent { OnErr result (has K.bytes (pairs self.old) (K.bytes key) ≡ false) }
     {
-        self.numbers_law();
         match self.lawful_point(&key) {
-            Point::Exact(leaf) => Ok(self.value_of(leaf)),
+            Point::Exact(leaf) => Ok(self.value_mut(leaf)),
             Point::Related { .. } => unreachable!(),
             Point::Empty | Point::Free(_) => match self.place_new_with(key, value) {
-                Ok(id) => Ok(self.value_of(id)),
+                Ok(id) => Ok(self.value_mut(id)),
                 Err(refused) => Err(refused),
             },
         }

@@ -66,7 +66,7 @@ impl<'a, K: AsBytes + Drop, V: Drop, const PREFIX_LEN: usize, T: 'a> InnerOccupi
     {
         self.map.numbers_law();
         if self.first == self.last {
-            Some(self.map.pair_of(self.first))
+            Some(self.map.leaf(self.first))
         } else {
             None
         }
@@ -104,7 +104,7 @@ impl<'a, K: AsBytes + Drop, V: Drop, const PREFIX_LEN: usize, T: 'a> InnerOccupi
         self.map.numbers_law();
         let id = self.first;
         if id == self.last {
-            return Some(self.map.value_of(id));
+            return Some(self.map.value_mut(id));
         }
         None
     }
@@ -259,6 +259,6 @@ impl<'a, K: AsBytes + Drop, V: Drop, const PREFIX_LEN: usize> InnerOccupiedEntry
         map.numbers_law();
         map.overwrite(first, last, key, value);
         map.numbers_law();
-        map.value_of(last)
+        map.value_mut(last)
     }
 }

@@ -16,7 +16,6 @@ mod inner;
 mod insertions;
 mod into_walks;
 mod map;
-mod numbered;
 mod occupied;
 mod over;
 mod placing;
@@ -30,8 +29,8 @@ mod writes;
 
 pub use art_tree::{DEFAULT_PREFIX_LEN, LeafId, Visits};
 pub use art_walk::{
-    BelowFront, Cursor, InRange, InSubtree, IntoIter, IntoKeys, IntoValues, Iter, Keys, Prefix,
-    Range, SubtreeIter, Values, ValuesAlone, WithKeys,
+    BelowFront, BoundedIter, Cursor, InRange, InSubtree, IntoIter, IntoKeys, IntoValues, Iter,
+    Keys, Prefix, Range, SubtreeIter, Values, ValuesAlone, WithKeys,
 };
 pub use blart_keys::{Call, InsertPrefixError, Reply, TryInsertError};
 pub use calls::{bounds_in_order, drive};

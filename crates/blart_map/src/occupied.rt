@@ -45,14 +45,14 @@ impl<'a, K: AsBytes + Drop, V: Drop, const PREFIX_LEN: usize, T: 'a> OccupiedEnt
     pub fn key(&self) -> &K
         ensures { entry_key (Occupied self.now) ≡ Some result.now }
     {
-        self.map.pair_of(self.id).0
+        self.map.leaf(self.id).0
     }
 
     /// The value.
     pub fn get(&self) -> &V
         ensures { entry_value (Occupied self.now) ≡ Some result.now }
     {
-        self.map.pair_of(self.id).1
+        self.map.leaf(self.id).1
     }
 
     /// The value, to be written.
@@ -64,7 +64,7 @@ impl<'a, K: AsBytes + Drop, V: Drop, const PREFIX_LEN: usize, T: 'a> OccupiedEnt
     {
         self.map.numbers_law();
         let id = self.id;
-        self.map.value_of(id)
+        self.map.value_mut(id)
     }
 
     /// Sets the value, and gives the old one. The key stays.
@@ -82,7 +82,7 @@ impl<'a, K: AsBytes + Drop, V: Drop, const PREFIX_LEN: usize, T: 'a> OccupiedEnt
     {
         self.map.numbers_law();
         let id = self.id;
-        self.map.remove_leaf(id)
+        self.map.take_leaf(id)
     }
 
     /// Removes the pair, and gives its value.
@@ -103,20 +103,20 @@ impl<'a, K: AsBytes + Drop, V: Drop, const PREFIX_LEN: usize> OccupiedEntry<
 > {
     ghost use Rattle.blart_map.specs.Entry.{Occupied, entry_value, IsSet, IsSetEntry};
     ghost use Rattle.blart_map.specs.EntryLends.{entry_rests};
-    ghost use Rattle.blart_map.specs.MapLends.{map_lends_leaf};
+    ghost use Rattle.blart_map.specs.LentLeaves.{lends_leaf};
     ghost use Rattle.art_tree.specs.Leaves.{with_value};
 
     /// The value, to be written for as long as the map was lent.
     pub fn into_mut(self) -> &'a mut V
         ensures* writes_back { sem 𝓛
-            (map_lends_leaf K.row V.row PREFIX_LEN.row K.AsBytes self.entry.map self.entry.id result) }
+            (lends_leaf K.row V.row PREFIX_LEN.row K.AsBytes self.entry.map self.entry.id result) }
         ensures value { entry_value (Occupied self.entry) ≡ Some result.now }
         ensures written { (w : V) → IsSet (Occupied self.entry) w
             (with_value self.entry.map.now self.entry.id w) }
     {
         let map = self.map;
         map.numbers_law();
-        map.value_of(self.id)
+        map.value_mut(self.id)
     }
 
     // This entry, as a call that may be refused answers it: where that call is one of an enum, the check follows the map through this one.
@@ -144,21 +144,21 @@ impl<'a, K: AsBytes + Drop, V: Drop, const PREFIX_LEN: usize> OccupiedEntry<
     {
         let OccupiedEntry { map, id, lender } = self;
         map.numbers_law();
-        *map.value_of(id) = value;
+        *map.value_mut(id) = value;
         Ok(OccupiedEntry { map, id, lender })
     }
 
     // Sets the value, and lends it to be written for as long as the map was lent.
     pub(crate) fn write(self, value: V) -> &'a mut V
         ensures* writes_back { sem 𝓛
-            (map_lends_leaf K.row V.row PREFIX_LEN.row K.AsBytes self.entry.map self.entry.id result) }
+            (lends_leaf K.row V.row PREFIX_LEN.row K.AsBytes self.entry.map self.entry.id result) }
         ensures value { result.now ≡ value }
         ensures written { (w : V) → IsSet (Occupied self.entry) w
             (with_value self.entry.map.now self.entry.id w) }
     {
         let map = self.map;
         map.numbers_law();
-        let place = map.value_of(self.id);
+        let place = map.value_mut(self.id);
         *place = value;
         place
     }

@@ -72,7 +72,7 @@ impl<'a, K: AsBytes + Drop, V: Drop, const PREFIX_LEN: usize> VacantEntry<
         let VacantEntry { map, key, .. } = self;
         map.numbers_law();
         let id = map.place_new(key, value)?;
-        Ok(map.value_of(id))
+        Ok(map.value_mut(id))
     }
 
     /// Places the key with the value, and answers its entry. Where memory is refused the key and the value are dropped.
@@ -108,7 +108,7 @@ impl<'a, K: AsBytes + Drop, V: Drop, const PREFIX_LEN: usize> VacantEntry<
         let VacantEntry { map, key, .. } = self;
         map.numbers_law();
         let id = map.place_new_with(key, default)?;
-        Ok(map.value_of(id))
+        Ok(map.value_mut(id))
     }
 
     // The same with the answer of a closure that is given the key.
@@ -124,7 +124,7 @@ impl<'a, K: AsBytes + Drop, V: Drop, const PREFIX_LEN: usize> VacantEntry<
         let VacantEntry { map, key, .. } = self;
         map.numbers_law();
         let id = map.place_new_with_key(key, default)?;
-        Ok(map.value_of(id))
+        Ok(map.value_mut(id))
     }
 
     // Places the key with the closure's answer, and answers its entry.

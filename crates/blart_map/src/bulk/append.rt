@@ -9,8 +9,8 @@ ghost use Rattle.art_walk.specs.Pairs.{pairs_of};
 ghost use Rattle.blart_map.specs.Bulk.{or_else};
 ghost use Rattle.blart_map.specs.Content.{pairs};
 
-use crate::bulk::reserved::{add_reserved, put_reserved};
 use crate::map::TreeMap;
+use crate::placing::{add_reserved, put_reserved};
 use art_tree::{Leaves, Tree};
 use blart_keys::NoPrefixesBytes;
 use std::alloc::{AllocError, Global};

@@ -7,8 +7,8 @@ ghost use Rattle.art_walk.specs.Pairs.{pairs_of};
 ghost use Rattle.blart_map.specs.Bulk.{AreClones};
 ghost use Rattle.blart_map.specs.Content.{pairs};
 
-use crate::bulk::reserved::place_reserved;
 use crate::map::TreeMap;
+use crate::placing::place_reserved;
 use art_tree::Tree;
 use art_walk::Iter;
 use blart_keys::AsBytes;

@@ -9,8 +9,8 @@ ghost use Rattle.art_tree.specs.Content.{room};
 ghost use Rattle.art_walk.specs.Pairs.{pairs_of};
 ghost use Rattle.blart_map.specs.Content.{pairs};
 
-use crate::bulk::reserved::place_reserved;
 use crate::map::TreeMap;
+use crate::placing::place_reserved;
 use art_tree::{Tree, Visits};
 use art_walk::Range;
 use blart_keys::AsBytes;

@@ -3,8 +3,8 @@ use Rattle.blart_map.specs.Content.{pairs}
 use Rattle.blart_map.proofs.Related.InnerPairs.{tested, tested_not, inner_has, one_pair, more_pairs}
 use Rattle.blart_map.proofs.inner.InnerOccupiedEntry.get_key_value.Goals as goal
 
-pub pair_of-requires : goal.pair_of-requires
-pair_of-requires g c =
+pub leaf-requires : goal.leaf-requires
+leaf-requires g c =
     let e = c.args.self.now in
     let kb = g.K.AsBytes.bytes in
     (lit< tt, inner_has kb e.map.now (kb e.key) e.first e.last c.numbers_law.ensures.content c.numbers_law.ensures.distinct e.stands)
@@ -14,7 +14,7 @@ unfolding pairs
 returns-then-eq g c =
     let e = c.args.self.now in
     let kb = g.K.AsBytes.bytes in
-    sym c.pair_of.ensures ∙ one_pair kb e.map.now (kb e.key) e.first e.last c.numbers_law.ensures.content c.numbers_law.ensures.distinct e.stands (tested e.first e.last c.if-eq.ensures)
+    sym c.leaf.ensures ∙ one_pair kb e.map.now (kb e.key) e.first e.last c.numbers_law.ensures.content c.numbers_law.ensures.distinct e.stands (tested e.first e.last c.if-eq.ensures)
 
 pub returns-else-eq : goal.returns-else-eq
 unfolding pairs

@@ -3,8 +3,8 @@ use Rattle.blart_map.specs.Content.{pairs}
 use Rattle.blart_map.proofs.Related.InnerPairs.{spans_written, tested, tested_not, inner_has, one_pair, more_pairs, only_written}
 use Rattle.blart_map.proofs.inner.InnerOccupiedEntry.get_mut.Goals as goal
 
-pub value_of-requires : goal.value_of-requires
-value_of-requires g c =
+pub value_mut-requires : goal.value_mut-requires
+value_mut-requires g c =
     let e = c.args.self.now in
     let kb = g.K.AsBytes.bytes in
     (lit< tt, inner_has kb e.map.now (kb e.key) e.first e.last c.numbers_law.ensures.content c.numbers_law.ensures.distinct e.stands)
@@ -25,7 +25,7 @@ returns-then-eq g c =
       (refl, (λ w. record { same_map = refl; now = refl; same_key = refl; same_first = refl; same_last = refl }), tt),
       record {
         writes_back = tt;
-        value = sym c.value_of.ensures.value ∙ ap (option_map (λ pair. pair.1)) (one_pair kb e.map.now (kb e.key) e.first e.last content distinct e.stands (tested e.first e.last c.if-eq.ensures));
+        value = sym c.value_mut.ensures.value ∙ ap (option_map (λ pair. pair.1)) (one_pair kb e.map.now (kb e.key) e.first e.last content distinct e.stands (tested e.first e.last c.if-eq.ensures));
         written = λ w. only_written kb e.map.now (kb e.key) e.first e.last content distinct e.stands w;
       },
     )

@@ -7,7 +7,7 @@ use Rattle.blart_map.proofs.map.TreeMap.entry.Goals as goal
 pub invariant_of-result : goal.invariant_of-result
 invariant_of-result g c =
     let kb = g.K.AsBytes.bytes in
-    record { stands = exact_has kb c.args.self.now c.numbers_law.ensures.content c.numbers_law.ensures.distinct (kb c.args.key) c.in-Exact.id c.in-Exact.ensures.good }
+    record { stands = exact_has kb c.args.self.now c.lawful_point.ensures.content c.lawful_point.ensures.distinct (kb c.args.key) c.in-Exact.id c.in-Exact.ensures.good }
 
 pub invariant_of-result-in-Empty : goal.invariant_of-result-in-Empty
 invariant_of-result-in-Empty g c =
@@ -17,8 +17,8 @@ invariant_of-result-in-Empty g c =
     let good = c.lawful_point.ensures.good in
     let able = opens c.lawful_point.result c.in-Empty.is in
     record {
-      absent = open_absent kb ps c.numbers_law.ensures.content c.numbers_law.ensures.distinct q c.lawful_point.result good able;
-      free = open_free kb ps c.numbers_law.ensures.content c.numbers_law.ensures.distinct q c.lawful_point.result good able;
+      absent = open_absent kb ps c.lawful_point.ensures.content c.lawful_point.ensures.distinct q c.lawful_point.result good able;
+      free = open_free kb ps c.lawful_point.ensures.content c.lawful_point.ensures.distinct q c.lawful_point.result good able;
     }
 
 pub returns-in-Exact-clause-is_for : goal.returns-in-Exact-clause-is_for
@@ -27,8 +27,8 @@ returns-in-Exact-clause-is_for g c =
     let kb = g.K.AsBytes.bytes in
     let ps = c.args.self.now in
     let q = kb c.args.key in
-    let content = c.numbers_law.ensures.content in
-    let distinct = c.numbers_law.ensures.distinct in
+    let content = c.lawful_point.ensures.content in
+    let distinct = c.lawful_point.ensures.distinct in
     let id = c.in-Exact.id in
     let good = c.in-Exact.ensures.good in
     record {
@@ -44,8 +44,8 @@ returns-clause-is_for g c =
     let kb = g.K.AsBytes.bytes in
     let ps = c.args.self.now in
     let q = kb c.args.key in
-    let content = c.numbers_law.ensures.content in
-    let distinct = c.numbers_law.ensures.distinct in
+    let content = c.lawful_point.ensures.content in
+    let distinct = c.lawful_point.ensures.distinct in
     let good = c.lawful_point.ensures.good in
     let able = opens c.lawful_point.result c.in-Empty.is in
     record {

@@ -7,23 +7,23 @@ use Rattle.blart_map.proofs.Placed.Inserting.{exact_has, opens}
 use Rattle.blart_map.proofs.Placed.SettingAt.{exact_set_at, exact_or_else, open_has, open_or_else, open_set_at, open_none}
 use Rattle.blart_map.proofs.map.TreeMap.get_or_insert_with.Goals as goal
 
-pub value_of-requires : goal.value_of-requires
-value_of-requires g c =
+pub value_mut-requires : goal.value_mut-requires
+value_mut-requires g c =
     let kb = g.K.AsBytes.bytes in
-    (lit< tt, exact_has kb c.args.self.now c.numbers_law.ensures.content c.numbers_law.ensures.distinct (kb c.args.key) c.in-Exact.leaf c.in-Exact.ensures.good)
+    (lit< tt, exact_has kb c.args.self.now c.lawful_point.ensures.content c.lawful_point.ensures.distinct (kb c.args.key) c.in-Exact.leaf c.in-Exact.ensures.good)
 
 pub returns-in-Exact : goal.returns-in-Exact
 unfolding pairs
 returns-in-Exact g c =
     let kb = g.K.AsBytes.bytes in
     let ps = c.args.self.now in
-    let content = c.numbers_law.ensures.content in
-    let distinct = c.numbers_law.ensures.distinct in
+    let content = c.lawful_point.ensures.content in
+    let distinct = c.lawful_point.ensures.distinct in
     let good = c.in-Exact.ensures.good in (
       (refl, (λ w o. exact_set_at kb ps (pairs_of ps) refl content distinct c.args.key c.in-Exact.leaf good w), tt),
       record {
         writes_back = tt;
-        value = exact_or_else kb ps (pairs_of ps) refl content distinct c.args.key c.in-Exact.leaf good c.value_of.result.now (g.F.FnOnce.post c.args.value tt) c.value_of.ensures.value;
+        value = exact_or_else kb ps (pairs_of ps) refl content distinct c.args.key c.in-Exact.leaf good c.value_mut.result.now (g.F.FnOnce.post c.args.value tt) c.value_mut.ensures.value;
         absent = tt;
       },
     )
@@ -34,8 +34,8 @@ place_new_with-requires g c =
     let kb = g.K.AsBytes.bytes in
     let ps = c.args.self.now in
     let q = kb c.args.key in
-    let content = c.numbers_law.ensures.content in
-    let distinct = c.numbers_law.ensures.distinct in
+    let content = c.lawful_point.ensures.content in
+    let distinct = c.lawful_point.ensures.distinct in
     let good = c.lawful_point.ensures.good in
     let able = opens c.lawful_point.result c.in-Empty.is in
     (lit< tt, (open_absent kb ps content distinct q c.lawful_point.result good able, (open_free kb ps content distinct q c.lawful_point.result good able, c.requires (open_none kb ps (pairs_of ps) refl content distinct c.args.key c.lawful_point.result good able))))
@@ -45,8 +45,8 @@ unfolding pairs
 returns g c =
     let kb = g.K.AsBytes.bytes in
     let ps = c.args.self.now in
-    let content = c.numbers_law.ensures.content in
-    let distinct = c.numbers_law.ensures.distinct in
+    let content = c.lawful_point.ensures.content in
+    let distinct = c.lawful_point.ensures.distinct in
     let good = c.lawful_point.ensures.good in
     let able = opens c.lawful_point.result c.in-Empty.is in (
       (refl, (λ w o. absurd (false≢true o)), c.in-Err.ensures.err),
@@ -62,13 +62,13 @@ unfolding pairs
 returns-in-Ok g c =
     let kb = g.K.AsBytes.bytes in
     let ps = c.args.self.now in
-    let content = c.numbers_law.ensures.content in
-    let distinct = c.numbers_law.ensures.distinct in
+    let content = c.lawful_point.ensures.content in
+    let distinct = c.lawful_point.ensures.distinct in
     let good = c.lawful_point.ensures.good in
     let able = opens c.lawful_point.result c.in-Empty.is in
     let placed = c.in-Ok.ensures.placed.2 in
     let v0 : g.row.V.Denot = c.in-Ok.ensures.placed.0 in
-    let got = c.value_of-in-Ok in
+    let got = c.value_mut-in-Ok in
     let seen : Some v0 ≡ Some got.result.now = sym (ap (option_map (λ p. p.1)) placed.now) ∙ got.ensures.value in
     let is : got.result.now ≡ v0 = cc in (
       (

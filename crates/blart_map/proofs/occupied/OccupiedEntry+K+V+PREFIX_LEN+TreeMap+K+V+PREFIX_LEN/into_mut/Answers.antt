@@ -10,7 +10,7 @@ returns g c =
       (refl, λ w. refl),
       record {
         writes_back = tt;
-        value = c.value_of.ensures.value;
+        value = c.value_mut.ensures.value;
         written = λ w. occupied_set g.K.AsBytes.bytes o.map.now c.numbers_law.ensures.content c.numbers_law.ensures.distinct o.id o.stands w;
       },
     )

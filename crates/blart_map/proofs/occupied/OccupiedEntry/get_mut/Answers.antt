@@ -17,7 +17,7 @@ returns g c =
       (refl, λ w. ap (λ q. record (with_entry_value o w) { stands = q }) (Bool-set _ true _ (with_entry_value o w).stands)),
       record {
         writes_back = tt;
-        value = c.value_of.ensures.value;
+        value = c.value_mut.ensures.value;
         written = λ w. record {
           same_map = refl;
           set = occupied_set kb ps c.numbers_law.ensures.content c.numbers_law.ensures.distinct o.id o.stands w;

@@ -2,7 +2,7 @@ use Rattle.std.proofs.Common.{◌∙◌, refl, sym}
 use Rattle.blart_map.proofs.Placed.FreePlaces.{never_taken}
 use Rattle.blart_map.proofs.Placed.Inserting.{conflict_pairs, opens_else, open_alone, placed}
 use Rattle.blart_map.proofs.Placed.Reserved.{absent_numbered}
-use Rattle.blart_map.proofs.bulk.reserved.place_reserved.Goals as goal
+use Rattle.blart_map.proofs.placing.place_reserved.Goals as goal
 
 pub unreachable-requires : goal.unreachable-requires
 unreachable-requires g c =

@@ -5,7 +5,7 @@ use Rattle.art_tree.specs.Points.{IsGood}
 use Rattle.art_walk.specs.Pairs.{pairs_of}
 use Rattle.blart_map.proofs.Placed.Inserting.{exact_has}
 use Rattle.blart_map.proofs.Placed.Keeping.{value_put, added_kept, refused_put}
-use Rattle.blart_map.proofs.insertions.put_at.Goals as goal
+use Rattle.blart_map.proofs.placing.put_at.Goals as goal
 
 pub value_mut-requires : goal.value_mut-requires
 value_mut-requires g c =

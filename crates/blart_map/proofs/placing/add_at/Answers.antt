@@ -2,7 +2,7 @@ use Rattle.std.proofs.Common.{◌∙◌, refl, sym, subst}
 use Rattle.blart_keys.specs.Stored.{pair_at}
 use Rattle.art_tree.specs.Points.{IsGood}
 use Rattle.blart_map.proofs.Placed.Inserting.{conflict_pairs, opens, open_alone, placed, refused}
-use Rattle.blart_map.proofs.insertions.add_at.Goals as goal
+use Rattle.blart_map.proofs.placing.add_at.Goals as goal
 
 pub returns-in-Related-clause-put : goal.returns-in-Related-clause-put
 returns-in-Related-clause-put g c =

@@ -3,7 +3,7 @@ use Rattle.art_tree.specs.Points.{IsGood}
 use Rattle.art_walk.specs.Pairs.{pairs_of}
 use Rattle.blart_map.proofs.Placed.Inserting.{exact_has, exact_takes, exchanged}
 use Rattle.blart_map.proofs.Placed.Keeping.{added_put, refused_put}
-use Rattle.blart_map.proofs.insertions.exchange_at.Goals as goal
+use Rattle.blart_map.proofs.placing.exchange_at.Goals as goal
 
 pub swap-requires : goal.swap-requires
 swap-requires g c =

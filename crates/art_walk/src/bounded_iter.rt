@@ -1,0 +1,155 @@
+//! The pairs within bounds, those that begin with some bytes, and those from one leaf through another.
+ghost use Rattle.std.specs.Prelude.{◌≡◌, ◌+◌, ◌≤◌, [], length};
+ghost use Rattle.std.specs.Iterator.{YieldsFirstBy, YieldsLastBy, item_count};
+ghost use Rattle.blart_keys.specs.Bounds.{slice_bound, CanRange};
+ghost use Rattle.blart_keys.specs.Content.{between, under};
+ghost use Rattle.art_tree.specs.Leaves.{bytes};
+ghost use Rattle.art_tree.specs.Longest.{longest};
+ghost use Rattle.art_walk.specs.Cursor.{span_of, IsSpan};
+ghost use Rattle.art_walk.specs.Openings.{longer, opening};
+ghost use Rattle.art_walk.specs.Pairs.{pairs_of};
+
+use crate::cursor::Cursor;
+use crate::openings::{BelowFront, InRange, InSubtree};
+use crate::walk::Walk;
+use art_tree::{LeafId, Tree, Visits};
+use blart_keys::AsBytes;
+use std::iter::{DoubleEndedIterator, FusedIterator, Iterator};
+use std::marker::Model;
+use std::ops::Bound;
+
+/// The pairs within two bounds from both ends, in byte order of their keys. Each step reads one leaf, and where the ends have met none comes at either.
+pub type Range<'a, K, V, const PREFIX_LEN: usize> = BoundedIter<'a, K, V, InRange, PREFIX_LEN>;
+
+/// The pairs whose keys begin with some bytes from both ends, in byte order of their keys. Each step reads one leaf, and where the ends have met none comes at either.
+pub type Prefix<'a, K, V, const PREFIX_LEN: usize> = BoundedIter<'a, K, V, BelowFront, PREFIX_LEN>;
+
+/// The pairs from one leaf through another from both ends, in byte order of their keys. Each step reads one leaf, and where the ends have met none comes at either.
+pub type SubtreeIter<'a, K, V, const PREFIX_LEN: usize> = BoundedIter<
+    'a,
+    K,
+    V,
+    InSubtree,
+    PREFIX_LEN,
+>;
+
+/// Some pairs of a tree that stand one behind the other, from both ends, in byte order of their keys. Each step reads one leaf, and where the ends have met none comes at either.
+#[derive(Drop)]
+pub struct BoundedIter<'a, K, V, M, const PREFIX_LEN: usize> {
+    walk: Walk<'a, K, V>,
+    kind: M,
+}
+
+impl<'a, K, V, M, const PREFIX_LEN: usize> Model for BoundedIter<'a, K, V, M, PREFIX_LEN> {
+    ghost use Rattle.std.specs.Prelude.{List};
+
+    ghost Value = { List (K × V) };
+
+    ghost view = { λ it. it.walk };
+}
+
+impl<'a, K: AsBytes + Drop, V: Drop, const PREFIX_LEN: usize> BoundedIter<
+    'a,
+    K,
+    V,
+    InRange,
+    PREFIX_LEN,
+> {
+    /// The pairs whose keys' bytes are within both bounds, which are in order where the tree has pairs.
+    ///
+    /// Where n is the number of bytes of the longer bound and L that of the longest key, at most 2 * (n + 2) * (L + 2) visits, and none where the tree has no pairs.
+    pub fn new(
+        tree: &'a Tree<K, V, PREFIX_LEN>,
+        start: Bound<&[u8]>,
+        end: Bound<&[u8]>,
+        visits: &mut Visits,
+    ) -> Self
+        requires { CanRange tree.now.pairs (slice_bound start) (slice_bound end) }
+        ensures value { result
+            ≡ pairs_of (between (bytes K.bytes) tree.now.pairs
+            (slice_bound start.entry) (slice_bound end.entry)) }
+        ensures counted { visits.new.count ≤ visits.old.count
+            + opening (longer (slice_bound start.entry) (slice_bound end.entry))
+            (longest (bytes K.bytes) tree.now.pairs) }
+        ensures grows { visits.old.count ≤ visits.new.count }
+        ensures empty { tree.now.pairs ≡ [] → visits.new.count ≡ visits.old.count }
+    {
+        let cursor = Cursor::range(tree, start, end, visits);
+        BoundedIter {
+            walk: Walk::new(tree.leaves(), cursor),
+            kind: InRange,
+        }
+    }
+}
+
+impl<'a, K: AsBytes + Drop, V: Drop, const PREFIX_LEN: usize> BoundedIter<
+    'a,
+    K,
+    V,
+    BelowFront,
+    PREFIX_LEN,
+> {
+    /// The pairs whose keys' bytes begin with these.
+    ///
+    /// On n bytes, where L is the length of the longest key, at most 2 * (n + 2) * (L + 2) visits, and none where the tree has no pairs.
+    pub fn new(tree: &'a Tree<K, V, PREFIX_LEN>, front: &[u8], visits: &mut Visits) -> Self
+        ensures value { result ≡ pairs_of (under (bytes K.bytes) tree.now.pairs front.now) }
+        ensures counted { visits.new.count ≤ visits.old.count
+            + opening (length front.now) (longest (bytes K.bytes) tree.now.pairs) }
+        ensures grows { visits.old.count ≤ visits.new.count }
+        ensures empty { tree.now.pairs ≡ [] → visits.new.count ≡ visits.old.count }
+    {
+        let cursor = Cursor::prefix(tree, front, visits);
+        BoundedIter {
+            walk: Walk::new(tree.leaves(), cursor),
+            kind: BelowFront,
+        }
+    }
+}
+
+impl<'a, K: AsBytes + Drop, V: Drop, const PREFIX_LEN: usize> BoundedIter<
+    'a,
+    K,
+    V,
+    InSubtree,
+    PREFIX_LEN,
+> {
+    /// The pairs from the first leaf through the last. The first does not stand behind the last.
+    pub fn new(tree: &'a Tree<K, V, PREFIX_LEN>, first: LeafId, last: LeafId) -> Self
+        requires { IsSpan tree.now.pairs first last }
+        ensures { result ≡ pairs_of (span_of tree.now.pairs first last) }
+    {
+        BoundedIter {
+            walk: Walk::new(tree.leaves(), Cursor::between(first, last)),
+            kind: InSubtree,
+        }
+    }
+}
+
+impl<'a, K, V, M: Drop, const PREFIX_LEN: usize> Iterator for BoundedIter<'a, K, V, M, PREFIX_LEN> {
+    type Item = (&'a K, &'a V);
+
+    ghost next_gives = { YieldsFirstBy (λ item. (item.0.now, item.1.now)) (λ rest. rest) };
+
+    ghost remaining = { item_count (λ rest. rest) };
+
+    /// The first pair that is left.
+    #[inline(always)]
+    fn next(&mut self) -> Option<(&'a K, &'a V)> {
+        self.walk.next()
+    }
+}
+
+impl<'a, K, V, M: Drop, const PREFIX_LEN: usize> DoubleEndedIterator
+    for BoundedIter<'a, K, V, M, PREFIX_LEN> {
+    ghost next_back_gives = { YieldsLastBy (λ item. (item.0.now, item.1.now)) (λ rest. rest) };
+
+    /// The last pair that is left.
+    #[inline(always)]
+    fn next_back(&mut self) -> Option<(&'a K, &'a V)> {
+        self.walk.next_back()
+    }
+}
+
+impl<'a, K, V, M: Drop, const PREFIX_LEN: usize> FusedIterator
+    for BoundedIter<'a, K, V, M, PREFIX_LEN> {}
