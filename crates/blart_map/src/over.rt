@@ -1,7 +1,7 @@
 //! An insertion over all related pairs.
 ghost use Rattle.std.specs.Prelude.{◌≡◌, ℕ, List, true, false, OnOk, OnErr, Some};
 ghost use Rattle.blart_keys.specs.Bytes.{begins};
-ghost use Rattle.blart_keys.specs.Content.{IsOver};
+ghost use Rattle.blart_keys.specs.Content.{IsContent, IsOver};
 ghost use Rattle.blart_keys.specs.Steps.{bytes, PutsOver};
 ghost use Rattle.blart_keys.specs.Stored.{pair_before, has, overlaps, Overwrites};
 ghost use Rattle.art_tree.specs.Leaves.{leaf_in, with_pair};
@@ -63,6 +63,7 @@ impl<K: AsBytes + Drop, V: Drop, const PREFIX_LEN: usize> TreeMap<K, V, PREFIX_L
         ensures now { leaf_in self.new last ≡ Some (key, value) }
         ensures exact { self.new
             ≡ with_pair (thinned K.bytes self.old (K.bytes key) last) last (key, value) }
+        ensures content { IsContent (bytes K.bytes) (pairs_of self.old) }
     {
         put_over(&mut self.tree, first, last, key, value)
     }
@@ -82,6 +83,7 @@ fn put_over<K: AsBytes + Drop, V: Drop, const P: usize>(
     ensures now { leaf_in tree.new.pairs last ≡ Some (key, value) }
     ensures exact { tree.new.pairs
         ≡ with_pair (thinned K.bytes tree.old.pairs (K.bytes key) last) last (key, value) }
+    ensures content { IsContent (bytes K.bytes) (pairs_of tree.old.pairs) }
 {
     tree.law();
     leave_one(tree, first, last, key.as_bytes());

@@ -1,4 +1,6 @@
 use Rattle.std.proofs.Common.{lit<, subst, ap, ◌∙◌}
+use Rattle.blart_keys.specs.Steps.{bytes}
+use Rattle.blart_keys.proofs.Mapped.{content_map}
 use Rattle.art_tree.specs.Leaves.{leaf_in, with_pair}
 use Rattle.art_tree.proofs.CallerLemmas.{leaf_in-with_now}
 use Rattle.blart_map.specs.Spans.{LeavesOne}
@@ -32,3 +34,6 @@ pub returns-clause-exact : goal.returns-clause-exact
 returns-clause-exact g c =
     let one = rw c.as_bytes.ensures at c.leave_one.ensures.exact in
     c.swap.ensures.pairs ∙ ap (λ ps. with_pair ps c.args.last (c.args.key, c.args.value)) one
+
+pub returns-clause-content : goal.returns-clause-content
+returns-clause-content g c = content_map (λ p. p.1) (bytes g.K.AsBytes.bytes) c.args.tree.now.pairs c.law.ensures.content
