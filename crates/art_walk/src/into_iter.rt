@@ -51,7 +51,6 @@ impl<K: AsBytes + Drop, V: Drop, const PREFIX_LEN: usize> Iterator for IntoIter<
 
     /// The first pair that is left.
     fn next(&mut self) -> Option<(K, V)> {
-        self.leaves.law();
         let Some(id) = self.leaves.first() else {
             return None;
         };

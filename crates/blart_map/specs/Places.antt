@@ -1,6 +1,6 @@
 -- A place at which a pair may be placed, and a pair that was placed.
 use Rattle.std.specs.Prelude.{◌≡◌, ℕ, List, Some}
-use Rattle.blart_keys.specs.Content.{IsPut}
+use Rattle.blart_keys.specs.Content.{IsContent, IsPut}
 use Rattle.art_tree.specs.Content.{Content, Fits, IsOpen}
 use Rattle.art_tree.specs.Leaves.{Numbered, leaf_in, AreDistinct, bytes}
 use Rattle.art_tree.specs.Points.{IsGood}
@@ -18,3 +18,4 @@ module _ {K V : Type 0} (key_bytes : K → List ℕ) where
     pub put : IsPut (bytes key_bytes) old (id, (key, value)) new
     pub now : leaf_in new id ≡ Some (key, value)
     pub distinct : AreDistinct new
+    pub content : IsContent (bytes key_bytes) old

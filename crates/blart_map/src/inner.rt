@@ -199,7 +199,6 @@ impl<'a, K: AsBytes + Drop, V: Drop, const PREFIX_LEN: usize> InnerOccupiedEntry
             last,
             ..
         } = self;
-        map.numbers_law();
         map.overwrite(first, last, key, value);
         OccupiedEntry {
             map,
@@ -225,7 +224,6 @@ impl<'a, K: AsBytes + Drop, V: Drop, const PREFIX_LEN: usize> InnerOccupiedEntry
             last: id,
             ..
         } = self;
-        map.numbers_law();
         map.overwrite(first, id, key, value);
         Ok(OccupiedEntry {
             map,
@@ -256,7 +254,6 @@ impl<'a, K: AsBytes + Drop, V: Drop, const PREFIX_LEN: usize> InnerOccupiedEntry
             last,
             ..
         } = self;
-        map.numbers_law();
         map.overwrite(first, last, key, value);
         map.numbers_law();
         map.value_mut(last)

@@ -1,7 +1,7 @@
 //! An insertion over all related pairs.
 ghost use Rattle.std.specs.Prelude.{◌≡◌, ℕ, List, true, false, OnOk, OnErr, Some};
 ghost use Rattle.blart_keys.specs.Bytes.{begins};
-ghost use Rattle.blart_keys.specs.Content.{IsOver};
+ghost use Rattle.blart_keys.specs.Content.{IsContent, IsOver};
 ghost use Rattle.blart_keys.specs.Steps.{bytes, PutsOver};
 ghost use Rattle.blart_keys.specs.Stored.{pair_before, has, overlaps, Overwrites};
 ghost use Rattle.art_tree.specs.Leaves.{leaf_in, with_pair};
@@ -40,7 +40,7 @@ impl<K: AsBytes + Drop, V: Drop, const PREFIX_LEN: usize> TreeMap<K, V, PREFIX_L
         self.tree.law();
         match self.tree.point(key.as_bytes()) {
             Point::Related { first, last } => {
-                put_over(&mut self.tree, first, last, key, value);
+                self.overwrite(first, last, key, value);
                 Ok(())
             }
             Point::Exact(id) => {
@@ -63,31 +63,14 @@ impl<K: AsBytes + Drop, V: Drop, const PREFIX_LEN: usize> TreeMap<K, V, PREFIX_L
         ensures now { leaf_in self.new last ≡ Some (key, value) }
         ensures exact { self.new
             ≡ with_pair (thinned K.bytes self.old (K.bytes key) last) last (key, value) }
+        ensures content { IsContent (bytes K.bytes) (pairs_of self.old) }
     {
-        put_over(&mut self.tree, first, last, key, value)
+        self.tree.law();
+        leave_one(&mut self.tree, first, last, key.as_bytes());
+        self.tree.law();
+        self.tree.swap(last, key, value);
+        self.tree.law();
     }
-}
-
-// Puts the pair in the place of the related ones, from the first leaf to the last.
-fn put_over<K: AsBytes + Drop, V: Drop, const P: usize>(
-    tree: &mut Tree<K, V, P>,
-    first: LeafId,
-    last: LeafId,
-    key: K,
-    value: V,
-)
-    requires { Spans K.bytes tree.old.pairs (K.bytes key) first last }
-    ensures over { IsOver (bytes K.bytes) (pairs_of tree.old.pairs) (key, value)
-        (pairs_of tree.new.pairs) }
-    ensures now { leaf_in tree.new.pairs last ≡ Some (key, value) }
-    ensures exact { tree.new.pairs
-        ≡ with_pair (thinned K.bytes tree.old.pairs (K.bytes key) last) last (key, value) }
-{
-    tree.law();
-    leave_one(tree, first, last, key.as_bytes());
-    tree.law();
-    tree.swap(last, key, value);
-    tree.law();
 }
 
 // Removes the related pairs before the last.

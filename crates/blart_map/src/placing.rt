@@ -173,7 +173,9 @@ fn room_for<K: AsBytes + Drop, V: Drop, const P: usize>(
     requires free { conflict (bytes K.bytes) tree.old.pairs (K.bytes key.now) ≡ false }
     ensures pairs { tree.new.pairs ≡ tree.old.pairs }
     ensures ready { IfOk result (λ point. IsReady K.bytes tree.new point (K.bytes key.now)) }
+    ensures content { IsContent (bytes K.bytes) tree.old.pairs }
 {
+    tree.law();
     let point = tree.point(key.as_bytes());
     match point {
         Point::Empty | Point::Free(_) => {

@@ -70,7 +70,6 @@ impl<'a, K: AsBytes + Drop, V: Drop, const PREFIX_LEN: usize> VacantEntry<
         ensures value { IfOk result (λ r. r.now ≡ value) }
     {
         let VacantEntry { map, key, .. } = self;
-        map.numbers_law();
         let id = map.place_new(key, value)?;
         Ok(map.value_mut(id))
     }
@@ -86,7 +85,6 @@ impl<'a, K: AsBytes + Drop, V: Drop, const PREFIX_LEN: usize> VacantEntry<
         ensures undone { IfOk result (λ o. IsUndone o (pairs self.entry.map.now)) }
     {
         let VacantEntry { map, key, .. } = self;
-        map.numbers_law();
         let leaf = map.place_new(key, value)?;
         Ok(OccupiedEntry {
             map,
@@ -106,7 +104,6 @@ impl<'a, K: AsBytes + Drop, V: Drop, const PREFIX_LEN: usize> VacantEntry<
         ensures value { IfOk result (λ r. F.post default r.now) }
     {
         let VacantEntry { map, key, .. } = self;
-        map.numbers_law();
         let id = map.place_new_with(key, default)?;
         Ok(map.value_mut(id))
     }
@@ -122,7 +119,6 @@ impl<'a, K: AsBytes + Drop, V: Drop, const PREFIX_LEN: usize> VacantEntry<
         ensures value { IfOk result (λ r. FnOnceReturnsAt F.FnOnce default self.entry.key r.now) }
     {
         let VacantEntry { map, key, .. } = self;
-        map.numbers_law();
         let id = map.place_new_with_key(key, default)?;
         Ok(map.value_mut(id))
     }
@@ -139,7 +135,6 @@ impl<'a, K: AsBytes + Drop, V: Drop, const PREFIX_LEN: usize> VacantEntry<
             (λ o. (v : V) × F.post default v × IsSetEntry (Vacant self.entry) v o) }
     {
         let VacantEntry { map, key, .. } = self;
-        map.numbers_law();
         let id = map.place_new_with(key, default)?;
         Ok(OccupiedEntry {
             map,
@@ -160,7 +155,6 @@ impl<'a, K: AsBytes + Drop, V: Drop, const PREFIX_LEN: usize> VacantEntry<
             × IsSetEntry (Vacant self.entry) v o) }
     {
         let VacantEntry { map, key, .. } = self;
-        map.numbers_law();
         let id = map.place_new_with_key(key, default)?;
         Ok(OccupiedEntry {
             map,

@@ -30,12 +30,12 @@ over_put b S T S' x y same over put = record {
       (λ h. o.0 (p.0 h), λ h. p.1 (o.1 h));
 }
 
-module _ {K V : Type 0} (kb : K → List ℕ) (old new : List (Numbered K V)) (k : K) (v : V) (last : ℕ) (content_old : IsContent (bytes kb) old) (content : IsContent (bytes kb) new) (distinct : AreDistinct new) (over : IsOver (pair_bytes kb) (pairs_of old) (k, v) (pairs_of new)) (now : leaf_in new last ≡ Some (k, v)) where
+module _ {K V : Type 0} (kb : K → List ℕ) (old new : List (Numbered K V)) (k : K) (v : V) (last : ℕ) (content_old : IsContent (pair_bytes kb) (pairs_of old)) (content : IsContent (bytes kb) new) (distinct : AreDistinct new) (over : IsOver (pair_bytes kb) (pairs_of old) (k, v) (pairs_of new)) (now : leaf_in new last ≡ Some (k, v)) where
   -- the key has that value then, in the place of all these
   pub over_written : (w : V) → Overwrites kb (pairs_of old) (k, w) (pairs_of (with_value new last w)) × (value_at kb (pairs_of (with_value new last w)) (kb k) ≡ Some w) × IsOver (pair_bytes kb) (pairs_of old) (k, w) (pairs_of (with_value new last w))
   over_written w =
       let mid = content_map (λ p. p.1) (pair_bytes kb) new content in
       let put = put_from_updates kb (pairs_of new) (pairs_of (with_value new last w)) (k, w) mid (rewritten_content kb new content distinct last (k, v) now w) (rewritten kb new content distinct last (k, v) now w).0 in
       let all = over_put (pair_bytes kb) (pairs_of old) (pairs_of new) (pairs_of (with_value new last w)) (k, v) (k, w) refl over put in
-      let seen = overwrites_over kb (pairs_of old) (pairs_of (with_value new last w)) (k, w) (content_map (λ p. p.1) (pair_bytes kb) old content_old) all in
+      let seen = overwrites_over kb (pairs_of old) (pairs_of (with_value new last w)) (k, w) content_old all in
       (seen, ap (option_map (λ (p : K × V). p.1)) seen.there, all)

@@ -78,7 +78,6 @@ impl<K: AsBytes + Drop, V: Drop, const PREFIX_LEN: usize> TreeMap<K, V, PREFIX_L
             ≡ between (bytes K.bytes) (pairs self.now)
             Unbounded (Excluded (Q.bytes query.now)) }
     {
-        self.law();
         let end = Bound::Excluded(query.as_bytes());
         Range::new(&self.tree, Bound::Unbounded, end, &mut Visits::new())
     }

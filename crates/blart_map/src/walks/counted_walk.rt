@@ -103,7 +103,6 @@ impl<'a, K: AsBytes + Drop, V: Drop, const PREFIX_LEN: usize> CountedWalk<
             → pair_at K.bytes (pairs T) q ≡ option_map h (pair_at K.bytes (pairs S) q) }
     {
         let CountedWalk { map, cursor, .. } = self;
-        map.number_law();
         map.write_pairs(cursor, f);
     }
 
@@ -171,7 +170,6 @@ impl<'a, K: AsBytes + Drop, V: Drop, const PREFIX_LEN: usize> CountedWalk<
             → value_at K.bytes (pairs T) q ≡ option_map h (value_at K.bytes (pairs S) q) }
     {
         let CountedWalk { map, cursor, .. } = self;
-        map.number_law();
         map.write_values(cursor, f);
     }
 }
@@ -216,7 +214,6 @@ impl<'a, K: AsBytes + Drop, V: Drop, M, const PREFIX_LEN: usize> CountedWalk<
         ensures* writes_back { sem 𝓛 (lends_first K.row V.row M.row PREFIX_LEN.row K.AsBytes self.entry result) }
         ensures end { IfNone result (counted_left self.old ≡ []) }
     {
-        self.map.number_law();
         let id = self.map.step(&mut self.cursor)?;
         self.lent = Some(id);
         self.left -= 1;
@@ -229,7 +226,6 @@ impl<'a, K: AsBytes + Drop, V: Drop, M, const PREFIX_LEN: usize> CountedWalk<
         ensures* writes_back { sem 𝓛 (lends_last K.row V.row M.row PREFIX_LEN.row K.AsBytes self.entry result) }
         ensures end { IfNone result (counted_left self.old ≡ []) }
     {
-        self.map.number_law();
         let id = self.map.step_back(&mut self.cursor)?;
         self.lent = Some(id);
         self.left -= 1;

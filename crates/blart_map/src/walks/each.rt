@@ -1,4 +1,5 @@
 //! Closures called at each value that a walk lends.
+ghost use Rattle.art_tree.specs.Leaves.{AreDistinct};
 ghost use Rattle.art_walk.specs.Cursor.{leaves_left, FitsIn};
 ghost use Rattle.art_walk.specs.Pairs.{pairs_of};
 ghost use Rattle.blart_map.specs.EachWritten.{CallableInTurn, WritesLeft, LeavesValue, TakesAtValue, LeavesPair, TakesAtPair};
@@ -13,8 +14,9 @@ impl<K: AsBytes + Drop, V: Drop, const PREFIX_LEN: usize> TreeMap<K, V, PREFIX_L
         requires fits { FitsIn cursor self.old }
         requires callable { CallableInTurn (LeavesValue F.FnMut) (TakesAtValue F.FnMut) f
             (pairs_of (leaves_left cursor self.old)) }
-        ensures { WritesLeft (LeavesValue F.FnMut) (leaves_left cursor self.old) self.old f
+        ensures writes { WritesLeft (LeavesValue F.FnMut) (leaves_left cursor self.old) self.old f
             self.new }
+        ensures distinct { AreDistinct self.old }
     {
         self.number_law();
         'leaves: while let Some(id) = self.step(&mut cursor) {
@@ -28,8 +30,9 @@ impl<K: AsBytes + Drop, V: Drop, const PREFIX_LEN: usize> TreeMap<K, V, PREFIX_L
         requires fits { FitsIn cursor self.old }
         requires callable { CallableInTurn (LeavesPair F.FnMut) (TakesAtPair F.FnMut) f
             (pairs_of (leaves_left cursor self.old)) }
-        ensures { WritesLeft (LeavesPair F.FnMut) (leaves_left cursor self.old) self.old f
+        ensures writes { WritesLeft (LeavesPair F.FnMut) (leaves_left cursor self.old) self.old f
             self.new }
+        ensures distinct { AreDistinct self.old }
     {
         self.number_law();
         'leaves: while let Some(id) = self.step(&mut cursor) {

@@ -60,6 +60,7 @@ impl<K: AsBytes + Drop, V: Drop, const PREFIX_LEN: usize> TreeMap<K, V, PREFIX_L
             (leaves_left cursor.new self.now) }
         ensures there { IfSome result (λ id. Has self.now id) }
         ensures first { IfSome result (λ id. WasFirst self.now cursor.old id cursor.new) }
+        ensures distinct { AreDistinct self.now }
     {
         self.tree.law();
         cursor.step(&self.tree, &mut Visits::new())
@@ -74,6 +75,7 @@ impl<K: AsBytes + Drop, V: Drop, const PREFIX_LEN: usize> TreeMap<K, V, PREFIX_L
             (leaves_left cursor.new self.now) }
         ensures there { IfSome result (λ id. Has self.now id) }
         ensures last { IfSome result (λ id. WasLast self.now cursor.old id cursor.new) }
+        ensures distinct { AreDistinct self.now }
     {
         self.tree.law();
         cursor.step_back(&self.tree, &mut Visits::new())

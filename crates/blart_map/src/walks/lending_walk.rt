@@ -114,7 +114,6 @@ impl<'a, K: AsBytes + Drop, V: Drop, M, const PREFIX_LEN: usize> LendingWalk<
         ensures* writes_back { sem 𝓛 (lends_first K.row V.row M.row PREFIX_LEN.row K.AsBytes self.entry result) }
         ensures end { IfNone result (lending_left self.old ≡ []) }
     {
-        self.map.number_law();
         let id = self.map.step(&mut self.cursor)?;
         self.lent = Some(id);
         Some(self.map.value_mut(id))
@@ -126,7 +125,6 @@ impl<'a, K: AsBytes + Drop, V: Drop, M, const PREFIX_LEN: usize> LendingWalk<
         ensures* writes_back { sem 𝓛 (lends_last K.row V.row M.row PREFIX_LEN.row K.AsBytes self.entry result) }
         ensures end { IfNone result (lending_left self.old ≡ []) }
     {
-        self.map.number_law();
         let id = self.map.step_back(&mut self.cursor)?;
         self.lent = Some(id);
         Some(self.map.value_mut(id))
@@ -193,7 +191,6 @@ impl<'a, K: AsBytes + Drop, V: Drop, M: Drop, const PREFIX_LEN: usize> LendingWa
             → pairs T ≡ map h (pairs S) }
     {
         let LendingWalk { map, cursor, .. } = self;
-        map.number_law();
         map.write_pairs(cursor, f);
     }
 }

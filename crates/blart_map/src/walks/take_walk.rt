@@ -61,7 +61,6 @@ impl<'a, K: AsBytes + Drop, V: Drop, const PREFIX_LEN: usize> TakeWalk<'a, K, V,
         ensures* writes_back { sem 𝓛 (lends_first K.row V.row PREFIX_LEN.row K.AsBytes self.entry result) }
         ensures end { IfNone result (take_left self.old ≡ []) }
     {
-        self.map.number_law();
         let id = self.map.step(&mut self.cursor)?;
         self.lent = Some(id);
         Some(self.map.value_mut(id))
@@ -73,7 +72,6 @@ impl<'a, K: AsBytes + Drop, V: Drop, const PREFIX_LEN: usize> TakeWalk<'a, K, V,
         ensures* writes_back { sem 𝓛 (lends_last K.row V.row PREFIX_LEN.row K.AsBytes self.entry result) }
         ensures end { IfNone result (take_left self.old ≡ []) }
     {
-        self.map.number_law();
         let id = self.map.step_back(&mut self.cursor)?;
         self.lent = Some(id);
         Some(self.map.value_mut(id))

@@ -1,10 +1,8 @@
 use Rattle.std.proofs.Common.{lit<, refl, ap, option_map}
 use Rattle.std.specs.Option.{unwrap_or}
 use Rattle.std.specs.Prelude.{[]}
-use Rattle.blart_keys.proofs.Mapped.{content_map}
 use Rattle.blart_keys.proofs.Options.{is_some}
 use Rattle.blart_keys.proofs.StoredLemmas.{overwrites_over}
-use Rattle.blart_keys.specs.Steps.{bytes as pair_bytes}
 use Rattle.art_tree.specs.Leaves.{leaf_in}
 use Rattle.art_walk.specs.Pairs.{pairs_of}
 use Rattle.blart_map.specs.Content.{pairs}
@@ -25,7 +23,7 @@ unfolding pairs
 returns g c =
     let e = c.args.self in
     let kb = g.K.AsBytes.bytes in
-    let over = overwrites_over kb (pairs_of e.map.now) (pairs_of c.overwrite.new.self) (e.key, c.args.value) (content_map (λ p. p.1) (pair_bytes kb) e.map.now c.numbers_law.ensures.content) c.overwrite.ensures.over in
+    let over = overwrites_over kb (pairs_of e.map.now) (pairs_of c.overwrite.new.self) (e.key, c.args.value) c.overwrite.ensures.content c.overwrite.ensures.over in
     record {
       same_map = refl;
       set = (over, ap (option_map (λ p. p.1)) over.there, c.overwrite.ensures.over);

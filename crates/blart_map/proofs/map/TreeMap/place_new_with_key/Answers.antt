@@ -1,5 +1,5 @@
 use Rattle.std.proofs.Common.{refl, ◌∙◌, subst}
-use Rattle.blart_keys.specs.Content.{IsPut}
+use Rattle.blart_keys.specs.Content.{IsContent, IsPut}
 use Rattle.art_tree.specs.Leaves.{bytes}
 use Rattle.blart_map.proofs.map.TreeMap.place_new_with_key.Goals as goal
 
@@ -13,5 +13,6 @@ returns-clause-placed g c =
         put = subst (λ S. IsPut (bytes kb) S (c.place-id.result, (c.args.key, v)) c.place-id.new.self.pairs) (c.in_ok-point.ensures.pairs ∙ c.self.view_is) c.place-id.ensures.put;
         now = c.place-id.ensures.now;
         distinct = c.law.ensures.distinct;
+        content = subst (IsContent (bytes kb)) c.self.view_is c.in_ok-point.ensures.content;
       },
     )

@@ -83,11 +83,11 @@ returns-in-Related-clause-over g c =
     let kb = g.K.AsBytes.bytes in
     let ps = c.self.inside.tree.pairs in
     let x : g.row.K.Denot × g.row.V.Denot = (c.args.key, c.args.value) in
-    overwrites_over kb (pairs_of c.args.self.now) (pairs_of c.put_over.new.tree.pairs) x (whole_pairs kb ps (pairs_of c.args.self.now) (ap pairs_of c.self.view_is) c.law.ensures.content) (rw (← c.self.view_is) c.put_over.ensures.over)
+    overwrites_over kb (pairs_of c.args.self.now) (pairs_of c.overwrite.new.self) x (whole_pairs kb ps (pairs_of c.args.self.now) (ap pairs_of c.self.view_is) c.law.ensures.content) c.overwrite.ensures.over
 
 pub returns-in-Related-clause-fronts : goal.returns-in-Related-clause-fronts
 unfolding pairs
 returns-in-Related-clause-fronts g c =
     let kb = g.K.AsBytes.bytes in
     let x : g.row.K.Denot × g.row.V.Denot = (c.args.key, c.args.value) in
-    before_over kb (pairs_of c.args.self.now) (pairs_of c.put_over.new.tree.pairs) x (rw (← c.self.view_is) c.put_over.ensures.over)
+    before_over kb (pairs_of c.args.self.now) (pairs_of c.overwrite.new.self) x c.overwrite.ensures.over

@@ -47,5 +47,5 @@ leaves-preserved g c =
       writing_step (LeavesValue g.F.FnMut) _ _ _ (leaves_left c.leaves.cursor ps) ps c.leaves.f c.leaves.invariant.3 id y w c.f.new.self (leaves_left new ps) _ leaves named (written_left ps d new fits id y w lacks),
     )
 
-pub returns : goal.returns
-returns g c = writing_end (LeavesValue g.F.FnMut) _ _ _ _ _ _ c.leaves.invariant.3 c.in_default.ensures.passes.0
+pub returns-clause-writes : goal.returns-clause-writes
+returns-clause-writes g c = writing_end (LeavesValue g.F.FnMut) _ _ _ _ _ _ c.leaves.invariant.3 c.in_default.ensures.passes.0

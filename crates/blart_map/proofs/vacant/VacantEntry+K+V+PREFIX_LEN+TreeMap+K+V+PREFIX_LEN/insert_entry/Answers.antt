@@ -16,7 +16,7 @@ unfolding pairs
 returns g c =
     let kb = g.K.AsBytes.bytes in
     let same = ap (λ o. unwrap_or (option_map (λ x. kb x.0) o) []) c.in_ok-leaf.ensures.placed.now in
-    let set = placed_entry_set kb c.args.self.map.now c.args.self.map.now c.place_new.new.self refl c.numbers_law.ensures.content c.in_ok-leaf.leaf c.args.self.key c.args.value c.args.self.absent c.in_ok-leaf.ensures.placed.put c.in_ok-leaf.ensures.placed.distinct c.in_ok-leaf.ensures.placed.now in (
+    let set = placed_entry_set kb c.args.self.map.now c.args.self.map.now c.place_new.new.self refl c.in_ok-leaf.ensures.placed.content c.in_ok-leaf.leaf c.args.self.key c.args.value c.args.self.absent c.in_ok-leaf.ensures.placed.put c.in_ok-leaf.ensures.placed.distinct c.in_ok-leaf.ensures.placed.now in (
       (refl, (λ w. refl), tt),
       record {
         stands = tt;
@@ -26,6 +26,6 @@ returns g c =
           pair = c.in_ok-leaf.ensures.placed.now;
           same_bytes = same;
         };
-        undone = λ n r. taken_back_at kb c.args.self.map.now c.numbers_law.ensures.content c.args.self.key c.args.value c.args.self.absent (pairs c.place_new.new.self) set.3 _ same (pairs n) r.2;
+        undone = λ n r. taken_back_at kb c.args.self.map.now c.in_ok-leaf.ensures.placed.content c.args.self.key c.args.value c.args.self.absent (pairs c.place_new.new.self) set.3 _ same (pairs n) r.2;
       },
     )

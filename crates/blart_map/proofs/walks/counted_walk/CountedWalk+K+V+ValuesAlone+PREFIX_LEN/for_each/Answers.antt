@@ -15,15 +15,15 @@ write_values-requires g c =
 pub invariant_of-self : goal.invariant_of-self
 invariant_of-self g c =
     let s = c.args.self in
-    record { fits = fits_after (LeavesValue g.F.FnMut) s.cursor s.lent s.left (counted_left s) s.map.now c.write_values.new.self c.args.f c.write_values.ensures s.fits }
+    record { fits = fits_after (LeavesValue g.F.FnMut) s.cursor s.lent s.left (counted_left s) s.map.now c.write_values.new.self c.args.f c.write_values.ensures.writes s.fits }
 
 pub returns : goal.returns
 returns g c =
     let s = c.args.self in
     let R = LeavesValue g.F.FnMut in
     let f = c.args.f in
-    let d = c.number_law.ensures in
-    let r = c.write_values.ensures in
+    let d = c.write_values.ensures.distinct in
+    let r = c.write_values.ensures.writes in
     let new = c.write_values.new.self in
     record {
       left = r;

@@ -13,15 +13,15 @@ write_pairs-requires g c =
 pub invariant_of-self : goal.invariant_of-self
 invariant_of-self g c =
     let s = c.args.self in
-    record { fits = fits_after (LeavesPair g.F.FnMut) s.cursor s.lent s.left (counted_left s) s.map.now c.write_pairs.new.self c.args.f c.write_pairs.ensures s.fits }
+    record { fits = fits_after (LeavesPair g.F.FnMut) s.cursor s.lent s.left (counted_left s) s.map.now c.write_pairs.new.self c.args.f c.write_pairs.ensures.writes s.fits }
 
 pub returns : goal.returns
 returns g c =
     let s = c.args.self in
     let R = LeavesPair g.F.FnMut in
     let f = c.args.f in
-    let d = c.number_law.ensures in
-    let r = c.write_pairs.ensures in
+    let d = c.write_pairs.ensures.distinct in
+    let r = c.write_pairs.ensures.writes in
     let new = c.write_pairs.new.self in
     record {
       left = r;

@@ -32,7 +32,7 @@ invariant_of-self-2 g c =
     let h = fewer_after_last s.cursor new ps c.in_ok-id.id s.left (count_is s.cursor s.lent s.left ps s.fits) c.in_ok-id.ensures.passes in
     record {
       fits = to_count new (Some c.in_ok-id.id) (s.left - 1) ps
-          (last_fits_now ps c.number_law.ensures s.cursor new s.lent (count_test s.cursor s.lent s.left ps s.fits) c.in_ok-id.ensures.fits c.in_ok-id.id c.in_ok-id.ensures.there c.in_ok-id.ensures.passes)
+          (last_fits_now ps c.step_back.ensures.distinct s.cursor new s.lent (count_test s.cursor s.lent s.left ps s.fits) c.in_ok-id.ensures.fits c.in_ok-id.id c.in_ok-id.ensures.there c.in_ok-id.ensures.passes)
           (omega arith);
     }
 
@@ -45,8 +45,8 @@ invariant_of-self-lent g c w =
     let id = c.in_ok-id.id in
     let v = c.value_mut.result.now in (
       to_count new (Some c.in_ok-id.id) (s.left - 1) (with_value ps id w)
-          (last_fits_with ps c.number_law.ensures s.cursor new s.lent test c.in_ok-id.ensures.fits id v c.value_mut.ensures.value c.in_ok-id.ensures.passes w)
-          (last_lent_count ps c.number_law.ensures s.cursor new s.lent test c.in_ok-id.ensures.fits id v c.value_mut.ensures.value c.in_ok-id.ensures.passes w s.left (count_is s.cursor s.lent s.left ps s.fits)),
+          (last_fits_with ps c.step_back.ensures.distinct s.cursor new s.lent test c.in_ok-id.ensures.fits id v c.value_mut.ensures.value c.in_ok-id.ensures.passes w)
+          (last_lent_count ps c.step_back.ensures.distinct s.cursor new s.lent test c.in_ok-id.ensures.fits id v c.value_mut.ensures.value c.in_ok-id.ensures.passes w s.left (count_is s.cursor s.lent s.left ps s.fits)),
       tt,
     )
 
@@ -62,7 +62,7 @@ returns g c =
         refl,
         λ w. at_some _ c.value_mut.result (
           refl,
-          is_lent_last ps c.number_law.ensures s.cursor new s.lent test c.in_ok-id.ensures.fits id v c.value_mut.ensures.value c.in_ok-id.ensures.passes w,
+          is_lent_last ps c.step_back.ensures.distinct s.cursor new s.lent test c.in_ok-id.ensures.fits id v c.value_mut.ensures.value c.in_ok-id.ensures.passes w,
         ),
         never_none _ c.value_mut.result,
       ),

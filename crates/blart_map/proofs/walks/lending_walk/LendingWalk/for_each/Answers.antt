@@ -12,19 +12,19 @@ write_pairs-requires g c = let s = c.args.self in (lit< tt, (from_test s.cursor 
 pub invariant_of-self : goal.invariant_of-self
 invariant_of-self g c =
     let s = c.args.self in
-    record { fits = walk_fits_after (LeavesPair g.F.FnMut) s.cursor s.lent (lending_left s) s.map.now c.write_pairs.new.self c.args.f c.write_pairs.ensures s.fits }
+    record { fits = walk_fits_after (LeavesPair g.F.FnMut) s.cursor s.lent (lending_left s) s.map.now c.write_pairs.new.self c.args.f c.write_pairs.ensures.writes s.fits }
 
 pub returns : goal.returns
 returns g c =
     let s = c.args.self in
     let R = LeavesPair g.F.FnMut in
     let f = c.args.f in
-    let r = c.write_pairs.ensures in
+    let r = c.write_pairs.ensures.writes in
     let new = c.write_pairs.new.self in
     record {
       left = r;
       keys = same_keys R (lending_left s) s.map.now new f r;
       len = same_length R (lending_left s) s.map.now new f r;
       acts = λ h acts. writes_all R h f (acts_on_pair g.F.FnMut f h acts) (lending_left s) s.map.now new r;
-      within = λ S T test h e same some acts. writes_where R test h f acts.0 (acts_within g.F.FnMut f test h acts) (lending_left s) s.map.now new S T c.number_law.ensures r e same some;
+      within = λ S T test h e same some acts. writes_where R test h f acts.0 (acts_within g.F.FnMut f test h acts) (lending_left s) s.map.now new S T c.write_pairs.ensures.distinct r e same some;
     }

@@ -13,12 +13,12 @@ invariant_of-self g c =
 pub invariant_of-self-2 : goal.invariant_of-self-2
 invariant_of-self-2 g c =
     let s = c.args.self.now in
-    record { fits = last_fits_now s.map.now c.number_law.ensures s.cursor c.step_back.new.cursor s.lent s.fits c.in_ok-id.ensures.fits c.in_ok-id.id c.in_ok-id.ensures.there c.in_ok-id.ensures.passes }
+    record { fits = last_fits_now s.map.now c.step_back.ensures.distinct s.cursor c.step_back.new.cursor s.lent s.fits c.in_ok-id.ensures.fits c.in_ok-id.id c.in_ok-id.ensures.there c.in_ok-id.ensures.passes }
 
 pub invariant_of-self-lent : goal.invariant_of-self-lent
 invariant_of-self-lent g c w =
     let s = c.args.self.now in
-    (last_fits_with s.map.now c.number_law.ensures s.cursor c.step_back.new.cursor s.lent s.fits c.in_ok-id.ensures.fits c.in_ok-id.id c.value_mut.result.now c.value_mut.ensures.value c.in_ok-id.ensures.passes w, tt)
+    (last_fits_with s.map.now c.step_back.ensures.distinct s.cursor c.step_back.new.cursor s.lent s.fits c.in_ok-id.ensures.fits c.in_ok-id.id c.value_mut.result.now c.value_mut.ensures.value c.in_ok-id.ensures.passes w, tt)
 
 pub returns : goal.returns
 returns g c =
@@ -30,7 +30,7 @@ returns g c =
         refl,
         λ w. at_some _ c.value_mut.result (
           refl,
-          is_lent_last ps c.number_law.ensures s.cursor c.step_back.new.cursor s.lent s.fits c.in_ok-id.ensures.fits id v c.value_mut.ensures.value c.in_ok-id.ensures.passes w,
+          is_lent_last ps c.step_back.ensures.distinct s.cursor c.step_back.new.cursor s.lent s.fits c.in_ok-id.ensures.fits id v c.value_mut.ensures.value c.in_ok-id.ensures.passes w,
         ),
         never_none _ c.value_mut.result,
       ),

@@ -1,9 +1,11 @@
 use Rattle.std.proofs.Common.{lit<, subst, ap, ◌∙◌}
+use Rattle.blart_keys.specs.Steps.{bytes}
+use Rattle.blart_keys.proofs.Mapped.{content_map}
 use Rattle.art_tree.specs.Leaves.{leaf_in, with_pair}
 use Rattle.art_tree.proofs.CallerLemmas.{leaf_in-with_now}
 use Rattle.blart_map.specs.Spans.{LeavesOne}
 use Rattle.blart_map.proofs.Related.Thinning.{first_has, one_takes, over_one}
-use Rattle.blart_map.proofs.over.put_over.Goals as goal
+use Rattle.blart_map.proofs.map.TreeMap.overwrite.Goals as goal
 
 pub swap-requires : goal.swap-requires
 swap-requires g c =
@@ -15,11 +17,11 @@ swap-requires g c =
 pub returns-clause-over : goal.returns-clause-over
 returns-clause-over g c =
     let kb = g.K.AsBytes.bytes in
-    let old = c.args.tree.now.pairs in
+    let old = c.self.inside.tree.pairs in
     let mid = c.leave_one.new.tree.pairs in
     let new = c.swap.new.self.pairs in
     let one = subst (λ q. LeavesOne kb old q c.args.last mid) c.as_bytes.ensures c.leave_one.ensures in
-    over_one kb old mid new c.args.last (c.args.key, c.args.value) c.law.ensures.distinct c.law-2.ensures.content c.law-2.ensures.distinct c.law-3.ensures.content c.law-3.ensures.distinct one c.swap.ensures.pairs
+    rw (← c.self.view_is) (over_one kb old mid new c.args.last (c.args.key, c.args.value) c.law.ensures.distinct c.law-2.ensures.content c.law-2.ensures.distinct c.law-3.ensures.content c.law-3.ensures.distinct one c.swap.ensures.pairs)
 
 pub returns-clause-now : goal.returns-clause-now
 returns-clause-now g c =
@@ -31,4 +33,8 @@ returns-clause-now g c =
 pub returns-clause-exact : goal.returns-clause-exact
 returns-clause-exact g c =
     let one = rw c.as_bytes.ensures at c.leave_one.ensures.exact in
-    c.swap.ensures.pairs ∙ ap (λ ps. with_pair ps c.args.last (c.args.key, c.args.value)) one
+    rw (← c.self.view_is) (c.swap.ensures.pairs ∙ ap (λ ps. with_pair ps c.args.last (c.args.key, c.args.value)) one)
+
+pub returns-clause-content : goal.returns-clause-content
+returns-clause-content g c =
+    rw (← c.self.view_is) (content_map (λ p. p.1) (bytes g.K.AsBytes.bytes) c.self.inside.tree.pairs c.law.ensures.content)
