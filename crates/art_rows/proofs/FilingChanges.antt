@@ -11,7 +11,7 @@ use Rattle.art_slots.specs.Store.{Store, slot_at, used_count, with_record}
 use Rattle.art_rows.specs.declared.leaves.Leaf.{Leaf}
 use Rattle.art_rows.specs.declared.row.Position.{Position}
 use Rattle.art_slots.proofs.CallerLemmas.{with-now, with-others, with-count}
-use Rattle.art_rows.proofs.NumbersLemmas.{eqb_same, leaf_in-without_number, AreDistinct-without_number, length-without_number, leaf_in-with_pair, leaf_in-with_now, numbers-with_pair, same_distinct, same_length, Lacks-from_leaf_in, AreDistinct-with_pair_behind, leaf_in-with_pair_behind, length-with_pair_behind, Has-tail, split, leaf_in-split, with_pair-split, with_pair_behind-split}
+use Rattle.art_rows.proofs.NumbersLemmas.{eqb_same, leaf_in-without_number, AreDistinct-without_number, length-without_number, leaf_in-with_pair, leaf_in-with_now, numbers-with_pair, same_distinct, same_length, Lacks-from_leaf_in, AreDistinct-with_pair, AreDistinct-with_pair_behind, leaf_in-placed_now, leaf_in-with_pair_behind, length-with_pair_behind, Has-tail, split, leaf_in-split, with_pair-split, with_pair_behind-split}
 use Rattle.art_rows.proofs.RowChanges.{among-take, among-parts, row_with-append, PutsIn, puts_in, puts_row, spot-row, among-lacking, TakesOut, takes_one, takes_more, numbers-without}
 use Rattle.art_rows.proofs.RowsLemmas.{Has-among, among-append, numbers-append, AreFilled-parts, AreFilled-append, standing, standing-row, nth-place, among-numbers}
 use Rattle.art_rows.proofs.FilingLemmas.{record_is}
@@ -28,7 +28,7 @@ numbers-placed {K = K} {V = V} (Some i) x (p ∷ ps) h = elim (eqb_tells p.0 i) 
     step : (m : ℕ) (ns : List ℕ) (k : ℕ) → m ∷ (take (k + 1) ns ++ x.0 ∷ drop (k + 1) ns) ≡ take (suc k + 1) (m ∷ ns) ++ x.0 ∷ drop (suc k + 1) (m ∷ ns)
     step m ns k = (let e : suc k + 1 ≡ suc (k + 1) = omega arith in rw e refl)
 
-module _ {K V : Type 0} (leaves : ℕ → Option (Leaf K V)) (rows : List (Numbered (List ℕ))) (count : ℕ) (ps : List (Numbered (K × V))) (f : Files leaves rows count ps) where
+module _ {K V : Type 0} {leaves : ℕ → Option (Leaf K V)} {rows : List (Numbered (List ℕ))} {count : ℕ} {ps : List (Numbered (K × V))} (f : Files leaves rows count ps) where
   -- a record is out, and its number out of its row
   pub files_removed : (id : ℕ) → Has ps id → (new : List (Numbered (List ℕ))) → TakesOut rows new (index_of ps id) id → (taken : ℕ → Option (Leaf K V)) → taken id ≡ None → ((j : ℕ) → j ≢ id → taken j ≡ leaves j) → (less : ℕ) → less + 1 ≡ count → Files taken new less (without_number ps id)
   files_removed id has new out taken gone rest less one = record {
@@ -46,7 +46,7 @@ module _ {K V : Type 0} (leaves : ℕ → Option (Leaf K V)) (rows : List (Numbe
   -- another pair in a record
   pub files_changed : (i : ℕ) (r : Leaf K V) → leaves i ≡ Some r → (y : K × V) → (changed : ℕ → Option (Leaf K V)) → changed i ≡ Some (record { key = y.0; value = y.1; row = r.row }) → ((j : ℕ) → j ≢ i → changed j ≡ leaves j) → Files changed rows count (with_pair ps i y)
   files_changed i r was y changed now rest =
-      let q = record_is leaves rows count ps f i r was in
+      let q = record_is f i r was in
       let has : Has ps i = rw q.0 refl in
       let same : map (λ p. p.0) (with_pair ps i y) ≡ map (λ p. p.0) ps = numbers-with_pair ps i y in
       record {
@@ -107,12 +107,12 @@ module _ {K V : Type 0} (leaves : ℕ → Option (Leaf K V)) (rows : List (Numbe
         files_inserted o n r k v has none new (subst (λ j. PutsIn rows new j n r) (sym index) (puts_row r n b rows new f.apart f.filled h fresh (lacks_fresh n none) e)) made there rest more one
 
 -- another pair in a record of a store
-pub files_changed_at : {K V : Type 0} (s : Store (Leaf K V)) (rows : List (Numbered (List ℕ))) (ps : List (Numbered (K × V))) → Files (slot_at s) rows (used_count s) ps → (id n : ℕ) → n ≡ id → (r : Leaf K V) → slot_at s n ≡ Some r → (k : K) (v : V) (x : Leaf K V) → x ≡ record { key = k; value = v; row = r.row } → Files (slot_at (with_record s n x)) rows (used_count (with_record s n x)) (with_pair ps id (k, v))
-files_changed_at {K = K} {V = V} s rows ps f id n is r was k v x e =
+pub files_changed_at : {K V : Type 0} {rows : List (Numbered (List ℕ))} {ps : List (Numbered (K × V))} (s : Store (Leaf K V)) → Files (slot_at s) rows (used_count s) ps → (id n : ℕ) → n ≡ id → (r : Leaf K V) → slot_at s n ≡ Some r → (k : K) (v : V) (x : Leaf K V) → x ≡ record { key = k; value = v; row = r.row } → Files (slot_at (with_record s n x)) rows (used_count (with_record s n x)) (with_pair ps id (k, v))
+files_changed_at {K = K} {V = V} s f id n is r was k v x e =
     let y : Leaf K V = record { key = k; value = v; row = r.row } in
     let now : slot_at (with_record s n x) id ≡ Some y = subst (λ m. slot_at (with_record s n x) m ≡ Some y) is (with-now s n r x was ∙ ap Some e) in
     let rest : (j : ℕ) → j ≢ id → slot_at (with_record s n x) j ≡ slot_at s j = λ j ne. with-others s n r x was j (λ d. ne (d ∙ is)) in
-    rw (with-count s n r x was) (files_changed (slot_at s) rows (used_count s) ps f id r (rw is at was) (k, v) (slot_at (with_record s n x)) now rest)
+    rw (with-count s n r x was) (files_changed f id r (rw is at was) (k, v) (slot_at (with_record s n x)) now rest)
 
 -- so many records name a row
 pub record Naming {K V : Type 0} (old new : Store (Leaf K V)) (ns : List ℕ) (r : ℕ) : Type 0 where
@@ -196,10 +196,10 @@ module _ (rows new : List (Numbered (List ℕ))) (r s : ℕ) (i : IsSplit rows n
       same true = refl
       same false = refl
 
-module _ {K V : Type 0} (leaves : ℕ → Option (Leaf K V)) (rows : List (Numbered (List ℕ))) (count : ℕ) (ps : List (Numbered (K × V))) (f : Files leaves rows count ps) where
+module _ {K V : Type 0} {leaves : ℕ → Option (Leaf K V)} {rows : List (Numbered (List ℕ))} {count : ℕ} {ps : List (Numbered (K × V))} (f : Files leaves rows count ps) where
   -- a row in two, and the records of the second part name it
-  pub files_split : (r s : ℕ) (new : List (Numbered (List ℕ))) → AreDistinct new → (named : ℕ → Option (Leaf K V)) → (ys : List ℕ) → (i : IsSplit rows new r s) → ys ≡ i.second → ((j : ℕ) → named j ≡ in_row leaves ys s j) → Files named new count ps
-  files_split r s new d named ys i yi names =
+  pub files_split : (r s : ℕ) (new : List (Numbered (List ℕ))) (named : ℕ → Option (Leaf K V)) (ys : List ℕ) (i : IsSplit rows new r s) → ys ≡ i.second → ((j : ℕ) → named j ≡ in_row leaves ys s j) → (now : ℕ) → now ≡ count → Files named new now ps
+  files_split r s new named ys i yi names now is =
       let a : numbers rows ≡ (numbers i.before ++ i.first) ++ (i.second ++ numbers i.after) = ap numbers i.was ∙ numbers-append i.before ((r, i.first ++ i.second) ∷ i.after) ∙ simp append_assoc in
       let b : numbers new ≡ (numbers i.before ++ i.first) ++ (i.second ++ numbers i.after) = ap numbers i.is ∙ numbers-append i.before ((r, i.first) ∷ (s, i.second) ∷ i.after) ∙ simp append_assoc in
       let g = AreFilled-parts i.before ((r, i.first ++ i.second) ∷ i.after) (subst AreFilled i.was f.filled) in
@@ -210,8 +210,8 @@ module _ {K V : Type 0} (leaves : ℕ → Option (Leaf K V)) (rows : List (Numbe
         each = λ j. names j ∙ rw (yi, f.each j) (each_split j (among i.second j) refl (leaf_in ps j));
         joined = f.joined ∙ a ∙ sym b;
         filled = subst AreFilled (sym i.is) (AreFilled-append i.before ((r, i.first) ∷ (s, i.second) ∷ i.after) g.0 (omega arith, (omega arith, g.1.1)));
-        apart = d;
-        counted = f.counted;
+        apart = i.apart;
+        counted = is ∙ f.counted;
       }
     where
       each_split : (j : ℕ) (b : Bool) → among i.second j ≡ b → (o : Option (K × V)) → cond (among i.second j) (option_map (λ (x : Leaf K V). let y : Leaf K V = record x { row = s } in y) (option_map (λ (x : K × V). let y : Leaf K V = record { key = x.0; value = x.1; row = row_with rows j } in y) o)) (option_map (λ (x : K × V). let y : Leaf K V = record { key = x.0; value = x.1; row = row_with rows j } in y) o) ≡ option_map (λ (x : K × V). let y : Leaf K V = record { key = x.0; value = x.1; row = row_with new j } in y) o
@@ -242,7 +242,7 @@ row_split rows r s ids xs ys at parts half full new apart e =
       refl,
     )
 
-module _ {K V : Type 0} (leaves : ℕ → Option (Leaf K V)) (rows : List (Numbered (List ℕ))) (count : ℕ) (ps : List (Numbered (K × V))) (f : Files leaves rows count ps) where
+module _ {K V : Type 0} {leaves : ℕ → Option (Leaf K V)} {rows : List (Numbered (List ℕ))} {count : ℕ} {ps : List (Numbered (K × V))} (f : Files leaves rows count ps) where
   -- a number of a row has a pair
   pub has_in_row : (r : ℕ) (ids : List ℕ) → leaf_in rows r ≡ Some ids → (j : ℕ) → among ids j ≡ true → Has ps j
   has_in_row r ids at j h =
@@ -256,6 +256,46 @@ module _ {K V : Type 0} (leaves : ℕ → Option (Leaf K V)) (rows : List (Numbe
       always : (b : Bool) → cond b true true ≡ true
       always true = refl
       always false = refl
+
+-- a row that another list of numbers takes is still there
+pub row_stays : (rows : List (Numbered (List ℕ))) (r : ℕ) (ids xs : List ℕ) → leaf_in rows r ≡ Some ids → Has (with_pair rows r xs) r
+row_stays rows r ids xs at = rw (leaf_in-with_now rows r xs (rw at refl)) refl
+
+module _ {K V : Type 0} {leaves : ℕ → Option (Leaf K V)} {rows : List (Numbered (List ℕ))} {count : ℕ} {ps : List (Numbered (K × V))}
+    (f : Files leaves rows count ps) (r s : ℕ) (ids xs ys : List ℕ) (new : List (Numbered (List ℕ))) (at : leaf_in rows r ≡ Some ids) (parts : ids ≡ xs ++ ys)
+    (fresh : leaf_in (with_pair rows r xs) s ≡ None) (placed : new ≡ with_pair_behind (Some r) (s, ys) (with_pair rows r xs)) where
+  -- the new row has the second part
+  pub second_row : leaf_in new s ≡ Some ys
+  second_row =
+      let lacks = Lacks-from_leaf_in (with_pair rows r xs) s fresh in
+      ap (λ rs. leaf_in rs s) placed ∙ leaf_in-placed_now (Some r) (s, ys) (with_pair rows r xs) (row_stays rows r ids xs at) lacks
+
+  second_is : (now : List ℕ) → leaf_in new s ≡ Some now → now ≡ ys
+  second_is now read = (let e : Some now ≡ Some ys = sym read ∙ second_row in cc)
+
+  -- its numbers have records
+  pub second_has : (now : List ℕ) → leaf_in new s ≡ Some now → (j : ℕ) → among now j ≡ true → Has ps j
+  second_has now read j h =
+      let m : among ys j ≡ true = ap (λ l. among l j) (sym (second_is now read)) ∙ h in
+      has_in_row f r ids at j (ap (λ l. among l j) parts ∙ among-append xs ys j ∙ rw m (always (among xs j)))
+    where
+      always : (b : Bool) → cond b true true ≡ true
+      always true = refl
+      always false = refl
+
+  -- the two rows are the halves of a full one
+  pub halves : length xs ≡ 16 → IfSome (leaf_in rows r) (λ l. length l ≡ 32) → (i : IsSplit rows new r s) × (i.second ≡ ys)
+  halves half full =
+      let lacks = Lacks-from_leaf_in (with_pair rows r xs) s fresh in
+      let d = AreDistinct-with_pair_behind (Some r) (s, ys) (with_pair rows r xs) (AreDistinct-with_pair rows r xs f.apart) lacks in
+      row_split rows r s ids xs ys at parts half (rw at at full) new (subst AreDistinct (sym placed) d) placed
+
+  -- a full row in two, and the records of the second half name it
+  pub files_halved : length xs ≡ 16 → IfSome (leaf_in rows r) (λ l. length l ≡ 32) → (now : List ℕ) → leaf_in new s ≡ Some now →
+      (named : ℕ → Option (Leaf K V)) → ((j : ℕ) → named j ≡ in_row leaves now s j) → (more : ℕ) → more ≡ count → Files named new more ps
+  files_halved half full now read named names more is =
+      let h = halves half full in
+      files_split f r s new named now h.0 (second_is now read ∙ sym h.1) names more is
 
 -- another value is another pair
 pub with_value-pair : {K V : Type 0} (ps : List (Numbered (K × V))) (i : ℕ) (k : K) (w v : V) → leaf_in ps i ≡ Some (k, w) → with_value ps i v ≡ with_pair ps i (k, v)

@@ -1,16 +1,17 @@
 -- What holds of leaf records and the rows that they are filed in.
-use Rattle.std.proofs.Common.{◌≡◌, ℕ, suc, ◌+◌, ◌-◌, ◌<◌, ◌≤◌, List, [], ◌∷◌, length, map, refl, sym, ap, subst, ◌∙◌, Option, Some, None, IsSome, true, false, eqb, arith}
+use Rattle.std.proofs.Common.{◌≡◌, ℕ, suc, ◌+◌, ◌-◌, ◌<◌, ◌≤◌, List, [], ◌∷◌, length, map, refl, sym, ap, subst, ◌∙◌, Option, Some, None, IsSome, true, false, eqb, inl, inr, arith}
 use Rattle.std.specs.Prelude.{option_map, IfSome}
 use Rattle.std.proofs.lemmas.List.{length-map}
-use Rattle.art_rows.specs.Numbers.{Numbered, Numbers, leaf_in, Has, last_number, number_after, number_before, Lacks, AreDistinct}
+use Rattle.art_rows.specs.Numbers.{Numbered, leaf_in, Has, last_number, number_after, number_before, Lacks, AreDistinct}
 use Rattle.art_rows.specs.Rows.{among, place_in, nth, numbers, row_with, position_at, start_of}
 use Rattle.art_rows.specs.Leaves.{Leaves, index_of}
 use Rattle.art_rows.specs.Filing.{gather, Files, pairs_in, AllFiled, content}
 use Rattle.art_slots.specs.Store.{Store, slot_at, used_count}
 use Rattle.art_rows.specs.declared.leaves.Leaf.{Leaf}
+use Rattle.art_rows.specs.declared.leaves.Leaves.TheInside.{Inside}
 use Rattle.art_rows.specs.declared.row.Position.{Position}
 use Rattle.art_rows.proofs.NumbersLemmas.{eqb_same, eqb_other, has_other, split, leaf_in-split}
-use Rattle.art_rows.proofs.RowsLemmas.{among-numbers, number_after-nth, number_before-nth, nth-within, place_in-nth, position-split, position-here, found, standing, standing-row, standing-number, standing-within, standing-behind, standing-earlier, standing-first, standing-not_first, standing-row_end, end_of, position-none, position-last, none-last, filled-row}
+use Rattle.art_rows.proofs.RowsLemmas.{among-numbers, number_after-nth, number_before-first, number_before-nth, before_cases, nth-within, place_in-nth, position-split, position-here, found, standing, standing-row, standing-number, standing-within, standing-behind, standing-earlier, standing-first, standing-not_first, standing-row_end, end_of, position-none, position-last, none-last, filled-row}
 
 -- what follows of what there is
 pub if_some : {A : Type 0} (o : Option A) (P Q : A → Type 0) → ((x : A) → P x → Q x) → IfSome o P → IfSome o Q
@@ -41,7 +42,7 @@ module _ {K V : Type 0} (leaves : ℕ → Option (Leaf K V)) where
       let v : (y.0.key, y.0.value) ≡ p.1 = cc in
       rw (y.1, gather_records ps d.1 (HasRecords-tail p ps d.0 h), v) refl
 
-module _ {K V : Type 0} (leaves : ℕ → Option (Leaf K V)) (rows : List (Numbered (List ℕ))) (count : ℕ) (ps : List (Numbered (K × V))) (f : Files leaves rows count ps) where
+module _ {K V : Type 0} {leaves : ℕ → Option (Leaf K V)} {rows : List (Numbered (List ℕ))} {count : ℕ} {ps : List (Numbered (K × V))} (f : Files leaves rows count ps) where
   -- a pair has its record
   has_records : (i : ℕ) → Has ps i → (x : Leaf K V) × (leaves i ≡ Some x) × (leaf_in ps i ≡ Some (x.key, x.value))
   has_records i h = go (leaf_in ps i) refl h
@@ -85,32 +86,39 @@ module _ {K V : Type 0} (leaves : ℕ → Option (Leaf K V)) (rows : List (Numbe
           let h : None ≡ Some r = sym e ∙ f.each i ∙ rw g refl in
           absurd (cc)
 
-module _ {K V : Type 0} (s : Store (Leaf K V)) (rows : Numbers (List ℕ)) where
+module _ {K V : Type 0} where
   -- what a contract sees is filed
-  pub seen : (c : Leaves K V) → content s rows ≡ c → AllFiled s rows.pairs → Files (slot_at s) rows.pairs (used_count s) c.pairs
-  seen c e f = subst (λ (d : Leaves K V). Files (slot_at s) rows.pairs (used_count s) d.pairs) e f
+  pub seen : {c : Leaves K V} (i : Inside K V) → content i.records i.rows ≡ c → AllFiled i.records i.rows.pairs →
+      Files (slot_at i.records) i.rows.pairs (used_count i.records) c.pairs
+  seen i e f = subst (λ (d : Leaves K V). Files (slot_at i.records) i.rows.pairs (used_count i.records) d.pairs) e f
 
+  -- what a contract sees is filed in the rows that it sees
+  pub seen_rows : {c : Leaves K V} (i : Inside K V) → content i.records i.rows ≡ c → AllFiled i.records i.rows.pairs →
+      Files (slot_at i.records) c.rows (used_count i.records) c.pairs
+  seen_rows i e f = subst (λ (d : Leaves K V). Files (slot_at i.records) d.rows (used_count i.records) d.pairs) e f
+
+module _ {K V : Type 0} (s : Store (Leaf K V)) {rows : List (Numbered (List ℕ))} {ps : List (Numbered (K × V))} (f : Files (slot_at s) rows (used_count s) ps) where
   -- filed pairs are those that a contract sees
-  pub pairs_are : (ps : List (Numbered (K × V))) → Files (slot_at s) rows.pairs (used_count s) ps → pairs_in s rows.pairs ≡ ps
-  pairs_are ps f = gather-filed (slot_at s) rows.pairs (used_count s) ps f
+  pub pairs_are : pairs_in s rows ≡ ps
+  pairs_are = gather-filed f
 
   -- filed pairs make the invariant
-  pub all_filed : (ps : List (Numbered (K × V))) → Files (slot_at s) rows.pairs (used_count s) ps → AllFiled s rows.pairs
-  all_filed ps f = subst (λ qs. Files (slot_at s) rows.pairs (used_count s) qs) (sym (pairs_are ps f)) f
+  pub all_filed : AllFiled s rows
+  all_filed = subst (λ qs. Files (slot_at s) rows (used_count s) qs) (sym pairs_are) f
 
-module _ {K V : Type 0} (leaves : ℕ → Option (Leaf K V)) (rows : List (Numbered (List ℕ))) (count : ℕ) (ps : List (Numbered (K × V))) (f : Files leaves rows count ps) where
+module _ {K V : Type 0} {leaves : ℕ → Option (Leaf K V)} {rows : List (Numbered (List ℕ))} {count : ℕ} {ps : List (Numbered (K × V))} (f : Files leaves rows count ps) where
   -- the row that a record names
   pub row_has : (i n : ℕ) → n ≡ i → Has ps i → (x : Leaf K V) → leaves n ≡ Some x → Has rows x.row
   row_has i n is h x e =
-      let r = (record_is leaves rows count ps f n x e).1 in
-      let s = found rows i f.apart (in_rows leaves rows count ps f i h) in
+      let r = (record_is f n x e).1 in
+      let s = found rows i f.apart (in_rows f i h) in
       rw (r, is, s.row) refl
 
   -- the position that a record and its row give
   pub located : (i n : ℕ) → n ≡ i → Has ps i → (x : Leaf K V) → leaves n ≡ Some x → (ids : List ℕ) → leaf_in rows x.row ≡ Some ids → position_at rows (index_of ps i) ≡ Some (record { row = x.row; place = place_in ids n })
   located i n is h x e ids g =
-      let r : x.row ≡ row_with rows i = (record_is leaves rows count ps f n x e).1 ∙ ap (row_with rows) is in
-      let s = found rows i f.apart (in_rows leaves rows count ps f i h) in
+      let r : x.row ≡ row_with rows i = (record_is f n x e).1 ∙ ap (row_with rows) is in
+      let s = found rows i f.apart (in_rows f i h) in
       let a : Some ids ≡ Some s.ids = sym g ∙ ap (leaf_in rows) r ∙ s.row in
       let b : ids ≡ s.ids = cc in
       rw (r, is, b, f.joined) s.position
@@ -205,6 +213,14 @@ module _ {K V : Type 0} (leaves : ℕ → Option (Leaf K V)) (rows : List (Numbe
   -- no position, no number
   pub none_there : (k : ℕ) → position_at rows k ≡ None → nth (map (λ q. q.0) ps) k ≡ None
   none_there k e = rw f.joined (position-none rows k e)
+
+  -- with no position before, no number is before
+  pub none_before : (i : ℕ) → Has ps i → (p : Position) (o : Option Position) → ((k : ℕ) → position_at rows (k + 1) ≡ Some p → o ≡ position_at rows k) →
+      (position_at rows 0 ≡ Some p → o ≡ None) → position_at rows (index_of ps i) ≡ Some p → o ≡ None → number_before ps i ≡ None
+  none_before i has p o before first at is = elim (before_cases rows p o before first (index_of ps i) at) [
+    | inl t ↦ number_before-first None ps i has t.0
+    | inr t ↦ number_before-nth None ps i t.0 has t.1.0 ∙ none_there t.0 (sym t.1.1 ∙ is)
+  ]
 
   -- how many numbers the rows have
   pub how_many : length (numbers rows) ≡ length ps

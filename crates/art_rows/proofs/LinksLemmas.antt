@@ -6,6 +6,7 @@ use Rattle.art_rows.specs.Numbers.{Numbered, Numbers, leaf_in, Has, first_number
 use Rattle.art_rows.specs.Links.{is_at, end_with, follow, linked, Links, AllLinked, pairs_in, content, with_next, with_prev}
 use Rattle.art_slots.specs.Store.{Store, slot_at, used_count, with_record}
 use Rattle.art_rows.specs.declared.chain.Link.{Link}
+use Rattle.art_rows.specs.declared.chain.Chain.TheInside.{Inside}
 use Rattle.art_slots.proofs.CallerLemmas.{with-now, with-others, with-count}
 use Rattle.art_rows.proofs.NumbersLemmas.{eqb_same, eqb_other, has_other, Lacks-from_leaf_in, is_at-behind, is_at-has, leaf_in-with_pair_behind, number_after-with_pair_behind, number_before-with_pair_behind, AreDistinct-with_pair_behind, first_number-with_pair_behind, last_number-with_pair_behind, length-with_pair_behind, leaf_in-without_number, number_after-without_number, number_before-without_number, AreDistinct-without_number, first_number-without_number, last_number-without_number, length-without_number, Has-before, Has-behind, leaf_in-with_pair, leaf_in-with_now, numbers-with_pair, before_other, after_other, same_first, same_last, same_after, same_before, same_distinct, same_length}
 
@@ -46,20 +47,22 @@ module _ {X : Type 0} (leaves : ℕ → Option (Link X)) where
   pub follow-links : (first last : Option ℕ) (len : ℕ) (ps : List (Numbered X)) → Links leaves first last len ps → follow leaves len first ≡ ps
   follow-links first last len ps l = rw (l.counted, l.starts) (follow_linked ps l.distinct (is_linked ps l.each))
 
-module _ {X : Type 0} (s : Store (Link X)) (first last : Option ℕ) where
+module _ {X : Type 0} where
   -- the pairs that a contract sees are linked
-  pub seen : (c : Numbers X) → content s first ≡ c → AllLinked s first last → Links (slot_at s) first last (used_count s) c.pairs
-  seen c e l = subst (λ (d : Numbers X). Links (slot_at s) first last (used_count s) d.pairs) e l
+  pub seen : {c : Numbers X} (i : Inside X) → content i.records i.first ≡ c → AllLinked i.records i.first i.last →
+      Links (slot_at i.records) i.first i.last (used_count i.records) c.pairs
+  seen i e l = subst (λ (d : Numbers X). Links (slot_at i.records) i.first i.last (used_count i.records) d.pairs) e l
 
+module _ {X : Type 0} (s : Store (Link X)) {first last : Option ℕ} {ps : List (Numbered X)} (l : Links (slot_at s) first last (used_count s) ps) where
   -- linked pairs are those that a contract sees
-  pub pairs_are : (ps : List (Numbered X)) → Links (slot_at s) first last (used_count s) ps → pairs_in s first ≡ ps
-  pairs_are ps l = follow-links (slot_at s) first last (used_count s) ps l
+  pub pairs_are : pairs_in s first ≡ ps
+  pairs_are = follow-links (slot_at s) first last (used_count s) ps l
 
   -- the records of linked pairs are all linked
-  pub all_linked : (ps : List (Numbered X)) → Links (slot_at s) first last (used_count s) ps → AllLinked s first last
-  all_linked ps l = subst (λ qs. Links (slot_at s) first last (used_count s) qs) (sym (pairs_are ps l)) l
+  pub all_linked : AllLinked s first last
+  all_linked = subst (λ qs. Links (slot_at s) first last (used_count s) qs) (sym pairs_are) l
 
-module _ {X : Type 0} (leaves : ℕ → Option (Link X)) (first last : Option ℕ) (len : ℕ) (ps : List (Numbered X)) (l : Links leaves first last len ps) where
+module _ {X : Type 0} {leaves : ℕ → Option (Link X)} {first last : Option ℕ} {len : ℕ} {ps : List (Numbered X)} (l : Links leaves first last len ps) where
   -- a number that the list has has a record to be
   linked_some : (i : ℕ) → IsSome (leaf_in ps i) → IsSome (linked ps i)
   linked_some i h = go (leaf_in ps i) h
@@ -138,7 +141,7 @@ module _ {X : Type 0} where
   relinked (Some x) prev next p n false true = refl
   relinked (Some x) prev next p n false false = refl
 
-  module _ (ps : List (Numbered X)) (leaves : ℕ → Option (Link X)) (first last : Option ℕ) (len : ℕ) (l : Links leaves first last len ps) where
+  module _ {ps : List (Numbered X)} {leaves : ℕ → Option (Link X)} {first last : Option ℕ} {len : ℕ} (l : Links leaves first last len ps) where
     module _ (o : Option ℕ) (n : ℕ) (x : X) (has : IfSome o (Has ps)) (fresh : leaf_in ps n ≡ None) (made next_set prev_set : ℕ → Option (Link X)) (is_made : made n ≡ Some (leaf_of o (behind o ps) x)) (rest : (j : ℕ) → j ≢ n → made j ≡ leaves j) (nexts : (j : ℕ) → next_set j ≡ with_next made o (Some n) j) (prevs : (j : ℕ) → prev_set j ≡ with_prev next_set (behind o ps) (Some n) j) where
       -- the number is fresh
       lacks_new : Lacks ps n
@@ -201,7 +204,7 @@ module _ {X : Type 0} where
       -- the record that was changed
       changed_now : changed i ≡ linked (with_pair ps i y) i
       changed_now =
-          let q = record_is leaves first last len ps l i r was in
+          let q = record_is l i r was in
           let has : Has ps i = rw q.0 refl in
           rw (now, q.1, q.2, leaf_in-with_now ps i y has, same_before None (with_pair ps i y) ps i same_numbers, same_after (with_pair ps i y) ps i same_numbers) refl
 
@@ -237,11 +240,11 @@ module _ {X : Type 0} where
 
     -- where a record is taken out, the leaf before it has its own
     pub left_before : (i : ℕ) (taken : ℕ → Option (Link X)) → Has ps i → ((j : ℕ) → j ≢ i → taken j ≡ leaves j) → IfSome (number_before ps i) (λ j. IsSome (taken j))
-    left_before i taken has rest = left (number_before ps i) i taken (before_other ps i l.distinct has) rest (record_before leaves first last len ps l i)
+    left_before i taken has rest = left (number_before ps i) i taken (before_other ps i l.distinct has) rest (record_before l i)
 
     -- so has the leaf behind it
     pub left_after : (i : ℕ) (taken : ℕ → Option (Link X)) → Has ps i → ((j : ℕ) → j ≢ i → taken j ≡ leaves j) → IfSome (number_after ps i) (λ j. IsSome (taken j))
-    left_after i taken has rest = left (number_after ps i) i taken (after_other ps i l.distinct has) rest (record_after leaves first last len ps l i)
+    left_after i taken has rest = left (number_after ps i) i taken (after_other ps i l.distinct has) rest (record_after l i)
 
   -- where a record is made, the others stand
   pub still_made : (o : Option ℕ) (n : ℕ) (leaves made : ℕ → Option (Link X)) (x : Link X) → made n ≡ Some x → ((j : ℕ) → j ≢ n → made j ≡ leaves j) → IfSome o (λ j. IsSome (leaves j)) → IfSome o (λ j. IsSome (made j))
@@ -263,74 +266,69 @@ module _ {X : Type 0} where
 
   -- ---- stores of leaves
 
-  module _ (s : Store (Link X)) (first last : Option ℕ) (ps : List (Numbered X)) (l : Links (slot_at s) first last (used_count s) ps) where
+  module _ (s : Store (Link X)) {first last : Option ℕ} {ps : List (Numbered X)} (l : Links (slot_at s) first last (used_count s) ps) where
     -- the same records in a store with other spare slots
     pub store_same : (t : Store (Link X)) → ((j : ℕ) → slot_at t j ≡ slot_at s j) → used_count t ≡ used_count s → Links (slot_at t) first last (used_count t) ps
-    store_same t same used = rw used (links_same ps (slot_at s) first last (used_count s) l (slot_at t) same)
+    store_same t same used = rw used (links_same l (slot_at t) same)
 
-    module _ (id n : ℕ) (is : n ≡ id) where
+    module _ (id : ℕ) where
       -- a number that the list has has a record in the store
-      pub stored : Has ps id → IsSome (slot_at s n)
-      stored h = rw is (has_record (slot_at s) first last (used_count s) ps l id h)
+      pub stored : Has ps id → IsSome (slot_at s id)
+      stored h = has_record l id h
 
       -- the record in the store has the pair
-      pub stored_pair : (r : Link X) → slot_at s n ≡ Some r → leaf_in ps id ≡ Some r.item
-      stored_pair r was = (record_is (slot_at s) first last (used_count s) ps l id r (rw is at was)).0
+      pub stored_pair : (r : Link X) → slot_at s id ≡ Some r → leaf_in ps id ≡ Some r.item
+      stored_pair r was = (record_is l id r was).0
 
       -- and leads to the leaf before it, and to the one behind
-      pub stored_prev : (r : Link X) → slot_at s n ≡ Some r → r.prev ≡ number_before ps id
-      stored_prev r was = (record_is (slot_at s) first last (used_count s) ps l id r (rw is at was)).1
+      pub stored_prev : (r : Link X) → slot_at s id ≡ Some r → r.prev ≡ number_before ps id
+      stored_prev r was = (record_is l id r was).1
 
-      pub stored_next : (r : Link X) → slot_at s n ≡ Some r → r.next ≡ number_after ps id
-      stored_next r was = (record_is (slot_at s) first last (used_count s) ps l id r (rw is at was)).2
+      pub stored_next : (r : Link X) → slot_at s id ≡ Some r → r.next ≡ number_after ps id
+      stored_next r was = (record_is l id r was).2
 
       -- the record has another pair
-      pub store_changed : (r x : Link X) → slot_at s n ≡ Some r → (y : X) → x ≡ leaf_of r.prev r.next y → Links (slot_at (with_record s n x)) first last (used_count (with_record s n x)) (with_pair ps id y)
+      pub store_changed : (r x : Link X) → slot_at s id ≡ Some r → (y : X) → x ≡ leaf_of r.prev r.next y → Links (slot_at (with_record s id x)) first last (used_count (with_record s id x)) (with_pair ps id y)
       store_changed r x was y e =
-          let now : slot_at (with_record s n x) id ≡ Some (leaf_of r.prev r.next y) = rw (← is, ← e) (with-now s n r x was) in
-          let rest : (j : ℕ) → j ≢ id → slot_at (with_record s n x) j ≡ slot_at s j = λ j ne. with-others s n r x was j (λ d. ne (d ∙ is)) in
-          rw (with-count s n r x was) (links_changed ps (slot_at s) first last (used_count s) l id r (rw is at was) y (slot_at (with_record s n x)) now rest)
+          let now : slot_at (with_record s id x) id ≡ Some (leaf_of r.prev r.next y) = rw (← e) (with-now s id r x was) in
+          let rest : (j : ℕ) → j ≢ id → slot_at (with_record s id x) j ≡ slot_at s j = with-others s id r x was in
+          rw (with-count s id r x was) (links_changed l id r was y (slot_at (with_record s id x)) now rest)
 
-      module _ (has : Has ps id) (r : Link X) (was : slot_at s n ≡ Some r) (taken : Store (Link X)) (rest : (j : ℕ) → j ≢ n → slot_at taken j ≡ slot_at s j) where
-        -- the other numbers stand
-        rest_of : (j : ℕ) → j ≢ id → slot_at taken j ≡ slot_at s j
-        rest_of j ne = rest j (λ e. ne (e ∙ is))
-
+      module _ (has : Has ps id) (r : Link X) (was : slot_at s id ≡ Some r) (taken : Store (Link X)) (rest : (j : ℕ) → j ≢ id → slot_at taken j ≡ slot_at s j) where
         -- the record has the pair and its neighbours
         record_of : (leaf_in ps id ≡ Some r.item) × (r.prev ≡ number_before ps id) × (r.next ≡ number_after ps id)
-        record_of = record_is (slot_at s) first last (used_count s) ps l id r (rw is at was)
+        record_of = record_is l id r was
 
         -- the leaf before the one that was taken out
         pub taken_before : IfSome r.prev (λ j. IsSome (slot_at taken j))
-        taken_before = rw record_of.1 (left_before ps (slot_at s) first last (used_count s) l id (slot_at taken) has rest_of)
+        taken_before = rw record_of.1 (left_before l id (slot_at taken) has rest)
 
         -- the leaf behind it
         pub taken_after : IfSome r.next (λ j. IsSome (slot_at taken j))
-        taken_after = rw record_of.2 (left_after ps (slot_at s) first last (used_count s) l id (slot_at taken) has rest_of)
+        taken_after = rw record_of.2 (left_after l id (slot_at taken) has rest)
 
         -- the record is taken out
-        pub store_removed : slot_at taken n ≡ None → used_count taken + 1 ≡ used_count s → (next_set prev_set : Store (Link X)) → ((j : ℕ) → slot_at next_set j ≡ with_next (slot_at taken) r.prev r.next j) → ((j : ℕ) → slot_at prev_set j ≡ with_prev (slot_at next_set) r.next r.prev j) → used_count next_set ≡ used_count taken → used_count prev_set ≡ used_count next_set → (first' last' : Option ℕ) → first' ≡ end_with r.prev r.next first → last' ≡ end_with r.next r.prev last → Links (slot_at prev_set) first' last' (used_count prev_set) (without_number ps id)
+        pub store_removed : slot_at taken id ≡ None → used_count taken + 1 ≡ used_count s → (next_set prev_set : Store (Link X)) → ((j : ℕ) → slot_at next_set j ≡ with_next (slot_at taken) r.prev r.next j) → ((j : ℕ) → slot_at prev_set j ≡ with_prev (slot_at next_set) r.next r.prev j) → used_count next_set ≡ used_count taken → used_count prev_set ≡ used_count next_set → (first' last' : Option ℕ) → first' ≡ end_with r.prev r.next first → last' ≡ end_with r.next r.prev last → Links (slot_at prev_set) first' last' (used_count prev_set) (without_number ps id)
         store_removed gone less next_set prev_set nexts prevs same same' first' last' firsts lasts =
-            let out : slot_at taken id ≡ None = rw is at gone in
             let count : used_count prev_set ≡ used_count s - 1 = omega arith in
             rw (firsts, lasts, count)
-            (links_removed ps (slot_at s) first last (used_count s) l id has (slot_at taken) (slot_at next_set) (slot_at prev_set) out rest_of r.prev r.next record_of.1 record_of.2 nexts prevs)
+            (links_removed l id has (slot_at taken) (slot_at next_set) (slot_at prev_set) gone rest r.prev r.next record_of.1 record_of.2 nexts prevs)
 
     module _ (o b : Option ℕ) (is : b ≡ behind o ps) (has : IfSome o (Has ps)) (n : ℕ) (fresh : slot_at s n ≡ None) (y : X) (made : Store (Link X)) (now : slot_at made n ≡ Some (leaf_of o b y)) (rest : (j : ℕ) → j ≢ n → slot_at made j ≡ slot_at s j) where
       -- the leaf before a new one
       pub made_before : IfSome o (λ j. IsSome (slot_at made j))
-      made_before = still_made o n (slot_at s) (slot_at made) _ now rest (record_at (slot_at s) first last (used_count s) ps l o has)
+      made_before = still_made o n (slot_at s) (slot_at made) _ now rest (record_at l o has)
 
       -- the leaf behind it
       pub made_behind : IfSome b (λ j. IsSome (slot_at made j))
-      made_behind = still_made b n (slot_at s) (slot_at made) _ now rest (rw is (record_behind (slot_at s) first last (used_count s) ps l o))
+      made_behind = still_made b n (slot_at s) (slot_at made) _ now rest (rw is (record_behind l o))
 
       -- a record is put in
       pub store_inserted : used_count made ≡ used_count s + 1 → (next_set prev_set : Store (Link X)) → ((j : ℕ) → slot_at next_set j ≡ with_next (slot_at made) o (Some n) j) → ((j : ℕ) → slot_at prev_set j ≡ with_prev (slot_at next_set) b (Some n) j) → used_count next_set ≡ used_count made → used_count prev_set ≡ used_count next_set → (first' last' : Option ℕ) → first' ≡ end_with o (Some n) first → last' ≡ end_with b (Some n) last → Links (slot_at prev_set) first' last' (used_count prev_set) (with_pair_behind o (n, y) ps)
       store_inserted more next_set prev_set nexts prevs same same' first' last' firsts lasts =
-          let none = no_record (slot_at s) first last (used_count s) ps l n fresh in
+          let none = no_record l n fresh in
           let made_now : slot_at made n ≡ Some (leaf_of o (behind o ps) y) = rw (← is) now in
           let prevs_now : (j : ℕ) → slot_at prev_set j ≡ with_prev (slot_at next_set) (behind o ps) (Some n) j = rw (← is) prevs in
           let count : used_count prev_set ≡ used_count s + 1 = omega arith in
           rw (firsts, lasts, is, count)
-          (links_inserted ps (slot_at s) first last (used_count s) l o n y has none (slot_at made) (slot_at next_set) (slot_at prev_set) made_now rest nexts prevs_now)
+          (links_inserted l o n y has none (slot_at made) (slot_at next_set) (slot_at prev_set) made_now rest nexts prevs_now)

@@ -102,7 +102,7 @@ no_first : {X : Type 0} (ps : List (Numbered X)) → first_number ps ≡ None �
 no_first [] e = refl
 no_first (p ∷ ps) e = absurd cc
 
-module _ (rows : List (Numbered (List ℕ))) (k : ℕ) (p : Position) (s : IsSpot rows p k) (d : AreDistinct rows) where
+module _ {rows : List (Numbered (List ℕ))} {k : ℕ} {p : Position} (s : IsSpot rows p k) (d : AreDistinct rows) where
   -- the row of a spot
   pub spot_has : Has rows p.row
   spot_has = rw (spot-row rows k p s d) refl
@@ -111,13 +111,18 @@ module _ (rows : List (Numbered (List ℕ))) (k : ℕ) (p : Position) (s : IsSpo
   pub spot_ids : (P : List ℕ → Type 0) → IfSome (leaf_in rows p.row) P → P s.ids
   spot_ids P h = rw (spot-row rows k p s d) at h
 
+  -- a row that is not below full is full
+  pub spot_full : (n : ℕ) → IfSome (leaf_in rows p.row) (λ ids. n ≡ length ids) → n ≤ 32 → 32 ≤ n → length s.ids ≡ 32
+  spot_full n len most least = (let e = spot_ids (λ ids. n ≡ length ids) len in omega arith)
+
   -- with room, and the row full, there is a spare row
   pub spot_spare : (spare : ℕ) → length s.ids ≡ 32 → 0 < row_room rows spare → 0 < spare
   spot_spare spare full h = more_spare s.before s.after p.row s.ids spare full (subst (λ rs. 0 < row_room rs spare) s.is h)
 
   -- a number in the row
-  pub spot_put : (new : List (Numbered (List ℕ))) (n spare : ℕ) → new ≡ with_pair rows p.row (take p.place s.ids ++ n ∷ drop p.place s.ids) → half_room rows spare ≤ half_room new spare + 1
-  spot_put new n spare e =
+  pub spot_put : (new : List (Numbered (List ℕ))) (n spare : ℕ) → IfSome (leaf_in rows p.row) (λ ids. new ≡ with_pair rows p.row (take p.place ids ++ n ∷ drop p.place ids)) → half_room rows spare ≤ half_room new spare + 1
+  spot_put new n spare put =
+      let e = spot_ids (λ ids. new ≡ with_pair rows p.row (take p.place ids ++ n ∷ drop p.place ids)) put in
       let w = s.within in
       let more : List ℕ = take p.place s.ids ++ n ∷ drop p.place s.ids in
       let z : length more ≡ length (take p.place s.ids) + suc (length (drop p.place s.ids)) = length-append (take p.place s.ids) (n ∷ drop p.place s.ids) in
@@ -128,8 +133,8 @@ module _ (rows : List (Numbered (List ℕ))) (k : ℕ) (p : Position) (s : IsSpo
       subst (λ rs. half_room rs spare ≤ half_room new spare + 1) (sym s.is) (subst (λ rs. half_room (s.before ++ (p.row, s.ids) ∷ s.after) spare ≤ half_room rs spare + 1) (sym is) (room_longer s.before s.after p.row s.ids more spare l))
 
   -- the end of the row
-  pub spot_end : p.place ≡ length s.ids → k ≡ row_end (Some p.row) rows
-  spot_end e = (let r = ap (row_end (Some p.row)) s.is ∙ row_end-split s.before s.after p.row s.ids (spot-lacks rows k p s d).0 in let i = s.index in omega arith)
+  pub spot_end : length s.ids ≡ 32 → p.place ≡ 32 → k ≡ row_end (Some p.row) rows
+  spot_end full e = (let r = ap (row_end (Some p.row)) s.is ∙ row_end-split s.before s.after p.row s.ids (spot-lacks rows k p s d).0 in let i = s.index in omega arith)
 
   -- a row of one number behind a full last one
   pub spot_begun : number_after rows p.row ≡ None → length s.ids ≡ 32 → (new : List (Numbered (List ℕ))) (t n spare less : ℕ) → new ≡ with_pair_behind (Some p.row) (t, n ∷ []) rows → less + 1 ≡ spare → row_room rows spare ≤ row_room new less + 1
@@ -140,7 +145,7 @@ module _ (rows : List (Numbered (List ℕ))) (k : ℕ) (p : Position) (s : IsSpo
       let is : new ≡ s.before ++ (p.row, s.ids) ∷ (t, n ∷ []) ∷ [] = e ∙ ap (with_pair_behind (Some p.row) (t, n ∷ [])) was ∙ with_pair_behind-split p.row s.ids [] (t, n ∷ []) s.before l in
       subst (λ rs. row_room rs spare ≤ row_room new less + 1) (sym was) (subst (λ rs. row_room (s.before ++ (p.row, s.ids) ∷ []) spare ≤ row_room rs less + 1) (sym is) (more_begun s.before p.row t n s.ids spare less full h))
 
-  module _ (new : List (Numbered (List ℕ))) (t : ℕ) (i : IsSplit rows new p.row t) where
+  module _ {new : List (Numbered (List ℕ))} {t : ℕ} (i : IsSplit rows new p.row t) where
     -- the same parts
     split_lacks : Lacks i.before p.row
     split_lacks = (distinct_parts i.before i.after (p.row, i.first ++ i.second) (subst AreDistinct i.was d)).0
@@ -157,10 +162,16 @@ module _ (rows : List (Numbered (List ℕ))) (k : ℕ) (p : Position) (s : IsSpo
 
     -- a spot of the first half
     pub split_first_half : p.place ≤ 16 → IsSpot new p k
-    split_first_half w = (let h = i.half in record { before = i.before; ids = i.first; after = (t, i.second) ∷ i.after; is = i.is; index = split_start; within = omega arith })
+    split_first_half w =
+        let h = i.half in
+        record { before = i.before; ids = i.first; after = (t, i.second) ∷ i.after; is = i.is; index = split_start; within = omega arith }
 
-    pub split_first_row : leaf_in new p.row ≡ Some i.first
-    split_first_row = ap (λ rs. leaf_in rs p.row) i.is ∙ leaf_in-split p.row i.first ((t, i.second) ∷ i.after) i.before split_lacks
+    -- the first half has room
+    pub split_first_room : IfSome (leaf_in new p.row) (λ ids. length ids < 32)
+    split_first_room = (let h = i.half in rw first_row (omega arith))
+      where
+        first_row : leaf_in new p.row ≡ Some i.first
+        first_row = ap (λ rs. leaf_in rs p.row) i.is ∙ leaf_in-split p.row i.first ((t, i.second) ∷ i.after) i.before split_lacks
 
     -- a spot of the second half
     pub split_second_half : 16 < p.place → IsSpot new (record { row = t; place = p.place - 16 }) k
@@ -183,11 +194,14 @@ module _ (rows : List (Numbered (List ℕ))) (k : ℕ) (p : Position) (s : IsSpo
         let g = i.rest in
         ap (λ rs. half_room rs less) i.is ∙ room_split i.before i.after p.row t (i.first ++ i.second) i.first i.second spare less (omega arith) e g h ∙ ap (λ rs. half_room rs spare) (sym i.was)
 
-    pub split_second_row : leaf_in new t ≡ Some i.second
-    split_second_row =
+    -- the second half has room
+    pub split_second_room : IfSome (leaf_in new t) (λ ids. length ids < 32)
+    split_second_room =
+        let h = i.rest in
         let e : new ≡ (i.before ++ (p.row, i.first) ∷ []) ++ (t, i.second) ∷ i.after = i.is ∙ simp append_assoc in
         let l = (distinct_parts (i.before ++ (p.row, i.first) ∷ []) i.after (t, i.second) (subst AreDistinct e i.apart)).0 in
-        ap (λ rs. leaf_in rs t) e ∙ leaf_in-split t i.second i.after (i.before ++ (p.row, i.first) ∷ []) l
+        let r : leaf_in new t ≡ Some i.second = ap (λ rs. leaf_in rs t) e ∙ leaf_in-split t i.second i.after (i.before ++ (p.row, i.first) ∷ []) l in
+        rw r (omega arith)
 
 -- what is not something is nothing
 pub none_of : (o : Option ℕ) (b : Bool) → is_some o ≡ not b → b ≡ true → o ≡ None

@@ -398,3 +398,11 @@ filled-row (q ∷ rs) f r ids e = elim (eqb_tells q.0 r) [
 pub before_cases : (rows : List (Numbered (List ℕ))) (p : Position) (o : Option Position) → ((k : ℕ) → position_at rows (k + 1) ≡ Some p → o ≡ position_at rows k) → (position_at rows 0 ≡ Some p → o ≡ None) → (j : ℕ) → position_at rows j ≡ Some p → ((j ≡ 0) × (o ≡ None)) ⊎ ((k : ℕ) × ((j ≡ suc k) × (o ≡ position_at rows k)))
 before_cases rows p o before first zero e = inl (refl, first e)
 before_cases rows p o before first (suc k) e = inr (k, (refl, before k (let m : suc k ≡ k + 1 = omega arith in rw m at e)))
+
+-- a position before, where there is one
+pub before_some : (rows : List (Numbered (List ℕ))) {p q : Position} {o : Option Position} {j : ℕ} →
+    ((k : ℕ) → position_at rows (k + 1) ≡ Some p → o ≡ position_at rows k) → (position_at rows 0 ≡ Some p → o ≡ None) → position_at rows j ≡ Some p → o ≡ Some q → (k : ℕ) × (j ≡ suc k) × (position_at rows k ≡ Some q)
+before_some rows {p} {q} {o} {j} before first at is = elim (before_cases rows p o before first j at) [
+  | inl t ↦ (let e = t.1 in absurd cc)
+  | inr t ↦ (t.0, t.1.0, sym t.1.1 ∙ is)
+]

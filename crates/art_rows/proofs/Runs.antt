@@ -2,7 +2,7 @@
 use Rattle.std.proofs.Common.{◌≡◌, ℕ, zero, suc, ◌+◌, ◌-◌, ◌<◌, ◌≤◌, List, [], ◌∷◌, ◌++◌, length, map, take, drop, refl, sym, ap, subst, ◌∙◌, Option, Some, None, arith}
 use Rattle.std.proofs.lemmas.List.{length-take-le, length-drop}
 use Rattle.std.specs.Prelude.{option_map}
-use Rattle.art_rows.specs.Numbers.{Numbered, leaf_in, Has, number_after, number_before, number_before_from, AreDistinct}
+use Rattle.art_rows.specs.Numbers.{Numbered, leaf_in, Has, number_after, number_before, AreDistinct}
 use Rattle.art_rows.specs.Rows.{place_in, nth, numbers, position_at, RunsBehind, RunsBefore, StandsAhead, start_of}
 use Rattle.art_rows.specs.Filing.{Files}
 use Rattle.art_rows.specs.declared.ahead.Ahead.{Ahead}
@@ -80,15 +80,15 @@ module _ {X : Type 0} (ps : List (Numbered X)) (distinct : AreDistinct ps) (i n 
       length_more [] = refl
       length_more (x ∷ xs) = (let e = length_more xs in omega arith)
 
-module _ {K V : Type 0} (leaves : ℕ → Option (Leaf K V)) (rows : List (Numbered (List ℕ))) (count : ℕ) (ps : List (Numbered (K × V))) (f : Files leaves rows count ps) (k : ℕ) (p : Position) (at : position_at rows k ≡ Some p) (ids : List ℕ) (is : leaf_in rows p.row ≡ Some ids) (n : ℕ) (there : nth ids p.place ≡ Some n) where
+module _ {K V : Type 0} {leaves : ℕ → Option (Leaf K V)} {rows : List (Numbered (List ℕ))} {count : ℕ} {ps : List (Numbered (K × V))} (f : Files leaves rows count ps) (k : ℕ) (p : Position) (at : position_at rows k ≡ Some p) (ids : List ℕ) (is : leaf_in rows p.row ≡ Some ids) (n : ℕ) (there : nth ids p.place ≡ Some n) where
   index_is : place_in (map (λ q. q.0) ps) n ≡ k
-  index_is = place_in-nth ps k n f.distinct (number_there leaves rows count ps f k p at ids is ∙ there)
+  index_is = place_in-nth ps k n f.distinct (number_there f k p at ids is ∙ there)
 
   -- the numbers of a row are numbers of the list
   nth_of_row : (j m b : ℕ) → b + p.place ≡ k + j → nth ids j ≡ Some m → nth (map (λ q. q.0) ps) b ≡ Some m
   nth_of_row j m b e h =
       let s = standing rows k p at in
-      let same : s.ids ≡ ids = same_ids leaves rows count ps f k p at ids is in
+      let same : s.ids ≡ ids = same_ids f k p at ids is in
       let w : j < length ids = nth-within ids j m h in
       let x = s.index in
       let c : b ≡ length (numbers s.before) + j = omega arith in
@@ -106,7 +106,7 @@ module _ {K V : Type 0} (leaves : ℕ → Option (Leaf K V)) (rows : List (Numbe
   row_behind_run =
       let i = index_is in
       let s = standing rows k p at in
-      let same : s.ids ≡ ids = same_ids leaves rows count ps f k p at ids is in
+      let same : s.ids ≡ ids = same_ids f k p at ids is in
       let w : p.place < length ids = nth-within ids p.place n there in
       let l : length (drop (p.place + 1) ids) ≡ length ids - (p.place + 1) = length-drop (p.place + 1) ids in
       let b : place_in (map (λ q. q.0) ps) n + 1 + length (drop (p.place + 1) ids) + p.place ≡ k + length s.ids = rw same (omega arith) in
@@ -118,7 +118,7 @@ module _ {K V : Type 0} (leaves : ℕ → Option (Leaf K V)) (rows : List (Numbe
 
   -- the number there is the one behind
   next_there : (i : ℕ) → Has ps i → k ≡ place_in (map (λ q. q.0) ps) i + 1 → number_after ps i ≡ Some n
-  next_there i has e = number_after-nth ps i has ∙ ap (nth (map (λ q. q.0) ps)) (sym e) ∙ number_there leaves rows count ps f k p at ids is ∙ there
+  next_there i has e = number_after-nth ps i has ∙ ap (nth (map (λ q. q.0) ps)) (sym e) ∙ number_there f k p at ids is ∙ there
 
   -- what stands in a row before a number is a run before it
   pub before_in_row : RunsBefore ps n (take p.place ids)
@@ -131,13 +131,13 @@ module _ {K V : Type 0} (leaves : ℕ → Option (Leaf K V)) (rows : List (Numbe
         λ j m e. nth_of_row j m (place_in (map (λ q. q.0) ps) n + j - length (take p.place ids)) (omega arith) (nth-take ids p.place j m e),
       )
 
-module _ {K V : Type 0} (leaves : ℕ → Option (Leaf K V)) (rows : List (Numbered (List ℕ))) (count : ℕ) (ps : List (Numbered (K × V))) (f : Files leaves rows count ps) where
+module _ {K V : Type 0} {leaves : ℕ → Option (Leaf K V)} {rows : List (Numbered (List ℕ))} {count : ℕ} {ps : List (Numbered (K × V))} (f : Files leaves rows count ps) where
   -- at the end of a run the number behind is the first of the row behind, and the others of that row stand ahead of it
   pub ahead_row : (i n : ℕ) → Has ps i → (a b : Ahead) → length a.run.now ≡ 0 → StandsAhead ps rows i a → (r : ℕ) → a.row ≡ Some r → (ids : List ℕ) → leaf_in rows r ≡ Some ids → ids ≡ n ∷ b.run.now → b.row ≡ number_after rows r → (number_after ps i ≡ Some n) × StandsAhead ps rows n b
   ahead_row i n has a b l s r row ids is cut behind =
       let k : ℕ = place_in (map (λ q. q.0) ps) i + 1 + length a.run.now in
       let at : position_at rows k ≡ Some (start_of r) = sym s.row ∙ ap (option_map start_of) row in
       let there : nth ids 0 ≡ Some n = ap (λ ns. nth ns 0) cut in (
-        next_there leaves rows count ps f k (start_of r) at ids is n there i has (omega arith),
-        ahead_there leaves rows count ps f k (start_of r) at ids is n there b (sym (ap (drop 1) cut)) behind,
+        next_there f k (start_of r) at ids is n there i has (omega arith),
+        ahead_there f k (start_of r) at ids is n there b (sym (ap (drop 1) cut)) behind,
       )

@@ -12,9 +12,8 @@ use Rattle.art_rows.proofs.leaves.Leaves.begin.Goals as goal
 
 pub invariant_of-self : goal.invariant_of-self
 invariant_of-self g c =
-    let i = c.self.inside in
-    let f = seen i.records i.rows _ c.self.view_is c.self.invariant in
-    let e : i.rows.pairs ≡ c.args.self.now.rows = ap (λ t. t.rows) c.self.view_is in
+    let f = seen c.self.inside c.self.view_is c.self.invariant in
+    let e : c.self.inside.rows.pairs ≡ c.args.self.now.rows = ap (λ t. t.rows) c.self.view_is in
     let n = c.fill-number.result in
     let r = c.insert-row.result in
     let made = c.fill-number.new.self in
@@ -28,15 +27,14 @@ invariant_of-self g c =
     let xy : x ≡ y = ap (λ (l : Leaf g.row.K.Denot g.row.V.Denot). record l { row = r }) q1 in
     let behind = subst (λ rs. IfSome c.args.behind (Has rs)) (sym e) c.requires.behind in
     let index = subst (λ rs. spot_index c.args.prev c.args.self.now.pairs ≡ row_end c.args.behind rs) (sym e) c.requires.index in
-    let placed = c.insert-row.ensures.placed ∙ ap (λ l. with_pair_behind c.args.behind (r, l) i.rows.pairs) (rw c.new-id.ensures at c.new.ensures) in
-    let files = files_begun (slot_at i.records) i.rows.pairs (used_count i.records) _ f c.args.prev c.requires.prev n (no_record (slot_at i.records) i.rows.pairs (used_count i.records) _ f n c.fill-number.ensures.fresh) c.args.key c.args.value c.args.behind behind index r c.insert-row.ensures.fresh c.insert-row.new.self.pairs placed (slot_at (with_record made n x)) (with-now made n x0 x was ∙ ap Some xy) (λ j ne. with-others made n x0 x was j ne ∙ c.fill-number.ensures.others j ne) (used_count (with_record made n x)) (with-count made n x0 x was ∙ c.fill-number.ensures.used) in
-    all_filed (with_record made n x) c.insert-row.new.self _ files
+    let put = c.insert-row.ensures.placed ∙ ap (λ l. with_pair_behind c.args.behind (r, l) c.self.inside.rows.pairs) (rw c.new-id.ensures at c.new.ensures) in
+    let files = files_begun f c.args.prev c.requires.prev n (no_record f n c.fill-number.ensures.fresh) c.args.key c.args.value c.args.behind behind index r c.insert-row.ensures.fresh c.insert-row.new.self.pairs put (slot_at (with_record made n x)) (with-now made n x0 x was ∙ ap Some xy) (λ j ne. with-others made n x0 x was j ne ∙ c.fill-number.ensures.others j ne) (used_count (with_record made n x)) (with-count made n x0 x was ∙ c.fill-number.ensures.used) in
+    all_filed (with_record made n x) files
 
 pub returns-clause-placed : goal.returns-clause-placed
 returns-clause-placed g c =
-    let i = c.self.inside in
-    let f = seen i.records i.rows _ c.self.view_is c.self.invariant in
-    let e : i.rows.pairs ≡ c.args.self.now.rows = ap (λ t. t.rows) c.self.view_is in
+    let f = seen c.self.inside c.self.view_is c.self.invariant in
+    let e : c.self.inside.rows.pairs ≡ c.args.self.now.rows = ap (λ t. t.rows) c.self.view_is in
     let n = c.fill-number.result in
     let r = c.insert-row.result in
     let made = c.fill-number.new.self in
@@ -50,6 +48,6 @@ returns-clause-placed g c =
     let xy : x ≡ y = ap (λ (l : Leaf g.row.K.Denot g.row.V.Denot). record l { row = r }) q1 in
     let behind = subst (λ rs. IfSome c.args.behind (Has rs)) (sym e) c.requires.behind in
     let index = subst (λ rs. spot_index c.args.prev c.args.self.now.pairs ≡ row_end c.args.behind rs) (sym e) c.requires.index in
-    let placed = c.insert-row.ensures.placed ∙ ap (λ l. with_pair_behind c.args.behind (r, l) i.rows.pairs) (rw c.new-id.ensures at c.new.ensures) in
-    let files = files_begun (slot_at i.records) i.rows.pairs (used_count i.records) _ f c.args.prev c.requires.prev n (no_record (slot_at i.records) i.rows.pairs (used_count i.records) _ f n c.fill-number.ensures.fresh) c.args.key c.args.value c.args.behind behind index r c.insert-row.ensures.fresh c.insert-row.new.self.pairs placed (slot_at (with_record made n x)) (with-now made n x0 x was ∙ ap Some xy) (λ j ne. with-others made n x0 x was j ne ∙ c.fill-number.ensures.others j ne) (used_count (with_record made n x)) (with-count made n x0 x was ∙ c.fill-number.ensures.used) in
-    rw c.new-id.ensures (pairs_are (with_record made n x) c.insert-row.new.self _ files)
+    let put = c.insert-row.ensures.placed ∙ ap (λ l. with_pair_behind c.args.behind (r, l) c.self.inside.rows.pairs) (rw c.new-id.ensures at c.new.ensures) in
+    let files = files_begun f c.args.prev c.requires.prev n (no_record f n c.fill-number.ensures.fresh) c.args.key c.args.value c.args.behind behind index r c.insert-row.ensures.fresh c.insert-row.new.self.pairs put (slot_at (with_record made n x)) (with-now made n x0 x was ∙ ap Some xy) (λ j ne. with-others made n x0 x was j ne ∙ c.fill-number.ensures.others j ne) (used_count (with_record made n x)) (with-count made n x0 x was ∙ c.fill-number.ensures.used) in
+    rw c.new-id.ensures (pairs_are (with_record made n x) files)

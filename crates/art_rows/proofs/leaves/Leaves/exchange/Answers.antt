@@ -6,12 +6,10 @@ use Rattle.art_rows.proofs.leaves.Leaves.exchange.Goals as goal
 
 pub invariant_of-self : goal.invariant_of-self
 invariant_of-self g c =
-    let i = c.self.inside in
-    let f = seen i.records i.rows _ c.self.view_is c.self.invariant in
-    all_filed (with_record i.records c.number.result (record { key = c.replace-old_key.new.dest; value = c.replace-old_value.new.dest; row = c.get_mut-leaf.result.now.row })) i.rows _ (files_changed_at i.records i.rows.pairs _ f c.args.id c.number.result c.number.ensures.value c.get_mut-leaf.result.now c.get_mut-leaf.ensures.value c.args.key c.args.value _ (rw (c.replace-old_key.ensures.after, c.replace-old_value.ensures.after) refl))
+    let f = seen c.self.inside c.self.view_is c.self.invariant in
+    all_filed (with_record c.self.inside.records c.number.result (record { key = c.replace-old_key.new.dest; value = c.replace-old_value.new.dest; row = c.get_mut-leaf.result.now.row })) (files_changed_at c.self.inside.records f c.args.id c.number.result c.number.ensures.value c.get_mut-leaf.result.now c.get_mut-leaf.ensures.value c.args.key c.args.value _ (rw (c.replace-old_key.ensures.after, c.replace-old_value.ensures.after) refl))
 
 pub returns-clause-pairs : goal.returns-clause-pairs
 returns-clause-pairs g c =
-    let i = c.self.inside in
-    let f = seen i.records i.rows _ c.self.view_is c.self.invariant in
-    pairs_are (with_record i.records c.number.result (record { key = c.replace-old_key.new.dest; value = c.replace-old_value.new.dest; row = c.get_mut-leaf.result.now.row })) i.rows _ (files_changed_at i.records i.rows.pairs _ f c.args.id c.number.result c.number.ensures.value c.get_mut-leaf.result.now c.get_mut-leaf.ensures.value c.args.key c.args.value _ (rw (c.replace-old_key.ensures.after, c.replace-old_value.ensures.after) refl))
+    let f = seen c.self.inside c.self.view_is c.self.invariant in
+    pairs_are (with_record c.self.inside.records c.number.result (record { key = c.replace-old_key.new.dest; value = c.replace-old_value.new.dest; row = c.get_mut-leaf.result.now.row })) (files_changed_at c.self.inside.records f c.args.id c.number.result c.number.ensures.value c.get_mut-leaf.result.now c.get_mut-leaf.ensures.value c.args.key c.args.value _ (rw (c.replace-old_key.ensures.after, c.replace-old_value.ensures.after) refl))

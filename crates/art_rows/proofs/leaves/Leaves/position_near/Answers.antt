@@ -1,6 +1,5 @@
 use Rattle.std.proofs.Common.{◌≡◌, Some, sym, ap, ◌∙◌}
 use Rattle.std.specs.Prelude.{option_map}
-use Rattle.art_slots.specs.Store.{slot_at, used_count}
 use Rattle.art_rows.specs.Numbers.{leaf_in}
 use Rattle.art_rows.specs.Leaves.{index_of}
 use Rattle.art_rows.specs.Rows.{position_at}
@@ -9,7 +8,6 @@ use Rattle.art_rows.proofs.leaves.Leaves.position_near.Goals as goal
 
 pub returns-in-Some : goal.returns-in-Some
 returns-in-Some g c =
-    let i = c.self.inside in
-    let f = seen i.records i.rows _ c.self.view_is c.self.invariant in
-    let there : leaf_in i.rows.pairs c.args.seen.row ≡ Some c.in-Some.row.now = sym c.get.ensures ∙ ap (option_map (λ r. r.now)) c.in-Some.is in
-    sym (ap (λ t. position_at t.rows (index_of c.args.self.now.pairs c.args.id)) c.self.view_is) ∙ stands_there (slot_at i.records) i.rows.pairs (used_count i.records) _ f c.args.id c.args.seen c.in-Some.row.now there (c.has_at.ensures c.if-has_at.true)
+    let f = seen c.self.inside c.self.view_is c.self.invariant in
+    let there : leaf_in c.self.inside.rows.pairs c.args.seen.row ≡ Some c.in-Some.row.now = sym c.get.ensures ∙ ap (option_map (λ r. r.now)) c.in-Some.is in
+    sym (ap (λ t. position_at t.rows (index_of c.args.self.now.pairs c.args.id)) c.self.view_is) ∙ stands_there f c.args.id c.args.seen c.in-Some.row.now there (c.has_at.ensures c.if-has_at.true)

@@ -1,5 +1,4 @@
 use Rattle.std.proofs.Common.{◌<◌, length, sym, ap, ◌∙◌, rules}
-use Rattle.art_slots.specs.Store.{slot_at, used_count}
 use Rattle.art_rows.specs.Rows.{position_at}
 use Rattle.art_rows.specs.Leaves.{index_of}
 use Rattle.art_rows.proofs.FilingLemmas.{seen, has_row_at, place_at}
@@ -8,31 +7,22 @@ use Rattle.art_rows.proofs.leaves.Leaves.spot.Goals as goal
 
 pub read-requires : goal.read-requires
 read-requires g c =
-    let i = c.self.inside in
-    let f = seen i.records i.rows _ c.self.view_is c.self.invariant in
-    has_row_at (slot_at i.records) i.rows.pairs (used_count i.records) _ f (index_of c.args.self.now.pairs c.in-Some.id) c.position_near-position.result (ap (λ t. position_at t.rows (index_of c.args.self.now.pairs c.in-Some.id)) c.self.view_is ∙ c.position_near-position.ensures)
+    let f = seen c.self.inside c.self.view_is c.self.invariant in
+    has_row_at f (index_of c.args.self.now.pairs c.in-Some.id) c.position_near-position.result (ap (λ t. position_at t.rows (index_of c.args.self.now.pairs c.in-Some.id)) c.self.view_is ∙ c.position_near-position.ensures)
 
 pub overflow_add-result : goal.overflow_add-result
 overflow_add-result g c =
-    let i = c.self.inside in
-    let f = seen i.records i.rows _ c.self.view_is c.self.invariant in
-    let w : c.position_near-position.result.place < length c.read.result.now = place_at (slot_at i.records) i.rows.pairs (used_count i.records) _ f (index_of c.args.self.now.pairs c.in-Some.id) c.position_near-position.result (ap (λ t. position_at t.rows (index_of c.args.self.now.pairs c.in-Some.id)) c.self.view_is ∙ c.position_near-position.ensures) _ c.read.ensures in
+    let f = seen c.self.inside c.self.view_is c.self.invariant in
+    let w : c.position_near-position.result.place < length c.read.result.now = place_at f (index_of c.args.self.now.pairs c.in-Some.id) c.position_near-position.result (ap (λ t. position_at t.rows (index_of c.args.self.now.pairs c.in-Some.id)) c.self.view_is ∙ c.position_near-position.ensures) _ c.read.ensures in
     search rules
 
 pub returns-in-None-clause-some : goal.returns-in-None-clause-some
-returns-in-None-clause-some g c =
-    let i = c.self.inside in
-    let f = seen i.records i.rows _ c.self.view_is c.self.invariant in
-    rw c.in-None.is (spot_first c.args.self.now.rows c.first_position.result c.first_position.ensures)
+returns-in-None-clause-some g c = rw c.in-None.is (spot_first c.args.self.now.rows c.first_position.result c.first_position.ensures)
 
 pub returns-in-None-clause-none : goal.returns-in-None-clause-none
 returns-in-None-clause-none g c =
-    let i = c.self.inside in
-    let f = seen i.records i.rows _ c.self.view_is c.self.invariant in
-    rw (← c.self.view_is) (first_none i.rows.pairs f.filled c.first_position.result (c.first_position.ensures ∙ sym (ap (λ t. position_at t.rows 0) c.self.view_is)))
+    let f = seen c.self.inside c.self.view_is c.self.invariant in
+    rw (← c.self.view_is) (first_none c.self.inside.rows.pairs f.filled c.first_position.result (c.first_position.ensures ∙ sym (ap (λ t. position_at t.rows 0) c.self.view_is)))
 
 pub returns-in-Some-clause-some : goal.returns-in-Some-clause-some
-returns-in-Some-clause-some g c =
-    let i = c.self.inside in
-    let f = seen i.records i.rows _ c.self.view_is c.self.invariant in
-    rw c.in-Some.is (spot_behind c.args.self.now.rows _ c.position_near-position.result c.position_near-position.ensures)
+returns-in-Some-clause-some g c = rw c.in-Some.is (spot_behind c.args.self.now.rows _ c.position_near-position.result c.position_near-position.ensures)
