@@ -6,9 +6,7 @@ use Rattle.std.proofs.lemmas.Bool.Decides.{leb_tells}
 use Rattle.art_kinds.specs.Nodes.{Node, Nodes, store_of, at, over, grown, floor, places, takes, figure, serves, HasPlace, FitsMore, Lowers, MoreSpares, Makes, Renames, room}
 use Rattle.art_kinds.specs.declared.records.ids.Edge.{Edge}
 use Rattle.art_slots.specs.Store.{Store, slot_at}
-use Rattle.art_kinds.specs.Inners.{nodes_in}
-use Rattle.art_kinds.specs.declared.records.nodes.Inner.{Inner}
-use Rattle.art_kinds.proofs.Changes.{node_at}
+use Rattle.art_kinds.specs.OneKinds.{Grows}
 use Rattle.art_kinds.proofs.Rooms.{grown-change, grown-same, grown-least, serves-one-4, serves-one-13, serves-one-33, room-figures, serves-grown, serves-less, serves-4, serves-13, serves-33, room-falls}
 
 -- the node under a number, by kind and place
@@ -191,18 +189,9 @@ has_place t m d j x md mj is few z e l =
     let h : length x.edges < places d = few (omega arith) in
     subst (λ (y : Node). length y.edges < places (m % 4)) g (subst (λ k. length x.edges < places k) (sym md) h)
 
--- a store keeps its nodes, and gets more spare records
-pub record Kept (a b : Store Node) : Type 0 where
-  pub same : (j : ℕ) → slot_at b j ≡ slot_at a j
-  pub spares : a.spare ≤ b.spare
-
--- a store that stands
-pub kept_not : (a : Store Node) → Kept a a
-kept_not a = record { same = λ j. refl; spares = omega arith }
-
 -- four stores that keep their nodes
-module _ (s t : Nodes) (k0 : Kept s.fours t.fours) (k1 : Kept s.sixteens t.sixteens) (k2 : Kept s.forty_eights t.forty_eights) (k3 : Kept s.fulls t.fulls) where
-  kept_of : (k : ℕ) → Kept (store_of s k) (store_of t k)
+module _ (s t : Nodes) (k0 : Grows s.fours t.fours) (k1 : Grows s.sixteens t.sixteens) (k2 : Grows s.forty_eights t.forty_eights) (k3 : Grows s.fulls t.fulls) where
+  kept_of : (k : ℕ) → Grows (store_of s k) (store_of t k)
   kept_of zero = k0
   kept_of (suc zero) = k1
   kept_of (suc (suc zero)) = k2
@@ -212,10 +201,10 @@ module _ (s t : Nodes) (k0 : Kept s.fours t.fours) (k1 : Kept s.sixteens t.sixte
   kept_nodes j = (kept_of (j % 4)).same (j / 4)
 
   pub kept_spares : MoreSpares s t
-  kept_spares zero l = k0.spares
+  kept_spares zero l = k0.spare
   kept_spares (suc k) l =
       let e : grown (floor k) (store_of t k) ≡ grown (floor k) (store_of s k) = grown-same (floor k) (store_of s k) (store_of t k) (kept_of k).same in
-      figure-up s t k (kept_of (suc k)).spares (omega arith)
+      figure-up s t k (kept_of (suc k)).spare (omega arith)
 
 -- spare records enough for n placements
 pub enough : (d : ℕ) → d < 3 → (n l g m : ℕ) → g ≤ (places d - floor d) * l → (n ≤ l → n ≤ m) → (l < n → l + (n - l) / takes d ≤ m) → n ≤ serves m (takes d) g
@@ -236,10 +225,6 @@ enough (suc (suc (suc d))) dl n l g m h few many = absurd (omega arith)
 -- a full node that fits has a spare record above
 pub spare_next : (v : Nodes) (n d : ℕ) → n % 4 ≡ d → d < 3 → FitsMore v n → (x : Node) → at v n ≡ Some x → places d ≤ length x.edges → 0 < (store_of v (d + 1)).spare
 spare_next v n d m l h x is full = subst (λ k. 0 < (store_of v (k + 1)).spare) m (h x is (omega arith) (subst (λ k. places k ≤ length x.edges) (sym m) full))
-
--- a store of records that gets spare records
-pub kept_in : {P : ℕ} (a b : Store (Inner (List Edge) P)) → ((j : ℕ) → slot_at b j ≡ slot_at a j) → a.spare ≤ b.spare → Kept (nodes_in a) (nodes_in b)
-kept_in a b same up = record { same = λ j. node_at b j (slot_at a j) (same j) ∙ sym (node_at a j (slot_at a j) refl); spares = up }
 
 -- and each node fits an edge more
 pub fits_more : (s : Nodes) (n : ℕ) → 1 ≤ room s → FitsMore s n

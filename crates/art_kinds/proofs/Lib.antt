@@ -10,3 +10,4 @@ pub mod Changes
 pub mod Growing
 pub mod Pairs
 pub mod Pouring
+pub mod Moving

@@ -2,6 +2,6 @@ pub mod Codes
 pub mod Edges
 pub mod Numbers
 pub mod Nodes
-pub mod Inners
+pub mod OneKinds
 pub mod Refs
 pub mod Words

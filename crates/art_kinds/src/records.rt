@@ -1,9 +1,11 @@
 //! The records of inner nodes.
+pub(crate) mod children;
 pub(crate) mod few;
 pub(crate) mod full;
 pub(crate) mod ids;
 pub(crate) mod indexed;
 mod link;
 pub(crate) mod nodes;
+mod one_kind;
 #[cfg(test)]
 mod tests;

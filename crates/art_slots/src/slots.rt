@@ -140,6 +140,44 @@ impl<T> Slots<T> {
     {
         self.slab[id].record_mut()
     }
+
+    /// Makes a new slot, a spare one.
+    pub fn add_spare(&mut self)
+        requires { 0 < self.old.room }
+        ensures same { SameRecords self.old.store self.new.store }
+        ensures used { used_count self.new.store ≡ used_count self.old.store }
+        ensures spare { self.new.store.spare ≡ self.old.store.spare + 1 }
+        ensures room { self.new.room + 1 ≡ self.old.room }
+    {
+        let id = self.slab.insert_reserved(Slot::Spare(self.free));
+        self.free = Some(id);
+        self.spare += 1;
+    }
+
+    /// Makes so many new slots, spare ones.
+    pub fn add_spares(&mut self, count: usize)
+        requires { count ≤ self.old.room }
+        ensures same { SameRecords self.old.store self.new.store }
+        ensures used { used_count self.new.store ≡ used_count self.old.store }
+        ensures spare { self.new.store.spare ≡ self.old.store.spare + count }
+        ensures room { self.new.room + count ≡ self.old.room }
+    {
+        for _ in 0..count {
+            self.add_spare();
+        }
+    }
+
+    /// Asks for memory where there is not so much room. The records and the spare slots stand whatever the answer; where it is no, there may be less room than before.
+    pub fn grow(&mut self, count: usize) -> Result<(), AllocError>
+        ensures same { self.new.store ≡ self.old.store }
+        ensures room { OnOk result (count ≤ self.new.room) }
+    {
+        self.slab.reserve(count)?;
+        if self.slab.capacity() > MOST {
+            return Err(AllocError);
+        }
+        Ok(())
+    }
 }
 
 impl<T: Drop> Slots<T> {
@@ -181,44 +219,6 @@ impl<T: Drop> Slots<T> {
         ensures room { self.new.room + 1 ≡ self.old.room }
     {
         self.slab.insert_reserved(Slot::Used(fresh))
-    }
-
-    /// Makes a new slot, a spare one.
-    pub fn add_spare(&mut self)
-        requires { 0 < self.old.room }
-        ensures same { SameRecords self.old.store self.new.store }
-        ensures used { used_count self.new.store ≡ used_count self.old.store }
-        ensures spare { self.new.store.spare ≡ self.old.store.spare + 1 }
-        ensures room { self.new.room + 1 ≡ self.old.room }
-    {
-        let id = self.slab.insert_reserved(Slot::Spare(self.free));
-        self.free = Some(id);
-        self.spare += 1;
-    }
-
-    /// Makes so many new slots, spare ones.
-    pub fn add_spares(&mut self, count: usize)
-        requires { count ≤ self.old.room }
-        ensures same { SameRecords self.old.store self.new.store }
-        ensures used { used_count self.new.store ≡ used_count self.old.store }
-        ensures spare { self.new.store.spare ≡ self.old.store.spare + count }
-        ensures room { self.new.room + count ≡ self.old.room }
-    {
-        for _ in 0..count {
-            self.add_spare();
-        }
-    }
-
-    /// Asks for memory where there is not so much room. The records and the spare slots stand whatever the answer; where it is no, there may be less room than before.
-    pub fn grow(&mut self, count: usize) -> Result<(), AllocError>
-        ensures same { self.new.store ≡ self.old.store }
-        ensures room { OnOk result (count ≤ self.new.room) }
-    {
-        self.slab.reserve(count)?;
-        if self.slab.capacity() > MOST {
-            return Err(AllocError);
-        }
-        Ok(())
     }
 
     /// Takes a record out, and makes its slot a spare one.

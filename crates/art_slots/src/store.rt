@@ -95,6 +95,27 @@ impl<T> Store<T> {
     {
         self.slots.get_mut(id)
     }
+
+    /// Adds spare slots until there are so many. Where there is no memory, the records stand, and no spare slot is lost.
+    pub fn reserve(&mut self, count: usize) -> Result<(), AllocError>
+        ensures same { SameRecords self.old self.new }
+        ensures used { used_count self.new ≡ used_count self.old }
+        ensures grows { self.old.spare ≤ self.new.spare }
+        ensures enough { OnOk result (count ≤ self.new.spare) }
+        ensures refused { OnErr result (self.old.spare < count) }
+    {
+        let spare = self.spare();
+        if count <= spare {
+            return Ok(());
+        }
+        // A slab that has grown may say any capacity, and only where that is small are the numbers still to come surely small. So the reserved places get their slots first, and keep what they promise.
+        self.slots.add_spares(self.reserved);
+        self.reserved = 0;
+        self.slots.grow(count - spare)?;
+        // A slab takes more than it is asked for. All of it is reserved, so that the next calls ask for nothing.
+        self.reserved = self.slots.room();
+        Ok(())
+    }
 }
 
 impl<T: Drop> Store<T> {
@@ -150,27 +171,6 @@ impl<T: Drop> Store<T> {
         ensures used { used_count self.new + 1 ≡ used_count self.old }
     {
         self.slots.remove(id);
-    }
-
-    /// Adds spare slots until there are so many. Where there is no memory, the records stand, and no spare slot is lost.
-    pub fn reserve(&mut self, count: usize) -> Result<(), AllocError>
-        ensures same { SameRecords self.old self.new }
-        ensures used { used_count self.new ≡ used_count self.old }
-        ensures grows { self.old.spare ≤ self.new.spare }
-        ensures enough { OnOk result (count ≤ self.new.spare) }
-        ensures refused { OnErr result (self.old.spare < count) }
-    {
-        let spare = self.spare();
-        if count <= spare {
-            return Ok(());
-        }
-        // A slab that has grown may say any capacity, and only where that is small are the numbers still to come surely small. So the reserved places get their slots first, and keep what they promise.
-        self.slots.add_spares(self.reserved);
-        self.reserved = 0;
-        self.slots.grow(count - spare)?;
-        // A slab takes more than it is asked for. All of it is reserved, so that the next calls ask for nothing.
-        self.reserved = self.slots.room();
-        Ok(())
     }
 
     /// Drops every record, and has no spare slot then.

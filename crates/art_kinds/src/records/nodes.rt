@@ -8,22 +8,10 @@ use crate::records::few::Few;
 use crate::records::full::Full;
 use crate::records::ids::{Child, Edge, Kind, NodeId};
 use crate::records::indexed::Indexed;
-use art_slots::{Store, Visits};
+use crate::records::one_kind::{Inner, OneKind, copy_front};
+use art_slots::Visits;
 use std::alloc::{AllocError, Global};
 use std::marker::Model;
-
-/// A record with a prefix of this length or longer has no size in the machine's numbers.
-const PREFIX_BOUND: usize = 1 << 62;
-
-/// An inner node: the length of its front, the first bytes of its compressed prefix, and its edges.
-#[derive(Drop)]
-pub(super) struct Inner<C, const P: usize> {
-    pub(super) depth: usize,
-    // How much of `prefix` is used.
-    pub(super) used: usize,
-    pub(super) prefix: [u8; P],
-    pub(super) edges: C,
-}
 
 /// The edges of a node of any kind.
 #[derive(Drop)]
@@ -178,10 +166,10 @@ impl<'a, const P: usize> NodeRef<'a, P> {
 /// The inner nodes. A contract sees the node under each number, and the spare records of each kind. Memory is asked for in `reserve`, and in `narrow`, which goes on where it is refused, and in no other call.
 #[derive(Drop)]
 pub struct Nodes<const P: usize> {
-    pub(super) fours: Store<Inner<Few<4>, P>>,
-    pub(super) sixteens: Store<Inner<Few<16>, P>>,
-    pub(super) forty_eights: Store<Inner<Indexed, P>>,
-    pub(super) fulls: Store<Inner<Full, P>>,
+    pub(super) fours: OneKind<Few<4>, P>,
+    pub(super) sixteens: OneKind<Few<16>, P>,
+    pub(super) forty_eights: OneKind<Indexed, P>,
+    pub(super) fulls: OneKind<Full, P>,
 }
 
 impl<const P: usize> Model for Nodes<P> {
@@ -191,11 +179,7 @@ impl<const P: usize> Model for Nodes<P> {
 
     ghost coded = { nodes_code };
 
-    ghost use Rattle.art_kinds.specs.Inners.{nodes_of, IsStore};
-
-    ghost view = { λ s. nodes_of s.fours s.sixteens s.forty_eights s.fulls };
-
-    ghost invariant = { λ s. record { fours : IsStore 4 s.fours; sixteens : IsStore 16 s.sixteens; forty_eights : IsStore 48 s.forty_eights; fulls : IsStore 256 s.fulls } };
+    ghost view = { λ s. record { fours = s.fours; sixteens = s.sixteens; forty_eights = s.forty_eights; fulls = s.fulls } };
 }
 
 impl<const P: usize> Nodes<P> {
@@ -206,10 +190,10 @@ impl<const P: usize> Nodes<P> {
         ensures room { room result ≡ 0 }
     {
         Nodes {
-            fours: Store::new(alloc),
-            sixteens: Store::new(alloc),
-            forty_eights: Store::new(alloc),
-            fulls: Store::new(alloc),
+            fours: OneKind::new(alloc),
+            sixteens: OneKind::new(alloc),
+            forty_eights: OneKind::new(alloc),
+            fulls: OneKind::new(alloc),
         }
     }
 
@@ -253,7 +237,7 @@ impl<const P: usize> Nodes<P> {
     {
         match id.kind {
             Kind::Four => {
-                let record = self.fours.read(id.place);
+                let record = self.fours.store.read(id.place);
                 NodeRef {
                     depth: record.depth,
                     used: record.used,
@@ -262,7 +246,7 @@ impl<const P: usize> Nodes<P> {
                 }
             }
             Kind::Sixteen => {
-                let record = self.sixteens.read(id.place);
+                let record = self.sixteens.store.read(id.place);
                 NodeRef {
                     depth: record.depth,
                     used: record.used,
@@ -271,7 +255,7 @@ impl<const P: usize> Nodes<P> {
                 }
             }
             Kind::FortyEight => {
-                let record = self.forty_eights.read(id.place);
+                let record = self.forty_eights.store.read(id.place);
                 NodeRef {
                     depth: record.depth,
                     used: record.used,
@@ -280,7 +264,7 @@ impl<const P: usize> Nodes<P> {
                 }
             }
             Kind::Full => {
-                let record = self.fulls.read(id.place);
+                let record = self.fulls.store.read(id.place);
                 NodeRef {
                     depth: record.depth,
                     used: record.used,
@@ -300,10 +284,10 @@ impl<const P: usize> Nodes<P> {
         ensures live { live self.new ≡ live self.old }
     {
         match id.kind {
-            Kind::Four => self.fours.get_mut(id.place).edges.insert(byte, to),
-            Kind::Sixteen => self.sixteens.get_mut(id.place).edges.insert(byte, to),
-            Kind::FortyEight => self.forty_eights.get_mut(id.place).edges.insert(byte, to),
-            Kind::Full => self.fulls.get_mut(id.place).edges.insert(byte, to),
+            Kind::Four => self.fours.add_edge(id.place, byte, to),
+            Kind::Sixteen => self.sixteens.add_edge(id.place, byte, to),
+            Kind::FortyEight => self.forty_eights.add_edge(id.place, byte, to),
+            Kind::Full => self.fulls.add_edge(id.place, byte, to),
         }
     }
 
@@ -315,10 +299,10 @@ impl<const P: usize> Nodes<P> {
         ensures live { live self.new ≡ live self.old }
     {
         match id.kind {
-            Kind::Four => self.fours.get_mut(id.place).edges.redirect(byte, to),
-            Kind::Sixteen => self.sixteens.get_mut(id.place).edges.redirect(byte, to),
-            Kind::FortyEight => self.forty_eights.get_mut(id.place).edges.redirect(byte, to),
-            Kind::Full => self.fulls.get_mut(id.place).edges.redirect(byte, to),
+            Kind::Four => self.fours.redirect(id.place, byte, to),
+            Kind::Sixteen => self.sixteens.redirect(id.place, byte, to),
+            Kind::FortyEight => self.forty_eights.redirect(id.place, byte, to),
+            Kind::Full => self.fulls.redirect(id.place, byte, to),
         }
     }
 
@@ -330,10 +314,10 @@ impl<const P: usize> Nodes<P> {
         ensures live { live self.new ≡ live self.old }
     {
         match id.kind {
-            Kind::Four => self.fours.get_mut(id.place).edges.remove(byte),
-            Kind::Sixteen => self.sixteens.get_mut(id.place).edges.remove(byte),
-            Kind::FortyEight => self.forty_eights.get_mut(id.place).edges.remove(byte),
-            Kind::Full => self.fulls.get_mut(id.place).edges.remove(byte),
+            Kind::Four => self.fours.remove_edge(id.place, byte),
+            Kind::Sixteen => self.sixteens.remove_edge(id.place, byte),
+            Kind::FortyEight => self.forty_eights.remove_edge(id.place, byte),
+            Kind::Full => self.fulls.remove_edge(id.place, byte),
         }
     }
 
@@ -347,10 +331,10 @@ impl<const P: usize> Nodes<P> {
         ensures spares { MoreSpares self.old self.new }
     {
         match id.kind {
-            Kind::Four => self.fours.remove(id.place),
-            Kind::Sixteen => self.sixteens.remove(id.place),
-            Kind::FortyEight => self.forty_eights.remove(id.place),
-            Kind::Full => self.fulls.remove(id.place),
+            Kind::Four => self.fours.store.remove(id.place),
+            Kind::Sixteen => self.sixteens.store.remove(id.place),
+            Kind::FortyEight => self.forty_eights.store.remove(id.place),
+            Kind::Full => self.fulls.store.remove(id.place),
         }
     }
 
@@ -364,17 +348,13 @@ impl<const P: usize> Nodes<P> {
         ensures live { live self.new ≡ live self.old + 1 }
         ensures room { room self.old ≤ room self.new + 1 }
     {
+        // Whoever looks at the store learns that a record is small.
+        let _store = &self.fours.store;
         let fours = &mut self.fours;
-        let mut record = Inner {
-            depth,
-            used: 0,
-            edges: Few::pair(low, high),
-            prefix: [0; P],
-        };
-        record.used = copy_front(&mut record.prefix, prefix);
+        let node = Inner::new(depth, prefix, Few::pair(low, high));
         NodeId {
             kind: Kind::Four,
-            place: fours.fill(record),
+            place: fours.fill(node),
         }
     }
 
@@ -390,14 +370,11 @@ impl<const P: usize> Nodes<P> {
         ensures kind { result % 4 ≡ 1 }
         ensures spares { Lowers 1 self.old self.new }
     {
+        // Whoever looks at the store learns that a record is small.
+        let _store = &self.fours.store;
         let four = self.fours.take(place);
         let edges = Few::of_four(&four.edges);
-        let at = self.sixteens.fill(Inner {
-            depth: four.depth,
-            used: four.used,
-            edges,
-            prefix: four.prefix,
-        });
+        let at = self.sixteens.fill(four.with_edges(edges));
         NodeId {
             kind: Kind::Sixteen,
             place: at,
@@ -416,14 +393,11 @@ impl<const P: usize> Nodes<P> {
         ensures kind { result % 4 ≡ 2 }
         ensures spares { Lowers 2 self.old self.new }
     {
+        // Whoever looks at the store learns that a record is small.
+        let _store = &self.sixteens.store;
         let sixteen = self.sixteens.take(place);
         let edges = Indexed::of_sixteen(&sixteen.edges);
-        let at = self.forty_eights.fill(Inner {
-            depth: sixteen.depth,
-            used: sixteen.used,
-            edges,
-            prefix: sixteen.prefix,
-        });
+        let at = self.forty_eights.fill(sixteen.with_edges(edges));
         NodeId {
             kind: Kind::FortyEight,
             place: at,
@@ -442,14 +416,11 @@ impl<const P: usize> Nodes<P> {
         ensures kind { result % 4 ≡ 3 }
         ensures spares { Lowers 3 self.old self.new }
     {
+        // Whoever looks at the store learns that a record is small.
+        let _store = &self.forty_eights.store;
         let indexed = self.forty_eights.take(place);
         let edges = Full::of_indexed(&indexed.edges);
-        let at = self.fulls.fill(Inner {
-            depth: indexed.depth,
-            used: indexed.used,
-            edges,
-            prefix: indexed.prefix,
-        });
+        let at = self.fulls.fill(indexed.with_edges(edges));
         NodeId {
             kind: Kind::Full,
             place: at,
@@ -467,21 +438,21 @@ impl<const P: usize> Nodes<P> {
     {
         match id.kind {
             Kind::Four => {
-                if self.fours.read(id.place).edges.count() < 4 {
+                if self.fours.count(id.place) < 4 {
                     id
                 } else {
                     self.grow_four(id.place)
                 }
             }
             Kind::Sixteen => {
-                if self.sixteens.read(id.place).edges.count() < 16 {
+                if self.sixteens.count(id.place) < 16 {
                     id
                 } else {
                     self.grow_sixteen(id.place)
                 }
             }
             Kind::FortyEight => {
-                if self.forty_eights.read(id.place).edges.count() < 48 {
+                if self.forty_eights.count(id.place) < 48 {
                     id
                 } else {
                     self.grow_forty_eight(id.place)
@@ -500,14 +471,11 @@ impl<const P: usize> Nodes<P> {
         ensures moved { Renames (at self.old) (at self.new) (4 * place + 1) result }
         ensures live { live self.new ≡ live self.old }
     {
+        // Whoever looks at the store learns that a record is small.
+        let _store = &self.sixteens.store;
         let large = self.sixteens.take(place);
         let edges = Few::of_sixteen(&large.edges);
-        let at = self.fours.fill(Inner {
-            depth: large.depth,
-            used: large.used,
-            edges,
-            prefix: large.prefix,
-        });
+        let at = self.fours.fill(large.with_edges(edges));
         NodeId {
             kind: Kind::Four,
             place: at,
@@ -523,14 +491,11 @@ impl<const P: usize> Nodes<P> {
         ensures moved { Renames (at self.old) (at self.new) (4 * place + 2) result }
         ensures live { live self.new ≡ live self.old }
     {
+        // Whoever looks at the store learns that a record is small.
+        let _store = &self.forty_eights.store;
         let large = self.forty_eights.take(place);
         let edges = Few::of_indexed(&large.edges);
-        let at = self.sixteens.fill(Inner {
-            depth: large.depth,
-            used: large.used,
-            edges,
-            prefix: large.prefix,
-        });
+        let at = self.sixteens.fill(large.with_edges(edges));
         NodeId {
             kind: Kind::Sixteen,
             place: at,
@@ -546,14 +511,11 @@ impl<const P: usize> Nodes<P> {
         ensures moved { Renames (at self.old) (at self.new) (4 * place + 3) result }
         ensures live { live self.new ≡ live self.old }
     {
+        // Whoever looks at the store learns that a record is small.
+        let _store = &self.fulls.store;
         let wide = self.fulls.take(place);
         let edges = Indexed::of_full(&wide.edges);
-        let at = self.forty_eights.fill(Inner {
-            depth: wide.depth,
-            used: wide.used,
-            edges,
-            prefix: wide.prefix,
-        });
+        let at = self.forty_eights.fill(wide.with_edges(edges));
         NodeId {
             kind: Kind::FortyEight,
             place: at,
@@ -566,9 +528,6 @@ impl<const P: usize> Nodes<P> {
         ensures live { live self.new ≡ live self.old }
         ensures fits { OnOk result (0 < self.new.fours.spare) }
     {
-        if P >= PREFIX_BOUND {
-            return Err(AllocError);
-        }
         self.fours.reserve(1)
     }
 
@@ -578,9 +537,6 @@ impl<const P: usize> Nodes<P> {
         ensures live { live self.new ≡ live self.old }
         ensures fits { OnOk result (0 < self.new.sixteens.spare) }
     {
-        if P >= PREFIX_BOUND {
-            return Err(AllocError);
-        }
         self.sixteens.reserve(1)
     }
 
@@ -590,9 +546,6 @@ impl<const P: usize> Nodes<P> {
         ensures live { live self.new ≡ live self.old }
         ensures fits { OnOk result (0 < self.new.forty_eights.spare) }
     {
-        if P >= PREFIX_BOUND {
-            return Err(AllocError);
-        }
         self.forty_eights.reserve(1)
     }
 
@@ -605,25 +558,21 @@ impl<const P: usize> Nodes<P> {
         match id.kind {
             Kind::Four => id,
             Kind::Sixteen => {
-                if self.sixteens.read(id.place).edges.count() == 4 && self.spare_four().is_ok() {
+                if self.sixteens.count(id.place) == 4 && self.spare_four().is_ok() {
                     self.shrink_sixteen(id.place)
                 } else {
                     id
                 }
             }
             Kind::FortyEight => {
-                if self.forty_eights.read(id.place).edges.count() == 16
-                    && self.spare_sixteen().is_ok()
-                {
+                if self.forty_eights.count(id.place) == 16 && self.spare_sixteen().is_ok() {
                     self.shrink_forty_eight(id.place)
                 } else {
                     id
                 }
             }
             Kind::Full => {
-                if self.fulls.read(id.place).edges.count() == 48
-                    && self.spare_forty_eight().is_ok()
-                {
+                if self.fulls.count(id.place) == 48 && self.spare_forty_eight().is_ok() {
                     self.shrink_full(id.place)
                 } else {
                     id
@@ -641,9 +590,6 @@ impl<const P: usize> Nodes<P> {
     {
         if count == 0 {
             return Ok(());
-        }
-        if P >= PREFIX_BOUND {
-            return Err(AllocError);
         }
         self.fours.reserve(count)?;
         self.sixteens
@@ -663,22 +609,10 @@ impl<const P: usize> Nodes<P> {
         ensures live { live self.new ≡ live self.old }
     {
         match id.kind {
-            Kind::Four => {
-                let record = self.fours.get_mut(id.place);
-                record.used = copy_front(&mut record.prefix, prefix);
-            }
-            Kind::Sixteen => {
-                let record = self.sixteens.get_mut(id.place);
-                record.used = copy_front(&mut record.prefix, prefix);
-            }
-            Kind::FortyEight => {
-                let record = self.forty_eights.get_mut(id.place);
-                record.used = copy_front(&mut record.prefix, prefix);
-            }
-            Kind::Full => {
-                let record = self.fulls.get_mut(id.place);
-                record.used = copy_front(&mut record.prefix, prefix);
-            }
+            Kind::Four => self.fours.set_prefix(id.place, prefix),
+            Kind::Sixteen => self.sixteens.set_prefix(id.place, prefix),
+            Kind::FortyEight => self.forty_eights.set_prefix(id.place, prefix),
+            Kind::Full => self.fulls.set_prefix(id.place, prefix),
         }
     }
 
@@ -721,25 +655,11 @@ impl<const P: usize> Nodes<P> {
         ensures live { live self.new ≡ 0 }
         ensures room { room self.new ≡ 0 }
     {
-        self.fours.clear();
-        self.sixteens.clear();
-        self.forty_eights.clear();
-        self.fulls.clear();
+        self.fours.store.clear();
+        self.sixteens.store.clear();
+        self.forty_eights.store.clear();
+        self.fulls.store.clear();
     }
-}
-
-// Copies as many bytes from the front as there is room for, and answers how many.
-fn copy_front(to: &mut [u8], from: &[u8]) -> usize
-    ensures within { result ≤ length to.old }
-    ensures copied { take result to.new ≡ take (length to.old) from.now }
-{
-    let count = if from.len() < to.len() {
-        from.len()
-    } else {
-        to.len()
-    };
-    to[..count].copy_from_slice(&from[..count]);
-    count
 }
 
 // The bytes behind the first so many.

@@ -1,11 +1,13 @@
 //! A node filled from 2 children to 256 and emptied again: what the fields of each kind hold after each step, and that nothing else is there.
 ghost use Rattle.std.specs.Prelude.{◌<◌};
 
+use crate::records::children::Children;
 use crate::records::few::Few;
 use crate::records::full::Full;
 use crate::records::ids::{Child, Edge, Kind, NodeId};
 use crate::records::indexed::Indexed;
-use crate::records::nodes::{Inner, Nodes};
+use crate::records::nodes::Nodes;
+use crate::records::one_kind::Inner;
 use art_slots::{LeafId, Visits};
 use std::process::Abort;
 
@@ -75,7 +77,7 @@ fn full(rt: &impl Abort, edges: &Full) -> Table {
 }
 
 // The front and the prefix stand, and the children are these.
-fn assert_record<C>(rt: &impl Abort, record: &Inner<C, 2>, held: &Table, table: &Table) {
+fn assert_record<C: Children>(rt: &impl Abort, record: &Inner<C, 2>, held: &Table, table: &Table) {
     assert_eq!(rt; record.depth, 9);
     assert_eq!(rt; record.used, 2);
     assert!(rt; record.prefix == [5, 6]);
@@ -89,22 +91,22 @@ fn assert_node(rt: &impl Abort, nodes: &Nodes<2>, id: NodeId, count: usize, tabl
     assert_alone(rt, nodes, id, count);
     match id.kind {
         Kind::Four => {
-            let record = nodes.fours.get(id.place).expect(rt, "a node");
+            let record = nodes.fours.store.get(id.place).expect(rt, "a node");
             assert_eq!(rt; record.edges.count, count);
             assert_record(rt, record, &few(rt, &record.edges), table);
         }
         Kind::Sixteen => {
-            let record = nodes.sixteens.get(id.place).expect(rt, "a node");
+            let record = nodes.sixteens.store.get(id.place).expect(rt, "a node");
             assert_eq!(rt; record.edges.count, count);
             assert_record(rt, record, &few(rt, &record.edges), table);
         }
         Kind::FortyEight => {
-            let record = nodes.forty_eights.get(id.place).expect(rt, "a node");
+            let record = nodes.forty_eights.store.get(id.place).expect(rt, "a node");
             assert_eq!(rt; record.edges.count, count);
             assert_record(rt, record, &indexed(rt, &record.edges), table);
         }
         Kind::Full => {
-            let record = nodes.fulls.get(id.place).expect(rt, "a node");
+            let record = nodes.fulls.store.get(id.place).expect(rt, "a node");
             assert_eq!(rt; record.edges.count, count);
             assert_record(rt, record, &full(rt, &record.edges), table);
         }
@@ -133,7 +135,7 @@ fn assert_alone(rt: &impl Abort, nodes: &Nodes<2>, id: NodeId, count: usize) {
 fn start(rt: &impl Abort, nodes: &mut Nodes<2>) -> NodeId {
     let (low, high) = (byte_of(0), byte_of(1));
     nodes.reserve(1).expect(rt, "memory");
-    assert!(rt; nodes.fours.spare() > 0);
+    assert!(rt; nodes.fours.store.spare() > 0);
     assert!(rt; low < high);
     let low = Edge {
         byte: low,

@@ -1,238 +1,38 @@
-use Rattle.std.proofs.Common.{◌≡◌, ◌≤◌, ◌∙◌, List, Option, Some, IsSome, length, lit<, refl, subst, arith}
-use Rattle.art_kinds.specs.Inners.{nodes_of, nodes_in, seen}
-use Rattle.art_kinds.specs.Edges.{child_at}
-use Rattle.art_kinds.specs.Nodes.{Node, Nodes, at}
-use Rattle.art_slots.specs.Store.{with_record}
-use Rattle.art_kinds.specs.declared.records.ids.Edge.{Edge}
-use Rattle.art_kinds.specs.declared.records.ids.Kind.TheVariants.{Four, Sixteen, FortyEight, Full}
-use Rattle.art_kinds.specs.declared.records.nodes.Inner.{Inner}
-use Rattle.art_kinds.proofs.Changes.{found_at, live_in, live-with, node_at, is_node, off_node, holds_of, some_such, kept, fits_edges, but_fours, but_sixteens, but_forty_eights, but_fulls, redirects, stands, live-same}
+use Rattle.art_kinds.proofs.Changes.{redirects, stands, live-same}
 use Rattle.art_kinds.proofs.records.nodes.Nodes.redirect.Goals as goal
 
-pub get_mut-requires : goal.get_mut-requires
-get_mut-requires g c =
-    let i = c.self.inside in
-    let Q : Option Node → Type 0 = λ o. IsSome o in
-    live_in i.fours c.id.inside.place (subst Q (found_at (nodes_of i.fours i.sixteens i.forty_eights i.fulls) c.args.self.now c.self.view_is c.id.inside c.args.id c.id.view_is Four c.in-Four.is) (some_such (λ x. IsSome (child_at x.edges c.args.byte)) (at c.args.self.now c.args.id) c.requires))
-
-pub redirect-requires : goal.redirect-requires
-redirect-requires g c =
-    let i = c.self.inside in
-    let x = c.get_mut.result.now in
-    let e : at c.args.self.now c.args.id ≡ Some (seen x) = found_at (nodes_of i.fours i.sixteens i.forty_eights i.fulls) c.args.self.now c.self.view_is c.id.inside c.args.id c.id.view_is Four c.in-Four.is ∙ node_at i.fours c.id.inside.place (Some c.get_mut.result.now) c.get_mut.ensures.value in
-    let h = holds_of (λ x. IsSome (child_at x.edges c.args.byte)) (at c.args.self.now c.args.id) (seen x) e c.requires in
-    (lit< tt, h)
-
-pub invariant_of-self : goal.invariant_of-self
-invariant_of-self g c =
-    let i = c.self.inside in
-    let x = c.get_mut.result.now in
-    let e : at c.args.self.now c.args.id ≡ Some (seen x) = found_at (nodes_of i.fours i.sixteens i.forty_eights i.fulls) c.args.self.now c.self.view_is c.id.inside c.args.id c.id.view_is Four c.in-Four.is ∙ node_at i.fours c.id.inside.place (Some c.get_mut.result.now) c.get_mut.ensures.value in
-    let h = holds_of (λ x. IsSome (child_at x.edges c.args.byte)) (at c.args.self.now c.args.id) (seen x) e c.requires in
-    let v = c.self.invariant in
-    record { fours = kept i.fours c.id.inside.place x (record x { edges = c.redirect.new.self }) c.get_mut.ensures.value 4 v.fours (fits_edges 4 x c.redirect.new.self (v.fours.all c.id.inside.place x c.get_mut.ensures.value) (λ l. (let r : length x.edges ≤ 4 = (c.self.invariant.fours.all c.id.inside.place x c.get_mut.ensures.value).few l in let q = c.redirect.ensures.same_length in omega arith))); sixteens = v.sixteens; forty_eights = v.forty_eights; fulls = v.fulls }
-
 pub returns-in-Four-clause-edges_with_child : goal.returns-in-Four-clause-edges_with_child
-returns-in-Four-clause-edges_with_child g c =
-    let i = c.self.inside in
-    let x = c.get_mut.result.now in
-    let e : at c.args.self.now c.args.id ≡ Some (seen x) = found_at (nodes_of i.fours i.sixteens i.forty_eights i.fulls) c.args.self.now c.self.view_is c.id.inside c.args.id c.id.view_is Four c.in-Four.is ∙ node_at i.fours c.id.inside.place (Some c.get_mut.result.now) c.get_mut.ensures.value in
-    let h = holds_of (λ x. IsSome (child_at x.edges c.args.byte)) (at c.args.self.now c.args.id) (seen x) e c.requires in
-    let y : Inner (List Edge) g.row.P = record x { edges = c.redirect.new.self } in
-    let s : Nodes = nodes_of i.fours i.sixteens i.forty_eights i.fulls in
-    let a = nodes_in (with_record i.fours c.id.inside.place y) in
-    redirects s (record s { fours = a }) c.args.self.now c.self.view_is c.id.inside c.args.id c.id.view_is Four c.in-Four.is (but_fours s a) (off_node i.fours c.id.inside.place x y c.get_mut.ensures.value) (seen x) (seen y) (node_at i.fours c.id.inside.place (Some x) c.get_mut.ensures.value) (is_node i.fours c.id.inside.place x y c.get_mut.ensures.value) c.args.byte c.args.to refl refl c.redirect.ensures
+returns-in-Four-clause-edges_with_child g c = redirects c.self.view_is c.id.inside c.id.view_is c.in-Four.is c.redirect.ensures
 
 pub returns-in-Four-clause-spares : goal.returns-in-Four-clause-spares
-returns-in-Four-clause-spares g c =
-    let i = c.self.inside in
-    let x = c.get_mut.result.now in
-    let e : at c.args.self.now c.args.id ≡ Some (seen x) = found_at (nodes_of i.fours i.sixteens i.forty_eights i.fulls) c.args.self.now c.self.view_is c.id.inside c.args.id c.id.view_is Four c.in-Four.is ∙ node_at i.fours c.id.inside.place (Some c.get_mut.result.now) c.get_mut.ensures.value in
-    let h = holds_of (λ x. IsSome (child_at x.edges c.args.byte)) (at c.args.self.now c.args.id) (seen x) e c.requires in
-    let y : Inner (List Edge) g.row.P = record x { edges = c.redirect.new.self } in
-    let s : Nodes = nodes_of i.fours i.sixteens i.forty_eights i.fulls in
-    let a = nodes_in (with_record i.fours c.id.inside.place y) in
-    let q = c.redirect.ensures.same_length in
-    stands s (record s { fours = a }) c.args.self.now c.self.view_is c.id.inside c.args.id c.id.view_is Four c.in-Four.is (but_fours s a) (off_node i.fours c.id.inside.place x y c.get_mut.ensures.value) (seen x) (seen y) (node_at i.fours c.id.inside.place (Some x) c.get_mut.ensures.value) (is_node i.fours c.id.inside.place x y c.get_mut.ensures.value) refl (omega arith)
+returns-in-Four-clause-spares g c = stands c.self.view_is c.id.inside c.id.view_is c.in-Four.is c.redirect.ensures c.redirect.ensures.so.edges.same_length
 
 pub returns-in-Four-clause-live : goal.returns-in-Four-clause-live
-returns-in-Four-clause-live g c =
-    let i = c.self.inside in
-    let x = c.get_mut.result.now in
-    let e : at c.args.self.now c.args.id ≡ Some (seen x) = found_at (nodes_of i.fours i.sixteens i.forty_eights i.fulls) c.args.self.now c.self.view_is c.id.inside c.args.id c.id.view_is Four c.in-Four.is ∙ node_at i.fours c.id.inside.place (Some c.get_mut.result.now) c.get_mut.ensures.value in
-    let h = holds_of (λ x. IsSome (child_at x.edges c.args.byte)) (at c.args.self.now c.args.id) (seen x) e c.requires in
-    let y : Inner (List Edge) g.row.P = record x { edges = c.redirect.new.self } in
-    let s : Nodes = nodes_of i.fours i.sixteens i.forty_eights i.fulls in
-    let a = nodes_in (with_record i.fours c.id.inside.place y) in
-    live-same s (record s { fours = a }) c.args.self.now c.self.view_is c.id.inside c.args.id c.id.view_is Four c.in-Four.is (but_fours s a) (off_node i.fours c.id.inside.place x y c.get_mut.ensures.value) (live-with i.fours c.id.inside.place x y c.get_mut.ensures.value)
-
-pub get_mut-requires-in-Sixteen : goal.get_mut-requires-in-Sixteen
-get_mut-requires-in-Sixteen g c =
-    let i = c.self.inside in
-    let Q : Option Node → Type 0 = λ o. IsSome o in
-    live_in i.sixteens c.id.inside.place (subst Q (found_at (nodes_of i.fours i.sixteens i.forty_eights i.fulls) c.args.self.now c.self.view_is c.id.inside c.args.id c.id.view_is Sixteen c.in-Sixteen.is) (some_such (λ x. IsSome (child_at x.edges c.args.byte)) (at c.args.self.now c.args.id) c.requires))
-
-pub redirect-requires-in-Sixteen : goal.redirect-requires-in-Sixteen
-redirect-requires-in-Sixteen g c =
-    let i = c.self.inside in
-    let x = c.get_mut-in-Sixteen.result.now in
-    let e : at c.args.self.now c.args.id ≡ Some (seen x) = found_at (nodes_of i.fours i.sixteens i.forty_eights i.fulls) c.args.self.now c.self.view_is c.id.inside c.args.id c.id.view_is Sixteen c.in-Sixteen.is ∙ node_at i.sixteens c.id.inside.place (Some c.get_mut-in-Sixteen.result.now) c.get_mut-in-Sixteen.ensures.value in
-    let h = holds_of (λ x. IsSome (child_at x.edges c.args.byte)) (at c.args.self.now c.args.id) (seen x) e c.requires in
-    (lit< tt, h)
-
-pub invariant_of-self-in-Sixteen : goal.invariant_of-self-in-Sixteen
-invariant_of-self-in-Sixteen g c =
-    let i = c.self.inside in
-    let x = c.get_mut-in-Sixteen.result.now in
-    let e : at c.args.self.now c.args.id ≡ Some (seen x) = found_at (nodes_of i.fours i.sixteens i.forty_eights i.fulls) c.args.self.now c.self.view_is c.id.inside c.args.id c.id.view_is Sixteen c.in-Sixteen.is ∙ node_at i.sixteens c.id.inside.place (Some c.get_mut-in-Sixteen.result.now) c.get_mut-in-Sixteen.ensures.value in
-    let h = holds_of (λ x. IsSome (child_at x.edges c.args.byte)) (at c.args.self.now c.args.id) (seen x) e c.requires in
-    let v = c.self.invariant in
-    record { fours = v.fours; sixteens = kept i.sixteens c.id.inside.place x (record x { edges = c.redirect-in-Sixteen.new.self }) c.get_mut-in-Sixteen.ensures.value 16 v.sixteens (fits_edges 16 x c.redirect-in-Sixteen.new.self (v.sixteens.all c.id.inside.place x c.get_mut-in-Sixteen.ensures.value) (λ l. (let r : length x.edges ≤ 16 = (c.self.invariant.sixteens.all c.id.inside.place x c.get_mut-in-Sixteen.ensures.value).few l in let q = c.redirect-in-Sixteen.ensures.same_length in omega arith))); forty_eights = v.forty_eights; fulls = v.fulls }
+returns-in-Four-clause-live g c = live-same c.self.view_is c.id.inside c.id.view_is c.in-Four.is c.redirect.ensures
 
 pub returns-in-Sixteen-clause-edges_with_child : goal.returns-in-Sixteen-clause-edges_with_child
-returns-in-Sixteen-clause-edges_with_child g c =
-    let i = c.self.inside in
-    let x = c.get_mut-in-Sixteen.result.now in
-    let e : at c.args.self.now c.args.id ≡ Some (seen x) = found_at (nodes_of i.fours i.sixteens i.forty_eights i.fulls) c.args.self.now c.self.view_is c.id.inside c.args.id c.id.view_is Sixteen c.in-Sixteen.is ∙ node_at i.sixteens c.id.inside.place (Some c.get_mut-in-Sixteen.result.now) c.get_mut-in-Sixteen.ensures.value in
-    let h = holds_of (λ x. IsSome (child_at x.edges c.args.byte)) (at c.args.self.now c.args.id) (seen x) e c.requires in
-    let y : Inner (List Edge) g.row.P = record x { edges = c.redirect-in-Sixteen.new.self } in
-    let s : Nodes = nodes_of i.fours i.sixteens i.forty_eights i.fulls in
-    let a = nodes_in (with_record i.sixteens c.id.inside.place y) in
-    redirects s (record s { sixteens = a }) c.args.self.now c.self.view_is c.id.inside c.args.id c.id.view_is Sixteen c.in-Sixteen.is (but_sixteens s a) (off_node i.sixteens c.id.inside.place x y c.get_mut-in-Sixteen.ensures.value) (seen x) (seen y) (node_at i.sixteens c.id.inside.place (Some x) c.get_mut-in-Sixteen.ensures.value) (is_node i.sixteens c.id.inside.place x y c.get_mut-in-Sixteen.ensures.value) c.args.byte c.args.to refl refl c.redirect-in-Sixteen.ensures
+returns-in-Sixteen-clause-edges_with_child g c = redirects c.self.view_is c.id.inside c.id.view_is c.in-Sixteen.is c.redirect-in-Sixteen.ensures
 
 pub returns-in-Sixteen-clause-spares : goal.returns-in-Sixteen-clause-spares
-returns-in-Sixteen-clause-spares g c =
-    let i = c.self.inside in
-    let x = c.get_mut-in-Sixteen.result.now in
-    let e : at c.args.self.now c.args.id ≡ Some (seen x) = found_at (nodes_of i.fours i.sixteens i.forty_eights i.fulls) c.args.self.now c.self.view_is c.id.inside c.args.id c.id.view_is Sixteen c.in-Sixteen.is ∙ node_at i.sixteens c.id.inside.place (Some c.get_mut-in-Sixteen.result.now) c.get_mut-in-Sixteen.ensures.value in
-    let h = holds_of (λ x. IsSome (child_at x.edges c.args.byte)) (at c.args.self.now c.args.id) (seen x) e c.requires in
-    let y : Inner (List Edge) g.row.P = record x { edges = c.redirect-in-Sixteen.new.self } in
-    let s : Nodes = nodes_of i.fours i.sixteens i.forty_eights i.fulls in
-    let a = nodes_in (with_record i.sixteens c.id.inside.place y) in
-    let q = c.redirect-in-Sixteen.ensures.same_length in
-    stands s (record s { sixteens = a }) c.args.self.now c.self.view_is c.id.inside c.args.id c.id.view_is Sixteen c.in-Sixteen.is (but_sixteens s a) (off_node i.sixteens c.id.inside.place x y c.get_mut-in-Sixteen.ensures.value) (seen x) (seen y) (node_at i.sixteens c.id.inside.place (Some x) c.get_mut-in-Sixteen.ensures.value) (is_node i.sixteens c.id.inside.place x y c.get_mut-in-Sixteen.ensures.value) refl (omega arith)
+returns-in-Sixteen-clause-spares g c = stands c.self.view_is c.id.inside c.id.view_is c.in-Sixteen.is c.redirect-in-Sixteen.ensures c.redirect-in-Sixteen.ensures.so.edges.same_length
 
 pub returns-in-Sixteen-clause-live : goal.returns-in-Sixteen-clause-live
-returns-in-Sixteen-clause-live g c =
-    let i = c.self.inside in
-    let x = c.get_mut-in-Sixteen.result.now in
-    let e : at c.args.self.now c.args.id ≡ Some (seen x) = found_at (nodes_of i.fours i.sixteens i.forty_eights i.fulls) c.args.self.now c.self.view_is c.id.inside c.args.id c.id.view_is Sixteen c.in-Sixteen.is ∙ node_at i.sixteens c.id.inside.place (Some c.get_mut-in-Sixteen.result.now) c.get_mut-in-Sixteen.ensures.value in
-    let h = holds_of (λ x. IsSome (child_at x.edges c.args.byte)) (at c.args.self.now c.args.id) (seen x) e c.requires in
-    let y : Inner (List Edge) g.row.P = record x { edges = c.redirect-in-Sixteen.new.self } in
-    let s : Nodes = nodes_of i.fours i.sixteens i.forty_eights i.fulls in
-    let a = nodes_in (with_record i.sixteens c.id.inside.place y) in
-    live-same s (record s { sixteens = a }) c.args.self.now c.self.view_is c.id.inside c.args.id c.id.view_is Sixteen c.in-Sixteen.is (but_sixteens s a) (off_node i.sixteens c.id.inside.place x y c.get_mut-in-Sixteen.ensures.value) (live-with i.sixteens c.id.inside.place x y c.get_mut-in-Sixteen.ensures.value)
-
-pub get_mut-requires-in-FortyEight : goal.get_mut-requires-in-FortyEight
-get_mut-requires-in-FortyEight g c =
-    let i = c.self.inside in
-    let Q : Option Node → Type 0 = λ o. IsSome o in
-    live_in i.forty_eights c.id.inside.place (subst Q (found_at (nodes_of i.fours i.sixteens i.forty_eights i.fulls) c.args.self.now c.self.view_is c.id.inside c.args.id c.id.view_is FortyEight c.in-FortyEight.is) (some_such (λ x. IsSome (child_at x.edges c.args.byte)) (at c.args.self.now c.args.id) c.requires))
-
-pub redirect-requires-in-FortyEight : goal.redirect-requires-in-FortyEight
-redirect-requires-in-FortyEight g c =
-    let i = c.self.inside in
-    let x = c.get_mut-in-FortyEight.result.now in
-    let e : at c.args.self.now c.args.id ≡ Some (seen x) = found_at (nodes_of i.fours i.sixteens i.forty_eights i.fulls) c.args.self.now c.self.view_is c.id.inside c.args.id c.id.view_is FortyEight c.in-FortyEight.is ∙ node_at i.forty_eights c.id.inside.place (Some c.get_mut-in-FortyEight.result.now) c.get_mut-in-FortyEight.ensures.value in
-    let h = holds_of (λ x. IsSome (child_at x.edges c.args.byte)) (at c.args.self.now c.args.id) (seen x) e c.requires in
-    h
-
-pub invariant_of-self-in-FortyEight : goal.invariant_of-self-in-FortyEight
-invariant_of-self-in-FortyEight g c =
-    let i = c.self.inside in
-    let x = c.get_mut-in-FortyEight.result.now in
-    let e : at c.args.self.now c.args.id ≡ Some (seen x) = found_at (nodes_of i.fours i.sixteens i.forty_eights i.fulls) c.args.self.now c.self.view_is c.id.inside c.args.id c.id.view_is FortyEight c.in-FortyEight.is ∙ node_at i.forty_eights c.id.inside.place (Some c.get_mut-in-FortyEight.result.now) c.get_mut-in-FortyEight.ensures.value in
-    let h = holds_of (λ x. IsSome (child_at x.edges c.args.byte)) (at c.args.self.now c.args.id) (seen x) e c.requires in
-    let v = c.self.invariant in
-    record { fours = v.fours; sixteens = v.sixteens; forty_eights = kept i.forty_eights c.id.inside.place x (record x { edges = c.redirect-in-FortyEight.new.self }) c.get_mut-in-FortyEight.ensures.value 48 v.forty_eights (fits_edges 48 x c.redirect-in-FortyEight.new.self (v.forty_eights.all c.id.inside.place x c.get_mut-in-FortyEight.ensures.value) (λ l. (let r : length x.edges ≤ 48 = (c.self.invariant.forty_eights.all c.id.inside.place x c.get_mut-in-FortyEight.ensures.value).few l in let q = c.redirect-in-FortyEight.ensures.same_length in omega arith))); fulls = v.fulls }
+returns-in-Sixteen-clause-live g c = live-same c.self.view_is c.id.inside c.id.view_is c.in-Sixteen.is c.redirect-in-Sixteen.ensures
 
 pub returns-in-FortyEight-clause-edges_with_child : goal.returns-in-FortyEight-clause-edges_with_child
-returns-in-FortyEight-clause-edges_with_child g c =
-    let i = c.self.inside in
-    let x = c.get_mut-in-FortyEight.result.now in
-    let e : at c.args.self.now c.args.id ≡ Some (seen x) = found_at (nodes_of i.fours i.sixteens i.forty_eights i.fulls) c.args.self.now c.self.view_is c.id.inside c.args.id c.id.view_is FortyEight c.in-FortyEight.is ∙ node_at i.forty_eights c.id.inside.place (Some c.get_mut-in-FortyEight.result.now) c.get_mut-in-FortyEight.ensures.value in
-    let h = holds_of (λ x. IsSome (child_at x.edges c.args.byte)) (at c.args.self.now c.args.id) (seen x) e c.requires in
-    let y : Inner (List Edge) g.row.P = record x { edges = c.redirect-in-FortyEight.new.self } in
-    let s : Nodes = nodes_of i.fours i.sixteens i.forty_eights i.fulls in
-    let a = nodes_in (with_record i.forty_eights c.id.inside.place y) in
-    redirects s (record s { forty_eights = a }) c.args.self.now c.self.view_is c.id.inside c.args.id c.id.view_is FortyEight c.in-FortyEight.is (but_forty_eights s a) (off_node i.forty_eights c.id.inside.place x y c.get_mut-in-FortyEight.ensures.value) (seen x) (seen y) (node_at i.forty_eights c.id.inside.place (Some x) c.get_mut-in-FortyEight.ensures.value) (is_node i.forty_eights c.id.inside.place x y c.get_mut-in-FortyEight.ensures.value) c.args.byte c.args.to refl refl c.redirect-in-FortyEight.ensures
+returns-in-FortyEight-clause-edges_with_child g c = redirects c.self.view_is c.id.inside c.id.view_is c.in-FortyEight.is c.redirect-in-FortyEight.ensures
 
 pub returns-in-FortyEight-clause-spares : goal.returns-in-FortyEight-clause-spares
-returns-in-FortyEight-clause-spares g c =
-    let i = c.self.inside in
-    let x = c.get_mut-in-FortyEight.result.now in
-    let e : at c.args.self.now c.args.id ≡ Some (seen x) = found_at (nodes_of i.fours i.sixteens i.forty_eights i.fulls) c.args.self.now c.self.view_is c.id.inside c.args.id c.id.view_is FortyEight c.in-FortyEight.is ∙ node_at i.forty_eights c.id.inside.place (Some c.get_mut-in-FortyEight.result.now) c.get_mut-in-FortyEight.ensures.value in
-    let h = holds_of (λ x. IsSome (child_at x.edges c.args.byte)) (at c.args.self.now c.args.id) (seen x) e c.requires in
-    let y : Inner (List Edge) g.row.P = record x { edges = c.redirect-in-FortyEight.new.self } in
-    let s : Nodes = nodes_of i.fours i.sixteens i.forty_eights i.fulls in
-    let a = nodes_in (with_record i.forty_eights c.id.inside.place y) in
-    let q = c.redirect-in-FortyEight.ensures.same_length in
-    stands s (record s { forty_eights = a }) c.args.self.now c.self.view_is c.id.inside c.args.id c.id.view_is FortyEight c.in-FortyEight.is (but_forty_eights s a) (off_node i.forty_eights c.id.inside.place x y c.get_mut-in-FortyEight.ensures.value) (seen x) (seen y) (node_at i.forty_eights c.id.inside.place (Some x) c.get_mut-in-FortyEight.ensures.value) (is_node i.forty_eights c.id.inside.place x y c.get_mut-in-FortyEight.ensures.value) refl (omega arith)
+returns-in-FortyEight-clause-spares g c = stands c.self.view_is c.id.inside c.id.view_is c.in-FortyEight.is c.redirect-in-FortyEight.ensures c.redirect-in-FortyEight.ensures.so.edges.same_length
 
 pub returns-in-FortyEight-clause-live : goal.returns-in-FortyEight-clause-live
-returns-in-FortyEight-clause-live g c =
-    let i = c.self.inside in
-    let x = c.get_mut-in-FortyEight.result.now in
-    let e : at c.args.self.now c.args.id ≡ Some (seen x) = found_at (nodes_of i.fours i.sixteens i.forty_eights i.fulls) c.args.self.now c.self.view_is c.id.inside c.args.id c.id.view_is FortyEight c.in-FortyEight.is ∙ node_at i.forty_eights c.id.inside.place (Some c.get_mut-in-FortyEight.result.now) c.get_mut-in-FortyEight.ensures.value in
-    let h = holds_of (λ x. IsSome (child_at x.edges c.args.byte)) (at c.args.self.now c.args.id) (seen x) e c.requires in
-    let y : Inner (List Edge) g.row.P = record x { edges = c.redirect-in-FortyEight.new.self } in
-    let s : Nodes = nodes_of i.fours i.sixteens i.forty_eights i.fulls in
-    let a = nodes_in (with_record i.forty_eights c.id.inside.place y) in
-    live-same s (record s { forty_eights = a }) c.args.self.now c.self.view_is c.id.inside c.args.id c.id.view_is FortyEight c.in-FortyEight.is (but_forty_eights s a) (off_node i.forty_eights c.id.inside.place x y c.get_mut-in-FortyEight.ensures.value) (live-with i.forty_eights c.id.inside.place x y c.get_mut-in-FortyEight.ensures.value)
-
-pub get_mut-requires-in-Full : goal.get_mut-requires-in-Full
-get_mut-requires-in-Full g c =
-    let i = c.self.inside in
-    let Q : Option Node → Type 0 = λ o. IsSome o in
-    live_in i.fulls c.id.inside.place (subst Q (found_at (nodes_of i.fours i.sixteens i.forty_eights i.fulls) c.args.self.now c.self.view_is c.id.inside c.args.id c.id.view_is Full c.in-Full.is) (some_such (λ x. IsSome (child_at x.edges c.args.byte)) (at c.args.self.now c.args.id) c.requires))
-
-pub redirect-requires-in-Full : goal.redirect-requires-in-Full
-redirect-requires-in-Full g c =
-    let i = c.self.inside in
-    let x = c.get_mut-in-Full.result.now in
-    let e : at c.args.self.now c.args.id ≡ Some (seen x) = found_at (nodes_of i.fours i.sixteens i.forty_eights i.fulls) c.args.self.now c.self.view_is c.id.inside c.args.id c.id.view_is Full c.in-Full.is ∙ node_at i.fulls c.id.inside.place (Some c.get_mut-in-Full.result.now) c.get_mut-in-Full.ensures.value in
-    let h = holds_of (λ x. IsSome (child_at x.edges c.args.byte)) (at c.args.self.now c.args.id) (seen x) e c.requires in
-    h
-
-pub invariant_of-self-in-Full : goal.invariant_of-self-in-Full
-invariant_of-self-in-Full g c =
-    let i = c.self.inside in
-    let x = c.get_mut-in-Full.result.now in
-    let e : at c.args.self.now c.args.id ≡ Some (seen x) = found_at (nodes_of i.fours i.sixteens i.forty_eights i.fulls) c.args.self.now c.self.view_is c.id.inside c.args.id c.id.view_is Full c.in-Full.is ∙ node_at i.fulls c.id.inside.place (Some c.get_mut-in-Full.result.now) c.get_mut-in-Full.ensures.value in
-    let h = holds_of (λ x. IsSome (child_at x.edges c.args.byte)) (at c.args.self.now c.args.id) (seen x) e c.requires in
-    let v = c.self.invariant in
-    record { fours = v.fours; sixteens = v.sixteens; forty_eights = v.forty_eights; fulls = kept i.fulls c.id.inside.place x (record x { edges = c.redirect-in-Full.new.self }) c.get_mut-in-Full.ensures.value 256 v.fulls (fits_edges 256 x c.redirect-in-Full.new.self (v.fulls.all c.id.inside.place x c.get_mut-in-Full.ensures.value) (λ l. (let r : length x.edges ≤ 256 = (c.self.invariant.fulls.all c.id.inside.place x c.get_mut-in-Full.ensures.value).few l in let q = c.redirect-in-Full.ensures.same_length in omega arith))) }
+returns-in-FortyEight-clause-live g c = live-same c.self.view_is c.id.inside c.id.view_is c.in-FortyEight.is c.redirect-in-FortyEight.ensures
 
 pub returns-in-Full-clause-edges_with_child : goal.returns-in-Full-clause-edges_with_child
-returns-in-Full-clause-edges_with_child g c =
-    let i = c.self.inside in
-    let x = c.get_mut-in-Full.result.now in
-    let e : at c.args.self.now c.args.id ≡ Some (seen x) = found_at (nodes_of i.fours i.sixteens i.forty_eights i.fulls) c.args.self.now c.self.view_is c.id.inside c.args.id c.id.view_is Full c.in-Full.is ∙ node_at i.fulls c.id.inside.place (Some c.get_mut-in-Full.result.now) c.get_mut-in-Full.ensures.value in
-    let h = holds_of (λ x. IsSome (child_at x.edges c.args.byte)) (at c.args.self.now c.args.id) (seen x) e c.requires in
-    let y : Inner (List Edge) g.row.P = record x { edges = c.redirect-in-Full.new.self } in
-    let s : Nodes = nodes_of i.fours i.sixteens i.forty_eights i.fulls in
-    let a = nodes_in (with_record i.fulls c.id.inside.place y) in
-    redirects s (record s { fulls = a }) c.args.self.now c.self.view_is c.id.inside c.args.id c.id.view_is Full c.in-Full.is (but_fulls s a) (off_node i.fulls c.id.inside.place x y c.get_mut-in-Full.ensures.value) (seen x) (seen y) (node_at i.fulls c.id.inside.place (Some x) c.get_mut-in-Full.ensures.value) (is_node i.fulls c.id.inside.place x y c.get_mut-in-Full.ensures.value) c.args.byte c.args.to refl refl c.redirect-in-Full.ensures
+returns-in-Full-clause-edges_with_child g c = redirects c.self.view_is c.id.inside c.id.view_is c.in-Full.is c.redirect-in-Full.ensures
 
 pub returns-in-Full-clause-spares : goal.returns-in-Full-clause-spares
-returns-in-Full-clause-spares g c =
-    let i = c.self.inside in
-    let x = c.get_mut-in-Full.result.now in
-    let e : at c.args.self.now c.args.id ≡ Some (seen x) = found_at (nodes_of i.fours i.sixteens i.forty_eights i.fulls) c.args.self.now c.self.view_is c.id.inside c.args.id c.id.view_is Full c.in-Full.is ∙ node_at i.fulls c.id.inside.place (Some c.get_mut-in-Full.result.now) c.get_mut-in-Full.ensures.value in
-    let h = holds_of (λ x. IsSome (child_at x.edges c.args.byte)) (at c.args.self.now c.args.id) (seen x) e c.requires in
-    let y : Inner (List Edge) g.row.P = record x { edges = c.redirect-in-Full.new.self } in
-    let s : Nodes = nodes_of i.fours i.sixteens i.forty_eights i.fulls in
-    let a = nodes_in (with_record i.fulls c.id.inside.place y) in
-    let q = c.redirect-in-Full.ensures.same_length in
-    stands s (record s { fulls = a }) c.args.self.now c.self.view_is c.id.inside c.args.id c.id.view_is Full c.in-Full.is (but_fulls s a) (off_node i.fulls c.id.inside.place x y c.get_mut-in-Full.ensures.value) (seen x) (seen y) (node_at i.fulls c.id.inside.place (Some x) c.get_mut-in-Full.ensures.value) (is_node i.fulls c.id.inside.place x y c.get_mut-in-Full.ensures.value) refl (omega arith)
+returns-in-Full-clause-spares g c = stands c.self.view_is c.id.inside c.id.view_is c.in-Full.is c.redirect-in-Full.ensures c.redirect-in-Full.ensures.so.edges.same_length
 
 pub returns-in-Full-clause-live : goal.returns-in-Full-clause-live
-returns-in-Full-clause-live g c =
-    let i = c.self.inside in
-    let x = c.get_mut-in-Full.result.now in
-    let e : at c.args.self.now c.args.id ≡ Some (seen x) = found_at (nodes_of i.fours i.sixteens i.forty_eights i.fulls) c.args.self.now c.self.view_is c.id.inside c.args.id c.id.view_is Full c.in-Full.is ∙ node_at i.fulls c.id.inside.place (Some c.get_mut-in-Full.result.now) c.get_mut-in-Full.ensures.value in
-    let h = holds_of (λ x. IsSome (child_at x.edges c.args.byte)) (at c.args.self.now c.args.id) (seen x) e c.requires in
-    let y : Inner (List Edge) g.row.P = record x { edges = c.redirect-in-Full.new.self } in
-    let s : Nodes = nodes_of i.fours i.sixteens i.forty_eights i.fulls in
-    let a = nodes_in (with_record i.fulls c.id.inside.place y) in
-    live-same s (record s { fulls = a }) c.args.self.now c.self.view_is c.id.inside c.args.id c.id.view_is Full c.in-Full.is (but_fulls s a) (off_node i.fulls c.id.inside.place x y c.get_mut-in-Full.ensures.value) (live-with i.fulls c.id.inside.place x y c.get_mut-in-Full.ensures.value)
+returns-in-Full-clause-live g c = live-same c.self.view_is c.id.inside c.id.view_is c.in-Full.is c.redirect-in-Full.ensures
