@@ -1,4 +1,4 @@
--- The edges behind a byte and before it, the first and the last.
+-- The edges after a byte and before it, the first and the last.
 use Rattle.std.proofs.Common.{◌≡◌, ℕ, zero, length, take, get_or, ◌<◌, ◌≤◌, List, [], ◌∷◌, Option, Some, None, refl, arith, sym, ◌∙◌, eq-eqb, eqb, true, false, inl, inr}
 use Rattle.std.proofs.lemmas.Bool.{ne_eqb}
 use Rattle.std.proofs.lemmas.Bool.Decides.{leb_tells}
@@ -8,7 +8,7 @@ use Rattle.art_kinds.specs.declared.records.ids.Child.{Child}
 use Rattle.art_kinds.specs.declared.records.ids.Edge.{Edge}
 use Rattle.art_kinds.proofs.EdgeShifts.{AscendsAbove-absent, AscendsAbove-Ascends}
 
--- an edge in front that is not behind the byte
+-- an edge in front that is not after the byte
 skip : (x : Edge) (es : List Edge) (b : ℕ) (o : Option Edge) → x.byte ≤ b → IsNext es b o → IsNext (x ∷ es) b o
 skip x es b None l h = λ c lt. (let t : eqb x.byte c ≡ false = ne_eqb x.byte c (λ e. omega (arith, e)) in rw t (h c lt))
 skip x es b (Some e) l h =
@@ -16,7 +16,7 @@ skip x es b (Some e) l h =
     let t : eqb x.byte e.byte ≡ false = ne_eqb x.byte e.byte (λ z. omega (arith, z)) in
     (lt, rw t h.1, λ c lo hi. (let u : eqb x.byte c ≡ false = ne_eqb x.byte c (λ z. omega (arith, z)) in rw u (h.2 c lo hi)))
 
--- the first edge behind a byte is the next one
+-- the first edge after a byte is the next one
 pub after-next : (es : List Edge) (b : ℕ) → Ascends es → IsNext es b (after es b)
 after-next [] b a = λ c l. refl
 after-next (x ∷ es) b a =
@@ -37,11 +37,11 @@ before_edge k es c t a h =
     ]
 
 -- another edge in front, also before the byte
-behind : (x : Edge) (es : List Edge) (b : ℕ) (o : Option Edge) → AscendsAbove x.byte es → x.byte < b → IsPrevious es b o → IsPrevious (x ∷ es) b (Some (later o x))
-behind x es b None a l h =
+previous_after : (x : Edge) (es : List Edge) (b : ℕ) (o : Option Edge) → AscendsAbove x.byte es → x.byte < b → IsPrevious es b o → IsPrevious (x ∷ es) b (Some (later o x))
+previous_after x es b None a l h =
     let t : eqb x.byte x.byte ≡ true = eq-eqb x.byte x.byte refl in
     (l, rw t refl, λ c lo hi. (let u : eqb x.byte c ≡ false = ne_eqb x.byte c (λ z. omega (arith, z)) in rw u (h c hi)))
-behind x es b (Some e) a l h =
+previous_after x es b (Some e) a l h =
     let lt : x.byte < e.byte = before_edge x.byte es e.byte e.to a h.1 in
     let t : eqb x.byte e.byte ≡ false = ne_eqb x.byte e.byte (λ z. omega (arith, z)) in
     (h.0, rw t h.1, λ c lo hi. (let u : eqb x.byte c ≡ false = ne_eqb x.byte c (λ z. omega (arith, z)) in rw u (h.2 c lo hi)))
@@ -51,7 +51,7 @@ pub before-previous : (es : List Edge) (b : ℕ) → Ascends es → IsPrevious e
 before-previous [] b a = λ c l. refl
 before-previous (x ∷ es) b a =
     elim (leb_tells (suc x.byte) b) [
-      | inl p ↦ let l : suc x.byte ≤ b = p.1 in rw p.0 (behind x es b (before es b) a (omega arith) (before-previous es b (AscendsAbove-Ascends x.byte es a)))
+      | inl p ↦ let l : suc x.byte ≤ b = p.1 in rw p.0 (previous_after x es b (before es b) a (omega arith) (before-previous es b (AscendsAbove-Ascends x.byte es a)))
       | inr p ↦ let l : b < suc x.byte = p.1 in rw p.0 (λ c lo. (let u : eqb x.byte c ≡ false = ne_eqb x.byte c (λ z. omega (arith, z)) in rw u (AscendsAbove-absent x.byte c es a (omega arith))))
     ]
 

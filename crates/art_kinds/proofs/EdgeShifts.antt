@@ -36,7 +36,7 @@ AscendsAbove-Ascends k (x ∷ es) a = a.1
 
 -- ---- one edge more
 
--- it goes behind those before its byte
+-- it goes after those before its byte
 pub edges_with-place : (es : List Edge) (e : Edge) → edges_with es e ≡ take (edges_below es e.byte) es ++ e ∷ drop (edges_below es e.byte) es
 edges_with-place [] e = refl
 edges_with-place (x ∷ es) e =
@@ -103,7 +103,7 @@ length-edges_with (x ∷ es) e =
 
 -- ---- one edge less
 
--- those before its byte stand, and those behind it
+-- those before its byte stand, and those after it
 pub edges_without-place : (es : List Edge) (b : ℕ) → Ascends es → IsSome (child_at es b) → (edges_without es b ≡ take (edges_below es b) es ++ drop (suc (edges_below es b)) es) × (edges_below es b < length es)
 edges_without-place [] b a h = absurd (let f : IsSome {T = Child} None = h in cc)
 edges_without-place (x ∷ es) b a h =
@@ -168,10 +168,10 @@ length-edges_without (x ∷ es) b h =
 
 -- ---- among the first n of an array
 
-set-behind : {X : Type 0} → (es zs : List X) (i : ℕ) (e : X) → i < length es → set (take (suc i) es ++ zs) i e ≡ take i es ++ e ∷ zs
-set-behind [] zs i e l = absurd (omega arith)
-set-behind (x ∷ es) zs zero e l = refl
-set-behind {X = X} (x ∷ es) zs (suc i) e l = ap (λ (t : List X). x ∷ t) (set-behind es zs i e (omega arith))
+set-after : {X : Type 0} → (es zs : List X) (i : ℕ) (e : X) → i < length es → set (take (suc i) es ++ zs) i e ≡ take i es ++ e ∷ zs
+set-after [] zs i e l = absurd (omega arith)
+set-after (x ∷ es) zs zero e l = refl
+set-after {X = X} (x ∷ es) zs (suc i) e l = ap (λ (t : List X). x ∷ t) (set-after es zs i e (omega arith))
 
 module _ {X : Type 0} (es : List X) (i n : ℕ) where
   take_first : i ≤ n → take i es ≡ take i (take n es)
@@ -190,7 +190,7 @@ module _ {X : Type 0} (es : List X) (i n : ℕ) where
       ∙ ap (λ (k : ℕ). set (take k (paste es (i + 1) (drop i es) (n - i))) i e) (sym m)
       ∙ ap (λ (t : List X). set t i e) (take-paste es (i + 1) (drop i es) (n - i) (omega arith) (omega arith))
       ∙ ap (λ (k : ℕ). set (take k es ++ take (n - i) (drop i es)) i e) one
-      ∙ set-behind es (take (n - i) (drop i es)) i e (omega arith)
+      ∙ set-after es (take (n - i) (drop i es)) i e (omega arith)
       ∙ ap (λ (t : List X). t ++ e ∷ take (n - i) (drop i es)) (take_first le)
       ∙ ap (λ (t : List X). take i (take n es) ++ e ∷ t) (sym (drop_first i le))
 

@@ -127,7 +127,7 @@ get-past [] (suc c) l = refl
 get-past (o ∷ t) zero l = absurd (omega arith)
 get-past (o ∷ t) (suc c) l = get-past t c (omega arith)
 
--- a child found behind bytes without one
+-- a child found after bytes without one
 pub from-some : (t : List (Option Child)) (b i : ℕ) (to : Child) → b ≤ i → get_or t i None ≡ Some to → ((c : ℕ) → b ≤ c → c < i → get_or t c None ≡ None) → IsFrom (edges_of t) b (Some (record { byte = i; to = to }))
 from-some t b i to l is none = (l, child_at-edges t i ∙ is, λ c lo hi. child_at-edges t c ∙ none c lo hi)
 
@@ -144,7 +144,7 @@ below-some t b i to l is none = (l, child_at-edges t i ∙ is, λ c lo hi. child
 pub below-none : (t : List (Option Child)) (b : ℕ) → ((c : ℕ) → c < b → get_or t c None ≡ None) → IsPrevious (edges_of t) b None
 below-none t b none c hi = child_at-edges t c ∙ none c hi
 
--- the edge behind a byte is the one from the next on
+-- the edge after a byte is the one from the next on
 pub next-of-from : (es : List Edge) (b : ℕ) (o : Option Edge) → IsFrom es (b + 1) o → IsNext es b o
 next-of-from es b None h = λ c l. h c (omega arith)
 next-of-from es b (Some e) h = (let l : b + 1 ≤ e.byte = h.0 in omega arith, h.1, λ c lo hi. h.2 c (omega arith) hi)

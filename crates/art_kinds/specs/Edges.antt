@@ -9,7 +9,7 @@ abbrev pub child_at : List Edge → ℕ → Option Child
 child_at [] b = None
 child_at (e ∷ es) b = if eqb e.byte b then Some e.to else child_at es b
 
--- each byte is less than those behind it
+-- each byte is less than those after it
 abbrev pub AscendsAbove : ℕ → List Edge → Type 0
 AscendsAbove b [] = Unit {0}
 AscendsAbove b (e ∷ es) = (b < e.byte) × AscendsAbove e.byte es
@@ -60,7 +60,7 @@ pub record RedirectsChild (old new : List Edge) (b : ℕ) (to : Child) : Type 0 
   pub same_length : length new ≡ length old
   pub ascends : Ascends new
 
--- the edge behind a byte, with none between
+-- the edge after a byte, with none between
 abbrev pub IsNext : List Edge → ℕ → Option Edge → Type 0
 IsNext es b None = (c : ℕ) → b < c → child_at es c ≡ None
 IsNext es b (Some e) = (b < e.byte) × (child_at es e.byte ≡ Some e.to) × ((c : ℕ) → b < c → c < e.byte → child_at es c ≡ None)
@@ -72,12 +72,12 @@ pub record Sorted (count room : ℕ) (edges : List Edge) : Type 0 where
   pub ascends : Ascends (take count edges)
   pub small : (b : ℕ) → 256 ≤ b → child_at (take count edges) b ≡ None
 
--- the first edge behind a byte
+-- the first edge after a byte
 abbrev pub after : List Edge → ℕ → Option Edge
 after [] b = None
 after (e ∷ es) b = if ltb b e.byte then Some e else after es b
 
--- the edge found behind another, or else that one
+-- the edge found after another, or else that one
 abbrev pub later : Option Edge → Edge → Edge
 later None e = e
 later (Some x) e = x
@@ -102,7 +102,7 @@ pub record IsEnd (is_first : Bool) (es : List Edge) (e : Edge) : Type 0 where
   pub there : child_at es e.byte ≡ Some e.to
   pub end : (c : ℕ) → Precedes is_first c e.byte → child_at es c ≡ None
 
--- the edge at a byte or behind it, with none between
+-- the edge at a byte or after it, with none between
 abbrev pub IsFrom : List Edge → ℕ → Option Edge → Type 0
 IsFrom es b None = (c : ℕ) → b ≤ c → child_at es c ≡ None
 IsFrom es b (Some e) = (b ≤ e.byte) × (child_at es e.byte ≡ Some e.to) × ((c : ℕ) → b ≤ c → c < e.byte → child_at es c ≡ None)

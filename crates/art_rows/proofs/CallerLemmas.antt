@@ -4,7 +4,7 @@ pub use Rattle.art_rows.proofs.NumbersLemmas.{leaf_in_lacking, Lacks-from_leaf_i
 -- the list split at a number
 pub use Rattle.art_rows.proofs.NumbersLemmas.{split, leaf_in-split, number_after-split, number_before-split, without_number-split, with_pair-split}
 -- an item more
-pub use Rattle.art_rows.proofs.NumbersLemmas.{leaf_in-placed_now, others-with_pair_behind}
+pub use Rattle.art_rows.proofs.NumbersLemmas.{leaf_in-placed_now, others-with_pair_after}
 -- an item less
 pub use Rattle.art_rows.proofs.NumbersLemmas.{length-without_number, AreDistinct-without_number, others-without_number, leaf_in-without_now}
 -- another item under a number

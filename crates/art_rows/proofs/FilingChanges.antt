@@ -3,7 +3,7 @@ use Rattle.std.proofs.Common.{◌≡◌, ◌≢◌, ℕ, suc, ◌+◌, List, [],
 use Rattle.std.specs.Prelude.{option_map, IfSome}
 use Rattle.std.proofs.lemmas.Bool.Decides.{eqb_tells}
 use Rattle.std.proofs.lemmas.List.{length-append}
-use Rattle.art_rows.specs.Numbers.{Numbered, leaf_in, Has, with_pair_behind, without_number, with_pair, Lacks, AreDistinct}
+use Rattle.art_rows.specs.Numbers.{Numbered, leaf_in, Has, with_pair_after, without_number, with_pair, Lacks, AreDistinct}
 use Rattle.art_rows.specs.Rows.{among, nth, numbers, row_with, position_at, AreFilled, IsSpot, IsSplit, row_end}
 use Rattle.art_rows.specs.Leaves.{with_value, index_of, spot_index}
 use Rattle.art_rows.specs.Filing.{filed, Files, in_row}
@@ -11,13 +11,13 @@ use Rattle.art_slots.specs.Store.{Store, slot_at, used_count, with_record}
 use Rattle.art_rows.specs.declared.leaves.Leaf.{Leaf}
 use Rattle.art_rows.specs.declared.row.Position.{Position}
 use Rattle.art_slots.proofs.CallerLemmas.{with-now, with-others, with-count}
-use Rattle.art_rows.proofs.NumbersLemmas.{eqb_same, leaf_in-without_number, AreDistinct-without_number, length-without_number, leaf_in-with_pair, leaf_in-with_now, numbers-with_pair, same_distinct, same_length, Lacks-from_leaf_in, AreDistinct-with_pair, AreDistinct-with_pair_behind, leaf_in-placed_now, leaf_in-with_pair_behind, length-with_pair_behind, Has-tail, split, leaf_in-split, with_pair-split, with_pair_behind-split}
+use Rattle.art_rows.proofs.NumbersLemmas.{eqb_same, leaf_in-without_number, AreDistinct-without_number, length-without_number, leaf_in-with_pair, leaf_in-with_now, numbers-with_pair, same_distinct, same_length, Lacks-from_leaf_in, AreDistinct-with_pair, AreDistinct-with_pair_after, leaf_in-placed_now, leaf_in-with_pair_after, length-with_pair_after, Has-tail, split, leaf_in-split, with_pair-split, with_pair_after-split}
 use Rattle.art_rows.proofs.RowChanges.{among-take, among-parts, row_with-append, PutsIn, puts_in, puts_row, spot-row, among-lacking, TakesOut, takes_one, takes_more, numbers-without}
 use Rattle.art_rows.proofs.RowsLemmas.{Has-among, among-append, numbers-append, AreFilled-parts, AreFilled-append, standing, standing-row, nth-place, among-numbers}
 use Rattle.art_rows.proofs.FilingLemmas.{record_is}
 
 -- the numbers with one more
-numbers-placed : {K V : Type 0} (o : Option ℕ) (x : Numbered (K × V)) (ps : List (Numbered (K × V))) → IfSome o (Has ps) → map (λ p. p.0) (with_pair_behind o x ps) ≡ take (spot_index o ps) (map (λ p. p.0) ps) ++ x.0 ∷ drop (spot_index o ps) (map (λ p. p.0) ps)
+numbers-placed : {K V : Type 0} (o : Option ℕ) (x : Numbered (K × V)) (ps : List (Numbered (K × V))) → IfSome o (Has ps) → map (λ p. p.0) (with_pair_after o x ps) ≡ take (spot_index o ps) (map (λ p. p.0) ps) ++ x.0 ∷ drop (spot_index o ps) (map (λ p. p.0) ps)
 numbers-placed None x ps h = refl
 numbers-placed (Some i) x [] h = absurd (let f : false ≡ true = h in cc)
 numbers-placed {K = K} {V = V} (Some i) x (p ∷ ps) h = elim (eqb_tells p.0 i) [
@@ -73,19 +73,19 @@ module _ {K V : Type 0} {leaves : ℕ → Option (Leaf K V)} {rows : List (Numbe
       ]
 
   -- a pair more, its number in a row
-  pub files_inserted : (o : Option ℕ) (n r : ℕ) (k : K) (v : V) → IfSome o (Has ps) → leaf_in ps n ≡ None → (new : List (Numbered (List ℕ))) → PutsIn rows new (spot_index o ps) n r → (made : ℕ → Option (Leaf K V)) → made n ≡ Some (record { key = k; value = v; row = r }) → ((j : ℕ) → j ≢ n → made j ≡ leaves j) → (more : ℕ) → more ≡ count + 1 → Files made new more (with_pair_behind o (n, (k, v)) ps)
+  pub files_inserted : (o : Option ℕ) (n r : ℕ) (k : K) (v : V) → IfSome o (Has ps) → leaf_in ps n ≡ None → (new : List (Numbered (List ℕ))) → PutsIn rows new (spot_index o ps) n r → (made : ℕ → Option (Leaf K V)) → made n ≡ Some (record { key = k; value = v; row = r }) → ((j : ℕ) → j ≢ n → made j ≡ leaves j) → (more : ℕ) → more ≡ count + 1 → Files made new more (with_pair_after o (n, (k, v)) ps)
   files_inserted o n r k v has fresh new out made now rest more one =
       let l : Lacks ps n = Lacks-from_leaf_in ps n fresh in
       record {
-        distinct = AreDistinct-with_pair_behind o (n, (k, v)) ps f.distinct l;
+        distinct = AreDistinct-with_pair_after o (n, (k, v)) ps f.distinct l;
         each = λ j. elim (eqb_tells n j) [
-          | inl t ↦ subst (λ i. made i ≡ filed new (with_pair_behind o (n, (k, v)) ps) i) t.1 (now ∙ sym (rw (leaf_in-with_pair_behind o (n, (k, v)) ps n has l, eqb_same n, out.row) refl))
-          | inr t ↦ rest j (λ e. t.1 (sym e)) ∙ f.each j ∙ rw (leaf_in-with_pair_behind o (n, (k, v)) ps j has l, t.0, out.others j t.1) refl
+          | inl t ↦ subst (λ i. made i ≡ filed new (with_pair_after o (n, (k, v)) ps) i) t.1 (now ∙ sym (rw (leaf_in-with_pair_after o (n, (k, v)) ps n has l, eqb_same n, out.row) refl))
+          | inr t ↦ rest j (λ e. t.1 (sym e)) ∙ f.each j ∙ rw (leaf_in-with_pair_after o (n, (k, v)) ps j has l, t.0, out.others j t.1) refl
         ];
         joined = numbers-placed o (n, (k, v)) ps has ∙ ap (λ ns. take (spot_index o ps) ns ++ n ∷ drop (spot_index o ps) ns) f.joined ∙ sym out.joined;
         filled = out.filled;
         apart = out.apart;
-        counted = (let m = length-with_pair_behind o (n, (k, v)) ps has in let c = f.counted in omega arith);
+        counted = (let m = length-with_pair_after o (n, (k, v)) ps has in let c = f.counted in omega arith);
       }
 
   -- no row has the number of no record
@@ -94,7 +94,7 @@ module _ {K V : Type 0} {leaves : ℕ → Option (Leaf K V)} {rows : List (Numbe
 
   module _ (o : Option ℕ) (has : IfSome o (Has ps)) (n : ℕ) (none : leaf_in ps n ≡ None) (k : K) (v : V) where
     -- a pair more, in a row
-    pub files_put : (p : Position) → IsSpot rows p (spot_index o ps) → (ids : List ℕ) → leaf_in rows p.row ≡ Some ids → (now : List ℕ) → now ≡ take p.place ids ++ n ∷ drop p.place ids → (made : ℕ → Option (Leaf K V)) → made n ≡ Some (record { key = k; value = v; row = p.row }) → ((j : ℕ) → j ≢ n → made j ≡ leaves j) → (more : ℕ) → more ≡ count + 1 → Files made (with_pair rows p.row now) more (with_pair_behind o (n, (k, v)) ps)
+    pub files_put : (p : Position) → IsSpot rows p (spot_index o ps) → (ids : List ℕ) → leaf_in rows p.row ≡ Some ids → (now : List ℕ) → now ≡ take p.place ids ++ n ∷ drop p.place ids → (made : ℕ → Option (Leaf K V)) → made n ≡ Some (record { key = k; value = v; row = p.row }) → ((j : ℕ) → j ≢ n → made j ≡ leaves j) → (more : ℕ) → more ≡ count + 1 → Files made (with_pair rows p.row now) more (with_pair_after o (n, (k, v)) ps)
     files_put p s ids at now is made there rest more one =
         let a : Some ids ≡ Some s.ids = sym at ∙ spot-row rows (spot_index o ps) p s f.apart in
         let b : ids ≡ s.ids = cc in
@@ -102,7 +102,7 @@ module _ {K V : Type 0} {leaves : ℕ → Option (Leaf K V)} {rows : List (Numbe
         files_inserted o n p.row k v has none (with_pair rows p.row now) (puts_in rows (spot_index o ps) p s f.apart f.filled n (lacks_fresh n none) (with_pair rows p.row now) e) made there rest more one
 
     -- a pair more, in a new row
-    pub files_begun : (b : Option ℕ) → IfSome b (Has rows) → spot_index o ps ≡ row_end b rows → (r : ℕ) → leaf_in rows r ≡ None → (new : List (Numbered (List ℕ))) → new ≡ with_pair_behind b (r, n ∷ []) rows → (made : ℕ → Option (Leaf K V)) → made n ≡ Some (record { key = k; value = v; row = r }) → ((j : ℕ) → j ≢ n → made j ≡ leaves j) → (more : ℕ) → more ≡ count + 1 → Files made new more (with_pair_behind o (n, (k, v)) ps)
+    pub files_begun : (b : Option ℕ) → IfSome b (Has rows) → spot_index o ps ≡ row_end b rows → (r : ℕ) → leaf_in rows r ≡ None → (new : List (Numbered (List ℕ))) → new ≡ with_pair_after b (r, n ∷ []) rows → (made : ℕ → Option (Leaf K V)) → made n ≡ Some (record { key = k; value = v; row = r }) → ((j : ℕ) → j ≢ n → made j ≡ leaves j) → (more : ℕ) → more ≡ count + 1 → Files made new more (with_pair_after o (n, (k, v)) ps)
     files_begun b h index r fresh new e made there rest more one =
         files_inserted o n r k v has none new (subst (λ j. PutsIn rows new j n r) (sym index) (puts_row r n b rows new f.apart f.filled h fresh (lacks_fresh n none) e)) made there rest more one
 
@@ -220,8 +220,8 @@ module _ {K V : Type 0} {leaves : ℕ → Option (Leaf K V)} {rows : List (Numbe
       each_split j true e (Some x) = rw (e, split_second rows new r s i ps f.joined f.distinct j e) refl
       each_split j false e (Some x) = rw (e, split_first rows new r s i j e) refl
 
--- a row whose second half was placed behind it
-pub row_split : (rows : List (Numbered (List ℕ))) (r s : ℕ) (ids xs ys : List ℕ) → leaf_in rows r ≡ Some ids → ids ≡ xs ++ ys → length xs ≡ 16 → length ids ≡ 32 → (new : List (Numbered (List ℕ))) → AreDistinct new → new ≡ with_pair_behind (Some r) (s, ys) (with_pair rows r xs) → (i : IsSplit rows new r s) × (i.second ≡ ys)
+-- a row whose second half was placed after it
+pub row_split : (rows : List (Numbered (List ℕ))) (r s : ℕ) (ids xs ys : List ℕ) → leaf_in rows r ≡ Some ids → ids ≡ xs ++ ys → length xs ≡ 16 → length ids ≡ 32 → (new : List (Numbered (List ℕ))) → AreDistinct new → new ≡ with_pair_after (Some r) (s, ys) (with_pair rows r xs) → (i : IsSplit rows new r s) × (i.second ≡ ys)
 row_split rows r s ids xs ys at parts half full new apart e =
     let t = split rows r (rw at refl) in
     let a : Some t.pair ≡ Some ids = sym (ap (λ rs. leaf_in rs r) t.is ∙ leaf_in-split r t.pair t.after t.before t.lacks) ∙ at in
@@ -234,7 +234,7 @@ row_split rows r s ids xs ys at parts half full new apart e =
         second = ys;
         after = t.after;
         was = t.is ∙ ap (λ l. t.before ++ (r, l) ∷ t.after) (b ∙ parts);
-        is = e ∙ ap (λ rs. with_pair_behind (Some r) (s, ys) (with_pair rs r xs)) t.is ∙ ap (with_pair_behind (Some r) (s, ys)) (with_pair-split r t.pair t.after xs t.before t.lacks) ∙ with_pair_behind-split r xs t.after (s, ys) t.before t.lacks;
+        is = e ∙ ap (λ rs. with_pair_after (Some r) (s, ys) (with_pair rs r xs)) t.is ∙ ap (with_pair_after (Some r) (s, ys)) (with_pair-split r t.pair t.after xs t.before t.lacks) ∙ with_pair_after-split r xs t.after (s, ys) t.before t.lacks;
         half = half;
         rest = omega arith;
         apart = apart;
@@ -263,7 +263,7 @@ row_stays rows r ids xs at = rw (leaf_in-with_now rows r xs (rw at refl)) refl
 
 module _ {K V : Type 0} {leaves : ℕ → Option (Leaf K V)} {rows : List (Numbered (List ℕ))} {count : ℕ} {ps : List (Numbered (K × V))}
     (f : Files leaves rows count ps) (r s : ℕ) (ids xs ys : List ℕ) (new : List (Numbered (List ℕ))) (at : leaf_in rows r ≡ Some ids) (parts : ids ≡ xs ++ ys)
-    (fresh : leaf_in (with_pair rows r xs) s ≡ None) (placed : new ≡ with_pair_behind (Some r) (s, ys) (with_pair rows r xs)) where
+    (fresh : leaf_in (with_pair rows r xs) s ≡ None) (placed : new ≡ with_pair_after (Some r) (s, ys) (with_pair rows r xs)) where
   -- the new row has the second part
   pub second_row : leaf_in new s ≡ Some ys
   second_row =
@@ -287,7 +287,7 @@ module _ {K V : Type 0} {leaves : ℕ → Option (Leaf K V)} {rows : List (Numbe
   pub halves : length xs ≡ 16 → IfSome (leaf_in rows r) (λ l. length l ≡ 32) → (i : IsSplit rows new r s) × (i.second ≡ ys)
   halves half full =
       let lacks = Lacks-from_leaf_in (with_pair rows r xs) s fresh in
-      let d = AreDistinct-with_pair_behind (Some r) (s, ys) (with_pair rows r xs) (AreDistinct-with_pair rows r xs f.apart) lacks in
+      let d = AreDistinct-with_pair_after (Some r) (s, ys) (with_pair rows r xs) (AreDistinct-with_pair rows r xs f.apart) lacks in
       row_split rows r s ids xs ys at parts half (rw at at full) new (subst AreDistinct (sym placed) d) placed
 
   -- a full row in two, and the records of the second half name it

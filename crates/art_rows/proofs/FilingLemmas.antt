@@ -11,7 +11,7 @@ use Rattle.art_rows.specs.declared.leaves.Leaf.{Leaf}
 use Rattle.art_rows.specs.declared.leaves.Leaves.TheInside.{Inside}
 use Rattle.art_rows.specs.declared.row.Position.{Position}
 use Rattle.art_rows.proofs.NumbersLemmas.{eqb_same, eqb_other, has_other, split, leaf_in-split}
-use Rattle.art_rows.proofs.RowsLemmas.{among-numbers, number_after-nth, number_before-first, number_before-nth, before_cases, nth-within, place_in-nth, position-split, position-here, found, standing, standing-row, standing-number, standing-within, standing-behind, standing-earlier, standing-first, standing-not_first, standing-row_end, end_of, position-none, position-last, none-last, filled-row}
+use Rattle.art_rows.proofs.RowsLemmas.{among-numbers, number_after-nth, number_before-first, number_before-nth, before_cases, nth-within, place_in-nth, position-split, position-here, found, standing, standing-row, standing-number, standing-within, standing-after, standing-earlier, standing-first, standing-not_first, standing-row_end, end_of, position-none, position-last, none-last, filled-row}
 
 -- what follows of what there is
 pub if_some : {A : Type 0} (o : Option A) (P Q : A → Type 0) → ((x : A) → P x → Q x) → IfSome o P → IfSome o Q
@@ -23,7 +23,7 @@ module _ {K V : Type 0} (leaves : ℕ → Option (Leaf K V)) where
   abbrev HasRecords : List (Numbered (K × V)) → Type 0
   HasRecords ps = (i : ℕ) → Has ps i → (x : Leaf K V) × (leaves i ≡ Some x) × (leaf_in ps i ≡ Some (x.key, x.value))
 
-  -- the same of the pairs behind the first
+  -- the same of the pairs after the first
   HasRecords-tail : (p : Numbered (K × V)) (ps : List (Numbered (K × V))) → Lacks ps p.0 → HasRecords (p ∷ ps) → HasRecords ps
   HasRecords-tail p ps l h i has =
       let n : eqb p.0 i ≡ false = eqb_other p.0 i (λ e. has_other ps i p.0 has l (sym e)) in
@@ -156,9 +156,9 @@ module _ {K V : Type 0} {leaves : ℕ → Option (Leaf K V)} {rows : List (Numbe
     pub forward_within : (ids : List ℕ) → leaf_in rows p.row ≡ Some ids → p.place + 1 < length ids → position_at rows (k + 1) ≡ Some (record { row = p.row; place = p.place + 1 })
     forward_within ids g w = standing-within rows k p (standing rows k p at) (rw (same_ids ids g) w)
 
-    -- or in the row behind
-    pub forward_behind : (ids : List ℕ) → leaf_in rows p.row ≡ Some ids → length ids ≤ p.place + 1 → position_at rows (k + 1) ≡ option_map start_of (number_after rows p.row)
-    forward_behind ids g w = standing-behind rows k p (standing rows k p at) f.apart f.filled (rw (same_ids ids g) w)
+    -- or in the row after it
+    pub forward_after : (ids : List ℕ) → leaf_in rows p.row ≡ Some ids → length ids ≤ p.place + 1 → position_at rows (k + 1) ≡ option_map start_of (number_after rows p.row)
+    forward_after ids g w = standing-after rows k p (standing rows k p at) f.apart f.filled (rw (same_ids ids g) w)
 
     -- the position before, in the row
     pub backward_within : 0 < p.place → position_at rows (k - 1) ≡ Some (record { row = p.row; place = p.place - 1 })
@@ -191,9 +191,9 @@ module _ {K V : Type 0} {leaves : ℕ → Option (Leaf K V)} {rows : List (Numbe
       let n : nth (map (λ q. q.0) ps) k ≡ Some i = number_there k p at ids g ∙ e in
       ap (position_at rows) (place_in-nth ps k i f.distinct n) ∙ at
 
-  -- the number behind it in its row is the one behind it
-  pub behind_there : (i n : ℕ) → Has ps i → (p : Position) (ids : List ℕ) → leaf_in rows p.row ≡ Some ids → nth ids p.place ≡ Some i → nth ids (p.place + 1) ≡ Some n → number_after ps i ≡ Some n
-  behind_there i n h p ids g e b =
+  -- the number after it in its row is the one after it
+  pub after_there : (i n : ℕ) → Has ps i → (p : Position) (ids : List ℕ) → leaf_in rows p.row ≡ Some ids → nth ids p.place ≡ Some i → nth ids (p.place + 1) ≡ Some n → number_after ps i ≡ Some n
+  after_there i n h p ids g e b =
       let k : ℕ = index_of ps i in
       let q : Position = record { row = p.row; place = p.place + 1 } in
       let at : position_at rows (k + 1) ≡ Some q = forward_within k p (stands_there i p ids g e) ids g (nth-within ids (p.place + 1) n b) in

@@ -2,20 +2,20 @@
 use Rattle.std.proofs.Common.{◌≡◌, ◌≢◌, ℕ, ◌+◌, ◌-◌, List, [], ◌∷◌, length, map, refl, sym, ap, subst, ◌∙◌, Option, Some, None, IsSome, Bool, true, false, cond, eqb, inl, inr, arith}
 use Rattle.std.specs.Prelude.{option_map, IfSome}
 use Rattle.std.proofs.lemmas.Bool.Decides.{eqb_tells}
-use Rattle.art_rows.specs.Numbers.{Numbered, Numbers, leaf_in, Has, first_number, number_after, number_before, behind, with_pair_behind, without_number, with_pair, Lacks, AreDistinct}
+use Rattle.art_rows.specs.Numbers.{Numbered, Numbers, leaf_in, Has, first_number, number_after, number_before, next_number, with_pair_after, without_number, with_pair, Lacks, AreDistinct}
 use Rattle.art_rows.specs.Links.{is_at, end_with, follow, linked, Links, AllLinked, pairs_in, content, with_next, with_prev}
 use Rattle.art_slots.specs.Store.{Store, slot_at, used_count, with_record}
 use Rattle.art_rows.specs.declared.chain.Link.{Link}
 use Rattle.art_rows.specs.declared.chain.Chain.TheInside.{Inside}
 use Rattle.art_slots.proofs.CallerLemmas.{with-now, with-others, with-count}
-use Rattle.art_rows.proofs.NumbersLemmas.{eqb_same, eqb_other, has_other, Lacks-from_leaf_in, is_at-behind, is_at-has, leaf_in-with_pair_behind, number_after-with_pair_behind, number_before-with_pair_behind, AreDistinct-with_pair_behind, first_number-with_pair_behind, last_number-with_pair_behind, length-with_pair_behind, leaf_in-without_number, number_after-without_number, number_before-without_number, AreDistinct-without_number, first_number-without_number, last_number-without_number, length-without_number, Has-before, Has-behind, leaf_in-with_pair, leaf_in-with_now, numbers-with_pair, before_other, after_other, same_first, same_last, same_after, same_before, same_distinct, same_length}
+use Rattle.art_rows.proofs.NumbersLemmas.{eqb_same, eqb_other, has_other, Lacks-from_leaf_in, is_at-next_number, is_at-has, leaf_in-with_pair_after, number_after-with_pair_after, number_before-with_pair_after, AreDistinct-with_pair_after, first_number-with_pair_after, last_number-with_pair_after, length-with_pair_after, leaf_in-without_number, number_after-without_number, number_before-without_number, AreDistinct-without_number, first_number-without_number, last_number-without_number, length-without_number, Has-before, Has-next_number, leaf_in-with_pair, leaf_in-with_now, numbers-with_pair, before_other, after_other, same_first, same_last, same_after, same_before, same_distinct, same_length}
 
 module _ {X : Type 0} (leaves : ℕ → Option (Link X)) where
   -- the record of a number is that of its pair, linked to a next one
   abbrev IsLinked : List (Numbered X) → Type 0
   IsLinked ps = (i : ℕ) → Has ps i → (x : Link X) × (leaves i ≡ Some x) × (leaf_in ps i ≡ Some x.item) × (x.next ≡ number_after ps i)
 
-  -- the same of the pairs behind the first
+  -- the same of the pairs after the first
   IsLinked-tail : (p : Numbered X) (ps : List (Numbered X)) → Lacks ps p.0 → IsLinked (p ∷ ps) → IsLinked ps
   IsLinked-tail p ps l h i has =
       let n : eqb p.0 i ≡ false = eqb_other p.0 i (λ e. has_other ps i p.0 has l (sym e)) in
@@ -98,13 +98,13 @@ module _ {X : Type 0} {leaves : ℕ → Option (Link X)} {first last : Option �
           let g : None ≡ Some r = sym e ∙ l.each i ∙ rw f refl in
           absurd (cc)
 
-  -- the number behind a place has a record
-  pub record_behind : (o : Option ℕ) → IfSome (behind o ps) (λ j. IsSome (leaves j))
-  record_behind o = go (behind o ps) refl
+  -- the number after a place has a record
+  pub record_next : (o : Option ℕ) → IfSome (next_number o ps) (λ j. IsSome (leaves j))
+  record_next o = go (next_number o ps) refl
     where
-      go : (b : Option ℕ) → behind o ps ≡ b → IfSome b (λ j. IsSome (leaves j))
+      go : (b : Option ℕ) → next_number o ps ≡ b → IfSome b (λ j. IsSome (leaves j))
       go None e = tt
-      go (Some j) e = has_record j (Has-behind o ps j e)
+      go (Some j) e = has_record j (Has-next_number o ps j e)
 
   -- the number before one has a record
   pub record_before : (i : ℕ) → IfSome (number_before ps i) (λ j. IsSome (leaves j))
@@ -114,9 +114,9 @@ module _ {X : Type 0} {leaves : ℕ → Option (Link X)} {first last : Option �
       go None e = tt
       go (Some j) e = has_record j (Has-before ps i j e)
 
-  -- the number behind one has a record
+  -- the number after one has a record
   pub record_after : (i : ℕ) → IfSome (number_after ps i) (λ j. IsSome (leaves j))
-  record_after i = record_behind (Some i)
+  record_after i = record_next (Some i)
 
   -- a place that the list has has a record
   pub record_at : (o : Option ℕ) → IfSome o (Has ps) → IfSome o (λ j. IsSome (leaves j))
@@ -142,31 +142,31 @@ module _ {X : Type 0} where
   relinked (Some x) prev next p n false false = refl
 
   module _ {ps : List (Numbered X)} {leaves : ℕ → Option (Link X)} {first last : Option ℕ} {len : ℕ} (l : Links leaves first last len ps) where
-    module _ (o : Option ℕ) (n : ℕ) (x : X) (has : IfSome o (Has ps)) (fresh : leaf_in ps n ≡ None) (made next_set prev_set : ℕ → Option (Link X)) (is_made : made n ≡ Some (leaf_of o (behind o ps) x)) (rest : (j : ℕ) → j ≢ n → made j ≡ leaves j) (nexts : (j : ℕ) → next_set j ≡ with_next made o (Some n) j) (prevs : (j : ℕ) → prev_set j ≡ with_prev next_set (behind o ps) (Some n) j) where
+    module _ (o : Option ℕ) (n : ℕ) (x : X) (has : IfSome o (Has ps)) (fresh : leaf_in ps n ≡ None) (made next_set prev_set : ℕ → Option (Link X)) (is_made : made n ≡ Some (leaf_of o (next_number o ps) x)) (rest : (j : ℕ) → j ≢ n → made j ≡ leaves j) (nexts : (j : ℕ) → next_set j ≡ with_next made o (Some n) j) (prevs : (j : ℕ) → prev_set j ≡ with_prev next_set (next_number o ps) (Some n) j) where
       -- the number is fresh
       lacks_new : Lacks ps n
       lacks_new = Lacks-from_leaf_in ps n fresh
 
       -- the new record
-      inserted_now : prev_set n ≡ linked (with_pair_behind o (n, x) ps) n
+      inserted_now : prev_set n ≡ linked (with_pair_after o (n, x) ps) n
       inserted_now =
-          rw (prevs n, is_at-behind o ps n lacks_new, nexts n, is_at-has o ps n has lacks_new, is_made, leaf_in-with_pair_behind o (n, x) ps n has lacks_new, number_after-with_pair_behind o (n, x) ps n has lacks_new, number_before-with_pair_behind o (n, x) ps n has lacks_new l.distinct, eqb_same n)
+          rw (prevs n, is_at-next_number o ps n lacks_new, nexts n, is_at-has o ps n has lacks_new, is_made, leaf_in-with_pair_after o (n, x) ps n has lacks_new, number_after-with_pair_after o (n, x) ps n has lacks_new, number_before-with_pair_after o (n, x) ps n has lacks_new l.distinct, eqb_same n)
           refl
 
       -- the other records
-      inserted_other : (j : ℕ) → n ≢ j → prev_set j ≡ linked (with_pair_behind o (n, x) ps) j
+      inserted_other : (j : ℕ) → n ≢ j → prev_set j ≡ linked (with_pair_after o (n, x) ps) j
       inserted_other j ne =
-          rw (prevs j, nexts j, rest j (λ e. ne (sym e)), l.each j, leaf_in-with_pair_behind o (n, x) ps j has lacks_new, number_after-with_pair_behind o (n, x) ps j has lacks_new, number_before-with_pair_behind o (n, x) ps j has lacks_new l.distinct, eqb_other n j ne)
-          (relinked (leaf_in ps j) (number_before ps j) (number_after ps j) (Some n) (Some n) (is_at (behind o ps) j) (is_at o j))
+          rw (prevs j, nexts j, rest j (λ e. ne (sym e)), l.each j, leaf_in-with_pair_after o (n, x) ps j has lacks_new, number_after-with_pair_after o (n, x) ps j has lacks_new, number_before-with_pair_after o (n, x) ps j has lacks_new l.distinct, eqb_other n j ne)
+          (relinked (leaf_in ps j) (number_before ps j) (number_after ps j) (Some n) (Some n) (is_at (next_number o ps) j) (is_at o j))
 
       -- a new record, linked to its neighbours
-      pub links_inserted : Links prev_set (end_with o (Some n) first) (end_with (behind o ps) (Some n) last) (len + 1) (with_pair_behind o (n, x) ps)
+      pub links_inserted : Links prev_set (end_with o (Some n) first) (end_with (next_number o ps) (Some n) last) (len + 1) (with_pair_after o (n, x) ps)
       links_inserted = record {
-        distinct = AreDistinct-with_pair_behind o (n, x) ps l.distinct lacks_new;
-        each = λ j. elim (eqb_tells n j) [ inl t ↦ subst (λ k. prev_set k ≡ linked (with_pair_behind o (n, x) ps) k) t.1 inserted_now | inr t ↦ inserted_other j t.1 ];
-        starts = rw l.starts (sym (first_number-with_pair_behind o (n, x) ps));
-        ends = rw l.ends (sym (last_number-with_pair_behind o (n, x) ps has));
-        counted = rw l.counted (sym (length-with_pair_behind o (n, x) ps has));
+        distinct = AreDistinct-with_pair_after o (n, x) ps l.distinct lacks_new;
+        each = λ j. elim (eqb_tells n j) [ inl t ↦ subst (λ k. prev_set k ≡ linked (with_pair_after o (n, x) ps) k) t.1 inserted_now | inr t ↦ inserted_other j t.1 ];
+        starts = rw l.starts (sym (first_number-with_pair_after o (n, x) ps));
+        ends = rw l.ends (sym (last_number-with_pair_after o (n, x) ps has));
+        counted = rw l.counted (sym (length-with_pair_after o (n, x) ps has));
       }
 
     module _ (i : ℕ) (has : Has ps i) (taken next_set prev_set : ℕ → Option (Link X)) (gone : taken i ≡ None) (rest : (j : ℕ) → j ≢ i → taken j ≡ leaves j) (prev next : Option ℕ) (is_prev : prev ≡ number_before ps i) (is_next : next ≡ number_after ps i) (nexts : (j : ℕ) → next_set j ≡ with_next taken prev next j) (prevs : (j : ℕ) → prev_set j ≡ with_prev next_set next prev j) where
@@ -242,7 +242,7 @@ module _ {X : Type 0} where
     pub left_before : (i : ℕ) (taken : ℕ → Option (Link X)) → Has ps i → ((j : ℕ) → j ≢ i → taken j ≡ leaves j) → IfSome (number_before ps i) (λ j. IsSome (taken j))
     left_before i taken has rest = left (number_before ps i) i taken (before_other ps i l.distinct has) rest (record_before l i)
 
-    -- so has the leaf behind it
+    -- so has the leaf after it
     pub left_after : (i : ℕ) (taken : ℕ → Option (Link X)) → Has ps i → ((j : ℕ) → j ≢ i → taken j ≡ leaves j) → IfSome (number_after ps i) (λ j. IsSome (taken j))
     left_after i taken has rest = left (number_after ps i) i taken (after_other ps i l.distinct has) rest (record_after l i)
 
@@ -280,7 +280,7 @@ module _ {X : Type 0} where
       pub stored_pair : (r : Link X) → slot_at s id ≡ Some r → leaf_in ps id ≡ Some r.item
       stored_pair r was = (record_is l id r was).0
 
-      -- and leads to the leaf before it, and to the one behind
+      -- and leads to the leaf before it, and to the one after it
       pub stored_prev : (r : Link X) → slot_at s id ≡ Some r → r.prev ≡ number_before ps id
       stored_prev r was = (record_is l id r was).1
 
@@ -303,7 +303,7 @@ module _ {X : Type 0} where
         pub taken_before : IfSome r.prev (λ j. IsSome (slot_at taken j))
         taken_before = rw record_of.1 (left_before l id (slot_at taken) has rest)
 
-        -- the leaf behind it
+        -- the leaf after it
         pub taken_after : IfSome r.next (λ j. IsSome (slot_at taken j))
         taken_after = rw record_of.2 (left_after l id (slot_at taken) has rest)
 
@@ -314,21 +314,21 @@ module _ {X : Type 0} where
             rw (firsts, lasts, count)
             (links_removed l id has (slot_at taken) (slot_at next_set) (slot_at prev_set) gone rest r.prev r.next record_of.1 record_of.2 nexts prevs)
 
-    module _ (o b : Option ℕ) (is : b ≡ behind o ps) (has : IfSome o (Has ps)) (n : ℕ) (fresh : slot_at s n ≡ None) (y : X) (made : Store (Link X)) (now : slot_at made n ≡ Some (leaf_of o b y)) (rest : (j : ℕ) → j ≢ n → slot_at made j ≡ slot_at s j) where
+    module _ (o b : Option ℕ) (is : b ≡ next_number o ps) (has : IfSome o (Has ps)) (n : ℕ) (fresh : slot_at s n ≡ None) (y : X) (made : Store (Link X)) (now : slot_at made n ≡ Some (leaf_of o b y)) (rest : (j : ℕ) → j ≢ n → slot_at made j ≡ slot_at s j) where
       -- the leaf before a new one
       pub made_before : IfSome o (λ j. IsSome (slot_at made j))
       made_before = still_made o n (slot_at s) (slot_at made) _ now rest (record_at l o has)
 
-      -- the leaf behind it
-      pub made_behind : IfSome b (λ j. IsSome (slot_at made j))
-      made_behind = still_made b n (slot_at s) (slot_at made) _ now rest (rw is (record_behind l o))
+      -- the leaf after it
+      pub made_next : IfSome b (λ j. IsSome (slot_at made j))
+      made_next = still_made b n (slot_at s) (slot_at made) _ now rest (rw is (record_next l o))
 
       -- a record is put in
-      pub store_inserted : used_count made ≡ used_count s + 1 → (next_set prev_set : Store (Link X)) → ((j : ℕ) → slot_at next_set j ≡ with_next (slot_at made) o (Some n) j) → ((j : ℕ) → slot_at prev_set j ≡ with_prev (slot_at next_set) b (Some n) j) → used_count next_set ≡ used_count made → used_count prev_set ≡ used_count next_set → (first' last' : Option ℕ) → first' ≡ end_with o (Some n) first → last' ≡ end_with b (Some n) last → Links (slot_at prev_set) first' last' (used_count prev_set) (with_pair_behind o (n, y) ps)
+      pub store_inserted : used_count made ≡ used_count s + 1 → (next_set prev_set : Store (Link X)) → ((j : ℕ) → slot_at next_set j ≡ with_next (slot_at made) o (Some n) j) → ((j : ℕ) → slot_at prev_set j ≡ with_prev (slot_at next_set) b (Some n) j) → used_count next_set ≡ used_count made → used_count prev_set ≡ used_count next_set → (first' last' : Option ℕ) → first' ≡ end_with o (Some n) first → last' ≡ end_with b (Some n) last → Links (slot_at prev_set) first' last' (used_count prev_set) (with_pair_after o (n, y) ps)
       store_inserted more next_set prev_set nexts prevs same same' first' last' firsts lasts =
           let none = no_record l n fresh in
-          let made_now : slot_at made n ≡ Some (leaf_of o (behind o ps) y) = rw (← is) now in
-          let prevs_now : (j : ℕ) → slot_at prev_set j ≡ with_prev (slot_at next_set) (behind o ps) (Some n) j = rw (← is) prevs in
+          let made_now : slot_at made n ≡ Some (leaf_of o (next_number o ps) y) = rw (← is) now in
+          let prevs_now : (j : ℕ) → slot_at prev_set j ≡ with_prev (slot_at next_set) (next_number o ps) (Some n) j = rw (← is) prevs in
           let count : used_count prev_set ≡ used_count s + 1 = omega arith in
           rw (firsts, lasts, is, count)
           (links_inserted l o n y has none (slot_at made) (slot_at next_set) (slot_at prev_set) made_now rest nexts prevs_now)

@@ -3,7 +3,7 @@ use Rattle.std.proofs.Common.{◌≡◌, ◌≢◌, ℕ, ◌+◌, List, [], ◌�
 use Rattle.std.specs.Prelude.{option_map, IfSome}
 use Rattle.std.specs.Option.{option_or}
 use Rattle.std.proofs.lemmas.Bool.Decides.{eqb_tells}
-use Rattle.art_rows.specs.Numbers.{Numbered, leaf_in, Has, first_number, last_number, number_after, number_before, number_before_from, behind, with_pair_behind, without_number, with_pair, Lacks, AreDistinct, OthersStand}
+use Rattle.art_rows.specs.Numbers.{Numbered, leaf_in, Has, first_number, last_number, number_after, number_before, number_before_from, next_number, with_pair_after, without_number, with_pair, Lacks, AreDistinct, OthersStand}
 use Rattle.art_rows.specs.Links.{is_at, end_with}
 
 -- ---- tests on numbers
@@ -26,7 +26,7 @@ option_or-some : {X : Type 0} (o b : Option X) (a : X) → option_or (option_or 
 option_or-some None b a = refl
 option_or-some (Some x) b a = refl
 
--- a reserve may be added before an end is changed, or behind
+-- a reserve may be added before an end is changed, or after
 option_or-end : (o : Option ℕ) (x a : ℕ) (l : Option ℕ) → option_or (end_with o (Some x) l) (Some a) ≡ end_with o (Some x) (option_or l (Some a))
 option_or-end None x a l = refl
 option_or-end (Some i) x a l = refl
@@ -67,7 +67,7 @@ module _ {X : Type 0} where
   pub has_other : (ps : List (Numbered X)) (i j : ℕ) → Has ps i → Lacks ps j → i ≢ j
   has_other ps i j h l e = has_not_lacks ps i h (subst (λ k. Lacks ps k) (sym e) l)
 
-  -- a number that the list has behind its first pair's
+  -- a number that the list has after its first pair's
   pub Has-tail : (p : Numbered X) (ps : List (Numbered X)) (i : ℕ) → p.0 ≢ i → Has (p ∷ ps) i → Has ps i
   Has-tail p ps i n h = rw (eqb_other p.0 i n) at h
 
@@ -76,7 +76,7 @@ module _ {X : Type 0} where
   is_at-first [] j l = refl
   is_at-first (p ∷ ps) j l = eqb_other p.0 j l.0
 
-  -- nor does it stand behind another
+  -- nor does it stand after another
   pub is_at-after : (ps : List (Numbered X)) (i j : ℕ) → Lacks ps j → is_at (number_after ps i) j ≡ false
   is_at-after [] i j l = refl
   is_at-after (p ∷ ps) i j l = elim (eqb_tells p.0 i) [
@@ -84,10 +84,10 @@ module _ {X : Type 0} where
     | inr t ↦ rw t.0 (is_at-after ps i j l.1)
   ]
 
-  -- nor behind a place
-  pub is_at-behind : (o : Option ℕ) (ps : List (Numbered X)) (j : ℕ) → Lacks ps j → is_at (behind o ps) j ≡ false
-  is_at-behind None ps j l = is_at-first ps j l
-  is_at-behind (Some i) ps j l = is_at-after ps i j l
+  -- nor after a place
+  pub is_at-next_number : (o : Option ℕ) (ps : List (Numbered X)) (j : ℕ) → Lacks ps j → is_at (next_number o ps) j ≡ false
+  is_at-next_number None ps j l = is_at-first ps j l
+  is_at-next_number (Some i) ps j l = is_at-after ps i j l
 
   -- nor is it one that the list has
   pub is_at-has : (o : Option ℕ) (ps : List (Numbered X)) (j : ℕ) → IfSome o (Has ps) → Lacks ps j → is_at o j ≡ false
@@ -96,7 +96,7 @@ module _ {X : Type 0} where
 
   -- ---- the list split at a number
 
-  -- the pairs before one of a number, and behind
+  -- the pairs before one of a number, and after it
   pub record Split (ps : List (Numbered X)) (i : ℕ) : Type 0 where
     pub before : List (Numbered X)
     pub pair : X
@@ -137,7 +137,7 @@ module _ {X : Type 0} where
     leaf_in-split [] l = rw (eqb_same i) refl
     leaf_in-split (q ∷ before) l = rw (eqb_other q.0 i l.0) (leaf_in-split before l.1)
 
-    -- the number behind is the first of those behind
+    -- the next number is the first of those after it
     pub number_after-split : (before : List (Numbered X)) → Lacks before i → number_after (before ++ (i, x) ∷ after) i ≡ first_number after
     number_after-split [] l = rw (eqb_same i) refl
     number_after-split (q ∷ before) l = rw (eqb_other q.0 i l.0) (number_after-split before l.1)
@@ -151,10 +151,10 @@ module _ {X : Type 0} where
     pub number_before-split : (before : List (Numbered X)) → Lacks before i → number_before (before ++ (i, x) ∷ after) i ≡ last_number before
     number_before-split before l = number_before_from-split None before l ∙ option_or-none (last_number before)
 
-    -- another pair is placed behind the one at the split
-    pub with_pair_behind-split : (y : Numbered X) (before : List (Numbered X)) → Lacks before i → with_pair_behind (Some i) y (before ++ (i, x) ∷ after) ≡ before ++ (i, x) ∷ y ∷ after
-    with_pair_behind-split y [] l = rw (eqb_same i) refl
-    with_pair_behind-split y (q ∷ before) l = rw (eqb_other q.0 i l.0) (ap (λ s. q ∷ s) (with_pair_behind-split y before l.1))
+    -- another pair is placed after the one at the split
+    pub with_pair_after-split : (y : Numbered X) (before : List (Numbered X)) → Lacks before i → with_pair_after (Some i) y (before ++ (i, x) ∷ after) ≡ before ++ (i, x) ∷ y ∷ after
+    with_pair_after-split y [] l = rw (eqb_same i) refl
+    with_pair_after-split y (q ∷ before) l = rw (eqb_other q.0 i l.0) (ap (λ s. q ∷ s) (with_pair_after-split y before l.1))
 
     -- without the pair at the split
     pub without_number-split : (before : List (Numbered X)) → Lacks before i → without_number (before ++ (i, x) ∷ after) i ≡ before ++ after
@@ -169,83 +169,83 @@ module _ {X : Type 0} where
   -- ---- a pair more
 
   -- what each number names, after a pair was placed
-  pub leaf_in-with_pair_behind : (o : Option ℕ) (x : Numbered X) (ps : List (Numbered X)) (j : ℕ) → IfSome o (Has ps) → Lacks ps x.0 → leaf_in (with_pair_behind o x ps) j ≡ cond (eqb x.0 j) (Some x.1) (leaf_in ps j)
-  leaf_in-with_pair_behind None x ps j h l = refl
-  leaf_in-with_pair_behind (Some i) x [] j h l = absurd (let f : false ≡ true = h in cc)
-  leaf_in-with_pair_behind (Some i) x (p ∷ ps) j h l = elim (eqb_tells p.0 i) [
+  pub leaf_in-with_pair_after : (o : Option ℕ) (x : Numbered X) (ps : List (Numbered X)) (j : ℕ) → IfSome o (Has ps) → Lacks ps x.0 → leaf_in (with_pair_after o x ps) j ≡ cond (eqb x.0 j) (Some x.1) (leaf_in ps j)
+  leaf_in-with_pair_after None x ps j h l = refl
+  leaf_in-with_pair_after (Some i) x [] j h l = absurd (let f : false ≡ true = h in cc)
+  leaf_in-with_pair_after (Some i) x (p ∷ ps) j h l = elim (eqb_tells p.0 i) [
     | inl t ↦ rw t.0 (swapped p.0 x.0 j (Some p.1) (Some x.1) (leaf_in ps j) l.0)
-    | inr t ↦ rw (t.0, leaf_in-with_pair_behind (Some i) x ps j (Has-tail p ps i t.1 h) l.1) (swapped p.0 x.0 j (Some p.1) (Some x.1) (leaf_in ps j) l.0)
+    | inr t ↦ rw (t.0, leaf_in-with_pair_after (Some i) x ps j (Has-tail p ps i t.1 h) l.1) (swapped p.0 x.0 j (Some p.1) (Some x.1) (leaf_in ps j) l.0)
   ]
 
   -- the new pair stands under its number
-  pub leaf_in-placed_now : (o : Option ℕ) (x : Numbered X) (ps : List (Numbered X)) → IfSome o (Has ps) → Lacks ps x.0 → leaf_in (with_pair_behind o x ps) x.0 ≡ Some x.1
-  leaf_in-placed_now o x ps h l = leaf_in-with_pair_behind o x ps x.0 h l ∙ rw (eqb_same x.0) refl
+  pub leaf_in-placed_now : (o : Option ℕ) (x : Numbered X) (ps : List (Numbered X)) → IfSome o (Has ps) → Lacks ps x.0 → leaf_in (with_pair_after o x ps) x.0 ≡ Some x.1
+  leaf_in-placed_now o x ps h l = leaf_in-with_pair_after o x ps x.0 h l ∙ rw (eqb_same x.0) refl
 
   -- every other number names what it named
-  pub others-with_pair_behind : (o : Option ℕ) (x : Numbered X) (ps : List (Numbered X)) → IfSome o (Has ps) → Lacks ps x.0 → OthersStand ps (with_pair_behind o x ps) x.0
-  others-with_pair_behind o x ps h l j n = leaf_in-with_pair_behind o x ps j h l ∙ rw (eqb_other x.0 j (λ e. n (sym e))) refl
+  pub others-with_pair_after : (o : Option ℕ) (x : Numbered X) (ps : List (Numbered X)) → IfSome o (Has ps) → Lacks ps x.0 → OthersStand ps (with_pair_after o x ps) x.0
+  others-with_pair_after o x ps h l j n = leaf_in-with_pair_after o x ps j h l ∙ rw (eqb_other x.0 j (λ e. n (sym e))) refl
 
   -- a number that is not the new one is lacking still
-  pub Lacks-with_pair_behind : (o : Option ℕ) (x : Numbered X) (ps : List (Numbered X)) (j : ℕ) → Lacks ps j → x.0 ≢ j → Lacks (with_pair_behind o x ps) j
-  Lacks-with_pair_behind None x ps j l n = (n, l)
-  Lacks-with_pair_behind (Some i) x [] j l n = tt
-  Lacks-with_pair_behind (Some i) x (p ∷ ps) j l n = elim (eqb_tells p.0 i) [
+  pub Lacks-with_pair_after : (o : Option ℕ) (x : Numbered X) (ps : List (Numbered X)) (j : ℕ) → Lacks ps j → x.0 ≢ j → Lacks (with_pair_after o x ps) j
+  Lacks-with_pair_after None x ps j l n = (n, l)
+  Lacks-with_pair_after (Some i) x [] j l n = tt
+  Lacks-with_pair_after (Some i) x (p ∷ ps) j l n = elim (eqb_tells p.0 i) [
     | inl t ↦ rw t.0 (l.0, (n, l.1))
-    | inr t ↦ rw t.0 (l.0, Lacks-with_pair_behind (Some i) x ps j l.1 n)
+    | inr t ↦ rw t.0 (l.0, Lacks-with_pair_after (Some i) x ps j l.1 n)
   ]
 
   -- with a fresh number the numbers are distinct still
-  pub AreDistinct-with_pair_behind : (o : Option ℕ) (x : Numbered X) (ps : List (Numbered X)) → AreDistinct ps → Lacks ps x.0 → AreDistinct (with_pair_behind o x ps)
-  AreDistinct-with_pair_behind None x ps d l = (l, d)
-  AreDistinct-with_pair_behind (Some i) x [] d l = tt
-  AreDistinct-with_pair_behind (Some i) x (p ∷ ps) d l = elim (eqb_tells p.0 i) [
+  pub AreDistinct-with_pair_after : (o : Option ℕ) (x : Numbered X) (ps : List (Numbered X)) → AreDistinct ps → Lacks ps x.0 → AreDistinct (with_pair_after o x ps)
+  AreDistinct-with_pair_after None x ps d l = (l, d)
+  AreDistinct-with_pair_after (Some i) x [] d l = tt
+  AreDistinct-with_pair_after (Some i) x (p ∷ ps) d l = elim (eqb_tells p.0 i) [
     | inl t ↦ rw t.0 (((λ e. l.0 (sym e)), d.0), (l.1, d.1))
-    | inr t ↦ rw t.0 (Lacks-with_pair_behind (Some i) x ps p.0 d.0 (λ e. l.0 (sym e)), AreDistinct-with_pair_behind (Some i) x ps d.1 l.1)
+    | inr t ↦ rw t.0 (Lacks-with_pair_after (Some i) x ps p.0 d.0 (λ e. l.0 (sym e)), AreDistinct-with_pair_after (Some i) x ps d.1 l.1)
   ]
 
   -- one pair more
-  pub length-with_pair_behind : (o : Option ℕ) (x : Numbered X) (ps : List (Numbered X)) → IfSome o (Has ps) → length (with_pair_behind o x ps) ≡ length ps + 1
-  length-with_pair_behind None x ps h = omega arith
-  length-with_pair_behind (Some i) x [] h = absurd (let f : false ≡ true = h in cc)
-  length-with_pair_behind (Some i) x (p ∷ ps) h = elim (eqb_tells p.0 i) [
+  pub length-with_pair_after : (o : Option ℕ) (x : Numbered X) (ps : List (Numbered X)) → IfSome o (Has ps) → length (with_pair_after o x ps) ≡ length ps + 1
+  length-with_pair_after None x ps h = omega arith
+  length-with_pair_after (Some i) x [] h = absurd (let f : false ≡ true = h in cc)
+  length-with_pair_after (Some i) x (p ∷ ps) h = elim (eqb_tells p.0 i) [
     | inl t ↦ rw t.0 (omega arith)
-    | inr t ↦ rw t.0 (omega (arith, length-with_pair_behind (Some i) x ps (Has-tail p ps i t.1 h)))
+    | inr t ↦ rw t.0 (omega (arith, length-with_pair_after (Some i) x ps (Has-tail p ps i t.1 h)))
   ]
 
   -- the first number, after a pair was placed
-  pub first_number-with_pair_behind : (o : Option ℕ) (x : Numbered X) (ps : List (Numbered X)) → first_number (with_pair_behind o x ps) ≡ end_with o (Some x.0) (first_number ps)
-  first_number-with_pair_behind None x ps = refl
-  first_number-with_pair_behind (Some i) x [] = refl
-  first_number-with_pair_behind (Some i) x (p ∷ ps) = elim (eqb_tells p.0 i) [ inl t ↦ rw t.0 refl | inr t ↦ rw t.0 refl ]
+  pub first_number-with_pair_after : (o : Option ℕ) (x : Numbered X) (ps : List (Numbered X)) → first_number (with_pair_after o x ps) ≡ end_with o (Some x.0) (first_number ps)
+  first_number-with_pair_after None x ps = refl
+  first_number-with_pair_after (Some i) x [] = refl
+  first_number-with_pair_after (Some i) x (p ∷ ps) = elim (eqb_tells p.0 i) [ inl t ↦ rw t.0 refl | inr t ↦ rw t.0 refl ]
 
   -- the last number, after a pair was placed
-  pub last_number-with_pair_behind : (o : Option ℕ) (x : Numbered X) (ps : List (Numbered X)) → IfSome o (Has ps) → last_number (with_pair_behind o x ps) ≡ end_with (behind o ps) (Some x.0) (last_number ps)
-  last_number-with_pair_behind None x [] h = refl
-  last_number-with_pair_behind None x (p ∷ ps) h = refl
-  last_number-with_pair_behind (Some i) x [] h = absurd (let f : false ≡ true = h in cc)
-  last_number-with_pair_behind (Some i) x (p ∷ ps) h = elim (eqb_tells p.0 i) [
-    | inl t ↦ rw t.0 (last_behind p x ps)
+  pub last_number-with_pair_after : (o : Option ℕ) (x : Numbered X) (ps : List (Numbered X)) → IfSome o (Has ps) → last_number (with_pair_after o x ps) ≡ end_with (next_number o ps) (Some x.0) (last_number ps)
+  last_number-with_pair_after None x [] h = refl
+  last_number-with_pair_after None x (p ∷ ps) h = refl
+  last_number-with_pair_after (Some i) x [] h = absurd (let f : false ≡ true = h in cc)
+  last_number-with_pair_after (Some i) x (p ∷ ps) h = elim (eqb_tells p.0 i) [
+    | inl t ↦ rw t.0 (last_number_after p x ps)
     | inr t ↦
         rw t.0
-        (last_number-cons p (with_pair_behind (Some i) x ps) ∙ ap (λ o. option_or o (Some p.0)) (last_number-with_pair_behind (Some i) x ps (Has-tail p ps i t.1 h)) ∙ option_or-end (number_after ps i) x.0 p.0 (last_number ps) ∙ ap (end_with (number_after ps i) (Some x.0)) (sym (last_number-cons p ps)))
+        (last_number-cons p (with_pair_after (Some i) x ps) ∙ ap (λ o. option_or o (Some p.0)) (last_number-with_pair_after (Some i) x ps (Has-tail p ps i t.1 h)) ∙ option_or-end (number_after ps i) x.0 p.0 (last_number ps) ∙ ap (end_with (number_after ps i) (Some x.0)) (sym (last_number-cons p ps)))
   ]
     where
-      last_behind : (p x : Numbered X) (ps : List (Numbered X)) → last_number (x ∷ ps) ≡ end_with (first_number ps) (Some x.0) (last_number (p ∷ ps))
-      last_behind p x [] = refl
-      last_behind p x (q ∷ ps) = refl
+      last_number_after : (p x : Numbered X) (ps : List (Numbered X)) → last_number (x ∷ ps) ≡ end_with (first_number ps) (Some x.0) (last_number (p ∷ ps))
+      last_number_after p x [] = refl
+      last_number_after p x (q ∷ ps) = refl
 
-  -- the number behind each, after a pair was placed
-  pub number_after-with_pair_behind : (o : Option ℕ) (x : Numbered X) (ps : List (Numbered X)) (j : ℕ) → IfSome o (Has ps) → Lacks ps x.0 → number_after (with_pair_behind o x ps) j ≡ cond (eqb x.0 j) (behind o ps) (cond (is_at o j) (Some x.0) (number_after ps j))
-  number_after-with_pair_behind None x ps j h l = refl
-  number_after-with_pair_behind (Some i) x [] j h l = absurd (let f : false ≡ true = h in cc)
-  number_after-with_pair_behind (Some i) x (p ∷ ps) j h l = elim (eqb_tells p.0 i) [
+  -- the number after each, once a pair was placed
+  pub number_after-with_pair_after : (o : Option ℕ) (x : Numbered X) (ps : List (Numbered X)) (j : ℕ) → IfSome o (Has ps) → Lacks ps x.0 → number_after (with_pair_after o x ps) j ≡ cond (eqb x.0 j) (next_number o ps) (cond (is_at o j) (Some x.0) (number_after ps j))
+  number_after-with_pair_after None x ps j h l = refl
+  number_after-with_pair_after (Some i) x [] j h l = absurd (let f : false ≡ true = h in cc)
+  number_after-with_pair_after (Some i) x (p ∷ ps) j h l = elim (eqb_tells p.0 i) [
     | inl t ↦ rw (t.0, ← t.1) (elim (eqb_tells p.0 j) [
       | inl u ↦ rw (u.0, eqb_other x.0 j (λ e. l.0 (u.1 ∙ sym e))) refl
       | inr u ↦ rw u.0 refl
     ])
     | inr t ↦ rw t.0 (elim (eqb_tells p.0 j) [
-      | inl u ↦ rw (u.0, eqb_other x.0 j (λ e. l.0 (u.1 ∙ sym e)), eqb_other i j (λ e. t.1 (u.1 ∙ sym e))) (first_number-with_pair_behind (Some i) x ps)
-      | inr u ↦ rw u.0 (number_after-with_pair_behind (Some i) x ps j (Has-tail p ps i t.1 h) l.1)
+      | inl u ↦ rw (u.0, eqb_other x.0 j (λ e. l.0 (u.1 ∙ sym e)), eqb_other i j (λ e. t.1 (u.1 ∙ sym e))) (first_number-with_pair_after (Some i) x ps)
+      | inr u ↦ rw u.0 (number_after-with_pair_after (Some i) x ps j (Has-tail p ps i t.1 h) l.1)
     ])
   ]
 
@@ -259,13 +259,13 @@ module _ {X : Type 0} where
   number_before-lacking b [] j l = refl
   number_before-lacking b (p ∷ ps) j l = rw (eqb_other p.0 j l.0) (number_before-lacking (Some p.0) ps j l.1)
 
-  -- nothing stands behind a number that no pair has
+  -- nothing stands after a number that no pair has
   pub number_after-lacking : (ps : List (Numbered X)) (j : ℕ) → Lacks ps j → number_after ps j ≡ None
   number_after-lacking [] j l = refl
   number_after-lacking (p ∷ ps) j l = rw (eqb_other p.0 j l.0) (number_after-lacking ps j l.1)
 
-  -- the number before each, from a start on, after a pair was placed behind a number
-  before_placed : (b : Option ℕ) (i : ℕ) (x : Numbered X) (ps : List (Numbered X)) (j : ℕ) → Has ps i → Lacks ps x.0 → AreDistinct ps → number_before_from b (with_pair_behind (Some i) x ps) j ≡ cond (eqb x.0 j) (Some i) (cond (is_at (number_after ps i) j) (Some x.0) (number_before_from b ps j))
+  -- the number before each, from a start on, once a pair was placed after a number
+  before_placed : (b : Option ℕ) (i : ℕ) (x : Numbered X) (ps : List (Numbered X)) (j : ℕ) → Has ps i → Lacks ps x.0 → AreDistinct ps → number_before_from b (with_pair_after (Some i) x ps) j ≡ cond (eqb x.0 j) (Some i) (cond (is_at (number_after ps i) j) (Some x.0) (number_before_from b ps j))
   before_placed b i x [] j h l d = absurd (let f : false ≡ true = h in cc)
   before_placed b i x (p ∷ ps) j h l d = elim (eqb_tells p.0 i) [
     | inl t ↦ rw (t.0, ← t.1) (elim (eqb_tells p.0 j) [
@@ -279,9 +279,9 @@ module _ {X : Type 0} where
   ]
 
   -- the number before each, after a pair was placed
-  pub number_before-with_pair_behind : (o : Option ℕ) (x : Numbered X) (ps : List (Numbered X)) (j : ℕ) → IfSome o (Has ps) → Lacks ps x.0 → AreDistinct ps → number_before (with_pair_behind o x ps) j ≡ cond (eqb x.0 j) o (cond (is_at (behind o ps) j) (Some x.0) (number_before ps j))
-  number_before-with_pair_behind None x ps j h l d = ap (cond (eqb x.0 j) None) (number_before_from-start (Some x.0) None ps j)
-  number_before-with_pair_behind (Some i) x ps j h l d = before_placed None i x ps j h l d
+  pub number_before-with_pair_after : (o : Option ℕ) (x : Numbered X) (ps : List (Numbered X)) (j : ℕ) → IfSome o (Has ps) → Lacks ps x.0 → AreDistinct ps → number_before (with_pair_after o x ps) j ≡ cond (eqb x.0 j) o (cond (is_at (next_number o ps) j) (Some x.0) (number_before ps j))
+  number_before-with_pair_after None x ps j h l d = ap (cond (eqb x.0 j) None) (number_before_from-start (Some x.0) None ps j)
+  number_before-with_pair_after (Some i) x ps j h l d = before_placed None i x ps j h l d
 
   -- ---- a pair less
 
@@ -328,7 +328,7 @@ module _ {X : Type 0} where
     | inr t ↦ rw t.0 (omega (arith, length-without_number ps i (Has-tail p ps i t.1 h)))
   ]
 
-  -- something stands before a number behind the first
+  -- something stands before a number after the first
   before_is_some : (a : ℕ) (ps : List (Numbered X)) (i : ℕ) → Has ps i → (b : ℕ) × (number_before_from (Some a) ps i ≡ Some b)
   before_is_some a [] i h = absurd (let f : false ≡ true = h in cc)
   before_is_some a (p ∷ ps) i h = elim (eqb_tells p.0 i) [
@@ -348,15 +348,15 @@ module _ {X : Type 0} where
   last_without : (b : Option ℕ) (ps : List (Numbered X)) (i : ℕ) → Has ps i → option_or (last_number (without_number ps i)) b ≡ end_with (number_after ps i) (number_before_from b ps i) (option_or (last_number ps) b)
   last_without b [] i h = absurd (let f : false ≡ true = h in cc)
   last_without b (p ∷ ps) i h = elim (eqb_tells p.0 i) [
-    | inl t ↦ rw t.0 (last_behind b p ps)
+    | inl t ↦ rw t.0 (last_number_after b p ps)
     | inr t ↦
         rw (t.0, last_number-cons p (without_number ps i), last_number-cons p ps, option_or-some (last_number (without_number ps i)) b p.0, option_or-some (last_number ps) b p.0)
         (last_without (Some p.0) ps i (Has-tail p ps i t.1 h))
   ]
     where
-      last_behind : (b : Option ℕ) (p : Numbered X) (ps : List (Numbered X)) → option_or (last_number ps) b ≡ end_with (first_number ps) b (option_or (last_number (p ∷ ps)) b)
-      last_behind b p [] = refl
-      last_behind b p (q ∷ ps) = refl
+      last_number_after : (b : Option ℕ) (p : Numbered X) (ps : List (Numbered X)) → option_or (last_number ps) b ≡ end_with (first_number ps) b (option_or (last_number (p ∷ ps)) b)
+      last_number_after b p [] = refl
+      last_number_after b p (q ∷ ps) = refl
 
   -- the last number, after one was taken out
   pub last_number-without_number : (ps : List (Numbered X)) (i : ℕ) → Has ps i → last_number (without_number ps i) ≡ end_with (number_after ps i) (number_before ps i) (last_number ps)
@@ -388,7 +388,7 @@ module _ {X : Type 0} where
   other_start [] i j a n = refl
   other_start (p ∷ ps) i j a n = elim (eqb_tells p.0 i) [ inl t ↦ rw t.0 (eqb_other a j n) | inr t ↦ rw t.0 refl ]
 
-  -- the number behind each, after one was taken out
+  -- the number after each, once one was taken out
   pub number_after-without_number : (ps : List (Numbered X)) (i j : ℕ) → AreDistinct ps → number_after (without_number ps i) j ≡ cond (eqb i j) None (cond (is_at (number_before ps i) j) (number_after ps i) (number_after ps j))
   number_after-without_number [] i j d = elim (eqb_tells i j) [ inl t ↦ rw t.0 refl | inr t ↦ rw t.0 refl ]
   number_after-without_number (p ∷ ps) i j d = elim (eqb_tells p.0 i) [
@@ -439,7 +439,7 @@ module _ {X : Type 0} where
       let b : map (λ p. p.0) ps ≡ map (λ p. p.0) qs = cc in
       rw (last_number-cons p ps, last_number-cons q qs, same_last ps qs b, a) refl
 
-  -- each number has the same one behind it
+  -- each number has the same one after it
   pub same_after : (ps qs : List (Numbered X)) (j : ℕ) → map (λ p. p.0) ps ≡ map (λ p. p.0) qs → number_after ps j ≡ number_after qs j
   same_after [] [] j e = refl
   same_after [] (q ∷ qs) j e = cc
@@ -551,7 +551,7 @@ module _ {X : Type 0} where
           let m : eqb j j ≡ true = eqb_same j in
           absurd (cc)
 
-  -- the list has the number behind another
+  -- the list has the number after another
   pub Has-after : (ps : List (Numbered X)) (i j : ℕ) → number_after ps i ≡ Some j → Has ps j
   Has-after ps i j e = has_at (number_after ps i) ps j (is_at-after ps i j) e
 
@@ -567,9 +567,9 @@ module _ {X : Type 0} where
   pub Has-last : (ps : List (Numbered X)) (j : ℕ) → last_number ps ≡ Some j → Has ps j
   Has-last ps j e = has_at (last_number ps) ps j (is_at-last ps j) e
 
-  -- the list has the number behind a place
-  pub Has-behind : (o : Option ℕ) (ps : List (Numbered X)) (j : ℕ) → behind o ps ≡ Some j → Has ps j
-  Has-behind o ps j e = has_at (behind o ps) ps j (is_at-behind o ps j) e
+  -- the list has the number after a place
+  pub Has-next_number : (o : Option ℕ) (ps : List (Numbered X)) (j : ℕ) → next_number o ps ≡ Some j → Has ps j
+  Has-next_number o ps j e = has_at (next_number o ps) ps j (is_at-next_number o ps j) e
 
   -- no number stands before itself
   pub before_other : (ps : List (Numbered X)) (i : ℕ) → AreDistinct ps → Has ps i → is_at (number_before ps i) i ≡ false
@@ -577,7 +577,7 @@ module _ {X : Type 0} where
       let s = split ps i h in
       rw (ap (λ qs. number_before qs i) s.is ∙ number_before-split i s.pair s.after s.before s.lacks) (is_at-last s.before i s.lacks)
 
-  -- nor behind itself
+  -- nor after itself
   pub after_other : (ps : List (Numbered X)) (i : ℕ) → AreDistinct ps → Has ps i → is_at (number_after ps i) i ≡ false
   after_other ps i d h =
       let s = split ps i h in
@@ -613,9 +613,9 @@ module _ {X : Type 0} where
   leaf_in-without_now ps i d = leaf_in_lacking (without_number ps i) i (Lacks-without_now ps i d)
 
   -- a pair that is not the place is passed
-  with_pair_behind-pass : (o : Option ℕ) (x p : Numbered X) (ps : List (Numbered X)) → IsSome o → is_at o p.0 ≡ false → with_pair_behind o x (p ∷ ps) ≡ p ∷ with_pair_behind o x ps
-  with_pair_behind-pass None x p ps h n = absurd (let f : false ≡ true = h in cc)
-  with_pair_behind-pass (Some i) x p ps h n = elim (eqb_tells p.0 i) [
+  with_pair_after-pass : (o : Option ℕ) (x p : Numbered X) (ps : List (Numbered X)) → IsSome o → is_at o p.0 ≡ false → with_pair_after o x (p ∷ ps) ≡ p ∷ with_pair_after o x ps
+  with_pair_after-pass None x p ps h n = absurd (let f : false ≡ true = h in cc)
+  with_pair_after-pass (Some i) x p ps h n = elim (eqb_tells p.0 i) [
     | inl t ↦ (let f : eqb i p.0 ≡ true = rw t.1 (eqb_same i) in let g : true ≡ false = sym f ∙ n in cc)
     | inr t ↦ rw t.0 refl
   ]

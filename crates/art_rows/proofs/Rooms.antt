@@ -3,10 +3,10 @@ use Rattle.std.proofs.Common.{◌≡◌, ◌≢◌, ℕ, zero, suc, ◌+◌, ◌
 use Rattle.std.specs.Prelude.{IfSome}
 use Rattle.std.proofs.lemmas.Bool.Decides.{eqb_tells}
 use Rattle.std.proofs.lemmas.List.{append-nil, length-append, length-take-le, length-drop}
-use Rattle.art_rows.specs.Numbers.{Numbered, leaf_in, Has, first_number, number_after, with_pair_behind, without_number, with_pair, Lacks, AreDistinct}
+use Rattle.art_rows.specs.Numbers.{Numbered, leaf_in, Has, first_number, number_after, with_pair_after, without_number, with_pair, Lacks, AreDistinct}
 use Rattle.art_rows.specs.Rows.{numbers, position_at, IsSpot, IsSplit, row_end, row_start, above_half, half_room, row_room}
 use Rattle.art_rows.specs.declared.row.Position.{Position}
-use Rattle.art_rows.proofs.NumbersLemmas.{eqb_same, eqb_other, distinct_parts, leaf_in-split, number_after-split, with_pair-split, with_pair_behind-split, without_number-split}
+use Rattle.art_rows.proofs.NumbersLemmas.{eqb_same, eqb_other, distinct_parts, leaf_in-split, number_after-split, with_pair-split, with_pair_after-split, without_number-split}
 use Rattle.art_rows.proofs.RowsLemmas.{numbers-append, standing, standing-lacks, standing-row}
 use Rattle.art_rows.proofs.RowChanges.{spot-lacks, spot-row}
 
@@ -38,7 +38,7 @@ room_split before [] r s ids xs ys spare less e f g h =
 room_split before (q ∷ after) r s ids xs ys spare less e f g h =
     rw (above-append before (r, ids) (q ∷ after), above-append before (r, xs) ((s, ys) ∷ q ∷ after), some_rows before (r, ids) (q ∷ after), some_rows before (r, xs) ((s, ys) ∷ q ∷ after)) (omega arith)
 
--- a row of one number behind a full last one takes one
+-- a row of one number after a full last one takes one
 pub room_begun : (before : List (Numbered (List ℕ))) (r s n : ℕ) (ids : List ℕ) (spare less : ℕ) → length ids ≡ 32 → less + 1 ≡ spare → half_room (before ++ (r, ids) ∷ []) spare ≤ half_room (before ++ (r, ids) ∷ (s, n ∷ []) ∷ []) less + 1
 room_begun before r s n ids spare less e h =
     rw (above-append before (r, ids) [], above-append before (r, ids) ((s, n ∷ []) ∷ []), some_rows before (r, ids) [], some_rows before (r, ids) ((s, n ∷ []) ∷ [])) (omega arith)
@@ -136,13 +136,13 @@ module _ {rows : List (Numbered (List ℕ))} {k : ℕ} {p : Position} (s : IsSpo
   pub spot_end : length s.ids ≡ 32 → p.place ≡ 32 → k ≡ row_end (Some p.row) rows
   spot_end full e = (let r = ap (row_end (Some p.row)) s.is ∙ row_end-split s.before s.after p.row s.ids (spot-lacks rows k p s d).0 in let i = s.index in omega arith)
 
-  -- a row of one number behind a full last one
-  pub spot_begun : number_after rows p.row ≡ None → length s.ids ≡ 32 → (new : List (Numbered (List ℕ))) (t n spare less : ℕ) → new ≡ with_pair_behind (Some p.row) (t, n ∷ []) rows → less + 1 ≡ spare → row_room rows spare ≤ row_room new less + 1
+  -- a row of one number after a full last one
+  pub spot_begun : number_after rows p.row ≡ None → length s.ids ≡ 32 → (new : List (Numbered (List ℕ))) (t n spare less : ℕ) → new ≡ with_pair_after (Some p.row) (t, n ∷ []) rows → less + 1 ≡ spare → row_room rows spare ≤ row_room new less + 1
   spot_begun none full new t n spare less e h =
       let l = (spot-lacks rows k p s d).0 in
       let a : s.after ≡ [] = no_first s.after (sym (ap (λ rs. number_after rs p.row) s.is ∙ number_after-split p.row s.ids s.after s.before l) ∙ none) in
       let was : rows ≡ s.before ++ (p.row, s.ids) ∷ [] = s.is ∙ ap (λ rs. s.before ++ (p.row, s.ids) ∷ rs) a in
-      let is : new ≡ s.before ++ (p.row, s.ids) ∷ (t, n ∷ []) ∷ [] = e ∙ ap (with_pair_behind (Some p.row) (t, n ∷ [])) was ∙ with_pair_behind-split p.row s.ids [] (t, n ∷ []) s.before l in
+      let is : new ≡ s.before ++ (p.row, s.ids) ∷ (t, n ∷ []) ∷ [] = e ∙ ap (with_pair_after (Some p.row) (t, n ∷ [])) was ∙ with_pair_after-split p.row s.ids [] (t, n ∷ []) s.before l in
       subst (λ rs. row_room rs spare ≤ row_room new less + 1) (sym was) (subst (λ rs. row_room (s.before ++ (p.row, s.ids) ∷ []) spare ≤ row_room rs less + 1) (sym is) (more_begun s.before p.row t n s.ids spare less full h))
 
   module _ {new : List (Numbered (List ℕ))} {t : ℕ} (i : IsSplit rows new p.row t) where

@@ -4,10 +4,10 @@ use Rattle.std.specs.Prelude.{IfSome, IfNone}
 use Rattle.std.proofs.lemmas.Bool.Decides.{eqb_tells}
 use Rattle.std.proofs.lemmas.List.{length-append, take-append-le, drop-append-le, length-take-le, length-drop, nil_from_length}
 use Rattle.std.proofs.Math.Seq.{take-append-add, drop-append-add}
-use Rattle.art_rows.specs.Numbers.{Numbered, leaf_in, Has, with_pair_behind, without_number, with_pair, Lacks, AreDistinct}
+use Rattle.art_rows.specs.Numbers.{Numbered, leaf_in, Has, with_pair_after, without_number, with_pair, Lacks, AreDistinct}
 use Rattle.art_rows.specs.Rows.{among, place_in, nth, numbers, row_with, position_at, AreFilled, IsSpot, row_end}
 use Rattle.art_rows.specs.declared.row.Position.{Position}
-use Rattle.art_rows.proofs.NumbersLemmas.{eqb_same, eqb_other, Has-tail, with_pair-split, without_number-split, same_distinct, numbers-with_pair, AreDistinct-without_number, distinct_parts, leaf_in-split, AreDistinct-with_pair_behind, Lacks-from_leaf_in}
+use Rattle.art_rows.proofs.NumbersLemmas.{eqb_same, eqb_other, Has-tail, with_pair-split, without_number-split, same_distinct, numbers-with_pair, AreDistinct-without_number, distinct_parts, leaf_in-split, AreDistinct-with_pair_after, Lacks-from_leaf_in}
 use Rattle.art_rows.proofs.RowsLemmas.{is_or_not, among-append, numbers-append, AreFilled-parts, AreFilled-append, Standing, standing, position-first, standing-number, standing-numbers, standing-lacks}
 
 -- the row that has a number, among the first rows or the others
@@ -176,7 +176,7 @@ module _ (rows : List (Numbered (List ℕ))) (k : ℕ) (p : Position) (s : IsSpo
 
 module _ (r n : ℕ) where
   -- the numbers, where a row of one is placed
-  numbers-placed_row : (b : Option ℕ) (rows : List (Numbered (List ℕ))) → IfSome b (Has rows) → numbers (with_pair_behind b (r, n ∷ []) rows) ≡ take (row_end b rows) (numbers rows) ++ n ∷ drop (row_end b rows) (numbers rows)
+  numbers-placed_row : (b : Option ℕ) (rows : List (Numbered (List ℕ))) → IfSome b (Has rows) → numbers (with_pair_after b (r, n ∷ []) rows) ≡ take (row_end b rows) (numbers rows) ++ n ∷ drop (row_end b rows) (numbers rows)
   numbers-placed_row None rows h = refl
   numbers-placed_row (Some i) [] h = absurd (let f : false ≡ true = h in cc)
   numbers-placed_row (Some i) (q ∷ qs) h = elim (eqb_tells q.0 i) [
@@ -187,7 +187,7 @@ module _ (r n : ℕ) where
         (ap (λ l. q.1 ++ l) (numbers-placed_row (Some i) qs (Has-tail q qs i t.1 h)) ∙ sym (append_assoc q.1 (take (row_end (Some i) qs) (numbers qs)) (n ∷ drop (row_end (Some i) qs) (numbers qs))))
   ]
 
-  filled-placed_row : (b : Option ℕ) (rows : List (Numbered (List ℕ))) → AreFilled rows → AreFilled (with_pair_behind b (r, n ∷ []) rows)
+  filled-placed_row : (b : Option ℕ) (rows : List (Numbered (List ℕ))) → AreFilled rows → AreFilled (with_pair_after b (r, n ∷ []) rows)
   filled-placed_row None rows f = (omega arith, f)
   filled-placed_row (Some i) [] f = tt
   filled-placed_row (Some i) (q ∷ qs) f = elim (eqb_tells q.0 i) [
@@ -195,7 +195,7 @@ module _ (r n : ℕ) where
     | inr t ↦ rw t.0 (f.0, filled-placed_row (Some i) qs f.1)
   ]
 
-  row_with-placed_row : (b : Option ℕ) (rows : List (Numbered (List ℕ))) (i : ℕ) → n ≢ i → row_with (with_pair_behind b (r, n ∷ []) rows) i ≡ row_with rows i
+  row_with-placed_row : (b : Option ℕ) (rows : List (Numbered (List ℕ))) (i : ℕ) → n ≢ i → row_with (with_pair_after b (r, n ∷ []) rows) i ≡ row_with rows i
   row_with-placed_row None rows i m = rw (eqb_other n i m) refl
   row_with-placed_row (Some b) [] i m = refl
   row_with-placed_row (Some b) (q ∷ qs) i m = elim (eqb_tells q.0 b) [
@@ -203,7 +203,7 @@ module _ (r n : ℕ) where
     | inr t ↦ rw t.0 (ap (λ x. cond (among q.1 i) q.0 x) (row_with-placed_row (Some b) qs i m))
   ]
 
-  row_with-placed_now : (b : Option ℕ) (rows : List (Numbered (List ℕ))) → IfSome b (Has rows) → among (numbers rows) n ≡ false → row_with (with_pair_behind b (r, n ∷ []) rows) n ≡ r
+  row_with-placed_now : (b : Option ℕ) (rows : List (Numbered (List ℕ))) → IfSome b (Has rows) → among (numbers rows) n ≡ false → row_with (with_pair_after b (r, n ∷ []) rows) n ≡ r
   row_with-placed_now None rows h l = rw (eqb_same n) refl
   row_with-placed_now (Some b) [] h l = absurd (let f : false ≡ true = h in cc)
   row_with-placed_now (Some b) (q ∷ qs) h l =
@@ -214,12 +214,12 @@ module _ (r n : ℕ) where
       ]
 
   -- the rows with the number in a new row
-  pub puts_row : (b : Option ℕ) (rows new : List (Numbered (List ℕ))) → AreDistinct rows → AreFilled rows → IfSome b (Has rows) → leaf_in rows r ≡ None → among (numbers rows) n ≡ false → new ≡ with_pair_behind b (r, n ∷ []) rows → PutsIn rows new (row_end b rows) n r
+  pub puts_row : (b : Option ℕ) (rows new : List (Numbered (List ℕ))) → AreDistinct rows → AreFilled rows → IfSome b (Has rows) → leaf_in rows r ≡ None → among (numbers rows) n ≡ false → new ≡ with_pair_after b (r, n ∷ []) rows → PutsIn rows new (row_end b rows) n r
   puts_row b rows new d f h fresh l e =
       rw e (record {
         joined = numbers-placed_row b rows h;
         filled = filled-placed_row b rows f;
-        apart = AreDistinct-with_pair_behind b (r, n ∷ []) rows d (Lacks-from_leaf_in rows r fresh);
+        apart = AreDistinct-with_pair_after b (r, n ∷ []) rows d (Lacks-from_leaf_in rows r fresh);
         row = row_with-placed_now b rows h l;
         others = row_with-placed_row b rows;
       })
@@ -243,9 +243,9 @@ first_none [] f None e = refl
 first_none (r ∷ rs) f None e = (let g = e ∙ position-first (r ∷ rs) f in absurd cc)
 first_none rows f (Some p) e = tt
 
--- behind a position there is a spot
-pub spot_behind : (rows : List (Numbered (List ℕ))) (k : ℕ) (p : Position) → position_at rows k ≡ Some p → IsSpot rows (record { row = p.row; place = p.place + 1 }) (k + 1)
-spot_behind rows k p e = (let s = standing rows k p e in record { before = s.before; ids = s.ids; after = s.after; is = s.is; index = let i = s.index in omega arith; within = let w = s.within in omega arith })
+-- after a position there is a spot
+pub spot_after : (rows : List (Numbered (List ℕ))) (k : ℕ) (p : Position) → position_at rows k ≡ Some p → IsSpot rows (record { row = p.row; place = p.place + 1 }) (k + 1)
+spot_after rows k p e = (let s = standing rows k p e in record { before = s.before; ids = s.ids; after = s.after; is = s.is; index = let i = s.index in omega arith; within = let w = s.within in omega arith })
 
 -- the first so many, and one more
 pub among-take : (ns : List ℕ) (k n j : ℕ) → nth ns k ≡ Some n → among (take (k + 1) ns) j ≡ cond (eqb n j) true (among (take k ns) j)

@@ -84,7 +84,7 @@ module _ {X : Type 0} where
       let m : eqb p.0 n ≡ false = eqb_other p.0 n (λ t. has_other ps n p.0 h d.0 (sym t)) in
       rw m (ap suc (place_in-nth ps k n d.1 e))
 
-  -- the number behind one, by its place
+  -- the number after one, by its place
   pub number_after-nth : (ps : List (Numbered X)) (i : ℕ) → Has ps i → number_after ps i ≡ nth (map (λ p. p.0) ps) (place_in (map (λ p. p.0) ps) i + 1)
   number_after-nth [] i h = (let f : false ≡ true = h in absurd cc)
   number_after-nth (p ∷ ps) i h = elim (eqb_tells p.0 i) [
@@ -191,7 +191,7 @@ found (r ∷ rs) i d h = elim (is_or_not (among r.1 i)) [
   | inr t ↦ found_later r rs i d.0 t (found rs i d.1 (rw t at (sym (among-append r.1 (numbers rs) i) ∙ h)))
 ]
 
--- the rows before one and behind it, where a position is in it
+-- the rows before one and after it, where a position is in it
 pub record Standing (rows : List (Numbered (List ℕ))) (k : ℕ) (p : Position) : Type 0 where
   pub before : List (Numbered (List ℕ))
   pub ids : List ℕ
@@ -299,7 +299,7 @@ module _ (rows : List (Numbered (List ℕ))) (k : ℕ) (p : Position) (s : Stand
       let e : k + 1 ≡ length (numbers s.before) + (p.place + 1) = let i = s.index in omega arith in
       ap (λ rs. position_at rs (k + 1)) s.is ∙ ap (position_at (s.before ++ (p.row, s.ids) ∷ s.after)) e ∙ position-split s.before ((p.row, s.ids) ∷ s.after) (p.place + 1) ∙ position-here p.row s.ids s.after (p.place + 1) w
 
-  -- the first place behind the row
+  -- the first place after the row
   pub standing-end : AreDistinct rows → AreFilled rows → (b : ℕ) → b + p.place ≡ k + length s.ids → position_at rows b ≡ option_map start_of (number_after rows p.row)
   standing-end d f b w =
       let e : b ≡ length (numbers s.before) + (length s.ids + 0) = let i = s.index in omega arith in
@@ -307,9 +307,9 @@ module _ (rows : List (Numbered (List ℕ))) (k : ℕ) (p : Position) (s : Stand
       let g = (AreFilled-parts s.before ((p.row, s.ids) ∷ s.after) (subst AreFilled s.is f)).1 in
       ap (λ rs. position_at rs b) s.is ∙ ap (position_at (s.before ++ (p.row, s.ids) ∷ s.after)) e ∙ position-split s.before ((p.row, s.ids) ∷ s.after) (length s.ids + 0) ∙ position-past p.row s.ids s.after 0 ∙ position-first s.after g.1 ∙ ap (option_map start_of) (sym a)
 
-  -- the first place of the row behind, from the last of this one
-  pub standing-behind : AreDistinct rows → AreFilled rows → length s.ids ≤ p.place + 1 → position_at rows (k + 1) ≡ option_map start_of (number_after rows p.row)
-  standing-behind d f w = let i = s.within in standing-end d f (k + 1) (omega arith)
+  -- the first place of the next row, from the last of this one
+  pub standing-after : AreDistinct rows → AreFilled rows → length s.ids ≤ p.place + 1 → position_at rows (k + 1) ≡ option_map start_of (number_after rows p.row)
+  standing-after d f w = let i = s.within in standing-end d f (k + 1) (omega arith)
 
 -- a position among the first rows
 pub position-in : (before rest : List (Numbered (List ℕ))) (j : ℕ) → j < length (numbers before) → position_at (before ++ rest) j ≡ position_at before j

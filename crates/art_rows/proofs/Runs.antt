@@ -1,17 +1,17 @@
--- What holds of the runs of numbers behind a number and before it.
+-- What holds of the runs of numbers after a number and before it.
 use Rattle.std.proofs.Common.{◌≡◌, ℕ, zero, suc, ◌+◌, ◌-◌, ◌<◌, ◌≤◌, List, [], ◌∷◌, ◌++◌, length, map, take, drop, refl, sym, ap, subst, ◌∙◌, Option, Some, None, arith}
 use Rattle.std.proofs.lemmas.List.{length-take-le, length-drop}
 use Rattle.std.specs.Prelude.{option_map}
 use Rattle.art_rows.specs.Numbers.{Numbered, leaf_in, Has, number_after, number_before, AreDistinct}
-use Rattle.art_rows.specs.Rows.{place_in, nth, numbers, position_at, RunsBehind, RunsBefore, StandsAhead, start_of}
+use Rattle.art_rows.specs.Rows.{place_in, nth, numbers, position_at, RunsAfter, RunsBefore, StandsAfter, start_of}
 use Rattle.art_rows.specs.Filing.{Files}
-use Rattle.art_rows.specs.declared.ahead.Ahead.{Ahead}
+use Rattle.art_rows.specs.declared.following.Following.{Following}
 use Rattle.art_rows.specs.declared.leaves.Leaf.{Leaf}
 use Rattle.art_rows.specs.declared.row.Position.{Position}
 use Rattle.art_rows.proofs.FilingLemmas.{number_there, same_ids}
 use Rattle.art_rows.proofs.RowsLemmas.{nth-append_left, nth-append_right, nth-within, number_after-nth, number_before-nth, place_in-nth, standing, standing-numbers, standing-end}
 
--- what stands behind a place
+-- what stands after a place
 nth-drop : (ns : List ℕ) (k j : ℕ) → nth (drop k ns) j ≡ nth ns (k + j)
 nth-drop ns zero j = (let e : 0 + j ≡ j = omega arith in sym (ap (nth ns) e))
 nth-drop [] (suc k) j = refl
@@ -25,9 +25,9 @@ nth-take (m ∷ ns) (suc k) zero n e = e
 nth-take (m ∷ ns) (suc k) (suc j) n e = nth-take ns k j n e
 
 module _ {X : Type 0} (ps : List (Numbered X)) (distinct : AreDistinct ps) (i n : ℕ) (has : Has ps i) (rest : List ℕ) where
-  -- the first of a run is the number behind, and the others are a run behind that
-  pub behind_step : RunsBehind ps i (n ∷ rest) → (number_after ps i ≡ Some n) × RunsBehind ps n rest
-  behind_step r =
+  -- the first of a run is the next number, and the others are a run after that
+  pub after_step : RunsAfter ps i (n ∷ rest) → (number_after ps i ≡ Some n) × RunsAfter ps n rest
+  after_step r =
       let ns : List ℕ = map (λ p. p.0) ps in
       let k : ℕ = place_in ns i in
       let a : k + 1 + 0 ≡ k + 1 = omega arith in
@@ -37,20 +37,20 @@ module _ {X : Type 0} (ps : List (Numbered X)) (distinct : AreDistinct ps) (i n 
         λ j m e. let d : place_in ns n + 1 + j ≡ k + 1 + suc j = omega arith in ap (nth ns) d ∙ r (suc j) m e,
       )
 
-  -- the number behind stands one place further
-  pub behind_index : number_after ps i ≡ Some n → place_in (map (λ p. p.0) ps) n ≡ place_in (map (λ p. p.0) ps) i + 1
-  behind_index e = place_in-nth ps (place_in (map (λ p. p.0) ps) i + 1) n distinct (sym (number_after-nth ps i has) ∙ e)
+  -- the next number stands one place further
+  pub after_index : number_after ps i ≡ Some n → place_in (map (λ p. p.0) ps) n ≡ place_in (map (λ p. p.0) ps) i + 1
+  after_index e = place_in-nth ps (place_in (map (λ p. p.0) ps) i + 1) n distinct (sym (number_after-nth ps i has) ∙ e)
 
-  -- the same of all that stands behind
-  pub ahead_step : (rows : List (Numbered (List ℕ))) (a b : Ahead) → a.run.now ≡ n ∷ b.run.now → b.row ≡ a.row → b.run.now ≡ rest → StandsAhead ps rows i a → (number_after ps i ≡ Some n) × StandsAhead ps rows n b
-  ahead_step rows a b cut same is s =
-      let r = behind_step (subst (RunsBehind ps i) (cut ∙ ap (λ l. n ∷ l) is) s.run) in
-      let c : place_in (map (λ p. p.0) ps) n ≡ place_in (map (λ p. p.0) ps) i + 1 = behind_index r.0 in
+  -- the same of all that follows
+  pub following_step : (rows : List (Numbered (List ℕ))) (a b : Following) → a.run.now ≡ n ∷ b.run.now → b.row ≡ a.row → b.run.now ≡ rest → StandsAfter ps rows i a → (number_after ps i ≡ Some n) × StandsAfter ps rows n b
+  following_step rows a b cut same is s =
+      let r = after_step (subst (RunsAfter ps i) (cut ∙ ap (λ l. n ∷ l) is) s.run) in
+      let c : place_in (map (λ p. p.0) ps) n ≡ place_in (map (λ p. p.0) ps) i + 1 = after_index r.0 in
       let l : length a.run.now ≡ suc (length b.run.now) = ap length cut in
       let e : place_in (map (λ p. p.0) ps) n + 1 + length b.run.now ≡ place_in (map (λ p. p.0) ps) i + 1 + length a.run.now = omega arith in (
         r.0,
         record {
-          run = subst (RunsBehind ps n) (sym is) r.1;
+          run = subst (RunsAfter ps n) (sym is) r.1;
           row = ap (option_map start_of) same ∙ s.row ∙ sym (ap (position_at rows) e);
         },
       )
@@ -95,15 +95,15 @@ module _ {K V : Type 0} {leaves : ℕ → Option (Leaf K V)} {rows : List (Numbe
       let d : j < length s.ids = rw same w in
       rw (f.joined, standing-numbers rows k p s, c) (nth-append_right (numbers s.before) (s.ids ++ numbers s.after) j ∙ nth-append_left s.ids (numbers s.after) j d ∙ ap (λ l. nth l j) same ∙ h)
 
-  -- what stands in a row behind a number is a run behind it
-  pub behind_in_row : RunsBehind ps n (drop (p.place + 1) ids)
-  behind_in_row j m e =
+  -- what stands in a row after a number is a run after it
+  pub after_in_row : RunsAfter ps n (drop (p.place + 1) ids)
+  after_in_row j m e =
       let i = index_is in
       nth_of_row (p.place + 1 + j) m (place_in (map (λ q. q.0) ps) n + 1 + j) (omega arith) (sym (nth-drop ids (p.place + 1) j) ∙ e)
 
-  -- the row behind, if there is one, stands behind that run
-  row_behind_run : position_at rows (place_in (map (λ q. q.0) ps) n + 1 + length (drop (p.place + 1) ids)) ≡ option_map start_of (number_after rows p.row)
-  row_behind_run =
+  -- the next row, if there is one, stands after that run
+  row_after_run : position_at rows (place_in (map (λ q. q.0) ps) n + 1 + length (drop (p.place + 1) ids)) ≡ option_map start_of (number_after rows p.row)
+  row_after_run =
       let i = index_is in
       let s = standing rows k p at in
       let same : s.ids ≡ ids = same_ids f k p at ids is in
@@ -112,11 +112,11 @@ module _ {K V : Type 0} {leaves : ℕ → Option (Leaf K V)} {rows : List (Numbe
       let b : place_in (map (λ q. q.0) ps) n + 1 + length (drop (p.place + 1) ids) + p.place ≡ k + length s.ids = rw same (omega arith) in
       standing-end rows k p s f.apart f.filled _ b
 
-  -- what was looked up in a row and behind it stands ahead
-  pub ahead_there : (b : Ahead) → b.run.now ≡ drop (p.place + 1) ids → b.row ≡ number_after rows p.row → StandsAhead ps rows n b
-  ahead_there b run row = record { run = subst (RunsBehind ps n) (sym run) behind_in_row; row = ap (option_map start_of) row ∙ sym row_behind_run ∙ ap (λ l. position_at rows (place_in (map (λ q. q.0) ps) n + 1 + length l)) (sym run) }
+  -- what was looked up in a row and after it follows the number
+  pub following_there : (b : Following) → b.run.now ≡ drop (p.place + 1) ids → b.row ≡ number_after rows p.row → StandsAfter ps rows n b
+  following_there b run row = record { run = subst (RunsAfter ps n) (sym run) after_in_row; row = ap (option_map start_of) row ∙ sym row_after_run ∙ ap (λ l. position_at rows (place_in (map (λ q. q.0) ps) n + 1 + length l)) (sym run) }
 
-  -- the number there is the one behind
+  -- the number there is the next one
   next_there : (i : ℕ) → Has ps i → k ≡ place_in (map (λ q. q.0) ps) i + 1 → number_after ps i ≡ Some n
   next_there i has e = number_after-nth ps i has ∙ ap (nth (map (λ q. q.0) ps)) (sym e) ∙ number_there f k p at ids is ∙ there
 
@@ -132,12 +132,12 @@ module _ {K V : Type 0} {leaves : ℕ → Option (Leaf K V)} {rows : List (Numbe
       )
 
 module _ {K V : Type 0} {leaves : ℕ → Option (Leaf K V)} {rows : List (Numbered (List ℕ))} {count : ℕ} {ps : List (Numbered (K × V))} (f : Files leaves rows count ps) where
-  -- at the end of a run the number behind is the first of the row behind, and the others of that row stand ahead of it
-  pub ahead_row : (i n : ℕ) → Has ps i → (a b : Ahead) → length a.run.now ≡ 0 → StandsAhead ps rows i a → (r : ℕ) → a.row ≡ Some r → (ids : List ℕ) → leaf_in rows r ≡ Some ids → ids ≡ n ∷ b.run.now → b.row ≡ number_after rows r → (number_after ps i ≡ Some n) × StandsAhead ps rows n b
-  ahead_row i n has a b l s r row ids is cut behind =
+  -- at the end of a run the next number is the first of the next row, and the others of that row follow it
+  pub following_row : (i n : ℕ) → Has ps i → (a b : Following) → length a.run.now ≡ 0 → StandsAfter ps rows i a → (r : ℕ) → a.row ≡ Some r → (ids : List ℕ) → leaf_in rows r ≡ Some ids → ids ≡ n ∷ b.run.now → b.row ≡ number_after rows r → (number_after ps i ≡ Some n) × StandsAfter ps rows n b
+  following_row i n has a b l s r row ids is cut after =
       let k : ℕ = place_in (map (λ q. q.0) ps) i + 1 + length a.run.now in
       let at : position_at rows k ≡ Some (start_of r) = sym s.row ∙ ap (option_map start_of) row in
       let there : nth ids 0 ≡ Some n = ap (λ ns. nth ns 0) cut in (
         next_there f k (start_of r) at ids is n there i has (omega arith),
-        ahead_there f k (start_of r) at ids is n there b (sym (ap (drop 1) cut)) behind,
+        following_there f k (start_of r) at ids is n there b (sym (ap (drop 1) cut)) after,
       )

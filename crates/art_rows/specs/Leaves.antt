@@ -29,7 +29,7 @@ module _ {K V : Type 0} where
   abbrev pub index_of : List (Numbered (K × V)) → ℕ → ℕ
   index_of ps i = place_in (map (λ p. p.0) ps) i
 
-  -- how many pairs stand before a place: that behind a number, or the front
+  -- how many pairs stand before a place: that after a number, or the front
   abbrev pub spot_index : Option ℕ → List (Numbered (K × V)) → ℕ
   spot_index None ps = 0
   spot_index (Some i) ps = index_of ps i + 1

@@ -53,7 +53,7 @@ module _ {X : Type 0} where
   abbrev pub content : Store (Link X) → Option ℕ → Content X
   content leaves first = record { pairs = pairs_in leaves first; spare = leaves.spare }
 
-  -- the leaves, with one linked to another behind it
+  -- the leaves, with one linked to another after it
   abbrev pub with_next : (ℕ → Option (Link X)) → Option ℕ → Option ℕ → ℕ → Option (Link X)
   with_next leaves i to j = if is_at i j then option_map (λ (x : Link X). record x { next = to }) (leaves j) else leaves j
 

@@ -41,7 +41,7 @@ module _ {X : Type 0} where
   last_number (p ∷ []) = Some p.0
   last_number (p ∷ q ∷ ps) = last_number (q ∷ ps)
 
-  -- the number behind a number
+  -- the number after a number
   abbrev pub number_after : List (Numbered X) → ℕ → Option ℕ
   number_after [] i = None
   number_after (p ∷ ps) i = if eqb p.0 i then first_number ps else number_after ps i
@@ -55,16 +55,16 @@ module _ {X : Type 0} where
   abbrev pub number_before : List (Numbered X) → ℕ → Option ℕ
   number_before ps i = number_before_from None ps i
 
-  -- the number behind a place: that of a number, or the front
-  abbrev pub behind : Option ℕ → List (Numbered X) → Option ℕ
-  behind None ps = first_number ps
-  behind (Some i) ps = number_after ps i
+  -- the number after a place: that of a number, or the front
+  abbrev pub next_number : Option ℕ → List (Numbered X) → Option ℕ
+  next_number None ps = first_number ps
+  next_number (Some i) ps = number_after ps i
 
-  -- the pairs, with another behind the one of a number, or in front
-  abbrev pub with_pair_behind : Option ℕ → Numbered X → List (Numbered X) → List (Numbered X)
-  with_pair_behind None x ps = x ∷ ps
-  with_pair_behind (Some i) x [] = []
-  with_pair_behind (Some i) x (p ∷ ps) = if eqb p.0 i then p ∷ x ∷ ps else p ∷ with_pair_behind (Some i) x ps
+  -- the pairs, with another after the one of a number, or in front
+  abbrev pub with_pair_after : Option ℕ → Numbered X → List (Numbered X) → List (Numbered X)
+  with_pair_after None x ps = x ∷ ps
+  with_pair_after (Some i) x [] = []
+  with_pair_after (Some i) x (p ∷ ps) = if eqb p.0 i then p ∷ x ∷ ps else p ∷ with_pair_after (Some i) x ps
 
   -- the pairs but that of a number
   abbrev pub without_number : List (Numbered X) → ℕ → List (Numbered X)

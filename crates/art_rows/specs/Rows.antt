@@ -1,7 +1,7 @@
 -- Rows of numbers: which row has a number, at which place, and the numbers of all rows in order.
 use Rattle.std.specs.Prelude.{◌≡◌, ◌≤◌, ℕ, zero, suc, ◌+◌, ◌-◌, ◌*◌, ◌<◌, min, max, List, [], ◌∷◌, ◌++◌, length, map, Option, option_map, Some, None, Bool, true, false, if◌then◌else◌, eqb, ltb}
 use Rattle.art_rows.specs.Numbers.{Numbered, leaf_in, AreDistinct}
-use Rattle.art_rows.specs.declared.ahead.Ahead.{Ahead}
+use Rattle.art_rows.specs.declared.following.Following.{Following}
 use Rattle.art_rows.specs.declared.row.Position.{Position}
 use Rattle.art_rows.specs.declared.row.TheConstants.{HALF}
 
@@ -50,7 +50,7 @@ pub record IsSpot (rows : List (Numbered (List ℕ))) (p : Position) (k : ℕ) :
   pub index : k ≡ length (numbers before) + p.place
   pub within : p.place ≤ length ids
 
--- a full row in two, the second half behind the first
+-- a full row in two, the second half after the first
 pub record IsSplit (old new : List (Numbered (List ℕ))) (r s : ℕ) : Type 0 where
   pub before : List (Numbered (List ℕ))
   pub first : List ℕ
@@ -96,15 +96,15 @@ abbrev pub nowhere : Position
 nowhere = record { row = 0; place = 0 }
 
 module _ {X : Type 0} where
-  -- the numbers of a run stand directly behind that of i, in this order
-  abbrev pub RunsBehind : List (Numbered X) → ℕ → List ℕ → Type 0
-  RunsBehind ps i run = (j n : ℕ) → nth run j ≡ Some n → nth (map (λ p. p.0) ps) (place_in (map (λ p. p.0) ps) i + 1 + j) ≡ Some n
+  -- the numbers of a run stand directly after that of i, in this order
+  abbrev pub RunsAfter : List (Numbered X) → ℕ → List ℕ → Type 0
+  RunsAfter ps i run = (j n : ℕ) → nth run j ≡ Some n → nth (map (λ p. p.0) ps) (place_in (map (λ p. p.0) ps) i + 1 + j) ≡ Some n
 
   -- the numbers of a run stand directly before that of i, in this order
   abbrev pub RunsBefore : List (Numbered X) → ℕ → List ℕ → Type 0
   RunsBefore ps i run = (length run ≤ place_in (map (λ p. p.0) ps) i) × ((j n : ℕ) → nth run j ≡ Some n → nth (map (λ p. p.0) ps) (place_in (map (λ p. p.0) ps) i + j - length run) ≡ Some n)
 
-  -- the run stands directly behind the number i, and behind the run the row, or nothing where none is named
-  pub record StandsAhead (ps : List (Numbered X)) (rows : List (Numbered (List ℕ))) (i : ℕ) (ahead : Ahead) : Type 0 where
-    pub run : RunsBehind ps i ahead.run.now
-    pub row : option_map start_of ahead.row ≡ position_at rows (place_in (map (λ p. p.0) ps) i + 1 + length ahead.run.now)
+  -- the run stands directly after the number i, and after the run the row, or nothing where none is named
+  pub record StandsAfter (ps : List (Numbered X)) (rows : List (Numbered (List ℕ))) (i : ℕ) (following : Following) : Type 0 where
+    pub run : RunsAfter ps i following.run.now
+    pub row : option_map start_of following.row ≡ position_at rows (place_in (map (λ p. p.0) ps) i + 1 + length following.run.now)

@@ -2,7 +2,7 @@
 ghost use Rattle.std.specs.Prelude.{◌≡◌, ◌+◌, ◌<◌, ◌≤◌, ℕ, [], length, option_map, Some, None, IsSome, IfSome, OnOk, OnErr};
 ghost use Rattle.std.specs.Borrow.{sem};
 ghost use Rattle.art_slots.specs.Store.{slot_at, used_count};
-ghost use Rattle.art_rows.specs.Numbers.{leaf_in, Has, AreDistinct, first_number, last_number, number_after, number_before, with_pair_behind, without_number};
+ghost use Rattle.art_rows.specs.Numbers.{leaf_in, Has, AreDistinct, first_number, last_number, number_after, number_before, with_pair_after, without_number};
 ghost use Rattle.art_rows.specs.Links.{with_next, with_prev, end_with};
 ghost use Rattle.art_rows.specs.ChainLends.{lends_item, lends_at};
 
@@ -10,7 +10,7 @@ use art_slots::Store;
 use std::alloc::{AllocError, Global};
 use std::marker::Model;
 
-/// An item, and the numbers before and behind.
+/// An item, and the numbers before and after it.
 #[derive(Drop)]
 pub(crate) struct Link<T> {
     pub(crate) item: T,
@@ -49,7 +49,7 @@ impl<T> Model for Chain<T> {
     ghost invariant = { λ t. AllLinked t.records t.first t.last };
 }
 
-// Links the record `at` to the one behind it, or makes that one the first.
+// Links the record `at` to the one after it, or makes that one the first.
 fn set_next<T>(
     records: &mut Store<Link<T>>,
     first: &mut Option<usize>,
@@ -128,7 +128,7 @@ impl<T> Chain<T> {
         self.last
     }
 
-    /// The number behind this one.
+    /// The number after this one.
     pub(crate) fn next_of(&self, id: usize) -> Option<usize>
         requires { Has self.now.pairs id }
         ensures { result ≡ number_after self.now.pairs id }
@@ -183,23 +183,23 @@ impl<T> Chain<T> {
 }
 
 impl<T: Drop> Chain<T> {
-    /// Puts an item behind the one of `prev`, or in front of all. It asks for no memory.
+    /// Puts an item after the one of `prev`, or in front of all. It asks for no memory.
     pub(crate) fn insert(&mut self, prev: Option<usize>, item: T) -> usize
         requires spare { 0 < self.old.spare }
         requires prev { IfSome prev (Has self.old.pairs) }
         ensures fresh { leaf_in self.old.pairs result ≡ None }
-        ensures placed { self.new.pairs ≡ with_pair_behind prev (result, item) self.old.pairs }
+        ensures placed { self.new.pairs ≡ with_pair_after prev (result, item) self.old.pairs }
         ensures spare { self.new.spare + 1 ≡ self.old.spare }
     {
         let next = match prev {
             None => self.first,
             Some(id) => self.next_of(id),
         };
-        let (before, behind) = (prev, next);
+        let (before, after) = (prev, next);
         let number = self.records.fill(Link {
             item,
             prev: before,
-            next: behind,
+            next: after,
         });
         set_next(&mut self.records, &mut self.first, prev, Some(number));
         set_prev(&mut self.records, &mut self.last, next, Some(number));

@@ -1,16 +1,16 @@
 //! The leaf records, in rows in the order of their keys.
 ghost use Rattle.std.specs.Prelude.{◌≡◌, ◌≢◌, ◌+◌, ◌-◌, ◌<◌, ◌≤◌, ◌++◌, ◌⊎◌, ℕ, [], ◌∷◌, length, map, option_map, take, drop, Some, None, IsSome, IfSome, IfNone, true, OnOk, OnErr};
 ghost use Rattle.art_slots.specs.Store.{slot_at, used_count};
-ghost use Rattle.art_rows.specs.Numbers.{leaf_in, Has, AreDistinct, first_number, last_number, number_after, number_before, with_pair_behind, without_number, with_pair};
-ghost use Rattle.art_rows.specs.Rows.{position_at, nth, numbers, IsSpot, IsSplit, row_end, row_room, row_start, among, RunsBefore, StandsAhead};
+ghost use Rattle.art_rows.specs.Numbers.{leaf_in, Has, AreDistinct, first_number, last_number, number_after, number_before, with_pair_after, without_number, with_pair};
+ghost use Rattle.art_rows.specs.Rows.{position_at, nth, numbers, IsSpot, IsSplit, row_end, row_room, row_start, among, RunsBefore, StandsAfter};
 ghost use Rattle.art_rows.specs.declared.row.Position.{Position};
 ghost use Rattle.art_rows.specs.Leaves.{index_of, room, spot_index};
 ghost use Rattle.art_rows.specs.Filing.{in_row};
 ghost use Rattle.art_rows.specs.LeafLends.{lends_value, lends_leaf};
 ghost use Rattle.std.specs.Borrow.{sem};
 
-use crate::ahead::Ahead;
 use crate::chain::Chain;
+use crate::following::Following;
 use crate::row::{HALF, Position, ROW, Row};
 use art_slots::{LeafId, Store, Visits};
 use std::alloc::{AllocError, Global};
@@ -120,8 +120,8 @@ impl<K, V> Leaves<K, V> {
         }
     }
 
-    // The leaf behind this one, where this one stands as it was seen, and is not the last of its row.
-    fn behind_in_row(&self, id: LeafId, seen: Position) -> Option<LeafId>
+    // The leaf after this one, where this one stands as it was seen, and is not the last of its row.
+    fn after_in_row(&self, id: LeafId, seen: Position) -> Option<LeafId>
         requires { Has self.now.pairs id }
         ensures after { IfSome result (λ n. number_after self.now.pairs id ≡ Some n) }
         ensures within { IfSome result (λ _. seen.place < ROW) }
@@ -172,7 +172,7 @@ impl<K, V> Leaves<K, V> {
         }
     }
 
-    /// The position behind this one.
+    /// The position after this one.
     #[inline(always)]
     pub(crate) fn forward(&self, position: Position) -> Option<Position>
         requires { (k : ℕ) × (position_at self.now.rows k ≡ Some position) }
@@ -248,7 +248,7 @@ impl<K, V> Leaves<K, V> {
         }
     }
 
-    /// The leaf behind this one.
+    /// The leaf after this one.
     pub fn next_of(&self, id: LeafId) -> Option<LeafId>
         requires { Has self.now.pairs id }
         ensures { result ≡ number_after self.now.pairs id }
@@ -260,13 +260,13 @@ impl<K, V> Leaves<K, V> {
         }
     }
 
-    /// The leaf behind this one. `seen` is where this one may stand, and then where that one does: where this one stands there, no row is searched, and no leaf is read.
+    /// The leaf after this one. `seen` is where this one may stand, and then where that one does: where this one stands there, no row is searched, and no leaf is read.
     #[inline(always)]
     pub fn next_from(&self, id: LeafId, seen: &mut Position) -> Option<LeafId>
         requires { Has self.now.pairs id }
         ensures { result ≡ number_after self.now.pairs id }
     {
-        if let Some(near) = self.behind_in_row(id, *seen) {
+        if let Some(near) = self.after_in_row(id, *seen) {
             seen.place += 1;
             return Some(near);
         }
@@ -316,43 +316,44 @@ impl<K, V> Leaves<K, V> {
         }
     }
 
-    /// What stands behind a leaf.
-    pub fn ahead(&self, id: LeafId) -> Ahead<'_>
+    /// What follows a leaf.
+    pub fn following(&self, id: LeafId) -> Following<'_>
         requires { Has self.now.pairs id }
-        ensures { StandsAhead self.now.pairs self.now.rows id result }
+        ensures { StandsAfter self.now.pairs self.now.rows id result }
     {
         let position = self.position_of(id);
-        let run = self.rows.read(position.row).behind(position.place);
+        let run = self.rows.read(position.row).run_after(position.place);
         let row = self.row_told(position.row);
-        Ahead { run, row }
+        Following { run, row }
     }
 
-    /// The leaf behind this one; `ahead` is what stands behind this one, and then what stands behind that. Only at the end of a row is the next one read.
+    /// The leaf after this one; `following` is what follows this one, and then what follows that. Only at the end of a row is the next one read.
     #[inline(always)]
-    pub fn next_in<'a>(&'a self, id: LeafId, ahead: &mut Ahead<'a>) -> Option<LeafId>
+    pub fn next_in<'a>(&'a self, id: LeafId, following: &mut Following<'a>) -> Option<LeafId>
         requires has { Has self.now.pairs id }
-        requires ahead { StandsAhead self.now.pairs self.now.rows id ahead.old }
+        requires following { StandsAfter self.now.pairs self.now.rows id following.old }
         ensures next { result ≡ number_after self.now.pairs id }
-        ensures ahead { IfSome result (λ n. StandsAhead self.now.pairs self.now.rows n ahead.new) }
+        ensures following { IfSome result
+            (λ n. StandsAfter self.now.pairs self.now.rows n following.new) }
     {
         self.law();
         // the run alone is written on most steps
-        if let Some((next, run)) = ahead.run.split_first() {
-            ahead.run = run;
+        if let Some((next, run)) = following.run.split_first() {
+            following.run = run;
             return Some(*next);
         }
         let rows = &self.rows;
-        let Some(row) = ahead.row else {
+        let Some(row) = following.row else {
             return None;
         };
         let ids = rows.read(row).ids();
         let (next, rest) = ids.split_first().unwrap();
-        ahead.run = rest;
-        ahead.row = self.row_told(row);
+        following.run = rest;
+        following.row = self.row_told(row);
         Some(*next)
     }
 
-    // The row behind another. It is read here, so that a walk that comes to it later need not wait for it; and the answer goes in registers, so that no step of a walk clears a place for it.
+    // The row after another. It is read here, so that a walk that comes to it later need not wait for it; and the answer goes in registers, so that no step of a walk clears a place for it.
     #[cold]
     #[inline(never)]
     fn row_told(&self, row: usize) -> Option<usize>
@@ -397,7 +398,7 @@ impl<K, V> Leaves<K, V> {
             return (None, &[]);
         };
         let row = rows.read(position.row);
-        (Some(row.at(position.place)), row.ahead_of(position.place))
+        (Some(row.at(position.place)), row.run_before(position.place))
     }
 
     /// The leaf before this one.
@@ -511,33 +512,33 @@ impl<K: Drop, V: Drop> Leaves<K, V> {
         self.rows.read(row).len()
     }
 
-    // The row behind another.
-    fn row_behind(&self, row: usize) -> Option<usize>
+    // The row after another.
+    fn row_after(&self, row: usize) -> Option<usize>
         requires { Has self.now.rows row }
         ensures { result ≡ number_after self.now.rows row }
     {
         self.rows.next_of(row)
     }
 
-    /// Puts a pair behind the leaf `prev`, or in front of all. `seen` is where `prev` may stand: where it does, no row is searched. It asks for no memory.
+    /// Puts a pair after the leaf `prev`, or in front of all. `seen` is where `prev` may stand: where it does, no row is searched. It asks for no memory.
     pub fn insert(&mut self, prev: Option<LeafId>, seen: Position, key: K, value: V) -> LeafId
         requires room { 0 < room self.old }
         requires prev { IfSome prev (Has self.old.pairs) }
         ensures fresh { leaf_in self.old.pairs result ≡ None }
-        ensures placed { self.new.pairs ≡ with_pair_behind prev (result, (key, value)) self.old.pairs }
+        ensures placed { self.new.pairs ≡ with_pair_after prev (result, (key, value)) self.old.pairs }
         ensures room { room self.old ≤ room self.new + 1 }
     {
         let _ = &self.rows;
         // The prover takes an `Option<LeafId>` that is passed on as moved, so this is a copy.
-        let behind = prev;
-        let position = match self.spot(behind, seen) {
+        let after = prev;
+        let position = match self.spot(after, seen) {
             None => return self.begin(prev, None, key, value),
             Some(position) => position,
         };
         if self.row_len(position.row) < ROW {
             return self.put(prev, position, key, value);
         }
-        if position.place == ROW && self.row_behind(position.row).is_none() {
+        if position.place == ROW && self.row_after(position.row).is_none() {
             return self.begin(prev, Some(position.row), key, value);
         }
         let fresh = self.split(position.row);
@@ -548,7 +549,7 @@ impl<K: Drop, V: Drop> Leaves<K, V> {
         self.put(prev, Position { row: fresh, place }, key, value)
     }
 
-    // Where a pair behind a leaf, which may stand where it was seen, or in front of all, has its place; nowhere while there is no row.
+    // Where a pair after a leaf, which may stand where it was seen, or in front of all, has its place; nowhere while there is no row.
     fn spot(&self, prev: Option<LeafId>, seen: Position) -> Option<Position>
         requires { IfSome prev (Has self.now.pairs) }
         ensures some { IfSome result (λ p. IsSpot self.now.rows p (spot_index prev self.now.pairs)) }
@@ -575,7 +576,7 @@ impl<K: Drop, V: Drop> Leaves<K, V> {
         requires spot { IsSpot self.old.rows position (spot_index prev self.old.pairs) }
         requires room { IfSome (leaf_in self.old.rows position.row) (λ ids. length ids < ROW) }
         ensures fresh { leaf_in self.old.pairs result ≡ None }
-        ensures placed { self.new.pairs ≡ with_pair_behind prev (result, (key, value)) self.old.pairs }
+        ensures placed { self.new.pairs ≡ with_pair_after prev (result, (key, value)) self.old.pairs }
         ensures spare { self.new.spare + 1 ≡ self.old.spare }
         ensures spare_rows { self.new.spare_rows ≡ self.old.spare_rows }
         ensures rows { IfSome (leaf_in self.old.rows position.row) (λ ids. self.new.rows ≡ with_pair self.old.rows position.row (take position.place ids ++ result ∷ drop position.place ids)) }
@@ -590,27 +591,27 @@ impl<K: Drop, V: Drop> Leaves<K, V> {
         id
     }
 
-    // Puts a pair into a new row, behind another or in front of all.
-    fn begin(&mut self, prev: Option<LeafId>, behind: Option<usize>, key: K, value: V) -> LeafId
+    // Puts a pair into a new row, after another or in front of all.
+    fn begin(&mut self, prev: Option<LeafId>, prev_row: Option<usize>, key: K, value: V) -> LeafId
         requires spare { 0 < self.old.spare }
         requires spare_rows { 0 < self.old.spare_rows }
         requires prev { IfSome prev (Has self.old.pairs) }
-        requires behind { IfSome behind (Has self.old.rows) }
-        requires index { spot_index prev self.old.pairs ≡ row_end behind self.old.rows }
+        requires prev_row { IfSome prev_row (Has self.old.rows) }
+        requires index { spot_index prev self.old.pairs ≡ row_end prev_row self.old.rows }
         ensures fresh { leaf_in self.old.pairs result ≡ None }
-        ensures placed { self.new.pairs ≡ with_pair_behind prev (result, (key, value)) self.old.pairs }
+        ensures placed { self.new.pairs ≡ with_pair_after prev (result, (key, value)) self.old.pairs }
         ensures spare { self.new.spare + 1 ≡ self.old.spare }
         ensures spare_rows { self.new.spare_rows + 1 ≡ self.old.spare_rows }
-        ensures rows { (r : ℕ) × (self.new.rows ≡ with_pair_behind behind (r, result ∷ []) self.old.rows) }
+        ensures rows { (r : ℕ) × (self.new.rows ≡ with_pair_after prev_row (r, result ∷ []) self.old.rows) }
     {
         let number = self.records.fill(Leaf { key, value, row: 0 });
         let id = LeafId::new(number);
-        let row = self.rows.insert(behind, Row::new(id));
+        let row = self.rows.insert(prev_row, Row::new(id));
         self.records.get_mut(number).row = row;
         id
     }
 
-    // Moves the second half of a full row into a new one behind it.
+    // Moves the second half of a full row into a new one after it.
     fn split(&mut self, row: usize) -> usize
         requires spare_rows { 0 < self.old.spare_rows }
         requires has { Has self.old.rows row }

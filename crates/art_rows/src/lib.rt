@@ -3,12 +3,12 @@
 //! A contract sees [`Leaves`] as the list of its pairs in order, each under its number, with the rows of the numbers and the spare records. Where rows are read no leaf is, so whoever goes over leaves need not wait for one to find the next.
 #![tactic(auto)]
 
-mod ahead;
 mod chain;
+mod following;
 mod leaves;
 mod row;
 
-pub use ahead::Ahead;
 pub use art_slots::{LeafId, Visits};
+pub use following::Following;
 pub use leaves::Leaves;
 pub use row::Position;

@@ -83,7 +83,7 @@ impl Row {
         place < self.count && self.ids[..self.count][place] == number
     }
 
-    /// The number behind another, where that stands at a place and is not the last.
+    /// The number after another, where that stands at a place and is not the last.
     pub(crate) fn after(&self, place: usize, number: LeafId) -> Option<LeafId>
         ensures { IfSome result (λ n. (nth self.now place ≡ Some number) × (nth self.now (place + 1) ≡ Some n)) }
     {
@@ -114,8 +114,8 @@ impl Row {
         &self.ids[..self.count]
     }
 
-    /// The numbers behind a place.
-    pub(crate) fn behind(&self, place: usize) -> &[LeafId]
+    /// The numbers after a place.
+    pub(crate) fn run_after(&self, place: usize) -> &[LeafId]
         requires { place < length self.now }
         ensures { result.now ≡ drop (place + 1) self.now }
     {
@@ -124,7 +124,7 @@ impl Row {
     }
 
     /// The numbers before a place.
-    pub(crate) fn ahead_of(&self, place: usize) -> &[LeafId]
+    pub(crate) fn run_before(&self, place: usize) -> &[LeafId]
         requires { place < length self.now }
         ensures { result.now ≡ take place self.now }
     {

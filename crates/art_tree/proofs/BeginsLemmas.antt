@@ -79,7 +79,7 @@ pub Begins-itself : (k : Bytes) → Begins k k
 Begins-itself [] = tt
 Begins-itself (x ∷ k) = (refl, Begins-itself k)
 
--- the byte behind a front is the next byte
+-- the byte after a front is the next byte
 pub Begins-next : (g k : Bytes) (b : ℕ) → Begins (g ++ b ∷ []) k → next_byte g k ≡ b
 Begins-next [] [] b h = absurd h
 Begins-next [] (y ∷ k) b h = sym h.0
@@ -151,7 +151,7 @@ common_same (x ∷ t) (y ∷ a) (z ∷ b) (w ∷ l) ha hb never =
           rw (p.0, f) refl
     ]
 
--- two keys part behind t
+-- two keys part after t
 pub common_at : (t a l : Bytes) → Begins t a → length t < length a → Begins t l → (Begins (t ++ next_byte t a ∷ []) l → ⊥) → common a l ≡ t
 common_at [] [] l ha la hl never = absurd (omega arith)
 common_at [] (y ∷ a) [] ha la hl never = refl

@@ -21,7 +21,7 @@ pub use Rattle.art_tree.proofs.Pairs.Numbers.{with_value-split}
 pub use Rattle.art_rows.proofs.CallerLemmas.{length-without_number, AreDistinct-without_number, same_first, same_last, leaf_in-with_now, others-with_pair}
 pub use Rattle.art_tree.proofs.Pairs.Numbers.{AreDistinct-with_value, numbers-with_value}
 -- the pairs that pass a test, where one goes, and lists of which both ends are known
-pub use Rattle.art_tree.proofs.Pairs.Filtering.{AreDistinct-filter, filter-without, dropped_without, filter_every, Ends, two_ends, only_one}
+pub use Rattle.art_tree.proofs.Pairs.Filtering.{AreDistinct-filter, filter-without, dropped_without, filter_every, HasTwoPairs, two_ends, only_one}
 -- the keys of the pairs
 pub use Rattle.art_tree.proofs.Pairs.Keys.{key_of_member, member_of_key}
 -- a key that is related to one alone
@@ -32,7 +32,7 @@ module _ {K V : Type 0} (kb : K → Bytes) (ps : List (Numbered K V)) (content :
   -- no key is related to one whose place is free
   pub free_alone : (place : Place) → IsFree kb ps place q → (y : Numbered K V) → Member y ps → related (bytes kb y) q ≡ false
   free_alone place free y m = false_from_ne_true (related (bytes kb y) q) (λ rel.
-      let d = departs_at (keys_in kb ps) place.mate place.depth q free.leaves in
+      let d = departs_at (keys_in kb ps) place.nearest place.depth q free.leaves in
       let k = bytes kb y in
       let t = take place.depth q in
       let e = key_of_member kb ps y distinct m in
@@ -40,11 +40,11 @@ module _ {K V : Type 0} (kb : K → Bytes) (ps : List (Numbered K V)) (content :
         | inl b ↦ elim (cases_lt (length t) (length k)) [
           | inl far ↦ d.alone y.0 k e (Begins-past t k q d.front b far)
           | inr near ↦
-              let km : Begins k d.mate_key = Begins-trans k t d.mate_key (Begins-linear k t q b d.front near) d.mate_front in
-              let r = member_of_key kb ps d.mate d.mate_key d.mate_is in
-              let same = same_item (bytes kb) ps content y r.0 m r.1 (subst (λ l. related k l ≡ true) (sym r.3) (related-from_front k d.mate_key km)) in
-              let l : length k ≡ length d.mate_key = ap (λ x. length (bytes kb x)) same ∙ ap (λ (l : Bytes). length l) r.3 in
-              let longer : length t < length d.mate_key = d.mate_longer in
+              let km : Begins k d.nearest_key = Begins-trans k t d.nearest_key (Begins-linear k t q b d.front near) d.nearest_front in
+              let r = member_of_key kb ps d.nearest d.nearest_key d.nearest_is in
+              let same = same_item (bytes kb) ps content y r.0 m r.1 (subst (λ l. related k l ≡ true) (sym r.3) (related-from_front k d.nearest_key km)) in
+              let l : length k ≡ length d.nearest_key = ap (λ x. length (bytes kb x)) same ∙ ap (λ (l : Bytes). length l) r.3 in
+              let longer : length t < length d.nearest_key = d.nearest_longer in
               omega arith
         ]
         | inr b ↦ d.alone y.0 k e (Begins-trans (t ++ next_byte t q ∷ []) q k (Begins-more t q d.front d.longer) b)

@@ -12,4 +12,4 @@ pub mod SameShapes
 pub mod SmallShapes
 pub mod Soundness
 pub mod Splitting
-pub mod Uprooting
+pub mod Subtrees

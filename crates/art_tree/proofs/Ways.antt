@@ -1,7 +1,7 @@
-pub mod Departures
 pub mod Depths
 pub mod Ends
-pub mod Mates
+pub mod Mismatches
+pub mod Nearest
 pub mod Partings
 pub mod Points
 pub mod Roots

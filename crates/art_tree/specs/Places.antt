@@ -4,15 +4,15 @@ use Rattle.blart_keys.specs.Bytes.{less}
 use Rattle.art_tree.specs.Begins.{Bytes, Begins}
 use Rattle.art_tree.specs.Leaves.{Numbered, number_before}
 use Rattle.art_tree.specs.declared.tree.parting.Beside.{Beside}
-use Rattle.art_tree.specs.declared.tree.parting.Beside.TheVariants.{Behind, InFront}
+use Rattle.art_tree.specs.declared.tree.parting.Beside.TheVariants.{AfterLeaf, BeforeLeaf}
 
--- the key q goes along with that of the leaf `mate` for so many bytes, and with no key for one more
-pub record LeavesMate (keys : ℕ → Option Bytes) (mate depth : ℕ) (q : Bytes) : Type 0 where
-  pub mate_key : Bytes
-  pub mate_is : keys mate ≡ Some mate_key
-  pub along : take depth mate_key ≡ take depth q
+-- the key q goes along with that of the leaf `nearest` for so many bytes, and with no key for one more
+pub record LeavesNearest (keys : ℕ → Option Bytes) (nearest depth : ℕ) (q : Bytes) : Type 0 where
+  pub nearest_key : Bytes
+  pub nearest_is : keys nearest ≡ Some nearest_key
+  pub along : take depth nearest_key ≡ take depth q
   pub longer : depth < length q
-  pub mate_longer : depth < length mate_key
+  pub nearest_longer : depth < length nearest_key
   pub alone : (j : ℕ) (l : Bytes) → keys j ≡ Some l → Begins (take depth q ++ slice_index_or q depth 0 ∷ []) l → ⊥
 
 -- the leaf has the greatest key less than q
@@ -34,17 +34,17 @@ abbrev pub IsLeafBefore : (ℕ → Option Bytes) → Bytes → Option ℕ → Ty
 IsLeafBefore keys q None = (j : ℕ) (k : Bytes) → keys j ≡ Some k → less k q ≡ false
 IsLeafBefore keys q (Some i) = LastBefore keys q i
 
--- the place of q is behind the leaf, or in front of it
+-- the place of q is after the leaf, or before it
 abbrev pub IsBeside : (ℕ → Option Bytes) → Bytes → Beside → Type 0
-IsBeside keys q (Behind i) = LastBefore keys q i
-IsBeside keys q (InFront i) = FirstAfter keys q i
+IsBeside keys q (AfterLeaf i) = LastBefore keys q i
+IsBeside keys q (BeforeLeaf i) = FirstAfter keys q i
 
 -- the leaf beside a place
 abbrev pub neighbour : Beside → ℕ
-neighbour (Behind i) = i
-neighbour (InFront i) = i
+neighbour (AfterLeaf i) = i
+neighbour (BeforeLeaf i) = i
 
--- the leaf in front of a place
-abbrev pub number_in_front : {K V : Type 0} → List (Numbered K V) → Beside → Option ℕ
-number_in_front ps (Behind i) = Some i
-number_in_front ps (InFront i) = number_before ps i
+-- the leaf before a place
+abbrev pub number_before_place : {K V : Type 0} → List (Numbered K V) → Beside → Option ℕ
+number_before_place ps (AfterLeaf i) = Some i
+number_before_place ps (BeforeLeaf i) = number_before ps i

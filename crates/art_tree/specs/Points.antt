@@ -1,7 +1,7 @@
 -- Which point is good for some bytes.
 use Rattle.std.specs.Prelude.{◌≡◌, ℕ, true, List, [], Some}
 use Rattle.blart_keys.specs.Content.{at, conflict, subtree}
-use Rattle.art_tree.specs.Places.{LeavesMate, IsBeside}
+use Rattle.art_tree.specs.Places.{LeavesNearest, IsBeside}
 use Rattle.art_tree.specs.Leaves.{Numbered, first_number, last_number, keys_in, bytes}
 use Rattle.art_tree.specs.declared.tree.point.Place.{Place}
 use Rattle.art_tree.specs.declared.tree.point.Point.{Point}
@@ -10,7 +10,7 @@ use Rattle.art_tree.specs.declared.tree.point.Point.TheVariants.{Empty, Exact, R
 module _ {K V : Type 0} (key_bytes : K → List ℕ) (pairs : List (Numbered K V)) where
   -- the place is free for q, and beside the right leaf
   pub record IsFree (place : Place) (q : List ℕ) : Type 0 where
-    pub leaves : LeavesMate (keys_in key_bytes pairs) place.mate place.depth q
+    pub leaves : LeavesNearest (keys_in key_bytes pairs) place.nearest place.depth q
     pub beside : IsBeside (keys_in key_bytes pairs) q place.beside
 
   -- where q stands in the pairs, or would go

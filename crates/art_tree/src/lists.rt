@@ -21,8 +21,8 @@ pub(crate) fn common_len(a: &[u8], b: &[u8]) -> usize
     n
 }
 
-/// How long the longest common front is of what two lists have behind so many bytes.
-pub(crate) fn common_len_behind(a: &[u8], b: &[u8], start: usize) -> usize
+/// How long the longest common front is of what two lists have after so many bytes.
+pub(crate) fn common_len_after(a: &[u8], b: &[u8], start: usize) -> usize
     requires a { start ≤ length a.now }
     requires b { start ≤ length b.now }
     ensures { result ≡ length (spec.common (drop start a.now) (drop start b.now)) }

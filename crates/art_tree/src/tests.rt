@@ -94,7 +94,7 @@ fn a_tree_taken_apart(rt: HostRuntime) {
             assert_leaves(&rt, &tree, &low, first, second);
         }
     }
-    // The keys part behind no byte, behind each byte and behind each two bytes.
+    // The keys part after no byte, after each byte and after each two bytes.
     assert_eq!(&rt; nodes.live(), 1 + 10 + 100);
     assert_eq!(&rt; leaves.len(), 1000);
 }

@@ -13,6 +13,7 @@ ghost use Rattle.art_tree.specs.Longest.{longest};
 mod apart;
 mod change;
 mod descent;
+mod free_subtree;
 mod parting;
 mod place;
 pub mod point;
@@ -21,7 +22,6 @@ mod remove;
 mod search;
 mod seek;
 pub(crate) mod stop;
-mod uproot;
 
 use crate::lists::begins;
 use crate::tree::descent::children_of;
@@ -121,7 +121,7 @@ impl<K: AsBytes + Drop, V: Drop, const PREFIX_LEN: usize> Tree<K, V, PREFIX_LEN>
         self.leaves.last()
     }
 
-    /// The leaf behind a leaf.
+    /// The leaf after a leaf.
     pub fn next_of(&self, id: LeafId) -> Option<LeafId>
         requires { Has self.now.pairs id }
         ensures { result ≡ number_after self.now.pairs id }

@@ -60,7 +60,7 @@ module _ {K V : Type 0} (ps : List (Numbered K V)) (distinct : AreDistinct ps) (
 -- ---- the closure's answer
 
 module _ {K V F : Type 0} (g : Mut F (Bor K × (MutBor V × Unit {0})) (Bool × (MutBor V × Unit {0}))) where
-  -- a call at the pair behind two references
+  -- a call at the pair to which two references lead
   pub asks_at : (f : F) (key : Bor K) (value left : MutBor V) (b : Bool) (f' : F) → Called g f (key, (value, tt)) (b, (left, tt)) f' → AsksPair g f (key.now, value.now) b (key.now, left.now) f'
   asks_at f key value left b f' m = record {
     called = record { key = key; value = value; shows = (refl, refl); left = left; called = m; leaves = refl };

@@ -124,9 +124,9 @@ module _ {K V : Type 0} where
   written_past f (p ∷ left) ps i w l =
       ap (written_all f left) (with_with ps i p.0 w (f p.1) (λ e. l.0 (sym e))) ∙ written_past f left (with_value ps p.0 (f p.1)) i w l.1
 
-  written_behind : (f : K × V → V) (left ps : List (Numbered K V)) (p : Numbered K V) → written_all f (left ++ p ∷ []) ps ≡ with_value (written_all f left ps) p.0 (f p.1)
-  written_behind f [] ps p = refl
-  written_behind f (q ∷ left) ps p = written_behind f left (with_value ps q.0 (f q.1)) p
+  written_after : (f : K × V → V) (left ps : List (Numbered K V)) (p : Numbered K V) → written_all f (left ++ p ∷ []) ps ≡ with_value (written_all f left ps) p.0 (f p.1)
+  written_after f [] ps p = refl
+  written_after f (q ∷ left) ps p = written_after f left (with_value ps q.0 (f q.1)) p
 
   -- ---- a cursor that is moved on
 
@@ -202,7 +202,7 @@ module _ {K V : Type 0} where
         named = lent_named;
         written = refl;
         passed = subst (λ (l : List (Numbered K V)). Lacks l id) (sym (first_same w)) lacks_first;
-        goes = λ f e. ap (λ u. written_all f (first_after w) (with_value ps id u)) (sym e) ∙ sym (ap (λ l. written_all f l ps) (first_splits w));
+        all_written = λ f e. ap (λ u. written_all f (first_after w) (with_value ps id u)) (sym e) ∙ sym (ap (λ l. written_all f l ps) (first_splits w));
       }
 
       -- it is the first of those that were left
@@ -237,9 +237,9 @@ module _ {K V : Type 0} where
             named = lent_named;
             written = refl;
             passed = lacks;
-            goes = λ f e.
+            all_written = λ f e.
                 written_past f (last_after w) ps id w lacks ∙ ap (λ u. with_value (written_all f (last_after w) ps) id u) (sym e)
-                ∙ sym (ap (λ l. written_all f l ps) (last_splits w) ∙ written_behind f (last_after w) ps (id, (lent_key, v)));
+                ∙ sym (ap (λ l. written_all f l ps) (last_splits w) ∙ written_after f (last_after w) ps (id, (lent_key, v)));
           }
 
       -- it is the last of those that were left

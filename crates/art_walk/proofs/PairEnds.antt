@@ -69,7 +69,7 @@ module _ {K V : Type 0} where
   ends_after (b ∷ []) x p after = refl
   ends_after (b ∷ a ∷ before) x p after = ends_after (a ∷ before) x p after
 
-  -- behind the pair of the last number there is none
+  -- after the pair of the last number there is none
   none_after : (before after : List (Numbered K V)) (x : Numbered K V) → Lacks after x.0 → last_number (before ++ x ∷ after) ≡ Some x.0 → after ≡ []
   none_after before [] x l e = refl
   none_after before (p ∷ after) x l e = absurd (has_not_lacks (p ∷ after) x.0 (Has-last (p ∷ after) x.0 (sym (ends_after before x p after) ∙ e)) l)

@@ -7,7 +7,7 @@ use Rattle.art_tree.proofs.CallerLemmas.{distinct_parts, AreDistinct-parts, leaf
 use Rattle.art_walk.specs.Cursor.{from_number, through_number, span_of, IsSpan}
 
 module _ {K V : Type 0} where
-  -- the list, cut before the pair of the first number and behind that of the last
+  -- the list, cut before the pair of the first number and after that of the last
   pub record Cut (ps : List (Numbered K V)) (first last : ℕ) (row : List (Numbered K V)) : Type 0 where
     pub before : List (Numbered K V)
     pub after : List (Numbered K V)
@@ -63,7 +63,7 @@ module _ {K V : Type 0} where
         let e = cut_end r in
         ap (λ l. through_number l last) (cut_from row c.first_is c.is ∙ e.0) ∙ through_split r.front c.after last r.pair e.1 ∙ sym r.is
 
-    -- its first number is not behind its last
+    -- its first number is not after its last
     pub cut_is_span : IsSpan ps first last
     cut_is_span =
         let r = ends_with row last c.last_is in
@@ -72,7 +72,7 @@ module _ {K V : Type 0} where
 
   -- ---- a span is such a part
 
-  -- the pairs through a number, and those behind
+  -- the pairs through a number, and those after
   pub record Through (ps : List (Numbered K V)) (last : ℕ) : Type 0 where
     pub after : List (Numbered K V)
     pub is : ps ≡ through_number ps last ++ after
@@ -98,7 +98,7 @@ module _ {K V : Type 0} where
   through_first [] last = refl
   through_first (p ∷ ps) last = refl
 
-  -- where a list has a number behind a first one, it has the first
+  -- where a list has a number after a first one, it has the first
   first_there : (ps : List (Numbered K V)) (first last : ℕ) → IsSpan ps first last → Has ps first
   first_there [] first last h = absurd (let f : false ≡ true = h in cc)
   first_there (p ∷ ps) first last h = elim (eqb_tells p.0 first) [

@@ -1,4 +1,4 @@
--- What a cursor has left behind its first leaf, and before its last.
+-- What a cursor has left after its first leaf, and before its last.
 use Rattle.std.proofs.Common.{◌≡◌, ◌≢◌, ℕ, List, [], ◌∷◌, ◌++◌, Option, Some, None, option_map, inl, inr, refl, sym, ap, ◌∙◌, subst, append_assoc}
 use Rattle.std.specs.Option.{option_or}
 use Rattle.std.proofs.lemmas.Bool.Decides.{eqb_tells}
@@ -159,7 +159,7 @@ module _ {K V : Type 0} where
         ap (λ o. ends_left o ps) was ∙ is ∙ ap more (sym (ap (λ o. ends_left o ps) s ∙ cut_span ps distinct f l row c)),
       )
 
-      -- behind the first leaf the others are left
+      -- after the first leaf the others are left
       pub passed_first : (n : Option ℕ) → leaf_in ps e.0 ≡ Some x → n ≡ number_after ps e.0
           → (e.0 ≡ e.1 → ends' ≡ None) → (e.0 ≢ e.1 → ends' ≡ option_map (λ m. (m, e.1)) n)
           → EndsFit ends' ps × (ends_left ends ps ≡ (e.0, x) ∷ ends_left ends' ps)

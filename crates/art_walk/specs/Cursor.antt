@@ -1,6 +1,6 @@
 -- What a cursor has still to come in a list of numbered pairs.
 use Rattle.std.specs.Prelude.{◌≡◌, ◌≢◌, ℕ, List, [], ◌∷◌, ◌++◌, Option, Some, None, if◌then◌else◌, eqb}
-use Rattle.art_tree.specs.Leaves.{Ahead, Numbered, Has, nowhere, RunsBefore, StandsAhead}
+use Rattle.art_tree.specs.Leaves.{Following, Numbered, Has, nowhere, RunsBefore, StandsAfter}
 use Rattle.art_walk.specs.declared.cursor.Cursor.{Cursor}
 
 -- a cursor with nothing to come
@@ -26,7 +26,7 @@ module _ {K V : Type 0} where
   abbrev pub span_of : List (Numbered K V) → ℕ → ℕ → List (Numbered K V)
   span_of ps first last = through_number (from_number ps first) last
 
-  -- both numbers are in the list, the first not behind the last
+  -- both numbers are in the list, the first not after the last
   abbrev pub IsSpan : List (Numbered K V) → ℕ → ℕ → Type 0
   IsSpan ps first last = Has (from_number ps first) last
 
@@ -35,7 +35,7 @@ module _ {K V : Type 0} where
   ends_left None ps = []
   ends_left (Some e) ps = span_of ps e.0 e.1
 
-  -- the ends, if there are any, are in the list, the first not behind the last
+  -- the ends, if there are any, are in the list, the first not after the last
   abbrev pub EndsFit : Option (ℕ × ℕ) → List (Numbered K V) → Type 0
   EndsFit None ps = Unit {0}
   EndsFit (Some e) ps = IsSpan ps e.0 e.1
@@ -44,14 +44,14 @@ module _ {K V : Type 0} where
   abbrev pub leaves_left : Cursor → List (Numbered K V) → List (Numbered K V)
   leaves_left c ps = ends_left c.ends ps
 
-  -- what is still to come is in the list, the first not behind the last
+  -- what is still to come is in the list, the first not after the last
   abbrev pub FitsIn : Cursor → List (Numbered K V) → Type 0
   FitsIn c ps = EndsFit c.ends ps
 
-  -- this stands ahead of the first end, where that is not the last, and this run before the last
-  abbrev pub StandsBeside : Option (ℕ × ℕ) → Ahead → List ℕ → List (Numbered K V) → List (ℕ × List ℕ) → Type 0
-  StandsBeside None ahead before ps rows = Unit {0}
-  StandsBeside (Some e) ahead before ps rows = (e.0 ≢ e.1 → StandsAhead ps rows e.0 ahead) × RunsBefore ps e.1 before
+  -- this follows the first end, where that is not the last, and this run stands before the last
+  abbrev pub StandsBeside : Option (ℕ × ℕ) → Following → List ℕ → List (Numbered K V) → List (ℕ × List ℕ) → Type 0
+  StandsBeside None following before ps rows = Unit {0}
+  StandsBeside (Some e) following before ps rows = (e.0 ≢ e.1 → StandsAfter ps rows e.0 following) × RunsBefore ps e.1 before
 
   -- the first pair, if there is one, is passed, and this is its number
   abbrev pub PassesFirst : List (Numbered K V) → Option ℕ → List (Numbered K V) → Type 0

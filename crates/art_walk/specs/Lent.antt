@@ -16,7 +16,7 @@ module _ {K V : Type 0} where
 abbrev pub bare : List ℕ → List (Numbered (Unit {0}) (Unit {0}))
 bare ns = map (λ n. (n, (tt, tt))) ns
 
--- whether the ends, if there are any, are among these numbers, the first not behind the last
+-- whether the ends, if there are any, are among these numbers, the first not after the last
 abbrev pub ends_fit : Option (ℕ × ℕ) → List ℕ → Bool
 ends_fit None ns = true
 ends_fit (Some e) ns = is_some (leaf_in (from_number (bare ns) e.0) e.1)
@@ -45,7 +45,7 @@ module _ {K V : Type 0} where
     pub named : leaf_in old number ≡ Some (key, v)
     pub written : new ≡ with_value old number w
     pub passed : Lacks after number
-    pub goes : (f : K × V → V) → f (key, v) ≡ w → written_all f after new ≡ written_all f left old
+    pub all_written : (f : K × V → V) → f (key, v) ≡ w → written_all f after new ≡ written_all f left old
 
   -- this was the first, and it is the pair lent last
   pub record LentFirst (old new : List (Numbered K V)) (left after : List (Numbered K V)) (last : Option ℕ) (v w : V) : Type 0 where

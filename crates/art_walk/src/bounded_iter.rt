@@ -33,7 +33,7 @@ pub type SubtreeIter<'a, K, V, const PREFIX_LEN: usize> = BoundedIter<
     PREFIX_LEN,
 >;
 
-/// Some pairs of a tree that stand one behind the other, from both ends, in byte order of their keys. Each step reads one leaf, and where the ends have met none comes at either.
+/// Some pairs of a tree that stand one after the other, from both ends, in byte order of their keys. Each step reads one leaf, and where the ends have met none comes at either.
 #[derive(Drop)]
 pub struct BoundedIter<'a, K, V, M, const PREFIX_LEN: usize> {
     walk: Walk<'a, K, V>,
@@ -114,7 +114,7 @@ impl<'a, K: AsBytes + Drop, V: Drop, const PREFIX_LEN: usize> BoundedIter<
     InSubtree,
     PREFIX_LEN,
 > {
-    /// The pairs from the first leaf through the last. The first does not stand behind the last.
+    /// The pairs from the first leaf through the last. The first does not stand after the last.
     pub fn new(tree: &'a Tree<K, V, PREFIX_LEN>, first: LeafId, last: LeafId) -> Self
         requires { IsSpan tree.now.pairs first last }
         ensures { result ≡ pairs_of (span_of tree.now.pairs first last) }

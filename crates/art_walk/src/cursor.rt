@@ -8,7 +8,7 @@ ghost use Rattle.art_walk.specs.Cursor.{nothing_left, left_between, leaves_left,
 use art_tree::{LeafId, Leaves, Position, Tree, Visits};
 use blart_keys::AsBytes;
 
-// The ends without the first leaf; `seen` is where that may stand, and then where the leaf behind it does. Nothing is looked for behind the last.
+// The ends without the first leaf; `seen` is where that may stand, and then where the leaf after it does. Nothing is looked for after the last.
 #[inline(always)]
 fn without_first<K, V>(
     leaves: &Leaves<K, V>,
@@ -70,7 +70,7 @@ impl Cursor {
         }
     }
 
-    /// The leaves from the first through the last. A tree to walk over has both, and the first does not stand behind the last.
+    /// The leaves from the first through the last. A tree to walk over has both, and the first does not stand after the last.
     pub fn between(first: LeafId, last: LeafId) -> Cursor
         ensures { result ≡ left_between first last }
     {

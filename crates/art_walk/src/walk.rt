@@ -1,47 +1,48 @@
 //! What is left of some leaves that stand while they are walked over.
 ghost use Rattle.std.specs.Prelude.{◌≡◌, ◌≢◌, option_map, None, IfSome};
 ghost use Rattle.std.specs.Iterator.{YieldsFirstBy, YieldsLastBy, item_count};
-ghost use Rattle.art_tree.specs.Leaves.{Has, number_after, number_before, RunsBefore, StandsAhead};
+ghost use Rattle.art_tree.specs.Leaves.{Has, number_after, number_before, RunsBefore, StandsAfter};
 ghost use Rattle.art_walk.specs.Cursor.{leaves_left, FitsIn};
 ghost use Rattle.art_walk.specs.Pairs.{pairs_of};
 
 use crate::cursor::Cursor;
-use art_tree::{Ahead, LeafId, Leaves, Visits};
+use art_tree::{Following, LeafId, Leaves, Visits};
 use std::iter::{DoubleEndedIterator, Iterator};
 use std::marker::Model;
 
-// What stands behind the first leaf. Where that is the last, nothing is looked up.
-fn ahead_of<K, V>(leaves: &Leaves<K, V>, first: LeafId, last: LeafId) -> Ahead<'_>
+// What follows the first leaf. Where that is the last, nothing is looked up.
+fn following_of<K, V>(leaves: &Leaves<K, V>, first: LeafId, last: LeafId) -> Following<'_>
     requires { Has leaves.now.pairs first }
-    ensures { first ≢ last → StandsAhead leaves.now.pairs leaves.now.rows first result }
+    ensures { first ≢ last → StandsAfter leaves.now.pairs leaves.now.rows first result }
 {
     if first == last {
-        return Ahead::unknown();
+        return Following::unknown();
     }
-    leaves.ahead(first)
+    leaves.following(first)
 }
 
-// The ends without the first leaf; `ahead` is what stands behind that, and then behind the one that is the first. Nothing is looked for behind the last.
+// The ends without the first leaf; `following` is what follows that, and then the one that is the first. Nothing is looked for after the last.
 #[inline(always)]
 fn without_first<'a, K, V>(
     leaves: &'a Leaves<K, V>,
     first: LeafId,
     last: LeafId,
-    ahead: &mut Ahead<'a>,
+    following: &mut Following<'a>,
 ) -> Option<(LeafId, LeafId)>
     requires has { Has leaves.now.pairs first }
-    requires ahead { first ≢ last → StandsAhead leaves.now.pairs leaves.now.rows first ahead.old }
+    requires following { first ≢ last
+        → StandsAfter leaves.now.pairs leaves.now.rows first following.old }
     ensures one { first ≡ last → result ≡ None }
     ensures more { first ≢ last → result
         ≡ option_map (λ id. (id, last)) (number_after leaves.now.pairs first) }
     ensures stays { IfSome result (λ ends. ends.1 ≡ last) }
-    ensures ahead { IfSome result
-        (λ ends. StandsAhead leaves.now.pairs leaves.now.rows ends.0 ahead.new) }
+    ensures following { IfSome result
+        (λ ends. StandsAfter leaves.now.pairs leaves.now.rows ends.0 following.new) }
 {
     if first == last {
         return None;
     }
-    let next = leaves.next_in(first, ahead)?;
+    let next = leaves.next_in(first, following)?;
     Some((next, last))
 }
 
@@ -70,14 +71,14 @@ fn without_last<'a, K, V>(
     }
 }
 
-/// The pairs of some leaves that stand one behind the other, from both ends.
+/// The pairs of some leaves that stand one after the other, from both ends.
 #[derive(Drop)]
 pub(crate) struct Walk<'a, K, V> {
     leaves: &'a Leaves<K, V>,
     // the first and the last leaf
     ends: Option<(LeafId, LeafId)>,
-    // what stands behind the first, where that is not the last, and before the last in its row: a step that finds its leaf here searches no row
-    ahead: Ahead<'a>,
+    // what follows the first, where that is not the last, and before the last in its row: a step that finds its leaf here searches no row
+    following: Following<'a>,
     before: &'a [LeafId],
 }
 
@@ -91,7 +92,7 @@ impl<'a, K, V> Model for Walk<'a, K, V> {
 
     ghost view = { λ it. pairs_of (ends_left it.ends it.leaves.now.pairs) };
 
-    ghost invariant = { λ it. EndsFit it.ends it.leaves.now.pairs × StandsBeside it.ends it.ahead it.before.now it.leaves.now.pairs it.leaves.now.rows };
+    ghost invariant = { λ it. EndsFit it.ends it.leaves.now.pairs × StandsBeside it.ends it.following it.before.now it.leaves.now.pairs it.leaves.now.rows };
 }
 
 impl<'a, K, V> Walk<'a, K, V> {
@@ -101,14 +102,14 @@ impl<'a, K, V> Walk<'a, K, V> {
         ensures { result ≡ pairs_of (leaves_left cursor leaves.now.pairs) }
     {
         leaves.law();
-        let ahead = match cursor.ends() {
-            Some(ends) => ahead_of(leaves, ends.0, ends.1),
-            None => Ahead::unknown(),
+        let following = match cursor.ends() {
+            Some(ends) => following_of(leaves, ends.0, ends.1),
+            None => Following::unknown(),
         };
         Walk {
             leaves,
             ends: cursor.ends(),
-            ahead,
+            following,
             before: &[],
         }
     }
@@ -126,7 +127,7 @@ impl<'a, K, V> Iterator for Walk<'a, K, V> {
         self.leaves.law();
         let (first, last) = self.ends?;
         let pair = self.leaves.read(first, &mut Visits::new());
-        let ends = without_first(self.leaves, first, last, &mut self.ahead);
+        let ends = without_first(self.leaves, first, last, &mut self.following);
         self.ends = ends;
         Some(pair)
     }

@@ -16,7 +16,7 @@ pub(crate) fn time_bulk<M: Parter, J: Joiner, R: Clock + AllocGlobal>(
     sheet: &mut Sheet,
 ) -> Result<(), Failure> {
     time_makes::<J, R>(rt, workload, sheet)?;
-    time_behind::<J, R>(rt, workload, sheet)?;
+    time_after::<J, R>(rt, workload, sheet)?;
     time_among::<J, R>(rt, workload, sheet)?;
     time_copies::<M, R>(rt, workload, sheet)?;
     time_part::<M, R>(rt, workload, sheet)
@@ -50,8 +50,8 @@ fn time_makes<J: Joiner, R: Clock + AllocGlobal>(
     Ok(())
 }
 
-// Times an `append` of a map whose keys are all behind.
-fn time_behind<J: Joiner, R: Clock + AllocGlobal>(
+// Times an `append` of a map whose keys all come after.
+fn time_after<J: Joiner, R: Clock + AllocGlobal>(
     rt: &R,
     workload: &Workload,
     sheet: &mut Sheet,

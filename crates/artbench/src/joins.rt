@@ -94,7 +94,7 @@ fn weight(key: &ZKey, value: u64) -> u64 {
     value.wrapping_add(key.to_bytes().len() as u64)
 }
 
-/// Each key with its place, a zero byte behind it: a zero within is written as 1 and 1 then, and a one as 1 and 2, which leaves the order.
+/// Each key with its place, a zero byte after it: a zero within is written as 1 and 1 then, and a one as 1 and 2, which leaves the order.
 pub(crate) fn ended(alloc: Global, keys: &[Vec<u8>]) -> Result<Vec<(ZKey, u64)>, Failure> {
     let mut items = Vec::with_capacity(alloc, keys.len())?;
     let mut place = 0u64;
@@ -105,7 +105,7 @@ pub(crate) fn ended(alloc: Global, keys: &[Vec<u8>]) -> Result<Vec<(ZKey, u64)>,
     Ok(items)
 }
 
-// A key with a zero byte behind it.
+// A key with a zero byte after it.
 fn ended_key(alloc: Global, key: &[u8]) -> Result<ZKey, Failure> {
     let mut bytes = Vec::new(alloc);
     for byte in key {

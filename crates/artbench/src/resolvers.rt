@@ -87,7 +87,7 @@ impl Resolver for Sorted {
     fn place(&self, path: &Vec<u8>) -> Option<u64> {
         let place = match self.mounts.binary_search(path) {
             Ok(place) => place,
-            Err(behind) => behind.checked_sub(1)?,
+            Err(next) => next.checked_sub(1)?,
         };
         match self.mounts.get(place) {
             Some(mount) if path.starts_with(mount) => Some(place as u64),

@@ -9,7 +9,7 @@ use std::alloc::{AllocError, Global};
 pub(crate) enum Kind {
     /// Eight random bytes.
     Random,
-    /// Texts like the addresses of pages, each with a zero byte behind.
+    /// Texts like the addresses of pages, each with a zero byte at the end.
     Urls,
     /// The numbers from 0 on, in eight bytes, the high one first.
     Dense,

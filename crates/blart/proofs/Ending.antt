@@ -14,7 +14,7 @@ use Rattle.blart.specs.declared.error.RunError.TheVariants.{Read, Write, Memory}
 use Rattle.blart.specs.Lines.{IsLine, ended, Splits, with_last}
 use Rattle.blart.specs.Answers.{Pairs}
 use Rattle.blart.specs.Replies.{AnswersInTurn, Replies, BeginsReplies}
-use Rattle.blart.specs.Ends.{Ends, IsMarked}
+use Rattle.blart.specs.RunEnds.{RunEnds, IsMarked}
 use Rattle.blart.specs.Sent.{Sends, IsSent}
 use Rattle.blart.specs.Serves.{State, Serves, Stops, IsAnswering, IsAnswered}
 use Rattle.blart.specs.Ran.{IsReadAll, IsLastAnswered, IsFinished}
@@ -133,7 +133,7 @@ begins_of {a} {b} {read} {new} s = (new.waiting, (new.content, subst (λ o. Answ
 abbrev pub Told : Result (Unit {0}) RunError → Option (List ℕ) → Option (List ℕ) → Bool → Option (List ℕ) → Option (List ℕ) → Bool → Type 0
 Told r was is reader_mark before after writer_mark =
     (input held : List ℕ) → was ≡ Some input → length input < 2 ^ 64 - 1 → before ≡ Some held
-    → (read rest written : List ℕ) × (input ≡ read ++ rest) × (is ≡ Some rest) × (after ≡ Some (held ++ written)) × Ends r reader_mark writer_mark read rest written
+    → (read rest written : List ℕ) × (input ≡ read ++ rest) × (is ≡ Some rest) × (after ≡ Some (held ++ written)) × RunEnds r reader_mark writer_mark read rest written
 
 not_at_end_stops : (was is : Option (List ℕ)) (rm : Bool) (before after : Option (List ℕ)) (wm : Bool) (read : List ℕ) → Consumes was is read
     → Stops Write before after wm read begun → Told (Err Write) was is rm before after wm

@@ -84,9 +84,9 @@ no_number : command_of (words_of (codes "insert 00 ")) ≡ None
 unfolding hex_on_literals
 no_number = refl
 
-no_number_behind : command_of (words_of (codes "overwrite 00")) ≡ None
+no_number_after : command_of (words_of (codes "overwrite 00")) ≡ None
 unfolding hex_on_literals
-no_number_behind = refl
+no_number_after = refl
 
 odd_key : command_of (words_of (codes "get 0")) ≡ None
 unfolding hex_on_literals
@@ -100,13 +100,13 @@ two_spaces : command_of (words_of (codes "insert 01  2")) ≡ None
 unfolding hex_on_literals
 two_spaces = refl
 
-space_behind : command_of (words_of (codes "list ")) ≡ None
+space_after : command_of (words_of (codes "list ")) ≡ None
 unfolding hex_on_literals
-space_behind = refl
+space_after = refl
 
-return_behind : command_of (words_of (codes "list\r")) ≡ None
+return_after : command_of (words_of (codes "list\r")) ≡ None
 unfolding hex_on_literals
-return_behind = refl
+return_after = refl
 
 empty_line : command_of (words_of []) ≡ None
 unfolding hex_on_literals

@@ -23,7 +23,7 @@ Sends-more {a} {b} {c} {bs} {rest} n s t = record {
 pub Sends-kept : {a b c : Option (List ℕ)} {bs rest : List ℕ} → Sends a b bs rest → Keeps b c → Sends a c bs rest
 Sends-kept {a} {b} {c} s k = record { front = s.front; taken = Appends-kept a b c s.front s.taken k; whole = s.whole }
 
--- what waited went on with more behind it
+-- what waited went on with more after it
 pub Sends-trans : {a b c : Option (List ℕ)} {bs rest last : List ℕ} (more : List ℕ) → Sends a b bs rest → Sends b c (rest ++ more) last → Sends a c (bs ++ more) last
 Sends-trans {a} {b} {c} {bs} {rest} {last} more s t = record {
   front = s.front ++ t.front;
@@ -31,7 +31,7 @@ Sends-trans {a} {b} {c} {bs} {rest} {last} more s t = record {
   whole = ap (λ l. l ++ more) s.whole ∙ append_assoc s.front rest more ∙ ap (λ l. s.front ++ l) t.whole ∙ sym (append_assoc s.front t.front last);
 }
 
--- more bytes come behind
+-- more bytes come after
 pub Sends-longer : {a b : Option (List ℕ)} {bs rest : List ℕ} (more : List ℕ) → Sends a b bs rest → Sends a b (bs ++ more) (rest ++ more)
 Sends-longer {a} {b} {bs} {rest} more s = record {
   front = s.front;

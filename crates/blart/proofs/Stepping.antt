@@ -23,7 +23,7 @@ answer_stops before after mark error line waiting content old new same h =
     let answering : IsAnswering before after old content left = record { out = h.out; reply = subst (λ l. Reply old.content l h.out content) same h.reply; sent = sent } in
     subst (λ e. IsAnswered (Err e) before after mark old new) (sym is) ((content, left, answering), marked)
 
--- the answer to the line goes behind what waits
+-- the answer to the line goes after what waits
 pub answer_goes : (before after : Option (List ℕ)) (mark : Bool) (done : Unit {0}) (line waiting : List ℕ) (content : Pairs) (old : State) → line ≡ old.line
     → IsReplied (Ok done) before after mark old.content line old.waiting waiting content → IsAnswering before after old content waiting × (mark ≡ false)
 answer_goes before after mark done line waiting content old same h =

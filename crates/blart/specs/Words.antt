@@ -4,8 +4,8 @@ pub use Rattle.blart_keys.specs.KeyBytes.{u8_bytes, array_bytes, slice_bytes, ve
 pub use Rattle.std.specs.Prelude.{string_bytes}
 pub use Rattle.blart_keys.specs.Bytes.{begins, related, less, common}
 -- what a map has at some bytes; the first three stay closed in proofs
-unfoldable pub use Rattle.blart_keys.specs.Stored.{pair_at, pair_before, overlaps}
-pub use Rattle.blart_keys.specs.Stored.{value_at, value_before, has, kept_key, kept_pair, kept_item, kept, shown, Updates, HasNothing, TakesPair, Overwrites, WritesAt, WritesBefore, Refuses, CanCount}
+unfoldable pub use Rattle.blart_keys.specs.Stored.{pair_at, pair_at_front, overlaps}
+pub use Rattle.blart_keys.specs.Stored.{value_at, value_at_front, has, kept_key, kept_pair, kept_item, kept, shown, Updates, HasNothing, TakesPair, Overwrites, WritesAt, WritesAtFront, Refuses, CanCount}
 -- a map as a list of pairs: without the numbers under which they stand, closed in proofs
 unfoldable pub use Rattle.blart_map.specs.Content.{pairs}
 pub use Rattle.blart_map.specs.Content.{Numbered}
@@ -29,14 +29,14 @@ pub use Rattle.blart_map.specs.CountedWalk.{counted_left}
 pub use Rattle.blart_map.specs.TakeWalk.{take_left, LentFirst, LentLast, NoneLent}
 -- what a walk that takes leaves
 pub use Rattle.blart_map.specs.OnceTaken.{taken_all, once_taken, still_to_take, once_extracted, still_to_extract}
-pub use Rattle.blart_map.specs.ExtractIf.{extract_left, CanExtract, CanExtractBack, Extracts, ExtractsNext, ExtractsNextBack}
+pub use Rattle.blart_map.specs.ExtractIf.{extract_left, CanExtract, CanExtractBack, ExtractsFirstTrue, ExtractsNext, ExtractsNextBack}
 pub use Rattle.blart_map.specs.OnceWritten.{rewritten, all_rewritten, once_written, all_once_written}
 -- what a closure leaves that is called at each value
 pub use Rattle.blart_map.specs.EachWritten.{CalledAtEach, CallableInTurn, with_values, WritesEach, LeavesValue, TakesAtValue, LeavesPair, TakesAtPair, ActsOnValue, ActsOnPair, ActsWhere}
 -- a set as a list of elements, closed in proofs, and merges of two
 unfoldable pub use Rattle.blart_set.specs.Elements.{elements}
 pub use Rattle.blart_set.specs.Elements.{RefusesElement}
-pub use Rattle.blart_set.specs.Merging.{Merge, IsBeginning, Counts, united, parted, shared, lacking}
+pub use Rattle.blart_set.specs.Merging.{Merge, IsBeginning, Counts, union_rest, symmetric_difference_rest, intersection_rest, difference_rest}
 pub use Rattle.blart_keys.specs.Merges.{IsUnion, IsSymmetricDifference, intersection, difference}
 -- a closure asked of an element
 pub use Rattle.blart_set.specs.Asking.{AsksElement, CallableOnEachElement}

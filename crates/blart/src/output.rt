@@ -37,7 +37,7 @@ impl Outbox {
         }
     }
 
-    /// Adds the text behind what waits.
+    /// Adds the text after what waits.
     pub(crate) fn append(&mut self, text: &[u8])
         requires { length self.old + length text.now ≤ ROOM }
         ensures { self.new ≡ self.old ++ text.now }
@@ -47,7 +47,7 @@ impl Outbox {
         self.count = end;
     }
 
-    /// Adds one byte behind what waits.
+    /// Adds one byte after what waits.
     pub(crate) fn push(&mut self, byte: u8)
         requires { length self.old < ROOM }
         ensures { self.new ≡ self.old ++ byte ∷ [] }

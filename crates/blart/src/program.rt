@@ -3,7 +3,7 @@ ghost use Rattle.std.specs.Prelude.{◌≡◌, ◌<◌, ◌-◌, ◌^◌, ℕ, L
 ghost use Rattle.blart.specs.Watched.{watched_inner, watched_failed};
 ghost use Rattle.blart.specs.Lines.{IsLine};
 ghost use Rattle.blart.specs.Session.{state_of};
-ghost use Rattle.blart.specs.Ends.{Ends, IsMarked};
+ghost use Rattle.blart.specs.RunEnds.{RunEnds, IsMarked};
 ghost use Rattle.blart.specs.Ran.{IsReadAll};
 
 use crate::error::RunError;
@@ -42,7 +42,7 @@ pub fn run<R: Read, W: Write>(
         → (read rest written : List ℕ) × (input ≡ read ++ rest)
         × (R.remaining (watched_inner reader.new) ≡ Some rest)
         × (W.contents (watched_inner writer.new) ≡ Some (before ++ written))
-        × Ends result (watched_failed reader.new) (watched_failed writer.new) read rest written }
+        × RunEnds result (watched_failed reader.new) (watched_failed writer.new) read rest written }
     ensures marks { IsMarked result (watched_failed reader.new) (watched_failed writer.new) }
 {
     let mut session = Session::new(alloc);

@@ -6,7 +6,7 @@ use Rattle.blart_keys.specs.Bytes.{begins}
 use Rattle.blart_keys.specs.Content.{at, front_of, under}
 use Rattle.blart_keys.specs.Outside.{outside}
 use Rattle.blart_keys.specs.Steps.{bytes}
-use Rattle.blart_keys.specs.Stored.{pair_at, pair_before}
+use Rattle.blart_keys.specs.Stored.{pair_at, pair_at_front}
 use Rattle.blart_keys.proofs.ByteLemmas.{begins-trans}
 use Rattle.blart_keys.proofs.RankLemmas.{find_none, filter_member}
 
@@ -71,6 +71,6 @@ module _ {K V : Type 0} (kb : K → List ℕ) (S : List (K × V)) (p : List ℕ)
   unfolding pair_at
   pair_at_outside r b = at_outside (bytes kb) S p r b
 
-  pub pair_before_outside : (r : List ℕ) → begins p r ≡ false → pair_before kb (outside (bytes kb) S p) r ≡ pair_before kb S r
-  unfolding pair_before
-  pair_before_outside r b = front_of_outside (bytes kb) S p r b
+  pub pair_at_front_outside : (r : List ℕ) → begins p r ≡ false → pair_at_front kb (outside (bytes kb) S p) r ≡ pair_at_front kb S r
+  unfolding pair_at_front
+  pair_at_front_outside r b = front_of_outside (bytes kb) S p r b

@@ -7,7 +7,7 @@ use Rattle.blart_keys.specs.Content.{IsContent, at, stores, front_of, subtree, w
 use Rattle.blart_keys.specs.Steps.{bytes, Puts, Inserts}
 use Rattle.blart_keys.specs.declared.calls.TryInsertError.{TryInsertError}
 use Rattle.blart_keys.specs.declared.calls.TryInsertError.TheVariants.{Prefix, Memory}
-use Rattle.blart_keys.specs.Stored.{CanCount, kept_pair, kept, pair_at, pair_before, overlaps, value_at, has, Updates, HasNothing, TakesPair, Overwrites, Refuses, written_at, written_at_front, WritesAt, WritesBefore}
+use Rattle.blart_keys.specs.Stored.{CanCount, kept_pair, kept, pair_at, pair_at_front, overlaps, value_at, has, Updates, HasNothing, TakesPair, Overwrites, Refuses, written_at, written_at_front, WritesAt, WritesAtFront}
 use Rattle.blart_keys.specs.Walks.{TakesFirst, TakesLast}
 use Rattle.blart_keys.proofs.PartLemmas.{PartsBelow, PartsBelow-irrefl}
 use Rattle.blart_keys.proofs.RankLemmas.{Member, Contains-from_Member, Member-from_Contains, Member-append_right, each_member, filter_member, find_none, member_filter, Ranked}
@@ -118,14 +118,14 @@ module _ {K V : Type 0} (kb : K → List ℕ) where
   pair_at-bytes S q x e = (at_Some (bytes kb) S q x e).1
 
   -- a pair found before some bytes begins them
-  pub pair_before-begins : (S : List (K × V)) (q : List ℕ) (x : K × V) → pair_before kb S q ≡ Some x → begins (kb x.0) q ≡ true
-  unfolding pair_before
-  pair_before-begins S q x e = (front_of_Some (bytes kb) S q x e).1
+  pub pair_at_front-begins : (S : List (K × V)) (q : List ℕ) (x : K × V) → pair_at_front kb S q ≡ Some x → begins (kb x.0) q ≡ true
+  unfolding pair_at_front
+  pair_at_front-begins S q x e = (front_of_Some (bytes kb) S q x e).1
 
   -- on stored bytes both look-ups agree
-  pub pair_before-at : (S : List (K × V)) → IsContent (bytes kb) S → (q : List ℕ) (x : K × V) → pair_at kb S q ≡ Some x → pair_before kb S q ≡ Some x
-  unfolding pair_at pair_before
-  pair_before-at S content q x e = front_of_stored (bytes kb) S content q x e
+  pub pair_at_front-at : (S : List (K × V)) → IsContent (bytes kb) S → (q : List ℕ) (x : K × V) → pair_at kb S q ≡ Some x → pair_at_front kb S q ≡ Some x
+  unfolding pair_at pair_at_front
+  pair_at_front-at S content q x e = front_of_stored (bytes kb) S content q x e
 
   -- each pair of a content is found
   pub pair_at-member : (S : List (K × V)) → IsContent (bytes kb) S → (x : K × V) → Member x S → pair_at kb S (kb x.0) ≡ Some x
@@ -154,13 +154,13 @@ module _ {K V : Type 0} (kb : K → List ℕ) where
   len_put S S' x content put = length-put (bytes kb) S S' x content put ∙ ap (λ b. length S + (if b then 0 else 1)) (stores_is S (kb x.0))
 
   -- it is found by all that its bytes begin
-  pub before_put : (S S' : List (K × V)) (x : K × V) → IsPut (bytes kb) S x S' → (r : List ℕ) → begins (kb x.0) r ≡ true → pair_before kb S' r ≡ Some x
-  unfolding pair_before
+  pub before_put : (S S' : List (K × V)) (x : K × V) → IsPut (bytes kb) S x S' → (r : List ℕ) → begins (kb x.0) r ≡ true → pair_at_front kb S' r ≡ Some x
+  unfolding pair_at_front
   before_put S S' x put r b = front_of_member (bytes kb) S' put.content r x (Member-from_Contains x S' put.there) b
 
   -- and what its bytes do not begin finds what it found
-  elsewhere_put : (S S' : List (K × V)) (x : K × V) → IsPut (bytes kb) S x S' → (r : List ℕ) → begins (kb x.0) r ≡ false → IsContent (bytes kb) S → pair_before kb S' r ≡ pair_before kb S r
-  unfolding pair_before
+  elsewhere_put : (S S' : List (K × V)) (x : K × V) → IsPut (bytes kb) S x S' → (r : List ℕ) → begins (kb x.0) r ≡ false → IsContent (bytes kb) S → pair_at_front kb S' r ≡ pair_at_front kb S r
+  unfolding pair_at_front
   elsewhere_put S S' x put r off content = found (front_of (bytes kb) S r) refl
     where
       apart : (y : K × V) → begins (kb y.0) r ≡ true → kb y.0 ≢ kb x.0
@@ -173,12 +173,12 @@ module _ {K V : Type 0} (kb : K → List ℕ) where
       found None e =
           find_none (λ y. begins (kb y.0) r) S' (λ y m. false_from_ne_true _ (λ t. false≢true (sym (front_of_None (bytes kb) S r y e (Member-from_Contains y S ((put.others y (apart y t)).0 (Contains-from_Member y S' m)))) ∙ t))) ∙ sym e
 
-  pub routes_put : (S S' : List (K × V)) (x : K × V) → IsContent (bytes kb) S → IsPut (bytes kb) S x S' → (r : List ℕ) → pair_before kb S' r ≡ (if begins (kb x.0) r then Some x else pair_before kb S r)
+  pub routes_put : (S S' : List (K × V)) (x : K × V) → IsContent (bytes kb) S → IsPut (bytes kb) S x S' → (r : List ℕ) → pair_at_front kb S' r ≡ (if begins (kb x.0) r then Some x else pair_at_front kb S r)
   routes_put S S' x content put r = by_case (cases_Bool (begins (kb x.0) r))
     where
-      by_case : (begins (kb x.0) r ≡ true) ⊎ (begins (kb x.0) r ≡ false) → pair_before kb S' r ≡ (if begins (kb x.0) r then Some x else pair_before kb S r)
-      by_case (inl b) = before_put S S' x put r b ∙ sym (cond-true (begins (kb x.0) r) (Some x) (pair_before kb S r) b)
-      by_case (inr b) = elsewhere_put S S' x put r b content ∙ sym (cond-false (begins (kb x.0) r) (Some x) (pair_before kb S r) b)
+      by_case : (begins (kb x.0) r ≡ true) ⊎ (begins (kb x.0) r ≡ false) → pair_at_front kb S' r ≡ (if begins (kb x.0) r then Some x else pair_at_front kb S r)
+      by_case (inl b) = before_put S S' x put r b ∙ sym (cond-true (begins (kb x.0) r) (Some x) (pair_at_front kb S r) b)
+      by_case (inr b) = elsewhere_put S S' x put r b content ∙ sym (cond-false (begins (kb x.0) r) (Some x) (pair_at_front kb S r) b)
 
   -- ---- a pair put over the related ones
 
@@ -265,8 +265,8 @@ module _ {K V : Type 0} (kb : K → List ℕ) where
       changed_length (λ k. bytes_eq (kb k) q) v S,
     )
 
-    pub writes_before : WritesBefore kb S q v (written_at_front kb S q v)
-    unfolding pair_at pair_before
+    pub writes_before : WritesAtFront kb S q v (written_at_front kb S q v)
+    unfolding pair_at pair_at_front
     writes_before = record {
       front = find_changed (λ k. begins (kb k) q) v (λ k. begins (kb k) q) S ∙ all_changed (λ k. begins (kb k) q) v (front_of (bytes kb) S q) (λ x e. (front_of_Some (bytes kb) S q x e).1);
       there = λ r b.
@@ -303,11 +303,11 @@ module _ {K V : Type 0} (kb : K → List ℕ) where
     len_stored : IsContent (bytes kb) S → length S' ≡ length S + (if has kb S (kb x.0) then 0 else 1)
     len_stored content = subst (λ q. length S' ≡ length S + (if has kb S q then 0 else 1)) same (len_put S S' y content put)
 
-    fronts_stored : (q : List ℕ) → begins (kb x.0) q ≡ true → pair_before kb S' q ≡ Some y
+    fronts_stored : (q : List ℕ) → begins (kb x.0) q ≡ true → pair_at_front kb S' q ≡ Some y
     fronts_stored q b = before_put S S' y put q (subst (λ k. begins k q ≡ true) (sym same) b)
 
-    routes_stored : IsContent (bytes kb) S → (q : List ℕ) → pair_before kb S' q ≡ (if begins (kb x.0) q then Some y else pair_before kb S q)
-    routes_stored content q = subst (λ k. pair_before kb S' q ≡ (if begins k q then Some y else pair_before kb S q)) same (routes_put S S' y content put q)
+    routes_stored : IsContent (bytes kb) S → (q : List ℕ) → pair_at_front kb S' q ≡ (if begins (kb x.0) q then Some y else pair_at_front kb S q)
+    routes_stored content q = subst (λ k. pair_at_front kb S' q ≡ (if begins k q then Some y else pair_at_front kb S q)) same (routes_put S S' y content put q)
 
   module _ {R : Type 0} (tell : Option (K × V) → R) (S : List (K × V)) (x y : K × V) (same : kb y.0 ≡ kb x.0) (S' : List (K × V)) where
     pub puts_old : (r : Result R TryInsertError) → Puts kb tell S x y r S' → IfOk r (λ a. a ≡ tell (pair_at kb S (kb x.0)))
@@ -319,11 +319,11 @@ module _ {K V : Type 0} (kb : K → List ℕ) where
     puts_updates (Ok a) content puts = updates_stored S S' x y same puts.1 content
     puts_updates (Err e) content puts = tt
 
-    pub puts_fronts : (r : Result R TryInsertError) → Puts kb tell S x y r S' → OnOk r ((q : List ℕ) → begins (kb x.0) q ≡ true → pair_before kb S' q ≡ Some y)
+    pub puts_fronts : (r : Result R TryInsertError) → Puts kb tell S x y r S' → OnOk r ((q : List ℕ) → begins (kb x.0) q ≡ true → pair_at_front kb S' q ≡ Some y)
     puts_fronts (Ok a) puts = fronts_stored S S' x y same puts.1
     puts_fronts (Err e) puts = tt
 
-    pub puts_routes : (r : Result R TryInsertError) → IsContent (bytes kb) S → Puts kb tell S x y r S' → OnOk r ((q : List ℕ) → pair_before kb S' q ≡ (if begins (kb x.0) q then Some y else pair_before kb S q))
+    pub puts_routes : (r : Result R TryInsertError) → IsContent (bytes kb) S → Puts kb tell S x y r S' → OnOk r ((q : List ℕ) → pair_at_front kb S' q ≡ (if begins (kb x.0) q then Some y else pair_at_front kb S q))
     puts_routes (Ok a) content puts = routes_stored S S' x y same puts.1 content
     puts_routes (Err e) content puts = tt
 
@@ -365,11 +365,11 @@ module _ {K V : Type 0} (kb : K → List ℕ) where
     inserts_len (Ok old) content put = len_of_value S S' x y same old content put.0 (inserts_old (Ok old) put)
     inserts_len (Err e) content put = tt
 
-    pub inserts_fronts : (r : Result (Option V) E) → Inserts kb S x y r S' → OnOk r ((q : List ℕ) → begins (kb x.0) q ≡ true → pair_before kb S' q ≡ Some y)
+    pub inserts_fronts : (r : Result (Option V) E) → Inserts kb S x y r S' → OnOk r ((q : List ℕ) → begins (kb x.0) q ≡ true → pair_at_front kb S' q ≡ Some y)
     inserts_fronts (Ok old) put = fronts_stored S S' x y same put.0
     inserts_fronts (Err e) put = tt
 
-    pub inserts_routes : (r : Result (Option V) E) → IsContent (bytes kb) S → Inserts kb S x y r S' → OnOk r ((q : List ℕ) → pair_before kb S' q ≡ (if begins (kb x.0) q then Some y else pair_before kb S q))
+    pub inserts_routes : (r : Result (Option V) E) → IsContent (bytes kb) S → Inserts kb S x y r S' → OnOk r ((q : List ℕ) → pair_at_front kb S' q ≡ (if begins (kb x.0) q then Some y else pair_at_front kb S q))
     inserts_routes (Ok old) content put = routes_stored S S' x y same put.0 content
     inserts_routes (Err e) content put = tt
 
@@ -378,8 +378,8 @@ module _ {K V : Type 0} (kb : K → List ℕ) where
     inserts_absent (Err e) put = sym (stores_is S (kb x.0)) ∙ put.0
 
   -- what is put over the related ones is found by all that its bytes begin
-  pub before_over : (S S' : List (K × V)) (x : K × V) → IsOver (bytes kb) S x S' → (r : List ℕ) → begins (kb x.0) r ≡ true → pair_before kb S' r ≡ Some x
-  unfolding pair_before
+  pub before_over : (S S' : List (K × V)) (x : K × V) → IsOver (bytes kb) S x S' → (r : List ℕ) → begins (kb x.0) r ≡ true → pair_at_front kb S' r ≡ Some x
+  unfolding pair_at_front
   before_over S S' x over r b = front_of_member (bytes kb) S' over.content r x (Member-from_Contains x S' over.there) b
 
   -- where nothing is related nothing overlaps
@@ -400,8 +400,8 @@ module _ {K V : Type 0} (kb : K → List ℕ) where
     pub written_writes : S' ≡ written_at kb S q v → (S' ≡ written_at kb S q v) × WritesAt kb S q v S'
     written_writes e = (e, subst (WritesAt kb S q v) (sym e) (writes_at S q v))
 
-    pub written_front_writes : S' ≡ written_at_front kb S q v → (S' ≡ written_at_front kb S q v) × WritesBefore kb S q v S'
-    written_front_writes e = (e, subst (WritesBefore kb S q v) (sym e) (writes_before S q v))
+    pub written_front_writes : S' ≡ written_at_front kb S q v → (S' ≡ written_at_front kb S q v) × WritesAtFront kb S q v S'
+    written_front_writes e = (e, subst (WritesAtFront kb S q v) (sym e) (writes_before S q v))
 
   -- nothing is written where no key passes the test
   unwritten : (p : K → Bool) (v : V) (S : List (K × V)) → find (λ x. p x.0) S ≡ None → map (changed p v) S ≡ S
@@ -423,9 +423,9 @@ pub can_count_filter : {X : Type 0} (p : X → Bool) (S : List X) → CanCount S
 can_count_filter p S h = omega (arith, length-filter p S, count_by-le-length p S)
 
 -- on stored bytes both look-ups agree
-pub before_agrees : {K V : Type 0} (kb : K → List ℕ) (S : List (K × V)) (q : List ℕ) → IsContent (bytes kb) S → has kb S q ≡ true → pair_before kb S q ≡ pair_at kb S q
+pub before_agrees : {K V : Type 0} (kb : K → List ℕ) (S : List (K × V)) (q : List ℕ) → IsContent (bytes kb) S → has kb S q ≡ true → pair_at_front kb S q ≡ pair_at kb S q
 before_agrees {K} {V} kb S q content there = by (pair_at kb S q) refl
   where
-    by : (o : Option (K × V)) → pair_at kb S q ≡ o → pair_before kb S q ≡ pair_at kb S q
+    by : (o : Option (K × V)) → pair_at kb S q ≡ o → pair_at_front kb S q ≡ pair_at kb S q
     by None e = absurd (false≢true (ap (λ o. is_some o) (sym e) ∙ there))
-    by (Some x) e = pair_before-at kb S content q x e ∙ sym e
+    by (Some x) e = pair_at_front-at kb S content q x e ∙ sym e

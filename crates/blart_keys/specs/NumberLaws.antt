@@ -10,7 +10,7 @@ use Rattle.std.proofs.lemmas.Nat.Bits.{and_pow}
 use Rattle.std.proofs.lemmas.Int.{of_z-to_z}
 use Rattle.blart_keys.specs.Keys.{AreBytes, AreBytesOf, flipped, unflipped}
 
--- what is read of bytes is a byte, also behind their end
+-- what is read of bytes is a byte, also after their end
 byte_read : (b : List ℕ) → AreBytes b → (i : ℕ) → get_or b i 0 < 256
 byte_read b h i = elim (cases_lt i (length b)) [
   | inl l ↦ h i 0 l

@@ -1,4 +1,4 @@
--- What a map has at some bytes, in the words that its users cite. `pair_at`, `pair_before` and `overlaps` stay closed in their proofs.
+-- What a map has at some bytes, in the words that its users cite. `pair_at`, `pair_at_front` and `overlaps` stay closed in their proofs.
 use Rattle.std.specs.Prelude.{◌≡◌, ◌≢◌, ℕ, ◌^◌, ◌<◌, Bool, true, false, List, length, map, Option, None, Some, option_map, is_some, bytes_eq, if◌then◌else◌}
 use denote.Ref.{Bor}
 use Rattle.blart_keys.specs.declared.calls.TryInsertError.{TryInsertError}
@@ -30,8 +30,8 @@ module _ {K V : Type 0} (kb : K → List ℕ) where
   pair_at S q = at bytes S q
 
   -- the pair whose key's bytes begin q
-  unfoldable pub pair_before : List (K × V) → List ℕ → Option (K × V)
-  pair_before S q = front_of bytes S q
+  unfoldable pub pair_at_front : List (K × V) → List ℕ → Option (K × V)
+  pair_at_front S q = front_of bytes S q
 
   -- some key is related to q and has other bytes
   unfoldable pub overlaps : List (K × V) → List ℕ → Bool
@@ -42,8 +42,8 @@ module _ {K V : Type 0} (kb : K → List ℕ) where
   value_at S q = option_map (λ p. p.1) (pair_at S q)
 
   -- the value of the key whose bytes begin q
-  abbrev pub value_before : List (K × V) → List ℕ → Option V
-  value_before S q = option_map (λ p. p.1) (pair_before S q)
+  abbrev pub value_at_front : List (K × V) → List ℕ → Option V
+  value_at_front S q = option_map (λ p. p.1) (pair_at_front S q)
 
   -- some key has the bytes q
   abbrev pub has : List (K × V) → List ℕ → Bool
@@ -84,8 +84,8 @@ module _ {K V : Type 0} (kb : K → List ℕ) where
   WritesAt S q v S' = Updates S S' q (option_map (λ p. (p.0, v)) (pair_at S q)) × (length S' ≡ length S)
 
   -- S' is S with the value v where the bytes begin q
-  pub record WritesBefore (S : List (K × V)) (q : List ℕ) (v : V) (S' : List (K × V)) : Type 0 where
-    pub front : pair_before S' q ≡ option_map (λ p. (p.0, v)) (pair_before S q)
+  pub record WritesAtFront (S : List (K × V)) (q : List ℕ) (v : V) (S' : List (K × V)) : Type 0 where
+    pub front : pair_at_front S' q ≡ option_map (λ p. (p.0, v)) (pair_at_front S q)
     pub there : (r : List ℕ) → begins r q ≡ true → pair_at S' r ≡ option_map (λ p. (p.0, v)) (pair_at S r)
     pub others : (r : List ℕ) → begins r q ≡ false → pair_at S' r ≡ pair_at S r
     pub len : length S' ≡ length S
@@ -95,7 +95,7 @@ module _ {K V : Type 0} (kb : K → List ℕ) where
   Refuses S q (Prefix e) = overlaps S q ≡ true
   Refuses S q (Memory e) = (overlaps S q ≡ false) × (has S q ≡ false)
 
--- the pair behind two references
+-- the pair to which two references lead
 abbrev pub shown : {K V : Type 0} → Option (Bor K × Bor V) → Option (K × V)
 shown pair = option_map (λ p. (p.0.now, p.1.now)) pair
 

@@ -52,7 +52,7 @@ module _ {F X : Type 0} (R : F → X → Bool → X → F → Type 0) where
   EndsAt coming before (Some y) between rest g = (x : X) × (coming ≡ before ++ x ∷ rest) × R between x true y g
 
   -- One `next` of `extract_if`, from the state f to g: of the items that are to come it asks up to the first true, which comes out as it was left.
-  -- The ones before it stay behind as they were left, and the rest is still to come
+  -- The ones before it stay as they were left, and the rest is still to come
   pub record ExtractsFirst (coming : List X) (f : F) (result : Option X) (kept : List X) (rest : List X) (g : F) : Type 0 where
     pub before : List X
     pub answers : List Bool

@@ -1,4 +1,4 @@
-//! Bytes with one zero behind them, so that no key begins another.
+//! Bytes with one zero after them, so that no key begins another.
 
 ghost use Rattle.std.specs.Prelude.{◌≡◌, ℕ, List, ◌∷◌, [], ◌++◌, IfOk, IsErrOf, Contains, ◌↔◌, refl};
 ghost use Rattle.std.proofs.lemmas.Slice.Eq.{bytes_eq-Decides};
@@ -25,7 +25,7 @@ pub enum ZKeyError {
     Memory,
 }
 
-/// Bytes without a zero, and one zero behind them.
+/// Bytes without a zero, and one zero after them.
 ///
 /// No key of this type begins another, and keys compare as the bytes without the zero do.
 ///

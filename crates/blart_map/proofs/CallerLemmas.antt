@@ -1,6 +1,6 @@
 -- What a caller cites of a map.
 -- look-ups: what is stored is found, also by what it begins; a pair that is found has the bytes
-pub use Rattle.blart_keys.proofs.StoredLemmas.{stores_is, pair_at-bytes, pair_before-begins, pair_before-at, before_agrees, pair_at-member, stored_at, nothing_stored}
+pub use Rattle.blart_keys.proofs.StoredLemmas.{stores_is, pair_at-bytes, pair_at_front-begins, pair_at_front-at, before_agrees, pair_at-member, stored_at, nothing_stored}
 -- what a list has at some bytes after a change
 pub use Rattle.blart_keys.proofs.StoredLemmas.{updates_put, len_put, before_put, overwrites_over, before_over, updates_without, len_without, takes_first, takes_last, writes_at, writes_before}
 -- what came from both ends of a walk

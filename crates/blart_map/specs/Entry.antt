@@ -58,8 +58,8 @@ module _ {K V T : Type 0} {P : ℕ} {g : Ghosts K} where
   IsWritten (Vacant e) w n = IsPut (bytes g.bytes) (pairs e.map.now) (e.key, w) (pairs n)
 
   -- the same as users see it
-  abbrev pub IsSet : Entry K V P T g → V → List (Numbered K V) → Type 0
-  IsSet e w n =
+  abbrev pub SetsValue : Entry K V P T g → V → List (Numbered K V) → Type 0
+  SetsValue e w n =
       Updates g.bytes (entry_pairs e) (pairs n) (entry_bytes e) (option_map (λ k. (k, w)) (entry_key e))
       × (value_at g.bytes (pairs n) (entry_bytes e) ≡ Some w)
       × (length (pairs n) ≡ length (entry_pairs e) + entry_more e)
@@ -68,7 +68,7 @@ module _ {K V T : Type 0} {P : ℕ} {g : Ghosts K} where
   -- o is the entry of e's key, once w was set there
   pub record IsSetEntry (e : Entry K V P T g) (w : V) (o : OccupiedEntry K V P T g) : Type 0 where
     pub same_map : o.map.ghost_name ≡ (entry_ref e).ghost_name
-    pub set : IsSet e w o.map.now
+    pub set : SetsValue e w o.map.now
     pub pair : entry_pair (Occupied o) ≡ option_map (λ k. (k, w)) (entry_key e)
     pub same_bytes : entry_bytes (Occupied o) ≡ entry_bytes e
 
@@ -93,11 +93,11 @@ module _ {K V T : Type 0} {P : ℕ} {g : Ghosts K} where
   -- d is the entry e, once w is its value: what is set there afterwards is as set at e
   pub record IsSameWith (e : Entry K V P T g) (w : V) (d : Entry K V P T g) : Type 0 where
     pub same_map : (entry_ref d).ghost_name ≡ (entry_ref e).ghost_name
-    pub set : IsSet e w (entry_ref d).now
+    pub set : SetsValue e w (entry_ref d).now
     pub value : entry_value d ≡ Some w
     pub same_bytes : entry_bytes d ≡ entry_bytes e
     pub same_key : entry_key d ≡ entry_key e
-    pub again : (u : V) (n : List (Numbered K V)) → IsSet d u n → IsSet e u n
+    pub again : (u : V) (n : List (Numbered K V)) → SetsValue d u n → SetsValue e u n
 
   -- o is the entry that was occupied, or that of the key once w was set there
   abbrev pub IsKeptOrSet : Entry K V P T g → V → OccupiedEntry K V P T g → Type 0

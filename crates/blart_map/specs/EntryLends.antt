@@ -7,12 +7,12 @@ use Rattle.blart_map.specs.Content.{Numbered}
 use Rattle.blart_map.specs.contracts.map.TreeMap as tree_map
 use Rattle.blart_map.specs.declared.entry.Entry.{Entry}
 use Rattle.blart_map.specs.declared.occupied.OccupiedEntry.{OccupiedEntry}
-use Rattle.blart_map.specs.Entry.{entry_ref, IsSet}
+use Rattle.blart_map.specs.Entry.{entry_ref, SetsValue}
 
 module _ (K V P : RattleType) (g : Ghosts K.Denot) where
   -- once the borrow r ends, the last value written through it is the key's, and at `Err` the map stands
   abbrev pub entry_lends_ok : {T E : Type 0} → Entry K.Denot V.Denot (value_of P) T g → Result (MutBor V.Denot) E → Fml
-  entry_lends_ok e r = LendsSoOk (tree_map.the_row K V P g) V (entry_ref e) r (λ n w. IsSet e w n) (λ n. n ≡ (entry_ref e).now)
+  entry_lends_ok e r = LendsSoOk (tree_map.the_row K V P g) V (entry_ref e) r (λ n w. SetsValue e w n) (λ n. n ≡ (entry_ref e).now)
 
   -- where r has no entry, the map of e stands
   abbrev pub entry_rests : {T E : Type 0} → Entry K.Denot V.Denot (value_of P) T g → Result (OccupiedEntry K.Denot V.Denot (value_of P) T g) E → Fml

@@ -17,13 +17,13 @@ extract_left s = leaves_left s.cursor s.map.now
 module _ {K V F : Type 0} (g : Mut F (Bor K × (MutBor V × Unit {0})) (Bool × (MutBor V × Unit {0}))) where
   -- In the state f the closure was asked of each of these pairs of the map once, in turn, up to the first at which it answered true.
   -- That one is the result, as it was left, and has left the map; each before it stays with its value as it was left; the rest was not asked
-  abbrev pub Extracts : List (Numbered K V) → F → List (Numbered K V) → Option (K × V) → List (Numbered K V) → F → List (Numbered K V) → Type 0
-  Extracts S f [] result S' f' rest = (result ≡ None) × (S' ≡ S) × (f' ≡ f) × (rest ≡ [])
-  Extracts S f (p ∷ coming) result S' f' rest =
+  abbrev pub ExtractsFirstTrue : List (Numbered K V) → F → List (Numbered K V) → Option (K × V) → List (Numbered K V) → F → List (Numbered K V) → Type 0
+  ExtractsFirstTrue S f [] result S' f' rest = (result ≡ None) × (S' ≡ S) × (f' ≡ f) × (rest ≡ [])
+  ExtractsFirstTrue S f (p ∷ coming) result S' f' rest =
       (answer : Bool) × (w : V) × (h : F) × (leaf_in S p.0 ≡ Some p.1) × CalledAtPair g f p.1.0 p.1.1 answer w h
       × MatchBool answer
       ((result ≡ Some (p.1.0, w)) × (S' ≡ without_number S p.0) × (f' ≡ h) × (rest ≡ coming))
-      (Extracts (with_value S p.0 w) h coming result S' f' rest)
+      (ExtractsFirstTrue (with_value S p.0 w) h coming result S' f' rest)
 
   module _ {p : ℕ} {k : Ghosts K} where
     -- the closure may be called on each pair that is left, from the first on
@@ -36,8 +36,8 @@ module _ {K V F : Type 0} (g : Mut F (Bor K × (MutBor V × Unit {0})) (Bool × 
 
     -- one `next`
     abbrev pub ExtractsNext : ExtractIf K V F p k → Option (K × V) → ExtractIf K V F p k → Type 0
-    ExtractsNext s result t = (t.map.ghost_name ≡ s.map.ghost_name) × Extracts s.map.now s.pred (extract_left s) result t.map.now t.pred (extract_left t)
+    ExtractsNext s result t = (t.map.ghost_name ≡ s.map.ghost_name) × ExtractsFirstTrue s.map.now s.pred (extract_left s) result t.map.now t.pred (extract_left t)
 
     -- one `next_back`, which asks from the last pair on
     abbrev pub ExtractsNextBack : ExtractIf K V F p k → Option (K × V) → ExtractIf K V F p k → Type 0
-    ExtractsNextBack s result t = (t.map.ghost_name ≡ s.map.ghost_name) × Extracts s.map.now s.pred (reverse (extract_left s)) result t.map.now t.pred (reverse (extract_left t))
+    ExtractsNextBack s result t = (t.map.ghost_name ≡ s.map.ghost_name) × ExtractsFirstTrue s.map.now s.pred (reverse (extract_left s)) result t.map.now t.pred (reverse (extract_left t))

@@ -10,7 +10,7 @@ use Rattle.blart_keys.specs.Stored.{pair_at, overlaps}
 use Rattle.art_tree.specs.Leaves.{with_value}
 use Rattle.blart_map.specs.Content.{Numbered}
 use Rattle.blart_map.specs.Entry as entry
-use Rattle.blart_map.specs.Entry.{entry_pair, entry_key, entry_bytes, IsSet, IsSetEntry}
+use Rattle.blart_map.specs.Entry.{entry_pair, entry_key, entry_bytes, SetsValue, IsSetEntry}
 use Rattle.blart_map.specs.InnerEntry.{inner_pair, over_leaf, IsOverSet, IsOverEntry}
 use Rattle.blart_map.specs.declared.occupied.OccupiedEntry.{OccupiedEntry}
 use Rattle.blart_map.specs.declared.prefix_entry.PrefixEntry.{PrefixEntry}
@@ -44,7 +44,7 @@ module _ {K V T : Type 0} {P : ℕ} {g : Ghosts K} where
 
   -- the same as users see it
   abbrev pub IsOccupiedWritten : PrefixOccupied K V P T g → V → List (Numbered K V) → Type 0
-  IsOccupiedWritten (Leaf o) w n = IsSet (entry.Occupied o) w n
+  IsOccupiedWritten (Leaf o) w n = SetsValue (entry.Occupied o) w n
   IsOccupiedWritten (Inner e) w n = IsOverSet e w n
 
   -- the reference to the map

@@ -6,7 +6,7 @@ use Rattle.blart_keys.specs.declared.AsBytes.{Ghosts}
 use Rattle.blart_keys.specs.Entries.{Kind}
 use Rattle.blart_map.specs.Content.{Numbered}
 use Rattle.blart_map.specs.Entry as entry
-use Rattle.blart_map.specs.Entry.{Occupied, entry_pair, entry_key, entry_bytes, IsSet, IsSetEntry}
+use Rattle.blart_map.specs.Entry.{Occupied, entry_pair, entry_key, entry_bytes, SetsValue, IsSetEntry}
 use Rattle.blart_map.specs.InnerEntry.{IsOverSet, IsOverEntry}
 use Rattle.blart_map.specs.declared.occupied.OccupiedEntry.{OccupiedEntry}
 use Rattle.blart_map.specs.PrefixEntry.{prefix_ref, prefix_bytes, prefix_pair, prefix_key, prefix_is_inner, prefix_kind}
@@ -56,9 +56,9 @@ module _ {K V T : Type 0} {P : ℕ} {g : Ghosts K} where
 
   -- the pairs, once w is the value of the key, over all pairs to which it was related
   abbrev pub IsKindSet : PrefixKind K V P T g → V → List (Numbered K V) → Type 0
-  IsKindSet (Leaf o) w n = IsSet (entry.Occupied o) w n
+  IsKindSet (Leaf o) w n = SetsValue (entry.Occupied o) w n
   IsKindSet (Inner e) w n = IsOverSet e w n
-  IsKindSet (Vacant e) w n = IsSet (entry.Vacant e) w n
+  IsKindSet (Vacant e) w n = SetsValue (entry.Vacant e) w n
 
   -- o is the entry of the key, once w was set there, over all pairs to which it was related
   abbrev pub IsKindSetEntry : PrefixKind K V P T g → V → OccupiedEntry K V P T g → Type 0

@@ -4,7 +4,7 @@ ghost use Rattle.blart_keys.specs.Bytes.{begins};
 ghost use Rattle.blart_keys.specs.Content.{at, under, without};
 ghost use Rattle.blart_keys.specs.Outside.{outside};
 ghost use Rattle.blart_keys.specs.Steps.{bytes};
-ghost use Rattle.blart_keys.specs.Stored.{pair_at, pair_before, value_at, Updates, TakesPair, HasNothing};
+ghost use Rattle.blart_keys.specs.Stored.{pair_at, pair_at_front, value_at, Updates, TakesPair, HasNothing};
 ghost use Rattle.blart_keys.specs.Walks.{TakesFirst, TakesLast};
 ghost use Rattle.blart_map.specs.Content.{pairs};
 
@@ -69,7 +69,7 @@ impl<K: AsBytes + Drop, V: Drop, const PREFIX_LEN: usize> TreeMap<K, V, PREFIX_L
         ensures others { (q : List ℕ) → begins prefix.now q ≡ false
             → pair_at K.bytes (pairs self.new) q ≡ pair_at K.bytes (pairs self.old) q }
         ensures fronts { (q : List ℕ) → begins prefix.now q ≡ false
-            → pair_before K.bytes (pairs self.new) q ≡ pair_before K.bytes (pairs self.old) q }
+            → pair_at_front K.bytes (pairs self.new) q ≡ pair_at_front K.bytes (pairs self.old) q }
         ensures len { length (pairs self.new) + result ≡ length (pairs self.old) }
         ensures count { result ≡ length (under (bytes K.bytes) (pairs self.old) prefix.now) }
         ensures rest { pairs self.new ≡ outside (bytes K.bytes) (pairs self.old) prefix.now }

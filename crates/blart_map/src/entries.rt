@@ -1,7 +1,7 @@
 //! The entry of a key.
 ghost use Rattle.std.specs.Prelude.{◌≡◌, ◌-◌, length, slice_get, not, is_ok, is_some, IfOk, IfSome};
 ghost use Rattle.std.specs.Borrow.{sem};
-ghost use Rattle.blart_keys.specs.Stored.{overlaps, pair_before};
+ghost use Rattle.blart_keys.specs.Stored.{overlaps, pair_at_front};
 ghost use Rattle.blart_map.specs.Content.{pairs};
 ghost use Rattle.blart_map.specs.Entry.{Occupied, entry_ref, entry_pair, IsEntryFor};
 ghost use Rattle.blart_map.specs.PrefixEntry.{prefix_ref, IsPrefixEntryFor};
@@ -118,11 +118,11 @@ impl<K: AsBytes + Drop, V: Drop, const PREFIX_LEN: usize> TreeMap<K, V, PREFIX_L
         ensures* stands { sem 𝓛
             (rests_if_none K.row V.row PREFIX_LEN.row K.AsBytes self.entry result) }
         ensures found { is_some result
-            ≡ is_some (pair_before K.bytes (pairs self.old) (Q.bytes query.now)) }
+            ≡ is_some (pair_at_front K.bytes (pairs self.old) (Q.bytes query.now)) }
         ensures same_map { IfSome result (λ o. o.map.ghost_name ≡ self.entry.ghost_name) }
         ensures unchanged { IfSome result (λ o. o.map.now ≡ self.old) }
         ensures pair { IfSome result (λ o. entry_pair (Occupied o)
-            ≡ pair_before K.bytes (pairs self.old) (Q.bytes query.now)) }
+            ≡ pair_at_front K.bytes (pairs self.old) (Q.bytes query.now)) }
     {
         self.numbers_law();
         match self.front_leaf(query.as_bytes()) {

@@ -2,7 +2,7 @@
 ghost use Rattle.std.specs.Prelude.{◌≡◌, ◌+◌, ℕ, List, true, false, length, option_map, is_some, OnOk, IfOk, OnErr, IfErr, Some, None, if◌then◌else◌};
 ghost use Rattle.blart_keys.specs.Bytes.{begins};
 ghost use Rattle.blart_keys.specs.Steps.{Puts, Inserts};
-ghost use Rattle.blart_keys.specs.Stored.{kept, pair_at, pair_before, value_at, has, overlaps, Updates, Refuses};
+ghost use Rattle.blart_keys.specs.Stored.{kept, pair_at, pair_at_front, value_at, has, overlaps, Updates, Refuses};
 ghost use Rattle.blart_map.specs.Content.{pairs};
 
 use crate::map::TreeMap;
@@ -32,11 +32,11 @@ impl<K: AsBytes + Drop, V: Drop, const PREFIX_LEN: usize> TreeMap<K, V, PREFIX_L
             (λ old. length (pairs self.new)
             ≡ length (pairs self.old) + (if is_some old then 0 else 1)) }
         ensures fronts { OnOk result ((r : List ℕ) → begins (K.bytes key) r ≡ true
-            → pair_before K.bytes (pairs self.new) r
+            → pair_at_front K.bytes (pairs self.new) r
             ≡ Some (kept K.bytes (pairs self.old) (key, value))) }
-        ensures routes { OnOk result ((r : List ℕ) → pair_before K.bytes (pairs self.new) r
+        ensures routes { OnOk result ((r : List ℕ) → pair_at_front K.bytes (pairs self.new) r
             ≡ (if begins (K.bytes key) r then Some (kept K.bytes (pairs self.old) (key, value))
-            else pair_before K.bytes (pairs self.old) r)) }
+            else pair_at_front K.bytes (pairs self.old) r)) }
         ensures err { OnErr result (self.new ≡ self.old) }
         ensures free { OnOk result (overlaps K.bytes (pairs self.old) (K.bytes key) ≡ false) }
         ensures why { IfErr result (Refuses K.bytes (pairs self.old) (K.bytes key)) }
@@ -60,10 +60,10 @@ impl<K: AsBytes + Drop, V: Drop, const PREFIX_LEN: usize> TreeMap<K, V, PREFIX_L
             (λ old. length (pairs self.new)
             ≡ length (pairs self.old) + (if is_some old then 0 else 1)) }
         ensures fronts { OnOk result ((r : List ℕ) → begins (K.bytes key) r ≡ true
-            → pair_before K.bytes (pairs self.new) r ≡ Some (key, value)) }
-        ensures routes { OnOk result ((r : List ℕ) → pair_before K.bytes (pairs self.new) r
+            → pair_at_front K.bytes (pairs self.new) r ≡ Some (key, value)) }
+        ensures routes { OnOk result ((r : List ℕ) → pair_at_front K.bytes (pairs self.new) r
             ≡ (if begins (K.bytes key) r then Some (key, value)
-            else pair_before K.bytes (pairs self.old) r)) }
+            else pair_at_front K.bytes (pairs self.old) r)) }
         ensures err { OnErr result (self.new ≡ self.old) }
         ensures free { OnOk result (overlaps K.bytes (pairs self.old) (K.bytes key) ≡ false) }
         ensures why { IfErr result (Refuses K.bytes (pairs self.old) (K.bytes key)) }
@@ -96,11 +96,11 @@ impl<K: NoPrefixesBytes + Drop, V: Drop, const PREFIX_LEN: usize> TreeMap<K, V, 
             (λ old. length (pairs self.new)
             ≡ length (pairs self.old) + (if is_some old then 0 else 1)) }
         ensures fronts { OnOk result ((r : List ℕ) → begins (K.bytes key) r ≡ true
-            → pair_before K.bytes (pairs self.new) r
+            → pair_at_front K.bytes (pairs self.new) r
             ≡ Some (kept K.bytes (pairs self.old) (key, value))) }
-        ensures routes { OnOk result ((r : List ℕ) → pair_before K.bytes (pairs self.new) r
+        ensures routes { OnOk result ((r : List ℕ) → pair_at_front K.bytes (pairs self.new) r
             ≡ (if begins (K.bytes key) r then Some (kept K.bytes (pairs self.old) (key, value))
-            else pair_before K.bytes (pairs self.old) r)) }
+            else pair_at_front K.bytes (pairs self.old) r)) }
         ensures err { OnErr result (self.new ≡ self.old) }
         ensures absent { OnErr result (has K.bytes (pairs self.old) (K.bytes key) ≡ false) }
         ensures put { Inserts K.bytes (pairs self.old) (key, value)

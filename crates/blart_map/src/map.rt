@@ -4,7 +4,7 @@ ghost use Rattle.std.specs.FinSet as set;
 ghost use Rattle.blart_keys.specs.Bytes.{begins};
 ghost use Rattle.blart_keys.specs.Steps.{bytes};
 ghost use Rattle.blart_keys.specs.Content.{at, conflict, front_of, stores, IsContent};
-ghost use Rattle.blart_keys.specs.Stored.{pair_at, pair_before, value_at, value_before, has, overlaps, shown, CanCount, HasNothing};
+ghost use Rattle.blart_keys.specs.Stored.{pair_at, pair_at_front, value_at, value_at_front, has, overlaps, shown, CanCount, HasNothing};
 ghost use Rattle.blart_keys.specs.Fronts.{fronts};
 ghost use Rattle.blart_map.specs.Content.{pairs};
 
@@ -157,7 +157,7 @@ impl<K: AsBytes + Drop, V: Drop, const PREFIX_LEN: usize> TreeMap<K, V, PREFIX_L
     ) -> Option<(&K, &V)>
         ensures value { shown result
             ≡ front_of (bytes K.bytes) (pairs self.now) (Q.bytes query.now) }
-        ensures pair { shown result ≡ pair_before K.bytes (pairs self.now) (Q.bytes query.now) }
+        ensures pair { shown result ≡ pair_at_front K.bytes (pairs self.now) (Q.bytes query.now) }
         ensures found { IfSome result
             (λ pair. begins (K.bytes pair.0.now) (Q.bytes query.now) ≡ true) }
         ensures counted { visits.new.count ≤ visits.old.count + length (Q.bytes query.now) + 1 }
@@ -174,7 +174,7 @@ impl<K: AsBytes + Drop, V: Drop, const PREFIX_LEN: usize> TreeMap<K, V, PREFIX_L
     pub fn prefix_get_key_value<Q: AsBytes>(&self, query: &Q) -> Option<(&K, &V)>
         ensures value { shown result
             ≡ front_of (bytes K.bytes) (pairs self.now) (Q.bytes query.now) }
-        ensures pair { shown result ≡ pair_before K.bytes (pairs self.now) (Q.bytes query.now) }
+        ensures pair { shown result ≡ pair_at_front K.bytes (pairs self.now) (Q.bytes query.now) }
         ensures found { IfSome result
             (λ pair. begins (K.bytes pair.0.now) (Q.bytes query.now) ≡ true) }
     {
@@ -193,7 +193,7 @@ impl<K: AsBytes + Drop, V: Drop, const PREFIX_LEN: usize> TreeMap<K, V, PREFIX_L
             ≡ option_map (λ pair. pair.1)
             (front_of (bytes K.bytes) (pairs self.now) (Q.bytes query.now)) }
         ensures stored { option_copied result
-            ≡ value_before K.bytes (pairs self.now) (Q.bytes query.now) }
+            ≡ value_at_front K.bytes (pairs self.now) (Q.bytes query.now) }
     {
         match self.prefix_get_key_value(query) {
             Some(pair) => Some(pair.1),

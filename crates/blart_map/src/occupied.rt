@@ -101,7 +101,7 @@ impl<'a, K: AsBytes + Drop, V: Drop, const PREFIX_LEN: usize> OccupiedEntry<
     PREFIX_LEN,
     TreeMap<K, V, PREFIX_LEN>,
 > {
-    ghost use Rattle.blart_map.specs.Entry.{Occupied, entry_value, IsSet, IsSetEntry};
+    ghost use Rattle.blart_map.specs.Entry.{Occupied, entry_value, SetsValue, IsSetEntry};
     ghost use Rattle.blart_map.specs.EntryLends.{entry_rests};
     ghost use Rattle.blart_map.specs.LentLeaves.{lends_leaf};
     ghost use Rattle.art_tree.specs.Leaves.{with_value};
@@ -111,7 +111,7 @@ impl<'a, K: AsBytes + Drop, V: Drop, const PREFIX_LEN: usize> OccupiedEntry<
         ensures* writes_back { sem 𝓛
             (lends_leaf K.row V.row PREFIX_LEN.row K.AsBytes self.entry.map self.entry.id result) }
         ensures value { entry_value (Occupied self.entry) ≡ Some result.now }
-        ensures written { (w : V) → IsSet (Occupied self.entry) w
+        ensures written { (w : V) → SetsValue (Occupied self.entry) w
             (with_value self.entry.map.now self.entry.id w) }
     {
         let map = self.map;
@@ -153,7 +153,7 @@ impl<'a, K: AsBytes + Drop, V: Drop, const PREFIX_LEN: usize> OccupiedEntry<
         ensures* writes_back { sem 𝓛
             (lends_leaf K.row V.row PREFIX_LEN.row K.AsBytes self.entry.map self.entry.id result) }
         ensures value { result.now ≡ value }
-        ensures written { (w : V) → IsSet (Occupied self.entry) w
+        ensures written { (w : V) → SetsValue (Occupied self.entry) w
             (with_value self.entry.map.now self.entry.id w) }
     {
         let map = self.map;

@@ -3,7 +3,7 @@ ghost use Rattle.std.specs.Prelude.{◌≡◌, ℕ, List, true, false, OnOk, OnE
 ghost use Rattle.blart_keys.specs.Bytes.{begins};
 ghost use Rattle.blart_keys.specs.Content.{IsContent, IsOver};
 ghost use Rattle.blart_keys.specs.Steps.{bytes, PutsOver};
-ghost use Rattle.blart_keys.specs.Stored.{pair_before, has, overlaps, Overwrites};
+ghost use Rattle.blart_keys.specs.Stored.{pair_at_front, has, overlaps, Overwrites};
 ghost use Rattle.art_tree.specs.Leaves.{leaf_in, with_pair};
 ghost use Rattle.art_walk.specs.Pairs.{pairs_of};
 ghost use Rattle.blart_map.specs.Content.{pairs};
@@ -31,7 +31,7 @@ impl<K: AsBytes + Drop, V: Drop, const PREFIX_LEN: usize> TreeMap<K, V, PREFIX_L
         ensures over { OnOk result
             (Overwrites K.bytes (pairs self.old) (key, value) (pairs self.new)) }
         ensures fronts { OnOk result ((r : List ℕ) → begins (K.bytes key) r ≡ true
-            → pair_before K.bytes (pairs self.new) r ≡ Some (key, value)) }
+            → pair_at_front K.bytes (pairs self.new) r ≡ Some (key, value)) }
         ensures err { OnErr result (self.new ≡ self.old) }
         ensures free { OnErr result (overlaps K.bytes (pairs self.old) (K.bytes key) ≡ false) }
         ensures absent { OnErr result (has K.bytes (pairs self.old) (K.bytes key) ≡ false) }

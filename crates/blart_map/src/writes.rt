@@ -4,7 +4,7 @@ ghost use Rattle.std.specs.Option.{option_copied_mut};
 ghost use Rattle.std.specs.Borrow.{sem};
 ghost use Rattle.blart_keys.specs.Content.{at, front_of};
 ghost use Rattle.blart_keys.specs.Steps.{bytes};
-ghost use Rattle.blart_keys.specs.Stored.{value_at, value_before, has};
+ghost use Rattle.blart_keys.specs.Stored.{value_at, value_at_front, has};
 ghost use Rattle.blart_map.specs.Content.{pairs};
 ghost use Rattle.blart_map.specs.Written.{lends_at, lends_at_front};
 
@@ -46,7 +46,7 @@ impl<K: AsBytes + Drop, V: Drop, const PREFIX_LEN: usize> TreeMap<K, V, PREFIX_L
             ≡ option_map (λ pair. pair.1)
             (front_of (bytes K.bytes) (pairs self.old) (Q.bytes query.now)) }
         ensures stored { option_copied_mut result
-            ≡ value_before K.bytes (pairs self.old) (Q.bytes query.now) }
+            ≡ value_at_front K.bytes (pairs self.old) (Q.bytes query.now) }
     {
         self.tree.law();
         match self.tree.search_front(query.as_bytes(), &mut Visits::new()) {

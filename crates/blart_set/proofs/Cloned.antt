@@ -1,4 +1,4 @@
--- Clones of elements that ascend, put one behind the other.
+-- Clones of elements that ascend, put one after the other.
 use Rattle.std.proofs.Common.{◌≡◌, ◌≢◌, ℕ, true, inl, inr, List, [], ◌∷◌, ◌++◌, map, Some, None, refl, sym, ap, ◌∙◌, subst, append_assoc, append-nil}
 use denote.Ref.{Bor}
 use Rattle.std.proofs.lemmas.Bool.{false≢true}
@@ -16,7 +16,7 @@ use Rattle.blart_keys.proofs.PutLemmas.{put_member, member_put}
 use Rattle.blart_keys.proofs.RankLemmas.{Member, Contains-from_Member, Member-from_Contains, Member-append_left, Member-append_right, Member-append_cases, Ranked, Ranked-from_AllPairs, AllPairs-from_Ranked, Ranked-left, Ranked-across}
 use Rattle.blart_set.specs.Clones.{KeepsBytes, AreElementClones}
 
--- what is behind a reference
+-- what a reference leads to
 abbrev pub now : {A : Type 0} → Bor A → A
 now x = x.now
 
@@ -35,7 +35,7 @@ all_drained rest s (x ∷ xs) d = ap (λ l. x.now ∷ l) (all_drained rest d.1.1
 module _ {K : Type 0} (kb : K → List ℕ) where
   -- ---- elements that ascend, put in turn
 
-  -- one that is behind all is put last
+  -- one that is after all is put last
   put_last : (T : List K) (y : K) (T' : List K) → Ranked (Lower kb) (T ++ y ∷ []) → IsPut kb T y T' → T' ≡ T ++ y ∷ []
   put_last T y T' r put = same_ascending kb T' (T ++ y ∷ []) put.content.ascends (AllPairs-from_Ranked (Lower kb) (T ++ y ∷ []) r) (λ x. (
     λ m. Contains-from_Member x (T ++ y ∷ []) (elim (put_member kb T T' y x put (Member-from_Contains x T' m)) [
@@ -50,17 +50,17 @@ module _ {K : Type 0} (kb : K → List ℕ) where
   ))
 
   -- its bytes are new
-  new_behind : (T : List K) (y : K) → Ranked (Lower kb) (T ++ y ∷ []) → at kb T (kb y) ≡ None
-  new_behind T y r = at_absent kb T (kb y) (λ x m e. false≢true (sym (less-irrefl (kb y)) ∙ subst (λ q. less q (kb y) ≡ true) e (Ranked-across (Lower kb) T (y ∷ []) r x y m (inl refl))))
+  new_after : (T : List K) (y : K) → Ranked (Lower kb) (T ++ y ∷ []) → at kb T (kb y) ≡ None
+  new_after T y r = at_absent kb T (kb y) (λ x m e. false≢true (sym (less-irrefl (kb y)) ∙ subst (λ q. less q (kb y) ≡ true) e (Ranked-across (Lower kb) T (y ∷ []) r x y m (inl refl))))
 
   -- all of them are there then, in order
   pub puts_in_order : (T ys S : List K) → Ranked (Lower kb) (T ++ ys) → PutsAll kb kept_item T ys S → S ≡ T ++ ys
   puts_in_order T [] S r h = h ∙ sym (append-nil T)
   puts_in_order T (y ∷ ys) S r h =
       let on = subst (Ranked (Lower kb)) (sym (append_assoc T (y ∷ []) ys)) r in
-      let behind = Ranked-left (Lower kb) (T ++ y ∷ []) ys on in
-      let put = subst (λ o. IsPut kb T (kept_item o y) h.0) (new_behind T y behind) h.1 in
-      let e = put_last T y h.0 behind put in
+      let after = Ranked-left (Lower kb) (T ++ y ∷ []) ys on in
+      let put = subst (λ o. IsPut kb T (kept_item o y) h.0) (new_after T y after) h.1 in
+      let e = put_last T y h.0 after put in
       puts_in_order (T ++ y ∷ []) ys S on (subst (λ R. PutsAll kb kept_item R ys S) e h.2) ∙ append_assoc T (y ∷ []) ys
 
   -- ---- clones of elements

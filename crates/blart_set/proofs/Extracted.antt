@@ -15,7 +15,7 @@ use Rattle.blart_set.specs.Elements.{elements}
 use Rattle.blart_set.specs.Extracting.{AsksUpTo}
 
 module _ {F K : Type 0} (g : Mut F (Bor K × Unit {0}) Bool) where
-  -- a call at the element behind a reference
+  -- a call at the element to which a reference leads
   pub called_at : (f : F) (x : Bor K) (b : Bool) (h : F) → Called g f (x, tt) b h → CalledAt g f x.now b h
   called_at f x b h m = record { shown = x; shows = refl; called = m }
 

@@ -77,7 +77,7 @@ module _ {K V : Type 0} (kb : K → List ℕ) where
   appended-keys (Ok a) S T U u = union_images (λ p. p.0) kb T S U u
   appended-keys (Err e) S T U u = tt
 
-  -- where the one lies behind the other
+  -- where the one lies after the other
   pub joined-keys : {A E : Type 0} (r : Result A E) (S T U : List (K × V)) → OnOk r ((W : List (K × V)) → IsContent (bytes kb) W → W ≡ S ++ T → U ≡ W) → OnOk r ((W : List K) → IsContent kb W → W ≡ keys kb S ++ keys kb T → keys kb U ≡ W)
   joined-keys (Ok a) S T U h = λ W c e.
       let whole : W ≡ keys kb (S ++ T) = e ∙ sym (map-append (λ (p : K × V). p.0) S T) in

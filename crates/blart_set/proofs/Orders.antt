@@ -63,11 +63,11 @@ module _ {K : Type 0} (kb : K → List ℕ) where
   abbrev pub Lower : K → K → Type 0
   Lower x y = less (kb x) (kb y) ≡ true
 
-  -- what is behind an element is behind each lesser one
+  -- what is after an element is after each lesser one
   pub precedes_on : (x y : K) (S : List K) → Lower x y → Precedes kb y S → Precedes kb x S
   precedes_on x y S l p = from_each_member (Lower x) S (λ z m. less-trans (kb x) (kb y) (kb z) l (each_member (Lower y) S z p m))
 
-  -- and behind one of the same bytes
+  -- and after one of the same bytes
   pub precedes_same : (x y : K) (S : List K) → kb y ≡ kb x → Precedes kb y S → Precedes kb x S
   precedes_same x y S e p = from_each_member (Lower x) S (λ z m. subst (λ l. less l (kb z) ≡ true) e (each_member (Lower y) S z p m))
 

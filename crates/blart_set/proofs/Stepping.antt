@@ -7,7 +7,7 @@ use Rattle.blart_keys.specs.Bytes.{bytes_cmp}
 use Rattle.blart_keys.specs.Content.{Ascends, stores}
 use Rattle.blart_set.specs.declared.merges.sides.Side.{Side}
 use Rattle.blart_set.specs.declared.merges.sides.Side.TheVariants.{Left, Right, Both}
-use Rattle.blart_set.specs.Merging.{Merge, Precedes, Steps, united, parted, shared, lacking, side_element, one_element, both_element, left_element}
+use Rattle.blart_set.specs.Merging.{Merge, Precedes, Steps, union_rest, symmetric_difference_rest, intersection_rest, difference_rest, side_element, one_element, both_element, left_element}
 use Rattle.blart_set.proofs.Orders.{less_cmp, same_cmp, greater_cmp, from_less, from_same, from_greater, precedes_same, precedes, across, apart, skip_first}
 
 module _ {K : Type 0} (kb : K → List ℕ) where
@@ -58,24 +58,24 @@ module _ {K : Type 0} (kb : K → List ℕ) where
   -- ---- what a step does to what is still to come
 
   module _ (m n : Merge K) where
-    pub united_step : (side : Side K) → Steps kb m (Some side) n → united kb m ≡ (side_element side).now ∷ united kb n
-    united_step (Left x) h = ap (λ l. merged true l m.right) h.0 ∙ ap (merged true (x.now ∷ n.left)) (sym h.1) ∙ left_first true x.now n.left n.right h.3
-    united_step (Right y) h = ap (merged true m.left) h.0 ∙ ap (λ l. merged true l (y.now ∷ n.right)) (sym h.1) ∙ right_first true n.left y.now n.right h.2
-    united_step (Both x) h = ap (λ l. merged true l m.right) h.0 ∙ ap (merged true (x.now ∷ n.left)) h.1.1 ∙ both_first true x.now n.left h.1.0 n.right h.1.2
+    pub union_rest_step : (side : Side K) → Steps kb m (Some side) n → union_rest kb m ≡ (side_element side).now ∷ union_rest kb n
+    union_rest_step (Left x) h = ap (λ l. merged true l m.right) h.0 ∙ ap (merged true (x.now ∷ n.left)) (sym h.1) ∙ left_first true x.now n.left n.right h.3
+    union_rest_step (Right y) h = ap (merged true m.left) h.0 ∙ ap (λ l. merged true l (y.now ∷ n.right)) (sym h.1) ∙ right_first true n.left y.now n.right h.2
+    union_rest_step (Both x) h = ap (λ l. merged true l m.right) h.0 ∙ ap (merged true (x.now ∷ n.left)) h.1.1 ∙ both_first true x.now n.left h.1.0 n.right h.1.2
 
-    pub parted_one : (side : Side K) (e : Bor K) → one_element side ≡ Some e → Steps kb m (Some side) n → parted kb m ≡ e.now ∷ parted kb n
-    parted_one (Left x) e g h =
+    pub symmetric_difference_rest_one : (side : Side K) (e : Bor K) → one_element side ≡ Some e → Steps kb m (Some side) n → symmetric_difference_rest kb m ≡ e.now ∷ symmetric_difference_rest kb n
+    symmetric_difference_rest_one (Left x) e g h =
         let i : x ≡ e = cc in
-        ap (λ l. merged false l m.right) h.0 ∙ ap (merged false (x.now ∷ n.left)) (sym h.1) ∙ left_first false x.now n.left n.right h.3 ∙ ap (λ (z : Bor K). z.now ∷ parted kb n) i
-    parted_one (Right y) e g h =
+        ap (λ l. merged false l m.right) h.0 ∙ ap (merged false (x.now ∷ n.left)) (sym h.1) ∙ left_first false x.now n.left n.right h.3 ∙ ap (λ (z : Bor K). z.now ∷ symmetric_difference_rest kb n) i
+    symmetric_difference_rest_one (Right y) e g h =
         let i : y ≡ e = cc in
-        ap (merged false m.left) h.0 ∙ ap (λ l. merged false l (y.now ∷ n.right)) (sym h.1) ∙ right_first false n.left y.now n.right h.2 ∙ ap (λ (z : Bor K). z.now ∷ parted kb n) i
-    parted_one (Both x) e g h = absurd cc
+        ap (merged false m.left) h.0 ∙ ap (λ l. merged false l (y.now ∷ n.right)) (sym h.1) ∙ right_first false n.left y.now n.right h.2 ∙ ap (λ (z : Bor K). z.now ∷ symmetric_difference_rest kb n) i
+    symmetric_difference_rest_one (Both x) e g h = absurd cc
 
-    pub parted_skip : (side : Side K) → one_element side ≡ None → Steps kb m (Some side) n → parted kb m ≡ parted kb n
-    parted_skip (Left x) g h = absurd cc
-    parted_skip (Right y) g h = absurd cc
-    parted_skip (Both x) g h = ap (λ l. merged false l m.right) h.0 ∙ ap (merged false (x.now ∷ n.left)) h.1.1 ∙ both_first false x.now n.left h.1.0 n.right h.1.2
+    pub symmetric_difference_rest_skip : (side : Side K) → one_element side ≡ None → Steps kb m (Some side) n → symmetric_difference_rest kb m ≡ symmetric_difference_rest kb n
+    symmetric_difference_rest_skip (Left x) g h = absurd cc
+    symmetric_difference_rest_skip (Right y) g h = absurd cc
+    symmetric_difference_rest_skip (Both x) g h = ap (λ l. merged false l m.right) h.0 ∙ ap (merged false (x.now ∷ n.left)) h.1.1 ∙ both_first false x.now n.left h.1.0 n.right h.1.2
 
     -- the elements of the left side with bytes that the other has, or lacks
     abbrev kept : (Bool → Bool) → List K → List K → List K
@@ -97,30 +97,30 @@ module _ {K : Type 0} (kb : K → List ℕ) where
         ap (λ l. kept f l m.right) h.0 ∙ ap (kept f (x.now ∷ n.left)) h.1.1
         ∙ rw ((bytes_decides (kb y) (kb x.now)).1 h.1.2) (ap (λ l. cond (f true) (x.now ∷ l) l) rest)
 
-    pub shared_both : (side : Side K) (e : Bor K) → both_element side ≡ Some e → Steps kb m (Some side) n → shared kb m ≡ e.now ∷ shared kb n
-    shared_both (Left x) e g h = absurd cc
-    shared_both (Right y) e g h = absurd cc
-    shared_both (Both x) e g h = let i : x ≡ e = cc in kept_both (λ b. b) x h ∙ ap (λ (z : Bor K). z.now ∷ shared kb n) i
+    pub intersection_rest_both : (side : Side K) (e : Bor K) → both_element side ≡ Some e → Steps kb m (Some side) n → intersection_rest kb m ≡ e.now ∷ intersection_rest kb n
+    intersection_rest_both (Left x) e g h = absurd cc
+    intersection_rest_both (Right y) e g h = absurd cc
+    intersection_rest_both (Both x) e g h = let i : x ≡ e = cc in kept_both (λ b. b) x h ∙ ap (λ (z : Bor K). z.now ∷ intersection_rest kb n) i
 
-    pub shared_skip : (side : Side K) → both_element side ≡ None → Steps kb m (Some side) n → shared kb m ≡ shared kb n
-    shared_skip (Left x) g h = kept_left (λ b. b) x h
-    shared_skip (Right y) g h = kept_right (λ b. b) y h
-    shared_skip (Both x) g h = absurd cc
+    pub intersection_rest_skip : (side : Side K) → both_element side ≡ None → Steps kb m (Some side) n → intersection_rest kb m ≡ intersection_rest kb n
+    intersection_rest_skip (Left x) g h = kept_left (λ b. b) x h
+    intersection_rest_skip (Right y) g h = kept_right (λ b. b) y h
+    intersection_rest_skip (Both x) g h = absurd cc
 
-    pub lacking_left : (side : Side K) (e : Bor K) → left_element side ≡ Some e → Steps kb m (Some side) n → lacking kb m ≡ e.now ∷ lacking kb n
-    lacking_left (Left x) e g h = let i : x ≡ e = cc in kept_left not x h ∙ ap (λ (z : Bor K). z.now ∷ lacking kb n) i
-    lacking_left (Right y) e g h = absurd cc
-    lacking_left (Both x) e g h = absurd cc
+    pub difference_rest_left : (side : Side K) (e : Bor K) → left_element side ≡ Some e → Steps kb m (Some side) n → difference_rest kb m ≡ e.now ∷ difference_rest kb n
+    difference_rest_left (Left x) e g h = let i : x ≡ e = cc in kept_left not x h ∙ ap (λ (z : Bor K). z.now ∷ difference_rest kb n) i
+    difference_rest_left (Right y) e g h = absurd cc
+    difference_rest_left (Both x) e g h = absurd cc
 
-    pub lacking_skip : (side : Side K) → left_element side ≡ None → Steps kb m (Some side) n → lacking kb m ≡ lacking kb n
-    lacking_skip (Left x) g h = absurd cc
-    lacking_skip (Right y) g h = kept_right not y h
-    lacking_skip (Both x) g h = kept_both not x h
+    pub difference_rest_skip : (side : Side K) → left_element side ≡ None → Steps kb m (Some side) n → difference_rest kb m ≡ difference_rest kb n
+    difference_rest_skip (Left x) g h = absurd cc
+    difference_rest_skip (Right y) g h = kept_right not y h
+    difference_rest_skip (Both x) g h = kept_both not x h
 
   -- where a side has nothing left both have nothing in common
-  pub shared_over : (m : Merge K) → (m.left ≡ []) ⊎ (m.right ≡ []) → shared kb m ≡ []
-  shared_over m (inl e) = ap (λ l. filter (λ x. stores kb m.right (kb x)) l) e
-  shared_over m (inr e) = ap (λ l. filter (λ x. stores kb l (kb x)) m.left) e ∙ none m.left
+  pub intersection_rest_over : (m : Merge K) → (m.left ≡ []) ⊎ (m.right ≡ []) → intersection_rest kb m ≡ []
+  intersection_rest_over m (inl e) = ap (λ l. filter (λ x. stores kb m.right (kb x)) l) e
+  intersection_rest_over m (inr e) = ap (λ l. filter (λ x. stores kb l (kb x)) m.left) e ∙ none m.left
     where
       none : (A : List K) → filter (λ x. stores kb [] (kb x)) A ≡ []
       none [] = refl

@@ -21,7 +21,7 @@ abbrev pub Counts : {K : Type 0} → Merge K → Merge K → Type 0
 Counts old new = (old.compares ≤ new.compares) × (new.compares + (length new.left + length new.right) ≤ old.compares + (length old.left + length old.right))
 
 -- One `next` of a merge that has still to give `rest`. The first three are those of every iterator, `MakesProgress`, by whose names a loop cites them
-pub record Goes {K A : Type 0} (rest : Merge K → List K) (s : Merge K) (r : Option A) (t : Merge K) : Type 0 where
+pub record MergeProgresses {K A : Type 0} (rest : Merge K → List K) (s : Merge K) (r : Option A) (t : Merge K) : Type 0 where
   pub on : IsFinite (item_count rest s) → OnSome r (⊤ × IsFinite (item_count rest t) × (size (item_count rest t) < size (item_count rest s)))
   pub keeps : IfSome r (λ _. ⊤)
   pub rests : IsFinite (item_count rest s) → IfNone r (IsFinite (item_count rest t))
@@ -29,20 +29,20 @@ pub record Goes {K A : Type 0} (rest : Merge K → List K) (s : Merge K) (r : Op
 
 module _ {K : Type 0} (kb : K → List ℕ) where
   -- what a union has still to give: what both sides have left, each bytes once
-  abbrev pub united : Merge K → List K
-  united m = sorted_merge (λ x y. bytes_cmp (kb x) (kb y)) true m.left m.right
+  abbrev pub union_rest : Merge K → List K
+  union_rest m = sorted_merge (λ x y. bytes_cmp (kb x) (kb y)) true m.left m.right
 
   -- what a symmetric difference has still to give: what only one side has left
-  abbrev pub parted : Merge K → List K
-  parted m = sorted_merge (λ x y. bytes_cmp (kb x) (kb y)) false m.left m.right
+  abbrev pub symmetric_difference_rest : Merge K → List K
+  symmetric_difference_rest m = sorted_merge (λ x y. bytes_cmp (kb x) (kb y)) false m.left m.right
 
   -- what an intersection has still to give
-  abbrev pub shared : Merge K → List K
-  shared m = merges.intersection kb m.left m.right
+  abbrev pub intersection_rest : Merge K → List K
+  intersection_rest m = merges.intersection kb m.left m.right
 
   -- what a difference has still to give
-  abbrev pub lacking : Merge K → List K
-  lacking m = merges.difference kb m.left m.right
+  abbrev pub difference_rest : Merge K → List K
+  difference_rest m = merges.difference kb m.left m.right
 
   -- the bytes of x are less than those of each of these
   abbrev pub Precedes : K → List K → Type 0

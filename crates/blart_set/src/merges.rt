@@ -3,7 +3,7 @@ ghost use Rattle.std.specs.Prelude.{◌≡◌};
 ghost use Rattle.blart_keys.specs.Merges.{IsUnion, IsSymmetricDifference, intersection, difference};
 ghost use Rattle.blart_keys.specs.Stored.{CanCount};
 ghost use Rattle.blart_set.specs.Elements.{elements};
-ghost use Rattle.blart_set.specs.Merging.{united, parted, shared, lacking, IsBeginning};
+ghost use Rattle.blart_set.specs.Merging.{union_rest, symmetric_difference_rest, intersection_rest, difference_rest, IsBeginning};
 
 pub mod compares;
 pub mod difference;
@@ -44,9 +44,9 @@ impl<K: OrderedBytes + Drop, const PREFIX_LEN: usize> TreeSet<K, PREFIX_LEN> {
         other: &'a TreeSet<K, PREFIX_LEN>,
     ) -> Difference<'a, K, PREFIX_LEN>
         ensures begins { IsBeginning (elements self.now) (elements other.now) result }
-        ensures value { lacking K.bytes result
+        ensures value { difference_rest K.bytes result
             ≡ difference K.bytes (elements self.now) (elements other.now) }
-        ensures fits { CanCount (lacking K.bytes result) }
+        ensures fits { CanCount (difference_rest K.bytes result) }
     {
         self.law();
         Difference {
@@ -61,7 +61,7 @@ impl<K: OrderedBytes + Drop, const PREFIX_LEN: usize> TreeSet<K, PREFIX_LEN> {
     ) -> SymmetricDifference<'a, K, PREFIX_LEN>
         ensures begins { IsBeginning (elements self.now) (elements other.now) result }
         ensures value { IsSymmetricDifference K.bytes (elements self.now) (elements other.now)
-            (parted K.bytes result) }
+            (symmetric_difference_rest K.bytes result) }
     {
         self.law();
         other.law();
@@ -83,9 +83,9 @@ impl<K: OrderedBytes + Drop, const PREFIX_LEN: usize> TreeSet<K, PREFIX_LEN> {
         other: &'a TreeSet<K, PREFIX_LEN>,
     ) -> Intersection<'a, K, PREFIX_LEN>
         ensures begins { IsBeginning (elements self.now) (elements other.now) result }
-        ensures value { shared K.bytes result
+        ensures value { intersection_rest K.bytes result
             ≡ intersection K.bytes (elements self.now) (elements other.now) }
-        ensures fits { CanCount (shared K.bytes result) }
+        ensures fits { CanCount (intersection_rest K.bytes result) }
     {
         self.law();
         Intersection {
@@ -97,7 +97,7 @@ impl<K: OrderedBytes + Drop, const PREFIX_LEN: usize> TreeSet<K, PREFIX_LEN> {
     pub fn union<'a>(&'a self, other: &'a TreeSet<K, PREFIX_LEN>) -> Union<'a, K, PREFIX_LEN>
         ensures begins { IsBeginning (elements self.now) (elements other.now) result }
         ensures value { IsUnion K.bytes (elements self.now) (elements other.now)
-            (united K.bytes result) }
+            (union_rest K.bytes result) }
     {
         self.law();
         other.law();

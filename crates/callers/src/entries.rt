@@ -3,7 +3,7 @@ ghost use Rattle.std.specs.Prelude.{◌≡◌, ◌≢◌, ◌+◌, ◌<◌, ◌^
 ghost use Rattle.std.specs.FinSet as set;
 ghost use denote.Builtin.{u64};
 ghost use denote.Param.{number};
-ghost use Rattle.blart.specs.Words.{pairs, bytes, fronts, Updates, pair_at, pair_before, value_at, value_before, has, overlaps, slice_bytes, zkey_bytes, EntryFits};
+ghost use Rattle.blart.specs.Words.{pairs, bytes, fronts, Updates, pair_at, pair_at_front, value_at, value_at_front, has, overlaps, slice_bytes, zkey_bytes, EntryFits};
 
 use blart::map::Entry;
 use blart::{Map, NoPrefixesBytes, ZKey};
@@ -153,9 +153,9 @@ pub fn count_at<W: NoPrefixesBytes + Drop>(
 
 /// Sets the target of the route that begins the path, and gives the old one.
 pub fn redirect(routes: &mut Map<&'static str, u32>, path: &'static str, target: u32) -> Option<u32>
-    ensures old { result ≡ value_before slice_bytes (pairs routes.old) path.now }
+    ensures old { result ≡ value_at_front slice_bytes (pairs routes.old) path.now }
     ensures none { result ≡ None → routes.new ≡ routes.old }
-    ensures set { IfSome result (λ old. IfSome (pair_before slice_bytes (pairs routes.old) path.now)
+    ensures set { IfSome result (λ old. IfSome (pair_at_front slice_bytes (pairs routes.old) path.now)
         (λ p. Updates slice_bytes (pairs routes.old) (pairs routes.new) p.0.now (Some (p.0, target)))) }
 {
     match routes.prefix_get_key_value_mut(&path) {

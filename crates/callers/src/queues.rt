@@ -38,7 +38,7 @@ pub fn to_end<K: AsBytes + Drop, V: Drop>(queue: &mut Map<K, V>) -> usize
     count
 }
 
-/// The first pair behind a key.
+/// The first pair after a key.
 pub fn following<'a, V: Drop>(times: &'a Map<U32Key, V>, key: U32Key) -> Option<(&'a U32Key, &'a V)>
     ensures { shown result
         ≡ slice_get (between (bytes u32_bytes) (pairs times.now) (Excluded (u32_bytes key)) Unbounded) 0 }

@@ -1,6 +1,6 @@
 //! A site of five routes.
 ghost use Rattle.std.specs.Prelude.{◌≡◌, ℕ, List, [], ◌∷◌, IfOk, None, Some, if◌then◌else◌};
-ghost use Rattle.blart.specs.Words.{pairs, begins, value_before, vec_bytes};
+ghost use Rattle.blart.specs.Words.{pairs, begins, value_at_front, vec_bytes};
 
 use blart::TryInsertError;
 use prefix_router::Mounts;
@@ -28,8 +28,8 @@ fn mount(
     path: &[u8],
     handler: Handler,
 ) -> Result<(), TryInsertError>
-    ensures { IfOk result (λ _. (r : List ℕ) → value_before vec_bytes (pairs site.new) r
-        ≡ (if begins path.now r then Some handler else value_before vec_bytes (pairs site.old) r)) }
+    ensures { IfOk result (λ _. (r : List ℕ) → value_at_front vec_bytes (pairs site.new) r
+        ≡ (if begins path.now r then Some handler else value_at_front vec_bytes (pairs site.old) r)) }
 {
     let path = Vec::from_slice(alloc, path).map_err(TryInsertError::Memory)?;
     site.mount(path, handler)?;
@@ -38,7 +38,7 @@ fn mount(
 
 /// The site: each path goes to the handler of its first letter, if there is one.
 pub fn site(alloc: Global) -> Result<Mounts<Handler>, TryInsertError>
-    ensures { IfOk result (λ site. (r : List ℕ) → value_before vec_bytes (pairs site) r
+    ensures { IfOk result (λ site. (r : List ℕ) → value_at_front vec_bytes (pairs site) r
         ≡ (if begins (47 ∷ 117 ∷ []) r then Some Handler.Users
         else if begins (47 ∷ 105 ∷ []) r then Some Handler.Items
         else if begins (47 ∷ 112 ∷ []) r then Some Handler.Images

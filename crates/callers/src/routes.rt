@@ -1,6 +1,6 @@
 //! Routes of which none begins another.
 ghost use Rattle.std.specs.Prelude.{◌≡◌, ◌≢◌, ◌↔◌, ◌+◌, ◌<◌, ◌^◌, ℕ, List, true, false, option_map, unwrap_or, OnOk, OnErr, IsErrOf, Some};
-ghost use Rattle.blart.specs.Words.{pairs, pair_at, pair_before, value_at, value_before, overlaps, begins, related, slice_bytes};
+ghost use Rattle.blart.specs.Words.{pairs, pair_at, pair_at_front, value_at, value_at_front, overlaps, begins, related, slice_bytes};
 
 use blart::{AsBytes, Map, TreeMap, TryInsertError};
 use std::alloc::AllocError;
@@ -8,15 +8,15 @@ use std::marker::Model;
 
 /// The target of the route that begins the path, or else 0.
 pub fn route(routes: &Map<&[u8], u32>, path: &[u8]) -> u32
-    ensures { result ≡ unwrap_or (value_before slice_bytes (pairs routes.now) path.now) 0 }
+    ensures { result ≡ unwrap_or (value_at_front slice_bytes (pairs routes.now) path.now) 0 }
 {
     routes.prefix_get(&path).copied().unwrap_or(0)
 }
 
 /// Counts a path at the route that begins it, and answers whether there is one.
 pub fn hit<K: AsBytes + Drop>(hits: &mut Map<K, u64>, path: &[u8]) -> bool
-    requires { unwrap_or (value_before K.bytes (pairs hits.old) path.now) 0 + 1 < 2 ^ 64 }
-    ensures counted { value_before K.bytes (pairs hits.new) path.now ≡ option_map (λ n. n + 1) (value_before K.bytes (pairs hits.old) path.now) }
+    requires { unwrap_or (value_at_front K.bytes (pairs hits.old) path.now) 0 + 1 < 2 ^ 64 }
+    ensures counted { value_at_front K.bytes (pairs hits.new) path.now ≡ option_map (λ n. n + 1) (value_at_front K.bytes (pairs hits.old) path.now) }
     ensures others { (q : List ℕ) → begins q path.now ≡ false → pair_at K.bytes (pairs hits.new) q ≡ pair_at K.bytes (pairs hits.old) q }
 {
     match hits.prefix_get_mut(&path) {
@@ -35,7 +35,7 @@ pub fn take_over<K: AsBytes + Drop>(
     target: u32,
 ) -> Result<(), AllocError>
     ensures routed { OnOk result ((path : List ℕ) → begins (K.bytes front) path ≡ true
-        → value_before K.bytes (pairs routes.new) path ≡ Some target) }
+        → value_at_front K.bytes (pairs routes.new) path ≡ Some target) }
     ensures others { (q : List ℕ) → related q (K.bytes front) ≡ false
         → pair_at K.bytes (pairs routes.new) q ≡ pair_at K.bytes (pairs routes.old) q }
     ensures refused { OnErr result (routes.new ≡ routes.old) }
@@ -74,7 +74,7 @@ impl Table {
         ensures added { OnOk result (value_at slice_bytes (pairs self.new) front.now ≡ Some target) }
         ensures others { (q : List ℕ) → q ≢ front.now → value_at slice_bytes (pairs self.new) q ≡ value_at slice_bytes (pairs self.old) q }
         ensures routes { OnOk result ((path : List ℕ) → begins front.now path ≡ true
-            → value_before slice_bytes (pairs self.new) path ≡ Some target) }
+            → value_at_front slice_bytes (pairs self.new) path ≡ Some target) }
         ensures overlap { IsErrOf result AddError.Overlap ↔ (overlaps slice_bytes (pairs self.old) front.now ≡ true) }
         ensures refused { OnErr result (self.new ≡ self.old) }
     {

@@ -6,7 +6,7 @@ use blart::{AsBytes, Map};
 use std::alloc::{AllocError, Global};
 use std::iter::{DoubleEndedIterator, Iterator};
 
-/// The values from both ends in turn: those that came at the front, and those that came at the back. The second, reversed, behind the first are all of them.
+/// The values from both ends in turn: those that came at the front, and those that came at the back. The second, reversed, after the first are all of them.
 pub fn from_both_ends<K: AsBytes + Drop>(
     alloc: Global,
     scores: &Map<K, u64>,

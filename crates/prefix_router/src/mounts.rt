@@ -1,6 +1,6 @@
 //! The table, on the public calls of the map.
 ghost use Rattle.std.specs.Prelude.{◌≡◌, ◌≤◌, ◌+◌, ℕ, List, [], true, false, length, OnOk, IfOk, OnErr, IfErr, None, Some, if◌then◌else◌};
-ghost use Rattle.blart.specs.Words.{pairs, begins, pair_before, value_at, has, kept, overlaps, shown, bytes, under, vec_bytes, IsContent, CanCount, Updates, Overwrites, Refuses};
+ghost use Rattle.blart.specs.Words.{pairs, begins, pair_at_front, value_at, has, kept, overlaps, shown, bytes, under, vec_bytes, IsContent, CanCount, Updates, Overwrites, Refuses};
 
 use blart::map::{DEFAULT_PREFIX_LEN, Prefix, Visits};
 use blart::{TreeMap, TryInsertError};
@@ -34,10 +34,10 @@ impl<V> Model for Mounts<V> {
 
 impl<V: Drop> Mounts<V> {
     /// A table with no mounts. Takes no memory.
-    #[tactic(auto, unfolding(blart::specs::Words::pair_before))]
+    #[tactic(auto, unfolding(blart::specs::Words::pair_at_front))]
     pub fn new(alloc: Global) -> Self
         ensures empty { pairs result ≡ [] }
-        ensures routes { (r : List ℕ) → pair_before vec_bytes (pairs result) r ≡ None }
+        ensures routes { (r : List ℕ) → pair_at_front vec_bytes (pairs result) r ≡ None }
     {
         Mounts {
             map: TreeMap::new(alloc),
@@ -67,9 +67,9 @@ impl<V: Drop> Mounts<V> {
         ensures mounted { OnOk result
             (Updates vec_bytes (pairs self.old) (pairs self.new) path.items
             (Some (kept vec_bytes (pairs self.old) (path, target)))) }
-        ensures routes { OnOk result ((r : List ℕ) → pair_before vec_bytes (pairs self.new) r
+        ensures routes { OnOk result ((r : List ℕ) → pair_at_front vec_bytes (pairs self.new) r
             ≡ (if begins path.items r then Some (kept vec_bytes (pairs self.old) (path, target))
-            else pair_before vec_bytes (pairs self.old) r)) }
+            else pair_at_front vec_bytes (pairs self.old) r)) }
         ensures free { OnOk result (overlaps vec_bytes (pairs self.old) path.items ≡ false) }
         ensures why { IfErr result (Refuses vec_bytes (pairs self.old) path.items) }
         ensures refused { OnErr result (self.new ≡ self.old) }
@@ -84,7 +84,7 @@ impl<V: Drop> Mounts<V> {
         ensures mounted { OnOk result
             (Overwrites vec_bytes (pairs self.old) (path, target) (pairs self.new)) }
         ensures routes { OnOk result ((r : List ℕ) → begins path.items r ≡ true
-            → pair_before vec_bytes (pairs self.new) r ≡ Some (path, target)) }
+            → pair_at_front vec_bytes (pairs self.new) r ≡ Some (path, target)) }
         ensures free { OnErr result (overlaps vec_bytes (pairs self.old) path.items ≡ false) }
         ensures absent { OnErr result (has vec_bytes (pairs self.old) path.items ≡ false) }
         ensures refused { OnErr result (self.new ≡ self.old) }
@@ -100,14 +100,14 @@ impl<V: Drop> Mounts<V> {
     /// assert!(mounts.resolve(b"/ap").is_none());
     /// ```
     pub fn resolve(&self, path: &[u8]) -> Option<(&Vec<u8>, &V)>
-        ensures { shown result ≡ pair_before vec_bytes (pairs self.now) path.now }
+        ensures { shown result ≡ pair_at_front vec_bytes (pairs self.now) path.now }
     {
         self.resolve_counted(path, &mut Visits::new())
     }
 
     /// As [`Mounts::resolve`]. On n bytes it makes at most n + 1 visits, and none on an empty table.
     pub fn resolve_counted(&self, path: &[u8], visits: &mut Visits) -> Option<(&Vec<u8>, &V)>
-        ensures value { shown result ≡ pair_before vec_bytes (pairs self.now) path.now }
+        ensures value { shown result ≡ pair_at_front vec_bytes (pairs self.now) path.now }
         ensures counted { visits.new.count ≤ visits.old.count + length path.now + 1 }
         ensures grows { visits.old.count ≤ visits.new.count }
         ensures empty { pairs self.now ≡ [] → visits.new.count ≡ visits.old.count }

@@ -1,6 +1,6 @@
 //! The words of a script's lines, and the text of its answers.
 //!
-//! [`LineCall`] is the call that a line names. [`Words`] reads what stands behind it: bytes, numbers, bounds, keys of a [`ScriptKey`] type, and calls of entries. A [`Shown`] value is written into a [`Text`]; [`show_walk`] and [`show_lending`] write what walks give.
+//! [`LineCall`] is the call that a line names. [`Words`] reads what stands after it: bytes, numbers, bounds, keys of a [`ScriptKey`] type, and calls of entries. A [`Shown`] value is written into a [`Text`]; [`show_walk`] and [`show_lending`] write what walks give.
 //!
 //! Nothing here knows a map, a set or a router.
 #![tactic(auto)]

@@ -73,7 +73,7 @@ impl<'a> Words<'a> {
         Ok(bytes)
     }
 
-    /// The key that the next word stands for, with the tag behind `#` where there is one.
+    /// The key that the next word stands for, with the tag after `#` where there is one.
     pub fn key<K: ScriptKey>(&mut self) -> Result<K, Unanswered> {
         let word = self.word()?;
         match word.iter().position(|byte| *byte == b'#') {

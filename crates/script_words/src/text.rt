@@ -26,12 +26,12 @@ impl Text {
         })
     }
 
-    /// Drops what stands behind the first so many bytes.
+    /// Drops what stands after the first so many bytes.
     pub fn truncate(&mut self, count: usize) {
         self.bytes.truncate(count);
     }
 
-    /// Adds the bytes behind the text.
+    /// Adds the bytes after the text.
     pub fn push(&mut self, bytes: &[u8]) -> Answered {
         Ok(self.bytes.extend_from_slice(bytes)?)
     }
@@ -49,7 +49,7 @@ impl Text {
 
 /// A value that can be written as an answer.
 pub trait Shown {
-    /// Adds the value behind the text.
+    /// Adds the value after the text.
     fn show(&self, text: &mut Text) -> Answered;
 }
 

@@ -151,7 +151,7 @@ fn find_in(bytes: &[u8], children: &[Link], byte: u8) -> Option<Child>
     None
 }
 
-// The first edge behind a byte.
+// The first edge after a byte.
 fn after_in(bytes: &[u8], children: &[Link], byte: u8) -> Option<Edge>
     requires { length children.now ≡ length bytes.now }
     ensures { result ≡ after (paired bytes.now children.now) byte }

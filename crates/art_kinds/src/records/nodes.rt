@@ -643,7 +643,7 @@ impl<const P: usize> Nodes<P> {
     {
         let node = self.node_at(id);
         let kept = node.prefix();
-        let rest = behind(kept, count);
+        let rest = bytes_after(kept, count);
         let mut prefix = [0; P];
         let used = copy_front(&mut prefix, rest);
         self.set_prefix(id, &prefix[..used]);
@@ -662,8 +662,8 @@ impl<const P: usize> Nodes<P> {
     }
 }
 
-// The bytes behind the first so many.
-fn behind(bytes: &[u8], count: usize) -> &[u8]
+// The bytes after the first so many.
+fn bytes_after(bytes: &[u8], count: usize) -> &[u8]
     ensures { result.now ≡ drop count bytes.now }
 {
     if count < bytes.len() {
@@ -673,7 +673,7 @@ fn behind(bytes: &[u8], count: usize) -> &[u8]
     }
 }
 
-// Writes a byte and then others behind the first bytes, as many as there is room for. Answers how many bytes are used then.
+// Writes a byte and then others after the first bytes, as many as there is room for. Answers how many bytes are used then.
 fn append(to: &mut [u8], used: usize, byte: u8, rest: &[u8]) -> usize
     requires { used ≤ length to.old }
     ensures within { result ≤ length to.old }

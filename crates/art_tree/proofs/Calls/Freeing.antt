@@ -6,7 +6,7 @@ use Rattle.art_kinds.specs.Edges.{child_at, IsNext, IsEnd}
 use Rattle.art_kinds.specs.declared.records.ids.Edge.{Edge}
 use Rattle.art_kinds.specs.declared.records.ids.Child.TheVariants.{Inner}
 use Rattle.art_tree.specs.Calls.Pruning.{Loose, LeadsIn, IsNotLast, IsFirstNode, HasFirstNode, IsDeeper}
-use Rattle.art_tree.proofs.Invariant.Rotating.{child_raised, raised_deeper, head_gone}
+use Rattle.art_tree.proofs.Invariant.Rotating.{child_rotated, rotated_deeper, head_gone}
 use Rattle.art_tree.proofs.Ways.Depths.{depth_of}
 use Rattle.blart_keys.proofs.Options.{is_some as has_some}
 
@@ -20,11 +20,11 @@ no_edge None e = refl
 no_edge (Some x) e = absurd cc
 
 module _ (es : List Edge) (b : ℕ) where
-  -- behind the last edge of all there is no node
-  pub none_behind : (d x : ℕ) → IsNext es b None → b < d → child_at es d ≡ Some (Inner x) → ⊥
-  none_behind d x next lt e = let z : None ≡ Some (Inner x) = sym (next d lt) ∙ e in cc
+  -- after the last edge of all there is no node
+  pub none_after_last : (d x : ℕ) → IsNext es b None → b < d → child_at es d ≡ Some (Inner x) → ⊥
+  none_after_last d x next lt e = let z : None ≡ Some (Inner x) = sym (next d lt) ∙ e in cc
 
-  -- an edge that has one behind it is not the last
+  -- an edge that has one after it is not the last
   pub not_last : (o : Option Edge) → IsNext es b o → o ≢ None → IsNotLast es b
   not_last None next off = absurd (off refl)
   not_last (Some e) next off = (e.byte, next.0, has_some (child_at es e.byte) e.to next.1)
@@ -34,7 +34,7 @@ module _ (es : List Edge) (b : ℕ) where
   only_node x0 first next d x e = elim (cases_lt d b) [
     | inl lt ↦ absurd (first.1 d x lt e)
     | inr ge ↦ elim (cases_lt b d) [
-      | inl gt ↦ absurd (none_behind d x next gt e)
+      | inl gt ↦ absurd (none_after_last d x next gt e)
       | inr le ↦ omega arith
     ]
   ]
@@ -51,7 +51,7 @@ module _ (goes : ℕ → Bool) (before nodes : ℕ → Option Node) (head : ℕ)
   below_off e = s.headless head b s.own (subst (λ (n : ℕ). LeadsIn nodes head b n) e leads)
 
   module _ (mid nodes' : ℕ → Option Node) (x : Node) (is : nodes below ≡ Some x) (e : Edge) (end : IsEnd false x.edges e)
-      (behind : (y : Node) → nodes head ≡ Some y → IsNotLast y.edges b) (turns : Redirects nodes mid head b e.to) (raises : Redirects mid nodes' below e.byte (Inner head)) where
+      (has_next : (y : Node) → nodes head ≡ Some y → IsNotLast y.edges b) (turns : Redirects nodes mid head b e.to) (raises : Redirects mid nodes' below e.byte (Inner head)) where
     was_below : raises.was ≡ x
     was_below = let f : mid below ≡ Some x = turns.others below below_off ∙ is in let h : mid below ≡ Some raises.was = raises.was_is in cc
 
@@ -69,17 +69,17 @@ module _ (goes : ℕ → Bool) (before nodes : ℕ → Option Node) (head : ℕ)
     last d lt = ap (λ (y : Node). child_at y.edges d) was_below ∙ end.end d lt
 
     -- the node below is turned above the head
-    pub loose_raised : Loose goes before nodes' below
-    loose_raised = child_raised goes before nodes nodes' head s mid b below e.byte e.to turns raises high (behind turns.was turns.was_is) low last
+    pub loose_rotated : Loose goes before nodes' below
+    loose_rotated = child_rotated goes before nodes nodes' head s mid b below e.byte e.to turns raises high (has_next turns.was turns.was_is) low last
 
-    pub deeper_raised : IsDeeper nodes nodes' head below
-    deeper_raised = record {
+    pub deeper_rotated : IsDeeper nodes nodes' head below
+    deeper_rotated = record {
       was = turns.was;
       was_is = turns.was_is;
       is = raises.is;
       is_is = raises.is_is;
       deeper =
-          let a : turns.was.depth < raises.was.depth = raised_deeper goes before nodes nodes' head s mid b below e.byte e.to turns raises high (behind turns.was turns.was_is) low last in
+          let a : turns.was.depth < raises.was.depth = rotated_deeper goes before nodes nodes' head s mid b below e.byte e.to turns raises high (has_next turns.was turns.was_is) low last in
           let f : raises.is.depth ≡ raises.was.depth = raises.depth in
           omega arith;
     }

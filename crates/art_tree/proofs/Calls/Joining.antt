@@ -7,9 +7,9 @@ use Rattle.std.proofs.lemmas.List.{length-take-le}
 use Rattle.blart_keys.specs.Bytes.{related}
 use Rattle.art_tree.specs.Invariant.EdgesAbove.{LeadsTo, TurnsTo, edge_front}
 use Rattle.art_tree.specs.Begins.{Bytes, Begins, next_byte}
-use Rattle.art_tree.specs.Places.{LeavesMate}
+use Rattle.art_tree.specs.Places.{LeavesNearest}
 use Rattle.art_tree.specs.Calls.Placing.{Forks, DepthWithin, KeepsFrom}
-use Rattle.art_tree.specs.Calls.Removing.{StartsBelow, EndsBelow, Cuts, CutsBehind}
+use Rattle.art_tree.specs.Calls.Removing.{StartsBelow, EndsBelow, Cuts, CutsAfter}
 use Rattle.art_kinds.specs.Edges.{child_at}
 use Rattle.art_kinds.specs.Nodes.{Node, Nodes, at, places, HasPlace, Renames}
 use Rattle.art_tree.specs.Invariant.Shape.{Shape, CoversNode}
@@ -23,8 +23,8 @@ use Rattle.art_tree.proofs.Pairs.KeyChanges.{departs_at, next_at}
 use Rattle.art_tree.proofs.Invariant.EdgesAbove.{leads_made}
 use Rattle.art_tree.proofs.Invariant.OneEdge.{node_moved}
 use Rattle.blart_keys.proofs.Options.{some_of}
-use Rattle.art_tree.proofs.Calls.PlacedShapes.{along_key, mate_long, placed_edge}
-use Rattle.art_tree.proofs.Invariant.Prefixes.{start_is, cut_front, cuts_behind, cut_leads}
+use Rattle.art_tree.proofs.Calls.PlacedShapes.{along_key, nearest_long, placed_edge}
+use Rattle.art_tree.proofs.Invariant.Prefixes.{start_is, cut_front, cuts_after, cut_leads}
 use Rattle.art_tree.proofs.Invariant.SmallShapes.{unrelated}
 
 -- an edge leads to what it was turned to
@@ -40,24 +40,24 @@ module _ {P : ℕ} (keys : ℕ → Option Bytes) (nodes : ℕ → Option Node) (
         | inl b ↦ elim (cases_lt (length t) (length k)) [
           | inl far ↦ d.alone j k e (Begins-past t k q d.front b far)
           | inr near ↦
-              let km : Begins k d.mate_key = Begins-trans k t d.mate_key (Begins-linear k t q b d.front near) d.mate_front in
-              elim (eqb_tells j d.mate) [
+              let km : Begins k d.nearest_key = Begins-trans k t d.nearest_key (Begins-linear k t q b d.front near) d.nearest_front in
+              elim (eqb_tells j d.nearest) [
                 | inl same ↦
-                    let a : keys d.mate ≡ Some k = ap keys (sym same.1) ∙ e in
-                    let z : keys d.mate ≡ Some d.mate_key = d.mate_is in
-                    let k_is : k ≡ d.mate_key = cc in
-                    let l : length k ≡ length d.mate_key = ap (λ (k : Bytes). length k) k_is in
-                    let longer : length t < length d.mate_key = d.mate_longer in
+                    let a : keys d.nearest ≡ Some k = ap keys (sym same.1) ∙ e in
+                    let z : keys d.nearest ≡ Some d.nearest_key = d.nearest_is in
+                    let k_is : k ≡ d.nearest_key = cc in
+                    let l : length k ≡ length d.nearest_key = ap (λ (k : Bytes). length k) k_is in
+                    let longer : length t < length d.nearest_key = d.nearest_longer in
                     omega arith
-                | inr off ↦ unrelated keys nodes root s j d.mate k d.mate_key e d.mate_is off.1 km
+                | inr off ↦ unrelated keys nodes root s j d.nearest k d.nearest_key e d.nearest_is off.1 km
               ]
         ]
         | inr b ↦ d.alone j k e (Begins-trans (t ++ next_byte t q ∷ []) q k (Begins-more t q d.front d.longer) b)
       ])
 
-  -- nor to one that leaves its mate
-  pub leaving_unrelated : (mate depth : ℕ) (q : Bytes) → LeavesMate keys mate depth q → (j : ℕ) (k : Bytes) → keys j ≡ Some k → related k q ≡ false
-  leaving_unrelated mate depth q good = departs_unrelated (take depth q) q (departs_at keys mate depth q good)
+  -- nor to one that leaves the key nearest to it
+  pub leaving_unrelated : (nearest depth : ℕ) (q : Bytes) → LeavesNearest keys nearest depth q → (j : ℕ) (k : Bytes) → keys j ≡ Some k → related k q ≡ false
+  leaving_unrelated nearest depth q good = departs_unrelated (take depth q) q (departs_at keys nearest depth q good)
 
   -- a child on the way of a key, past a length, is no deeper than the key is long
   pub within_key : (m : Bytes) (depth : ℕ) (above : Option (ℕ × ℕ)) (c : Child) (leaf : ℕ) → keys leaf ≡ Some m → EdgeFits nodes root s.front_of m depth above c → PastLength s.front_of depth c → DepthWithin nodes c (depth + 1) (length m)
@@ -71,7 +71,7 @@ module _ {P : ℕ} (keys : ℕ → Option Bytes) (nodes : ℕ → Option Node) (
       let p : depth < length (s.front_of n) = past in
       (x.0, x.1, omega arith, omega arith)
 
-module _ (keys : ℕ → Option Bytes) (leaf depth : ℕ) (q : Bytes) (good : LeavesMate keys leaf depth q) (m : Bytes) (m_is : keys leaf ≡ Some m) where
+module _ (keys : ℕ → Option Bytes) (leaf depth : ℕ) (q : Bytes) (good : LeavesNearest keys leaf depth q) (m : Bytes) (m_is : keys leaf ≡ Some m) where
   -- where a key leaves the others at a node, the node has no edge at the key's byte, also under another number
   pub wide_absent : {P : ℕ} → (nodes mid wide : ℕ → Option Node) (root root' : Option Child) (n n' : ℕ) (above : Option (ℕ × ℕ)) (s : Shape P keys nodes root) → s.front_of n ≡ take depth m
       → Renames nodes mid n n' → LeadsTo nodes root above (Inner n) → TurnsTo mid wide root root' above (Inner n') → IsSomeAnd (wide n') (λ x. child_at x.edges (get_or q depth 0) ≡ None)
@@ -92,7 +92,7 @@ module _ (keys : ℕ → Option Bytes) (leaf depth : ℕ) (q : Bytes) (good : Le
     edge_within : length (edge_front s.front_of above) ≤ depth
     edge_within =
         let l : length (edge_front s.front_of above) ≤ length (take depth m) = Begins-length (edge_front s.front_of above) (take depth m) fits.along in
-        let far : depth < length m = mate_long keys leaf depth q good m m_is in
+        let far : depth < length m = nearest_long keys leaf depth q good m m_is in
         let k : length (take depth m) ≡ depth = length-take-le depth m (omega arith) in
         omega arith
 
@@ -111,7 +111,7 @@ module _ (keys : ℕ → Option Bytes) (leaf depth : ℕ) (q : Bytes) (good : Le
     pub starts_over : (start : ℕ) → StartsBelow nodes above start → start ≤ depth
     starts_over start h = let e : start ≡ length (edge_front s.front_of above) = start_is keys nodes root s above start h in let w : length (edge_front s.front_of above) ≤ depth = edge_within in omega arith
 
-    -- a node there keeps what the mate has behind the edge's front
+    -- a node there keeps what the nearest key has after the edge's front
     pub keeps_from : (start : ℕ) → StartsBelow nodes above start → KeepsFrom P nodes c m start
     keeps_from start h = go c refl
       where
@@ -128,13 +128,13 @@ module _ (keys : ℕ → Option Bytes) (leaf depth : ℕ) (q : Bytes) (good : Le
             s.keeps above n x leads is ∙ sym (cut_front P m (edge_front s.front_of above) (s.front_of n) start x.depth b at w (omega arith))
 
     module _ (cut : ℕ → Option Node) (cuts : Cuts nodes cut c (λ end. take P (slice_range m (depth + 1) end))) where
-      -- the child keeps what its front has behind the new node's edge
-      pub cut_child : CutsBehind P nodes cut s.front_of (take depth m ++ get_or m depth 0 ∷ []) c
+      -- the child keeps what its front has after the new node's edge
+      pub cut_child : CutsAfter P nodes cut s.front_of (take depth m ++ get_or m depth 0 ∷ []) c
       cut_child =
-          let far : depth < length m = mate_long keys leaf depth q good m m_is in
+          let far : depth < length m = nearest_long keys leaf depth q good m m_is in
           let k : length (take depth m) ≡ depth = length-take-le depth m (omega arith) in
           let d : length (take depth m ++ get_or m depth 0 ∷ []) ≡ length (take depth m) + 1 = length-edge (take depth m) (get_or m depth 0) in
-          cuts_behind P nodes cut s.front_of c m (take depth m ++ get_or m depth 0 ∷ []) (depth + 1) (omega arith)
+          cuts_after P nodes cut s.front_of c m (take depth m ++ get_or m depth 0 ∷ []) (depth + 1) (omega arith)
           (λ n x e is.
           let v : CoversNode keys nodes s.front_of (edge_front s.front_of above) n = covers_above keys nodes root s above (Inner n) (subst (λ (c : Child). LeadsTo nodes root above c) e fits.leads) in
           let p : depth < length (s.front_of n) = subst (λ (c : Child). PastLength s.front_of depth c) e past in

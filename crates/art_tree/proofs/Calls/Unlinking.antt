@@ -96,14 +96,14 @@ take_join zero m A r b le = refl
 take_join (suc P) m [] r b le = ap (λ (t : Bytes). b ∷ t) (take-take P m r (omega arith))
 take_join (suc P) m (a ∷ A) r b le = ap (λ (t : Bytes). a ∷ t) (take_join P m A r b (omega arith))
 
--- what a longer front has behind g, where one between begins with g and goes on by b
+-- what a longer front has after g, where one between begins with g and goes on by b
 drop_join : (g f l : Bytes) (b : ℕ) → Begins g f → Begins (f ++ b ∷ []) l → drop (length g) l ≡ drop (length g) f ++ b ∷ drop (length (f ++ b ∷ [])) l
 drop_join g f l b gf fl =
     let r : Bytes = drop (length (f ++ b ∷ [])) l in
     let whole : l ≡ f ++ b ∷ drop (length (f ++ b ∷ [])) l = sym (take-append-drop (length (f ++ b ∷ [])) l) ∙ ap (λ (t : Bytes). t ++ drop (length (f ++ b ∷ [])) l) (take_front (f ++ b ∷ []) l fl) ∙ append_assoc f (b ∷ []) (drop (length (f ++ b ∷ [])) l) in
     ap (λ (t : Bytes). drop (length g) t) whole ∙ drop-append-le (length g) f (b ∷ drop (length (f ++ b ∷ [])) l) (Begins-length g f gf)
 
--- a child keeps what its front has behind the edge above the node, where the prefixes are joined
+-- a child keeps what its front has after the edge above the node, where the prefixes are joined
 pub join_is : {P : ℕ} → (keys : ℕ → Option Bytes) (nodes : ℕ → Option Node) (above : Option (ℕ × ℕ)) (n m b : ℕ) (h : IsChildBelow P keys nodes above n (record { byte = b; to = Inner m })) (y : Node) → nodes m ≡ Some y
     → take P (h.node.prefix ++ b ∷ y.prefix) ≡ take P (drop (length (edge_front h.shape.front_of above)) (h.shape.front_of m))
 join_is {P} keys nodes above n m b h y is =

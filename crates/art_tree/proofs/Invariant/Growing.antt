@@ -20,11 +20,11 @@ pub record Departs (keys : ℕ → Option Bytes) (t k : Bytes) : Type 0 where
   pub front : Begins t k
   pub longer : length t < length k
   pub alone : (j : ℕ) (l : Bytes) → keys j ≡ Some l → Begins (t ++ next_byte t k ∷ []) l → ⊥
-  pub mate : ℕ
-  pub mate_key : Bytes
-  pub mate_is : keys mate ≡ Some mate_key
-  pub mate_front : Begins t mate_key
-  pub mate_longer : length t < length mate_key
+  pub nearest : ℕ
+  pub nearest_key : Bytes
+  pub nearest_is : keys nearest ≡ Some nearest_key
+  pub nearest_front : Begins t nearest_key
+  pub nearest_longer : length t < length nearest_key
 
 module _ (old new : ℕ → Option Bytes) (i : ℕ) (k : Bytes) (gains : Gains old new i k) where
   pub kept : (j : ℕ) (l : Bytes) → old j ≡ Some l → new j ≡ Some l
@@ -54,7 +54,7 @@ module _ (keys : ℕ → Option Bytes) (nodes : ℕ → Option Node) (front_of :
         | inr near ↦ Begins-linear g t k gk d.front near
       ]
 
--- a front of two keys that part behind t is a front of t
+-- a front of two keys that part after t is a front of t
 pub Parts-within : (keys : ℕ → Option Bytes) (t f : Bytes) (p : Parts keys t) → Begins f p.k → Begins f p.l → Begins f t
 Parts-within keys t f p a b =
     elim (cases_lt (length t) (length f)) [
@@ -178,8 +178,8 @@ module _ {P : ℕ} (keys keys' : ℕ → Option Bytes) (nodes nodes' : ℕ → O
                   let h : length g < length t = shorter_front m x is other gk in
                   let gt : Begins g t = Begins-linear g t k gk d.front (omega arith) in
                   let a : next_byte g t ≡ next_byte g k = next_byte-front g t k d.front h in
-                  let c : next_byte g t ≡ next_byte g d.mate_key = next_byte-front g t d.mate_key d.mate_front h in
-                  let y : IsSome (child_at x.edges (next_byte g d.mate_key)) = f.edge d.mate d.mate_key d.mate_is (Begins-trans g t d.mate_key gt d.mate_front) in
+                  let c : next_byte g t ≡ next_byte g d.nearest_key = next_byte-front g t d.nearest_key d.nearest_front h in
+                  let y : IsSome (child_at x.edges (next_byte g d.nearest_key)) = f.edge d.nearest d.nearest_key d.nearest_is (Begins-trans g t d.nearest_key gt d.nearest_front) in
                   let P : ℕ → Type 0 = λ b. IsSome (child_at x.edges b) in
                   rw o.1 (subst P (sym c ∙ a) y)
             ];
@@ -246,16 +246,16 @@ module _ {P : ℕ} (keys keys' : ℕ → Option Bytes) (nodes nodes' : ℕ → O
       elim (Begins-cases t l) [
         | inl b ↦ (n, (let P : Option Node → Type 0 = λ o. IsSome o in subst P (sym adds.is_is) refl), sym (common_at t k l d.front d.longer b (d.alone j l is)))
         | inr b ↦
-            let apart : d.mate ≢ j = λ e. (let f : keys j ≡ Some d.mate_key = rw (← e) d.mate_is in let g : d.mate_key ≡ l = cc in b (subst (λ (l : Bytes). Begins t l) g d.mate_front)) in
-            let r = s.joined d.mate j d.mate_key l d.mate_is is apart in
-            (r.0, live_kept r.0 r.1, r.2 ∙ sym (common_same t k d.mate_key l d.front d.mate_front b))
+            let apart : d.nearest ≢ j = λ e. (let f : keys j ≡ Some d.nearest_key = rw (← e) d.nearest_is in let g : d.nearest_key ≡ l = cc in b (subst (λ (l : Bytes). Begins t l) g d.nearest_front)) in
+            let r = s.joined d.nearest j d.nearest_key l d.nearest_is is apart in
+            (r.0, live_kept r.0 r.1, r.2 ∙ sym (common_same t k d.nearest_key l d.front d.nearest_front b))
       ]
 
   top_fits : (r : Option Child) → root ≡ r → RootFits keys' nodes' s.front_of r
   top_fits None e = λ j.
       let h : RootFits keys nodes s.front_of None = subst (λ (r : Option Child). RootFits keys nodes s.front_of r) e s.top in
-      let a : keys d.mate ≡ None = h d.mate in
-      let b : keys d.mate ≡ Some d.mate_key = d.mate_is in
+      let a : keys d.nearest ≡ None = h d.nearest in
+      let b : keys d.nearest ≡ Some d.nearest_key = d.nearest_is in
       absurd cc
   top_fits (Some c) e = covers_kept [] c (subst (λ (r : Option Child). RootFits keys nodes s.front_of r) e s.top)
 

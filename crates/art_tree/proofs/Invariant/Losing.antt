@@ -7,8 +7,8 @@ use Rattle.blart_keys.specs.Bytes.{common}
 use Rattle.art_tree.specs.Invariant.EdgesAbove.{LeadsTo, TurnsTo, edge_front}
 use Rattle.art_kinds.specs.Nodes.{Node, DropsEdge, Frees}
 use Rattle.art_kinds.specs.Edges.{child_at, Ascends}
-use Rattle.art_tree.specs.Calls.Removing.{Loses, CutsBehind}
-use Rattle.art_tree.specs.Invariant.Shape.{Shape, Keeps, first_behind, Covers, CoversLeaf, CoversNode, NodeFits, RootFits, Parts}
+use Rattle.art_tree.specs.Calls.Removing.{Loses, CutsAfter}
+use Rattle.art_tree.specs.Invariant.Shape.{Shape, Keeps, kept_prefix, Covers, CoversLeaf, CoversNode, NodeFits, RootFits, Parts}
 use Rattle.art_kinds.specs.declared.records.ids.Edge.{Edge}
 use Rattle.art_kinds.specs.declared.records.ids.Child.{Child}
 use Rattle.art_kinds.specs.declared.records.ids.Child.TheVariants.{Leaf, Inner}
@@ -313,14 +313,14 @@ module _ {P : ℕ} (keys keys' : ℕ → Option Bytes) (nodes : ℕ → Option N
           | inr a ↦ rw a.4 (top_kept root refl a.0 a.1 a.2 a.3)
         ]
 
-    -- what came up keeps what its front has behind the edge above
+    -- what came up keeps what its front has after the edge above
     kept_up : (g : Bytes) (j : ℕ) (x' : Node) → c1 ≡ Inner j → g ≡ g0 → nodes' j ≡ Some x' → x'.prefix ≡ take P (drop (length g) (s.front_of j))
     kept_up g j x' e same is =
         let w = was_live j x' is (nodes j) refl in
         recut.own j w.0 x' w.1 is e ∙ ap (λ (z : Bytes). take P (drop (length z) (s.front_of j))) (sym same)
 
     -- and another node what it kept
-    kept_stays : (a : Option (ℕ × ℕ)) (j : ℕ) (x' : Node) → LeadsTo nodes root a (Inner j) → (a ≡ Some (p, b1) → ⊥) → nodes' j ≡ Some x' → x'.prefix ≡ first_behind P s.front_of a j
+    kept_stays : (a : Option (ℕ × ℕ)) (j : ℕ) (x' : Node) → LeadsTo nodes root a (Inner j) → (a ≡ Some (p, b1) → ⊥) → nodes' j ≡ Some x' → x'.prefix ≡ kept_prefix P s.front_of a j
     kept_stays a j x' l far is =
         let w = was_live j x' is (nodes j) refl in
         recut.others j w.0 x' w.1 is (λ z. far (one a j l z)) ∙ s.keeps a j w.0 l w.1
@@ -523,7 +523,7 @@ module _ {P : ℕ} (keys keys' : ℕ → Option Bytes) (nodes : ℕ → Option N
     alive_off : (m : ℕ) → nodes m ≡ None → m ≢ p
     alive_off m e z = let f : nodes p ≡ None = rw (← z) e in let g : nodes p ≡ Some was = was_is in cc
 
-    module _ (above : Option (ℕ × ℕ)) (leads : LeadsTo nodes root above (Inner p)) (cuts : CutsBehind P nodes cut s.front_of (edge_front s.front_of above) c1) (turns : TurnsTo cut mid root root' above c1) where
+    module _ (above : Option (ℕ × ℕ)) (leads : LeadsTo nodes root above (Inner p)) (cuts : CutsAfter P nodes cut s.front_of (edge_front s.front_of above) c1) (turns : TurnsTo cut mid root root' above c1) where
       abbrev g0 : Bytes
       g0 = edge_front s.front_of above
 

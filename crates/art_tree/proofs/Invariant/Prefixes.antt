@@ -8,8 +8,8 @@ use Rattle.art_tree.specs.Invariant.EdgesAbove.{LeadsTo, TurnsTo, edge_front}
 use Rattle.art_tree.specs.Begins.{Bytes, Begins}
 use Rattle.art_kinds.specs.Edges.{child_at}
 use Rattle.art_kinds.specs.Nodes.{Node, Reprefixes}
-use Rattle.art_tree.specs.Calls.Removing.{StartsBelow, Cuts, CutsBehind}
-use Rattle.art_tree.specs.Invariant.Shape.{Shape, Keeps, first_behind}
+use Rattle.art_tree.specs.Calls.Removing.{StartsBelow, Cuts, CutsAfter}
+use Rattle.art_tree.specs.Invariant.Shape.{Shape, Keeps, kept_prefix}
 use Rattle.art_kinds.specs.declared.records.ids.Child.{Child}
 use Rattle.art_kinds.specs.declared.records.ids.Child.TheVariants.{Leaf, Inner}
 use Rattle.blart_keys.proofs.Options.{is_some, same_some}
@@ -24,7 +24,7 @@ module _ (old new : ℕ → Option Node) (n : ℕ) (was is : Node) (was_is : old
   live_before m h = elim (eqb_tells m n) [ inl e ↦ is_some (old m) was (ap old e.1 ∙ was_is) | inr e ↦ same_some (new m) (old m) (others m e.1) h ]
 
 -- a prefix stands where the edge and the node have the same fronts
-pub keeps_as : (P : ℕ) (f f' : ℕ → Bytes) (a a' : Option (ℕ × ℕ)) (n n' : ℕ) (x x' : Node) → x.prefix ≡ first_behind P f a n → x'.prefix ≡ x.prefix → edge_front f' a' ≡ edge_front f a → f' n' ≡ f n → x'.prefix ≡ first_behind P f' a' n'
+pub keeps_as : (P : ℕ) (f f' : ℕ → Bytes) (a a' : Option (ℕ × ℕ)) (n n' : ℕ) (x x' : Node) → x.prefix ≡ kept_prefix P f a n → x'.prefix ≡ x.prefix → edge_front f' a' ≡ edge_front f a → f' n' ≡ f n → x'.prefix ≡ kept_prefix P f' a' n'
 keeps_as P f f' a a' n n' x x' kept e edge front =
     e ∙ kept ∙ ap (λ (t : Bytes). take P (drop (length (edge_front f a)) t)) (sym front) ∙ ap (λ (g : Bytes). take P (drop (length g) (f' n'))) (sym edge)
 
@@ -51,13 +51,13 @@ module _ (old new : ℕ → Option Node) (root : Option Child) (n : ℕ) (was is
 
 -- ---- prefixes that are cut from a key
 
--- the bytes from one place to another are those behind the one, of the first so many
+-- the bytes from one place to another are those after the one, of the first so many
 range_is : (P : ℕ) (xs : Bytes) (a b : ℕ) → a ≤ b → take P (slice_range xs a b) ≡ take P (drop a (take b xs))
 range_is P xs a b le =
     let e : a + (b - a) ≡ b = omega arith in
     ap (λ (t : Bytes). take P t) (sym (drop-take a (b - a) xs) ∙ ap (λ (z : ℕ). drop a (take z xs)) e)
 
--- the bytes of a key from the length of one front to that of a longer one are what this has behind that
+-- the bytes of a key from the length of one front to that of a longer one are what this has after that
 pub cut_front : (P : ℕ) (k g f : Bytes) (start end : ℕ) → Begins f k → start ≡ length g → end ≡ length f → start ≤ end → take P (slice_range k start end) ≡ take P (drop (length g) f)
 cut_front P k g f start end b s e le =
     range_is P k start end le ∙ ap (λ (z : ℕ). take P (drop z (take end k))) s ∙ ap (λ (z : ℕ). take P (drop (length g) (take z k))) e ∙ ap (λ (t : Bytes). take P (drop (length g) t)) (take_front f k b)
@@ -98,7 +98,7 @@ start_is keys nodes root s (Some e) start r =
 
 -- ---- a child whose prefix is cut anew
 
--- a node stands but for its prefix, which is as before where it is not the child's, and else what its front has behind g
+-- a node stands but for its prefix, which is as before where it is not the child's, and else what its front has after g
 pub record IsCut (P : ℕ) (front_of : ℕ → Bytes) (g : Bytes) (child : Child) (m : ℕ) (x x' : Node) : Type 0 where
   pub depth : x'.depth ≡ x.depth
   pub edges : x'.edges ≡ x.edges
@@ -107,7 +107,7 @@ pub record IsCut (P : ℕ) (front_of : ℕ → Bytes) (g : Bytes) (child : Child
 
 module _ (P : ℕ) (old new : ℕ → Option Node) (front_of : ℕ → Bytes) (g : Bytes) where
   -- each node stands so
-  pub cut_node : (c : Child) → CutsBehind P old new front_of g c → (m : ℕ) (x : Node) → old m ≡ Some x → (x' : Node) × (new m ≡ Some x') × IsCut P front_of g c m x x'
+  pub cut_node : (c : Child) → CutsAfter P old new front_of g c → (m : ℕ) (x : Node) → old m ≡ Some x → (x' : Node) × (new m ≡ Some x') × IsCut P front_of g c m x x'
   cut_node (Leaf i) h m x is = (x, h m ∙ is, record { depth = refl; edges = refl; other = λ z. refl; own = λ z. absurd cc })
   cut_node (Inner n) h m x is =
       elim (eqb_tells m n) [
@@ -128,7 +128,7 @@ module _ (P : ℕ) (old new : ℕ → Option Node) (front_of : ℕ → Bytes) (g
       ]
 
   -- and none is new
-  pub cut_was : (c : Child) → CutsBehind P old new front_of g c → (m : ℕ) → old m ≡ None → new m ≡ None
+  pub cut_was : (c : Child) → CutsAfter P old new front_of g c → (m : ℕ) → old m ≡ None → new m ≡ None
   cut_was (Leaf i) h m is = h m ∙ is
   cut_was (Inner n) h m is =
       elim (eqb_tells m n) [
@@ -137,7 +137,7 @@ module _ (P : ℕ) (old new : ℕ → Option Node) (front_of : ℕ → Bytes) (g
       ]
 
   -- a number that is free then was free
-  pub cut_free : (c : Child) → CutsBehind P old new front_of g c → (m : ℕ) → new m ≡ None → old m ≡ None
+  pub cut_free : (c : Child) → CutsAfter P old new front_of g c → (m : ℕ) → new m ≡ None → old m ≡ None
   cut_free c h m is = go (old m) refl
     where
       go : (o : Option Node) → old m ≡ o → old m ≡ None
@@ -145,7 +145,7 @@ module _ (P : ℕ) (old new : ℕ → Option Node) (front_of : ℕ → Bytes) (g
       go (Some x) e = (let y = cut_node c h m x e in let f : new m ≡ Some y.0 = y.1 in absurd cc)
 
   -- each edge leads where it led
-  pub cut_leads : (c : Child) → CutsBehind P old new front_of g c → (root : Option Child) (above : Option (ℕ × ℕ)) (d : Child) → LeadsTo old root above d → LeadsTo new root above d
+  pub cut_leads : (c : Child) → CutsAfter P old new front_of g c → (root : Option Child) (above : Option (ℕ × ℕ)) (d : Child) → LeadsTo old root above d → LeadsTo new root above d
   cut_leads c h root None d l = l
   cut_leads c h root (Some e) d l = let y = cut_node c h e.0 l.0 l.1 in (y.0, y.1, ap (λ es. child_at es e.1) y.2.edges ∙ l.2)
 
@@ -171,10 +171,10 @@ turned_prefix old new root root' (Some (p, b)) to t m x x' was is =
           ap (λ (y : Node). y.prefix) z
     ]
 
--- a cut from a key leaves what the front of the child has behind g
-pub cuts_behind : (P : ℕ) (old new : ℕ → Option Node) (front_of : ℕ → Bytes) (c : Child) (k g : Bytes) (start : ℕ) → start ≡ length g → ((n : ℕ) (x : Node) → c ≡ Inner n → old n ≡ Some x → Begins (front_of n) k × (x.depth ≡ length (front_of n)) × (start ≤ x.depth))
-    → Cuts old new c (λ end. take P (slice_range k start end)) → CutsBehind P old new front_of g c
-cuts_behind P old new front_of (Leaf i) k g start e below h = h
-cuts_behind P old new front_of (Inner n) k g start e below h =
+-- a cut from a key leaves what the front of the child has after g
+pub cuts_after : (P : ℕ) (old new : ℕ → Option Node) (front_of : ℕ → Bytes) (c : Child) (k g : Bytes) (start : ℕ) → start ≡ length g → ((n : ℕ) (x : Node) → c ≡ Inner n → old n ≡ Some x → Begins (front_of n) k × (x.depth ≡ length (front_of n)) × (start ≤ x.depth))
+    → Cuts old new c (λ end. take P (slice_range k start end)) → CutsAfter P old new front_of g c
+cuts_after P old new front_of (Leaf i) k g start e below h = h
+cuts_after P old new front_of (Inner n) k g start e below h =
     let w = below n h.0 refl h.1 in
     subst (λ (p : List ℕ). Reprefixes old new n p) (cut_front P k g (front_of n) start h.0.depth w.0 e w.1 w.2) h.2

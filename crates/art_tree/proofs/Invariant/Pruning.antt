@@ -10,8 +10,8 @@ use Rattle.art_tree.specs.Invariant.Shape.{Shape, Keeps, Covers, CoversLeaf, Nod
 use Rattle.art_kinds.specs.declared.records.ids.Child.{Child}
 use Rattle.art_kinds.specs.declared.records.ids.Child.TheVariants.{Leaf, Inner}
 use Rattle.art_tree.proofs.BeginsLemmas.{Begins-length, Begins-trans, Begins-linear, Begins-equal, Begins-edge_front, Begins-cases, Bytes-cases, length-edge, next_byte-front, common-left, common-right}
-use Rattle.art_tree.specs.Calls.Pruning.{Prunes, Uproots}
-use Rattle.art_tree.proofs.Invariant.Uprooting.{above_leaf, above_node}
+use Rattle.art_tree.specs.Calls.Pruning.{Prunes, FreesSubtree}
+use Rattle.art_tree.proofs.Invariant.Subtrees.{above_leaf, above_node}
 use Rattle.art_tree.proofs.Invariant.Prefixes.{turned_prefix}
 use Rattle.art_tree.proofs.Invariant.SameShapes.{rooted}
 use Rattle.art_tree.proofs.Invariant.SmallShapes.{shape_one}
@@ -180,7 +180,7 @@ module _ {P : ℕ} (keys keys' : ℕ → Option Bytes) (nodes nodes' : ℕ → O
     keeps = kept_prefixes;
   }
 
-module _ {P : ℕ} (keys : ℕ → Option Bytes) (nodes mid : ℕ → Option Node) (root : Option Child) (s : Shape P keys nodes root) (p b : ℕ) (c : Child) (leads : LeadsTo nodes root (Some (p, b)) c) (up : Uproots nodes mid s.front_of (s.front_of p ++ b ∷ [])) where
+module _ {P : ℕ} (keys : ℕ → Option Bytes) (nodes mid : ℕ → Option Node) (root : Option Child) (s : Shape P keys nodes root) (p b : ℕ) (c : Child) (leads : LeadsTo nodes root (Some (p, b)) c) (up : FreesSubtree nodes mid s.front_of (s.front_of p ++ b ∷ [])) where
   -- the edge's node does not hang below it
   off_below : Begins (s.front_of p ++ b ∷ []) (s.front_of p) → ⊥
   off_below h =
@@ -197,8 +197,8 @@ module _ {P : ℕ} (keys : ℕ → Option Bytes) (nodes mid : ℕ → Option Nod
     edge_live e is = let z : (p, b) ≡ e = cc in subst (λ (w : ℕ × ℕ). IsSome (nodes w.0)) z (is_some (nodes p) leads.0 leads.1)
 
     -- the edge leads to the leaf then
-    pub cuts_uprooted : PrunesNodes nodes new s.front_of (s.front_of p ++ b ∷ []) c i
-    cuts_uprooted = record {
+    pub cuts_freed : PrunesNodes nodes new s.front_of (s.front_of p ++ b ∷ []) c i
+    cuts_freed = record {
       gone = λ m h. red.others m (λ e. off_below (subst (λ (n : ℕ). Begins (s.front_of p ++ b ∷ []) (s.front_of n)) e h)) ∙ up.gone m h;
       others = λ m x off is.
           let there : mid m ≡ Some x = up.kept m off ∙ is in
@@ -213,16 +213,16 @@ module _ {P : ℕ} (keys : ℕ → Option Bytes) (nodes mid : ℕ → Option Nod
     }
 
     -- and the tree stands for the keys that are left
-    pub shape_uprooted : (keys' : ℕ → Option Bytes) (k : Bytes) → Prunes keys keys' (s.front_of p ++ b ∷ []) i k → Shape P keys' new root
-    shape_uprooted keys' k prunes = shape_pruned keys keys' nodes new root p b i k c s (is_some (nodes p) leads.0 leads.1) prunes cuts_uprooted
+    pub shape_freed : (keys' : ℕ → Option Bytes) (k : Bytes) → Prunes keys keys' (s.front_of p ++ b ∷ []) i k → Shape P keys' new root
+    shape_freed keys' k prunes = shape_pruned keys keys' nodes new root p b i k c s (is_some (nodes p) leads.0 leads.1) prunes cuts_freed
 
 module _ {P : ℕ} (keys : ℕ → Option Bytes) (nodes mid : ℕ → Option Node) (root : Option Child) (s : Shape P keys nodes root) (c : Child) where
   -- also the way into the root
-  pub leads_on : (above : Option (ℕ × ℕ)) → LeadsTo nodes root above c → Uproots nodes mid s.front_of (edge_front s.front_of above) → LeadsTo mid root above c
+  pub leads_on : (above : Option (ℕ × ℕ)) → LeadsTo nodes root above c → FreesSubtree nodes mid s.front_of (edge_front s.front_of above) → LeadsTo mid root above c
   leads_on None l up = l
   leads_on (Some (p, b)) l up = leads_still keys nodes mid root s p b c l up
 
   -- and where that leads to the leaf it is the whole tree
-  pub shape_led : (keys' : ℕ → Option Bytes) (new : ℕ → Option Node) (root' : Option Child) (i : ℕ) (k : Bytes) (above : Option (ℕ × ℕ)) → LeadsTo nodes root above c → Uproots nodes mid s.front_of (edge_front s.front_of above) → TurnsTo mid new root root' above (Leaf i) → Prunes keys keys' (edge_front s.front_of above) i k → Shape P keys' new root'
+  pub shape_led : (keys' : ℕ → Option Bytes) (new : ℕ → Option Node) (root' : Option Child) (i : ℕ) (k : Bytes) (above : Option (ℕ × ℕ)) → LeadsTo nodes root above c → FreesSubtree nodes mid s.front_of (edge_front s.front_of above) → TurnsTo mid new root root' above (Leaf i) → Prunes keys keys' (edge_front s.front_of above) i k → Shape P keys' new root'
   shape_led keys' new root' i k None l up t prunes = rooted keys' new (Some (Leaf i)) root' (shape_one keys' new (λ n. t.0 n ∙ up.gone n tt) i k prunes.now (λ j m e. prunes.only j m e tt)) (sym t.1)
-  shape_led keys' new root' i k (Some (p, b)) l up t prunes = rooted keys' new root root' (shape_uprooted keys nodes mid root s p b c l up new i t.0 keys' k prunes) (sym t.1)
+  shape_led keys' new root' i k (Some (p, b)) l up t prunes = rooted keys' new root root' (shape_freed keys nodes mid root s p b c l up new i t.0 keys' k prunes) (sym t.1)

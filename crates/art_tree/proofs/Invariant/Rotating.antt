@@ -116,7 +116,7 @@ module _ (goes : ℕ → Bool) (before nodes nodes' : ℕ → Option Node) (head
 
   -- ---- a child is turned above the head: what hung at its last edge hangs below the head now, at the edge that led to it
   module _ (mid : ℕ → Option Node) (b0 c bl : ℕ) (d : Child) (turns : Redirects nodes mid head b0 d) (raises : Redirects mid nodes' c bl (Inner head))
-      (high : child_at turns.was.edges b0 ≡ Some (Inner c)) (behind : IsNotLast turns.was.edges b0) (low : child_at raises.was.edges bl ≡ Some d) (last : (e : ℕ) → bl < e → child_at raises.was.edges e ≡ None) where
+      (high : child_at turns.was.edges b0 ≡ Some (Inner c)) (has_next : IsNotLast turns.was.edges b0) (low : child_at raises.was.edges bl ≡ Some d) (last : (e : ℕ) → bl < e → child_at raises.was.edges e ≡ None) where
     to_child : LeadsIn nodes head b0 c
     to_child = (turns.was, turns.was_is, high)
 
@@ -130,7 +130,7 @@ module _ (goes : ℕ → Bool) (before nodes nodes' : ℕ → Option Node) (head
     child_was = sym (turns.others c child_off) ∙ raises.was_is
 
     child_fresh : (s.fresh c ≡ true) × (turns.was.depth < raises.was.depth)
-    child_fresh = s.deeper head b0 c turns.was raises.was s.own turns.was_is high child_was (inr behind)
+    child_fresh = s.deeper head b0 c turns.was raises.was s.own turns.was_is high child_was (inr has_next)
 
     head_now : nodes' head ≡ Some turns.is
     head_now = raises.others head (λ e. child_off (sym e)) ∙ turns.is_is
@@ -418,8 +418,8 @@ module _ (goes : ℕ → Bool) (before nodes nodes' : ℕ → Option Node) (head
           ]
         ]
 
-    pub child_raised : Loose goes before nodes' c
-    child_raised = record {
+    pub child_rotated : Loose goes before nodes' c
+    child_rotated = record {
       fresh = still_fresh;
       rank = new_rank;
       kept = λ j f. (let far : j ≢ c = λ e. false≢true (sym f ∙ ap goes e ∙ child_down.1) in raises.others j far ∙ turns.others j (off_head j f) ∙ s.kept j f);
@@ -435,5 +435,5 @@ module _ (goes : ℕ → Bool) (before nodes nodes' : ℕ → Option Node) (head
     }
 
     -- the new head is deeper
-    pub raised_deeper : turns.was.depth < raises.was.depth
-    raised_deeper = child_fresh.1
+    pub rotated_deeper : turns.was.depth < raises.was.depth
+    rotated_deeper = child_fresh.1

@@ -8,8 +8,8 @@ use Rattle.art_tree.specs.Invariant.EdgesAbove.{LeadsTo, TurnsTo, edge_front}
 use Rattle.art_tree.specs.Calls.Spots.{PastLength}
 use Rattle.art_kinds.specs.Nodes.{Node, Makes}
 use Rattle.art_kinds.specs.Edges.{child_at, Ascends}
-use Rattle.art_tree.specs.Calls.Removing.{CutsBehind}
-use Rattle.art_tree.specs.Invariant.Shape.{Shape, Keeps, first_behind, Covers, CoversLeaf, CoversNode, NodeFits, RootFits, Parts}
+use Rattle.art_tree.specs.Calls.Removing.{CutsAfter}
+use Rattle.art_tree.specs.Invariant.Shape.{Shape, Keeps, kept_prefix, Covers, CoversLeaf, CoversNode, NodeFits, RootFits, Parts}
 use Rattle.art_kinds.specs.declared.records.ids.Edge.{Edge}
 use Rattle.art_kinds.specs.declared.records.ids.Child.{Child}
 use Rattle.art_kinds.specs.declared.records.ids.Child.TheVariants.{Leaf, Inner}
@@ -24,7 +24,7 @@ use Rattle.art_tree.proofs.Invariant.Growing.{covers_above, Departs, Gains, kept
 abbrev pub Past : (ℕ → Bytes) → Bytes → Child → Type 0
 Past front_of t c = PastLength front_of (length t) c
 
--- each old node keeps its prefix but for the child, which keeps what its front has behind g
+-- each old node keeps its prefix but for the child, which keeps what its front has after g
 pub record Recut (P : ℕ) (old new : ℕ → Option Node) (front_of : ℕ → Bytes) (g : Bytes) (child : Child) : Type 0 where
   pub others : (m : ℕ) (x x' : Node) → old m ≡ Some x → new m ≡ Some x' → child ≢ Inner m → x'.prefix ≡ x.prefix
   pub own : (m : ℕ) (x x' : Node) → old m ≡ Some x → new m ≡ Some x' → child ≡ Inner m → x'.prefix ≡ take P (drop (length g) (front_of m))
@@ -45,9 +45,9 @@ pub record Splits (P : ℕ) (old new : ℕ → Option Node) (front_of : ℕ → 
   pub no_more : (m : ℕ) → m ≢ n → old m ≡ None → new m ≡ None
 
 module _ {P : ℕ} (keys keys' : ℕ → Option Bytes) (nodes nodes' : ℕ → Option Node) (root root' : Option Child) (g0 : Bytes) (c0 : Child) (n i : ℕ) (t k : Bytes) (s : Shape P keys nodes root)
-    (gains : Gains keys keys' i k) (d : Departs keys t k) (splits : Splits P nodes nodes' s.front_of root root' g0 c0 n i t (next_byte t d.mate_key) (next_byte t k))
+    (gains : Gains keys keys' i k) (d : Departs keys t k) (splits : Splits P nodes nodes' s.front_of root root' g0 c0 n i t (next_byte t d.nearest_key) (next_byte t k))
     (g0_t : Begins g0 t) (past : Past s.front_of t c0) (covers0 : Covers keys nodes s.front_of g0 c0)
-    (recut : Recut P nodes nodes' s.front_of (t ++ next_byte t d.mate_key ∷ []) c0) (one : (a : Option (ℕ × ℕ)) (j : ℕ) → LeadsTo nodes root a (Inner j) → c0 ≡ Inner j → edge_front s.front_of a ≡ g0) where
+    (recut : Recut P nodes nodes' s.front_of (t ++ next_byte t d.nearest_key ∷ []) c0) (one : (a : Option (ℕ × ℕ)) (j : ℕ) → LeadsTo nodes root a (Inner j) → c0 ≡ Inner j → edge_front s.front_of a ≡ g0) where
   -- the fronts with the new node's
   abbrev fronts_after : ℕ → Bytes
   fronts_after m = cond (eqb m n) t (s.front_of m)
@@ -116,31 +116,31 @@ module _ {P : ℕ} (keys keys' : ℕ → Option Bytes) (nodes nodes' : ℕ → O
             ]
       ]
 
-  mate_at : (j : ℕ) (l : Bytes) → keys j ≡ Some l → j ≡ d.mate → l ≡ d.mate_key
-  mate_at j l is e = let f : keys d.mate ≡ Some l = rw (← e) is in let g : keys d.mate ≡ Some d.mate_key = d.mate_is in cc
+  nearest_at : (j : ℕ) (l : Bytes) → keys j ≡ Some l → j ≡ d.nearest → l ≡ d.nearest_key
+  nearest_at j l is e = let f : keys d.nearest ≡ Some l = rw (← e) is in let g : keys d.nearest ≡ Some d.nearest_key = d.nearest_is in cc
 
-  mate_g0 : Begins g0 d.mate_key
-  mate_g0 = Begins-trans g0 t d.mate_key g0_t d.mate_front
+  nearest_g0 : Begins g0 d.nearest_key
+  nearest_g0 = Begins-trans g0 t d.nearest_key g0_t d.nearest_front
 
-  -- a key below the edge that was split begins with t, and goes on as the mate does
-  below_g0 : (c : Child) → c ≡ c0 → Covers keys nodes s.front_of g0 c → Past s.front_of t c → (j : ℕ) (l : Bytes) → keys j ≡ Some l → Begins g0 l → Begins (t ++ next_byte t d.mate_key ∷ []) l
+  -- a key below the edge that was split begins with t, and goes on as the nearest key does
+  below_g0 : (c : Child) → c ≡ c0 → Covers keys nodes s.front_of g0 c → Past s.front_of t c → (j : ℕ) (l : Bytes) → keys j ≡ Some l → Begins g0 l → Begins (t ++ next_byte t d.nearest_key ∷ []) l
   below_g0 (Leaf j0) e cov far j l is b =
       let a : j ≡ j0 = cov.only j l is b in
-      let h : d.mate ≡ j0 = cov.only d.mate d.mate_key d.mate_is mate_g0 in
-      rw (mate_at j l is (a ∙ sym h)) (Begins-more t d.mate_key d.mate_front d.mate_longer)
+      let h : d.nearest ≡ j0 = cov.only d.nearest d.nearest_key d.nearest_is nearest_g0 in
+      rw (nearest_at j l is (a ∙ sym h)) (Begins-more t d.nearest_key d.nearest_front d.nearest_longer)
   below_g0 (Inner m0) e cov far j l is b =
       let a : Begins (s.front_of m0) l = cov.only j l is b in
-      let h : Begins (s.front_of m0) d.mate_key = cov.only d.mate d.mate_key d.mate_is mate_g0 in
-      Begins-trans (t ++ next_byte t d.mate_key ∷ []) (s.front_of m0) l (Begins-past t (s.front_of m0) d.mate_key d.mate_front h far) a
+      let h : Begins (s.front_of m0) d.nearest_key = cov.only d.nearest d.nearest_key d.nearest_is nearest_g0 in
+      Begins-trans (t ++ next_byte t d.nearest_key ∷ []) (s.front_of m0) l (Begins-past t (s.front_of m0) d.nearest_key d.nearest_front h far) a
 
-  under_g0 : (j : ℕ) (l : Bytes) → keys j ≡ Some l → Begins g0 l → Begins (t ++ next_byte t d.mate_key ∷ []) l
+  under_g0 : (j : ℕ) (l : Bytes) → keys j ≡ Some l → Begins g0 l → Begins (t ++ next_byte t d.nearest_key ∷ []) l
   under_g0 j l is b = below_g0 c0 refl covers0 past j l is b
 
   -- k goes on from t as no key does
-  not_mate : Begins (t ++ next_byte t d.mate_key ∷ []) k → ⊥
-  not_mate b =
-      let e : next_byte t k ≡ next_byte t d.mate_key = Begins-next t k (next_byte t d.mate_key) b in
-      d.alone d.mate d.mate_key d.mate_is (rw e (Begins-more t d.mate_key d.mate_front d.mate_longer))
+  not_nearest : Begins (t ++ next_byte t d.nearest_key ∷ []) k → ⊥
+  not_nearest b =
+      let e : next_byte t k ≡ next_byte t d.nearest_key = Begins-next t k (next_byte t d.nearest_key) b in
+      d.alone d.nearest d.nearest_key d.nearest_is (rw e (Begins-more t d.nearest_key d.nearest_front d.nearest_longer))
 
   leaf_kept : (g : Bytes) (j : ℕ) → (Begins g t → ⊥) → CoversLeaf keys g j → CoversLeaf keys' g j
   leaf_kept g j far c = record {
@@ -173,8 +173,8 @@ module _ {P : ℕ} (keys keys' : ℕ → Option Bytes) (nodes nodes' : ℕ → O
                   elim (cases_lt (length t) (length (s.front_of m))) [
                     | inl lt ↦ absurd (far gt lt)
                     | inr le ↦
-                        let a : Begins (s.front_of m) d.mate_key = c.only d.mate d.mate_key d.mate_is (Begins-trans g t d.mate_key gt d.mate_front) in
-                        rw o.1 (Begins-trans (s.front_of m) t k (Begins-linear (s.front_of m) t d.mate_key a d.mate_front le) d.front)
+                        let a : Begins (s.front_of m) d.nearest_key = c.only d.nearest d.nearest_key d.nearest_is (Begins-trans g t d.nearest_key gt d.nearest_front) in
+                        rw o.1 (Begins-trans (s.front_of m) t k (Begins-linear (s.front_of m) t d.nearest_key a d.nearest_front le) d.front)
                   ]
             ]);
       }
@@ -189,7 +189,7 @@ module _ {P : ℕ} (keys keys' : ℕ → Option Bytes) (nodes nodes' : ℕ → O
     front = rw after-new g0_t;
     only = λ j l e b. rw after-new (
         elim (kept_cases keys keys' i k gains j l e) [
-          | inl o ↦ Begins-edge_front t l (next_byte t d.mate_key) (under_g0 j l o b)
+          | inl o ↦ Begins-edge_front t l (next_byte t d.nearest_key) (under_g0 j l o b)
           | inr o ↦ rw o.1 d.front
         ]);
   }
@@ -203,43 +203,43 @@ module _ {P : ℕ} (keys keys' : ℕ → Option Bytes) (nodes nodes' : ℕ → O
   }
 
   -- the old child, below the new node
-  old_child : (c : Child) → c ≡ c0 → Covers keys nodes s.front_of g0 c → Past s.front_of t c → Covers keys' nodes' fronts_after (t ++ next_byte t d.mate_key ∷ []) c
+  old_child : (c : Child) → c ≡ c0 → Covers keys nodes s.front_of g0 c → Past s.front_of t c → Covers keys' nodes' fronts_after (t ++ next_byte t d.nearest_key ∷ []) c
   old_child (Leaf j0) e cov far = record {
     key = cov.key;
     is = kept keys keys' i k gains j0 cov.key cov.is;
     front = under_g0 j0 cov.key cov.is cov.front;
     only = λ j l is b.
         elim (kept_cases keys keys' i k gains j l is) [
-          | inl o ↦ cov.only j l o (Begins-trans g0 t l g0_t (Begins-edge_front t l (next_byte t d.mate_key) b))
-          | inr o ↦ absurd (not_mate (rw (← o.1) b))
+          | inl o ↦ cov.only j l o (Begins-trans g0 t l g0_t (Begins-edge_front t l (next_byte t d.nearest_key) b))
+          | inr o ↦ absurd (not_nearest (rw (← o.1) b))
         ];
   }
   old_child (Inner m0) e cov far =
       let e : fronts_after m0 ≡ s.front_of m0 = after-old m0 (not_new m0 cov.live) in
-      let h : Begins (s.front_of m0) d.mate_key = cov.only d.mate d.mate_key d.mate_is mate_g0 in
+      let h : Begins (s.front_of m0) d.nearest_key = cov.only d.nearest d.nearest_key d.nearest_is nearest_g0 in
       record {
         live = live_kept m0 cov.live;
-        front = rw e (Begins-past t (s.front_of m0) d.mate_key d.mate_front h far);
+        front = rw e (Begins-past t (s.front_of m0) d.nearest_key d.nearest_front h far);
         only = λ j l is b. rw e (
             elim (kept_cases keys keys' i k gains j l is) [
-              | inl o ↦ cov.only j l o (Begins-trans g0 t l g0_t (Begins-edge_front t l (next_byte t d.mate_key) b))
-              | inr o ↦ absurd (not_mate (rw (← o.1) b))
+              | inl o ↦ cov.only j l o (Begins-trans g0 t l g0_t (Begins-edge_front t l (next_byte t d.nearest_key) b))
+              | inr o ↦ absurd (not_nearest (rw (← o.1) b))
             ]);
       }
 
-  bytes_differ : next_byte t k ≢ next_byte t d.mate_key
-  bytes_differ e = d.alone d.mate d.mate_key d.mate_is (rw e (Begins-more t d.mate_key d.mate_front d.mate_longer))
+  bytes_differ : next_byte t k ≢ next_byte t d.nearest_key
+  bytes_differ e = d.alone d.nearest d.nearest_key d.nearest_is (rw e (Begins-more t d.nearest_key d.nearest_front d.nearest_longer))
 
   new_parts : Parts keys' t
   new_parts = record {
     i = i;
-    j = d.mate;
+    j = d.nearest;
     k = k;
-    l = d.mate_key;
+    l = d.nearest_key;
     k_is = gains.has;
-    l_is = kept keys keys' i k gains d.mate d.mate_key d.mate_is;
+    l_is = kept keys keys' i k gains d.nearest d.nearest_key d.nearest_is;
     k_front = d.front;
-    l_front = d.mate_front;
+    l_front = d.nearest_front;
     differ = bytes_differ;
   }
 
@@ -254,14 +254,14 @@ module _ {P : ℕ} (keys keys' : ℕ → Option Bytes) (nodes nodes' : ℕ → O
     longer = λ j l e b.
         elim (kept_cases keys keys' i k gains j l e) [
           | inl o ↦
-              let a : length (t ++ next_byte t d.mate_key ∷ []) ≤ length l = Begins-length _ l (under_g0 j l o (Begins-trans g0 t l g0_t b)) in
-              let le : length (t ++ next_byte t d.mate_key ∷ []) ≡ length t + 1 = length-edge t (next_byte t d.mate_key) in
+              let a : length (t ++ next_byte t d.nearest_key ∷ []) ≤ length l = Begins-length _ l (under_g0 j l o (Begins-trans g0 t l g0_t b)) in
+              let le : length (t ++ next_byte t d.nearest_key ∷ []) ≡ length t + 1 = length-edge t (next_byte t d.nearest_key) in
               omega arith
           | inr o ↦ rw o.1 d.longer
         ];
     edge = λ j l e b.
         elim (kept_cases keys keys' i k gains j l e) [
-          | inl o ↦ is_some (child_at splits.made.edges (next_byte t l)) c0 (ap (child_at splits.made.edges) (Begins-next t l (next_byte t d.mate_key) (under_g0 j l o (Begins-trans g0 t l g0_t b))) ∙ splits.high)
+          | inl o ↦ is_some (child_at splits.made.edges (next_byte t l)) c0 (ap (child_at splits.made.edges) (Begins-next t l (next_byte t d.nearest_key) (under_g0 j l o (Begins-trans g0 t l g0_t b))) ∙ splits.high)
           | inr o ↦ is_some (child_at splits.made.edges (next_byte t l)) (Leaf i) (ap (λ (l : Bytes). child_at splits.made.edges (next_byte t l)) o.1 ∙ splits.low)
         ];
     parts = new_parts;
@@ -312,8 +312,8 @@ module _ {P : ℕ} (keys keys' : ℕ → Option Bytes) (nodes nodes' : ℕ → O
                   let h : length g < length t = shorter m x is gk in
                   let gt : Begins g t = Begins-linear g t k gk d.front (omega arith) in
                   let a : next_byte g t ≡ next_byte g k = next_byte-front g t k d.front h in
-                  let c : next_byte g t ≡ next_byte g d.mate_key = next_byte-front g t d.mate_key d.mate_front h in
-                  let z : IsSome (child_at x.edges (next_byte g d.mate_key)) = f.edge d.mate d.mate_key d.mate_is (Begins-trans g t d.mate_key gt d.mate_front) in
+                  let c : next_byte g t ≡ next_byte g d.nearest_key = next_byte-front g t d.nearest_key d.nearest_front h in
+                  let z : IsSome (child_at x.edges (next_byte g d.nearest_key)) = f.edge d.nearest d.nearest_key d.nearest_is (Begins-trans g t d.nearest_key gt d.nearest_front) in
                   let P : ℕ → Type 0 = λ b. IsSome (child_at x.edges b) in
                   rw o.1 (subst P (sym c ∙ a) z)
             ]) in
@@ -355,16 +355,16 @@ module _ {P : ℕ} (keys keys' : ℕ → Option Bytes) (nodes nodes' : ℕ → O
       elim (Begins-cases t l) [
         | inl b ↦ (n, live_new, after-new ∙ sym (common_at t k l d.front d.longer b (d.alone j l is)))
         | inr b ↦
-            let apart : d.mate ≢ j = λ e. (let f : keys j ≡ Some d.mate_key = rw (← e) d.mate_is in let g : d.mate_key ≡ l = cc in b (subst (λ (l : Bytes). Begins t l) g d.mate_front)) in
-            let r = old_joined d.mate j d.mate_key l d.mate_is is apart in
-            (r.0, r.1, r.2 ∙ sym (common_same t k d.mate_key l d.front d.mate_front b))
+            let apart : d.nearest ≢ j = λ e. (let f : keys j ≡ Some d.nearest_key = rw (← e) d.nearest_is in let g : d.nearest_key ≡ l = cc in b (subst (λ (l : Bytes). Begins t l) g d.nearest_front)) in
+            let r = old_joined d.nearest j d.nearest_key l d.nearest_is is apart in
+            (r.0, r.1, r.2 ∙ sym (common_same t k d.nearest_key l d.front d.nearest_front b))
       ]
 
   top_kept : (r : Option Child) → root ≡ r → 0 < length g0 → RootFits keys' nodes' fronts_after r
   top_kept None e pos = λ j.
       let h : RootFits keys nodes s.front_of None = subst (λ (r : Option Child). RootFits keys nodes s.front_of r) e s.top in
-      let a : keys d.mate ≡ None = h d.mate in
-      let b : keys d.mate ≡ Some d.mate_key = d.mate_is in
+      let a : keys d.nearest ≡ None = h d.nearest in
+      let b : keys d.nearest ≡ Some d.nearest_key = d.nearest_is in
       absurd cc
   top_kept (Some c) e pos =
       let h : Covers keys nodes s.front_of [] c = subst (λ (r : Option Child). RootFits keys nodes s.front_of r) e s.top in
@@ -390,13 +390,13 @@ module _ {P : ℕ} (keys keys' : ℕ → Option Bytes) (nodes nodes' : ℕ → O
       not_front m (is_some (nodes m) w.0 w.1) (sym (after-old m off) ∙ e)
 
   -- an old edge to a node that is not the child's: the node keeps its prefix
-  kept_old : (a : Option (ℕ × ℕ)) (j : ℕ) (x' : Node) → LeadsTo nodes root a (Inner j) → (edge_front s.front_of a ≡ g0 → ⊥) → edge_front fronts_after a ≡ edge_front s.front_of a → nodes' j ≡ Some x' → x'.prefix ≡ first_behind P fronts_after a j
+  kept_old : (a : Option (ℕ × ℕ)) (j : ℕ) (x' : Node) → LeadsTo nodes root a (Inner j) → (edge_front s.front_of a ≡ g0 → ⊥) → edge_front fronts_after a ≡ edge_front s.front_of a → nodes' j ≡ Some x' → x'.prefix ≡ kept_prefix P fronts_after a j
   kept_old a j x' l far e is =
       let cov : CoversNode keys nodes s.front_of (edge_front s.front_of a) j = covers_above keys nodes root s a (Inner j) l in
       let x = some_of (nodes j) cov.live in
       keeps_as P s.front_of fronts_after a a j j x.0 x' (s.keeps a j x.0 l x.1) (recut.others j x.0 x' x.1 is (λ z. far (one a j l z))) e (after-old j (not_new j cov.live))
 
-  -- the new node keeps what its front has behind the edge above
+  -- the new node keeps what its front has after the edge above
   kept_made : (x' : Node) → nodes' n ≡ Some x' → x'.prefix ≡ take P (drop (length g0) (fronts_after n))
   kept_made x' is =
       let f : nodes' n ≡ Some splits.made = splits.made_is in
@@ -428,7 +428,7 @@ module _ {P : ℕ} (keys keys' : ℕ → Option Bytes) (nodes nodes' : ℕ → O
                   let cov : CoversNode keys nodes s.front_of g0 j = subst (λ (c : Child). Covers keys nodes s.front_of g0 c) (sym o.1) covers0 in
                   let x = some_of (nodes j) cov.live in
                   let own = recut.own j x.0 x' x.1 is (sym o.1) in
-                  own ∙ ap (λ (w : Bytes). take P (drop (length (t ++ next_byte t d.mate_key ∷ [])) w)) (sym (after-old j (not_new j cov.live)))
+                  own ∙ ap (λ (w : Bytes). take P (drop (length (t ++ next_byte t d.nearest_key ∷ [])) w)) (sym (after-old j (not_new j cov.live)))
                   ∙ ap (λ (w : Bytes). take P (drop (length w) (fronts_after j))) (λ h. (sym front) h ++ (sym o.0) h ∷ [])
             ]
         | inr e ↦
@@ -512,8 +512,8 @@ module _ (low high : Edge) (sorted : low.byte < high.byte) where
       ]
 
 module _ {P : ℕ} (keys keys' : ℕ → Option Bytes) (nodes cut mid : ℕ → Option Node) (root : Option Child) (n i depth : ℕ) (prefix : List ℕ) (low high : Edge) (c0 : Child) (t k : Bytes) (s : Shape P keys nodes root)
-    (gains : Gains keys keys' i k) (d : Departs keys t k) (cuts : CutsBehind P nodes cut s.front_of (t ++ next_byte t d.mate_key ∷ []) c0) (makes : Makes cut mid n depth prefix low high) (deep : depth ≡ length t) (sorted : low.byte < high.byte)
-    (both : HoldBoth low high (next_byte t k) i (next_byte t d.mate_key) c0) where
+    (gains : Gains keys keys' i k) (d : Departs keys t k) (cuts : CutsAfter P nodes cut s.front_of (t ++ next_byte t d.nearest_key ∷ []) c0) (makes : Makes cut mid n depth prefix low high) (deep : depth ≡ length t) (sorted : low.byte < high.byte)
+    (both : HoldBoth low high (next_byte t k) i (next_byte t d.nearest_key) c0) where
   abbrev made : Node
   made = record { depth = depth; prefix = prefix; edges = low ∷ high ∷ [] }
 
@@ -524,14 +524,14 @@ module _ {P : ℕ} (keys keys' : ℕ → Option Bytes) (nodes cut mid : ℕ → 
         | inr h ↦ ap (child_at made.edges) (ap (λ (e : Edge). e.byte) (sym h.1)) ∙ high_child low high sorted ∙ ap (λ (e : Edge). Some e.to) h.1
       ]
 
-  mate_child : child_at made.edges (next_byte t d.mate_key) ≡ Some c0
-  mate_child =
+  nearest_child : child_at made.edges (next_byte t d.nearest_key) ≡ Some c0
+  nearest_child =
       elim both [
         | inl h ↦ ap (child_at made.edges) (ap (λ (e : Edge). e.byte) (sym h.1)) ∙ high_child low high sorted ∙ ap (λ (e : Edge). Some e.to) h.1
         | inr h ↦ ap (child_at made.edges) (ap (λ (e : Edge). e.byte) (sym h.0)) ∙ low_child low high sorted ∙ ap (λ (e : Edge). Some e.to) h.0
       ]
 
-  only_children : (b : ℕ) (c : Child) → child_at made.edges b ≡ Some c → ((b ≡ next_byte t k) × (c ≡ Leaf i)) ⊎ ((b ≡ next_byte t d.mate_key) × (c ≡ c0))
+  only_children : (b : ℕ) (c : Child) → child_at made.edges b ≡ Some c → ((b ≡ next_byte t k) × (c ≡ Leaf i)) ⊎ ((b ≡ next_byte t d.nearest_key) × (c ≡ c0))
   only_children b c e =
       elim both [
         | inl h ↦
@@ -554,7 +554,7 @@ module _ {P : ℕ} (keys keys' : ℕ → Option Bytes) (nodes cut mid : ℕ → 
   uncut_live m x is = go (nodes m) refl
     where
       go : (o : Option Node) → nodes m ≡ o → IsSome (nodes m)
-      go None e = (let f : cut m ≡ None = cut_was P nodes cut s.front_of (t ++ next_byte t d.mate_key ∷ []) c0 cuts m e in absurd cc)
+      go None e = (let f : cut m ≡ None = cut_was P nodes cut s.front_of (t ++ next_byte t d.nearest_key ∷ []) c0 cuts m e in absurd cc)
       go (Some y) e = is_some (nodes m) y e
 
   above_live : (above : Option (ℕ × ℕ)) → LeadsTo cut root above c0 → (e : ℕ × ℕ) → above ≡ Some e → IsSome (nodes e.0)
@@ -583,34 +583,34 @@ module _ {P : ℕ} (keys keys' : ℕ → Option Bytes) (nodes cut mid : ℕ → 
 
   module _ (above : Option (ℕ × ℕ)) (new : ℕ → Option Node) (root' : Option Child) (leads : LeadsTo nodes root above c0) (turns : TurnsTo mid new root root' above (Inner n)) (prefix_is : prefix ≡ take P (drop (length (edge_front s.front_of above)) t)) where
     still : LeadsTo cut root above c0
-    still = cut_leads P nodes cut s.front_of (t ++ next_byte t d.mate_key ∷ []) c0 cuts root above c0 leads
+    still = cut_leads P nodes cut s.front_of (t ++ next_byte t d.nearest_key ∷ []) c0 cuts root above c0 leads
 
-    splits : Splits P nodes new s.front_of root root' (edge_front s.front_of above) c0 n i t (next_byte t d.mate_key) (next_byte t k)
+    splits : Splits P nodes new s.front_of root root' (edge_front s.front_of above) c0 n i t (next_byte t d.nearest_key) (next_byte t k)
     splits = record {
-      fresh = cut_free P nodes cut s.front_of (t ++ next_byte t d.mate_key ∷ []) c0 cuts n makes.fresh;
+      fresh = cut_free P nodes cut s.front_of (t ++ next_byte t d.nearest_key ∷ []) c0 cuts n makes.fresh;
       made = made;
       made_is = made_after above new root' still turns;
       depth = deep;
       ascends = (sorted, tt);
       low = leaf_child;
-      high = mate_child;
+      high = nearest_child;
       prefix = prefix_is;
       only = only_children;
       above = above_after above new root' leads turns;
       others = λ m x is.
-          (let y = cut_node P nodes cut s.front_of (t ++ next_byte t d.mate_key ∷ []) c0 cuts m x is in
+          (let y = cut_node P nodes cut s.front_of (t ++ next_byte t d.nearest_key ∷ []) c0 cuts m x is in
           let z = led_cut above new root' still turns m y.0 y.1 in
           (z.0, z.1, turns_after x y.0 z.0 (s.front_of m) (edge_front s.front_of above) c0 (Inner n) y.2.depth y.2.edges z.2));
-      no_more = λ m off e. none_after above new root' still turns m off (cut_was P nodes cut s.front_of (t ++ next_byte t d.mate_key ∷ []) c0 cuts m e);
+      no_more = λ m off e. none_after above new root' still turns m off (cut_was P nodes cut s.front_of (t ++ next_byte t d.nearest_key ∷ []) c0 cuts m e);
     }
 
     prefix_led : (m : ℕ) (x x' : Node) → cut m ≡ Some x → new m ≡ Some x' → x'.prefix ≡ x.prefix
     prefix_led m x x' was is = turned_prefix mid new root root' above (Inner n) turns m x x' (makes.others m (off_new m x was) ∙ was) is
 
-    recut : Recut P nodes new s.front_of (t ++ next_byte t d.mate_key ∷ []) c0
+    recut : Recut P nodes new s.front_of (t ++ next_byte t d.nearest_key ∷ []) c0
     recut = record {
-      others = λ m x x' was is off. (let y = cut_node P nodes cut s.front_of (t ++ next_byte t d.mate_key ∷ []) c0 cuts m x was in prefix_led m y.0 x' y.1 is ∙ y.2.other off);
-      own = λ m x x' was is same. (let y = cut_node P nodes cut s.front_of (t ++ next_byte t d.mate_key ∷ []) c0 cuts m x was in prefix_led m y.0 x' y.1 is ∙ y.2.own same);
+      others = λ m x x' was is off. (let y = cut_node P nodes cut s.front_of (t ++ next_byte t d.nearest_key ∷ []) c0 cuts m x was in prefix_led m y.0 x' y.1 is ∙ y.2.other off);
+      own = λ m x x' was is same. (let y = cut_node P nodes cut s.front_of (t ++ next_byte t d.nearest_key ∷ []) c0 cuts m x was in prefix_led m y.0 x' y.1 is ∙ y.2.own same);
     }
 
     -- one edge leads to the child

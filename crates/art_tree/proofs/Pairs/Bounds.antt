@@ -14,17 +14,17 @@ use Rattle.art_tree.specs.Begins.{Bytes, Begins}
 use Rattle.art_tree.specs.Calls.Partings.{LeavesAt, KeyEnds, QueryEnds}
 use Rattle.art_tree.specs.Calls.Descents.{IsEndUnder, IsNearest}
 use Rattle.art_tree.specs.Places.{LastBefore, IsLeafBefore}
-use Rattle.art_tree.specs.Leaves.{Numbered, AreDistinct, Has, bytes, keys_in, first_number, last_number, number_after, number_before, behind}
+use Rattle.art_tree.specs.Leaves.{Numbered, AreDistinct, Has, bytes, keys_in, first_number, last_number, number_after, number_before, next_number}
 use Rattle.art_kinds.specs.Nodes.{Node}
 use Rattle.art_tree.specs.Seeks.{number_within, ends}
 use Rattle.art_tree.specs.Calls.Seeking.{beside, IsPlaceOf}
 use Rattle.art_tree.specs.Invariant.Shape.{Shape}
-use Rattle.art_tree.specs.declared.tree.parting.Departure.{Departure}
+use Rattle.art_tree.specs.declared.tree.parting.Mismatch.{Mismatch}
 use Rattle.art_kinds.specs.declared.records.ids.Child.{Child}
 use Rattle.art_tree.proofs.BeginsLemmas.{common_length, Begins-itself, Begins-cases, Begins-from_begins}
 use Rattle.art_tree.proofs.Ways.Ends.{first_less, last_greater}
 use Rattle.art_tree.proofs.Ways.Partings.{no_key, no_key_alone}
-use Rattle.art_tree.proofs.Pairs.Neighbours.{one_less, same_side, FirstFrom, IsLeafBehind, behind_from, ahead_key}
+use Rattle.art_tree.proofs.Pairs.Neighbours.{one_less, same_side, FirstFrom, IsLeafAfter, leaf_before_first_from, leaf_after_key}
 use Rattle.art_rows.proofs.CallerLemmas.{Has-first, Has-last}
 use Rattle.art_tree.proofs.Pairs.Answers.{pair, at_key, first_of_test, last_of_test, first_under, last_under}
 use Rattle.art_tree.proofs.Pairs.Changes.{passing_has}
@@ -130,9 +130,9 @@ module _ {K V : Type 0} (key_bytes : K → Bytes) (pairs : List (Numbered K V)) 
       ap (λ (z : Numbered K V). z.0) h
 
   -- the leaf before a leaf is the one before its key
-  pub behind_key : (q : Bytes) (i : ℕ) → keys i ≡ Some q → IsLeafBefore keys q (number_before pairs i)
-  behind_key q i is =
-      behind_from key_bytes pairs content distinct q i (record {
+  pub leaf_before_key : (q : Bytes) (i : ℕ) → keys i ≡ Some q → IsLeafBefore keys q (number_before pairs i)
+  leaf_before_key q i is =
+      leaf_before_first_from key_bytes pairs content distinct q i (record {
         key = q;
         is = is;
         from = less-irrefl q;
@@ -148,11 +148,11 @@ module _ {K V : Type 0} (key_bytes : K → Bytes) (pairs : List (Numbered K V)) 
     one_side : (j : ℕ) (k : Bytes) → keys j ≡ Some k → (less k q ≡ true) ⊎ (less q k ≡ true)
     one_side j k e = elim (less_or k q) [ inl s ↦ absurd (none j (subst (λ (z : Bytes). keys j ≡ Some z) s e)) | inr o ↦ o ]
 
-    -- the leaf behind the one before q is the one behind q
-    pub ahead_behind : (prev : Option ℕ) → IsLeafBefore keys q prev → IsLeafBehind keys q (behind prev pairs)
-    ahead_behind None st = go pairs refl
+    -- the leaf after the one before q is the one after q
+    pub leaf_after_before : (prev : Option ℕ) → IsLeafBefore keys q prev → IsLeafAfter keys q (next_number prev pairs)
+    leaf_after_before None st = go pairs refl
       where
-        go : (B : List (Numbered K V)) → pairs ≡ B → IsLeafBehind keys q (first_number B)
+        go : (B : List (Numbered K V)) → pairs ≡ B → IsLeafAfter keys q (first_number B)
         go [] a = λ j k e. absurd (let r = member_of_key key_bytes pairs j k e in subst (λ (l : List (Numbered K V)). Member r.0 l) a r.1)
         go (z ∷ B) a =
             let ranks : Ranked (Before (bytes key_bytes)) (z ∷ B) = subst (λ (l : List (Numbered K V)). Ranked (Before (bytes key_bytes)) l) a (Ranked-from_content (bytes key_bytes) pairs content) in
@@ -166,9 +166,9 @@ module _ {K V : Type 0} (key_bytes : K → Bytes) (pairs : List (Numbered K V)) 
                 | inr n ↦ inr (subst (λ (k : Bytes). less (bytes key_bytes z) k ≡ true) r.3 (less-from_PartsBelow _ _ (each_member (Before (bytes key_bytes) z) B r.0 ranks.0 n)))
               ]);
             }
-    ahead_behind (Some i) st = onward (number_after pairs i) (ahead_key key_bytes pairs content distinct i st.key st.is)
+    leaf_after_before (Some i) st = onward (number_after pairs i) (leaf_after_key key_bytes pairs content distinct i st.key st.is)
       where
-        onward : (o : Option ℕ) → IsLeafBehind keys st.key o → IsLeafBehind keys q o
+        onward : (o : Option ℕ) → IsLeafAfter keys st.key o → IsLeafAfter keys q o
         onward None a = λ j k e. false_from_ne_true (less q k) (λ h. false≢true (sym (a j k e) ∙ less-trans st.key q k st.before h))
         onward (Some n) a = record {
           key = a.key;
@@ -185,10 +185,10 @@ module _ {K V : Type 0} (key_bytes : K → Bytes) (pairs : List (Numbered K V)) 
 
   -- ---- what is within a bound
 
-  -- the leaf behind q is the first that passes a test of what is greater
-  first_behind : (q : Bytes) (o : Option ℕ) → IsLeafBehind keys q o → (test : Bytes → Bool) → ((j : ℕ) (k : Bytes) → keys j ≡ Some k → test k ≡ less q k) → first_number (filter (λ x. test (bytes key_bytes x)) pairs) ≡ o
-  first_behind q None a test agrees = ap first_number (filter_none (λ x. test (bytes key_bytes x)) pairs (λ y m. (let e = key_of_member key_bytes pairs y distinct m in agrees y.0 (bytes key_bytes y) e ∙ a y.0 (bytes key_bytes y) e)))
-  first_behind q (Some i) a test agrees = first_of_test key_bytes pairs content distinct test i a.key a.is (agrees i a.key a.is ∙ a.after) (λ j k e t. a.first j k e (sym (agrees j k e) ∙ t))
+  -- the leaf after q is the first that passes a test of what is greater
+  first_after_key : (q : Bytes) (o : Option ℕ) → IsLeafAfter keys q o → (test : Bytes → Bool) → ((j : ℕ) (k : Bytes) → keys j ≡ Some k → test k ≡ less q k) → first_number (filter (λ x. test (bytes key_bytes x)) pairs) ≡ o
+  first_after_key q None a test agrees = ap first_number (filter_none (λ x. test (bytes key_bytes x)) pairs (λ y m. (let e = key_of_member key_bytes pairs y distinct m in agrees y.0 (bytes key_bytes y) e ∙ a y.0 (bytes key_bytes y) e)))
+  first_after_key q (Some i) a test agrees = first_of_test key_bytes pairs content distinct test i a.key a.is (agrees i a.key a.is ∙ a.after) (λ j k e t. a.first j k e (sym (agrees j k e) ∙ t))
 
   -- the leaf before q is the last that passes a test of what is less
   last_before : (q : Bytes) (o : Option ℕ) → IsLeafBefore keys q o → (test : Bytes → Bool) → ((j : ℕ) (k : Bytes) → keys j ≡ Some k → test k ≡ less k q) → last_number (filter (λ x. test (bytes key_bytes x)) pairs) ≡ o
@@ -227,10 +227,10 @@ module _ {K V : Type 0} (key_bytes : K → Bytes) (pairs : List (Numbered K V)) 
 
     -- and its neighbours are the ends of what is within a bound that excludes it
     pub number_within_after : number_within (bytes key_bytes) pairs (Excluded q) true ≡ number_after pairs i
-    number_within_after = first_behind q (number_after pairs i) (ahead_key key_bytes pairs content distinct i q is) (λ k. is_from_start (Excluded q) k && is_up_to_end Unbounded k) (λ j k e. and_true (less q k))
+    number_within_after = first_after_key q (number_after pairs i) (leaf_after_key key_bytes pairs content distinct i q is) (λ k. is_from_start (Excluded q) k && is_up_to_end Unbounded k) (λ j k e. and_true (less q k))
 
     pub number_within_before : number_within (bytes key_bytes) pairs (Excluded q) false ≡ number_before pairs i
-    number_within_before = last_before q (number_before pairs i) (behind_key q i is) (λ k. is_from_start Unbounded k && is_up_to_end (Excluded q) k) (λ j k e. refl)
+    number_within_before = last_before q (number_before pairs i) (leaf_before_key q i is) (λ k. is_from_start Unbounded k && is_up_to_end (Excluded q) k) (λ j k e. refl)
 
   module _ (q : Bytes) (none : (j : ℕ) → keys j ≡ Some q → ⊥) (prev : Option ℕ) (st : IsLeafBefore keys q prev) where
     -- where no key is q, not less is greater, and not greater is less
@@ -248,11 +248,11 @@ module _ {K V : Type 0} (key_bytes : K → Bytes) (pairs : List (Numbered K V)) 
 
     -- the leaves beside q are the ends of what is within its bounds
     pub number_within_included : (b : Bool) → number_within (bytes key_bytes) pairs (Included q) b ≡ beside prev pairs b
-    number_within_included true = first_behind q (behind prev pairs) (ahead_behind q none prev st) (λ k. is_from_start (Included q) k && is_up_to_end Unbounded k) (λ j k e. and_true (not (less k q)) ∙ not_less j k e)
+    number_within_included true = first_after_key q (next_number prev pairs) (leaf_after_before q none prev st) (λ k. is_from_start (Included q) k && is_up_to_end Unbounded k) (λ j k e. and_true (not (less k q)) ∙ not_less j k e)
     number_within_included false = last_before q prev st (λ k. is_from_start Unbounded k && is_up_to_end (Included q) k) not_greater
 
     pub number_within_excluded : (b : Bool) → number_within (bytes key_bytes) pairs (Excluded q) b ≡ beside prev pairs b
-    number_within_excluded true = first_behind q (behind prev pairs) (ahead_behind q none prev st) (λ k. is_from_start (Excluded q) k && is_up_to_end Unbounded k) (λ j k e. and_true (less q k))
+    number_within_excluded true = first_after_key q (next_number prev pairs) (leaf_after_before q none prev st) (λ k. is_from_start (Excluded q) k && is_up_to_end Unbounded k) (λ j k e. and_true (less q k))
     number_within_excluded false = last_before q prev st (λ k. is_from_start Unbounded k && is_up_to_end (Excluded q) k) (λ j k e. refl)
 
   -- ---- what begins with some bytes
@@ -284,8 +284,8 @@ module _ {K V : Type 0} (key_bytes : K → Bytes) (pairs : List (Numbered K V)) 
     pub place_longer : {P : ℕ} → (c : Child) → QueryEnds P (keys_in key_bytes pairs) nodes c q → (first : ℕ) → IsEndUnder keys true q first → (o : Option ℕ) → o ≡ number_before pairs first → IsPlaceOf keys q (Err o)
     place_longer c m first u o e =
         let l : length q < length m.key = m.longer in
-        (subst (λ (o : Option ℕ). IsLeafBefore keys q o) (sym e) (behind_from key_bytes pairs content distinct q first (least_from keys q first u)), no_key keys nodes m.root m.shape m.leaf m.key m.is q (inr m.begun) (omega arith))
+        (subst (λ (o : Option ℕ). IsLeafBefore keys q o) (sym e) (leaf_before_first_from key_bytes pairs content distinct q first (least_from keys q first u)), no_key keys nodes m.root m.shape m.leaf m.key m.is q (inr m.begun) (omega arith))
 
     -- and where no key is related to q
-    pub place_apart : {P : ℕ} → (d : Departure) → LeavesAt P (keys_in key_bytes pairs) nodes d q → (o : Option ℕ) → IsLeafBefore keys q o → IsPlaceOf keys q (Err o)
+    pub place_apart : {P : ℕ} → (d : Mismatch) → LeavesAt P (keys_in key_bytes pairs) nodes d q → (o : Option ℕ) → IsLeafBefore keys q o → IsPlaceOf keys q (Err o)
     place_apart d l o h = (h, no_key_alone keys q l.apart.alone)

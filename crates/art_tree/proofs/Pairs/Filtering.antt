@@ -55,14 +55,14 @@ module _ {K V : Type 0} (test : Numbered K V → Bool) where
 
 module _ {K V : Type 0} where
   -- the first of a list that has two ends
-  pub record Ends (S : List (Numbered K V)) (first last : ℕ) : Type 0 where
+  pub record HasTwoPairs (S : List (Numbered K V)) (first last : ℕ) : Type 0 where
     pub pair : K × V
     pub second : Numbered K V
     pub rest : List (Numbered K V)
     pub is : S ≡ (first, pair) ∷ second ∷ rest
 
   -- a list whose ends differ begins with two pairs
-  pub two_ends : (S : List (Numbered K V)) (first last : ℕ) → first_number S ≡ Some first → last_number S ≡ Some last → first ≢ last → Ends S first last
+  pub two_ends : (S : List (Numbered K V)) (first last : ℕ) → first_number S ≡ Some first → last_number S ≡ Some last → first ≢ last → HasTwoPairs S first last
   two_ends [] first last e f off = absurd cc
   two_ends (p ∷ []) first last e f off = let a : p.0 ≡ first = cc in let b : p.0 ≡ last = cc in absurd (off (sym a ∙ b))
   two_ends (p ∷ q ∷ S) first last e f off = let a : p.0 ≡ first = cc in record { pair = p.1; second = q; rest = S; is = λ j. (a j, p.1) ∷ q ∷ S }

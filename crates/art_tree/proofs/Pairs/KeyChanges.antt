@@ -2,7 +2,7 @@
 use Rattle.std.proofs.Common.{◌≡◌, ◌≢◌, ℕ, ◌<◌, List, [], ◌∷◌, ◌++◌, length, take, ap, arith, subst, Option, Some, None, option_map, get_or}
 use Rattle.std.proofs.lemmas.List.{length-take-le}
 use Rattle.art_tree.specs.Begins.{Bytes, Begins, next_byte}
-use Rattle.art_tree.specs.Places.{LeavesMate}
+use Rattle.art_tree.specs.Places.{LeavesNearest}
 use Rattle.art_tree.specs.Leaves.{Numbered, leaf_in, keys_in, OthersStand}
 use Rattle.art_tree.proofs.BeginsLemmas.{Begins-take}
 use Rattle.art_tree.proofs.Invariant.Growing.{Departs, Gains}
@@ -30,28 +30,28 @@ module _ {K V : Type 0} (key_bytes : K → Bytes) (old new : List (Numbered K V)
   pub exchanges_from : (p p' : K × V) → leaf_in old i ≡ Some p → leaf_in new i ≡ Some p' → Exchanges (keys_in key_bytes old) (keys_in key_bytes new) i (key_bytes p.0) (key_bytes p'.0)
   exchanges_from p p' was now = record { was = ap (option_map bytes_of) was; now = ap (option_map bytes_of) now; others = λ j off. ap (option_map bytes_of) (others j off) }
 
-module _ (keys : ℕ → Option Bytes) (mate depth : ℕ) (q : Bytes) (good : LeavesMate keys mate depth q) where
-  -- a key departs where it leaves its mate
+module _ (keys : ℕ → Option Bytes) (nearest depth : ℕ) (q : Bytes) (good : LeavesNearest keys nearest depth q) where
+  -- a key departs where it leaves the key nearest to it
   abbrev pub departs_at : Departs keys (take depth q) q
   departs_at =
       let lt : depth < length q = good.longer in
-      let lm : depth < length good.mate_key = good.mate_longer in
+      let lm : depth < length good.nearest_key = good.nearest_longer in
       let e : length (take depth q) ≡ depth = length-take-le depth q (omega arith) in
       record {
         front = Begins-take depth q;
         longer = omega arith;
         alone = λ j l is b. good.alone j l is (subst (λ (n : ℕ). Begins (take depth q ++ get_or q n 0 ∷ []) l) e b);
-        mate = mate;
-        mate_key = good.mate_key;
-        mate_is = good.mate_is;
-        mate_front = subst (λ (t : Bytes). Begins t good.mate_key) good.along (Begins-take depth good.mate_key);
-        mate_longer = omega arith;
+        nearest = nearest;
+        nearest_key = good.nearest_key;
+        nearest_is = good.nearest_is;
+        nearest_front = subst (λ (t : Bytes). Begins t good.nearest_key) good.along (Begins-take depth good.nearest_key);
+        nearest_longer = omega arith;
       }
 
   -- the next byte there
   pub next_at : next_byte (take depth q) q ≡ get_or q depth 0
   next_at = let lt : depth < length q = good.longer in ap (λ n. get_or q n 0) (length-take-le depth q (omega arith))
 
-  -- and the mate's
-  pub mate_next_at : next_byte (take depth q) good.mate_key ≡ get_or good.mate_key depth 0
-  mate_next_at = let lt : depth < length q = good.longer in ap (λ n. get_or good.mate_key n 0) (length-take-le depth q (omega arith))
+  -- and the nearest key's
+  pub nearest_next_at : next_byte (take depth q) good.nearest_key ≡ get_or good.nearest_key depth 0
+  nearest_next_at = let lt : depth < length q = good.longer in ap (λ n. get_or good.nearest_key n 0) (length-take-le depth q (omega arith))

@@ -8,11 +8,11 @@ use Rattle.blart_keys.proofs.PartLemmas.{PartsBelow-from, less-from_PartsBelow, 
 use Rattle.blart_keys.proofs.RankLemmas.{Member, Ranked, each_member, Member-append_left, Member-append_right, Member-append_cases, Ranked-across, Ranked-left, Ranked-right}
 use Rattle.blart_keys.proofs.ContentLemmas.{Before, Ranked-from_content, put_between, related-same, unrelated_back}
 use Rattle.art_tree.specs.Begins.{Bytes, Begins, next_byte}
-use Rattle.art_tree.specs.Places.{LastBefore, FirstAfter, IsLeafBefore, IsBeside, number_in_front}
+use Rattle.art_tree.specs.Places.{LastBefore, FirstAfter, IsLeafBefore, IsBeside, number_before_place}
 use Rattle.art_tree.specs.declared.tree.parting.Beside.{Beside}
-use Rattle.art_tree.specs.declared.tree.parting.Beside.TheVariants.{Behind, InFront}
+use Rattle.art_tree.specs.declared.tree.parting.Beside.TheVariants.{AfterLeaf, BeforeLeaf}
 use Rattle.art_kinds.specs.Edges.{child_at, IsPrevious, IsNext}
-use Rattle.art_tree.specs.Leaves.{Numbered, bytes, keys_in, leaf_in, AreDistinct, with_pair_behind, first_number, number_after, number_before, number_before_from}
+use Rattle.art_tree.specs.Leaves.{Numbered, bytes, keys_in, leaf_in, AreDistinct, with_pair_after, first_number, number_after, number_before, number_before_from}
 use Rattle.art_kinds.specs.Nodes.{Node}
 use Rattle.art_tree.specs.Invariant.Shape.{Shape}
 use Rattle.art_kinds.specs.declared.records.ids.Child.{Child}
@@ -124,7 +124,7 @@ module _ {P : ℕ} (keys : ℕ → Option Bytes) (nodes : ℕ → Option Node) (
       ])
       (parted_less t m q e.byte b tm qt prev.0)
 
-  -- the least key below the edge behind q's byte comes after q
+  -- the least key below the edge after q's byte comes after q
   pub first_at_node : (e : Edge) → IsNext x.edges b (Some e) → child_at x.edges b ≡ None → (i : ℕ) (m : Bytes) → keys i ≡ Some m → Begins (t ++ e.byte ∷ []) m → ((j : ℕ) (k : Bytes) → keys j ≡ Some k → Begins (t ++ e.byte ∷ []) k → (j ≡ i) ⊎ (less m k ≡ true)) → FirstAfter keys q i
   first_at_node e next none i m is tm least =
       first_below keys q t tq alone i m is (Begins-edge_front t m e.byte tm)
@@ -149,10 +149,10 @@ pub record FirstFrom (keys : ℕ → Option Bytes) (q : Bytes) (i : ℕ) : Type 
   pub from : less key q ≡ false
   pub first : (j : ℕ) (k : Bytes) → keys j ≡ Some k → less k q ≡ false → (j ≡ i) ⊎ (less key k ≡ true)
 
--- the leaf behind q, or none where no key is greater
-abbrev pub IsLeafBehind : (ℕ → Option Bytes) → Bytes → Option ℕ → Type 0
-IsLeafBehind keys q None = (j : ℕ) (k : Bytes) → keys j ≡ Some k → less q k ≡ false
-IsLeafBehind keys q (Some i) = FirstAfter keys q i
+-- the leaf after q, or none where no key is greater
+abbrev pub IsLeafAfter : (ℕ → Option Bytes) → Bytes → Option ℕ → Type 0
+IsLeafAfter keys q None = (j : ℕ) (k : Bytes) → keys j ≡ Some k → less q k ≡ false
+IsLeafAfter keys q (Some i) = FirstAfter keys q i
 
 -- ---- in the list of pairs
 
@@ -168,7 +168,7 @@ module _ {K V : Type 0} where
     pub pair : K × V
     pub after : List (Numbered K V)
     pub is : ps ≡ before ++ (i, pair) ∷ after
-    pub placed : (x : Numbered K V) → with_pair_behind (Some i) x ps ≡ before ++ (i, pair) ∷ x ∷ after
+    pub placed : (x : Numbered K V) → with_pair_after (Some i) x ps ≡ before ++ (i, pair) ∷ x ∷ after
     pub previous : (back : Option ℕ) → number_before_from back ps i ≡ last_or back before
     pub next : number_after ps i ≡ first_number after
 
@@ -252,8 +252,8 @@ module _ {K V : Type 0} (key_bytes : K → Bytes) (pairs : List (Numbered K V)) 
       )
 
   -- the leaf before q is the one before the first that is not less
-  pub behind_from : (q : Bytes) (i : ℕ) → FirstFrom (keys_in key_bytes pairs) q i → IsLeafBefore (keys_in key_bytes pairs) q (number_before pairs i)
-  behind_from q i st = subst (λ (o : Option ℕ). IsLeafBefore (keys_in key_bytes pairs) q o) (sym (p.previous None)) (go p.before refl)
+  pub leaf_before_first_from : (q : Bytes) (i : ℕ) → FirstFrom (keys_in key_bytes pairs) q i → IsLeafBefore (keys_in key_bytes pairs) q (number_before pairs i)
+  leaf_before_first_from q i st = subst (λ (o : Option ℕ). IsLeafBefore (keys_in key_bytes pairs) q o) (sym (p.previous None)) (go p.before refl)
     where
       p : IsSplit pairs i
       p = place i st.key st.is
@@ -301,14 +301,14 @@ module _ {K V : Type 0} (key_bytes : K → Bytes) (pairs : List (Numbered K V)) 
             ]);
           })
 
-  -- the leaf behind a leaf is the one behind its key
-  pub ahead_key : (i : ℕ) (q : Bytes) → keys_in key_bytes pairs i ≡ Some q → IsLeafBehind (keys_in key_bytes pairs) q (number_after pairs i)
-  ahead_key i q is = subst (λ (o : Option ℕ). IsLeafBehind (keys_in key_bytes pairs) q o) (sym p.next) (go p.after refl)
+  -- the leaf after a leaf is the one after its key
+  pub leaf_after_key : (i : ℕ) (q : Bytes) → keys_in key_bytes pairs i ≡ Some q → IsLeafAfter (keys_in key_bytes pairs) q (number_after pairs i)
+  leaf_after_key i q is = subst (λ (o : Option ℕ). IsLeafAfter (keys_in key_bytes pairs) q o) (sym p.next) (go p.after refl)
     where
       p : IsSplit pairs i
       p = place i q is
 
-      -- a greater key is that of a pair behind
+      -- a greater key is that of a pair after it
       is_late : (j : ℕ) (k : Bytes) → keys_in key_bytes pairs j ≡ Some k → less q k ≡ true → (y : Numbered K V) × Member y p.after × (y.0 ≡ j) × (bytes key_bytes y ≡ k)
       is_late j k e h =
           let r = member_of_key key_bytes pairs j k e in
@@ -318,7 +318,7 @@ module _ {K V : Type 0} (key_bytes : K → Bytes) (pairs : List (Numbered K V)) 
             | inr (inr n) ↦ (r.0, n, r.2, r.3)
           ]
 
-      go : (B : List (Numbered K V)) → p.after ≡ B → IsLeafBehind (keys_in key_bytes pairs) q (first_number B)
+      go : (B : List (Numbered K V)) → p.after ≡ B → IsLeafAfter (keys_in key_bytes pairs) q (first_number B)
       go [] a = λ j k e. false_from_ne_true (less q k) (λ h. let r = is_late j k e h in subst (λ (l : List (Numbered K V)). Member r.0 l) a r.1)
       go (z ∷ B) a =
           let b = after_here i q is z (subst (λ (l : List (Numbered K V)). Member z l) (sym a) (inl refl)) in
@@ -348,8 +348,8 @@ module _ {K V : Type 0} (key_bytes : K → Bytes) (pairs : List (Numbered K V)) 
           | inr h ↦ PartsBelow-from q (bytes key_bytes y) h (unrelated_back (bytes key_bytes y) q (unrelated_member y m))
         ]
 
-    -- a new pair behind the one before it: a put
-    pub placed_put : (prev : Option ℕ) (x : Numbered K V) → bytes key_bytes x ≡ q → IsLeafBefore (keys_in key_bytes pairs) q prev → IsPut (bytes key_bytes) pairs x (with_pair_behind prev x pairs)
+    -- a new pair after the one before it: a put
+    pub placed_put : (prev : Option ℕ) (x : Numbered K V) → bytes key_bytes x ≡ q → IsLeafBefore (keys_in key_bytes pairs) q prev → IsPut (bytes key_bytes) pairs x (with_pair_after prev x pairs)
     placed_put None x e st =
         put_between (bytes key_bytes) [] pairs x content (λ y m. absurd m)
         (λ y m. subst (λ (k : Bytes). PartsBelow k (bytes key_bytes y)) (sym e) (after_q y m (st y.0 (bytes key_bytes y) (key_of_member key_bytes pairs y distinct m))))
@@ -357,7 +357,7 @@ module _ {K V : Type 0} (key_bytes : K → Bytes) (pairs : List (Numbered K V)) 
         let p = place i st.key st.is in
         let A : List (Numbered K V) = p.before ++ (i, p.pair) ∷ [] in
         let whole : pairs ≡ A ++ p.after = p.is ∙ sym (append_assoc p.before ((i, p.pair) ∷ []) p.after) in
-        let made : with_pair_behind (Some i) x pairs ≡ A ++ x ∷ p.after = p.placed x ∙ sym (append_assoc p.before ((i, p.pair) ∷ []) (x ∷ p.after)) in
+        let made : with_pair_after (Some i) x pairs ≡ A ++ x ∷ p.after = p.placed x ∙ sym (append_assoc p.before ((i, p.pair) ∷ []) (x ∷ p.after)) in
         let put : IsPut (bytes key_bytes) (A ++ p.after) x (A ++ x ∷ p.after) = put_between (bytes key_bytes) A p.after x (subst (IsContent (bytes key_bytes)) whole content)
         (λ y m. subst (λ (k : Bytes). PartsBelow (bytes key_bytes y) k) (sym e) (elim (Member-append_cases y p.before ((i, p.pair) ∷ []) m) [
           | inl n ↦ (let h = before_here i st.key st.is y n in before_q y h.1 (less-trans (bytes key_bytes y) st.key q h.0 st.before))
@@ -380,9 +380,9 @@ module _ {K V : Type 0} (key_bytes : K → Bytes) (pairs : List (Numbered K V)) 
             ])
 
     -- the leaf before q is the one before the first that is greater
-    behind_previous : (i : ℕ) → FirstAfter (keys_in key_bytes pairs) q i → IsLeafBefore (keys_in key_bytes pairs) q (number_before pairs i)
-    behind_previous i st =
-        behind_from q i (record {
+    leaf_before_first_after : (i : ℕ) → FirstAfter (keys_in key_bytes pairs) q i → IsLeafBefore (keys_in key_bytes pairs) q (number_before pairs i)
+    leaf_before_first_after i st =
+        leaf_before_first_from q i (record {
           key = st.key;
           is = st.is;
           from = false_from_ne_true (less st.key q) (λ h. one_less st.key q h st.after);
@@ -390,6 +390,6 @@ module _ {K V : Type 0} (key_bytes : K → Bytes) (pairs : List (Numbered K V)) 
         })
 
     -- the leaf before q, by one beside it
-    pub before_beside : (beside : Beside) → IsBeside (keys_in key_bytes pairs) q beside → IsLeafBefore (keys_in key_bytes pairs) q (number_in_front pairs beside)
-    before_beside (Behind i) st = st
-    before_beside (InFront i) st = behind_previous i st
+    pub before_beside : (beside : Beside) → IsBeside (keys_in key_bytes pairs) q beside → IsLeafBefore (keys_in key_bytes pairs) q (number_before_place pairs beside)
+    before_beside (AfterLeaf i) st = st
+    before_beside (BeforeLeaf i) st = leaf_before_first_after i st

@@ -53,7 +53,7 @@ module _ {K V : Type 0} where
           let b : r.0 ≡ x = cc in
           ap not (subst (λ (z : K × V). begins q (key_bytes z.0) ≡ true) b r.2))
 
-      -- behind it, if it is not the last, stands the next of them
+      -- after it, if it is not the last, stands the next of them
       pub next_below : IsContent (bytes key_bytes) ps → first ≢ last → (n : ℕ) × (number_after ps first ≡ Some n) × (ends (under (bytes key_bytes) (without_number ps first) q) ≡ Some (n, last))
       next_below content off =
           let below : List (Numbered K V) = under (bytes key_bytes) ps q in

@@ -4,9 +4,9 @@ use Rattle.std.specs.Prelude.{IfSome}
 use Rattle.blart_keys.specs.Bytes.{related}
 use Rattle.blart_keys.specs.Content.{IsContent}
 use Rattle.art_tree.specs.Begins.{Bytes}
-use Rattle.art_tree.specs.Places.{LeavesMate, IsLeafBefore, IsBeside, neighbour, number_in_front}
+use Rattle.art_tree.specs.Places.{LeavesNearest, IsLeafBefore, IsBeside, neighbour, number_before_place}
 use Rattle.art_tree.specs.Calls.Placing.{IsSpotFor, TreeGains, Places}
-use Rattle.art_tree.specs.Leaves.{Leaves, Numbered, leaf_in, Has, AreDistinct, with_pair_behind, bytes, keys_in}
+use Rattle.art_tree.specs.Leaves.{Leaves, Numbered, leaf_in, Has, AreDistinct, with_pair_after, bytes, keys_in}
 use Rattle.art_kinds.specs.Nodes.{Nodes, Node, at}
 use Rattle.art_tree.specs.Points.{IsFree}
 use Rattle.art_tree.specs.Invariant.Shape.{Shape}
@@ -14,14 +14,14 @@ use Rattle.art_tree.specs.Calls.Spots.{SpotFits}
 use Rattle.art_tree.specs.Invariant.Sound.{IsSound}
 use Rattle.art_tree.specs.declared.tree.descent.Spot.{Spot}
 use Rattle.art_tree.specs.declared.tree.parting.Beside.{Beside}
-use Rattle.art_tree.specs.declared.tree.parting.Beside.TheVariants.{Behind, InFront}
+use Rattle.art_tree.specs.declared.tree.parting.Beside.TheVariants.{AfterLeaf, BeforeLeaf}
 use Rattle.art_tree.specs.declared.tree.point.Place.{Place}
 use Rattle.art_kinds.specs.declared.records.ids.Child.{Child}
 use Rattle.art_kinds.specs.declared.records.ids.Child.TheVariants.{Leaf}
 use Rattle.art_tree.proofs.Invariant.Growing.{Gains, some_key}
 use Rattle.art_tree.proofs.Calls.Joining.{leaving_unrelated}
 use Rattle.art_tree.proofs.Pairs.KeyChanges.{gains_from}
-use Rattle.art_rows.proofs.CallerLemmas.{Lacks-from_leaf_in, leaf_in-placed_now, others-with_pair_behind}
+use Rattle.art_rows.proofs.CallerLemmas.{Lacks-from_leaf_in, leaf_in-placed_now, others-with_pair_after}
 use Rattle.art_tree.proofs.Pairs.Neighbours.{placed_put, before_beside}
 use Rattle.blart_keys.proofs.Options.{is_some}
 use Rattle.art_tree.proofs.Pairs.Keys.{pair_of_key, has_key}
@@ -39,25 +39,25 @@ no_root keys nodes (Some c) s none =
 
 module _ {K V : Type 0} (key_bytes : K → Bytes) where
   -- the leaf before a place is one of the pairs'
-  pub has_behind : (pairs : List (Numbered K V)) (q : Bytes) (prev : Option ℕ) → IsLeafBefore (keys_in key_bytes pairs) q prev → IfSome prev (Has pairs)
-  has_behind pairs q None st = tt
-  has_behind pairs q (Some i) st = let p = pair_of_key key_bytes pairs i st.key st.is in is_some (leaf_in pairs i) p.0 p.1
+  pub has_leaf_before : (pairs : List (Numbered K V)) (q : Bytes) (prev : Option ℕ) → IsLeafBefore (keys_in key_bytes pairs) q prev → IfSome prev (Has pairs)
+  has_leaf_before pairs q None st = tt
+  has_leaf_before pairs q (Some i) st = let p = pair_of_key key_bytes pairs i st.key st.is in is_some (leaf_in pairs i) p.0 p.1
 
-  -- a pair behind the leaf before its place
+  -- a pair after the leaf before its place
   pub placed_pairs : (old new : List (Numbered K V)) (q : Bytes) (prev : Option ℕ) (i : ℕ) (x : K × V) → IsContent (bytes key_bytes) old → AreDistinct old → ((j : ℕ) (k : Bytes) → keys_in key_bytes old j ≡ Some k → related k q ≡ false)
-      → IsLeafBefore (keys_in key_bytes old) q prev → leaf_in old i ≡ None → key_bytes x.0 ≡ q → new ≡ with_pair_behind prev (i, x) old → Places key_bytes old new i x
+      → IsLeafBefore (keys_in key_bytes old) q prev → leaf_in old i ≡ None → key_bytes x.0 ≡ q → new ≡ with_pair_after prev (i, x) old → Places key_bytes old new i x
   placed_pairs old new q prev i x content distinct alone st fresh own is =
-      let has = has_behind old q prev st in
+      let has = has_leaf_before old q prev st in
       let lacks = Lacks-from_leaf_in old i fresh in
       subst (λ (ps : List (Numbered K V)). Places key_bytes old ps i x) (sym is) (record {
         put = placed_put key_bytes old content distinct q alone prev (i, x) own st;
         fresh = fresh;
         now = leaf_in-placed_now prev (i, x) old has lacks;
-        others = others-with_pair_behind prev (i, x) old has lacks;
+        others = others-with_pair_after prev (i, x) old has lacks;
       })
 
   -- the first pair
-  pub placed_first : (old new : List (Numbered K V)) (i : ℕ) (x : K × V) → IsContent (bytes key_bytes) old → old ≡ [] → leaf_in old i ≡ None → new ≡ with_pair_behind None (i, x) old → Places key_bytes old new i x
+  pub placed_first : (old new : List (Numbered K V)) (i : ℕ) (x : K × V) → IsContent (bytes key_bytes) old → old ≡ [] → leaf_in old i ≡ None → new ≡ with_pair_after None (i, x) old → Places key_bytes old new i x
   placed_first old new i x content empty fresh is =
       let none : (j : ℕ) (k : Bytes) → keys_in key_bytes old j ≡ Some k → ⊥ = λ j k e. (let a : keys_in key_bytes old j ≡ None = ap (λ (ps : List (Numbered K V)). keys_in key_bytes ps j) empty in cc) in
       let distinct : AreDistinct old = subst (λ (ps : List (Numbered K V)). AreDistinct ps) (sym empty) tt in
@@ -77,25 +77,25 @@ module _ {K V : Type 0} (key_bytes : K → Bytes) where
         shape = first_key (keys_in key_bytes leaves.pairs) (keys_in key_bytes leaves'.pairs) (at nodes) i (key_bytes x.0) s (places_gain leaves.pairs leaves'.pairs i x p);
       }
 
-  -- the leaf in front of a free place
+  -- the leaf before a free place
   pub free_before : {P : ℕ} → (leaves : Leaves K V) (nodes : Nodes) (root : Option Child) (place : Place) (q : Bytes) → IsSound key_bytes P leaves nodes root → AreDistinct leaves.pairs → IsFree key_bytes leaves.pairs place q
-      → (prev : Option ℕ) → prev ≡ number_in_front leaves.pairs place.beside → IsLeafBefore (keys_in key_bytes leaves.pairs) q prev
+      → (prev : Option ℕ) → prev ≡ number_before_place leaves.pairs place.beside → IsLeafBefore (keys_in key_bytes leaves.pairs) q prev
   free_before leaves nodes root place q sound distinct free prev e =
-      let alone = leaving_unrelated (keys_in key_bytes leaves.pairs) (at nodes) root sound.shape place.mate place.depth q free.leaves in
+      let alone = leaving_unrelated (keys_in key_bytes leaves.pairs) (at nodes) root sound.shape place.nearest place.depth q free.leaves in
       subst (IsLeafBefore (keys_in key_bytes leaves.pairs) q) (sym e) (before_beside key_bytes leaves.pairs sound.content distinct q alone place.beside free.beside)
 
   -- a pair at a free place
   pub placed_free : {P : ℕ} → (leaves : Leaves K V) (nodes : Nodes) (root : Option Child) (place : Place) (new : List (Numbered K V)) (i : ℕ) (x : K × V) → IsSound key_bytes P leaves nodes root → AreDistinct leaves.pairs → IsFree key_bytes leaves.pairs place (key_bytes x.0)
-      → (prev : Option ℕ) → prev ≡ number_in_front leaves.pairs place.beside → leaf_in leaves.pairs i ≡ None → new ≡ with_pair_behind prev (i, x) leaves.pairs → Places key_bytes leaves.pairs new i x
+      → (prev : Option ℕ) → prev ≡ number_before_place leaves.pairs place.beside → leaf_in leaves.pairs i ≡ None → new ≡ with_pair_after prev (i, x) leaves.pairs → Places key_bytes leaves.pairs new i x
   placed_free leaves nodes root place new i x sound distinct free prev prev_is fresh is =
       placed_pairs leaves.pairs new (key_bytes x.0) prev i x sound.content distinct
-      (leaving_unrelated (keys_in key_bytes leaves.pairs) (at nodes) root sound.shape place.mate place.depth (key_bytes x.0) free.leaves)
+      (leaving_unrelated (keys_in key_bytes leaves.pairs) (at nodes) root sound.shape place.nearest place.depth (key_bytes x.0) free.leaves)
       (free_before leaves nodes root place (key_bytes x.0) sound distinct free prev prev_is) fresh refl is
 
   -- the leaf beside a place is one of the pairs'
   pub has_beside : (pairs : List (Numbered K V)) (q : Bytes) (beside : Beside) → IsBeside (keys_in key_bytes pairs) q beside → Has pairs (neighbour beside)
-  has_beside pairs q (Behind i) st = has_key key_bytes pairs i st.key st.is
-  has_beside pairs q (InFront i) st = has_key key_bytes pairs i st.key st.is
+  has_beside pairs q (AfterLeaf i) st = has_key key_bytes pairs i st.key st.is
+  has_beside pairs q (BeforeLeaf i) st = has_key key_bytes pairs i st.key st.is
 
   module _ (old new : List (Numbered K V)) (i : ℕ) (x : K × V) (p : Places key_bytes old new i x) where
     -- what a number names it names then
@@ -105,36 +105,36 @@ module _ {K V : Type 0} (key_bytes : K → Bytes) where
         p.others j off ∙ e
 
     module _ {P : ℕ} (nodes : ℕ → Option Node) (root : Child) (s : Shape P (keys_in key_bytes old) nodes (Some root)) (place : Place) (free : IsFree key_bytes old place (key_bytes x.0)) (y y' z : K × V)
-        (mate_was : leaf_in old place.mate ≡ Some y) (mate_is : leaf_in new place.mate ≡ Some y') (own_is : leaf_in new i ≡ Some z) (k m m' : Bytes) (k_is : k ≡ key_bytes z.0) (m_is : m ≡ key_bytes y.0) (m'_is : m' ≡ key_bytes y'.0)
-        (spot : Spot) (found : keys_in key_bytes old place.mate ≡ Some m → SpotFits nodes (Some root) s.front_of m place.depth spot) where
+        (nearest_was : leaf_in old place.nearest ≡ Some y) (nearest_is : leaf_in new place.nearest ≡ Some y') (own_is : leaf_in new i ≡ Some z) (k m m' : Bytes) (k_is : k ≡ key_bytes z.0) (m_is : m ≡ key_bytes y.0) (m'_is : m' ≡ key_bytes y'.0)
+        (spot : Spot) (found : keys_in key_bytes old place.nearest ≡ Some m → SpotFits nodes (Some root) s.front_of m place.depth spot) where
       own_key : k ≡ key_bytes x.0
       own_key =
           let a : leaf_in new i ≡ Some x = p.now in
           let b : z ≡ x = cc in
           k_is ∙ ap (λ (z : K × V). key_bytes z.0) b
 
-      same_mate : m' ≡ m
-      same_mate =
-          let a : leaf_in new place.mate ≡ Some y = kept_pair place.mate y mate_was in
+      same_nearest : m' ≡ m
+      same_nearest =
+          let a : leaf_in new place.nearest ≡ Some y = kept_pair place.nearest y nearest_was in
           let b : y' ≡ y = cc in
           m'_is ∙ ap (λ (y : K × V). key_bytes y.0) b ∙ sym m_is
 
-      mate_key : keys_in key_bytes old place.mate ≡ Some m
-      mate_key = ap (option_map (λ (x : K × V). key_bytes x.0)) mate_was ∙ ap Some (sym m_is)
+      nearest_key : keys_in key_bytes old place.nearest ≡ Some m
+      nearest_key = ap (option_map (λ (x : K × V). key_bytes x.0)) nearest_was ∙ ap Some (sym m_is)
 
-      leaves : LeavesMate (keys_in key_bytes old) place.mate place.depth k
-      leaves = subst (λ (k : Bytes). LeavesMate (keys_in key_bytes old) place.mate place.depth k) (sym own_key) free.leaves
+      leaves : LeavesNearest (keys_in key_bytes old) place.nearest place.depth k
+      leaves = subst (λ (k : Bytes). LeavesNearest (keys_in key_bytes old) place.nearest place.depth k) (sym own_key) free.leaves
 
       fits : SpotFits nodes (Some root) s.front_of m' place.depth spot
-      fits = subst (λ (m : Bytes). SpotFits nodes (Some root) s.front_of m place.depth spot) (sym same_mate) (found mate_key)
+      fits = subst (λ (m : Bytes). SpotFits nodes (Some root) s.front_of m place.depth spot) (sym same_nearest) (found nearest_key)
 
-      -- a key at a free place leaves the mate at the spot that was found
+      -- a key at a free place leaves the nearest key at the spot that was found
       pub free_spot : IsSpotFor P nodes root spot k m' place.depth
       free_spot = record {
         keys = keys_in key_bytes old;
         shape = s;
-        leaf = place.mate;
-        is = mate_key ∙ ap Some (sym same_mate);
+        leaf = place.nearest;
+        is = nearest_key ∙ ap Some (sym same_nearest);
         leaves = leaves;
         fits = fits;
       }
@@ -142,5 +142,5 @@ module _ {K V : Type 0} (key_bytes : K → Bytes) where
       -- and the tree has it when it was added there
       pub free_gains : (nodes' : ℕ → Option Node) (root' : Child) → TreeGains P nodes nodes' root root' spot k m' place.depth i → Shape P (keys_in key_bytes new) nodes' (Some root')
       free_gains nodes' root' joined =
-          joined (keys_in key_bytes old) (keys_in key_bytes new) s place.mate (mate_key ∙ ap Some (sym same_mate)) leaves fits
+          joined (keys_in key_bytes old) (keys_in key_bytes new) s place.nearest (nearest_key ∙ ap Some (sym same_nearest)) leaves fits
           (subst (λ (k : Bytes). Gains (keys_in key_bytes old) (keys_in key_bytes new) i k) (sym own_key) (places_gain old new i x p))

@@ -14,7 +14,7 @@ use Rattle.art_tree.specs.declared.tree.descent.Spot.TheVariants as spot
 use Rattle.art_tree.proofs.BeginsLemmas.{Begins-edge_front, Begins-linear, Begins-take, length-edge, take_front}
 use Rattle.art_tree.proofs.Invariant.Growing.{covers_above}
 
-module _ {P : ℕ} (keys : ℕ → Option Bytes) (nodes : ℕ → Option Node) (root : Option Child) (s : Shape P keys nodes root) (leaf depth : ℕ) (mate : Bytes) (is : keys leaf ≡ Some mate) (above : Option (ℕ × ℕ)) where
+module _ {P : ℕ} (keys : ℕ → Option Bytes) (nodes : ℕ → Option Node) (root : Option Child) (s : Shape P keys nodes root) (leaf depth : ℕ) (nearest : Bytes) (is : keys leaf ≡ Some nearest) (above : Option (ℕ × ℕ)) where
   -- the front of an edge from a node that is less deep
   front_within : (c : Child) → (a : Option (ℕ × ℕ)) → LeadsTo nodes root a c → EndsBelow nodes a depth → length (edge_front s.front_of a) ≤ depth
   front_within c None l e = omega arith
@@ -28,28 +28,28 @@ module _ {P : ℕ} (keys : ℕ → Option Bytes) (nodes : ℕ → Option Node) (
       let k : length (s.front_of a.0 ++ a.1 ∷ []) ≡ length (s.front_of a.0) + 1 = length-edge (s.front_of a.0) a.1 in
       omega arith
 
-  -- an edge that leads to the mate's leaf and does not begin too deep
-  pub shown_edge : depth ≤ length mate → LeadsTo nodes root above (Leaf leaf) → EndsBelow nodes above depth → SpotFits nodes root s.front_of mate depth (spot.Edge above (Leaf leaf))
+  -- an edge that leads to the nearest leaf and does not begin too deep
+  pub shown_edge : depth ≤ length nearest → LeadsTo nodes root above (Leaf leaf) → EndsBelow nodes above depth → SpotFits nodes root s.front_of nearest depth (spot.Edge above (Leaf leaf))
   shown_edge long leads ends =
       let c : CoversLeaf keys (edge_front s.front_of above) leaf = covers_above keys nodes root s above (Leaf leaf) leads in
       let own : keys leaf ≡ Some c.key = c.is in
-      let same : c.key ≡ mate = cc in
-      let front : Begins (edge_front s.front_of above) mate = subst (λ (z : Bytes). Begins (edge_front s.front_of above) z) same c.front in
+      let same : c.key ≡ nearest = cc in
+      let front : Begins (edge_front s.front_of above) nearest = subst (λ (z : Bytes). Begins (edge_front s.front_of above) z) same c.front in
       let w : length (edge_front s.front_of above) ≤ depth = front_within (Leaf leaf) above leads ends in
-      let l : length (take depth mate) ≡ depth = length-take-le depth mate long in
-      (record { leads = leads; along = Begins-linear (edge_front s.front_of above) (take depth mate) mate front (Begins-take depth mate) (omega arith) }, tt)
+      let l : length (take depth nearest) ≡ depth = length-take-le depth nearest long in
+      (record { leads = leads; along = Begins-linear (edge_front s.front_of above) (take depth nearest) nearest front (Begins-take depth nearest) (omega arith) }, tt)
 
-  -- an edge that leads to a node so deep with the mate's leaf below it
-  pub shown_node : (n byte : ℕ) → LeadsTo nodes root above (Inner n) → IsOverLeaf nodes n depth byte leaf → SpotFits nodes root s.front_of mate depth (spot.Node above n)
+  -- an edge that leads to a node so deep with the nearest leaf below it
+  pub shown_node : (n byte : ℕ) → LeadsTo nodes root above (Inner n) → IsOverLeaf nodes n depth byte leaf → SpotFits nodes root s.front_of nearest depth (spot.Node above n)
   shown_node n byte leads o =
       let x : Node = o.node in
       let d : x.depth ≡ length (s.front_of n) = (s.node n x o.is).depth in
       let e : x.depth ≡ depth = o.deep in
       let c : CoversLeaf keys (s.front_of n ++ byte ∷ []) leaf = (s.node n x o.is).below byte (Leaf leaf) o.there in
       let own : keys leaf ≡ Some c.key = c.is in
-      let same : c.key ≡ mate = cc in
-      let front : Begins (s.front_of n) mate = Begins-edge_front (s.front_of n) mate byte (subst (λ (z : Bytes). Begins (s.front_of n ++ byte ∷ []) z) same c.front) in
+      let same : c.key ≡ nearest = cc in
+      let front : Begins (s.front_of n) nearest = Begins-edge_front (s.front_of n) nearest byte (subst (λ (z : Bytes). Begins (s.front_of n ++ byte ∷ []) z) same c.front) in
       let long : length (s.front_of n) ≡ depth = sym d ∙ e in
-      let stands : s.front_of n ≡ take depth mate = sym (take_front (s.front_of n) mate front) ∙ ap (λ (z : ℕ). take z mate) long in
+      let stands : s.front_of n ≡ take depth nearest = sym (take_front (s.front_of n) nearest front) ∙ ap (λ (z : ℕ). take z nearest) long in
       let v : CoversNode keys nodes s.front_of (edge_front s.front_of above) n = covers_above keys nodes root s above (Inner n) leads in
       (record { leads = leads; along = subst (λ (z : Bytes). Begins (edge_front s.front_of above) z) stands v.front }, stands)

@@ -6,7 +6,7 @@ use Rattle.std.proofs.lemmas.List.{length-take-le}
 use Rattle.blart_keys.specs.Bytes.{common, related}
 use Rattle.blart_keys.proofs.Options.{not_some, some_of}
 use Rattle.art_tree.specs.Begins.{Bytes, Begins, next_byte}
-use Rattle.art_tree.specs.Places.{LeavesMate}
+use Rattle.art_tree.specs.Places.{LeavesNearest}
 use Rattle.art_tree.specs.Invariant.EdgesAbove.{edge_front}
 use Rattle.art_tree.specs.Invariant.Shape.{Shape, Covers, CoversLeaf, CoversNode, NodeFits}
 use Rattle.art_tree.specs.Calls.Partings.{KeyEnds, QueryEnds, LeavesAtNode, LeavesAtEdge, IsNextTo}
@@ -20,30 +20,30 @@ use Rattle.std.specs.Prelude.{ltb}
 use Rattle.art_tree.proofs.BeginsLemmas.{Begins-itself, Begins-trans, Begins-linear, Begins-equal, Begins-more, Begins-next, Begins-take, Begins-length, Begins-edge_front, common-greatest, common-in_left, common-in_right, common-left, common-right, common_length, length-edge, related_cases, take_front}
 use Rattle.art_tree.proofs.Invariant.Growing.{covers_above, some_key}
 use Rattle.art_tree.proofs.Invariant.SmallShapes.{unrelated}
-use Rattle.art_tree.proofs.Ways.Departures.{beside_at_node, beside_at_edge}
-use Rattle.art_tree.proofs.Ways.Partings.{mate_same, mate_begins, mate_begun}
+use Rattle.art_tree.proofs.Ways.Mismatches.{beside_at_node, beside_at_edge}
+use Rattle.art_tree.proofs.Ways.Partings.{nearest_same, nearest_begins, nearest_begun}
 
--- ---- what two lists have in common behind a front of both
+-- ---- what two lists have in common after a front of both
 
-common_behind : (g a b : Bytes) → common (g ++ a) (g ++ b) ≡ g ++ common a b
-common_behind [] a b = refl
-common_behind (x ∷ g) a b = let e : eqb x x ≡ true = eq-eqb x x refl in rw (e, common_behind g a b) refl
+common_after : (g a b : Bytes) → common (g ++ a) (g ++ b) ≡ g ++ common a b
+common_after [] a b = refl
+common_after (x ∷ g) a b = let e : eqb x x ≡ true = eq-eqb x x refl in rw (e, common_after g a b) refl
 
-front_behind : (g k : Bytes) → Begins g k → g ++ drop (length g) k ≡ k
-front_behind [] k b = refl
-front_behind (x ∷ g) [] b = absurd b
-front_behind (x ∷ g) (y ∷ k) b = let e : x ≡ y = b.0 in let h : g ++ drop (length g) k ≡ k = front_behind g k b.1 in cc
+front_after : (g k : Bytes) → Begins g k → g ++ drop (length g) k ≡ k
+front_after [] k b = refl
+front_after (x ∷ g) [] b = absurd b
+front_after (x ∷ g) (y ∷ k) b = let e : x ≡ y = b.0 in let h : g ++ drop (length g) k ≡ k = front_after g k b.1 in cc
 
 length-both : (g a : Bytes) → length (g ++ a) ≡ length g + length a
 length-both [] a = omega arith
 length-both (x ∷ g) a = let h : length (g ++ a) ≡ length g + length a = length-both g a in omega arith
 
--- the bytes in common are those of the front and those behind it
+-- the bytes in common are those of the front and those after it
 pub common_from : (g a b : Bytes) → Begins g a → Begins g b → length (common a b) ≡ length g + length (common (drop (length g) a) (drop (length g) b))
 common_from g a b ha hb =
-    let ea : g ++ drop (length g) a ≡ a = front_behind g a ha in
-    let eb : g ++ drop (length g) b ≡ b = front_behind g b hb in
-    let e : common (g ++ drop (length g) a) (g ++ drop (length g) b) ≡ g ++ common (drop (length g) a) (drop (length g) b) = common_behind g (drop (length g) a) (drop (length g) b) in
+    let ea : g ++ drop (length g) a ≡ a = front_after g a ha in
+    let eb : g ++ drop (length g) b ≡ b = front_after g b hb in
+    let e : common (g ++ drop (length g) a) (g ++ drop (length g) b) ≡ g ++ common (drop (length g) a) (drop (length g) b) = common_after g (drop (length g) a) (drop (length g) b) in
     let e2 : common a b ≡ g ++ common (drop (length g) a) (drop (length g) b) = cc in
     ap (λ (z : Bytes). length z) e2 ∙ length-both g (common (drop (length g) a) (drop (length g) b))
 
@@ -69,19 +69,19 @@ get_first (suc n) i [] l = refl
 get_first (suc n) zero (x ∷ a) l = refl
 get_first (suc n) (suc i) (x ∷ a) l = get_first n i a (omega arith)
 
--- a byte behind the first ones
-pub get_behind : (n i : ℕ) (a : Bytes) → get_or (drop n a) i 0 ≡ get_or a (n + i) 0
-get_behind zero i a = let e : 0 + i ≡ i = omega arith in rw e refl
-get_behind (suc n) i [] = refl
-get_behind (suc n) i (x ∷ a) = let e : suc n + i ≡ suc (n + i) = omega arith in rw e (get_behind n i a)
+-- a byte after the first ones
+pub get_after : (n i : ℕ) (a : Bytes) → get_or (drop n a) i 0 ≡ get_or a (n + i) 0
+get_after zero i a = let e : 0 + i ≡ i = omega arith in rw e refl
+get_after (suc n) i [] = refl
+get_after (suc n) i (x ∷ a) = let e : suc n + i ≡ suc (n + i) = omega arith in rw e (get_after n i a)
 
 -- ---- a query that leaves a key
 
 module _ (keys : ℕ → Option Bytes) (q : Bytes) where
   -- q leaves each key that goes on from t otherwise
-  leaves_mate : (t key : Bytes) (b c depth : ℕ) → depth ≡ length t → depth < length q → b ≡ get_or q depth 0 → Begins (t ++ b ∷ []) q → Begins (t ++ c ∷ []) key → (i : ℕ) → keys i ≡ Some key
-      → ((j : ℕ) (k : Bytes) → keys j ≡ Some k → Begins (t ++ b ∷ []) k → ⊥) → LeavesMate keys i depth q
-  leaves_mate t key b c depth d lq b_is hq hk i is none =
+  leaves_nearest : (t key : Bytes) (b c depth : ℕ) → depth ≡ length t → depth < length q → b ≡ get_or q depth 0 → Begins (t ++ b ∷ []) q → Begins (t ++ c ∷ []) key → (i : ℕ) → keys i ≡ Some key
+      → ((j : ℕ) (k : Bytes) → keys j ≡ Some k → Begins (t ++ b ∷ []) k → ⊥) → LeavesNearest keys i depth q
+  leaves_nearest t key b c depth d lq b_is hq hk i is none =
       let tq : Begins t q = Begins-edge_front t q b hq in
       let tk : Begins t key = Begins-edge_front t key c hk in
       let q_is : take depth q ≡ t = ap (λ (z : ℕ). take z q) d ∙ take_front t q tq in
@@ -89,11 +89,11 @@ module _ (keys : ℕ → Option Bytes) (q : Bytes) where
       let long : length (t ++ c ∷ []) ≤ length key = Begins-length (t ++ c ∷ []) key hk in
       let one : length (t ++ c ∷ []) ≡ length t + 1 = length-edge t c in
       record {
-        mate_key = key;
-        mate_is = is;
+        nearest_key = key;
+        nearest_is = is;
         along = k_is ∙ sym q_is;
         longer = lq;
-        mate_longer = omega arith;
+        nearest_longer = omega arith;
         alone = λ j l l_is h. none j l l_is (subst (λ (z : ℕ). Begins (t ++ z ∷ []) l) (sym b_is) (subst (λ (z : Bytes). Begins (z ++ get_or q depth 0 ∷ []) l) q_is h));
       }
 
@@ -337,14 +337,14 @@ module _ {P : ℕ} (keys : ℕ → Option Bytes) (nodes : ℕ → Option Node) (
 
     module _ (len : ℕ) (len_is : len ≡ length (common key q)) where
       pub same_at_leaf : len ≡ length q → len ≡ length key → keys i ≡ Some q
-      same_at_leaf a b = is ∙ ap (λ (k : Bytes). Some k) (mate_same key q len len_is a b)
+      same_at_leaf a b = is ∙ ap (λ (k : Bytes). Some k) (nearest_same key q len len_is a b)
 
       pub shorter_at_leaf : len ≢ length q → len ≡ length key → KeyEnds keys i q
-      shorter_at_leaf ne a = record { key = key; is = is; begins = mate_begins key q len len_is a; shorter = (let l : length (common key q) ≤ length q = common-in_right key q in omega arith) }
+      shorter_at_leaf ne a = record { key = key; is = is; begins = nearest_begins key q len len_is a; shorter = (let l : length (common key q) ≤ length q = common-in_right key q in omega arith) }
 
       pub longer_at_leaf : len ≡ length q → len ≢ length key → QueryEnds P keys nodes (Leaf i) q
       longer_at_leaf a ne =
-          let qk : Begins q key = mate_begun key q len len_is a in
+          let qk : Begins q key = nearest_begun key q len len_is a in
           record {
             root = w.root;
             shape = w.shape;
@@ -371,8 +371,8 @@ module _ {P : ℕ} (keys : ℕ → Option Bytes) (nodes : ℕ → Option Node) (
     own_front = w.shape.front_of n
 
     -- a list with the front's bytes from there on tells
-    pub shared_behind : length (common own_front q) ≡ start + length (common (drop start own_front) (drop start q))
-    shared_behind =
+    pub shared_after : length (common own_front q) ≡ start + length (common (drop start own_front) (drop start q))
+    shared_after =
         let e : start ≡ length (edge_front w.shape.front_of w.above) = w.start_is in
         subst (λ (z : ℕ). length (common own_front q) ≡ z + length (common (drop z own_front) (drop z q))) (sym e) (common_from (edge_front w.shape.front_of w.above) own_front q (node_covers n start w).front w.along)
 
@@ -390,9 +390,9 @@ module _ {P : ℕ} (keys : ℕ → Option Bytes) (nodes : ℕ → Option Node) (
 
     -- the bytes in common told from the front's own
     pub shared_from : (len byte : ℕ) → len ≡ start + length (common (drop start own_front) (drop start q)) → (len < length own_front → byte ≡ get_or own_front len 0) → IsShared own_front q len byte
-    shared_from len byte e next = record { is = e ∙ sym shared_behind; next = λ a b. next a }
+    shared_from len byte e next = record { is = e ∙ sym shared_after; next = λ a b. next a }
 
-    -- a key below, cut behind as many bytes as the front has, is the front
+    -- a key below, cut after as many bytes as the front has, is the front
     pub cut_front : (x : Node) → nodes n ≡ Some x → (j : ℕ) (k : Bytes) → keys j ≡ Some k → (own : Bytes) → keys j ≡ Some own → Begins (edge_front w.shape.front_of w.above) own → (depth : ℕ) → depth ≡ x.depth → (take depth k ≡ own_front) × (depth ≤ length k)
     cut_front x x_is j k k_is own own_is h depth e =
         let d : x.depth ≡ length own_front = (w.shape.node n x x_is).depth in
@@ -423,10 +423,10 @@ module _ {P : ℕ} (keys : ℕ → Option Bytes) (nodes : ℕ → Option Node) (
           let e' : count ≡ length (common (take P (drop start own_front)) (drop start q)) = subst (λ (z : Bytes). count ≡ length (common z (drop start q))) k e in
           let l' : count < length (take P (drop start own_front)) = subst (λ (z : Bytes). count < length z) k l in
           let c : length (common (drop start own_front) (drop start q)) ≡ length (common (take P (drop start own_front)) (drop start q)) = common_first P (drop start own_front) (drop start q) (omega arith) in
-          let s : length (common own_front q) ≡ start + length (common (drop start own_front) (drop start q)) = shared_behind in
+          let s : length (common own_front q) ≡ start + length (common (drop start own_front) (drop start q)) = shared_after in
           record {
             is = omega arith;
-            next = λ a b. ap (λ (z : Bytes). get_or z count 0) k ∙ get_first P count (drop start own_front) l' ∙ get_behind start count own_front ∙ ap (λ (z : ℕ). get_or own_front z 0) (sym at);
+            next = λ a b. ap (λ (z : Bytes). get_or z count 0) k ∙ get_first P count (drop start own_front) l' ∙ get_after start count own_front ∙ ap (λ (z : ℕ). get_or own_front z 0) (sym at);
           }
 
       -- the stored prefix is the whole, and all of it is shared
@@ -439,7 +439,7 @@ module _ {P : ℕ} (keys : ℕ → Option Bytes) (nodes : ℕ → Option Node) (
           let long : length (drop start own_front) ≤ length (take P (drop start own_front)) = (let m : length (drop start own_front) + start ≡ length own_front = dropped start own_front start_within in omega arith) in
           let t : take P (drop start own_front) ≡ drop start own_front = Begins-equal (take P (drop start own_front)) (drop start own_front) (Begins-take P (drop start own_front)) long in
           let c : length (common (take P (drop start own_front)) (drop start q)) ≡ length (common (drop start own_front) (drop start q)) = ap (λ (z : Bytes). length (common z (drop start q))) t in
-          let s : length (common own_front q) ≡ start + length (common (drop start own_front) (drop start q)) = shared_behind in
+          let s : length (common own_front q) ≡ start + length (common (drop start own_front) (drop start q)) = shared_after in
           record { is = omega arith; next = λ a b. absurd (omega arith) }
         where
           dropped : (n : ℕ) (a : Bytes) → n ≤ length a → length (drop n a) + n ≡ length a
@@ -447,15 +447,15 @@ module _ {P : ℕ} (keys : ℕ → Option Bytes) (nodes : ℕ → Option Node) (
 
   -- ---- the place beside a child
 
-  pub place_at_node : (n depth : ℕ) (x : Node) → nodes n ≡ Some x → (l : LeavesAtNode P keys nodes n (get_or q depth 0) q) → depth ≡ length (l.apart.shape.front_of n) → depth < length q → (is_behind : Bool) (e : Edge) → IsNextTo is_behind x.edges (get_or q depth 0) e
-      → IsPlaceUnder P keys nodes q depth e.to is_behind
+  pub place_at_node : (n depth : ℕ) (x : Node) → nodes n ≡ Some x → (l : LeavesAtNode P keys nodes n (get_or q depth 0) q) → depth ≡ length (l.apart.shape.front_of n) → depth < length q → (is_after : Bool) (e : Edge) → IsNextTo is_after x.edges (get_or q depth 0) e
+      → IsPlaceUnder P keys nodes q depth e.to is_after
   place_at_node n depth x is l d lq true e next = record {
     beside = beside_at_node keys nodes n (get_or q depth 0) q l x is true e next;
-    leaves = λ i key key_is h. leaves_mate keys q (l.apart.shape.front_of n) key (get_or q depth 0) e.byte depth d lq refl l.goes_on h i key_is l.none;
+    leaves = λ i key key_is h. leaves_nearest keys q (l.apart.shape.front_of n) key (get_or q depth 0) e.byte depth d lq refl l.goes_on h i key_is l.none;
   }
   place_at_node n depth x is l d lq false e next = record {
     beside = beside_at_node keys nodes n (get_or q depth 0) q l x is false e next;
-    leaves = λ i key key_is h. leaves_mate keys q (l.apart.shape.front_of n) key (get_or q depth 0) e.byte depth d lq refl l.goes_on h i key_is l.none;
+    leaves = λ i key key_is h. leaves_nearest keys q (l.apart.shape.front_of n) key (get_or q depth 0) e.byte depth d lq refl l.goes_on h i key_is l.none;
   }
 
   module _ (c : Child) (depth a : ℕ) (l : LeavesAtEdge P keys nodes c a (get_or q depth 0) q) (d : depth ≡ length l.t) (lq : depth < length q) where
@@ -467,9 +467,9 @@ module _ {P : ℕ} (keys : ℕ → Option Bytes) (nodes : ℕ → Option Node) (
         let f : next_byte l.t k ≡ get_or q depth 0 = Begins-next l.t k (get_or q depth 0) h in
         l.other (sym e ∙ f)
 
-    edge_leaves : (i : ℕ) (key : Bytes) → keys i ≡ Some key → Begins l.front key → LeavesMate keys i depth q
-    edge_leaves i key key_is h = leaves_mate keys q l.t key (get_or q depth 0) a depth d lq refl l.goes_on (l.all i key key_is h) i key_is edge_alone
+    edge_leaves : (i : ℕ) (key : Bytes) → keys i ≡ Some key → Begins l.front key → LeavesNearest keys i depth q
+    edge_leaves i key key_is h = leaves_nearest keys q l.t key (get_or q depth 0) a depth d lq refl l.goes_on (l.all i key key_is h) i key_is edge_alone
 
-    pub place_at_edge : (is_behind : Bool) → is_behind ≡ ltb a (get_or q depth 0) → IsPlaceUnder P keys nodes q depth c is_behind
+    pub place_at_edge : (is_after : Bool) → is_after ≡ ltb a (get_or q depth 0) → IsPlaceUnder P keys nodes q depth c is_after
     place_at_edge true e = record { beside = beside_at_edge keys nodes c a (get_or q depth 0) q l true e; leaves = edge_leaves }
     place_at_edge false e = record { beside = beside_at_edge keys nodes c a (get_or q depth 0) q l false e; leaves = edge_leaves }

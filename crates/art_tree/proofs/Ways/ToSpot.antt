@@ -13,58 +13,58 @@ use Rattle.art_kinds.specs.declared.records.ids.Child.TheVariants.{Inner}
 use Rattle.art_tree.proofs.BeginsLemmas.{Begins-take, Begins-length, Begins-more, Begins-trans, Begins-linear, length-edge, Begins-equal}
 use Rattle.art_tree.proofs.Ways.WaysDown.{WayDown}
 
--- the front is that of the edge above, and the mate's first bytes begin with it
+-- the front is that of the edge above, and the nearest key's first bytes begin with it
 abbrev pub HoldsAlong : (ℕ → Bytes) → Bytes → ℕ → Option (ℕ × ℕ) → Bytes → Type 0
-HoldsAlong front_of mate depth above front = (front ≡ edge_front front_of above) × Begins front (take depth mate)
+HoldsAlong front_of nearest depth above front = (front ≡ edge_front front_of above) × Begins front (take depth nearest)
 
--- a way down by the mate's first bytes has come to a child
+-- a way down by the nearest key's first bytes has come to a child
 abbrev pub Follows : (ℕ → Option Bytes) → (ℕ → Option Node) → (ℕ → Bytes) → Bytes → ℕ → Option (ℕ × ℕ) → Child → ℕ → ℕ → Type 0
-Follows keys nodes front_of mate depth above = WayDown keys nodes front_of (HoldsAlong front_of mate depth above) []
+Follows keys nodes front_of nearest depth above = WayDown keys nodes front_of (HoldsAlong front_of nearest depth above) []
 
-module _ {P : ℕ} (keys : ℕ → Option Bytes) (nodes : ℕ → Option Node) (mate : Bytes) (depth : ℕ) (root : Option Child) (s : Shape P keys nodes root) (above : Option (ℕ × ℕ)) (old now : ℕ) where
+module _ {P : ℕ} (keys : ℕ → Option Bytes) (nodes : ℕ → Option Node) (nearest : Bytes) (depth : ℕ) (root : Option Child) (s : Shape P keys nodes root) (above : Option (ℕ × ℕ)) (old now : ℕ) where
   -- it went through the edge above
-  pub followed_edge : (c : Child) → LeadsTo nodes root above c → Follows keys nodes s.front_of mate depth above c old now → EdgeFits nodes root s.front_of mate depth above c
-  followed_edge c leads w = record { leads = leads; along = subst (λ (f : Bytes). Begins f (take depth mate)) w.holds.0 w.holds.1 }
+  pub followed_edge : (c : Child) → LeadsTo nodes root above c → Follows keys nodes s.front_of nearest depth above c old now → EdgeFits nodes root s.front_of nearest depth above c
+  followed_edge c leads w = record { leads = leads; along = subst (λ (f : Bytes). Begins f (take depth nearest)) w.holds.0 w.holds.1 }
 
-  module _ (within : depth ≤ length mate) where
-    -- each visit passed one of the mate's first bytes
-    pub followed_few : (c : Child) → Follows keys nodes s.front_of mate depth above c old now → now ≤ old + depth
+  module _ (within : depth ≤ length nearest) where
+    -- each visit passed one of the nearest key's first bytes
+    pub followed_few : (c : Child) → Follows keys nodes s.front_of nearest depth above c old now → now ≤ old + depth
     followed_few c w =
         let few : now + 0 ≤ old + length w.front = w.few in
-        let l : length w.front ≤ length (take depth mate) = Begins-length w.front (take depth mate) w.holds.1 in
-        let k : length (take depth mate) ≡ depth = length-take-le depth mate within in
+        let l : length w.front ≤ length (take depth nearest) = Begins-length w.front (take depth nearest) w.holds.1 in
+        let k : length (take depth nearest) ≡ depth = length-take-le depth nearest within in
         omega arith
 
-    module _ (i : ℕ) (is : keys i ≡ Some mate) (n : ℕ) (x : Node) (at : nodes n ≡ Some x) (w : Follows keys nodes s.front_of mate depth above (Inner n) old now) where
+    module _ (i : ℕ) (is : keys i ≡ Some nearest) (n : ℕ) (x : Node) (at : nodes n ≡ Some x) (w : Follows keys nodes s.front_of nearest depth above (Inner n) old now) where
       fits : NodeFits keys nodes s.front_of (s.front_of n) x
       fits = s.node n x at
 
-      -- the mate is below the node
-      front_mate : Begins (s.front_of n) mate
-      front_mate = w.covers.only i mate is (Begins-trans w.front (take depth mate) mate w.holds.1 (Begins-take depth mate))
+      -- the nearest key is below the node
+      front_nearest : Begins (s.front_of n) nearest
+      front_nearest = w.covers.only i nearest is (Begins-trans w.front (take depth nearest) nearest w.holds.1 (Begins-take depth nearest))
 
       -- a node of the very depth is at the spot
-      pub node_at_depth : x.depth ≡ depth → s.front_of n ≡ take depth mate
+      pub node_at_depth : x.depth ≡ depth → s.front_of n ≡ take depth nearest
       node_at_depth e =
-          let l : length (take depth mate) ≡ depth = length-take-le depth mate within in
+          let l : length (take depth nearest) ≡ depth = length-take-le depth nearest within in
           let d : x.depth ≡ length (s.front_of n) = fits.depth in
-          Begins-equal (s.front_of n) (take depth mate) (Begins-linear (s.front_of n) (take depth mate) mate front_mate (Begins-take depth mate) (omega arith)) (omega arith)
+          Begins-equal (s.front_of n) (take depth nearest) (Begins-linear (s.front_of n) (take depth nearest) nearest front_nearest (Begins-take depth nearest) (omega arith)) (omega arith)
 
       -- a deeper node is past it
       pub node_past_depth : depth < x.depth → depth < length (s.front_of n)
       node_past_depth h = let d : x.depth ≡ length (s.front_of n) = fits.depth in omega arith
 
-      -- a node has an edge at the byte of the mate
-      pub edge_of_mate : child_at x.edges (get_or mate x.depth 0) ≡ None → ⊥
-      edge_of_mate e =
-          not_some (child_at x.edges (next_byte (s.front_of n) mate)) (ap (λ (d : ℕ). child_at x.edges (get_or mate d 0)) (sym fits.depth) ∙ e) (fits.edge i mate is front_mate)
+      -- a node has an edge at the byte of the nearest key
+      pub edge_of_nearest : child_at x.edges (get_or nearest x.depth 0) ≡ None → ⊥
+      edge_of_nearest e =
+          not_some (child_at x.edges (next_byte (s.front_of n) nearest)) (ap (λ (d : ℕ). child_at x.edges (get_or nearest d 0)) (sym fits.depth) ∙ e) (fits.edge i nearest is front_nearest)
 
       -- which leads on, while the spot is deeper
-      pub follow_edge : x.depth < depth → HoldsAlong s.front_of mate depth (Some (n, get_or mate x.depth 0)) (s.front_of n ++ get_or mate x.depth 0 ∷ [])
+      pub follow_edge : x.depth < depth → HoldsAlong s.front_of nearest depth (Some (n, get_or nearest x.depth 0)) (s.front_of n ++ get_or nearest x.depth 0 ∷ [])
       follow_edge h =
           let g : Bytes = s.front_of n in
           let d : x.depth ≡ length g = fits.depth in
-          let b : get_or mate x.depth 0 ≡ next_byte g mate = ap (λ d. get_or mate d 0) d in
-          let l : length (take depth mate) ≡ depth = length-take-le depth mate within in
-          let e : length (g ++ next_byte g mate ∷ []) ≡ length g + 1 = length-edge g (next_byte g mate) in
-          (refl, rw b (Begins-linear (g ++ next_byte g mate ∷ []) (take depth mate) mate (Begins-more g mate front_mate (omega arith)) (Begins-take depth mate) (omega arith)))
+          let b : get_or nearest x.depth 0 ≡ next_byte g nearest = ap (λ d. get_or nearest d 0) d in
+          let l : length (take depth nearest) ≡ depth = length-take-le depth nearest within in
+          let e : length (g ++ next_byte g nearest ∷ []) ≡ length g + 1 = length-edge g (next_byte g nearest) in
+          (refl, rw b (Begins-linear (g ++ next_byte g nearest ∷ []) (take depth nearest) nearest (Begins-more g nearest front_nearest (omega arith)) (Begins-take depth nearest) (omega arith)))

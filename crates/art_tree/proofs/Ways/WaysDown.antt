@@ -27,7 +27,7 @@ module _ (keys : ℕ → Option Bytes) (nodes : ℕ → Option Node) (front_of :
   pub way_at : {Holds : Bytes → Type 0} {g : Bytes} {old now : ℕ} {a c : Child} → a ≡ c → WayDown Holds g a old now → WayDown Holds g c old now
   way_at {Holds} {g} {old} {now} e w = subst (λ (z : Child). WayDown Holds g z old now) e w
 
-  -- the visits on a way to a leaf are no more than the bytes of its key behind g
+  -- the visits on a way to a leaf are no more than the bytes of its key after g
   pub way_few : {Holds : Bytes → Type 0} {g : Bytes} {old now i : ℕ} → WayDown Holds g (Leaf i) old now → (key : Bytes) → keys i ≡ Some key → now + length g ≤ old + length key
   way_few {g = g} {old = old} {now = now} {i = i} w key is =
       let e : keys i ≡ Some w.covers.key = w.covers.is in

@@ -21,13 +21,13 @@ pub record IsRoot (P : ℕ) (nodes : ℕ → Option Node) (child : Child) : Type
   pub keys : ℕ → Option Bytes
   pub shape : Shape P keys nodes (Some child)
 
--- in some tree with this root, the mate is a stored key, at least as long as the depth
-pub record IsWayOf (P : ℕ) (nodes : ℕ → Option Node) (root : Child) (mate : Bytes) (depth : ℕ) : Type 0 where
+-- in some tree with this root, the nearest key is a stored key, at least as long as the depth
+pub record IsWayOf (P : ℕ) (nodes : ℕ → Option Node) (root : Child) (nearest : Bytes) (depth : ℕ) : Type 0 where
   pub keys : ℕ → Option Bytes
   pub shape : Shape P keys nodes (Some root)
   pub leaf : ℕ
-  pub is : keys leaf ≡ Some mate
-  pub within : depth ≤ length mate
+  pub is : keys leaf ≡ Some nearest
+  pub within : depth ≤ length nearest
 
 -- the number has a node, with some edges
 pub record HasEdges (nodes : ℕ → Option Node) (n : ℕ) : Type 0 where
@@ -57,7 +57,7 @@ module _ (keys : ℕ → Option Bytes) where
     pub end : (j : ℕ) (k : Bytes) → keys j ≡ Some k → Begins g k → (j ≡ i) ⊎ PartsBefore is_first key k
 
   -- no key goes along with q for longer than that of the leaf
-  pub record IsMate (q : Bytes) (i : ℕ) : Type 0 where
+  pub record IsNearestLeaf (q : Bytes) (i : ℕ) : Type 0 where
     pub key : Bytes
     pub is : keys i ≡ Some key
     pub best : (j : ℕ) (k : Bytes) → keys j ≡ Some k → length (common k q) ≤ length (common key q)

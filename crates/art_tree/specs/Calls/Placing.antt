@@ -3,7 +3,7 @@ use Rattle.std.specs.Prelude.{◌≡◌, ◌≢◌, ◌<◌, ◌≤◌, ◌⊎�
 use Rattle.blart_keys.specs.Content.{IsPut}
 use Rattle.art_tree.specs.Begins.{Bytes}
 use Rattle.art_tree.specs.Content.{Content}
-use Rattle.art_tree.specs.Places.{LeavesMate}
+use Rattle.art_tree.specs.Places.{LeavesNearest}
 use Rattle.art_tree.specs.Leaves.{Leaves, Numbered, leaf_in, OthersStand, bytes, room as leaves_room}
 use Rattle.art_kinds.specs.Edges.{child_at}
 use Rattle.art_kinds.specs.Nodes.{Node, Nodes, Makes, room}
@@ -21,21 +21,21 @@ pub record Gains (old new : ℕ → Option Bytes) (i : ℕ) (k : Bytes) : Type 0
   pub has : new i ≡ Some k
   pub others : (j : ℕ) → j ≢ i → new j ≡ old j
 
--- in some tree with this root, the key leaves a stored key, the mate, at the spot
-pub record IsSpotFor (P : ℕ) (nodes : ℕ → Option Node) (root : Child) (spot : Spot) (key mate : Bytes) (depth : ℕ) : Type 0 where
+-- in some tree with this root, the key leaves a stored key, the nearest one, at the spot
+pub record IsSpotFor (P : ℕ) (nodes : ℕ → Option Node) (root : Child) (spot : Spot) (key nearest : Bytes) (depth : ℕ) : Type 0 where
   pub keys : ℕ → Option Bytes
   pub shape : Shape P keys nodes (Some root)
   pub leaf : ℕ
-  pub is : keys leaf ≡ Some mate
-  pub leaves : LeavesMate keys leaf depth key
-  pub fits : SpotFits nodes (Some root) shape.front_of mate depth spot
+  pub is : keys leaf ≡ Some nearest
+  pub leaves : LeavesNearest keys leaf depth key
+  pub fits : SpotFits nodes (Some root) shape.front_of nearest depth spot
 
--- in some tree with this root, the place's mate has this key, at least as long as the place is deep
-pub record HasMate (P : ℕ) (nodes : ℕ → Option Node) (root : Child) (place : Place) (mate : Bytes) : Type 0 where
+-- in some tree with this root, the place's nearest leaf has this key, at least as long as the place is deep
+pub record HasNearest (P : ℕ) (nodes : ℕ → Option Node) (root : Child) (place : Place) (nearest : Bytes) : Type 0 where
   pub keys : ℕ → Option Bytes
   pub shape : Shape P keys nodes (Some root)
-  pub is : keys place.mate ≡ Some mate
-  pub within : place.depth ≤ length mate
+  pub is : keys place.nearest ≡ Some nearest
+  pub within : place.depth ≤ length nearest
 
 -- the node is so deep, and its edge by this byte leads to the leaf
 pub record IsOverLeaf (nodes : ℕ → Option Node) (n depth byte leaf : ℕ) : Type 0 where
@@ -44,10 +44,10 @@ pub record IsOverLeaf (nodes : ℕ → Option Node) (n depth byte leaf : ℕ) : 
   pub deep : node.depth ≡ depth
   pub there : child_at node.edges byte ≡ Some (Leaf leaf)
 
--- each tree where the key leaves the mate at the spot is now the tree with the leaf i of that key too
+-- each tree where the key leaves the nearest key at the spot is now the tree with the leaf i of that key too
 abbrev pub TreeGains : ℕ → (ℕ → Option Node) → (ℕ → Option Node) → Child → Child → Spot → Bytes → Bytes → ℕ → ℕ → Type 0
-TreeGains P old new root root' spot key mate depth i =
-    (keys keys' : ℕ → Option Bytes) (s : Shape P keys old (Some root)) (leaf : ℕ) → keys leaf ≡ Some mate → LeavesMate keys leaf depth key → SpotFits old (Some root) s.front_of mate depth spot
+TreeGains P old new root root' spot key nearest depth i =
+    (keys keys' : ℕ → Option Bytes) (s : Shape P keys old (Some root)) (leaf : ℕ) → keys leaf ≡ Some nearest → LeavesNearest keys leaf depth key → SpotFits old (Some root) s.front_of nearest depth spot
     → Gains keys keys' i key → Shape P keys' new (Some root')
 
 -- a node was made with these two edges, in the order of their bytes

@@ -26,7 +26,7 @@ pub record Prunes (old new : ℕ → Option Bytes) (g : Bytes) (i : ℕ) (k : By
   pub only : (j : ℕ) (l : Bytes) → new j ≡ Some l → Begins g l → j ≡ i
 
 -- the nodes whose fronts begin with g are gone, and all others stand
-pub record Uproots (old new : ℕ → Option Node) (front_of : ℕ → Bytes) (g : Bytes) : Type 0 where
+pub record FreesSubtree (old new : ℕ → Option Node) (front_of : ℕ → Bytes) (g : Bytes) : Type 0 where
   pub gone : (m : ℕ) → Begins g (front_of m) → new m ≡ None
   pub kept : (m : ℕ) → (Begins g (front_of m) → ⊥) → new m ≡ old m
 
@@ -34,7 +34,7 @@ pub record Uproots (old new : ℕ → Option Node) (front_of : ℕ → Bytes) (g
 abbrev pub LeadsIn : (ℕ → Option Node) → ℕ → ℕ → ℕ → Type 0
 LeadsIn nodes m b x = (y : Node) × (nodes m ≡ Some y) × (child_at y.edges b ≡ Some (Inner x))
 
--- there is an edge behind the one at a byte
+-- there is an edge after the one at a byte
 abbrev pub IsNotLast : List Edge → ℕ → Type 0
 IsNotLast edges b = (d : ℕ) × (b < d) × IsSome (child_at edges d)
 

@@ -56,10 +56,10 @@ abbrev pub Cuts : (ℕ → Option Node) → (ℕ → Option Node) → Child → 
 Cuts old new (Leaf i) prefix = (j : ℕ) → new j ≡ old j
 Cuts old new (Inner n) prefix = (x : Node) × (old n ≡ Some x) × Reprefixes old new n (prefix x.depth)
 
--- so is it of the child where each node keeps P bytes at most of what its front has behind g
-abbrev pub CutsBehind : ℕ → (ℕ → Option Node) → (ℕ → Option Node) → (ℕ → Bytes) → Bytes → Child → Type 0
-CutsBehind P old new front_of g (Leaf i) = (j : ℕ) → new j ≡ old j
-CutsBehind P old new front_of g (Inner n) = Reprefixes old new n (take P (drop (length g) (front_of n)))
+-- so is it of the child where each node keeps P bytes at most of what its front has after g
+abbrev pub CutsAfter : ℕ → (ℕ → Option Node) → (ℕ → Option Node) → (ℕ → Bytes) → Bytes → Child → Type 0
+CutsAfter P old new front_of g (Leaf i) = (j : ℕ) → new j ≡ old j
+CutsAfter P old new front_of g (Inner n) = Reprefixes old new n (take P (drop (length g) (front_of n)))
 
 -- the edge leads to the child now, and the node is gone
 abbrev pub Merged : (ℕ → Option Node) → (ℕ → Option Node) → Option Child → Option Child → Option (ℕ × ℕ) → ℕ → Child → Type 0

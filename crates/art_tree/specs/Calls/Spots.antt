@@ -14,15 +14,15 @@ abbrev pub PastLength : (ℕ → Bytes) → ℕ → Child → Type 0
 PastLength front_of n (Leaf j) = Unit {0}
 PastLength front_of n (Inner m) = n < length (front_of m)
 
--- the edge to the child is one that the first bytes of the mate lead through
-pub record EdgeFits (nodes : ℕ → Option Node) (root : Option Child) (front_of : ℕ → Bytes) (mate : Bytes) (depth : ℕ) (above : Option (ℕ × ℕ)) (child : Child) : Type 0 where
+-- the edge to the child is one that the first bytes of the nearest key lead through
+pub record EdgeFits (nodes : ℕ → Option Node) (root : Option Child) (front_of : ℕ → Bytes) (nearest : Bytes) (depth : ℕ) (above : Option (ℕ × ℕ)) (child : Child) : Type 0 where
   pub leads : LeadsTo nodes root above child
-  pub along : Begins (edge_front front_of above) (take depth mate)
+  pub along : Begins (edge_front front_of above) (take depth nearest)
 
--- the spot is where a key would leave the mate at this depth: a node with this front, or an edge that goes past it
+-- the spot is where a key would leave the nearest key at this depth: a node with this front, or an edge that goes past it
 abbrev pub SpotFits : (ℕ → Option Node) → Option Child → (ℕ → Bytes) → Bytes → ℕ → Spot → Type 0
-SpotFits nodes root front_of mate depth (spot.Node above n) = EdgeFits nodes root front_of mate depth above (Inner n) × (front_of n ≡ take depth mate)
-SpotFits nodes root front_of mate depth (spot.Edge above c) = EdgeFits nodes root front_of mate depth above c × PastLength front_of depth c
+SpotFits nodes root front_of nearest depth (spot.Node above n) = EdgeFits nodes root front_of nearest depth above (Inner n) × (front_of n ≡ take depth nearest)
+SpotFits nodes root front_of nearest depth (spot.Edge above c) = EdgeFits nodes root front_of nearest depth above c × PastLength front_of depth c
 
 -- what stands at the spot or below it
 abbrev pub child_under : Spot → Child

@@ -4,7 +4,7 @@ use Rattle.blart_keys.specs.Bytes.{common}
 use Rattle.art_tree.specs.Begins.{Bytes, Begins}
 use Rattle.art_tree.specs.Invariant.EdgesAbove.{LeadsTo, edge_front}
 use Rattle.art_tree.specs.Invariant.Shape.{Shape}
-use Rattle.art_tree.specs.Places.{LeavesMate}
+use Rattle.art_tree.specs.Places.{LeavesNearest}
 use Rattle.art_tree.specs.Calls.Partings.{KeyEnds, QueryEnds, LeavesAtNode, LeavesAtEdge, IsChildBeside}
 use Rattle.art_kinds.specs.Edges.{child_at}
 use Rattle.art_kinds.specs.Nodes.{Node}
@@ -14,7 +14,7 @@ use Rattle.art_tree.specs.declared.tree.stop.Stop.TheVariants.{Same, Shorter, Lo
 use Rattle.art_tree.specs.declared.tree.stop.Step.{Step}
 use Rattle.art_tree.specs.declared.tree.stop.Step.TheVariants.{Down, Stops}
 
--- a front and q have so many bytes in common, and behind them the front goes on by this byte
+-- a front and q have so many bytes in common, and after them the front goes on by this byte
 pub record IsShared (front q : Bytes) (len byte : ℕ) : Type 0 where
   pub is : len ≡ length (common front q)
   pub next : len < length front → len < length q → byte ≡ slice_index_or front len 0
@@ -42,7 +42,7 @@ module _ (P : ℕ) (keys : ℕ → Option Bytes) (nodes : ℕ → Option Node) w
   IsStep n (Down child start) q = OnWay child start q × ((x : Node) × (b : ℕ) × (nodes n ≡ Some x) × (child_at x.edges b ≡ Some child))
   IsStep n (Stops stop) q = IsStop stop q
 
-  -- the child is beside the place of q, and q leaves each key below it behind so many bytes
-  pub record IsPlaceUnder (q : Bytes) (depth : ℕ) (child : Child) (is_behind : Bool) : Type 0 where
-    pub beside : IsChildBeside P keys nodes q child is_behind
-    pub leaves : (i : ℕ) (key : Bytes) → keys i ≡ Some key → Begins beside.front key → LeavesMate keys i depth q
+  -- the child is beside the place of q, and q leaves each key below it after so many bytes
+  pub record IsPlaceUnder (q : Bytes) (depth : ℕ) (child : Child) (is_after : Bool) : Type 0 where
+    pub beside : IsChildBeside P keys nodes q child is_after
+    pub leaves : (i : ℕ) (key : Bytes) → keys i ≡ Some key → Begins beside.front key → LeavesNearest keys i depth q

@@ -26,7 +26,7 @@ abbrev pub Covers : (ℕ → Option Bytes) → (ℕ → Option Node) → (ℕ �
 Covers keys nodes front_of g (Leaf i) = CoversLeaf keys g i
 Covers keys nodes front_of g (Inner n) = CoversNode keys nodes front_of g n
 
--- two keys part behind g
+-- two keys part after g
 pub record Parts (keys : ℕ → Option Bytes) (g : Bytes) : Type 0 where
   pub i : ℕ
   pub j : ℕ
@@ -52,13 +52,13 @@ abbrev pub RootFits : (ℕ → Option Bytes) → (ℕ → Option Node) → (ℕ 
 RootFits keys nodes front_of None = (j : ℕ) → keys j ≡ None
 RootFits keys nodes front_of (Some c) = Covers keys nodes front_of [] c
 
--- what the front of a node has behind that of an edge, and of it P bytes at most
-abbrev pub first_behind : ℕ → (ℕ → Bytes) → Option (ℕ × ℕ) → ℕ → Bytes
-first_behind P front_of above n = take P (drop (length (edge_front front_of above)) (front_of n))
+-- what the front of a node has after that of an edge, and of it P bytes at most
+abbrev pub kept_prefix : ℕ → (ℕ → Bytes) → Option (ℕ × ℕ) → ℕ → Bytes
+kept_prefix P front_of above n = take P (drop (length (edge_front front_of above)) (front_of n))
 
--- each node keeps what its front has behind that of an edge to it, and of it P bytes at most
+-- each node keeps what its front has after that of an edge to it, and of it P bytes at most
 abbrev pub Keeps : ℕ → (ℕ → Option Node) → Option Child → (ℕ → Bytes) → Type 0
-Keeps P nodes root front_of = (above : Option (ℕ × ℕ)) (n : ℕ) (x : Node) → LeadsTo nodes root above (Inner n) → nodes n ≡ Some x → x.prefix ≡ first_behind P front_of above n
+Keeps P nodes root front_of = (above : Option (ℕ × ℕ)) (n : ℕ) (x : Node) → LeadsTo nodes root above (Inner n) → nodes n ≡ Some x → x.prefix ≡ kept_prefix P front_of above n
 
 -- the nodes stand one to one at the fronts where two keys part, and keep P bytes of their compressed prefixes
 pub record Shape (P : ℕ) (keys : ℕ → Option Bytes) (nodes : ℕ → Option Node) (root : Option Child) : Type 0 where

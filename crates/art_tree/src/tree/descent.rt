@@ -3,7 +3,7 @@ ghost use Rattle.std.specs.Prelude.{◌≡◌, ℕ, ◌+◌, ◌<◌, ◌≤◌,
 ghost use Rattle.art_tree.specs.Begins.{Bytes};
 ghost use Rattle.art_kinds.specs.Nodes.{at};
 ghost use Rattle.art_tree.specs.Invariant.Shape.{Shape, Covers};
-ghost use Rattle.art_tree.specs.Calls.Descents.{IsSubtree, IsRoot, HasEdges, GoesToward, IsWayOf, Finds, IsEndUnder, IsMate};
+ghost use Rattle.art_tree.specs.Calls.Descents.{IsSubtree, IsRoot, HasEdges, GoesToward, IsWayOf, Finds, IsEndUnder, IsNearestLeaf};
 ghost use Rattle.art_tree.specs.Calls.Spots.{SpotFits};
 ghost use Rattle.art_kinds.specs.declared.records.ids.Child.{Child as Way};
 
@@ -63,15 +63,15 @@ pub(crate) struct Branch {
 }
 
 /// A leaf whose key goes along with the query as far as any stored key does.
-pub(crate) fn mate_of<const P: usize>(
+pub(crate) fn find_nearest<const P: usize>(
     nodes: &Nodes<P>,
     root: &Child,
     query: &[u8],
     visits: &mut Visits,
 ) -> LeafId
     requires { IsRoot P (at nodes.now) root.now }
-    ensures mate { (keys : ℕ → Option Bytes) → Shape P keys (at nodes.now) (Some root.now)
-        → IsMate keys query.now result }
+    ensures nearest { (keys : ℕ → Option Bytes) → Shape P keys (at nodes.now) (Some root.now)
+        → IsNearestLeaf keys query.now result }
     ensures counted { (keys : ℕ → Option Bytes) → Shape P keys (at nodes.now) (Some root.now)
         → (key : Bytes) → keys result ≡ Some key
         → visits.new.count ≤ visits.old.count + length key }
@@ -132,14 +132,14 @@ pub(crate) fn end_under<const P: usize>(
 pub(crate) fn locate<const P: usize>(
     nodes: &Nodes<P>,
     root: &Child,
-    mate: &[u8],
+    nearest: &[u8],
     depth: usize,
     visits: &mut Visits,
 ) -> Spot
-    requires { IsWayOf P (at nodes.now) root.now mate.now depth }
+    requires { IsWayOf P (at nodes.now) root.now nearest.now depth }
     ensures spot { (keys : ℕ → Option Bytes) (s : Shape P keys (at nodes.now) (Some root.now)) (i : ℕ)
-        → keys i ≡ Some mate.now
-        → SpotFits (at nodes.now) (Some root.now) s.front_of mate.now depth result }
+        → keys i ≡ Some nearest.now
+        → SpotFits (at nodes.now) (Some root.now) s.front_of nearest.now depth result }
     ensures counted { visits.new.count ≤ visits.old.count + depth + 1 }
     ensures grows { visits.old.count ≤ visits.new.count }
 {
@@ -158,7 +158,7 @@ pub(crate) fn locate<const P: usize>(
         if length == depth {
             return Spot::Node(above, id);
         }
-        let byte = mate[length];
+        let byte = nearest[length];
         match node.find(byte) {
             Some(child) => at = child,
             None => unreachable!(),

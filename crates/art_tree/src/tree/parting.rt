@@ -3,14 +3,14 @@ ghost use Rattle.std.specs.Prelude.{◌≡◌, ◌+◌, ◌≤◌, ℕ, length, 
 ghost use Rattle.art_tree.specs.Calls.Descents.{IsNearest};
 ghost use Rattle.art_tree.specs.Calls.Partings.{IsParting, LeavesAt, LeavesAtNode, IsEdgeBeside, IsChildBeside};
 ghost use Rattle.art_tree.specs.Begins.{Bytes};
-ghost use Rattle.art_tree.specs.Places.{IsBeside, neighbour, number_in_front};
+ghost use Rattle.art_tree.specs.Places.{IsBeside, neighbour, number_before_place};
 ghost use Rattle.art_tree.specs.Leaves.{Has, keys_in, bytes};
 ghost use Rattle.art_tree.specs.Longest.{longest};
 ghost use Rattle.art_kinds.specs.Nodes.{at};
 ghost use Rattle.art_tree.specs.Invariant.Sound.{IsSound};
 
 use crate::lists::common_len;
-use crate::tree::descent::{Spot, end_under, locate, mate_of};
+use crate::tree::descent::{Spot, end_under, find_nearest, locate};
 use art_kinds::{Child, Edge, NodeId, Nodes};
 use art_rows::{Leaves, Position};
 use art_slots::{LeafId, Visits};
@@ -26,14 +26,14 @@ pub(crate) enum Parting {
     // The query ends first: this child stands for the keys that begin with it.
     Longer(Child),
     // Both go on, by different bytes. No stored key is related to the query.
-    Apart(Departure),
+    Apart(Mismatch),
 }
 
-/// Where a query leaves a stored key, the mate, and no key goes along with it any further.
+/// Where a query leaves a stored key, the nearest one, and no key goes along with it any further.
 #[derive(Clone, Copy)]
-pub(crate) struct Departure {
-    pub(crate) mate: LeafId,
-    // So many bytes are the same, and by this one the mate goes on.
+pub(crate) struct Mismatch {
+    pub(crate) nearest: LeafId,
+    // So many bytes are the same, and by this one the nearest key goes on.
     pub(crate) depth: usize,
     pub(crate) byte: u8,
     pub(crate) spot: Spot,
@@ -54,7 +54,7 @@ pub(crate) fn nearest_leaf<'a, K: AsBytes, V, const P: usize>(
         ≤ visits.old.count + longest (bytes K.bytes) leaves.now.pairs + 1 }
     ensures grows { visits.old.count ≤ visits.new.count }
 {
-    let id = mate_of(nodes, root, query, visits);
+    let id = find_nearest(nodes, root, query, visits);
     let (key, _) = leaves.read(id, visits);
     let key = key.as_bytes();
     (id, key, common_len(key, query))
@@ -74,12 +74,12 @@ pub(crate) fn parting_of<K: AsBytes, V, const P: usize>(
         ≤ visits.old.count + longest (bytes K.bytes) leaves.now.pairs + length query.now + 2 }
     ensures grows { visits.old.count ≤ visits.new.count }
 {
-    let (mate, key, depth) = nearest_leaf(leaves, nodes, root, query, visits);
+    let (nearest, key, depth) = nearest_leaf(leaves, nodes, root, query, visits);
     if depth == key.len() {
         return if depth == query.len() {
-            Parting::Same(mate)
+            Parting::Same(nearest)
         } else {
-            Parting::Shorter(mate)
+            Parting::Shorter(nearest)
         };
     }
     let spot = locate(nodes, root, key, depth, visits);
@@ -87,19 +87,19 @@ pub(crate) fn parting_of<K: AsBytes, V, const P: usize>(
         return Parting::Longer(spot.child());
     }
     let byte = key[depth];
-    Parting::Apart(Departure {
-        mate,
+    Parting::Apart(Mismatch {
+        nearest,
         depth,
         byte,
         spot,
     })
 }
 
-/// A leaf beside a place: the place is behind it, or in front of it.
+/// A leaf beside a place: the place is after it, or before it.
 #[derive(Clone, Copy)]
 pub(crate) enum Beside {
-    Behind(LeafId),
-    InFront(LeafId),
+    AfterLeaf(LeafId),
+    BeforeLeaf(LeafId),
 }
 
 /// The leaf before a place, and where that may stand.
@@ -108,11 +108,11 @@ pub(crate) fn leaf_before<K: AsBytes, V>(
     beside: &Beside,
 ) -> (Option<LeafId>, Position)
     requires { Has leaves.now.pairs (neighbour beside.now) }
-    ensures { result.0 ≡ number_in_front leaves.now.pairs beside.now }
+    ensures { result.0 ≡ number_before_place leaves.now.pairs beside.now }
 {
     match beside {
-        Beside::Behind(id) => (Some(*id), Position::unknown()),
-        Beside::InFront(id) => {
+        Beside::AfterLeaf(id) => (Some(*id), Position::unknown()),
+        Beside::BeforeLeaf(id) => {
             let mut seen = Position::unknown();
             let prev = leaves.prev_from(*id, &mut seen);
             (prev, seen)
@@ -123,51 +123,51 @@ pub(crate) fn leaf_before<K: AsBytes, V>(
 /// A leaf beside the place of a query that leaves a stored key.
 pub(crate) fn leaf_beside<const P: usize>(
     nodes: &Nodes<P>,
-    departure: &Departure,
+    mismatch: &Mismatch,
     query: &[u8],
     visits: &mut Visits,
 ) -> Beside
-    requires { (keys : ℕ → Option Bytes) × LeavesAt P keys (at nodes.now) departure.now query.now }
-    ensures beside { (keys : ℕ → Option Bytes) → LeavesAt P keys (at nodes.now) departure.now query.now
+    requires { (keys : ℕ → Option Bytes) × LeavesAt P keys (at nodes.now) mismatch.now query.now }
+    ensures beside { (keys : ℕ → Option Bytes) → LeavesAt P keys (at nodes.now) mismatch.now query.now
         → IsBeside keys query.now result }
-    ensures counted { (keys : ℕ → Option Bytes) → LeavesAt P keys (at nodes.now) departure.now query.now
+    ensures counted { (keys : ℕ → Option Bytes) → LeavesAt P keys (at nodes.now) mismatch.now query.now
         → (key : Bytes) → keys (neighbour result) ≡ Some key
         → visits.new.count ≤ visits.old.count + length key + 1 }
     ensures grows { visits.old.count ≤ visits.new.count }
 {
-    let (child, is_behind) = child_beside(nodes, departure, query, visits);
-    let end = end_under(nodes, &child, !is_behind, visits);
-    if is_behind {
-        Beside::Behind(end)
+    let (child, is_after) = child_beside(nodes, mismatch, query, visits);
+    let end = end_under(nodes, &child, !is_after, visits);
+    if is_after {
+        Beside::AfterLeaf(end)
     } else {
-        Beside::InFront(end)
+        Beside::BeforeLeaf(end)
     }
 }
 
-// A child beside the place of a query, and whether the place is behind it.
+// A child beside the place of a query, and whether the place is after it.
 fn child_beside<const P: usize>(
     nodes: &Nodes<P>,
-    departure: &Departure,
+    mismatch: &Mismatch,
     query: &[u8],
     visits: &mut Visits,
 ) -> (Child, bool)
-    requires { (keys : ℕ → Option Bytes) × LeavesAt P keys (at nodes.now) departure.now query.now }
-    ensures beside { (keys : ℕ → Option Bytes) → LeavesAt P keys (at nodes.now) departure.now query.now
+    requires { (keys : ℕ → Option Bytes) × LeavesAt P keys (at nodes.now) mismatch.now query.now }
+    ensures beside { (keys : ℕ → Option Bytes) → LeavesAt P keys (at nodes.now) mismatch.now query.now
         → IsChildBeside P keys (at nodes.now) query.now result.0 result.1 }
     ensures counted { visits.new.count ≤ visits.old.count + 1 }
     ensures grows { visits.old.count ≤ visits.new.count }
 {
-    let byte = query[departure.depth];
-    match &departure.spot {
+    let byte = query[mismatch.depth];
+    match &mismatch.spot {
         Spot::Node(_, id) => {
-            let (edge, is_behind) = edge_beside(nodes, id, byte, visits);
-            (edge.to, is_behind)
+            let (edge, is_after) = edge_beside(nodes, id, byte, visits);
+            (edge.to, is_after)
         }
-        Spot::Edge(_, child) => (*child, departure.byte < byte),
+        Spot::Edge(_, child) => (*child, mismatch.byte < byte),
     }
 }
 
-/// The edge beside a byte that a node lacks, and whether the byte is behind it. Of two, the one before: keys that come in order have none after.
+/// The edge beside a byte that a node lacks, and whether the byte is after it. Of two, the one before: keys that come in order have none after.
 pub(crate) fn edge_beside<const P: usize>(
     nodes: &Nodes<P>,
     id: &NodeId,

@@ -5,7 +5,7 @@ ghost use Rattle.art_tree.specs.Invariant.Shape.{Shape};
 ghost use Rattle.art_tree.specs.Calls.Spots.{SpotFits};
 ghost use Rattle.art_tree.specs.Invariant.EdgesAbove.{LeadsTo, TurnsTo};
 ghost use Rattle.art_tree.specs.Content.{Fits, IsOpen, room as places};
-ghost use Rattle.art_tree.specs.Calls.Placing.{IsSpotFor, HasMate, IsOverLeaf, TreeGains, Forks, DepthWithin, KeepsFrom, Places, content_of};
+ghost use Rattle.art_tree.specs.Calls.Placing.{IsSpotFor, HasNearest, IsOverLeaf, TreeGains, Forks, DepthWithin, KeepsFrom, Places, content_of};
 ghost use Rattle.art_kinds.specs.Nodes.{at, room, FitsNew, SameSpares};
 ghost use Rattle.art_tree.specs.Leaves.{room as leaves_room};
 ghost use Rattle.art_tree.specs.Calls.Removing.{StartsBelow, EndsBelow, Cuts};
@@ -21,12 +21,12 @@ use art_rows::{Leaves, Position};
 use art_slots::{LeafId, Visits};
 use blart_keys::AsBytes;
 
-// A leaf that joins the tree. Its key leaves that of another, the mate, at this depth.
+// A leaf that joins the tree. Its key leaves that of another, the nearest one, at this depth.
 #[derive(Clone, Copy)]
 struct NewLeaf<'a> {
     id: LeafId,
     key: &'a [u8],
-    mate: &'a [u8],
+    nearest: &'a [u8],
     depth: usize,
 }
 
@@ -97,46 +97,46 @@ fn place_beside<K: AsBytes + Drop, V: Drop, const P: usize>(
 {
     leaves.law();
     let mut visits = Visits::new();
-    let (mate, _) = leaves.read(place.mate, &mut visits);
-    let spot = spot_for(nodes, root, place, mate.as_bytes());
+    let (nearest, _) = leaves.read(place.nearest, &mut visits);
+    let spot = spot_for(nodes, root, place, nearest.as_bytes());
     let (prev, seen) = leaf_before(leaves, &place.beside);
     let id = leaves.insert(prev, seen, key, value);
     let (own, _) = leaves.read(id, &mut visits);
-    let (mate, _) = leaves.read(place.mate, &mut visits);
+    let (nearest, _) = leaves.read(place.nearest, &mut visits);
     let leaf = NewLeaf {
         id,
         key: own.as_bytes(),
-        mate: mate.as_bytes(),
+        nearest: nearest.as_bytes(),
         depth: place.depth,
     };
     let top = add_leaf(nodes, root, &spot, &leaf);
     (id, top)
 }
 
-// Where a key leaves the mate's at the depth of a place: at the end of the place's edge, where that shows, or else at the end of a way down.
-fn spot_for<const P: usize>(nodes: &Nodes<P>, root: &Child, place: &Place, mate: &[u8]) -> Spot
-    requires { HasMate P (at nodes.now) root.now place.now mate.now }
+// Where a key leaves the nearest key at the depth of a place: at the end of the place's edge, where that shows, or else at the end of a way down.
+fn spot_for<const P: usize>(nodes: &Nodes<P>, root: &Child, place: &Place, nearest: &[u8]) -> Spot
+    requires { HasNearest P (at nodes.now) root.now place.now nearest.now }
     ensures { (keys : ℕ → Option Bytes) (s : Shape P keys (at nodes.now) (Some root.now))
-        → keys place.now.mate ≡ Some mate.now
-        → SpotFits (at nodes.now) (Some root.now) s.front_of mate.now place.now.depth result }
+        → keys place.now.nearest ≡ Some nearest.now
+        → SpotFits (at nodes.now) (Some root.now) s.front_of nearest.now place.now.depth result }
 {
     match spot_shown(nodes, root, place) {
         Some(spot) => spot,
-        None => locate(nodes, root, mate, place.depth, &mut Visits::new()),
+        None => locate(nodes, root, nearest, place.depth, &mut Visits::new()),
     }
 }
 
-// The spot at the end of a place's edge, where the mate's leaf is at hand to show it.
+// The spot at the end of a place's edge, where the nearest leaf is at hand to show it.
 fn spot_shown<const P: usize>(nodes: &Nodes<P>, root: &Child, place: &Place) -> Option<Spot>
     ensures { IfSome result (λ spot. (keys : ℕ → Option Bytes)
-        (s : Shape P keys (at nodes.now) (Some root.now)) (mate : Bytes)
-        → keys place.now.mate ≡ Some mate → place.now.depth ≤ length mate
-        → SpotFits (at nodes.now) (Some root.now) s.front_of mate place.now.depth spot) }
+        (s : Shape P keys (at nodes.now) (Some root.now)) (nearest : Bytes)
+        → keys place.now.nearest ≡ Some nearest → place.now.depth ≤ length nearest
+        → SpotFits (at nodes.now) (Some root.now) s.front_of nearest place.now.depth spot) }
 {
     let child = child_by(nodes, root, &place.above)?;
     match child {
         Child::Leaf(id) => {
-            if id != place.mate {
+            if id != place.nearest {
                 return None;
             }
             if !is_within(nodes, &place.above, place.depth) {
@@ -145,7 +145,7 @@ fn spot_shown<const P: usize>(nodes: &Nodes<P>, root: &Child, place: &Place) -> 
             Some(Spot::Edge(place.above, Child::Leaf(id)))
         }
         Child::Inner(id) => {
-            if !is_over_mate(nodes, &id, place) {
+            if !is_over_nearest(nodes, &id, place) {
                 return None;
             }
             Some(Spot::Node(place.above, id))
@@ -181,10 +181,10 @@ fn is_within<const P: usize>(nodes: &Nodes<P>, above: &EdgeAbove, depth: usize) 
     }
 }
 
-// Whether a node is as deep as a place and has the mate below the place's byte.
-fn is_over_mate<const P: usize>(nodes: &Nodes<P>, id: &NodeId, place: &Place) -> bool
+// Whether a node is as deep as a place and has the nearest key below the place's byte.
+fn is_over_nearest<const P: usize>(nodes: &Nodes<P>, id: &NodeId, place: &Place) -> bool
     ensures { result ≡ true
-        → IsOverLeaf (at nodes.now) id.now place.now.depth place.now.byte place.now.mate }
+        → IsOverLeaf (at nodes.now) id.now place.now.depth place.now.byte place.now.nearest }
 {
     if !nodes.has(*id) {
         return false;
@@ -197,12 +197,12 @@ fn is_over_mate<const P: usize>(nodes: &Nodes<P>, id: &NodeId, place: &Place) ->
         return false;
     };
     match child {
-        Child::Leaf(leaf) => leaf == place.mate,
+        Child::Leaf(leaf) => leaf == place.nearest,
         Child::Inner(_) => false,
     }
 }
 
-// Adds a leaf where its key leaves the mate's. Answers the root.
+// Adds a leaf where its key leaves the nearest key. Answers the root.
 fn add_leaf<const P: usize>(
     nodes: &mut Nodes<P>,
     root: &Child,
@@ -210,10 +210,10 @@ fn add_leaf<const P: usize>(
     leaf: &NewLeaf<'_>,
 ) -> Child
     requires spot_fits { IsSpotFor P (at nodes.old) root.now spot.now
-        leaf.now.key.now leaf.now.mate.now leaf.now.depth }
+        leaf.now.key.now leaf.now.nearest.now leaf.now.depth }
     requires fits { 0 < room nodes.old }
     ensures gains { TreeGains P (at nodes.old) (at nodes.new) root.now result
-        spot.now leaf.now.key.now leaf.now.mate.now leaf.now.depth leaf.now.id }
+        spot.now leaf.now.key.now leaf.now.nearest.now leaf.now.depth leaf.now.id }
     ensures room { room nodes.old ≤ room nodes.new + 1 }
 {
     match spot {
@@ -231,10 +231,10 @@ fn add_at_node<const P: usize>(
     leaf: &NewLeaf<'_>,
 ) -> Child
     requires spot_fits { IsSpotFor P (at nodes.old) root.now
-        (Spot.Node above.now node.now) leaf.now.key.now leaf.now.mate.now leaf.now.depth }
+        (Spot.Node above.now node.now) leaf.now.key.now leaf.now.nearest.now leaf.now.depth }
     requires fits { 0 < room nodes.old }
     ensures gains { TreeGains P (at nodes.old) (at nodes.new) root.now result
-        (Spot.Node above.now node.now) leaf.now.key.now leaf.now.mate.now leaf.now.depth leaf.now.id }
+        (Spot.Node above.now node.now) leaf.now.key.now leaf.now.nearest.now leaf.now.depth leaf.now.id }
     ensures room { room nodes.old ≤ room nodes.new + 1 }
 {
     let wide = nodes.widen(*node);
@@ -252,16 +252,16 @@ fn add_at_edge<const P: usize>(
     leaf: &NewLeaf<'_>,
 ) -> Child
     requires spot_fits { IsSpotFor P (at nodes.old) root.now
-        (Spot.Edge above.now child.now) leaf.now.key.now leaf.now.mate.now leaf.now.depth }
+        (Spot.Edge above.now child.now) leaf.now.key.now leaf.now.nearest.now leaf.now.depth }
     requires fits { FitsNew nodes.old }
     ensures gains { TreeGains P (at nodes.old) (at nodes.new) root.now result
-        (Spot.Edge above.now child.now) leaf.now.key.now leaf.now.mate.now leaf.now.depth leaf.now.id }
+        (Spot.Edge above.now child.now) leaf.now.key.now leaf.now.nearest.now leaf.now.depth leaf.now.id }
     ensures room { room nodes.old ≤ room nodes.new + 1 }
 {
     let depth = leaf.depth;
     let start = start_below(nodes, above);
-    let byte = byte_on(nodes, child, leaf.mate, start, depth);
-    cut_prefix(nodes, child, leaf.mate, start, depth + 1);
+    let byte = byte_on(nodes, child, leaf.nearest, start, depth);
+    cut_prefix(nodes, child, leaf.nearest, start, depth + 1);
     let own = Edge {
         byte: leaf.key[depth],
         to: Child::Leaf(leaf.id),
@@ -335,7 +335,7 @@ pub(crate) fn byte_on<const P: usize>(
     requires live { DepthWithin (at nodes.now) child.now (depth + 1) (length key.now) }
     requires long { depth < length key.now }
     requires kept { KeepsFrom P (at nodes.now) child.now key.now from }
-    requires behind { from ≤ depth }
+    requires reaches { from ≤ depth }
     ensures { result ≡ slice_index_or key.now depth 0 }
 {
     match child {
@@ -360,7 +360,7 @@ pub(crate) fn cut_prefix<const P: usize>(
 )
     requires live { DepthWithin (at nodes.old) child.now start (length key.now) }
     requires kept { KeepsFrom P (at nodes.old) child.now key.now from }
-    requires behind { from ≤ start }
+    requires reaches { from ≤ start }
     ensures cut { Cuts (at nodes.old) (at nodes.new) child.now
         (λ end. take P (slice_range key.now start end)) }
     ensures spares { SameSpares nodes.old nodes.new }

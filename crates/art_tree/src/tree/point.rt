@@ -1,7 +1,7 @@
 //! Where some bytes stand in a tree, or would go.
 ghost use Rattle.std.specs.Prelude.{◌≡◌, ℕ, Option, Some};
 ghost use Rattle.art_tree.specs.Begins.{Bytes};
-ghost use Rattle.art_tree.specs.Places.{LeavesMate, IsBeside};
+ghost use Rattle.art_tree.specs.Places.{LeavesNearest, IsBeside};
 ghost use Rattle.art_tree.specs.Calls.Stops.{IsPlaceUnder};
 ghost use Rattle.art_kinds.specs.Nodes.{at};
 ghost use Rattle.art_tree.specs.Points.{IsGood};
@@ -19,10 +19,10 @@ use blart_keys::AsBytes;
 #[derive(Clone, Copy)]
 pub struct Place {
     // A leaf whose key goes along with the bytes for `depth` bytes. No key goes on as they do.
-    pub(crate) mate: LeafId,
+    pub(crate) nearest: LeafId,
     pub(crate) depth: usize,
     pub(crate) beside: Beside,
-    // The edge over the place, as long as it leads there, and the byte of an edge to the mate.
+    // The edge over the place, as long as it leads there, and the byte of an edge to the nearest leaf.
     pub(crate) above: EdgeAbove,
     pub(crate) byte: u8,
 }
@@ -69,8 +69,8 @@ pub(crate) fn point_below<K: AsBytes, V, const P: usize>(
             last: end_under(nodes, &child, false, &mut visits),
         },
         Stop::AtNode(id, depth) => {
-            let (edge, is_behind) = edge_beside(nodes, &id, query[depth], &mut visits);
-            Point::Free(place_under(nodes, &edge, is_behind, depth, &above))
+            let (edge, is_after) = edge_beside(nodes, &id, query[depth], &mut visits);
+            Point::Free(place_under(nodes, &edge, is_after, depth, &above))
         }
         Stop::AtEdge(child, depth, byte) => {
             let edge = Edge { byte, to: child };
@@ -79,37 +79,37 @@ pub(crate) fn point_below<K: AsBytes, V, const P: usize>(
     }
 }
 
-// The place beside an edge: behind the keys below it, or in front of them.
+// The place beside an edge: after the keys below it, or before them.
 fn place_under<const P: usize>(
     nodes: &Nodes<P>,
     edge: &Edge,
-    is_behind: bool,
+    is_after: bool,
     depth: usize,
     above: &EdgeAbove,
 ) -> Place
     requires { (keys : ℕ → Option Bytes) × (q : Bytes)
-        × IsPlaceUnder P keys (at nodes.now) q depth edge.now.to is_behind }
+        × IsPlaceUnder P keys (at nodes.now) q depth edge.now.to is_after }
     ensures leaves { (keys : ℕ → Option Bytes) (q : Bytes)
-        → IsPlaceUnder P keys (at nodes.now) q depth edge.now.to is_behind
-        → LeavesMate keys result.mate result.depth q }
+        → IsPlaceUnder P keys (at nodes.now) q depth edge.now.to is_after
+        → LeavesNearest keys result.nearest result.depth q }
     ensures beside { (keys : ℕ → Option Bytes) (q : Bytes)
-        → IsPlaceUnder P keys (at nodes.now) q depth edge.now.to is_behind
+        → IsPlaceUnder P keys (at nodes.now) q depth edge.now.to is_after
         → IsBeside keys q result.beside }
 {
-    let mate = end_under(nodes, &edge.to, !is_behind, &mut Visits::new());
-    if is_behind {
+    let nearest = end_under(nodes, &edge.to, !is_after, &mut Visits::new());
+    if is_after {
         Place {
-            mate,
+            nearest,
             depth,
-            beside: Beside::Behind(mate),
+            beside: Beside::AfterLeaf(nearest),
             above: *above,
             byte: edge.byte,
         }
     } else {
         Place {
-            mate,
+            nearest,
             depth,
-            beside: Beside::InFront(mate),
+            beside: Beside::BeforeLeaf(nearest),
             above: *above,
             byte: edge.byte,
         }

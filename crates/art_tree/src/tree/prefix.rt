@@ -11,8 +11,8 @@ ghost use Rattle.art_kinds.specs.Nodes.{at};
 
 use crate::tree::Tree;
 use crate::tree::descent::Branch;
+use crate::tree::free_subtree::free_subtree;
 use crate::tree::seek::branch_below;
-use crate::tree::uproot::uproot;
 use art_kinds::{Child, Nodes};
 use art_rows::Leaves;
 use art_slots::{LeafId, Visits};
@@ -68,7 +68,7 @@ fn prune<K: AsBytes + Drop, V: Drop, const P: usize>(
     ensures rest { outside (bytes K.bytes) leaves.new.pairs prefix.now
         ≡ outside (bytes K.bytes) leaves.old.pairs prefix.now }
 {
-    let root = uproot(nodes, root, &branch.above, &branch.child, &branch.last);
+    let root = free_subtree(nodes, root, &branch.above, &branch.child, &branch.last);
     remove_leaves(leaves, branch.first, branch.last, prefix);
     leaves.law();
     root

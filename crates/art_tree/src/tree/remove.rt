@@ -5,7 +5,7 @@ ghost use Rattle.art_tree.specs.Invariant.EdgesAbove.{LeadsTo, edge_front};
 ghost use Rattle.art_tree.specs.Begins.{Bytes};
 ghost use Rattle.art_tree.specs.Leaves.{leaf_in, Has, OthersStand, without_number, keys_in, bytes};
 ghost use Rattle.art_kinds.specs.Nodes.{at};
-ghost use Rattle.art_tree.specs.Calls.Removing.{Loses, IsLeafOf, IsChildBelow, OtherEdge, CutsBehind, Merged};
+ghost use Rattle.art_tree.specs.Calls.Removing.{Loses, IsLeafOf, IsChildBelow, OtherEdge, CutsAfter, Merged};
 ghost use Rattle.art_tree.specs.Calls.Spots.{IsLeafSpot};
 ghost use Rattle.art_tree.specs.Invariant.Shape.{Shape};
 ghost use Rattle.art_tree.specs.Invariant.Sound.{IsSound};
@@ -227,7 +227,7 @@ fn join_child<const P: usize>(nodes: &mut Nodes<P>, node: &NodeId, edge: &Edge)
         × IsChildBelow P keys (at nodes.old) above node.now edge.now }
     ensures { (keys : ℕ → Option Bytes) (above : Option (ℕ × ℕ))
         (h : IsChildBelow P keys (at nodes.old) above node.now edge.now)
-        → CutsBehind P (at nodes.old) (at nodes.new) h.shape.front_of
+        → CutsAfter P (at nodes.old) (at nodes.new) h.shape.front_of
         (edge_front h.shape.front_of above) edge.now.to }
 {
     match edge.to {

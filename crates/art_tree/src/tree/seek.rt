@@ -68,12 +68,12 @@ impl<K: AsBytes + Drop, V: Drop, const PREFIX_LEN: usize> Tree<K, V, PREFIX_LEN>
         }
     }
 
-    // The leaf on one side of a place: behind it, or before.
-    fn side_of(&self, prev: Option<LeafId>, is_behind: bool) -> Option<LeafId>
+    // The leaf on one side of a place: after it, or before.
+    fn side_of(&self, prev: Option<LeafId>, is_after: bool) -> Option<LeafId>
         requires { IfSome prev (Has self.now.pairs) }
-        ensures { result ≡ beside prev self.now.pairs is_behind }
+        ensures { result ≡ beside prev self.now.pairs is_after }
     {
-        if !is_behind {
+        if !is_after {
             return prev;
         }
         match prev {
@@ -121,8 +121,8 @@ fn place_below<K: AsBytes, V, const P: usize>(
             let first = end_under(nodes, &child, true, visits);
             Err(leaves.prev_of(first))
         }
-        Parting::Apart(departure) => {
-            let beside = leaf_beside(nodes, &departure, query, visits);
+        Parting::Apart(mismatch) => {
+            let beside = leaf_beside(nodes, &mismatch, query, visits);
             Err(leaf_before(leaves, &beside).0)
         }
     }

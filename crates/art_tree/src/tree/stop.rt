@@ -6,7 +6,7 @@ ghost use Rattle.art_kinds.specs.Nodes.{at};
 ghost use Rattle.art_tree.specs.Invariant.Sound.{IsSound};
 ghost use Rattle.art_kinds.specs.declared.records.ids.Child.TheVariants.{Leaf, Inner};
 
-use crate::lists::{common_len, common_len_behind};
+use crate::lists::{common_len, common_len_after};
 use crate::tree::descent::{EdgeAbove, end_under};
 use art_kinds::{Child, NodeId, Nodes};
 use art_rows::Leaves;
@@ -22,9 +22,9 @@ pub(crate) enum Stop {
     Shorter(LeafId),
     // The query ends first: this child stands for the keys that begin with it.
     Longer(Child),
-    // The query leaves the keys at this node, behind so many bytes.
+    // The query leaves the keys at this node, after so many bytes.
     AtNode(NodeId, usize),
-    // The query leaves the keys of this child behind so many bytes, where they go on by this byte.
+    // The query leaves the keys of this child after so many bytes, where they go on by this byte.
     AtEdge(Child, usize, u8),
 }
 
@@ -101,7 +101,7 @@ fn stop_at_leaf<K: AsBytes, V, const P: usize>(
     let _nodes = nodes;
     let (key, _) = leaves.read(id, &mut Visits::new());
     let key = key.as_bytes();
-    let depth = start + common_len_behind(key, query, start);
+    let depth = start + common_len_after(key, query, start);
     if depth == key.len() {
         return if depth == query.len() {
             Stop::Same(id)
@@ -189,7 +189,7 @@ fn shared_below<K: AsBytes, V, const P: usize>(
     let leaf = end_under(nodes, &Child::Inner(id), true, &mut visits);
     let (key, _) = leaves.read(leaf, &mut visits);
     let front = &key.as_bytes()[..depth];
-    let len = start + common_len_behind(front, query, start);
+    let len = start + common_len_after(front, query, start);
     let byte = if len < depth { front[len] } else { 0 };
     Shared { len, byte }
 }

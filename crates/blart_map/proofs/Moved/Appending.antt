@@ -15,9 +15,9 @@ use Rattle.blart_keys.proofs.PutLemmas.{put_member, member_put}
 use Rattle.blart_map.specs.Bulk.{or_else}
 
 module _ {X : Type 0} (bytes : X → List ℕ) where
-  -- nothing has the bytes of an item that comes behind
-  pub fresh_behind : (A B : List X) (x : X) → IsContent bytes (A ++ x ∷ B) → stores bytes A (bytes x) ≡ false
-  fresh_behind A B x c = false_from_ne_true _ (λ t.
+  -- nothing has the bytes of an item that comes after
+  pub fresh_after : (A B : List X) (x : X) → IsContent bytes (A ++ x ∷ B) → stores bytes A (bytes x) ≡ false
+  fresh_after A B x c = false_from_ne_true _ (λ t.
       let r = stores_found bytes A (bytes x) t in
       let b : Before bytes r.0 x = Ranked-across (Before bytes) A (x ∷ B) (Ranked-from_content bytes (A ++ x ∷ B) c) r.0 x r.1 (inl refl) in
       PartsBelow-irrefl (bytes x) (subst (λ q. PartsBelow q (bytes x)) r.2 b))

@@ -18,9 +18,9 @@ module _ {K V : Type 0} (kb : K → List ℕ) (is_key : K → K → Type 0) (is_
     | inr n ↦ let r = clone_of done copy a.1 z n in (r.0, inr r.1, r.2)
   ]
 
-  -- the clone of the next pair goes behind all
-  pub clone_behind : (done rest copy : List (K × V)) (x y : K × V) → IsContent (pair_bytes kb) (done ++ x ∷ rest) → AreClones kb is_key is_value done copy → kb y.0 ≡ kb x.0 → (z : K × V) → Member z copy → Before (pair_bytes kb) z y
-  clone_behind done rest copy x y c a e z m =
+  -- the clone of the next pair goes after all
+  pub clone_after : (done rest copy : List (K × V)) (x y : K × V) → IsContent (pair_bytes kb) (done ++ x ∷ rest) → AreClones kb is_key is_value done copy → kb y.0 ≡ kb x.0 → (z : K × V) → Member z copy → Before (pair_bytes kb) z y
+  clone_after done rest copy x y c a e z m =
       let r = clone_of done copy a z m in
       let b : PartsBelow (kb r.0.0) (kb x.0) = Ranked-across (Before (pair_bytes kb)) done (x ∷ rest) (Ranked-from_content (pair_bytes kb) (done ++ x ∷ rest) c) r.0 x r.1 (inl refl) in
       subst₂ PartsBelow (sym r.2) (sym e) b

@@ -17,39 +17,39 @@ first_moved bytes all moved ps rest id x content whole is named left =
     (w, subst (IsContent bytes) w content)
 
 module _ {X : Type 0} (bytes : X → List ℕ) where
-  -- ---- an item in front of all
+  -- ---- an item before all
 
   module _ (A B : List X) (x : X) (c : IsContent bytes (A ++ x ∷ B)) where
-    pub ahead : (y : X) → Member y B → Before bytes x y
-    ahead y m = Ranked-across (Before bytes) (x ∷ []) B (Ranked-right (Before bytes) A (x ∷ B) (Ranked-from_content bytes (A ++ x ∷ B) c)) x y (inl refl) m
+    pub before_others : (y : X) → Member y B → Before bytes x y
+    before_others y m = Ranked-across (Before bytes) (x ∷ []) B (Ranked-right (Before bytes) A (x ∷ B) (Ranked-from_content bytes (A ++ x ∷ B) c)) x y (inl refl) m
 
-    pub ahead_unrelated : (y : X) → Member y B → related (bytes y) (bytes x) ≡ false
-    ahead_unrelated y m = unrelated_back (bytes x) (bytes y) (related-from_PartsBelow (bytes x) (bytes y) (ahead y m))
+    pub before_unrelated : (y : X) → Member y B → related (bytes y) (bytes x) ≡ false
+    before_unrelated y m = unrelated_back (bytes x) (bytes y) (related-from_PartsBelow (bytes x) (bytes y) (before_others y m))
 
     -- put, it is the first
     pub put_front : (U : List X) → IsPut bytes B x U → U ≡ x ∷ B
     put_front U put =
         let rest : IsContent bytes B = content_from_Ranked bytes B (Ranked-right (Before bytes) (x ∷ []) B (Ranked-right (Before bytes) A (x ∷ B) (Ranked-from_content bytes (A ++ x ∷ B) c))) in
-        put_unique bytes B U (x ∷ B) x put (put_between bytes [] B x rest (λ y m. absurd m) ahead)
+        put_unique bytes B U (x ∷ B) x put (put_between bytes [] B x rest (λ y m. absurd m) before_others)
 
-  -- ---- an item behind others
+  -- ---- an item after others
 
   -- the items before it are a content
   pub low_content : (A B : List X) → IsContent bytes (A ++ B) → IsContent bytes A
   low_content A B c = content_from_Ranked bytes A (Ranked-left (Before bytes) A B (Ranked-from_content bytes (A ++ B) c))
 
   -- and each is less
-  pub low_behind : (A B : List X) (x : X) → IsContent bytes (A ++ x ∷ B) → (y : X) → Member y A → Before bytes y x
-  low_behind A B x c y m = Ranked-across (Before bytes) A (x ∷ B) (Ranked-from_content bytes (A ++ x ∷ B) c) y x m (inl refl)
+  pub low_after : (A B : List X) (x : X) → IsContent bytes (A ++ x ∷ B) → (y : X) → Member y A → Before bytes y x
+  low_after A B x c y m = Ranked-across (Before bytes) A (x ∷ B) (Ranked-from_content bytes (A ++ x ∷ B) c) y x m (inl refl)
 
-  -- ---- an item behind all
+  -- ---- an item after all
 
-  module _ (A : List X) (x : X) (c : IsContent bytes A) (behind : (y : X) → Member y A → Before bytes y x) where
-    pub behind_unrelated : (y : X) → Member y A → related (bytes y) (bytes x) ≡ false
-    behind_unrelated y m = related-from_PartsBelow (bytes y) (bytes x) (behind y m)
+  module _ (A : List X) (x : X) (c : IsContent bytes A) (after : (y : X) → Member y A → Before bytes y x) where
+    pub after_unrelated : (y : X) → Member y A → related (bytes y) (bytes x) ≡ false
+    after_unrelated y m = related-from_PartsBelow (bytes y) (bytes x) (after y m)
 
     -- put, it is the last
     pub put_back : (U : List X) → IsPut bytes A x U → U ≡ A ++ x ∷ []
     put_back U put =
         let none = append-nil A in
-        put_unique bytes A U (A ++ x ∷ []) x put (subst (λ S. IsPut bytes S x (A ++ x ∷ [])) none (put_between bytes A [] x (subst (IsContent bytes) (sym none) c) behind (λ y m. absurd m)))
+        put_unique bytes A U (A ++ x ∷ []) x put (subst (λ S. IsPut bytes S x (A ++ x ∷ [])) none (put_between bytes A [] x (subst (IsContent bytes) (sym none) c) after (λ y m. absurd m)))

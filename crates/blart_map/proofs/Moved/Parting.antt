@@ -12,7 +12,7 @@ use Rattle.blart_keys.proofs.PartLemmas.{less-trans}
 use Rattle.blart_keys.proofs.MergeLemmas.{Lower}
 use Rattle.blart_keys.proofs.RankLemmas.{each_member, filter_none, filter_all, Ranked, Ranked-from_AllPairs}
 
--- two ways to part a list, with as many items behind, are one
+-- two ways to part a list, with as many items after the cut, are one
 same_parts : {X : Type 0} (A B C D : List X) → A ++ B ≡ C ++ D → length A ≡ length C → (A ≡ C) × (B ≡ D)
 same_parts [] B [] D e l = (refl, e)
 same_parts [] B (z ∷ C) D e l = absurd (omega arith)
@@ -48,7 +48,7 @@ module _ {X : Type 0} (bytes : X → List ℕ) (q : List ℕ) where
         sym (ap (λ l. l ++ from (x ∷ S)) none ∙ all)
   ]
 
-  -- a content cut in two, with as many behind as are not below the bytes
+  -- a content cut in two, with as many after the cut as are not below the bytes
   pub parted : (S A B : List X) → IsContent bytes S → S ≡ A ++ B → length B ≡ length (between bytes S (Included q) Unbounded) → (A ≡ between bytes S Unbounded (Excluded q)) × (B ≡ between bytes S (Included q) Unbounded)
   unfolding below from
   parted S A B c e l =

@@ -40,7 +40,7 @@ none_of : {X : Type 0} (o : Option X) → is_some o ≡ false → o ≡ None
 none_of None h = refl
 none_of (Some x) h = absurd (false≢true (sym h))
 
--- the same of the pairs behind numbers, where the removal names the bytes
+-- the same of the pairs under numbers, where the removal names the bytes
 pub taken_back_at : {K V : Type 0} (kb : K → List ℕ) (ps : List (Numbered K V)) (content : IsContent (leaf_bytes kb) ps) (k : K) (w : V) → stores (leaf_bytes kb) ps (kb k) ≡ false → (S : List (K × V)) → IsPut (bytes kb) (pairs_of ps) (k, w) S
     → (q : List ℕ) → q ≡ kb k → (T : List (K × V)) → T ≡ without (bytes kb) S q → T ≡ pairs_of ps
 taken_back_at kb ps content k w absent S put q same T gone =

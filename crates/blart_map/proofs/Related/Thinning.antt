@@ -32,7 +32,7 @@ module _ {K V : Type 0} (kb : K → List ℕ) (ps : List (Numbered K V)) (conten
   pub first_has : (first last : ℕ) → Spans kb ps q first last → Has ps first
   first_has first last s = let r = first_there first last s in is_some (leaf_in ps first) r.0 r.1
 
-  -- behind the first of the related pairs, if it is not the last, stands the next of them
+  -- after the first of the related pairs, if it is not the last, stands the next of them
   pub next_there : (first last : ℕ) → Spans kb ps q first last → first ≢ last → (n : ℕ) × (number_after ps first ≡ Some n) × Spans kb (without_number ps first) q n last
   next_there first last s off =
       let e = two_ends (subtree (bytes kb) ps q) first last s.first_is s.last_is off in

@@ -14,7 +14,7 @@ use Rattle.art_walk.specs.Lent.{walk_fits, numbers}
 use Rattle.art_walk.proofs.Lending.{to_test, from_test}
 use Rattle.art_walk.proofs.Passing.{first_passed, first_named, last_passed, last_named}
 use Rattle.art_walk.proofs.Asking.{written_fits, written_left, removed_fits, removed_left}
-use Rattle.blart_map.specs.ExtractIf.{Extracts}
+use Rattle.blart_map.specs.ExtractIf.{ExtractsFirstTrue}
 
 pub le_eq : (a b : ℕ) → a ≡ b → a ≤ b
 le_eq a b e = omega arith
@@ -109,13 +109,13 @@ module _ {K V : Type 0} where
       back_test_removed rs e = test_removed back_lacks rs e
 
 module _ {K V F : Type 0} (g : Mut F (Bor K × (MutBor V × Unit {0})) (Bool × (MutBor V × Unit {0}))) where
-  -- a call at the pair behind two references
+  -- a call at the pair to which two references lead
   pub called_at : (f : F) (key : Bor K) (value left : MutBor V) (b : Bool) (f' : F) → Called g f (key, (value, tt)) (b, (left, tt)) f' → CalledAtPair g f key.now value.now b left.now f'
   called_at f key value left b f' m = record { key = key; value = value; shows = (refl, refl); left = left; called = m; leaves = refl }
 
   module _ (S : List (Numbered K V)) (f : F) (n : ℕ) (k : K) (v w : V) (b : Bool) (h : F) (xs ps : List (Numbered K V)) (e : xs ≡ (n, (k, v)) ∷ ps) (m : CalledAtPair g f k v b w h) (named : leaf_in S n ≡ Some (k, v)) where
-    pub extracts_true : (r : Option (K × V)) (S' left : List (Numbered K V)) → b ≡ true → r ≡ Some (k, w) → S' ≡ without_number S n → left ≡ ps → Extracts g S f xs r S' h left
-    extracts_true r S' left t p q l = subst (λ ys. Extracts g S f ys r S' h left) (sym e) (b, w, h, named, m, rw t (p, q, refl, l))
+    pub extracts_true : (r : Option (K × V)) (S' left : List (Numbered K V)) → b ≡ true → r ≡ Some (k, w) → S' ≡ without_number S n → left ≡ ps → ExtractsFirstTrue g S f xs r S' h left
+    extracts_true r S' left t p q l = subst (λ ys. ExtractsFirstTrue g S f ys r S' h left) (sym e) (b, w, h, named, m, rw t (p, q, refl, l))
 
-    pub extracts_false : (r : Option (K × V)) (S' : List (Numbered K V)) (f' : F) (left : List (Numbered K V)) → b ≡ false → Extracts g (with_value S n w) h ps r S' f' left → Extracts g S f xs r S' f' left
-    extracts_false r S' f' left t a = subst (λ ys. Extracts g S f ys r S' f' left) (sym e) (b, w, h, named, m, rw t a)
+    pub extracts_false : (r : Option (K × V)) (S' : List (Numbered K V)) (f' : F) (left : List (Numbered K V)) → b ≡ false → ExtractsFirstTrue g (with_value S n w) h ps r S' f' left → ExtractsFirstTrue g S f xs r S' f' left
+    extracts_false r S' f' left t a = subst (λ ys. ExtractsFirstTrue g S f ys r S' f' left) (sym e) (b, w, h, named, m, rw t a)

@@ -19,12 +19,12 @@ module _ {K V : Type 0} (test : K × V → Bool) where
   -- ---- all at once
 
   -- a pair in front that has another number stays
-  behind_front : (left ps : List (Numbered K V)) (p : Numbered K V) → Lacks left p.0 → taken_all test left (p ∷ ps) ≡ p ∷ taken_all test left ps
-  behind_front [] ps p l = refl
-  behind_front (q ∷ left) ps p l =
+  after_front : (left ps : List (Numbered K V)) (p : Numbered K V) → Lacks left p.0 → taken_all test left (p ∷ ps) ≡ p ∷ taken_all test left ps
+  after_front [] ps p l = refl
+  after_front (q ∷ left) ps p l =
       elim (test q.1) as (λ b. taken_all test left (cond b (without_number (p ∷ ps) q.0) (p ∷ ps)) ≡ p ∷ taken_all test left (cond b (without_number ps q.0) ps)) [
-        | true ↦ rw (ne_eqb p.0 q.0 (λ e. l.0 (sym e))) (behind_front left (without_number ps q.0) p l.1)
-        | false ↦ behind_front left ps p l.1
+        | true ↦ rw (ne_eqb p.0 q.0 (λ e. l.0 (sym e))) (after_front left (without_number ps q.0) p l.1)
+        | false ↦ after_front left ps p l.1
       ]
 
   -- the pair in front goes first
@@ -43,9 +43,9 @@ module _ {K V : Type 0} (test : K × V → Bool) where
         elim (within p.1) as (λ b. pairs_of (taken_all test (cond b (p ∷ rest) rest) (p ∷ ps)) ≡ cond (not (b && test p.1)) (p.1 ∷ filter kept (pairs_of ps)) (filter kept (pairs_of ps))) [
           | true ↦ elim (test p.1) as (λ b. pairs_of (taken_all test rest (cond b (without_number (p ∷ ps) p.0) (p ∷ ps))) ≡ cond (not b) (p.1 ∷ filter kept (pairs_of ps)) (filter kept (pairs_of ps))) [
             | true ↦ ap (λ l. pairs_of (taken_all test rest l)) (front_taken p ps) ∙ some_taken ps d.1
-            | false ↦ ap pairs_of (behind_front rest ps p lacks) ∙ ap (λ l. p.1 ∷ l) (some_taken ps d.1)
+            | false ↦ ap pairs_of (after_front rest ps p lacks) ∙ ap (λ l. p.1 ∷ l) (some_taken ps d.1)
           ]
-          | false ↦ ap pairs_of (behind_front rest ps p lacks) ∙ ap (λ l. p.1 ∷ l) (some_taken ps d.1)
+          | false ↦ ap pairs_of (after_front rest ps p lacks) ∙ ap (λ l. p.1 ∷ l) (some_taken ps d.1)
         ]
 
   -- a walk that is opened over the pairs that pass a test
@@ -103,7 +103,7 @@ module _ {K V : Type 0} (test : K × V → Bool) where
     pub lent_pair : leaf_in new lent.number ≡ Some (lent.key, v)
     lent_pair = ap (λ l. leaf_in l lent.number) same_list ∙ lent.lent.named
 
-    -- where it does not pass the test, those still to be taken are those behind it, and else they are it and those
+    -- where it does not pass the test, those still to be taken are those after it, and else they are it and those
     pub kept_left : test (lent.key, v) ≡ false → filter test (pairs left) ≡ filter test (pairs after)
     unfolding pairs
     kept_left t = ap (λ l. filter test (pairs_of l)) lent.splits ∙ ap (λ b. cond b ((lent.key, v) ∷ filter test (pairs_of after)) (filter test (pairs_of after))) t

@@ -15,10 +15,10 @@ use Rattle.blart_map.specs.EachWritten.{CalledAtEach, with_values, written_with,
 
 module _ {K V : Type 0} where
   -- a pair in front that has another number stays
-  pub behind_front : (values : List V) (left ps : List (Numbered K V)) (p : Numbered K V) → Lacks left p.0 → written_with values left (p ∷ ps) ≡ p ∷ written_with values left ps
-  behind_front [] left ps p l = refl
-  behind_front (w ∷ values) [] ps p l = refl
-  behind_front (w ∷ values) (q ∷ left) ps p l = rw (ne_eqb p.0 q.0 (λ e. l.0 (sym e))) (behind_front values left (with_value ps q.0 w) p l.1)
+  pub after_front : (values : List V) (left ps : List (Numbered K V)) (p : Numbered K V) → Lacks left p.0 → written_with values left (p ∷ ps) ≡ p ∷ written_with values left ps
+  after_front [] left ps p l = refl
+  after_front (w ∷ values) [] ps p l = refl
+  after_front (w ∷ values) (q ∷ left) ps p l = rw (ne_eqb p.0 q.0 (λ e. l.0 (sym e))) (after_front values left (with_value ps q.0 w) p l.1)
 
   -- the pair in front is written first
   pub front_written : (w : V) (values : List V) (p : Numbered K V) (ps rest : List (Numbered K V)) → written_with (w ∷ values) (p ∷ rest) (p ∷ ps) ≡ written_with values rest ((p.0, (p.1.0, w)) ∷ ps)
@@ -74,7 +74,7 @@ module _ {F K V : Type 0} (R : F → K × V → V → F → Type 0) where
   each_written (w ∷ values) [] f g d c = absurd c
   each_written [] (p ∷ ps) f g d c = absurd c
   each_written (w ∷ values) (p ∷ ps) f g d c =
-      ap pairs_of (front_written w values p ps ps ∙ behind_front values ps ps (p.0, (p.1.0, w)) d.0)
+      ap pairs_of (front_written w values p ps ps ∙ after_front values ps ps (p.0, (p.1.0, w)) d.0)
       ∙ ap (λ l. (p.1.0, w) ∷ l) (each_written values ps c.0 g d.1 c.2)
 
   writes_each : (left old new S : List (Numbered K V)) (f : F) → AreDistinct old → WritesLeft R left old f new → old ≡ S → left ≡ S → WritesEach R (pairs S) f (pairs new)

@@ -12,9 +12,9 @@ use Rattle.blart_map.proofs.Numbers.{lacks_filter}
 
 module _ {K V : Type 0} (f : K × V → V) where
   -- a pair in front that has another number stays
-  behind_front : (left ps : List (Numbered K V)) (p : Numbered K V) → Lacks left p.0 → written_all f left (p ∷ ps) ≡ p ∷ written_all f left ps
-  behind_front [] ps p l = refl
-  behind_front (q ∷ left) ps p l = rw (ne_eqb p.0 q.0 (λ e. l.0 (sym e))) (behind_front left (with_value ps q.0 (f q.1)) p l.1)
+  after_front : (left ps : List (Numbered K V)) (p : Numbered K V) → Lacks left p.0 → written_all f left (p ∷ ps) ≡ p ∷ written_all f left ps
+  after_front [] ps p l = refl
+  after_front (q ∷ left) ps p l = rw (ne_eqb p.0 q.0 (λ e. l.0 (sym e))) (after_front left (with_value ps q.0 (f q.1)) p l.1)
 
   -- the pair in front is written first
   front_written : (p : Numbered K V) (ps rest : List (Numbered K V)) → written_all f (p ∷ rest) (p ∷ ps) ≡ written_all f rest ((p.0, (p.1.0, f p.1)) ∷ ps)
@@ -25,14 +25,14 @@ module _ {K V : Type 0} (f : K × V → V) where
     some_written [] d = refl
     some_written (p ∷ ps) d = elim (t p.1) as (λ b. pairs_of (written_all f (cond b (p ∷ filter (λ p. t p.1) ps) (filter (λ p. t p.1) ps)) (p ∷ ps)) ≡ cond b (p.1.0, f p.1) p.1 ∷ rewritten t f (pairs_of ps)) [
       | true ↦
-          ap pairs_of (front_written p ps (filter (λ p. t p.1) ps) ∙ behind_front (filter (λ p. t p.1) ps) ps (p.0, (p.1.0, f p.1)) (lacks_filter (λ p. t p.1) ps p.0 d.0))
+          ap pairs_of (front_written p ps (filter (λ p. t p.1) ps) ∙ after_front (filter (λ p. t p.1) ps) ps (p.0, (p.1.0, f p.1)) (lacks_filter (λ p. t p.1) ps p.0 d.0))
           ∙ ap (λ l. (p.1.0, f p.1) ∷ l) (some_written ps d.1)
-      | false ↦ ap pairs_of (behind_front (filter (λ p. t p.1) ps) ps p (lacks_filter (λ p. t p.1) ps p.0 d.0)) ∙ ap (λ l. p.1 ∷ l) (some_written ps d.1)
+      | false ↦ ap pairs_of (after_front (filter (λ p. t p.1) ps) ps p (lacks_filter (λ p. t p.1) ps p.0 d.0)) ∙ ap (λ l. p.1 ∷ l) (some_written ps d.1)
     ]
 
   every_written : (ps : List (Numbered K V)) → AreDistinct ps → pairs_of (written_all f ps ps) ≡ all_rewritten f (pairs_of ps)
   every_written [] d = refl
-  every_written (p ∷ ps) d = ap pairs_of (front_written p ps ps ∙ behind_front ps ps (p.0, (p.1.0, f p.1)) d.0) ∙ ap (λ l. (p.1.0, f p.1) ∷ l) (every_written ps d.1)
+  every_written (p ∷ ps) d = ap pairs_of (front_written p ps ps ∙ after_front ps ps (p.0, (p.1.0, f p.1)) d.0) ∙ ap (λ l. (p.1.0, f p.1) ∷ l) (every_written ps d.1)
 
   module _ (ps left : List (Numbered K V)) (d : AreDistinct ps) where
     -- the pairs that pass a test are written

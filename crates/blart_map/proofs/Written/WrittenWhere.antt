@@ -6,7 +6,7 @@ use Rattle.art_tree.specs.Leaves.{Numbered, AreDistinct, Lacks}
 use Rattle.art_walk.specs.Pairs.{pairs_of}
 use Rattle.blart_map.specs.Content.{pairs}
 use Rattle.blart_map.specs.EachWritten.{CalledAtEach, written_with, WritesLeft, LeavesPair, ActsWhere}
-use Rattle.blart_map.proofs.Written.EachWritten.{behind_front, front_written}
+use Rattle.blart_map.proofs.Written.EachWritten.{after_front, front_written}
 use Rattle.blart_map.proofs.Numbers.{lacks_filter}
 
 module _ {F K V : Type 0} (R : F → K × V → V → F → Type 0) (t : Numbered K V → Bool) (h : K × V → K × V) (f : F)
@@ -23,10 +23,10 @@ module _ {F K V : Type 0} (R : F → K × V → V → F → Type 0) (t : Numbere
           let a = within p w c.0 e c.1 in
           let c' = subst (λ s. CalledAtEach R (pairs_of (filter t ps)) s values g) a.0 c.2 in
           let first : (p.1.0, w) ≡ h p.1 = λ j. (sym a.1 j, a.2 j) in
-          ap pairs_of (front_written w values p ps (filter t ps) ∙ behind_front values (filter t ps) ps (p.0, (p.1.0, w)) (lacks_filter t ps p.0 d.0))
+          ap pairs_of (front_written w values p ps (filter t ps) ∙ after_front values (filter t ps) ps (p.0, (p.1.0, w)) (lacks_filter t ps p.0 d.0))
           ∙ ap (λ l. (p.1.0, w) ∷ l) (rest values c') ∙ ap (λ y. y ∷ map h (pairs_of ps)) first
       go rest false e values c =
-          ap pairs_of (behind_front values (filter t ps) ps p (lacks_filter t ps p.0 d.0))
+          ap pairs_of (after_front values (filter t ps) ps p (lacks_filter t ps p.0 d.0))
           ∙ ap (λ l. p.1 ∷ l) (rest values c) ∙ ap (λ y. y ∷ map h (pairs_of ps)) (sym (outside p e))
 
   pub writes_where : (left old new S T : List (Numbered K V)) → AreDistinct old → WritesLeft R left old f new → T ≡ new → old ≡ S → left ≡ filter t S → pairs T ≡ map h (pairs S)

@@ -17,7 +17,7 @@ use std::alloc::{AllocError, Global};
 use std::mem::{replace, swap};
 
 impl<K: NoPrefixesBytes + Drop, V: Drop, const PREFIX_LEN: usize> TreeMap<K, V, PREFIX_LEN> {
-    /// Moves all pairs of the other map here. Where both have a key with the same bytes the other's pair stays. The other map is empty then. Where all of the other's keys lie behind, as after a [`TreeMap::split_off`], the pairs are those of the one and then those of the other.
+    /// Moves all pairs of the other map here. Where both have a key with the same bytes the other's pair stays. The other map is empty then. Where all of the other's keys are greater than all here, as after a [`TreeMap::split_off`], the pairs are those of the one and then those of the other.
     ///
     /// The pairs of the map that has fewer move, one insertion each, and its records are freed whole; where that is this map, the two are exchanged. The memory for as many pairs is taken before any of them moves; an error leaves both maps as they were. Where either map is empty it takes none.
     ///

@@ -88,12 +88,12 @@ impl<K: AsBytes + Drop, V: Drop, const PREFIX_LEN: usize> TreeMap<K, V, PREFIX_L
             (Included (Q.bytes query.now)) Unbounded) }
     {
         self.law();
-        count_behind(self.walk_below(query), self.walk_from(query), self.len())
+        count_after(self.walk_below(query), self.walk_from(query), self.len())
     }
 }
 
 // How many of so many pairs the second of two walks has, which together have all. It goes no further than the shorter walk.
-fn count_behind<K, V, const P: usize>(
+fn count_after<K, V, const P: usize>(
     low: Range<'_, K, V, P>,
     high: Range<'_, K, V, P>,
     len: usize,

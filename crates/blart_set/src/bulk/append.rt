@@ -9,7 +9,7 @@ use blart_keys::NoPrefixesBytes;
 use std::alloc::AllocError;
 
 impl<K: NoPrefixesBytes + Drop, const PREFIX_LEN: usize> TreeSet<K, PREFIX_LEN> {
-    /// Moves all elements of the other set here. Where both have the same bytes the other's element stays. The other set is empty then. Where all of the other's elements lie behind, as after a [`TreeSet::split_off`], the elements are those of the one and then those of the other.
+    /// Moves all elements of the other set here. Where both have the same bytes the other's element stays. The other set is empty then. Where all of the other's elements are greater than all here, as after a [`TreeSet::split_off`], the elements are those of the one and then those of the other.
     ///
     /// The elements of the set that has fewer move, one insertion each; where that is this set, the two are exchanged. The memory for as many elements is taken before any of them moves; an error leaves both sets as they were. Where either set is empty it takes none.
     ///

@@ -1,6 +1,6 @@
 //! The elements of the left set whose bytes the right one lacks, ascending.
 ghost use Rattle.std.specs.Iterator.{YieldsFirstRef, item_count};
-ghost use Rattle.blart_set.specs.Merging.{lacking, Goes, Counts};
+ghost use Rattle.blart_set.specs.Merging.{difference_rest, MergeProgresses, Counts};
 
 use crate::merges::sides::Sides;
 use blart_keys::OrderedBytes;
@@ -31,14 +31,14 @@ impl<'a, K: OrderedBytes, const PREFIX_LEN: usize> Model for Difference<'a, K, P
 impl<'a, K: OrderedBytes, const PREFIX_LEN: usize> Iterator for Difference<'a, K, PREFIX_LEN> {
     type Item = &'a K;
 
-    ghost next_gives = { YieldsFirstRef (lacking K.bytes) };
+    ghost next_gives = { YieldsFirstRef (difference_rest K.bytes) };
 
-    ghost remaining = { item_count (lacking K.bytes) };
+    ghost remaining = { item_count (difference_rest K.bytes) };
 
     /// The next element that only the left set has. It ends where the left side does.
     fn next(&mut self) -> Option<&'a K>
-        ensures steps { YieldsFirstRef (lacking K.bytes) self.old result self.new }
-        ensures goes { Goes (lacking K.bytes) self.old result self.new }
+        ensures steps { YieldsFirstRef (difference_rest K.bytes) self.old result self.new }
+        ensures goes { MergeProgresses (difference_rest K.bytes) self.old result self.new }
     {
         next_lacking(&mut self.sides)
     }
@@ -49,7 +49,7 @@ impl<'a, K: OrderedBytes, const PREFIX_LEN: usize> FusedIterator
 
 // The next element that only the left side has.
 fn next_lacking<'a, K: OrderedBytes, const P: usize>(sides: &mut Sides<'a, K, P>) -> Option<&'a K>
-    ensures steps { YieldsFirstRef (lacking K.bytes) sides.old result sides.new }
+    ensures steps { YieldsFirstRef (difference_rest K.bytes) sides.old result sides.new }
     ensures counted { Counts sides.old sides.new }
 {
     'sides: while let Some(side) = sides.step_left() {

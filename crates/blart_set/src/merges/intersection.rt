@@ -1,6 +1,6 @@
 //! The elements of the left set whose bytes the right one has too, ascending.
 ghost use Rattle.std.specs.Iterator.{YieldsFirstRef, item_count};
-ghost use Rattle.blart_set.specs.Merging.{shared, Goes, Counts};
+ghost use Rattle.blart_set.specs.Merging.{intersection_rest, MergeProgresses, Counts};
 
 use crate::merges::sides::Sides;
 use blart_keys::OrderedBytes;
@@ -31,14 +31,14 @@ impl<'a, K: OrderedBytes, const PREFIX_LEN: usize> Model for Intersection<'a, K,
 impl<'a, K: OrderedBytes, const PREFIX_LEN: usize> Iterator for Intersection<'a, K, PREFIX_LEN> {
     type Item = &'a K;
 
-    ghost next_gives = { YieldsFirstRef (shared K.bytes) };
+    ghost next_gives = { YieldsFirstRef (intersection_rest K.bytes) };
 
-    ghost remaining = { item_count (shared K.bytes) };
+    ghost remaining = { item_count (intersection_rest K.bytes) };
 
     /// The next element that both sets have. It ends where either side does.
     fn next(&mut self) -> Option<&'a K>
-        ensures steps { YieldsFirstRef (shared K.bytes) self.old result self.new }
-        ensures goes { Goes (shared K.bytes) self.old result self.new }
+        ensures steps { YieldsFirstRef (intersection_rest K.bytes) self.old result self.new }
+        ensures goes { MergeProgresses (intersection_rest K.bytes) self.old result self.new }
     {
         next_shared(&mut self.sides)
     }
@@ -49,7 +49,7 @@ impl<'a, K: OrderedBytes, const PREFIX_LEN: usize> FusedIterator
 
 // The next element that both sides have.
 fn next_shared<'a, K: OrderedBytes, const P: usize>(sides: &mut Sides<'a, K, P>) -> Option<&'a K>
-    ensures steps { YieldsFirstRef (shared K.bytes) sides.old result sides.new }
+    ensures steps { YieldsFirstRef (intersection_rest K.bytes) sides.old result sides.new }
     ensures counted { Counts sides.old sides.new }
 {
     'sides: while let Some(side) = sides.step_both() {

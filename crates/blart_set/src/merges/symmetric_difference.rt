@@ -1,6 +1,6 @@
 //! The elements of either set whose bytes the other lacks, ascending.
 ghost use Rattle.std.specs.Iterator.{YieldsFirstRef, item_count};
-ghost use Rattle.blart_set.specs.Merging.{parted, Goes, Counts};
+ghost use Rattle.blart_set.specs.Merging.{symmetric_difference_rest, MergeProgresses, Counts};
 
 use crate::merges::sides::Sides;
 use blart_keys::OrderedBytes;
@@ -34,14 +34,14 @@ impl<'a, K: OrderedBytes, const PREFIX_LEN: usize> Iterator
     for SymmetricDifference<'a, K, PREFIX_LEN> {
     type Item = &'a K;
 
-    ghost next_gives = { YieldsFirstRef (parted K.bytes) };
+    ghost next_gives = { YieldsFirstRef (symmetric_difference_rest K.bytes) };
 
-    ghost remaining = { item_count (parted K.bytes) };
+    ghost remaining = { item_count (symmetric_difference_rest K.bytes) };
 
     /// The next element that only one of the sets has.
     fn next(&mut self) -> Option<&'a K>
-        ensures steps { YieldsFirstRef (parted K.bytes) self.old result self.new }
-        ensures goes { Goes (parted K.bytes) self.old result self.new }
+        ensures steps { YieldsFirstRef (symmetric_difference_rest K.bytes) self.old result self.new }
+        ensures goes { MergeProgresses (symmetric_difference_rest K.bytes) self.old result self.new }
     {
         next_apart(&mut self.sides)
     }
@@ -52,7 +52,7 @@ impl<'a, K: OrderedBytes, const PREFIX_LEN: usize> FusedIterator
 
 // The next element that only one side has.
 fn next_apart<'a, K: OrderedBytes, const P: usize>(sides: &mut Sides<'a, K, P>) -> Option<&'a K>
-    ensures steps { YieldsFirstRef (parted K.bytes) sides.old result sides.new }
+    ensures steps { YieldsFirstRef (symmetric_difference_rest K.bytes) sides.old result sides.new }
     ensures counted { Counts sides.old sides.new }
 {
     'sides: while let Some(side) = sides.step() {

@@ -1,6 +1,6 @@
 //! The elements of both sets, ascending; where both have the bytes, the left set's.
 ghost use Rattle.std.specs.Iterator.{YieldsFirstRef, item_count};
-ghost use Rattle.blart_set.specs.Merging.{united, Goes};
+ghost use Rattle.blart_set.specs.Merging.{union_rest, MergeProgresses};
 
 use crate::merges::sides::Sides;
 use blart_keys::OrderedBytes;
@@ -33,14 +33,14 @@ impl<'a, K: OrderedBytes, const PREFIX_LEN: usize> Model for Union<'a, K, PREFIX
 impl<'a, K: OrderedBytes, const PREFIX_LEN: usize> Iterator for Union<'a, K, PREFIX_LEN> {
     type Item = &'a K;
 
-    ghost next_gives = { YieldsFirstRef (united K.bytes) };
+    ghost next_gives = { YieldsFirstRef (union_rest K.bytes) };
 
-    ghost remaining = { item_count (united K.bytes) };
+    ghost remaining = { item_count (union_rest K.bytes) };
 
     /// The next element.
     fn next(&mut self) -> Option<&'a K>
-        ensures steps { YieldsFirstRef (united K.bytes) self.old result self.new }
-        ensures goes { Goes (united K.bytes) self.old result self.new }
+        ensures steps { YieldsFirstRef (union_rest K.bytes) self.old result self.new }
+        ensures goes { MergeProgresses (union_rest K.bytes) self.old result self.new }
     {
         let side = self.sides.step()?;
         Some(side.element())

@@ -10,7 +10,7 @@ mod router;
 mod runs;
 mod trees;
 
-// Keys of three fronts with two bytes or more behind, in no order.
+// Keys of three fronts with two bytes or more after them, in no order.
 const KEYS: [[u8; 2]; 5] = [[2, 1], [3, 3], [1, 7], [2, 2], [9, 9]];
 
 // Says that a request was refused.

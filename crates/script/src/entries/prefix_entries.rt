@@ -50,7 +50,7 @@ fn kind_of<const P: usize>(entry: &PrefixEntry<'_, Vec<u8>, u64, P, BytesMap<P>>
 }
 
 // Adds the word of an entry's kind, and the value.
-fn show_behind<T: Shown>(kind: &[u8], value: &T, text: &mut Text) -> Answered {
+fn show_after<T: Shown>(kind: &[u8], value: &T, text: &mut Text) -> Answered {
     text.push(kind)?;
     value.show(text)
 }
@@ -61,9 +61,9 @@ macro_rules! show_placed {
         match $placed {
             Ok(place) => {
                 let pair = (place.key(), place.get());
-                show_behind($kind, &Ok::<_, AllocError>(pair), $text)
+                show_after($kind, &Ok::<_, AllocError>(pair), $text)
             }
-            Err(refused) => show_behind($kind, &Err::<(), AllocError>(refused), $text),
+            Err(refused) => show_after($kind, &Err::<(), AllocError>(refused), $text),
         }
     };
 }
@@ -72,7 +72,7 @@ macro_rules! show_placed {
 fn show_key<const P: usize>(map: &mut BytesMap<P>, key: Vec<u8>, text: &mut Text) -> Answered {
     let entry = map.prefix_entry(key);
     let kind = kind_of(&entry);
-    let answered = show_behind(kind, entry.key(), text);
+    let answered = show_after(kind, entry.key(), text);
     drop(entry);
     answered
 }
@@ -85,7 +85,7 @@ fn show_found_key<const P: usize>(
 ) -> Answered {
     let entry = map.prefix_entry(key);
     let kind = kind_of(&entry);
-    let answered = show_behind(kind, &entry.get_key(), text);
+    let answered = show_after(kind, &entry.get_key(), text);
     drop(entry);
     answered
 }
@@ -105,7 +105,7 @@ fn show_value<const P: usize>(
         ValueCall::OrInsertWith(value) => entry.or_insert_with(|| value),
         ValueCall::OrInsertWithKey => entry.or_insert_with_key(length_of),
     };
-    show_behind(kind, &value_of(lent), text)
+    show_after(kind, &value_of(lent), text)
 }
 
 // Adds the pair whose entry the call answers.
@@ -142,7 +142,7 @@ fn show_kind_value<const P: usize>(
         ValueCall::OrInsertWith(value) => entry.kind().or_insert_with(|| value),
         ValueCall::OrInsertWithKey => entry.kind().or_insert_with_key(length_of),
     };
-    show_behind(kind, &value_of(lent), text)
+    show_after(kind, &value_of(lent), text)
 }
 
 // Adds the pair whose entry the call of the entry's kind answers.
@@ -173,10 +173,10 @@ fn show_related<const P: usize>(
     let kind = kind_of(&entry);
     let answered = match &mut entry {
         PrefixEntry::Occupied(related) => match call {
-            RelatedCall::Key => show_behind(kind, related.key(), text),
-            RelatedCall::Get => show_behind(kind, &related.get(), text),
-            RelatedCall::GetKey => show_behind(kind, &related.get_key(), text),
-            RelatedCall::GetMut(value) => show_behind(
+            RelatedCall::Key => show_after(kind, related.key(), text),
+            RelatedCall::Get => show_after(kind, &related.get(), text),
+            RelatedCall::GetKey => show_after(kind, &related.get_key(), text),
+            RelatedCall::GetMut(value) => show_after(
                 kind,
                 &written(related.get_mut(), value),
                 text,
@@ -198,10 +198,10 @@ fn set_related<const P: usize>(
     let kind = kind_of(&map.prefix_entry(key.clone()?));
     match map.prefix_entry(key) {
         PrefixEntry::Occupied(related) => match call {
-            SetCall::Insert(value) => show_behind(kind, &*related.insert(value), text),
+            SetCall::Insert(value) => show_after(kind, &*related.insert(value), text),
             SetCall::InsertEntry(value) => {
                 let place = related.insert_entry(value);
-                show_behind(kind, &(place.key(), place.get()), text)
+                show_after(kind, &(place.key(), place.get()), text)
             }
         },
         PrefixEntry::Vacant(_) => Err(Unanswered::NoCall),
@@ -222,20 +222,20 @@ fn show_leaf<const P: usize>(
     }
     match entry.or_insert_entry(0) {
         Ok(mut place) => match call {
-            OccupiedCall::Get => show_behind(kind, place.get(), text),
-            OccupiedCall::Insert(value) => show_behind(kind, &place.insert(value), text),
-            OccupiedCall::GetMut(value) => show_behind(
+            OccupiedCall::Get => show_after(kind, place.get(), text),
+            OccupiedCall::Insert(value) => show_after(kind, &place.insert(value), text),
+            OccupiedCall::GetMut(value) => show_after(
                 kind,
                 &mem::replace(place.get_mut(), value),
                 text,
             ),
-            OccupiedCall::IntoMut(value) => show_behind(
+            OccupiedCall::IntoMut(value) => show_after(
                 kind,
                 &mem::replace(place.into_mut(), value),
                 text,
             ),
-            OccupiedCall::Remove => show_behind(kind, &place.remove(), text),
-            OccupiedCall::RemoveEntry => show_behind(kind, &place.remove_entry(), text),
+            OccupiedCall::Remove => show_after(kind, &place.remove(), text),
+            OccupiedCall::RemoveEntry => show_after(kind, &place.remove_entry(), text),
         },
         Err(refused) => Err(Unanswered::Memory(refused)),
     }
@@ -252,10 +252,10 @@ fn show_inner<const P: usize>(
     let kind = kind_of(&entry);
     match entry.kind() {
         PrefixKind::Inner(mut inner) => match call {
-            RelatedCall::Key => show_behind(kind, inner.key(), text),
-            RelatedCall::Get => show_behind(kind, &inner.get(), text),
-            RelatedCall::GetKey => show_behind(kind, &inner.get_key(), text),
-            RelatedCall::GetMut(value) => show_behind(kind, &written(inner.get_mut(), value), text),
+            RelatedCall::Key => show_after(kind, inner.key(), text),
+            RelatedCall::Get => show_after(kind, &inner.get(), text),
+            RelatedCall::GetKey => show_after(kind, &inner.get_key(), text),
+            RelatedCall::GetMut(value) => show_after(kind, &written(inner.get_mut(), value), text),
         },
         _ => Err(Unanswered::NoCall),
     }
@@ -272,10 +272,10 @@ fn set_inner<const P: usize>(
     let kind = kind_of(&entry);
     match entry.kind() {
         PrefixKind::Inner(inner) => match call {
-            SetCall::Insert(value) => show_behind(kind, &*inner.insert(value), text),
+            SetCall::Insert(value) => show_after(kind, &*inner.insert(value), text),
             SetCall::InsertEntry(value) => {
                 let place = inner.insert_entry(value);
-                show_behind(kind, &(place.key(), place.get()), text)
+                show_after(kind, &(place.key(), place.get()), text)
             }
         },
         _ => Err(Unanswered::NoCall),
@@ -295,9 +295,9 @@ fn set_only<const P: usize>(
         PrefixKind::Inner(inner) => match inner.get_key_value_mut() {
             Some(mut place) => {
                 let old = place.insert(value);
-                show_behind(kind, &Some((place.key(), old)), text)
+                show_after(kind, &Some((place.key(), old)), text)
             }
-            None => show_behind(kind, &None::<()>, text),
+            None => show_after(kind, &None::<()>, text),
         },
         _ => Err(Unanswered::NoCall),
     }
@@ -314,8 +314,8 @@ fn show_vacant<const P: usize>(
     let kind = kind_of(&entry);
     match entry.kind() {
         PrefixKind::Vacant(entry) => match call {
-            VacantCall::IntoKey => show_behind(kind, &entry.into_key(), text),
-            VacantCall::Insert(value) => show_behind(kind, &value_of(entry.insert(value)), text),
+            VacantCall::IntoKey => show_after(kind, &entry.into_key(), text),
+            VacantCall::Insert(value) => show_after(kind, &value_of(entry.insert(value)), text),
             VacantCall::InsertEntry(value) => show_placed!(kind, entry.insert_entry(value), text),
         },
         _ => Err(Unanswered::NoCall),

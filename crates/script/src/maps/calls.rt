@@ -29,7 +29,7 @@ impl<K: ScriptKey, const PREFIX_LEN: usize> Maps<K, PREFIX_LEN> {
         }
     }
 
-    /// Makes the call of this name with these words behind it, and adds its answer.
+    /// Makes the call of this name with these words after it, and adds its answer.
     pub(crate) fn call(&mut self, name: MapName, words: Words<'_>, text: &mut Text) -> Answered {
         match name {
             MapName::New | MapName::Clear | MapName::Swap => self.renew(name, words, text),

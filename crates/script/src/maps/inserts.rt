@@ -6,7 +6,7 @@ use blart_keys::NoPrefixesBytes;
 use script_words::{Answered, FixedKey, MapName, ScriptKey, Shown, Text, Words, value_of};
 
 impl<const PREFIX_LEN: usize> Maps<Vec<u8>, PREFIX_LEN> {
-    /// Makes the call of this name with these words behind it, and adds its answer.
+    /// Makes the call of this name with these words after it, and adds its answer.
     pub fn call_of_bytes(&mut self, name: MapName, words: Words<'_>, text: &mut Text) -> Answered {
         match name {
             MapName::MakeClone => self.make_clone(words, text),
@@ -16,7 +16,7 @@ impl<const PREFIX_LEN: usize> Maps<Vec<u8>, PREFIX_LEN> {
 }
 
 impl<K: FixedKey, const PREFIX_LEN: usize> Maps<K, PREFIX_LEN> {
-    /// Makes the call of this name with these words behind it, and adds its answer.
+    /// Makes the call of this name with these words after it, and adds its answer.
     pub fn call_of_fixed(&mut self, name: MapName, words: Words<'_>, text: &mut Text) -> Answered
         requires { (k j : K) → K.is_clone k j → K.bytes j ≡ K.bytes k }
     {
@@ -30,7 +30,7 @@ impl<K: FixedKey, const PREFIX_LEN: usize> Maps<K, PREFIX_LEN> {
 }
 
 impl<K: ScriptKey + NoPrefixesBytes, const PREFIX_LEN: usize> Maps<K, PREFIX_LEN> {
-    /// Makes the call of this name with these words behind it, and adds its answer.
+    /// Makes the call of this name with these words after it, and adds its answer.
     pub fn call_of_apart(&mut self, name: MapName, words: Words<'_>, text: &mut Text) -> Answered {
         match name {
             MapName::Insert => self.insert(words, text),

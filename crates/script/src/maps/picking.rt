@@ -122,7 +122,7 @@ impl<K: ScriptKey, const PREFIX_LEN: usize> Maps<K, PREFIX_LEN> {
     }
 }
 
-// Adds the pair, if there is one, behind what parts it from the one before, and gives whether there is.
+// Adds the pair, if there is one, after what parts it from the one before, and gives whether there is.
 fn show_pair<K: ScriptKey>(
     pair: Option<(K, u64)>,
     part: &[u8],

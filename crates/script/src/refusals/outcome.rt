@@ -7,7 +7,7 @@ use std::alloc::Global;
 /// What came of a script, of whose requests one at most is refused.
 #[derive(Drop)]
 pub enum Outcome {
-    /// None of the script's requests was refused, and so many were made behind it.
+    /// None of the script's requests was refused, and so many were made after it.
     NoneRefused(u64),
     /// The refused request was for a line or its answer, so the script ended there.
     Stopped,
@@ -17,19 +17,19 @@ pub enum Outcome {
     Wrong(Text),
 }
 
-/// Makes so many requests, answers the script, and makes so many requests behind it, where one request is refused.
+/// Makes so many requests, answers the script, and makes so many requests after it, where one request is refused.
 pub fn refuse(
     alloc: Global,
     script: &[u8],
     before: u64,
-    behind: u64,
+    after: u64,
 ) -> Result<Outcome, Unanswered> {
     if made(alloc, before) < before {
         return Ok(Outcome::NoneRefused(0));
     }
     let first = answer_script(alloc, script);
-    let count = made(alloc, behind);
-    if count < behind {
+    let count = made(alloc, after);
+    if count < after {
         return Ok(Outcome::NoneRefused(count));
     }
     match first {

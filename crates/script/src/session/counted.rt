@@ -49,7 +49,7 @@ impl<'a, const PREFIX_LEN: usize> CountedMap<'a, PREFIX_LEN> {
         list_map(&self.map, text)
     }
 
-    /// Makes the call of this name with these words behind it, and adds its answer.
+    /// Makes the call of this name with these words after it, and adds its answer.
     pub(crate) fn call(&mut self, name: MapName, words: Words<'_>, text: &mut Text) -> Answered {
         match name {
             MapName::TryInsert | MapName::ReplaceEntry | MapName::PrefixInsert => {

@@ -29,7 +29,7 @@ impl<K: ScriptKey, const PREFIX_LEN: usize> Sets<K, PREFIX_LEN> {
         }
     }
 
-    /// Makes the call of this name with these words behind it, and adds its answer.
+    /// Makes the call of this name with these words after it, and adds its answer.
     pub(crate) fn call(&mut self, name: SetName, words: Words<'_>, text: &mut Text) -> Answered {
         match name {
             SetName::New | SetName::Clear | SetName::Swap => self.renew(name, words, text),
@@ -99,7 +99,7 @@ impl<K: ScriptKey, const PREFIX_LEN: usize> Sets<K, PREFIX_LEN> {
 }
 
 impl<const PREFIX_LEN: usize> Sets<Vec<u8>, PREFIX_LEN> {
-    /// Makes the call of this name with these words behind it, and adds its answer.
+    /// Makes the call of this name with these words after it, and adds its answer.
     pub fn call_of_bytes(&mut self, name: SetName, words: Words<'_>, text: &mut Text) -> Answered {
         match name {
             SetName::MakeClone => self.make_clone(words, text),
@@ -109,7 +109,7 @@ impl<const PREFIX_LEN: usize> Sets<Vec<u8>, PREFIX_LEN> {
 }
 
 impl<K: FixedKey, const PREFIX_LEN: usize> Sets<K, PREFIX_LEN> {
-    /// Makes the call of this name with these words behind it, and adds its answer.
+    /// Makes the call of this name with these words after it, and adds its answer.
     pub fn call_of_fixed(&mut self, name: SetName, words: Words<'_>, text: &mut Text) -> Answered
         requires { (k j : K) → K.is_clone k j → K.bytes j ≡ K.bytes k }
     {
@@ -125,7 +125,7 @@ impl<K: FixedKey, const PREFIX_LEN: usize> Sets<K, PREFIX_LEN> {
 }
 
 impl<K: ScriptKey + NoPrefixesBytes, const PREFIX_LEN: usize> Sets<K, PREFIX_LEN> {
-    /// Makes the call of this name with these words behind it, and adds its answer.
+    /// Makes the call of this name with these words after it, and adds its answer.
     pub fn call_of_apart(&mut self, name: SetName, words: Words<'_>, text: &mut Text) -> Answered {
         match name {
             SetName::Insert | SetName::Replace => self.insert(name, words, text),

@@ -105,7 +105,7 @@ impl<K: ScriptKey, const PREFIX_LEN: usize> Sets<K, PREFIX_LEN> {
     }
 }
 
-// Adds an element behind the part, if there is one, and answers whether there is.
+// Adds an element after the part, if there is one, and answers whether there is.
 fn show_element<K: ScriptKey>(
     element: Option<K>,
     part: &[u8],

@@ -11,4 +11,4 @@ loop-value-smaller g c =
 pub loop-value-preserved : goal.loop-value-preserved
 loop-value-preserved g c =
     let h = c.next.follows.holds ((c.in-Some.value.now + 1) % 2 ^ 64) c.in-Some.value c.in-Some.is in
-    (h.0 ∙ c.loop-value.invariant.0, ap pairs (h.1.lent.goes (λ p. (p.1 + 1) % 2 ^ 64) refl) ∙ c.loop-value.invariant.1)
+    (h.0 ∙ c.loop-value.invariant.0, ap pairs (h.1.lent.all_written (λ p. (p.1 + 1) % 2 ^ 64) refl) ∙ c.loop-value.invariant.1)

@@ -82,7 +82,7 @@ fn beside() -> [u8; 40] {
     front
 }
 
-// Two keys part behind forty zeros, and a third from them behind twenty.
+// Two keys part after forty zeros, and a third from them after twenty.
 fn children_far_down<const P: usize>(rt: &(impl Abort + AllocGlobal)) {
     let (first, second, third) = (first_far(), second_far(), halfway());
     let tree = tree_of::<P>(rt, &[&third, &second, &first]);
@@ -138,7 +138,7 @@ fn children_of_the_largest_kind(rt: HostRuntime) {
     drop(tree);
 }
 
-// The leaf before the one of a key, and the leaf behind it.
+// The leaf before the one of a key, and the leaf after it.
 fn assert_neighbours(rt: &impl Abort, tree: &Tree<&[u8], usize, 2>) {
     let first = tree.search(b"abcdx", &mut Visits::new());
     let second = tree.search(b"abcdy", &mut Visits::new());

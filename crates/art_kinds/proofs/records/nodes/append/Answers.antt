@@ -10,10 +10,10 @@ take_set [] i b l = absurd (omega arith)
 take_set (x ∷ to) zero b l = refl
 take_set (x ∷ to) (suc i) b l = ap (λ (t : List ℕ). x ∷ t) (take_set to i b (omega arith))
 
-take_behind : (xs ys : List ℕ) (a n : ℕ) → length xs ≡ a → take (a + n) (xs ++ ys) ≡ xs ++ take n ys
-take_behind xs ys a n e = ap (λ (k : ℕ). take (k + n) (xs ++ ys)) (sym e) ∙ take-append-add xs ys n
+take_after : (xs ys : List ℕ) (a n : ℕ) → length xs ≡ a → take (a + n) (xs ++ ys) ≡ xs ++ take n ys
+take_after xs ys a n e = ap (λ (k : ℕ). take (k + n) (xs ++ ys)) (sym e) ∙ take-append-add xs ys n
 
--- a byte was written behind the first so many, and then others
+-- a byte was written after the first so many, and then others
 written : (to ys rest : List ℕ) (used n b k : ℕ) → used < length to → n ≤ length ys → take n ys ≡ take (length to - (used + 1)) rest → take (used + 1 + n) (put_mid (used + 1) k (set to used b) ys) ≡ take (length to) (take used to ++ b ∷ rest)
 written to ys rest used n b k lt le e =
     let xs : List ℕ = set to used b in
@@ -23,11 +23,11 @@ written to ys rest used n b k lt le e =
     let front : take (used + 1) (set to used b) ≡ take used to ++ b ∷ [] = ap (λ (i : ℕ). take i (set to used b)) one ∙ take_set to used b lt in
     sym (take-take (used + 1 + n) (used + 1 + length ys) (put_mid (used + 1) k (set to used b) ys) (omega arith))
     ∙ ap (λ (t : List ℕ). take (used + 1 + n) t) (take-put_mid (used + 1) k (set to used b) ys (used + 1 + length ys) refl (omega arith))
-    ∙ take_behind (take (used + 1) (set to used b)) ys (used + 1) n (length-take-le (used + 1) (set to used b) (omega arith))
+    ∙ take_after (take (used + 1) (set to used b)) ys (used + 1) n (length-take-le (used + 1) (set to used b) (omega arith))
     ∙ ap (λ (t : List ℕ). t ++ take n ys) front
     ∙ append_assoc (take used to) (b ∷ []) (take n ys)
     ∙ ap (λ (t : List ℕ). take used to ++ b ∷ t) e
-    ∙ sym (ap (λ (i : ℕ). take i (take used to ++ b ∷ rest)) (sym m) ∙ take_behind (take used to) (b ∷ rest) used (suc (length to - (used + 1))) (length-take-le used to (omega arith)))
+    ∙ sym (ap (λ (i : ℕ). take i (take used to ++ b ∷ rest)) (sym m) ∙ take_after (take used to) (b ∷ rest) used (suc (length to - (used + 1))) (length-take-le used to (omega arith)))
 
 pub returns-clause-appended : goal.returns-clause-appended
 returns-clause-appended c =

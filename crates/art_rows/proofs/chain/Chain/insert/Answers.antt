@@ -1,14 +1,14 @@
 use Rattle.std.proofs.Common.{◌≡◌}
-use Rattle.art_rows.specs.Numbers.{behind}
+use Rattle.art_rows.specs.Numbers.{next_number}
 use Rattle.art_slots.specs.Store.{slot_at}
-use Rattle.art_rows.proofs.LinksLemmas.{seen, all_linked, pairs_are, still_linked, made_before, made_behind, store_inserted}
+use Rattle.art_rows.proofs.LinksLemmas.{seen, all_linked, pairs_are, still_linked, made_before, made_next, store_inserted}
 use Rattle.art_rows.proofs.chain.Chain.insert.Goals.{in-None, in-Some}
 use Rattle.art_rows.proofs.chain.Chain.insert.Goals as goal
 
 pub set_next-requires : goal.set_next-requires
 set_next-requires g c =
     let l = seen c.self.inside c.self.view_is c.self.invariant in
-    let at : (c.match-prev.prev ≡ c.args.prev) × (c.match-prev.next ≡ behind c.args.prev c.args.self.now.pairs) = elim c.match-prev.branch [
+    let at : (c.match-prev.prev ≡ c.args.prev) × (c.match-prev.next ≡ next_number c.args.prev c.args.self.now.pairs) = elim c.match-prev.branch [
       | in-None w ↦ (cc, rw (w.next-is, w.in-None.is) l.starts)
       | in-Some w ↦ (cc, rw (w.next-is, w.in-Some.is) w.next_of-next.ensures)
     ] in
@@ -17,16 +17,16 @@ set_next-requires g c =
 pub set_prev-requires : goal.set_prev-requires
 set_prev-requires g c =
     let l = seen c.self.inside c.self.view_is c.self.invariant in
-    let at : (c.match-prev.prev ≡ c.args.prev) × (c.match-prev.next ≡ behind c.args.prev c.args.self.now.pairs) = elim c.match-prev.branch [
+    let at : (c.match-prev.prev ≡ c.args.prev) × (c.match-prev.next ≡ next_number c.args.prev c.args.self.now.pairs) = elim c.match-prev.branch [
       | in-None w ↦ (cc, rw (w.next-is, w.in-None.is) l.starts)
       | in-Some w ↦ (cc, rw (w.next-is, w.in-Some.is) w.next_of-next.ensures)
     ] in
-    still_linked c.match-prev.next (slot_at c.fill-number.new.self) (slot_at c.set_next.new.records) _ _ c.set_next.ensures.leaves (made_behind c.self.inside.records l c.match-prev.prev c.match-prev.next (rw at.0 at.1) (rw at.0 c.requires.prev) c.fill-number.result c.fill-number.ensures.fresh c.args.item c.fill-number.new.self c.fill-number.ensures.now c.fill-number.ensures.others)
+    still_linked c.match-prev.next (slot_at c.fill-number.new.self) (slot_at c.set_next.new.records) _ _ c.set_next.ensures.leaves (made_next c.self.inside.records l c.match-prev.prev c.match-prev.next (rw at.0 at.1) (rw at.0 c.requires.prev) c.fill-number.result c.fill-number.ensures.fresh c.args.item c.fill-number.new.self c.fill-number.ensures.now c.fill-number.ensures.others)
 
 pub invariant_of-self : goal.invariant_of-self
 invariant_of-self g c =
     let l = seen c.self.inside c.self.view_is c.self.invariant in
-    let at : (c.match-prev.prev ≡ c.args.prev) × (c.match-prev.next ≡ behind c.args.prev c.args.self.now.pairs) = elim c.match-prev.branch [
+    let at : (c.match-prev.prev ≡ c.args.prev) × (c.match-prev.next ≡ next_number c.args.prev c.args.self.now.pairs) = elim c.match-prev.branch [
       | in-None w ↦ (cc, rw (w.next-is, w.in-None.is) l.starts)
       | in-Some w ↦ (cc, rw (w.next-is, w.in-Some.is) w.next_of-next.ensures)
     ] in
@@ -35,7 +35,7 @@ invariant_of-self g c =
 pub returns-clause-placed : goal.returns-clause-placed
 returns-clause-placed g c =
     let l = seen c.self.inside c.self.view_is c.self.invariant in
-    let at : (c.match-prev.prev ≡ c.args.prev) × (c.match-prev.next ≡ behind c.args.prev c.args.self.now.pairs) = elim c.match-prev.branch [
+    let at : (c.match-prev.prev ≡ c.args.prev) × (c.match-prev.next ≡ next_number c.args.prev c.args.self.now.pairs) = elim c.match-prev.branch [
       | in-None w ↦ (cc, rw (w.next-is, w.in-None.is) l.starts)
       | in-Some w ↦ (cc, rw (w.next-is, w.in-Some.is) w.next_of-next.ensures)
     ] in

@@ -1,6 +1,6 @@
 use Rattle.std.proofs.Common.{◌≡◌, sym, ap, subst, ◌∙◌, Some}
 use Rattle.art_slots.specs.Store.{slot_at, used_count, with_record}
-use Rattle.art_rows.specs.Numbers.{Has, with_pair_behind}
+use Rattle.art_rows.specs.Numbers.{Has, with_pair_after}
 use Rattle.std.specs.Prelude.{IfSome}
 use Rattle.art_slots.proofs.CallerLemmas.{with-now, with-others, with-count}
 use Rattle.art_rows.specs.declared.leaves.Leaf.{Leaf}
@@ -25,10 +25,10 @@ invariant_of-self g c =
     let q1 : x0 ≡ y0 = cc in
     let x : Leaf g.row.K.Denot g.row.V.Denot = record x0 { row = r } in
     let xy : x ≡ y = ap (λ (l : Leaf g.row.K.Denot g.row.V.Denot). record l { row = r }) q1 in
-    let behind = subst (λ rs. IfSome c.args.behind (Has rs)) (sym e) c.requires.behind in
-    let index = subst (λ rs. spot_index c.args.prev c.args.self.now.pairs ≡ row_end c.args.behind rs) (sym e) c.requires.index in
-    let put = c.insert-row.ensures.placed ∙ ap (λ l. with_pair_behind c.args.behind (r, l) c.self.inside.rows.pairs) (rw c.new-id.ensures at c.new.ensures) in
-    let files = files_begun f c.args.prev c.requires.prev n (no_record f n c.fill-number.ensures.fresh) c.args.key c.args.value c.args.behind behind index r c.insert-row.ensures.fresh c.insert-row.new.self.pairs put (slot_at (with_record made n x)) (with-now made n x0 x was ∙ ap Some xy) (λ j ne. with-others made n x0 x was j ne ∙ c.fill-number.ensures.others j ne) (used_count (with_record made n x)) (with-count made n x0 x was ∙ c.fill-number.ensures.used) in
+    let prev_row = subst (λ rs. IfSome c.args.prev_row (Has rs)) (sym e) c.requires.prev_row in
+    let index = subst (λ rs. spot_index c.args.prev c.args.self.now.pairs ≡ row_end c.args.prev_row rs) (sym e) c.requires.index in
+    let put = c.insert-row.ensures.placed ∙ ap (λ l. with_pair_after c.args.prev_row (r, l) c.self.inside.rows.pairs) (rw c.new-id.ensures at c.new.ensures) in
+    let files = files_begun f c.args.prev c.requires.prev n (no_record f n c.fill-number.ensures.fresh) c.args.key c.args.value c.args.prev_row prev_row index r c.insert-row.ensures.fresh c.insert-row.new.self.pairs put (slot_at (with_record made n x)) (with-now made n x0 x was ∙ ap Some xy) (λ j ne. with-others made n x0 x was j ne ∙ c.fill-number.ensures.others j ne) (used_count (with_record made n x)) (with-count made n x0 x was ∙ c.fill-number.ensures.used) in
     all_filed (with_record made n x) files
 
 pub returns-clause-placed : goal.returns-clause-placed
@@ -46,8 +46,8 @@ returns-clause-placed g c =
     let q1 : x0 ≡ y0 = cc in
     let x : Leaf g.row.K.Denot g.row.V.Denot = record x0 { row = r } in
     let xy : x ≡ y = ap (λ (l : Leaf g.row.K.Denot g.row.V.Denot). record l { row = r }) q1 in
-    let behind = subst (λ rs. IfSome c.args.behind (Has rs)) (sym e) c.requires.behind in
-    let index = subst (λ rs. spot_index c.args.prev c.args.self.now.pairs ≡ row_end c.args.behind rs) (sym e) c.requires.index in
-    let put = c.insert-row.ensures.placed ∙ ap (λ l. with_pair_behind c.args.behind (r, l) c.self.inside.rows.pairs) (rw c.new-id.ensures at c.new.ensures) in
-    let files = files_begun f c.args.prev c.requires.prev n (no_record f n c.fill-number.ensures.fresh) c.args.key c.args.value c.args.behind behind index r c.insert-row.ensures.fresh c.insert-row.new.self.pairs put (slot_at (with_record made n x)) (with-now made n x0 x was ∙ ap Some xy) (λ j ne. with-others made n x0 x was j ne ∙ c.fill-number.ensures.others j ne) (used_count (with_record made n x)) (with-count made n x0 x was ∙ c.fill-number.ensures.used) in
+    let prev_row = subst (λ rs. IfSome c.args.prev_row (Has rs)) (sym e) c.requires.prev_row in
+    let index = subst (λ rs. spot_index c.args.prev c.args.self.now.pairs ≡ row_end c.args.prev_row rs) (sym e) c.requires.index in
+    let put = c.insert-row.ensures.placed ∙ ap (λ l. with_pair_after c.args.prev_row (r, l) c.self.inside.rows.pairs) (rw c.new-id.ensures at c.new.ensures) in
+    let files = files_begun f c.args.prev c.requires.prev n (no_record f n c.fill-number.ensures.fresh) c.args.key c.args.value c.args.prev_row prev_row index r c.insert-row.ensures.fresh c.insert-row.new.self.pairs put (slot_at (with_record made n x)) (with-now made n x0 x was ∙ ap Some xy) (λ j ne. with-others made n x0 x was j ne ∙ c.fill-number.ensures.others j ne) (used_count (with_record made n x)) (with-count made n x0 x was ∙ c.fill-number.ensures.used) in
     rw c.new-id.ensures (pairs_are (with_record made n x) files)

@@ -1,6 +1,6 @@
 use Rattle.std.proofs.Common.{◌<◌, length, sym, ap, ◌∙◌, rules}
 use Rattle.std.specs.Prelude.{option_map}
-use Rattle.art_rows.proofs.FilingLemmas.{seen, has_row_at, place_at, forward_within, forward_behind}
+use Rattle.art_rows.proofs.FilingLemmas.{seen, has_row_at, place_at, forward_within, forward_after}
 use Rattle.art_rows.specs.Rows.{start_of}
 use Rattle.art_rows.proofs.leaves.Leaves.forward.Goals as goal
 
@@ -21,9 +21,9 @@ returns-then-place-len g c k e =
 pub returns-in-None : goal.returns-in-None
 returns-in-None g c k e =
     let f = seen c.self.inside c.self.view_is c.self.invariant in
-    rw (← c.self.view_is) (ap (option_map start_of) (sym c.in-None.is ∙ c.next_of.ensures) ∙ sym (forward_behind f k c.args.position (rw (← c.self.view_is) at e) _ c.read.ensures (rw (← c.len-len.ensures.len) c.if-place-len.false)))
+    rw (← c.self.view_is) (ap (option_map start_of) (sym c.in-None.is ∙ c.next_of.ensures) ∙ sym (forward_after f k c.args.position (rw (← c.self.view_is) at e) _ c.read.ensures (rw (← c.len-len.ensures.len) c.if-place-len.false)))
 
 pub returns-in-Some : goal.returns-in-Some
 returns-in-Some g c k e =
     let f = seen c.self.inside c.self.view_is c.self.invariant in
-    rw (← c.self.view_is) (ap (option_map start_of) (sym c.in-Some.is ∙ c.next_of.ensures) ∙ sym (forward_behind f k c.args.position (rw (← c.self.view_is) at e) _ c.read.ensures (rw (← c.len-len.ensures.len) c.if-place-len.false)))
+    rw (← c.self.view_is) (ap (option_map start_of) (sym c.in-Some.is ∙ c.next_of.ensures) ∙ sym (forward_after f k c.args.position (rw (← c.self.view_is) at e) _ c.read.ensures (rw (← c.len-len.ensures.len) c.if-place-len.false)))

@@ -25,8 +25,8 @@ returns-then-row_len-lt-ROW-clause-room g c =
     let a = spot_put s.0 s.1 c.put.new.self.rows c.put.result c.args.self.now.spare_rows c.put.ensures.rows in
     rw c.put.ensures.spare_rows (omega (arith, c.put.ensures.spare))
 
-pub row_behind-requires : goal.row_behind-requires
-row_behind-requires g c =
+pub row_after-requires : goal.row_after-requires
+row_after-requires g c =
     let s = spotted c.self.inside c.self.view_is c.self.invariant c.in-Some.is c.spot.ensures.some in
     spot_has s.0 s.1
 
@@ -36,8 +36,8 @@ begin-requires-then-is_none-clause-spare_rows g c =
     let full = spot_full s.0 s.1 _ c.row_len.ensures.len c.row_len.ensures.fits c.if-row_len-lt-ROW.false in
     spot_spare s.0 s.1 c.args.self.now.spare_rows full (omega (arith, c.requires.room))
 
-pub begin-requires-then-is_none-clause-behind : goal.begin-requires-then-is_none-clause-behind
-begin-requires-then-is_none-clause-behind g c =
+pub begin-requires-then-is_none-clause-prev_row : goal.begin-requires-then-is_none-clause-prev_row
+begin-requires-then-is_none-clause-prev_row g c =
     let s = spotted c.self.inside c.self.view_is c.self.invariant c.in-Some.is c.spot.ensures.some in
     spot_has s.0 s.1
 
@@ -51,7 +51,7 @@ pub returns-then-is_none-clause-room : goal.returns-then-is_none-clause-room
 returns-then-is_none-clause-room g c =
     let s = spotted c.self.inside c.self.view_is c.self.invariant c.in-Some.is c.spot.ensures.some in
     let full = spot_full s.0 s.1 _ c.row_len.ensures.len c.row_len.ensures.fits c.if-row_len-lt-ROW.false in
-    let none = sym c.row_behind.ensures ∙ none_of c.row_behind.result c.is_none.result c.is_none.ensures c.if-is_none.true in
+    let none = sym c.row_after.ensures ∙ none_of c.row_after.result c.is_none.result c.is_none.ensures c.if-is_none.true in
     let b = c.begin-then-is_none.ensures in
     let n = c.begin-then-is_none.new.self in
     let a = spot_begun s.0 s.1 none full n.rows b.rows.0 c.begin-then-is_none.result c.args.self.now.spare_rows n.spare_rows b.rows.1 b.spare_rows in

@@ -21,8 +21,8 @@ at-requires g c =
     let at = ap (λ s. position_at s.rows b.0) c.self.view_is ∙ b.2 in
     place_at (seen c.self.inside c.self.view_is c.self.invariant) b.0 c.in-Some.position at _ c.read-row.ensures
 
-pub ahead_of-requires : goal.ahead_of-requires
-ahead_of-requires g c =
+pub run_before-requires : goal.run_before-requires
+run_before-requires g c =
     let b = before_some c.args.self.now.rows c.backward.ensures.before c.backward.ensures.first c.position_of.ensures c.in-Some.is in
     let at = ap (λ s. position_at s.rows b.0) c.self.view_is ∙ b.2 in
     place_at (seen c.self.inside c.self.view_is c.self.invariant) b.0 c.in-Some.position at _ c.read-row.ensures
@@ -40,4 +40,4 @@ returns-clause-runs g c =
     let b = before_some c.args.self.now.rows c.backward.ensures.before c.backward.ensures.first c.position_of.ensures c.in-Some.is in
     let at = ap (λ s. position_at s.rows b.0) c.self.view_is ∙ b.2 in
     let runs = before_in_row f b.0 c.in-Some.position at _ c.read-row.ensures c.at.result c.at.ensures in
-    subst (RunsBefore c.args.self.now.pairs c.at.result) (sym c.ahead_of.ensures) runs
+    subst (RunsBefore c.args.self.now.pairs c.at.result) (sym c.run_before.ensures) runs

@@ -2,7 +2,7 @@ use Rattle.std.proofs.Common.{◌<◌, length, sym, ap, ◌∙◌, rules}
 use Rattle.art_rows.specs.Rows.{position_at}
 use Rattle.art_rows.specs.Leaves.{index_of}
 use Rattle.art_rows.proofs.FilingLemmas.{seen, has_row_at, place_at}
-use Rattle.art_rows.proofs.RowChanges.{spot_first, first_none, spot_behind}
+use Rattle.art_rows.proofs.RowChanges.{spot_first, first_none, spot_after}
 use Rattle.art_rows.proofs.leaves.Leaves.spot.Goals as goal
 
 pub read-requires : goal.read-requires
@@ -25,4 +25,4 @@ returns-in-None-clause-none g c =
     rw (← c.self.view_is) (first_none c.self.inside.rows.pairs f.filled c.first_position.result (c.first_position.ensures ∙ sym (ap (λ t. position_at t.rows 0) c.self.view_is)))
 
 pub returns-in-Some-clause-some : goal.returns-in-Some-clause-some
-returns-in-Some-clause-some g c = rw c.in-Some.is (spot_behind c.args.self.now.rows _ c.position_near-position.result c.position_near-position.ensures)
+returns-in-Some-clause-some g c = rw c.in-Some.is (spot_after c.args.self.now.rows _ c.position_near-position.result c.position_near-position.ensures)

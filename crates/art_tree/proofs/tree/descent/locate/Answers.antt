@@ -7,7 +7,7 @@ use Rattle.art_kinds.specs.declared.records.ids.Child.{Child}
 use Rattle.art_kinds.specs.declared.records.ids.Child.TheVariants.{Inner}
 use Rattle.art_tree.proofs.Ways.Depths.{rank, rank_falls}
 use Rattle.art_tree.proofs.Ways.WaysDown.{way_start, way_at, way_on}
-use Rattle.art_tree.proofs.Ways.ToSpot.{Follows, followed_edge, followed_few, node_at_depth, node_past_depth, edge_of_mate, follow_edge}
+use Rattle.art_tree.proofs.Ways.ToSpot.{Follows, followed_edge, followed_few, node_at_depth, node_past_depth, edge_of_nearest, follow_edge}
 use Rattle.art_tree.proofs.tree.descent.locate.Goals as goal
 
 pub down-init : goal.down-init
@@ -19,14 +19,14 @@ down-init g c = record {
 
 pub returns-in-Leaf-clause-spot : goal.returns-in-Leaf-clause-spot
 returns-in-Leaf-clause-spot g c = λ keys s i is. (
-  followed_edge keys (at c.args.nodes.now) c.args.mate.now c.args.depth (Some c.args.root.now) s c.down.above c.args.visits.now.count c.down.visits.count c.down.at c.down.invariant.leads (c.down.invariant.way keys s i is),
+  followed_edge keys (at c.args.nodes.now) c.args.nearest.now c.args.depth (Some c.args.root.now) s c.down.above c.args.visits.now.count c.down.visits.count c.down.at c.down.invariant.leads (c.down.invariant.way keys s i is),
   subst (λ (k : Child). PastLength s.front_of c.args.depth k) (sym c.in-Leaf.is) tt,
 )
 
 pub returns-in-Leaf-clause-counted : goal.returns-in-Leaf-clause-counted
 returns-in-Leaf-clause-counted g c =
     let r = c.requires in
-    omega (arith, followed_few r.keys (at c.args.nodes.now) c.args.mate.now c.args.depth (Some c.args.root.now) r.shape c.down.above c.args.visits.now.count c.down.visits.count r.within c.down.at (c.down.invariant.way r.keys r.shape r.leaf r.is))
+    omega (arith, followed_few r.keys (at c.args.nodes.now) c.args.nearest.now c.args.depth (Some c.args.root.now) r.shape c.down.above c.args.visits.now.count c.down.visits.count r.within c.down.at (c.down.invariant.way r.keys r.shape r.leaf r.is))
 
 pub read-node-requires : goal.read-node-requires
 read-node-requires g c =
@@ -39,7 +39,7 @@ pub returns-then-length-depth-clause-spot : goal.returns-then-length-depth-claus
 returns-then-length-depth-clause-spot g c = λ keys s i is.
     let nodes = at c.args.nodes.now in
     let root = Some c.args.root.now in
-    let m = c.args.mate.now in
+    let m = c.args.nearest.now in
     let d = c.args.depth in
     let x = c.read-node.result in
     let w = way_at keys nodes s.front_of c.in-Inner.is (c.down.invariant.way keys s i is) in
@@ -50,14 +50,14 @@ pub returns-then-length-depth-clause-counted : goal.returns-then-length-depth-cl
 returns-then-length-depth-clause-counted g c =
     let nodes = at c.args.nodes.now in
     let r = c.requires in
-    let few = followed_few r.keys nodes c.args.mate.now c.args.depth (Some c.args.root.now) r.shape c.down.above c.args.visits.now.count c.down.visits.count r.within c.down.at (c.down.invariant.way r.keys r.shape r.leaf r.is) in
+    let few = followed_few r.keys nodes c.args.nearest.now c.args.depth (Some c.args.root.now) r.shape c.down.above c.args.visits.now.count c.down.visits.count r.within c.down.at (c.down.invariant.way r.keys r.shape r.leaf r.is) in
     omega (arith, few, c.read-node.ensures.counted)
 
 pub returns-then-length-depth-2-clause-spot : goal.returns-then-length-depth-2-clause-spot
 returns-then-length-depth-2-clause-spot g c = λ keys s i is.
     let nodes = at c.args.nodes.now in
     let root = Some c.args.root.now in
-    let m = c.args.mate.now in
+    let m = c.args.nearest.now in
     let d = c.args.depth in
     let x = c.read-node.result in
     let w = way_at keys nodes s.front_of c.in-Inner.is (c.down.invariant.way keys s i is) in
@@ -68,35 +68,35 @@ pub returns-then-length-depth-2-clause-counted : goal.returns-then-length-depth-
 returns-then-length-depth-2-clause-counted g c =
     let nodes = at c.args.nodes.now in
     let r = c.requires in
-    let few = followed_few r.keys nodes c.args.mate.now c.args.depth (Some c.args.root.now) r.shape c.down.above c.args.visits.now.count c.down.visits.count r.within c.down.at (c.down.invariant.way r.keys r.shape r.leaf r.is) in
+    let few = followed_few r.keys nodes c.args.nearest.now c.args.depth (Some c.args.root.now) r.shape c.down.above c.args.visits.now.count c.down.visits.count r.within c.down.at (c.down.invariant.way r.keys r.shape r.leaf r.is) in
     omega (arith, few, c.read-node.ensures.counted)
 
 pub unreachable-requires : goal.unreachable-requires
 unreachable-requires g c =
     let nodes = at c.args.nodes.now in
     let root = Some c.args.root.now in
-    let m = c.args.mate.now in
+    let m = c.args.nearest.now in
     let d = c.args.depth in
     let x = c.read-node.result in
     let r = c.requires in
     let w = way_at r.keys nodes r.shape.front_of c.in-Inner.is (c.down.invariant.way r.keys r.shape r.leaf r.is) in
     let none : child_at x.edges (get_or m x.depth 0) ≡ None = rw (← c.depth-length.ensures) (sym c.find.ensures ∙ c.in-None.is) in
-    edge_of_mate r.keys nodes m d root r.shape c.down.above c.args.visits.now.count c.down.visits.count r.within r.leaf r.is c.in-Inner.id x c.read-node.ensures.value w none
+    edge_of_nearest r.keys nodes m d root r.shape c.down.above c.args.visits.now.count c.down.visits.count r.within r.leaf r.is c.in-Inner.id x c.read-node.ensures.value w none
 
 pub down-smaller : goal.down-smaller
 down-smaller g c =
     let r = c.requires in
     let x = c.read-node.result in
-    let there : child_at x.edges (get_or c.args.mate.now x.depth 0) ≡ Some c.in-Some.child = rw (← c.depth-length.ensures) (sym c.find.ensures ∙ c.in-Some.is) in
+    let there : child_at x.edges (get_or c.args.nearest.now x.depth 0) ≡ Some c.in-Some.child = rw (← c.depth-length.ensures) (sym c.find.ensures ∙ c.in-Some.is) in
     subst (λ (a : Child). rank c.args.nodes.now c.in-Some.child < rank c.args.nodes.now a) (sym c.in-Inner.is)
-    (rank_falls r.keys c.args.nodes.now (Some c.args.root.now) r.shape c.in-Inner.id (get_or c.args.mate.now x.depth 0) x c.in-Some.child c.read-node.ensures.value there)
+    (rank_falls r.keys c.args.nodes.now (Some c.args.root.now) r.shape c.in-Inner.id (get_or c.args.nearest.now x.depth 0) x c.in-Some.child c.read-node.ensures.value there)
 
 pub down-preserved : goal.down-preserved
 down-preserved g c = record {
   way = λ keys s i is.
       let nodes = at c.args.nodes.now in
       let root = Some c.args.root.now in
-      let m = c.args.mate.now in
+      let m = c.args.nearest.now in
       let d = c.args.depth in
       let x = c.read-node.result in
       let w = way_at keys nodes s.front_of c.in-Inner.is (c.down.invariant.way keys s i is) in

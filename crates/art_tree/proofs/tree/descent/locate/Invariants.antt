@@ -9,7 +9,7 @@ use Rattle.art_tree.proofs.tree.descent.locate.Given as goal
 
 abbrev pub invariant-down : goal.invariant-down
 invariant-down g l = record {
-  way : (keys : ℕ → Option Bytes) (s : Shape g.row.P keys (at l.nodes) (Some l.fn.root)) (i : ℕ) → keys i ≡ Some l.mate → Follows keys (at l.nodes) s.front_of l.mate l.depth l.above l.at l.initial.visits.count l.visits.count;
+  way : (keys : ℕ → Option Bytes) (s : Shape g.row.P keys (at l.nodes) (Some l.fn.root)) (i : ℕ) → keys i ≡ Some l.nearest → Follows keys (at l.nodes) s.front_of l.nearest l.depth l.above l.at l.initial.visits.count l.visits.count;
   leads : LeadsTo (at l.nodes) (Some l.fn.root) l.above l.at;
   rising : l.initial.visits.count ≤ l.visits.count;
 }

@@ -1,7 +1,7 @@
 use Rattle.std.proofs.Common.{subst}
 use Rattle.art_kinds.specs.Edges.{IsPrevious, IsNext}
 use Rattle.art_kinds.specs.Nodes.{at}
-use Rattle.art_tree.proofs.Ways.Departures.{no_edge_beside}
+use Rattle.art_tree.proofs.Ways.Mismatches.{no_edge_beside}
 use Rattle.art_tree.proofs.tree.parting.edge_beside.Goals as goal
 
 pub unreachable-requires : goal.unreachable-requires

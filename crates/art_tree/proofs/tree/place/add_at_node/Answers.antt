@@ -24,14 +24,14 @@ add_edge-requires g c =
       lit< tt,
       (
         place_led c.widen-wide.new.self c.lead-top.new.nodes (Some c.args.root.now) (Some c.lead-top.result) c.args.above.now (Inner c.widen-wide.result) c.widen-wide.result c.lead-top.ensures.turned c.widen-wide.ensures.place,
-        wide_absent j.keys j.leaf c.args.leaf.now.depth c.args.leaf.now.key.now j.leaves c.args.leaf.now.mate.now j.is (at c.args.nodes.now) (at c.widen-wide.new.self) (at c.lead-top.new.nodes) (Some c.args.root.now) (Some c.lead-top.result) c.args.node.now c.widen-wide.result c.args.above.now j.shape j.fits.1
+        wide_absent j.keys j.leaf c.args.leaf.now.depth c.args.leaf.now.key.now j.leaves c.args.leaf.now.nearest.now j.is (at c.args.nodes.now) (at c.widen-wide.new.self) (at c.lead-top.new.nodes) (Some c.args.root.now) (Some c.lead-top.result) c.args.node.now c.widen-wide.result c.args.above.now j.shape j.fits.1
             c.widen-wide.ensures.moved j.fits.0.leads c.lead-top.ensures.turned,
       ),
     )
 
 pub returns-clause-gains : goal.returns-clause-gains
 returns-clause-gains g c keys keys' s leaf is leaves fits gains =
-    placed_wide keys leaf c.args.leaf.now.depth c.args.leaf.now.key.now leaves c.args.leaf.now.mate.now is keys' c.args.leaf.now.id gains (at c.args.nodes.now) (at c.widen-wide.new.self) (at c.lead-top.new.nodes) (at c.add_edge.new.self) (Some c.args.root.now) (Some c.lead-top.result) c.args.node.now c.widen-wide.result c.args.above.now s fits.1
+    placed_wide keys leaf c.args.leaf.now.depth c.args.leaf.now.key.now leaves c.args.leaf.now.nearest.now is keys' c.args.leaf.now.id gains (at c.args.nodes.now) (at c.widen-wide.new.self) (at c.lead-top.new.nodes) (at c.add_edge.new.self) (Some c.args.root.now) (Some c.lead-top.result) c.args.node.now c.widen-wide.result c.args.above.now s fits.1
     c.widen-wide.ensures.moved fits.0.leads c.lead-top.ensures.turned c.add_edge.ensures.added
 
 pub returns-clause-room : goal.returns-clause-room

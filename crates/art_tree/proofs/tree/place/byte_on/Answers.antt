@@ -19,4 +19,4 @@ returns-in-Some g c =
     let same : deep.0 ≡ x = cc in
     let lo : c.args.depth + 1 ≤ x.depth = subst (λ (y : Node). c.args.depth + 1 ≤ y.depth) same deep.2 in
     let b : slice_get (take P (slice_range key c.args.from x.depth)) i ≡ Some c.in-Some.byte = subst (λ (t : List ℕ). slice_get t i ≡ Some c.in-Some.byte) kept (sym c.prefix_byte.ensures ∙ c.in-Some.is) in
-    kept_byte P key c.args.from c.args.depth x.depth c.in-Some.byte c.requires.behind (omega arith) b
+    kept_byte P key c.args.from c.args.depth x.depth c.in-Some.byte c.requires.reaches (omega arith) b

@@ -22,5 +22,5 @@ returns-then-end-from-clause-cut g c =
     let d : c.depth-end.result ≡ x.depth = c.depth-end.ensures in
     let few : x.depth - c.args.from ≤ P = omega (arith, c.if-end-from.true, d) in
     let e : take P (drop (c.args.start - c.args.from) x.prefix) ≡ take P (slice_range key c.args.start x.depth) =
-    ap (λ (t : List ℕ). take P (drop (c.args.start - c.args.from) t)) kept ∙ cut_kept P key c.args.from c.args.start x.depth c.requires.behind lo few in
+    ap (λ (t : List ℕ). take P (drop (c.args.start - c.args.from) t)) kept ∙ cut_kept P key c.args.from c.args.start x.depth c.requires.reaches lo few in
     subst (λ (z : Child). Cuts old new z (λ end. take P (slice_range key c.args.start end))) (sym c.in-Inner.is) (x, is, subst (λ (t : List ℕ). Reprefixes old new c.in-Inner.id t) e (c.cut_prefix.ensures.cut x is))

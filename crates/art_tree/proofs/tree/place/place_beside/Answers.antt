@@ -1,10 +1,10 @@
 use Rattle.std.proofs.Common.{◌≡◌, ◌<◌, length, ap, sym, ◌∙◌, Some, lit<, arith}
 use Rattle.art_tree.specs.Leaves.{leaf_in, keys_in}
-use Rattle.art_tree.proofs.Calls.PlacedShapes.{mate_long}
+use Rattle.art_tree.proofs.Calls.PlacedShapes.{nearest_long}
 use Rattle.art_tree.proofs.Pairs.Keys.{key_of_pair}
 use Rattle.art_kinds.specs.Nodes.{at}
 use Rattle.blart_keys.proofs.Options.{is_some}
-use Rattle.art_tree.proofs.Pairs.Placed.{has_beside, has_behind, free_before, placed_free, kept_pair, free_spot, free_gains}
+use Rattle.art_tree.proofs.Pairs.Placed.{has_beside, has_leaf_before, free_before, placed_free, kept_pair, free_spot, free_gains}
 use Rattle.art_tree.proofs.tree.place.place_beside.Goals as goal
 
 pub leaf_before-prev-requires : goal.leaf_before-prev-requires
@@ -16,7 +16,7 @@ insert-id-requires-clause-prev g c =
     let l = c.args.leaves.now in
     let q = kb c.args.key in
     let before = free_before kb l c.args.nodes.now (Some c.args.root.now) c.args.place.now q c.requires.whole c.law.ensures.distinct c.requires.free c.leaf_before-prev.result.0 c.leaf_before-prev.ensures in
-    has_behind kb l.pairs q c.leaf_before-prev.result.0 before
+    has_leaf_before kb l.pairs q c.leaf_before-prev.result.0 before
 
 pub read-requires-2 : goal.read-requires-2
 read-requires-2 g c =
@@ -31,7 +31,7 @@ read-requires-3 g c =
     let x : g.row.K.Denot × g.row.V.Denot = (c.args.key, c.args.value) in
     let y : g.row.K.Denot × g.row.V.Denot = (c.read.result.0.now, c.read.result.1.now) in
     let p = placed_free g.K.AsBytes.bytes c.args.leaves.now c.args.nodes.now (Some c.args.root.now) c.args.place.now i.new.self.pairs i.result x c.requires.whole c.law.ensures.distinct c.requires.free c.leaf_before-prev.result.0 c.leaf_before-prev.ensures i.ensures.fresh i.ensures.placed in
-    is_some (leaf_in i.new.self.pairs c.args.place.now.mate) y (kept_pair g.K.AsBytes.bytes c.args.leaves.now.pairs i.new.self.pairs i.result x p c.args.place.now.mate y c.read.ensures.value)
+    is_some (leaf_in i.new.self.pairs c.args.place.now.nearest) y (kept_pair g.K.AsBytes.bytes c.args.leaves.now.pairs i.new.self.pairs i.result x p c.args.place.now.nearest y c.read.ensures.value)
 
 pub add_leaf-top-requires : goal.add_leaf-top-requires
 add_leaf-top-requires g c =
@@ -62,8 +62,8 @@ pub spot_for-spot-requires : goal.spot_for-spot-requires
 spot_for-spot-requires g c =
     let kb = g.K.AsBytes.bytes in
     let S = c.args.leaves.now.pairs in
-    let m = c.args.place.now.mate in
+    let m = c.args.place.now.nearest in
     let key = c.as_bytes.result.now in
     let is : keys_in kb S m ≡ Some key = key_of_pair kb S m (c.read.result.0.now, c.read.result.1.now) c.read.ensures.value ∙ ap Some (sym c.as_bytes.ensures) in
-    let long : c.args.place.now.depth < length key = mate_long (keys_in kb S) m c.args.place.now.depth (kb c.args.key) c.requires.free.leaves key is in
+    let long : c.args.place.now.depth < length key = nearest_long (keys_in kb S) m c.args.place.now.depth (kb c.args.key) c.requires.free.leaves key is in
     (lit< tt, record { keys = keys_in kb S; shape = c.requires.whole.shape; is = is; within = omega arith })

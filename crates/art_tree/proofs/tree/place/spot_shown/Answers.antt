@@ -10,15 +10,15 @@ use Rattle.art_tree.proofs.Ways.Shown.{shown_edge, shown_node}
 use Rattle.art_tree.proofs.tree.place.spot_shown.Goals as goal
 
 pub returns-else-not-is_within : goal.returns-else-not-is_within
-returns-else-not-is_within g c = λ keys s mate is long.
+returns-else-not-is_within g c = λ keys s nearest is long.
     let nodes = at c.args.nodes.now in
     let leads : LeadsTo nodes (Some c.args.root.now) c.args.place.now.above (Leaf c.in-Leaf.id) = subst (λ (z : Child). LeadsTo nodes (Some c.args.root.now) c.args.place.now.above z) c.in-Leaf.is c.in_ok-child.ensures in
-    let same : c.in-Leaf.id ≡ c.args.place.now.mate = (elim (eqb_tells c.in-Leaf.id c.args.place.now.mate) [ inl e ↦ e.1 | inr e ↦ absurd (false≢true (c.if-ne.ensures ∙ ap (λ (b : Bool). not b) e.0)) ]) in
-    let own : keys c.in-Leaf.id ≡ Some mate = ap keys same ∙ is in
-    shown_edge keys nodes (Some c.args.root.now) s c.in-Leaf.id c.args.place.now.depth mate own c.args.place.now.above long leads (c.is_within.ensures c.if-not-is_within.false)
+    let same : c.in-Leaf.id ≡ c.args.place.now.nearest = (elim (eqb_tells c.in-Leaf.id c.args.place.now.nearest) [ inl e ↦ e.1 | inr e ↦ absurd (false≢true (c.if-ne.ensures ∙ ap (λ (b : Bool). not b) e.0)) ]) in
+    let own : keys c.in-Leaf.id ≡ Some nearest = ap keys same ∙ is in
+    shown_edge keys nodes (Some c.args.root.now) s c.in-Leaf.id c.args.place.now.depth nearest own c.args.place.now.above long leads (c.is_within.ensures c.if-not-is_within.false)
 
-pub returns-else-not-is_over_mate : goal.returns-else-not-is_over_mate
-returns-else-not-is_over_mate g c = λ keys s mate is long.
+pub returns-else-not-is_over_nearest : goal.returns-else-not-is_over_nearest
+returns-else-not-is_over_nearest g c = λ keys s nearest is long.
     let nodes = at c.args.nodes.now in
     let leads : LeadsTo nodes (Some c.args.root.now) c.args.place.now.above (Inner c.in-Inner.id) = subst (λ (z : Child). LeadsTo nodes (Some c.args.root.now) c.args.place.now.above z) c.in-Inner.is c.in_ok-child.ensures in
-    shown_node keys nodes (Some c.args.root.now) s c.args.place.now.mate c.args.place.now.depth mate is c.args.place.now.above c.in-Inner.id c.args.place.now.byte leads (c.is_over_mate.ensures c.if-not-is_over_mate.false)
+    shown_node keys nodes (Some c.args.root.now) s c.args.place.now.nearest c.args.place.now.depth nearest is c.args.place.now.above c.in-Inner.id c.args.place.now.byte leads (c.is_over_nearest.ensures c.if-not-is_over_nearest.false)

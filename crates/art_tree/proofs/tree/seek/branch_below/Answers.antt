@@ -2,7 +2,7 @@ use Rattle.std.proofs.Common.{◌+◌, ◌≤◌, length, sym, lit<, arith, Some
 use Rattle.art_tree.specs.Leaves.{keys_in, bytes}
 use Rattle.art_tree.specs.Longest.{longest}
 use Rattle.art_kinds.specs.Nodes.{at}
-use Rattle.art_tree.proofs.Ways.Partings.{query_within, way_of_mate, covers_reached, branch_reached}
+use Rattle.art_tree.proofs.Ways.Partings.{query_within, way_of_nearest, covers_reached, branch_reached}
 use Rattle.art_tree.proofs.Pairs.Bounds.{ends_under, no_ends}
 use Rattle.art_tree.proofs.Invariant.Soundness.{within_longest}
 use Rattle.art_tree.proofs.tree.seek.branch_below.Goals as goal
@@ -14,7 +14,7 @@ pub locate-spot-requires : goal.locate-spot-requires
 locate-spot-requires g c =
     let n = c.nearest_leaf-depth.result in
     let near = c.nearest_leaf-depth.ensures.nearest in
-    (lit< tt, way_of_mate g.K.AsBytes.bytes c.args.leaves.now.pairs (at c.args.nodes.now) c.args.root.now c.requires.shape c.args.front.now n.0 n.2 n.1.now near.is near.shared)
+    (lit< tt, way_of_nearest g.K.AsBytes.bytes c.args.leaves.now.pairs (at c.args.nodes.now) c.args.root.now c.requires.shape c.args.front.now n.0 n.2 n.1.now near.is near.shared)
 
 pub end_under-first-requires : goal.end_under-first-requires
 end_under-first-requires g c =

@@ -39,7 +39,7 @@ returns-in-Apart-clause-stands g c =
     let S = c.args.leaves.now.pairs in
     let l = c.in-Apart.ensures.parts in
     let b = before_beside kb S c.requires.content c.law.ensures.distinct c.args.query.now l.apart.alone c.leaf_beside-beside.result (c.leaf_beside-beside.ensures.beside (keys_in kb S) l) in
-    place_apart kb S c.requires.content c.law.ensures.distinct (at c.args.nodes.now) c.args.query.now c.in-Apart.departure l c.leaf_before.result.0 (subst (IsLeafBefore (keys_in kb S) c.args.query.now) (sym c.leaf_before.ensures) b)
+    place_apart kb S c.requires.content c.law.ensures.distinct (at c.args.nodes.now) c.args.query.now c.in-Apart.mismatch l c.leaf_before.result.0 (subst (IsLeafBefore (keys_in kb S) c.args.query.now) (sym c.leaf_before.ensures) b)
 
 pub returns-in-Apart-clause-counted : goal.returns-in-Apart-clause-counted
 returns-in-Apart-clause-counted g c =

@@ -36,8 +36,8 @@ slice_bounds-front-end g c =
     let f = cut_front keys (at c.args.nodes.now) c.args.query.now c.args.id c.args.start w c.read.result c.read.ensures.value c.end_under-leaf.result c.as_bytes.result.now (key_of_pair g.K.AsBytes.bytes S c.end_under-leaf.result (c.read-2.result.0.now, c.read-2.result.1.now) c.read-2.ensures.value ∙ ap Some (sym c.as_bytes.ensures)) u.key u.is u.front c.depth-depth.result c.depth-depth.ensures in
     sym (length-take-le c.depth-depth.result c.as_bytes.result.now f.1)
 
-pub common_len_behind-requires : goal.common_len_behind-requires
-common_len_behind-requires g c =
+pub common_len_after-requires : goal.common_len_after-requires
+common_len_after-requires g c =
     let w = c.requires in
     let S = c.args.leaves.now.pairs in
     let keys = keys_in g.K.AsBytes.bytes S in
@@ -56,7 +56,7 @@ overflow_add-len g c =
     let whole : length front ≡ c.depth-depth.result = length-take-le c.depth-depth.result c.as_bytes.result.now f.1 in
     let low : c.args.start ≤ length front = subst (λ (z : Bytes). c.args.start ≤ length z) (sym f.0) (start_within keys (at c.args.nodes.now) c.args.query.now c.args.id c.args.start w) in
     let few : length (common (drop c.args.start front) (drop c.args.start c.args.query.now)) ≤ length (drop c.args.start front) = common-in_left (drop c.args.start front) (drop c.args.start c.args.query.now) in
-    omega (arith, length-drop c.args.start front, c.common_len_behind.ensures, c.depth-depth.type_inv)
+    omega (arith, length-drop c.args.start front, c.common_len_after.ensures, c.depth-depth.type_inv)
 
 pub bounds-front-len : goal.bounds-front-len
 bounds-front-len g c =
@@ -74,8 +74,8 @@ returns-then-len-depth g c w =
     let keys = keys_in g.K.AsBytes.bytes S in
     let u = c.end_under-leaf.ensures.ends keys w.root w.shape (edge_front w.shape.front_of w.above) (node_covers keys (at c.args.nodes.now) c.args.query.now c.args.id c.args.start w) in
     let f = cut_front keys (at c.args.nodes.now) c.args.query.now c.args.id c.args.start w c.read.result c.read.ensures.value c.end_under-leaf.result c.as_bytes.result.now (key_of_pair g.K.AsBytes.bytes S c.end_under-leaf.result (c.read-2.result.0.now, c.read-2.result.1.now) c.read-2.ensures.value ∙ ap Some (sym c.as_bytes.ensures)) u.key u.is u.front c.depth-depth.result c.depth-depth.ensures in
-    let e : c.args.start + c.common_len_behind.result ≡ c.args.start + length (common (drop c.args.start (w.shape.front_of c.args.id)) (drop c.args.start c.args.query.now)) = ap (λ (z : ℕ). c.args.start + z) (c.common_len_behind.ensures ∙ ap (λ (z : Bytes). length (common (drop c.args.start z) (drop c.args.start c.args.query.now))) f.0) in
-    shared_from keys (at c.args.nodes.now) c.args.query.now c.args.id c.args.start w _ _ e (λ l. ap (λ (z : Bytes). get_or z (c.args.start + c.common_len_behind.result) 0) f.0)
+    let e : c.args.start + c.common_len_after.result ≡ c.args.start + length (common (drop c.args.start (w.shape.front_of c.args.id)) (drop c.args.start c.args.query.now)) = ap (λ (z : ℕ). c.args.start + z) (c.common_len_after.ensures ∙ ap (λ (z : Bytes). length (common (drop c.args.start z) (drop c.args.start c.args.query.now))) f.0) in
+    shared_from keys (at c.args.nodes.now) c.args.query.now c.args.id c.args.start w _ _ e (λ l. ap (λ (z : Bytes). get_or z (c.args.start + c.common_len_after.result) 0) f.0)
 
 pub returns-else-len-depth : goal.returns-else-len-depth
 returns-else-len-depth g c w =
@@ -83,7 +83,7 @@ returns-else-len-depth g c w =
     let keys = keys_in g.K.AsBytes.bytes S in
     let u = c.end_under-leaf.ensures.ends keys w.root w.shape (edge_front w.shape.front_of w.above) (node_covers keys (at c.args.nodes.now) c.args.query.now c.args.id c.args.start w) in
     let f = cut_front keys (at c.args.nodes.now) c.args.query.now c.args.id c.args.start w c.read.result c.read.ensures.value c.end_under-leaf.result c.as_bytes.result.now (key_of_pair g.K.AsBytes.bytes S c.end_under-leaf.result (c.read-2.result.0.now, c.read-2.result.1.now) c.read-2.ensures.value ∙ ap Some (sym c.as_bytes.ensures)) u.key u.is u.front c.depth-depth.result c.depth-depth.ensures in
-    let e : c.args.start + c.common_len_behind.result ≡ c.args.start + length (common (drop c.args.start (w.shape.front_of c.args.id)) (drop c.args.start c.args.query.now)) = ap (λ (z : ℕ). c.args.start + z) (c.common_len_behind.ensures ∙ ap (λ (z : Bytes). length (common (drop c.args.start z) (drop c.args.start c.args.query.now))) f.0) in
+    let e : c.args.start + c.common_len_after.result ≡ c.args.start + length (common (drop c.args.start (w.shape.front_of c.args.id)) (drop c.args.start c.args.query.now)) = ap (λ (z : ℕ). c.args.start + z) (c.common_len_after.ensures ∙ ap (λ (z : Bytes). length (common (drop c.args.start z) (drop c.args.start c.args.query.now))) f.0) in
     let same_long : c.read.result.depth ≡ length (w.shape.front_of c.args.id) = (w.shape.node c.args.id c.read.result c.read.ensures.value).depth in
-    let over : c.depth-depth.result ≤ c.args.start + c.common_len_behind.result = c.if-len-depth.false in
+    let over : c.depth-depth.result ≤ c.args.start + c.common_len_after.result = c.if-len-depth.false in
     shared_from keys (at c.args.nodes.now) c.args.query.now c.args.id c.args.start w _ _ e (λ l. absurd (omega (arith, c.depth-depth.ensures)))

@@ -4,7 +4,7 @@ use Rattle.art_tree.specs.Leaves.{number_before}
 use Rattle.art_walk.specs.Cursor.{ends_left}
 use Rattle.art_walk.specs.Pairs.{pairs_of}
 use Rattle.art_walk.proofs.Passing.{fewer_last}
-use Rattle.art_walk.proofs.Runs.{stands_ahead, beside_last}
+use Rattle.art_walk.proofs.Runs.{stands_after, beside_last}
 use Rattle.art_walk.proofs.Steps.{has_last, passed_last}
 use Rattle.art_walk.proofs.walk.WalkDoubleEndedIterator.next_back.Goals as goal
 
@@ -17,8 +17,8 @@ invariant_of-self g c =
       (passed_last i.leaves.now.pairs c.law.ensures.distinct i.ends (c.in_ok-first.first, c.in_ok-first.last) c.in_ok-first.was c.self.invariant.0
           c.without_last-ends.result.0 (c.read-pair.result.0.now, c.read-pair.result.1.now) (number_before i.leaves.now.pairs c.in_ok-first.last)
           c.read-pair.ensures.value refl c.without_last-ends.ensures.one c.without_last-ends.ensures.more).0,
-      beside_last i.leaves.now.pairs i.leaves.now.rows c.in_ok-first.first c.in_ok-first.last i.ahead i.before.now c.without_last-ends.result.0 c.without_last-ends.result.1.now c.without_last-ends.ensures.stays c.without_last-ends.ensures.runs c.without_last-ends.ensures.one
-          (stands_ahead i.leaves.now.pairs i.leaves.now.rows c.in_ok-first.first c.in_ok-first.last i.ahead i.before.now i.ends c.in_ok-first.was c.self.invariant.1),
+      beside_last i.leaves.now.pairs i.leaves.now.rows c.in_ok-first.first c.in_ok-first.last i.following i.before.now c.without_last-ends.result.0 c.without_last-ends.result.1.now c.without_last-ends.ensures.stays c.without_last-ends.ensures.runs c.without_last-ends.ensures.one
+          (stands_after i.leaves.now.pairs i.leaves.now.rows c.in_ok-first.first c.in_ok-first.last i.following i.before.now i.ends c.in_ok-first.was c.self.invariant.1),
     )
 
 pub returns-clause-steps : goal.returns-clause-steps

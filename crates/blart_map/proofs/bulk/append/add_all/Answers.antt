@@ -5,7 +5,7 @@ use Rattle.blart_keys.specs.Steps.{bytes}
 use Rattle.blart_keys.proofs.Mapped.{content_map}
 use Rattle.art_walk.specs.Pairs.{pairs_of}
 use Rattle.art_tree.proofs.CallerLemmas.{length-without_number}
-use Rattle.blart_map.proofs.Moved.Appending.{fresh_behind, union_all, union_step}
+use Rattle.blart_map.proofs.Moved.Appending.{fresh_after, union_all, union_step}
 use Rattle.blart_map.proofs.Moved.Moving.{first_pair, first_has, no_first}
 use Rattle.blart_map.proofs.bulk.append.add_all.Goals as goal
 
@@ -29,7 +29,7 @@ loop-id-preserved g c =
     let cut : pairs_of ps ≡ x ∷ pairs_of new = first_pair ps c.in-Some.id x is c.remove-key.ensures.value ∙ ap (λ l. x ∷ pairs_of l) (sym rest) in
     let whole = i.whole ∙ ap (λ l. i.moved ++ l) cut in
     let content = c.requires.content in
-    let fresh = fresh_behind (bytes kb) i.moved (pairs_of new) x (subst (IsContent (bytes kb)) whole content) in
+    let fresh = fresh_after (bytes kb) i.moved (pairs_of new) x (subst (IsContent (bytes kb)) whole content) in
     let less : length new + 1 ≡ length ps = ap (λ (l : List _). length l + 1) rest ∙ length-without_number ps c.in-Some.id (first_has ps c.in-Some.id is) in
     record {
       moved = i.moved ++ x ∷ [];

@@ -7,7 +7,7 @@ use Rattle.art_walk.specs.Pairs.{pairs_of}
 use Rattle.art_walk.proofs.Steps.{no_last}
 use Rattle.art_tree.proofs.CallerLemmas.{length-without_number, Has-last}
 use Rattle.blart_map.proofs.Placed.Inserting.{alone_no_conflict, alone_absent}
-use Rattle.blart_map.proofs.Moved.Moving.{ahead_unrelated, put_front}
+use Rattle.blart_map.proofs.Moved.Moving.{before_unrelated, put_front}
 use Rattle.blart_map.proofs.Numbers.{last_pair}
 use Rattle.blart_map.proofs.bulk.split_off.move_last.Goals as goal
 
@@ -29,7 +29,7 @@ place_reserved-requires g c =
     let last = last_pair ps c.in-Some.id x c.law-in-loop.ensures.distinct (sym c.in-Some.ensures) c.remove-key.ensures.value ∙ ap (λ l. pairs_of l ++ x ∷ []) (sym c.remove-key.ensures.rest) in
     let whole = c.loop.invariant.whole ∙ ap (λ l. l ++ moved) last ∙ append_assoc rest (x ∷ []) moved in
     let content = subst (IsContent (bytes kb)) whole (content_map (λ p. p.1) (bytes kb) c.args.from.now.pairs c.law.ensures.content) in
-    let alone = ahead_unrelated (bytes kb) rest moved x content in
+    let alone = before_unrelated (bytes kb) rest moved x content in
     let room : 0 < room c.loop.to = omega (arith, c.loop.invariant.room, c.loop-test.true) in
     (lit< tt, (alone_absent (bytes kb) moved (kb x.0) alone, (alone_no_conflict (bytes kb) moved (kb x.0) alone, room)))
 

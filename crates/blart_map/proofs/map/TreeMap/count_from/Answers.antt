@@ -4,9 +4,9 @@ use Rattle.blart_map.specs.Content.{pairs}
 use Rattle.blart_map.proofs.Moved.Parting.{part_lengths}
 use Rattle.blart_map.proofs.map.TreeMap.count_from.Goals as goal
 
-pub count_behind-requires : goal.count_behind-requires
+pub count_after-requires : goal.count_after-requires
 unfolding pairs
-count_behind-requires g c =
+count_after-requires g c =
     let kb = g.K.AsBytes.bytes in
     let low = ap (λ (l : List _). length l) c.walk_below.ensures in
     let high = ap (λ (l : List _). length l) c.walk_from.ensures.value in

@@ -1,7 +1,7 @@
 use Rattle.std.proofs.Common.{sym, ◌∙◌, Some, None, ap}
 use Rattle.blart_keys.specs.Bytes.{begins}
-use Rattle.blart_keys.specs.Stored.{pair_before}
-use Rattle.blart_keys.proofs.StoredLemmas.{pair_before-begins}
+use Rattle.blart_keys.specs.Stored.{pair_at_front}
+use Rattle.blart_keys.proofs.StoredLemmas.{pair_at_front-begins}
 use Rattle.art_walk.specs.Pairs.{pairs_of}
 use Rattle.blart_map.specs.Content.{pairs}
 use Rattle.blart_map.proofs.Numbers.{found_pairs, no_pairs}
@@ -33,15 +33,15 @@ unfolding pairs
 returns-in-None-clause-empty g c = λ e. c.in-None.ensures.empty (no_pairs c.self.inside.tree.pairs (ap pairs_of c.self.view_is ∙ e))
 
 pub returns-in-Some-clause-pair : goal.returns-in-Some-clause-pair
-unfolding pair_before pairs
+unfolding pair_at_front pairs
 returns-in-Some-clause-pair g c = returns-in-Some-clause-value g c
 
 pub returns-in-None-clause-pair : goal.returns-in-None-clause-pair
-unfolding pair_before pairs
+unfolding pair_at_front pairs
 returns-in-None-clause-pair g c = returns-in-None-clause-value g c
 
 pub returns-in-Some-clause-found : goal.returns-in-Some-clause-found
 unfolding pairs
 returns-in-Some-clause-found g c =
     let found = c.in-Some.found in
-    pair_before-begins g.K.AsBytes.bytes (pairs_of c.args.self.now) (g.Q.AsBytes.bytes c.args.query.now) (found.1.now, found.2.now) (sym (returns-in-Some-clause-pair g c))
+    pair_at_front-begins g.K.AsBytes.bytes (pairs_of c.args.self.now) (g.Q.AsBytes.bytes c.args.query.now) (found.1.now, found.2.now) (sym (returns-in-Some-clause-pair g c))

@@ -1,6 +1,6 @@
 use Rattle.std.proofs.Common.{refl, ap, ◌∙◌, is_some}
 use Rattle.blart_keys.specs.Bytes.{begins}
-use Rattle.blart_keys.specs.Stored.{pair_before}
+use Rattle.blart_keys.specs.Stored.{pair_at_front}
 use Rattle.blart_map.specs.Content.{pairs}
 use Rattle.blart_map.proofs.Numbers.{found, found_has, found_pair, found_none}
 use Rattle.blart_map.proofs.map.TreeMap.prefix_get_key_value_mut.Goals as goal
@@ -12,7 +12,7 @@ invariant_of-self g c =
     record { stands = found_has c.args.self.now c.numbers_law.ensures.distinct (λ pair. begins (kb pair.0) q) c.in-Some.id (rw c.as_bytes.ensures at c.in-Some.ensures) }
 
 pub returns-in-Some : goal.returns-in-Some
-unfolding pair_before pairs
+unfolding pair_at_front pairs
 returns-in-Some g c =
     let kb = g.K.AsBytes.bytes in
     let q = g.Q.AsBytes.bytes c.args.query.now in
@@ -32,7 +32,7 @@ returns-in-Some g c =
     )
 
 pub returns-in-None : goal.returns-in-None
-unfolding pair_before pairs
+unfolding pair_at_front pairs
 returns-in-None g c =
     let kb = g.K.AsBytes.bytes in
     let q = g.Q.AsBytes.bytes c.args.query.now in

@@ -1,6 +1,6 @@
 use Rattle.std.proofs.Common.{◌∙◌, ap, sym, refl, lit<, option_map}
 use Rattle.blart_keys.specs.Bytes.{begins}
-use Rattle.blart_keys.specs.Stored.{written_at_front, pair_before}
+use Rattle.blart_keys.specs.Stored.{written_at_front, pair_at_front}
 use Rattle.blart_keys.proofs.StoredLemmas.{written_front_writes, written_at_front-none}
 use Rattle.art_tree.specs.Leaves.{with_value}
 use Rattle.art_walk.specs.Pairs.{pairs_of}
@@ -17,7 +17,7 @@ value_mut-requires g c =
     (lit< tt, found_has c.self.inside.tree.pairs c.law.ensures.distinct (λ pair. begins (kb pair.0) q) c.in-Some.id (rw c.as_bytes.ensures at c.in-Some.ensures.found))
 
 pub returns-in-Some : goal.returns-in-Some
-unfolding pair_before pairs
+unfolding pair_at_front pairs
 returns-in-Some g c =
     let kb = g.K.AsBytes.bytes in
     let q = g.Q.AsBytes.bytes c.args.query.now in
@@ -34,7 +34,7 @@ returns-in-Some g c =
     )
 
 pub returns-in-None : goal.returns-in-None
-unfolding pair_before pairs
+unfolding pair_at_front pairs
 returns-in-None g c =
     let kb = g.K.AsBytes.bytes in
     let q = g.Q.AsBytes.bytes c.args.query.now in

@@ -2,9 +2,9 @@ use Rattle.std.proofs.Common.{◌≡◌, arith, List, length, not, sym, ap, ◌�
 use Rattle.std.proofs.lemmas.List.{length-map}
 use Rattle.blart_keys.specs.Bytes.{begins}
 use Rattle.blart_keys.specs.Steps.{bytes}
-use Rattle.blart_keys.specs.Stored.{pair_at, pair_before}
+use Rattle.blart_keys.specs.Stored.{pair_at, pair_at_front}
 use Rattle.blart_keys.proofs.Mapped.{filter-map}
-use Rattle.blart_keys.proofs.OutsideLemmas.{length_outside, pair_at_gone, pair_at_outside, pair_before_outside}
+use Rattle.blart_keys.proofs.OutsideLemmas.{length_outside, pair_at_gone, pair_at_outside, pair_at_front_outside}
 use Rattle.art_walk.specs.Pairs.{pairs_of}
 use Rattle.blart_map.specs.Content.{pairs}
 use Rattle.blart_map.proofs.map.TreeMap.remove_prefix.Goals as goal
@@ -58,4 +58,4 @@ returns-clause-fronts g c = λ r b.
     let kb = g.K.AsBytes.bytes in
     let q = c.args.prefix.now in
     let S = pairs_of c.args.self.now in
-    subst (λ T. pair_before kb T r ≡ pair_before kb S r) (sym (returns-clause-rest g c)) (pair_before_outside kb S q r b)
+    subst (λ T. pair_at_front kb T r ≡ pair_at_front kb S r) (sym (returns-clause-rest g c)) (pair_at_front_outside kb S q r b)

@@ -1,14 +1,14 @@
 use Rattle.std.proofs.Common.{sym, ◌∙◌, arith}
-use Rattle.blart_set.proofs.Stepping.{shared_both, shared_skip, shared_over}
+use Rattle.blart_set.proofs.Stepping.{intersection_rest_both, intersection_rest_skip, intersection_rest_over}
 use Rattle.blart_set.proofs.merges.intersection.next_shared.Goals as goal
 
 pub returns-in-Some-of_both-clause-steps : goal.returns-in-Some-of_both-clause-steps
-returns-in-Some-of_both-clause-steps g c = c.sides.invariant.0 ∙ shared_both g.K.AsBytes.bytes c.sides.sides c.step_both.new.self c.in-Some.side c.in-Some-of_both.element (sym c.of_both.ensures ∙ c.in-Some-of_both.is) c.in-Some.ensures.steps
+returns-in-Some-of_both-clause-steps g c = c.sides.invariant.0 ∙ intersection_rest_both g.K.AsBytes.bytes c.sides.sides c.step_both.new.self c.in-Some.side c.in-Some-of_both.element (sym c.of_both.ensures ∙ c.in-Some-of_both.is) c.in-Some.ensures.steps
 
 pub sides-preserved : goal.sides-preserved
-sides-preserved g c = (c.sides.invariant.0 ∙ shared_skip g.K.AsBytes.bytes c.sides.sides c.step_both.new.self c.in-Some.side (sym c.of_both.ensures ∙ c.in_default-of_both.is) c.in-Some.ensures.steps, omega (arith, c.sides.invariant.1, c.in-Some.ensures.counted))
+sides-preserved g c = (c.sides.invariant.0 ∙ intersection_rest_skip g.K.AsBytes.bytes c.sides.sides c.step_both.new.self c.in-Some.side (sym c.of_both.ensures ∙ c.in_default-of_both.is) c.in-Some.ensures.steps, omega (arith, c.sides.invariant.1, c.in-Some.ensures.counted))
 
 pub returns-clause-steps : goal.returns-clause-steps
 returns-clause-steps g c =
-    let none = shared_over g.K.AsBytes.bytes c.sides.sides c.in_default.ensures.end in
+    let none = intersection_rest_over g.K.AsBytes.bytes c.sides.sides c.in_default.ensures.end in
     (c.sides.invariant.0 ∙ none, rw c.in_default.ensures.unchanged none)

@@ -3,7 +3,7 @@ use Rattle.blart_keys.specs.Content.{stores}
 use Rattle.blart_keys.specs.Merges.{intersection}
 use Rattle.blart_keys.proofs.MergeLemmas.{filter_ascends, intersection_elements}
 use Rattle.blart_set.specs.Elements.{elements}
-use Rattle.blart_set.specs.Merging.{shared}
+use Rattle.blart_set.specs.Merging.{intersection_rest}
 use Rattle.blart_set.proofs.Cloned.{all_cloned}
 use Rattle.blart_set.proofs.operators.RefTreeSetBitAnd.bitand.Goals as goal
 
@@ -14,5 +14,5 @@ returns g c =
     let B = elements c.args.other.now in (
       intersection kb A B,
       refl,
-      all_cloned kb g.K.Clone.is_clone elements (shared kb) c.intersection.result (intersection kb A B) c.intersection.ensures.value (filter_ascends kb (λ x. stores kb B (kb x)) A c.law.ensures.content.ascends) (λ x y m k. c.requires x y ((intersection_elements kb A B x).0 m).0 k) c.of_clones.result c.of_clones.ensures.made c.of_clones.ensures.refused,
+      all_cloned kb g.K.Clone.is_clone elements (intersection_rest kb) c.intersection.result (intersection kb A B) c.intersection.ensures.value (filter_ascends kb (λ x. stores kb B (kb x)) A c.law.ensures.content.ascends) (λ x y m k. c.requires x y ((intersection_elements kb A B x).0 m).0 k) c.of_clones.result c.of_clones.ensures.made c.of_clones.ensures.refused,
     )

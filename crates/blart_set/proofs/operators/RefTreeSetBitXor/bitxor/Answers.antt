@@ -1,6 +1,6 @@
 use Rattle.std.proofs.Common.{inl, inr, refl}
 use Rattle.blart_set.specs.Elements.{elements}
-use Rattle.blart_set.specs.Merging.{parted}
+use Rattle.blart_set.specs.Merging.{symmetric_difference_rest}
 use Rattle.blart_set.proofs.Cloned.{all_cloned}
 use Rattle.blart_set.proofs.operators.RefTreeSetBitXor.bitxor.Goals as goal
 
@@ -8,7 +8,7 @@ pub returns : goal.returns
 returns g c =
     let kb = g.K.AsBytes.bytes in
     let u = c.symmetric_difference.ensures.value in (
-      parted kb c.symmetric_difference.result,
+      symmetric_difference_rest kb c.symmetric_difference.result,
       u,
-      all_cloned kb g.K.Clone.is_clone elements (parted kb) c.symmetric_difference.result (parted kb c.symmetric_difference.result) refl u.ascends (λ x y m k. elim ((u.elements x).0 m) [ inl a ↦ c.requires.0 x y a.0 k | inr b ↦ c.requires.1 x y b.0 k ]) c.of_clones.result c.of_clones.ensures.made c.of_clones.ensures.refused,
+      all_cloned kb g.K.Clone.is_clone elements (symmetric_difference_rest kb) c.symmetric_difference.result (symmetric_difference_rest kb c.symmetric_difference.result) refl u.ascends (λ x y m k. elim ((u.elements x).0 m) [ inl a ↦ c.requires.0 x y a.0 k | inr b ↦ c.requires.1 x y b.0 k ]) c.of_clones.result c.of_clones.ensures.made c.of_clones.ensures.refused,
     )

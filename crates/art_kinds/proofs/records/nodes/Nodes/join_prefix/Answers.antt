@@ -3,7 +3,7 @@ use Rattle.std.proofs.lemmas.List.{length-replicate}
 use Rattle.art_kinds.specs.Nodes.{Node, at, Reprefixes}
 use Rattle.art_kinds.proofs.records.nodes.Nodes.join_prefix.Goals as goal
 
--- of a front that is long enough, what stands behind it does not matter
+-- of a front that is long enough, what stands after it does not matter
 take_front : (n : ℕ) (xs ys : List ℕ) → take n (take n xs ++ ys) ≡ take n (xs ++ ys)
 take_front zero xs ys = refl
 take_front (suc n) [] ys = refl

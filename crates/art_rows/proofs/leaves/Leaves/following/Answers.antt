@@ -1,0 +1,28 @@
+use Rattle.std.proofs.Common.{◌≡◌, ℕ, map, Some, sym, ap, ◌∙◌}
+use Rattle.art_rows.specs.Leaves.{index_of}
+use Rattle.art_rows.specs.Numbers.{leaf_in}
+use Rattle.art_rows.specs.Rows.{nth, position_at}
+use Rattle.art_rows.proofs.FilingLemmas.{seen, seen_rows, has_row_at, place_at, number_there}
+use Rattle.art_rows.proofs.RowsLemmas.{among-numbers, nth-place}
+use Rattle.art_rows.proofs.Runs.{following_there}
+use Rattle.art_rows.proofs.leaves.Leaves.following.Goals as goal
+
+pub read-requires : goal.read-requires
+read-requires g c =
+    let f = seen c.self.inside c.self.view_is c.self.invariant in
+    has_row_at f _ c.position_of-position.result (ap (λ t. position_at t.rows (index_of c.args.self.now.pairs c.args.id)) c.self.view_is ∙ c.position_of-position.ensures)
+
+pub run_after-run-requires : goal.run_after-run-requires
+run_after-run-requires g c =
+    let f = seen c.self.inside c.self.view_is c.self.invariant in
+    place_at f _ c.position_of-position.result (ap (λ t. position_at t.rows (index_of c.args.self.now.pairs c.args.id)) c.self.view_is ∙ c.position_of-position.ensures) _ c.read.ensures
+
+pub returns : goal.returns
+returns g c =
+    let f = seen_rows c.self.inside c.self.view_is c.self.invariant in
+    let ps = c.args.self.now.pairs in
+    let k : ℕ = index_of ps c.args.id in
+    let p = c.position_of-position.result in
+    let is : leaf_in c.args.self.now.rows p.row ≡ Some c.read.result.now = rw (← ap (λ t. t.rows) c.self.view_is) c.read.ensures in
+    let there : nth c.read.result.now p.place ≡ Some c.args.id = sym (number_there f k p c.position_of-position.ensures c.read.result.now is) ∙ nth-place (map (λ q. q.0) ps) c.args.id (among-numbers ps c.args.id c.requires) in
+    following_there f k p c.position_of-position.ensures c.read.result.now is c.args.id there (record { run = c.run_after-run.result; row = c.row_told-row.result }) c.run_after-run.ensures c.row_told-row.ensures
