@@ -27,6 +27,6 @@ pub use keys::Keys;
 pub use openings::{BelowFront, InRange, InSubtree, ValuesAlone, WithKeys};
 pub use prefix::Prefix;
 pub use range::Range;
-pub use retaining::retain;
+pub use retaining::{retain, retain_by};
 pub use subtree_iter::SubtreeIter;
 pub use values::Values;

@@ -2,6 +2,7 @@
 ghost use Rattle.std.specs.Map.Calls.{CallableOnEachPair, CalledAtPair, TakesPair};
 ghost use Rattle.blart_keys.specs.Walks.{Retains, AsksPair};
 ghost use Rattle.art_walk.specs.Pairs.{pairs_of};
+ghost use Rattle.art_walk.specs.Asking.{RetainsBy};
 
 use crate::cursor::Cursor;
 use art_tree::{Tree, Visits};
@@ -16,6 +17,17 @@ pub fn retain<
 >(tree: &mut Tree<K, V, PREFIX_LEN>, mut f: F)
     requires { CallableOnEachPair (CalledAtPair F.FnMut) (TakesPair F.FnMut) f (pairs_of tree.old.pairs) }
     ensures { Retains (AsksPair F.FnMut) (pairs_of tree.old.pairs) f (pairs_of tree.new.pairs) }
+{
+    retain_by(tree, &mut f)
+}
+
+/// As `retain`, by a closure that is lent: what it is left as shows that nothing more was asked of it.
+pub fn retain_by<K: AsBytes + Drop, V: Drop, F: FnMut(&K, &mut V) -> bool, const PREFIX_LEN: usize>(
+    tree: &mut Tree<K, V, PREFIX_LEN>,
+    f: &mut F,
+)
+    requires { CallableOnEachPair (CalledAtPair F.FnMut) (TakesPair F.FnMut) f.old (pairs_of tree.old.pairs) }
+    ensures { RetainsBy (AsksPair F.FnMut) (pairs_of tree.old.pairs) f.old (pairs_of tree.new.pairs) f.new }
 {
     tree.law();
     let mut cursor = Cursor::all(tree);
