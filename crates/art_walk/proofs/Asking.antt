@@ -3,13 +3,14 @@ use Rattle.std.proofs.Common.{◌≡◌, ℕ, ◌≤◌, Bool, true, false, List
 use Rattle.std.proofs.lemmas.List.{map-append}
 use Rattle.std.specs.Borrow.{Bor, MutBor}
 use denote.Param.Members.{Mut, Called}
-use Rattle.blart_keys.specs.Walks.{Retains, AsksPair}
-use Rattle.blart_keys.proofs.WalkLemmas.{retains_none, retains_kept, retains_gone}
+use Rattle.blart_keys.specs.Walks.{AsksPair}
+use Rattle.art_walk.proofs.Retained.{retains_none, retains_kept, retains_gone}
 use Rattle.art_tree.specs.Leaves.{Numbered, leaf_in, AreDistinct, Lacks, with_value, without_number}
 use Rattle.art_tree.proofs.CallerLemmas.{leaf_in-split, with_value-split, without_number-split, AreDistinct-with_value, AreDistinct-without_number, distinct_parts}
 use Rattle.art_walk.specs.declared.cursor.Cursor.{Cursor}
 use Rattle.art_walk.specs.Cursor.{leaves_left, FitsIn}
 use Rattle.art_walk.specs.Pairs.{pairs_of}
+use Rattle.art_walk.specs.Asking.{RetainsBy}
 use Rattle.art_walk.proofs.Changes.{left_with_value, left_with_passed, left_without}
 
 module _ {K V : Type 0} (ps : List (Numbered K V)) (distinct : AreDistinct ps) (new : Cursor) (fits : FitsIn new ps) (id : ℕ) (y : K × V) (w : V) (passed : Lacks (leaves_left new ps) id) where
@@ -74,34 +75,36 @@ module _ {K V F : Type 0} (R : F → K × V → Bool → K × V → F → Type 0
   pub record Retaining (ps left : List (Numbered K V)) (f : F) : Type 0 where
     pub kept : List (Numbered K V)
     pub whole : ps ≡ kept ++ left
-    pub then : (rest : List (K × V)) → Retains R (pairs_of left) f rest → Retains R start start_f (pairs_of kept ++ rest)
+    pub then : (rest : List (K × V)) (g : F) → RetainsBy R (pairs_of left) f rest g → RetainsBy R start start_f (pairs_of kept ++ rest) g
 
-  pub retaining_end : (ps left : List (Numbered K V)) (f : F) → Retaining ps left f → left ≡ [] → Retains R start start_f (pairs_of ps)
+  pub retaining_end : (ps left : List (Numbered K V)) (f : F) → Retaining ps left f → left ≡ [] → RetainsBy R start start_f (pairs_of ps) f
   retaining_end ps left f r e =
-      let done = r.then [] (subst (λ (l : List (Numbered K V)). Retains R (pairs_of l) f []) (sym e) (retains_none R f)) in
+      let done = r.then [] f (subst (λ (l : List (Numbered K V)). RetainsBy R (pairs_of l) f [] f) (sym e) (retains_none R f)) in
       let same : pairs_of ps ≡ pairs_of r.kept ++ [] = ap pairs_of (r.whole ∙ ap (λ l. r.kept ++ l) e) ∙ map-append (λ (p : Numbered K V). p.1) r.kept [] in
-      subst (λ l. Retains R start start_f l) (sym same) done
+      subst (λ l. RetainsBy R start start_f l f) (sym same) done
 
   module _ (ps left left' : List (Numbered K V)) (f f' : F) (id : ℕ) (y : K × V) (w : V) (b : Bool) (asks : R f y b (y.0, w) f') (first : left ≡ (id, y) ∷ left') (r : Retaining ps left f) where
-    step_then : (rest : List (K × V)) → Retains R (y ∷ pairs_of left') f rest → Retains R start start_f (pairs_of r.kept ++ rest)
-    step_then rest a = r.then rest (subst (λ (l : List (Numbered K V)). Retains R (pairs_of l) f rest) (sym first) a)
+    step_then : (rest : List (K × V)) (h : F) → RetainsBy R (y ∷ pairs_of left') f rest h → RetainsBy R start start_f (pairs_of r.kept ++ rest) h
+    step_then rest h a = r.then rest h (subst (λ (l : List (Numbered K V)). RetainsBy R (pairs_of l) f rest h) (sym first) a)
 
     pub retaining_kept : b ≡ true → (qs after : List (Numbered K V)) → qs ≡ r.kept ++ (id, (y.0, w)) ∷ left' → after ≡ left' → Retaining qs after f'
     retaining_kept t qs after q same = record {
       kept = r.kept ++ (id, (y.0, w)) ∷ [];
       whole = q ∙ ap (λ l. r.kept ++ (id, (y.0, w)) ∷ l) (sym same) ∙ sym (append_assoc r.kept ((id, (y.0, w)) ∷ []) after);
-      then = λ rest a.
-          let a' = subst (λ (l : List (Numbered K V)). Retains R (pairs_of l) f' rest) same a in
+      then = λ rest h a.
+          let a' = subst (λ (l : List (Numbered K V)). RetainsBy R (pairs_of l) f' rest h) same a in
           let e : pairs_of (r.kept ++ (id, (y.0, w)) ∷ []) ++ rest ≡ pairs_of r.kept ++ (y.0, w) ∷ rest =
           ap (λ l. l ++ rest) (map-append (λ (p : Numbered K V). p.1) r.kept ((id, (y.0, w)) ∷ [])) ∙ append_assoc (pairs_of r.kept) ((y.0, w) ∷ []) rest in
-          subst (λ l. Retains R start start_f l) (sym e) (step_then ((y.0, w) ∷ rest) (retains_kept R y (y.0, w) (pairs_of left') rest f f' b asks a' t));
+          subst (λ l. RetainsBy R start start_f l h) (sym e) (step_then ((y.0, w) ∷ rest) h (retains_kept R y (y.0, w) (pairs_of left') rest f f' h b asks a' t));
     }
 
     pub retaining_gone : b ≡ false → (qs after : List (Numbered K V)) → qs ≡ r.kept ++ left' → after ≡ left' → Retaining qs after f'
     retaining_gone t qs after q same = record {
       kept = r.kept;
       whole = q ∙ ap (λ l. r.kept ++ l) (sym same);
-      then = λ rest a. step_then rest (retains_gone R y (y.0, w) (pairs_of left') rest f f' b asks (subst (λ (l : List (Numbered K V)). Retains R (pairs_of l) f' rest) same a) t);
+      then = λ rest h a.
+          let a' = subst (λ (l : List (Numbered K V)). RetainsBy R (pairs_of l) f' rest h) same a in
+          step_then rest h (retains_gone R y (y.0, w) (pairs_of left') rest f f' h b asks a' t);
     }
 
 pub le_eq : (a b : ℕ) → a ≡ b → a ≤ b

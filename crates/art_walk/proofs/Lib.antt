@@ -3,6 +3,7 @@ pub mod Ranges
 pub mod Spans
 pub mod Steps
 pub mod Passing
+pub mod Retained
 pub mod Asking
 pub mod Lending
 pub mod PairEnds

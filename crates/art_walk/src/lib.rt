@@ -24,5 +24,5 @@ pub use into_values::IntoValues;
 pub use iter::Iter;
 pub use keys::Keys;
 pub use openings::{BelowFront, InRange, InSubtree, ValuesAlone, WithKeys};
-pub use retaining::retain;
+pub use retaining::retain_by;
 pub use values::Values;

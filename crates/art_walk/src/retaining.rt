@@ -1,21 +1,21 @@
 //! The pairs that a closure keeps.
 ghost use Rattle.std.specs.Map.Calls.{CallableOnEachPair, CalledAtPair, TakesPair};
-ghost use Rattle.blart_keys.specs.Walks.{Retains, AsksPair};
+ghost use Rattle.blart_keys.specs.Walks.{AsksPair};
 ghost use Rattle.art_walk.specs.Pairs.{pairs_of};
+ghost use Rattle.art_walk.specs.Asking.{RetainsBy};
 
 use crate::cursor::Cursor;
 use art_tree::{Tree, Visits};
 use blart_keys::AsBytes;
 
 /// Asks the closure once of each pair, in byte order of the keys, and removes those at which it answers `false`. The others stay with their values as the closure left them. Takes no memory; each pair that it asks about is one visit, and each that goes costs a removal.
-pub fn retain<
-    K: AsBytes + Drop,
-    V: Drop,
-    F: FnMut(&K, &mut V) -> bool + Drop,
-    const PREFIX_LEN: usize,
->(tree: &mut Tree<K, V, PREFIX_LEN>, mut f: F)
-    requires { CallableOnEachPair (CalledAtPair F.FnMut) (TakesPair F.FnMut) f (pairs_of tree.old.pairs) }
-    ensures { Retains (AsksPair F.FnMut) (pairs_of tree.old.pairs) f (pairs_of tree.new.pairs) }
+/// The closure is lent: the state that it is left in shows that nothing more was asked of it.
+pub fn retain_by<K: AsBytes + Drop, V: Drop, F: FnMut(&K, &mut V) -> bool, const PREFIX_LEN: usize>(
+    tree: &mut Tree<K, V, PREFIX_LEN>,
+    f: &mut F,
+)
+    requires { CallableOnEachPair (CalledAtPair F.FnMut) (TakesPair F.FnMut) f.old (pairs_of tree.old.pairs) }
+    ensures { RetainsBy (AsksPair F.FnMut) (pairs_of tree.old.pairs) f.old (pairs_of tree.new.pairs) f.new }
 {
     tree.law();
     let mut cursor = Cursor::all(tree);

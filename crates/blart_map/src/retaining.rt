@@ -1,6 +1,7 @@
 //! The pairs that a closure keeps.
 ghost use Rattle.std.specs.Map.Calls.{CallableOnEachPair, CalledAtPair, TakesPair};
 ghost use Rattle.blart_keys.specs.Walks.{Retains, AsksPair};
+ghost use Rattle.art_walk.specs.Asking.{RetainsBy};
 ghost use Rattle.blart_map.specs.Content.{pairs};
 
 use crate::map::TreeMap;
@@ -20,10 +21,19 @@ impl<K: AsBytes + Drop, V: Drop, const PREFIX_LEN: usize> TreeMap<K, V, PREFIX_L
     /// assert_eq!(map.get(&"dog"), Some(&3));
     /// ```
     #[tactic(auto, unfolding(crate::specs::Content::pairs))]
-    pub fn retain<F: FnMut(&K, &mut V) -> bool + Drop>(&mut self, f: F)
+    pub fn retain<F: FnMut(&K, &mut V) -> bool + Drop>(&mut self, mut f: F)
         requires { CallableOnEachPair (CalledAtPair F.FnMut) (TakesPair F.FnMut) f (pairs self.old) }
         ensures { Retains (AsksPair F.FnMut) (pairs self.old) f (pairs self.new) }
     {
-        art_walk::retain(&mut self.tree, f)
+        self.retain_by(&mut f)
+    }
+
+    /// As `retain`, by a closure that is lent: what it is left as shows that nothing more was asked of it.
+    #[tactic(auto, unfolding(crate::specs::Content::pairs))]
+    pub(crate) fn retain_by<F: FnMut(&K, &mut V) -> bool>(&mut self, f: &mut F)
+        requires { CallableOnEachPair (CalledAtPair F.FnMut) (TakesPair F.FnMut) f.old (pairs self.old) }
+        ensures { RetainsBy (AsksPair F.FnMut) (pairs self.old) f.old (pairs self.new) f.new }
+    {
+        art_walk::retain_by(&mut self.tree, f)
     }
 }

@@ -106,7 +106,7 @@ impl<'a, K: AsBytes + Drop, V: Drop, const PREFIX_LEN: usize> CountedWalk<
         map.write_pairs(cursor, f);
     }
 
-    /// The key of the value that was lent last. One was lent.
+    /// The key of the value that was lent last. One was lent. One visit, not counted.
     pub fn key(&self) -> &K
         requires { is_some self.now.lent ≡ true }
         ensures { MatchOption self.now.lent ⊤

@@ -51,7 +51,7 @@ impl<K: AsBytes + Drop, V: Drop, const PREFIX_LEN: usize> TreeMap<K, V, PREFIX_L
         )
     }
 
-    /// Passes the first leaf that a cursor has left, and gives its number. One visit where there is one, and else none.
+    /// Passes the first leaf that a cursor has left, and gives its number. One visit where there is one, and else none; it is not counted.
     #[inline(always)]
     pub fn step(&self, cursor: &mut Cursor) -> Option<LeafId>
         requires { FitsIn cursor.old self.now }
@@ -66,7 +66,7 @@ impl<K: AsBytes + Drop, V: Drop, const PREFIX_LEN: usize> TreeMap<K, V, PREFIX_L
         cursor.step(&self.tree, &mut Visits::new())
     }
 
-    /// Passes the last leaf that a cursor has left, and gives its number. One visit where there is one, and else none.
+    /// Passes the last leaf that a cursor has left, and gives its number. One visit where there is one, and else none; it is not counted.
     #[inline(always)]
     pub fn step_back(&self, cursor: &mut Cursor) -> Option<LeafId>
         requires { FitsIn cursor.old self.now }
@@ -81,7 +81,7 @@ impl<K: AsBytes + Drop, V: Drop, const PREFIX_LEN: usize> TreeMap<K, V, PREFIX_L
         cursor.step_back(&self.tree, &mut Visits::new())
     }
 
-    /// The pair of a leaf, by its number.
+    /// The pair of a leaf, by its number. One visit, not counted.
     pub fn leaf(&self, id: LeafId) -> (&K, &V)
         requires { Has self.now id }
         ensures { leaf_in self.now id ≡ Some (result.0.now, result.1.now) }

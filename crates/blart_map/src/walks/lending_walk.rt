@@ -130,7 +130,7 @@ impl<'a, K: AsBytes + Drop, V: Drop, M, const PREFIX_LEN: usize> LendingWalk<
         Some(self.map.value_mut(id))
     }
 
-    /// The key of the value that was lent last. One was lent.
+    /// The key of the value that was lent last. One was lent. One visit, not counted.
     pub fn key(&self) -> &K
         requires { is_some self.now.lent ≡ true }
         ensures { MatchOption self.now.lent ⊤

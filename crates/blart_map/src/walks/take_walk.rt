@@ -77,7 +77,7 @@ impl<'a, K: AsBytes + Drop, V: Drop, const PREFIX_LEN: usize> TakeWalk<'a, K, V,
         Some(self.map.value_mut(id))
     }
 
-    /// The key of the lent pair. One is undecided.
+    /// The key of the lent pair. One is undecided. One visit, not counted.
     pub fn key(&self) -> &K
         requires { is_some self.now.lent ≡ true }
         ensures { MatchOption self.now.lent ⊤

@@ -8,16 +8,16 @@ use Rattle.blart_set.specs.Elements.{elements}
 use Rattle.blart_set.proofs.Callable.{callable_first, callable_others}
 use Rattle.blart_set.proofs.Extracted.{called_at, same_element, first_is, elements_none, le_eq}
 use Rattle.blart_set.proofs.Keeping.{Retaining, retaining_start, retaining_end, retaining_kept, retaining_gone}
-use Rattle.blart_set.proofs.set.TreeSet.retain.Goals as goal
+use Rattle.blart_set.proofs.set.TreeSet.retain_by.Goals as goal
 
 pub elements-init : goal.elements-init
 elements-init g c =
     let all = elements c.args.self.now in
     let left = c.cursor-cursor.ensures.left ∙ filter_all (λ x. true) all (λ x m. refl) in (
-      subst (λ l. CallableOnEachElement g.F.FnMut c.args.f l) (sym left) c.requires,
+      subst (λ l. CallableOnEachElement g.F.FnMut c.args.f.now l) (sym left) c.requires,
       c.cursor-cursor.ensures.fits,
       c.law.ensures.content,
-      retaining_start g.K.AsBytes.bytes (AsksElement g.F.FnMut) all c.args.f _ left,
+      retaining_start g.K.AsBytes.bytes (AsksElement g.F.FnMut) all c.args.f.now _ left,
     )
 
 pub f-requires : goal.f-requires
@@ -66,7 +66,7 @@ elements-preserved g c =
       callable_others g.F.FnMut c.elements.f x (elements (leaves_left c.elements.cursor ps)) (elements (leaves_left new ps)) splits c.elements.invariant.0 c.f.result c.f.new.self asks.0 _ (ap elements stays.1),
       stays.0,
       subst (λ l. IsContent kb l) (sym gone) (without_content kb (elements ps) (kb x) c.elements.invariant.2),
-      subst (λ l. Retaining kb (AsksElement g.F.FnMut) (elements c.args.self.now) c.args.f (elements rs) l c.f.new.self) (sym (ap elements stays.1))
+      subst (λ l. Retaining kb (AsksElement g.F.FnMut) (elements c.args.self.now) c.args.f.now (elements rs) l c.f.new.self) (sym (ap elements stays.1))
           (retaining_gone kb (AsksElement g.F.FnMut) _ _ (elements ps) (elements (leaves_left c.elements.cursor ps)) (elements (leaves_left new ps)) c.elements.f c.f.new.self x c.f.result asks splits c.elements.invariant.3 c.if-f.false c.elements.invariant.2 (elements rs) gone),
     )
 

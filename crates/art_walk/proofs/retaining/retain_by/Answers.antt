@@ -1,24 +1,25 @@
 use Rattle.std.proofs.Common.{List, ◌++◌, [], sym, ap, subst, ◌∙◌, suc, length, lit<, refl}
-use Rattle.blart_keys.specs.Walks.{Retains, AsksPair}
+use Rattle.blart_keys.specs.Walks.{AsksPair}
 use Rattle.blart_keys.proofs.Options.{is_some}
 use Rattle.art_tree.specs.Leaves.{Numbered, leaf_in, with_value}
 use Rattle.art_walk.specs.Cursor.{leaves_left}
 use Rattle.art_walk.specs.Pairs.{pairs_of}
+use Rattle.art_walk.specs.Asking.{RetainsBy}
 use Rattle.art_walk.proofs.Passing.{first_passed, first_named}
 use Rattle.art_walk.proofs.Asking.{retaining_end, retaining_kept, retaining_gone, asks_at, written_fits, written_left, written_distinct, written_row, written_named, removed_fits, removed_left, removed_distinct, removed_row, le_eq}
 use Rattle.art_walk.proofs.Callable.{Callable, callable_first, callable_others}
-use Rattle.art_walk.proofs.retaining.retain.Goals as goal
+use Rattle.art_walk.proofs.retaining.retain_by.Goals as goal
 
 pub pairs-init : goal.pairs-init
 pairs-init g c =
     let left = c.all-cursor.ensures.left in (
-      subst (λ (l : List (Numbered g.row.K.Denot g.row.V.Denot)). Callable g.F.FnMut c.args.f (pairs_of l)) (sym left) c.requires,
+      subst (λ (l : List (Numbered g.row.K.Denot g.row.V.Denot)). Callable g.F.FnMut c.args.f.now (pairs_of l)) (sym left) c.requires,
       c.all-cursor.ensures.fits,
       c.law.ensures.distinct,
       record {
         kept = [];
         whole = sym left;
-        then = λ rest r. subst (λ (l : List (Numbered g.row.K.Denot g.row.V.Denot)). Retains (AsksPair g.F.FnMut) (pairs_of l) c.args.f rest) left r;
+        then = λ rest h r. subst (λ (l : List (Numbered g.row.K.Denot g.row.V.Denot)). RetainsBy (AsksPair g.F.FnMut) (pairs_of l) c.args.f.now rest h) left r;
       },
     )
 

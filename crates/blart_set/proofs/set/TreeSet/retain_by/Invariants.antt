@@ -4,7 +4,7 @@ use Rattle.art_walk.specs.Cursor.{leaves_left, FitsIn}
 use Rattle.blart_set.specs.Asking.{AsksElement, CallableOnEachElement}
 use Rattle.blart_set.specs.Elements.{elements}
 use Rattle.blart_set.proofs.Keeping.{Retaining}
-use Rattle.blart_set.proofs.set.TreeSet.retain.Given as goal
+use Rattle.blart_set.proofs.set.TreeSet.retain_by.Given as goal
 
 abbrev pub invariant-elements : goal.invariant-elements
 invariant-elements g l =

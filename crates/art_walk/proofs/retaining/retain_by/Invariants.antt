@@ -5,7 +5,7 @@ use Rattle.art_walk.specs.Cursor.{leaves_left, FitsIn}
 use Rattle.art_walk.specs.Pairs.{pairs_of}
 use Rattle.art_walk.proofs.Asking.{Retaining}
 use Rattle.art_walk.proofs.Callable.{Callable}
-use Rattle.art_walk.proofs.retaining.retain.Given as goal
+use Rattle.art_walk.proofs.retaining.retain_by.Given as goal
 
 abbrev pub invariant-pairs : goal.invariant-pairs
 invariant-pairs g l =
