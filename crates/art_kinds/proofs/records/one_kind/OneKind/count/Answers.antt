@@ -6,4 +6,4 @@ use Rattle.art_kinds.proofs.records.one_kind.OneKind.count.Goals as goal
 pub returns-clause-fits : goal.returns-clause-fits
 returns-clause-fits g c =
     let h = c.self.invariant.all c.args.place c.read.result.now c.read.ensures.value in
-    subst (λ n. FitsIn g.C.Children.places n) (sym (c.count.ensures ∙ ap (λ (x : Node). length x.edges) c.after-self.view_is)) h
+    subst (λ n. FitsIn g.C.Children.places n) (sym (c.count.ensures ∙ ap (λ (x : Node). length x.edges) c.behind-self.view_is)) h
