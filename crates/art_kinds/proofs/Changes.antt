@@ -11,8 +11,8 @@ use Rattle.art_kinds.specs.declared.records.ids.Child.{Child}
 use Rattle.art_kinds.specs.declared.records.ids.Kind.{Kind}
 use Rattle.art_kinds.specs.declared.records.ids.Kind.TheVariants.{Four, Sixteen, FortyEight, Full}
 use Rattle.art_kinds.specs.declared.records.ids.NodeId.TheInside.{Inside}
-use Rattle.art_slots.proofs.StoreSlots.{with-now, with-others, with-count}
-use Rattle.art_kinds.proofs.Rooms.{grown-change, serves-grown, serves-less}
+use Rattle.art_slots.proofs.StoreSlots.{one, with-now, with-others, with-count}
+use Rattle.art_kinds.proofs.Rooms.{sum-least, grown-change, serves-grown, serves-less}
 use Rattle.art_kinds.proofs.Growing.{freed-spares}
 
 -- what holds of something holds of its value
@@ -316,13 +316,37 @@ module _ {s v : Nodes} (f : s ≡ v) (w : Inside) {n : ℕ} (e : number w ≡ n)
       pub stands : length h.is.edges ≡ length h.was.edges → SameSpares v (put s K a)
       stands q = subst (λ (u : Nodes). SameSpares u (put s K a)) f (same_in s (put s K a) (digit K) w.place (digit-lt K) (put-off s K a) others_on spare_on h.was h.is h.was_is is_on q)
 
+-- for how many children a kind has places, where these have a limit
+abbrev pub limit : Kind → Option ℕ
+limit Four = Some 4
+limit Sixteen = Some 16
+limit FortyEight = Some 48
+limit Full = None
+
 -- a node that has a place has one for an edge more
-pub room_of : {s v : Nodes} → s ≡ v → (w : Inside) {n : ℕ} → number w ≡ n → {K : Kind} → w.kind ≡ K → (b : ℕ) → IsSomeAnd (at v n) (λ x. child_at x.edges b ≡ None) → HasPlace v n → digit K < 3 → IsSomeAnd (slot_at (store_of s (digit K)) w.place) (λ x. length x.edges + 1 ≤ places (digit K))
-room_of {s} {v} f w {n} e {K} k b some h l = by_node (at v n) refl some
+pub room_of : {s v : Nodes} → s ≡ v → (w : Inside) {n : ℕ} → number w ≡ n → {K : Kind} → w.kind ≡ K → (b : ℕ) → IsSomeAnd (at v n) (λ x. child_at x.edges b ≡ None) → HasPlace v n → IsSomeAnd (slot_at (store_of s (digit K)) w.place) (λ x. FitsIn (limit K) (length x.edges + 1))
+room_of {s} {v} f w {n} e {K} k b some h = by_node (at v n) refl some
   where
-    by_node : (o : Option Node) → at v n ≡ o → IsSomeAnd o (λ x. child_at x.edges b ≡ None) → IsSomeAnd (slot_at (store_of s (digit K)) w.place) (λ x. length x.edges + 1 ≤ places (digit K))
+    fits : (L : Kind) (x : Node) → (digit L < 3 → length x.edges < places (digit L)) → FitsIn (limit L) (length x.edges + 1)
+    fits Four x q = let l : length x.edges < 4 = q (omega arith) in omega arith
+    fits Sixteen x q = let l : length x.edges < 16 = q (omega arith) in omega arith
+    fits FortyEight x q = let l : length x.edges < 48 = q (omega arith) in omega arith
+    fits Full x q = tt
+
+    by_node : (o : Option Node) → at v n ≡ o → IsSomeAnd o (λ x. child_at x.edges b ≡ None) → IsSomeAnd (slot_at (store_of s (digit K)) w.place) (λ x. FitsIn (limit K) (length x.edges + 1))
     by_node None is z = absurd z
     by_node (Some x) is z =
         let m : n % 4 ≡ digit K = digit_of w e k in
-        let q : length x.edges < places (digit K) = subst (λ d. length x.edges < places d) m (h x is (omega (arith, m, l))) in
-        such (λ y. length y.edges + 1 ≤ places (digit K)) (slot_at (store_of s (digit K)) w.place) x (sym (found_at f w e k) ∙ is) (omega (arith, q))
+        let q : digit K < 3 → length x.edges < places (digit K) = λ l. subst (λ d. length x.edges < places d) m (h x is (omega (arith, m, l))) in
+        such (λ y. FitsIn (limit K) (length y.edges + 1)) (slot_at (store_of s (digit K)) w.place) x (sym (found_at f w e k) ∙ is) (fits K x q)
+
+-- where there is a node, a record is small
+pub small_in : {P : ℕ} {l : Option ℕ} {a : Store Node} → IsOneKind P l a → (i : ℕ) (R : Node → Type 0) → IsSomeAnd (slot_at a i) R → P < 2 ^ 62
+small_in {P} {l} {a} v i R h = by_slot (slot_at a i) refl h
+  where
+    by_slot : (o : Option Node) → slot_at a i ≡ o → IsSomeAnd o R → P < 2 ^ 62
+    by_slot None e z = absurd z
+    by_slot (Some x) e z =
+        let m : one (slot_at a i) ≤ used_count a = sum-least one refl a.slots i in
+        let k : one (slot_at a i) ≡ 1 = ap one e in
+        v.small (omega arith)

@@ -4,8 +4,8 @@ pub(crate) mod few;
 pub(crate) mod full;
 pub(crate) mod ids;
 pub(crate) mod indexed;
+mod inner;
 mod link;
 pub(crate) mod nodes;
-mod one_kind;
 #[cfg(test)]
 mod tests;

@@ -8,10 +8,13 @@ use crate::records::few::Few;
 use crate::records::full::Full;
 use crate::records::ids::{Child, Edge, Kind, NodeId};
 use crate::records::indexed::Indexed;
-use crate::records::one_kind::{Inner, OneKind, copy_front};
-use art_slots::Visits;
+use crate::records::inner::{self, Inner, copy_front};
+use art_slots::{Store, Visits};
 use std::alloc::{AllocError, Global};
 use std::marker::Model;
+
+/// A record with a prefix of this length or longer has no size in the machine's numbers.
+const PREFIX_BOUND: usize = 1 << 62;
 
 /// The edges of a node of any kind.
 #[derive(Drop)]
@@ -166,10 +169,10 @@ impl<'a, const P: usize> NodeRef<'a, P> {
 /// The inner nodes. A contract sees the node under each number, and the spare records of each kind. Memory is asked for in `reserve`, and in `narrow`, which goes on where it is refused, and in no other call.
 #[derive(Drop)]
 pub struct Nodes<const P: usize> {
-    pub(super) fours: OneKind<Few<4>, P>,
-    pub(super) sixteens: OneKind<Few<16>, P>,
-    pub(super) forty_eights: OneKind<Indexed, P>,
-    pub(super) fulls: OneKind<Full, P>,
+    pub(super) fours: Store<Inner<Few<4>, P>>,
+    pub(super) sixteens: Store<Inner<Few<16>, P>>,
+    pub(super) forty_eights: Store<Inner<Indexed, P>>,
+    pub(super) fulls: Store<Inner<Full, P>>,
 }
 
 impl<const P: usize> Model for Nodes<P> {
@@ -179,7 +182,12 @@ impl<const P: usize> Model for Nodes<P> {
 
     ghost coded = { nodes_code };
 
+    ghost use Rattle.std.specs.Prelude.{Some, None};
+    ghost use Rattle.art_kinds.specs.OneKinds.{IsOneKind};
+
     ghost view = { λ s. record { fours = s.fours; sixteens = s.sixteens; forty_eights = s.forty_eights; fulls = s.fulls } };
+
+    ghost invariant = { λ s. record { fours : IsOneKind P (Some 4) s.fours; sixteens : IsOneKind P (Some 16) s.sixteens; forty_eights : IsOneKind P (Some 48) s.forty_eights; fulls : IsOneKind P None s.fulls } };
 }
 
 impl<const P: usize> Nodes<P> {
@@ -190,10 +198,10 @@ impl<const P: usize> Nodes<P> {
         ensures room { room result ≡ 0 }
     {
         Nodes {
-            fours: OneKind::new(alloc),
-            sixteens: OneKind::new(alloc),
-            forty_eights: OneKind::new(alloc),
-            fulls: OneKind::new(alloc),
+            fours: Store::new(alloc),
+            sixteens: Store::new(alloc),
+            forty_eights: Store::new(alloc),
+            fulls: Store::new(alloc),
         }
     }
 
@@ -237,7 +245,7 @@ impl<const P: usize> Nodes<P> {
     {
         match id.kind {
             Kind::Four => {
-                let record = self.fours.store.read(id.place);
+                let record = self.fours.read(id.place);
                 NodeRef {
                     depth: record.depth,
                     used: record.used,
@@ -246,7 +254,7 @@ impl<const P: usize> Nodes<P> {
                 }
             }
             Kind::Sixteen => {
-                let record = self.sixteens.store.read(id.place);
+                let record = self.sixteens.read(id.place);
                 NodeRef {
                     depth: record.depth,
                     used: record.used,
@@ -255,7 +263,7 @@ impl<const P: usize> Nodes<P> {
                 }
             }
             Kind::FortyEight => {
-                let record = self.forty_eights.store.read(id.place);
+                let record = self.forty_eights.read(id.place);
                 NodeRef {
                     depth: record.depth,
                     used: record.used,
@@ -264,7 +272,7 @@ impl<const P: usize> Nodes<P> {
                 }
             }
             Kind::Full => {
-                let record = self.fulls.store.read(id.place);
+                let record = self.fulls.read(id.place);
                 NodeRef {
                     depth: record.depth,
                     used: record.used,
@@ -284,10 +292,10 @@ impl<const P: usize> Nodes<P> {
         ensures live { live self.new ≡ live self.old }
     {
         match id.kind {
-            Kind::Four => self.fours.add_edge(id.place, byte, to),
-            Kind::Sixteen => self.sixteens.add_edge(id.place, byte, to),
-            Kind::FortyEight => self.forty_eights.add_edge(id.place, byte, to),
-            Kind::Full => self.fulls.add_edge(id.place, byte, to),
+            Kind::Four => inner::add_edge(&mut self.fours, id.place, byte, to),
+            Kind::Sixteen => inner::add_edge(&mut self.sixteens, id.place, byte, to),
+            Kind::FortyEight => inner::add_edge(&mut self.forty_eights, id.place, byte, to),
+            Kind::Full => inner::add_edge(&mut self.fulls, id.place, byte, to),
         }
     }
 
@@ -299,10 +307,10 @@ impl<const P: usize> Nodes<P> {
         ensures live { live self.new ≡ live self.old }
     {
         match id.kind {
-            Kind::Four => self.fours.redirect(id.place, byte, to),
-            Kind::Sixteen => self.sixteens.redirect(id.place, byte, to),
-            Kind::FortyEight => self.forty_eights.redirect(id.place, byte, to),
-            Kind::Full => self.fulls.redirect(id.place, byte, to),
+            Kind::Four => inner::redirect(&mut self.fours, id.place, byte, to),
+            Kind::Sixteen => inner::redirect(&mut self.sixteens, id.place, byte, to),
+            Kind::FortyEight => inner::redirect(&mut self.forty_eights, id.place, byte, to),
+            Kind::Full => inner::redirect(&mut self.fulls, id.place, byte, to),
         }
     }
 
@@ -314,10 +322,10 @@ impl<const P: usize> Nodes<P> {
         ensures live { live self.new ≡ live self.old }
     {
         match id.kind {
-            Kind::Four => self.fours.remove_edge(id.place, byte),
-            Kind::Sixteen => self.sixteens.remove_edge(id.place, byte),
-            Kind::FortyEight => self.forty_eights.remove_edge(id.place, byte),
-            Kind::Full => self.fulls.remove_edge(id.place, byte),
+            Kind::Four => inner::remove_edge(&mut self.fours, id.place, byte),
+            Kind::Sixteen => inner::remove_edge(&mut self.sixteens, id.place, byte),
+            Kind::FortyEight => inner::remove_edge(&mut self.forty_eights, id.place, byte),
+            Kind::Full => inner::remove_edge(&mut self.fulls, id.place, byte),
         }
     }
 
@@ -331,10 +339,10 @@ impl<const P: usize> Nodes<P> {
         ensures spares { MoreSpares self.old self.new }
     {
         match id.kind {
-            Kind::Four => self.fours.store.remove(id.place),
-            Kind::Sixteen => self.sixteens.store.remove(id.place),
-            Kind::FortyEight => self.forty_eights.store.remove(id.place),
-            Kind::Full => self.fulls.store.remove(id.place),
+            Kind::Four => self.fours.remove(id.place),
+            Kind::Sixteen => self.sixteens.remove(id.place),
+            Kind::FortyEight => self.forty_eights.remove(id.place),
+            Kind::Full => self.fulls.remove(id.place),
         }
     }
 
@@ -348,8 +356,6 @@ impl<const P: usize> Nodes<P> {
         ensures live { live self.new ≡ live self.old + 1 }
         ensures room { room self.old ≤ room self.new + 1 }
     {
-        // Whoever looks at the store learns that a record is small.
-        let _store = &self.fours.store;
         let fours = &mut self.fours;
         let node = Inner::new(depth, prefix, Few::pair(low, high));
         NodeId {
@@ -370,8 +376,6 @@ impl<const P: usize> Nodes<P> {
         ensures kind { result % 4 ≡ 1 }
         ensures spares { Lowers 1 self.old self.new }
     {
-        // Whoever looks at the store learns that a record is small.
-        let _store = &self.fours.store;
         let four = self.fours.take(place);
         let edges = Few::of_four(&four.edges);
         let at = self.sixteens.fill(four.with_edges(edges));
@@ -393,8 +397,6 @@ impl<const P: usize> Nodes<P> {
         ensures kind { result % 4 ≡ 2 }
         ensures spares { Lowers 2 self.old self.new }
     {
-        // Whoever looks at the store learns that a record is small.
-        let _store = &self.sixteens.store;
         let sixteen = self.sixteens.take(place);
         let edges = Indexed::of_sixteen(&sixteen.edges);
         let at = self.forty_eights.fill(sixteen.with_edges(edges));
@@ -416,8 +418,6 @@ impl<const P: usize> Nodes<P> {
         ensures kind { result % 4 ≡ 3 }
         ensures spares { Lowers 3 self.old self.new }
     {
-        // Whoever looks at the store learns that a record is small.
-        let _store = &self.forty_eights.store;
         let indexed = self.forty_eights.take(place);
         let edges = Full::of_indexed(&indexed.edges);
         let at = self.fulls.fill(indexed.with_edges(edges));
@@ -438,21 +438,21 @@ impl<const P: usize> Nodes<P> {
     {
         match id.kind {
             Kind::Four => {
-                if self.fours.count(id.place) < 4 {
+                if inner::count(&self.fours, id.place) < 4 {
                     id
                 } else {
                     self.grow_four(id.place)
                 }
             }
             Kind::Sixteen => {
-                if self.sixteens.count(id.place) < 16 {
+                if inner::count(&self.sixteens, id.place) < 16 {
                     id
                 } else {
                     self.grow_sixteen(id.place)
                 }
             }
             Kind::FortyEight => {
-                if self.forty_eights.count(id.place) < 48 {
+                if inner::count(&self.forty_eights, id.place) < 48 {
                     id
                 } else {
                     self.grow_forty_eight(id.place)
@@ -471,8 +471,6 @@ impl<const P: usize> Nodes<P> {
         ensures moved { Renames (at self.old) (at self.new) (4 * place + 1) result }
         ensures live { live self.new ≡ live self.old }
     {
-        // Whoever looks at the store learns that a record is small.
-        let _store = &self.sixteens.store;
         let large = self.sixteens.take(place);
         let edges = Few::of_sixteen(&large.edges);
         let at = self.fours.fill(large.with_edges(edges));
@@ -491,8 +489,6 @@ impl<const P: usize> Nodes<P> {
         ensures moved { Renames (at self.old) (at self.new) (4 * place + 2) result }
         ensures live { live self.new ≡ live self.old }
     {
-        // Whoever looks at the store learns that a record is small.
-        let _store = &self.forty_eights.store;
         let large = self.forty_eights.take(place);
         let edges = Few::of_indexed(&large.edges);
         let at = self.sixteens.fill(large.with_edges(edges));
@@ -511,8 +507,6 @@ impl<const P: usize> Nodes<P> {
         ensures moved { Renames (at self.old) (at self.new) (4 * place + 3) result }
         ensures live { live self.new ≡ live self.old }
     {
-        // Whoever looks at the store learns that a record is small.
-        let _store = &self.fulls.store;
         let wide = self.fulls.take(place);
         let edges = Indexed::of_full(&wide.edges);
         let at = self.forty_eights.fill(wide.with_edges(edges));
@@ -528,7 +522,10 @@ impl<const P: usize> Nodes<P> {
         ensures live { live self.new ≡ live self.old }
         ensures fits { OnOk result (0 < self.new.fours.spare) }
     {
-        self.fours.reserve(1)
+        if P >= PREFIX_BOUND {
+            return Err(AllocError);
+        }
+        inner::reserve(&mut self.fours, 1)
     }
 
     // Sees to a spare record for a node of 16. The nodes stand where there is no memory.
@@ -537,7 +534,10 @@ impl<const P: usize> Nodes<P> {
         ensures live { live self.new ≡ live self.old }
         ensures fits { OnOk result (0 < self.new.sixteens.spare) }
     {
-        self.sixteens.reserve(1)
+        if P >= PREFIX_BOUND {
+            return Err(AllocError);
+        }
+        inner::reserve(&mut self.sixteens, 1)
     }
 
     // Sees to a spare record for a node of 48. The nodes stand where there is no memory.
@@ -546,7 +546,10 @@ impl<const P: usize> Nodes<P> {
         ensures live { live self.new ≡ live self.old }
         ensures fits { OnOk result (0 < self.new.forty_eights.spare) }
     {
-        self.forty_eights.reserve(1)
+        if P >= PREFIX_BOUND {
+            return Err(AllocError);
+        }
+        inner::reserve(&mut self.forty_eights, 1)
     }
 
     /// Moves a node to the smaller kind where its children fill that: where 4, 16 or 48 are left in the next larger kind. It tries once, and the node stays where memory is refused. Answers the number that the node has then.
@@ -558,21 +561,23 @@ impl<const P: usize> Nodes<P> {
         match id.kind {
             Kind::Four => id,
             Kind::Sixteen => {
-                if self.sixteens.count(id.place) == 4 && self.spare_four().is_ok() {
+                if inner::count(&self.sixteens, id.place) == 4 && self.spare_four().is_ok() {
                     self.shrink_sixteen(id.place)
                 } else {
                     id
                 }
             }
             Kind::FortyEight => {
-                if self.forty_eights.count(id.place) == 16 && self.spare_sixteen().is_ok() {
+                if inner::count(&self.forty_eights, id.place) == 16
+                    && self.spare_sixteen().is_ok()
+                {
                     self.shrink_forty_eight(id.place)
                 } else {
                     id
                 }
             }
             Kind::Full => {
-                if self.fulls.count(id.place) == 48 && self.spare_forty_eight().is_ok() {
+                if inner::count(&self.fulls, id.place) == 48 && self.spare_forty_eight().is_ok() {
                     self.shrink_full(id.place)
                 } else {
                     id
@@ -591,13 +596,19 @@ impl<const P: usize> Nodes<P> {
         if count == 0 {
             return Ok(());
         }
-        self.fours.reserve(count)?;
-        self.sixteens
-            .reserve(outgrown(count, self.fours.used(), 4))?;
-        self.forty_eights
-            .reserve(outgrown(count, self.sixteens.used(), 13))?;
-        self.fulls
-            .reserve(outgrown(count, self.forty_eights.used(), 33))?;
+        if P >= PREFIX_BOUND {
+            return Err(AllocError);
+        }
+        inner::reserve(&mut self.fours, count)?;
+        inner::reserve(&mut self.sixteens, outgrown(count, self.fours.used(), 4))?;
+        inner::reserve(
+            &mut self.forty_eights,
+            outgrown(count, self.sixteens.used(), 13),
+        )?;
+        inner::reserve(
+            &mut self.fulls,
+            outgrown(count, self.forty_eights.used(), 33),
+        )?;
         Ok(())
     }
 
@@ -609,10 +620,10 @@ impl<const P: usize> Nodes<P> {
         ensures live { live self.new ≡ live self.old }
     {
         match id.kind {
-            Kind::Four => self.fours.set_prefix(id.place, prefix),
-            Kind::Sixteen => self.sixteens.set_prefix(id.place, prefix),
-            Kind::FortyEight => self.forty_eights.set_prefix(id.place, prefix),
-            Kind::Full => self.fulls.set_prefix(id.place, prefix),
+            Kind::Four => inner::set_prefix(&mut self.fours, id.place, prefix),
+            Kind::Sixteen => inner::set_prefix(&mut self.sixteens, id.place, prefix),
+            Kind::FortyEight => inner::set_prefix(&mut self.forty_eights, id.place, prefix),
+            Kind::Full => inner::set_prefix(&mut self.fulls, id.place, prefix),
         }
     }
 
@@ -655,10 +666,10 @@ impl<const P: usize> Nodes<P> {
         ensures live { live self.new ≡ 0 }
         ensures room { room self.new ≡ 0 }
     {
-        self.fours.store.clear();
-        self.sixteens.store.clear();
-        self.forty_eights.store.clear();
-        self.fulls.store.clear();
+        self.fours.clear();
+        self.sixteens.clear();
+        self.forty_eights.clear();
+        self.fulls.clear();
     }
 }
 

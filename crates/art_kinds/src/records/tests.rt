@@ -6,8 +6,8 @@ use crate::records::few::Few;
 use crate::records::full::Full;
 use crate::records::ids::{Child, Edge, Kind, NodeId};
 use crate::records::indexed::Indexed;
+use crate::records::inner::Inner;
 use crate::records::nodes::Nodes;
-use crate::records::one_kind::Inner;
 use art_slots::{LeafId, Visits};
 use std::process::Abort;
 
@@ -91,22 +91,22 @@ fn assert_node(rt: &impl Abort, nodes: &Nodes<2>, id: NodeId, count: usize, tabl
     assert_alone(rt, nodes, id, count);
     match id.kind {
         Kind::Four => {
-            let record = nodes.fours.store.get(id.place).expect(rt, "a node");
+            let record = nodes.fours.get(id.place).expect(rt, "a node");
             assert_eq!(rt; record.edges.count, count);
             assert_record(rt, record, &few(rt, &record.edges), table);
         }
         Kind::Sixteen => {
-            let record = nodes.sixteens.store.get(id.place).expect(rt, "a node");
+            let record = nodes.sixteens.get(id.place).expect(rt, "a node");
             assert_eq!(rt; record.edges.count, count);
             assert_record(rt, record, &few(rt, &record.edges), table);
         }
         Kind::FortyEight => {
-            let record = nodes.forty_eights.store.get(id.place).expect(rt, "a node");
+            let record = nodes.forty_eights.get(id.place).expect(rt, "a node");
             assert_eq!(rt; record.edges.count, count);
             assert_record(rt, record, &indexed(rt, &record.edges), table);
         }
         Kind::Full => {
-            let record = nodes.fulls.store.get(id.place).expect(rt, "a node");
+            let record = nodes.fulls.get(id.place).expect(rt, "a node");
             assert_eq!(rt; record.edges.count, count);
             assert_record(rt, record, &full(rt, &record.edges), table);
         }
@@ -135,7 +135,7 @@ fn assert_alone(rt: &impl Abort, nodes: &Nodes<2>, id: NodeId, count: usize) {
 fn start(rt: &impl Abort, nodes: &mut Nodes<2>) -> NodeId {
     let (low, high) = (byte_of(0), byte_of(1));
     nodes.reserve(1).expect(rt, "memory");
-    assert!(rt; nodes.fours.store.spare() > 0);
+    assert!(rt; nodes.fours.spare() > 0);
     assert!(rt; low < high);
     let low = Edge {
         byte: low,

@@ -6,5 +6,8 @@ use Rattle.art_kinds.proofs.records.nodes.Nodes.shrink_full.Goals as goal
 pub returns-clause-moved : goal.returns-clause-moved
 returns-clause-moved g c =
     let t = c.take-wide.ensures in
+    let u = c.fill-at.ensures in
     let same = same_node c.with_edges.ensures c.of_full-edges.ensures c.wide.view_is in
-    renamed c.self.view_is Full FortyEight (λ z. omega (arith, z)) t.value same t.loses c.fill-at.ensures.gains
+    renamed c.self.view_is Full FortyEight (λ z. omega (arith, z)) t.value same
+    (record { gone = t.gone; others = t.others; spare = t.spare; used = t.used })
+    (record { fresh = u.fresh; is = u.now; others = u.others; spare = u.spare; used = u.used })

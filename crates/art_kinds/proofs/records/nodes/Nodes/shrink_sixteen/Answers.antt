@@ -6,5 +6,8 @@ use Rattle.art_kinds.proofs.records.nodes.Nodes.shrink_sixteen.Goals as goal
 pub returns-clause-moved : goal.returns-clause-moved
 returns-clause-moved g c =
     let t = c.take-large.ensures in
+    let u = c.fill-at.ensures in
     let same = same_node c.with_edges.ensures c.of_sixteen-edges.ensures c.large.view_is in
-    renamed c.self.view_is Sixteen Four (λ z. omega (arith, z)) t.value same t.loses c.fill-at.ensures.gains
+    renamed c.self.view_is Sixteen Four (λ z. omega (arith, z)) t.value same
+    (record { gone = t.gone; others = t.others; spare = t.spare; used = t.used })
+    (record { fresh = u.fresh; is = u.now; others = u.others; spare = u.spare; used = u.used })
