@@ -1,5 +1,5 @@
 -- The nodes of four kinds: what a change of one record leaves of them.
-use Rattle.std.proofs.Common.{◌≡◌, ◌≢◌, ◌⊎◌, ℕ, zero, suc, ◌+◌, ◌-◌, ◌*◌, ◌/◌, ◌%◌, ◌^◌, ◌<◌, ◌≤◌, List, [], ◌∷◌, map, length, get_or, Option, Some, None, IsSome, is_some, count_by, true≢false, refl, sym, ap, subst, ◌∙◌, inl, inr, arith}
+use Rattle.std.proofs.Common.{◌≡◌, ◌≢◌, ℕ, zero, suc, ◌+◌, ◌-◌, ◌*◌, ◌/◌, ◌%◌, ◌^◌, ◌<◌, ◌≤◌, List, length, Option, Some, None, IsSome, refl, sym, ap, subst, ◌∙◌, inl, inr, arith}
 use Rattle.std.specs.Option.{IsSomeAnd}
 use Rattle.std.proofs.lemmas.Bool.{cases_eq}
 use Rattle.art_kinds.specs.OneKinds.{FitsIn, IsOneKind, Rewires, Changes, Loses}
@@ -45,7 +45,8 @@ fits_less None m n l h = tt
 fits_less (Some p) m n l h = omega (arith, l, h)
 
 -- a node is written over, as it says
-pub changed : {R : Node → Node → Type 0} {s v : Store Node} → s ≡ v → (i : ℕ) {x z : Node} (y : Node) → slot_at s i ≡ Some x → z ≡ x → R z y → Changes R v (with_record s i y) i
+pub changed : {R : Node → Node → Type 0} {s v : Store Node} → s ≡ v → (i : ℕ) {x z : Node} (y : Node)
+    → slot_at s i ≡ Some x → z ≡ x → R z y → Changes R v (with_record s i y) i
 changed {R} {s} {v} f i {x} {z} y found e so = record {
   was = z;
   was_is = ap (λ (t : Store Node). slot_at t i) (sym f) ∙ found ∙ ap Some (sym e);
@@ -218,6 +219,10 @@ module _ {s v : Nodes} (f : s ≡ v) (w : Inside) {n : ℕ} (e : number w ≡ n)
     now_at : at (put s K a) n ≡ slot_at a w.place
     now_at = found_in w e k (put s K a) ∙ ap (λ (t : Store Node). slot_at t w.place) (put-on s K a)
 
+    -- the store of the kind has its other nodes
+    others_put : (j : ℕ) → j ≢ w.place → slot_at (store_of (put s K a) (digit K)) j ≡ slot_at (store_of s (digit K)) j
+    others_put j off = ap (λ (t : Store Node). slot_at t j) (put-on s K a) ∙ others j off
+
   module _ {a : Store Node} where
     -- a node is gone
     pub frees : Loses (store_of s (digit K)) a w.place → Frees (at v) (at (put s K a)) n
@@ -229,10 +234,15 @@ module _ {s v : Nodes} (f : s ≡ v) (w : Inside) {n : ℕ} (e : number w ≡ n)
 
     -- no figure falls then
     pub frees-spares : Loses (store_of s (digit K)) a w.place → MoreSpares v (put s K a)
-    frees-spares h = subst (λ (u : Nodes). MoreSpares u (put s K a)) f (freed-spares s (put s K a) (digit K) w.place (digit-lt K) (put-off s K a) (ap (λ (t : Store Node). slot_at t w.place) (put-on s K a) ∙ h.gone) (λ j off. ap (λ (t : Store Node). slot_at t j) (put-on s K a) ∙ h.others j off) (ap (λ (t : Store Node). t.spare) (put-on s K a) ∙ h.spare))
+    frees-spares h =
+        let gone = ap (λ (t : Store Node). slot_at t w.place) (put-on s K a) ∙ h.gone in
+        let spare = ap (λ (t : Store Node). t.spare) (put-on s K a) ∙ h.spare in
+        let r : MoreSpares s (put s K a) = freed-spares s (put s K a) (digit K) w.place (digit-lt K) (put-off s K a) gone (others_put a h.others) spare in
+        subst (λ (u : Nodes). MoreSpares u (put s K a)) f r
 
     -- an edge is added
-    pub adds : {b : ℕ} {to : Child} → IsSomeAnd (at v n) (λ x. child_at x.edges b ≡ None) → Changes (Rewires (λ p q. AddsChild p q b to)) (store_of s (digit K)) a w.place → AddsEdgeTo (at v) (at (put s K a)) n b to
+    pub adds : {b : ℕ} {to : Child} → IsSomeAnd (at v n) (λ x. child_at x.edges b ≡ None)
+        → Changes (Rewires (λ p q. AddsChild p q b to)) (store_of s (digit K)) a w.place → AddsEdgeTo (at v) (at (put s K a)) n b to
     adds {b} {to} absent h = record {
       was = h.was;
       was_is = found_at ∙ h.was_is;
@@ -259,7 +269,8 @@ module _ {s v : Nodes} (f : s ≡ v) (w : Inside) {n : ℕ} (e : number w ≡ n)
     }
 
     -- an edge leads elsewhere
-    pub redirects : {b : ℕ} {to : Child} → Changes (Rewires (λ p q. RedirectsChild p q b to)) (store_of s (digit K)) a w.place → Redirects (at v) (at (put s K a)) n b to
+    pub redirects : {b : ℕ} {to : Child} → Changes (Rewires (λ p q. RedirectsChild p q b to)) (store_of s (digit K)) a w.place
+        → Redirects (at v) (at (put s K a)) n b to
     redirects h = record {
       was = h.was;
       was_is = found_at ∙ h.was_is;
@@ -275,7 +286,8 @@ module _ {s v : Nodes} (f : s ≡ v) (w : Inside) {n : ℕ} (e : number w ≡ n)
     }
 
     -- another prefix
-    pub reprefixes : {prefix : List ℕ} → Changes (λ x y. y ≡ record x { prefix = prefix }) (store_of s (digit K)) a w.place → Reprefixes (at v) (at (put s K a)) n prefix
+    pub reprefixes : {prefix : List ℕ} → Changes (λ x y. y ≡ record x { prefix = prefix }) (store_of s (digit K)) a w.place
+        → Reprefixes (at v) (at (put s K a)) n prefix
     reprefixes h = record {
       was = h.was;
       was_is = found_at ∙ h.was_is;
@@ -287,9 +299,6 @@ module _ {s v : Nodes} (f : s ≡ v) (w : Inside) {n : ℕ} (e : number w ≡ n)
     module _ {R : Node → Node → Type 0} (h : Changes R (store_of s (digit K)) a w.place) where
       on : store_of (put s K a) (digit K) ≡ a
       on = put-on s K a
-
-      others_on : (j : ℕ) → j ≢ w.place → slot_at (store_of (put s K a) (digit K)) j ≡ slot_at (store_of s (digit K)) j
-      others_on j off = ap (λ (u : Store Node). slot_at u j) on ∙ h.others j off
 
       is_on : slot_at (store_of (put s K a) (digit K)) w.place ≡ Some h.is
       is_on = ap (λ (u : Store Node). slot_at u w.place) on ∙ h.is_is
@@ -305,16 +314,23 @@ module _ {s v : Nodes} (f : s ≡ v) (w : Inside) {n : ℕ} (e : number w ≡ n)
       pub lowers : length h.is.edges ≡ length h.was.edges + 1 → Lowers (n % 4 + 1) v (put s K a)
       lowers q =
           let m : suc (digit K) ≡ n % 4 + 1 = (let d : n % 4 ≡ digit K = digit_of w e k in omega arith) in
-          let r : Lowers (suc (digit K)) s (put s K a) = lowers_in s (put s K a) (digit K) w.place (digit-lt K) (put-off s K a) others_on spare_on h.was h.is h.was_is is_on (omega (arith, q)) in
+          let c = lowers_in s (put s K a) (digit K) w.place (digit-lt K) (put-off s K a) (others_put a h.others) spare_on in
+          let r : Lowers (suc (digit K)) s (put s K a) = c h.was h.is h.was_is is_on (omega (arith, q)) in
           subst (λ z. Lowers z v (put s K a)) m (subst (λ (u : Nodes). Lowers (suc (digit K)) u (put s K a)) f r)
 
       -- an edge less lowers none
       pub more : length h.is.edges + 1 ≡ length h.was.edges → MoreSpares v (put s K a)
-      more q = subst (λ (u : Nodes). MoreSpares u (put s K a)) f (more_in s (put s K a) (digit K) w.place (digit-lt K) (put-off s K a) others_on spare_on h.was h.is h.was_is is_on (omega (arith, q)))
+      more q =
+          let c = more_in s (put s K a) (digit K) w.place (digit-lt K) (put-off s K a) (others_put a h.others) spare_on in
+          let r : MoreSpares s (put s K a) = c h.was h.is h.was_is is_on (omega (arith, q)) in
+          subst (λ (u : Nodes). MoreSpares u (put s K a)) f r
 
       -- as many edges leave the figures
       pub stands : length h.is.edges ≡ length h.was.edges → SameSpares v (put s K a)
-      stands q = subst (λ (u : Nodes). SameSpares u (put s K a)) f (same_in s (put s K a) (digit K) w.place (digit-lt K) (put-off s K a) others_on spare_on h.was h.is h.was_is is_on q)
+      stands q =
+          let c = same_in s (put s K a) (digit K) w.place (digit-lt K) (put-off s K a) (others_put a h.others) spare_on in
+          let r : SameSpares s (put s K a) = c h.was h.is h.was_is is_on q in
+          subst (λ (u : Nodes). SameSpares u (put s K a)) f r
 
 -- for how many children a kind has places, where these have a limit
 abbrev pub limit : Kind → Option ℕ
@@ -324,7 +340,9 @@ limit FortyEight = Some 48
 limit Full = None
 
 -- a node that has a place has one for an edge more
-pub room_of : {s v : Nodes} → s ≡ v → (w : Inside) {n : ℕ} → number w ≡ n → {K : Kind} → w.kind ≡ K → (b : ℕ) → IsSomeAnd (at v n) (λ x. child_at x.edges b ≡ None) → HasPlace v n → IsSomeAnd (slot_at (store_of s (digit K)) w.place) (λ x. FitsIn (limit K) (length x.edges + 1))
+pub room_of : {s v : Nodes} → s ≡ v → (w : Inside) {n : ℕ} → number w ≡ n → {K : Kind} → w.kind ≡ K
+    → (b : ℕ) → IsSomeAnd (at v n) (λ x. child_at x.edges b ≡ None) → HasPlace v n
+    → IsSomeAnd (slot_at (store_of s (digit K)) w.place) (λ x. FitsIn (limit K) (length x.edges + 1))
 room_of {s} {v} f w {n} e {K} k b some h = by_node (at v n) refl some
   where
     fits : (L : Kind) (x : Node) → (digit L < 3 → length x.edges < places (digit L)) → FitsIn (limit L) (length x.edges + 1)
@@ -333,7 +351,8 @@ room_of {s} {v} f w {n} e {K} k b some h = by_node (at v n) refl some
     fits FortyEight x q = let l : length x.edges < 48 = q (omega arith) in omega arith
     fits Full x q = tt
 
-    by_node : (o : Option Node) → at v n ≡ o → IsSomeAnd o (λ x. child_at x.edges b ≡ None) → IsSomeAnd (slot_at (store_of s (digit K)) w.place) (λ x. FitsIn (limit K) (length x.edges + 1))
+    by_node : (o : Option Node) → at v n ≡ o → IsSomeAnd o (λ x. child_at x.edges b ≡ None)
+        → IsSomeAnd (slot_at (store_of s (digit K)) w.place) (λ x. FitsIn (limit K) (length x.edges + 1))
     by_node None is z = absurd z
     by_node (Some x) is z =
         let m : n % 4 ≡ digit K = digit_of w e k in

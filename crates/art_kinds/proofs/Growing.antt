@@ -190,7 +190,8 @@ has_place t m d j x md mj is few z e l =
     subst (λ (y : Node). length y.edges < places (m % 4)) g (subst (λ k. length x.edges < places k) (sym md) h)
 
 -- four stores that keep their nodes
-module _ (s t : Nodes) (k0 : Grows s.fours t.fours) (k1 : Grows s.sixteens t.sixteens) (k2 : Grows s.forty_eights t.forty_eights) (k3 : Grows s.fulls t.fulls) where
+module _ (s t : Nodes) (k0 : Grows s.fours t.fours) (k1 : Grows s.sixteens t.sixteens)
+    (k2 : Grows s.forty_eights t.forty_eights) (k3 : Grows s.fulls t.fulls) where
   kept_of : (k : ℕ) → Grows (store_of s k) (store_of t k)
   kept_of zero = k0
   kept_of (suc zero) = k1

@@ -1,16 +1,15 @@
 -- A node moves to another kind, and spare records come.
-use Rattle.std.proofs.Common.{◌≡◌, ◌≢◌, ◌≤◌, ◌<◌, ◌+◌, ◌-◌, ◌*◌, ◌/◌, ◌%◌, ℕ, zero, suc, List, length, Option, Some, None, IsSome, refl, sym, ap, subst, ◌∙◌, arith}
+use Rattle.std.proofs.Common.{◌≡◌, ◌≢◌, ◌≤◌, ◌<◌, ◌+◌, ◌-◌, ◌*◌, ◌/◌, ℕ, zero, suc, List, length, Some, None, refl, sym, ap, subst, ◌∙◌, arith}
 use Rattle.std.specs.Option.{IsSomeAnd}
-use Rattle.art_kinds.specs.OneKinds.{FitsIn, AllFit, Loses, Gains, Grows}
-use Rattle.art_kinds.specs.Nodes.{Node, Nodes, store_of, at, live, room, grown, floor, places, takes, serves, HasPlace, FitsMore, Lowers, SameNodes, Renames}
+use Rattle.art_kinds.specs.OneKinds.{AllFit, Loses, Gains, Grows}
+use Rattle.art_kinds.specs.Nodes.{Node, Nodes, store_of, at, live, room, grown, floor, places, takes, serves, HasPlace, Lowers, SameNodes, Renames}
 use Rattle.art_kinds.specs.Numbers.{number, digit, digit-lt}
 use Rattle.art_kinds.specs.declared.records.ids.Edge.{Edge}
 use Rattle.art_kinds.specs.declared.records.ids.Kind.{Kind}
 use Rattle.art_kinds.specs.declared.records.ids.Kind.TheVariants.{Four}
-use Rattle.art_kinds.specs.declared.records.ids.NodeId.TheInside.{Inside}
 use Rattle.art_slots.specs.Store.{Store, slot_at, used_count}
-use Rattle.art_kinds.proofs.Changes.{put, put-on, put-off, put-live, digit_of, found_at, found_in, place_of, such, holds_of}
-use Rattle.art_kinds.proofs.Growing.{moves, grows, makes-room, has_place, kept_nodes, kept_spares, enough, spare_next}
+use Rattle.art_kinds.proofs.Changes.{put, put-on, put-off, put-live, holds_of}
+use Rattle.art_kinds.proofs.Growing.{moves, grows, makes-room, has_place, kept_nodes, kept_spares, enough}
 use Rattle.art_kinds.proofs.Rooms.{grown-most, room-more}
 
 -- a node with other edges that are the same is the same
@@ -18,7 +17,8 @@ pub same_node : {x y z : Node} {k : List Edge} → y ≡ record x { edges = k } 
 same_node {x} e k z = e ∙ ap (λ (t : List Edge). record x { edges = t }) (k ∙ ap (λ (t : Node). t.edges) z)
 
 -- a node leaves one kind and comes into another
-module _ {s v : Nodes} (f : s ≡ v) (K L : Kind) (off : digit K ≢ digit L) {a b : Store Node} {i j : ℕ} {x y : Node} (was : slot_at (store_of s (digit K)) i ≡ Some x) (same : y ≡ x) (h : Loses (store_of s (digit K)) a i) (g : Gains (store_of s (digit L)) b j y) where
+module _ {s v : Nodes} (f : s ≡ v) (K L : Kind) (off : digit K ≢ digit L) {a b : Store Node} {i j : ℕ} {x y : Node}
+    (was : slot_at (store_of s (digit K)) i ≡ Some x) (same : y ≡ x) (h : Loses (store_of s (digit K)) a i) (g : Gains (store_of s (digit L)) b j y) where
   -- the store that it leaves, the store that it comes into, and the others
   left : store_of (put (put s K a) L b) (digit K) ≡ a
   left = put-off (put s K a) L b (digit K) (digit-lt K) off ∙ put-on s K a
@@ -46,13 +46,17 @@ module _ {s v : Nodes} (f : s ≡ v) (K L : Kind) (off : digit K ≢ digit L) {a
   renamed =
       let lk = digit-lt K in
       let ll = digit-lt L in
-      let r : Renames (at s) (at (put (put s K a) L b)) (4 * i + digit K) (4 * j + digit L) = moves s (put (put s K a) L b) (digit K) (digit L) i j x rest was gone others_left g.fresh is others_entered (4 * i + digit K) (4 * j + digit L) (omega arith) (omega arith) (omega arith) (omega arith) in
+      let n = 4 * i + digit K in
+      let m = 4 * j + digit L in
+      let c = moves s (put (put s K a) L b) (digit K) (digit L) i j x rest was gone others_left g.fresh is others_entered in
+      let r : Renames (at s) (at (put (put s K a) L b)) n m = c n m (omega arith) (omega arith) (omega arith) (omega arith) in
       subst (λ (z : Nodes). Renames (at z) (at (put (put s K a) L b)) (4 * i + digit K) (4 * j + digit L)) f r
 
   -- there are as many nodes
   pub renamed-live : live (put (put s K a) L b) ≡ live v
   renamed-live =
-      let u : used_count (store_of (put s K a) (digit L)) ≡ used_count (store_of s (digit L)) = ap (λ (t : Store Node). used_count t) (put-off s K a (digit L) (digit-lt L) (λ e. off (sym e))) in
+      let o : store_of (put s K a) (digit L) ≡ store_of s (digit L) = put-off s K a (digit L) (digit-lt L) (λ e. off (sym e)) in
+      let u : used_count (store_of (put s K a) (digit L)) ≡ used_count (store_of s (digit L)) = ap (λ (t : Store Node). used_count t) o in
       let l : live (put (put s K a) L b) ≡ live s = omega (arith, put-live s K a, put-live (put s K a) L b, u, h.used, g.used) in
       l ∙ ap (λ (z : Nodes). live z) f
 
@@ -69,11 +73,14 @@ module _ {s v : Nodes} (f : s ≡ v) (K L : Kind) (off : digit K ≢ digit L) {a
       let l : digit K < 3 = (let z = digit-lt L in omega arith) in
       let fresh : slot_at (store_of s (suc (digit K))) j ≡ None = subst (λ e. slot_at (store_of s e) j ≡ None) q g.fresh in
       let there : slot_at (store_of t (suc (digit K))) j ≡ Some x = subst (λ e. slot_at (store_of t e) j ≡ Some x) q is in
-      let others : (k : ℕ) → k ≢ j → slot_at (store_of t (suc (digit K))) k ≡ slot_at (store_of s (suc (digit K))) k = subst (λ e. (k : ℕ) → k ≢ j → slot_at (store_of t e) k ≡ slot_at (store_of s e) k) q others_entered in
+      let Q : ℕ → Type 0 = λ e. (k : ℕ) → k ≢ j → slot_at (store_of t e) k ≡ slot_at (store_of s e) k in
+      let others : Q (suc (digit K)) = subst Q q others_entered in
       let more : (store_of t (digit K)).spare ≡ (store_of s (digit K)).spare + 1 = ap (λ (u : Store Node). u.spare) left ∙ h.spare in
       let less_at : (store_of t (digit L)).spare + 1 ≡ (store_of s (digit L)).spare = ap (λ (u : Store Node). u.spare + 1) entered ∙ g.spare in
-      let less : (store_of t (suc (digit K))).spare + 1 ≡ (store_of s (suc (digit K))).spare = subst (λ e. (store_of t e).spare + 1 ≡ (store_of s e).spare) q less_at in
-      let r : Lowers (suc (digit K)) s t = grows s t (digit K) l i j x (λ k lt p n. rest k lt p (λ e. n (e ∙ q))) was gone others_left fresh there others more less full in
+      let S : ℕ → Type 0 = λ e. (store_of t e).spare + 1 ≡ (store_of s e).spare in
+      let less : S (suc (digit K)) = subst S q less_at in
+      let same_rest : (k : ℕ) → k < 4 → k ≢ digit K → k ≢ suc (digit K) → store_of t k ≡ store_of s k = λ k lt p n. rest k lt p (λ e. n (e ∙ q)) in
+      let r : Lowers (suc (digit K)) s t = grows s t (digit K) l i j x same_rest was gone others_left fresh there others more less full in
       subst (λ (z : Nodes). Lowers (digit L) z t) f (subst (λ e. Lowers e s t) (sym q) r)
 
 -- a store that stands
@@ -81,7 +88,8 @@ pub stood : {a : Store Node} → Grows a a
 stood = record { same = λ j. refl; used = refl; spare = omega arith }
 
 -- spare records come
-module _ {s v : Nodes} (f : s ≡ v) {a b c d : Store Node} (k0 : Grows s.fours a) (k1 : Grows s.sixteens b) (k2 : Grows s.forty_eights c) (k3 : Grows s.fulls d) where
+module _ {s v : Nodes} (f : s ≡ v) {a b c d : Store Node}
+    (k0 : Grows s.fours a) (k1 : Grows s.sixteens b) (k2 : Grows s.forty_eights c) (k3 : Grows s.fulls d) where
   -- the nodes stand
   pub stood_nodes : SameNodes v (record { fours = a; sixteens = b; forty_eights = c; fulls = d })
   stood_nodes j = kept_nodes s (record { fours = a; sixteens = b; forty_eights = c; fulls = d }) k0 k1 k2 k3 j ∙ ap (λ (z : Nodes). at z j) f
@@ -99,12 +107,17 @@ module _ {s v : Nodes} (f : s ≡ v) {a b c d : Store Node} (k0 : Grows s.fours 
       subst (λ (z : Nodes). room z ≤ room t) f (room-more s t (kept_spares s t k0 k1 k2 k3))
 
 -- what holds of the node at a place
-pub holds_in : {s v : Nodes} → s ≡ v → (K : Kind) (i : ℕ) {x : Node} → slot_at (store_of s (digit K)) i ≡ Some x → (R : Node → Type 0) → IsSomeAnd (slot_at (store_of v (digit K)) i) R → R x
-holds_in {s} f K i {x} e R h = holds_of R (slot_at (store_of s (digit K)) i) x e (subst (λ (t : Nodes). IsSomeAnd (slot_at (store_of t (digit K)) i) R) (sym f) h)
+pub holds_in : {s v : Nodes} → s ≡ v → (K : Kind) (i : ℕ) {x : Node} → slot_at (store_of s (digit K)) i ≡ Some x
+    → (R : Node → Type 0) → IsSomeAnd (slot_at (store_of v (digit K)) i) R → R x
+holds_in {s} f K i {x} e R h =
+    holds_of R (slot_at (store_of s (digit K)) i) x e (subst (λ (t : Nodes). IsSomeAnd (slot_at (store_of t (digit K)) i) R) (sym f) h)
 
 -- where a node with two children was made, room falls by one at most
-pub made-room : {s v : Nodes} → s ≡ v → {a : Store Node} {i : ℕ} {x : Node} → Gains s.fours a i x → length x.edges ≡ 2 → room v ≤ room (record s { fours = a }) + 1
-made-room {s} f {a} {i} {x} h two = subst (λ (u : Nodes). room u ≤ room (record s { fours = a }) + 1) f (makes-room s (record s { fours = a }) i x (put-off s Four a) h.fresh h.is h.others h.spare two)
+pub made-room : {s v : Nodes} → s ≡ v → {a : Store Node} {i : ℕ} {x : Node} → Gains s.fours a i x
+    → length x.edges ≡ 2 → room v ≤ room (record s { fours = a }) + 1
+made-room {s} f {a} {i} {x} h two =
+    subst (λ (u : Nodes). room u ≤ room (record s { fours = a }) + 1) f
+    (makes-room s (record s { fours = a }) i x (put-off s Four a) h.fresh h.is h.others h.spare two)
 
 -- the floor of a kind is below its places
 floor-places : (d : ℕ) → d < 3 → floor d + (places d - floor d) ≡ places d
@@ -114,7 +127,10 @@ floor-places (suc (suc zero)) l = refl
 floor-places (suc (suc (suc d))) l = absurd (omega arith)
 
 -- spare records enough for n placements, where the kind below has l nodes, and r records are asked for
-pub enough_for : (d : ℕ) → d < 3 → (a : Store Node) (m n l r : ℕ) → l ≡ used_count a → AllFit (Some (places d)) a → (n ≤ l → r ≡ n) → (l < n → r ≡ l + (n - l) / takes d) → r ≤ m → n ≤ serves m (takes d) (grown (floor d) a)
+pub enough_for : (d : ℕ) → d < 3 → (a : Store Node) (m n l r : ℕ) → l ≡ used_count a → AllFit (Some (places d)) a
+    → (n ≤ l → r ≡ n) → (l < n → r ≡ l + (n - l) / takes d) → r ≤ m → n ≤ serves m (takes d) (grown (floor d) a)
 enough_for d dl a m n l r e fit few many up =
-    let g : grown (floor d) a ≤ (places d - floor d) * used_count a = grown-most (floor d) (places d - floor d) a (λ i x q. (let h : length x.edges ≤ places d = fit i x q in omega (arith, h, floor-places d dl))) in
-    enough d dl n l (grown (floor d) a) m (subst (λ z. grown (floor d) a ≤ (places d - floor d) * z) (sym e) g) (λ h. (let q = few h in omega arith)) (λ h. (let q = many h in omega arith))
+    let p = places d - floor d in
+    let most = grown-most (floor d) p a (λ i x q. (let h : length x.edges ≤ places d = fit i x q in omega (arith, h, floor-places d dl))) in
+    let g : grown (floor d) a ≤ p * l = subst (λ z. grown (floor d) a ≤ p * z) (sym e) most in
+    enough d dl n l (grown (floor d) a) m g (λ h. (let q = few h in omega arith)) (λ h. (let q = many h in omega arith))

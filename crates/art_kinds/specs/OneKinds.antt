@@ -13,7 +13,7 @@ FitsIn (Some p) n = n ≤ p
 abbrev pub AllFit : Option ℕ → Store Node → Type 0
 AllFit places s = (i : ℕ) (x : Node) → slot_at s i ≡ Some x → FitsIn places (length x.edges)
 
--- no node has more children than places, and where there is a slot for one, a record with a prefix of P bytes is small enough that its size is a number of the machine
+-- no node has more children than places, and where there is a slot for one, the size of a record with P bytes of prefix is a number of the machine
 pub record IsOneKind (P : ℕ) (places : Option ℕ) (s : Store Node) : Type 0 where
   pub all : AllFit places s
   pub small : 0 < used_count s + s.spare → P < 2 ^ 62

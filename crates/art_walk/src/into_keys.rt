@@ -51,10 +51,7 @@ impl<K: AsBytes + Drop, V: Drop, const PREFIX_LEN: usize> Iterator for IntoKeys<
 
     /// The first key that is left.
     fn next(&mut self) -> Option<K> {
-        match self.pairs.next() {
-            Some(pair) => Some(pair.0),
-            None => None,
-        }
+        Some(self.pairs.next()?.0)
     }
 
     /// Both bounds are the number of keys that are left.
@@ -63,8 +60,7 @@ impl<K: AsBytes + Drop, V: Drop, const PREFIX_LEN: usize> Iterator for IntoKeys<
         ensures upper { IfSome result.1 (UpTo (item_count (λ rest. rest) self.now)) }
         ensures exact { result ≡ (length self.now, Some (length self.now)) }
     {
-        let left = self.len();
-        (left, Some(left))
+        self.pairs.size_hint()
     }
 }
 
@@ -74,10 +70,7 @@ impl<K: AsBytes + Drop, V: Drop, const PREFIX_LEN: usize> DoubleEndedIterator
 
     /// The last key that is left.
     fn next_back(&mut self) -> Option<K> {
-        match self.pairs.next_back() {
-            Some(pair) => Some(pair.0),
-            None => None,
-        }
+        Some(self.pairs.next_back()?.0)
     }
 }
 

@@ -52,10 +52,7 @@ impl<K: AsBytes + Drop, V: Drop, const PREFIX_LEN: usize> Iterator
 
     /// The first value that is left.
     fn next(&mut self) -> Option<V> {
-        match self.pairs.next() {
-            Some(pair) => Some(pair.1),
-            None => None,
-        }
+        Some(self.pairs.next()?.1)
     }
 
     /// Both bounds are the number of values that are left.
@@ -64,8 +61,7 @@ impl<K: AsBytes + Drop, V: Drop, const PREFIX_LEN: usize> Iterator
         ensures upper { IfSome result.1 (UpTo (item_count (λ rest. rest) self.now)) }
         ensures exact { result ≡ (length self.now, Some (length self.now)) }
     {
-        let left = self.len();
-        (left, Some(left))
+        self.pairs.size_hint()
     }
 }
 
@@ -75,10 +71,7 @@ impl<K: AsBytes + Drop, V: Drop, const PREFIX_LEN: usize> DoubleEndedIterator
 
     /// The last value that is left.
     fn next_back(&mut self) -> Option<V> {
-        match self.pairs.next_back() {
-            Some(pair) => Some(pair.1),
-            None => None,
-        }
+        Some(self.pairs.next_back()?.1)
     }
 }
 

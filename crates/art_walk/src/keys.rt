@@ -54,10 +54,7 @@ impl<'a, K, V, const PREFIX_LEN: usize> Iterator for Keys<'a, K, V, PREFIX_LEN> 
     /// The first key that is left.
     #[inline(always)]
     fn next(&mut self) -> Option<&'a K> {
-        match self.pairs.next() {
-            Some(pair) => Some(pair.0),
-            None => None,
-        }
+        Some(self.pairs.next()?.0)
     }
 
     /// Both bounds are the number of keys that are left.
@@ -66,8 +63,7 @@ impl<'a, K, V, const PREFIX_LEN: usize> Iterator for Keys<'a, K, V, PREFIX_LEN> 
         ensures upper { IfSome result.1 (UpTo (item_count (λ rest. rest) self.now)) }
         ensures exact { result ≡ (length self.now, Some (length self.now)) }
     {
-        let left = self.len();
-        (left, Some(left))
+        self.pairs.size_hint()
     }
 }
 
@@ -77,10 +73,7 @@ impl<'a, K, V, const PREFIX_LEN: usize> DoubleEndedIterator for Keys<'a, K, V, P
     /// The last key that is left.
     #[inline(always)]
     fn next_back(&mut self) -> Option<&'a K> {
-        match self.pairs.next_back() {
-            Some(pair) => Some(pair.0),
-            None => None,
-        }
+        Some(self.pairs.next_back()?.0)
     }
 }
 

@@ -17,7 +17,7 @@ pub use Rattle.blart_map.proofs.Taken.OnceTaken.{kept_first, taken_first, walk_k
 pub use Rattle.art_walk.proofs.Callable.{callable_on_each_pair, callable_on_such_pairs}
 -- the same of one that `for_each` of a walk that lends calls: of the value alone, or with its key, and there over all pairs, or over those that pass a test
 pub use Rattle.blart_map.proofs.Written.CallableInTurn.{callable_on_each_value, callable_on_such_values, callable_on_each_lent, callable_on_such_lent, callable_on_such_within}
--- one step of a walk that extracts, where its closure tells of the pair alone
-pub use Rattle.blart_map.proofs.Taken.OnceExtracted.{extracted}
+-- one step of a walk that extracts, where its closure tells of the pair alone; and the map that it leaves
+pub use Rattle.blart_map.proofs.Taken.OnceExtracted.{extracted, one_out}
 -- the values that a closure leaves which shows a state
 pub use Rattle.blart_map.proofs.Written.WrittenInTurn.{valued_by, valued_by_each}

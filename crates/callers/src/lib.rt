@@ -29,7 +29,7 @@ pub use lending::{age_all, cap_all, clear_below, raise_below, raise_each};
 pub use moves::{add_or_give_back, len_with, len_without, move_first_between, move_one, rename};
 pub use owning::{into_values_vec, into_vec};
 pub use parts::{give_all, have_one_digest, later, part_and_join};
-pub use picking::{drain_below, drop_below, keep_first, move_above, raise_all};
+pub use picking::{drain_below, drop_below, keep_first, move_above, raise_all, take_below};
 pub use prefix_entries::{
     count_over, merge_routes, put_over, put_word_over, set_over, set_section,
 };

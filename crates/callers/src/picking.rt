@@ -1,7 +1,8 @@
 //! Pairs that a closure picks.
-ghost use Rattle.std.specs.Prelude.{◌≡◌, ◌+◌, ◌<◌, ◌^◌, leb, ltb, filter, map, not, take, All, IfOk, OnOk};
-ghost use Rattle.blart.specs.Words.{pairs, bytes, kept_pair, PutsAll};
+ghost use Rattle.std.specs.Prelude.{◌≡◌, ◌+◌, ◌<◌, ◌^◌, leb, ltb, filter, map, not, take, slice_get, All, IfOk, OnOk, MatchOption};
+ghost use Rattle.blart.specs.Words.{pairs, bytes, without, kept_pair, PutsAll};
 
+use blart::map::LeafId;
 use blart::{AsBytes, Map, NoPrefixesBytes, ZKey};
 use std::alloc::{AllocError, Global};
 use std::iter;
@@ -61,6 +62,22 @@ pub fn drain_below<K: AsBytes + Drop>(
         }
     }
     Ok(low)
+}
+
+/// Takes out the first pair whose value is below a bound, if there is one, and no other.
+pub fn take_below<K: AsBytes + Drop>(scores: &mut Map<K, u64>, bound: u64) -> Option<(K, u64)>
+    ensures first { result ≡ slice_get (filter (λ p. ltb p.1 bound) (pairs scores.old)) 0 }
+    ensures left { MatchOption result (scores.new ≡ scores.old)
+        (λ p. pairs scores.new ≡ without (bytes K.bytes) (pairs scores.old) (K.bytes p.0)) }
+{
+    let _id: Option<LeafId> = None;
+    scores.law();
+    let mut walk = scores.extract_if(
+        Bound::<&ZKey>::Unbounded,
+        Bound::Unbounded,
+        |_, value| *value < bound,
+    );
+    walk.next()
 }
 
 /// Moves the pairs whose value is a bound or above it to another map, where a key of the same bytes stays, with the new value.

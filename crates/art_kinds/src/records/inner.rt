@@ -1,5 +1,5 @@
 //! A node of any kind, and what is done to one among the nodes of its kind.
-ghost use Rattle.std.specs.Prelude.{◌≡◌, ℕ, ◌+◌, ◌<◌, ◌≤◌, ◌^◌, take, length, None, IsSome, IsSomeAnd, OnOk};
+ghost use Rattle.std.specs.Prelude.{◌≡◌, ◌+◌, ◌<◌, ◌≤◌, ◌^◌, take, length, None, IsSome, IsSomeAnd, OnOk};
 ghost use Rattle.art_kinds.specs.Edges.{child_at, AddsChild, DropsChild, RedirectsChild};
 ghost use Rattle.art_kinds.specs.OneKinds.{FitsIn, IsOneKind, Rewires, Changes, Grows};
 ghost use Rattle.art_slots.specs.Store.{slot_at};

@@ -1,4 +1,4 @@
-use Rattle.std.proofs.Common.{◌≡◌, Option, None, rules}
+use Rattle.std.proofs.Common.{◌≡◌, None, rules}
 use Rattle.std.specs.Option.{IsSomeAnd}
 use Rattle.art_kinds.specs.Edges.{child_at}
 use Rattle.art_kinds.specs.Nodes.{Node}
@@ -41,34 +41,47 @@ pub returns-in-Four-clause-added : goal.returns-in-Four-clause-added
 returns-in-Four-clause-added g c = adds c.self.view_is c.id.inside c.id.view_is c.in-Four.is c.requires.absent c.add_edge.ensures.changes
 
 pub returns-in-Four-clause-spares : goal.returns-in-Four-clause-spares
-returns-in-Four-clause-spares g c = lowers c.self.view_is c.id.inside c.id.view_is c.in-Four.is c.add_edge.ensures.changes c.add_edge.ensures.changes.so.edges.longer
+returns-in-Four-clause-spares g c =
+    let h = c.add_edge.ensures.changes in
+    lowers c.self.view_is c.id.inside c.id.view_is c.in-Four.is h h.so.edges.longer
 
 pub returns-in-Four-clause-live : goal.returns-in-Four-clause-live
 returns-in-Four-clause-live g c = live-same c.self.view_is c.id.inside c.id.view_is c.in-Four.is c.add_edge.ensures.changes
 
 pub returns-in-Sixteen-clause-added : goal.returns-in-Sixteen-clause-added
-returns-in-Sixteen-clause-added g c = adds c.self.view_is c.id.inside c.id.view_is c.in-Sixteen.is c.requires.absent c.add_edge-in-Sixteen.ensures.changes
+returns-in-Sixteen-clause-added g c =
+    adds c.self.view_is c.id.inside c.id.view_is c.in-Sixteen.is c.requires.absent c.add_edge-in-Sixteen.ensures.changes
 
 pub returns-in-Sixteen-clause-spares : goal.returns-in-Sixteen-clause-spares
-returns-in-Sixteen-clause-spares g c = lowers c.self.view_is c.id.inside c.id.view_is c.in-Sixteen.is c.add_edge-in-Sixteen.ensures.changes c.add_edge-in-Sixteen.ensures.changes.so.edges.longer
+returns-in-Sixteen-clause-spares g c =
+    let h = c.add_edge-in-Sixteen.ensures.changes in
+    lowers c.self.view_is c.id.inside c.id.view_is c.in-Sixteen.is h h.so.edges.longer
 
 pub returns-in-Sixteen-clause-live : goal.returns-in-Sixteen-clause-live
-returns-in-Sixteen-clause-live g c = live-same c.self.view_is c.id.inside c.id.view_is c.in-Sixteen.is c.add_edge-in-Sixteen.ensures.changes
+returns-in-Sixteen-clause-live g c =
+    live-same c.self.view_is c.id.inside c.id.view_is c.in-Sixteen.is c.add_edge-in-Sixteen.ensures.changes
 
 pub returns-in-FortyEight-clause-added : goal.returns-in-FortyEight-clause-added
-returns-in-FortyEight-clause-added g c = adds c.self.view_is c.id.inside c.id.view_is c.in-FortyEight.is c.requires.absent c.add_edge-in-FortyEight.ensures.changes
+returns-in-FortyEight-clause-added g c =
+    adds c.self.view_is c.id.inside c.id.view_is c.in-FortyEight.is c.requires.absent c.add_edge-in-FortyEight.ensures.changes
 
 pub returns-in-FortyEight-clause-spares : goal.returns-in-FortyEight-clause-spares
-returns-in-FortyEight-clause-spares g c = lowers c.self.view_is c.id.inside c.id.view_is c.in-FortyEight.is c.add_edge-in-FortyEight.ensures.changes c.add_edge-in-FortyEight.ensures.changes.so.edges.longer
+returns-in-FortyEight-clause-spares g c =
+    let h = c.add_edge-in-FortyEight.ensures.changes in
+    lowers c.self.view_is c.id.inside c.id.view_is c.in-FortyEight.is h h.so.edges.longer
 
 pub returns-in-FortyEight-clause-live : goal.returns-in-FortyEight-clause-live
-returns-in-FortyEight-clause-live g c = live-same c.self.view_is c.id.inside c.id.view_is c.in-FortyEight.is c.add_edge-in-FortyEight.ensures.changes
+returns-in-FortyEight-clause-live g c =
+    live-same c.self.view_is c.id.inside c.id.view_is c.in-FortyEight.is c.add_edge-in-FortyEight.ensures.changes
 
 pub returns-in-Full-clause-added : goal.returns-in-Full-clause-added
-returns-in-Full-clause-added g c = adds c.self.view_is c.id.inside c.id.view_is c.in-Full.is c.requires.absent c.add_edge-in-Full.ensures.changes
+returns-in-Full-clause-added g c =
+    adds c.self.view_is c.id.inside c.id.view_is c.in-Full.is c.requires.absent c.add_edge-in-Full.ensures.changes
 
 pub returns-in-Full-clause-spares : goal.returns-in-Full-clause-spares
-returns-in-Full-clause-spares g c = lowers c.self.view_is c.id.inside c.id.view_is c.in-Full.is c.add_edge-in-Full.ensures.changes c.add_edge-in-Full.ensures.changes.so.edges.longer
+returns-in-Full-clause-spares g c =
+    let h = c.add_edge-in-Full.ensures.changes in
+    lowers c.self.view_is c.id.inside c.id.view_is c.in-Full.is h h.so.edges.longer
 
 pub returns-in-Full-clause-live : goal.returns-in-Full-clause-live
 returns-in-Full-clause-live g c = live-same c.self.view_is c.id.inside c.id.view_is c.in-Full.is c.add_edge-in-Full.ensures.changes
