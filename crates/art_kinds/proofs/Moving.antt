@@ -42,15 +42,14 @@ module _ {s v : Nodes} (f : s ≡ v) (K L : Kind) (off : digit K ≢ digit L) {a
   others_entered k far = ap (λ (t : Store Node). slot_at t k) entered ∙ g.others k far
 
   -- it has another number, and the others stand
-  pub renamed : Renames (at v) (at (put (put s K a) L b)) (4 * i + digit K) (4 * j + digit L)
-  renamed =
+  pub renamed : {n : ℕ} → n ≡ 4 * i + digit K → Renames (at v) (at (put (put s K a) L b)) n (4 * j + digit L)
+  renamed {n} e =
       let lk = digit-lt K in
       let ll = digit-lt L in
-      let n = 4 * i + digit K in
       let m = 4 * j + digit L in
       let c = moves s (put (put s K a) L b) (digit K) (digit L) i j x rest was gone others_left g.fresh is others_entered in
       let r : Renames (at s) (at (put (put s K a) L b)) n m = c n m (omega arith) (omega arith) (omega arith) (omega arith) in
-      subst (λ (z : Nodes). Renames (at z) (at (put (put s K a) L b)) (4 * i + digit K) (4 * j + digit L)) f r
+      subst (λ (z : Nodes). Renames (at z) (at (put (put s K a) L b)) n m) f r
 
   -- there are as many nodes
   pub renamed-live : live (put (put s K a) L b) ≡ live v

@@ -38,5 +38,5 @@ pub use router::{Handler, asked, site};
 pub use routes::{AddError, Table, hit, route, take_over};
 pub use sets::{all_of, count_shared, grants_all, join, keep_below, new_to, shared_of};
 pub use settings::{drop_section, is_granted_beside, setting_beside, target_beside};
-pub use sums::{count_between, sum_below, sum_below_chain};
+pub use sums::{count_between, sum_below, sum_below_chain, sum_of_waits};
 pub use walks::{from_both_ends, get_by_front};

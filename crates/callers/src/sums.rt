@@ -1,9 +1,9 @@
 //! Sums and counts over a part of a map.
 ghost use Rattle.std.specs.Prelude.{◌≡◌, ◌<◌, ◌≤◌, ◌^◌, length, map, sum, true};
-ghost use Rattle.std.specs.declared.ops.Bound.TheVariants.{Included, Excluded};
+ghost use Rattle.std.specs.declared.ops.Bound.TheVariants.{Included, Excluded, Unbounded};
 ghost use Rattle.blart.specs.Words.{pairs, bytes, between, under, in_order, string_bytes, u32_bytes};
 
-use blart::{Map, U32Key};
+use blart::{AsBytes, Map, U32Key};
 use std::ops::Bound;
 
 /// The sum of the values below a prefix.
@@ -35,4 +35,19 @@ pub fn count_between(times: &Map<U32Key, u64>, low: U32Key, high: U32Key) -> usi
     times
         .range(Bound::Included(&low), Bound::Excluded(&high))
         .count()
+}
+
+/// How long all wait together, where each waits its own time and the times of those with greater keys: a walk within a walk over the same map.
+pub fn sum_of_waits<K: AsBytes + Drop>(times: &Map<K, u64>) -> u64
+    requires { sum (map (λ p. sum (map (λ q. q.1) (between (bytes K.bytes) (pairs times.now) (Included (K.bytes p.0)) Unbounded))) (pairs times.now)) < 2 ^ 64 }
+    ensures { result ≡ sum (map (λ p. sum (map (λ q. q.1) (between (bytes K.bytes) (pairs times.now) (Included (K.bytes p.0)) Unbounded))) (pairs times.now)) }
+{
+    let mut total = 0;
+    for pair in times.iter() {
+        let own = pair.0.as_bytes();
+        for later in times.range(Bound::Included(&own), Bound::Unbounded) {
+            total += *later.1;
+        }
+    }
+    total
 }

@@ -37,51 +37,38 @@ add_edge-requires-in-Full g c =
     let small = small_in v c.id.inside.place R absent in
     (search rules, (v, (room_of c.self.view_is c.id.inside c.id.view_is c.in-Full.is c.args.byte c.requires.absent c.requires.place, absent)))
 
-pub returns-in-Four-clause-added : goal.returns-in-Four-clause-added
-returns-in-Four-clause-added g c = adds c.self.view_is c.id.inside c.id.view_is c.in-Four.is c.requires.absent c.add_edge.ensures.changes
-
-pub returns-in-Four-clause-spares : goal.returns-in-Four-clause-spares
-returns-in-Four-clause-spares g c =
+pub returns-in-Four : goal.returns-in-Four
+returns-in-Four g c =
     let h = c.add_edge.ensures.changes in
-    lowers c.self.view_is c.id.inside c.id.view_is c.in-Four.is h h.so.edges.longer
+    record {
+      added = adds c.self.view_is c.id.inside c.id.view_is c.in-Four.is c.requires.absent h;
+      spares = lowers c.self.view_is c.id.inside c.id.view_is c.in-Four.is h h.so.edges.longer;
+      live = live-same c.self.view_is c.id.inside c.id.view_is c.in-Four.is h;
+    }
 
-pub returns-in-Four-clause-live : goal.returns-in-Four-clause-live
-returns-in-Four-clause-live g c = live-same c.self.view_is c.id.inside c.id.view_is c.in-Four.is c.add_edge.ensures.changes
-
-pub returns-in-Sixteen-clause-added : goal.returns-in-Sixteen-clause-added
-returns-in-Sixteen-clause-added g c =
-    adds c.self.view_is c.id.inside c.id.view_is c.in-Sixteen.is c.requires.absent c.add_edge-in-Sixteen.ensures.changes
-
-pub returns-in-Sixteen-clause-spares : goal.returns-in-Sixteen-clause-spares
-returns-in-Sixteen-clause-spares g c =
+pub returns-in-Sixteen : goal.returns-in-Sixteen
+returns-in-Sixteen g c =
     let h = c.add_edge-in-Sixteen.ensures.changes in
-    lowers c.self.view_is c.id.inside c.id.view_is c.in-Sixteen.is h h.so.edges.longer
+    record {
+      added = adds c.self.view_is c.id.inside c.id.view_is c.in-Sixteen.is c.requires.absent h;
+      spares = lowers c.self.view_is c.id.inside c.id.view_is c.in-Sixteen.is h h.so.edges.longer;
+      live = live-same c.self.view_is c.id.inside c.id.view_is c.in-Sixteen.is h;
+    }
 
-pub returns-in-Sixteen-clause-live : goal.returns-in-Sixteen-clause-live
-returns-in-Sixteen-clause-live g c =
-    live-same c.self.view_is c.id.inside c.id.view_is c.in-Sixteen.is c.add_edge-in-Sixteen.ensures.changes
-
-pub returns-in-FortyEight-clause-added : goal.returns-in-FortyEight-clause-added
-returns-in-FortyEight-clause-added g c =
-    adds c.self.view_is c.id.inside c.id.view_is c.in-FortyEight.is c.requires.absent c.add_edge-in-FortyEight.ensures.changes
-
-pub returns-in-FortyEight-clause-spares : goal.returns-in-FortyEight-clause-spares
-returns-in-FortyEight-clause-spares g c =
+pub returns-in-FortyEight : goal.returns-in-FortyEight
+returns-in-FortyEight g c =
     let h = c.add_edge-in-FortyEight.ensures.changes in
-    lowers c.self.view_is c.id.inside c.id.view_is c.in-FortyEight.is h h.so.edges.longer
+    record {
+      added = adds c.self.view_is c.id.inside c.id.view_is c.in-FortyEight.is c.requires.absent h;
+      spares = lowers c.self.view_is c.id.inside c.id.view_is c.in-FortyEight.is h h.so.edges.longer;
+      live = live-same c.self.view_is c.id.inside c.id.view_is c.in-FortyEight.is h;
+    }
 
-pub returns-in-FortyEight-clause-live : goal.returns-in-FortyEight-clause-live
-returns-in-FortyEight-clause-live g c =
-    live-same c.self.view_is c.id.inside c.id.view_is c.in-FortyEight.is c.add_edge-in-FortyEight.ensures.changes
-
-pub returns-in-Full-clause-added : goal.returns-in-Full-clause-added
-returns-in-Full-clause-added g c =
-    adds c.self.view_is c.id.inside c.id.view_is c.in-Full.is c.requires.absent c.add_edge-in-Full.ensures.changes
-
-pub returns-in-Full-clause-spares : goal.returns-in-Full-clause-spares
-returns-in-Full-clause-spares g c =
+pub returns-in-Full : goal.returns-in-Full
+returns-in-Full g c =
     let h = c.add_edge-in-Full.ensures.changes in
-    lowers c.self.view_is c.id.inside c.id.view_is c.in-Full.is h h.so.edges.longer
-
-pub returns-in-Full-clause-live : goal.returns-in-Full-clause-live
-returns-in-Full-clause-live g c = live-same c.self.view_is c.id.inside c.id.view_is c.in-Full.is c.add_edge-in-Full.ensures.changes
+    record {
+      added = adds c.self.view_is c.id.inside c.id.view_is c.in-Full.is c.requires.absent h;
+      spares = lowers c.self.view_is c.id.inside c.id.view_is c.in-Full.is h h.so.edges.longer;
+      live = live-same c.self.view_is c.id.inside c.id.view_is c.in-Full.is h;
+    }

@@ -1,23 +1,25 @@
-use Rattle.std.proofs.Common.{◌≡◌, length, refl, arith}
+use Rattle.std.proofs.Common.{◌≡◌, ◌≢◌, length, refl, arith}
+use Rattle.art_kinds.specs.OneKinds.{Loses, Gains}
 use Rattle.art_kinds.specs.declared.records.ids.Kind.TheVariants.{Sixteen, FortyEight}
-use Rattle.art_kinds.proofs.Moving.{same_node, holds_in, renamed, renamed-lowers}
+use Rattle.art_kinds.proofs.Moving.{same_node, holds_in, renamed, renamed-live, renamed-place, renamed-lowers}
 use Rattle.art_kinds.proofs.records.nodes.Nodes.grow_sixteen.Goals as goal
 
-pub returns-clause-moved : goal.returns-clause-moved
-returns-clause-moved g c =
+pub returns : goal.returns
+returns g c =
+    let i = c.self.inside in
+    let f = c.self.view_is in
     let t = c.take-sixteen.ensures in
     let u = c.fill-at.ensures in
+    let off : 1 ≢ 2 = λ z. omega (arith, z) in
     let same = same_node c.with_edges.ensures c.of_sixteen-edges.ensures c.sixteen.view_is in
-    renamed c.self.view_is Sixteen FortyEight (λ z. omega (arith, z)) t.value same
-    (record { gone = t.gone; others = t.others; spare = t.spare; used = t.used })
-    (record { fresh = u.fresh; is = u.now; others = u.others; spare = u.spare; used = u.used })
-
-pub returns-clause-spares : goal.returns-clause-spares
-returns-clause-spares g c =
-    let t = c.take-sixteen.ensures in
-    let u = c.fill-at.ensures in
-    let same = same_node c.with_edges.ensures c.of_sixteen-edges.ensures c.sixteen.view_is in
-    let full = holds_in c.self.view_is Sixteen c.args.place t.value (λ x. length x.edges ≡ 16) c.requires.full in
-    renamed-lowers c.self.view_is Sixteen FortyEight (λ z. omega (arith, z)) t.value same
-    (record { gone = t.gone; others = t.others; spare = t.spare; used = t.used })
-    (record { fresh = u.fresh; is = u.now; others = u.others; spare = u.spare; used = u.used }) refl full
+    let left : Loses i.sixteens c.take-sixteen.new.self c.args.place = record { gone = t.gone; others = t.others; spare = t.spare; used = t.used } in
+    let came : Gains i.forty_eights c.fill-at.new.self c.fill-at.result c.with_edges.result =
+    record { fresh = u.fresh; is = u.now; others = u.others; spare = u.spare; used = u.used } in
+    let full = holds_in f Sixteen c.args.place t.value (λ x. length x.edges ≡ 16) c.requires.full in
+    record {
+      moved = renamed f Sixteen FortyEight off t.value same left came (omega arith);
+      place = renamed-place f Sixteen FortyEight off t.value same left came (λ _. omega (arith, full));
+      live = renamed-live f Sixteen FortyEight off t.value same left came;
+      kind = omega arith;
+      spares = renamed-lowers f Sixteen FortyEight off t.value same left came refl full;
+    }
