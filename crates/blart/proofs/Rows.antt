@@ -1,5 +1,5 @@
 -- What the definitions of answers say of some lines, computed: listings of a range, and a whole run.
-use Rattle.std.proofs.Common.{◌≡◌, [], ◌∷◌, Some, None, Ok, refl, inl, codes}
+use Rattle.std.proofs.Common.{◌≡◌, [], ◌∷◌, None, Ok, refl, inl, codes}
 use Rattle.std.specs.Fmt.{digits}
 use Rattle.hex.proofs.OnLiterals.{hex_on_literals}
 use Rattle.blart_keys.specs.Content.{IsPut}
