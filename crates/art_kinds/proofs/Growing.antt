@@ -64,11 +64,6 @@ moves s t d e i j x same was gone left fresh is there n m nd ni md mj = record {
 
 -- a node moves to the next kind
 module _ (s t : Nodes) (d : ℕ) (l : d < 3) (i j : ℕ) (x : Node) (same : (k : ℕ) → k < 4 → k ≢ d → k ≢ suc d → store_of t k ≡ store_of s k) (was : slot_at (store_of s d) i ≡ Some x) (gone : slot_at (store_of t d) i ≡ None) (left : (k : ℕ) → k ≢ i → slot_at (store_of t d) k ≡ slot_at (store_of s d) k) (fresh : slot_at (store_of s (suc d)) j ≡ None) (is : slot_at (store_of t (suc d)) j ≡ Some x) (there : (k : ℕ) → k ≢ j → slot_at (store_of t (suc d)) k ≡ slot_at (store_of s (suc d)) k) where
-  module _ (n m : ℕ) (nd : n % 4 ≡ d) (ni : n / 4 ≡ i) (md : m % 4 ≡ suc d) (mj : m / 4 ≡ j) where
-    -- it has another number, and the others stand
-    pub renames : Renames (at s) (at t) n m
-    renames = moves s t d (suc d) i j x same was gone left fresh is there n m nd ni md mj
-
   module _ (more : (store_of t d).spare ≡ (store_of s d).spare + 1) (less : (store_of t (suc d)).spare + 1 ≡ (store_of s (suc d)).spare) (full : length x.edges ≡ places d) where
     -- the edges above the floor of the kind that it leaves
     leaves_kind : grown (floor d) (store_of t d) + (places d - floor d) ≡ grown (floor d) (store_of s d)
@@ -222,10 +217,6 @@ enough (suc (suc zero)) dl n l g m h few many = elim (leb_tells n l) [
   | inr p ↦ (let r : l < n = p.1 in let q : l + (n - l) / 33 ≤ m = many r in let k : g ≤ 32 * l = h in omega arith)
 ]
 enough (suc (suc (suc d))) dl n l g m h few many = absurd (omega arith)
-
--- a full node that fits has a spare record above
-pub spare_next : (v : Nodes) (n d : ℕ) → n % 4 ≡ d → d < 3 → FitsMore v n → (x : Node) → at v n ≡ Some x → places d ≤ length x.edges → 0 < (store_of v (d + 1)).spare
-spare_next v n d m l h x is full = subst (λ k. 0 < (store_of v (k + 1)).spare) m (h x is (omega arith) (subst (λ k. places k ≤ length x.edges) (sym m) full))
 
 -- and each node fits an edge more
 pub fits_more : (s : Nodes) (n : ℕ) → 1 ≤ room s → FitsMore s n

@@ -270,6 +270,7 @@ module _ {K V : Type 0} {leaves : ℕ → Option (Leaf K V)} {rows : List (Numbe
       let lacks = Lacks-from_leaf_in (with_pair rows r xs) s fresh in
       ap (λ rs. leaf_in rs s) placed ∙ leaf_in-placed_now (Some r) (s, ys) (with_pair rows r xs) (row_stays rows r ids xs at) lacks
 
+  -- what is read there is that part
   second_is : (now : List ℕ) → leaf_in new s ≡ Some now → now ≡ ys
   second_is now read = (let e : Some now ≡ Some ys = sym read ∙ second_row in cc)
 

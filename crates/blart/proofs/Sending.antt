@@ -1,8 +1,8 @@
 -- How pieces on their way to a writer join.
 use Rattle.std.proofs.Common.{Bool, false, ◌||◌, ◌&&◌, not, length, ◌==◌, arith, ◌≡◌, ℕ, List, [], ◌++◌, refl, sym, ap, ◌∙◌, append_assoc, take, drop, take-append-drop}
 use Rattle.std.specs.Prelude.{Option, Result, Ok, Err}
-use Rattle.std.specs.Io.KnownBytes.{Appends, Keeps}
-use Rattle.std.proofs.KnownBytes.{Appends-nil, Appends-trans, Appends-kept}
+use Rattle.std.specs.Io.KnownBytes.{Appends}
+use Rattle.std.proofs.KnownBytes.{Appends-nil, Appends-trans}
 use Rattle.std.proofs.lemmas.Bool.Decides.{nat_tests}
 use Rattle.blart.specs.declared.error.RunError.{RunError}
 use Rattle.blart.specs.Sent.{Sends, IsSent}
@@ -18,10 +18,6 @@ Sends-more {a} {b} {c} {bs} {rest} n s t = record {
   taken = Appends-trans a b c s.front (take n rest) s.taken t;
   whole = s.whole ∙ ap (λ l. s.front ++ l) (sym (take-append-drop n rest)) ∙ sym (append_assoc s.front (take n rest) (drop n rest));
 }
-
--- the writer stayed as it was
-pub Sends-kept : {a b c : Option (List ℕ)} {bs rest : List ℕ} → Sends a b bs rest → Keeps b c → Sends a c bs rest
-Sends-kept {a} {b} {c} s k = record { front = s.front; taken = Appends-kept a b c s.front s.taken k; whole = s.whole }
 
 -- what waited went on with more after it
 pub Sends-trans : {a b c : Option (List ℕ)} {bs rest last : List ℕ} (more : List ℕ) → Sends a b bs rest → Sends b c (rest ++ more) last → Sends a c (bs ++ more) last

@@ -132,7 +132,7 @@ module _ {P : ℕ} (keys : ℕ → Option Bytes) (nodes mid : ℕ → Option Nod
 
   -- where the root leads to the node
   pub moved_root : r ≡ Inner n → Shape P keys mid (Some (Inner m))
-  moved_root e = rooted keys mid (renamed n m (Some r)) (Some (Inner m)) (shape_moved keys nodes mid (Some r) n m s (root_moves e)) (root_renamed e)
+  moved_root e = rooted (shape_moved keys nodes mid (Some r) n m s (root_moves e)) (root_renamed e)
 
   -- the fronts: m has that of n
   pub moved_root-front : (e : r ≡ Inner n) (k : ℕ) → (moved_root e).front_of k ≡ cond (eqb k m) (s.front_of n) (s.front_of k)
@@ -214,7 +214,7 @@ module _ {P : ℕ} (keys : ℕ → Option Bytes) (nodes mid : ℕ → Option Nod
 
     -- the tree where that edge leads to the new number
     pub moved_edge : Shape P keys new (Some r)
-    moved_edge = rooted keys new (renamed n m (Some r)) (Some r) (shape_moved keys nodes new (Some r) n m s edge_moves) root_stays
+    moved_edge = rooted (shape_moved keys nodes new (Some r) n m s edge_moves) root_stays
 
     -- the fronts: m has that of n
     pub moved_edge-front : (k : ℕ) → moved_edge.front_of k ≡ cond (eqb k m) (s.front_of n) (s.front_of k)
@@ -236,10 +236,10 @@ pub node_moved : {P : ℕ} → (keys : ℕ → Option Bytes) (nodes mid new : �
     → Renames nodes mid n m → LeadsTo nodes root above (Inner n) → TurnsTo mid new root root' above (Inner m)
     → (s' : Shape P keys new root') × ((k : ℕ) → s'.front_of k ≡ cond (eqb k m) (s.front_of n) (s.front_of k))
 node_moved keys nodes mid new root root' n m None s ren leads turns =
-    let s0 = rooted keys nodes root (Some (Inner n)) s leads in
+    let s0 = rooted s leads in
     let s1 = moved_root keys nodes mid (Inner n) n m s0 ren refl in
     let s2 = renoded keys mid new (Some (Inner m)) s1 turns.0 in
-    let s3 = rooted keys new (Some (Inner m)) root' s2 (sym turns.1) in (
+    let s3 = rooted s2 (sym turns.1) in (
       s3,
       λ k. rooted-front keys new (Some (Inner m)) root' s2 (sym turns.1) k ∙ renoded-front keys mid new (Some (Inner m)) s1 turns.0 k ∙ moved_root-front keys nodes mid (Inner n) n m s0 ren refl k
           ∙ ap (λ (f : ℕ → Bytes). cond (eqb k m) (f n) (f k)) (λ i j. rooted-front keys nodes root (Some (Inner n)) s leads j i),
@@ -251,4 +251,4 @@ node_moved keys nodes mid new None root' n m (Some (p, b)) s ren leads turns =
     absurd cc
 node_moved keys nodes mid new (Some r) root' n m (Some (p, b)) s ren leads turns =
     let s1 = moved_edge keys nodes mid r n m s ren new p b leads.0 leads.1 leads.2 turns.0 in
-    (rooted keys new (Some r) root' s1 (sym turns.1), λ k. rooted-front keys new (Some r) root' s1 (sym turns.1) k ∙ moved_edge-front keys nodes mid r n m s ren new p b leads.0 leads.1 leads.2 turns.0 k)
+    (rooted s1 (sym turns.1), λ k. rooted-front keys new (Some r) root' s1 (sym turns.1) k ∙ moved_edge-front keys nodes mid r n m s ren new p b leads.0 leads.1 leads.2 turns.0 k)

@@ -224,5 +224,5 @@ module _ {P : ℕ} (keys : ℕ → Option Bytes) (nodes mid : ℕ → Option Nod
 
   -- and where that leads to the leaf it is the whole tree
   pub shape_led : (keys' : ℕ → Option Bytes) (new : ℕ → Option Node) (root' : Option Child) (i : ℕ) (k : Bytes) (above : Option (ℕ × ℕ)) → LeadsTo nodes root above c → FreesSubtree nodes mid s.front_of (edge_front s.front_of above) → TurnsTo mid new root root' above (Leaf i) → Prunes keys keys' (edge_front s.front_of above) i k → Shape P keys' new root'
-  shape_led keys' new root' i k None l up t prunes = rooted keys' new (Some (Leaf i)) root' (shape_one keys' new (λ n. t.0 n ∙ up.gone n tt) i k prunes.now (λ j m e. prunes.only j m e tt)) (sym t.1)
-  shape_led keys' new root' i k (Some (p, b)) l up t prunes = rooted keys' new root root' (shape_freed keys nodes mid root s p b c l up new i t.0 keys' k prunes) (sym t.1)
+  shape_led keys' new root' i k None l up t prunes = rooted (shape_one keys' new (λ n. t.0 n ∙ up.gone n tt) i k prunes.now (λ j m e. prunes.only j m e tt)) (sym t.1)
+  shape_led keys' new root' i k (Some (p, b)) l up t prunes = rooted (shape_freed keys nodes mid root s p b c l up new i t.0 keys' k prunes) (sym t.1)

@@ -7,8 +7,8 @@ use Rattle.art_kinds.specs.declared.records.ids.Child.{Child}
 use Rattle.blart_keys.proofs.Options.{same_some}
 
 -- with an equal root
-pub rooted : {P : ℕ} → (keys : ℕ → Option Bytes) (nodes : ℕ → Option Node) (root root' : Option Child) → Shape P keys nodes root → root ≡ root' → Shape P keys nodes root'
-rooted {P} keys nodes root root' s e = record {
+pub rooted : {P : ℕ} {keys : ℕ → Option Bytes} {nodes : ℕ → Option Node} {root root' : Option Child} → Shape P keys nodes root → root ≡ root' → Shape P keys nodes root'
+rooted {P} {keys} {nodes} s e = record {
   front_of = s.front_of;
   top = subst (λ (r : Option Child). RootFits keys nodes s.front_of r) e s.top;
   node = s.node;
@@ -18,7 +18,7 @@ rooted {P} keys nodes root root' s e = record {
 }
 
 -- the fronts stand
-pub rooted-front : {P : ℕ} → (keys : ℕ → Option Bytes) (nodes : ℕ → Option Node) (root root' : Option Child) (s : Shape P keys nodes root) (e : root ≡ root') (m : ℕ) → (rooted keys nodes root root' s e).front_of m ≡ s.front_of m
+pub rooted-front : {P : ℕ} → (keys : ℕ → Option Bytes) (nodes : ℕ → Option Node) (root root' : Option Child) (s : Shape P keys nodes root) (e : root ≡ root') (m : ℕ) → (rooted s e).front_of m ≡ s.front_of m
 unfolding rooted
 rooted-front keys nodes root root' s e m = refl
 

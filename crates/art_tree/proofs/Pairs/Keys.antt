@@ -1,5 +1,5 @@
 -- Pairs under their numbers.
-use Rattle.std.proofs.Common.{◌≡◌, ℕ, List, refl, ap, Some, option_map}
+use Rattle.std.proofs.Common.{◌≡◌, ℕ, List, refl, ap, sym, ◌∙◌, Some, option_map}
 use Rattle.blart_keys.proofs.Options.{mapped_some, is_some, some_of}
 use Rattle.blart_keys.proofs.RankLemmas.{Member}
 use Rattle.art_tree.specs.Begins.{Bytes}
@@ -15,6 +15,10 @@ module _ {K V : Type 0} where
     -- the key of a pair
     pub key_of_pair : (ps : List (Numbered K V)) (i : ℕ) (p : K × V) → leaf_in ps i ≡ Some p → keys_in key_bytes ps i ≡ Some (key_bytes p.0)
     key_of_pair ps i p e = ap (option_map (λ (x : K × V). key_bytes x.0)) e
+
+    -- the bytes that were read of a key
+    pub key_read : (ps : List (Numbered K V)) (i : ℕ) {p : K × V} {k : Bytes} → leaf_in ps i ≡ Some p → k ≡ key_bytes p.0 → keys_in key_bytes ps i ≡ Some k
+    key_read ps i {p} e k_is = key_of_pair ps i p e ∙ ap Some (sym k_is)
 
     -- the key of a pair of the list
     pub key_of_member : (ps : List (Numbered K V)) (x : Numbered K V) → AreDistinct ps → Member x ps → keys_in key_bytes ps x.0 ≡ Some (bytes key_bytes x)

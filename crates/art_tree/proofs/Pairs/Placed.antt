@@ -71,7 +71,7 @@ module _ {K V : Type 0} (key_bytes : K → Bytes) where
   pub first_sound : {P : ℕ} → (leaves leaves' : Leaves K V) (nodes : Nodes) (root : Option Child) (i : ℕ) (x : K × V) → IsSound key_bytes P leaves nodes root → leaves.pairs ≡ [] → Places key_bytes leaves.pairs leaves'.pairs i x → IsSound key_bytes P leaves' nodes (Some (Leaf i))
   first_sound leaves leaves' nodes root i x sound empty p =
       let none : (j : ℕ) → keys_in key_bytes leaves.pairs j ≡ None = λ j. ap (λ (ps : List (Numbered K V)). keys_in key_bytes ps j) empty in
-      let s : Shape _ (keys_in key_bytes leaves.pairs) (at nodes) None = rooted (keys_in key_bytes leaves.pairs) (at nodes) root None sound.shape (no_root (keys_in key_bytes leaves.pairs) (at nodes) root sound.shape none) in
+      let s : Shape _ (keys_in key_bytes leaves.pairs) (at nodes) None = rooted sound.shape (no_root (keys_in key_bytes leaves.pairs) (at nodes) root sound.shape none) in
       record {
         content = p.put.content;
         shape = first_key (keys_in key_bytes leaves.pairs) (keys_in key_bytes leaves'.pairs) (at nodes) i (key_bytes x.0) s (places_gain leaves.pairs leaves'.pairs i x p);

@@ -1,5 +1,5 @@
 -- How far down a way can go.
-use Rattle.std.proofs.Common.{◌≡◌, ℕ, zero, suc, ◌+◌, ◌-◌, ◌/◌, ◌%◌, ◌<◌, ◌≤◌, List, [], ◌∷◌, ◌++◌, length, max, get_or, refl, ap, Option, Some, None, IsSome, true, false, arith}
+use Rattle.std.proofs.Common.{sym, subst, ◌≡◌, ℕ, zero, suc, ◌+◌, ◌-◌, ◌/◌, ◌%◌, ◌<◌, ◌≤◌, List, [], ◌∷◌, ◌++◌, length, max, get_or, refl, ap, Option, Some, None, IsSome, true, false, arith}
 use Rattle.art_tree.specs.Begins.{Bytes}
 use Rattle.art_kinds.specs.Edges.{child_at}
 use Rattle.art_slots.specs.Store.{slot_at}
@@ -40,10 +40,11 @@ depth-within s (suc zero) i = let h : depth_of (slot_at s.sixteens i) ≤ deepes
 depth-within s (suc (suc zero)) i = let h : depth_of (slot_at s.forty_eights i) ≤ deepest s.forty_eights.slots = depth-at_most s.forty_eights.slots i in omega arith
 depth-within s (suc (suc (suc k))) i = let h : depth_of (slot_at s.fulls i) ≤ deepest s.fulls.slots = depth-at_most s.fulls.slots i in omega arith
 
-module _ {P : ℕ} (keys : ℕ → Option Bytes) (nodes : Nodes) (root : Option Child) (s : Shape P keys (at nodes) root) where
+module _ {P : ℕ} {keys : ℕ → Option Bytes} (nodes : Nodes) {root : Option Child} (s : Shape P keys (at nodes) root) where
   -- a way down gets lower at each edge
-  pub rank_falls : (n b : ℕ) (x : Node) (c : Child) → at nodes n ≡ Some x → child_at x.edges b ≡ Some c → rank nodes c < rank nodes (Inner n)
-  rank_falls n b x c is there = falls c ((s.node n x is).below b c there)
+  pub rank_falls : {a : Child} {n : ℕ} → a ≡ Inner n → (b : ℕ) {x : Node} {c : Child} → at nodes n ≡ Some x → child_at x.edges b ≡ Some c →
+      rank nodes c < rank nodes a
+  rank_falls {n = n} named b {x} {c} is there = subst (λ (z : Child). rank nodes c < rank nodes z) (sym named) (falls c ((s.node n x is).below b c there))
     where
       own : depth_of (at nodes n) ≡ x.depth
       own = ap depth_of is

@@ -1,5 +1,5 @@
 -- How a query and the stored key that goes along with it the furthest part.
-use Rattle.std.proofs.Common.{◌≡◌, ◌≢◌, ℕ, ◌+◌, ◌<◌, ◌≤◌, refl, true, false, List, [], ◌∷◌, ◌++◌, ◌⊎◌, inl, inr, length, take, get_or, ap, sym, subst, ◌∙◌, Option, Some, arith}
+use Rattle.std.proofs.Common.{◌≡◌, ◌≢◌, ℕ, ◌+◌, ◌<◌, ◌≤◌, refl, true, false, [], ◌∷◌, ◌++◌, ◌⊎◌, inl, inr, length, take, get_or, ap, sym, subst, ◌∙◌, Option, Some, arith}
 use Rattle.std.proofs.lemmas.Bool.{cases_lt, false_from_ne_true, false≢true}
 use Rattle.std.proofs.lemmas.Bool.Decides.{eqb_tells}
 use Rattle.std.proofs.lemmas.List.{length-take-le}
@@ -11,7 +11,6 @@ use Rattle.art_tree.specs.Calls.Partings.{LeavesAt, KeyEnds, QueryEnds}
 use Rattle.art_tree.specs.Calls.Descents.{IsWayOf}
 use Rattle.art_tree.specs.Calls.Pruning.{IsBranch}
 use Rattle.art_tree.specs.Places.{LeavesNearest}
-use Rattle.art_tree.specs.Leaves.{Numbered, keys_in}
 use Rattle.art_kinds.specs.Nodes.{Node}
 use Rattle.art_tree.specs.Invariant.Shape.{Shape, Covers}
 use Rattle.art_tree.specs.Calls.Spots.{SpotFits, PastLength, EdgeFits, child_under, above_of}
@@ -136,10 +135,7 @@ no_key_alone keys q alone j e = false≢true (sym (alone j q e) ∙ related-same
 
 -- ---- the four ways to part
 
-module _ {P : ℕ} {K V : Type 0} (key_bytes : K → List ℕ) (pairs : List (Numbered K V)) (nodes : ℕ → Option Node) (root : Child) (s : Shape P (keys_in key_bytes pairs) nodes (Some root)) (q : Bytes) (i d : ℕ) (nearest : Bytes) (is : keys_in key_bytes pairs i ≡ Some nearest) (d_is : d ≡ length (common nearest q)) where
-  abbrev keys : ℕ → Option Bytes
-  keys = keys_in key_bytes pairs
-
+module _ {P : ℕ} {keys : ℕ → Option Bytes} {nodes : ℕ → Option Node} {root : Child} (s : Shape P keys nodes (Some root)) (q : Bytes) {i d : ℕ} {nearest : Bytes} (is : keys i ≡ Some nearest) (d_is : d ≡ length (common nearest q)) where
   -- a way down by the nearest key may go as far as both go along
   pub way_of_nearest : IsWayOf P nodes root nearest d
   way_of_nearest = record { keys = keys; shape = s; leaf = i; is = is; within = nearest_within nearest q d d_is }
@@ -153,8 +149,8 @@ module _ {P : ℕ} {K V : Type 0} (key_bytes : K → List ℕ) (pairs : List (Nu
   parts_shorter ne a = record { key = nearest; is = is; begins = nearest_begins nearest q d d_is a; shorter = (let l : d ≤ length q = query_within nearest q d d_is in omega arith) }
 
   -- what stands at the spot covers q, where that begins the nearest key
-  pub covers_query : d ≡ length q → (sp : Spot) → SpotFits nodes (Some root) s.front_of nearest d sp → (c : Child) → c ≡ child_under sp → Covers keys nodes s.front_of q c
-  covers_query a sp fits c e = subst (λ (z : Child). Covers keys nodes s.front_of q z) (sym e) (go sp fits)
+  pub covers_query : d ≡ length q → (sp : Spot) → SpotFits nodes (Some root) s.front_of nearest d sp → {c : Child} → c ≡ child_under sp → Covers keys nodes s.front_of q c
+  covers_query a sp fits e = subst (λ (z : Child). Covers keys nodes s.front_of q z) (sym e) (go sp fits)
     where
       qm : Begins q nearest
       qm = nearest_begun nearest q d d_is a
@@ -188,8 +184,8 @@ module _ {P : ℕ} {K V : Type 0} (key_bytes : K → List ℕ) (pairs : List (Nu
       go (spot.Edge above c) f = edge above c f.0 f.1 (covers_above keys nodes (Some root) s above c f.0.leads)
 
   -- so it does where the nearest key goes along with q to its end
-  pub covers_reached : length q ≤ d → (sp : Spot) → SpotFits nodes (Some root) s.front_of nearest d sp → (c : Child) → c ≡ child_under sp → Covers keys nodes s.front_of q c
-  covers_reached l sp fits c e = let m : d ≤ length q = query_within nearest q d d_is in covers_query (omega arith) sp fits c e
+  pub covers_reached : length q ≤ d → (sp : Spot) → SpotFits nodes (Some root) s.front_of nearest d sp → {c : Child} → c ≡ child_under sp → Covers keys nodes s.front_of q c
+  covers_reached l sp fits e = let m : d ≤ length q = query_within nearest q d d_is in covers_query (omega arith) sp fits e
 
   -- the edge above the spot
   spot_edge : (sp : Spot) → SpotFits nodes (Some root) s.front_of nearest d sp → EdgeFits nodes (Some root) s.front_of nearest d (above_of sp) (child_under sp)
@@ -208,15 +204,15 @@ module _ {P : ℕ} {K V : Type 0} (key_bytes : K → List ℕ) (pairs : List (Nu
       record {
         leads = subst (λ (z : Option (ℕ × ℕ)). LeadsTo nodes (Some root) z b.child) (sym over) leads;
         along = subst (λ (z : Option (ℕ × ℕ)). Begins (edge_front s.front_of z) q) (sym over) along;
-        covers = covers_reached l sp fits b.child under;
+        covers = covers_reached l sp fits under;
       }
 
   -- q ends
-  pub parts_longer : d ≡ length q → d ≢ length nearest → (sp : Spot) → SpotFits nodes (Some root) s.front_of nearest d sp → (c : Child) → c ≡ child_under sp → QueryEnds P (keys_in key_bytes pairs) nodes c q
-  parts_longer a ne sp fits c e = record {
+  pub parts_longer : d ≡ length q → d ≢ length nearest → (sp : Spot) → SpotFits nodes (Some root) s.front_of nearest d sp → {c : Child} → c ≡ child_under sp → QueryEnds P keys nodes c q
+  parts_longer a ne sp fits e = record {
     root = Some root;
     shape = s;
-    covers = covers_query a sp fits c e;
+    covers = covers_query a sp fits e;
     leaf = i;
     key = nearest;
     is = is;
@@ -225,7 +221,7 @@ module _ {P : ℕ} {K V : Type 0} (key_bytes : K → List ℕ) (pairs : List (Nu
   }
 
   -- both go on
-  pub parts_apart : ((j : ℕ) (k : Bytes) → keys j ≡ Some k → length (common k q) ≤ length (common nearest q)) → d ≢ length q → d ≢ length nearest → (sp : Spot) → SpotFits nodes (Some root) s.front_of nearest d sp → LeavesAt P (keys_in key_bytes pairs) nodes (record { nearest = i; depth = d; byte = get_or nearest d 0; spot = sp }) q
+  pub parts_apart : ((j : ℕ) (k : Bytes) → keys j ≡ Some k → length (common k q) ≤ length (common nearest q)) → d ≢ length q → d ≢ length nearest → (sp : Spot) → SpotFits nodes (Some root) s.front_of nearest d sp → LeavesAt P keys nodes (record { nearest = i; depth = d; byte = get_or nearest d 0; spot = sp }) q
   parts_apart best nq nm sp fits =
       let lq : d < length q = (let l : d ≤ length q = query_within nearest q d d_is in omega arith) in
       let lm : d < length nearest = (let l : d ≤ length nearest = nearest_within nearest q d d_is in omega arith) in

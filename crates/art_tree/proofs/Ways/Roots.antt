@@ -7,5 +7,5 @@ use Rattle.art_tree.specs.Calls.Descents.{IsRoot}
 use Rattle.art_kinds.specs.declared.records.ids.Child.{Child}
 
 -- the root of a tree is one
-pub is_root : {P : ℕ} → (nodes : ℕ → Option Node) (keys : ℕ → Option Bytes) (c : Child) → Shape P keys nodes (Some c) → IsRoot P nodes c
-is_root nodes keys c s = record { keys = keys; shape = s }
+pub is_root : {P : ℕ} {nodes : ℕ → Option Node} {keys : ℕ → Option Bytes} {c : Child} → Shape P keys nodes (Some c) → IsRoot P nodes c
+is_root {keys = keys} s = record { keys = keys; shape = s }

@@ -9,6 +9,7 @@ use Rattle.art_tree.specs.Begins.{Bytes, Begins, next_byte}
 use Rattle.art_tree.specs.Places.{LeavesNearest}
 use Rattle.art_tree.specs.Invariant.EdgesAbove.{edge_front}
 use Rattle.art_tree.specs.Invariant.Shape.{Shape, Covers, CoversLeaf, CoversNode, NodeFits}
+use Rattle.art_tree.specs.Calls.Descents.{IsEndUnder}
 use Rattle.art_tree.specs.Calls.Partings.{KeyEnds, QueryEnds, LeavesAtNode, LeavesAtEdge, IsNextTo}
 use Rattle.art_tree.specs.Calls.Stops.{IsShared, OnWay, IsPlaceUnder}
 use Rattle.art_kinds.specs.Edges.{child_at}
@@ -173,9 +174,10 @@ module _ {P : ℕ} (keys : ℕ → Option Bytes) (nodes : ℕ → Option Node) (
         refl,
       )
 
-  -- ---- at a node
+-- ---- at a node
 
-  module _ (n start : ℕ) (w : OnWay P keys nodes (Inner n) start q) where
+module _ {P : ℕ} {keys : ℕ → Option Bytes} {nodes : ℕ → Option Node} {q : Bytes} where
+  module _ {n start : ℕ} (w : OnWay P keys nodes (Inner n) start q) where
     abbrev front : Bytes
     front = w.shape.front_of n
 
@@ -211,27 +213,27 @@ module _ {P : ℕ} (keys : ℕ → Option Bytes) (nodes : ℕ → Option Node) (
         }
 
     -- q leaves the keys above the node
-    pub leaves_above : (x : Node) → nodes n ≡ Some x → (len byte : ℕ) → IsShared front q len byte → len < x.depth → len ≢ length q → (l : LeavesAtEdge P keys nodes (Inner n) byte (get_or q len 0) q) × (len ≡ length l.t) × (len < length q)
-    leaves_above x x_is len byte h lx nq =
+    pub leaves_above : {x : Node} → nodes n ≡ Some x → {len byte : ℕ} → IsShared front q len byte → {depth : ℕ} → depth ≡ x.depth → len < depth → len ≢ length q → (l : LeavesAtEdge P keys nodes (Inner n) byte (get_or q len 0) q) × (len ≡ length l.t) × (len < length q)
+    leaves_above {x} x_is {len} {byte} h depth_is lx nq =
         let d : x.depth ≡ length front = (w.shape.node n x x_is).depth in
         let e : len ≡ length (common front q) = h.is in
         let low : length (common front q) ≤ length q = common-in_right front q in
         let lf : len < length front = omega arith in
         let lq : len < length q = omega arith in
-        let r = leaves_edge w.root w.shape above (Inner n) node_covers w.along front node_covers.front node_covers.only (omega arith) (omega arith) byte (h.next lf lq ∙ ap (λ (z : ℕ). get_or front z 0) e) in
+        let r = leaves_edge keys nodes q w.root w.shape above (Inner n) node_covers w.along front node_covers.front node_covers.only (omega arith) (omega arith) byte (h.next lf lq ∙ ap (λ (z : ℕ). get_or front z 0) e) in
         let back : length (common front q) ≡ len = sym e in
         subst (λ (z : ℕ). (l : LeavesAtEdge P keys nodes (Inner n) byte (get_or q z 0) q) × (z ≡ length l.t) × (z < length q)) back (r.0, r.1, omega arith)
 
     -- q has the whole front, and goes on
-    pub goes_past : (x : Node) → nodes n ≡ Some x → (len byte : ℕ) → IsShared front q len byte → x.depth ≤ len → len ≢ length q → (length (common front q) ≡ x.depth) × (x.depth < length q)
-    goes_past x x_is len byte h lx nq =
+    pub goes_past : {x : Node} → nodes n ≡ Some x → {len byte : ℕ} → IsShared front q len byte → {depth : ℕ} → depth ≡ x.depth → depth ≤ len → len ≢ length q → (length (common front q) ≡ x.depth) × (x.depth < length q)
+    goes_past {x} x_is {len} h depth_is lx nq =
         let d : x.depth ≡ length front = (w.shape.node n x x_is).depth in
         let e : len ≡ length (common front q) = h.is in
         let low : length (common front q) ≤ length q = common-in_right front q in
         let low2 : length (common front q) ≤ length front = common-in_left front q in
         (omega arith, omega arith)
 
-    module _ (x : Node) (is : nodes n ≡ Some x) (whole : length (common front q) ≡ x.depth) (lq : x.depth < length q) where
+    module _ {x : Node} (is : nodes n ≡ Some x) (whole : length (common front q) ≡ x.depth) (lq : x.depth < length q) where
       fits : NodeFits keys nodes w.shape.front_of front x
       fits = w.shape.node n x is
 
@@ -272,7 +274,7 @@ module _ {P : ℕ} (keys : ℕ → Option Bytes) (nodes : ℕ → Option Node) (
             let lq : length front < length q = past in
             elim (related_cases k q rel) [
               | inl kq ↦
-                  let fk : Begins front k = node_covers.only j k k_is (not_short w.root w.shape above (Inner n) node_covers w.along front node_covers.front node_covers.only j k k_is kq) in
+                  let fk : Begins front k = node_covers.only j k k_is (not_short keys nodes q w.root w.shape above (Inner n) node_covers w.along front node_covers.front node_covers.only j k k_is kq) in
                   let long : length front < length k = fits.longer j k k_is fk in
                   let e : Begins (front ++ next_byte front k ∷ []) q = Begins-trans (front ++ next_byte front k ∷ []) k q (Begins-more front k fk long) kq in
                   none_on j k k_is fk (sym (Begins-next front q (next_byte front k) e))
@@ -297,10 +299,10 @@ module _ {P : ℕ} (keys : ℕ → Option Bytes) (nodes : ℕ → Option Node) (
 
   -- ---- at a leaf
 
-  pub leaf_at : (i start : ℕ) (w : OnWay P keys nodes (Leaf i) start q) → CoversLeaf keys (edge_front w.shape.front_of w.above) i
-  leaf_at i start w = covers_above keys nodes w.root w.shape w.above (Leaf i) w.leads
+  pub leaf_at : {i start : ℕ} (w : OnWay P keys nodes (Leaf i) start q) → CoversLeaf keys (edge_front w.shape.front_of w.above) i
+  leaf_at {i} w = covers_above keys nodes w.root w.shape w.above (Leaf i) w.leads
 
-  module _ (i start : ℕ) (w : OnWay P keys nodes (Leaf i) start q) (key : Bytes) (is : keys i ≡ Some key) where
+  module _ {i start : ℕ} (w : OnWay P keys nodes (Leaf i) start q) {key : Bytes} (is : keys i ≡ Some key) where
     leaf_covers : CoversLeaf keys (edge_front w.shape.front_of w.above) i
     leaf_covers = covers_above keys nodes w.root w.shape w.above (Leaf i) w.leads
 
@@ -335,16 +337,21 @@ module _ {P : ℕ} (keys : ℕ → Option Bytes) (nodes : ℕ → Option Node) (
         let e : start ≡ length (edge_front w.shape.front_of w.above) = w.start_is in
         subst (λ (z : ℕ). length (common key q) ≡ z + length (common (drop z key) (drop z q))) (sym e) (common_from (edge_front w.shape.front_of w.above) key q leaf_front w.along)
 
-    module _ (len : ℕ) (len_is : len ≡ length (common key q)) where
-      pub same_at_leaf : len ≡ length q → len ≡ length key → keys i ≡ Some q
-      same_at_leaf a b = is ∙ ap (λ (k : Bytes). Some k) (nearest_same key q len len_is a b)
+    module _ {n : ℕ} (n_is : n ≡ length (common (drop start key) (drop start q))) where
+      -- with the bytes before the start, as many as both have in common
+      pub len_at_leaf : start + n ≡ length (common key q)
+      len_at_leaf = let e = leaf_common in omega arith
 
-      pub shorter_at_leaf : len ≢ length q → len ≡ length key → KeyEnds keys i q
-      shorter_at_leaf ne a = record { key = key; is = is; begins = nearest_begins key q len len_is a; shorter = (let l : length (common key q) ≤ length q = common-in_right key q in omega arith) }
+      pub same_at_leaf : start + n ≡ length q → start + n ≡ length key → keys i ≡ Some q
+      same_at_leaf a b = is ∙ ap (λ (k : Bytes). Some k) (nearest_same key q (start + n) len_at_leaf a b)
 
-      pub longer_at_leaf : len ≡ length q → len ≢ length key → QueryEnds P keys nodes (Leaf i) q
+      pub shorter_at_leaf : start + n ≢ length q → start + n ≡ length key → KeyEnds keys i q
+      shorter_at_leaf ne a = let e = len_at_leaf in record { key = key; is = is; begins = nearest_begins key q (start + n) len_at_leaf a; shorter = (let l : length (common key q) ≤ length q = common-in_right key q in omega arith) }
+
+      pub longer_at_leaf : start + n ≡ length q → start + n ≢ length key → QueryEnds P keys nodes (Leaf i) q
       longer_at_leaf a ne =
-          let qk : Begins q key = nearest_begun key q len len_is a in
+          let e = len_at_leaf in
+          let qk : Begins q key = nearest_begun key q (start + n) len_at_leaf a in
           record {
             root = w.root;
             shape = w.shape;
@@ -356,17 +363,18 @@ module _ {P : ℕ} (keys : ℕ → Option Bytes) (nodes : ℕ → Option Node) (
             longer = let l : length (common key q) ≤ length key = common-in_left key q in omega arith;
           }
 
-      pub leaves_at_leaf : len ≢ length q → len ≢ length key → (l : LeavesAtEdge P keys nodes (Leaf i) (get_or key len 0) (get_or q len 0) q) × (len ≡ length l.t) × (len < length q)
+      pub leaves_at_leaf : start + n ≢ length q → start + n ≢ length key → (l : LeavesAtEdge P keys nodes (Leaf i) (get_or key (start + n) 0) (get_or q (start + n) 0) q) × (start + n ≡ length l.t) × (start + n < length q)
       leaves_at_leaf nq nk =
+          let e = len_at_leaf in
           let lk : length (common key q) ≤ length key = common-in_left key q in
           let lq : length (common key q) ≤ length q = common-in_right key q in
-          let r = leaves_edge w.root w.shape (edge_front w.shape.front_of w.above) (Leaf i) leaf_covers w.along key leaf_front only_key (omega arith) (omega arith) (get_or key (length (common key q)) 0) refl in
-          let back : length (common key q) ≡ len = sym len_is in
+          let r = leaves_edge keys nodes q w.root w.shape (edge_front w.shape.front_of w.above) (Leaf i) leaf_covers w.along key leaf_front only_key (omega arith) (omega arith) (get_or key (length (common key q)) 0) refl in
+          let back : length (common key q) ≡ start + n = sym len_at_leaf in
           subst (λ (z : ℕ). (l : LeavesAtEdge P keys nodes (Leaf i) (get_or key z 0) (get_or q z 0) q) × (z ≡ length l.t) × (z < length q)) back (r.0, r.1, omega arith)
 
   -- ---- what is in common with the front of a node
 
-  module _ (n start : ℕ) (w : OnWay P keys nodes (Inner n) start q) where
+  module _ {n start : ℕ} (w : OnWay P keys nodes (Inner n) start q) where
     abbrev own_front : Bytes
     own_front = w.shape.front_of n
 
@@ -374,12 +382,12 @@ module _ {P : ℕ} (keys : ℕ → Option Bytes) (nodes : ℕ → Option Node) (
     pub shared_after : length (common own_front q) ≡ start + length (common (drop start own_front) (drop start q))
     shared_after =
         let e : start ≡ length (edge_front w.shape.front_of w.above) = w.start_is in
-        subst (λ (z : ℕ). length (common own_front q) ≡ z + length (common (drop z own_front) (drop z q))) (sym e) (common_from (edge_front w.shape.front_of w.above) own_front q (node_covers n start w).front w.along)
+        subst (λ (z : ℕ). length (common own_front q) ≡ z + length (common (drop z own_front) (drop z q))) (sym e) (common_from (edge_front w.shape.front_of w.above) own_front q (node_covers w).front w.along)
 
     pub start_within : start ≤ length own_front
     start_within =
         let e : start ≡ length (edge_front w.shape.front_of w.above) = w.start_is in
-        let l : length (edge_front w.shape.front_of w.above) ≤ length own_front = Begins-length (edge_front w.shape.front_of w.above) own_front (node_covers n start w).front in
+        let l : length (edge_front w.shape.front_of w.above) ≤ length own_front = Begins-length (edge_front w.shape.front_of w.above) own_front (node_covers w).front in
         omega arith
 
     pub start_in_query : start ≤ length q
@@ -389,19 +397,19 @@ module _ {P : ℕ} (keys : ℕ → Option Bytes) (nodes : ℕ → Option Node) (
         omega arith
 
     -- the bytes in common told from the front's own
-    pub shared_from : (len byte : ℕ) → len ≡ start + length (common (drop start own_front) (drop start q)) → (len < length own_front → byte ≡ get_or own_front len 0) → IsShared own_front q len byte
-    shared_from len byte e next = record { is = e ∙ sym shared_after; next = λ a b. next a }
+    pub shared_from : {len byte : ℕ} → len ≡ start + length (common (drop start own_front) (drop start q)) → (len < length own_front → byte ≡ get_or own_front len 0) → IsShared own_front q len byte
+    shared_from e next = record { is = e ∙ sym shared_after; next = λ a b. next a }
 
     -- a key below, cut after as many bytes as the front has, is the front
-    pub cut_front : (x : Node) → nodes n ≡ Some x → (j : ℕ) (k : Bytes) → keys j ≡ Some k → (own : Bytes) → keys j ≡ Some own → Begins (edge_front w.shape.front_of w.above) own → (depth : ℕ) → depth ≡ x.depth → (take depth k ≡ own_front) × (depth ≤ length k)
-    cut_front x x_is j k k_is own own_is h depth e =
+    pub cut_front : {x : Node} → nodes n ≡ Some x → {first : Bool} {j : ℕ} → IsEndUnder keys first (edge_front w.shape.front_of w.above) j → {k : Bytes} → keys j ≡ Some k → {depth : ℕ} → depth ≡ x.depth → (take depth k ≡ own_front) × (depth ≤ length k)
+    cut_front {x} x_is {j = j} u {k} k_is {depth} e =
         let d : x.depth ≡ length own_front = (w.shape.node n x x_is).depth in
-        let same : own ≡ k = cc in
-        let f : Begins own_front k = (node_covers n start w).only j k k_is (subst (λ (z : Bytes). Begins (edge_front w.shape.front_of w.above) z) same h) in
+        let same : u.key ≡ k = (let own : keys j ≡ Some u.key = u.is in cc) in
+        let f : Begins own_front k = (node_covers w).only j k k_is (subst (λ (z : Bytes). Begins (edge_front w.shape.front_of w.above) z) same u.front) in
         let l : length own_front ≤ length k = Begins-length own_front k f in
         (ap (λ (z : ℕ). take z k) (e ∙ d) ∙ take_front own_front k f, omega arith)
 
-    module _ (x : Node) (is : nodes n ≡ Some x) where
+    module _ {x : Node} (is : nodes n ≡ Some x) where
       pub kept_is : x.prefix ≡ take P (drop start own_front)
       kept_is =
           let e : start ≡ length (edge_front w.shape.front_of w.above) = w.start_is in
@@ -417,8 +425,8 @@ module _ {P : ℕ} (keys : ℕ → Option Bytes) (nodes : ℕ → Option Node) (
           omega (arith, length-drop start own_front)
 
       -- the stored prefix differs
-      pub shared_differs : (count len : ℕ) → count ≡ length (common x.prefix (drop start q)) → count < length x.prefix → len ≡ start + count → IsShared own_front q len (get_or x.prefix count 0)
-      shared_differs count len e l at =
+      pub shared_differs : {count len : ℕ} → count ≡ length (common x.prefix (drop start q)) → count < length x.prefix → len ≡ start + count → IsShared own_front q len (get_or x.prefix count 0)
+      shared_differs {count} e l at =
           let k : x.prefix ≡ take P (drop start own_front) = kept_is in
           let e' : count ≡ length (common (take P (drop start own_front)) (drop start q)) = subst (λ (z : Bytes). count ≡ length (common z (drop start q))) k e in
           let l' : count < length (take P (drop start own_front)) = subst (λ (z : Bytes). count < length z) k l in
@@ -430,8 +438,8 @@ module _ {P : ℕ} (keys : ℕ → Option Bytes) (nodes : ℕ → Option Node) (
           }
 
       -- the stored prefix is the whole, and all of it is shared
-      pub shared_whole : (count len : ℕ) → count ≡ length (common x.prefix (drop start q)) → length x.prefix ≤ count → len ≡ start + count → len ≡ x.depth → IsShared own_front q len 0
-      shared_whole count len e over at whole =
+      pub shared_whole : {count len : ℕ} → count ≡ length (common x.prefix (drop start q)) → length x.prefix ≤ count → len ≡ start + count → len ≡ x.depth → IsShared own_front q len 0
+      shared_whole {count} e over at whole =
           let d : x.depth ≡ length own_front = (w.shape.node n x is).depth in
           let k : x.prefix ≡ take P (drop start own_front) = kept_is in
           let e' : count ≡ length (common (take P (drop start own_front)) (drop start q)) = subst (λ (z : Bytes). count ≡ length (common z (drop start q))) k e in
@@ -447,18 +455,18 @@ module _ {P : ℕ} (keys : ℕ → Option Bytes) (nodes : ℕ → Option Node) (
 
   -- ---- the place beside a child
 
-  pub place_at_node : (n depth : ℕ) (x : Node) → nodes n ≡ Some x → (l : LeavesAtNode P keys nodes n (get_or q depth 0) q) → depth ≡ length (l.apart.shape.front_of n) → depth < length q → (is_after : Bool) (e : Edge) → IsNextTo is_after x.edges (get_or q depth 0) e
+  pub place_at_node : {n depth : ℕ} {x : Node} → nodes n ≡ Some x → (l : LeavesAtNode P keys nodes n (get_or q depth 0) q) → depth ≡ length (l.apart.shape.front_of n) → depth < length q → (is_after : Bool) (e : Edge) → IsNextTo is_after x.edges (get_or q depth 0) e
       → IsPlaceUnder P keys nodes q depth e.to is_after
-  place_at_node n depth x is l d lq true e next = record {
+  place_at_node {n} {depth} {x} is l d lq true e next = record {
     beside = beside_at_node keys nodes n (get_or q depth 0) q l x is true e next;
     leaves = λ i key key_is h. leaves_nearest keys q (l.apart.shape.front_of n) key (get_or q depth 0) e.byte depth d lq refl l.goes_on h i key_is l.none;
   }
-  place_at_node n depth x is l d lq false e next = record {
+  place_at_node {n} {depth} {x} is l d lq false e next = record {
     beside = beside_at_node keys nodes n (get_or q depth 0) q l x is false e next;
     leaves = λ i key key_is h. leaves_nearest keys q (l.apart.shape.front_of n) key (get_or q depth 0) e.byte depth d lq refl l.goes_on h i key_is l.none;
   }
 
-  module _ (c : Child) (depth a : ℕ) (l : LeavesAtEdge P keys nodes c a (get_or q depth 0) q) (d : depth ≡ length l.t) (lq : depth < length q) where
+  module _ {c : Child} {depth a : ℕ} (l : LeavesAtEdge P keys nodes c a (get_or q depth 0) q) (d : depth ≡ length l.t) (lq : depth < length q) where
     -- no key goes on as q does
     edge_alone : (j : ℕ) (k : Bytes) → keys j ≡ Some k → Begins (l.t ++ get_or q depth 0 ∷ []) k → ⊥
     edge_alone j k k_is h =

@@ -35,7 +35,9 @@ module _ (keys : ℕ → Option Bytes) (q : Bytes) where
         let f : keys j ≡ None = h j in
         cc
 
-    module _ (n : ℕ) (x : Node) (is : nodes n ≡ Some x) (front : Bytes) (covers : CoversNode keys nodes s.front_of front n) (h : HoldsFronts front) where
+module _ {P : ℕ} {keys : ℕ → Option Bytes} (q : Bytes) {nodes : ℕ → Option Node} where
+  module _ {root : Option Child} (s : Shape P keys nodes root) where
+    module _ {n : ℕ} {x : Node} (is : nodes n ≡ Some x) {front : Bytes} (covers : CoversNode keys nodes s.front_of front n) (h : HoldsFronts keys q front) where
       fits : NodeFits keys nodes s.front_of (s.front_of n) x
       fits = s.node n x is
 
@@ -59,21 +61,23 @@ module _ (keys : ℕ → Option Bytes) (q : Bytes) where
           omega arith
 
       -- nor has one without an edge at q's byte
-      pub fronts_none : child_at x.edges (get_or q x.depth 0) ≡ None → NoFront keys q
-      fronts_none h j k e b =
+      pub fronts_none : {len : ℕ} → len ≡ x.depth → child_at x.edges (get_or q len 0) ≡ None → NoFront keys q
+      fronts_none len_is none j k e b =
+          let h : child_at x.edges (get_or q x.depth 0) ≡ None = ap (λ d. child_at x.edges (get_or q d 0)) (sym len_is) ∙ none in
           let f : Bytes = s.front_of n in
           let g : next_byte f k ≡ next_byte f q = Begins-next f k (next_byte f q) (goes_on j k e b) in
           let i : IsSome (child_at x.edges (next_byte f k)) = fits.edge j k e (in_node j k e b) in
           not_some (child_at x.edges (get_or q x.depth 0)) h (same_some (child_at x.edges (next_byte f k)) (child_at x.edges (get_or q x.depth 0)) (ap (child_at x.edges) (g ∙ ap (λ d. get_or q d 0) (sym fits.depth))) i)
 
       -- the edge at q's byte leads on
-      pub fronts_step : x.depth < length q → HoldsFronts (s.front_of n ++ get_or q x.depth 0 ∷ [])
-      fronts_step below =
+      pub fronts_step : {len : ℕ} → len ≡ x.depth → len < length q → HoldsFronts keys q (s.front_of n ++ get_or q len 0 ∷ [])
+      fronts_step len_is below =
           let g : Bytes = s.front_of n in
           let d : x.depth ≡ length g = fits.depth in
           let l : length (g ++ next_byte g q ∷ []) ≡ length g + 1 = length-edge g (next_byte g q) in
-          subst (λ (z : ℕ). HoldsFronts (g ++ get_or q z 0 ∷ [])) (sym d) (record { holds = goes_on; short = omega arith })
+          subst (λ (z : ℕ). HoldsFronts keys q (g ++ get_or q z 0 ∷ [])) (sym (len_is ∙ d)) (record { holds = goes_on; short = omega arith })
 
+module _ (keys : ℕ → Option Bytes) (q : Bytes) where
   -- where the only key that may begin q does not, none does
   pub only_not : (i : ℕ) → IsOnlyFront keys q i → (l : Bytes) → keys i ≡ Some l → (Begins l q → ⊥) → NoFront keys q
   only_not i o l is never j k e b =
@@ -82,5 +86,5 @@ module _ (keys : ℕ → Option Bytes) (q : Bytes) where
       never (subst (λ (k : Bytes). Begins k q) h b)
 
   -- and where it is not q, no key is
-  pub only_absent : (i : ℕ) → IsOnlyFront keys q i → keys i ≢ Some q → IsAbsent
+  pub only_absent : (i : ℕ) → IsOnlyFront keys q i → keys i ≢ Some q → IsAbsent keys q
   only_absent i o other j e = other (ap keys (sym (o.only j q e (Begins-itself q))) ∙ e)

@@ -11,7 +11,7 @@ use Rattle.art_tree.specs.Calls.Spots.{EdgeFits}
 use Rattle.art_kinds.specs.declared.records.ids.Child.{Child}
 use Rattle.art_kinds.specs.declared.records.ids.Child.TheVariants.{Inner}
 use Rattle.art_tree.proofs.BeginsLemmas.{Begins-take, Begins-length, Begins-more, Begins-trans, Begins-linear, length-edge, Begins-equal}
-use Rattle.art_tree.proofs.Ways.WaysDown.{WayDown}
+use Rattle.art_tree.proofs.Ways.WaysDown.{WayDown, way_on}
 
 -- the front is that of the edge above, and the nearest key's first bytes begin with it
 abbrev pub HoldsAlong : (ℕ → Bytes) → Bytes → ℕ → Option (ℕ × ℕ) → Bytes → Type 0
@@ -21,21 +21,24 @@ HoldsAlong front_of nearest depth above front = (front ≡ edge_front front_of a
 abbrev pub Follows : (ℕ → Option Bytes) → (ℕ → Option Node) → (ℕ → Bytes) → Bytes → ℕ → Option (ℕ × ℕ) → Child → ℕ → ℕ → Type 0
 Follows keys nodes front_of nearest depth above = WayDown keys nodes front_of (HoldsAlong front_of nearest depth above) []
 
-module _ {P : ℕ} (keys : ℕ → Option Bytes) (nodes : ℕ → Option Node) (nearest : Bytes) (depth : ℕ) (root : Option Child) (s : Shape P keys nodes root) (above : Option (ℕ × ℕ)) (old now : ℕ) where
+module _ {P : ℕ} {keys : ℕ → Option Bytes} {nodes : ℕ → Option Node} (nearest : Bytes) (depth : ℕ) {root : Option Child} (s : Shape P keys nodes root) (above : Option (ℕ × ℕ)) {old now : ℕ} where
   -- it went through the edge above
-  pub followed_edge : (c : Child) → LeadsTo nodes root above c → Follows keys nodes s.front_of nearest depth above c old now → EdgeFits nodes root s.front_of nearest depth above c
-  followed_edge c leads w = record { leads = leads; along = subst (λ (f : Bytes). Begins f (take depth nearest)) w.holds.0 w.holds.1 }
+  pub followed_edge : {a c : Child} → a ≡ c → LeadsTo nodes root above a → Follows keys nodes s.front_of nearest depth above c old now → EdgeFits nodes root s.front_of nearest depth above c
+  followed_edge e leads w = record {
+    leads = subst (λ (z : Child). LeadsTo nodes root above z) e leads;
+    along = subst (λ (f : Bytes). Begins f (take depth nearest)) w.holds.0 w.holds.1;
+  }
 
   module _ (within : depth ≤ length nearest) where
     -- each visit passed one of the nearest key's first bytes
-    pub followed_few : (c : Child) → Follows keys nodes s.front_of nearest depth above c old now → now ≤ old + depth
-    followed_few c w =
+    pub followed_few : {c : Child} → Follows keys nodes s.front_of nearest depth above c old now → now ≤ old + depth
+    followed_few w =
         let few : now + 0 ≤ old + length w.front = w.few in
         let l : length w.front ≤ length (take depth nearest) = Begins-length w.front (take depth nearest) w.holds.1 in
         let k : length (take depth nearest) ≡ depth = length-take-le depth nearest within in
         omega arith
 
-    module _ (i : ℕ) (is : keys i ≡ Some nearest) (n : ℕ) (x : Node) (at : nodes n ≡ Some x) (w : Follows keys nodes s.front_of nearest depth above (Inner n) old now) where
+    module _ {i : ℕ} (is : keys i ≡ Some nearest) {n : ℕ} {x : Node} (at : nodes n ≡ Some x) (w : Follows keys nodes s.front_of nearest depth above (Inner n) old now) where
       fits : NodeFits keys nodes s.front_of (s.front_of n) x
       fits = s.node n x at
 
@@ -55,8 +58,9 @@ module _ {P : ℕ} (keys : ℕ → Option Bytes) (nodes : ℕ → Option Node) (
       node_past_depth h = let d : x.depth ≡ length (s.front_of n) = fits.depth in omega arith
 
       -- a node has an edge at the byte of the nearest key
-      pub edge_of_nearest : child_at x.edges (get_or nearest x.depth 0) ≡ None → ⊥
-      edge_of_nearest e =
+      pub edge_of_nearest : {len : ℕ} → len ≡ x.depth → child_at x.edges (get_or nearest len 0) ≡ None → ⊥
+      edge_of_nearest d none =
+          let e : child_at x.edges (get_or nearest x.depth 0) ≡ None = ap (λ (z : ℕ). child_at x.edges (get_or nearest z 0)) (sym d) ∙ none in
           not_some (child_at x.edges (next_byte (s.front_of n) nearest)) (ap (λ (d : ℕ). child_at x.edges (get_or nearest d 0)) (sym fits.depth) ∙ e) (fits.edge i nearest is front_nearest)
 
       -- which leads on, while the spot is deeper
@@ -68,3 +72,11 @@ module _ {P : ℕ} (keys : ℕ → Option Bytes) (nodes : ℕ → Option Node) (
           let l : length (take depth nearest) ≡ depth = length-take-le depth nearest within in
           let e : length (g ++ next_byte g nearest ∷ []) ≡ length g + 1 = length-edge g (next_byte g nearest) in
           (refl, rw b (Begins-linear (g ++ next_byte g nearest ∷ []) (take depth nearest) nearest (Begins-more g nearest front_nearest (omega arith)) (Begins-take depth nearest) (omega arith)))
+
+      -- so the way goes on by that edge
+      pub follow_on : {len : ℕ} → len ≡ x.depth → len < depth → {child : Child} → child_at x.edges (get_or nearest len 0) ≡ Some child →
+          {next : ℕ} → next ≡ now + 1 → Follows keys nodes s.front_of nearest depth (Some (n, get_or nearest len 0)) child old next
+      follow_on {len} d h there one =
+          let Holds : ℕ → Type 0 = λ z. HoldsAlong s.front_of nearest depth (Some (n, get_or nearest z 0)) (s.front_of n ++ get_or nearest z 0 ∷ []) in
+          let holds = subst Holds (sym d) (follow_edge (omega arith)) in
+          way_on s at w (get_or nearest len 0) there holds one

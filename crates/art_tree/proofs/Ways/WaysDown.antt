@@ -23,12 +23,14 @@ module _ (keys : ℕ → Option Bytes) (nodes : ℕ → Option Node) (front_of :
     pub holds : Holds front
     pub few : now + length g ≤ old + length front
 
+module _ {keys : ℕ → Option Bytes} {nodes : ℕ → Option Node} {front_of : ℕ → Bytes} where
   -- the child by another name
-  pub way_at : {Holds : Bytes → Type 0} {g : Bytes} {old now : ℕ} {a c : Child} → a ≡ c → WayDown Holds g a old now → WayDown Holds g c old now
-  way_at {Holds} {g} {old} {now} e w = subst (λ (z : Child). WayDown Holds g z old now) e w
+  pub way_at : {Holds : Bytes → Type 0} {g : Bytes} {old now : ℕ} {a c : Child} → a ≡ c → WayDown keys nodes front_of Holds g a old now →
+      WayDown keys nodes front_of Holds g c old now
+  way_at {Holds} {g} {old} {now} e w = subst (λ (z : Child). WayDown keys nodes front_of Holds g z old now) e w
 
   -- the visits on a way to a leaf are no more than the bytes of its key after g
-  pub way_few : {Holds : Bytes → Type 0} {g : Bytes} {old now i : ℕ} → WayDown Holds g (Leaf i) old now → (key : Bytes) → keys i ≡ Some key → now + length g ≤ old + length key
+  pub way_few : {Holds : Bytes → Type 0} {g : Bytes} {old now i : ℕ} → WayDown keys nodes front_of Holds g (Leaf i) old now → (key : Bytes) → keys i ≡ Some key → now + length g ≤ old + length key
   way_few {g = g} {old = old} {now = now} {i = i} w key is =
       let e : keys i ≡ Some w.covers.key = w.covers.is in
       let same : w.covers.key ≡ key = cc in
@@ -37,15 +39,15 @@ module _ (keys : ℕ → Option Bytes) (nodes : ℕ → Option Node) (front_of :
       let few : now + length g ≤ old + length w.front = w.few in
       omega arith
 
-module _ {P : ℕ} (keys : ℕ → Option Bytes) (nodes : ℕ → Option Node) (root : Option Child) (s : Shape P keys nodes root) where
+module _ {P : ℕ} {keys : ℕ → Option Bytes} {nodes : ℕ → Option Node} {root : Option Child} (s : Shape P keys nodes root) where
   -- each node has an edge
-  pub has_edges : (n : ℕ) (x : Node) → nodes n ≡ Some x → 0 < length x.edges
-  has_edges n x is = let p = (s.node n x is).parts in edges_some x.edges (next_byte (s.front_of n) p.k) ((s.node n x is).edge p.i p.k p.k_is p.k_front)
+  pub has_edges : (n : ℕ) {x : Node} → nodes n ≡ Some x → 0 < length x.edges
+  has_edges n {x} is = let p = (s.node n x is).parts in edges_some x.edges (next_byte (s.front_of n) p.k) ((s.node n x is).edge p.i p.k p.k_is p.k_front)
 
-  pub way_start : (Holds : Bytes → Type 0) (g : Bytes) (c : Child) (old : ℕ) → Covers keys nodes s.front_of g c → Holds g → WayDown keys nodes s.front_of Holds g c old old
-  way_start Holds g c old h holds = record { front = g; covers = h; holds = holds; few = omega arith }
+  pub way_start : {Holds : Bytes → Type 0} {g : Bytes} {c : Child} {old : ℕ} → Covers keys nodes s.front_of g c → Holds g → WayDown keys nodes s.front_of Holds g c old old
+  way_start {g = g} h holds = record { front = g; covers = h; holds = holds; few = omega arith }
 
-  module _ {Holds : Bytes → Type 0} {g : Bytes} {old now n : ℕ} (x : Node) (is : nodes n ≡ Some x) (w : WayDown keys nodes s.front_of Holds g (Inner n) old now) where
+  module _ {Holds : Bytes → Type 0} {g : Bytes} {old now n : ℕ} {x : Node} (is : nodes n ≡ Some x) (w : WayDown keys nodes s.front_of Holds g (Inner n) old now) where
     -- a node on the way was read: its front is at least as long as that of the way
     pub way_here : now + length g ≤ old + length (s.front_of n)
     way_here =
@@ -54,8 +56,8 @@ module _ {P : ℕ} (keys : ℕ → Option Bytes) (nodes : ℕ → Option Node) (
         omega arith
 
     -- the way goes on by an edge
-    pub way_on : {Next : Bytes → Type 0} → (b : ℕ) (c : Child) → child_at x.edges b ≡ Some c → Next (s.front_of n ++ b ∷ []) → (next : ℕ) → next ≡ now + 1 → WayDown keys nodes s.front_of Next g c old next
-    way_on b c there holds next e =
+    pub way_on : {Next : Bytes → Type 0} → (b : ℕ) {c : Child} → child_at x.edges b ≡ Some c → Next (s.front_of n ++ b ∷ []) → {next : ℕ} → next ≡ now + 1 → WayDown keys nodes s.front_of Next g c old next
+    way_on b {c} there holds e =
         let few : now + length g ≤ old + length (s.front_of n) = way_here in
         let d : length (s.front_of n ++ b ∷ []) ≡ length (s.front_of n) + 1 = length-edge (s.front_of n) b in
         record { front = s.front_of n ++ b ∷ []; covers = (s.node n x is).below b c there; holds = holds; few = omega arith }

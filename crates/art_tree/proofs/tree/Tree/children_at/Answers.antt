@@ -32,4 +32,4 @@ returns-in-None-clause-value g c =
 pub children_below-requires : goal.children_below-requires
 children_below-requires g c =
     let i = c.self.inside in
-    (lit< tt, record { content = c.self.invariant.content; shape = rooted (keys_in g.K.AsBytes.bytes i.leaves.pairs) (at i.nodes) i.root (Some c.in-Some.root) c.self.invariant.shape c.in-Some.is })
+    (lit< tt, record { content = c.self.invariant.content; shape = rooted c.self.invariant.shape c.in-Some.is })

@@ -1,8 +1,8 @@
-use Rattle.std.proofs.Common.{◌≡◌, ◌∙◌, List, [], Some, lit<, sym, ap, subst, refl}
+use Rattle.std.proofs.Common.{◌≡◌, ◌∙◌, List, [], lit<, sym, ap, subst, refl}
 use Rattle.blart_keys.specs.Outside.{outside}
 use Rattle.blart_keys.proofs.Options.{some_of, none_of}
 use Rattle.art_kinds.specs.Nodes.{at}
-use Rattle.art_tree.specs.Leaves.{keys_in, bytes}
+use Rattle.art_tree.specs.Leaves.{bytes}
 use Rattle.art_tree.proofs.Invariant.SameShapes.{rooted}
 use Rattle.art_tree.proofs.Invariant.Soundness.{rootless}
 use Rattle.art_tree.proofs.Pairs.Outside.{first_has, none_below, outside_last}
@@ -27,7 +27,7 @@ prune-root-requires g c =
     let kb = g.K.AsBytes.bytes in
     let i = c.self.inside in
     let found = c.in-Some-branch_below.ensures in
-    (lit< tt, (record { content = c.self.invariant.content; shape = rooted (keys_in kb i.leaves.pairs) (at i.nodes) i.root (Some c.in-Some.root) c.self.invariant.shape c.in-Some.is }, (found.branch, sym found.found)))
+    (lit< tt, (record { content = c.self.invariant.content; shape = rooted c.self.invariant.shape c.in-Some.is }, (found.branch, sym found.found)))
 
 pub remove-requires : goal.remove-requires
 remove-requires g c =

@@ -1,7 +1,7 @@
-use Rattle.std.proofs.Common.{◌≡◌, ◌<◌, length, ap, sym, ◌∙◌, Some, lit<, arith}
-use Rattle.art_tree.specs.Leaves.{leaf_in, keys_in}
+use Rattle.std.proofs.Common.{Some, lit<, arith}
+use Rattle.art_tree.specs.Leaves.{leaf_in}
 use Rattle.art_tree.proofs.Calls.PlacedShapes.{nearest_long}
-use Rattle.art_tree.proofs.Pairs.Keys.{key_of_pair}
+use Rattle.art_tree.proofs.Pairs.Keys.{key_read}
 use Rattle.art_kinds.specs.Nodes.{at}
 use Rattle.blart_keys.proofs.Options.{is_some}
 use Rattle.art_tree.proofs.Pairs.Placed.{has_beside, has_leaf_before, free_before, placed_free, kept_pair, free_spot, free_gains}
@@ -60,10 +60,6 @@ returns-clause-whole g c =
 
 pub spot_for-spot-requires : goal.spot_for-spot-requires
 spot_for-spot-requires g c =
-    let kb = g.K.AsBytes.bytes in
-    let S = c.args.leaves.now.pairs in
-    let m = c.args.place.now.nearest in
-    let key = c.as_bytes.result.now in
-    let is : keys_in kb S m ≡ Some key = key_of_pair kb S m (c.read.result.0.now, c.read.result.1.now) c.read.ensures.value ∙ ap Some (sym c.as_bytes.ensures) in
-    let long : c.args.place.now.depth < length key = nearest_long (keys_in kb S) m c.args.place.now.depth (kb c.args.key) c.requires.free.leaves key is in
-    (lit< tt, record { keys = keys_in kb S; shape = c.requires.whole.shape; is = is; within = omega arith })
+    let is = key_read g.K.AsBytes.bytes c.args.leaves.now.pairs c.args.place.now.nearest c.read.ensures.value c.as_bytes.ensures in
+    let long = nearest_long _ _ _ _ c.requires.free.leaves _ is in
+    (lit< tt, record { keys = _; shape = c.requires.whole.shape; is = is; within = omega arith })

@@ -22,40 +22,31 @@ returns-in-Shorter g c = shorter_related g.K.AsBytes.bytes c.args.leaves.now.pai
 pub returns-in-Longer : goal.returns-in-Longer
 returns-in-Longer g c =
     let m = (subst (λ (z : Stop). IsStop g.row.P (keys_in g.K.AsBytes.bytes c.args.leaves.now.pairs) (at c.args.nodes.now) z c.args.query.now) c.in-Longer.is c.stop_of-stop.ensures) in
-    let keys = keys_in g.K.AsBytes.bytes c.args.leaves.now.pairs in
     longer_related g.K.AsBytes.bytes c.args.leaves.now.pairs c.requires.content c.law.ensures.distinct (at c.args.nodes.now) c.args.query.now c.in-Longer.child m c.end_under.result c.end_under-in-Longer.result
-    (c.end_under.ensures.ends keys m.root m.shape c.args.query.now m.covers) (c.end_under-in-Longer.ensures.ends keys m.root m.shape c.args.query.now m.covers)
+    (c.end_under.ensures.ends _ m.root m.shape c.args.query.now m.covers) (c.end_under-in-Longer.ensures.ends _ m.root m.shape c.args.query.now m.covers)
 
 pub place_under-requires : goal.place_under-requires
 place_under-requires g c =
-    let keys = keys_in g.K.AsBytes.bytes c.args.leaves.now.pairs in
-    let q = c.args.query.now in
     let l = (subst (λ (z : Stop). IsStop g.row.P (keys_in g.K.AsBytes.bytes c.args.leaves.now.pairs) (at c.args.nodes.now) z c.args.query.now) c.in-AtNode.is c.stop_of-stop.ensures) in
     let e = c.edge_beside-edge.ensures.edge in
-    let h = place_at_node keys (at c.args.nodes.now) q c.in-AtNode.id c.in-AtNode.depth e.node e.is l.0 l.1 l.2 c.edge_beside-edge.result.1 c.edge_beside-edge.result.0 e.next in
-    (lit< tt, (keys, q, h))
+    let h = place_at_node e.is l.0 l.1 l.2 c.edge_beside-edge.result.1 c.edge_beside-edge.result.0 e.next in
+    (lit< tt, (_, _, h))
 
 pub returns-in-AtNode : goal.returns-in-AtNode
 returns-in-AtNode g c =
-    let keys = keys_in g.K.AsBytes.bytes c.args.leaves.now.pairs in
-    let q = c.args.query.now in
     let l = (subst (λ (z : Stop). IsStop g.row.P (keys_in g.K.AsBytes.bytes c.args.leaves.now.pairs) (at c.args.nodes.now) z c.args.query.now) c.in-AtNode.is c.stop_of-stop.ensures) in
     let e = c.edge_beside-edge.ensures.edge in
-    let h = place_at_node keys (at c.args.nodes.now) q c.in-AtNode.id c.in-AtNode.depth e.node e.is l.0 l.1 l.2 c.edge_beside-edge.result.1 c.edge_beside-edge.result.0 e.next in
-    record { leaves = c.place_under.ensures.leaves keys q h; beside = c.place_under.ensures.beside keys q h }
+    let h = place_at_node e.is l.0 l.1 l.2 c.edge_beside-edge.result.1 c.edge_beside-edge.result.0 e.next in
+    record { leaves = c.place_under.ensures.leaves _ _ h; beside = c.place_under.ensures.beside _ _ h }
 
 pub place_under-requires-in-AtEdge : goal.place_under-requires-in-AtEdge
 place_under-requires-in-AtEdge g c =
-    let keys = keys_in g.K.AsBytes.bytes c.args.leaves.now.pairs in
-    let q = c.args.query.now in
     let l = (subst (λ (z : Stop). IsStop g.row.P (keys_in g.K.AsBytes.bytes c.args.leaves.now.pairs) (at c.args.nodes.now) z c.args.query.now) c.in-AtEdge.is c.stop_of-stop.ensures) in
-    let h = place_at_edge keys (at c.args.nodes.now) q c.in-AtEdge.child c.in-AtEdge.depth c.in-AtEdge.byte l.0 l.1 l.2 _ refl in
-    (lit< tt, (keys, q, h))
+    let h = place_at_edge l.0 l.1 l.2 _ refl in
+    (lit< tt, (_, _, h))
 
 pub returns-in-AtEdge : goal.returns-in-AtEdge
 returns-in-AtEdge g c =
-    let keys = keys_in g.K.AsBytes.bytes c.args.leaves.now.pairs in
-    let q = c.args.query.now in
     let l = (subst (λ (z : Stop). IsStop g.row.P (keys_in g.K.AsBytes.bytes c.args.leaves.now.pairs) (at c.args.nodes.now) z c.args.query.now) c.in-AtEdge.is c.stop_of-stop.ensures) in
-    let h = place_at_edge keys (at c.args.nodes.now) q c.in-AtEdge.child c.in-AtEdge.depth c.in-AtEdge.byte l.0 l.1 l.2 _ refl in
-    record { leaves = c.place_under-in-AtEdge.ensures.leaves keys q h; beside = c.place_under-in-AtEdge.ensures.beside keys q h }
+    let h = place_at_edge l.0 l.1 l.2 _ refl in
+    record { leaves = c.place_under-in-AtEdge.ensures.leaves _ _ h; beside = c.place_under-in-AtEdge.ensures.beside _ _ h }

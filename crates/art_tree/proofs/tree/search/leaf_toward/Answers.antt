@@ -1,16 +1,15 @@
-use Rattle.std.proofs.Common.{◌≡◌, ◌+◌, ◌<◌, ◌≤◌, [], length, get_or, subst, sym, refl, ◌∙◌, arith, lit<, Some, None}
-use Rattle.art_kinds.specs.Edges.{child_at}
+use Rattle.std.proofs.Common.{◌≡◌, ◌+◌, ◌≤◌, length, subst, sym, refl, ◌∙◌, arith, lit<, Some}
 use Rattle.art_tree.specs.Invariant.EdgesAbove.{LeadsTo}
 use Rattle.art_kinds.specs.Nodes.{at}
 use Rattle.art_kinds.specs.declared.records.ids.Child.{Child}
-use Rattle.art_tree.proofs.Ways.Depths.{rank, rank_falls}
+use Rattle.art_tree.proofs.Ways.Depths.{rank_falls}
 use Rattle.art_tree.proofs.Ways.WaysDown.{way_start, way_at, way_on}
 use Rattle.art_tree.proofs.Ways.ToQuery.{fronts_start, fronts_short, fronts_none, fronts_step}
 use Rattle.art_tree.proofs.tree.search.leaf_toward.Goals as goal
 
 pub down-init : goal.down-init
 down-init g c = record {
-  way = λ keys s. way_start keys (at c.args.nodes.now) (Some c.args.root.now) s _ [] c.args.root.now c.args.visits.now.count s.top (fronts_start keys c.args.query.now);
+  way = λ keys s. way_start s s.top (fronts_start keys c.args.query.now);
   leads = refl;
   above = tt;
   rising = omega arith;
@@ -18,7 +17,7 @@ down-init g c = record {
 
 pub returns-in-Leaf-clause-goes : goal.returns-in-Leaf-clause-goes
 returns-in-Leaf-clause-goes g c = λ keys s.
-    let w = way_at keys (at c.args.nodes.now) s.front_of c.in-Leaf.is (c.down.invariant.way keys s) in
+    let w = way_at c.in-Leaf.is (c.down.invariant.way keys s) in
     let few : c.down.visits.count + 0 ≤ c.args.visits.now.count + length w.front = w.few in
     let short : length w.front ≤ length c.args.query.now = w.holds.short in
     (record { key = w.covers.key; is = w.covers.is; only = λ j k e b. w.covers.only j k e (w.holds.holds j k e b) }, omega arith)
@@ -29,50 +28,35 @@ returns-in-Leaf-clause-spot g c = record { leads = subst (λ (z : Child). LeadsT
 pub read-node-requires : goal.read-node-requires
 read-node-requires g c =
     let r = c.requires in
-    let w = way_at r.keys (at c.args.nodes.now) r.shape.front_of c.in-Inner.is (c.down.invariant.way r.keys r.shape) in
+    let w = way_at c.in-Inner.is (c.down.invariant.way r.keys r.shape) in
     (lit< tt, (lit< tt, w.covers.live))
 
 pub returns-then-depth-query-clause-goes : goal.returns-then-depth-query-clause-goes
 returns-then-depth-query-clause-goes g c = λ keys s.
-    let q = c.args.query.now in
-    let x = c.read-node.result in
-    let w = way_at keys (at c.args.nodes.now) s.front_of c.in-Inner.is (c.down.invariant.way keys s) in
+    let w = way_at c.in-Inner.is (c.down.invariant.way keys s) in
     let few : c.down.visits.count + 0 ≤ c.args.visits.now.count + length w.front = w.few in
-    let short : length w.front ≤ length q = w.holds.short in
+    let short : length w.front ≤ length c.args.query.now = w.holds.short in
     let one : c.read-node.new.visits.count ≡ c.down.visits.count + 1 = c.read-node.ensures.counted in
-    let h : length q ≤ x.depth = omega (arith, c.depth-depth.ensures) in
-    (fronts_short keys q (at c.args.nodes.now) (Some c.args.root.now) s c.in-Inner.id x c.read-node.ensures.value w.front w.covers w.holds h, omega arith)
+    (fronts_short c.args.query.now s c.read-node.ensures.value w.covers w.holds (omega (arith, c.depth-depth.ensures)), omega arith)
 
 pub returns-in_err-at-clause-goes : goal.returns-in_err-at-clause-goes
 returns-in_err-at-clause-goes g c = λ keys s.
-    let q = c.args.query.now in
-    let x = c.read-node.result in
-    let w = way_at keys (at c.args.nodes.now) s.front_of c.in-Inner.is (c.down.invariant.way keys s) in
+    let w = way_at c.in-Inner.is (c.down.invariant.way keys s) in
     let few : c.down.visits.count + 0 ≤ c.args.visits.now.count + length w.front = w.few in
-    let short : length w.front ≤ length q = w.holds.short in
+    let short : length w.front ≤ length c.args.query.now = w.holds.short in
     let one : c.read-node.new.visits.count ≡ c.down.visits.count + 1 = c.read-node.ensures.counted in
-    let h : child_at x.edges (get_or q x.depth 0) ≡ None = rw (← c.depth-depth.ensures) (sym c.find.ensures ∙ c.in_err-at.was) in
-    rw c.from_residual.ensures (fronts_none keys q (at c.args.nodes.now) (Some c.args.root.now) s c.in-Inner.id x c.read-node.ensures.value w.front w.covers w.holds h, omega arith)
+    let none = sym c.find.ensures ∙ c.in_err-at.was in
+    rw c.from_residual.ensures (fronts_none c.args.query.now s c.read-node.ensures.value w.covers w.holds c.depth-depth.ensures none, omega arith)
 
 pub down-smaller : goal.down-smaller
-down-smaller g c =
-    let r = c.requires in
-    let x = c.read-node.result in
-    let there : child_at x.edges (get_or c.args.query.now x.depth 0) ≡ Some c.in_ok-at.at = rw (← c.depth-depth.ensures) (sym c.find.ensures ∙ c.in_ok-at.was) in
-    subst (λ (a : Child). rank c.args.nodes.now c.in_ok-at.at < rank c.args.nodes.now a) (sym c.in-Inner.is)
-    (rank_falls r.keys c.args.nodes.now (Some c.args.root.now) r.shape c.in-Inner.id (get_or c.args.query.now x.depth 0) x c.in_ok-at.at c.read-node.ensures.value there)
+down-smaller g c = rank_falls c.args.nodes.now c.requires.shape c.in-Inner.is _ c.read-node.ensures.value (sym c.find.ensures ∙ c.in_ok-at.was)
 
 pub down-preserved : goal.down-preserved
 down-preserved g c = record {
   way = λ keys s.
-      let nodes = at c.args.nodes.now in
-      let q = c.args.query.now in
-      let x = c.read-node.result in
-      let w = way_at keys nodes s.front_of c.in-Inner.is (c.down.invariant.way keys s) in
-      let there : child_at x.edges (get_or q x.depth 0) ≡ Some c.in_ok-at.at = rw (← c.depth-depth.ensures) (sym c.find.ensures ∙ c.in_ok-at.was) in
-      let short : x.depth < length q = omega (arith, c.depth-depth.ensures) in
-      way_on keys nodes (Some c.args.root.now) s x c.read-node.ensures.value w (get_or q x.depth 0) c.in_ok-at.at there
-      (fronts_step keys q nodes (Some c.args.root.now) s c.in-Inner.id x c.read-node.ensures.value w.front w.covers w.holds short) c.read-node.new.visits.count c.read-node.ensures.counted;
+      let w = way_at c.in-Inner.is (c.down.invariant.way keys s) in
+      let holds = fronts_step c.args.query.now s c.read-node.ensures.value w.covers w.holds c.depth-depth.ensures (omega arith) in
+      way_on s c.read-node.ensures.value w _ (sym c.find.ensures ∙ c.in_ok-at.was) holds c.read-node.ensures.counted;
   leads = (c.read-node.result, c.read-node.ensures.value, sym c.find.ensures ∙ c.in_ok-at.was);
   above = subst (λ (z : Child). LeadsTo (at c.args.nodes.now) (Some c.args.root.now) c.down.edge z) c.in-Inner.is c.down.invariant.leads;
   rising = let up : c.args.visits.now.count ≤ c.down.visits.count = c.down.invariant.rising in let one : c.read-node.new.visits.count ≡ c.down.visits.count + 1 = c.read-node.ensures.counted in omega arith;

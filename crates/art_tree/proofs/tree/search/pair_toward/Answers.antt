@@ -1,4 +1,4 @@
-use Rattle.std.proofs.Common.{lit<, arith, Some}
+use Rattle.std.proofs.Common.{lit<, arith}
 use Rattle.art_tree.specs.Leaves.{keys_in}
 use Rattle.art_kinds.specs.Nodes.{at}
 use Rattle.art_tree.proofs.Invariant.SameShapes.{rooted}
@@ -12,29 +12,24 @@ returns-in_default-clause-found g c = root_none (keys_in g.K.AsBytes.bytes c.arg
 
 pub leaf_toward-requires : goal.leaf_toward-requires
 leaf_toward-requires g c =
-    let keys = keys_in g.K.AsBytes.bytes c.args.leaves.now.pairs in
-    (lit< tt, is_root (at c.args.nodes.now) keys c.in-Some.root (rooted keys (at c.args.nodes.now) c.args.root.now (Some c.in-Some.root) c.requires.shape c.in-Some.is))
+    (lit< tt, is_root (rooted c.requires.shape c.in-Some.is))
 
 pub returns-in_err-spot-clause-found : goal.returns-in_err-spot-clause-found
 returns-in_err-spot-clause-found g c =
-    let keys = keys_in g.K.AsBytes.bytes c.args.leaves.now.pairs in
-    let s = rooted keys (at c.args.nodes.now) c.args.root.now (Some c.in-Some.root) c.requires.shape c.in-Some.is in
-    rw c.from_residual.ensures ((c.in_err-spot.ensures.goes keys s).0)
+    let s = rooted c.requires.shape c.in-Some.is in
+    rw c.from_residual.ensures ((c.in_err-spot.ensures.goes _ s).0)
 
 pub returns-in_err-spot-clause-counted : goal.returns-in_err-spot-clause-counted
 returns-in_err-spot-clause-counted g c =
-    let keys = keys_in g.K.AsBytes.bytes c.args.leaves.now.pairs in
-    let s = rooted keys (at c.args.nodes.now) c.args.root.now (Some c.in-Some.root) c.requires.shape c.in-Some.is in
-    (c.in_err-spot.ensures.goes keys s).1
+    let s = rooted c.requires.shape c.in-Some.is in
+    (c.in_err-spot.ensures.goes _ s).1
 
 pub read-requires : goal.read-requires
 read-requires g c =
-    let keys = keys_in g.K.AsBytes.bytes c.args.leaves.now.pairs in
-    let s = rooted keys (at c.args.nodes.now) c.args.root.now (Some c.in-Some.root) c.requires.shape c.in-Some.is in
-    only_has g.K.AsBytes.bytes c.args.leaves.now.pairs c.args.query.now c.in_ok-spot.spot.id ((c.in_ok-spot.ensures.goes keys s).0)
+    let s = rooted c.requires.shape c.in-Some.is in
+    only_has g.K.AsBytes.bytes c.args.leaves.now.pairs c.args.query.now c.in_ok-spot.spot.id ((c.in_ok-spot.ensures.goes _ s).0)
 
 pub returns-clause-counted : goal.returns-clause-counted
 returns-clause-counted g c =
-    let keys = keys_in g.K.AsBytes.bytes c.args.leaves.now.pairs in
-    let s = rooted keys (at c.args.nodes.now) c.args.root.now (Some c.in-Some.root) c.requires.shape c.in-Some.is in
-    omega (arith, (c.in_ok-spot.ensures.goes keys s).1, c.read.ensures.counted)
+    let s = rooted c.requires.shape c.in-Some.is in
+    omega (arith, (c.in_ok-spot.ensures.goes _ s).1, c.read.ensures.counted)

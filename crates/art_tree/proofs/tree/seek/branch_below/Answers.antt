@@ -1,7 +1,4 @@
-use Rattle.std.proofs.Common.{◌+◌, ◌≤◌, length, sym, lit<, arith, Some}
-use Rattle.art_tree.specs.Leaves.{keys_in, bytes}
-use Rattle.art_tree.specs.Longest.{longest}
-use Rattle.art_kinds.specs.Nodes.{at}
+use Rattle.std.proofs.Common.{sym, lit<, arith}
 use Rattle.art_tree.proofs.Ways.Partings.{query_within, way_of_nearest, covers_reached, branch_reached}
 use Rattle.art_tree.proofs.Pairs.Bounds.{ends_under, no_ends}
 use Rattle.art_tree.proofs.Invariant.Soundness.{within_longest}
@@ -12,59 +9,51 @@ returns-then-depth-front-clause-found g c = let n = c.nearest_leaf-depth.result 
 
 pub locate-spot-requires : goal.locate-spot-requires
 locate-spot-requires g c =
-    let n = c.nearest_leaf-depth.result in
     let near = c.nearest_leaf-depth.ensures.nearest in
-    (lit< tt, way_of_nearest g.K.AsBytes.bytes c.args.leaves.now.pairs (at c.args.nodes.now) c.args.root.now c.requires.shape c.args.front.now n.0 n.2 n.1.now near.is near.shared)
+    (lit< tt, way_of_nearest c.requires.shape c.args.front.now near.is near.shared)
 
 pub end_under-first-requires : goal.end_under-first-requires
 end_under-first-requires g c =
-    let S = c.args.leaves.now.pairs in
-    let keys = keys_in g.K.AsBytes.bytes S in
-    let n = c.nearest_leaf-depth.result in
     let near = c.nearest_leaf-depth.ensures.nearest in
-    let covers = covers_reached g.K.AsBytes.bytes S (at c.args.nodes.now) c.args.root.now c.requires.shape c.args.front.now n.0 n.2 n.1.now near.is near.shared c.if-depth-front.false c.locate-spot.result (c.locate-spot.ensures.spot keys c.requires.shape n.0 near.is) c.child-child.result c.child-child.ensures in
-    (lit< tt, record { keys = keys; root = Some c.args.root.now; shape = c.requires.shape; front = c.args.front.now; covers = covers })
+    let fits = c.locate-spot.ensures.spot _ c.requires.shape _ near.is in
+    let covers = covers_reached c.requires.shape c.args.front.now near.is near.shared c.if-depth-front.false c.locate-spot.result fits c.child-child.ensures in
+    (lit< tt, record { keys = _; root = _; shape = c.requires.shape; front = c.args.front.now; covers = covers })
 
 pub end_under-last-requires : goal.end_under-last-requires
 end_under-last-requires g c =
-    let S = c.args.leaves.now.pairs in
-    let keys = keys_in g.K.AsBytes.bytes S in
-    let n = c.nearest_leaf-depth.result in
     let near = c.nearest_leaf-depth.ensures.nearest in
-    let covers = covers_reached g.K.AsBytes.bytes S (at c.args.nodes.now) c.args.root.now c.requires.shape c.args.front.now n.0 n.2 n.1.now near.is near.shared c.if-depth-front.false c.locate-spot.result (c.locate-spot.ensures.spot keys c.requires.shape n.0 near.is) c.child-child.result c.child-child.ensures in
-    (lit< tt, record { keys = keys; root = Some c.args.root.now; shape = c.requires.shape; front = c.args.front.now; covers = covers })
+    let fits = c.locate-spot.ensures.spot _ c.requires.shape _ near.is in
+    let covers = covers_reached c.requires.shape c.args.front.now near.is near.shared c.if-depth-front.false c.locate-spot.result fits c.child-child.ensures in
+    (lit< tt, record { keys = _; root = _; shape = c.requires.shape; front = c.args.front.now; covers = covers })
 
 pub returns-clause-found : goal.returns-clause-found
 returns-clause-found g c =
     let S = c.args.leaves.now.pairs in
-    let keys = keys_in g.K.AsBytes.bytes S in
-    let n = c.nearest_leaf-depth.result in
     let near = c.nearest_leaf-depth.ensures.nearest in
-    let covers = covers_reached g.K.AsBytes.bytes S (at c.args.nodes.now) c.args.root.now c.requires.shape c.args.front.now n.0 n.2 n.1.now near.is near.shared c.if-depth-front.false c.locate-spot.result (c.locate-spot.ensures.spot keys c.requires.shape n.0 near.is) c.child-child.result c.child-child.ensures in
-    let u = c.end_under-first.ensures.ends keys (Some c.args.root.now) c.requires.shape c.args.front.now covers in
-    let w = c.end_under-last.ensures.ends keys (Some c.args.root.now) c.requires.shape c.args.front.now covers in
+    let fits = c.locate-spot.ensures.spot _ c.requires.shape _ near.is in
+    let covers = covers_reached c.requires.shape c.args.front.now near.is near.shared c.if-depth-front.false c.locate-spot.result fits c.child-child.ensures in
+    let u = c.end_under-first.ensures.ends _ _ c.requires.shape c.args.front.now covers in
+    let w = c.end_under-last.ensures.ends _ _ c.requires.shape c.args.front.now covers in
     sym (ends_under g.K.AsBytes.bytes S c.requires.content c.law.ensures.distinct c.args.front.now c.end_under-first.result c.end_under-last.result u w)
 
 pub returns-clause-branch : goal.returns-clause-branch
 returns-clause-branch g c = λ s.
-    let S = c.args.leaves.now.pairs in
-    let n = c.nearest_leaf-depth.result in
     let near = c.nearest_leaf-depth.ensures.nearest in
-    branch_reached g.K.AsBytes.bytes S (at c.args.nodes.now) c.args.root.now s c.args.front.now n.0 n.2 n.1.now near.is near.shared c.if-depth-front.false c.locate-spot.result (c.locate-spot.ensures.spot (keys_in g.K.AsBytes.bytes S) s n.0 near.is) _ c.above.ensures c.child-child.ensures
+    let fits = c.locate-spot.ensures.spot _ s _ near.is in
+    branch_reached s c.args.front.now near.is near.shared c.if-depth-front.false c.locate-spot.result fits _ c.above.ensures c.child-child.ensures
 
 pub returns-clause-counted : goal.returns-clause-counted
 returns-clause-counted g c =
     let S = c.args.leaves.now.pairs in
-    let keys = keys_in g.K.AsBytes.bytes S in
     let n = c.nearest_leaf-depth.result in
     let near = c.nearest_leaf-depth.ensures.nearest in
-    let covers = covers_reached g.K.AsBytes.bytes S (at c.args.nodes.now) c.args.root.now c.requires.shape c.args.front.now n.0 n.2 n.1.now near.is near.shared c.if-depth-front.false c.locate-spot.result (c.locate-spot.ensures.spot keys c.requires.shape n.0 near.is) c.child-child.result c.child-child.ensures in
-    let u = c.end_under-first.ensures.ends keys (Some c.args.root.now) c.requires.shape c.args.front.now covers in
-    let w = c.end_under-last.ensures.ends keys (Some c.args.root.now) c.requires.shape c.args.front.now covers in
-    let within : n.2 ≤ length c.args.front.now = query_within n.1.now c.args.front.now n.2 near.shared in
-    let L = longest (bytes g.K.AsBytes.bytes) S in
-    let low : length u.key ≤ L = within_longest g.K.AsBytes.bytes S c.end_under-first.result u.key u.is in
-    let low2 : length w.key ≤ L = within_longest g.K.AsBytes.bytes S c.end_under-last.result w.key w.is in
-    let first : c.end_under-first.new.visits.count + length c.args.front.now ≤ c.locate-spot.new.visits.count + length u.key = c.end_under-first.ensures.counted keys (Some c.args.root.now) c.requires.shape c.args.front.now u.key covers u.is in
-    let last : c.end_under-last.new.visits.count + length c.args.front.now ≤ c.end_under-first.new.visits.count + length w.key = c.end_under-last.ensures.counted keys (Some c.args.root.now) c.requires.shape c.args.front.now w.key covers w.is in
+    let fits = c.locate-spot.ensures.spot _ c.requires.shape _ near.is in
+    let covers = covers_reached c.requires.shape c.args.front.now near.is near.shared c.if-depth-front.false c.locate-spot.result fits c.child-child.ensures in
+    let u = c.end_under-first.ensures.ends _ _ c.requires.shape c.args.front.now covers in
+    let w = c.end_under-last.ensures.ends _ _ c.requires.shape c.args.front.now covers in
+    let within = query_within n.1.now c.args.front.now n.2 near.shared in
+    let low = within_longest g.K.AsBytes.bytes S c.end_under-first.result u.key u.is in
+    let low2 = within_longest g.K.AsBytes.bytes S c.end_under-last.result w.key w.is in
+    let first = c.end_under-first.ensures.counted _ _ c.requires.shape c.args.front.now u.key covers u.is in
+    let last = c.end_under-last.ensures.counted _ _ c.requires.shape c.args.front.now w.key covers w.is in
     omega (arith, c.locate-spot.ensures.counted, c.nearest_leaf-depth.ensures.counted)

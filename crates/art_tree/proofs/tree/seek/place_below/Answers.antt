@@ -1,4 +1,4 @@
-use Rattle.std.proofs.Common.{subst, sym, ◌+◌, ◌≤◌, length, lit<, arith, Some}
+use Rattle.std.proofs.Common.{subst, sym, ◌≤◌, length, lit<, arith, Some}
 use Rattle.art_tree.specs.Leaves.{keys_in, bytes}
 use Rattle.art_tree.specs.Longest.{longest}
 use Rattle.art_tree.specs.Places.{IsLeafBefore, neighbour}
@@ -52,13 +52,8 @@ returns-in-Apart-clause-counted g c =
 
 pub returns-in-Longer-clause-counted : goal.returns-in-Longer-clause-counted
 returns-in-Longer-clause-counted g c =
-    let kb = g.K.AsBytes.bytes in
-    let S = c.args.leaves.now.pairs in
-    let q = c.args.query.now in
-    let L = longest (bytes kb) S in
     let m = c.in-Longer.ensures.parts in
-    let u = c.end_under-first.ensures.ends (keys_in kb S) m.root m.shape q m.covers in
-    let low : length u.key ≤ L = within_longest kb S c.end_under-first.result u.key u.is in
-    let way : c.parting_of.new.visits.count ≤ c.args.visits.now.count + L + length q + 2 = c.in-Longer.ensures.counted in
-    let first : c.end_under-first.new.visits.count + length q ≤ c.parting_of.new.visits.count + length u.key = c.end_under-first.ensures.counted (keys_in kb S) m.root m.shape q u.key m.covers u.is in
-    omega arith
+    let u = c.end_under-first.ensures.ends _ m.root m.shape c.args.query.now m.covers in
+    let low = within_longest g.K.AsBytes.bytes c.args.leaves.now.pairs c.end_under-first.result u.key u.is in
+    let first = c.end_under-first.ensures.counted _ m.root m.shape c.args.query.now u.key m.covers u.is in
+    omega (arith, c.in-Longer.ensures.counted)

@@ -1,20 +1,18 @@
 use Rattle.std.proofs.Common.{◌≡◌, ◌+◌, ◌<◌, ◌≤◌, ℕ, List, length, drop, get_or, refl, subst, sym, ◌∙◌, arith, lit<}
 use Rattle.blart_keys.specs.Bytes.{common}
-use Rattle.art_tree.specs.Leaves.{keys_in}
-use Rattle.art_kinds.specs.Nodes.{at}
 use Rattle.art_tree.proofs.Ways.Stops.{node_covers, start_in_query, rest_is, kept_within, shared_differs, shared_whole}
 use Rattle.art_tree.specs.Calls.Stops.{IsShared}
 use Rattle.art_tree.proofs.BeginsLemmas.{common-in_left}
 use Rattle.art_tree.proofs.tree.stop.shared_at.Goals as goal
 
 pub read-node-requires : goal.read-node-requires
-read-node-requires g c = (lit< tt, (lit< tt, (node_covers (keys_in g.K.AsBytes.bytes c.args.leaves.now.pairs) (at c.args.nodes.now) c.args.query.now c.args.id c.args.start c.requires).live))
+read-node-requires g c = (lit< tt, (lit< tt, (node_covers c.requires).live))
 
 pub slice_bounds-common_len-count : goal.slice_bounds-common_len-count
-slice_bounds-common_len-count g c = start_in_query (keys_in g.K.AsBytes.bytes c.args.leaves.now.pairs) (at c.args.nodes.now) c.args.query.now c.args.id c.args.start c.requires
+slice_bounds-common_len-count g c = start_in_query c.requires
 
 pub slice_bounds-common_len-start : goal.slice_bounds-common_len-start
-slice_bounds-common_len-start g c = start_in_query (keys_in g.K.AsBytes.bytes c.args.leaves.now.pairs) (at c.args.nodes.now) c.args.query.now c.args.id c.args.start c.requires
+slice_bounds-common_len-start g c = start_in_query c.requires
 
 pub overflow_add-len : goal.overflow_add-len
 overflow_add-len g c =
@@ -23,7 +21,7 @@ overflow_add-len g c =
     let x = c.read-node.result in
     let kept : c.prefix-kept.result.now ≡ x.prefix = c.prefix-kept.ensures.value in
     let count : c.common_len-count.result ≡ length (common x.prefix (drop start q)) = subst (λ (z : List ℕ). c.common_len-count.result ≡ length (common z (drop start q))) kept (subst (λ (z : List ℕ). c.common_len-count.result ≡ length (common c.prefix-kept.result.now z)) (rest_is start q) c.common_len-count.ensures) in
-    let low = kept_within (keys_in g.K.AsBytes.bytes c.args.leaves.now.pairs) (at c.args.nodes.now) c.args.query.now c.args.id c.args.start c.requires x c.read-node.ensures.value in
+    let low = kept_within c.requires c.read-node.ensures.value in
     omega (arith, common-in_left x.prefix (drop start q), low, c.depth-depth.ensures)
 
 pub returns-then-count-kept : goal.returns-then-count-kept
@@ -35,7 +33,7 @@ returns-then-count-kept g c w =
     let count : c.common_len-count.result ≡ length (common x.prefix (drop start q)) = subst (λ (z : List ℕ). c.common_len-count.result ≡ length (common z (drop start q))) kept (subst (λ (z : List ℕ). c.common_len-count.result ≡ length (common c.prefix-kept.result.now z)) (rest_is start q) c.common_len-count.ensures) in
     let less : c.common_len-count.result < length x.prefix = subst (λ (z : List ℕ). c.common_len-count.result < length z) kept c.if-count-kept.true in
     subst (λ (z : List ℕ). IsShared (w.shape.front_of c.args.id) q (start + c.common_len-count.result) (get_or z c.common_len-count.result 0)) (sym kept)
-    (shared_differs (keys_in g.K.AsBytes.bytes c.args.leaves.now.pairs) (at c.args.nodes.now) c.args.query.now c.args.id c.args.start w x c.read-node.ensures.value c.common_len-count.result _ count less refl)
+    (shared_differs w c.read-node.ensures.value count less refl)
 
 pub returns-then-len-depth : goal.returns-then-len-depth
 returns-then-len-depth g c w =
@@ -45,4 +43,4 @@ returns-then-len-depth g c w =
     let kept : c.prefix-kept.result.now ≡ x.prefix = c.prefix-kept.ensures.value in
     let count : c.common_len-count.result ≡ length (common x.prefix (drop start q)) = subst (λ (z : List ℕ). c.common_len-count.result ≡ length (common z (drop start q))) kept (subst (λ (z : List ℕ). c.common_len-count.result ≡ length (common c.prefix-kept.result.now z)) (rest_is start q) c.common_len-count.ensures) in
     let over : length x.prefix ≤ c.common_len-count.result = subst (λ (z : List ℕ). length z ≤ c.common_len-count.result) kept c.if-count-kept.false in
-    shared_whole (keys_in g.K.AsBytes.bytes c.args.leaves.now.pairs) (at c.args.nodes.now) c.args.query.now c.args.id c.args.start w x c.read-node.ensures.value c.common_len-count.result _ count over refl (c.if-len-depth.true ∙ c.depth-depth.ensures)
+    shared_whole w c.read-node.ensures.value count over refl (c.if-len-depth.true ∙ c.depth-depth.ensures)

@@ -1,7 +1,5 @@
 use Rattle.std.proofs.Common.{◌≡◌, ◌+◌, ℕ, get_or, ap, sym, ◌∙◌, arith, lit<, Some, None}
-use Rattle.art_tree.specs.Leaves.{keys_in}
 use Rattle.art_kinds.specs.Edges.{child_at}
-use Rattle.art_kinds.specs.Nodes.{at}
 use Rattle.art_tree.proofs.Ways.Stops.{node_covers, ends_at_node, leaves_above, goes_past, on_way, leaves_here}
 use Rattle.art_tree.proofs.tree.stop.step_at.Goals as goal
 
@@ -9,56 +7,47 @@ pub returns-then-shared-query : goal.returns-then-shared-query
 returns-then-shared-query g c =
     let w = c.requires in
     let h = c.shared_at-shared.ensures w in
-    ends_at_node (keys_in g.K.AsBytes.bytes c.args.leaves.now.pairs) (at c.args.nodes.now) c.args.query.now c.args.id c.args.start w (sym h.is ∙ c.if-shared-query.true)
+    ends_at_node w (sym h.is ∙ c.if-shared-query.true)
 
 pub read-node-requires : goal.read-node-requires
-read-node-requires g c = (lit< tt, (lit< tt, (node_covers (keys_in g.K.AsBytes.bytes c.args.leaves.now.pairs) (at c.args.nodes.now) c.args.query.now c.args.id c.args.start c.requires).live))
+read-node-requires g c = (lit< tt, (lit< tt, (node_covers c.requires).live))
 
 pub returns-then-shared-depth : goal.returns-then-shared-depth
 returns-then-shared-depth g c =
     let w = c.requires in
     let h = c.shared_at-shared.ensures w in
-    leaves_above (keys_in g.K.AsBytes.bytes c.args.leaves.now.pairs) (at c.args.nodes.now) c.args.query.now c.args.id c.args.start w c.read-node.result c.read-node.ensures.value
-    c.shared_at-shared.result.len c.shared_at-shared.result.byte h (omega (arith, c.if-shared-depth.true, c.depth-depth.ensures)) c.if-shared-query.false
+    leaves_above w c.read-node.ensures.value h c.depth-depth.ensures c.if-shared-depth.true c.if-shared-query.false
 
 pub bounds-query-depth : goal.bounds-query-depth
 bounds-query-depth g c =
     let w = c.requires in
     let h = c.shared_at-shared.ensures w in
-    let p = goes_past (keys_in g.K.AsBytes.bytes c.args.leaves.now.pairs) (at c.args.nodes.now) c.args.query.now c.args.id c.args.start w c.read-node.result c.read-node.ensures.value
-    c.shared_at-shared.result.len c.shared_at-shared.result.byte h (omega (arith, c.if-shared-depth.false, c.depth-depth.ensures)) c.if-shared-query.false in
+    let p = goes_past w c.read-node.ensures.value h c.depth-depth.ensures c.if-shared-depth.false c.if-shared-query.false in
     omega (arith, p.1, c.depth-depth.ensures)
 
 pub overflow_add-result : goal.overflow_add-result
 overflow_add-result g c =
     let w = c.requires in
     let h = c.shared_at-shared.ensures w in
-    let p = goes_past (keys_in g.K.AsBytes.bytes c.args.leaves.now.pairs) (at c.args.nodes.now) c.args.query.now c.args.id c.args.start w c.read-node.result c.read-node.ensures.value
-    c.shared_at-shared.result.len c.shared_at-shared.result.byte h (omega (arith, c.if-shared-depth.false, c.depth-depth.ensures)) c.if-shared-query.false in
+    let p = goes_past w c.read-node.ensures.value h c.depth-depth.ensures c.if-shared-depth.false c.if-shared-query.false in
     omega (arith, p.1, c.depth-depth.ensures)
 
 pub returns-in-Some : goal.returns-in-Some
 returns-in-Some g c =
-    let keys = keys_in g.K.AsBytes.bytes c.args.leaves.now.pairs in
-    let nodes = at c.args.nodes.now in
     let q = c.args.query.now in
     let w = c.requires in
     let x = c.read-node.result in
     let h = c.shared_at-shared.ensures w in
-    let p = goes_past keys nodes q c.args.id c.args.start w x c.read-node.ensures.value
-    c.shared_at-shared.result.len c.shared_at-shared.result.byte h (omega (arith, c.if-shared-depth.false, c.depth-depth.ensures)) c.if-shared-query.false in
+    let p = goes_past w c.read-node.ensures.value h c.depth-depth.ensures c.if-shared-depth.false c.if-shared-query.false in
     let there : child_at x.edges (get_or q x.depth 0) ≡ Some c.in-Some.child = rw (← c.depth-depth.ensures) (sym c.find.ensures ∙ c.in-Some.is) in
-    (on_way keys nodes q c.args.id c.args.start w x c.read-node.ensures.value p.0 p.1 c.in-Some.child there _ (ap (λ (z : ℕ). z + 1) c.depth-depth.ensures), (x, get_or q x.depth 0, c.read-node.ensures.value, there))
+    (on_way w c.read-node.ensures.value p.0 p.1 c.in-Some.child there _ (ap (λ (z : ℕ). z + 1) c.depth-depth.ensures), (x, get_or q x.depth 0, c.read-node.ensures.value, there))
 
 pub returns-in-None : goal.returns-in-None
 returns-in-None g c =
-    let keys = keys_in g.K.AsBytes.bytes c.args.leaves.now.pairs in
-    let nodes = at c.args.nodes.now in
     let q = c.args.query.now in
     let w = c.requires in
     let x = c.read-node.result in
     let h = c.shared_at-shared.ensures w in
-    let p = goes_past keys nodes q c.args.id c.args.start w x c.read-node.ensures.value
-    c.shared_at-shared.result.len c.shared_at-shared.result.byte h (omega (arith, c.if-shared-depth.false, c.depth-depth.ensures)) c.if-shared-query.false in
+    let p = goes_past w c.read-node.ensures.value h c.depth-depth.ensures c.if-shared-depth.false c.if-shared-query.false in
     let none : child_at x.edges (get_or q x.depth 0) ≡ None = rw (← c.depth-depth.ensures) (sym c.find.ensures ∙ c.in-None.is) in
-    rw c.depth-depth.ensures (leaves_here keys nodes q c.args.id c.args.start w x c.read-node.ensures.value p.0 p.1 none)
+    rw c.depth-depth.ensures (leaves_here w c.read-node.ensures.value p.0 p.1 none)
