@@ -1,5 +1,5 @@
 -- The nodes of four kinds: what a change of one record leaves of them.
-use Rattle.std.proofs.Common.{◌≡◌, ◌≢◌, ℕ, zero, suc, ◌+◌, ◌-◌, ◌*◌, ◌/◌, ◌%◌, ◌^◌, ◌<◌, ◌≤◌, List, length, Option, Some, None, IsSome, refl, sym, ap, subst, ◌∙◌, inl, inr, arith}
+use Rattle.std.proofs.Common.{◌≡◌, ◌≢◌, ℕ, zero, suc, ◌+◌, ◌-◌, ◌*◌, ◌/◌, ◌%◌, ◌^◌, ◌<◌, ◌≤◌, List, length, Option, Some, None, IsSome, cond, refl, sym, ap, subst, ◌∙◌, inl, inr, arith}
 use Rattle.std.specs.Option.{IsSomeAnd}
 use Rattle.std.proofs.lemmas.Bool.{cases_eq}
 use Rattle.art_kinds.specs.OneKinds.{FitsIn, IsOneKind, Rewires, Changes, Loses}
@@ -360,12 +360,12 @@ room_of {s} {v} f w {n} e {K} k b some h = by_node (at v n) refl some
         such (λ y. FitsIn (limit K) (length y.edges + 1)) (slot_at (store_of s (digit K)) w.place) x (sym (found_at f w e k) ∙ is) (fits K x q)
 
 -- where there is a node, a record is small
+pub small_live : {P : ℕ} {l : Option ℕ} {a : Store Node} → IsOneKind P l a → (i : ℕ) → IsSome (slot_at a i) → P < 2 ^ 62
+small_live {P} {l} {a} v i h =
+    let m : one (slot_at a i) ≤ used_count a = sum-least one refl a.slots i in
+    let k : one (slot_at a i) ≡ 1 = ap (λ b. cond b 1 0) h in
+    v.small (omega arith)
+
+-- the same, by what holds of the node
 pub small_in : {P : ℕ} {l : Option ℕ} {a : Store Node} → IsOneKind P l a → (i : ℕ) (R : Node → Type 0) → IsSomeAnd (slot_at a i) R → P < 2 ^ 62
-small_in {P} {l} {a} v i R h = by_slot (slot_at a i) refl h
-  where
-    by_slot : (o : Option Node) → slot_at a i ≡ o → IsSomeAnd o R → P < 2 ^ 62
-    by_slot None e z = absurd z
-    by_slot (Some x) e z =
-        let m : one (slot_at a i) ≤ used_count a = sum-least one refl a.slots i in
-        let k : one (slot_at a i) ≡ 1 = ap one e in
-        v.small (omega arith)
+small_in {P} {l} {a} v i R h = small_live v i (some_such R (slot_at a i) h)

@@ -5,11 +5,11 @@ use Rattle.art_kinds.proofs.records.inner.remove_edge.Goals as goal
 
 pub returns-clause-changes : goal.returns-clause-changes
 returns-clause-changes g c =
-    changed refl c.args.place _ c.get_mut.ensures.value c.after-store.view_is (record { depth = refl; prefix = refl; edges = c.remove.ensures })
+    changed refl c.args.place _ c.get_mut.ensures.value c.behind-store.view_is (record { depth = refl; prefix = refl; edges = c.remove.ensures })
 
 pub returns-clause-kind : goal.returns-clause-kind
 returns-clause-kind g c =
     let h = c.requires.kind.all c.args.place c.get_mut.result.now c.get_mut.ensures.value in
-    let e = ap (λ (x : Node). length x.edges) c.after-store.view_is in
+    let e = ap (λ (x : Node). length x.edges) c.behind-store.view_is in
     let s = c.remove.ensures.shorter in
     kind_written c.args.place _ c.get_mut.ensures.value c.requires.kind (fits_less g.C.Children.places _ _ (omega arith) h)

@@ -1,5 +1,41 @@
-use Rattle.art_kinds.proofs.Changes.{redirects, stands, live-same}
+use Rattle.std.proofs.Common.{Option, IsSome, rules}
+use Rattle.std.specs.Option.{IsSomeAnd}
+use Rattle.art_kinds.specs.Edges.{child_at}
+use Rattle.art_kinds.specs.Nodes.{Node}
+use Rattle.art_kinds.proofs.Changes.{holds_at, small_in, redirects, stands, live-same}
 use Rattle.art_kinds.proofs.records.nodes.Nodes.redirect.Goals as goal
+
+pub redirect-requires : goal.redirect-requires
+redirect-requires g c =
+    let R : Node → Type 0 = λ x. IsSome (child_at x.edges c.args.byte) in
+    let v = c.self.invariant.fours in
+    let there = holds_at c.self.view_is c.id.inside c.id.view_is c.in-Four.is (λ (o : Option Node). IsSomeAnd o R) c.requires in
+    let small = small_in v c.id.inside.place R there in
+    (search rules, (v, there))
+
+pub redirect-requires-in-Sixteen : goal.redirect-requires-in-Sixteen
+redirect-requires-in-Sixteen g c =
+    let R : Node → Type 0 = λ x. IsSome (child_at x.edges c.args.byte) in
+    let v = c.self.invariant.sixteens in
+    let there = holds_at c.self.view_is c.id.inside c.id.view_is c.in-Sixteen.is (λ (o : Option Node). IsSomeAnd o R) c.requires in
+    let small = small_in v c.id.inside.place R there in
+    (search rules, (v, there))
+
+pub redirect-requires-in-FortyEight : goal.redirect-requires-in-FortyEight
+redirect-requires-in-FortyEight g c =
+    let R : Node → Type 0 = λ x. IsSome (child_at x.edges c.args.byte) in
+    let v = c.self.invariant.forty_eights in
+    let there = holds_at c.self.view_is c.id.inside c.id.view_is c.in-FortyEight.is (λ (o : Option Node). IsSomeAnd o R) c.requires in
+    let small = small_in v c.id.inside.place R there in
+    (search rules, (v, there))
+
+pub redirect-requires-in-Full : goal.redirect-requires-in-Full
+redirect-requires-in-Full g c =
+    let R : Node → Type 0 = λ x. IsSome (child_at x.edges c.args.byte) in
+    let v = c.self.invariant.fulls in
+    let there = holds_at c.self.view_is c.id.inside c.id.view_is c.in-Full.is (λ (o : Option Node). IsSomeAnd o R) c.requires in
+    let small = small_in v c.id.inside.place R there in
+    (search rules, (v, there))
 
 pub returns-in-Four : goal.returns-in-Four
 returns-in-Four g c =
