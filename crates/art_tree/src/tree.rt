@@ -65,7 +65,7 @@ impl<K: AsBytes, V, const PREFIX_LEN: usize> Model for Tree<K, V, PREFIX_LEN> {
     ghost invariant = { λ t. IsSound K.bytes PREFIX_LEN t.leaves t.nodes t.root };
 }
 
-impl<K: AsBytes + Drop, V: Drop, const PREFIX_LEN: usize> Tree<K, V, PREFIX_LEN> {
+impl<K: AsBytes, V, const PREFIX_LEN: usize> Tree<K, V, PREFIX_LEN> {
     /// A tree with no pairs. Takes no memory.
     pub fn new(alloc: Global) -> Self
         ensures pairs { result.pairs ≡ [] }
@@ -156,6 +156,31 @@ impl<K: AsBytes + Drop, V: Drop, const PREFIX_LEN: usize> Tree<K, V, PREFIX_LEN>
         }
     }
 
+    /// How many inner nodes there are: one at each front where neighbouring keys part. Fewer than there are pairs where there are pairs, and none where there is one or none.
+    pub fn inner_nodes(&self) -> usize
+        ensures value { result ≡ set.len (fronts (bytes K.bytes) self.now.pairs) }
+        ensures fewer { result ≤ length self.now.pairs - 1 }
+    {
+        self.leaves.law();
+        self.nodes.live()
+    }
+
+    /// How many children the inner node at this front has, and 0 where none stands there. At most one visit more than the longest key has bytes.
+    pub fn children_at(&self, front: &[u8], visits: &mut Visits) -> usize
+        ensures value { result ≡ set.len (parts (bytes K.bytes) self.now.pairs front.now) }
+        ensures counted { visits.new.count
+            ≤ visits.old.count + longest (bytes K.bytes) self.now.pairs + 1 }
+        ensures grows { visits.old.count ≤ visits.new.count }
+    {
+        self.leaves.law();
+        match self.root {
+            None => 0,
+            Some(root) => children_below(&self.leaves, &self.nodes, &root, front, visits),
+        }
+    }
+}
+
+impl<K: AsBytes + Drop, V: Drop, const PREFIX_LEN: usize> Tree<K, V, PREFIX_LEN> {
     /// Makes room, so that a pair may be placed at the point. Refused or not, the pairs stand, and the point stays good.
     pub fn make_room(&mut self, point: &Point) -> Result<(), AllocError>
         ensures pairs { self.new.pairs ≡ self.old.pairs }
@@ -194,29 +219,6 @@ impl<K: AsBytes + Drop, V: Drop, const PREFIX_LEN: usize> Tree<K, V, PREFIX_LEN>
         );
         self.root = Some(root);
         id
-    }
-
-    /// How many inner nodes there are: one at each front where neighbouring keys part. Fewer than there are pairs where there are pairs, and none where there is one or none.
-    pub fn inner_nodes(&self) -> usize
-        ensures value { result ≡ set.len (fronts (bytes K.bytes) self.now.pairs) }
-        ensures fewer { result ≤ length self.now.pairs - 1 }
-    {
-        self.leaves.law();
-        self.nodes.live()
-    }
-
-    /// How many children the inner node at this front has, and 0 where none stands there. At most one visit more than the longest key has bytes.
-    pub fn children_at(&self, front: &[u8], visits: &mut Visits) -> usize
-        ensures value { result ≡ set.len (parts (bytes K.bytes) self.now.pairs front.now) }
-        ensures counted { visits.new.count
-            ≤ visits.old.count + longest (bytes K.bytes) self.now.pairs + 1 }
-        ensures grows { visits.old.count ≤ visits.new.count }
-    {
-        self.leaves.law();
-        match self.root {
-            None => 0,
-            Some(root) => children_below(&self.leaves, &self.nodes, &root, front, visits),
-        }
     }
 }
 

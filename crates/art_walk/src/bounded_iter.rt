@@ -48,13 +48,7 @@ impl<'a, K, V, M, const PREFIX_LEN: usize> Model for BoundedIter<'a, K, V, M, PR
     ghost view = { λ it. it.walk };
 }
 
-impl<'a, K: AsBytes + Drop, V: Drop, const PREFIX_LEN: usize> BoundedIter<
-    'a,
-    K,
-    V,
-    InRange,
-    PREFIX_LEN,
-> {
+impl<'a, K: AsBytes, V, const PREFIX_LEN: usize> BoundedIter<'a, K, V, InRange, PREFIX_LEN> {
     /// The pairs whose keys' bytes are within both bounds, which are in order where the tree has pairs.
     ///
     /// Where n is the number of bytes of the longer bound and L that of the longest key, at most 2 * (n + 2) * (L + 2) visits, and none where the tree has no pairs.
@@ -82,13 +76,7 @@ impl<'a, K: AsBytes + Drop, V: Drop, const PREFIX_LEN: usize> BoundedIter<
     }
 }
 
-impl<'a, K: AsBytes + Drop, V: Drop, const PREFIX_LEN: usize> BoundedIter<
-    'a,
-    K,
-    V,
-    BelowFront,
-    PREFIX_LEN,
-> {
+impl<'a, K: AsBytes, V, const PREFIX_LEN: usize> BoundedIter<'a, K, V, BelowFront, PREFIX_LEN> {
     /// The pairs whose keys' bytes begin with these.
     ///
     /// On n bytes, where L is the length of the longest key, at most 2 * (n + 2) * (L + 2) visits, and none where the tree has no pairs.
@@ -107,13 +95,7 @@ impl<'a, K: AsBytes + Drop, V: Drop, const PREFIX_LEN: usize> BoundedIter<
     }
 }
 
-impl<'a, K: AsBytes + Drop, V: Drop, const PREFIX_LEN: usize> BoundedIter<
-    'a,
-    K,
-    V,
-    InSubtree,
-    PREFIX_LEN,
-> {
+impl<'a, K: AsBytes, V, const PREFIX_LEN: usize> BoundedIter<'a, K, V, InSubtree, PREFIX_LEN> {
     /// The pairs from the first leaf through the last. The first does not stand after the last.
     pub fn new(tree: &'a Tree<K, V, PREFIX_LEN>, first: LeafId, last: LeafId) -> Self
         requires { IsSpan tree.now.pairs first last }

@@ -89,9 +89,7 @@ impl Cursor {
     }
 
     /// All leaves of the tree.
-    pub fn all<K: AsBytes + Drop, V: Drop, const PREFIX_LEN: usize>(
-        tree: &Tree<K, V, PREFIX_LEN>,
-    ) -> Cursor
+    pub fn all<K: AsBytes, V, const PREFIX_LEN: usize>(tree: &Tree<K, V, PREFIX_LEN>) -> Cursor
         ensures fits { FitsIn result tree.now.pairs }
         ensures left { leaves_left result tree.now.pairs ≡ tree.now.pairs }
     {
@@ -153,7 +151,7 @@ impl Cursor {
 
     /// Passes the first leaf that is left, and gives its number. One visit where there is one, and else none.
     #[inline(always)]
-    pub fn step<K: AsBytes + Drop, V: Drop, const PREFIX_LEN: usize>(
+    pub fn step<K: AsBytes, V, const PREFIX_LEN: usize>(
         &mut self,
         tree: &Tree<K, V, PREFIX_LEN>,
         visits: &mut Visits,
@@ -173,7 +171,7 @@ impl Cursor {
 
     /// Passes the last leaf that is left, and gives its number. One visit where there is one, and else none.
     #[inline(always)]
-    pub fn step_back<K: AsBytes + Drop, V: Drop, const PREFIX_LEN: usize>(
+    pub fn step_back<K: AsBytes, V, const PREFIX_LEN: usize>(
         &mut self,
         tree: &Tree<K, V, PREFIX_LEN>,
         visits: &mut Visits,

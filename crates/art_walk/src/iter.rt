@@ -28,7 +28,7 @@ impl<'a, K, V, const PREFIX_LEN: usize> Model for Iter<'a, K, V, PREFIX_LEN> {
     ghost invariant = { λ it. it.left ≡ length it.walk };
 }
 
-impl<'a, K: AsBytes + Drop, V: Drop, const PREFIX_LEN: usize> Iter<'a, K, V, PREFIX_LEN> {
+impl<'a, K: AsBytes, V, const PREFIX_LEN: usize> Iter<'a, K, V, PREFIX_LEN> {
     /// All pairs of the tree.
     pub fn new(tree: &'a Tree<K, V, PREFIX_LEN>) -> Self
         ensures { result ≡ pairs_of tree.now.pairs }

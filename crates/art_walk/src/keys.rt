@@ -24,7 +24,7 @@ impl<'a, K, V, const PREFIX_LEN: usize> Model for Keys<'a, K, V, PREFIX_LEN> {
     ghost view = { λ it. map (λ p. p.0) it.pairs };
 }
 
-impl<'a, K: AsBytes + Drop, V: Drop, const PREFIX_LEN: usize> Keys<'a, K, V, PREFIX_LEN> {
+impl<'a, K: AsBytes, V, const PREFIX_LEN: usize> Keys<'a, K, V, PREFIX_LEN> {
     /// All keys of the tree.
     pub fn new(tree: &'a Tree<K, V, PREFIX_LEN>) -> Self
         ensures { result ≡ map (λ p. p.0) (pairs_of tree.now.pairs) }

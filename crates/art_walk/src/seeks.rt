@@ -16,7 +16,7 @@ impl Cursor {
     /// The leaves whose keys' bytes are within both bounds, none where the bounds are not in order.
     ///
     /// Where n is the number of bytes of the longer bound and L that of the longest key, at most 2 * (n + 2) * (L + 2) visits, and none where the tree has no pairs.
-    pub fn range<K: AsBytes + Drop, V: Drop, const PREFIX_LEN: usize>(
+    pub fn range<K: AsBytes, V, const PREFIX_LEN: usize>(
         tree: &Tree<K, V, PREFIX_LEN>,
         start: Bound<&[u8]>,
         end: Bound<&[u8]>,
@@ -50,7 +50,7 @@ impl Cursor {
     /// The leaves whose keys' bytes begin with these.
     ///
     /// On n bytes, where L is the length of the longest key, at most 2 * (n + 2) * (L + 2) visits, and none where the tree has no pairs.
-    pub fn prefix<K: AsBytes + Drop, V: Drop, const PREFIX_LEN: usize>(
+    pub fn prefix<K: AsBytes, V, const PREFIX_LEN: usize>(
         tree: &Tree<K, V, PREFIX_LEN>,
         front: &[u8],
         visits: &mut Visits,

@@ -24,7 +24,7 @@ impl<'a, K, V, const PREFIX_LEN: usize> Model for Values<'a, K, V, PREFIX_LEN> {
     ghost view = { λ it. map (λ p. p.1) it.pairs };
 }
 
-impl<'a, K: AsBytes + Drop, V: Drop, const PREFIX_LEN: usize> Values<'a, K, V, PREFIX_LEN> {
+impl<'a, K: AsBytes, V, const PREFIX_LEN: usize> Values<'a, K, V, PREFIX_LEN> {
     /// All values of the tree.
     pub fn new(tree: &'a Tree<K, V, PREFIX_LEN>) -> Self
         ensures { result ≡ map (λ p. p.1) (pairs_of tree.now.pairs) }

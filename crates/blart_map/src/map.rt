@@ -44,7 +44,7 @@ impl<K: AsBytes, V, const PREFIX_LEN: usize> Model for TreeMap<K, V, PREFIX_LEN>
     ghost view = { λ m. m.tree.pairs };
 }
 
-impl<K: AsBytes + Drop, V: Drop> TreeMap<K, V, DEFAULT_PREFIX_LEN> {
+impl<K: AsBytes, V> TreeMap<K, V, DEFAULT_PREFIX_LEN> {
     /// A map with no pairs, of which an inner node keeps 16 bytes of its compressed prefix. Takes no memory.
     pub fn new(alloc: Global) -> Self
         ensures empty { pairs result ≡ [] }
@@ -54,7 +54,7 @@ impl<K: AsBytes + Drop, V: Drop> TreeMap<K, V, DEFAULT_PREFIX_LEN> {
     }
 }
 
-impl<K: AsBytes + Drop, V: Drop, const PREFIX_LEN: usize> TreeMap<K, V, PREFIX_LEN> {
+impl<K: AsBytes, V, const PREFIX_LEN: usize> TreeMap<K, V, PREFIX_LEN> {
     /// A map with no pairs. Takes no memory.
     #[tactic(auto, unfolding(crate::specs::Content::pairs))]
     pub fn with_prefix_len(alloc: Global) -> Self

@@ -23,7 +23,7 @@ use blart_keys::AsBytes;
 use std::iter::IntoIterator;
 use std::ops::Bound;
 
-impl<K: AsBytes + Drop, V: Drop, const PREFIX_LEN: usize> TreeMap<K, V, PREFIX_LEN> {
+impl<K: AsBytes, V, const PREFIX_LEN: usize> TreeMap<K, V, PREFIX_LEN> {
     /// The pairs, ascending by their keys' bytes, from both ends. Takes no memory; each step is one visit.
     #[tactic(auto, unfolding(crate::specs::Content::pairs))]
     pub fn iter(&self) -> Iter<'_, K, V, PREFIX_LEN>
@@ -143,8 +143,7 @@ pub(crate) fn as_bytes<Q: AsBytes>(bound: Bound<&Q>) -> Bound<&[u8]>
     }
 }
 
-impl<'a, K: AsBytes + Drop, V: Drop, const PREFIX_LEN: usize> IntoIterator
-    for &'a TreeMap<K, V, PREFIX_LEN> {
+impl<'a, K: AsBytes, V, const PREFIX_LEN: usize> IntoIterator for &'a TreeMap<K, V, PREFIX_LEN> {
     type Item = (&'a K, &'a V);
 
     type IntoIter = Iter<'a, K, V, PREFIX_LEN>;

@@ -13,7 +13,7 @@ use art_tree::Visits;
 use blart_keys::AsBytes;
 use std::ops::Index;
 
-impl<K: AsBytes + Drop, V: Drop, const PREFIX_LEN: usize> TreeMap<K, V, PREFIX_LEN> {
+impl<K: AsBytes, V, const PREFIX_LEN: usize> TreeMap<K, V, PREFIX_LEN> {
     /// The value of the key with the query's bytes, to be written. No other value changes, and no key.
     ///
     /// ```
@@ -56,7 +56,7 @@ impl<K: AsBytes + Drop, V: Drop, const PREFIX_LEN: usize> TreeMap<K, V, PREFIX_L
     }
 }
 
-impl<'a, K: AsBytes + Drop, V: Drop, Q: AsBytes, const PREFIX_LEN: usize> Index<&'a Q>
+impl<'a, K: AsBytes, V, Q: AsBytes, const PREFIX_LEN: usize> Index<&'a Q>
     for TreeMap<K, V, PREFIX_LEN> {
     type Output = V;
 

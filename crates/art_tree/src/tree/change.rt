@@ -47,7 +47,9 @@ impl<K: AsBytes + Drop, V: Drop, const PREFIX_LEN: usize> Tree<K, V, PREFIX_LEN>
         self.leaves.reserve(count)?;
         self.nodes.reserve(count)
     }
+}
 
+impl<K: AsBytes, V, const PREFIX_LEN: usize> Tree<K, V, PREFIX_LEN> {
     /// The key of a leaf, and its value to be written.
     pub fn leaf_mut(&mut self, id: LeafId) -> (&K, &mut V)
         requires { Has self.old.pairs id }

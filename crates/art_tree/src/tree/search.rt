@@ -17,7 +17,7 @@ use art_rows::Leaves;
 use art_slots::{LeafId, Visits};
 use blart_keys::AsBytes;
 
-impl<K: AsBytes + Drop, V: Drop, const PREFIX_LEN: usize> Tree<K, V, PREFIX_LEN> {
+impl<K: AsBytes, V, const PREFIX_LEN: usize> Tree<K, V, PREFIX_LEN> {
     /// The pair with these bytes, and its leaf. On n bytes at most n + 1 visits, and none where the tree has no pairs.
     pub fn get(&self, query: &[u8], visits: &mut Visits) -> Option<(LeafId, &K, &V)>
         ensures found { option_map (λ f. (f.0, (f.1.now, f.2.now))) result

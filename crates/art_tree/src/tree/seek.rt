@@ -20,7 +20,7 @@ use art_slots::{LeafId, Visits};
 use blart_keys::AsBytes;
 use std::ops::Bound;
 
-impl<K: AsBytes + Drop, V: Drop, const PREFIX_LEN: usize> Tree<K, V, PREFIX_LEN> {
+impl<K: AsBytes, V, const PREFIX_LEN: usize> Tree<K, V, PREFIX_LEN> {
     /// The first leaf within a start bound, or the last within an end bound. Where the bound has n bytes (0 where it is unbounded) and L is the length of the longest key, at most (n + 2) * (L + 1) + 1 visits, and none where the tree has no pairs.
     pub fn seek(&self, bound: Bound<&[u8]>, is_start: bool, visits: &mut Visits) -> Option<LeafId>
         ensures found { result

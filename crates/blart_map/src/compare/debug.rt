@@ -3,8 +3,7 @@ use crate::map::TreeMap;
 use blart_keys::AsBytes;
 use std::fmt::{Debug, Formatter, Result, Write};
 
-impl<K: AsBytes + Debug + Drop, V: Debug + Drop, const PREFIX_LEN: usize> Debug
-    for TreeMap<K, V, PREFIX_LEN> {
+impl<K: AsBytes + Debug, V: Debug, const PREFIX_LEN: usize> Debug for TreeMap<K, V, PREFIX_LEN> {
     /// The pairs between braces, each as its key, a colon and its value, ascending by the keys' bytes.
     ///
     /// ```

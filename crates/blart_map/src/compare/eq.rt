@@ -10,7 +10,7 @@ use blart_keys::AsBytes;
 use std::cmp::{Eq, PartialEq};
 use std::iter::Iterator;
 
-impl<K: AsBytes + PartialEq + Drop, V: PartialEq + Drop, const PREFIX_LEN: usize> PartialEq
+impl<K: AsBytes + PartialEq, V: PartialEq, const PREFIX_LEN: usize> PartialEq
     for TreeMap<K, V, PREFIX_LEN> {
     ghost eq = { λ m n. pointwise (λ p q. K.eq p.0 q.0 && V.eq p.1 q.1) (pairs m) (pairs n) };
 
@@ -27,8 +27,7 @@ impl<K: AsBytes + PartialEq + Drop, V: PartialEq + Drop, const PREFIX_LEN: usize
     }
 }
 
-impl<K: AsBytes + Eq + Drop, V: Eq + Drop, const PREFIX_LEN: usize> Eq
-    for TreeMap<K, V, PREFIX_LEN> {
+impl<K: AsBytes + Eq, V: Eq, const PREFIX_LEN: usize> Eq for TreeMap<K, V, PREFIX_LEN> {
     ghost laws = { on_equiv (λ m. pairs m)
         (lists_equiv (and_equiv (on_equiv (λ p. p.0) K.Eq.laws) (on_equiv (λ p. p.1) V.Eq.laws))) };
 }

@@ -11,8 +11,7 @@ use blart_keys::AsBytes;
 use std::hash::{Hash, Hasher};
 use std::iter::Iterator;
 
-impl<K: AsBytes + Hash + Drop, V: Hash + Drop, const PREFIX_LEN: usize> Hash
-    for TreeMap<K, V, PREFIX_LEN> {
+impl<K: AsBytes + Hash, V: Hash, const PREFIX_LEN: usize> Hash for TreeMap<K, V, PREFIX_LEN> {
     ghost hash_input = { λ m. fed.slice (λ p. K.hash_input p.0 ++ V.hash_input p.1) (pairs m) };
 
     ghost respects_eq = { (on_Alike (λ m. pairs m)

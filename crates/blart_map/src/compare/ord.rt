@@ -11,7 +11,7 @@ use blart_keys::AsBytes;
 use std::cmp::{Ord, Ordering, PartialOrd};
 use std::iter::Iterator;
 
-impl<K: AsBytes + PartialOrd + Drop, V: PartialOrd + Drop, const PREFIX_LEN: usize> PartialOrd
+impl<K: AsBytes + PartialOrd, V: PartialOrd, const PREFIX_LEN: usize> PartialOrd
     for TreeMap<K, V, PREFIX_LEN> {
     ghost partial_cmp = { λ m n. slice_partial_cmp
         (λ p q. partial_ordering_then (K.partial_cmp p.0 q.0) (V.partial_cmp p.1 q.1))
@@ -26,8 +26,7 @@ impl<K: AsBytes + PartialOrd + Drop, V: PartialOrd + Drop, const PREFIX_LEN: usi
     }
 }
 
-impl<K: AsBytes + Ord + Drop, V: Ord + Drop, const PREFIX_LEN: usize> Ord
-    for TreeMap<K, V, PREFIX_LEN> {
+impl<K: AsBytes + Ord, V: Ord, const PREFIX_LEN: usize> Ord for TreeMap<K, V, PREFIX_LEN> {
     ghost cmp = { λ m n. slice_cmp
         (λ p q. ordering_then (K.cmp p.0 q.0) (V.cmp p.1 q.1)) (pairs m) (pairs n) };
 
