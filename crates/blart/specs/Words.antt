@@ -29,7 +29,7 @@ pub use Rattle.blart_map.specs.CountedWalk.{counted_left}
 pub use Rattle.blart_map.specs.TakeWalk.{take_left, LentFirst, LentLast, NoneLent}
 -- what a walk that takes leaves
 pub use Rattle.blart_map.specs.OnceTaken.{taken_all, once_taken, still_to_take, once_extracted, still_to_extract}
-pub use Rattle.blart_map.specs.ExtractIf.{extract_left, CanExtract, CanExtractBack, ExtractsFirstTrue, ExtractsNext, ExtractsNextBack}
+pub use Rattle.blart_map.specs.ExtractIf.{extract_left, CanExtract, CanExtractBack, Extraction, ExtractsFirstTrue, ExtractsNext, ExtractsNextBack}
 pub use Rattle.blart_map.specs.OnceWritten.{rewritten, all_rewritten, once_written, all_once_written}
 -- what a closure leaves that is called at each value
 pub use Rattle.blart_map.specs.EachWritten.{CalledAtEach, CallableInTurn, with_values, WritesEach, LeavesValue, TakesAtValue, LeavesPair, TakesAtPair, ActsOnValue, ActsOnPair, ActsWhere}

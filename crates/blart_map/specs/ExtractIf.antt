@@ -10,20 +10,34 @@ use Rattle.art_walk.specs.Cursor.{leaves_left}
 use Rattle.art_walk.specs.Pairs.{pairs_of}
 use Rattle.blart_map.specs.declared.walks.extract_if.ExtractIf.{ExtractIf}
 
+-- where a walk that extracts stands: the pairs of the map, the closure, and the pairs about which it may still be asked
+pub record Extraction (K V F : Type 0) : Type 0 where
+  pub map : List (Numbered K V)
+  pub closure : F
+  pub left : List (Numbered K V)
+
+-- where it stands, by these three
+abbrev pub stands_at : {K V F : Type 0} → List (Numbered K V) → F → List (Numbered K V) → Extraction K V F
+stands_at map closure left = record { map = map; closure = closure; left = left }
+
 -- the pairs that the closure may still be asked about
 abbrev pub extract_left : {K V F : Type 0} {p : ℕ} {g : Ghosts K} → ExtractIf K V F p g → List (Numbered K V)
 extract_left s = leaves_left s.cursor s.map.now
 
 module _ {K V F : Type 0} (g : Mut F (Bor K × (MutBor V × Unit {0})) (Bool × (MutBor V × Unit {0}))) where
-  -- In the state f the closure was asked of each of these pairs of the map once, in turn, up to the first at which it answered true.
-  -- That one is the result, as it was left, and has left the map; each before it stays with its value as it was left; the rest was not asked
-  abbrev pub ExtractsFirstTrue : List (Numbered K V) → F → List (Numbered K V) → Option (K × V) → List (Numbered K V) → F → List (Numbered K V) → Type 0
-  ExtractsFirstTrue S f [] result S' f' rest = (result ≡ None) × (S' ≡ S) × (f' ≡ f) × (rest ≡ [])
-  ExtractsFirstTrue S f (p ∷ coming) result S' f' rest =
-      (answer : Bool) × (w : V) × (h : F) × (leaf_in S p.0 ≡ Some p.1) × CalledAtPair g f p.1.0 p.1.1 answer w h
+  -- of a map with these pairs a closure in this state was asked of each that comes, as said below
+  abbrev pub asked_from : List (Numbered K V) → F → List (Numbered K V) → Option (K × V) → Extraction K V F → Type 0
+  asked_from map f [] result t = (result ≡ None) × (t.map ≡ map) × (t.closure ≡ f) × (t.left ≡ [])
+  asked_from map f (p ∷ coming) result t =
+      (answer : Bool) × (w : V) × (h : F) × (leaf_in map p.0 ≡ Some p.1) × CalledAtPair g f p.1.0 p.1.1 answer w h
       × MatchBool answer
-      ((result ≡ Some (p.1.0, w)) × (S' ≡ without_number S p.0) × (f' ≡ h) × (rest ≡ coming))
-      (ExtractsFirstTrue (with_value S p.0 w) h coming result S' f' rest)
+      ((result ≡ Some (p.1.0, w)) × (t.map ≡ without_number map p.0) × (t.closure ≡ h) × (t.left ≡ coming))
+      (asked_from (with_value map p.0 w) h coming result t)
+
+  -- The closure was asked of each of the pairs left once, in turn, up to the first at which it answered true.
+  -- That one is the result, as it was left, and has left the map; each before it stays with its value as it was left; the rest was not asked
+  abbrev pub ExtractsFirstTrue : Extraction K V F → Option (K × V) → Extraction K V F → Type 0
+  ExtractsFirstTrue s result t = asked_from s.map s.closure s.left result t
 
   module _ {p : ℕ} {k : Ghosts K} where
     -- the closure may be called on each pair that is left, from the first on
@@ -36,8 +50,8 @@ module _ {K V F : Type 0} (g : Mut F (Bor K × (MutBor V × Unit {0})) (Bool × 
 
     -- one `next`
     abbrev pub ExtractsNext : ExtractIf K V F p k → Option (K × V) → ExtractIf K V F p k → Type 0
-    ExtractsNext s result t = (t.map.ghost_name ≡ s.map.ghost_name) × ExtractsFirstTrue s.map.now s.pred (extract_left s) result t.map.now t.pred (extract_left t)
+    ExtractsNext s result t = (t.map.ghost_name ≡ s.map.ghost_name) × ExtractsFirstTrue (stands_at s.map.now s.pred (extract_left s)) result (stands_at t.map.now t.pred (extract_left t))
 
     -- one `next_back`, which asks from the last pair on
     abbrev pub ExtractsNextBack : ExtractIf K V F p k → Option (K × V) → ExtractIf K V F p k → Type 0
-    ExtractsNextBack s result t = (t.map.ghost_name ≡ s.map.ghost_name) × ExtractsFirstTrue s.map.now s.pred (reverse (extract_left s)) result t.map.now t.pred (reverse (extract_left t))
+    ExtractsNextBack s result t = (t.map.ghost_name ≡ s.map.ghost_name) × ExtractsFirstTrue (stands_at s.map.now s.pred (reverse (extract_left s))) result (stands_at t.map.now t.pred (reverse (extract_left t)))

@@ -14,7 +14,7 @@ use Rattle.art_walk.specs.Lent.{walk_fits, numbers}
 use Rattle.art_walk.proofs.Lending.{to_test, from_test}
 use Rattle.art_walk.proofs.Passing.{first_passed, first_named, last_passed, last_named}
 use Rattle.art_walk.proofs.Asking.{written_fits, written_left, removed_fits, removed_left}
-use Rattle.blart_map.specs.ExtractIf.{ExtractsFirstTrue}
+use Rattle.blart_map.specs.ExtractIf.{ExtractsFirstTrue, stands_at}
 
 pub le_eq : (a b : ℕ) → a ≡ b → a ≤ b
 le_eq a b e = omega arith
@@ -114,8 +114,8 @@ module _ {K V F : Type 0} (g : Mut F (Bor K × (MutBor V × Unit {0})) (Bool × 
   called_at f key value left b f' m = record { key = key; value = value; shows = (refl, refl); left = left; called = m; leaves = refl }
 
   module _ (S : List (Numbered K V)) (f : F) (n : ℕ) (k : K) (v w : V) (b : Bool) (h : F) (xs ps : List (Numbered K V)) (e : xs ≡ (n, (k, v)) ∷ ps) (m : CalledAtPair g f k v b w h) (named : leaf_in S n ≡ Some (k, v)) where
-    pub extracts_true : (r : Option (K × V)) (S' left : List (Numbered K V)) → b ≡ true → r ≡ Some (k, w) → S' ≡ without_number S n → left ≡ ps → ExtractsFirstTrue g S f xs r S' h left
-    extracts_true r S' left t p q l = subst (λ ys. ExtractsFirstTrue g S f ys r S' h left) (sym e) (b, w, h, named, m, rw t (p, q, refl, l))
+    pub extracts_true : (r : Option (K × V)) (S' left : List (Numbered K V)) → b ≡ true → r ≡ Some (k, w) → S' ≡ without_number S n → left ≡ ps → ExtractsFirstTrue g (stands_at S f xs) r (stands_at S' h left)
+    extracts_true r S' left t p q l = subst (λ ys. ExtractsFirstTrue g (stands_at S f ys) r (stands_at S' h left)) (sym e) (b, w, h, named, m, rw t (p, q, refl, l))
 
-    pub extracts_false : (r : Option (K × V)) (S' : List (Numbered K V)) (f' : F) (left : List (Numbered K V)) → b ≡ false → ExtractsFirstTrue g (with_value S n w) h ps r S' f' left → ExtractsFirstTrue g S f xs r S' f' left
-    extracts_false r S' f' left t a = subst (λ ys. ExtractsFirstTrue g S f ys r S' f' left) (sym e) (b, w, h, named, m, rw t a)
+    pub extracts_false : (r : Option (K × V)) (S' : List (Numbered K V)) (f' : F) (left : List (Numbered K V)) → b ≡ false → ExtractsFirstTrue g (stands_at (with_value S n w) h ps) r (stands_at S' f' left) → ExtractsFirstTrue g (stands_at S f xs) r (stands_at S' f' left)
+    extracts_false r S' f' left t a = subst (λ ys. ExtractsFirstTrue g (stands_at S f ys) r (stands_at S' f' left)) (sym e) (b, w, h, named, m, rw t a)

@@ -14,7 +14,7 @@ use Rattle.art_tree.specs.Leaves.{Numbered, leaf_in, with_value, without_number}
 use Rattle.art_walk.specs.Pairs.{pairs_of}
 use Rattle.blart_map.specs.Content.{pairs}
 use Rattle.blart_map.specs.declared.walks.extract_if.ExtractIf.{ExtractIf}
-use Rattle.blart_map.specs.ExtractIf.{extract_left, ExtractsFirstTrue, ExtractsNext}
+use Rattle.blart_map.specs.ExtractIf.{extract_left, ExtractsFirstTrue, stands_at, ExtractsNext}
 use Rattle.blart_map.specs.OnceTaken.{taken_all, once_extracted, still_to_extract}
 use Rattle.blart_map.proofs.Numbers.{cut_at, cut_pairs, left_pairs}
 use Rattle.blart_map.proofs.Taken.OnceTaken.{same_value}
@@ -35,8 +35,8 @@ module _ {K V F : Type 0} (g : Mut F (Bor K × (MutBor V × Unit {0})) (Bool × 
 
   -- the first pair is asked of
   module _ (p : Numbered K V) (coming S : List (Numbered K V)) (r : Option (K × V)) (S' : List (Numbered K V)) (f' : F) (rest : List (Numbered K V)) (w : V) (h : F) (same : w ≡ p.1.1) (named : leaf_in S p.0 ≡ Some p.1) (after : I h)
-      (goes : ExtractsFirstTrue g S h coming r S' f' rest → Steps S coming r S' f' rest) where
-    asked : (b : Bool) → b ≡ test p.1 → MatchBool b ((r ≡ Some (p.1.0, w)) × (S' ≡ without_number S p.0) × (f' ≡ h) × (rest ≡ coming)) (ExtractsFirstTrue g (with_value S p.0 w) h coming r S' f' rest) → Steps S (p ∷ coming) r S' f' rest
+      (goes : ExtractsFirstTrue g (stands_at S h coming) r (stands_at S' f' rest) → Steps S coming r S' f' rest) where
+    asked : (b : Bool) → b ≡ test p.1 → MatchBool b ((r ≡ Some (p.1.0, w)) × (S' ≡ without_number S p.0) × (f' ≡ h) × (rest ≡ coming)) (ExtractsFirstTrue g (stands_at (with_value S p.0 w) h coming) r (stands_at S' f' rest)) → Steps S (p ∷ coming) r S' f' rest
     asked true e m =
         let others = filter test (pairs_of coming) in (
           ap (λ l. taken_all test l S') m.3 ∙ ap (taken_all test coming) m.1 ∙ ap (λ b. taken_all test coming (cond b (without_number S p.0) S)) e,
@@ -48,14 +48,14 @@ module _ {K V F : Type 0} (g : Mut F (Bor K × (MutBor V × Unit {0})) (Bool × 
     asked false e m =
         let others = filter test (pairs_of coming) in
         let whole : with_value S p.0 w ≡ S = ap (with_value S p.0) same ∙ same_value test S p.0 p.1.0 p.1.1 named in
-        let ih = goes (subst (λ (T : List (Numbered K V)). ExtractsFirstTrue g T h coming r S' f' rest) whole m) in (
+        let ih = goes (subst (λ (T : List (Numbered K V)). ExtractsFirstTrue g (stands_at T h coming) r (stands_at S' f' rest)) whole m) in (
           ih.0 ∙ ap (λ b. taken_all test coming (cond b (without_number S p.0) S)) e,
           subst (λ (l : List (K × V)). TakesFirst l r (filter test (pairs_of rest))) (ap (λ b. cond b (p.1 ∷ others) others) e) ih.1,
           ih.2,
           ih.3,
         )
 
-  steps : (coming S : List (Numbered K V)) (f : F) (r : Option (K × V)) (S' : List (Numbered K V)) (f' : F) (rest : List (Numbered K V)) → I f → ExtractsFirstTrue g S f coming r S' f' rest → Steps S coming r S' f' rest
+  steps : (coming S : List (Numbered K V)) (f : F) (r : Option (K × V)) (S' : List (Numbered K V)) (f' : F) (rest : List (Numbered K V)) → I f → ExtractsFirstTrue g (stands_at S f coming) r (stands_at S' f' rest) → Steps S coming r S' f' rest
   steps [] S f r S' f' rest i a = (
     ap (λ l. taken_all test l S') a.3 ∙ a.1,
     subst (λ (r : Option (K × V)). TakesFirst [] r (filter test (pairs_of rest))) (sym a.0) (refl, ap (λ (l : List (Numbered K V)). filter test (pairs_of l)) a.3),

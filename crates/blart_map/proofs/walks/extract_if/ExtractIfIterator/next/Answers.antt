@@ -4,7 +4,7 @@ use Rattle.art_walk.specs.Cursor.{leaves_left}
 use Rattle.art_walk.specs.Pairs.{pairs_of}
 use Rattle.art_walk.proofs.Callable.{callable_first, callable_others}
 use Rattle.art_walk.proofs.Lending.{from_test, moved_first}
-use Rattle.blart_map.specs.ExtractIf.{ExtractsFirstTrue}
+use Rattle.blart_map.specs.ExtractIf.{ExtractsFirstTrue, stands_at}
 use Rattle.blart_map.proofs.Taken.Extracting.{le_eq, le_step, lt_step, has_with, is_removed, is_result, distinct_with, front_splits, front_fewer, front_same, front_test, front_same_removed, front_test_removed, called_at, extracts_true, extracts_false}
 use Rattle.blart_map.proofs.walks.extract_if.ExtractIfIterator.next.Goals as goal
 
@@ -69,5 +69,5 @@ loop-id-preserved g c =
       c.loop-id.invariant.1,
       distinct_with at.map.now c.loop-id.invariant.2 at.cursor c.step.new.cursor at.fits c.in-Some.ensures.fits c.in-Some.id c.leaf_mut-value.result.0.now c.leaf_mut-value.result.1.now c.pred.new.arg3 c.leaf_mut-value.ensures.value,
       le_step _ _ _ (ap suc (ap length same) ∙ front_fewer at.map.now c.loop-id.invariant.2 at.cursor c.step.new.cursor at.fits c.in-Some.ensures.fits c.in-Some.id c.leaf_mut-value.result.0.now c.leaf_mut-value.result.1.now c.pred.new.arg3 c.leaf_mut-value.ensures.value c.in-Some.ensures.passes) c.loop-id.invariant.3,
-      λ r S' f' rest a. c.loop-id.invariant.4 r S' f' rest (extracts_false g.F.FnMut at.map.now at.pred c.in-Some.id c.leaf_mut-value.result.0.now c.leaf_mut-value.result.1.now c.pred.new.arg3 c.pred.result c.pred.new.self (leaves_left at.cursor at.map.now) (leaves_left c.step.new.cursor at.map.now) (front_splits at.map.now c.loop-id.invariant.2 at.cursor c.step.new.cursor at.fits c.in-Some.ensures.fits c.in-Some.id c.leaf_mut-value.result.0.now c.leaf_mut-value.result.1.now c.pred.new.arg3 c.leaf_mut-value.ensures.value c.in-Some.ensures.passes) called c.leaf_mut-value.ensures.value r S' f' rest c.if-pred.false (subst (λ (l : List (Numbered g.row.K.Denot g.row.V.Denot)). ExtractsFirstTrue g.F.FnMut (with_value at.map.now c.in-Some.id c.pred.new.arg3) c.pred.new.self l r S' f' rest) same a)),
+      λ r S' f' rest a. c.loop-id.invariant.4 r S' f' rest (extracts_false g.F.FnMut at.map.now at.pred c.in-Some.id c.leaf_mut-value.result.0.now c.leaf_mut-value.result.1.now c.pred.new.arg3 c.pred.result c.pred.new.self (leaves_left at.cursor at.map.now) (leaves_left c.step.new.cursor at.map.now) (front_splits at.map.now c.loop-id.invariant.2 at.cursor c.step.new.cursor at.fits c.in-Some.ensures.fits c.in-Some.id c.leaf_mut-value.result.0.now c.leaf_mut-value.result.1.now c.pred.new.arg3 c.leaf_mut-value.ensures.value c.in-Some.ensures.passes) called c.leaf_mut-value.ensures.value r S' f' rest c.if-pred.false (subst (λ (l : List (Numbered g.row.K.Denot g.row.V.Denot)). ExtractsFirstTrue g.F.FnMut (stands_at (with_value at.map.now c.in-Some.id c.pred.new.arg3) c.pred.new.self l) r (stands_at S' f' rest)) same a)),
     )
