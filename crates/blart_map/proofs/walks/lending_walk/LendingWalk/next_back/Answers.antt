@@ -23,16 +23,7 @@ invariant_of-self-lent g c w =
 pub returns : goal.returns
 returns g c =
     let s = c.args.self.now in
-    let ps = s.map.now in
-    let id = c.in_ok-id.id in
-    let v = c.value_mut.result.now in (
-      (
-        refl,
-        λ w. at_some _ c.value_mut.result (
-          refl,
-          is_lent_last ps c.step_back.ensures.distinct s.cursor c.step_back.new.cursor s.lent s.fits c.in_ok-id.ensures.fits id v c.value_mut.ensures.value c.in_ok-id.ensures.passes w,
-        ),
-        never_none _ c.value_mut.result,
-      ),
+    let lent = is_lent_last s.map.now c.step_back.ensures.distinct s.cursor c.step_back.new.cursor s.lent s.fits c.in_ok-id.ensures.fits c.in_ok-id.id c.value_mut.result.now c.value_mut.ensures.value c.in_ok-id.ensures.passes in (
+      (refl, λ w. at_some _ c.value_mut.result (refl, lent w), never_none _ c.value_mut.result),
       record { writes_back = tt; end = tt },
     )
