@@ -234,7 +234,8 @@ fn add_at_node<const P: usize>(
         (Spot.Node above.now node.now) leaf.now.key.now leaf.now.nearest.now leaf.now.depth }
     requires fits { 0 < room nodes.old }
     ensures gains { TreeGains P (at nodes.old) (at nodes.new) root.now result
-        (Spot.Node above.now node.now) leaf.now.key.now leaf.now.nearest.now leaf.now.depth leaf.now.id }
+        (Spot.Node above.now node.now) leaf.now.key.now leaf.now.nearest.now leaf.now.depth
+        leaf.now.id }
     ensures room { room nodes.old ≤ room nodes.new + 1 }
 {
     let wide = nodes.widen(*node);
@@ -255,7 +256,8 @@ fn add_at_edge<const P: usize>(
         (Spot.Edge above.now child.now) leaf.now.key.now leaf.now.nearest.now leaf.now.depth }
     requires fits { FitsNew nodes.old }
     ensures gains { TreeGains P (at nodes.old) (at nodes.new) root.now result
-        (Spot.Edge above.now child.now) leaf.now.key.now leaf.now.nearest.now leaf.now.depth leaf.now.id }
+        (Spot.Edge above.now child.now) leaf.now.key.now leaf.now.nearest.now leaf.now.depth
+        leaf.now.id }
     ensures room { room nodes.old ≤ room nodes.new + 1 }
 {
     let depth = leaf.depth;
