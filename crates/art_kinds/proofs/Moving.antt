@@ -1,13 +1,13 @@
 -- A node moves to another kind, and spare records come.
-use Rattle.std.proofs.Common.{◌≡◌, ◌≢◌, ◌≤◌, ◌<◌, ◌+◌, ◌-◌, ◌*◌, ◌/◌, ℕ, zero, suc, List, length, Some, None, refl, sym, ap, subst, ◌∙◌, arith}
+use Rattle.std.proofs.Common.{◌≡◌, ◌≢◌, ◌≤◌, ◌<◌, ◌+◌, ◌-◌, ◌*◌, ◌/◌, ◌%◌, ℕ, zero, suc, List, length, Some, None, refl, sym, ap, subst, ◌∙◌, arith}
 use Rattle.std.specs.Option.{IsSomeAnd}
 use Rattle.art_kinds.specs.OneKinds.{AllFit, Loses, Gains, Grows}
 use Rattle.art_kinds.specs.Nodes.{Node, Nodes, store_of, at, live, room, grown, floor, places, takes, serves, HasPlace, Lowers, SameNodes, Renames}
-use Rattle.art_kinds.specs.Numbers.{number, digit, digit-lt}
+use Rattle.art_kinds.specs.Numbers.{digit, digit-lt}
 use Rattle.art_kinds.specs.declared.records.ids.Edge.{Edge}
 use Rattle.art_kinds.specs.declared.records.ids.Kind.{Kind}
 use Rattle.art_kinds.specs.declared.records.ids.Kind.TheVariants.{Four}
-use Rattle.art_slots.specs.Store.{Store, slot_at, used_count}
+use Rattle.art_slots.specs.Store.{Store, slot_at, used_count, SameRecords}
 use Rattle.art_kinds.proofs.Changes.{put, put-on, put-off, put-live, holds_of}
 use Rattle.art_kinds.proofs.Growing.{moves, grows, makes-room, has_place, kept_nodes, kept_spares, enough}
 use Rattle.art_kinds.proofs.Rooms.{grown-most, room-more}
@@ -133,3 +133,13 @@ enough_for d dl a m n l r e fit few many up =
     let most = grown-most (floor d) p a (λ i x q. (let h : length x.edges ≤ places d = fit i x q in omega (arith, h, floor-places d dl))) in
     let g : grown (floor d) a ≤ p * l = subst (λ z. grown (floor d) a ≤ p * z) (sym e) most in
     enough d dl n l (grown (floor d) a) m g (λ h. (let q = few h in omega arith)) (λ h. (let q = many h in omega arith))
+
+-- stores with the same records have the same nodes
+pub same_nodes : {s v : Nodes} (f : s ≡ v) (a b c d : Store Node) → SameRecords s.fours a → SameRecords s.sixteens b → SameRecords s.forty_eights c → SameRecords s.fulls d → SameNodes v (record { fours = a; sixteens = b; forty_eights = c; fulls = d })
+same_nodes {s} f a b c d h0 h1 h2 h3 j = of_kind (j % 4) (j / 4) ∙ ap (λ (z : Nodes). at z j) f
+  where
+    of_kind : (k : ℕ) → SameRecords (store_of s k) (store_of (record { fours = a; sixteens = b; forty_eights = c; fulls = d }) k)
+    of_kind zero = h0
+    of_kind (suc zero) = h1
+    of_kind (suc (suc zero)) = h2
+    of_kind (suc (suc (suc k))) = h3

@@ -11,3 +11,5 @@ pub use Rattle.art_rows.proofs.NumbersLemmas.{length-without_number, AreDistinct
 pub use Rattle.art_rows.proofs.NumbersLemmas.{leaf_in-with_now, others-with_pair}
 -- lists of the same numbers
 pub use Rattle.art_rows.proofs.NumbersLemmas.{same_first, same_last, same_distinct}
+-- copies
+pub use Rattle.art_rows.proofs.Copies.{numbers-copies}

@@ -1,4 +1,5 @@
 pub mod CallerLemmas
+pub mod Copies
 pub mod NumbersLemmas
 pub mod LinksLemmas
 pub mod RowEdits

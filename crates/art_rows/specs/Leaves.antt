@@ -1,6 +1,7 @@
 -- What a contract sees of leaves in rows.
-use Rattle.std.specs.Prelude.{◌+◌, ℕ, min, List, [], ◌∷◌, map, Option, Some, None, refl, if◌then◌else◌, eqb}
+use Rattle.std.specs.Prelude.{◌≡◌, ◌+◌, ℕ, min, List, [], ◌∷◌, map, Option, Some, None, refl, if◌then◌else◌, eqb}
 use Rattle.std.specs.Coded.{Coded, code_by, coded×, coded_ℕ, coded_list}
+use Rattle.std.specs.List.{AllZip}
 use Rattle.art_rows.specs.Numbers.{Numbered}
 use Rattle.art_rows.specs.Rows.{place_in, row_room}
 
@@ -38,3 +39,14 @@ module _ {K V : Type 0} where
   abbrev pub with_value : List (Numbered (K × V)) → ℕ → V → List (Numbered (K × V))
   with_value [] i v = []
   with_value (p ∷ ps) i v = if eqb p.0 i then (p.0, (p.1.0, v)) ∷ ps else p ∷ with_value ps i v
+
+module _ {K V : Type 0} (is_key : K → K → Type 0) (is_value : V → V → Type 0) where
+  -- the same number, with a clone of the key and one of the value
+  pub record IsCopy (old new : Numbered (K × V)) : Type 0 where
+    pub number : new.0 ≡ old.0
+    pub key : is_key old.1.0 new.1.0
+    pub value : is_value old.1.1 new.1.1
+
+  -- pair by pair a copy
+  abbrev pub AreClones : List (Numbered (K × V)) → List (Numbered (K × V)) → Type 0
+  AreClones ps qs = AllZip IsCopy ps qs

@@ -1,6 +1,6 @@
 -- Rows of numbers: which row has a number, at which place, and the numbers of all rows in order.
 use Rattle.std.specs.Prelude.{◌≡◌, ◌≤◌, ℕ, zero, suc, ◌+◌, ◌-◌, ◌*◌, ◌<◌, min, max, List, [], ◌∷◌, ◌++◌, length, map, Option, option_map, Some, None, Bool, true, false, if◌then◌else◌, eqb, ltb}
-use Rattle.art_rows.specs.Numbers.{Numbered, leaf_in, AreDistinct}
+use Rattle.art_rows.specs.Numbers.{Numbered, AreDistinct}
 use Rattle.art_rows.specs.declared.following.Following.{Following}
 use Rattle.art_rows.specs.declared.row.Position.{Position}
 use Rattle.art_rows.specs.declared.row.TheConstants.{HALF}

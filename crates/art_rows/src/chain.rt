@@ -1,11 +1,12 @@
 //! Records in a chain: each is under a number, and linked to its neighbours.
-ghost use Rattle.std.specs.Prelude.{◌≡◌, ◌+◌, ◌<◌, ◌≤◌, ℕ, [], length, option_map, Some, None, IsSome, IfSome, OnOk, OnErr};
+ghost use Rattle.std.specs.Prelude.{◌≡◌, ◌+◌, ◌<◌, ◌≤◌, ℕ, [], length, option_map, Some, None, IsSome, IfSome, OnOk, IfOk, OnErr};
 ghost use Rattle.std.specs.Borrow.{sem};
 ghost use Rattle.art_slots.specs.Store.{slot_at, used_count};
 ghost use Rattle.art_rows.specs.Numbers.{leaf_in, Has, AreDistinct, first_number, last_number, number_after, number_before, with_pair_after, without_number};
 ghost use Rattle.art_rows.specs.Links.{with_next, with_prev, end_with};
 ghost use Rattle.art_rows.specs.ChainLends.{lends_item, lends_at};
 
+use crate::row::Row;
 use art_slots::Store;
 use std::alloc::{AllocError, Global};
 use std::marker::Model;
@@ -24,6 +25,18 @@ impl<T> Link<T> {
         ensures item { result.now ≡ self.old.item }
     {
         &mut self.item
+    }
+}
+
+impl Clone for Link<Row> {
+    ghost is_clone = { λ x y. y ≡ x };
+
+    fn clone(&self) -> Result<Self, AllocError> {
+        Ok(Link {
+            item: self.item.copy(),
+            prev: self.prev,
+            next: self.next,
+        })
     }
 }
 
@@ -84,6 +97,19 @@ fn set_prev<T>(
     match at {
         None => *last = to,
         Some(id) => records.get_mut(id).prev = to,
+    }
+}
+
+impl Chain<Row> {
+    /// The same rows under the same numbers.
+    pub(crate) fn clone(&self) -> Result<Self, AllocError>
+        ensures same { IfOk result (λ copy. copy.pairs ≡ self.now.pairs) }
+    {
+        Ok(Chain {
+            records: self.records.clone()?,
+            first: self.first,
+            last: self.last,
+        })
     }
 }
 

@@ -1,10 +1,10 @@
 //! The leaf records, in rows in the order of their keys.
-ghost use Rattle.std.specs.Prelude.{◌≡◌, ◌≢◌, ◌+◌, ◌-◌, ◌<◌, ◌≤◌, ◌++◌, ◌⊎◌, ℕ, [], ◌∷◌, length, map, option_map, take, drop, Some, None, IsSome, IfSome, IfNone, true, OnOk, OnErr};
+ghost use Rattle.std.specs.Prelude.{◌≡◌, ◌≢◌, ◌+◌, ◌-◌, ◌<◌, ◌≤◌, ◌++◌, ◌⊎◌, ℕ, [], ◌∷◌, length, map, option_map, take, drop, Some, None, IsSome, IfSome, IfNone, true, OnOk, IfOk, OnErr};
 ghost use Rattle.art_slots.specs.Store.{slot_at, used_count};
 ghost use Rattle.art_rows.specs.Numbers.{leaf_in, Has, AreDistinct, first_number, last_number, number_after, number_before, with_pair_after, without_number, with_pair};
 ghost use Rattle.art_rows.specs.Rows.{position_at, nth, numbers, IsSpot, IsSplit, row_end, row_room, row_start, among, RunsBefore, StandsAfter};
 ghost use Rattle.art_rows.specs.declared.row.Position.{Position};
-ghost use Rattle.art_rows.specs.Leaves.{index_of, room, spot_index};
+ghost use Rattle.art_rows.specs.Leaves.{index_of, room, spot_index, AreClones};
 ghost use Rattle.art_rows.specs.Filing.{in_row};
 ghost use Rattle.art_rows.specs.LeafLends.{lends_value, lends_leaf};
 ghost use Rattle.std.specs.Borrow.{sem};
@@ -32,6 +32,18 @@ impl<K, V> Leaf<K, V> {
         ensures value { result.1.now ≡ self.old.value }
     {
         (&self.key, &mut self.value)
+    }
+}
+
+impl<K: Clone, V: Clone> Clone for Leaf<K, V> {
+    ghost is_clone = { λ x y. K.is_clone x.key y.key × V.is_clone x.value y.value × (y.row ≡ x.row) };
+
+    fn clone(&self) -> Result<Self, AllocError> {
+        Ok(Leaf {
+            key: self.key.clone()?,
+            value: self.value.clone()?,
+            row: self.row,
+        })
     }
 }
 
@@ -447,6 +459,18 @@ fn take_out(rows: &mut Chain<Row>, position: Position)
         let _ = rows.remove(position.row);
     } else {
         rows.get_mut(position.row).remove(position.place);
+    }
+}
+
+impl<K: Clone, V: Clone> Leaves<K, V> {
+    /// The leaves under the same numbers, with a clone of each key and value.
+    pub fn clone(&self) -> Result<Self, AllocError>
+        ensures cloned { IfOk result (λ copy. AreClones K.is_clone V.is_clone self.now.pairs copy.pairs) }
+    {
+        Ok(Leaves {
+            records: self.records.clone()?,
+            rows: self.rows.clone()?,
+        })
     }
 }
 

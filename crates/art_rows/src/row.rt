@@ -60,6 +60,16 @@ impl Row {
         }
     }
 
+    /// The same numbers.
+    pub(crate) fn copy(&self) -> Row
+        ensures { result ≡ self.now }
+    {
+        Row {
+            count: self.count,
+            ids: self.ids,
+        }
+    }
+
     /// How many numbers there are.
     pub(crate) fn len(&self) -> usize
         ensures len { result ≡ length self.now }

@@ -1,3 +1,4 @@
 pub mod CallerLemmas
+pub mod Copies
 pub mod StoreSlots
 pub mod Walks

@@ -10,6 +10,11 @@ module _ {T : Type 0} where
   used_of (Some (Used x)) = Some x
   used_of (Some (Spare _)) = None
 
+  -- the second slot is as the first, with a clone of its record
+  abbrev pub IsCopy : (T → T → Type 0) → Slot T → Slot T → Type 0
+  IsCopy is_clone (Used x) copy = (y : T) × (copy ≡ Used y) × is_clone x y
+  IsCopy is_clone (Spare next) copy = copy ≡ Spare next
+
   -- from this number on, so many spare slots each name the next, and the last names none
   abbrev pub AreLinked : List (Option (Slot T)) → ℕ → Option ℕ → Type 0
   AreLinked slots zero from = from ≡ None

@@ -1,6 +1,6 @@
 //! The slots of a store: the records and the spare slots, in a slab.
-ghost use Rattle.std.specs.Prelude.{◌≡◌, ◌≢◌, ℕ, ◌+◌, ◌^◌, ◌<◌, ◌≤◌, [], option_map, Some, None, IsSome, is_some, OnOk};
-ghost use Rattle.art_slots.specs.Store.{slot_at, used_count, SameRecords};
+ghost use Rattle.std.specs.Prelude.{◌≡◌, ◌≢◌, ℕ, ◌+◌, ◌^◌, ◌<◌, ◌≤◌, [], option_map, Some, None, IsSome, is_some, OnOk, IfOk};
+ghost use Rattle.art_slots.specs.Store.{slot_at, used_count, SameRecords, AreClones};
 ghost use Rattle.art_slots.specs.Chain.{used_of};
 ghost use Rattle.std.specs.Borrow.{Lends, sem};
 
@@ -30,6 +30,19 @@ impl<T> Slot<T> {
         match self {
             Slot::Used(record) => record,
             Slot::Spare(_) => unreachable!(),
+        }
+    }
+}
+
+impl<T: Clone> Clone for Slot<T> {
+    ghost use Rattle.art_slots.specs.Chain.{IsCopy};
+
+    ghost is_clone = { IsCopy T.is_clone };
+
+    fn clone(&self) -> Result<Self, AllocError> {
+        match self {
+            Slot::Used(record) => Ok(Slot::Used(record.clone()?)),
+            Slot::Spare(next) => Ok(Slot::Spare(*next)),
         }
     }
 }
@@ -177,6 +190,21 @@ impl<T> Slots<T> {
             return Err(AllocError);
         }
         Ok(())
+    }
+}
+
+impl<T: Clone> Slots<T> {
+    /// Slots with a clone of each record under its number, and the same spare ones.
+    pub fn clone(&self) -> Result<Self, AllocError>
+        ensures cloned { IfOk result (λ copy. AreClones T.is_clone self.now.store copy.store) }
+        ensures used { IfOk result (λ copy. used_count copy.store ≡ used_count self.now.store) }
+        ensures spare { IfOk result (λ copy. copy.store.spare ≡ self.now.store.spare) }
+    {
+        Ok(Slots {
+            slab: self.slab.clone()?,
+            free: self.free,
+            spare: self.spare,
+        })
     }
 }
 

@@ -1,6 +1,6 @@
 //! Records under numbers.
-ghost use Rattle.std.specs.Prelude.{◌≡◌, ◌≢◌, ℕ, ◌+◌, ◌^◌, ◌<◌, ◌≤◌, [], option_map, Some, None, IsSome, is_some, OnOk, OnErr};
-ghost use Rattle.art_slots.specs.Store.{slot_at, used_count, SameRecords};
+ghost use Rattle.std.specs.Prelude.{◌≡◌, ◌≢◌, ℕ, ◌+◌, ◌^◌, ◌<◌, ◌≤◌, [], option_map, Some, None, IsSome, is_some, OnOk, IfOk, OnErr};
+ghost use Rattle.art_slots.specs.Store.{slot_at, used_count, SameRecords, AreClones};
 ghost use Rattle.std.specs.Borrow.{sem};
 
 use crate::slots::Slots;
@@ -115,6 +115,20 @@ impl<T> Store<T> {
         // A slab takes more than it is asked for. All of it is reserved, so that the next calls ask for nothing.
         self.reserved = self.slots.room();
         Ok(())
+    }
+}
+
+impl<T: Clone> Store<T> {
+    /// A store with a clone of each record under its number. It has the slots that this one has, the spare ones too.
+    pub fn clone(&self) -> Result<Self, AllocError>
+        ensures cloned { IfOk result (AreClones T.is_clone self.now) }
+        ensures used { IfOk result (λ copy. used_count copy ≡ used_count self.now) }
+        ensures spare { IfOk result (λ copy. copy.spare ≤ self.now.spare) }
+    {
+        Ok(Store {
+            slots: self.slots.clone()?,
+            reserved: 0,
+        })
     }
 }
 

@@ -2,6 +2,7 @@ pub mod Answers
 pub mod Bounds
 pub mod Branches
 pub mod Changes
+pub mod Copies
 pub mod Filtering
 pub mod KeyChanges
 pub mod Keys

@@ -1,4 +1,5 @@
 pub mod Begins
+pub mod Clones
 pub mod Content
 pub mod Leaves
 pub mod Longest

@@ -12,6 +12,7 @@ ghost use Rattle.art_tree.specs.Longest.{longest};
 
 mod apart;
 mod change;
+mod clone;
 mod descent;
 mod free_subtree;
 mod parting;

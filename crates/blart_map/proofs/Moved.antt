@@ -1,6 +1,5 @@
 -- What calls of many pairs make of them.
 pub mod Appending
 pub mod BulkPuts
-pub mod Cloning
 pub mod Moving
 pub mod Parting

@@ -1,5 +1,5 @@
 -- What a list of numbered pairs says of the list of its pairs.
-use Rattle.std.proofs.Common.{bytes_eq, ◌||◌, ◌≡◌, ℕ, suc, ◌+◌, ◌-◌, arith, slice_get, length-append, Bool, true, false, cond, filter, List, [], ◌∷◌, ◌++◌, length, refl, sym, ap, ◌∙◌, subst, Option, Some, None, option_map, find, inl, inr}
+use Rattle.std.proofs.Common.{bytes_eq, ◌≡◌, ℕ, suc, ◌+◌, ◌-◌, arith, slice_get, length-append, Bool, true, false, cond, filter, List, [], ◌∷◌, ◌++◌, length, refl, sym, ap, ◌∙◌, subst, Option, Some, None, option_map, find, inl, inr}
 use Rattle.std.proofs.lemmas.Bool.{cases_Bool}
 use Rattle.std.proofs.lemmas.List.{map-append}
 use Rattle.blart_keys.specs.Content.{IsContent, at, without}

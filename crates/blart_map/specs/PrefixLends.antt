@@ -1,10 +1,8 @@
 -- What a map ends as, where a prefix entry of it lends a value.
-use Rattle.std.specs.Prelude.{◌≡◌, List, Result}
+use Rattle.std.specs.Prelude.{◌≡◌, Result}
 use Rattle.std.specs.Borrow.{Fml, RattleType, MutBor, Lends, LendsSoOk, RestsIfErr}
 use denote.Param.{value_of}
 use Rattle.blart_keys.specs.declared.AsBytes.{Ghosts}
-use Rattle.art_tree.specs.Leaves.{with_value}
-use Rattle.blart_map.specs.Content.{Numbered}
 use Rattle.blart_map.specs.contracts.map.TreeMap as tree_map
 use Rattle.blart_map.specs.declared.inner.InnerOccupiedEntry.{InnerOccupiedEntry}
 use Rattle.blart_map.specs.declared.occupied.OccupiedEntry.{OccupiedEntry}

@@ -17,6 +17,10 @@ pub(crate) trait Children: Drop {
     // For how many there are places, where that is a limit.
     ghost places: { Option ℕ };
 
+    /// The same children.
+    fn copy(&self) -> Self
+        ensures { edges result ≡ edges self.now };
+
     /// How many edges there are.
     fn count(&self) -> usize
         ensures { result ≡ length (edges self.now) };
@@ -43,6 +47,14 @@ impl<const N: usize> Children for Few<N> {
 
     ghost places = { Some N };
 
+    fn copy(&self) -> Self {
+        Few {
+            count: self.count,
+            bytes: self.bytes,
+            children: self.children,
+        }
+    }
+
     fn count(&self) -> usize {
         Few::count(self)
     }
@@ -65,6 +77,14 @@ impl Children for Indexed {
 
     ghost places = { Some 48 };
 
+    fn copy(&self) -> Self {
+        Indexed {
+            count: self.count,
+            index: self.index,
+            children: self.children,
+        }
+    }
+
     fn count(&self) -> usize {
         Indexed::count(self)
     }
@@ -86,6 +106,13 @@ impl Children for Full {
     ghost edges = { λ s. s };
 
     ghost places = { None };
+
+    fn copy(&self) -> Self {
+        Full {
+            count: self.count,
+            children: self.children,
+        }
+    }
 
     fn count(&self) -> usize {
         Full::count(self)

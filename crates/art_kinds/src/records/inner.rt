@@ -1,8 +1,8 @@
 //! A node of any kind, and what is done to one among the nodes of its kind.
-ghost use Rattle.std.specs.Prelude.{◌≡◌, ◌+◌, ◌<◌, ◌≤◌, ◌^◌, take, length, None, IsSome, IsSomeAnd, OnOk};
+ghost use Rattle.std.specs.Prelude.{◌≡◌, ◌+◌, ◌<◌, ◌≤◌, ◌^◌, take, length, None, IsSome, IsSomeAnd, OnOk, IfOk};
 ghost use Rattle.art_kinds.specs.Edges.{child_at, AddsChild, DropsChild, RedirectsChild};
 ghost use Rattle.art_kinds.specs.OneKinds.{FitsIn, IsOneKind, Rewires, Changes, Grows};
-ghost use Rattle.art_slots.specs.Store.{slot_at};
+ghost use Rattle.art_slots.specs.Store.{slot_at, used_count, SameRecords};
 
 use crate::records::children::Children;
 use crate::records::ids::Child;
@@ -69,6 +69,30 @@ impl<C: Children, const P: usize> Inner<C, P> {
             prefix: self.prefix,
         }
     }
+}
+
+impl<C: Children, const P: usize> Clone for Inner<C, P> {
+    ghost is_clone = { λ x y. y ≡ x };
+
+    fn clone(&self) -> Result<Self, AllocError> {
+        Ok(Inner {
+            depth: self.depth,
+            used: self.used,
+            prefix: self.prefix,
+            edges: self.edges.copy(),
+        })
+    }
+}
+
+/// The same nodes in another store.
+pub(super) fn copy<C: Children, const P: usize>(
+    store: &Store<Inner<C, P>>,
+) -> Result<Store<Inner<C, P>>, AllocError>
+    requires kind { IsOneKind P C.places store.now }
+    ensures same { IfOk result (λ copy. SameRecords store.now copy) }
+    ensures kind { IfOk result (IsOneKind P C.places) }
+{
+    store.clone()
 }
 
 /// How many children the node at a place has.

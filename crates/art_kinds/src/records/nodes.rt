@@ -1,5 +1,5 @@
 //! The inner nodes under their numbers.
-ghost use Rattle.std.specs.Prelude.{true, false, ◌≡◌, ◌≢◌, ℕ, ◌+◌, ◌%◌, ◌*◌, ◌/◌, ◌-◌, ◌<◌, ◌≤◌, ◌^◌, ◌++◌, ◌∷◌, length, take, drop, slice_get, None, Some, IsSome, is_some, IsSomeAnd, OnOk, OnErr};
+ghost use Rattle.std.specs.Prelude.{true, false, ◌≡◌, ◌≢◌, ℕ, ◌+◌, ◌%◌, ◌*◌, ◌/◌, ◌-◌, ◌<◌, ◌≤◌, ◌^◌, ◌++◌, ◌∷◌, length, take, drop, slice_get, None, Some, IsSome, is_some, IsSomeAnd, OnOk, IfOk, OnErr};
 ghost use Rattle.art_kinds.specs.Edges.{child_at, Ascends, IsNext, IsPrevious, IsEnd};
 ghost use Rattle.art_slots.specs.Store.{slot_at};
 ghost use Rattle.art_kinds.specs.Nodes.{at, live, room, FitsNew, FitsMore, HasPlace, Lowers, SameNodes, SameSpares, MoreSpares, Makes, Renames, AddsEdgeTo, Redirects, DropsEdge, Reprefixes, JoinsPrefix, CutsPrefix, Frees};
@@ -203,6 +203,21 @@ impl<const P: usize> Nodes<P> {
             forty_eights: Store::new(alloc),
             fulls: Store::new(alloc),
         }
+    }
+
+    /// The same nodes under the same numbers.
+    pub fn clone(&self) -> Result<Self, AllocError>
+        ensures same { IfOk result (λ copy. SameNodes self.now copy) }
+    {
+        if P >= PREFIX_BOUND {
+            return Err(AllocError);
+        }
+        Ok(Nodes {
+            fours: inner::copy(&self.fours)?,
+            sixteens: inner::copy(&self.sixteens)?,
+            forty_eights: inner::copy(&self.forty_eights)?,
+            fulls: inner::copy(&self.fulls)?,
+        })
     }
 
     /// How many nodes there are.

@@ -1,5 +1,5 @@
 -- Values written one after the other, and all at once.
-use Rattle.std.proofs.Common.{◌≡◌, ℕ, List, [], ◌∷◌, filter, Bool, true, false, cond, refl, sym, ap, ◌∙◌, subst}
+use Rattle.std.proofs.Common.{◌≡◌, List, [], ◌∷◌, filter, Bool, true, false, cond, refl, sym, ap, ◌∙◌, subst}
 use Rattle.std.proofs.lemmas.Bool.{ne_eqb, eq-eqb}
 use Rattle.art_tree.specs.Leaves.{Numbered, AreDistinct, Lacks, with_value}
 use Rattle.art_walk.specs.declared.cursor.Cursor.{Cursor}

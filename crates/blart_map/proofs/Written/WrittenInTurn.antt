@@ -1,5 +1,5 @@
 -- What a closure that shows a state leaves, called at one value after the other.
-use Rattle.std.proofs.Common.{◌≡◌, List, [], ◌∷◌, sym, ap, ◌∙◌, refl}
+use Rattle.std.proofs.Common.{◌≡◌, List, [], ◌∷◌, ap, ◌∙◌, refl}
 use Rattle.blart_map.specs.EachWritten.{CalledAtEach, with_values, WritesEach}
 
 -- the pairs with the values that a state and the pair give, where each pair changes the state

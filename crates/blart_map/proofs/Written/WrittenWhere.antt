@@ -1,8 +1,8 @@
 -- Values that a closure writes where a test passes.
-use Rattle.std.proofs.Common.{◌≡◌, ℕ, Bool, true, false, cond, List, [], ◌∷◌, filter, map, refl, sym, ap, ◌∙◌, subst}
+use Rattle.std.proofs.Common.{◌≡◌, Bool, true, false, cond, List, [], ◌∷◌, filter, map, refl, sym, ap, ◌∙◌, subst}
 use Rattle.std.specs.Borrow.{Bor, MutBor}
 use denote.Param.Members.{Mut}
-use Rattle.art_tree.specs.Leaves.{Numbered, AreDistinct, Lacks}
+use Rattle.art_tree.specs.Leaves.{Numbered, AreDistinct}
 use Rattle.art_walk.specs.Pairs.{pairs_of}
 use Rattle.blart_map.specs.Content.{pairs}
 use Rattle.blart_map.specs.EachWritten.{CalledAtEach, written_with, WritesLeft, LeavesPair, ActsWhere}
