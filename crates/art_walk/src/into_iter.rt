@@ -24,6 +24,15 @@ impl<K: AsBytes, V, const PREFIX_LEN: usize> Model for IntoIter<K, V, PREFIX_LEN
     ghost view = { λ it. pairs_of it.leaves.pairs };
 }
 
+impl<K: AsBytes, V, const PREFIX_LEN: usize> IntoIter<K, V, PREFIX_LEN> {
+    /// How many pairs are left.
+    pub fn len(&self) -> usize
+        ensures { result ≡ length self.now }
+    {
+        self.leaves.len()
+    }
+}
+
 impl<K: AsBytes + Drop, V: Drop, const PREFIX_LEN: usize> IntoIter<K, V, PREFIX_LEN> {
     /// All pairs of the tree.
     pub fn new(tree: Tree<K, V, PREFIX_LEN>) -> Self
@@ -32,13 +41,6 @@ impl<K: AsBytes + Drop, V: Drop, const PREFIX_LEN: usize> IntoIter<K, V, PREFIX_
         IntoIter {
             leaves: tree.into_leaves(),
         }
-    }
-
-    /// How many pairs are left.
-    pub fn len(&self) -> usize
-        ensures { result ≡ length self.now }
-    {
-        self.leaves.len()
     }
 }
 

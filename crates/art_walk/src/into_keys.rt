@@ -24,6 +24,15 @@ impl<K: AsBytes, V, const PREFIX_LEN: usize> Model for IntoKeys<K, V, PREFIX_LEN
     ghost view = { λ it. map (λ p. p.0) it.pairs };
 }
 
+impl<K: AsBytes, V, const PREFIX_LEN: usize> IntoKeys<K, V, PREFIX_LEN> {
+    /// How many keys are left.
+    pub fn len(&self) -> usize
+        ensures { result ≡ length self.now }
+    {
+        self.pairs.len()
+    }
+}
+
 impl<K: AsBytes + Drop, V: Drop, const PREFIX_LEN: usize> IntoKeys<K, V, PREFIX_LEN> {
     /// All keys of the tree.
     pub fn new(tree: Tree<K, V, PREFIX_LEN>) -> Self
@@ -32,13 +41,6 @@ impl<K: AsBytes + Drop, V: Drop, const PREFIX_LEN: usize> IntoKeys<K, V, PREFIX_
         IntoKeys {
             pairs: IntoIter::new(tree),
         }
-    }
-
-    /// How many keys are left.
-    pub fn len(&self) -> usize
-        ensures { result ≡ length self.now }
-    {
-        self.pairs.len()
     }
 }
 

@@ -24,6 +24,15 @@ impl<K: AsBytes, V, const PREFIX_LEN: usize> Model for IntoValues<K, V, PREFIX_L
     ghost view = { λ it. map (λ p. p.1) it.pairs };
 }
 
+impl<K: AsBytes, V, const PREFIX_LEN: usize> IntoValues<K, V, PREFIX_LEN> {
+    /// How many values are left.
+    pub fn len(&self) -> usize
+        ensures { result ≡ length self.now }
+    {
+        self.pairs.len()
+    }
+}
+
 impl<K: AsBytes + Drop, V: Drop, const PREFIX_LEN: usize> IntoValues<K, V, PREFIX_LEN> {
     /// All values of the tree.
     pub fn new(tree: Tree<K, V, PREFIX_LEN>) -> Self
@@ -32,13 +41,6 @@ impl<K: AsBytes + Drop, V: Drop, const PREFIX_LEN: usize> IntoValues<K, V, PREFI
         IntoValues {
             pairs: IntoIter::new(tree),
         }
-    }
-
-    /// How many values are left.
-    pub fn len(&self) -> usize
-        ensures { result ≡ length self.now }
-    {
-        self.pairs.len()
     }
 }
 

@@ -18,90 +18,7 @@ use art_tree::Point;
 use blart_keys::{AsBytes, InsertPrefixError, NoPrefixesBytes};
 use std::marker::PhantomData;
 
-impl<K: AsBytes + Drop, V: Drop, const PREFIX_LEN: usize> TreeMap<K, V, PREFIX_LEN> {
-    /// The entry of the key. Takes no memory. It is refused exactly where the key conflicts, and then the key is dropped.
-    ///
-    /// Where the key's bytes are stored the key handed in is dropped, and the stored key stays.
-    ///
-    /// ```
-    /// *map.try_entry("cat")?.or_insert(0)? += 1;
-    /// assert_eq!(map.get(&"cat"), Some(&1));
-    /// assert!(map.try_entry("cats").is_err());
-    /// ```
-    pub fn try_entry(
-        &mut self,
-        key: K,
-    ) -> Result<Entry<'_, K, V, PREFIX_LEN, TreeMap<K, V, PREFIX_LEN>>, InsertPrefixError>
-        ensures* stands { sem 𝓛
-            (rests_if_refused K.row V.row PREFIX_LEN.row K.AsBytes self.entry result) }
-        ensures found { is_ok result ≡ not (overlaps K.bytes (pairs self.old) (K.bytes key)) }
-        ensures same_map { IfOk result (λ e. (entry_ref e).ghost_name ≡ self.entry.ghost_name) }
-        ensures unchanged { IfOk result (λ e. (entry_ref e).now ≡ self.old) }
-        ensures is_for { IfOk result (IsEntryFor (pairs self.old) key) }
-    {
-        self.numbers_law();
-        match self.point_of(key.as_bytes()) {
-            Point::Exact(id) => Ok(Entry::Occupied(OccupiedEntry {
-                map: self,
-                id,
-                lender: PhantomData,
-            })),
-            Point::Related { .. } => Err(InsertPrefixError),
-            Point::Empty | Point::Free(_) => Ok(Entry::Vacant(VacantEntry {
-                map: self,
-                key,
-                lender: PhantomData,
-            })),
-        }
-    }
-
-    /// The entry of the key, which takes in the pairs to which it is related where it conflicts with some. Takes no memory.
-    ///
-    /// Where the key's bytes are stored the key handed in is dropped, and the stored key stays.
-    ///
-    /// ```
-    /// map.try_insert("car", 1)?;
-    /// map.try_insert("cat", 2)?;
-    /// match map.prefix_entry("ca") {
-    ///     PrefixEntry::Occupied(PrefixOccupied::Leaf(entry)) => *entry.into_mut() += 1,
-    ///     PrefixEntry::Occupied(PrefixOccupied::Inner(entry)) => *entry.insert(0) += 1,
-    ///     PrefixEntry::Vacant(entry) => *entry.insert(0)? += 1,
-    /// }
-    /// assert_eq!(map.first_key_value(), Some((&"ca", &1)));
-    /// ```
-    pub fn prefix_entry(
-        &mut self,
-        key: K,
-    ) -> PrefixEntry<'_, K, V, PREFIX_LEN, TreeMap<K, V, PREFIX_LEN>>
-        ensures same_map { (prefix_ref result).ghost_name ≡ self.entry.ghost_name }
-        ensures unchanged { (prefix_ref result).now ≡ self.old }
-        ensures is_for { IsPrefixEntryFor (pairs self.old) key result }
-    {
-        self.numbers_law();
-        let point = self.point_of(key.as_bytes());
-        match point {
-            Point::Exact(id) => PrefixEntry::Occupied(PrefixOccupied::Leaf(OccupiedEntry {
-                map: self,
-                id,
-                lender: PhantomData,
-            })),
-            Point::Related { first, last } => {
-                PrefixEntry::Occupied(PrefixOccupied::Inner(InnerOccupiedEntry {
-                    map: self,
-                    key,
-                    first,
-                    last,
-                    lender: PhantomData,
-                }))
-            }
-            Point::Empty | Point::Free(_) => PrefixEntry::Vacant(VacantEntry {
-                map: self,
-                key,
-                lender: PhantomData,
-            }),
-        }
-    }
-
+impl<K: AsBytes, V, const PREFIX_LEN: usize> TreeMap<K, V, PREFIX_LEN> {
     /// The entry of the pair whose key's bytes begin the query's. There is at most one. Takes no memory.
     ///
     /// ```
@@ -200,7 +117,92 @@ impl<K: AsBytes + Drop, V: Drop, const PREFIX_LEN: usize> TreeMap<K, V, PREFIX_L
     }
 }
 
-impl<K: NoPrefixesBytes + Drop, V: Drop, const PREFIX_LEN: usize> TreeMap<K, V, PREFIX_LEN> {
+impl<K: AsBytes + Drop, V, const PREFIX_LEN: usize> TreeMap<K, V, PREFIX_LEN> {
+    /// The entry of the key. Takes no memory. It is refused exactly where the key conflicts, and then the key is dropped.
+    ///
+    /// Where the key's bytes are stored the key handed in is dropped, and the stored key stays.
+    ///
+    /// ```
+    /// *map.try_entry("cat")?.or_insert(0)? += 1;
+    /// assert_eq!(map.get(&"cat"), Some(&1));
+    /// assert!(map.try_entry("cats").is_err());
+    /// ```
+    pub fn try_entry(
+        &mut self,
+        key: K,
+    ) -> Result<Entry<'_, K, V, PREFIX_LEN, TreeMap<K, V, PREFIX_LEN>>, InsertPrefixError>
+        ensures* stands { sem 𝓛
+            (rests_if_refused K.row V.row PREFIX_LEN.row K.AsBytes self.entry result) }
+        ensures found { is_ok result ≡ not (overlaps K.bytes (pairs self.old) (K.bytes key)) }
+        ensures same_map { IfOk result (λ e. (entry_ref e).ghost_name ≡ self.entry.ghost_name) }
+        ensures unchanged { IfOk result (λ e. (entry_ref e).now ≡ self.old) }
+        ensures is_for { IfOk result (IsEntryFor (pairs self.old) key) }
+    {
+        self.numbers_law();
+        match self.point_of(key.as_bytes()) {
+            Point::Exact(id) => Ok(Entry::Occupied(OccupiedEntry {
+                map: self,
+                id,
+                lender: PhantomData,
+            })),
+            Point::Related { .. } => Err(InsertPrefixError),
+            Point::Empty | Point::Free(_) => Ok(Entry::Vacant(VacantEntry {
+                map: self,
+                key,
+                lender: PhantomData,
+            })),
+        }
+    }
+
+    /// The entry of the key, which takes in the pairs to which it is related where it conflicts with some. Takes no memory.
+    ///
+    /// Where the key's bytes are stored the key handed in is dropped, and the stored key stays.
+    ///
+    /// ```
+    /// map.try_insert("car", 1)?;
+    /// map.try_insert("cat", 2)?;
+    /// match map.prefix_entry("ca") {
+    ///     PrefixEntry::Occupied(PrefixOccupied::Leaf(entry)) => *entry.into_mut() += 1,
+    ///     PrefixEntry::Occupied(PrefixOccupied::Inner(entry)) => *entry.insert(0) += 1,
+    ///     PrefixEntry::Vacant(entry) => *entry.insert(0)? += 1,
+    /// }
+    /// assert_eq!(map.first_key_value(), Some((&"ca", &1)));
+    /// ```
+    pub fn prefix_entry(
+        &mut self,
+        key: K,
+    ) -> PrefixEntry<'_, K, V, PREFIX_LEN, TreeMap<K, V, PREFIX_LEN>>
+        ensures same_map { (prefix_ref result).ghost_name ≡ self.entry.ghost_name }
+        ensures unchanged { (prefix_ref result).now ≡ self.old }
+        ensures is_for { IsPrefixEntryFor (pairs self.old) key result }
+    {
+        self.numbers_law();
+        let point = self.point_of(key.as_bytes());
+        match point {
+            Point::Exact(id) => PrefixEntry::Occupied(PrefixOccupied::Leaf(OccupiedEntry {
+                map: self,
+                id,
+                lender: PhantomData,
+            })),
+            Point::Related { first, last } => {
+                PrefixEntry::Occupied(PrefixOccupied::Inner(InnerOccupiedEntry {
+                    map: self,
+                    key,
+                    first,
+                    last,
+                    lender: PhantomData,
+                }))
+            }
+            Point::Empty | Point::Free(_) => PrefixEntry::Vacant(VacantEntry {
+                map: self,
+                key,
+                lender: PhantomData,
+            }),
+        }
+    }
+}
+
+impl<K: NoPrefixesBytes + Drop, V, const PREFIX_LEN: usize> TreeMap<K, V, PREFIX_LEN> {
     /// The entry of the key, as [`TreeMap::try_entry`]. Keys of this type never conflict.
     ///
     /// ```

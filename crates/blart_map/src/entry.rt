@@ -28,13 +28,7 @@ pub enum Entry<'a, K: AsBytes, V, const PREFIX_LEN: usize, T: 'a> {
     Vacant(VacantEntry<'a, K, V, PREFIX_LEN, T>),
 }
 
-impl<'a, K: AsBytes + Drop, V: Drop, const PREFIX_LEN: usize, T: 'a> Entry<
-    'a,
-    K,
-    V,
-    PREFIX_LEN,
-    T,
-> {
+impl<'a, K: AsBytes, V, const PREFIX_LEN: usize, T: 'a> Entry<'a, K, V, PREFIX_LEN, T> {
     ghost use Rattle.blart_map.specs.Entry.{entry_key, entry_value};
     ghost use Rattle.blart_map.specs.Modified.{IsModified};
 

@@ -43,7 +43,7 @@ pub struct InnerOccupiedEntry<'a, K: AsBytes, V, const PREFIX_LEN: usize, T: 'a>
     ghost stands: { spans K.bytes map.now (K.bytes key) first last ≡ true },
 }
 
-impl<'a, K: AsBytes + Drop, V: Drop, const PREFIX_LEN: usize, T: 'a> InnerOccupiedEntry<
+impl<'a, K: AsBytes, V, const PREFIX_LEN: usize, T: 'a> InnerOccupiedEntry<
     'a,
     K,
     V,
@@ -120,7 +120,7 @@ impl<'a, K: AsBytes + Drop, V: Drop, const PREFIX_LEN: usize, T: 'a> InnerOccupi
     }
 }
 
-impl<'a, K: AsBytes + Drop, V: Drop, const PREFIX_LEN: usize> InnerOccupiedEntry<
+impl<'a, K: AsBytes + Drop, V, const PREFIX_LEN: usize> InnerOccupiedEntry<
     'a,
     K,
     V,
@@ -128,9 +128,8 @@ impl<'a, K: AsBytes + Drop, V: Drop, const PREFIX_LEN: usize> InnerOccupiedEntry
     TreeMap<K, V, PREFIX_LEN>,
 > {
     ghost use Rattle.blart_map.specs.Entry.{Occupied, entry_pair};
-    ghost use Rattle.blart_map.specs.InnerEntry.{inner_pair, over_leaf, IsOverSet, IsOverEntry};
-    ghost use Rattle.blart_map.specs.InnerLends.{inner_rests, inner_lends};
-    ghost use Rattle.blart_map.specs.PrefixLends.{inner_over_rests};
+    ghost use Rattle.blart_map.specs.InnerEntry.{inner_pair};
+    ghost use Rattle.blart_map.specs.InnerLends.{inner_rests};
     ghost use Rattle.blart_map.specs.LendingWalk.{lending_left};
     ghost use Rattle.blart_map.specs.OnceWritten.{rewritten, once_written};
 
@@ -184,6 +183,18 @@ impl<'a, K: AsBytes + Drop, V: Drop, const PREFIX_LEN: usize> InnerOccupiedEntry
         map.numbers_law();
         LendingWalk::of(map, Cursor::between(first, last), InSubtree)
     }
+}
+
+impl<'a, K: AsBytes + Drop, V: Drop, const PREFIX_LEN: usize> InnerOccupiedEntry<
+    'a,
+    K,
+    V,
+    PREFIX_LEN,
+    TreeMap<K, V, PREFIX_LEN>,
+> {
+    ghost use Rattle.blart_map.specs.InnerEntry.{over_leaf, IsOverSet, IsOverEntry};
+    ghost use Rattle.blart_map.specs.InnerLends.{inner_lends};
+    ghost use Rattle.blart_map.specs.PrefixLends.{inner_over_rests};
 
     /// Removes the related pairs and places the key with the value, and answers its entry.
     pub fn insert_entry(

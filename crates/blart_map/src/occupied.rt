@@ -30,14 +30,8 @@ pub struct OccupiedEntry<'a, K: AsBytes, V, const PREFIX_LEN: usize, T: 'a> {
     ghost stands: { Has map.now id },
 }
 
-impl<'a, K: AsBytes + Drop, V: Drop, const PREFIX_LEN: usize, T: 'a> OccupiedEntry<
-    'a,
-    K,
-    V,
-    PREFIX_LEN,
-    T,
-> {
-    ghost use Rattle.blart_map.specs.Entry.{Occupied, entry_key, entry_value, entry_pair, IsSetEntry, IsRemoved};
+impl<'a, K: AsBytes, V, const PREFIX_LEN: usize, T: 'a> OccupiedEntry<'a, K, V, PREFIX_LEN, T> {
+    ghost use Rattle.blart_map.specs.Entry.{Occupied, entry_key, entry_value, IsSetEntry};
     ghost use Rattle.blart_map.specs.OccupiedEntry.{with_entry_value};
     ghost use Rattle.blart_map.specs.OccupiedLends.{entry_value_lends};
 
@@ -74,6 +68,16 @@ impl<'a, K: AsBytes + Drop, V: Drop, const PREFIX_LEN: usize, T: 'a> OccupiedEnt
     {
         replace(self.get_mut(), value)
     }
+}
+
+impl<'a, K: AsBytes + Drop, V: Drop, const PREFIX_LEN: usize, T: 'a> OccupiedEntry<
+    'a,
+    K,
+    V,
+    PREFIX_LEN,
+    T,
+> {
+    ghost use Rattle.blart_map.specs.Entry.{Occupied, entry_value, entry_pair, IsRemoved};
 
     /// Removes the pair, and gives it.
     pub fn remove_entry(self) -> (K, V)
@@ -94,14 +98,14 @@ impl<'a, K: AsBytes + Drop, V: Drop, const PREFIX_LEN: usize, T: 'a> OccupiedEnt
     }
 }
 
-impl<'a, K: AsBytes + Drop, V: Drop, const PREFIX_LEN: usize> OccupiedEntry<
+impl<'a, K: AsBytes, V, const PREFIX_LEN: usize> OccupiedEntry<
     'a,
     K,
     V,
     PREFIX_LEN,
     TreeMap<K, V, PREFIX_LEN>,
 > {
-    ghost use Rattle.blart_map.specs.Entry.{Occupied, entry_value, SetsValue, IsSetEntry};
+    ghost use Rattle.blart_map.specs.Entry.{Occupied, entry_value, SetsValue};
     ghost use Rattle.blart_map.specs.EntryLends.{entry_rests};
     ghost use Rattle.blart_map.specs.LentLeaves.{lends_leaf};
     ghost use Rattle.art_tree.specs.Leaves.{with_value};
@@ -131,8 +135,21 @@ impl<'a, K: AsBytes + Drop, V: Drop, const PREFIX_LEN: usize> OccupiedEntry<
         let OccupiedEntry { map, id, lender } = self;
         Ok(OccupiedEntry { map, id, lender })
     }
+}
 
-    // The same, once the value is this one.
+impl<'a, K: AsBytes, V: Drop, const PREFIX_LEN: usize> OccupiedEntry<
+    'a,
+    K,
+    V,
+    PREFIX_LEN,
+    TreeMap<K, V, PREFIX_LEN>,
+> {
+    ghost use Rattle.blart_map.specs.Entry.{Occupied, SetsValue, IsSetEntry};
+    ghost use Rattle.blart_map.specs.EntryLends.{entry_rests};
+    ghost use Rattle.blart_map.specs.LentLeaves.{lends_leaf};
+    ghost use Rattle.art_tree.specs.Leaves.{with_value};
+
+    // This entry, once the value is this one, answered as `kept` answers it.
     pub(crate) fn set(
         self,
         value: V,

@@ -24,7 +24,7 @@ use std::alloc::AllocError;
 use std::marker::PhantomData;
 use std::mem::replace;
 
-impl<K: AsBytes + Drop, V: Drop, const PREFIX_LEN: usize> TreeMap<K, V, PREFIX_LEN> {
+impl<K: AsBytes, V, const PREFIX_LEN: usize> TreeMap<K, V, PREFIX_LEN> {
     // What holds of the numbered pairs.
     pub(crate) fn numbers_law(&self)
         ensures content { IsContent (bytes K.bytes) self.now }
@@ -97,7 +97,21 @@ impl<K: AsBytes + Drop, V: Drop, const PREFIX_LEN: usize> TreeMap<K, V, PREFIX_L
     {
         self.tree.point(query)
     }
+}
 
+impl<K: NoPrefixesBytes, V, const PREFIX_LEN: usize> TreeMap<K, V, PREFIX_LEN> {
+    // Where the key stands, or would go: it never conflicts.
+    pub(crate) fn lawful_point(&self, key: &K) -> Point
+        ensures good { IsGood K.bytes self.now result (K.bytes key.now) }
+        ensures lawful { (i j : ℕ) → result ≢ Related i j }
+        ensures content { IsContent (bytes K.bytes) self.now }
+        ensures distinct { AreDistinct self.now }
+    {
+        lawful_point(&self.tree, key)
+    }
+}
+
+impl<K: AsBytes + Drop, V: Drop, const PREFIX_LEN: usize> TreeMap<K, V, PREFIX_LEN> {
     // Places a pair whose key is related to none.
     pub(crate) fn place_new(&mut self, key: K, value: V) -> Result<LeafId, AllocError>
         requires absent { stores (bytes K.bytes) self.old (K.bytes key) ≡ false }
@@ -152,18 +166,6 @@ impl<K: AsBytes + Drop, V: Drop, const PREFIX_LEN: usize> TreeMap<K, V, PREFIX_L
     }
 }
 
-impl<K: NoPrefixesBytes + Drop, V: Drop, const PREFIX_LEN: usize> TreeMap<K, V, PREFIX_LEN> {
-    // Where the key stands, or would go: it never conflicts.
-    pub(crate) fn lawful_point(&self, key: &K) -> Point
-        ensures good { IsGood K.bytes self.now result (K.bytes key.now) }
-        ensures lawful { (i j : ℕ) → result ≢ Related i j }
-        ensures content { IsContent (bytes K.bytes) self.now }
-        ensures distinct { AreDistinct self.now }
-    {
-        lawful_point(&self.tree, key)
-    }
-}
-
 // Makes room for a pair with this key, which is related to no stored one, and answers its place. Refused or not, the pairs stand.
 fn room_for<K: AsBytes + Drop, V: Drop, const P: usize>(
     tree: &mut Tree<K, V, P>,
@@ -187,10 +189,7 @@ fn room_for<K: AsBytes + Drop, V: Drop, const P: usize>(
 }
 
 // Where the key stands, or would go: it never conflicts.
-fn lawful_point<K: NoPrefixesBytes + Drop, V: Drop, const P: usize>(
-    tree: &Tree<K, V, P>,
-    key: &K,
-) -> Point
+fn lawful_point<K: NoPrefixesBytes, V, const P: usize>(tree: &Tree<K, V, P>, key: &K) -> Point
     ensures good { IsGood K.bytes tree.now.pairs result (K.bytes key.now) }
     ensures lawful { (i j : ℕ) → result ≢ Related i j }
     ensures content { IsContent (bytes K.bytes) tree.now.pairs }

@@ -32,13 +32,7 @@ pub enum PrefixEntry<'a, K: AsBytes, V, const PREFIX_LEN: usize, T: 'a> {
     Vacant(VacantEntry<'a, K, V, PREFIX_LEN, T>),
 }
 
-impl<'a, K: AsBytes + Drop, V: Drop, const PREFIX_LEN: usize, T: 'a> PrefixEntry<
-    'a,
-    K,
-    V,
-    PREFIX_LEN,
-    T,
-> {
+impl<'a, K: AsBytes, V, const PREFIX_LEN: usize, T: 'a> PrefixEntry<'a, K, V, PREFIX_LEN, T> {
     ghost use Rattle.blart_map.specs.PrefixEntry.{prefix_key, prefix_found};
 
     /// The stored key on `Leaf`, and else the one that was handed in.
@@ -62,14 +56,13 @@ impl<'a, K: AsBytes + Drop, V: Drop, const PREFIX_LEN: usize, T: 'a> PrefixEntry
     }
 }
 
-impl<'a, K: AsBytes + Drop, V: Drop, const PREFIX_LEN: usize> PrefixEntry<
+impl<'a, K: AsBytes, V, const PREFIX_LEN: usize> PrefixEntry<
     'a,
     K,
     V,
     PREFIX_LEN,
     TreeMap<K, V, PREFIX_LEN>,
 > {
-    ghost use Rattle.blart_map.specs.PrefixEntry.{prefix_kind, prefix_key, prefix_value, IsPrefixSet, IsPrefixKeptOrSet, IsPrefixKeptOrMade};
     ghost use Rattle.blart_map.specs.PrefixKind.{IsKindOf};
 
     /// The entry as one of three kinds, of whose calls it is said what the map becomes.
@@ -90,6 +83,16 @@ impl<'a, K: AsBytes + Drop, V: Drop, const PREFIX_LEN: usize> PrefixEntry<
             PrefixEntry::Vacant(entry) => PrefixKind::Vacant(entry),
         }
     }
+}
+
+impl<'a, K: AsBytes + Drop, V: Drop, const PREFIX_LEN: usize> PrefixEntry<
+    'a,
+    K,
+    V,
+    PREFIX_LEN,
+    TreeMap<K, V, PREFIX_LEN>,
+> {
+    ghost use Rattle.blart_map.specs.PrefixEntry.{prefix_kind, prefix_key, prefix_value, IsPrefixSet, IsPrefixKeptOrSet, IsPrefixKeptOrMade};
 
     /// Sets the value, on `Inner` over all pairs to which the key is related, and answers the entry of the key's pair. That a refused call leaves the map as it was is said of `.kind().insert_entry(..)`: see [`PrefixKind::insert_entry`].
     pub fn insert_entry(

@@ -26,13 +26,7 @@ pub enum PrefixOccupied<'a, K: AsBytes, V, const PREFIX_LEN: usize, T: 'a> {
     Inner(InnerOccupiedEntry<'a, K, V, PREFIX_LEN, T>),
 }
 
-impl<'a, K: AsBytes + Drop, V: Drop, const PREFIX_LEN: usize, T: 'a> PrefixOccupied<
-    'a,
-    K,
-    V,
-    PREFIX_LEN,
-    T,
-> {
+impl<'a, K: AsBytes, V, const PREFIX_LEN: usize, T: 'a> PrefixOccupied<'a, K, V, PREFIX_LEN, T> {
     ghost use Rattle.blart_map.specs.PrefixEntry.{occupied_pair, occupied_key};
 
     /// The stored key on `Leaf`, and on `Inner` the one that was handed in.

@@ -29,13 +29,7 @@ pub struct VacantEntry<'a, K: AsBytes, V, const PREFIX_LEN: usize, T: 'a> {
     ghost free: { conflict (bytes K.bytes) map.now (K.bytes key) ≡ false },
 }
 
-impl<'a, K: AsBytes + Drop, V: Drop, const PREFIX_LEN: usize, T: 'a> VacantEntry<
-    'a,
-    K,
-    V,
-    PREFIX_LEN,
-    T,
-> {
+impl<'a, K: AsBytes, V, const PREFIX_LEN: usize, T: 'a> VacantEntry<'a, K, V, PREFIX_LEN, T> {
     /// The key.
     pub fn key(&self) -> &K
         ensures { result.now ≡ self.now.key }

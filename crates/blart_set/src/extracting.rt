@@ -34,7 +34,7 @@ pub struct ExtractIf<'a, K: AsBytes, F, const PREFIX_LEN: usize> {
 }
 
 #[tactic(auto, unfolding(crate::specs::Elements::elements))]
-impl<K: AsBytes + Drop, const PREFIX_LEN: usize> TreeSet<K, PREFIX_LEN> {
+impl<K: AsBytes, const PREFIX_LEN: usize> TreeSet<K, PREFIX_LEN> {
     ghost use Rattle.blart_set.specs.Extracting.{extract_left};
 
     /// A walk that takes out the elements within both bounds at which the closure answers `true`, from both ends. The bounds are in order where the set has elements, as for [`TreeSet::range`]. Takes no memory.
@@ -111,7 +111,10 @@ impl<K: AsBytes + Drop, const PREFIX_LEN: usize> TreeSet<K, PREFIX_LEN> {
     {
         self.map.leaf(id).0
     }
+}
 
+#[tactic(auto, unfolding(crate::specs::Elements::elements))]
+impl<K: AsBytes + Drop, const PREFIX_LEN: usize> TreeSet<K, PREFIX_LEN> {
     // Removes the element of a leaf, and gives it.
     pub(crate) fn take_element(&mut self, id: LeafId) -> K
         requires { Has self.old id }

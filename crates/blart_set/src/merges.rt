@@ -21,7 +21,7 @@ use crate::merges::union::Union;
 use crate::set::TreeSet;
 use blart_keys::OrderedBytes;
 
-impl<K: OrderedBytes + Drop, const PREFIX_LEN: usize> TreeSet<K, PREFIX_LEN> {
+impl<K: OrderedBytes, const PREFIX_LEN: usize> TreeSet<K, PREFIX_LEN> {
     // The two sets side by side.
     fn beside<'a>(&'a self, other: &'a TreeSet<K, PREFIX_LEN>) -> Sides<'a, K, PREFIX_LEN>
         ensures { IsBeginning (elements self.now) (elements other.now) result }

@@ -17,7 +17,7 @@ use std::clone::Clone;
 use std::iter::Iterator;
 use std::ops::{BitAnd, BitOr, BitXor, Sub};
 
-impl<'a, 'b, K: OrderedBytes + NoPrefixesBytes + Clone + Drop, const PREFIX_LEN: usize> BitOr<
+impl<'a, 'b, K: OrderedBytes + NoPrefixesBytes + Clone, const PREFIX_LEN: usize> BitOr<
     &'b TreeSet<K, PREFIX_LEN>,
 > for &'a TreeSet<K, PREFIX_LEN> {
     type Output = Result<TreeSet<K, PREFIX_LEN>, AllocError>;
@@ -43,7 +43,7 @@ impl<'a, 'b, K: OrderedBytes + NoPrefixesBytes + Clone + Drop, const PREFIX_LEN:
     }
 }
 
-impl<'a, 'b, K: OrderedBytes + NoPrefixesBytes + Clone + Drop, const PREFIX_LEN: usize> BitAnd<
+impl<'a, 'b, K: OrderedBytes + NoPrefixesBytes + Clone, const PREFIX_LEN: usize> BitAnd<
     &'b TreeSet<K, PREFIX_LEN>,
 > for &'a TreeSet<K, PREFIX_LEN> {
     type Output = Result<TreeSet<K, PREFIX_LEN>, AllocError>;
@@ -63,7 +63,7 @@ impl<'a, 'b, K: OrderedBytes + NoPrefixesBytes + Clone + Drop, const PREFIX_LEN:
     }
 }
 
-impl<'a, 'b, K: OrderedBytes + NoPrefixesBytes + Clone + Drop, const PREFIX_LEN: usize> Sub<
+impl<'a, 'b, K: OrderedBytes + NoPrefixesBytes + Clone, const PREFIX_LEN: usize> Sub<
     &'b TreeSet<K, PREFIX_LEN>,
 > for &'a TreeSet<K, PREFIX_LEN> {
     type Output = Result<TreeSet<K, PREFIX_LEN>, AllocError>;
@@ -80,7 +80,7 @@ impl<'a, 'b, K: OrderedBytes + NoPrefixesBytes + Clone + Drop, const PREFIX_LEN:
     }
 }
 
-impl<'a, 'b, K: OrderedBytes + NoPrefixesBytes + Clone + Drop, const PREFIX_LEN: usize> BitXor<
+impl<'a, 'b, K: OrderedBytes + NoPrefixesBytes + Clone, const PREFIX_LEN: usize> BitXor<
     &'b TreeSet<K, PREFIX_LEN>,
 > for &'a TreeSet<K, PREFIX_LEN> {
     type Output = Result<TreeSet<K, PREFIX_LEN>, AllocError>;
@@ -101,7 +101,7 @@ impl<'a, 'b, K: OrderedBytes + NoPrefixesBytes + Clone + Drop, const PREFIX_LEN:
 }
 
 // A set into which clones of the elements that the iterator gives were put, one after another.
-fn of_clones<'x, K: NoPrefixesBytes + Clone + Drop, I: Iterator<Item = &'x K>, const P: usize>(
+fn of_clones<'x, K: NoPrefixesBytes + Clone, I: Iterator<Item = &'x K>, const P: usize>(
     alloc: Global,
     items: I,
 ) -> Result<TreeSet<K, P>, AllocError>
@@ -122,7 +122,7 @@ where
 }
 
 // Puts a clone of the element.
-fn put_clone<K: NoPrefixesBytes + Clone + Drop, const P: usize>(
+fn put_clone<K: NoPrefixesBytes + Clone, const P: usize>(
     set: &mut TreeSet<K, P>,
     element: &K,
 ) -> Result<(), AllocError>

@@ -7,7 +7,7 @@ use crate::set::TreeSet;
 use blart_keys::OrderedBytes;
 use std::iter::Iterator;
 
-impl<K: OrderedBytes + Drop, const PREFIX_LEN: usize> TreeSet<K, PREFIX_LEN> {
+impl<K: OrderedBytes, const PREFIX_LEN: usize> TreeSet<K, PREFIX_LEN> {
     /// Whether no bytes are in both sets. It walks both once, and stops at the first that are.
     ///
     /// ```

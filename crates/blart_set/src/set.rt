@@ -36,7 +36,7 @@ impl<K: AsBytes, const PREFIX_LEN: usize> Model for TreeSet<K, PREFIX_LEN> {
     ghost view = { λ s. s.map };
 }
 
-impl<K: AsBytes + Drop> TreeSet<K, DEFAULT_PREFIX_LEN> {
+impl<K: AsBytes> TreeSet<K, DEFAULT_PREFIX_LEN> {
     /// A set with no elements, of which an inner node keeps 16 bytes of its compressed prefix. Takes no memory.
     pub fn new(alloc: Global) -> Self
         ensures { elements result ≡ [] }
@@ -46,7 +46,7 @@ impl<K: AsBytes + Drop> TreeSet<K, DEFAULT_PREFIX_LEN> {
 }
 
 #[tactic(auto, unfolding(crate::specs::Elements::elements))]
-impl<K: AsBytes + Drop, const PREFIX_LEN: usize> TreeSet<K, PREFIX_LEN> {
+impl<K: AsBytes, const PREFIX_LEN: usize> TreeSet<K, PREFIX_LEN> {
     /// A set with no elements. Takes no memory.
     pub fn with_prefix_len(alloc: Global) -> Self
         ensures { elements result ≡ [] }

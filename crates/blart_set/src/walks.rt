@@ -137,7 +137,7 @@ impl<'a, K, const PREFIX_LEN: usize> DoubleEndedIterator for Prefix<'a, K, PREFI
 impl<'a, K, const PREFIX_LEN: usize> FusedIterator for Prefix<'a, K, PREFIX_LEN> {}
 
 #[tactic(auto, unfolding(crate::specs::Elements::elements))]
-impl<K: AsBytes + Drop, const PREFIX_LEN: usize> TreeSet<K, PREFIX_LEN> {
+impl<K: AsBytes, const PREFIX_LEN: usize> TreeSet<K, PREFIX_LEN> {
     /// The elements, ascending by their bytes, from both ends. Takes no memory.
     ///
     /// ```
@@ -203,7 +203,7 @@ impl<K: AsBytes + Drop, const PREFIX_LEN: usize> IntoIterator for TreeSet<K, PRE
     }
 }
 
-impl<'a, K: AsBytes + Drop, const PREFIX_LEN: usize> IntoIterator for &'a TreeSet<K, PREFIX_LEN> {
+impl<'a, K: AsBytes, const PREFIX_LEN: usize> IntoIterator for &'a TreeSet<K, PREFIX_LEN> {
     type Item = &'a K;
 
     type IntoIter = Iter<'a, K, PREFIX_LEN>;

@@ -53,11 +53,7 @@ impl<K: NoPrefixesBytes + Drop, V: Drop, const PREFIX_LEN: usize> TreeMap<K, V, 
     }
 }
 
-impl<K: NoPrefixesBytes + Copy + Drop, V: Copy + Drop, const PREFIX_LEN: usize> TreeMap<
-    K,
-    V,
-    PREFIX_LEN,
-> {
+impl<K: NoPrefixesBytes + Copy, V: Copy, const PREFIX_LEN: usize> TreeMap<K, V, PREFIX_LEN> {
     /// Puts copies of the pairs that the iterator gives, one after another, as [`TreeMap::extend`] puts the pairs.
     ///
     /// ```

@@ -43,11 +43,7 @@ impl<K: NoPrefixesBytes + Drop, V: Drop, const PREFIX_LEN: usize> TreeMap<K, V, 
     }
 }
 
-impl<K: NoPrefixesBytes + Copy + Drop, V: Copy + Drop, const PREFIX_LEN: usize> TreeMap<
-    K,
-    V,
-    PREFIX_LEN,
-> {
+impl<K: NoPrefixesBytes + Copy, V: Copy, const PREFIX_LEN: usize> TreeMap<K, V, PREFIX_LEN> {
     /// A map into which the pairs were put, one after another, as [`TreeMap::insert`] does: of pairs with the same bytes the first key stays, with the last value. No pairs take no memory.
     ///
     /// ```

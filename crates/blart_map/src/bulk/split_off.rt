@@ -57,7 +57,9 @@ impl<K: AsBytes + Drop, V: Drop, const PREFIX_LEN: usize> TreeMap<K, V, PREFIX_L
             alloc: self.alloc,
         })
     }
+}
 
+impl<K: AsBytes, V, const PREFIX_LEN: usize> TreeMap<K, V, PREFIX_LEN> {
     // The pairs whose keys' bytes are not less than the query's.
     #[tactic(auto, unfolding(crate::specs::Content::pairs))]
     fn walk_from<Q: AsBytes>(&self, query: &Q) -> Range<'_, K, V, PREFIX_LEN>

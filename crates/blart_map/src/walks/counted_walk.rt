@@ -64,13 +64,7 @@ pub struct CountedWalk<'a, K: AsBytes, V, M, const PREFIX_LEN: usize> {
     ghost fits: { count_fits cursor lent left (numbers map.now) ≡ true },
 }
 
-impl<'a, K: AsBytes + Drop, V: Drop, const PREFIX_LEN: usize> CountedWalk<
-    'a,
-    K,
-    V,
-    WithKeys,
-    PREFIX_LEN,
-> {
+impl<'a, K: AsBytes, V, const PREFIX_LEN: usize> CountedWalk<'a, K, V, WithKeys, PREFIX_LEN> {
     ghost use Rattle.blart_map.specs.CountedWalk.{counted_left, LendsAll, lends_pair, counted_with};
     ghost use Rattle.blart_map.specs.OnceWritten.{all_once_written};
 
@@ -130,13 +124,7 @@ impl<'a, K: AsBytes + Drop, V: Drop, const PREFIX_LEN: usize> CountedWalk<
     }
 }
 
-impl<'a, K: AsBytes + Drop, V: Drop, const PREFIX_LEN: usize> CountedWalk<
-    'a,
-    K,
-    V,
-    ValuesAlone,
-    PREFIX_LEN,
-> {
+impl<'a, K: AsBytes, V, const PREFIX_LEN: usize> CountedWalk<'a, K, V, ValuesAlone, PREFIX_LEN> {
     ghost use Rattle.blart_map.specs.CountedWalk.{counted_left, LendsAll};
     ghost use Rattle.blart_map.specs.OnceWritten.{all_once_written};
 
@@ -174,13 +162,7 @@ impl<'a, K: AsBytes + Drop, V: Drop, const PREFIX_LEN: usize> CountedWalk<
     }
 }
 
-impl<'a, K: AsBytes + Drop, V: Drop, M, const PREFIX_LEN: usize> CountedWalk<
-    'a,
-    K,
-    V,
-    M,
-    PREFIX_LEN,
-> {
+impl<'a, K: AsBytes, V, M, const PREFIX_LEN: usize> CountedWalk<'a, K, V, M, PREFIX_LEN> {
     ghost use Rattle.blart_map.specs.CountedWalk.{counted_left, lends_first, lends_last};
 
     // All pairs of the map.

@@ -8,7 +8,7 @@ use crate::map::TreeMap;
 use art_walk::Cursor;
 use blart_keys::AsBytes;
 
-impl<K: AsBytes + Drop, V: Drop, const PREFIX_LEN: usize> TreeMap<K, V, PREFIX_LEN> {
+impl<K: AsBytes, V, const PREFIX_LEN: usize> TreeMap<K, V, PREFIX_LEN> {
     // Calls the closure once at each value that the cursor has left, front to back.
     pub(crate) fn write_values<F: FnMut(&mut V) + Drop>(&mut self, mut cursor: Cursor, mut f: F)
         requires fits { FitsIn cursor self.old }

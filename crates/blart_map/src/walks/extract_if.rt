@@ -31,7 +31,7 @@ pub struct ExtractIf<'a, K: AsBytes, V, F, const PREFIX_LEN: usize> {
     ghost fits: { walk_fits cursor None (numbers map.now) ≡ true },
 }
 
-impl<K: AsBytes + Drop, V: Drop, const PREFIX_LEN: usize> TreeMap<K, V, PREFIX_LEN> {
+impl<K: AsBytes, V, const PREFIX_LEN: usize> TreeMap<K, V, PREFIX_LEN> {
     ghost use Rattle.blart_map.specs.ExtractIf.{extract_left};
     ghost use Rattle.blart_map.specs.OnceTaken.{once_extracted, still_to_extract};
 

@@ -17,7 +17,7 @@ use art_walk::Cursor;
 use blart_keys::AsBytes;
 use std::ops::Bound;
 
-impl<K: AsBytes + Drop, V: Drop, const PREFIX_LEN: usize> TreeMap<K, V, PREFIX_LEN> {
+impl<K: AsBytes, V, const PREFIX_LEN: usize> TreeMap<K, V, PREFIX_LEN> {
     // Answers nothing: no number comes twice.
     pub(crate) fn number_law(&self)
         ensures { AreDistinct self.now }
@@ -108,7 +108,9 @@ impl<K: AsBytes + Drop, V: Drop, const PREFIX_LEN: usize> TreeMap<K, V, PREFIX_L
     {
         self.tree.value_mut(id)
     }
+}
 
+impl<K: AsBytes + Drop, V: Drop, const PREFIX_LEN: usize> TreeMap<K, V, PREFIX_LEN> {
     /// Removes a leaf, by its number, and gives its pair. A cursor that has passed the leaf has the same left. Takes no memory.
     pub fn take_leaf(&mut self, id: LeafId) -> (K, V)
         requires { Has self.old id }

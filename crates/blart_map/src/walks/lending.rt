@@ -16,7 +16,7 @@ use art_walk::{BelowFront, Cursor, InRange, ValuesAlone, WithKeys};
 use blart_keys::AsBytes;
 use std::ops::Bound;
 
-impl<K: AsBytes + Drop, V: Drop, const PREFIX_LEN: usize> TreeMap<K, V, PREFIX_LEN> {
+impl<K: AsBytes, V, const PREFIX_LEN: usize> TreeMap<K, V, PREFIX_LEN> {
     ghost use Rattle.blart_map.specs.CountedWalk.{counted_left};
     ghost use Rattle.blart_map.specs.LendingWalk.{lending_left};
     ghost use Rattle.blart_map.specs.OnceWritten.{rewritten, all_rewritten, once_written, all_once_written};

@@ -83,13 +83,7 @@ pub struct LendingWalk<'a, K: AsBytes, V, M, const PREFIX_LEN: usize> {
     ghost fits: { walk_fits cursor lent (numbers map.now) ≡ true },
 }
 
-impl<'a, K: AsBytes + Drop, V: Drop, M, const PREFIX_LEN: usize> LendingWalk<
-    'a,
-    K,
-    V,
-    M,
-    PREFIX_LEN,
-> {
+impl<'a, K: AsBytes, V, M, const PREFIX_LEN: usize> LendingWalk<'a, K, V, M, PREFIX_LEN> {
     ghost use Rattle.blart_map.specs.LendingWalk.{lending_left, lends_first, lends_last, lends_pair, lending_with};
 
     // What the cursor has left of the map.
@@ -154,13 +148,7 @@ impl<'a, K: AsBytes + Drop, V: Drop, M, const PREFIX_LEN: usize> LendingWalk<
     }
 }
 
-impl<'a, K: AsBytes + Drop, V: Drop, M: Drop, const PREFIX_LEN: usize> LendingWalk<
-    'a,
-    K,
-    V,
-    M,
-    PREFIX_LEN,
-> {
+impl<'a, K: AsBytes, V, M: Drop, const PREFIX_LEN: usize> LendingWalk<'a, K, V, M, PREFIX_LEN> {
     ghost use Rattle.blart_map.specs.LendingWalk.{lending_left};
     ghost use Rattle.blart_map.specs.OnceWritten.{once_written};
 

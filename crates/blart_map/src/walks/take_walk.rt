@@ -30,7 +30,7 @@ pub struct TakeWalk<'a, K: AsBytes, V, const PREFIX_LEN: usize> {
     ghost fits: { walk_fits cursor lent (numbers map.now) ≡ true },
 }
 
-impl<'a, K: AsBytes + Drop, V: Drop, const PREFIX_LEN: usize> TakeWalk<'a, K, V, PREFIX_LEN> {
+impl<'a, K: AsBytes, V, const PREFIX_LEN: usize> TakeWalk<'a, K, V, PREFIX_LEN> {
     ghost use Rattle.blart_map.specs.TakeWalk.{take_left, lends_first, lends_last, lends_pair, take_with};
 
     // What the cursor has left of the map.
@@ -110,6 +110,10 @@ impl<'a, K: AsBytes + Drop, V: Drop, const PREFIX_LEN: usize> TakeWalk<'a, K, V,
     {
         self.lent = None;
     }
+}
+
+impl<'a, K: AsBytes + Drop, V: Drop, const PREFIX_LEN: usize> TakeWalk<'a, K, V, PREFIX_LEN> {
+    ghost use Rattle.blart_map.specs.TakeWalk.{take_left};
 
     /// Takes the lent pair out of the map, and gives it, its value as written. One is undecided. Takes no memory.
     pub fn take(&mut self) -> (K, V)

@@ -50,7 +50,7 @@ impl<K: NoPrefixesBytes + Drop, const PREFIX_LEN: usize> TreeSet<K, PREFIX_LEN> 
     }
 }
 
-impl<K: NoPrefixesBytes + Copy + Drop, const PREFIX_LEN: usize> TreeSet<K, PREFIX_LEN> {
+impl<K: NoPrefixesBytes + Copy, const PREFIX_LEN: usize> TreeSet<K, PREFIX_LEN> {
     /// Puts copies of the elements that the iterator gives, one after another, as [`TreeSet::extend`] puts the elements.
     ///
     /// ```

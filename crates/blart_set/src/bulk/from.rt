@@ -38,7 +38,7 @@ impl<K: NoPrefixesBytes + Drop, const PREFIX_LEN: usize> TreeSet<K, PREFIX_LEN> 
     }
 }
 
-impl<K: NoPrefixesBytes + Copy + Drop, const PREFIX_LEN: usize> TreeSet<K, PREFIX_LEN> {
+impl<K: NoPrefixesBytes + Copy, const PREFIX_LEN: usize> TreeSet<K, PREFIX_LEN> {
     /// A set into which the elements were put, one after another, as [`TreeSet::insert`] does: of elements with the same bytes the first stays. No elements take no memory.
     ///
     /// ```

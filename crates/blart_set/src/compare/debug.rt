@@ -3,7 +3,7 @@ use crate::set::TreeSet;
 use blart_keys::AsBytes;
 use std::fmt::{Debug, Formatter, Result, Write};
 
-impl<K: AsBytes + Debug + Drop, const PREFIX_LEN: usize> Debug for TreeSet<K, PREFIX_LEN> {
+impl<K: AsBytes + Debug, const PREFIX_LEN: usize> Debug for TreeSet<K, PREFIX_LEN> {
     /// The elements between braces, ascending by their bytes.
     ///
     /// ```

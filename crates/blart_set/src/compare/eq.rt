@@ -7,7 +7,7 @@ use crate::set::TreeSet;
 use blart_keys::AsBytes;
 use std::cmp::{Eq, PartialEq};
 
-impl<K: AsBytes + PartialEq + Drop, const PREFIX_LEN: usize> PartialEq for TreeSet<K, PREFIX_LEN> {
+impl<K: AsBytes + PartialEq, const PREFIX_LEN: usize> PartialEq for TreeSet<K, PREFIX_LEN> {
     ghost eq = { λ s t. pointwise K.eq (elements s) (elements t) };
 
     ghost laws = { on_per (λ s. elements s) (lists_per K.PartialEq.laws) };
@@ -22,6 +22,6 @@ impl<K: AsBytes + PartialEq + Drop, const PREFIX_LEN: usize> PartialEq for TreeS
     }
 }
 
-impl<K: AsBytes + Eq + Drop, const PREFIX_LEN: usize> Eq for TreeSet<K, PREFIX_LEN> {
+impl<K: AsBytes + Eq, const PREFIX_LEN: usize> Eq for TreeSet<K, PREFIX_LEN> {
     ghost laws = { on_equiv (λ s. elements s) (lists_equiv K.Eq.laws) };
 }

@@ -7,7 +7,7 @@ use crate::set::TreeSet;
 use blart_keys::AsBytes;
 use std::hash::{Hash, Hasher};
 
-impl<K: AsBytes + Hash + Drop, const PREFIX_LEN: usize> Hash for TreeSet<K, PREFIX_LEN> {
+impl<K: AsBytes + Hash, const PREFIX_LEN: usize> Hash for TreeSet<K, PREFIX_LEN> {
     ghost hash_input = { λ s. fed.slice K.hash_input (elements s) };
 
     ghost respects_eq = { (on_Alike (λ s. elements s)

@@ -7,8 +7,7 @@ use crate::set::TreeSet;
 use blart_keys::AsBytes;
 use std::cmp::{Ord, Ordering, PartialOrd};
 
-impl<K: AsBytes + PartialOrd + Drop, const PREFIX_LEN: usize> PartialOrd
-    for TreeSet<K, PREFIX_LEN> {
+impl<K: AsBytes + PartialOrd, const PREFIX_LEN: usize> PartialOrd for TreeSet<K, PREFIX_LEN> {
     ghost partial_cmp = { λ s t. slice_partial_cmp K.partial_cmp (elements s) (elements t) };
 
     ghost laws = { on_po (λ s. elements s) (lists_po K.PartialOrd.laws) };
@@ -19,7 +18,7 @@ impl<K: AsBytes + PartialOrd + Drop, const PREFIX_LEN: usize> PartialOrd
     }
 }
 
-impl<K: AsBytes + Ord + Drop, const PREFIX_LEN: usize> Ord for TreeSet<K, PREFIX_LEN> {
+impl<K: AsBytes + Ord, const PREFIX_LEN: usize> Ord for TreeSet<K, PREFIX_LEN> {
     ghost cmp = { λ s t. slice_cmp K.cmp (elements s) (elements t) };
 
     ghost total = { on_total (λ s. elements s) (lists_total K.total) };
