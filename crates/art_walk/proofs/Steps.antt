@@ -7,7 +7,7 @@ use Rattle.art_tree.specs.Leaves.{Numbered, leaf_in, Has, first_number, last_num
 use Rattle.art_tree.proofs.CallerLemmas.{Has-last, has_other, distinct_parts, AreDistinct-parts, Lacks-parts, leaf_in-split, number_after-split, number_before-split, last_number-append}
 use Rattle.blart_keys.proofs.Options.{is_some}
 use Rattle.art_walk.specs.declared.cursor.Cursor.{Cursor}
-use Rattle.art_walk.specs.Cursor.{nothing_left, left_between, span_of, IsSpan, ends_left, EndsFit, leaves_left, FitsIn, PassesFirst, PassesLast}
+use Rattle.art_walk.specs.Cursor.{nothing_left, left_between, span_of, IsSpan, ends_left, EndsFit, leaves_left, FitsIn}
 use Rattle.art_walk.proofs.Spans.{Cut, ends_with, cut_span, cut_is_span, span_cut}
 
 pub some_inj : {A : Type 0} (a b : A) → Some a ≡ Some b → a ≡ b
@@ -189,6 +189,24 @@ module _ {K V : Type 0} where
                 some_left e.0 m.0 (two t.1 ∙ ap (option_map (λ m. (e.0, m))) m.1) b.front m.2 (λ l. l ++ (e.1, x) ∷ []) is
           ]
 
+    -- a step past the first leaf, which has some pair
+    pub stepped : (ends' : Option (ℕ × ℕ)) → (e.0 ≡ e.1 → ends' ≡ None) → (e.0 ≢ e.1 → ends' ≡ option_map (λ m. (m, e.1)) (number_after ps e.0))
+        → EndsFit ends' ps × (x : K × V) × (ends_left ends ps ≡ (e.0, x) ∷ ends_left ends' ps)
+    stepped ends' one two =
+        let b = begins_with (span_of ps e.0 e.1) e.0 cut.first_is in
+        let there : leaf_in ps e.0 ≡ Some b.pair = first_pair ps distinct e.0 e.1 (span_of ps e.0 e.1) cut b.pair b.rest b.is in
+        let p = passed_first ends' b.pair (number_after ps e.0) there refl one two in
+        (p.0, b.pair, p.1)
+
+    -- and one past the last
+    pub stepped_back : (ends' : Option (ℕ × ℕ)) → (e.0 ≡ e.1 → ends' ≡ None) → (e.0 ≢ e.1 → ends' ≡ option_map (λ m. (e.0, m)) (number_before ps e.1))
+        → EndsFit ends' ps × (x : K × V) × (ends_left ends ps ≡ ends_left ends' ps ++ (e.1, x) ∷ [])
+    stepped_back ends' one two =
+        let b = ends_with (span_of ps e.0 e.1) e.1 cut.last_is in
+        let there : leaf_in ps e.1 ≡ Some b.pair = last_pair ps distinct e.0 e.1 (span_of ps e.0 e.1) cut b.pair b.front b.is in
+        let p = passed_last ends' b.pair (number_before ps e.1) there refl one two in
+        (p.0, b.pair, p.1)
+
   -- ---- new cursors
 
   module _ (ps : List (Numbered K V)) (distinct : AreDistinct ps) (first last : ℕ) (row : List (Numbered K V)) (cut : Cut ps first last row) (c : Cursor) (is : c ≡ left_between first last) where
@@ -213,12 +231,4 @@ module _ {K V : Type 0} where
   no_last [] e = refl
   no_last (p ∷ []) e = absurd cc
   no_last (p ∷ q ∷ ps) e = absurd (let h : q ∷ ps ≡ [] = no_last (q ∷ ps) e in cc)
-
   -- ---- a pair taken is a number passed
-
-  module _ (ps qs : List (Numbered K V)) (same : qs ≡ ps) (old new : Cursor) (id : ℕ) (x : K × V) where
-    pub passed_one : leaves_left old qs ≡ (id, x) ∷ leaves_left new qs → PassesFirst (leaves_left old ps) (Some id) (leaves_left new ps)
-    passed_one e = (x, subst (λ (l : List (Numbered K V)). leaves_left old l ≡ (id, x) ∷ leaves_left new l) same e)
-
-    pub passed_one_back : leaves_left old qs ≡ leaves_left new qs ++ (id, x) ∷ [] → PassesLast (leaves_left old ps) (Some id) (leaves_left new ps)
-    passed_one_back e = (x, subst (λ (l : List (Numbered K V)). leaves_left old l ≡ leaves_left new l ++ (id, x) ∷ []) same e)

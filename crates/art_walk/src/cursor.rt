@@ -1,11 +1,9 @@
 //! A first and a last leaf that are still to come.
-ghost use Rattle.std.specs.Prelude.{◌≡◌, ◌≢◌, ◌+◌, option_map, is_some, IfSome, Some, None, if◌then◌else◌};
-ghost use Rattle.art_tree.specs.Leaves.{leaf_in, Has, number_after, number_before};
-ghost use Rattle.blart_keys.specs.Walks.{TakesFirst, TakesLast};
-ghost use Rattle.art_walk.specs.Pairs.{shown_leaf};
+ghost use Rattle.std.specs.Prelude.{◌≡◌, ◌≢◌, option_map, IfSome, Some, None};
+ghost use Rattle.art_tree.specs.Leaves.{Has, number_after, number_before};
 ghost use Rattle.art_walk.specs.Cursor.{nothing_left, left_between, leaves_left, FitsIn, PassesFirst, PassesLast};
 
-use art_tree::{LeafId, Leaves, Position, Tree, Visits};
+use art_tree::{LeafId, Leaves, Position, Tree};
 use blart_keys::AsBytes;
 
 // The ends without the first leaf; `seen` is where that may stand, and then where the leaf after it does. Nothing is looked for after the last.
@@ -103,89 +101,41 @@ impl Cursor {
         Cursor::between(first, last)
     }
 
-    /// Passes the first leaf that is left, and gives its number and its pair. One visit where there is one, and else none.
-    #[inline(always)]
-    pub fn next<'a, K, V>(
-        &mut self,
-        leaves: &'a Leaves<K, V>,
-        visits: &mut Visits,
-    ) -> Option<(LeafId, &'a K, &'a V)>
-        requires { FitsIn self.old leaves.now.pairs }
-        ensures fits { FitsIn self.new leaves.now.pairs }
-        ensures takes { TakesFirst (leaves_left self.old leaves.now.pairs) (shown_leaf result)
-            (leaves_left self.new leaves.now.pairs) }
-        ensures there { IfSome result
-            (λ r. leaf_in leaves.now.pairs r.0 ≡ Some (r.1.now, r.2.now)) }
-        ensures counted { visits.new.count ≡ visits.old.count + (if is_some result then 1 else 0) }
-    {
-        leaves.law();
-        let (first, last) = self.ends?;
-        let (key, value) = leaves.read(first, visits);
-        let ends = without_first(leaves, first, last, &mut self.first_at);
-        self.ends = ends;
-        Some((first, key, value))
-    }
-
-    /// Passes the last leaf that is left, and gives its number and its pair. One visit where there is one, and else none.
-    #[inline(always)]
-    pub fn next_back<'a, K, V>(
-        &mut self,
-        leaves: &'a Leaves<K, V>,
-        visits: &mut Visits,
-    ) -> Option<(LeafId, &'a K, &'a V)>
-        requires { FitsIn self.old leaves.now.pairs }
-        ensures fits { FitsIn self.new leaves.now.pairs }
-        ensures takes { TakesLast (leaves_left self.old leaves.now.pairs) (shown_leaf result)
-            (leaves_left self.new leaves.now.pairs) }
-        ensures there { IfSome result
-            (λ r. leaf_in leaves.now.pairs r.0 ≡ Some (r.1.now, r.2.now)) }
-        ensures counted { visits.new.count ≡ visits.old.count + (if is_some result then 1 else 0) }
-    {
-        leaves.law();
-        let (first, last) = self.ends?;
-        let (key, value) = leaves.read(last, visits);
-        let ends = without_last(leaves, first, last, &mut self.last_at);
-        self.ends = ends;
-        Some((last, key, value))
-    }
-
-    /// Passes the first leaf that is left, and gives its number. One visit where there is one, and else none.
+    /// Passes the first leaf that is left, and gives its number. It reads no leaf.
     #[inline(always)]
     pub fn step<K: AsBytes, V, const PREFIX_LEN: usize>(
         &mut self,
         tree: &Tree<K, V, PREFIX_LEN>,
-        visits: &mut Visits,
     ) -> Option<LeafId>
         requires { FitsIn self.old tree.now.pairs }
         ensures fits { FitsIn self.new tree.now.pairs }
         ensures passes { PassesFirst (leaves_left self.old tree.now.pairs) result
             (leaves_left self.new tree.now.pairs) }
         ensures there { IfSome result (λ id. Has tree.now.pairs id) }
-        ensures counted { visits.new.count ≡ visits.old.count + (if is_some result then 1 else 0) }
     {
-        match self.next(tree.leaves(), visits) {
-            Some(found) => Some(found.0),
-            None => None,
-        }
+        tree.law();
+        let (first, last) = self.ends?;
+        let ends = without_first(tree.leaves(), first, last, &mut self.first_at);
+        self.ends = ends;
+        Some(first)
     }
 
-    /// Passes the last leaf that is left, and gives its number. One visit where there is one, and else none.
+    /// Passes the last leaf that is left, and gives its number. It reads no leaf.
     #[inline(always)]
     pub fn step_back<K: AsBytes, V, const PREFIX_LEN: usize>(
         &mut self,
         tree: &Tree<K, V, PREFIX_LEN>,
-        visits: &mut Visits,
     ) -> Option<LeafId>
         requires { FitsIn self.old tree.now.pairs }
         ensures fits { FitsIn self.new tree.now.pairs }
         ensures passes { PassesLast (leaves_left self.old tree.now.pairs) result
             (leaves_left self.new tree.now.pairs) }
         ensures there { IfSome result (λ id. Has tree.now.pairs id) }
-        ensures counted { visits.new.count ≡ visits.old.count + (if is_some result then 1 else 0) }
     {
-        match self.next_back(tree.leaves(), visits) {
-            Some(found) => Some(found.0),
-            None => None,
-        }
+        tree.law();
+        let (first, last) = self.ends?;
+        let ends = without_last(tree.leaves(), first, last, &mut self.last_at);
+        self.ends = ends;
+        Some(last)
     }
 }

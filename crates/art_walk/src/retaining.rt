@@ -5,10 +5,10 @@ ghost use Rattle.art_walk.specs.Pairs.{pairs_of};
 ghost use Rattle.art_walk.specs.Asking.{RetainsBy};
 
 use crate::cursor::Cursor;
-use art_tree::{Tree, Visits};
+use art_tree::Tree;
 use blart_keys::AsBytes;
 
-/// Asks the closure once of each pair, in byte order of the keys, and removes those at which it answers `false`. The others stay with their values as the closure left them. Takes no memory; each pair that it asks about is one visit, and each that goes costs a removal.
+/// Asks the closure once of each pair, in byte order of the keys, and removes those at which it answers `false`. The others stay with their values as the closure left them. Takes no memory; it reads each pair that it asks about, and each that goes costs a removal.
 /// The closure is lent: the state that it is left in shows that nothing more was asked of it.
 pub fn retain_by<K: AsBytes + Drop, V: Drop, F: FnMut(&K, &mut V) -> bool, const PREFIX_LEN: usize>(
     tree: &mut Tree<K, V, PREFIX_LEN>,
@@ -19,7 +19,7 @@ pub fn retain_by<K: AsBytes + Drop, V: Drop, F: FnMut(&K, &mut V) -> bool, const
 {
     tree.law();
     let mut cursor = Cursor::all(tree);
-    'pairs: while let Some(id) = cursor.step(tree, &mut Visits::new()) {
+    'pairs: while let Some(id) = cursor.step(tree) {
         let (key, value) = tree.leaf_mut(id);
         if f(key, value) {
             continue;

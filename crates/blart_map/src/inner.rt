@@ -154,7 +154,7 @@ impl<'a, K: AsBytes + Drop, V, const PREFIX_LEN: usize> InnerOccupiedEntry<
         map.only_entry(first, last)
     }
 
-    /// A walk that lends the values of the related pairs, with their keys, ascending by the keys' bytes, from both ends. Takes no memory; each step is one visit.
+    /// A walk that lends the values of the related pairs, with their keys, ascending by the keys' bytes, from both ends. Takes no memory; each step reads one pair.
     ///
     /// ```
     /// if let PrefixEntry::Occupied(PrefixOccupied::Inner(entry)) = map.prefix_entry("ca") {

@@ -8,7 +8,7 @@ use crate::map::TreeMap;
 use blart_keys::AsBytes;
 
 impl<K: AsBytes + Drop, V: Drop, const PREFIX_LEN: usize> TreeMap<K, V, PREFIX_LEN> {
-    /// Asks the closure once of each pair, ascending by the keys' bytes, and removes those at which it answers `false`. The others stay with their values as the closure left them. Takes no memory; each pair that it asks about is one visit, and each that goes costs a removal.
+    /// Asks the closure once of each pair, ascending by the keys' bytes, and removes those at which it answers `false`. The others stay with their values as the closure left them. Takes no memory; it reads each pair that it asks about, and each that goes costs a removal.
     ///
     /// ```
     /// map.try_insert("cat", 1)?;

@@ -43,7 +43,7 @@ pub type ValuesMut<'a, K, V, const PREFIX_LEN: usize> = CountedWalk<
     PREFIX_LEN,
 >;
 
-/// The values of a map from both ends, in byte order of their keys, each lent in turn. Each step is one visit, and where the ends have met none comes at either.
+/// The values of a map from both ends, in byte order of their keys, each lent in turn. Each step reads one pair, and where the ends have met none comes at either.
 ///
 /// ```
 /// map.try_insert("cat", 1)?;
@@ -68,7 +68,7 @@ impl<'a, K: AsBytes, V, const PREFIX_LEN: usize> CountedWalk<'a, K, V, WithKeys,
     ghost use Rattle.blart_map.specs.CountedWalk.{counted_left, LendsAll, lends_pair, counted_with};
     ghost use Rattle.blart_map.specs.OnceWritten.{all_once_written};
 
-    /// Calls the closure once with the key and the value of each pair that is left, in byte order of the keys. Each value is what the closure leaves, and the keys stay. Takes no memory; each call is one visit.
+    /// Calls the closure once with the key and the value of each pair that is left, in byte order of the keys. Each value is what the closure leaves, and the keys stay. Takes no memory; each call reads one pair.
     ///
     /// Where each call leaves the value that a function `h` of the pair gives, and the closure as it was, the pairs become what `h` makes of them: the clauses `all` and `stored` say so of a walk that has lent nothing yet, `acts` of any. For every closure `each` and `left` say which calls were made, and that each value is what its call left.
     ///
@@ -128,7 +128,7 @@ impl<'a, K: AsBytes, V, const PREFIX_LEN: usize> CountedWalk<'a, K, V, ValuesAlo
     ghost use Rattle.blart_map.specs.CountedWalk.{counted_left, LendsAll};
     ghost use Rattle.blart_map.specs.OnceWritten.{all_once_written};
 
-    /// Calls the closure once with each value that is left, in byte order of their keys. Each value is what the closure leaves, and the keys stay. Takes no memory; each call is one visit.
+    /// Calls the closure once with each value that is left, in byte order of their keys. Each value is what the closure leaves, and the keys stay. Takes no memory; each call reads one pair.
     ///
     /// Where each call leaves the value that a function `h` of the pair gives, and the closure as it was, the pairs become what `h` makes of them: the clauses `all` and `stored` say so of a walk that has lent nothing yet, `acts` of any. For every closure `each` and `left` say which calls were made, and that each value is what its call left.
     ///

@@ -35,7 +35,7 @@ impl<K: AsBytes, V, const PREFIX_LEN: usize> TreeMap<K, V, PREFIX_LEN> {
     ghost use Rattle.blart_map.specs.ExtractIf.{extract_left};
     ghost use Rattle.blart_map.specs.OnceTaken.{once_extracted, still_to_extract};
 
-    /// A walk that takes out the pairs within both bounds at which the closure answers `true`, from both ends. The bounds are in order where the map has pairs, as for [`TreeMap::range`]. Takes no memory; each pair that it asks about is one visit, and each that it takes out costs a removal.
+    /// A walk that takes out the pairs within both bounds at which the closure answers `true`, from both ends. The bounds are in order where the map has pairs, as for [`TreeMap::range`]. Takes no memory; it reads each pair that it asks about, and each that it takes out costs a removal.
     ///
     /// ```
     /// let low = "b";

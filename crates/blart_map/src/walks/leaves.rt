@@ -51,7 +51,7 @@ impl<K: AsBytes, V, const PREFIX_LEN: usize> TreeMap<K, V, PREFIX_LEN> {
         )
     }
 
-    /// Passes the first leaf that a cursor has left, and gives its number. One visit where there is one, and else none; it is not counted.
+    /// Passes the first leaf that a cursor has left, and gives its number. It reads no leaf.
     #[inline(always)]
     pub fn step(&self, cursor: &mut Cursor) -> Option<LeafId>
         requires { FitsIn cursor.old self.now }
@@ -63,10 +63,10 @@ impl<K: AsBytes, V, const PREFIX_LEN: usize> TreeMap<K, V, PREFIX_LEN> {
         ensures distinct { AreDistinct self.now }
     {
         self.tree.law();
-        cursor.step(&self.tree, &mut Visits::new())
+        cursor.step(&self.tree)
     }
 
-    /// Passes the last leaf that a cursor has left, and gives its number. One visit where there is one, and else none; it is not counted.
+    /// Passes the last leaf that a cursor has left, and gives its number. It reads no leaf.
     #[inline(always)]
     pub fn step_back(&self, cursor: &mut Cursor) -> Option<LeafId>
         requires { FitsIn cursor.old self.now }
@@ -78,7 +78,7 @@ impl<K: AsBytes, V, const PREFIX_LEN: usize> TreeMap<K, V, PREFIX_LEN> {
         ensures distinct { AreDistinct self.now }
     {
         self.tree.law();
-        cursor.step_back(&self.tree, &mut Visits::new())
+        cursor.step_back(&self.tree)
     }
 
     /// The pair of a leaf, by its number. One visit, not counted.

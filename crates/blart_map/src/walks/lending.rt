@@ -23,7 +23,7 @@ impl<K: AsBytes, V, const PREFIX_LEN: usize> TreeMap<K, V, PREFIX_LEN> {
     ghost use Rattle.blart_map.specs.OnceTaken.{once_taken, still_to_take};
     ghost use Rattle.blart_map.specs.TakeWalk.{take_left};
 
-    /// A walk that lends each value to be written, with its key, in byte order of the keys, from both ends. Takes no memory; each step is one visit.
+    /// A walk that lends each value to be written, with its key, in byte order of the keys, from both ends. Takes no memory; each step reads one pair.
     ///
     /// ```
     /// let mut walk = map.iter_mut();
@@ -43,7 +43,7 @@ impl<K: AsBytes, V, const PREFIX_LEN: usize> TreeMap<K, V, PREFIX_LEN> {
         CountedWalk::all(self, WithKeys)
     }
 
-    /// A walk that lends each value to be written, in byte order of the keys, from both ends. Takes no memory; each step is one visit.
+    /// A walk that lends each value to be written, in byte order of the keys, from both ends. Takes no memory; each step reads one pair.
     ///
     /// ```
     /// let mut walk = map.values_mut();
@@ -62,7 +62,7 @@ impl<K: AsBytes, V, const PREFIX_LEN: usize> TreeMap<K, V, PREFIX_LEN> {
         CountedWalk::all(self, ValuesAlone)
     }
 
-    /// A walk that lends the values whose keys' bytes begin with these, with their keys, in byte order of the keys, from both ends; all of them where there are no bytes. Takes no memory; each step is one visit.
+    /// A walk that lends the values whose keys' bytes begin with these, with their keys, in byte order of the keys, from both ends; all of them where there are no bytes. Takes no memory; each step reads one pair.
     ///
     /// ```
     /// let mut walk = map.prefix_mut(b"ca");
@@ -83,7 +83,7 @@ impl<K: AsBytes, V, const PREFIX_LEN: usize> TreeMap<K, V, PREFIX_LEN> {
         LendingWalk::of(self, cursor, BelowFront)
     }
 
-    /// A walk that lends the values whose keys' bytes are within both bounds, with their keys, in byte order of the keys, from both ends. The bounds are in order where the map has pairs, as for [`TreeMap::range`]. Takes no memory; each step is one visit.
+    /// A walk that lends the values whose keys' bytes are within both bounds, with their keys, in byte order of the keys, from both ends. The bounds are in order where the map has pairs, as for [`TreeMap::range`]. Takes no memory; each step reads one pair.
     ///
     /// ```
     /// let (low, high) = ("b", "d");
@@ -118,7 +118,7 @@ impl<K: AsBytes, V, const PREFIX_LEN: usize> TreeMap<K, V, PREFIX_LEN> {
         LendingWalk::of(self, cursor, InRange)
     }
 
-    /// A walk that lends the pairs within both bounds, in byte order of their keys, from both ends, each to be kept or taken out. The bounds are in order where the map has pairs, as for [`TreeMap::range`]. Takes no memory; each step is one visit.
+    /// A walk that lends the pairs within both bounds, in byte order of their keys, from both ends, each to be kept or taken out. The bounds are in order where the map has pairs, as for [`TreeMap::range`]. Takes no memory; each step reads one pair.
     ///
     /// ```
     /// let mut walk = map.take_walk(Bound::<&&str>::Unbounded, Bound::Unbounded);

@@ -63,7 +63,7 @@ pub type SubtreeIterMut<'a, K, V, const PREFIX_LEN: usize> = LendingWalk<
     PREFIX_LEN,
 >;
 
-/// Some values of a map from both ends, in byte order of their keys, each lent in turn. Each step is one visit, and where the ends have met none comes at either.
+/// Some values of a map from both ends, in byte order of their keys, each lent in turn. Each step reads one pair, and where the ends have met none comes at either.
 ///
 /// ```
 /// map.try_insert("car", 1)?;
@@ -152,7 +152,7 @@ impl<'a, K: AsBytes, V, M: Drop, const PREFIX_LEN: usize> LendingWalk<'a, K, V, 
     ghost use Rattle.blart_map.specs.LendingWalk.{lending_left};
     ghost use Rattle.blart_map.specs.OnceWritten.{once_written};
 
-    /// Calls the closure once with the key and the value of each pair that is left, in byte order of the keys. Each value is what the closure leaves, and the keys stay. Takes no memory; each call is one visit.
+    /// Calls the closure once with the key and the value of each pair that is left, in byte order of the keys. Each value is what the closure leaves, and the keys stay. Takes no memory; each call reads one pair.
     ///
     /// Where each call leaves the value that a function `h` of the pair gives, and the closure as it was, the pairs become what `h` makes of them: the clause `within` says so of a walk that has lent nothing yet, over the pairs that pass a test, `acts` of any. For every closure `left` says which calls were made, and that each value is what its call left.
     ///

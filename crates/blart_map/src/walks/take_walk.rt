@@ -9,7 +9,7 @@ use art_tree::LeafId;
 use art_walk::Cursor;
 use blart_keys::AsBytes;
 
-/// The pairs within two bounds from both ends, in byte order of their keys, each lent in turn and then kept or taken out of the map. Each step is one visit, and where the ends have met none comes at either. Dropped while a pair is undecided, it keeps that pair.
+/// The pairs within two bounds from both ends, in byte order of their keys, each lent in turn and then kept or taken out of the map. Each step reads one pair, and where the ends have met none comes at either. Dropped while a pair is undecided, it keeps that pair.
 ///
 /// ```
 /// map.try_insert("cat", 1)?;
