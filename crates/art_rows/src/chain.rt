@@ -246,6 +246,7 @@ impl<T: Drop> Chain<T> {
     }
 
     /// Makes places for so many items more.
+    #[inline(always)]
     pub(crate) fn reserve(&mut self, n: usize) -> Result<(), AllocError>
         ensures pairs { self.new.pairs ≡ self.old.pairs }
         ensures grows { self.old.spare ≤ self.new.spare }

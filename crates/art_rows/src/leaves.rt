@@ -504,6 +504,7 @@ impl<K: Drop, V: Drop> Leaves<K, V> {
     }
 
     /// Makes places for so many leaves more. It fails where memory is refused, and then changes nothing that a contract sees but, it may be, the number of places.
+    #[inline(always)]
     pub fn reserve(&mut self, n: usize) -> Result<(), AllocError>
         ensures pairs { self.new.pairs ≡ self.old.pairs }
         ensures rows { self.new.rows ≡ self.old.rows }
@@ -562,6 +563,22 @@ impl<K: Drop, V: Drop> Leaves<K, V> {
         if self.row_len(position.row) < ROW {
             return self.put(prev, position, key, value);
         }
+        self.put_in_full(prev, position, key, value)
+    }
+
+    // Puts a pair at a spot of a full row, which is split, or behind a full last row, where a new one begins.
+    #[cold]
+    #[inline(never)]
+    fn put_in_full(&mut self, prev: Option<LeafId>, position: Position, key: K, value: V) -> LeafId
+        requires room { 0 < room self.old }
+        requires prev { IfSome prev (Has self.old.pairs) }
+        requires spot { IsSpot self.old.rows position (spot_index prev self.old.pairs) }
+        requires full { IfSome (leaf_in self.old.rows position.row) (λ ids. length ids ≡ ROW) }
+        ensures fresh { leaf_in self.old.pairs result ≡ None }
+        ensures placed { self.new.pairs ≡ with_pair_after prev (result, (key, value)) self.old.pairs }
+        ensures room { room self.old ≤ room self.new + 1 }
+    {
+        let _ = &self.rows;
         if position.place == ROW && self.row_after(position.row).is_none() {
             return self.begin(prev, Some(position.row), key, value);
         }
@@ -594,6 +611,7 @@ impl<K: Drop, V: Drop> Leaves<K, V> {
     }
 
     // Puts a pair at a spot of a row that is not full.
+    #[inline(always)]
     fn put(&mut self, prev: Option<LeafId>, position: Position, key: K, value: V) -> LeafId
         requires spare { 0 < self.old.spare }
         requires prev { IfSome prev (Has self.old.pairs) }
@@ -616,6 +634,8 @@ impl<K: Drop, V: Drop> Leaves<K, V> {
     }
 
     // Puts a pair into a new row, after another or in front of all.
+    #[cold]
+    #[inline(never)]
     fn begin(&mut self, prev: Option<LeafId>, prev_row: Option<usize>, key: K, value: V) -> LeafId
         requires spare { 0 < self.old.spare }
         requires spare_rows { 0 < self.old.spare_rows }
@@ -636,6 +656,8 @@ impl<K: Drop, V: Drop> Leaves<K, V> {
     }
 
     // Moves the second half of a full row into a new one after it.
+    #[cold]
+    #[inline(never)]
     fn split(&mut self, row: usize) -> usize
         requires spare_rows { 0 < self.old.spare_rows }
         requires has { Has self.old.rows row }

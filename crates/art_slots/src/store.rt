@@ -97,6 +97,7 @@ impl<T> Store<T> {
     }
 
     /// Adds spare slots until there are so many. Where there is no memory, the records stand, and no spare slot is lost.
+    #[inline(always)]
     pub fn reserve(&mut self, count: usize) -> Result<(), AllocError>
         ensures same { SameRecords self.old self.new }
         ensures used { used_count self.new ≡ used_count self.old }
@@ -104,14 +105,27 @@ impl<T> Store<T> {
         ensures enough { OnOk result (count ≤ self.new.spare) }
         ensures refused { OnErr result (self.old.spare < count) }
     {
-        let spare = self.spare();
-        if count <= spare {
+        if count <= self.spare() {
             return Ok(());
         }
+        self.grow(count)
+    }
+
+    // Adds spare slots until there are so many, where there are fewer. It stands apart, so that a call which finds enough of them is one comparison.
+    #[cold]
+    #[inline(never)]
+    fn grow(&mut self, count: usize) -> Result<(), AllocError>
+        requires { self.old.spare < count }
+        ensures same { SameRecords self.old self.new }
+        ensures used { used_count self.new ≡ used_count self.old }
+        ensures grows { self.old.spare ≤ self.new.spare }
+        ensures enough { OnOk result (count ≤ self.new.spare) }
+    {
+        let missing = count - self.spare();
         // A slab that has grown may say any capacity, and only where that is small are the numbers still to come surely small. So the reserved places get their slots first, and keep what they promise.
         self.slots.add_spares(self.reserved);
         self.reserved = 0;
-        self.slots.grow(count - spare)?;
+        self.slots.grow(missing)?;
         // A slab takes more than it is asked for. All of it is reserved, so that the next calls ask for nothing.
         self.reserved = self.slots.room();
         Ok(())
@@ -146,6 +160,7 @@ impl<T: Drop> Store<T> {
     }
 
     /// Puts a record into a spare slot, and gives its number.
+    #[inline(always)]
     pub fn fill(&mut self, fresh: T) -> usize
         requires { 0 < self.old.spare }
         ensures small { result < 2 ^ 61 }

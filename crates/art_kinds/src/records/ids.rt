@@ -12,7 +12,7 @@ pub enum Kind {
 }
 
 /// The number of an inner node. A contract sees kind and place as one number.
-#[derive(Clone, Copy)]
+#[derive(Clone, Copy, PartialEq, Eq)]
 pub struct NodeId {
     pub(crate) kind: Kind,
     pub(crate) place: usize,

@@ -1,7 +1,7 @@
 -- The edge above a child, where the store changes.
 use Rattle.std.proofs.Common.{◌≡◌, ◌≢◌, ℕ, List, [], ◌∷◌, ◌++◌, refl, ap, sym, subst, inl, inr, Option, Some, None, ◌∙◌}
 use Rattle.std.proofs.lemmas.Bool.Decides.{eqb_tells}
-use Rattle.art_tree.specs.Invariant.EdgesAbove.{LeadsTo, TurnsTo, edge_front}
+use Rattle.art_tree.specs.Invariant.EdgesAbove.{LeadsTo, TurnsTo, AscendsAt, edge_front}
 use Rattle.art_tree.specs.Begins.{Bytes}
 use Rattle.art_kinds.specs.Nodes.{Node, Makes, Renames, Redirects}
 use Rattle.art_kinds.specs.Edges.{child_at, Ascends}
@@ -26,6 +26,14 @@ module _ {P : ℕ} (keys : ℕ → Option Bytes) (old new : ℕ → Option Node)
   pub leads_renamed : (above : Option (ℕ × ℕ)) (m : ℕ) → LeadsTo old root above (Inner n) → Renames old new n m → LeadsTo new root above (Inner n)
   leads_renamed None m l r = l
   leads_renamed (Some (p, b)) m l r = (l.0, kept_mid old new n m p l.0 r l.1 (not_itself keys old root s p b n l.0 l.1 l.2), l.2)
+
+  -- and the edges of the edge's node ascend as before
+  pub ascends_renamed : (above : Option (ℕ × ℕ)) (m : ℕ) → LeadsTo old root above (Inner n) → Renames old new n m → AscendsAt new above
+  ascends_renamed None m l r = tt
+  ascends_renamed (Some (p, b)) m l r = λ x is.
+      let k : new p ≡ Some l.0 = kept_mid old new n m p l.0 r l.1 (not_itself keys old root s p b n l.0 l.1 l.2) in
+      let same : l.0 ≡ x = cc in
+      subst (λ (z : Node). Ascends z.edges) same (s.node p l.0 l.1).ascends
 
 -- what became of an old node: the edge at g0 leads to another child now
 pub record Turns (x x' : Node) (f g0 : Bytes) (c0 c1 : Child) : Type 0 where

@@ -3,7 +3,7 @@ ghost use Rattle.std.specs.Prelude.{◌≡◌, ◌≢◌, ℕ, ◌+◌, ◌-◌,
 ghost use Rattle.art_tree.specs.Begins.{Bytes};
 ghost use Rattle.art_tree.specs.Invariant.Shape.{Shape};
 ghost use Rattle.art_tree.specs.Calls.Spots.{SpotFits};
-ghost use Rattle.art_tree.specs.Invariant.EdgesAbove.{LeadsTo, TurnsTo};
+ghost use Rattle.art_tree.specs.Invariant.EdgesAbove.{LeadsTo, TurnsTo, AscendsAt};
 ghost use Rattle.art_tree.specs.Content.{Fits, IsOpen, room as places};
 ghost use Rattle.art_tree.specs.Calls.Placing.{IsSpotFor, HasNearest, IsOverLeaf, TreeGains, Forks, DepthWithin, KeepsFrom, Places, content_of};
 ghost use Rattle.art_kinds.specs.Nodes.{at, room, FitsNew, SameSpares};
@@ -12,6 +12,7 @@ ghost use Rattle.art_tree.specs.Calls.Removing.{StartsBelow, EndsBelow, Cuts};
 ghost use Rattle.art_tree.specs.Points.{IsFree, IsGood};
 ghost use Rattle.art_tree.specs.Invariant.Sound.{IsSound};
 ghost use Rattle.art_kinds.specs.declared.records.ids.Child.{Child as Way};
+ghost use Rattle.art_kinds.specs.declared.records.ids.Child.TheVariants.{Inner};
 
 use crate::tree::descent::{EdgeAbove, Spot, locate};
 use crate::tree::parting::leaf_before;
@@ -98,7 +99,7 @@ fn place_beside<K: AsBytes + Drop, V: Drop, const P: usize>(
     leaves.law();
     let mut visits = Visits::new();
     let (nearest, _) = leaves.read(place.nearest, &mut visits);
-    let spot = spot_for(nodes, root, place, nearest.as_bytes());
+    let spot = spot_for(nodes, root, place, key.as_bytes(), nearest.as_bytes());
     let (prev, seen) = leaf_before(leaves, &place.beside);
     let id = leaves.insert(prev, seen, key, value);
     let (own, _) = leaves.read(id, &mut visits);
@@ -114,71 +115,80 @@ fn place_beside<K: AsBytes + Drop, V: Drop, const P: usize>(
 }
 
 // Where a key leaves the nearest key at the depth of a place: at the end of the place's edge, where that shows, or else at the end of a way down.
-fn spot_for<const P: usize>(nodes: &Nodes<P>, root: &Child, place: &Place, nearest: &[u8]) -> Spot
-    requires { HasNearest P (at nodes.now) root.now place.now nearest.now }
+fn spot_for<const P: usize>(
+    nodes: &Nodes<P>,
+    root: &Child,
+    place: &Place,
+    key: &[u8],
+    nearest: &[u8],
+) -> Spot
+    requires nearest { HasNearest P (at nodes.now) root.now place.now nearest.now }
+    requires long { place.now.depth ≤ length key.now }
     ensures { (keys : ℕ → Option Bytes) (s : Shape P keys (at nodes.now) (Some root.now))
         → keys place.now.nearest ≡ Some nearest.now
         → SpotFits (at nodes.now) (Some root.now) s.front_of nearest.now place.now.depth result }
 {
-    match spot_shown(nodes, root, place) {
+    match spot_shown(nodes, root, place, key) {
         Some(spot) => spot,
         None => locate(nodes, root, nearest, place.depth, &mut Visits::new()),
     }
 }
 
-// The spot at the end of a place's edge, where the nearest leaf is at hand to show it.
-fn spot_shown<const P: usize>(nodes: &Nodes<P>, root: &Child, place: &Place) -> Option<Spot>
+// The spot at the end of a place's edge, where the nearest leaf is at hand to show it. No leaf is read.
+fn spot_shown<const P: usize>(
+    nodes: &Nodes<P>,
+    root: &Child,
+    place: &Place,
+    key: &[u8],
+) -> Option<Spot>
+    requires { place.now.depth ≤ length key.now }
     ensures { IfSome result (λ spot. (keys : ℕ → Option Bytes)
         (s : Shape P keys (at nodes.now) (Some root.now)) (nearest : Bytes)
         → keys place.now.nearest ≡ Some nearest → place.now.depth ≤ length nearest
         → SpotFits (at nodes.now) (Some root.now) s.front_of nearest place.now.depth spot) }
 {
-    let child = child_by(nodes, root, &place.above)?;
+    let (above, child) = edge_toward(nodes, root, place, key)?;
     match child {
         Child::Leaf(id) => {
             if id != place.nearest {
                 return None;
             }
-            if !is_within(nodes, &place.above, place.depth) {
-                return None;
-            }
-            Some(Spot::Edge(place.above, Child::Leaf(id)))
+            Some(Spot::Edge(above, Child::Leaf(id)))
         }
         Child::Inner(id) => {
             if !is_over_nearest(nodes, &id, place) {
                 return None;
             }
-            Some(Spot::Node(place.above, id))
+            Some(Spot::Node(above, id))
         }
     }
 }
 
-// What stands below an edge, if there is one.
-fn child_by<const P: usize>(nodes: &Nodes<P>, root: &Child, above: &EdgeAbove) -> Option<Child>
-    ensures { IfSome result (λ child. LeadsTo (at nodes.now) (Some root.now) above.now child) }
+// The edge over a place, and what stands below: from the node that the place names, if that is less deep, by the byte of the key that goes there; or the way into the root.
+fn edge_toward<const P: usize>(
+    nodes: &Nodes<P>,
+    root: &Child,
+    place: &Place,
+    key: &[u8],
+) -> Option<(EdgeAbove, Child)>
+    requires { place.now.depth ≤ length key.now }
+    ensures leads { IfSome result (λ e. LeadsTo (at nodes.now) (Some root.now) e.0 e.1) }
+    ensures ends { IfSome result (λ e. EndsBelow (at nodes.now) e.0 place.now.depth) }
 {
-    match above {
-        None => Some(*root),
-        Some((parent, byte)) => {
-            if nodes.has(*parent) {
-                nodes.read(*parent, &mut Visits::new()).find(*byte)
-            } else {
-                None
-            }
-        }
+    let Some(parent) = place.above else {
+        return Some((None, *root));
+    };
+    if !nodes.has(parent) {
+        return None;
     }
-}
-
-// Whether the front of an edge is no longer than this.
-fn is_within<const P: usize>(nodes: &Nodes<P>, above: &EdgeAbove, depth: usize) -> bool
-    ensures { result ≡ true → EndsBelow (at nodes.now) above.now depth }
-{
-    match above {
-        None => true,
-        Some((parent, _)) => {
-            nodes.has(*parent) && nodes.read(*parent, &mut Visits::new()).depth() < depth
-        }
+    let node = nodes.read(parent, &mut Visits::new());
+    let depth = node.depth();
+    if depth >= place.depth {
+        return None;
     }
+    let byte = key[depth];
+    let child = node.find(byte)?;
+    Some((Some((parent, byte)), child))
 }
 
 // Whether a node is as deep as a place and has the nearest key below the place's byte.
@@ -239,9 +249,29 @@ fn add_at_node<const P: usize>(
     ensures room { room nodes.old ≤ room nodes.new + 1 }
 {
     let wide = nodes.widen(*node);
-    let top = lead(nodes, root, above, &Child::Inner(wide));
+    let top = follow(nodes, root, above, *node, wide);
     nodes.add_edge(wide, leaf.key[leaf.depth], Child::Leaf(leaf.id));
     top
+}
+
+// Leads the edge above a node to the number that the node has now, where that is another one. Answers the root.
+fn follow<const P: usize>(
+    nodes: &mut Nodes<P>,
+    root: &Child,
+    above: &EdgeAbove,
+    node: NodeId,
+    now: NodeId,
+) -> Child
+    requires leads { LeadsTo (at nodes.old) (Some root.now) above.now (Inner node) }
+    requires ascends { AscendsAt (at nodes.old) above.now }
+    ensures turned { TurnsTo (at nodes.old) (at nodes.new) (Some root.now) (Some result)
+        above.now (Inner now) }
+    ensures spares { SameSpares nodes.old nodes.new }
+{
+    if now == node {
+        return *root;
+    }
+    lead(nodes, root, above, &Child::Inner(now))
 }
 
 // Adds a leaf at an edge where its key leaves those below, under a new node. Answers the root.

@@ -7,10 +7,10 @@ ghost use Rattle.art_kinds.specs.Nodes.{at};
 ghost use Rattle.art_tree.specs.Points.{IsGood};
 ghost use Rattle.art_tree.specs.Invariant.Sound.{IsSound};
 
-use crate::tree::descent::{EdgeAbove, end_under};
+use crate::tree::descent::end_under;
 use crate::tree::parting::{Beside, edge_beside};
 use crate::tree::stop::{Stop, stop_of};
-use art_kinds::{Child, Edge, Nodes};
+use art_kinds::{Child, Edge, NodeId, Nodes};
 use art_rows::Leaves;
 use art_slots::{LeafId, Visits};
 use blart_keys::AsBytes;
@@ -22,8 +22,8 @@ pub struct Place {
     pub(crate) nearest: LeafId,
     pub(crate) depth: usize,
     pub(crate) beside: Beside,
-    // The edge over the place, as long as it leads there, and the byte of an edge to the nearest leaf.
-    pub(crate) above: EdgeAbove,
+    // The node of the edge over the place, as long as that stands, and none at the root; and the byte of an edge to the nearest leaf.
+    pub(crate) above: Option<NodeId>,
     pub(crate) byte: u8,
 }
 
@@ -85,7 +85,7 @@ fn place_under<const P: usize>(
     edge: &Edge,
     is_after: bool,
     depth: usize,
-    above: &EdgeAbove,
+    above: &Option<NodeId>,
 ) -> Place
     requires { (keys : ℕ → Option Bytes) × (q : Bytes)
         × IsPlaceUnder P keys (at nodes.now) q depth edge.now.to is_after }

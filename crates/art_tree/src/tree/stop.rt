@@ -1,5 +1,5 @@
 //! The way down by the bytes of a query. The prefixes that the nodes keep are compared on the way, and a leaf is read at its end, or where a prefix is longer than what is kept.
-ghost use Rattle.std.specs.Prelude.{◌≡◌, length};
+ghost use Rattle.std.specs.Prelude.{◌≡◌, length, Some};
 ghost use Rattle.art_tree.specs.Calls.Stops.{OnWay, IsShared, IsStop, IsStep};
 ghost use Rattle.art_tree.specs.Leaves.{keys_in};
 ghost use Rattle.art_kinds.specs.Nodes.{at};
@@ -7,8 +7,8 @@ ghost use Rattle.art_tree.specs.Invariant.Sound.{IsSound};
 ghost use Rattle.art_kinds.specs.declared.records.ids.Child.TheVariants.{Leaf, Inner};
 
 use crate::lists::{common_len, common_len_after};
-use crate::tree::descent::{EdgeAbove, end_under};
-use art_kinds::{Child, NodeId, Nodes};
+use crate::tree::descent::end_under;
+use art_kinds::{Child, NodeId, NodeRef, Nodes};
 use art_rows::Leaves;
 use art_slots::{LeafId, Visits};
 use blart_keys::AsBytes;
@@ -44,46 +44,32 @@ struct Shared {
     byte: u8,
 }
 
-/// Where the way down by the bytes of a query ends, in a tree with some pairs, and the edge that it went through last.
+/// Where the way down by the bytes of a query ends, in a tree with some pairs, and the node of the edge that it went through last.
 pub(crate) fn stop_of<K: AsBytes, V, const P: usize>(
     leaves: &Leaves<K, V>,
     nodes: &Nodes<P>,
     root: &Child,
     query: &[u8],
-) -> (Stop, EdgeAbove)
+) -> (Stop, Option<NodeId>)
     requires { IsSound K.bytes P leaves.now nodes.now (Some root.now) }
     ensures { IsStop P (keys_in K.bytes leaves.now.pairs) (at nodes.now) result.0 query.now }
 {
     let mut child = *root;
-    let mut over = *root;
+    let mut over = None;
     let mut start = 0;
     'down: loop {
         let id = match child {
-            Child::Leaf(id) => {
-                let stop = stop_at_leaf(leaves, nodes, start, id, query);
-                return (stop, edge_over(&over, query, start));
-            }
+            Child::Leaf(id) => return (stop_at_leaf(leaves, nodes, start, id, query), over),
             Child::Inner(id) => id,
         };
         match step_at(leaves, nodes, start, id, query) {
-            Step::Stops(stop) => return (stop, edge_over(&over, query, start)),
+            Step::Stops(stop) => return (stop, over),
             Step::Down(to, next) => {
-                over = child;
+                over = Some(id);
                 child = to;
                 start = next;
             }
         }
-    }
-}
-
-// The edge from a node to what so many of the query's bytes lead to.
-fn edge_over(over: &Child, query: &[u8], start: usize) -> EdgeAbove {
-    if start == 0 || start > query.len() {
-        return None;
-    }
-    match over {
-        Child::Inner(id) => Some((*id, query[start - 1])),
-        Child::Leaf(_) => None,
     }
 }
 
@@ -126,11 +112,11 @@ fn step_at<K: AsBytes, V, const P: usize>(
     requires { OnWay P (keys_in K.bytes leaves.now.pairs) (at nodes.now) (Inner id) start query.now }
     ensures { IsStep P (keys_in K.bytes leaves.now.pairs) (at nodes.now) id result query.now }
 {
-    let shared = shared_at(leaves, nodes, start, id, query);
+    let node = nodes.read(id, &mut Visits::new());
+    let shared = shared_at(leaves, nodes, &node, start, id, query);
     if shared.len == query.len() {
         return Step::Stops(Stop::Longer(Child::Inner(id)));
     }
-    let node = nodes.read(id, &mut Visits::new());
     let depth = node.depth();
     if shared.len < depth {
         return Step::Stops(Stop::AtEdge(Child::Inner(id), shared.len, shared.byte));
@@ -145,15 +131,16 @@ fn step_at<K: AsBytes, V, const P: usize>(
 fn shared_at<K: AsBytes, V, const P: usize>(
     leaves: &Leaves<K, V>,
     nodes: &Nodes<P>,
+    node: &NodeRef<'_, P>,
     start: usize,
     id: NodeId,
     query: &[u8],
 ) -> Shared
-    requires { OnWay P (keys_in K.bytes leaves.now.pairs) (at nodes.now) (Inner id) start query.now }
+    requires way { OnWay P (keys_in K.bytes leaves.now.pairs) (at nodes.now) (Inner id) start query.now }
+    requires is { at nodes.now id ≡ Some node.now }
     ensures { (w : OnWay P (keys_in K.bytes leaves.now.pairs) (at nodes.now) (Inner id) start query.now)
         → IsShared (w.shape.front_of id) query.now result.len result.byte }
 {
-    let node = nodes.read(id, &mut Visits::new());
     let depth = node.depth();
     let kept = node.prefix();
     let count = common_len(kept, &query[start..]);

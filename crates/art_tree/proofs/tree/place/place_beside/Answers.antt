@@ -1,5 +1,6 @@
 use Rattle.std.proofs.Common.{Some, lit<, arith}
 use Rattle.art_tree.specs.Leaves.{leaf_in}
+use Rattle.art_tree.specs.Calls.Placing.{HasNearest}
 use Rattle.art_tree.proofs.Calls.PlacedShapes.{nearest_long}
 use Rattle.art_tree.proofs.Pairs.Keys.{key_read}
 use Rattle.art_kinds.specs.Nodes.{at}
@@ -39,7 +40,7 @@ add_leaf-top-requires g c =
     let x : g.row.K.Denot × g.row.V.Denot = (c.args.key, c.args.value) in
     let s = c.requires.whole.shape in
     let p = placed_free g.K.AsBytes.bytes c.args.leaves.now c.args.nodes.now (Some c.args.root.now) c.args.place.now i.new.self.pairs i.result x c.requires.whole c.law.ensures.distinct c.requires.free c.leaf_before-prev.result.0 c.leaf_before-prev.ensures i.ensures.fresh i.ensures.placed in
-    (lit< tt, (free_spot g.K.AsBytes.bytes c.args.leaves.now.pairs i.new.self.pairs i.result x p (at c.args.nodes.now) c.args.root.now s c.args.place.now c.requires.free _ _ _ c.read.ensures.value c.read-3.ensures.value c.read-2.ensures.value _ _ _ c.as_bytes-2.ensures c.as_bytes.ensures c.as_bytes-3.ensures c.spot_for-spot.result (c.spot_for-spot.ensures _ s), c.requires.nodes_room))
+    (lit< tt, (free_spot g.K.AsBytes.bytes c.args.leaves.now.pairs i.new.self.pairs i.result x p (at c.args.nodes.now) c.args.root.now s c.args.place.now c.requires.free _ _ _ c.read.ensures.value c.read-3.ensures.value c.read-2.ensures.value _ _ _ c.as_bytes-3.ensures c.as_bytes-2.ensures c.as_bytes-4.ensures c.spot_for-spot.result (c.spot_for-spot.ensures _ s), c.requires.nodes_room))
 
 pub returns-clause-placed : goal.returns-clause-placed
 returns-clause-placed g c =
@@ -54,12 +55,14 @@ returns-clause-whole g c =
     let p = placed_free g.K.AsBytes.bytes c.args.leaves.now c.args.nodes.now (Some c.args.root.now) c.args.place.now i.new.self.pairs i.result x c.requires.whole c.law.ensures.distinct c.requires.free c.leaf_before-prev.result.0 c.leaf_before-prev.ensures i.ensures.fresh i.ensures.placed in
     record {
       content = p.put.content;
-      shape = free_gains g.K.AsBytes.bytes c.args.leaves.now.pairs i.new.self.pairs i.result x p (at c.args.nodes.now) c.args.root.now s c.args.place.now c.requires.free _ _ _ c.read.ensures.value c.read-3.ensures.value c.read-2.ensures.value _ _ _ c.as_bytes-2.ensures c.as_bytes.ensures c.as_bytes-3.ensures c.spot_for-spot.result (c.spot_for-spot.ensures _ s)
+      shape = free_gains g.K.AsBytes.bytes c.args.leaves.now.pairs i.new.self.pairs i.result x p (at c.args.nodes.now) c.args.root.now s c.args.place.now c.requires.free _ _ _ c.read.ensures.value c.read-3.ensures.value c.read-2.ensures.value _ _ _ c.as_bytes-3.ensures c.as_bytes-2.ensures c.as_bytes-4.ensures c.spot_for-spot.result (c.spot_for-spot.ensures _ s)
           (at c.add_leaf-top.new.nodes) c.add_leaf-top.result c.add_leaf-top.ensures.gains;
     }
 
 pub spot_for-spot-requires : goal.spot_for-spot-requires
 spot_for-spot-requires g c =
-    let is = key_read g.K.AsBytes.bytes c.args.leaves.now.pairs c.args.place.now.nearest c.read.ensures.value c.as_bytes.ensures in
+    let is = key_read g.K.AsBytes.bytes c.args.leaves.now.pairs c.args.place.now.nearest c.read.ensures.value c.as_bytes-2.ensures in
     let long = nearest_long _ _ _ _ c.requires.free.leaves _ is in
-    (lit< tt, record { keys = _; shape = c.requires.whole.shape; is = is; within = omega arith })
+    let longer = c.requires.free.leaves.longer in
+    let nearest : HasNearest g.row.P (at c.args.nodes.now) c.args.root.now c.args.place.now c.as_bytes-2.result.now = record { keys = _; shape = c.requires.whole.shape; is = is; within = omega arith } in
+    (lit< tt, (nearest, rw c.as_bytes.ensures (omega (arith, longer))))
