@@ -566,7 +566,7 @@ impl<K: Drop, V: Drop> Leaves<K, V> {
         self.put_in_full(prev, position, key, value)
     }
 
-    // Puts a pair at a spot of a full row, which is split, or behind a full last row, where a new one begins.
+    // Puts a pair at a spot of a full row, which is split, or after a full last row, where a new one begins.
     #[cold]
     #[inline(never)]
     fn put_in_full(&mut self, prev: Option<LeafId>, position: Position, key: K, value: V) -> LeafId
