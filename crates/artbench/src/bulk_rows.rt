@@ -1,10 +1,11 @@
 //! Times calls that take or give many pairs at once.
 use crate::contest::Sheet;
 use crate::failure::Failure;
-use crate::joins::{Joiner, ended};
+use crate::joins::{Joiner, placed};
+use crate::keys::Key;
 use crate::parts::Parter;
 use crate::workload::Workload;
-use blart::ZKey;
+use blart::AsBytes;
 use std::alloc::Global;
 use std::rt::Clock;
 use std::time::Instant;
@@ -12,36 +13,36 @@ use std::time::Instant;
 /// Times the bulk calls of maps.
 pub(crate) fn time_bulk<M: Parter, J: Joiner, R: Clock + AllocGlobal>(
     rt: &R,
-    workload: &Workload,
+    workload: &Workload<M::Key>,
     sheet: &mut Sheet,
 ) -> Result<(), Failure> {
-    time_makes::<J, R>(rt, workload, sheet)?;
-    time_after::<J, R>(rt, workload, sheet)?;
-    time_among::<J, R>(rt, workload, sheet)?;
+    time_makes::<J, M::Key, R>(rt, workload, sheet)?;
+    time_after::<J, M::Key, R>(rt, workload, sheet)?;
+    time_among::<J, M::Key, R>(rt, workload, sheet)?;
     time_copies::<M, R>(rt, workload, sheet)?;
     time_part::<M, R>(rt, workload, sheet)
 }
 
 // A map of the keys with their places.
-fn joiner_of<J: Joiner>(alloc: Global, keys: &[Vec<u8>]) -> Result<J, Failure> {
+fn joiner_of<J: Joiner, K: AsBytes>(alloc: Global, keys: &[K]) -> Result<J, Failure> {
     let mut map = J::empty(alloc);
-    map.put(ended(alloc, keys)?)?;
+    map.put(placed(alloc, keys)?)?;
     Ok(map)
 }
 
 // Times maps that are made of all pairs: in random order at once, and in order one by one.
-fn time_makes<J: Joiner, R: Clock + AllocGlobal>(
+fn time_makes<J: Joiner, K: Key, R: Clock + AllocGlobal>(
     rt: &R,
-    workload: &Workload,
+    workload: &Workload<K>,
     sheet: &mut Sheet,
 ) -> Result<(), Failure> {
-    let items = ended(rt.alloc(), &workload.keys)?;
+    let items: Vec<(J::Key, u64)> = placed(rt.alloc(), &workload.keys)?;
     let count = items.len();
     let start = Instant::now(rt)?;
     let map = J::of(rt.alloc(), items)?;
     sheet.stop(rt, "from_vec", start, count)?;
     sheet.sum(map.sum());
-    let items: Vec<(ZKey, u64)> = ended(rt.alloc(), &workload.sorted)?;
+    let items: Vec<(J::Key, u64)> = placed(rt.alloc(), &workload.sorted)?;
     let mut map = J::empty(rt.alloc());
     let start = Instant::now(rt)?;
     map.put(items)?;
@@ -51,9 +52,9 @@ fn time_makes<J: Joiner, R: Clock + AllocGlobal>(
 }
 
 // Times an `append` of a map whose keys all come after.
-fn time_after<J: Joiner, R: Clock + AllocGlobal>(
+fn time_after<J: Joiner, K: Key, R: Clock + AllocGlobal>(
     rt: &R,
-    workload: &Workload,
+    workload: &Workload<K>,
     sheet: &mut Sheet,
 ) -> Result<(), Failure> {
     let (low, high) = workload.sorted.split_at(workload.sorted.len() / 2);
@@ -67,9 +68,9 @@ fn time_after<J: Joiner, R: Clock + AllocGlobal>(
 }
 
 // Times an `append` of a map whose keys stand among the others.
-fn time_among<J: Joiner, R: Clock + AllocGlobal>(
+fn time_among<J: Joiner, K: Key, R: Clock + AllocGlobal>(
     rt: &R,
-    workload: &Workload,
+    workload: &Workload<K>,
     sheet: &mut Sheet,
 ) -> Result<(), Failure> {
     let (one, two) = workload.keys.split_at(workload.keys.len() / 2);
@@ -85,7 +86,7 @@ fn time_among<J: Joiner, R: Clock + AllocGlobal>(
 // Times a copy, and whether it is the same.
 fn time_copies<M: Parter, R: Clock + AllocGlobal>(
     rt: &R,
-    workload: &Workload,
+    workload: &Workload<M::Key>,
     sheet: &mut Sheet,
 ) -> Result<(), Failure> {
     let mut map = M::empty(rt.alloc());
@@ -105,7 +106,7 @@ fn time_copies<M: Parter, R: Clock + AllocGlobal>(
 // Times a map parted in half.
 fn time_part<M: Parter, R: Clock + AllocGlobal>(
     rt: &R,
-    workload: &Workload,
+    workload: &Workload<M::Key>,
     sheet: &mut Sheet,
 ) -> Result<(), Failure> {
     let mut map = M::empty(rt.alloc());

@@ -2,6 +2,7 @@
 use crate::bulk_rows::time_bulk;
 use crate::failure::Failure;
 use crate::joins::Joiner;
+use crate::keys::{Key, Made};
 use crate::maps::{Contestant, Ours, Theirs};
 use crate::mount_rows::time_mounts;
 use crate::parts::Parter;
@@ -10,7 +11,7 @@ use crate::set_rows::time_sets;
 use crate::sets::{OurSet, SetContestant, TheirSet};
 use crate::wishes::Group;
 use crate::workload::{Kind, Workload};
-use blart::{Map, ZKey};
+use blart::{Map, NoPrefixesBytes};
 use prefix_router::Mounts;
 use std::collections::BTreeMap;
 use std::rt::Clock;
@@ -41,17 +42,17 @@ pub(crate) struct Results {
     pub(crate) theirs: Vec<Timed>,
 }
 
-/// Times both maps, in turn.
-pub(crate) fn contest<R: Clock + AllocGlobal>(
+/// Times both maps, in turn, on keys of a type, and where no key may begin another on keys of a second type.
+pub(crate) fn contest<K: Key, F: Made + NoPrefixesBytes, R: Clock + AllocGlobal>(
     rt: &R,
-    workload: &Workload,
+    workload: &Workload<K>,
     groups: &[Group],
 ) -> Result<Results, Failure> {
-    let mut ours = our_run(rt, workload, groups)?;
-    let mut theirs = their_run(rt, workload, groups)?;
+    let mut ours = our_run::<K, F, R>(rt, workload, groups)?;
+    let mut theirs = their_run::<K, F, R>(rt, workload, groups)?;
     for _ in 1..ROUNDS {
-        keep_least(&mut ours, &our_run(rt, workload, groups)?);
-        keep_least(&mut theirs, &their_run(rt, workload, groups)?);
+        keep_least(&mut ours, &our_run::<K, F, R>(rt, workload, groups)?);
+        keep_least(&mut theirs, &their_run::<K, F, R>(rt, workload, groups)?);
     }
     for (our, their) in ours.iter().zip(&theirs) {
         if our.sum != their.sum {
@@ -74,27 +75,29 @@ fn keep_least(all: &mut [Timed], more: &[Timed]) {
 }
 
 // One run of the map and the set under test.
-fn our_run<R: Clock + AllocGlobal>(
+fn our_run<K: Key, F: Made + NoPrefixesBytes, R: Clock + AllocGlobal>(
     rt: &R,
-    workload: &Workload,
+    workload: &Workload<K>,
     groups: &[Group],
 ) -> Result<Vec<Timed>, Failure> {
-    one_run::<Ours, Map<ZKey, u64>, OurSet, Mounts<u64>, Mounts<u64>, R>(rt, workload, groups)
+    one_run::<Ours<K>, Map<F, u64>, OurSet, Mounts<u64>, Mounts<u64>, R>(rt, workload, groups)
 }
 
 // One run of the library's.
-fn their_run<R: Clock + AllocGlobal>(
+fn their_run<K: Key, F: Made + NoPrefixesBytes, R: Clock + AllocGlobal>(
     rt: &R,
-    workload: &Workload,
+    workload: &Workload<K>,
     groups: &[Group],
 ) -> Result<Vec<Timed>, Failure> {
-    one_run::<Theirs, BTreeMap<ZKey, u64>, TheirSet, Theirs, Sorted, R>(rt, workload, groups)
+    one_run::<Theirs<K>, BTreeMap<F, u64>, TheirSet, Theirs<Vec<u8>>, Sorted, R>(
+        rt, workload, groups,
+    )
 }
 
 // One run of the calls that are asked for.
 fn one_run<M, J, S, T, V, R>(
     rt: &R,
-    workload: &Workload,
+    workload: &Workload<M::Key>,
     groups: &[Group],
 ) -> Result<Vec<Timed>, Failure>
 where
@@ -112,6 +115,8 @@ where
         match group {
             Group::Pairs => time_pairs::<M, R>(rt, workload, &mut sheet)?,
             Group::Bulk => time_bulk::<M, J, R>(rt, workload, &mut sheet)?,
+            Group::Keys => {}
+            _ if workload.kind.is_of_arrays() => {}
             Group::Sets => time_sets::<S, R>(rt, workload, &mut sheet)?,
             Group::Mounts => time_mounts::<T, V, R>(rt, workload, &mut sheet)?,
         }
@@ -122,7 +127,7 @@ where
 // Times the calls that go by a pair.
 fn time_pairs<M: Contestant, R: Clock + AllocGlobal>(
     rt: &R,
-    workload: &Workload,
+    workload: &Workload<M::Key>,
     sheet: &mut Sheet,
 ) -> Result<(), Failure> {
     time_stored::<M, R>(rt, workload, sheet)?;
@@ -130,7 +135,7 @@ fn time_pairs<M: Contestant, R: Clock + AllocGlobal>(
 }
 
 // A map of the keys.
-fn filled<M: Contestant>(rt: &impl AllocGlobal, workload: &Workload) -> Result<M, Failure> {
+fn filled<M: Contestant>(rt: &impl AllocGlobal, workload: &Workload<M::Key>) -> Result<M, Failure> {
     let mut map = M::empty(rt.alloc());
     map.store(workload.keys.clone()?)?;
     Ok(map)
@@ -139,7 +144,7 @@ fn filled<M: Contestant>(rt: &impl AllocGlobal, workload: &Workload) -> Result<M
 // Times a map from its first pair to its last.
 fn time_stored<M: Contestant, R: Clock + AllocGlobal>(
     rt: &R,
-    workload: &Workload,
+    workload: &Workload<M::Key>,
     sheet: &mut Sheet,
 ) -> Result<(), Failure> {
     let keys = workload.keys.clone()?;
@@ -162,7 +167,7 @@ fn time_stored<M: Contestant, R: Clock + AllocGlobal>(
 fn time_look_ups<M: Contestant, R: Clock>(
     rt: &R,
     map: &M,
-    workload: &Workload,
+    workload: &Workload<M::Key>,
     sheet: &mut Sheet,
 ) -> Result<(), Failure> {
     let start = Instant::now(rt)?;
@@ -177,12 +182,15 @@ fn time_look_ups<M: Contestant, R: Clock>(
 fn time_walks<M: Contestant, R: Clock>(
     rt: &R,
     map: &M,
-    workload: &Workload,
+    workload: &Workload<M::Key>,
     sheet: &mut Sheet,
 ) -> Result<(), Failure> {
     let start = Instant::now(rt)?;
     let sum = map.iterate();
     sheet.add(rt, "iter", start, workload.keys.len(), sum)?;
+    let start = Instant::now(rt)?;
+    let sum = map.read_keys();
+    sheet.add(rt, "iter, keys", start, workload.keys.len(), sum)?;
     let start = Instant::now(rt)?;
     let sum = map.range(&workload.hits);
     sheet.add(
@@ -200,7 +208,7 @@ fn time_walks<M: Contestant, R: Clock>(
 // Times calls that go over all pairs and change or take them.
 fn time_rest<M: Contestant, R: Clock + AllocGlobal>(
     rt: &R,
-    workload: &Workload,
+    workload: &Workload<M::Key>,
     sheet: &mut Sheet,
 ) -> Result<(), Failure> {
     let mut map: M = filled(rt, workload)?;

@@ -1,6 +1,6 @@
 //! Times the map beside the library's `BTreeMap`, on keys that the program makes from a seed.
 //!
-//! `artbench KEYS KIND [ROWS [CHART]]`: how many keys, which kind of them (`random`, `urls`, `dense`, `short` or `all`), which calls (`pairs`, `bulk`, `sets`, `mounts` or `all`; `all` where nothing is said), and a file for a chart of the ratios. Sums over what the calls gave go to standard output, which are the same on each run; times and ratios go to standard error.
+//! `artbench KEYS KIND [ROWS [CHART]]`: how many keys, which kind of them (`random`, `urls`, `dense`, `short`, `random8`, `random16`, `dense8` or `all`), which calls (`pairs`, `bulk`, `sets`, `mounts` or `all`; `all` where nothing is said; `keys` where the keys are to be written and nothing is timed), and a file for a chart of the ratios. Sums over what the calls gave go to standard output, which are the same on each run; times and ratios go to standard error.
 #![tactic(auto)]
 
 mod bulk_rows;
@@ -8,6 +8,7 @@ mod chart;
 mod contest;
 mod failure;
 mod joins;
+mod keys;
 mod maps;
 mod mount_rows;
 mod parts;
@@ -21,9 +22,11 @@ mod workload;
 use crate::chart::chart;
 use crate::contest::{Results, contest};
 use crate::failure::Failure;
-use crate::tables::{write_sums, write_times};
-use crate::wishes::Wishes;
-use crate::workload::Workload;
+use crate::keys::{Key, Made};
+use crate::tables::{write_keys, write_sums, write_times};
+use crate::wishes::{Group, Wishes};
+use crate::workload::{Kind, Workload};
+use blart::{NoPrefixesBytes, ZKey};
 use std::process::ExitCode;
 use std::{env, fs};
 
@@ -42,13 +45,35 @@ fn run(rt: &HostRuntime) -> Result<(), Failure> {
     let wishes = Wishes::read(rt.alloc(), env::args(rt)?)?;
     let mut all = Vec::new(rt.alloc());
     for kind in &wishes.kinds {
-        let workload = Workload::new(rt.alloc(), *kind, wishes.keys)?;
-        let results = contest(rt, &workload, &wishes.groups)?;
-        write_sums(rt, &results)?;
-        write_times(rt, &results)?;
-        all.push(results)?;
+        if wishes.groups.contains(&Group::Keys) {
+            write_keys(rt, &Workload::new(rt.alloc(), *kind, wishes.keys)?)?;
+        } else {
+            all.push(times_of(rt, *kind, &wishes)?)?;
+        }
     }
     write_chart(rt, &wishes, &all)
+}
+
+// Times both maps on keys of a kind, each of the kind's type.
+fn times_of(rt: &HostRuntime, kind: Kind, wishes: &Wishes) -> Result<Results, Failure> {
+    let results = match kind {
+        Kind::Random8 | Kind::Dense8 => results_of::<[u8; 8], [u8; 8]>(rt, kind, wishes)?,
+        Kind::Random16 => results_of::<[u8; 16], [u8; 16]>(rt, kind, wishes)?,
+        _ => results_of::<Vec<u8>, ZKey>(rt, kind, wishes)?,
+    };
+    write_sums(rt, &results)?;
+    write_times(rt, &results)?;
+    Ok(results)
+}
+
+// Times both maps on keys of a type; on those of a second type where no key may begin another.
+fn results_of<K: Key, F: Made + NoPrefixesBytes>(
+    rt: &HostRuntime,
+    kind: Kind,
+    wishes: &Wishes,
+) -> Result<Results, Failure> {
+    let workload: Workload<K> = Workload::new(rt.alloc(), kind, wishes.keys)?;
+    contest::<K, F, HostRuntime>(rt, &workload, &wishes.groups)
 }
 
 // Writes the chart, if a file is named for it.

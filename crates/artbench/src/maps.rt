@@ -1,44 +1,49 @@
 //! The two maps, under the same calls.
 use crate::failure::Failure;
-use blart::{Map, TryInsertError};
+use crate::keys::{Key, first_byte};
+use crate::workload::Front;
+use blart::{AsBytes, Map, TryInsertError};
 use std::alloc::Global;
 use std::collections::BTreeMap;
 use std::ops::Bound;
 
 /// The map under test.
-pub(crate) type Ours = Map<Vec<u8>, u64>;
+pub(crate) type Ours<K> = Map<K, u64>;
 
 /// The library's map.
-pub(crate) type Theirs = BTreeMap<Vec<u8>, u64>;
+pub(crate) type Theirs<K> = BTreeMap<K, u64>;
 
-/// A map from lists of bytes, as far as it is timed. Each call gives a sum over what it found.
+/// A map, as far as it is timed. Each call gives a sum over what it found.
 pub(crate) trait Contestant: Sized + Drop {
-    /// What the columns are headed with.
-    const NAME: &'static str;
+    /// What its keys are.
+    type Key: Key;
 
     /// A map with no pairs.
     fn empty(alloc: Global) -> Self;
 
     /// Stores each key with its place.
-    fn store(&mut self, keys: Vec<Vec<u8>>) -> Result<u64, Failure>;
+    fn store(&mut self, keys: Vec<Self::Key>) -> Result<u64, Failure>;
 
     /// Looks each key up.
-    fn look_up(&self, keys: &[Vec<u8>]) -> u64;
+    fn look_up(&self, keys: &[Self::Key]) -> u64;
 
-    /// Walks over all pairs.
+    /// Walks over all pairs, and reads the values and how long the keys are.
     fn iterate(&self) -> u64;
+
+    /// Walks over all pairs, and reads a byte of each key.
+    fn read_keys(&self) -> u64;
 
     /// Adds one to each value.
     fn raise(&mut self) -> u64;
 
     /// From each start on, walks over at most 100 pairs.
-    fn range(&self, starts: &[Vec<u8>]) -> u64;
+    fn range(&self, starts: &[Self::Key]) -> u64;
 
     /// Walks over what begins with each of the fronts.
-    fn prefix(&self, fronts: &[Vec<u8>]) -> u64;
+    fn prefix(&self, fronts: &[Front<Self::Key>]) -> u64;
 
     /// Removes each key.
-    fn remove(&mut self, keys: &[Vec<u8>]) -> u64;
+    fn remove(&mut self, keys: &[Self::Key]) -> u64;
 
     /// Keeps the pairs with an odd value.
     fn retain(&mut self) -> u64;
@@ -47,14 +52,14 @@ pub(crate) trait Contestant: Sized + Drop {
     fn take_apart(self) -> u64;
 }
 
-impl Contestant for Ours {
-    const NAME: &'static str = "TreeMap";
+impl<K: Key> Contestant for Ours<K> {
+    type Key = K;
 
     fn empty(alloc: Global) -> Self {
         Map::new(alloc)
     }
 
-    fn store(&mut self, keys: Vec<Vec<u8>>) -> Result<u64, Failure> {
+    fn store(&mut self, keys: Vec<K>) -> Result<u64, Failure> {
         let mut place = 0u64;
         for key in keys {
             match self.try_insert(key, place) {
@@ -66,7 +71,7 @@ impl Contestant for Ours {
         Ok(self.len() as u64)
     }
 
-    fn look_up(&self, keys: &[Vec<u8>]) -> u64 {
+    fn look_up(&self, keys: &[K]) -> u64 {
         let mut sum = 0u64;
         for key in keys {
             if let Some(value) = self.get(key) {
@@ -79,7 +84,17 @@ impl Contestant for Ours {
     fn iterate(&self) -> u64 {
         let mut sum = 0u64;
         for (key, value) in self.iter() {
-            sum = sum.wrapping_add(*value).wrapping_add(key.len() as u64);
+            sum = sum
+                .wrapping_add(*value)
+                .wrapping_add(key.as_bytes().len() as u64);
+        }
+        sum
+    }
+
+    fn read_keys(&self) -> u64 {
+        let mut sum = 0u64;
+        for (key, value) in self.iter() {
+            sum = sum.wrapping_add(*value).wrapping_add(first_byte(key));
         }
         sum
     }
@@ -94,30 +109,25 @@ impl Contestant for Ours {
         self.len() as u64
     }
 
-    fn range(&self, starts: &[Vec<u8>]) -> u64 {
+    fn range(&self, starts: &[K]) -> u64 {
         let mut sum = 0u64;
         for start in starts.iter().take(10_000) {
-            for (_, value) in self
-                .range(Bound::Included(start), Bound::Unbounded)
-                .take(100)
-            {
-                sum = sum.wrapping_add(*value);
-            }
+            sum = sum.wrapping_add(sum_from(self, start));
         }
         sum
     }
 
-    fn prefix(&self, fronts: &[Vec<u8>]) -> u64 {
+    fn prefix(&self, fronts: &[Front<K>]) -> u64 {
         let mut sum = 0u64;
         for front in fronts {
-            for (_, value) in self.prefix(front) {
+            for (_, value) in self.prefix(front.bytes.as_slice()) {
                 sum = sum.wrapping_add(*value);
             }
         }
         sum
     }
 
-    fn remove(&mut self, keys: &[Vec<u8>]) -> u64 {
+    fn remove(&mut self, keys: &[K]) -> u64 {
         let mut sum = 0u64;
         for key in keys {
             if let Some(value) = self.remove(key) {
@@ -135,20 +145,32 @@ impl Contestant for Ours {
     fn take_apart(self) -> u64 {
         let mut sum = 0u64;
         for (key, value) in self {
-            sum = sum.wrapping_add(value).wrapping_add(key.len() as u64);
+            sum = sum
+                .wrapping_add(value)
+                .wrapping_add(key.as_bytes().len() as u64);
         }
         sum
     }
 }
 
-impl Contestant for Theirs {
-    const NAME: &'static str = "BTreeMap";
+// A sum over at most 100 pairs, of which the first is that of a stored key.
+fn sum_from<'a, K: Key>(map: &'a Ours<K>, start: &'a K) -> u64 {
+    let end: Bound<&'a K> = Bound::Unbounded;
+    let mut sum = 0u64;
+    for (_, value) in map.range(Bound::Included(start), end).take(100) {
+        sum = sum.wrapping_add(*value);
+    }
+    sum
+}
+
+impl<K: Key> Contestant for Theirs<K> {
+    type Key = K;
 
     fn empty(alloc: Global) -> Self {
         BTreeMap::new(alloc)
     }
 
-    fn store(&mut self, keys: Vec<Vec<u8>>) -> Result<u64, Failure> {
+    fn store(&mut self, keys: Vec<K>) -> Result<u64, Failure> {
         let mut place = 0u64;
         for key in keys {
             if self.insert(key, place).is_err() {
@@ -159,7 +181,7 @@ impl Contestant for Theirs {
         Ok(self.len() as u64)
     }
 
-    fn look_up(&self, keys: &[Vec<u8>]) -> u64 {
+    fn look_up(&self, keys: &[K]) -> u64 {
         let mut sum = 0u64;
         for key in keys {
             if let Some(value) = self.get(key) {
@@ -172,7 +194,17 @@ impl Contestant for Theirs {
     fn iterate(&self) -> u64 {
         let mut sum = 0u64;
         for (key, value) in self.iter() {
-            sum = sum.wrapping_add(*value).wrapping_add(key.len() as u64);
+            sum = sum
+                .wrapping_add(*value)
+                .wrapping_add(key.as_bytes().len() as u64);
+        }
+        sum
+    }
+
+    fn read_keys(&self) -> u64 {
+        let mut sum = 0u64;
+        for (key, value) in self.iter() {
+            sum = sum.wrapping_add(*value).wrapping_add(first_byte(key));
         }
         sum
     }
@@ -184,7 +216,7 @@ impl Contestant for Theirs {
         self.len() as u64
     }
 
-    fn range(&self, starts: &[Vec<u8>]) -> u64 {
+    fn range(&self, starts: &[K]) -> u64 {
         let mut sum = 0u64;
         for start in starts.iter().take(10_000) {
             for (_, value) in self
@@ -197,11 +229,11 @@ impl Contestant for Theirs {
         sum
     }
 
-    fn prefix(&self, fronts: &[Vec<u8>]) -> u64 {
+    fn prefix(&self, fronts: &[Front<K>]) -> u64 {
         let mut sum = 0u64;
         for front in fronts {
-            for (key, value) in self.range((Bound::Included(front), Bound::Unbounded)) {
-                if !key.starts_with(front) {
+            for (key, value) in self.range((Bound::Included(&front.least), Bound::Unbounded)) {
+                if !key.as_bytes().starts_with(front.bytes.as_slice()) {
                     break;
                 }
                 sum = sum.wrapping_add(*value);
@@ -210,7 +242,7 @@ impl Contestant for Theirs {
         sum
     }
 
-    fn remove(&mut self, keys: &[Vec<u8>]) -> u64 {
+    fn remove(&mut self, keys: &[K]) -> u64 {
         let mut sum = 0u64;
         for key in keys {
             if let Some(value) = self.remove(key) {
@@ -228,7 +260,9 @@ impl Contestant for Theirs {
     fn take_apart(self) -> u64 {
         let mut sum = 0u64;
         for (key, value) in self {
-            sum = sum.wrapping_add(value).wrapping_add(key.len() as u64);
+            sum = sum
+                .wrapping_add(value)
+                .wrapping_add(key.as_bytes().len() as u64);
         }
         sum
     }

@@ -1,11 +1,12 @@
 //! Both maps under the calls that make one more map, and under `==`.
 use crate::failure::Failure;
+use crate::keys::Key;
 use crate::maps::{Contestant, Ours, Theirs};
 
-/// A map from lists of bytes, as far as it is parted, copied and compared.
+/// A map, as far as it is parted, copied and compared.
 pub(crate) trait Parter: Contestant {
     /// Keeps the pairs before a key, and gives the rest.
-    fn part(&mut self, from: &Vec<u8>) -> Result<Self, Failure>;
+    fn part(&mut self, from: &Self::Key) -> Result<Self, Failure>;
 
     /// A map of the same pairs.
     fn copy(&self) -> Result<Self, Failure>;
@@ -14,8 +15,8 @@ pub(crate) trait Parter: Contestant {
     fn is_same(&self, other: &Self) -> bool;
 }
 
-impl Parter for Ours {
-    fn part(&mut self, from: &Vec<u8>) -> Result<Self, Failure> {
+impl<K: Key> Parter for Ours<K> {
+    fn part(&mut self, from: &K) -> Result<Self, Failure> {
         Ok(self.split_off(from)?)
     }
 
@@ -28,8 +29,8 @@ impl Parter for Ours {
     }
 }
 
-impl Parter for Theirs {
-    fn part(&mut self, from: &Vec<u8>) -> Result<Self, Failure> {
+impl<K: Key> Parter for Theirs<K> {
+    fn part(&mut self, from: &K) -> Result<Self, Failure> {
         Ok(self.split_off(from)?)
     }
 

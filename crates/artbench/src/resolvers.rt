@@ -8,8 +8,11 @@ use std::ops::Bound;
 
 /// A table of paths of which none begins another, as far as it is timed.
 pub(crate) trait Resolver: Sized + Drop {
-    /// A table of these mounts, which ascend, each with its place.
-    fn of(alloc: Global, mounts: Vec<Vec<u8>>) -> Result<Self, Failure>;
+    /// A table without mounts.
+    fn empty(alloc: Global) -> Self;
+
+    /// Adds these mounts, which ascend, each with its place, to a table without mounts.
+    fn fill(&mut self, mounts: Vec<Vec<u8>>) -> Result<(), Failure>;
 
     /// The place of the mount that begins a path, if there is one.
     fn place(&self, path: &Vec<u8>) -> Option<u64>;
@@ -27,17 +30,20 @@ pub(crate) trait Resolver: Sized + Drop {
 }
 
 impl Resolver for Mounts<u64> {
-    fn of(alloc: Global, mounts: Vec<Vec<u8>>) -> Result<Self, Failure> {
-        let mut table = Mounts::new(alloc);
+    fn empty(alloc: Global) -> Self {
+        Mounts::new(alloc)
+    }
+
+    fn fill(&mut self, mounts: Vec<Vec<u8>>) -> Result<(), Failure> {
         let mut place = 0u64;
         for path in mounts {
-            match table.mount(path, place) {
+            match self.mount(path, place) {
                 Ok(_) => place = place.wrapping_add(1),
                 Err(TryInsertError::Memory(_)) => return Err(Failure::Memory),
                 Err(TryInsertError::Prefix(_)) => return Err(Failure::Related),
             }
         }
-        Ok(table)
+        Ok(())
     }
 
     fn place(&self, path: &Vec<u8>) -> Option<u64> {
@@ -50,16 +56,19 @@ impl Resolver for Mounts<u64> {
 
 // Of the mounts up to a path only the last can begin it, since none begins another.
 impl Resolver for BTreeMap<Vec<u8>, u64> {
-    fn of(alloc: Global, mounts: Vec<Vec<u8>>) -> Result<Self, Failure> {
-        let mut table = BTreeMap::new(alloc);
+    fn empty(alloc: Global) -> Self {
+        BTreeMap::new(alloc)
+    }
+
+    fn fill(&mut self, mounts: Vec<Vec<u8>>) -> Result<(), Failure> {
         let mut place = 0u64;
         for path in mounts {
-            if table.insert(path, place).is_err() {
+            if self.insert(path, place).is_err() {
                 return Err(Failure::Memory);
             }
             place = place.wrapping_add(1);
         }
-        Ok(table)
+        Ok(())
     }
 
     fn place(&self, path: &Vec<u8>) -> Option<u64> {
@@ -80,8 +89,15 @@ pub(crate) struct Sorted {
 }
 
 impl Resolver for Sorted {
-    fn of(_: Global, mounts: Vec<Vec<u8>>) -> Result<Self, Failure> {
-        Ok(Sorted { mounts })
+    fn empty(alloc: Global) -> Self {
+        Sorted {
+            mounts: Vec::new(alloc),
+        }
+    }
+
+    fn fill(&mut self, mounts: Vec<Vec<u8>>) -> Result<(), Failure> {
+        self.mounts = mounts;
+        Ok(())
     }
 
     fn place(&self, path: &Vec<u8>) -> Option<u64> {

@@ -1,6 +1,7 @@
 //! Times calls of sets.
 use crate::contest::Sheet;
 use crate::failure::Failure;
+use crate::keys::Key;
 use crate::sets::SetContestant;
 use crate::workload::Workload;
 use std::rt::Clock;
@@ -9,7 +10,7 @@ use std::time::Instant;
 /// Times the walks over two sets. Of each six keys one has four and the other three, of which they share two.
 pub(crate) fn time_sets<S: SetContestant, R: Clock + AllocGlobal>(
     rt: &R,
-    workload: &Workload,
+    workload: &Workload<impl Key>,
     sheet: &mut Sheet,
 ) -> Result<(), Failure> {
     let mut one = S::empty(rt.alloc());

@@ -1,6 +1,26 @@
 //! The results as tables.
 use crate::contest::{Results, Timed};
 use crate::failure::Failure;
+use crate::workload::Workload;
+
+/// Writes the keys of a kind on standard output, each in a line of hexadecimal digits: those that are stored, those that are looked up and found, and those that are missing.
+pub(crate) fn write_keys(
+    rt: &(impl Print + AllocGlobal),
+    workload: &Workload<Vec<u8>>,
+) -> Result<(), Failure> {
+    println!(rt; "{} {}", workload.kind.name(), workload.keys.len())?;
+    write_lines(rt, &workload.keys)?;
+    write_lines(rt, &workload.hits)?;
+    write_lines(rt, &workload.misses)
+}
+
+// Writes each key in a line.
+fn write_lines(rt: &(impl Print + AllocGlobal), keys: &[Vec<u8>]) -> Result<(), Failure> {
+    for key in keys {
+        println!(rt; "{}", hex::encode(rt.alloc(), key.as_slice())?)?;
+    }
+    Ok(())
+}
 
 /// Writes on standard output what the calls gave, which is the same on each run.
 pub(crate) fn write_sums(rt: &impl Print, results: &Results) -> Result<(), Failure> {

@@ -15,10 +15,12 @@ pub(crate) enum Group {
     Sets,
     /// Paths over a table of mounts.
     Mounts,
+    /// No call: the keys are written, and nothing is timed.
+    Keys,
 }
 
 impl Group {
-    /// Every group.
+    /// Every group that is timed.
     pub(crate) const ALL: [Group; 4] = [Group::Pairs, Group::Bulk, Group::Sets, Group::Mounts];
 
     /// The word that names the group.
@@ -28,6 +30,7 @@ impl Group {
             Group::Bulk => "bulk",
             Group::Sets => "sets",
             Group::Mounts => "mounts",
+            Group::Keys => "keys",
         }
     }
 }
@@ -90,6 +93,9 @@ fn groups_of(alloc: Global, word: &str) -> Result<Vec<Group>, AllocError> {
         if word == "all" || word == group.name() {
             groups.push(group)?;
         }
+    }
+    if word == Group::Keys.name() {
+        groups.push(Group::Keys)?;
     }
     Ok(groups)
 }

@@ -1,4 +1,7 @@
 //! The keys of a run, made from a seed.
+use crate::failure::Failure;
+use crate::keys::{Key, Made};
+use blart::AsBytes;
 use rand::seq::SliceRandom;
 use rand_core::{Rng, SeedableRng};
 use rand_xoshiro::Xoshiro256PlusPlus;
@@ -15,11 +18,25 @@ pub(crate) enum Kind {
     Dense,
     /// Prefixes of one to three bytes that do not nest, as of networks.
     Short,
+    /// The same keys as `Random`, as arrays.
+    Random8,
+    /// Sixteen random bytes, as arrays.
+    Random16,
+    /// The same keys as `Dense`, as arrays.
+    Dense8,
 }
 
 impl Kind {
     /// Every kind.
-    pub(crate) const ALL: [Kind; 4] = [Kind::Random, Kind::Urls, Kind::Dense, Kind::Short];
+    pub(crate) const ALL: [Kind; 7] = [
+        Kind::Random,
+        Kind::Urls,
+        Kind::Dense,
+        Kind::Short,
+        Kind::Random8,
+        Kind::Random16,
+        Kind::Dense8,
+    ];
 
     /// The word that names the kind.
     pub(crate) fn name(self) -> &'static str {
@@ -28,7 +45,15 @@ impl Kind {
             Kind::Urls => "urls",
             Kind::Dense => "dense",
             Kind::Short => "short",
+            Kind::Random8 => "random8",
+            Kind::Random16 => "random16",
+            Kind::Dense8 => "dense8",
         }
+    }
+
+    /// Whether the keys are arrays.
+    pub(crate) fn is_of_arrays(self) -> bool {
+        matches!(self, Kind::Random8 | Kind::Random16 | Kind::Dense8)
     }
 
     // Adds the bytes of the key at a place, or of one that is missing.
@@ -36,14 +61,21 @@ impl Kind {
         self,
         key: &mut Vec<u8>,
         place: usize,
-        random: u64,
         missing: bool,
+        rng: &mut Xoshiro256PlusPlus,
     ) -> Result<(), AllocError> {
+        let random = rng.next_u64();
         match self {
-            Kind::Random => key.extend_from_slice(&random.to_be_bytes()),
+            Kind::Random | Kind::Random8 => key.extend_from_slice(&random.to_be_bytes()),
+            Kind::Random16 => {
+                key.extend_from_slice(&random.to_be_bytes())?;
+                key.extend_from_slice(&rng.next_u64().to_be_bytes())
+            }
             Kind::Urls => write_url(key, random, missing),
-            Kind::Dense if missing => key.extend_from_slice(&(random | 1 << 63).to_be_bytes()),
-            Kind::Dense => key.extend_from_slice(&(place as u64).to_be_bytes()),
+            Kind::Dense | Kind::Dense8 if missing => {
+                key.extend_from_slice(&(random | 1 << 63).to_be_bytes())
+            }
+            Kind::Dense | Kind::Dense8 => key.extend_from_slice(&(place as u64).to_be_bytes()),
             Kind::Short => write_short(key, random),
         }
     }
@@ -51,41 +83,49 @@ impl Kind {
     // How many bytes of a key its prefix has: few enough that it begins several keys.
     fn front(self, len: usize) -> usize {
         match self {
-            Kind::Random | Kind::Short => 2,
+            Kind::Random | Kind::Short | Kind::Random8 | Kind::Random16 => 2,
             Kind::Urls => len.saturating_sub(4),
-            Kind::Dense => 7,
+            Kind::Dense | Kind::Dense8 => 7,
         }
     }
 }
 
+/// Bytes that begin stored keys.
+#[derive(Drop)]
+pub(crate) struct Front<K> {
+    pub(crate) bytes: Vec<u8>,
+    /// No key that they begin is less.
+    pub(crate) least: K,
+}
+
 /// The keys of a run.
 #[derive(Drop)]
-pub(crate) struct Workload {
+pub(crate) struct Workload<K> {
     alloc: Global,
     pub(crate) kind: Kind,
     /// The keys to be stored, in random order.
-    pub(crate) keys: Vec<Vec<u8>>,
+    pub(crate) keys: Vec<K>,
     /// The same keys, in order.
-    pub(crate) sorted: Vec<Vec<u8>>,
+    pub(crate) sorted: Vec<K>,
     /// The same keys, in another random order.
-    pub(crate) hits: Vec<Vec<u8>>,
+    pub(crate) hits: Vec<K>,
     /// Keys like those, of which few or none are stored.
-    pub(crate) misses: Vec<Vec<u8>>,
+    pub(crate) misses: Vec<K>,
     /// Bytes that begin stored keys.
-    pub(crate) fronts: Vec<Vec<u8>>,
+    pub(crate) fronts: Vec<Front<K>>,
 }
 
-impl Workload {
+impl<K: Key> Workload<K> {
     /// So many keys of a kind. The seed is always the same.
-    pub(crate) fn new(alloc: Global, kind: Kind, count: usize) -> Result<Self, AllocError> {
+    pub(crate) fn new(alloc: Global, kind: Kind, count: usize) -> Result<Self, Failure> {
         let mut rng = Xoshiro256PlusPlus::seed_from_u64(7);
-        let mut keys = keys_of(alloc, kind, count, false, &mut rng)?;
+        let mut keys: Vec<K> = keys_of(alloc, kind, count, false, &mut rng)?;
         keys.shuffle(&mut rng);
         let mut sorted = keys.clone()?;
         sorted.sort()?;
         let mut hits = keys.clone()?;
         hits.shuffle(&mut rng);
-        let misses = keys_of(alloc, kind, count, true, &mut rng)?;
+        let misses: Vec<K> = keys_of(alloc, kind, count, true, &mut rng)?;
         let fronts = fronts_of(alloc, kind, &hits)?;
         Ok(Workload {
             alloc,
@@ -99,37 +139,38 @@ impl Workload {
     }
 }
 
-impl Workload {
-    /// The keys whose place is no multiple of a number.
-    pub(crate) fn every(&self, number: usize) -> Result<Vec<Vec<u8>>, AllocError> {
+impl<K: Key> Workload<K> {
+    /// The bytes of the keys whose place is no multiple of a number.
+    pub(crate) fn every(&self, number: usize) -> Result<Vec<Vec<u8>>, Failure> {
         let mut keys = Vec::with_capacity(self.alloc, self.keys.len())?;
         for (place, key) in self.keys.iter().enumerate() {
             if place % number.max(1) != 0 {
-                keys.push(key.clone()?)?;
+                keys.push(Vec::made(self.alloc, key.as_bytes())?)?;
             }
         }
         Ok(keys)
     }
 
-    /// The first tenth of the keys, in order.
-    pub(crate) fn mounts(&self) -> Result<Vec<Vec<u8>>, AllocError> {
+    /// The bytes of the first tenth of the keys, in order.
+    pub(crate) fn mounts(&self) -> Result<Vec<Vec<u8>>, Failure> {
         let mut mounts = Vec::new(self.alloc);
         for key in self.keys.iter().take(self.keys.len() / 10) {
-            mounts.push(key.clone()?)?;
+            mounts.push(Vec::made(self.alloc, key.as_bytes())?)?;
         }
         mounts.sort()?;
         Ok(mounts)
     }
 
     /// As many paths as there are keys: by turns one below a mount, and one that is like it.
-    pub(crate) fn paths(&self) -> Result<Vec<Vec<u8>>, AllocError> {
+    pub(crate) fn paths(&self) -> Result<Vec<Vec<u8>>, Failure> {
         let mounts = (self.keys.len() / 10).max(1);
         let mut paths = Vec::with_capacity(self.alloc, self.keys.len())?;
         for (place, other) in self.misses.iter().enumerate() {
-            let mut path = match self.keys.get(place.wrapping_mul(7) % mounts) {
-                Some(mount) if place % 2 == 0 => mount.clone()?,
-                _ => other.clone()?,
+            let key = match self.keys.get(place.wrapping_mul(7) % mounts) {
+                Some(mount) if place % 2 == 0 => mount,
+                _ => other,
             };
+            let mut path = Vec::made(self.alloc, key.as_bytes())?;
             path.extend_from_slice(b"/index")?;
             paths.push(path)?;
         }
@@ -138,31 +179,33 @@ impl Workload {
 }
 
 // So many keys of a kind.
-fn keys_of(
+fn keys_of<K: Key>(
     alloc: Global,
     kind: Kind,
     count: usize,
     missing: bool,
     rng: &mut Xoshiro256PlusPlus,
-) -> Result<Vec<Vec<u8>>, AllocError> {
+) -> Result<Vec<K>, Failure> {
     let mut keys = Vec::with_capacity(alloc, count)?;
+    let mut key = Vec::new(alloc);
     for place in 0..count {
-        let mut key = Vec::new(alloc);
-        kind.write(&mut key, place, rng.next_u64(), missing)?;
-        keys.push(key)?;
+        key.clear();
+        kind.write(&mut key, place, missing, rng)?;
+        keys.push(K::made(alloc, key.as_slice())?)?;
     }
     Ok(keys)
 }
 
 // What begins the first 10,000 of the keys.
-fn fronts_of(alloc: Global, kind: Kind, keys: &[Vec<u8>]) -> Result<Vec<Vec<u8>>, AllocError> {
+fn fronts_of<K: Key>(alloc: Global, kind: Kind, keys: &[K]) -> Result<Vec<Front<K>>, Failure> {
     let mut fronts = Vec::new(alloc);
     for key in keys.iter().take(10_000) {
-        let mut front = Vec::new(alloc);
-        for byte in key.iter().take(kind.front(key.len())) {
-            front.push(*byte)?;
-        }
-        fronts.push(front)?;
+        let bytes = key.as_bytes();
+        let (front, _) = bytes.split_at(kind.front(bytes.len()).min(bytes.len()));
+        fronts.push(Front {
+            bytes: Vec::made(alloc, front)?,
+            least: K::made(alloc, front)?,
+        })?;
     }
     Ok(fronts)
 }

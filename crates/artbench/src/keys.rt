@@ -1,0 +1,89 @@
+//! The key types of the maps that are timed.
+ghost use Rattle.std.specs.Prelude.{◌≡◌};
+ghost use Rattle.std.specs.List.{each_same};
+
+use crate::failure::Failure;
+use blart::{AsBytes, ZKey, ZKeyError};
+use std::alloc::Global;
+use std::clone::Clone;
+
+/// A key type whose keys are made from bytes.
+pub(crate) trait Made: AsBytes + Ord + Sized + Drop {
+    /// The key of some bytes.
+    fn made(alloc: Global, bytes: &[u8]) -> Result<Self, Failure>;
+}
+
+/// A key type whose keys are cloned too.
+pub(crate) trait Key: Made + Clone {
+    /// A clone has the same bytes.
+    ghost cloned: { (key clone : Self) → Self.is_clone key clone → Self.bytes clone ≡ Self.bytes key };
+}
+
+impl Made for Vec<u8> {
+    fn made(alloc: Global, bytes: &[u8]) -> Result<Self, Failure> {
+        let mut key = Vec::new(alloc);
+        key.extend_from_slice(bytes)?;
+        Ok(key)
+    }
+}
+
+impl Key for Vec<u8> {
+    ghost cloned = { λ key clone same. each_same key.items clone.items same.0 };
+}
+
+impl Made for [u8; 8] {
+    fn made(_: Global, bytes: &[u8]) -> Result<Self, Failure> {
+        Ok(padded(bytes))
+    }
+}
+
+impl Key for [u8; 8] {
+    ghost cloned = { λ key clone same. each_same key clone same.whole };
+}
+
+impl Made for [u8; 16] {
+    fn made(_: Global, bytes: &[u8]) -> Result<Self, Failure> {
+        Ok(padded(bytes))
+    }
+}
+
+impl Key for [u8; 16] {
+    ghost cloned = { λ key clone same. each_same key clone same.whole };
+}
+
+// The first of the bytes, and zeros for those that lack.
+fn padded<const N: usize>(bytes: &[u8]) -> [u8; N] {
+    let mut key = [0u8; N];
+    for (place, byte) in key.iter_mut().zip(bytes) {
+        *place = *byte;
+    }
+    key
+}
+
+// A zero byte after the key: a zero within is written as 1 and 1 then, and a one as 1 and 2, which leaves the order.
+impl Made for ZKey {
+    fn made(alloc: Global, bytes: &[u8]) -> Result<Self, Failure> {
+        let mut written = Vec::new(alloc);
+        for byte in bytes {
+            if *byte <= 1 {
+                written.push(1)?;
+                written.push(*byte + 1)?;
+            } else {
+                written.push(*byte)?;
+            }
+        }
+        match ZKey::from_bytes(alloc, written.as_slice()) {
+            Ok(key) => Ok(key),
+            Err(ZKeyError::Memory) => Err(Failure::Memory),
+            Err(ZKeyError::InnerZero) => Err(Failure::Related),
+        }
+    }
+}
+
+/// The first byte of a key, or 256 if it has none.
+pub(crate) fn first_byte(key: &impl AsBytes) -> u64 {
+    match key.as_bytes().first() {
+        Some(byte) => u64::from(*byte),
+        None => 256,
+    }
+}
