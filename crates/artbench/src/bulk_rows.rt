@@ -62,7 +62,7 @@ fn time_after<J: Joiner, K: Key, R: Clock + AllocGlobal>(
     let mut other: J = joiner_of(rt.alloc(), high)?;
     let start = Instant::now(rt)?;
     map.join(&mut other)?;
-    sheet.stop(rt, "append behind", start, high.len())?;
+    sheet.stop(rt, "append after", start, high.len())?;
     sheet.sum(map.sum());
     Ok(())
 }
