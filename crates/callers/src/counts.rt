@@ -42,7 +42,7 @@ pub fn count_in_place<W: NoPrefixesBytes + Drop>(
 }
 
 /// Adds one to the count of a word that is there, and leaves others alone.
-pub fn raise<W: AsBytes + Drop>(counts: &mut Map<W, u64>, word: &W)
+pub fn raise<W: AsBytes>(counts: &mut Map<W, u64>, word: &W)
     requires { unwrap_or (value_at W.bytes (pairs counts.old) (W.bytes word.now)) 0 + 1 < 2 ^ 64 }
     ensures raised { value_at W.bytes (pairs counts.new) (W.bytes word.now)
         ≡ option_map (λ n. n + 1) (value_at W.bytes (pairs counts.old) (W.bytes word.now)) }

@@ -5,7 +5,7 @@ ghost use Rattle.blart.specs.Words.{pairs, begins, value_at, zkey_bytes};
 use blart::{AsBytes, Map, ZKey};
 
 /// Adds one to each value below a prefix.
-pub fn raise_below<K: AsBytes + Drop>(scores: &mut Map<K, u64>, front: &[u8])
+pub fn raise_below<K: AsBytes>(scores: &mut Map<K, u64>, front: &[u8])
     ensures { pairs scores.new
         ≡ map (λ p. cond (begins front.now (K.bytes p.0)) (p.0, (p.1 + 1) % 2 ^ 64) p) (pairs scores.old) }
 {
@@ -16,7 +16,7 @@ pub fn raise_below<K: AsBytes + Drop>(scores: &mut Map<K, u64>, front: &[u8])
 }
 
 /// Lowers each value that is above a cap to it.
-pub fn cap_all<K: AsBytes + Drop>(scores: &mut Map<K, u64>, cap: u64)
+pub fn cap_all<K: AsBytes>(scores: &mut Map<K, u64>, cap: u64)
     ensures { pairs scores.new ≡ map (λ p. (p.0, min p.1 cap)) (pairs scores.old) }
 {
     scores.values_mut().for_each(|value| {
@@ -35,7 +35,7 @@ pub fn age_all(ages: &mut Map<ZKey, u64>)
 }
 
 /// Sets each value below a prefix to zero.
-pub fn clear_below<K: AsBytes + Drop>(scores: &mut Map<K, u64>, front: &[u8])
+pub fn clear_below<K: AsBytes>(scores: &mut Map<K, u64>, front: &[u8])
     ensures { pairs scores.new
         ≡ map (λ p. cond (begins front.now (K.bytes p.0)) (p.0, 0) p) (pairs scores.old) }
 {
@@ -43,7 +43,7 @@ pub fn clear_below<K: AsBytes + Drop>(scores: &mut Map<K, u64>, front: &[u8])
 }
 
 /// Adds one to each value, where none is the greatest of its type.
-pub fn raise_each<K: AsBytes + Drop>(scores: &mut Map<K, u64>)
+pub fn raise_each<K: AsBytes>(scores: &mut Map<K, u64>)
     requires { All (λ p. p.1 + 1 < 2 ^ 64) (pairs scores.old) }
     ensures { pairs scores.new ≡ map (λ p. (p.0, p.1 + 1)) (pairs scores.old) }
 {

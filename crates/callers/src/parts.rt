@@ -61,10 +61,7 @@ fn agree<T: Eq + Hash>(left: &T, right: &T) -> bool
 }
 
 /// Whether two maps differ or have one digest, which is so: equal maps feed equal words.
-pub fn have_one_digest<K: AsBytes + Hash + Drop, V: Hash + Drop>(
-    left: &Map<K, V>,
-    right: &Map<K, V>,
-) -> bool
+pub fn have_one_digest<K: AsBytes + Hash, V: Hash>(left: &Map<K, V>, right: &Map<K, V>) -> bool
     ensures { result ≡ true }
 {
     agree(left, right)

@@ -39,7 +39,7 @@ pub fn to_end<K: AsBytes + Drop, V: Drop>(queue: &mut Map<K, V>) -> usize
 }
 
 /// The first pair after a key.
-pub fn following<'a, V: Drop>(times: &'a Map<U32Key, V>, key: U32Key) -> Option<(&'a U32Key, &'a V)>
+pub fn following<'a, V>(times: &'a Map<U32Key, V>, key: U32Key) -> Option<(&'a U32Key, &'a V)>
     ensures { shown result
         ≡ slice_get (between (bytes u32_bytes) (pairs times.now) (Excluded (u32_bytes key)) Unbounded) 0 }
 {

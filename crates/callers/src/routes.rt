@@ -14,7 +14,7 @@ pub fn route(routes: &Map<&[u8], u32>, path: &[u8]) -> u32
 }
 
 /// Counts a path at the route that begins it, and answers whether there is one.
-pub fn hit<K: AsBytes + Drop>(hits: &mut Map<K, u64>, path: &[u8]) -> bool
+pub fn hit<K: AsBytes>(hits: &mut Map<K, u64>, path: &[u8]) -> bool
     requires { unwrap_or (value_at_front K.bytes (pairs hits.old) path.now) 0 + 1 < 2 ^ 64 }
     ensures counted { value_at_front K.bytes (pairs hits.new) path.now ≡ option_map (λ n. n + 1) (value_at_front K.bytes (pairs hits.old) path.now) }
     ensures others { (q : List ℕ) → begins q path.now ≡ false → pair_at K.bytes (pairs hits.new) q ≡ pair_at K.bytes (pairs hits.old) q }

@@ -8,7 +8,7 @@ use std::clone::Clone;
 use std::iter::Iterator;
 
 /// A set of the elements of both.
-pub fn join<K: OrderedBytes + NoPrefixesBytes + Clone + Drop, const P: usize>(
+pub fn join<K: OrderedBytes + NoPrefixesBytes + Clone, const P: usize>(
     a: &TreeSet<K, P>,
     b: &TreeSet<K, P>,
 ) -> Result<TreeSet<K, P>, AllocError>
@@ -21,7 +21,7 @@ pub fn join<K: OrderedBytes + NoPrefixesBytes + Clone + Drop, const P: usize>(
 }
 
 /// The elements of a set, ascending, as a vector.
-pub fn all_of<K: AsBytes + Copy + Drop, const P: usize>(
+pub fn all_of<K: AsBytes + Copy, const P: usize>(
     alloc: Global,
     set: &TreeSet<K, P>,
 ) -> Result<Vec<K>, AllocError>
@@ -42,17 +42,14 @@ pub fn keep_below<const P: usize>(set: &mut TreeSet<u8, P>, bound: u8)
 }
 
 /// How many elements of the one set the other has too.
-pub fn count_shared<K: OrderedBytes + Drop, const P: usize>(
-    a: &TreeSet<K, P>,
-    b: &TreeSet<K, P>,
-) -> usize
+pub fn count_shared<K: OrderedBytes, const P: usize>(a: &TreeSet<K, P>, b: &TreeSet<K, P>) -> usize
     ensures { result ≡ length (intersection K.bytes (elements a.now) (elements b.now)) }
 {
     a.intersection(b).count()
 }
 
 /// The elements of the one set that the other has too, ascending, as a vector.
-pub fn shared_of<K: OrderedBytes + Copy + Drop, const P: usize>(
+pub fn shared_of<K: OrderedBytes + Copy, const P: usize>(
     alloc: Global,
     a: &TreeSet<K, P>,
     b: &TreeSet<K, P>,
@@ -68,7 +65,7 @@ pub fn shared_of<K: OrderedBytes + Copy + Drop, const P: usize>(
 }
 
 /// The elements of the one set that the other lacks, ascending, as a vector.
-pub fn new_to<K: OrderedBytes + Copy + Drop, const P: usize>(
+pub fn new_to<K: OrderedBytes + Copy, const P: usize>(
     alloc: Global,
     seen: &TreeSet<K, P>,
     found: &TreeSet<K, P>,
@@ -81,7 +78,7 @@ pub fn new_to<K: OrderedBytes + Copy + Drop, const P: usize>(
 
 /// Whether each element that is asked for is granted.
 #[tactic(auto, using(blart::proofs::CallerLemmas::lacks_none))]
-pub fn grants_all<K: OrderedBytes + Drop, const P: usize>(
+pub fn grants_all<K: OrderedBytes, const P: usize>(
     granted: &TreeSet<K, P>,
     asked: &TreeSet<K, P>,
 ) -> bool

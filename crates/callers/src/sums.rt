@@ -38,7 +38,7 @@ pub fn count_between(times: &Map<U32Key, u64>, low: U32Key, high: U32Key) -> usi
 }
 
 /// How long all wait together, where each waits its own time and the times of those with greater keys: a walk within a walk over the same map.
-pub fn sum_of_waits<K: AsBytes + Drop>(times: &Map<K, u64>) -> u64
+pub fn sum_of_waits<K: AsBytes>(times: &Map<K, u64>) -> u64
     requires { sum (map (λ p. sum (map (λ q. q.1) (between (bytes K.bytes) (pairs times.now) (Included (K.bytes p.0)) Unbounded))) (pairs times.now)) < 2 ^ 64 }
     ensures { result ≡ sum (map (λ p. sum (map (λ q. q.1) (between (bytes K.bytes) (pairs times.now) (Included (K.bytes p.0)) Unbounded))) (pairs times.now)) }
 {

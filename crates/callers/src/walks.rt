@@ -7,7 +7,7 @@ use std::alloc::{AllocError, Global};
 use std::iter::{DoubleEndedIterator, Iterator};
 
 /// The values from both ends in turn: those that came at the front, and those that came at the back. The second, reversed, after the first are all of them.
-pub fn from_both_ends<K: AsBytes + Drop>(
+pub fn from_both_ends<K: AsBytes>(
     alloc: Global,
     scores: &Map<K, u64>,
 ) -> Result<(Vec<u64>, Vec<u64>), AllocError>
@@ -27,7 +27,7 @@ pub fn from_both_ends<K: AsBytes + Drop>(
 
 /// The value of a stored key, found by what its bytes begin with.
 #[tactic(auto, using(blart::proofs::CallerLemmas::before_agrees))]
-pub fn get_by_front<'a, K: AsBytes + Drop, V: Drop>(store: &'a Map<K, V>, key: &K) -> Option<&'a V>
+pub fn get_by_front<'a, K: AsBytes, V>(store: &'a Map<K, V>, key: &K) -> Option<&'a V>
     requires { has K.bytes (pairs store.now) (K.bytes key.now) ≡ true }
     ensures { option_copied result ≡ value_at K.bytes (pairs store.now) (K.bytes key.now) }
 {
