@@ -32,7 +32,7 @@ impl<V> Model for Mounts<V> {
     ghost view = { λ m. m.map };
 }
 
-impl<V: Drop> Mounts<V> {
+impl<V> Mounts<V> {
     /// A table with no mounts. Takes no memory.
     #[tactic(auto, unfolding(blart::specs::Words::pair_at_front))]
     pub fn new(alloc: Global) -> Self
@@ -59,6 +59,39 @@ impl<V: Drop> Mounts<V> {
         self.map.len()
     }
 
+    /// The mount that begins the path, and its target.
+    ///
+    /// ```
+    /// // "/api" is mounted
+    /// assert!(mounts.resolve(b"/api/v1").is_some());
+    /// assert!(mounts.resolve(b"/ap").is_none());
+    /// ```
+    pub fn resolve(&self, path: &[u8]) -> Option<(&Vec<u8>, &V)>
+        ensures { shown result ≡ pair_at_front vec_bytes (pairs self.now) path.now }
+    {
+        self.resolve_counted(path, &mut Visits::new())
+    }
+
+    /// As [`Mounts::resolve`]. On n bytes it makes at most n + 1 visits, and none on an empty table.
+    pub fn resolve_counted(&self, path: &[u8], visits: &mut Visits) -> Option<(&Vec<u8>, &V)>
+        ensures value { shown result ≡ pair_at_front vec_bytes (pairs self.now) path.now }
+        ensures counted { visits.new.count ≤ visits.old.count + length path.now + 1 }
+        ensures grows { visits.old.count ≤ visits.new.count }
+        ensures empty { pairs self.now ≡ [] → visits.new.count ≡ visits.old.count }
+    {
+        self.map.prefix_get_key_value_counted(&path, visits)
+    }
+
+    /// The mounts whose paths begin with these bytes, ascending, from both ends; all of them where there are no bytes. Takes no memory.
+    pub fn under(&self, front: &[u8]) -> Prefix<'_, Vec<u8>, V, DEFAULT_PREFIX_LEN>
+        ensures value { result ≡ under (bytes vec_bytes) (pairs self.now) front.now }
+        ensures fits { CanCount result }
+    {
+        self.map.prefix(front)
+    }
+}
+
+impl<V: Drop> Mounts<V> {
     /// Mounts the target at the path, in the place of the one that was mounted there, which is the answer. A path that is mounted stays, and the one handed in is dropped then.
     ///
     /// `Prefix` is answered exactly where another mount begins the path or is begun by it; `Memory` only where nothing is mounted at the path. A refused call leaves the table as it was.
@@ -92,42 +125,11 @@ impl<V: Drop> Mounts<V> {
         self.map.prefix_insert(path, target)
     }
 
-    /// The mount that begins the path, and its target.
-    ///
-    /// ```
-    /// // "/api" is mounted
-    /// assert!(mounts.resolve(b"/api/v1").is_some());
-    /// assert!(mounts.resolve(b"/ap").is_none());
-    /// ```
-    pub fn resolve(&self, path: &[u8]) -> Option<(&Vec<u8>, &V)>
-        ensures { shown result ≡ pair_at_front vec_bytes (pairs self.now) path.now }
-    {
-        self.resolve_counted(path, &mut Visits::new())
-    }
-
-    /// As [`Mounts::resolve`]. On n bytes it makes at most n + 1 visits, and none on an empty table.
-    pub fn resolve_counted(&self, path: &[u8], visits: &mut Visits) -> Option<(&Vec<u8>, &V)>
-        ensures value { shown result ≡ pair_at_front vec_bytes (pairs self.now) path.now }
-        ensures counted { visits.new.count ≤ visits.old.count + length path.now + 1 }
-        ensures grows { visits.old.count ≤ visits.new.count }
-        ensures empty { pairs self.now ≡ [] → visits.new.count ≡ visits.old.count }
-    {
-        self.map.prefix_get_key_value_counted(&path, visits)
-    }
-
     /// Takes down the mount at the path, and gives its target. Takes no memory.
     pub fn unmount(&mut self, path: &[u8]) -> Option<V>
         ensures old { result ≡ value_at vec_bytes (pairs self.old) path.now }
         ensures unmounted { Updates vec_bytes (pairs self.old) (pairs self.new) path.now None }
     {
         self.map.remove(&path)
-    }
-
-    /// The mounts whose paths begin with these bytes, ascending, from both ends; all of them where there are no bytes. Takes no memory.
-    pub fn under(&self, front: &[u8]) -> Prefix<'_, Vec<u8>, V, DEFAULT_PREFIX_LEN>
-        ensures value { result ≡ under (bytes vec_bytes) (pairs self.now) front.now }
-        ensures fits { CanCount result }
-    {
-        self.map.prefix(front)
     }
 }
