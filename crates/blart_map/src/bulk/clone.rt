@@ -11,7 +11,7 @@ use std::clone::Clone;
 impl<K: AsBytes + Clone, V: Clone, const PREFIX_LEN: usize> TreeMap<K, V, PREFIX_LEN> {
     /// A map of clones of the pairs. A clone of a stored key has the same bytes.
     ///
-    /// It copies the records as they lie, so it makes no look-up, and the copy has the room that this map has. An empty map takes no memory.
+    /// It copies the records as they lie, spare ones too, and makes no look-up. An empty map takes no memory.
     ///
     /// ```
     /// let copy = map.clone()?;
