@@ -1,6 +1,7 @@
 //! The same script over maps of several lengths of kept prefixes.
 use crate::failure::Failure;
-use script::{Answered, Shown, Text, answers};
+use crate::session::answers;
+use script_words::{Answered, Shown, Text};
 use std::alloc::Global;
 use std::iter::Iterator;
 

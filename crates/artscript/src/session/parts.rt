@@ -1,0 +1,166 @@
+//! The maps and the sets of one type of keys, and the calls of them.
+ghost use Rattle.std.specs.Prelude.{◌≡◌};
+
+use crate::entries::{enter_bytes, enter_end, enter_related, enter_three};
+use crate::maps::Maps;
+use crate::session::counted::CountedMap;
+use crate::session::mounts::Table;
+use crate::sets::Sets;
+use blart_keys::{I32Key, U64Key, ZKey};
+use script_words::{
+    Answered, FixedKey, LineCall, MapName, ScriptKey, Tagged, Text, Unanswered, Words,
+};
+use std::alloc::{AllocError, Global};
+use std::cell::Cell;
+
+/// Two maps and two sets.
+#[derive(Drop)]
+pub(crate) struct Part<K: ScriptKey, const PREFIX_LEN: usize> {
+    maps: Maps<K, PREFIX_LEN>,
+    sets: Sets<K, PREFIX_LEN>,
+}
+
+impl<K: ScriptKey, const PREFIX_LEN: usize> Part<K, PREFIX_LEN> {
+    /// Two maps and two sets, all empty.
+    pub(crate) fn new(alloc: Global) -> Self {
+        Part {
+            maps: Maps::new(alloc),
+            sets: Sets::new(alloc),
+        }
+    }
+
+    // Adds all that both maps and both sets have.
+    #[cfg(test)]
+    fn list(&self, text: &mut Text) -> Answered {
+        self.maps.list(text)?;
+        self.sets.list(text)
+    }
+}
+
+impl<const PREFIX_LEN: usize> Part<Vec<u8>, PREFIX_LEN> {
+    fn call_of_bytes(&mut self, call: LineCall, words: Words<'_>, text: &mut Text) -> Answered {
+        let map = &mut self.maps.first;
+        match call {
+            LineCall::Map(MapName::TryEntry) => enter_bytes(map, words, text),
+            LineCall::Map(MapName::PrefixEntry) => enter_related(map, words, text),
+            LineCall::Map(MapName::FirstEntry) => enter_end(map, true, words, text),
+            LineCall::Map(MapName::LastEntry) => enter_end(map, false, words, text),
+            LineCall::Map(name) => self.maps.call_of_bytes(name, words, text),
+            LineCall::Set(name) => self.sets.call_of_bytes(name, words, text),
+        }
+    }
+}
+
+impl<const PREFIX_LEN: usize> Part<[u8; 3], PREFIX_LEN> {
+    fn call_of_three(&mut self, call: LineCall, words: Words<'_>, text: &mut Text) -> Answered {
+        match call {
+            LineCall::Map(MapName::TryEntry) => enter_three(
+                &mut self.maps.first,
+                true,
+                words,
+                text,
+            ),
+            LineCall::Map(MapName::Entry) => enter_three(&mut self.maps.first, false, words, text),
+            _ => self.call_of_fixed(call, words, text),
+        }
+    }
+}
+
+impl<K: FixedKey, const PREFIX_LEN: usize> Part<K, PREFIX_LEN> {
+    fn call_of_fixed(&mut self, call: LineCall, words: Words<'_>, text: &mut Text) -> Answered
+        requires { (k j : K) → K.is_clone k j → K.bytes j ≡ K.bytes k }
+    {
+        let map = &mut self.maps.first;
+        match call {
+            LineCall::Map(MapName::FirstEntry) => enter_end(map, true, words, text),
+            LineCall::Map(MapName::LastEntry) => enter_end(map, false, words, text),
+            LineCall::Map(name) => self.maps.call_of_fixed(name, words, text),
+            LineCall::Set(name) => self.sets.call_of_fixed(name, words, text),
+        }
+    }
+}
+
+impl<const PREFIX_LEN: usize> Part<ZKey, PREFIX_LEN> {
+    fn call_of_zkeys(&mut self, call: LineCall, words: Words<'_>, text: &mut Text) -> Answered {
+        let map = &mut self.maps.first;
+        match call {
+            LineCall::Map(MapName::FirstEntry) => enter_end(map, true, words, text),
+            LineCall::Map(MapName::LastEntry) => enter_end(map, false, words, text),
+            LineCall::Map(name) => self.maps.call_of_apart(name, words, text),
+            LineCall::Set(name) => self.sets.call_of_apart(name, words, text),
+        }
+    }
+}
+
+// How many bytes of their prefix the inner nodes of the parts keep that do not try each length.
+const KEPT: usize = 2;
+
+/// The part of a script that calls are of, by the type of its keys.
+#[derive(Drop)]
+pub(crate) enum Keyed<'a, const PREFIX_LEN: usize> {
+    Bytes(Part<Vec<u8>, PREFIX_LEN>),
+    Byte(Part<u8, KEPT>),
+    Three(Part<[u8; 3], PREFIX_LEN>),
+    I32(Part<I32Key, KEPT>),
+    U64(Part<U64Key, KEPT>),
+    Zero(Part<ZKey, KEPT>),
+    Tagged(Part<Tagged, KEPT>),
+    Counted(CountedMap<'a, KEPT>),
+    Mounts(Table),
+}
+
+impl<'a, const PREFIX_LEN: usize> Keyed<'a, PREFIX_LEN> {
+    /// The part that the line begins, if it begins one. Values that are dropped are counted in the cell.
+    pub(crate) fn begun(alloc: Global, drops: &'a Cell<u64>, line: &[u8]) -> Option<Self> {
+        match line {
+            b"keys bytes" => Some(Keyed::Bytes(Part::new(alloc))),
+            b"keys u8" => Some(Keyed::Byte(Part::new(alloc))),
+            b"keys three" => Some(Keyed::Three(Part::new(alloc))),
+            b"keys i32" => Some(Keyed::I32(Part::new(alloc))),
+            b"keys u64" => Some(Keyed::U64(Part::new(alloc))),
+            b"keys zkey" => Some(Keyed::Zero(Part::new(alloc))),
+            b"keys tagged" => Some(Keyed::Tagged(Part::new(alloc))),
+            b"keys counted" => Some(Keyed::Counted(CountedMap::new(alloc, drops))),
+            b"mounts" => Some(Keyed::Mounts(Table::new(alloc))),
+            _ => None,
+        }
+    }
+
+    /// Adds all that stands.
+    #[cfg(test)]
+    pub(crate) fn list(&self, text: &mut Text) -> Answered {
+        match self {
+            Keyed::Bytes(part) => part.list(text),
+            Keyed::Byte(part) => part.list(text),
+            Keyed::Three(part) => part.list(text),
+            Keyed::I32(part) => part.list(text),
+            Keyed::U64(part) => part.list(text),
+            Keyed::Zero(part) => part.list(text),
+            Keyed::Tagged(part) => part.list(text),
+            Keyed::Counted(part) => part.list(text),
+            Keyed::Mounts(table) => table.list(text),
+        }
+    }
+
+    /// Makes the call that the words are, and adds its answer.
+    pub(crate) fn call(&mut self, mut words: Words<'_>, text: &mut Text) -> Answered {
+        if let Keyed::Mounts(table) = self {
+            return table.call(words, text);
+        }
+        let call = LineCall::read(&mut words)?;
+        match self {
+            Keyed::Bytes(part) => part.call_of_bytes(call, words, text),
+            Keyed::Byte(part) => part.call_of_fixed(call, words, text),
+            Keyed::Three(part) => part.call_of_three(call, words, text),
+            Keyed::I32(part) => part.call_of_fixed(call, words, text),
+            Keyed::U64(part) => part.call_of_fixed(call, words, text),
+            Keyed::Zero(part) => part.call_of_zkeys(call, words, text),
+            Keyed::Tagged(part) => part.call_of_fixed(call, words, text),
+            Keyed::Counted(part) => match call {
+                LineCall::Map(name) => part.call(name, words, text),
+                LineCall::Set(_) => Err(Unanswered::NoCall),
+            },
+            Keyed::Mounts(_) => Err(Unanswered::NoCall),
+        }
+    }
+}
