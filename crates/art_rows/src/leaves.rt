@@ -4,7 +4,7 @@ ghost use Rattle.art_slots.specs.Store.{slot_at, used_count};
 ghost use Rattle.art_rows.specs.Numbers.{leaf_in, Has, AreDistinct, first_number, last_number, number_after, number_before, with_pair_after, without_number, with_pair};
 ghost use Rattle.art_rows.specs.Rows.{position_at, nth, numbers, IsSpot, IsSplit, row_end, row_room, row_start, among, RunsBefore, StandsAfter};
 ghost use Rattle.art_rows.specs.declared.row.Position.{Position};
-ghost use Rattle.art_rows.specs.Leaves.{index_of, room, spot_index, AreClones};
+ghost use Rattle.art_rows.specs.Leaves.{index_of, room, spot_index, AreCopies};
 ghost use Rattle.art_rows.specs.Filing.{in_row};
 ghost use Rattle.art_rows.specs.LeafLends.{lends_value, lends_leaf};
 ghost use Rattle.std.specs.Borrow.{sem};
@@ -465,7 +465,7 @@ fn take_out(rows: &mut Chain<Row>, position: Position)
 impl<K: Clone, V: Clone> Leaves<K, V> {
     /// The leaves under the same numbers, with a clone of each key and value.
     pub fn clone(&self) -> Result<Self, AllocError>
-        ensures cloned { IfOk result (λ copy. AreClones K.is_clone V.is_clone self.now.pairs copy.pairs) }
+        ensures cloned { IfOk result (λ copy. AreCopies K.is_clone V.is_clone self.now.pairs copy.pairs) }
     {
         Ok(Leaves {
             records: self.records.clone()?,
