@@ -110,13 +110,18 @@ impl<K, V> Leaves<K, V> {
         self.rows.spare()
     }
 
-    // The place of a leaf.
+    // The place of a leaf. The last of its row is looked at first: where pairs come in ascending order, each comes after that one, and no row is searched.
     pub(crate) fn position_of(&self, id: LeafId) -> Position
         requires { Has self.now.pairs id }
         ensures { position_at self.now.rows (index_of self.now.pairs id) ≡ Some result }
     {
         let row = self.records.read(id.number()).row;
-        let place = self.rows.read(row).place_of(id);
+        let ids = self.rows.read(row);
+        let last = ids.len() - 1;
+        if ids.has_at(last, id) {
+            return Position { row, place: last };
+        }
+        let place = ids.place_of(id);
         Position { row, place }
     }
 
@@ -601,7 +606,8 @@ impl<K: Drop, V: Drop> Leaves<K, V> {
             None => self.first_position(),
             Some(id) => {
                 let position = self.position_near(id, seen);
-                let _len = self.rows.read(position.row).len();
+                // A place is less than the count of leaves, and so has one after it.
+                let _used = self.records.used();
                 Some(Position {
                     row: position.row,
                     place: position.place + 1,
