@@ -3,15 +3,15 @@ use Rattle.std.proofs.Common.{◌≡◌, ℕ, List, [], ◌∷◌, map, Option, 
 use Rattle.std.proofs.lemmas.Bool.{cases_eq}
 use Rattle.std.proofs.lemmas.Slice.Zip.{AllZip-long}
 use Rattle.art_slots.specs.Store.{IsSlotClone}
-use Rattle.art_rows.specs.Numbers.{Numbered, leaf_in, Lacks, AreDistinct}
+use Rattle.art_rows.specs.Numbers.{Numbered, leaf_in}
 use Rattle.art_rows.specs.Rows.{among, numbers, row_with}
-use Rattle.art_rows.specs.Leaves.{IsCopy, AreClones}
+use Rattle.art_rows.specs.Leaves.{IsCopy, AreCopies}
 use Rattle.art_rows.specs.Links.{Links, follow}
 use Rattle.art_rows.specs.Filing.{put, gather, Files, filed}
 use Rattle.art_rows.specs.declared.chain.Link.{Link}
 use Rattle.art_rows.specs.declared.leaves.Leaf.{Leaf}
 use Rattle.art_rows.proofs.FilingLemmas.{record_is, no_record, in_rows}
-use Rattle.art_rows.proofs.NumbersLemmas.{eqb_same, eqb_other}
+use Rattle.art_rows.proofs.NumbersLemmas.{eqb_same, eqb_other, same_distinct}
 
 -- a copy that is the same
 pub same_copy : {X : Type 0} (o p : Option X) → IsSlotClone (λ x y. y ≡ x) o p → p ≡ o
@@ -53,28 +53,14 @@ module _ {K V : Type 0} (is_key : K → K → Type 0) (is_value : V → V → Ty
   IsLeafCopy x y = is_key x.key y.key × is_value x.value y.value × (y.row ≡ x.row)
 
   -- copies have the same numbers
-  pub numbers-copies : (ps qs : List (Numbered (K × V))) → AreClones is_key is_value ps qs → map (λ p. p.0) qs ≡ map (λ p. p.0) ps
+  pub numbers-copies : (ps qs : List (Numbered (K × V))) → AreCopies is_key is_value ps qs → map (λ p. p.0) qs ≡ map (λ p. p.0) ps
   numbers-copies [] [] h = refl
   numbers-copies [] (q ∷ qs) h = absurd h
   numbers-copies (p ∷ ps) [] h = absurd h
   numbers-copies (p ∷ ps) (q ∷ qs) h = ap (λ n. n ∷ map (λ p. p.0) qs) h.0.number ∙ ap (λ ns. p.0 ∷ ns) (numbers-copies ps qs h.1)
 
-  -- what has not a number
-  lacks-copies : (ps qs : List (Numbered (K × V))) → AreClones is_key is_value ps qs → (i : ℕ) → Lacks ps i → Lacks qs i
-  lacks-copies [] [] h i l = tt
-  lacks-copies [] (q ∷ qs) h i l = absurd h
-  lacks-copies (p ∷ ps) [] h i l = absurd h
-  lacks-copies (p ∷ ps) (q ∷ qs) h i l = (λ e. l.0 (sym h.0.number ∙ e), lacks-copies ps qs h.1 i l.1)
-
-  -- no number comes twice
-  distinct-copies : (ps qs : List (Numbered (K × V))) → AreClones is_key is_value ps qs → AreDistinct ps → AreDistinct qs
-  distinct-copies [] [] h d = tt
-  distinct-copies [] (q ∷ qs) h d = absurd h
-  distinct-copies (p ∷ ps) [] h d = absurd h
-  distinct-copies (p ∷ ps) (q ∷ qs) h d = (subst (Lacks qs) (sym h.0.number) (lacks-copies ps qs h.1 p.0 d.0), distinct-copies ps qs h.1 d.1)
-
   -- what names nothing
-  none-copies : (ps qs : List (Numbered (K × V))) → AreClones is_key is_value ps qs → (i : ℕ) → leaf_in ps i ≡ None → leaf_in qs i ≡ None
+  none-copies : (ps qs : List (Numbered (K × V))) → AreCopies is_key is_value ps qs → (i : ℕ) → leaf_in ps i ≡ None → leaf_in qs i ≡ None
   none-copies [] [] h i e = refl
   none-copies [] (q ∷ qs) h i e = absurd h
   none-copies (p ∷ ps) [] h i e = absurd h
@@ -85,19 +71,19 @@ module _ {K V : Type 0} (is_key : K → K → Type 0) (is_value : V → V → Ty
 
   module _ (leaves copies : ℕ → Option (Leaf K V)) (h : (j : ℕ) → IsSlotClone IsLeafCopy (leaves j) (copies j)) where
     -- the pairs are clones
-    pub gather-copies : (ns : List ℕ) → AreClones is_key is_value (gather leaves ns) (gather copies ns)
+    pub gather-copies : (ns : List ℕ) → AreCopies is_key is_value (gather leaves ns) (gather copies ns)
     gather-copies [] = tt
     gather-copies (n ∷ ns) = by_record (gather leaves ns) (gather copies ns) (gather-copies ns) (leaves n) (copies n) (h n)
       where
-        by_record : (ps qs : List (Numbered (K × V))) → AreClones is_key is_value ps qs → (o p : Option (Leaf K V)) → IsSlotClone IsLeafCopy o p → AreClones is_key is_value (put n o ps) (put n p qs)
-        by_record ps qs a None p e = subst (λ (r : Option (Leaf K V)). AreClones is_key is_value ps (put n r qs)) (sym e) a
+        by_record : (ps qs : List (Numbered (K × V))) → AreCopies is_key is_value ps qs → (o p : Option (Leaf K V)) → IsSlotClone IsLeafCopy o p → AreCopies is_key is_value (put n o ps) (put n p qs)
+        by_record ps qs a None p e = subst (λ (r : Option (Leaf K V)). AreCopies is_key is_value ps (put n r qs)) (sym e) a
         by_record ps qs a (Some x) None c = absurd c
         by_record ps qs a (Some x) (Some y) c = (record { number = refl; key = c.0; value = c.1 }, a)
 
     -- copies are filed alike
     pub files-copies : (rows : List (Numbered (List ℕ))) (used count : ℕ) → count ≡ used → Files leaves rows used (gather leaves (numbers rows)) → Files copies rows count (gather copies (numbers rows))
     files-copies rows used count u f = record {
-      distinct = distinct-copies (gather leaves (numbers rows)) (gather copies (numbers rows)) (gather-copies (numbers rows)) f.distinct;
+      distinct = same_distinct (gather leaves (numbers rows)) (gather copies (numbers rows)) (sym (numbers-copies (gather leaves (numbers rows)) (gather copies (numbers rows)) (gather-copies (numbers rows)))) f.distinct;
       each = λ i. by_record i (leaves i) (copies i) refl refl (h i);
       joined = numbers-copies (gather leaves (numbers rows)) (gather copies (numbers rows)) (gather-copies (numbers rows)) ∙ f.joined;
       filled = f.filled;

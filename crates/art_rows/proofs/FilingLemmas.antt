@@ -11,7 +11,7 @@ use Rattle.art_rows.specs.declared.leaves.Leaf.{Leaf}
 use Rattle.art_rows.specs.declared.leaves.Leaves.TheInside.{Inside}
 use Rattle.art_rows.specs.declared.row.Position.{Position}
 use Rattle.art_rows.proofs.NumbersLemmas.{eqb_same, eqb_other, has_other, split, leaf_in-split}
-use Rattle.art_rows.proofs.RowsLemmas.{among-numbers, number_after-nth, number_before-first, number_before-nth, before_cases, nth-within, place_in-nth, position-split, position-here, found, standing, standing-row, standing-number, standing-within, standing-after, standing-earlier, standing-first, standing-not_first, standing-row_end, end_of, position-none, position-last, none-last, filled-row}
+use Rattle.art_rows.proofs.RowsLemmas.{among-numbers, number_after-nth, number_before-first, number_before-nth, before_cases, nth-within, place_in-within, place_in-nth, position-split, position-here, found, standing, standing-row, standing-number, standing-within, standing-after, standing-earlier, standing-first, standing-not_first, standing-row_end, end_of, position-none, position-last, none-last, filled-row}
 
 -- what follows of what there is
 pub if_some : {A : Type 0} (o : Option A) (P Q : A → Type 0) → ((x : A) → P x → Q x) → IfSome o P → IfSome o Q
@@ -225,6 +225,15 @@ module _ {K V : Type 0} {leaves : ℕ → Option (Leaf K V)} {rows : List (Numbe
   -- how many numbers the rows have
   pub how_many : length (numbers rows) ≡ length ps
   how_many = sym (ap length f.joined) ∙ length-map ps (λ q. q.0)
+
+  -- a place is less than the count of leaves
+  pub place_below : (i : ℕ) (p : Position) → Has ps i → position_at rows (index_of ps i) ≡ Some p → p.place < count
+  place_below i p h at =
+      let k = (standing rows (index_of ps i) p at).index in
+      let w : index_of ps i < length (map (λ q. q.0) ps) = place_in-within (map (λ q. q.0) ps) i (among-numbers ps i h) in
+      let n : length (map (λ q. q.0) ps) ≡ length ps = length-map ps (λ q. q.0) in
+      let c = f.counted in
+      omega arith
 
   -- a row has a number
   pub row_filled : (r : ℕ) (ids : List ℕ) → leaf_in rows r ≡ Some ids → 0 < length ids

@@ -48,5 +48,5 @@ module _ {K V : Type 0} (is_key : K → K → Type 0) (is_value : V → V → Ty
     pub value : is_value old.1.1 new.1.1
 
   -- pair by pair a copy
-  abbrev pub AreClones : List (Numbered (K × V)) → List (Numbered (K × V)) → Type 0
-  AreClones ps qs = AllZip IsCopy ps qs
+  abbrev pub AreCopies : List (Numbered (K × V)) → List (Numbered (K × V)) → Type 0
+  AreCopies ps qs = AllZip IsCopy ps qs

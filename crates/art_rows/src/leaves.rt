@@ -4,7 +4,7 @@ ghost use Rattle.art_slots.specs.Store.{slot_at, used_count};
 ghost use Rattle.art_rows.specs.Numbers.{leaf_in, Has, AreDistinct, first_number, last_number, number_after, number_before, with_pair_after, without_number, with_pair};
 ghost use Rattle.art_rows.specs.Rows.{position_at, nth, numbers, IsSpot, IsSplit, row_end, row_room, row_start, among, RunsBefore, StandsAfter};
 ghost use Rattle.art_rows.specs.declared.row.Position.{Position};
-ghost use Rattle.art_rows.specs.Leaves.{index_of, room, spot_index, AreClones};
+ghost use Rattle.art_rows.specs.Leaves.{index_of, room, spot_index, AreCopies};
 ghost use Rattle.art_rows.specs.Filing.{in_row};
 ghost use Rattle.art_rows.specs.LeafLends.{lends_value, lends_leaf};
 ghost use Rattle.std.specs.Borrow.{sem};
@@ -110,13 +110,18 @@ impl<K, V> Leaves<K, V> {
         self.rows.spare()
     }
 
-    // The place of a leaf.
+    // The place of a leaf. The last of its row is looked at first: where pairs come in ascending order, each comes after that one, and no row is searched.
     pub(crate) fn position_of(&self, id: LeafId) -> Position
         requires { Has self.now.pairs id }
         ensures { position_at self.now.rows (index_of self.now.pairs id) ≡ Some result }
     {
         let row = self.records.read(id.number()).row;
-        let place = self.rows.read(row).place_of(id);
+        let ids = self.rows.read(row);
+        let last = ids.len() - 1;
+        if ids.has_at(last, id) {
+            return Position { row, place: last };
+        }
+        let place = ids.place_of(id);
         Position { row, place }
     }
 
@@ -465,7 +470,7 @@ fn take_out(rows: &mut Chain<Row>, position: Position)
 impl<K: Clone, V: Clone> Leaves<K, V> {
     /// The leaves under the same numbers, with a clone of each key and value.
     pub fn clone(&self) -> Result<Self, AllocError>
-        ensures cloned { IfOk result (λ copy. AreClones K.is_clone V.is_clone self.now.pairs copy.pairs) }
+        ensures cloned { IfOk result (λ copy. AreCopies K.is_clone V.is_clone self.now.pairs copy.pairs) }
     {
         Ok(Leaves {
             records: self.records.clone()?,
@@ -601,7 +606,8 @@ impl<K: Drop, V: Drop> Leaves<K, V> {
             None => self.first_position(),
             Some(id) => {
                 let position = self.position_near(id, seen);
-                let _len = self.rows.read(position.row).len();
+                // A place is less than the count of leaves, and so has one after it.
+                let _used = self.records.used();
                 Some(Position {
                     row: position.row,
                     place: position.place + 1,

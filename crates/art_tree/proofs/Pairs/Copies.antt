@@ -6,7 +6,7 @@ use Rattle.blart_keys.specs.Content.{IsContent}
 use Rattle.blart_keys.proofs.PartLemmas.{PartsBelow}
 use Rattle.blart_keys.proofs.ContentLemmas.{Before, Ranked-from_content, content_from_Ranked}
 use Rattle.blart_keys.proofs.RankLemmas.{Ranked}
-use Rattle.art_rows.specs.Leaves.{AreClones as AreCopies}
+use Rattle.art_rows.specs.Leaves.{AreCopies}
 use Rattle.art_tree.specs.Clones.{AreClones}
 use Rattle.art_tree.specs.Leaves.{Numbered, bytes, keys_in, leaf_in}
 
