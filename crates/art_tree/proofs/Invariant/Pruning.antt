@@ -18,6 +18,19 @@ use Rattle.art_tree.proofs.Invariant.SmallShapes.{shape_one}
 use Rattle.art_tree.proofs.Invariant.EdgesAbove.{Turns, turned_node}
 use Rattle.blart_keys.proofs.Options.{is_some, some_of}
 
+-- of the keys that begin with g one is left, under the number i, which may be a new one, and all others stand
+pub record PrunesTo (old new : ℕ → Option Bytes) (g : Bytes) (i : ℕ) (k : Bytes) : Type 0 where
+  pub was : (j : ℕ) × (old j ≡ Some k)
+  pub front : Begins g k
+  pub now : new i ≡ Some k
+  pub kept : (j : ℕ) (l : Bytes) → old j ≡ Some l → (Begins g l → ⊥) → new j ≡ Some l
+  pub stood : (j : ℕ) (l : Bytes) → new j ≡ Some l → (Begins g l → ⊥) → old j ≡ Some l
+  pub only : (j : ℕ) (l : Bytes) → new j ≡ Some l → Begins g l → j ≡ i
+
+-- so it is where the leaf keeps its number
+pub own_number : (old new : ℕ → Option Bytes) (g : Bytes) (i : ℕ) (k : Bytes) → Prunes old new g i k → PrunesTo old new g i k
+own_number old new g i k p = record { was = (i, p.was); front = p.front; now = p.now; kept = p.kept; stood = λ j l e off. p.stood j l e; only = p.only }
+
 -- the nodes whose fronts begin with g are gone, and the edge at g leads to the leaf i now
 pub record PrunesNodes (old new : ℕ → Option Node) (front_of : ℕ → Bytes) (g : Bytes) (c : Child) (i : ℕ) : Type 0 where
   pub gone : (m : ℕ) → Begins g (front_of m) → new m ≡ None
@@ -25,12 +38,23 @@ pub record PrunesNodes (old new : ℕ → Option Node) (front_of : ℕ → Bytes
   pub no_more : (m : ℕ) → old m ≡ None → new m ≡ None
 
 module _ {P : ℕ} (keys keys' : ℕ → Option Bytes) (nodes nodes' : ℕ → Option Node) (root : Option Child) (p b i : ℕ) (k : Bytes) (c : Child) (s : Shape P keys nodes root) (live_p : IsSome (nodes p))
-    (prunes : Prunes keys keys' (s.front_of p ++ b ∷ []) i k) (cuts : PrunesNodes nodes nodes' s.front_of (s.front_of p ++ b ∷ []) c i) where
+    (prunes : PrunesTo keys keys' (s.front_of p ++ b ∷ []) i k) (cuts : PrunesNodes nodes nodes' s.front_of (s.front_of p ++ b ∷ []) c i) where
   abbrev g : Bytes
   g = s.front_of p ++ b ∷ []
 
   g_length : length g ≡ length (s.front_of p) + 1
   g_length = length-edge (s.front_of p) b
+
+  -- a key was there, and under the same number where it is not the one that is left
+  was_key : (j : ℕ) (l : Bytes) → keys' j ≡ Some l → (n : ℕ) × (keys n ≡ Some l) × ((Begins g l → ⊥) → n ≡ j)
+  was_key j l e = elim (Begins-cases g l) [
+    | inr off ↦ (j, prunes.stood j l e off, λ h. refl)
+    | inl low ↦
+        let a : keys' i ≡ Some l = ap keys' (sym (prunes.only j l e low)) ∙ e in
+        let c : keys' i ≡ Some k = prunes.now in
+        let z : k ≡ l = cc in
+        (prunes.was.0, prunes.was.1 ∙ ap (λ (l : Bytes). Some l) z, λ off. absurd (off low))
+  ]
 
   live_kept : (m : ℕ) → IsSome (nodes m) → (Begins g (s.front_of m) → ⊥) → IsSome (nodes' m)
   live_kept m live off = let x = some_of (nodes m) live in let y = cuts.others m x.0 off x.1 in is_some (nodes' m) y.0 y.1
@@ -39,14 +63,14 @@ module _ {P : ℕ} (keys keys' : ℕ → Option Bytes) (nodes nodes' : ℕ → O
   cover_kept : (f : Bytes) (e : Child) → ((l : Bytes) → Begins f l → Begins g l → Begins f (s.front_of p)) → Covers keys nodes s.front_of f e → Covers keys' nodes' s.front_of f e
   cover_kept f (Leaf j) far cov =
       let off : Begins g cov.key → ⊥ = λ h. above_leaf keys nodes root s p live_p f j cov (far cov.key cov.front h) in
-      record { key = cov.key; is = prunes.kept j cov.key cov.is off; front = cov.front; only = λ j' l e h. cov.only j' l (prunes.stood j' l e) h }
+      record { key = cov.key; is = prunes.kept j cov.key cov.is off; front = cov.front; only = λ j' l e h. (let w = was_key j' l e in sym (w.2 (λ low. above_leaf keys nodes root s p live_p f j cov (far l h low))) ∙ cov.only w.0 l w.1 h) }
   cover_kept f (Inner n) far cov =
       let off : Begins g (s.front_of n) → ⊥ = λ h. (
       let l1 : length (s.front_of n) ≤ length (s.front_of p) = Begins-length _ _ (above_node keys nodes root s p live_p f n cov (far (s.front_of n) cov.front h)) in
       let l2 : length g ≤ length (s.front_of n) = Begins-length _ _ h in
       let l3 : length g ≡ length (s.front_of p) + 1 = g_length in
       omega arith) in
-      record { live = live_kept n cov.live off; front = cov.front; only = λ j l e h. cov.only j l (prunes.stood j l e) h }
+      record { live = live_kept n cov.live off; front = cov.front; only = λ j l e h. (let w = was_key j l e in cov.only w.0 l w.1 h) }
 
   -- another edge of a node that is left goes no further
   other_edge : (m d : ℕ) → (Begins g (s.front_of m) → ⊥) → s.front_of m ++ d ∷ [] ≢ g → (l : Bytes) → Begins (s.front_of m ++ d ∷ []) l → Begins g l → Begins (s.front_of m ++ d ∷ []) (s.front_of p)
@@ -106,9 +130,10 @@ module _ {P : ℕ} (keys keys' : ℕ → Option Bytes) (nodes nodes' : ℕ → O
                   let a : child_at x.edges d ≡ Some e = sym (r.rest d far) ∙ there in
                   cover_kept (t ++ d ∷ []) e (other_edge m d off far) (f.below d e a)
             ];
-        longer = λ j l e h. f.longer j l (prunes.stood j l e) h;
+        longer = λ j l e h. (let w = was_key j l e in f.longer w.0 l w.1 h);
         edge = λ j l e h.
-            let y : IsSome (child_at x.edges (next_byte t l)) = f.edge j l (prunes.stood j l e) h in
+            let w = was_key j l e in
+            let y : IsSome (child_at x.edges (next_byte t l)) = f.edge w.0 l w.1 h in
             elim (Bytes-cases (t ++ next_byte t l ∷ []) g) [
               | inl at ↦ is_some (child_at x'.edges (next_byte t l)) (Leaf i) (r.now (next_byte t l) at)
               | inr far ↦ let Q : Option Child → Type 0 = λ o. IsSome o in subst Q (sym (r.rest (next_byte t l) far)) y
@@ -128,7 +153,17 @@ module _ {P : ℕ} (keys keys' : ℕ → Option Bytes) (nodes nodes' : ℕ → O
 
   joined_left : (a d : ℕ) (x y : Bytes) → keys' a ≡ Some x → keys' d ≡ Some y → a ≢ d → (m : ℕ) × IsSome (nodes' m) × (s.front_of m ≡ common x y)
   joined_left a d x y ax dy apart =
-      let r = s.joined a d x y (prunes.stood a x ax) (prunes.stood d y dy) apart in
+      let u = was_key a x ax in
+      let v = was_key d y dy in
+      let far : u.0 ≢ v.0 = λ e. (
+      let ux : keys v.0 ≡ Some x = rw (← e) u.1 in
+      let vy : keys v.0 ≡ Some y = v.1 in
+      let same : x ≡ y = cc in
+      elim (Begins-cases g x) [
+        | inl low ↦ apart (prunes.only a x ax low ∙ sym (prunes.only d y dy (rw (← same) low)))
+        | inr off ↦ apart (sym (u.2 off) ∙ e ∙ v.2 (rw (← same) off))
+      ]) in
+      let r = s.joined u.0 v.0 x y u.1 v.1 far in
       let off : Begins g (s.front_of r.0) → ⊥ = λ h. (
       let z : Begins g (common x y) = subst (λ (t : Bytes). Begins g t) r.2 h in
       let e1 : a ≡ i = prunes.only a x ax (Begins-trans g (common x y) x z (common-left x y)) in
@@ -137,7 +172,7 @@ module _ {P : ℕ} (keys keys' : ℕ → Option Bytes) (nodes nodes' : ℕ → O
       (r.0, live_kept r.0 r.1 off, r.2)
 
   top_kept : (r : Option Child) → RootFits keys nodes s.front_of r → RootFits keys' nodes' s.front_of r
-  top_kept None h = λ j. absurd (let a : keys i ≡ None = h i in let f : keys i ≡ Some k = prunes.was in let z : None ≡ Some k = sym a ∙ f in cc)
+  top_kept None h = λ j. absurd (let z : None ≡ Some k = sym (h prunes.was.0) ∙ prunes.was.1 in cc)
   top_kept (Some e) h = cover_kept [] e (λ l f gl. tt) h
 
   led : (a : Option (ℕ × ℕ)) (n : ℕ) → LeadsTo nodes' root a (Inner n) → LeadsTo nodes root a (Inner n)
@@ -213,7 +248,7 @@ module _ {P : ℕ} (keys : ℕ → Option Bytes) (nodes mid : ℕ → Option Nod
     }
 
     -- and the tree stands for the keys that are left
-    pub shape_freed : (keys' : ℕ → Option Bytes) (k : Bytes) → Prunes keys keys' (s.front_of p ++ b ∷ []) i k → Shape P keys' new root
+    pub shape_freed : (keys' : ℕ → Option Bytes) (k : Bytes) → PrunesTo keys keys' (s.front_of p ++ b ∷ []) i k → Shape P keys' new root
     shape_freed keys' k prunes = shape_pruned keys keys' nodes new root p b i k c s (is_some (nodes p) leads.0 leads.1) prunes cuts_freed
 
 module _ {P : ℕ} (keys : ℕ → Option Bytes) (nodes mid : ℕ → Option Node) (root : Option Child) (s : Shape P keys nodes root) (c : Child) where
@@ -223,6 +258,6 @@ module _ {P : ℕ} (keys : ℕ → Option Bytes) (nodes mid : ℕ → Option Nod
   leads_on (Some (p, b)) l up = leads_still keys nodes mid root s p b c l up
 
   -- and where that leads to the leaf it is the whole tree
-  pub shape_led : (keys' : ℕ → Option Bytes) (new : ℕ → Option Node) (root' : Option Child) (i : ℕ) (k : Bytes) (above : Option (ℕ × ℕ)) → LeadsTo nodes root above c → FreesSubtree nodes mid s.front_of (edge_front s.front_of above) → TurnsTo mid new root root' above (Leaf i) → Prunes keys keys' (edge_front s.front_of above) i k → Shape P keys' new root'
+  pub shape_led : (keys' : ℕ → Option Bytes) (new : ℕ → Option Node) (root' : Option Child) (i : ℕ) (k : Bytes) (above : Option (ℕ × ℕ)) → LeadsTo nodes root above c → FreesSubtree nodes mid s.front_of (edge_front s.front_of above) → TurnsTo mid new root root' above (Leaf i) → PrunesTo keys keys' (edge_front s.front_of above) i k → Shape P keys' new root'
   shape_led keys' new root' i k None l up t prunes = rooted (shape_one keys' new (λ n. t.0 n ∙ up.gone n tt) i k prunes.now (λ j m e. prunes.only j m e tt)) (sym t.1)
   shape_led keys' new root' i k (Some (p, b)) l up t prunes = rooted (shape_freed keys nodes mid root s p b c l up new i t.0 keys' k prunes) (sym t.1)

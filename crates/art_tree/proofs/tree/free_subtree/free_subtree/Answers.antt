@@ -1,6 +1,7 @@
 use Rattle.std.proofs.Common.{Some, lit<}
 use Rattle.art_kinds.specs.Nodes.{at}
-use Rattle.art_tree.proofs.Invariant.Pruning.{leads_on, shape_led}
+use Rattle.art_tree.specs.Invariant.EdgesAbove.{edge_front}
+use Rattle.art_tree.proofs.Invariant.Pruning.{leads_on, own_number, shape_led}
 use Rattle.art_tree.proofs.tree.free_subtree.free_subtree.Goals as goal
 
 pub free_child-requires : goal.free_child-requires
@@ -17,4 +18,5 @@ pub returns : goal.returns
 returns g c = λ keys keys' s k leads prunes.
     let root = Some c.args.root.now in
     let above = c.args.above.now in
-    shape_led keys (at c.args.nodes.now) (at c.free_child.new.nodes) root s c.args.child.now keys' (at c.lead.new.nodes) (Some c.lead.result) c.args.leaf.now k above leads (c.free_child.ensures keys root above s leads) c.lead.ensures.turned prunes
+    shape_led keys (at c.args.nodes.now) (at c.free_child.new.nodes) root s c.args.child.now keys' (at c.lead.new.nodes) (Some c.lead.result) c.args.leaf.now k above leads (c.free_child.ensures keys root above s leads) c.lead.ensures.turned
+    (own_number keys keys' (edge_front s.front_of above) c.args.leaf.now k prunes)
