@@ -8,9 +8,13 @@ use Rattle.blart_map.specs.declared.reserved.Room.{Room}
 use Rattle.blart_map.specs.declared.reserved.Reserved.{Reserved}
 
 module _ {K V : Type 0} {P : ℕ} {g : Ghosts K} where
-  -- the pairs
+  -- the pairs, each under its leaf's number
+  abbrev pub room_leaves : Room K V P g → List (Numbered K V)
+  room_leaves r = r.tree.pairs
+
+  -- the pairs without the numbers
   abbrev pub room_pairs : Room K V P g → List (K × V)
-  room_pairs r = pairs r.tree.pairs
+  room_pairs r = pairs (room_leaves r)
 
   -- the pairs that the map has once the guard is gone
   abbrev pub held : {M : Type 0} → Reserved M (Room K V P g) → List (K × V)
