@@ -29,6 +29,8 @@ pub struct Room<K: AsBytes, V, const PREFIX_LEN: usize> {
 ///
 /// The pairs stand in this value, and are the map's again once it is dropped. One that is forgotten in place of being dropped leaves the map empty.
 ///
+/// `M` is the map's type. `R` is that of what holds the pairs meanwhile, a [`Room`], which stands here because a proof would not learn what becomes of the map if the type named it in a field.
+///
 /// ```
 /// let mut room = map.reserve(2)?;
 /// assert_eq!(room.try_insert("car", 1), Ok(None));
@@ -73,7 +75,7 @@ impl<'a, M, R: PutBack<M>> Drop for Reserved<'a, M, R> {
 
 impl<K: AsBytes + Drop, V: Drop, const PREFIX_LEN: usize> TreeMap<K, V, PREFIX_LEN> {
     ghost use Rattle.blart_map.specs.Content.{pairs};
-    ghost use Rattle.blart_map.specs.Reserved.{room_pairs, held, room_left, rests_if_full};
+    ghost use Rattle.blart_map.specs.Reserved.{held, room_left, rests_if_full};
 
     /// Makes room for so many pairs, and lends the map to be filled; or is refused, and leaves the map as it was. For no pairs it takes no memory.
     ///

@@ -2,24 +2,22 @@
 use Rattle.std.proofs.Common.{◌≡◌, ℕ, ◌+◌, true, false, not, Bool, List, length, map, ap, ◌∙◌, sym, refl, Option, Some, None, option_map}
 use Rattle.std.specs.Prelude.{if◌then◌else◌, Result, Ok, Err, OnOk, OnErr, IfOk}
 use Rattle.std.specs.Option.{is_some, is_none}
+use Rattle.std.proofs.lemmas.Bool.{false≢true}
 use Rattle.std.proofs.lemmas.List.{length-map}
 use Rattle.blart_keys.specs.declared.calls.InsertPrefixError.{InsertPrefixError}
 use Rattle.blart_keys.specs.Content.{at, conflict, stores, IsContent, IsPut}
 use Rattle.blart_keys.specs.Steps.{bytes, Puts}
 use Rattle.blart_keys.specs.Stored.{kept, kept_item}
-use Rattle.blart_map.specs.Within.{as_tried, added, added_ok}
+use Rattle.blart_map.specs.Within.{as_tried}
 use Rattle.blart_map.proofs.Placed.Tried.{tried_len}
-use Rattle.blart_set.specs.Reserved.{added_new, added_new_ok}
 use Rattle.blart_set.proofs.Pairs.{told, keys, conflict-keys, puts-new, puts-put, puts-free}
 
--- as many elements were added as pairs
-pub added-is_none : {V : Type 0} (old : Option V) → added_new (is_none old) ≡ added old
-added-is_none None = refl
-added-is_none (Some v) = refl
-
-pub added-told : {V E : Type 0} (r : Result (Option V) E) → added_new_ok (told r) ≡ added_ok r
-added-told (Ok old) = added-is_none old
-added-told (Err e) = refl
+-- the answer of `is_none`
+pub tells-none : {V : Type 0} (o : Option V) (b : Bool) → is_some o ≡ not b → b ≡ is_none o
+tells-none None true e = refl
+tells-none None false e = absurd (false≢true e)
+tells-none (Some v) true e = absurd (false≢true (sym e))
+tells-none (Some v) false e = refl
 
 module _ {K V : Type 0} (kb : K → List ℕ) (S S' : List (K × V)) (x : K × V) where
   abbrev Tried : Result (Option V) InsertPrefixError → Type 0
@@ -51,7 +49,7 @@ module _ {K V : Type 0} (kb : K → List ℕ) (S S' : List (K × V)) (x : K × V
   pub len-keys : (old : Option V) → length S' ≡ length S + (if is_some old then 0 else 1) → length (keys kb S') ≡ length (keys kb S) + (if is_none old then 1 else 0)
   len-keys old e = length-map S' (λ (p : K × V). p.0) ∙ e ∙ ap (λ n. n + (if is_some old then 0 else 1)) (sym (length-map S (λ (p : K × V). p.0))) ∙ ap (λ n. length (keys kb S) + n) (one old)
     where
-      one : (old : Option V) → (if is_some old then 0 else 1) ≡ (if is_none old then 1 else 0)
+      one : (old : Option V) → ◌≡◌ {A = ℕ} (if is_some old then 0 else 1) (if is_none old then 1 else 0)
       one None = refl
       one (Some v) = refl
 

@@ -17,6 +17,8 @@ use std::alloc::AllocError;
 ///
 /// The elements stand in this value, and are the set's again once it is dropped. One that is forgotten in place of being dropped leaves the set empty.
 ///
+/// `S` is the set's type, and `R` that of what holds the elements meanwhile, as of the map's guard.
+///
 /// ```
 /// let mut room = set.reserve(2)?;
 /// assert_eq!(room.try_insert("car"), Ok(true));
