@@ -19,6 +19,10 @@ pub use Rattle.blart_keys.specs.Fronts.{fronts}
 -- many pairs at once
 pub use Rattle.blart_keys.specs.Bulk.{PutsAll, IsAppended}
 pub use Rattle.blart_map.specs.Bulk.{TakesItems, IsPairClone, AreClones, or_else}
+-- a map and a set with room made beforehand: what will be there, and how much room is left
+pub use Rattle.blart_map.specs.Reserved.{held, room_left}
+pub use Rattle.blart_map.specs.Within.{as_tried, added, added_ok}
+pub use Rattle.blart_set.specs.Reserved.{held_elements, elements_left, added_new, added_new_ok}
 -- what came from a walk
 pub use Rattle.blart_keys.specs.Walks.{TakesFirst, TakesLast, Walked}
 -- what a closure was asked, and which items it kept

@@ -7,3 +7,4 @@ pub mod Reserved
 pub mod Setting
 pub mod SettingAt
 pub mod TakenBack
+pub mod Tried

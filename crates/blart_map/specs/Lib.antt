@@ -25,3 +25,5 @@ pub mod ExtractIf
 pub mod OnceWritten
 pub mod OnceTaken
 pub mod EachWritten
+pub mod Reserved
+pub mod Within

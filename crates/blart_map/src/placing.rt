@@ -14,6 +14,7 @@ ghost use Rattle.art_walk.specs.Cursor.{span_of, IsSpan};
 ghost use Rattle.art_walk.specs.Pairs.{pairs_of};
 ghost use Rattle.blart_map.specs.EntryLends.{rests_if_none};
 ghost use Rattle.blart_map.specs.Places.{IsReady, IsPlaced};
+ghost use Rattle.blart_map.specs.Within.{as_tried, added, added_ok};
 
 use crate::map::TreeMap;
 use crate::occupied::OccupiedEntry;
@@ -269,6 +270,67 @@ pub(crate) fn add_reserved<K: NoPrefixesBytes + Drop, V: Drop, const P: usize>(
         Point::Exact(_stored) => {}
         point => {
             tree.place(point, key, value);
+        }
+    }
+}
+
+// Puts the pair, where there is room, and gives the value that was there. A stored key stays. It takes one placement of the room where the pair is added.
+pub(crate) fn put_within<K: AsBytes + Drop, V: Drop, const P: usize>(
+    tree: &mut Tree<K, V, P>,
+    key: K,
+    value: V,
+) -> Result<Option<V>, InsertPrefixError>
+    requires { 0 < room tree.old }
+    ensures put { Puts K.bytes (option_map (λ pair. pair.1)) (pairs_of tree.old.pairs) (key, value)
+        (kept K.bytes (pairs_of tree.old.pairs) (key, value)) (as_tried result)
+        (pairs_of tree.new.pairs) }
+    ensures room { room tree.old ≤ room tree.new + added_ok result }
+{
+    let point = tree.point(key.as_bytes());
+    put_within_at(tree, point, key, value)
+}
+
+// The same of a pair whose key has no conflict.
+pub(crate) fn put_lawful_within<K: NoPrefixesBytes + Drop, V: Drop, const P: usize>(
+    tree: &mut Tree<K, V, P>,
+    key: K,
+    value: V,
+) -> Option<V>
+    requires { 0 < room tree.old }
+    ensures old { result
+        ≡ option_map (λ pair. pair.1) (pair_at K.bytes (pairs_of tree.old.pairs) (K.bytes key)) }
+    ensures put { IsPut (pair_bytes K.bytes) (pairs_of tree.old.pairs)
+        (kept K.bytes (pairs_of tree.old.pairs) (key, value)) (pairs_of tree.new.pairs) }
+    ensures room { room tree.old ≤ room tree.new + added result }
+{
+    let point = lawful_point(tree, &key);
+    match put_within_at(tree, point, key, value) {
+        Ok(old) => old,
+        Err(_) => unreachable!(),
+    }
+}
+
+// The same at a point that is good for the key.
+fn put_within_at<K: AsBytes + Drop, V: Drop, const P: usize>(
+    tree: &mut Tree<K, V, P>,
+    point: Point,
+    key: K,
+    value: V,
+) -> Result<Option<V>, InsertPrefixError>
+    requires good { IsGood K.bytes tree.old.pairs point (K.bytes key) }
+    requires room { 0 < room tree.old }
+    ensures put { Puts K.bytes (option_map (λ pair. pair.1)) (pairs_of tree.old.pairs) (key, value)
+        (kept K.bytes (pairs_of tree.old.pairs) (key, value)) (as_tried result)
+        (pairs_of tree.new.pairs) }
+    ensures room { room tree.old ≤ room tree.new + added_ok result }
+{
+    tree.law();
+    match point {
+        Point::Exact(id) => Ok(Some(replace(tree.value_mut(id), value))),
+        Point::Related { .. } => Err(InsertPrefixError),
+        point => {
+            tree.place(point, key, value);
+            Ok(None)
         }
     }
 }

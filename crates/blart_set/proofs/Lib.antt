@@ -11,3 +11,4 @@ pub mod Merged
 pub mod Orders
 pub mod Pairs
 pub mod Stepping
+pub mod Tried

@@ -4,3 +4,4 @@ pub mod Elements
 pub mod Extracting
 pub mod Merge
 pub mod Merging
+pub mod Reserved

@@ -115,7 +115,7 @@ impl<K: NoPrefixesBytes + Drop, const PREFIX_LEN: usize> TreeSet<K, PREFIX_LEN> 
 }
 
 // Whether the bytes were new, as an insertion into the map tells.
-fn told<E>(answer: Result<Option<()>, E>) -> Result<bool, E>
+pub(crate) fn told<E>(answer: Result<Option<()>, E>) -> Result<bool, E>
     ensures { result ≡ result_map_both is_none (λ e. e) answer }
 {
     match answer {

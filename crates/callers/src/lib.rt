@@ -13,6 +13,7 @@ mod parts;
 mod picking;
 mod prefix_entries;
 mod queues;
+mod reserving;
 mod router;
 mod routes;
 mod sets;
@@ -34,6 +35,7 @@ pub use prefix_entries::{
     count_over, merge_routes, put_over, put_word_over, set_over, set_section,
 };
 pub use queues::{following, take_least, take_next, to_end};
+pub use reserving::{add_both, put_all, set_limits};
 pub use router::{Handler, asked, site};
 pub use routes::{AddError, Table, hit, route, take_over};
 pub use sets::{all_of, count_shared, grants_all, join, keep_below, new_to, shared_of};

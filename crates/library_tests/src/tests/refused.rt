@@ -6,6 +6,7 @@ mod closures;
 mod driving;
 mod dropped;
 mod keys;
+mod reserved;
 mod router;
 mod runs;
 mod trees;

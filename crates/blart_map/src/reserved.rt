@@ -1,0 +1,248 @@
+//! Room for some pairs that is made beforehand.
+ghost use Rattle.std.specs.Prelude.{◌≡◌, ◌+◌, ◌<◌, ◌≤◌, ℕ, List, true, false, length, option_map, is_some, OnOk, IfOk, OnErr, Some, if◌then◌else◌};
+ghost use Rattle.std.specs.Borrow.{sem};
+ghost use Rattle.blart_keys.specs.Bytes.{begins};
+ghost use Rattle.blart_keys.specs.Content.{IsContent, IsPut};
+ghost use Rattle.blart_keys.specs.Steps.{bytes, Puts};
+ghost use Rattle.blart_keys.specs.Stored.{kept, pair_at_front, value_at, overlaps, Updates};
+ghost use Rattle.art_tree.specs.Content.{room};
+ghost use Rattle.blart_map.specs.Within.{as_tried, added, added_ok};
+
+use crate::map::TreeMap;
+use crate::placing::{put_lawful_within, put_within};
+use art_tree::Tree;
+use blart_keys::{AsBytes, InsertPrefixError, NoPrefixesBytes};
+use std::alloc::AllocError;
+use std::mem::replace;
+
+/// The pairs of a map, and room for some more: what a [`Reserved`] holds while the map is lent to it.
+#[derive(Drop)]
+pub struct Room<K: AsBytes, V, const PREFIX_LEN: usize> {
+    tree: Tree<K, V, PREFIX_LEN>,
+    left: usize,
+    ghost fits: { left ≤ room tree },
+}
+
+/// A map with room for some pairs, as [`TreeMap::reserve`] makes it: insertions here take no memory, so none is refused for want of it.
+///
+/// The room counts down by one where a pair is added, and stands where a stored key gets a new value or a key conflicts.
+///
+/// The pairs stand in this value, and are the map's again once it is dropped. One that is forgotten in place of being dropped leaves the map empty.
+///
+/// `M` is the map's type. `R` is that of what holds the pairs meanwhile, a [`Room`], which stands here because a proof would not learn what becomes of the map if the type named it in a field.
+///
+/// ```
+/// let mut room = map.reserve(2)?;
+/// assert_eq!(room.try_insert("car", 1), Ok(None));
+/// assert_eq!(room.try_insert("car", 2), Ok(Some(1)));
+/// assert_eq!(room.left(), 1);
+/// drop(room);
+/// assert_eq!(map.get(&"car"), Some(&2));
+/// ```
+pub struct Reserved<'a, M, R: PutBack<M>> {
+    map: &'a mut M,
+    room: R,
+}
+
+/// What was taken out of a map, to be put back.
+pub trait PutBack<M>: Drop {
+    /// The map, once it is put back.
+    ghost filled: { Self → M };
+
+    /// Puts it in the place of what the map has.
+    fn put_back(self, map: &mut M)
+        ensures { map.new ≡ filled self };
+}
+
+impl<K: AsBytes + Drop, V: Drop, const PREFIX_LEN: usize> PutBack<TreeMap<K, V, PREFIX_LEN>>
+    for Room<K, V, PREFIX_LEN> {
+    ghost filled = { λ r. r.tree.pairs };
+
+    fn put_back(self, map: &mut TreeMap<K, V, PREFIX_LEN>) {
+        let Room { tree, left: _ } = self;
+        drop(replace(&mut map.tree, tree));
+    }
+}
+
+impl<'a, M, R: PutBack<M>> Drop for Reserved<'a, M, R> {
+    fn drop(self)
+        ensures { self.exit.0.now ≡ R.filled self.entry.room }
+    {
+        let Reserved { map, room } = self;
+        room.put_back(map);
+    }
+}
+
+impl<K: AsBytes + Drop, V: Drop, const PREFIX_LEN: usize> TreeMap<K, V, PREFIX_LEN> {
+    ghost use Rattle.blart_map.specs.Content.{pairs};
+    ghost use Rattle.blart_map.specs.Reserved.{held, room_left, rests_if_full};
+
+    /// Makes room for so many pairs, and lends the map to be filled; or is refused, and leaves the map as it was. For no pairs it takes no memory.
+    ///
+    /// ```
+    /// let mut room = map.reserve(2)?;
+    /// room.insert(U32Key::new(1), 'a');
+    /// room.insert(U32Key::new(2), 'b');
+    /// drop(room);
+    /// assert_eq!(map.len(), 2);
+    /// ```
+    pub fn reserve(
+        &mut self,
+        count: usize,
+    ) -> Result<Reserved<'_, Self, Room<K, V, PREFIX_LEN>>, AllocError>
+        ensures* stands { sem 𝓛
+            (rests_if_full K.row V.row PREFIX_LEN.row K.AsBytes self.entry result) }
+        ensures same_map { IfOk result (λ r. r.map.ghost_name ≡ self.entry.ghost_name) }
+        ensures unchanged { IfOk result (λ r. held r ≡ pairs self.old) }
+        ensures left { IfOk result (λ r. room_left r ≡ count) }
+        ensures refused { OnErr result (0 < count) }
+    {
+        match self.take_room(count) {
+            Ok(room) => Ok(Reserved { map: self, room }),
+            Err(refused) => Err(refused),
+        }
+    }
+
+    /// Makes room for so many pairs, and takes the pairs out with it; or is refused, and leaves the map as it was. The map is empty until the room is given back.
+    pub fn take_room(&mut self, count: usize) -> Result<Room<K, V, PREFIX_LEN>, AllocError>
+        ensures same { IfOk result (λ r. r.tree.pairs ≡ self.old) }
+        ensures left { IfOk result (λ r. r.left ≡ count) }
+        ensures err { OnErr result (self.new ≡ self.old) }
+        ensures refused { OnErr result (0 < count) }
+    {
+        self.tree.reserve(count)?;
+        let tree = replace(&mut self.tree, Tree::new(self.alloc));
+        Ok(Room { tree, left: count })
+    }
+}
+
+impl<K: AsBytes, V, const PREFIX_LEN: usize> Room<K, V, PREFIX_LEN> {
+    ghost use Rattle.blart_map.specs.Reserved.{room_pairs};
+
+    /// Answers nothing. Its contract says what holds of the pairs of every room.
+    #[tactic(auto, unfolding(crate::specs::Content::pairs))]
+    pub fn law(&self)
+        ensures { IsContent (bytes K.bytes) (room_pairs self.now) }
+    {
+        self.tree.law();
+    }
+
+    /// For how many pairs there is room.
+    pub fn left(&self) -> usize
+        ensures { result ≡ self.now.left }
+    {
+        self.left
+    }
+}
+
+impl<K: AsBytes + Drop, V: Drop, const PREFIX_LEN: usize> Room<K, V, PREFIX_LEN> {
+    ghost use Rattle.blart_map.specs.Reserved.{room_pairs};
+
+    /// Puts the pair, as [`Reserved::try_insert`] does.
+    #[tactic(auto, unfolding(crate::specs::Content::pairs))]
+    pub fn try_insert(&mut self, key: K, value: V) -> Result<Option<V>, InsertPrefixError>
+        requires { 0 < self.old.left }
+        ensures put { Puts K.bytes (option_map (λ pair. pair.1)) (room_pairs self.old) (key, value)
+            (kept K.bytes (room_pairs self.old) (key, value)) (as_tried result)
+            (room_pairs self.new) }
+        ensures left { self.new.left + added_ok result ≡ self.old.left }
+    {
+        // The count goes down first, so that at no time it tells of more room than there is.
+        self.left -= 1;
+        let answer = put_within(&mut self.tree, key, value);
+        if !matches!(answer, Ok(None)) {
+            self.left += 1;
+        }
+        answer
+    }
+}
+
+impl<K: NoPrefixesBytes + Drop, V: Drop, const PREFIX_LEN: usize> Room<K, V, PREFIX_LEN> {
+    ghost use Rattle.blart_map.specs.Reserved.{room_pairs};
+
+    /// Puts the pair, as [`Reserved::insert`] does.
+    #[tactic(auto, unfolding(crate::specs::Content::pairs))]
+    pub fn insert(&mut self, key: K, value: V) -> Option<V>
+        requires { 0 < self.old.left }
+        ensures old { result ≡ value_at K.bytes (room_pairs self.old) (K.bytes key) }
+        ensures put { IsPut (bytes K.bytes) (room_pairs self.old)
+            (kept K.bytes (room_pairs self.old) (key, value)) (room_pairs self.new) }
+        ensures left { self.new.left + added result ≡ self.old.left }
+    {
+        self.left -= 1;
+        let old = put_lawful_within(&mut self.tree, key, value);
+        if old.is_some() {
+            self.left += 1;
+        }
+        old
+    }
+}
+
+impl<'a, K: AsBytes + Drop, V: Drop, const PREFIX_LEN: usize> Reserved<
+    'a,
+    TreeMap<K, V, PREFIX_LEN>,
+    Room<K, V, PREFIX_LEN>,
+> {
+    ghost use Rattle.blart_map.specs.Reserved.{held, room_left};
+
+    /// For how many pairs there is room.
+    pub fn left(&self) -> usize
+        ensures { result ≡ room_left self.now }
+    {
+        self.room.left()
+    }
+
+    /// Puts the pair as [`TreeMap::try_insert`] does, where there is room for one: it takes no memory, and is refused only for a conflict.
+    pub fn try_insert(&mut self, key: K, value: V) -> Result<Option<V>, InsertPrefixError>
+        requires { 0 < room_left self.old }
+        ensures same_map { self.new.map.ghost_name ≡ self.old.map.ghost_name }
+        ensures least { room_left self.old ≤ room_left self.new + 1 }
+        ensures left { room_left self.new + added_ok result ≡ room_left self.old }
+        ensures old { IfOk result
+            (λ old. old ≡ value_at K.bytes (held self.old) (K.bytes key)) }
+        ensures updates { OnOk result (Updates K.bytes (held self.old) (held self.new) (K.bytes key)
+            (Some (kept K.bytes (held self.old) (key, value)))) }
+        ensures len { IfOk result (λ old. length (held self.new)
+            ≡ length (held self.old) + (if is_some old then 0 else 1)) }
+        ensures routes { OnOk result ((r : List ℕ) → pair_at_front K.bytes (held self.new) r
+            ≡ (if begins (K.bytes key) r then Some (kept K.bytes (held self.old) (key, value))
+            else pair_at_front K.bytes (held self.old) r)) }
+        ensures err { OnErr result (held self.new ≡ held self.old) }
+        ensures free { OnOk result (overlaps K.bytes (held self.old) (K.bytes key) ≡ false) }
+        ensures why { OnErr result (overlaps K.bytes (held self.old) (K.bytes key) ≡ true) }
+        ensures put { Puts K.bytes (option_map (λ pair. pair.1)) (held self.old) (key, value)
+            (kept K.bytes (held self.old) (key, value)) (as_tried result) (held self.new) }
+    {
+        self.room.law();
+        self.room.try_insert(key, value)
+    }
+}
+
+impl<'a, K: NoPrefixesBytes + Drop, V: Drop, const PREFIX_LEN: usize> Reserved<
+    'a,
+    TreeMap<K, V, PREFIX_LEN>,
+    Room<K, V, PREFIX_LEN>,
+> {
+    ghost use Rattle.blart_map.specs.Reserved.{held, room_left};
+
+    /// Puts the pair as [`TreeMap::insert`] does, where there is room for one: it takes no memory, and is never refused.
+    pub fn insert(&mut self, key: K, value: V) -> Option<V>
+        requires { 0 < room_left self.old }
+        ensures same_map { self.new.map.ghost_name ≡ self.old.map.ghost_name }
+        ensures least { room_left self.old ≤ room_left self.new + 1 }
+        ensures left { room_left self.new + added result ≡ room_left self.old }
+        ensures old { result ≡ value_at K.bytes (held self.old) (K.bytes key) }
+        ensures updates { Updates K.bytes (held self.old) (held self.new) (K.bytes key)
+            (Some (kept K.bytes (held self.old) (key, value))) }
+        ensures len { length (held self.new)
+            ≡ length (held self.old) + (if is_some result then 0 else 1) }
+        ensures routes { (r : List ℕ) → pair_at_front K.bytes (held self.new) r
+            ≡ (if begins (K.bytes key) r then Some (kept K.bytes (held self.old) (key, value))
+            else pair_at_front K.bytes (held self.old) r) }
+        ensures put { IsPut (bytes K.bytes) (held self.old)
+            (kept K.bytes (held self.old) (key, value)) (held self.new) }
+    {
+        self.room.law();
+        self.room.insert(key, value)
+    }
+}

@@ -1,0 +1,155 @@
+//! Room for some elements that is made beforehand.
+ghost use Rattle.std.specs.Prelude.{◌≡◌, ◌+◌, ◌<◌, ◌≤◌, true, false, not, length, OnOk, IfOk, OnErr, if◌then◌else◌};
+ghost use Rattle.std.specs.Borrow.{sem};
+ghost use Rattle.blart_keys.specs.Content.{at, conflict, stores, IsPut};
+ghost use Rattle.blart_keys.specs.Stored.{kept_item};
+ghost use Rattle.blart_map.specs.Reserved.{room_leaves};
+
+use crate::insertions::told;
+use crate::set::TreeSet;
+use blart_keys::{AsBytes, InsertPrefixError, NoPrefixesBytes};
+use blart_map::{PutBack, Room, TreeMap};
+use std::alloc::AllocError;
+
+/// A set with room for some elements, as [`TreeSet::reserve`] makes it: insertions here take no memory, so none is refused for want of it.
+///
+/// The room counts down by one where an element is added, and stands where its bytes are stored or it conflicts.
+///
+/// The elements stand in this value, and are the set's again once it is dropped. One that is forgotten in place of being dropped leaves the set empty.
+///
+/// `S` is the set's type, and `R` that of what holds the elements meanwhile, as of the map's guard.
+///
+/// ```
+/// let mut room = set.reserve(2)?;
+/// assert_eq!(room.try_insert("car"), Ok(true));
+/// assert_eq!(room.try_insert("car"), Ok(false));
+/// assert_eq!(room.left(), 1);
+/// drop(room);
+/// assert!(set.contains(&"car"));
+/// ```
+pub struct Reserved<'a, S, R: PutBack<S>> {
+    set: &'a mut S,
+    room: R,
+}
+
+impl<K: AsBytes + Drop, const PREFIX_LEN: usize> PutBack<TreeSet<K, PREFIX_LEN>>
+    for Room<K, (), PREFIX_LEN> {
+    ghost filled = { λ r. room_leaves r };
+
+    fn put_back(self, set: &mut TreeSet<K, PREFIX_LEN>) {
+        PutBack::<TreeMap<K, (), PREFIX_LEN>>::put_back(self, &mut set.map);
+    }
+}
+
+impl<'a, S, R: PutBack<S>> Drop for Reserved<'a, S, R> {
+    fn drop(self)
+        ensures { self.exit.0.now ≡ R.filled self.entry.room }
+    {
+        let Reserved { set, room } = self;
+        room.put_back(set);
+    }
+}
+
+impl<K: AsBytes + Drop, const PREFIX_LEN: usize> TreeSet<K, PREFIX_LEN> {
+    ghost use Rattle.blart_set.specs.Elements.{elements};
+    ghost use Rattle.blart_set.specs.Reserved.{held_elements, elements_left, rests_if_full};
+
+    /// Makes room for so many elements, and lends the set to be filled; or is refused, and leaves the set as it was. For no elements it takes no memory.
+    ///
+    /// ```
+    /// let mut room = set.reserve(2)?;
+    /// assert!(room.insert(2u8));
+    /// assert!(room.insert(1u8));
+    /// drop(room);
+    /// assert_eq!(set.first(), Some(&1));
+    /// ```
+    pub fn reserve(
+        &mut self,
+        count: usize,
+    ) -> Result<Reserved<'_, Self, Room<K, (), PREFIX_LEN>>, AllocError>
+        ensures* stands { sem 𝓛
+            (rests_if_full K.row PREFIX_LEN.row K.AsBytes self.entry result) }
+        ensures same_set { IfOk result (λ r. r.set.ghost_name ≡ self.entry.ghost_name) }
+        ensures unchanged { IfOk result (λ r. held_elements r ≡ elements self.old) }
+        ensures left { IfOk result (λ r. elements_left r ≡ count) }
+        ensures refused { OnErr result (0 < count) }
+    {
+        match self.take_room(count) {
+            Ok(room) => Ok(Reserved { set: self, room }),
+            Err(refused) => Err(refused),
+        }
+    }
+
+    // Makes room for so many elements, and takes the elements out with it.
+    fn take_room(&mut self, count: usize) -> Result<Room<K, (), PREFIX_LEN>, AllocError>
+        ensures same { IfOk result (λ r. room_leaves r ≡ self.old) }
+        ensures left { IfOk result (λ r. r.left ≡ count) }
+        ensures err { OnErr result (self.new ≡ self.old) }
+        ensures refused { OnErr result (0 < count) }
+    {
+        self.map.take_room(count)
+    }
+}
+
+impl<'a, K: AsBytes + Drop, const PREFIX_LEN: usize> Reserved<
+    'a,
+    TreeSet<K, PREFIX_LEN>,
+    Room<K, (), PREFIX_LEN>,
+> {
+    ghost use Rattle.blart_set.specs.Reserved.{held_elements, elements_left, added_new_ok};
+
+    /// For how many elements there is room.
+    pub fn left(&self) -> usize
+        ensures { result ≡ elements_left self.now }
+    {
+        self.room.left()
+    }
+
+    /// Adds the element as [`TreeSet::try_insert`] does, where there is room for one: it takes no memory, and is refused only for a conflict.
+    pub fn try_insert(&mut self, element: K) -> Result<bool, InsertPrefixError>
+        requires { 0 < elements_left self.old }
+        ensures same_set { self.new.set.ghost_name ≡ self.old.set.ghost_name }
+        ensures least { elements_left self.old ≤ elements_left self.new + 1 }
+        ensures left { elements_left self.new + added_new_ok result ≡ elements_left self.old }
+        ensures new { IfOk result
+            (λ new. new ≡ not (stores K.bytes (held_elements self.old) (K.bytes element))) }
+        ensures put { OnOk result (IsPut K.bytes (held_elements self.old)
+            (kept_item (at K.bytes (held_elements self.old) (K.bytes element)) element)
+            (held_elements self.new)) }
+        ensures free { OnOk result
+            (conflict K.bytes (held_elements self.old) (K.bytes element) ≡ false) }
+        ensures len { IfOk result (λ new. length (held_elements self.new)
+            ≡ length (held_elements self.old) + (if new then 1 else 0)) }
+        ensures err { OnErr result (held_elements self.new ≡ held_elements self.old) }
+        ensures why { OnErr result
+            (conflict K.bytes (held_elements self.old) (K.bytes element) ≡ true) }
+    {
+        self.room.law();
+        told(self.room.try_insert(element, ()))
+    }
+}
+
+impl<'a, K: NoPrefixesBytes + Drop, const PREFIX_LEN: usize> Reserved<
+    'a,
+    TreeSet<K, PREFIX_LEN>,
+    Room<K, (), PREFIX_LEN>,
+> {
+    ghost use Rattle.blart_set.specs.Reserved.{held_elements, elements_left, added_new};
+
+    /// Adds the element as [`TreeSet::insert`] does, where there is room for one: it takes no memory, and is never refused.
+    pub fn insert(&mut self, element: K) -> bool
+        requires { 0 < elements_left self.old }
+        ensures same_set { self.new.set.ghost_name ≡ self.old.set.ghost_name }
+        ensures least { elements_left self.old ≤ elements_left self.new + 1 }
+        ensures left { elements_left self.new + added_new result ≡ elements_left self.old }
+        ensures new { result ≡ not (stores K.bytes (held_elements self.old) (K.bytes element)) }
+        ensures put { IsPut K.bytes (held_elements self.old)
+            (kept_item (at K.bytes (held_elements self.old) (K.bytes element)) element)
+            (held_elements self.new) }
+        ensures len { length (held_elements self.new)
+            ≡ length (held_elements self.old) + (if result then 1 else 0) }
+    {
+        self.room.law();
+        self.room.insert(element, ()).is_none()
+    }
+}

@@ -1,0 +1,51 @@
+//! Maps and sets into which all goes or nothing does, since the room is made beforehand.
+ghost use Rattle.std.specs.Prelude.{◌≡◌, ◌≢◌, ◌∷◌, [], ℕ, List, OnOk, OnErr, Some};
+ghost use Rattle.blart.specs.Words.{pairs, bytes, value_at, elements, kept_pair, kept_item, PutsAll};
+
+use blart::{Map, NoPrefixesBytes, Set};
+use std::alloc::AllocError;
+
+/// Gives both keys their values. A refusal gives neither.
+pub fn set_limits<K: NoPrefixesBytes + Drop>(
+    limits: &mut Map<K, u64>,
+    low: (K, u64),
+    high: (K, u64),
+) -> Result<(), AllocError>
+    ensures high { OnOk result (value_at K.bytes (pairs limits.new) (K.bytes high.0) ≡ Some high.1) }
+    ensures others { OnOk result ((q : List ℕ) → q ≢ K.bytes low.0 → q ≢ K.bytes high.0
+        → value_at K.bytes (pairs limits.new) q ≡ value_at K.bytes (pairs limits.old) q) }
+    ensures refused { OnErr result (limits.new ≡ limits.old) }
+{
+    let mut room = limits.reserve(2)?;
+    room.insert(low.0, low.1);
+    room.insert(high.0, high.1);
+    Ok(())
+}
+
+/// Puts all the pairs in turn. A refusal puts none.
+pub fn put_all<K: NoPrefixesBytes + Drop>(
+    scores: &mut Map<K, u64>,
+    batch: Vec<(K, u64)>,
+) -> Result<(), AllocError>
+    ensures put { OnOk result (PutsAll (bytes K.bytes) kept_pair (pairs scores.old) batch.items
+        (pairs scores.new)) }
+    ensures refused { OnErr result (scores.new ≡ scores.old) }
+{
+    let mut room = scores.reserve(batch.len())?;
+    for (key, score) in batch {
+        room.insert(key, score);
+    }
+    Ok(())
+}
+
+/// Adds both elements. A refusal adds neither.
+pub fn add_both<K: NoPrefixesBytes + Drop>(set: &mut Set<K>, a: K, b: K) -> Result<(), AllocError>
+    ensures put { OnOk result (PutsAll K.bytes kept_item (elements set.old) (a ∷ b ∷ [])
+        (elements set.new)) }
+    ensures refused { OnErr result (set.new ≡ set.old) }
+{
+    let mut room = set.reserve(2)?;
+    room.insert(a);
+    room.insert(b);
+    Ok(())
+}
