@@ -6,6 +6,7 @@ mod keys;
 mod merges;
 mod prefix_entries;
 mod readme;
+mod reserved;
 mod sets;
 mod walks;
 
