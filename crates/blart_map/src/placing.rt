@@ -326,7 +326,10 @@ fn put_within_at<K: AsBytes + Drop, V: Drop, const P: usize>(
 {
     tree.law();
     match point {
-        Point::Exact(id) => Ok(Some(replace(tree.value_mut(id), value))),
+        Point::Exact(id) => {
+            let old = replace(tree.value_mut(id), value);
+            Ok(Some(old))
+        }
         Point::Related { .. } => Err(InsertPrefixError),
         point => {
             tree.place(point, key, value);
