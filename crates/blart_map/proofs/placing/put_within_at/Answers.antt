@@ -19,8 +19,8 @@ returns-in-Exact-clause-put g c =
     let kb = g.K.AsBytes.bytes in
     let ps = c.args.tree.now.pairs in
     let good = subst (λ p. IsGood kb ps p (kb c.args.key)) c.in-Exact.is c.requires.good in
-    value_put kb ps c.law.ensures.content c.law.ensures.distinct c.args.key c.args.value c.replace.result c.in-Exact.id good
-    (c.value_mut.ensures.value ∙ ap Some (sym c.replace.ensures.value)) (with_value ps c.in-Exact.id c.replace.new.dest) (ap (with_value ps c.in-Exact.id) c.replace.ensures.after)
+    value_put kb ps c.law.ensures.content c.law.ensures.distinct c.args.key c.args.value c.replace-old.result c.in-Exact.id good
+    (c.value_mut.ensures.value ∙ ap Some (sym c.replace-old.ensures.value)) (with_value ps c.in-Exact.id c.replace-old.new.dest) (ap (with_value ps c.in-Exact.id) c.replace-old.ensures.after)
 
 pub returns-in-Related-clause-put : goal.returns-in-Related-clause-put
 returns-in-Related-clause-put g c =
