@@ -21,8 +21,9 @@ use std::alloc::AllocError;
 ///
 /// ```
 /// let mut room = set.reserve(2)?;
-/// assert_eq!(room.try_insert("car"), Ok(true));
-/// assert_eq!(room.try_insert("car"), Ok(false));
+/// assert!(matches!(room.try_insert("car"), Ok(true)));
+/// assert!(matches!(room.try_insert("car"), Ok(false)));
+/// assert!(matches!(room.try_insert("cars"), Err(_)));
 /// assert_eq!(room.left(), 1);
 /// drop(room);
 /// assert!(set.contains(&"car"));

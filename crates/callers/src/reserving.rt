@@ -1,6 +1,6 @@
 //! Maps and sets into which all goes or nothing does, since the room is made beforehand.
 ghost use Rattle.std.specs.Prelude.{◌≡◌, ◌≢◌, ◌∷◌, [], ℕ, List, OnOk, OnErr, Some};
-ghost use Rattle.blart.specs.Words.{pairs, bytes, value_at, elements, kept_pair, kept_item, PutsAll};
+ghost use Rattle.blart.specs.Words.{pairs, bytes, pair_at, value_at, elements, kept_pair, kept_item, PutsAll};
 
 use blart::{Map, NoPrefixesBytes, Set};
 use std::alloc::AllocError;
@@ -13,7 +13,7 @@ pub fn set_limits<K: NoPrefixesBytes + Drop>(
 ) -> Result<(), AllocError>
     ensures high { OnOk result (value_at K.bytes (pairs limits.new) (K.bytes high.0) ≡ Some high.1) }
     ensures others { OnOk result ((q : List ℕ) → q ≢ K.bytes low.0 → q ≢ K.bytes high.0
-        → value_at K.bytes (pairs limits.new) q ≡ value_at K.bytes (pairs limits.old) q) }
+        → pair_at K.bytes (pairs limits.new) q ≡ pair_at K.bytes (pairs limits.old) q) }
     ensures refused { OnErr result (limits.new ≡ limits.old) }
 {
     let mut room = limits.reserve(2)?;
