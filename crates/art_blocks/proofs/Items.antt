@@ -5,7 +5,7 @@ use Rattle.std.proofs.lemmas.Bool.Decides.{eqb_tells}
 use Rattle.std.proofs.lemmas.List.{get_or-set_same, get_or-set_other, length-append, length-take-le, take-append-drop, get_or_read, get_or_default}
 use Rattle.std.proofs.lemmas.List.Sums.{sum_by-append, sum_by-cons}
 use Rattle.std.proofs.lemmas.List.Elements.{filter_map-append, All-nil, All-cons, All-head, All-tail}
-use Rattle.art_blocks.specs.Blocks.{item_in, LiesIn, placed_at, entry_of, with_item}
+use Rattle.art_blocks.specs.Blocks.{Placed, item_in, LiesIn, placed_at, entry_of, with_item}
 use Rattle.art_blocks.specs.Layout.{named_by, content, placed, items_of, IsLaidOutAt}
 use Rattle.art_blocks.specs.declared.block.Entry.{Entry}
 
@@ -158,3 +158,7 @@ module _ {T : Type 0} where
       let o : length order ≡ 32 = sym (ap length (take-append-drop count order)) ∙ a ∙ t in
       let w : count ≤ 32 = l.within in
       sym (length-items slots (take count order) l.laid_out.full ∙ length-take-le count order (omega arith))
+
+  -- and as many as a contract sees
+  pub counted : (count : ℕ) (order : List Entry) (slots : List (Option T)) → IsLaidOutAt count order slots → {ps : List (Placed T)} → items_of slots (take count order) ≡ ps → count ≡ length ps
+  counted count order slots l e = used_count count order slots l ∙ ap length e

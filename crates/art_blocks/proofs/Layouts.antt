@@ -6,10 +6,10 @@ use Rattle.std.proofs.lemmas.Option.{same_Some, get_or_from_slice_get}
 use Rattle.std.proofs.lemmas.List.{get_or-set_same, get_or-set_other, length-set, length-append, length-take-le, take-append-drop, take_at, drop_at, drop_more, get_or_past}
 use Rattle.std.proofs.lemmas.List.Sums.{sum_by-take-drop}
 use Rattle.std.proofs.lemmas.List.Elements.{All-nil, All-cons, All-head, All-tail, All-append, All-take, All-drop, All-weaker}
-use Rattle.art_blocks.specs.Blocks.{item_in, LiesIn, placed_at, with_item}
+use Rattle.art_blocks.specs.Blocks.{AllElsewhere, AreApart, Placed, item_in, LiesIn, placed_at, with_item}
 use Rattle.art_blocks.specs.Layout.{named_by, content, items_of, IsLaidOut, IsLaidOutAt}
 use Rattle.art_blocks.specs.declared.block.Entry.{Entry}
-use Rattle.art_blocks.proofs.Items.{eqb_other, named-append, named-cons, named-own, some_of, not_none, within, items-append, items-some, length-items, items-other, items-set, kept, content_is}
+use Rattle.art_blocks.proofs.Items.{not_named, items-none, eqb_other, named-append, named-cons, named-own, some_of, not_none, within, items-append, items-some, length-items, items-other, items-set, kept, content_is}
 
 -- the entries before a place and those from it on that name a slot
 named-parts : (es : List Entry) (at : ℕ) (s : ℕ) → named_by (take at es) s + named_by (drop at es) s ≡ named_by es s
@@ -301,3 +301,34 @@ module _ {T : Type 0} where
         },
         items-some (set slots 0 (Some x)) e [] x there ∙ ap (λ (e : Entry). placed_at e.id e.slot x ∷ []) q,
       )
+
+module _ {T : Type 0} (slots : List (Option T)) where
+  -- the items of entries that do not name a slot lie elsewhere
+  elsewhere : (es : List Entry) (s : ℕ) → named_by es s ≡ 0 → AllElsewhere (items_of slots es) s
+  elsewhere [] s n = tt
+  elsewhere (e ∷ es) s n = let m = not_named e es s n in by_content (content slots e.slot) m.0 (elsewhere es s m.1) refl
+    where
+      by_content : (o : Option T) → e.slot ≢ s → AllElsewhere (items_of slots es) s → content slots e.slot ≡ o → AllElsewhere (items_of slots (e ∷ es)) s
+      by_content None n r y = rw (items-none slots e es y) r
+      by_content (Some x) n r y = rw (items-some slots e es x y) (n, r)
+
+  -- the items of entries no two of which name one slot are apart
+  pub items-apart : (es : List Entry) → ((s : ℕ) → named_by es s ≤ 1) → AreApart (items_of slots es)
+  items-apart [] h = tt
+  items-apart (e ∷ es) h =
+      let rest : (s : ℕ) → named_by es s ≤ 1 = λ s. omega (arith, h s, named-cons e es s) in
+      let z : named_by es e.slot ≡ 0 = omega (arith, h e.slot, named-own e es) in
+      by_content (content slots e.slot) (elsewhere es e.slot z) (items-apart es rest) refl
+    where
+      by_content : (o : Option T) → AllElsewhere (items_of slots es) e.slot → AreApart (items_of slots es) → content slots e.slot ≡ o → AreApart (items_of slots (e ∷ es))
+      by_content None a r y = rw (items-none slots e es y) r
+      by_content (Some x) a r y = rw (items-some slots e es x y) (a, r)
+
+  -- items lie in slots that there are
+  pub items-small : (es : List Entry) → All (λ p. p.slot < length slots) (items_of slots es)
+  items-small [] = All-nil (λ (p : Placed T). p.slot < length slots)
+  items-small (e ∷ es) = by_content (content slots e.slot) (items-small es) refl
+    where
+      by_content : (o : Option T) → All (λ p. p.slot < length slots) (items_of slots es) → content slots e.slot ≡ o → All (λ p. p.slot < length slots) (items_of slots (e ∷ es))
+      by_content None r y = rw (items-none slots e es y) r
+      by_content (Some x) r y = rw (items-some slots e es x y) (All-cons (λ (p : Placed T). p.slot < length slots) (placed_at e.id e.slot x) (items_of slots es) (within slots e.slot (rw y refl)) r)

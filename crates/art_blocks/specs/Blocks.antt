@@ -1,5 +1,5 @@
 -- What a contract sees of a block: its items in order, each with its number and its slot.
-use Rattle.std.specs.Prelude.{ℕ, List, [], ◌∷◌, map, Option, Some, None, IsSome, refl, if◌then◌else◌, eqb}
+use Rattle.std.specs.Prelude.{◌≢◌, ℕ, List, [], ◌∷◌, map, Option, Some, None, IsSome, refl, if◌then◌else◌, eqb}
 use Rattle.std.specs.Coded.{Coded, code_by, coded×, coded_ℕ}
 use Rattle.art_blocks.specs.declared.block.Entry.{Entry}
 
@@ -39,3 +39,13 @@ module _ {T : Type 0} where
   -- the items, with another in a slot
   abbrev pub with_item : List (Placed T) → ℕ → T → List (Placed T)
   with_item ps slot x = map (λ (p : Placed T). if eqb p.slot slot then record p { item = x } else p) ps
+
+  -- none of these items lies in the slot
+  abbrev pub AllElsewhere : List (Placed T) → ℕ → Type 0
+  AllElsewhere [] slot = Unit {0}
+  AllElsewhere (p ∷ ps) slot = (p.slot ≢ slot) × AllElsewhere ps slot
+
+  -- no two items lie in one slot
+  abbrev pub AreApart : List (Placed T) → Type 0
+  AreApart [] = Unit {0}
+  AreApart (p ∷ ps) = AllElsewhere ps p.slot × AreApart ps

@@ -1,7 +1,7 @@
 //! Items in a block.
-ghost use Rattle.std.specs.Prelude.{◌≡◌, ◌+◌, ◌<◌, ◌≤◌, ℕ, [], ◌∷◌, ◌++◌, length, map, take, drop, option_map, slice_get, slice_set, slice_index_or, Some, None, IsSome};
+ghost use Rattle.std.specs.Prelude.{◌≡◌, ◌+◌, ◌<◌, ◌≤◌, ℕ, [], ◌∷◌, ◌++◌, length, map, All, take, drop, option_map, slice_get, slice_set, slice_index_or, Some, None, IsSome};
 ghost use Rattle.std.specs.Borrow.{sem};
-ghost use Rattle.art_blocks.specs.Blocks.{item_in, LiesIn, entry_of, placed_at};
+ghost use Rattle.art_blocks.specs.Blocks.{AreApart, item_in, LiesIn, entry_of, placed_at};
 ghost use Rattle.art_blocks.specs.BlockLends.{lends_some};
 ghost use Rattle.arrayvec.specs.ArrayVec.{array_vec_len};
 
@@ -48,7 +48,16 @@ impl<T> Model for Block<T> {
 impl<T> Block<T> {
     ghost use Rattle.art_blocks.specs.BlockLends.{lends_item};
 
+    /// Answers nothing. Its contract says that no two items lie in one slot, and that the slots are below 32.
+    pub fn law(&self)
+        ensures apart { AreApart self.now }
+        ensures slots { All (λ p. p.slot < BLOCK) self.now }
+    {
+        let _ = &self.count;
+    }
+
     /// How many items there are.
+    #[inline]
     pub fn len(&self) -> usize
         ensures len { result ≡ length self.now }
         ensures fits { length self.now ≤ BLOCK }
@@ -57,6 +66,7 @@ impl<T> Block<T> {
     }
 
     /// The numbers and the slots of the items, in order.
+    #[inline]
     pub fn entries(&self) -> &[Entry]
         ensures { result.now ≡ map entry_of self.now }
     {
@@ -64,6 +74,7 @@ impl<T> Block<T> {
     }
 
     /// The item in a slot.
+    #[inline]
     pub fn read(&self, slot: usize) -> &T
         requires { LiesIn self.now slot }
         ensures { item_in self.now slot ≡ Some result.now }
@@ -75,6 +86,7 @@ impl<T> Block<T> {
     }
 
     /// The item in a slot, to be written.
+    #[inline]
     pub fn get_mut(&mut self, slot: usize) -> &mut T
         requires { LiesIn self.old slot }
         ensures* writes_back { sem 𝓛 (lends_item T.row self.entry slot result) }
