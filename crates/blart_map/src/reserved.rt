@@ -33,12 +33,11 @@ pub struct Room<K: AsBytes, V, const PREFIX_LEN: usize> {
 ///
 /// ```
 /// let mut room = map.reserve(2)?;
-/// assert!(matches!(room.try_insert("car", 1), Ok(None)));
-/// assert!(matches!(room.try_insert("car", 2), Ok(Some(1))));
-/// assert!(matches!(room.try_insert("cars", 3), Err(_)));
+/// assert_eq!(room.insert(7, 1), None);
+/// assert_eq!(room.insert(7, 2), Some(1));
 /// assert_eq!(room.left(), 1);
 /// drop(room);
-/// assert_eq!(map.get(&"car"), Some(&2));
+/// assert_eq!(map.get(&7u8), Some(&2));
 /// ```
 pub struct Reserved<'a, M, R: PutBack<M>> {
     map: &'a mut M,

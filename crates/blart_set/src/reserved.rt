@@ -21,12 +21,11 @@ use std::alloc::AllocError;
 ///
 /// ```
 /// let mut room = set.reserve(2)?;
-/// assert!(matches!(room.try_insert("car"), Ok(true)));
-/// assert!(matches!(room.try_insert("car"), Ok(false)));
-/// assert!(matches!(room.try_insert("cars"), Err(_)));
+/// assert!(room.insert(7));
+/// assert!(!room.insert(7));
 /// assert_eq!(room.left(), 1);
 /// drop(room);
-/// assert!(set.contains(&"car"));
+/// assert!(set.contains(&7u8));
 /// ```
 pub struct Reserved<'a, S, R: PutBack<S>> {
     set: &'a mut S,

@@ -31,6 +31,28 @@ fn a_map_is_filled(rt: HostRuntime) {
     fills_map::<16>(&rt);
 }
 
+// A key of these bytes.
+fn word(rt: &(impl Abort + AllocGlobal), bytes: &[u8]) -> Vec<u8> {
+    Vec::from_slice(rt.alloc(), bytes).expect(rt, "memory")
+}
+
+// Fills a map of words, of which one conflicts.
+fn fill_words(rt: &(impl Abort + AllocGlobal), map: &mut TreeMap<Vec<u8>, usize, 2>) {
+    let mut room = map.reserve(2).expect(rt, "memory");
+    assert!(rt; matches!(room.try_insert(word(rt, b"car"), 1), Ok(None)));
+    assert!(rt; room.left() == 1);
+    assert!(rt; room.try_insert(word(rt, b"cars"), 2).is_err());
+    assert!(rt; room.left() == 1);
+}
+
+#[test]
+fn a_conflict_leaves_the_room(rt: HostRuntime) {
+    let mut map = TreeMap::with_prefix_len(rt.alloc());
+    fill_words(&rt, &mut map);
+    assert!(rt; map.len() == 1);
+    drop(map);
+}
+
 // Fills a set. What adds no element leaves the room as it is.
 fn fill_set(rt: &impl Abort, set: &mut TreeSet<u8, 2>) {
     let mut room = set.reserve(2).expect(rt, "memory");

@@ -1,36 +1,34 @@
 //! A map and a set with room made beforehand.
-use super::Map;
+use blart_map::TreeMap;
 use blart_set::TreeSet;
 use std::alloc::AllocError;
 use std::process::Abort;
 
 // The example of `blart_map::Reserved`.
-fn of_map(rt: &impl Abort, map: &mut Map<'_>) -> Result<(), AllocError> {
+fn of_map(rt: &impl Abort, map: &mut TreeMap<u8, i32, 16>) -> Result<(), AllocError> {
     let mut room = map.reserve(2)?;
-    assert!(rt; matches!(room.try_insert("car", 1), Ok(None)));
-    assert!(rt; matches!(room.try_insert("car", 2), Ok(Some(1))));
-    assert!(rt; matches!(room.try_insert("cars", 3), Err(_)));
+    assert_eq!(rt; room.insert(7, 1), None);
+    assert_eq!(rt; room.insert(7, 2), Some(1));
     assert_eq!(rt; room.left(), 1);
     drop(room);
-    assert_eq!(rt; map.get(&"car"), Some(&2));
+    assert_eq!(rt; map.get(&7u8), Some(&2));
     Ok(())
 }
 
 // The example of `blart_set::Reserved`.
-fn of_set(rt: &impl Abort, set: &mut TreeSet<&str, 16>) -> Result<(), AllocError> {
+fn of_set(rt: &impl Abort, set: &mut TreeSet<u8, 16>) -> Result<(), AllocError> {
     let mut room = set.reserve(2)?;
-    assert!(rt; matches!(room.try_insert("car"), Ok(true)));
-    assert!(rt; matches!(room.try_insert("car"), Ok(false)));
-    assert!(rt; matches!(room.try_insert("cars"), Err(_)));
+    assert!(rt; room.insert(7));
+    assert!(rt; !room.insert(7));
     assert_eq!(rt; room.left(), 1);
     drop(room);
-    assert!(rt; set.contains(&"car"));
+    assert!(rt; set.contains(&7u8));
     Ok(())
 }
 
 #[test]
 fn as_shown(rt: HostRuntime) {
-    let mut map = Map::new(rt.alloc());
+    let mut map = TreeMap::new(rt.alloc());
     of_map(&rt, &mut map).expect(&rt, "memory");
     drop(map);
     let mut set = TreeSet::new(rt.alloc());

@@ -10,6 +10,7 @@ fn fill<const P: usize>(rt: &(impl Abort + Print), map: &mut TreeMap<[u8; 2], us
         return 0;
     };
     for place in 0..5 {
+        assert!(rt; room.left() > 0);
         assert!(rt; room.insert(KEYS[place], place).is_none());
     }
     5
@@ -22,7 +23,7 @@ fn fills<const P: usize>(rt: &(impl Abort + AllocGlobal + Print)) {
         return;
     }
     let count = fill(rt, &mut map);
-    assert!(rt; map.len() == count + 1);
+    assert!(rt; map.len() == count.wrapping_add(1));
     assert!(rt; map.get(&[4u8, 4]) == Some(&7));
     drop(map);
 }
