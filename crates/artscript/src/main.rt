@@ -7,7 +7,6 @@ mod entries;
 mod failure;
 mod lengths;
 mod maps;
-#[cfg(test)]
 mod refusals;
 mod session;
 mod sets;

@@ -7,7 +7,6 @@ mod comparisons;
 mod drives;
 mod inserts;
 mod lending;
-#[cfg(test)]
 mod listing;
 mod look_ups;
 mod owning;
@@ -15,5 +14,4 @@ mod picking;
 mod within;
 
 pub use calls::Maps;
-#[cfg(test)]
 pub use listing::list_map;

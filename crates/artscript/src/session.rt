@@ -65,7 +65,6 @@ impl<'a, const PREFIX_LEN: usize> Session<'a, PREFIX_LEN> {
     }
 
     /// Adds all that the maps and the sets have that calls are of.
-    #[cfg(test)]
     pub(crate) fn list(&self, text: &mut Text) -> Answered {
         self.part.list(text)
     }

@@ -5,7 +5,6 @@ mod bulk;
 mod calls;
 mod comparisons;
 mod counting;
-#[cfg(test)]
 mod listing;
 mod look_ups;
 mod operators;

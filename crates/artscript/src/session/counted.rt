@@ -1,5 +1,4 @@
 //! A map whose values count how often one is dropped, and the calls of it.
-#[cfg(test)]
 use crate::maps::list_map;
 use blart_map::TreeMap;
 use script_words::{Answered, Left, MapName, Shown, Text, Unanswered, Words, show_walk};
@@ -46,7 +45,6 @@ impl<'a, const PREFIX_LEN: usize> CountedMap<'a, PREFIX_LEN> {
     }
 
     /// Adds all that the map has.
-    #[cfg(test)]
     pub(crate) fn list(&self, text: &mut Text) -> Answered {
         list_map(&self.map, text)
     }

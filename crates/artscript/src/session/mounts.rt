@@ -20,7 +20,6 @@ impl Table {
     }
 
     /// Adds all mounts.
-    #[cfg(test)]
     pub(crate) fn list(&self, text: &mut Text) -> Answered {
         for mount in self.mounts.under(b"") {
             mount.show(text)?;

@@ -30,7 +30,6 @@ impl<K: ScriptKey, const PREFIX_LEN: usize> Part<K, PREFIX_LEN> {
     }
 
     // Adds all that both maps and both sets have.
-    #[cfg(test)]
     fn list(&self, text: &mut Text) -> Answered {
         self.maps.list(text)?;
         self.sets.list(text)
@@ -122,7 +121,6 @@ impl<'a, const PREFIX_LEN: usize> Keyed<'a, PREFIX_LEN> {
     }
 
     /// Adds all that stands.
-    #[cfg(test)]
     pub(crate) fn list(&self, text: &mut Text) -> Answered {
         match self {
             Keyed::Bytes(part) => part.list(text),
