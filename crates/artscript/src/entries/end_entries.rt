@@ -1,10 +1,28 @@
 //! What the entries of the first pair and of the last answer.
-use crate::entries::by_key::{MapOf, show_occupied};
-use script_words::{Answered, EndCall, ScriptKey, Shown, Text, Words};
+use blart_map::TreeMap;
+use script_words::{Answered, EndCall, OccupiedCall, ScriptKey, Shown, Text, Words};
+use std::mem;
+
+// Adds what the call answers.
+macro_rules! show_end {
+    ($entry:expr, $call:expr, $text:expr) => {
+        match $call {
+            EndCall::Key => $entry.key().show($text),
+            EndCall::Occupied(call) => match call {
+                OccupiedCall::Get => $entry.get().show($text),
+                OccupiedCall::Insert(value) => $entry.insert(value).show($text),
+                OccupiedCall::GetMut(value) => mem::replace($entry.get_mut(), value).show($text),
+                OccupiedCall::IntoMut(value) => mem::replace($entry.into_mut(), value).show($text),
+                OccupiedCall::Remove => $entry.remove().show($text),
+                OccupiedCall::RemoveEntry => $entry.remove_entry().show($text),
+            },
+        }
+    };
+}
 
 /// Makes the call of the entry of the first pair, or of the last, and adds its answer.
 pub fn enter_end<K: ScriptKey, const P: usize>(
-    map: &mut MapOf<K, P>,
+    map: &mut TreeMap<K, u64, P>,
     is_first: bool,
     words: Words<'_>,
     text: &mut Text,
@@ -15,13 +33,13 @@ pub fn enter_end<K: ScriptKey, const P: usize>(
     } else {
         map.last_entry()
     };
-    let Some(entry) = found else {
-        return text.push(b"None");
-    };
-    text.push(b"Some(")?;
-    match call {
-        EndCall::Key => entry.key().show(text)?,
-        EndCall::Occupied(call) => show_occupied(entry, call, text)?,
+    match found {
+        Some(mut entry) => {
+            text.push(b"Some(")?;
+            show_end!(entry, call, text)?;
+            text.push(b")")?;
+        }
+        None => text.push(b"None")?,
     }
-    text.push(b")")
+    Ok(())
 }

@@ -1,7 +1,7 @@
 //! The maps and the sets of one type of keys, and the calls of them.
 ghost use Rattle.std.specs.Prelude.{◌≡◌};
 
-use crate::entries::{enter, enter_end, enter_related, try_enter};
+use crate::entries::{enter_bytes, enter_end, enter_related, enter_three};
 use crate::maps::Maps;
 use crate::session::counted::CountedMap;
 use crate::session::mounts::Table;
@@ -40,7 +40,7 @@ impl<const PREFIX_LEN: usize> Part<Vec<u8>, PREFIX_LEN> {
     fn call_of_bytes(&mut self, call: LineCall, words: Words<'_>, text: &mut Text) -> Answered {
         let map = &mut self.maps.first;
         match call {
-            LineCall::Map(MapName::TryEntry) => try_enter(map, words, text),
+            LineCall::Map(MapName::TryEntry) => enter_bytes(map, words, text),
             LineCall::Map(MapName::PrefixEntry) => enter_related(map, words, text),
             LineCall::Map(MapName::FirstEntry) => enter_end(map, true, words, text),
             LineCall::Map(MapName::LastEntry) => enter_end(map, false, words, text),
@@ -53,8 +53,13 @@ impl<const PREFIX_LEN: usize> Part<Vec<u8>, PREFIX_LEN> {
 impl<const PREFIX_LEN: usize> Part<[u8; 3], PREFIX_LEN> {
     fn call_of_three(&mut self, call: LineCall, words: Words<'_>, text: &mut Text) -> Answered {
         match call {
-            LineCall::Map(MapName::TryEntry) => try_enter(&mut self.maps.first, words, text),
-            LineCall::Map(MapName::Entry) => enter(&mut self.maps.first, words, text),
+            LineCall::Map(MapName::TryEntry) => enter_three(
+                &mut self.maps.first,
+                true,
+                words,
+                text,
+            ),
+            LineCall::Map(MapName::Entry) => enter_three(&mut self.maps.first, false, words, text),
             _ => self.call_of_fixed(call, words, text),
         }
     }
