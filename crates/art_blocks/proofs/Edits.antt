@@ -1,10 +1,6 @@
 -- What an edit of an array leaves of its first so many entries, and of the others.
-use Rattle.std.proofs.Common.{◌≡◌, ℕ, ◌+◌, ◌-◌, ◌*◌, ◌^◌, ◌<◌, ◌≤◌, List, [], ◌∷◌, ◌++◌, length, take, drop, get_or, set, refl, sym, ap, ◌∙◌, append_assoc, arith}
-use Rattle.std.proofs.lemmas.List.{take_at, take-take, drop-take, length-take-le, length-set, take-set-le, drop-set-lt, drop-drop, drop_at, take_more_set, drop-append-le, length_push}
-use Rattle.std.specs.List.{refill}
-use Rattle.std.proofs.Math.Nat.{mul-le-mul_right}
-use Rattle.std.specs.Array.{IsFromFnResult}
-use Rattle.std.specs.Fn.{Mut, Called}
+use Rattle.std.proofs.Common.{◌≡◌, ℕ, ◌+◌, ◌-◌, ◌<◌, ◌≤◌, List, [], ◌∷◌, ◌++◌, length, take, drop, set, refl, sym, ap, ◌∙◌, append_assoc, arith}
+use Rattle.std.proofs.lemmas.List.{take_at, take-take, drop-take, length-take-le, take-set-le, drop-set-lt, drop-drop, drop_at, take_more_set, drop-append-le, length_push}
 use borrow.Rule.Slice.PartMut.{put_mid, mid_of, Post-is}
 
 module _ {X : Type 0} (xs : List X) (at count : ℕ) where
@@ -38,15 +34,3 @@ puts_at {X} xs at count y le lt ys e =
     let first : take at (take (count + 1) zs) ≡ take at (take count xs) = take-take at (count + 1) zs (omega arith) ∙ take-set-le at xs count y le ∙ sym (take-take at count xs le) in
     let rest : drop (count + 1) zs ≡ drop (count + 1) xs = drop-set-lt (count + 1) xs count y (omega arith) in
     parts zs at (count + 1) (omega arith) ys ∙ rw (first, rest, v) (simp append_assoc)
-
--- one element written through the whole slice of a list
-pub refilled : {X : Type 0} (xs ys : List X) (i : ℕ) (y : X) → ys ≡ xs → refill (length xs) xs (set ys i y) ≡ set xs i y
-refilled xs ys i y e = ap (λ l. refill (length xs) xs (set l i y)) e ∙ take_at (set xs i y) (drop (length (set xs i y)) xs) (length xs) (length-set xs i y)
-
--- where a slice fits, so does each offset in it
-pub fits_part : (i n size : ℕ) → i ≤ n → n * size < 2 ^ 63 → i * size < 2 ^ 64
-fits_part i n size le fits = let m : i * size ≤ n * size = mul-le-mul_right size le in omega arith
-
--- what holds of each answer of a closure holds of each element of the array that it makes
-pub made_each : {F B : Type 0} {g : Mut F (ℕ × Unit {0}) B} {f : F} {ys : List B} {n : ℕ} (P : ℕ → B → Type 0) → IsFromFnResult g f ys n → ((p : F) (i : ℕ) (y : B) (q : F) → Called g p (i, tt) y q → P i y) → (i : ℕ) (d : B) → i < n → P i (get_or ys i d)
-made_each P r h i d lt = let c = r.at i d lt in h c.0 i _ c.1 c.2

@@ -1,3 +1,3 @@
-pub mod Items
+pub mod Named
 pub mod Edits
-pub mod Layouts
+pub mod OrderLemmas

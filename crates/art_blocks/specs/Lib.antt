@@ -1,3 +1,1 @@
-pub mod Blocks
-pub mod Layout
-pub mod BlockLends
+pub mod Orders

@@ -1,9 +1,9 @@
-//! Up to 32 items in a block, in order, each under a number. An item stays in its slot while others come and go, so that it is found by the block and the slot.
+//! The order of up to 32 items that lie in the slots of a block. An item stays in its slot while others come and go, so that it is found by the block and the slot.
 //!
-//! A contract sees a [`Block`] as the list of its items in order, each with its number and its slot.
+//! A contract sees an [`Order`] as the list of its entries, each a number and a slot.
 #![tactic(auto)]
 
-mod block;
+mod order;
 
 pub use art_slots::LeafId;
-pub use block::{Block, Entry};
+pub use order::{BLOCK, Entry, Order};

@@ -6,6 +6,7 @@ mod closures;
 mod dropped;
 mod hashed;
 mod key_types;
+mod orders;
 mod reserved;
 mod shapes;
 mod tagged;

@@ -1,6 +1,6 @@
 use Rattle.std.proofs.Common.{◌<◌, length, Some, ap, ◌∙◌, arith}
 use Rattle.std.proofs.lemmas.Option.{slice_get-get_or}
-use Rattle.art_blocks.proofs.block.each_slot.Goals as goal
+use Rattle.art_blocks.proofs.order.each_slot.Goals as goal
 
 pub returns-clause-slots : goal.returns-clause-slots
 returns-clause-slots c i lt =
