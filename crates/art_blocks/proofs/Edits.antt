@@ -14,9 +14,9 @@ module _ {X : Type 0} (xs : List X) (at count : ℕ) where
   parts : at ≤ count → (ys : List X) → put_mid at (count - at) xs ys ≡ take at (take count xs) ++ (ys ++ drop count xs)
   parts le ys = rw (take-take at count xs le, Post-is at count xs le) refl
 
-  -- what comes behind the others
-  pub moved_behind : at < count → (ys : List X) → ys ≡ drop 1 (mid_of at (count - at) xs) ++ take 1 (mid_of at (count - at) xs) → put_mid at (count - at) xs ys ≡ (take at (take count xs) ++ drop (at + 1) (take count xs)) ++ (take 1 (drop at (take count xs)) ++ drop count xs)
-  moved_behind lt ys e =
+  -- what comes after the others
+  pub moved_after : at < count → (ys : List X) → ys ≡ drop 1 (mid_of at (count - at) xs) ++ take 1 (mid_of at (count - at) xs) → put_mid at (count - at) xs ys ≡ (take at (take count xs) ++ drop (at + 1) (take count xs)) ++ (take 1 (drop at (take count xs)) ++ drop count xs)
+  moved_after lt ys e =
       let p : mid_of at (count - at) xs ≡ drop at (take count xs) = part (omega arith) in
       let f : ys ≡ drop (at + 1) (take count xs) ++ take 1 (drop at (take count xs)) = e ∙ ap (λ m. drop 1 m ++ take 1 m) p ∙ ap (λ l. l ++ take 1 (drop at (take count xs))) (drop-drop 1 at (take count xs)) in
       parts (omega arith) ys ∙ ap (λ l. take at (take count xs) ++ (l ++ drop count xs)) f ∙ simp append_assoc

@@ -39,7 +39,7 @@ module _ (count : ℕ) (entries : List Entry) (l : IsOrdered count entries) wher
   used-small = All-take (λ (e : Entry). e.slot < 32) count entries l.small
 
   module _ (f : Entry) (is : f ≡ get_or entries count f) (lt : count < 32) where
-    -- the first free entry, and those behind it
+    -- the first free entry, and those after it
     free_is : drop count entries ≡ f ∷ drop (count + 1) entries
     free_is = let a : length entries ≡ 32 = l.all in drop_more entries count f (omega arith) ∙ ap (λ (e : Entry). e ∷ drop (count + 1) entries) (sym is)
 

@@ -7,6 +7,7 @@ use Rattle.art_blocks.specs.declared.order.Entry.{Entry}
 abbrev pub named_by : List Entry → ℕ → ℕ
 named_by es slot = count_by (λ e. eqb e.slot slot) es
 
+-- an entry as two numbers
 abbrev pub entry_code : Coded Entry
 entry_code = code_by (ℕ × ℕ) (coded× coded_ℕ coded_ℕ) (λ e. (e.id, e.slot)) (λ q. record { id = q.0; slot = q.1 }) (λ _. refl)
 

@@ -113,7 +113,7 @@ pub(crate) fn each_slot(id: LeafId) -> [Entry; 32]
     order
 }
 
-// Puts an entry at a place of the first so many, over the one behind these.
+// Puts an entry at a place of the first so many, over the one after these.
 pub(crate) fn insert_in(order: &mut [Entry], count: usize, at: usize, entry: Entry)
     requires place { at ≤ count }
     requires room { count < length order.old }
@@ -123,7 +123,7 @@ pub(crate) fn insert_in(order: &mut [Entry], count: usize, at: usize, entry: Ent
     order[at..count + 1].rotate_right(1);
 }
 
-// Moves the entry at a place behind the others of the first so many.
+// Moves the entry at a place after the others of the first so many.
 pub(crate) fn remove_in(order: &mut [Entry], count: usize, at: usize)
     requires place { at < count }
     requires within { count ≤ length order.old }
