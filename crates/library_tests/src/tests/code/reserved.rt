@@ -58,6 +58,7 @@ fn fill_set(rt: &impl Abort, set: &mut TreeSet<u8, 2>) {
     let mut room = set.reserve(2).expect(rt, "memory");
     assert!(rt; room.insert(3));
     assert!(rt; !room.insert(3));
+    assert!(rt; matches!(room.try_insert(3), Ok(false)));
     assert!(rt; room.insert(1));
     assert!(rt; room.left() == 0);
 }
