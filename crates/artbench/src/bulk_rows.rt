@@ -30,7 +30,7 @@ fn joiner_of<J: Joiner, K: AsBytes>(alloc: Global, keys: &[K]) -> Result<J, Fail
     Ok(map)
 }
 
-// Times maps that are made of all pairs: in random order at once, and in order one by one.
+// Times maps that are made of all pairs: in random order at once, with a walk over that map, and in order one by one.
 fn time_makes<J: Joiner, K: Key, R: Clock + AllocGlobal>(
     rt: &R,
     workload: &Workload<K>,
@@ -41,7 +41,9 @@ fn time_makes<J: Joiner, K: Key, R: Clock + AllocGlobal>(
     let start = Instant::now(rt)?;
     let map = J::of(rt.alloc(), items)?;
     sheet.stop(rt, "from_vec", start, count)?;
-    sheet.sum(map.sum());
+    let start = Instant::now(rt)?;
+    let sum = map.sum();
+    sheet.add(rt, "iter, from_vec", start, count, sum)?;
     let items: Vec<(J::Key, u64)> = placed(rt.alloc(), &workload.sorted)?;
     let mut map = J::empty(rt.alloc());
     let start = Instant::now(rt)?;

@@ -4,6 +4,7 @@ pub mod RankLemmas
 pub mod ContentLemmas
 pub mod FrontLemmas
 pub mod PutLemmas
+pub mod BulkLemmas
 pub mod FrontSizes
 pub mod StepLemmas
 pub mod Mapped

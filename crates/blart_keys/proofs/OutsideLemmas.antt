@@ -1,5 +1,5 @@
 -- What is found where all that begins with some bytes is gone.
-use Rattle.std.proofs.Common.{◌≡◌, ℕ, ◌+◌, arith, cond, Bool, true, false, not, inl, inr, List, [], ◌∷◌, length, filter, find, refl, sym, ap, ◌∙◌, Option, Some, None, bytes_eq}
+use Rattle.std.proofs.Common.{◌≡◌, ℕ, ◌+◌, arith, cond, Bool, true, false, not, inl, inr, List, [], ◌∷◌, length, filter, find, refl, sym, ap, ◌∙◌, Some, None, bytes_eq}
 use Rattle.std.proofs.lemmas.Bool.{false≢true, cases_Bool, cond-true, cond-false, false_from_ne_true}
 use Rattle.std.specs.Cmp.Lexicographic.{bytes_decides}
 use Rattle.blart_keys.specs.Bytes.{begins}

@@ -1,5 +1,5 @@
 -- Pairs put one after another.
-use Rattle.std.proofs.Common.{◌≡◌, ◌∙◌, ℕ, List, [], ◌∷◌, ◌++◌, Option, Some, refl, sym, subst, map-id, Result, Ok, Err, IfOk, OnErr}
+use Rattle.std.proofs.Common.{◌≡◌, ◌≢◌, ◌∙◌, ℕ, List, [], ◌∷◌, ◌++◌, Option, Some, refl, sym, subst, map-id, Result, Ok, Err, IfOk, OnErr}
 use Rattle.std.specs.Iterator.{Yields, Drains}
 use Rattle.std.proofs.lemmas.Iterator.{YieldsList, items_from_drains}
 use Rattle.blart_keys.specs.Bulk.{PutsAll}
@@ -14,6 +14,16 @@ puts_more bytes keep S (y ∷ xs) T x U h put = (h.0, h.1, puts_more bytes keep 
 pub first_came : {I A : Type 0} (steps : I → Option A → I → Type 0) (s : I) (xs : List A) (x : A) (rest : I) → Yields steps s (xs ++ x ∷ []) rest → (y : A) × (t : I) × steps s (Some y) t
 first_came steps s [] x rest h = (x, h.0, h.1)
 first_came steps s (y ∷ xs) x rest h = (y, h.0, h.1)
+
+-- and so did the first of some items
+some_came : {I A : Type 0} (steps : I → Option A → I → Type 0) (s : I) (xs : List A) (t : I) → Yields steps s xs t → xs ≢ [] → (y : A) × (u : I) × steps s (Some y) u
+some_came steps s [] t h ne = absurd (ne refl)
+some_came steps s (y ∷ ys) t h ne = (y, h.0, h.1)
+
+-- where an error says that there were items, a first one came
+pub refused_some : {I A B E : Type 0} (steps : I → Option A → I → Type 0) (s : I) (xs : List A) (t : I) (ys : List A) (r : Result B E) → Yields steps s xs t → ys ≡ xs → OnErr r (ys ≢ []) → OnErr r ((y : A) × (u : I) × steps s (Some y) u)
+refused_some steps s xs t ys (Ok b) h e some = some
+refused_some steps s xs t ys (Err x) h e some = some_came steps s xs t h (λ none. some (e ∙ none))
 
 -- where nothing changes the items are put as before
 pub puts_same : {X : Type 0} (bytes : X → List ℕ) (keep : Option X → X → X) (S : List X) (xs : List X) (T U : List X) → PutsAll bytes keep S xs T → U ≡ T → PutsAll bytes keep S xs U

@@ -2,17 +2,21 @@
 ghost use Rattle.std.specs.Prelude.{◌≡◌, ◌≢◌, [], List, IfOk, OnOk, OnErr, Some};
 ghost use Rattle.std.specs.Iterator.{IsFinite, Drains};
 ghost use Rattle.blart_keys.specs.Bulk.{PutsAll};
+ghost use Rattle.blart_keys.specs.Bytes.{bytes_cmp};
 ghost use Rattle.blart_keys.specs.Steps.{bytes};
 ghost use Rattle.blart_keys.specs.Stored.{kept_pair};
 ghost use Rattle.blart_map.specs.Content.{pairs};
 
 use crate::map::TreeMap;
-use blart_keys::NoPrefixesBytes;
+use blart_keys::{AsBytes, NoPrefixesBytes};
 use std::alloc::{AllocError, Global};
+use std::cmp::Ordering;
 use std::iter::Iterator;
 
 impl<K: NoPrefixesBytes + Drop, V: Drop, const PREFIX_LEN: usize> TreeMap<K, V, PREFIX_LEN> {
     /// A map into which the pairs that the iterator gives were put, one after another, as [`TreeMap::insert`] does: of pairs with the same bytes the first key stays, with the last value. No pairs take no memory.
+    ///
+    /// The pairs are collected into a vector first, of which [`TreeMap::from_vec`] makes the map.
     pub fn from_iter<I: Iterator<Item = (K, V)>>(
         alloc: Global,
         items: I,
@@ -24,12 +28,16 @@ impl<K: NoPrefixesBytes + Drop, V: Drop, const PREFIX_LEN: usize> TreeMap<K, V, 
         ensures refused { OnErr result ((x : K × V) × (rest : I)
             × I.next_gives items (Some x) rest) }
     {
-        let mut map = TreeMap::with_prefix_len(alloc);
-        map.extend(items)?;
-        Ok(map)
+        let mut all = Vec::new(alloc);
+        for item in items {
+            all.push(item)?;
+        }
+        TreeMap::from_vec(alloc, all)
     }
 
     /// A map into which the pairs were put, one after another, as [`TreeMap::insert`] does: of pairs with the same bytes the first key stays, with the last value. No pairs take no memory.
+    ///
+    /// The pairs are sorted by their keys' bytes before they are put, where there is memory for that. So they lie in order, and walks over the map find them side by side.
     ///
     /// ```
     /// let map = Map::from_vec(alloc, vec![in alloc; (U32Key::new(2), 'b'), (U32Key::new(1), 'a')]?)?;
@@ -39,7 +47,24 @@ impl<K: NoPrefixesBytes + Drop, V: Drop, const PREFIX_LEN: usize> TreeMap<K, V, 
         ensures made { IfOk result (λ map. PutsAll (bytes K.bytes) kept_pair [] items.items (pairs map)) }
         ensures refused { OnErr result (items.items ≢ []) }
     {
-        TreeMap::from_iter(alloc, items.into_iter())
+        let mut items = items;
+        // Where there is no memory to sort the pairs, they are put as they come.
+        let _ = items.sort_by(by_bytes);
+        TreeMap::put_in_turn(alloc, items.into_iter())
+    }
+
+    // A map into which the pairs that the iterator gives were put as they come.
+    fn put_in_turn<I: Iterator<Item = (K, V)>>(alloc: Global, items: I) -> Result<Self, AllocError>
+        requires can { I.can_next items }
+        requires ends { IsFinite (I.remaining items) }
+        ensures made { IfOk result (λ map. (xs : List (K × V)) × Drains I.next_gives items xs
+            × PutsAll (bytes K.bytes) kept_pair [] xs (pairs map)) }
+        ensures refused { OnErr result ((x : K × V) × (rest : I)
+            × I.next_gives items (Some x) rest) }
+    {
+        let mut map = TreeMap::with_prefix_len(alloc);
+        map.extend(items)?;
+        Ok(map)
     }
 }
 
@@ -70,4 +95,11 @@ impl<K: NoPrefixesBytes + Copy, V: Copy, const PREFIX_LEN: usize> TreeMap<K, V, 
         }
         Ok(())
     }
+}
+
+// How the keys of two pairs compare by their bytes.
+fn by_bytes<K: AsBytes, V>(one: &(K, V), other: &(K, V)) -> Ordering
+    ensures { result ≡ bytes_cmp (K.bytes one.now.0) (K.bytes other.now.0) }
+{
+    one.0.as_bytes().cmp(other.0.as_bytes())
 }

@@ -2,16 +2,20 @@
 ghost use Rattle.std.specs.Prelude.{◌≡◌, ◌≢◌, [], List, IfOk, OnOk, OnErr, Some};
 ghost use Rattle.std.specs.Iterator.{IsFinite, Drains};
 ghost use Rattle.blart_keys.specs.Bulk.{PutsAll};
+ghost use Rattle.blart_keys.specs.Bytes.{bytes_cmp};
 ghost use Rattle.blart_keys.specs.Stored.{kept_item};
 ghost use Rattle.blart_set.specs.Elements.{elements};
 
 use crate::set::TreeSet;
-use blart_keys::NoPrefixesBytes;
+use blart_keys::{AsBytes, NoPrefixesBytes};
 use std::alloc::{AllocError, Global};
+use std::cmp::Ordering;
 use std::iter::Iterator;
 
 impl<K: NoPrefixesBytes + Drop, const PREFIX_LEN: usize> TreeSet<K, PREFIX_LEN> {
     /// A set into which the elements that the iterator gives were put, one after another, as [`TreeSet::insert`] does: of elements with the same bytes the first stays. No elements take no memory.
+    ///
+    /// The elements are collected into a vector first, of which [`TreeSet::from_vec`] makes the set.
     pub fn from_iter<I: Iterator<Item = K>>(alloc: Global, items: I) -> Result<Self, AllocError>
         requires can { I.can_next items }
         requires ends { IsFinite (I.remaining items) }
@@ -19,12 +23,16 @@ impl<K: NoPrefixesBytes + Drop, const PREFIX_LEN: usize> TreeSet<K, PREFIX_LEN> 
             × PutsAll K.bytes kept_item [] xs (elements set)) }
         ensures refused { OnErr result ((x : K) × (rest : I) × I.next_gives items (Some x) rest) }
     {
-        let mut set = TreeSet::with_prefix_len(alloc);
-        set.extend(items)?;
-        Ok(set)
+        let mut all = Vec::new(alloc);
+        for item in items {
+            all.push(item)?;
+        }
+        TreeSet::from_vec(alloc, all)
     }
 
     /// A set into which the elements were put, one after another, as [`TreeSet::insert`] does: of elements with the same bytes the first stays. No elements take no memory.
+    ///
+    /// The elements are sorted by their bytes before they are put, where there is memory for that. So they lie in order, and walks over the set find them side by side.
     ///
     /// ```
     /// let set = TreeSet::from_vec(alloc, vec![in alloc; 3u8, 1, 2]?)?;
@@ -34,7 +42,23 @@ impl<K: NoPrefixesBytes + Drop, const PREFIX_LEN: usize> TreeSet<K, PREFIX_LEN> 
         ensures made { IfOk result (λ set. PutsAll K.bytes kept_item [] items.items (elements set)) }
         ensures refused { OnErr result (items.items ≢ []) }
     {
-        TreeSet::from_iter(alloc, items.into_iter())
+        let mut items = items;
+        // Where there is no memory to sort the elements, they are put as they come.
+        let _ = items.sort_by(by_bytes);
+        TreeSet::put_in_turn(alloc, items.into_iter())
+    }
+
+    // A set into which the elements that the iterator gives were put as they come.
+    fn put_in_turn<I: Iterator<Item = K>>(alloc: Global, items: I) -> Result<Self, AllocError>
+        requires can { I.can_next items }
+        requires ends { IsFinite (I.remaining items) }
+        ensures made { IfOk result (λ set. (xs : List K) × Drains I.next_gives items xs
+            × PutsAll K.bytes kept_item [] xs (elements set)) }
+        ensures refused { OnErr result ((x : K) × (rest : I) × I.next_gives items (Some x) rest) }
+    {
+        let mut set = TreeSet::with_prefix_len(alloc);
+        set.extend(items)?;
+        Ok(set)
     }
 }
 
@@ -65,4 +89,11 @@ impl<K: NoPrefixesBytes + Copy, const PREFIX_LEN: usize> TreeSet<K, PREFIX_LEN> 
         }
         Ok(())
     }
+}
+
+// How two elements compare by their bytes.
+fn by_bytes<K: AsBytes>(one: &K, other: &K) -> Ordering
+    ensures { result ≡ bytes_cmp (K.bytes one.now) (K.bytes other.now) }
+{
+    one.as_bytes().cmp(other.as_bytes())
 }
