@@ -1,5 +1,5 @@
 //! What calls do with values and keys.
-use crate::keys::ScriptKey;
+use script_words::ScriptKey;
 use std::alloc::AllocError;
 use std::hash::{DefaultHasher, Hash, Hasher};
 use std::mem;

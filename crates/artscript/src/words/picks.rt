@@ -1,6 +1,5 @@
 //! What closures look for.
-use crate::answered::Unanswered;
-use crate::reading::Words;
+use script_words::{Unanswered, Words};
 
 /// A value that, when a number is added, leaves this rest.
 #[derive(Clone, Copy)]

@@ -1,9 +1,8 @@
 //! The calls of the entries of the first pair and of the last.
 ghost use Rattle.std.specs.Prelude.{◌≡◌, None, OnOk};
 
-use crate::answered::Unanswered;
-use crate::entry_calls::{EntryCall, EntryLine, OccupiedCall};
-use crate::reading::Words;
+use crate::words::entry_calls::{EntryCall, EntryLine, OccupiedCall};
+use script_words::{Unanswered, Words};
 
 /// A call of an entry at an end.
 #[derive(Clone, Copy)]

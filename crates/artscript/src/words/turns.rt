@@ -1,9 +1,7 @@
 //! Calls that are made in turn.
-use crate::answered::Unanswered;
-use crate::keys::ScriptKey;
-use crate::named::named;
-use crate::reading::Words;
+use crate::words::named::named;
 use blart_keys::Call;
+use script_words::{ScriptKey, Unanswered, Words};
 use std::alloc::{AllocError, Global};
 
 /// The calls that the words are.

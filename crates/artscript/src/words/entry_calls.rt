@@ -1,7 +1,6 @@
 //! The calls of entries, and their words.
-use crate::answered::Unanswered;
-use crate::named::named;
-use crate::reading::Words;
+use crate::words::named::named;
+use script_words::{Unanswered, Words};
 
 /// A call of an entry, and what is added before it to a value that is stored.
 #[derive(Clone, Copy)]

@@ -1,8 +1,7 @@
 //! Walks, and what their steps give.
 ghost use Rattle.std.specs.Iterator.{IsFinite};
 
-use crate::answered::{Answered, Unanswered};
-use crate::text::{Shown, Text};
+use script_words::{Answered, Shown, Text, Unanswered};
 use std::alloc::{AllocError, Global};
 use std::iter::{DoubleEndedIterator, Iterator};
 

@@ -1,5 +1,5 @@
 //! The names of the calls.
-use crate::named::named;
+use crate::words::named::named;
 
 /// A call of a map, or of both maps of a script.
 #[derive(Clone, Copy)]

@@ -1,8 +1,7 @@
 //! The call that a line names.
-use crate::answered::Unanswered;
-use crate::map_names::{MapName, map_name_of};
-use crate::reading::Words;
-use crate::set_names::{SetName, set_name_of};
+use crate::words::map_names::{MapName, map_name_of};
+use crate::words::set_names::{SetName, set_name_of};
+use script_words::{Unanswered, Words};
 
 /// A call of the maps, or of the sets.
 #[derive(Clone, Copy)]

@@ -1,7 +1,5 @@
 //! Lists of keys and of pairs.
-use crate::answered::Unanswered;
-use crate::keys::ScriptKey;
-use crate::reading::Words;
+use script_words::{ScriptKey, Unanswered, Words};
 use std::alloc::{AllocError, Global};
 
 /// The pairs that the words are.

@@ -1,8 +1,9 @@
 //! The calls of prefix entries, and their words.
-use crate::answered::Unanswered;
-use crate::entry_calls::{EntryCall, OccupiedCall, PlaceCall, VacantCall, ValueCall, named_call};
-use crate::named::named;
-use crate::reading::Words;
+use crate::words::entry_calls::{
+    EntryCall, OccupiedCall, PlaceCall, VacantCall, ValueCall, named_call,
+};
+use crate::words::named::named;
+use script_words::{Unanswered, Words};
 
 /// A call of a prefix entry.
 #[derive(Clone, Copy)]

@@ -1,5 +1,5 @@
 //! The names of the calls of sets.
-use crate::named::named;
+use crate::words::named::named;
 
 /// A call of a set, or of both sets of a script.
 #[derive(Clone, Copy)]
