@@ -25,8 +25,13 @@ impl<K: NoPrefixesBytes + Drop, V: Drop, const PREFIX_LEN: usize> TreeMap<K, V, 
             × I.next_gives items (Some x) rest) }
     {
         let mut map = TreeMap::with_prefix_len(alloc);
-        map.extend(items)?;
-        Ok(map)
+        match map.extend(items) {
+            Ok(()) => Ok(map),
+            Err(refused) => {
+                drop(map);
+                Err(refused)
+            }
+        }
     }
 
     /// A map into which the pairs were put, one after another, as [`TreeMap::insert`] does: of pairs with the same bytes the first key stays, with the last value. No pairs take no memory.
@@ -55,8 +60,13 @@ impl<K: NoPrefixesBytes + Copy, V: Copy, const PREFIX_LEN: usize> TreeMap<K, V, 
         ensures refused { OnErr result (items ≢ []) }
     {
         let mut map = TreeMap::with_prefix_len(alloc);
-        map.put_copies(&items)?;
-        Ok(map)
+        match map.put_copies(&items) {
+            Ok(()) => Ok(map),
+            Err(refused) => {
+                drop(map);
+                Err(refused)
+            }
+        }
     }
 
     // Puts copies of the pairs, one after another.
