@@ -11,3 +11,4 @@ pub mod Growing
 pub mod Pairs
 pub mod Pouring
 pub mod Moving
+pub mod Copies

@@ -10,6 +10,7 @@ mod maps;
 mod refusals;
 mod session;
 mod sets;
+mod words;
 
 use crate::failure::Failure;
 use crate::lengths::answers_at_each_length;

@@ -13,9 +13,17 @@ const MOST: usize = 10;
 fn main(rt: HostRuntime) -> anyhow::Result<()> {
     let path = path_of(&rt)?;
     let text = fs::read_to_string(&rt, path.as_str()).context("the list of words")?;
-    let words = words_of(&rt, &text)?;
+    let mut words = TreeSet::new(rt.alloc());
+    let answered = run(&rt, &text, &mut words);
+    drop(words);
+    answered
+}
+
+// Takes the words of a text, and answers by them.
+fn run(rt: &HostRuntime, text: &str, words: &mut Set<ZKey>) -> anyhow::Result<()> {
+    take_words(rt, text, words)?;
     println!(rt; "{} words", words.len())?;
-    answer(&rt, &words)
+    answer(rt, words)
 }
 
 // The file that is named.
@@ -26,13 +34,12 @@ fn path_of(rt: &HostRuntime) -> anyhow::Result<String> {
     }
 }
 
-// The words of a text, one a line.
-fn words_of(rt: &impl AllocGlobal, text: &str) -> anyhow::Result<Set<ZKey>> {
-    let mut words = TreeSet::new(rt.alloc());
+// Takes the words of a text, one a line.
+fn take_words(rt: &impl AllocGlobal, text: &str, words: &mut Set<ZKey>) -> anyhow::Result<()> {
     for line in text.lines() {
         words.insert(ZKey::from_bytes(rt.alloc(), line.as_bytes())?)?;
     }
-    Ok(words)
+    Ok(())
 }
 
 // Answers each line of standard input after a prompt.

@@ -46,8 +46,13 @@ pub fn run<R: Read, W: Write>(
     ensures marks { IsMarked result (watched_failed reader.new) (watched_failed writer.new) }
 {
     let mut session = Session::new(alloc);
-    read_all(&mut session, reader, writer)?;
-    session.finish(writer)
+    if let Err(error) = read_all(&mut session, reader, writer) {
+        drop(session);
+        return Err(error);
+    }
+    let ended = session.finish(writer);
+    drop(session);
+    ended
 }
 
 // Serves all that the reader gives.

@@ -116,7 +116,10 @@ where
 {
     let mut set = TreeSet::with_prefix_len(alloc);
     for item in items {
-        put_clone(&mut set, item)?;
+        if let Err(refused) = put_clone(&mut set, item) {
+            drop(set);
+            return Err(refused);
+        }
     }
     Ok(set)
 }

@@ -12,9 +12,17 @@ type Table = Mounts<String>;
 fn main(rt: HostRuntime) -> anyhow::Result<()> {
     let path = path_of(&rt)?;
     let text = fs::read_to_string(&rt, path.as_str()).context("the table")?;
-    let table = table_of(&rt, &text)?;
+    let mut table = Mounts::new(rt.alloc());
+    let answered = run(&rt, &text, &mut table);
+    drop(table);
+    answered
+}
+
+// Mounts what a text says, and answers by the table.
+fn run(rt: &HostRuntime, text: &str, table: &mut Table) -> anyhow::Result<()> {
+    mount_all(rt, text, table)?;
     println!(rt; "{} mounts", table.len())?;
-    answer(&rt, &table)
+    answer(rt, table)
 }
 
 // The file that is named.
@@ -25,13 +33,12 @@ fn path_of(rt: &HostRuntime) -> anyhow::Result<String> {
     }
 }
 
-// The mounts of a text, one a line.
-fn table_of(rt: &impl AllocGlobal, text: &str) -> anyhow::Result<Table> {
-    let mut table = Mounts::new(rt.alloc());
+// Mounts what a text says, one mount a line.
+fn mount_all(rt: &impl AllocGlobal, text: &str, table: &mut Table) -> anyhow::Result<()> {
     for line in text.lines() {
-        mount(rt, &mut table, line)?;
+        mount(rt, table, line)?;
     }
-    Ok(table)
+    Ok(())
 }
 
 // Mounts what a line says.

@@ -1,43 +1,16 @@
 //! The words of a script's lines, and the text of its answers.
 //!
-//! [`LineCall`] is the call that a line names. [`Words`] reads what stands after it: bytes, numbers, bounds, keys of a [`ScriptKey`] type, and calls of entries. A [`Shown`] value is written into a [`Text`]; [`show_walk`] and [`show_lending`] write what walks give.
+//! [`Words`] reads bytes, numbers, bounds, and keys of a [`ScriptKey`] type. A [`Shown`] value is written into a [`Text`].
 //!
-//! Nothing here knows a map, a set or a router.
+//! Nothing here knows a map, a set or a router, or what a line calls.
 #![tactic(auto)]
 
 mod answered;
-mod compared;
-mod end_calls;
-mod entry_calls;
 mod keys;
-mod line_calls;
-mod lists;
-mod map_names;
-mod named;
-mod picks;
-mod prefix_calls;
 mod reading;
-mod set_names;
-mod tagged;
 mod text;
-mod turns;
-mod values;
-mod walks;
 
 pub use answered::{Answered, Unanswered};
-pub use compared::Compared;
-pub use end_calls::EndCall;
-pub use entry_calls::{EntryCall, EntryLine, OccupiedCall, PlaceCall, VacantCall, ValueCall};
 pub use keys::{FixedKey, ScriptKey};
-pub use line_calls::LineCall;
-pub use lists::{elements_of, pairs_of};
-pub use map_names::{MapName, map_name_of};
-pub use picks::{BytesPick, ValuePick};
-pub use prefix_calls::{PrefixCall, RelatedCall, SetCall, WalkCall};
 pub use reading::Words;
-pub use set_names::{SetName, set_name_of};
-pub use tagged::Tagged;
 pub use text::{Shown, Text, show_bytes, show_debug, show_list};
-pub use turns::turns_of;
-pub use values::{have_one_digest, length_of, raise, value_of, written};
-pub use walks::{Left, Lending, show_items, show_lending, show_walk, text_of};

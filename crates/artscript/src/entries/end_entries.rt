@@ -1,6 +1,7 @@
 //! What the entries of the first pair and of the last answer.
+use crate::words::{EndCall, OccupiedCall};
 use blart_map::TreeMap;
-use script_words::{Answered, EndCall, OccupiedCall, ScriptKey, Shown, Text, Words};
+use script_words::{Answered, ScriptKey, Shown, Text, Words};
 use std::mem;
 
 // Adds what the call answers.

@@ -2,8 +2,9 @@
 ghost use Rattle.std.specs.Prelude.{◌≡◌, []};
 ghost use Rattle.blart_map.specs.Content.{pairs};
 
+use crate::words::{MapName, written};
 use blart_map::TreeMap;
-use script_words::{Answered, MapName, ScriptKey, Shown, Text, Words, written};
+use script_words::{Answered, ScriptKey, Shown, Text, Words};
 use std::alloc::Global;
 use std::mem;
 

@@ -1,7 +1,8 @@
 //! The table of mounts of a part of a script, and the calls of it.
+use crate::words::{Left, show_walk};
 use blart_map::Visits;
 use prefix_router::Mounts;
-use script_words::{Answered, Left, Shown, Text, Unanswered, Words, show_walk};
+use script_words::{Answered, Shown, Text, Unanswered, Words};
 use std::alloc::{AllocError, Global};
 use std::iter::Iterator;
 

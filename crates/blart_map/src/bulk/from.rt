@@ -63,8 +63,13 @@ impl<K: NoPrefixesBytes + Drop, V: Drop, const PREFIX_LEN: usize> TreeMap<K, V, 
             × I.next_gives items (Some x) rest) }
     {
         let mut map = TreeMap::with_prefix_len(alloc);
-        map.extend(items)?;
-        Ok(map)
+        match map.extend(items) {
+            Ok(()) => Ok(map),
+            Err(refused) => {
+                drop(map);
+                Err(refused)
+            }
+        }
     }
 }
 
@@ -80,8 +85,13 @@ impl<K: NoPrefixesBytes + Copy, V: Copy, const PREFIX_LEN: usize> TreeMap<K, V, 
         ensures refused { OnErr result (items ≢ []) }
     {
         let mut map = TreeMap::with_prefix_len(alloc);
-        map.put_copies(&items)?;
-        Ok(map)
+        match map.put_copies(&items) {
+            Ok(()) => Ok(map),
+            Err(refused) => {
+                drop(map);
+                Err(refused)
+            }
+        }
     }
 
     // Puts copies of the pairs, one after another.

@@ -51,7 +51,10 @@ impl<K: AsBytes + Drop, V: Drop, const PREFIX_LEN: usize> TreeMap<K, V, PREFIX_L
         self.law();
         let mut tree = Tree::new(self.alloc);
         let count = self.count_from(query);
-        part(&mut self.tree, &mut tree, count)?;
+        if let Err(refused) = part(&mut self.tree, &mut tree, count) {
+            drop(tree);
+            return Err(refused);
+        }
         Ok(TreeMap {
             tree,
             alloc: self.alloc,

@@ -57,8 +57,13 @@ impl<K: NoPrefixesBytes + Drop, const PREFIX_LEN: usize> TreeSet<K, PREFIX_LEN> 
         ensures refused { OnErr result ((x : K) × (rest : I) × I.next_gives items (Some x) rest) }
     {
         let mut set = TreeSet::with_prefix_len(alloc);
-        set.extend(items)?;
-        Ok(set)
+        match set.extend(items) {
+            Ok(()) => Ok(set),
+            Err(refused) => {
+                drop(set);
+                Err(refused)
+            }
+        }
     }
 }
 
@@ -74,8 +79,13 @@ impl<K: NoPrefixesBytes + Copy, const PREFIX_LEN: usize> TreeSet<K, PREFIX_LEN> 
         ensures refused { OnErr result (items ≢ []) }
     {
         let mut set = TreeSet::with_prefix_len(alloc);
-        set.put_copies(&items)?;
-        Ok(set)
+        match set.put_copies(&items) {
+            Ok(()) => Ok(set),
+            Err(refused) => {
+                drop(set);
+                Err(refused)
+            }
+        }
     }
 
     // Puts copies of the elements, one after another.

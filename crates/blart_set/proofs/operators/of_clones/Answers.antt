@@ -5,7 +5,7 @@ use Rattle.std.specs.List.{AllZip}
 use Rattle.std.proofs.iter.Next as it
 use Rattle.blart_keys.specs.Stored.{kept_item}
 use Rattle.blart_set.specs.Elements.{elements}
-use Rattle.blart_map.proofs.Moved.BulkPuts.{puts_more, first_came, on_err}
+use Rattle.blart_map.proofs.Moved.BulkPuts.{puts_more, first_came}
 use Rattle.blart_set.proofs.Cloned.{now, zip_more}
 use Rattle.blart_set.proofs.operators.of_clones.Goals as goal
 
@@ -18,7 +18,7 @@ pub loop-item-preserved : goal.loop-item-preserved
 loop-item-preserved g c =
     let i = c.loop-item.invariant in
     let on = it.on c.in-Some.item c.in-Some.is c.next.ensures.goes i.1 in
-    let made = c.in_ok-put_clone.ensures in (
+    let made = c.in_default.ensures in (
       on.0,
       on.1,
       record {
@@ -28,11 +28,11 @@ loop-item-preserved g c =
       },
     )
 
-pub returns-in_err-put_clone-clause-refused : goal.returns-in_err-put_clone-clause-refused
-returns-in_err-put_clone-clause-refused g c =
+pub returns-in-Err-clause-refused : goal.returns-in-Err-clause-refused
+returns-in-Err-clause-refused g c =
     let came = subst (λ from. Yields g.I.Iterator.next_gives from c.loop-item.yielded c.loop-item.item-iterator) c.into_iter-item-iterator.ensures.into_iter_gives c.loop-item.yielded_by in
     let steps = it.said g.I.Iterator.next_gives c.in-Some.is c.next.ensures.steps in
-    on_err c.from_residual.result (first_came g.I.Iterator.next_gives c.args.items c.loop-item.yielded c.in-Some.item c.next.new.self (it.Yields-more g.I.Iterator.next_gives c.args.items c.loop-item.yielded c.loop-item.item-iterator c.in-Some.item c.next.new.self came steps))
+    first_came g.I.Iterator.next_gives c.args.items c.loop-item.yielded c.in-Some.item c.next.new.self (it.Yields-more g.I.Iterator.next_gives c.args.items c.loop-item.yielded c.loop-item.item-iterator c.in-Some.item c.next.new.self came steps)
 
 pub returns-clause-made : goal.returns-clause-made
 returns-clause-made g c =

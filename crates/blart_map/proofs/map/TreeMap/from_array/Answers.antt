@@ -5,5 +5,5 @@ use Rattle.blart_keys.specs.Stored.{kept_pair}
 use Rattle.blart_map.specs.Content.{pairs}
 use Rattle.blart_map.proofs.map.TreeMap.from_array.Goals as goal
 
-pub returns-clause-made : goal.returns-clause-made
-returns-clause-made g c = subst (λ S. PutsAll (bytes g.K.AsBytes.bytes) kept_pair S c.args.items (pairs c.put_copies.new.self)) c.with_prefix_len-map.ensures.empty c.in_ok-put_copies.ensures.put
+pub returns-in-Ok-clause-made : goal.returns-in-Ok-clause-made
+returns-in-Ok-clause-made g c = subst (λ S. PutsAll (bytes g.K.AsBytes.bytes) kept_pair S c.args.items (pairs c.put_copies.new.self)) c.with_prefix_len-map.ensures.empty c.in-Ok.ensures.put

@@ -3,15 +3,15 @@ use Rattle.blart_keys.specs.Bulk.{PutsAll}
 use Rattle.blart_keys.specs.Steps.{bytes}
 use Rattle.blart_keys.specs.Stored.{kept_pair}
 use Rattle.blart_map.specs.Content.{pairs}
-use Rattle.blart_map.proofs.Moved.BulkPuts.{first_came, on_err}
+use Rattle.blart_map.proofs.Moved.BulkPuts.{first_came}
 use Rattle.blart_map.proofs.map.TreeMap.put_in_turn.Goals as goal
 
-pub returns-in_err-extend-clause-refused : goal.returns-in_err-extend-clause-refused
-returns-in_err-extend-clause-refused g c =
-    let e = c.in_err-extend.ensures in
-    on_err c.from_residual.result (first_came g.I.Iterator.next_gives c.args.items e.0 e.1 e.2 e.3)
+pub returns-in-Err-clause-refused : goal.returns-in-Err-clause-refused
+returns-in-Err-clause-refused g c =
+    let e = c.in-Err.ensures in
+    first_came g.I.Iterator.next_gives c.args.items e.0 e.1 e.2 e.3
 
-pub returns-clause-made : goal.returns-clause-made
-returns-clause-made g c =
-    let e = c.in_ok-extend.ensures in
+pub returns-in-Ok-clause-made : goal.returns-in-Ok-clause-made
+returns-in-Ok-clause-made g c =
+    let e = c.in-Ok.ensures in
     (e.0, e.1, subst (λ S. PutsAll (bytes g.K.AsBytes.bytes) kept_pair S e.0 (pairs c.extend.new.self)) c.with_prefix_len-map.ensures.empty e.2)

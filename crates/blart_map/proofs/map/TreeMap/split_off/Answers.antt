@@ -1,6 +1,5 @@
 use Rattle.std.proofs.Common.{◌≡◌, List, length, lit<, sym, ap, ◌∙◌, arith}
 use Rattle.std.proofs.lemmas.List.{length-map}
-use Rattle.std.proofs.lemmas.Result.{err_from_is_err_and}
 use Rattle.blart_keys.specs.Steps.{bytes}
 use Rattle.blart_keys.specs.Stored.{pair_at}
 use Rattle.art_walk.specs.Pairs.{pairs_of}
@@ -21,16 +20,16 @@ pub returns-clause-below : goal.returns-clause-below
 unfolding pairs
 returns-clause-below g c =
     let kb = g.K.AsBytes.bytes in
-    let whole = sym (ap pairs_of c.self.view_is) ∙ c.in_ok-part.ensures.whole in
-    let count = c.in_ok-part.ensures.moved ∙ c.count_from-count.ensures in
+    let whole = sym (ap pairs_of c.self.view_is) ∙ c.in_default.ensures.whole in
+    let count = c.in_default.ensures.moved ∙ c.count_from-count.ensures in
     (parted (bytes kb) (g.Q.AsBytes.bytes c.args.query.now) (pairs_of c.args.self.now) (pairs_of c.part.new.from.pairs) (pairs_of c.part.new.to.pairs) c.law.ensures.content whole count).0
 
 pub returns-clause-from : goal.returns-clause-from
 unfolding pairs
 returns-clause-from g c =
     let kb = g.K.AsBytes.bytes in
-    let whole = sym (ap pairs_of c.self.view_is) ∙ c.in_ok-part.ensures.whole in
-    let count = c.in_ok-part.ensures.moved ∙ c.count_from-count.ensures in
+    let whole = sym (ap pairs_of c.self.view_is) ∙ c.in_default.ensures.whole in
+    let count = c.in_default.ensures.moved ∙ c.count_from-count.ensures in
     (parted (bytes kb) (g.Q.AsBytes.bytes c.args.query.now) (pairs_of c.args.self.now) (pairs_of c.part.new.from.pairs) (pairs_of c.part.new.to.pairs) c.law.ensures.content whole count).1
 
 pub returns-clause-kept : goal.returns-clause-kept
@@ -41,18 +40,11 @@ pub returns-clause-given : goal.returns-clause-given
 returns-clause-given g c = λ r.
     ap (λ S. pair_at g.K.AsBytes.bytes S r) (returns-clause-from g c) ∙ given_at g.K.AsBytes.bytes (g.Q.AsBytes.bytes c.args.query.now) (pairs c.args.self.now) r
 
-pub returns-in_err-part-clause-below : goal.returns-in_err-part-clause-below
-returns-in_err-part-clause-below g c =
-    let p = err_from_is_err_and c.from_residual.result c.from_residual.ensures.1 in
-    rw p.1 tt
+pub returns-in-Err-clause-err : goal.returns-in-Err-clause-err
+returns-in-Err-clause-err g c =
+    c.in-Err.ensures.err ∙ c.self.view_is
 
-pub returns-in_err-part-clause-err : goal.returns-in_err-part-clause-err
-returns-in_err-part-clause-err g c =
-    let p = err_from_is_err_and c.from_residual.result c.from_residual.ensures.1 in
-    rw p.1 (c.in_err-part.ensures.err ∙ c.self.view_is)
-
-pub returns-in_err-part-clause-refused : goal.returns-in_err-part-clause-refused
+pub returns-in-Err-clause-refused : goal.returns-in-Err-clause-refused
 unfolding pairs
-returns-in_err-part-clause-refused g c =
-    let p = err_from_is_err_and c.from_residual.result c.from_residual.ensures.1 in
-    rw p.1 (λ empty. omega (arith, c.in_err-part.ensures.refused, c.count_from-count.ensures, ap (λ (l : List _). length l) empty))
+returns-in-Err-clause-refused g c =
+    λ empty. omega (arith, c.in-Err.ensures.refused, c.count_from-count.ensures, ap (λ (l : List _). length l) empty)

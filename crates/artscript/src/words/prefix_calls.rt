@@ -1,0 +1,173 @@
+//! The calls of prefix entries, and their words.
+use crate::words::entry_calls::{
+    EntryCall, OccupiedCall, PlaceCall, VacantCall, ValueCall, named_call,
+};
+use crate::words::named::named;
+use script_words::{Unanswered, Words};
+
+/// A call of a prefix entry.
+#[derive(Clone, Copy)]
+pub enum PrefixCall<'a> {
+    Key,
+    GetKey,
+    Value(ValueCall),
+    Place(PlaceCall),
+    KindValue(ValueCall),
+    KindPlace(PlaceCall),
+    Occupied(RelatedCall),
+    OccupiedSet(SetCall),
+    Leaf(OccupiedCall),
+    Inner(RelatedCall),
+    InnerSet(SetCall),
+    OnlyMut(u64),
+    Walk(WalkCall<'a>),
+    Vacant(VacantCall),
+}
+
+/// A call of an entry that is at a pair or in the place of pairs, and that leaves these there.
+#[derive(Clone, Copy)]
+pub enum RelatedCall {
+    Key,
+    Get,
+    GetKey,
+    GetMut(u64),
+}
+
+/// A call of an entry that puts a pair in the place of those which are there.
+#[derive(Clone, Copy)]
+pub enum SetCall {
+    Insert(u64),
+    InsertEntry(u64),
+}
+
+/// A walk over the pairs that an entry stands for: what is added to each value that is lent, if they are lent, and the letters of its steps.
+#[derive(Clone, Copy)]
+pub struct WalkCall<'a> {
+    pub add: Option<u64>,
+    pub letters: Option<&'a [u8]>,
+}
+
+// The name of a call that prefix entries alone have, or that theirs differs in.
+#[derive(Clone, Copy)]
+enum PrefixName {
+    GetKey,
+    OccupiedKey,
+    Get,
+    OccupiedGetKey,
+    GetMut,
+    OccupiedInsert,
+    OccupiedInsertEntry,
+    InnerKey,
+    InnerGet,
+    InnerGetKey,
+    InnerGetMut,
+    InnerInsert,
+    InnerInsertEntry,
+    OnlyMut,
+}
+
+// The word that names each call.
+const NAMES: [(&str, PrefixName); 14] = [
+    ("get_key", PrefixName::GetKey),
+    ("occupied_key", PrefixName::OccupiedKey),
+    ("get", PrefixName::Get),
+    ("occupied_get_key", PrefixName::OccupiedGetKey),
+    ("get_mut", PrefixName::GetMut),
+    ("occupied_insert", PrefixName::OccupiedInsert),
+    ("occupied_insert_entry", PrefixName::OccupiedInsertEntry),
+    ("inner_key", PrefixName::InnerKey),
+    ("inner_get", PrefixName::InnerGet),
+    ("inner_get_key", PrefixName::InnerGetKey),
+    ("inner_get_mut", PrefixName::InnerGetMut),
+    ("inner_insert", PrefixName::InnerInsert),
+    ("inner_insert_entry", PrefixName::InnerInsertEntry),
+    ("get_key_value_mut", PrefixName::OnlyMut),
+];
+
+impl<'a> PrefixCall<'a> {
+    /// What the words that are left say.
+    pub fn read(mut words: Words<'a>) -> Result<PrefixCall<'a>, Unanswered> {
+        match words.word()? {
+            b"iter" => walk_of(None, words),
+            b"iter_mut" => {
+                let add = words.number()?;
+                walk_of(Some(add), words)
+            }
+            b"kind" => kind_call(words),
+            name => call_of(name, words),
+        }
+    }
+}
+
+// The walk whose letters are the last word, where one is left.
+fn walk_of<'a>(add: Option<u64>, mut words: Words<'a>) -> Result<PrefixCall<'a>, Unanswered> {
+    let letters = words.last_moves()?;
+    Ok(PrefixCall::Walk(WalkCall { add, letters }))
+}
+
+// The call of the entry's kind that the words which are left say.
+fn kind_call<'a>(mut words: Words<'_>) -> Result<PrefixCall<'a>, Unanswered> {
+    let name = words.word()?;
+    match named_call(name, words.last_number()?)? {
+        EntryCall::Value(call) => Ok(PrefixCall::KindValue(call)),
+        EntryCall::Place(call) => Ok(PrefixCall::KindPlace(call)),
+        _ => Err(Unanswered::NoCall),
+    }
+}
+
+// The call of this name, which the last words are the arguments of.
+fn call_of<'a>(word: &[u8], words: Words<'_>) -> Result<PrefixCall<'a>, Unanswered> {
+    let number = words.last_number()?;
+    let Some(name) = named(&NAMES, word) else {
+        return shared_call(named_call(word, number)?);
+    };
+    let found = match number {
+        Some(number) => call_with(name, number),
+        None => bare_call(name),
+    };
+    match found {
+        Some(call) => Ok(call),
+        None => Err(Unanswered::NoCall),
+    }
+}
+
+// The call of prefix entries that has the name of a call of entries.
+fn shared_call<'a>(call: EntryCall) -> Result<PrefixCall<'a>, Unanswered> {
+    match call {
+        EntryCall::Key => Ok(PrefixCall::Key),
+        EntryCall::Value(call) => Ok(PrefixCall::Value(call)),
+        EntryCall::Place(call) => Ok(PrefixCall::Place(call)),
+        EntryCall::Occupied(call) => Ok(PrefixCall::Leaf(call)),
+        EntryCall::Vacant(call) => Ok(PrefixCall::Vacant(call)),
+    }
+}
+
+// The call of this name that has no argument.
+fn bare_call<'a>(name: PrefixName) -> Option<PrefixCall<'a>> {
+    match name {
+        PrefixName::GetKey => Some(PrefixCall::GetKey),
+        PrefixName::OccupiedKey => Some(PrefixCall::Occupied(RelatedCall::Key)),
+        PrefixName::Get => Some(PrefixCall::Occupied(RelatedCall::Get)),
+        PrefixName::OccupiedGetKey => Some(PrefixCall::Occupied(RelatedCall::GetKey)),
+        PrefixName::InnerKey => Some(PrefixCall::Inner(RelatedCall::Key)),
+        PrefixName::InnerGet => Some(PrefixCall::Inner(RelatedCall::Get)),
+        PrefixName::InnerGetKey => Some(PrefixCall::Inner(RelatedCall::GetKey)),
+        _ => None,
+    }
+}
+
+// The call of this name with this number.
+fn call_with<'a>(name: PrefixName, number: u64) -> Option<PrefixCall<'a>> {
+    match name {
+        PrefixName::GetMut => Some(PrefixCall::Occupied(RelatedCall::GetMut(number))),
+        PrefixName::OccupiedInsert => Some(PrefixCall::OccupiedSet(SetCall::Insert(number))),
+        PrefixName::OccupiedInsertEntry => {
+            Some(PrefixCall::OccupiedSet(SetCall::InsertEntry(number)))
+        }
+        PrefixName::InnerGetMut => Some(PrefixCall::Inner(RelatedCall::GetMut(number))),
+        PrefixName::InnerInsert => Some(PrefixCall::InnerSet(SetCall::Insert(number))),
+        PrefixName::InnerInsertEntry => Some(PrefixCall::InnerSet(SetCall::InsertEntry(number))),
+        PrefixName::OnlyMut => Some(PrefixCall::OnlyMut(number)),
+        _ => None,
+    }
+}
