@@ -9,3 +9,4 @@ pub mod RowChanges
 pub mod FilingLemmas
 pub mod RowsLemmas
 pub mod Runs
+pub mod Ends

@@ -1,5 +1,5 @@
 -- What a contract sees of leaves in rows.
-use Rattle.std.specs.Prelude.{◌≡◌, ◌+◌, ℕ, min, List, [], ◌∷◌, map, Option, Some, None, refl, if◌then◌else◌, eqb}
+use Rattle.std.specs.Prelude.{◌≡◌, ◌+◌, ℕ, min, List, [], ◌∷◌, ◌++◌, map, Option, Some, None, refl, if◌then◌else◌, eqb}
 use Rattle.std.specs.Coded.{Coded, code_by, coded×, coded_ℕ, coded_list}
 use Rattle.std.specs.List.{AllZip}
 use Rattle.art_rows.specs.Numbers.{Numbered}
@@ -39,6 +39,16 @@ module _ {K V : Type 0} where
   abbrev pub with_value : List (Numbered (K × V)) → ℕ → V → List (Numbered (K × V))
   with_value [] i v = []
   with_value (p ∷ ps) i v = if eqb p.0 i then (p.0, (p.1.0, v)) ∷ ps else p ∷ with_value ps i v
+
+  -- the first pair, if there is one, is taken out
+  abbrev pub TakesFirst : List (Numbered (K × V)) → Option (K × V) → List (Numbered (K × V)) → Type 0
+  TakesFirst old None new = (old ≡ []) × (new ≡ [])
+  TakesFirst old (Some x) new = (id : ℕ) × (old ≡ (id, x) ∷ new)
+
+  -- the last pair, if there is one, is taken out
+  abbrev pub TakesLast : List (Numbered (K × V)) → Option (K × V) → List (Numbered (K × V)) → Type 0
+  TakesLast old None new = (old ≡ []) × (new ≡ [])
+  TakesLast old (Some x) new = (id : ℕ) × (old ≡ new ++ (id, x) ∷ [])
 
 module _ {K V : Type 0} (is_key : K → K → Type 0) (is_value : V → V → Type 0) where
   -- the same number, with a clone of the key and one of the value

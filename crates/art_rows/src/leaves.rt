@@ -4,7 +4,7 @@ ghost use Rattle.art_slots.specs.Store.{slot_at, used_count};
 ghost use Rattle.art_rows.specs.Numbers.{leaf_in, Has, AreDistinct, first_number, last_number, number_after, number_before, with_pair_after, without_number, with_pair};
 ghost use Rattle.art_rows.specs.Rows.{position_at, nth, numbers, IsSpot, IsSplit, row_end, row_room, row_start, among, RunsBefore, StandsAfter};
 ghost use Rattle.art_rows.specs.declared.row.Position.{Position};
-ghost use Rattle.art_rows.specs.Leaves.{index_of, room, spot_index, AreCopies};
+ghost use Rattle.art_rows.specs.Leaves.{index_of, room, spot_index, TakesFirst, TakesLast, AreCopies};
 ghost use Rattle.art_rows.specs.Filing.{in_row};
 ghost use Rattle.art_rows.specs.LeafLends.{lends_value, lends_leaf};
 ghost use Rattle.std.specs.Borrow.{sem};
@@ -488,9 +488,44 @@ impl<K: Drop, V: Drop> Leaves<K, V> {
         ensures room { room self.old ≤ room self.new }
     {
         let position = self.position_of(id);
+        self.remove_at(id, position)
+    }
+
+    // The same, at the leaf's position.
+    fn remove_at(&mut self, id: LeafId, position: Position) -> (K, V)
+        requires has { Has self.old.pairs id }
+        requires at { position_at self.old.rows (index_of self.old.pairs id) ≡ Some position }
+        ensures value { leaf_in self.old.pairs id ≡ Some result }
+        ensures rest { self.new.pairs ≡ without_number self.old.pairs id }
+        ensures room { room self.old ≤ room self.new }
+    {
         let leaf = self.records.take(id.number());
         take_out(&mut self.rows, position);
         (leaf.key, leaf.value)
+    }
+
+    /// Takes the first leaf out, and gives its pair. Its place is known by the rows alone: who takes one after the other need not wait for one to be read to find the next.
+    pub fn take_first(&mut self) -> Option<(K, V)>
+        ensures { TakesFirst self.old.pairs result self.new.pairs }
+    {
+        let _ = &self.rows;
+        let Some(position) = self.first_position() else {
+            return None;
+        };
+        let id = self.number(position);
+        Some(self.remove_at(id, position))
+    }
+
+    /// Takes the last leaf out, and gives its pair. Its place is known by the rows alone.
+    pub fn take_last(&mut self) -> Option<(K, V)>
+        ensures { TakesLast self.old.pairs result self.new.pairs }
+    {
+        let _ = &self.rows;
+        let Some(position) = self.last_position() else {
+            return None;
+        };
+        let id = self.number(position);
+        Some(self.remove_at(id, position))
     }
 
     /// Puts another pair under the number of a leaf, and gives the old one.

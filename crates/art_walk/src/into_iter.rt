@@ -53,10 +53,7 @@ impl<K: AsBytes + Drop, V: Drop, const PREFIX_LEN: usize> Iterator for IntoIter<
 
     /// The first pair that is left.
     fn next(&mut self) -> Option<(K, V)> {
-        let Some(id) = self.leaves.first() else {
-            return None;
-        };
-        Some(self.leaves.remove(id))
+        self.leaves.take_first()
     }
 
     /// Both bounds are the number of pairs that are left.
@@ -75,11 +72,7 @@ impl<K: AsBytes + Drop, V: Drop, const PREFIX_LEN: usize> DoubleEndedIterator
 
     /// The last pair that is left.
     fn next_back(&mut self) -> Option<(K, V)> {
-        self.leaves.law();
-        let Some(id) = self.leaves.last() else {
-            return None;
-        };
-        Some(self.leaves.remove(id))
+        self.leaves.take_last()
     }
 }
 
