@@ -6,5 +6,6 @@ pub mod Passing
 pub mod Retained
 pub mod Asking
 pub mod Lending
+pub mod PairEnds
 pub mod Runs
 pub mod Callable
