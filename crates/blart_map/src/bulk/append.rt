@@ -90,9 +90,7 @@ fn move_all<K: NoPrefixesBytes + Drop, V: Drop, const P: usize>(
 {
     to.law();
     let mut from = from;
-    while let Some(id) = from.first() {
-        from.law();
-        let (key, value) = from.remove(id);
+    while let Some((key, value)) = from.take_first() {
         put_reserved(to, key, value);
     }
 }
@@ -109,9 +107,7 @@ fn add_all<K: NoPrefixesBytes + Drop, V: Drop, const P: usize>(
 {
     to.law();
     let mut from = from;
-    while let Some(id) = from.first() {
-        from.law();
-        let (key, value) = from.remove(id);
+    while let Some((key, value)) = from.take_first() {
         add_reserved(to, key, value);
     }
 }

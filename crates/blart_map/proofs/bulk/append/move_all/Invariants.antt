@@ -5,13 +5,13 @@ use Rattle.art_tree.specs.Content.{room}
 use Rattle.art_walk.specs.Pairs.{pairs_of}
 use Rattle.blart_map.proofs.bulk.append.move_all.Given as goal
 
-abbrev pub invariant-loop-id : goal.invariant-loop-id
-invariant-loop-id g l = record {
+abbrev pub invariant-loop-key : goal.invariant-loop-key
+invariant-loop-key g l = record {
   moved : List (g.row.K.Denot × g.row.V.Denot);
   whole : pairs_of l.initial.from.pairs ≡ moved ++ pairs_of l.from.pairs;
   union : IsUnion (bytes g.K.AsBytes.bytes) moved (pairs_of l.initial.to.pairs) (pairs_of l.to.pairs);
   room : length l.from.pairs ≤ room l.to;
 }
 
-abbrev pub decreases-loop-id : goal.decreases-loop-id
-decreases-loop-id g l = length l.from.pairs
+abbrev pub decreases-loop-key : goal.decreases-loop-key
+decreases-loop-key g l = length l.from.pairs
