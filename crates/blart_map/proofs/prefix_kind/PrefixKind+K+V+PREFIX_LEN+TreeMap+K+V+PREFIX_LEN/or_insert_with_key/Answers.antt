@@ -1,5 +1,11 @@
 use Rattle.std.proofs.Common.{rules, refl, sym, subst}
+use Rattle.blart_map.proofs.Related.PrefixValues.{or_made}
 use Rattle.blart_map.proofs.prefix_kind.PrefixKind+K+V+PREFIX_LEN+TreeMap+K+V+PREFIX_LEN.or_insert_with_key.Goals as goal
+
+pub returns-in-Leaf : goal.returns-in-Leaf
+returns-in-Leaf g c =
+    let into = c.into_mut.ensures in
+    rw c.in-Leaf.is ((refl, (λ w o. into.written w), tt), record { writes_back = tt; value = or_made _ _ _ into.value; vacant = tt })
 
 pub returns-in-Inner : goal.returns-in-Inner
 returns-in-Inner g c =
