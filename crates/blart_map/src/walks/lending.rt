@@ -132,6 +132,7 @@ impl<K: AsBytes, V, const PREFIX_LEN: usize> TreeMap<K, V, PREFIX_LEN> {
     ///     }
     /// }
     /// ```
+    #[tactic(auto, using(crate::proofs::Passed::Opening::opens))]
     pub fn take_walk<Q: AsBytes>(
         &mut self,
         start: Bound<&Q>,
