@@ -17,6 +17,12 @@ loop-id-init g c = record {
   room = c.requires.room;
 }
 
+pub loop-id-smaller : goal.loop-id-smaller
+loop-id-smaller g c =
+    let ps = c.loop-id.from.pairs in
+    let less : length c.remove-key.new.self.pairs + 1 ≡ length ps = ap (λ (l : List _). length l + 1) c.remove-key.ensures.rest ∙ length-without_number ps c.in-Some.id (first_has ps c.in-Some.id (sym c.in-Some.ensures)) in
+    omega arith
+
 pub loop-id-preserved : goal.loop-id-preserved
 loop-id-preserved g c =
     let kb = g.K.AsBytes.bytes in
