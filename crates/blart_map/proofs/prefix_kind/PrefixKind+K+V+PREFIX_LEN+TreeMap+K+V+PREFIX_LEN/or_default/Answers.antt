@@ -1,4 +1,4 @@
-use Rattle.std.proofs.Common.{refl, sym, subst}
+use Rattle.std.proofs.Common.{rules, refl, sym, subst}
 use Rattle.blart_map.proofs.Related.PrefixValues.{or_made}
 use Rattle.blart_map.proofs.prefix_kind.PrefixKind+K+V+PREFIX_LEN+TreeMap+K+V+PREFIX_LEN.or_default.Goals as goal
 
@@ -11,3 +11,8 @@ pub returns-in-Inner : goal.returns-in-Inner
 returns-in-Inner g c =
     let made = subst g.V.Default.is_default (sym c.insert.ensures.value) c.default.ensures in
     rw c.in-Inner.is ((refl, (λ w o. c.insert.ensures.written w), tt), record { writes_back = tt; value = made; vacant = tt })
+
+pub returns-in-Vacant : goal.returns-in-Vacant
+returns-in-Vacant g c =
+    let f = c.insert_with.follows in
+    rw c.in-Vacant.is ((refl, f.holds, f.holds-at-none), record { writes_back = tt; value = search rules; vacant = search rules })
