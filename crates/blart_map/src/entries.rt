@@ -215,14 +215,13 @@ impl<K: NoPrefixesBytes + Drop, V, const PREFIX_LEN: usize> TreeMap<K, V, PREFIX
         ensures unchanged { (entry_ref result).now ≡ self.old }
         ensures is_for { IsEntryFor (pairs self.old) key result }
     {
-        match self.lawful_point(&key) {
-            Point::Exact(id) => Entry::Occupied(OccupiedEntry {
+        match self.lawful_leaf(&key) {
+            Some(id) => Entry::Occupied(OccupiedEntry {
                 map: self,
                 id,
                 lender: PhantomData,
             }),
-            Point::Related { .. } => unreachable!(),
-            Point::Empty | Point::Free(_) => Entry::Vacant(VacantEntry {
+            None => Entry::Vacant(VacantEntry {
                 map: self,
                 key,
                 lender: PhantomData,

@@ -7,7 +7,6 @@ ghost use Rattle.blart_map.specs.Content.{pairs};
 ghost use Rattle.blart_map.specs.Lent.{lends_key_ok};
 
 use crate::map::TreeMap;
-use art_tree::Point;
 use blart_keys::NoPrefixesBytes;
 use std::alloc::AllocError;
 
@@ -27,10 +26,9 @@ impl<K: NoPrefixesBytes + Drop, V: Drop, const PREFIX_LEN: usize> TreeMap<K, V, 
             (λ r. r.now ≡ unwrap_or (value_at K.bytes (pairs self.old) (K.bytes key)) value) }
         ensures absent { OnErr result (has K.bytes (pairs self.old) (K.bytes key) ≡ false) }
     {
-        match self.lawful_point(&key) {
-            Point::Exact(id) => Ok(self.value_mut(id)),
-            Point::Related { .. } => unreachable!(),
-            Point::Empty | Point::Free(_) => match self.place_new(key, value) {
+        match self.lawful_leaf(&key) {
+            Some(id) => Ok(self.value_mut(id)),
+            None => match self.place_new(key, value) {
                 Ok(id) => Ok(self.value_mut(id)),
                 Err(refused) => Err(refused),
             },
@@ -40,6 +38,7 @@ impl<K: NoPrefixesBytes + Drop, V: Drop, const PREFIX_LEN: usize> TreeMap<K, V, 
     /// The value of the key, to be written, after placing the closure's answer where none is stored. The closure is called there alone, once there is room.
     ///
     /// An error is answered only where the bytes are new, and leaves the map as it was.
+    #[tactic(auto, using(crate::proofs::Placed::SettingAt::new_none), unfolding(crate::specs::Content::pairs))]
     pub fn get_or_insert_with<F: FnOnce() -> V + Drop>(
         &mut self,
         key: K,
@@ -52,10 +51,9 @@ impl<K: NoPrefixesBytes + Drop, V: Drop, const PREFIX_LEN: usize> TreeMap<K, V, 
             (value_at K.bytes (pairs self.old) (K.bytes key)) (F.post value) r.now) }
         ensures absent { OnErr result (has K.bytes (pairs self.old) (K.bytes key) ≡ false) }
     {
-        match self.lawful_point(&key) {
-            Point::Exact(leaf) => Ok(self.value_mut(leaf)),
-            Point::Related { .. } => unreachable!(),
-            Point::Empty | Point::Free(_) => match self.place_new_with(key, value) {
+        match self.lawful_leaf(&key) {
+            Some(leaf) => Ok(self.value_mut(leaf)),
+            None => match self.place_new_with(key, value) {
                 Ok(id) => Ok(self.value_mut(id)),
                 Err(refused) => Err(refused),
             },

@@ -134,6 +134,7 @@ impl<'a, K: AsBytes + Drop, V, const PREFIX_LEN: usize> InnerOccupiedEntry<
     ghost use Rattle.blart_map.specs.OnceWritten.{rewritten, once_written};
 
     /// The entry of the only related pair, in place of this one; `None` where there are more, and the map stands.
+    #[tactic(auto, using(crate::proofs::Related::InnerPairs::inner_has))]
     pub fn get_key_value_mut(
         self,
     ) -> Option<OccupiedEntry<'a, K, V, PREFIX_LEN, TreeMap<K, V, PREFIX_LEN>>>

@@ -1,5 +1,5 @@
 //! Where a pair goes, room for it, and the pair placed; and what an entry asks of the map that it holds.
-ghost use Rattle.std.specs.Prelude.{◌≡◌, ◌≢◌, ◌+◌, ◌<◌, ◌≤◌, ℕ, true, false, eqb, option_map, is_some, Some, None, OnOk, IfOk, IfSome, OnErr};
+ghost use Rattle.std.specs.Prelude.{◌≡◌, ◌≢◌, ◌+◌, ◌<◌, ◌≤◌, ℕ, true, false, eqb, option_map, is_some, Some, None, OnOk, IfOk, IfSome, IfNone, OnErr};
 ghost use Rattle.std.specs.Borrow.{sem};
 ghost use Rattle.std.specs.Fn.{FnOnceReturnsAt};
 ghost use denote.Ref.{Bor};
@@ -101,14 +101,22 @@ impl<K: AsBytes, V, const PREFIX_LEN: usize> TreeMap<K, V, PREFIX_LEN> {
 }
 
 impl<K: NoPrefixesBytes, V, const PREFIX_LEN: usize> TreeMap<K, V, PREFIX_LEN> {
-    // Where the key stands, or would go: it never conflicts.
-    pub(crate) fn lawful_point(&self, key: &K) -> Point
-        ensures good { IsGood K.bytes self.now result (K.bytes key.now) }
-        ensures lawful { (i j : ℕ) → result ≢ Related i j }
+    // The leaf of the key. Where there is none a pair with the key may be placed: it never conflicts.
+    pub(crate) fn lawful_leaf(&self, key: &K) -> Option<LeafId>
+        ensures there { IfSome result (λ id. Has self.now id) }
+        ensures good { IfSome result
+            (λ id. IsGood K.bytes self.now (Exact id) (K.bytes key.now)) }
+        ensures absent { IfNone result
+            (stores (bytes K.bytes) self.now (K.bytes key.now) ≡ false) }
+        ensures free { IfNone result
+            (conflict (bytes K.bytes) self.now (K.bytes key.now) ≡ false) }
         ensures content { IsContent (bytes K.bytes) self.now }
         ensures distinct { AreDistinct self.now }
     {
-        lawful_point(&self.tree, key)
+        match lawful_point(&self.tree, key) {
+            Point::Exact(id) => Some(id),
+            _ => None,
+        }
     }
 }
 

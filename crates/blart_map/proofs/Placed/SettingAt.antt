@@ -1,19 +1,17 @@
 -- A value set at a key that may be new, as the users of a map see it.
 use Rattle.std.proofs.Common.{◌≡◌, ◌+◌, ℕ, false, List, refl, sym, ap, ◌∙◌, subst, add-zero, length, Option, Some, None, option_map, is_some, if◌then◌else◌}
 use Rattle.std.specs.Option.{unwrap_or, UnwrapsOrElse}
-use Rattle.blart_keys.specs.Content.{IsContent, IsPut}
+use Rattle.blart_keys.specs.Content.{IsContent, IsPut, stores}
 use Rattle.blart_keys.specs.Steps.{bytes as pair_bytes}
 use Rattle.blart_keys.specs.Stored.{kept_key, pair_at, value_at, has, Updates}
 use Rattle.blart_keys.proofs.ContentLemmas.{at_Some}
 use Rattle.blart_keys.proofs.Mapped.{content_map}
-use Rattle.art_tree.specs.Content.{IsOpen}
 use Rattle.art_tree.specs.Leaves.{Numbered, leaf_in, AreDistinct, with_value, bytes}
 use Rattle.art_tree.specs.Points.{IsGood}
-use Rattle.art_tree.specs.declared.tree.point.Point.{Point}
 use Rattle.art_tree.specs.declared.tree.point.Point.TheVariants.{Exact}
 use Rattle.art_tree.proofs.CallerLemmas.{leaf_in-member}
 use Rattle.art_walk.specs.Pairs.{pairs_of}
-use Rattle.blart_map.proofs.Related.EntryOf.{exact_pair, open_absent, open_pair}
+use Rattle.blart_map.proofs.Related.EntryOf.{exact_pair, absent_pair}
 use Rattle.blart_map.proofs.Placed.Setting.{rewritten, rewritten_content, put_from_updates, placed_set}
 use Rattle.blart_map.specs.Lent.{IsSetAt}
 
@@ -53,23 +51,23 @@ module _ {K V : Type 0} (kb : K → List ℕ) (ps : List (Numbered K V)) (S : Li
         let h : value_at kb S (kb key) ≡ Some r = ap (λ T. value_at kb T (kb key)) (sym view) ∙ f in
         subst (λ (o : Option V). UnwrapsOrElse o P r) (sym h) refl
 
-  module _ (point : Point) (good : IsGood kb ps point (kb key)) (able : IsOpen point) where
+  module _ (absent : stores (bytes kb) ps (kb key) ≡ false) where
     none : None ≡ pair_at kb S (kb key)
-    none = open_pair kb ps content distinct (kb key) point good able ∙ ap (λ T. pair_at kb T (kb key)) view
+    none = absent_pair kb ps content distinct (kb key) absent ∙ ap (λ T. pair_at kb T (kb key)) view
 
-    pub open_has : has kb S (kb key) ≡ false
-    open_has = ap (λ o. is_some o) (sym none)
+    pub new_has : has kb S (kb key) ≡ false
+    new_has = ap (λ o. is_some o) (sym none)
 
-    pub open_value_at : (r d : V) → r ≡ d → r ≡ unwrap_or (value_at kb S (kb key)) d
-    open_value_at r d e = e ∙ ap (λ (o : Option (K × V)). unwrap_or (option_map (λ p. p.1) o) d) none
+    pub new_value_at : (r d : V) → r ≡ d → r ≡ unwrap_or (value_at kb S (kb key)) d
+    new_value_at r d e = e ∙ ap (λ (o : Option (K × V)). unwrap_or (option_map (λ p. p.1) o) d) none
 
-    pub open_set_at : (mid ns : List (Numbered K V)) (v : V) (id : ℕ) → mid ≡ ps → IsPut (bytes kb) mid (id, (key, v)) ns → AreDistinct ns → leaf_in ns id ≡ Some (key, v) → (w : V) → IsSetAt kb S key w (pairs_of (with_value ns id w))
-    open_set_at mid ns v id same put d there w =
-        set_of None (open_pair kb ps content distinct (kb key) point good able) w (pairs_of (with_value ns id w))
-        (placed_set kb ps mid ns same content id key v (open_absent kb ps content distinct (kb key) point good able) put d there w)
+    pub new_set_at : (mid ns : List (Numbered K V)) (v : V) (id : ℕ) → mid ≡ ps → IsPut (bytes kb) mid (id, (key, v)) ns → AreDistinct ns → leaf_in ns id ≡ Some (key, v) → (w : V) → IsSetAt kb S key w (pairs_of (with_value ns id w))
+    new_set_at mid ns v id same put d there w =
+        set_of None (absent_pair kb ps content distinct (kb key) absent) w (pairs_of (with_value ns id w))
+        (placed_set kb ps mid ns same content id key v absent put d there w)
 
-    pub open_none : value_at kb S (kb key) ≡ None
-    open_none = ap (λ (o : Option (K × V)). option_map (λ p. p.1) o) (sym none)
+    pub new_none : value_at kb S (kb key) ≡ None
+    new_none = ap (λ (o : Option (K × V)). option_map (λ p. p.1) o) (sym none)
 
-    pub open_or_else : (r : V) (P : V → Type 0) → P r → UnwrapsOrElse (value_at kb S (kb key)) P r
-    open_or_else r P h = subst (λ (o : Option V). UnwrapsOrElse o P r) (sym open_none) h
+    pub new_or_else : (r : V) (P : V → Type 0) → P r → UnwrapsOrElse (value_at kb S (kb key)) P r
+    new_or_else r P h = subst (λ (o : Option V). UnwrapsOrElse o P r) (sym new_none) h

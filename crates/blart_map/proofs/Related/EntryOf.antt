@@ -8,7 +8,7 @@ use Rattle.blart_keys.specs.Steps.{bytes as pair_bytes}
 use Rattle.blart_keys.specs.Stored.{pair_at}
 use Rattle.blart_keys.proofs.ContentLemmas.{at_Some, stored_no_conflict, stores_found}
 use Rattle.std.proofs.lemmas.Bool.{false≢true, false_from_ne_true}
-use Rattle.blart_keys.proofs.Mapped.{find-map, list_any-map}
+use Rattle.blart_keys.proofs.Mapped.{list_any-map}
 use Rattle.blart_keys.proofs.RankLemmas.{Member}
 use Rattle.blart_keys.proofs.StoredLemmas.{stores_is}
 use Rattle.art_tree.specs.Content.{IsOpen}
@@ -18,8 +18,12 @@ use Rattle.art_tree.specs.declared.tree.point.Point.{Point}
 use Rattle.art_tree.specs.declared.tree.point.Point.TheVariants.{Exact, Related}
 use Rattle.art_tree.proofs.CallerLemmas.{leaf_in-member}
 use Rattle.art_walk.specs.Pairs.{pairs_of}
-use Rattle.blart_map.proofs.Placed.Inserting.{conflict_pairs, open_alone, alone_absent, alone_no_conflict, alone_none}
+use Rattle.blart_map.proofs.Placed.Inserting.{conflict_pairs, open_alone, alone_absent, alone_no_conflict}
 use Rattle.blart_map.proofs.Placed.Setting.{pair_there}
+
+none : {X : Type 0} (o : Option X) → is_some o ≡ false → None ≡ o
+none None e = refl
+none (Some x) e = absurd (false≢true (sym e))
 
 module _ {K V : Type 0} (kb : K → List ℕ) (ps : List (Numbered K V)) (content : IsContent (bytes kb) ps) (distinct : AreDistinct ps) (q : List ℕ) where
   -- ---- at a leaf
@@ -72,10 +76,18 @@ module _ {K V : Type 0} (kb : K → List ℕ) (ps : List (Numbered K V)) (conten
 
     pub related_pair : None ≡ pair_at kb (pairs_of ps) q
     related_pair = none (pair_at kb (pairs_of ps) q) (sym (stores_is kb (pairs_of ps) q) ∙ related_absent)
-      where
-        none : (o : Option (K × V)) → is_some o ≡ false → None ≡ o
-        none None e = refl
-        none (Some x) e = absurd (false≢true (sym e))
+
+  -- ---- where no key has the bytes
+
+  module _ (absent : stores (bytes kb) ps q ≡ false) where
+    absent_pairs : stores (pair_bytes kb) (pairs_of ps) q ≡ false
+    absent_pairs = list_any-map (λ p. p.1) (λ x. bytes_eq (kb x.0) q) ps ∙ absent
+
+    pub absent_pair : None ≡ pair_at kb (pairs_of ps) q
+    absent_pair = none (pair_at kb (pairs_of ps) q) (sym (stores_is kb (pairs_of ps) q) ∙ absent_pairs)
+
+    pub vacant_kind : conflict (bytes kb) ps q ≡ false → Kind.Vacant ≡ kind_of (pair_bytes kb) (pairs_of ps) q
+    vacant_kind free = let b : conflict (pair_bytes kb) (pairs_of ps) q ≡ false = conflict_pairs kb ps q ∙ free in rw (absent_pairs, b) refl
 
   -- ---- where a pair may be placed
 
@@ -96,11 +108,7 @@ module _ {K V : Type 0} (kb : K → List ℕ) (ps : List (Numbered K V)) (conten
     open_found = sym (ap not (conflict_pairs kb ps q ∙ open_free))
 
     pub open_pair : None ≡ pair_at kb (pairs_of ps) q
-    unfolding pair_at
-    open_pair = sym (find-map (λ p. p.1) (λ x. bytes_eq (kb x.0) q) ps ∙ ap (option_map (λ p. p.1)) (alone_none (bytes kb) ps q alone))
+    open_pair = absent_pair open_absent
 
     pub open_kind : Kind.Vacant ≡ kind_of (pair_bytes kb) (pairs_of ps) q
-    open_kind =
-        let a : stores (pair_bytes kb) (pairs_of ps) q ≡ false = list_any-map (λ p. p.1) (λ x. bytes_eq (kb x.0) q) ps ∙ open_absent in
-        let b : conflict (pair_bytes kb) (pairs_of ps) q ≡ false = conflict_pairs kb ps q ∙ open_free in
-        rw (a, b) refl
+    open_kind = vacant_kind open_absent open_free

@@ -11,7 +11,7 @@ use Rattle.blart_map.specs.declared.prefix_entry.PrefixEntry.{PrefixEntry}
 some_value : {K V : Type 0} (k : K) (w r : V) (o : Option (K × V)) → o ≡ Some (k, w) → option_map (λ p. p.1) o ≡ Some r → r ≡ w
 some_value k w r o e f = let h : Some w ≡ Some r = sym (ap (option_map (λ p. p.1)) e) ∙ f in cc
 
-or_made : {V : Type 0} (o : Option V) (r : V) (P : V → Type 0) → o ≡ Some r → UnwrapsOrElse o P r
+pub or_made : {V : Type 0} (o : Option V) (r : V) (P : V → Type 0) → o ≡ Some r → UnwrapsOrElse o P r
 or_made o r P e = subst (λ o. UnwrapsOrElse o P r) (sym e) refl
 
 module _ {K V T : Type 0} {P : ℕ} {g : Ghosts K} where

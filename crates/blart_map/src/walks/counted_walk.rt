@@ -78,6 +78,7 @@ impl<'a, K: AsBytes, V, const PREFIX_LEN: usize> CountedWalk<'a, K, V, WithKeys,
     /// map.iter_mut().for_each(|key, value| *value = value.wrapping_add(key.len()));
     /// assert_eq!(map.get(&"horse"), Some(&7));
     /// ```
+    #[tactic(auto, using(art_walk::proofs::Lending::count_test, art_walk::proofs::Lending::from_test))]
     pub fn for_each<F: FnMut(&K, &mut V) + Drop>(self, f: F)
         requires { CallableInTurn (LeavesPair F.FnMut) (TakesAtPair F.FnMut) f
             (pairs_of (counted_left self)) }
@@ -138,6 +139,7 @@ impl<'a, K: AsBytes, V, const PREFIX_LEN: usize> CountedWalk<'a, K, V, ValuesAlo
     /// map.values_mut().for_each(|value| *value = value.wrapping_add(1));
     /// assert_eq!(map.get(&"dog"), Some(&3));
     /// ```
+    #[tactic(auto, using(art_walk::proofs::Lending::count_test, art_walk::proofs::Lending::from_test))]
     pub fn for_each<F: FnMut(&mut V) + Drop>(self, f: F)
         requires { CallableInTurn (LeavesValue F.FnMut) (TakesAtValue F.FnMut) f
             (pairs_of (counted_left self)) }

@@ -70,6 +70,7 @@ impl<K: AsBytes, V, const PREFIX_LEN: usize> TreeMap<K, V, PREFIX_LEN> {
     ///     *value += 1;
     /// }
     /// ```
+    #[tactic(auto, using(crate::proofs::Passed::Opening::opens))]
     pub fn prefix_mut(&mut self, front: &[u8]) -> PrefixMut<'_, K, V, PREFIX_LEN>
         ensures same_map { result.map.ghost_name ≡ self.entry.ghost_name }
         ensures unchanged { result.map.now ≡ self.old }
@@ -92,6 +93,7 @@ impl<K: AsBytes, V, const PREFIX_LEN: usize> TreeMap<K, V, PREFIX_LEN> {
     ///     *value += 1;
     /// }
     /// ```
+    #[tactic(auto, using(crate::proofs::Passed::Opening::opens))]
     pub fn range_mut<Q: AsBytes>(
         &mut self,
         start: Bound<&Q>,
@@ -130,6 +132,7 @@ impl<K: AsBytes, V, const PREFIX_LEN: usize> TreeMap<K, V, PREFIX_LEN> {
     ///     }
     /// }
     /// ```
+    #[tactic(auto, using(crate::proofs::Passed::Opening::opens))]
     pub fn take_walk<Q: AsBytes>(
         &mut self,
         start: Bound<&Q>,

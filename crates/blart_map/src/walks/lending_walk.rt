@@ -163,6 +163,7 @@ impl<'a, K: AsBytes, V, M: Drop, const PREFIX_LEN: usize> LendingWalk<'a, K, V, 
     /// assert_eq!(map.get(&"car"), Some(&0));
     /// assert_eq!(map.get(&"dog"), Some(&2));
     /// ```
+    #[tactic(auto, using(art_walk::proofs::Lending::from_test))]
     pub fn for_each<F: FnMut(&K, &mut V) + Drop>(self, f: F)
         requires { CallableInTurn (LeavesPair F.FnMut) (TakesAtPair F.FnMut) f
             (pairs_of (lending_left self)) }

@@ -90,8 +90,9 @@ impl<'a, K: OrderedBytes, const P: usize> Sides<'a, K, P> {
         ensures unchanged { IfNone result (self.new ≡ self.old) }
         ensures counted { Counts self.old self.new }
     {
-        self.left.peek()?;
-        self.right.peek()?;
+        let (Some(_), Some(_)) = (self.left.peek(), self.right.peek()) else {
+            return None;
+        };
         self.step()
     }
 

@@ -1,7 +1,6 @@
 use Rattle.std.proofs.Common.{◌∙◌, lit<, Some, sym, ap, subst, refl}
 use Rattle.art_tree.specs.Leaves.{with_value}
 use Rattle.art_tree.specs.Points.{IsGood}
-use Rattle.art_walk.specs.Pairs.{pairs_of}
 use Rattle.blart_map.proofs.Placed.Inserting.{conflict_pairs, exact_has, opens_else, open_alone}
 use Rattle.blart_map.proofs.Placed.Keeping.{value_put}
 use Rattle.blart_map.proofs.Placed.Reserved.{placed_kept}

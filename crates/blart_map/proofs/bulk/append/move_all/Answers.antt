@@ -15,6 +15,9 @@ loop-key-init g c = record {
   room = c.requires.room;
 }
 
+pub loop-key-smaller : goal.loop-key-smaller
+loop-key-smaller g c = let less : length c.loop-key.from.pairs ≡ suc (length c.take_first.new.self.pairs) = ap length c.in-Some.ensures.1 in omega arith
+
 pub loop-key-preserved : goal.loop-key-preserved
 loop-key-preserved g c =
     let kb = g.K.AsBytes.bytes in

@@ -25,3 +25,6 @@ returns-in-Occupied g c =
         again = λ u n h. set_again kb ps o.id w set.set.0 set.set.2 u n h;
       },
     )
+
+pub f-requires : goal.f-requires
+f-requires g c = c.requires c.get_mut.result (rw c.in-Occupied.is c.get_mut.ensures.value)

@@ -1,13 +1,7 @@
-use Rattle.std.proofs.Common.{lit<, refl, ◌∙◌}
+use Rattle.std.proofs.Common.{refl, ◌∙◌}
 use Rattle.blart_map.specs.Content.{pairs}
-use Rattle.blart_map.proofs.Related.InnerPairs.{inner_has, only_tested, only_answered}
+use Rattle.blart_map.proofs.Related.InnerPairs.{only_tested, only_answered}
 use Rattle.blart_map.proofs.inner.InnerOccupiedEntry+K+V+PREFIX_LEN+TreeMap+K+V+PREFIX_LEN.get_key_value_mut.Goals as goal
-
-pub only_entry-requires : goal.only_entry-requires
-only_entry-requires g c =
-    let e = c.args.self in
-    let kb = g.K.AsBytes.bytes in
-    (lit< tt, (lit< tt, inner_has kb e.map.now (kb e.key) e.first e.last c.numbers_law.ensures.content c.numbers_law.ensures.distinct e.stands))
 
 pub returns : goal.returns
 unfolding pairs

@@ -1,4 +1,4 @@
-use Rattle.std.proofs.Common.{lit<, refl, ap, option_map}
+use Rattle.std.proofs.Common.{refl, ap, option_map}
 use Rattle.std.specs.Option.{unwrap_or}
 use Rattle.std.specs.Prelude.{[]}
 use Rattle.blart_keys.proofs.Options.{is_some}
@@ -6,14 +6,7 @@ use Rattle.blart_keys.proofs.StoredLemmas.{overwrites_over}
 use Rattle.art_tree.specs.Leaves.{leaf_in}
 use Rattle.art_walk.specs.Pairs.{pairs_of}
 use Rattle.blart_map.specs.Content.{pairs}
-use Rattle.blart_map.proofs.Related.InnerPairs.{from_spans}
 use Rattle.blart_map.proofs.inner.InnerOccupiedEntry+K+V+PREFIX_LEN+TreeMap+K+V+PREFIX_LEN.over.Goals as goal
-
-pub overwrite-requires : goal.overwrite-requires
-overwrite-requires g c =
-    let e = c.args.self in
-    let kb = g.K.AsBytes.bytes in
-    (lit< tt, from_spans kb e.map.now (kb e.key) e.first e.last e.stands)
 
 pub invariant_of-result : goal.invariant_of-result
 invariant_of-result g c = record { stands = is_some (leaf_in c.overwrite.new.self c.args.self.last) (c.args.self.key, c.args.value) c.overwrite.ensures.now }

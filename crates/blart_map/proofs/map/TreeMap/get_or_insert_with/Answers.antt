@@ -1,59 +1,35 @@
-use Rattle.std.proofs.Common.{lit<, refl, sym, ap, ◌∙◌, ◌≡◌, Some, option_map, subst}
+use Rattle.std.proofs.Common.{refl, sym, ap, ◌∙◌, ◌≡◌, Some, option_map, subst}
 use Rattle.std.proofs.lemmas.Bool.{false≢true}
 use Rattle.art_walk.specs.Pairs.{pairs_of}
 use Rattle.blart_map.specs.Content.{pairs}
-use Rattle.blart_map.proofs.Related.EntryOf.{open_absent, open_free}
-use Rattle.blart_map.proofs.Placed.Inserting.{exact_has, opens}
-use Rattle.blart_map.proofs.Placed.SettingAt.{exact_set_at, exact_or_else, open_has, open_or_else, open_set_at, open_none}
+use Rattle.blart_map.proofs.Placed.SettingAt.{exact_set_at, exact_or_else, new_has, new_or_else, new_set_at}
 use Rattle.blart_map.proofs.map.TreeMap.get_or_insert_with.Goals as goal
 
-pub value_mut-requires : goal.value_mut-requires
-value_mut-requires g c =
-    let kb = g.K.AsBytes.bytes in
-    (lit< tt, exact_has kb c.args.self.now c.lawful_point.ensures.content c.lawful_point.ensures.distinct (kb c.args.key) c.in-Exact.leaf c.in-Exact.ensures.good)
-
-pub returns-in-Exact : goal.returns-in-Exact
+pub returns-in-Some : goal.returns-in-Some
 unfolding pairs
-returns-in-Exact g c =
+returns-in-Some g c =
     let kb = g.K.AsBytes.bytes in
     let ps = c.args.self.now in
-    let content = c.lawful_point.ensures.content in
-    let distinct = c.lawful_point.ensures.distinct in
-    let good = c.in-Exact.ensures.good in (
-      (refl, (λ w o. exact_set_at kb ps (pairs_of ps) refl content distinct c.args.key c.in-Exact.leaf good w), tt),
+    let content = c.lawful_leaf.ensures.content in
+    let distinct = c.lawful_leaf.ensures.distinct in
+    let good = c.in-Some.ensures.good in (
+      (refl, (λ w o. exact_set_at kb ps (pairs_of ps) refl content distinct c.args.key c.in-Some.leaf good w), tt),
       record {
         writes_back = tt;
-        value = exact_or_else kb ps (pairs_of ps) refl content distinct c.args.key c.in-Exact.leaf good c.value_mut.result.now (g.F.FnOnce.post c.args.value tt) c.value_mut.ensures.value;
+        value = exact_or_else kb ps (pairs_of ps) refl content distinct c.args.key c.in-Some.leaf good c.value_mut.result.now (g.F.FnOnce.post c.args.value tt) c.value_mut.ensures.value;
         absent = tt;
       },
     )
 
-pub place_new_with-requires : goal.place_new_with-requires
-unfolding pairs
-place_new_with-requires g c =
-    let kb = g.K.AsBytes.bytes in
-    let ps = c.args.self.now in
-    let q = kb c.args.key in
-    let content = c.lawful_point.ensures.content in
-    let distinct = c.lawful_point.ensures.distinct in
-    let good = c.lawful_point.ensures.good in
-    let able = opens c.lawful_point.result c.in-Empty.is in
-    (lit< tt, (open_absent kb ps content distinct q c.lawful_point.result good able, (open_free kb ps content distinct q c.lawful_point.result good able, c.requires (open_none kb ps (pairs_of ps) refl content distinct c.args.key c.lawful_point.result good able))))
-
 pub returns : goal.returns
 unfolding pairs
 returns g c =
-    let kb = g.K.AsBytes.bytes in
-    let ps = c.args.self.now in
-    let content = c.lawful_point.ensures.content in
-    let distinct = c.lawful_point.ensures.distinct in
-    let good = c.lawful_point.ensures.good in
-    let able = opens c.lawful_point.result c.in-Empty.is in (
+    let ps = c.args.self.now in (
       (refl, (λ w o. absurd (false≢true o)), c.in-Err.ensures.err),
       record {
         writes_back = tt;
         value = tt;
-        absent = open_has kb ps (pairs_of ps) refl content distinct c.args.key c.lawful_point.result good able;
+        absent = new_has g.K.AsBytes.bytes ps (pairs_of ps) refl c.lawful_leaf.ensures.content c.lawful_leaf.ensures.distinct c.args.key c.in-None.ensures.absent;
       },
     )
 
@@ -62,23 +38,23 @@ unfolding pairs
 returns-in-Ok g c =
     let kb = g.K.AsBytes.bytes in
     let ps = c.args.self.now in
-    let content = c.lawful_point.ensures.content in
-    let distinct = c.lawful_point.ensures.distinct in
-    let good = c.lawful_point.ensures.good in
-    let able = opens c.lawful_point.result c.in-Empty.is in
-    let placed = c.in-Ok.ensures.placed.2 in
-    let v0 : g.row.V.Denot = c.in-Ok.ensures.placed.0 in
+    let content = c.lawful_leaf.ensures.content in
+    let distinct = c.lawful_leaf.ensures.distinct in
+    let absent = c.in-None.ensures.absent in
+    let made = c.in-Ok.ensures.placed in
+    let placed = made.2 in
+    let v0 : g.row.V.Denot = made.0 in
     let got = c.value_mut-in-Ok in
     let seen : Some v0 ≡ Some got.result.now = sym (ap (option_map (λ p. p.1)) placed.now) ∙ got.ensures.value in
     let is : got.result.now ≡ v0 = cc in (
       (
         refl,
-        (λ w o. open_set_at kb ps (pairs_of ps) refl content distinct c.args.key c.lawful_point.result good able ps c.place_new_with.new.self v0 c.in-Ok.id refl placed.put placed.distinct placed.now w),
+        (λ w o. new_set_at kb ps (pairs_of ps) refl content distinct c.args.key absent ps c.place_new_with.new.self v0 c.in-Ok.id refl placed.put placed.distinct placed.now w),
         tt,
       ),
       record {
         writes_back = tt;
-        value = open_or_else kb ps (pairs_of ps) refl content distinct c.args.key c.lawful_point.result good able got.result.now (g.F.FnOnce.post c.args.value tt) (subst (g.F.FnOnce.post c.args.value tt) (sym is) c.in-Ok.ensures.placed.1);
+        value = new_or_else kb ps (pairs_of ps) refl content distinct c.args.key absent got.result.now (g.F.FnOnce.post c.args.value tt) (subst (g.F.FnOnce.post c.args.value tt) (sym is) made.1);
         absent = tt;
       },
     )

@@ -1,11 +1,6 @@
-use Rattle.std.proofs.Common.{lit<}
 use Rattle.blart_keys.specs.Bytes.{begins}
 use Rattle.blart_map.proofs.Written.OnceWritten.{opened_written}
-use Rattle.blart_map.proofs.Passed.Opening.{opens}
 use Rattle.blart_map.proofs.map.TreeMap.prefix_mut.Goals as goal
-
-pub of-requires : goal.of-requires
-of-requires g c = (lit< tt, (lit< tt, opens c.prefix-cursor.result c.self.inside.tree.pairs c.args.self.now c.self.view_is c.prefix-cursor.ensures.fits))
 
 pub returns-clause-all : goal.returns-clause-all
 returns-clause-all g c f =

@@ -1,13 +1,9 @@
-use Rattle.std.proofs.Common.{lit<, ap, ◌∙◌, ◌&&◌}
+use Rattle.std.proofs.Common.{ap, ◌∙◌, ◌&&◌}
 use Rattle.blart_keys.specs.Bounds.{bound_bytes, slice_bound, is_from_start, is_up_to_end}
 use Rattle.blart_keys.specs.Content.{between}
 use Rattle.art_tree.specs.Leaves.{bytes}
 use Rattle.blart_map.proofs.Written.OnceWritten.{opened_written}
-use Rattle.blart_map.proofs.Passed.Opening.{opens}
 use Rattle.blart_map.proofs.map.TreeMap.range_mut.Goals as goal
-
-pub of-requires : goal.of-requires
-of-requires g c = (lit< tt, (lit< tt, opens c.range-cursor.result c.self.inside.tree.pairs c.args.self.now c.self.view_is c.range-cursor.ensures.fits))
 
 pub returns-clause-all : goal.returns-clause-all
 returns-clause-all g c f =

@@ -1,4 +1,4 @@
-use Rattle.std.proofs.Common.{refl}
+use Rattle.std.proofs.Common.{refl, sym, ap, Some}
 use Rattle.blart_map.proofs.prefix_entry.PrefixEntry+K+V+PREFIX_LEN+TreeMap+K+V+PREFIX_LEN.or_insert_with_key_entry.Goals as goal
 
 pub returns-in-Occupied-Inner-clause-set : goal.returns-in-Occupied-Inner-clause-set
@@ -10,3 +10,8 @@ returns-in-Occupied-Leaf-clause-set g c = rw (c.in-Occupied-Leaf.is, c.in-Occupi
 
 pub returns-in-Vacant-clause-set : goal.returns-in-Vacant-clause-set
 returns-in-Vacant-clause-set g c = rw c.in-Vacant.is c.insert_entry_with_key.ensures.set
+
+pub default-value-requires : goal.default-value-requires
+default-value-requires g c =
+    let inner = c.in-Occupied-Inner in
+    c.requires (rw (inner.is, inner.field-0-is) refl) c.key.result (rw (inner.is, inner.field-0-is) (ap Some (sym c.key.ensures)))

@@ -1,16 +1,10 @@
-use Rattle.std.proofs.Common.{lit<, ap, ◌∙◌, option_map}
+use Rattle.std.proofs.Common.{ap, ◌∙◌, option_map}
 use Rattle.blart_keys.specs.Stored.{pair_at}
-use Rattle.art_walk.proofs.Lending.{from_test, count_test}
 use Rattle.blart_map.specs.Content.{pairs}
 use Rattle.blart_map.specs.CountedWalk.{counted_left}
 use Rattle.blart_map.specs.EachWritten.{LeavesValue}
 use Rattle.blart_map.proofs.Written.EachWritten.{same_keys, same_length, fits_after, writes_to, writes_all, writes_mapped, writes_stored, value_mapped, acts_on_value}
 use Rattle.blart_map.proofs.walks.counted_walk.CountedWalk+K+V+ValuesAlone+PREFIX_LEN.for_each.Goals as goal
-
-pub write_values-requires : goal.write_values-requires
-write_values-requires g c =
-    let s = c.args.self in
-    (lit< tt, (from_test s.cursor s.lent s.map.now (count_test s.cursor s.lent s.left s.map.now s.fits), c.requires))
 
 pub invariant_of-self : goal.invariant_of-self
 invariant_of-self g c =

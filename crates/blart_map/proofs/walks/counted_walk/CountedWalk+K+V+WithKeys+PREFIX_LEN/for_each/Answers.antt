@@ -1,14 +1,7 @@
-use Rattle.std.proofs.Common.{lit<}
-use Rattle.art_walk.proofs.Lending.{from_test, count_test}
 use Rattle.blart_map.specs.CountedWalk.{counted_left}
 use Rattle.blart_map.specs.EachWritten.{LeavesPair}
 use Rattle.blart_map.proofs.Written.EachWritten.{same_keys, same_length, fits_after, writes_to, writes_all, writes_mapped, writes_stored, acts_on_pair}
 use Rattle.blart_map.proofs.walks.counted_walk.CountedWalk+K+V+WithKeys+PREFIX_LEN.for_each.Goals as goal
-
-pub write_pairs-requires : goal.write_pairs-requires
-write_pairs-requires g c =
-    let s = c.args.self in
-    (lit< tt, (from_test s.cursor s.lent s.map.now (count_test s.cursor s.lent s.left s.map.now s.fits), c.requires))
 
 pub invariant_of-self : goal.invariant_of-self
 invariant_of-self g c =

@@ -1,13 +1,8 @@
-use Rattle.std.proofs.Common.{lit<}
-use Rattle.art_walk.proofs.Lending.{from_test}
 use Rattle.blart_map.specs.EachWritten.{LeavesPair}
 use Rattle.blart_map.specs.LendingWalk.{lending_left}
 use Rattle.blart_map.proofs.Written.EachWritten.{same_keys, same_length, walk_fits_after, writes_all, acts_on_pair}
 use Rattle.blart_map.proofs.Written.WrittenWhere.{writes_where, acts_within}
 use Rattle.blart_map.proofs.walks.lending_walk.LendingWalk.for_each.Goals as goal
-
-pub write_pairs-requires : goal.write_pairs-requires
-write_pairs-requires g c = let s = c.args.self in (lit< tt, (from_test s.cursor s.lent s.map.now s.fits, c.requires))
 
 pub invariant_of-self : goal.invariant_of-self
 invariant_of-self g c =
