@@ -1,5 +1,5 @@
 -- One step of two sets walked side by side.
-use Rattle.std.proofs.Common.{Less, Equal, Greater, ◌≡◌, ℕ, ◌+◌, ◌<◌, ◌≤◌, suc, Bool, true, false, not, inl, inr, List, [], ◌∷◌, ◌⊎◌, length, drop, refl, sym, ap, ◌∙◌, subst, cond, filter, arith, Some, None}
+use Rattle.std.proofs.Common.{Less, Equal, Greater, ◌≡◌, ℕ, ◌+◌, ◌<◌, Bool, true, false, not, inl, inr, List, [], ◌∷◌, ◌⊎◌, length, drop, refl, sym, ap, ◌∙◌, subst, cond, filter, arith, Some, None}
 use Rattle.std.specs.Set.{sorted_merge}
 use Rattle.std.specs.Cmp.Lexicographic.{bytes_decides}
 use denote.Ref.{Bor}
@@ -7,7 +7,7 @@ use Rattle.blart_keys.specs.Bytes.{bytes_cmp}
 use Rattle.blart_keys.specs.Content.{Ascends, stores}
 use Rattle.blart_set.specs.declared.merges.sides.Side.{Side}
 use Rattle.blart_set.specs.declared.merges.sides.Side.TheVariants.{Left, Right, Both}
-use Rattle.blart_set.specs.Merging.{Merge, Counts, Precedes, Steps, union_rest, symmetric_difference_rest, intersection_rest, difference_rest, side_element, one_element, both_element, left_element}
+use Rattle.blart_set.specs.Merging.{Merge, Precedes, Steps, union_rest, symmetric_difference_rest, intersection_rest, difference_rest, side_element, one_element, both_element, left_element}
 use Rattle.blart_set.proofs.Orders.{less_cmp, same_cmp, greater_cmp, from_less, from_same, from_greater, precedes_same, precedes, across, apart, skip_first}
 
 module _ {K : Type 0} (kb : K → List ℕ) where
@@ -34,20 +34,6 @@ module _ {K : Type 0} (kb : K → List ℕ) where
 
       pub steps_greater : bytes_cmp (kb x.now) (kb y.now) ≡ Greater → Steps kb old (Some (Right y)) (record { left = S; right = drop 1 T; compares = n })
       steps_greater c = (f, refl, across kb y.now x.now S e s (from_greater (kb x.now) (kb y.now) c), precedes kb y.now T f t)
-
-  -- where an element was passed, and at most one comparison made
-  module _ (S T : List K) (m n : ℕ) (more : m ≤ n) (few : n ≤ m + 1) where
-    pub counts_left : (x : K) → S ≡ x ∷ drop 1 S → Counts (record { left = S; right = T; compares = m }) (record { left = drop 1 S; right = T; compares = n })
-    counts_left x e = let l : length S ≡ suc (length (drop 1 S)) = ap length e in (more, omega arith)
-
-    pub counts_right : (y : K) → T ≡ y ∷ drop 1 T → Counts (record { left = S; right = T; compares = m }) (record { left = S; right = drop 1 T; compares = n })
-    counts_right y f = let l : length T ≡ suc (length (drop 1 T)) = ap length f in (more, omega arith)
-
-    pub counts_both : (x y : K) → S ≡ x ∷ drop 1 S → T ≡ y ∷ drop 1 T → Counts (record { left = S; right = T; compares = m }) (record { left = drop 1 S; right = drop 1 T; compares = n })
-    counts_both x y e f =
-        let l : length S ≡ suc (length (drop 1 S)) = ap length e in
-        let r : length T ≡ suc (length (drop 1 T)) = ap length f in
-        (more, omega arith)
 
   -- ---- the merged list
 

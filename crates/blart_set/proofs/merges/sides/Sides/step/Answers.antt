@@ -1,6 +1,6 @@
-use Rattle.std.proofs.Common.{arith, sym}
+use Rattle.std.proofs.Common.{sym}
 use Rattle.blart_set.proofs.Orders.{drop_ascends}
-use Rattle.blart_set.proofs.Stepping.{steps_right, steps_left, steps_less, steps_equal, steps_greater, counts_left, counts_right, counts_both}
+use Rattle.blart_set.proofs.Stepping.{steps_right, steps_left, steps_less, steps_equal, steps_greater}
 use Rattle.blart_set.proofs.merges.sides.Sides.step.Goals as goal
 
 pub returns-in_default-clause-steps : goal.returns-in_default-clause-steps
@@ -29,31 +29,3 @@ returns-in-Equal-clause-steps g c = rw (← c.self.view_is) (rw c.advance-in-Equ
 
 pub returns-in-Greater-clause-steps : goal.returns-in-Greater-clause-steps
 returns-in-Greater-clause-steps g c = rw (← c.self.view_is) (rw c.advance-in-Greater.ensures (steps_greater g.K.AsBytes.bytes c.self.inside.left c.self.inside.right c.self.invariant.0 c.self.invariant.1 0 0 c.in-Some.x c.in-Some-peek.y c.in-Some.ensures c.in-Some-peek.ensures (sym c.in-Greater.ensures.order)))
-
-pub returns-in_default-clause-counted : goal.returns-in_default-clause-counted
-returns-in_default-clause-counted g c =
-    let m = c.self.inside.compares in
-    rw (← c.self.view_is) (rw c.advance.ensures (counts_right g.K.AsBytes.bytes c.self.inside.left c.self.inside.right m m (omega arith) (omega arith) c.in_ok-y.y.now c.in_ok-y.ensures))
-
-pub returns-in_default-peek-clause-counted : goal.returns-in_default-peek-clause-counted
-returns-in_default-peek-clause-counted g c =
-    let m = c.self.inside.compares in
-    rw (← c.self.view_is) (rw c.advance-in_default-peek.ensures (counts_left g.K.AsBytes.bytes c.self.inside.left c.self.inside.right m m (omega arith) (omega arith) c.in-Some.x.now c.in-Some.ensures))
-
-pub returns-in-Less-clause-counted : goal.returns-in-Less-clause-counted
-returns-in-Less-clause-counted g c =
-    let m = c.self.inside.compares in
-    let n = c.in-Less.ensures.counted in
-    rw (← c.self.view_is) (rw c.advance-in-Less.ensures (counts_left g.K.AsBytes.bytes c.self.inside.left c.self.inside.right m c.compare.new.compares (omega arith) (omega arith) c.in-Some.x.now c.in-Some.ensures))
-
-pub returns-in-Equal-clause-counted : goal.returns-in-Equal-clause-counted
-returns-in-Equal-clause-counted g c =
-    let m = c.self.inside.compares in
-    let n = c.in-Equal.ensures.counted in
-    rw (← c.self.view_is) (rw (c.advance-in-Equal.ensures, c.advance-in-Equal-2.ensures) (counts_both g.K.AsBytes.bytes c.self.inside.left c.self.inside.right m c.compare.new.compares (omega arith) (omega arith) c.in-Some.x.now c.in-Some-peek.y.now c.in-Some.ensures c.in-Some-peek.ensures))
-
-pub returns-in-Greater-clause-counted : goal.returns-in-Greater-clause-counted
-returns-in-Greater-clause-counted g c =
-    let m = c.self.inside.compares in
-    let n = c.in-Greater.ensures.counted in
-    rw (← c.self.view_is) (rw c.advance-in-Greater.ensures (counts_right g.K.AsBytes.bytes c.self.inside.left c.self.inside.right m c.compare.new.compares (omega arith) (omega arith) c.in-Some-peek.y.now c.in-Some-peek.ensures))
