@@ -2,6 +2,7 @@
 use crate::contest::{Results, Timed};
 use crate::failure::Failure;
 use crate::workload::Workload;
+use std::io;
 
 /// Writes the keys of a kind on standard output, each in a line of hexadecimal digits: those that are stored, those that are looked up and found, and those that are missing.
 pub(crate) fn write_keys(
@@ -23,7 +24,7 @@ fn write_lines(rt: &(impl Print + AllocGlobal), keys: &[Vec<u8>]) -> Result<(), 
 }
 
 /// Writes on standard output what the calls gave, which is the same on each run.
-pub(crate) fn write_sums(rt: &impl Print, results: &Results) -> Result<(), Failure> {
+pub(crate) fn write_sums(rt: &impl Print, results: &Results) -> io::Result<()> {
     println!(rt; "{} {}", results.kind.name(), results.keys)?;
     for row in &results.ours {
         println!(rt; "{} {} {}", row.call, row.count, row.sum)?;
@@ -32,7 +33,7 @@ pub(crate) fn write_sums(rt: &impl Print, results: &Results) -> Result<(), Failu
 }
 
 /// Writes on standard error the nanoseconds a key or pair, and the ratio: below 1 the map is faster.
-pub(crate) fn write_times(rt: &impl Eprint, results: &Results) -> Result<(), Failure> {
+pub(crate) fn write_times(rt: &impl Eprint, results: &Results) -> io::Result<()> {
     eprintln!(rt;
         "{}, {} keys: nanoseconds, and the ratio to BTreeMap",
         results.kind.name(),

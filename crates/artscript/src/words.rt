@@ -22,6 +22,7 @@ pub use entry_calls::{EntryCall, EntryLine, OccupiedCall, PlaceCall, VacantCall,
 pub use line_calls::LineCall;
 pub use lists::{elements_of, pairs_of};
 pub use map_names::MapName;
+pub use named::named;
 pub use picks::{BytesPick, ValuePick};
 pub use prefix_calls::{PrefixCall, RelatedCall, SetCall, WalkCall};
 pub use set_names::SetName;

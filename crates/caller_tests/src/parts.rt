@@ -14,7 +14,11 @@ pub fn part_and_join<V: Drop>(map: &mut Map<U32Key, V>, key: U32Key) -> Result<(
 {
     map.law();
     let mut rest = map.split_off(&key)?;
-    map.append(&mut rest)?;
+    if let Err(refused) = map.append(&mut rest) {
+        drop(rest);
+        return Err(refused);
+    }
+    drop(rest);
     Ok(())
 }
 

@@ -36,6 +36,23 @@ fn mount(
     Ok(())
 }
 
+// Mounts a handler for each first letter. A refusal leaves those that were mounted before it.
+fn mount_all(site: &mut Mounts<Handler>, alloc: Global) -> Result<(), TryInsertError>
+    ensures { IfOk result (λ _. (r : List ℕ) → value_at_front vec_bytes (pairs site.new) r
+        ≡ (if begins (47 ∷ 117 ∷ []) r then Some Handler.Users
+        else if begins (47 ∷ 105 ∷ []) r then Some Handler.Items
+        else if begins (47 ∷ 112 ∷ []) r then Some Handler.Images
+        else if begins (47 ∷ 115 ∷ []) r then Some Handler.Styles
+        else if begins (47 ∷ 104 ∷ []) r then Some Handler.Health
+        else value_at_front vec_bytes (pairs site.old) r)) }
+{
+    mount(site, alloc, b"/h", Handler::Health)?;
+    mount(site, alloc, b"/s", Handler::Styles)?;
+    mount(site, alloc, b"/p", Handler::Images)?;
+    mount(site, alloc, b"/i", Handler::Items)?;
+    mount(site, alloc, b"/u", Handler::Users)
+}
+
 /// The site: each path goes to the handler of its first letter, if there is one.
 pub fn site(alloc: Global) -> Result<Mounts<Handler>, TryInsertError>
     ensures { IfOk result (λ site. (r : List ℕ) → value_at_front vec_bytes (pairs site) r
@@ -47,11 +64,7 @@ pub fn site(alloc: Global) -> Result<Mounts<Handler>, TryInsertError>
         else None)) }
 {
     let mut site = Mounts::new(alloc);
-    mount(&mut site, alloc, b"/h", Handler::Health)?;
-    mount(&mut site, alloc, b"/s", Handler::Styles)?;
-    mount(&mut site, alloc, b"/p", Handler::Images)?;
-    mount(&mut site, alloc, b"/i", Handler::Items)?;
-    mount(&mut site, alloc, b"/u", Handler::Users)?;
+    mount_all(&mut site, alloc)?;
     Ok(site)
 }
 
@@ -60,8 +73,10 @@ pub fn asked(alloc: Global) -> Result<Option<Handler>, TryInsertError>
     ensures { IfOk result (λ handler. handler ≡ Some Handler.Users) }
 {
     let site = site(alloc)?;
-    match site.resolve(b"/users/7") {
-        Some((_, handler)) => Ok(Some(*handler)),
-        None => Ok(None),
-    }
+    let handler = match site.resolve(b"/users/7") {
+        Some((_, handler)) => Some(*handler),
+        None => None,
+    };
+    drop(site);
+    Ok(handler)
 }

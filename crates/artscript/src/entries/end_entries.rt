@@ -38,9 +38,8 @@ pub fn enter_end<K: ScriptKey, const P: usize>(
         Some(mut entry) => {
             text.push(b"Some(")?;
             show_end!(entry, call, text)?;
-            text.push(b")")?;
         }
-        None => text.push(b"None")?,
+        None => return text.push(b"None"),
     }
-    Ok(())
+    text.push(b")")
 }

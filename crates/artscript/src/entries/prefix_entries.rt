@@ -136,11 +136,12 @@ fn show_kind_value<const P: usize>(
 ) -> Answered {
     let entry = map.prefix_entry(key);
     let kind = kind_of(&entry);
+    let entry = entry.kind();
     let lent = match call {
-        ValueCall::OrInsert(value) => entry.kind().or_insert(value),
-        ValueCall::OrDefault => entry.kind().or_default(),
-        ValueCall::OrInsertWith(value) => entry.kind().or_insert_with(|| value),
-        ValueCall::OrInsertWithKey => entry.kind().or_insert_with_key(length_of),
+        ValueCall::OrInsert(value) => entry.or_insert(value),
+        ValueCall::OrDefault => entry.or_default(),
+        ValueCall::OrInsertWith(value) => entry.or_insert_with(|| value),
+        ValueCall::OrInsertWithKey => entry.or_insert_with_key(length_of),
     };
     show_after(kind, &value_of(lent), text)
 }

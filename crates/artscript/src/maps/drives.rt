@@ -1,7 +1,7 @@
 //! The call that makes calls in turn.
 use crate::maps::calls::Maps;
 use crate::words::turns_of;
-use blart_map::drive;
+use blart_map::{Reply, drive};
 use script_words::{Answered, ScriptKey, Shown, Text, Words, show_list};
 use std::alloc::AllocError;
 
@@ -11,12 +11,17 @@ impl<K: ScriptKey, const PREFIX_LEN: usize> Maps<K, PREFIX_LEN> {
         let calls = turns_of(self.alloc, words)?;
         match drive(&mut self.first, calls) {
             Ok(replies) => {
-                text.push(b"Ok(")?;
-                show_list(&replies, text)?;
-                text.push(b")")?;
+                let answered = show_replies(&replies, text);
+                drop(replies);
+                answered
             }
-            Err(error) => Err::<(), AllocError>(error).show(text)?,
+            Err(error) => Err::<(), AllocError>(error).show(text),
         }
-        Ok(())
     }
+}
+
+fn show_replies<K: ScriptKey>(replies: &[Reply<K, u64>], text: &mut Text) -> Answered {
+    text.push(b"Ok(")?;
+    show_list(replies, text)?;
+    text.push(b")")
 }

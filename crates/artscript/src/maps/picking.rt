@@ -58,13 +58,13 @@ impl<K: ScriptKey, const PREFIX_LEN: usize> Maps<K, PREFIX_LEN> {
         requires { CanRange (pairs self.old.first) (bound_bytes vec_bytes start)
             (bound_bytes vec_bytes end) }
     {
+        text.push(b"[")?;
         let left = self.first.len();
         let mut asked: u64 = 0;
         let mut walk = self.first.extract_if(start, end, |_, value| {
             asked = asked.wrapping_add(1);
             pick.picks(value)
         });
-        text.push(b"[")?;
         let mut part: &[u8] = b"";
         for _ in iter::repeat_n((), left) {
             if !show_pair(walk.next(), part, text)? {
@@ -72,6 +72,7 @@ impl<K: ScriptKey, const PREFIX_LEN: usize> Maps<K, PREFIX_LEN> {
             }
             part = b", ";
         }
+        drop(walk);
         text.push(b"]")?;
         Ok(asked)
     }
@@ -96,13 +97,15 @@ impl<K: ScriptKey, const PREFIX_LEN: usize> Maps<K, PREFIX_LEN> {
         let mut part: &[u8] = b"";
         for letter in letters {
             text.push(part)?;
-            if *letter == b'f' {
-                walk.next().show(text)?;
+            let pair = if *letter == b'f' {
+                walk.next()
             } else {
-                walk.next_back().show(text)?;
-            }
+                walk.next_back()
+            };
+            pair.show(text)?;
             part = b" ";
         }
+        drop(walk);
         Ok(asked)
     }
 

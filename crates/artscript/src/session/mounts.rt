@@ -1,10 +1,33 @@
 //! The table of mounts of a part of a script, and the calls of it.
-use crate::words::{Left, show_walk};
+use crate::words::{Left, named, show_walk};
 use blart_map::Visits;
 use prefix_router::Mounts;
 use script_words::{Answered, Shown, Text, Unanswered, Words};
 use std::alloc::{AllocError, Global};
 use std::iter::Iterator;
+
+// A call of the table.
+#[derive(Clone, Copy)]
+enum MountName {
+    Len,
+    Mount,
+    MountOver,
+    Unmount,
+    Resolve,
+    ResolveCounted,
+    Under,
+}
+
+// The word that names each call.
+const NAMES: [(&str, MountName); 7] = [
+    ("len", MountName::Len),
+    ("mount", MountName::Mount),
+    ("mount_over", MountName::MountOver),
+    ("unmount", MountName::Unmount),
+    ("resolve", MountName::Resolve),
+    ("resolve_counted", MountName::ResolveCounted),
+    ("under", MountName::Under),
+];
 
 /// A table of mounts.
 #[derive(Drop)]
@@ -31,13 +54,14 @@ impl Table {
 
     /// Makes the call that the words are, and adds its answer.
     pub(crate) fn call(&mut self, mut words: Words<'_>, text: &mut Text) -> Answered {
-        let word = words.word()?;
-        match word {
-            b"len" => self.tell(words, text),
-            b"mount" | b"mount_over" => self.place(word, words, text),
-            b"unmount" | b"resolve" | b"resolve_counted" => self.find(word, words, text),
-            b"under" => self.walk(words, text),
-            _ => Err(Unanswered::NoCall),
+        let Some(name) = named(&NAMES, words.word()?) else {
+            return Err(Unanswered::NoCall);
+        };
+        match name {
+            MountName::Len => self.tell(words, text),
+            MountName::Mount | MountName::MountOver => self.place(name, words, text),
+            MountName::Under => self.walk(words, text),
+            _ => self.find(name, words, text),
         }
     }
 
@@ -47,26 +71,26 @@ impl Table {
     }
 
     // The calls that place a mount.
-    fn place(&mut self, word: &[u8], mut words: Words<'_>, text: &mut Text) -> Answered {
+    fn place(&mut self, name: MountName, mut words: Words<'_>, text: &mut Text) -> Answered {
         let (path, target) = words.last_pair()?;
-        match word {
-            b"mount" => self.mounts.mount(path, target).show(text),
+        match name {
+            MountName::Mount => self.mounts.mount(path, target).show(text),
             _ => self.mounts.mount_over(path, target).show(text),
         }
     }
 
     // The calls that look for a path.
-    fn find(&mut self, word: &[u8], mut words: Words<'_>, text: &mut Text) -> Answered {
+    fn find(&mut self, name: MountName, mut words: Words<'_>, text: &mut Text) -> Answered {
         let path = words.last_bytes()?;
-        let answered = self.find_at(word, &path, text);
+        let answered = self.find_at(name, &path, text);
         drop(path);
         answered
     }
 
-    fn find_at(&mut self, word: &[u8], path: &Vec<u8>, text: &mut Text) -> Answered {
-        match word {
-            b"unmount" => self.mounts.unmount(path).show(text),
-            b"resolve" => self.mounts.resolve(path).show(text),
+    fn find_at(&mut self, name: MountName, path: &Vec<u8>, text: &mut Text) -> Answered {
+        match name {
+            MountName::Unmount => self.mounts.unmount(path).show(text),
+            MountName::Resolve => self.mounts.resolve(path).show(text),
             _ => self
                 .mounts
                 .resolve_counted(path, &mut Visits::new())

@@ -6,7 +6,7 @@ use crate::maps::Maps;
 use crate::session::counted::CountedMap;
 use crate::session::mounts::Table;
 use crate::sets::Sets;
-use crate::words::{LineCall, MapName, Tagged};
+use crate::words::{LineCall, MapName, Tagged, named};
 use blart_keys::{I32Key, U64Key, ZKey};
 use script_words::{Answered, FixedKey, ScriptKey, Text, Unanswered, Words};
 use std::alloc::{AllocError, Global};
@@ -93,6 +93,33 @@ impl<const PREFIX_LEN: usize> Part<ZKey, PREFIX_LEN> {
 // How many bytes of their prefix the inner nodes of the parts keep that do not try each length.
 const KEPT: usize = 2;
 
+// The name of a part.
+#[derive(Clone, Copy)]
+enum PartName {
+    Bytes,
+    Byte,
+    Three,
+    I32,
+    U64,
+    Zero,
+    Tagged,
+    Counted,
+    Mounts,
+}
+
+// The line that begins each part.
+const NAMES: [(&str, PartName); 9] = [
+    ("keys bytes", PartName::Bytes),
+    ("keys u8", PartName::Byte),
+    ("keys three", PartName::Three),
+    ("keys i32", PartName::I32),
+    ("keys u64", PartName::U64),
+    ("keys zkey", PartName::Zero),
+    ("keys tagged", PartName::Tagged),
+    ("keys counted", PartName::Counted),
+    ("mounts", PartName::Mounts),
+];
+
 /// The part of a script that calls are of, by the type of its keys.
 #[derive(Drop)]
 pub(crate) enum Keyed<'a, const PREFIX_LEN: usize> {
@@ -110,18 +137,17 @@ pub(crate) enum Keyed<'a, const PREFIX_LEN: usize> {
 impl<'a, const PREFIX_LEN: usize> Keyed<'a, PREFIX_LEN> {
     /// The part that the line begins, if it begins one. Values that are dropped are counted in the cell.
     pub(crate) fn begun(alloc: Global, drops: &'a Cell<u64>, line: &[u8]) -> Option<Self> {
-        match line {
-            b"keys bytes" => Some(Keyed::Bytes(Part::new(alloc))),
-            b"keys u8" => Some(Keyed::Byte(Part::new(alloc))),
-            b"keys three" => Some(Keyed::Three(Part::new(alloc))),
-            b"keys i32" => Some(Keyed::I32(Part::new(alloc))),
-            b"keys u64" => Some(Keyed::U64(Part::new(alloc))),
-            b"keys zkey" => Some(Keyed::Zero(Part::new(alloc))),
-            b"keys tagged" => Some(Keyed::Tagged(Part::new(alloc))),
-            b"keys counted" => Some(Keyed::Counted(CountedMap::new(alloc, drops))),
-            b"mounts" => Some(Keyed::Mounts(Table::new(alloc))),
-            _ => None,
-        }
+        Some(match named(&NAMES, line)? {
+            PartName::Bytes => Keyed::Bytes(Part::new(alloc)),
+            PartName::Byte => Keyed::Byte(Part::new(alloc)),
+            PartName::Three => Keyed::Three(Part::new(alloc)),
+            PartName::I32 => Keyed::I32(Part::new(alloc)),
+            PartName::U64 => Keyed::U64(Part::new(alloc)),
+            PartName::Zero => Keyed::Zero(Part::new(alloc)),
+            PartName::Tagged => Keyed::Tagged(Part::new(alloc)),
+            PartName::Counted => Keyed::Counted(CountedMap::new(alloc, drops)),
+            PartName::Mounts => Keyed::Mounts(Table::new(alloc)),
+        })
     }
 
     /// Adds all that stands.

@@ -57,13 +57,13 @@ impl<K: ScriptKey, const PREFIX_LEN: usize> Sets<K, PREFIX_LEN> {
         requires { CanRange (elements self.old.first) (bound_bytes vec_bytes start)
             (bound_bytes vec_bytes end) }
     {
+        text.push(b"[")?;
         let left = self.first.len();
         let mut asked: u64 = 0;
         let mut walk = self.first.extract_if(start, end, |element| {
             asked = asked.wrapping_add(1);
             pick.picks(element.as_bytes())
         });
-        text.push(b"[")?;
         let mut part: &[u8] = b"";
         for _ in iter::repeat_n((), left) {
             if !show_element(walk.next(), part, text)? {
@@ -71,6 +71,7 @@ impl<K: ScriptKey, const PREFIX_LEN: usize> Sets<K, PREFIX_LEN> {
             }
             part = b", ";
         }
+        drop(walk);
         text.push(b"]")?;
         Ok(asked)
     }
@@ -95,13 +96,15 @@ impl<K: ScriptKey, const PREFIX_LEN: usize> Sets<K, PREFIX_LEN> {
         let mut part: &[u8] = b"";
         for letter in letters {
             text.push(part)?;
-            if *letter == b'f' {
-                walk.next().show(text)?;
+            let element = if *letter == b'f' {
+                walk.next()
             } else {
-                walk.next_back().show(text)?;
-            }
+                walk.next_back()
+            };
+            element.show(text)?;
             part = b" ";
         }
+        drop(walk);
         Ok(asked)
     }
 }

@@ -64,10 +64,13 @@ enum PrefixName {
     InnerInsert,
     InnerInsertEntry,
     OnlyMut,
+    Iter,
+    IterMut,
+    Kind,
 }
 
-// The word that names each call.
-const NAMES: [(&str, PrefixName); 14] = [
+// The word that names each call, or begins one.
+const NAMES: [(&str, PrefixName); 17] = [
     ("get_key", PrefixName::GetKey),
     ("occupied_key", PrefixName::OccupiedKey),
     ("get", PrefixName::Get),
@@ -82,19 +85,24 @@ const NAMES: [(&str, PrefixName); 14] = [
     ("inner_insert", PrefixName::InnerInsert),
     ("inner_insert_entry", PrefixName::InnerInsertEntry),
     ("get_key_value_mut", PrefixName::OnlyMut),
+    ("iter", PrefixName::Iter),
+    ("iter_mut", PrefixName::IterMut),
+    ("kind", PrefixName::Kind),
 ];
 
 impl<'a> PrefixCall<'a> {
     /// What the words that are left say.
     pub fn read(mut words: Words<'a>) -> Result<PrefixCall<'a>, Unanswered> {
-        match words.word()? {
-            b"iter" => walk_of(None, words),
-            b"iter_mut" => {
+        let word = words.word()?;
+        match named(&NAMES, word) {
+            Some(PrefixName::Iter) => walk_of(None, words),
+            Some(PrefixName::IterMut) => {
                 let add = words.number()?;
                 walk_of(Some(add), words)
             }
-            b"kind" => kind_call(words),
-            name => call_of(name, words),
+            Some(PrefixName::Kind) => kind_call(words),
+            Some(name) => call_of(name, words.last_number()?),
+            None => shared_call(named_call(word, words.last_number()?)?),
         }
     }
 }
@@ -115,12 +123,8 @@ fn kind_call<'a>(mut words: Words<'_>) -> Result<PrefixCall<'a>, Unanswered> {
     }
 }
 
-// The call of this name, which the last words are the arguments of.
-fn call_of<'a>(word: &[u8], words: Words<'_>) -> Result<PrefixCall<'a>, Unanswered> {
-    let number = words.last_number()?;
-    let Some(name) = named(&NAMES, word) else {
-        return shared_call(named_call(word, number)?);
-    };
+// The call of this name with this number, or without one.
+fn call_of<'a>(name: PrefixName, number: Option<u64>) -> Result<PrefixCall<'a>, Unanswered> {
     let found = match number {
         Some(number) => call_with(name, number),
         None => bare_call(name),

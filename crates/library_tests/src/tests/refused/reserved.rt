@@ -3,8 +3,10 @@ use super::{KEYS, say_refused};
 use blart_map::TreeMap;
 use std::process::Abort;
 
+type Map<const P: usize> = TreeMap<[u8; 2], usize, P>;
+
 // Puts five pairs beside the one that is there, where there is room for them.
-fn fill<const P: usize>(rt: &(impl Abort + Print), map: &mut TreeMap<[u8; 2], usize, P>) -> usize {
+fn fill<const P: usize>(rt: &(impl Abort + Print), map: &mut Map<P>) -> usize {
     let Ok(mut room) = map.reserve(5) else {
         say_refused(rt);
         return 0;
@@ -16,15 +18,20 @@ fn fill<const P: usize>(rt: &(impl Abort + Print), map: &mut TreeMap<[u8; 2], us
     5
 }
 
-fn fills<const P: usize>(rt: &(impl Abort + AllocGlobal + Print)) {
-    let mut map = TreeMap::<[u8; 2], usize, P>::with_prefix_len(rt.alloc());
+// Fills a map that has a pair, which stays.
+fn fill_beside<const P: usize>(rt: &(impl Abort + Print), map: &mut Map<P>) {
     if map.insert([4, 4], 7).is_err() {
         say_refused(rt);
         return;
     }
-    let count = fill(rt, &mut map);
+    let count = fill(rt, map);
     assert!(rt; map.len() == count.wrapping_add(1));
     assert!(rt; map.get(&[4u8, 4]) == Some(&7));
+}
+
+fn fills<const P: usize>(rt: &(impl Abort + AllocGlobal + Print)) {
+    let mut map = TreeMap::with_prefix_len(rt.alloc());
+    fill_beside::<P>(rt, &mut map);
     drop(map);
 }
 
