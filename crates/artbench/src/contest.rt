@@ -152,6 +152,7 @@ fn time_pairs<M: Contestant, R: Clock + AllocGlobal>(
     sheet: &mut Sheet,
 ) -> Result<(), Failure> {
     time_stored::<M, R>(rt, workload, sheet)?;
+    time_reserved::<M, R>(rt, workload, sheet)?;
     time_rest::<M, R>(rt, workload, sheet)
 }
 
@@ -185,6 +186,20 @@ fn time_stored<M: Contestant, R: Clock + AllocGlobal>(
     let start = Instant::now(rt)?;
     let sum = map.remove(&workload.hits);
     sheet.add(rt, "remove", start, count, sum)
+}
+
+// Times insertions into room that is made at once.
+fn time_reserved<M: Contestant, R: Clock + AllocGlobal>(
+    rt: &R,
+    workload: &Workload<M::Key>,
+    sheet: &mut Sheet,
+) -> Result<(), Failure> {
+    let keys = workload.keys.clone()?;
+    let mut map = M::empty(rt.alloc());
+    let count = keys.len();
+    let start = Instant::now(rt)?;
+    let sum = map.store_reserved(keys)?;
+    sheet.add(rt, "insert, reserved", start, count, sum)
 }
 
 // Times look-ups.

@@ -2,6 +2,7 @@
 use crate::failure::Failure;
 use crate::keys::{Key, first_byte};
 use crate::workload::Front;
+use blart::map::{DEFAULT_PREFIX_LEN, Reserved, Room};
 use blart::{AsBytes, Map, TryInsertError};
 use std::alloc::Global;
 use std::collections::BTreeMap;
@@ -9,6 +10,9 @@ use std::ops::Bound;
 
 /// The map under test.
 pub(crate) type Ours<K> = Map<K, u64>;
+
+// The map under test while it has room.
+type OurRoom<'a, K> = Reserved<'a, Ours<K>, Room<K, u64, { DEFAULT_PREFIX_LEN }>>;
 
 /// The library's map.
 pub(crate) type Theirs<K> = BTreeMap<K, u64>;
@@ -23,6 +27,9 @@ pub(crate) trait Contestant: Sized + Drop {
 
     /// Stores each key with its place.
     fn store(&mut self, keys: Vec<Self::Key>) -> Result<u64, Failure>;
+
+    /// The same, once there is room for all, where the map can make it.
+    fn store_reserved(&mut self, keys: Vec<Self::Key>) -> Result<u64, Failure>;
 
     /// Looks each key up.
     fn look_up(&self, keys: &[Self::Key]) -> u64;
@@ -52,6 +59,21 @@ pub(crate) trait Contestant: Sized + Drop {
     fn take_apart(self) -> u64;
 }
 
+// Stores each key with its place, where there is room.
+fn fill<K: Key>(room: &mut OurRoom<'_, K>, keys: Vec<K>) -> Result<(), Failure> {
+    let mut place = 0u64;
+    for key in keys {
+        if room.left() == 0 {
+            return Err(Failure::Memory);
+        }
+        if room.try_insert(key, place).is_err() {
+            return Err(Failure::Related);
+        }
+        place = place.wrapping_add(1);
+    }
+    Ok(())
+}
+
 impl<K: Key> Contestant for Ours<K> {
     type Key = K;
 
@@ -68,6 +90,16 @@ impl<K: Key> Contestant for Ours<K> {
                 Err(TryInsertError::Prefix(_)) => return Err(Failure::Related),
             }
         }
+        Ok(self.len() as u64)
+    }
+
+    fn store_reserved(&mut self, keys: Vec<K>) -> Result<u64, Failure> {
+        let Ok(mut room) = self.reserve(keys.len()) else {
+            return Err(Failure::Memory);
+        };
+        let stored = fill(&mut room, keys);
+        drop(room);
+        stored?;
         Ok(self.len() as u64)
     }
 
@@ -179,6 +211,10 @@ impl<K: Key> Contestant for Theirs<K> {
             place = place.wrapping_add(1);
         }
         Ok(self.len() as u64)
+    }
+
+    fn store_reserved(&mut self, keys: Vec<K>) -> Result<u64, Failure> {
+        self.store(keys)
     }
 
     fn look_up(&self, keys: &[K]) -> u64 {
