@@ -1,7 +1,8 @@
 //! The ratios as a chart.
 use crate::contest::Results;
+use crate::failure::Failure;
 use crate::tables::hundredths;
-use std::alloc::{AllocError, Global};
+use std::alloc::Global;
 use std::fmt::Write;
 
 // The heights and widths of the drawing's parts, in pixels.
@@ -14,14 +15,8 @@ const UNIT: u64 = 160;
 const WIDTH: u64 = 760;
 
 /// A drawing of the ratios: a bar for each call, and a line at 1, where both maps are as fast.
-pub(crate) fn chart(alloc: Global, all: &[Results]) -> Result<String, AllocError> {
+pub(crate) fn chart(alloc: Global, all: &[Results]) -> Result<String, Failure> {
     let mut text = String::new(alloc);
-    draw_all(&mut text, all)?;
-    Ok(text)
-}
-
-// Draws the bars of all kinds of keys, and the line.
-fn draw_all(text: &mut String, all: &[Results]) -> Result<(), AllocError> {
     let mut lines = 0u64;
     for results in all {
         lines = lines
@@ -35,17 +30,18 @@ fn draw_all(text: &mut String, all: &[Results]) -> Result<(), AllocError> {
     )?;
     let mut top = LINE;
     for results in all {
-        top = draw(text, results, top)?;
+        top = draw(&mut text, results, top)?;
     }
     let one = LEFT + UNIT;
     write!(
         text,
         "<line x1=\"{one}\" y1=\"0\" x2=\"{one}\" y2=\"{height}\" stroke=\"black\"/>\n</svg>\n"
-    )
+    )?;
+    Ok(text)
 }
 
 // Draws the bars of one kind of keys from a height on, and gives the height below them.
-fn draw(text: &mut String, results: &Results, top: u64) -> Result<u64, AllocError> {
+fn draw(text: &mut String, results: &Results, top: u64) -> Result<u64, Failure> {
     let mut top = top;
     write!(
         text,
@@ -55,30 +51,26 @@ fn draw(text: &mut String, results: &Results, top: u64) -> Result<u64, AllocErro
     )?;
     for (our, their) in results.ours.iter().zip(&results.theirs) {
         top = top.saturating_add(LINE);
-        draw_bar(text, our.call, hundredths(our, their), top)?;
+        let hundredths = hundredths(our, their);
+        let width = (hundredths.min(350) * UNIT) / 100;
+        let colour = if hundredths <= 100 {
+            "seagreen"
+        } else {
+            "indianred"
+        };
+        let bar = top.saturating_sub(10);
+        write!(text, "<text x=\"20\" y=\"{top}\">{}</text>", our.call)?;
+        write!(
+            text,
+            "<rect x=\"{LEFT}\" y=\"{bar}\" width=\"{width}\" height=\"10\" fill=\"{colour}\"/>"
+        )?;
+        let number = LEFT + width + 6;
+        write!(
+            text,
+            "<text x=\"{number}\" y=\"{top}\">{}.{:02}</text>\n",
+            hundredths / 100,
+            hundredths % 100
+        )?;
     }
     Ok(top.saturating_add(2 * LINE))
-}
-
-// Draws the bar of a call, with its ratio.
-fn draw_bar(text: &mut String, call: &str, hundredths: u64, top: u64) -> Result<(), AllocError> {
-    let width = (hundredths.min(350) * UNIT) / 100;
-    let colour = if hundredths <= 100 {
-        "seagreen"
-    } else {
-        "indianred"
-    };
-    let bar = top.saturating_sub(10);
-    write!(text, "<text x=\"20\" y=\"{top}\">{call}</text>")?;
-    write!(
-        text,
-        "<rect x=\"{LEFT}\" y=\"{bar}\" width=\"{width}\" height=\"10\" fill=\"{colour}\"/>"
-    )?;
-    let number = LEFT + width + 6;
-    write!(
-        text,
-        "<text x=\"{number}\" y=\"{top}\">{}.{:02}</text>\n",
-        hundredths / 100,
-        hundredths % 100
-    )
 }

@@ -48,44 +48,23 @@ pub(crate) fn contest<K: Key, F: Made + NoPrefixesBytes, R: Clock + AllocGlobal>
     workload: &Workload<K>,
     groups: &[Group],
 ) -> Result<Results, Failure> {
-    let ours = our_run::<K, F, R>(rt, workload, groups)?;
-    let theirs = their_run::<K, F, R>(rt, workload, groups)?;
-    let mut results = Results {
-        kind: workload.kind,
-        keys: workload.keys.len(),
-        ours,
-        theirs,
-    };
-    if let Err(failure) = contest_again::<K, F, R>(rt, workload, groups, &mut results) {
-        drop(results);
-        return Err(failure);
-    }
-    Ok(results)
-}
-
-// Times both maps in the rounds that are left. Their sums must be the same.
-fn contest_again<K: Key, F: Made + NoPrefixesBytes, R: Clock + AllocGlobal>(
-    rt: &R,
-    workload: &Workload<K>,
-    groups: &[Group],
-    results: &mut Results,
-) -> Result<(), Failure> {
+    let mut ours = our_run::<K, F, R>(rt, workload, groups)?;
+    let mut theirs = their_run::<K, F, R>(rt, workload, groups)?;
     for _ in 1..ROUNDS {
-        keep_least(
-            &mut results.ours,
-            &our_run::<K, F, R>(rt, workload, groups)?,
-        );
-        keep_least(
-            &mut results.theirs,
-            &their_run::<K, F, R>(rt, workload, groups)?,
-        );
+        keep_least(&mut ours, &our_run::<K, F, R>(rt, workload, groups)?);
+        keep_least(&mut theirs, &their_run::<K, F, R>(rt, workload, groups)?);
     }
-    for (our, their) in results.ours.iter().zip(&results.theirs) {
+    for (our, their) in ours.iter().zip(&theirs) {
         if our.sum != their.sum {
             return Err(Failure::Differs);
         }
     }
-    Ok(())
+    Ok(Results {
+        kind: workload.kind,
+        keys: workload.keys.len(),
+        ours,
+        theirs,
+    })
 }
 
 // Keeps the lesser time of each call.
@@ -156,11 +135,8 @@ fn time_pairs<M: Contestant, R: Clock + AllocGlobal>(
     time_rest::<M, R>(rt, workload, sheet)
 }
 
-/// A map of the keys.
-pub(crate) fn filled<M: Contestant>(
-    rt: &impl AllocGlobal,
-    workload: &Workload<M::Key>,
-) -> Result<M, Failure> {
+// A map of the keys.
+fn filled<M: Contestant>(rt: &impl AllocGlobal, workload: &Workload<M::Key>) -> Result<M, Failure> {
     let mut map = M::empty(rt.alloc());
     map.store(workload.keys.clone()?)?;
     Ok(map)

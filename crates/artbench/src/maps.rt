@@ -144,7 +144,7 @@ impl<K: Key> Contestant for Ours<K> {
     fn range(&self, starts: &[K]) -> u64 {
         let mut sum = 0u64;
         for start in starts.iter().take(10_000) {
-            sum = sum.wrapping_add(our_sum_from(self, start));
+            sum = sum.wrapping_add(sum_from(self, start));
         }
         sum
     }
@@ -186,7 +186,7 @@ impl<K: Key> Contestant for Ours<K> {
 }
 
 // A sum over at most 100 pairs, of which the first is that of a stored key.
-fn our_sum_from<'a, K: Key>(map: &'a Ours<K>, start: &'a K) -> u64 {
+fn sum_from<'a, K: Key>(map: &'a Ours<K>, start: &'a K) -> u64 {
     let end: Bound<&'a K> = Bound::Unbounded;
     let mut sum = 0u64;
     for (_, value) in map.range(Bound::Included(start), end).take(100) {
@@ -255,7 +255,12 @@ impl<K: Key> Contestant for Theirs<K> {
     fn range(&self, starts: &[K]) -> u64 {
         let mut sum = 0u64;
         for start in starts.iter().take(10_000) {
-            sum = sum.wrapping_add(their_sum_from(self, start));
+            for (_, value) in self
+                .range((Bound::Included(start), Bound::Unbounded))
+                .take(100)
+            {
+                sum = sum.wrapping_add(*value);
+            }
         }
         sum
     }
@@ -297,16 +302,4 @@ impl<K: Key> Contestant for Theirs<K> {
         }
         sum
     }
-}
-
-// The same sum over the library's map.
-fn their_sum_from<K: Key>(map: &Theirs<K>, start: &K) -> u64 {
-    let mut sum = 0u64;
-    for (_, value) in map
-        .range((Bound::Included(start), Bound::Unbounded))
-        .take(100)
-    {
-        sum = sum.wrapping_add(*value);
-    }
-    sum
 }

@@ -15,43 +15,19 @@ pub(crate) fn time_sets<S: SetContestant, R: Clock + AllocGlobal>(
 ) -> Result<(), Failure> {
     let mut one = S::empty(rt.alloc());
     let mut other = S::empty(rt.alloc());
-    let timed = match fill(&mut one, &mut other, workload) {
-        Ok(count) => time_merges(rt, &one, &other, count, sheet),
-        Err(failure) => Err(failure),
-    };
-    drop(one);
-    drop(other);
-    timed
-}
-
-// Adds the keys of both sets, and gives how many both have together.
-fn fill<S: SetContestant>(
-    one: &mut S,
-    other: &mut S,
-    workload: &Workload<impl Key>,
-) -> Result<usize, Failure> {
     let left = one.store(workload.every(3)?)?;
     let right = other.store(workload.every(2)?)?;
-    Ok((left as usize).saturating_add(right as usize))
-}
-
-fn time_merges<S: SetContestant>(
-    rt: &impl Clock,
-    one: &S,
-    other: &S,
-    count: usize,
-    sheet: &mut Sheet,
-) -> Result<(), Failure> {
+    let count = (left as usize).saturating_add(right as usize);
     let start = Instant::now(rt)?;
-    let sum = one.union_sum(other);
+    let sum = one.union_sum(&other);
     sheet.add(rt, "union", start, count, sum)?;
     let start = Instant::now(rt)?;
-    let sum = one.intersection_sum(other);
+    let sum = one.intersection_sum(&other);
     sheet.add(rt, "intersection", start, count, sum)?;
     let start = Instant::now(rt)?;
-    let sum = one.difference_sum(other);
+    let sum = one.difference_sum(&other);
     sheet.add(rt, "difference", start, count, sum)?;
     let start = Instant::now(rt)?;
-    let sum = one.symmetric_difference_sum(other);
+    let sum = one.symmetric_difference_sum(&other);
     sheet.add(rt, "symmetric_difference", start, count, sum)
 }

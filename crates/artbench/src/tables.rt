@@ -2,7 +2,6 @@
 use crate::contest::{Results, Timed};
 use crate::failure::Failure;
 use crate::workload::Workload;
-use std::io;
 
 /// Writes the keys of a kind on standard output, each in a line of hexadecimal digits: those that are stored, those that are looked up and found, and those that are missing.
 pub(crate) fn write_keys(
@@ -24,7 +23,7 @@ fn write_lines(rt: &(impl Print + AllocGlobal), keys: &[Vec<u8>]) -> Result<(), 
 }
 
 /// Writes on standard output what the calls gave, which is the same on each run.
-pub(crate) fn write_sums(rt: &impl Print, results: &Results) -> io::Result<()> {
+pub(crate) fn write_sums(rt: &impl Print, results: &Results) -> Result<(), Failure> {
     println!(rt; "{} {}", results.kind.name(), results.keys)?;
     for row in &results.ours {
         println!(rt; "{} {} {}", row.call, row.count, row.sum)?;
@@ -33,7 +32,7 @@ pub(crate) fn write_sums(rt: &impl Print, results: &Results) -> io::Result<()> {
 }
 
 /// Writes on standard error the nanoseconds a key or pair, and the ratio: below 1 the map is faster.
-pub(crate) fn write_times(rt: &impl Eprint, results: &Results) -> io::Result<()> {
+pub(crate) fn write_times(rt: &impl Eprint, results: &Results) -> Result<(), Failure> {
     eprintln!(rt;
         "{}, {} keys: nanoseconds, and the ratio to BTreeMap",
         results.kind.name(),

@@ -200,18 +200,14 @@ fn keys_of<K: Key>(
 fn fronts_of<K: Key>(alloc: Global, kind: Kind, keys: &[K]) -> Result<Vec<Front<K>>, Failure> {
     let mut fronts = Vec::new(alloc);
     for key in keys.iter().take(10_000) {
-        fronts.push(front_of(alloc, kind, key.as_bytes())?)?;
+        let bytes = key.as_bytes();
+        let (front, _) = bytes.split_at(kind.front(bytes.len()).min(bytes.len()));
+        fronts.push(Front {
+            bytes: Vec::made(alloc, front)?,
+            least: K::made(alloc, front)?,
+        })?;
     }
     Ok(fronts)
-}
-
-// What begins the key of these bytes.
-fn front_of<K: Key>(alloc: Global, kind: Kind, bytes: &[u8]) -> Result<Front<K>, Failure> {
-    let (front, _) = bytes.split_at(kind.front(bytes.len()).min(bytes.len()));
-    Ok(Front {
-        bytes: Vec::made(alloc, front)?,
-        least: K::made(alloc, front)?,
-    })
 }
 
 const HOSTS: [&str; 7] = [

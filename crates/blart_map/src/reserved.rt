@@ -16,6 +16,8 @@ use std::alloc::AllocError;
 use std::mem::replace;
 
 /// The pairs of a map, and room for some more: what a [`Reserved`] holds while the map is lent to it.
+///
+/// The example of [`Reserved`] shows it.
 #[derive(Drop)]
 pub struct Room<K: AsBytes, V, const PREFIX_LEN: usize> {
     tree: Tree<K, V, PREFIX_LEN>,
@@ -45,6 +47,8 @@ pub struct Reserved<'a, M, R: PutBack<M>> {
 }
 
 /// What was taken out of a map, to be put back.
+///
+/// The example of [`Reserved`] shows it.
 pub trait PutBack<M>: Drop {
     /// The map, once it is put back.
     ghost filled: { Self → M };
