@@ -1,4 +1,5 @@
 pub mod Freeing
 pub mod Joining
+pub mod Making
 pub mod PlacedShapes
 pub mod Unlinking

@@ -1,3 +1,5 @@
+pub mod Built
+pub mod Closing
 pub mod Counting
 pub mod EdgesAbove
 pub mod Exchanging

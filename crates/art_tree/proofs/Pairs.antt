@@ -13,3 +13,4 @@ pub mod Outside
 pub mod Passing
 pub mod Placed
 pub mod Renumbered
+pub mod Turns

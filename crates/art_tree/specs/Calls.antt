@@ -1,3 +1,4 @@
+pub mod Building
 pub mod Descents
 pub mod Partings
 pub mod Placing

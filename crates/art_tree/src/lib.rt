@@ -10,5 +10,6 @@ mod tree;
 
 pub use art_rows::{Following, Leaves, Position};
 pub use art_slots::{LeafId, Visits};
+pub use tree::build::Frame;
 pub use tree::point::{Place, Point};
 pub use tree::{DEFAULT_PREFIX_LEN, Tree};

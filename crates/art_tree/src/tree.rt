@@ -11,6 +11,7 @@ ghost use Rattle.art_tree.specs.Points.{IsGood};
 ghost use Rattle.art_tree.specs.Longest.{longest};
 
 mod apart;
+pub mod build;
 mod change;
 mod clone;
 mod descent;

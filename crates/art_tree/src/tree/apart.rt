@@ -1,7 +1,10 @@
-//! A tree taken apart.
-ghost use Rattle.std.specs.Prelude.{◌≡◌};
+//! A tree taken apart, and one made of leaves.
+ghost use Rattle.std.specs.Prelude.{◌≡◌, ◌≤◌, length};
+ghost use Rattle.blart_keys.specs.Content.{IsContent};
+ghost use Rattle.art_tree.specs.Leaves.{bytes};
 
 use crate::tree::Tree;
+use crate::tree::build::{Frame, build};
 use art_rows::Leaves;
 use blart_keys::AsBytes;
 
@@ -11,5 +14,25 @@ impl<K: AsBytes, V, const PREFIX_LEN: usize> Tree<K, V, PREFIX_LEN> {
         ensures { result.pairs ≡ self.pairs }
     {
         self.leaves
+    }
+}
+
+impl<K: AsBytes, V, const PREFIX_LEN: usize> Tree<K, V, PREFIX_LEN> {
+    /// The tree of leaves whose keys' bytes ascend and do not begin one another, under the numbers that they have. Each inner node is made once, of all its children, so this is faster than a placement of each pair. Takes no memory but the frame's.
+    pub fn from_leaves(leaves: Leaves<K, V>, frame: Frame<PREFIX_LEN>) -> Self
+        requires content { IsContent (bytes K.bytes) leaves.pairs }
+        requires room { length leaves.pairs ≤ frame }
+        ensures { result.pairs ≡ leaves.pairs }
+    {
+        let Frame { nodes, loose } = frame;
+        let mut nodes = nodes;
+        let mut loose = loose;
+        let root = build(&leaves, &mut nodes, &mut loose);
+        drop(loose);
+        Tree {
+            leaves,
+            nodes,
+            root,
+        }
     }
 }
