@@ -1,8 +1,8 @@
 -- Clones of elements that ascend, put one after the other.
-use Rattle.std.proofs.Common.{◌≡◌, ◌≢◌, ℕ, true, inl, inr, List, [], ◌∷◌, ◌++◌, map, Some, None, refl, sym, ap, ◌∙◌, subst, append_assoc, append-nil}
+use Rattle.std.proofs.Common.{◌≡◌, ◌≢◌, ℕ, true, inl, inr, List, [], ◌∷◌, ◌++◌, map, Option, Some, None, refl, sym, ap, ◌∙◌, subst, append_assoc, append-nil}
 use denote.Ref.{Bor}
 use Rattle.std.proofs.lemmas.Bool.{false≢true}
-use Rattle.std.specs.Iterator.{Drains, YieldsFirstRef}
+use Rattle.std.specs.Iterator.{Drains, Yields, YieldsFirstRef}
 use Rattle.std.specs.List.{AllByRecursion, AllZip}
 use Rattle.std.specs.Prelude.{Result, Ok, Err, MatchResult, IfOk, OnErr}
 use Rattle.blart_keys.specs.Bulk.{PutsAll}
@@ -97,3 +97,10 @@ module _ {K : Type 0} (kb : K → List ℕ) where
           let clones = zip_bytes U h.1 (λ x y m. keeps x y (Contains-from_Member x U m)) zipped in
           subst (AreElementClones kb is_clone U) (sym (puts_in_order [] h.1 (elements set) (clones_ranked U h.1 clones (Ranked-from_AllPairs (Lower kb) U ascends)) h.4)) clones
       all_cloned (Err e) h n = λ none. (let c : n.0.now ∷ rest n.1 ≡ [] = sym n.2 ∙ shows ∙ none in absurd cc)
+
+-- where an error says that there are clones, a first item came
+pub cloned_some : {I A B C E : Type 0} (steps : I → Option A → I → Type 0) (R : C → B → Type 0) (f : A → C) (s : I) (xs : List A) (t : I) (ys : List B) {D : Type 0} (r : Result D E) → Yields steps s xs t → AllZip R (map f xs) ys → OnErr r (ys ≢ []) → OnErr r ((y : A) × (u : I) × steps s (Some y) u)
+cloned_some steps R f s xs t ys (Ok b) h z some = some
+cloned_some steps R f s [] t [] (Err e) h z some = absurd (some refl)
+cloned_some steps R f s [] t (y ∷ ys) (Err e) h z some = absurd z
+cloned_some steps R f s (x ∷ xs) t ys (Err e) h z some = (x, h.0, h.1)

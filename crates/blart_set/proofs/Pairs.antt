@@ -15,7 +15,8 @@ use Rattle.blart_keys.proofs.StoredLemmas.{some-at}
 use Rattle.blart_keys.specs.Bytes.{begins, related, conflicts}
 use Rattle.blart_keys.specs.Content.{at, conflict, front_of, stores, subtree, without, under, between, IsContent, IsPut, IsOver}
 use Rattle.blart_keys.specs.Steps.{bytes}
-use Rattle.blart_keys.specs.Stored.{pair_at, kept_key, kept_item, kept}
+use Rattle.blart_keys.specs.Bulk.{PutsAll}
+use Rattle.blart_keys.specs.Stored.{pair_at, kept_key, kept_pair, kept_item, kept}
 use Rattle.blart_keys.specs.Walks.{TakesFirst, TakesLast}
 use Rattle.blart_keys.proofs.Mapped.{find-map, list_any-map, filter-map, content_map, put_map, over_map}
 
@@ -136,3 +137,9 @@ module _ {K V : Type 0} (kb : K → List ℕ) (S : List (K × V)) where
       none [] e = refl
       none (p ∷ S) e = absurd cc
   can_range-keys lo hi (inr e) = inr e
+
+-- elements put in turn, each with a unit
+pub puts_all-keys : {K V : Type 0} → (kb : K → List ℕ) (S xs S' : List (K × V)) → PutsAll (bytes kb) kept_pair S xs S' → PutsAll kb kept_item (keys kb S) (map (λ p. p.0) xs) (keys kb S')
+unfolding pair_at
+puts_all-keys kb S [] S' h = ap (λ l. map (λ p. p.0) l) h
+puts_all-keys kb S (x ∷ xs) S' h = (keys kb h.0, subst (λ z. IsPut kb (keys kb S) z (keys kb h.0)) (kept-keys kb S h.0 x) (put-keys kb S h.0 (kept_pair (at (bytes kb) S (kb x.0)) x) h.1), puts_all-keys kb h.0 xs S' h.2)

@@ -114,24 +114,9 @@ where
         × PutsAll K.bytes kept_item [] ys (elements set)) }
     ensures refused { OnErr result ((x : Bor K) × (rest : I) × I.next_gives items (Some x) rest) }
 {
-    let mut set = TreeSet::with_prefix_len(alloc);
+    let mut clones = Vec::new(alloc);
     for item in items {
-        if let Err(refused) = put_clone(&mut set, item) {
-            drop(set);
-            return Err(refused);
-        }
+        clones.push(item.clone()?)?;
     }
-    Ok(set)
-}
-
-// Puts a clone of the element.
-fn put_clone<K: NoPrefixesBytes + Clone, const P: usize>(
-    set: &mut TreeSet<K, P>,
-    element: &K,
-) -> Result<(), AllocError>
-    ensures { OnOk result ((y : K) × K.is_clone element.now y
-        × IsPut K.bytes (elements set.old)
-        (kept_item (at K.bytes (elements set.old) (K.bytes y)) y) (elements set.new)) }
-{
-    set.put(element.clone()?)
+    TreeSet::from_vec(alloc, clones)
 }

@@ -1,15 +1,14 @@
 //! New sets of given elements.
-ghost use Rattle.std.specs.Prelude.{◌≡◌, ◌≢◌, [], List, IfOk, OnOk, OnErr, Some};
+ghost use Rattle.std.specs.Prelude.{◌≡◌, ◌≢◌, [], List, map, IfOk, OnOk, OnErr, Some};
 ghost use Rattle.std.specs.Iterator.{IsFinite, Drains};
 ghost use Rattle.blart_keys.specs.Bulk.{PutsAll};
-ghost use Rattle.blart_keys.specs.Bytes.{bytes_cmp};
 ghost use Rattle.blart_keys.specs.Stored.{kept_item};
 ghost use Rattle.blart_set.specs.Elements.{elements};
 
 use crate::set::TreeSet;
-use blart_keys::{AsBytes, NoPrefixesBytes};
+use blart_keys::NoPrefixesBytes;
+use blart_map::TreeMap;
 use std::alloc::{AllocError, Global};
-use std::cmp::Ordering;
 use std::iter::Iterator;
 
 impl<K: NoPrefixesBytes + Drop, const PREFIX_LEN: usize> TreeSet<K, PREFIX_LEN> {
@@ -32,7 +31,7 @@ impl<K: NoPrefixesBytes + Drop, const PREFIX_LEN: usize> TreeSet<K, PREFIX_LEN> 
 
     /// A set into which the elements were put, one after another, as [`TreeSet::insert`] does: of elements with the same bytes the first stays. No elements take no memory.
     ///
-    /// The elements are sorted by their bytes before they are put, where there is memory for that. So they lie in order, and walks over the set find them side by side.
+    /// The set is a map of units, which [`TreeMap::from_vec`] makes: it sorts the elements by their bytes where there is memory for that, and then each inner node is made once. So they lie in order, and walks over the set find them side by side.
     ///
     /// ```
     /// let set = TreeSet::from_vec(alloc, vec![in alloc; 3u8, 1, 2]?)?;
@@ -42,28 +41,9 @@ impl<K: NoPrefixesBytes + Drop, const PREFIX_LEN: usize> TreeSet<K, PREFIX_LEN> 
         ensures made { IfOk result (λ set. PutsAll K.bytes kept_item [] items.items (elements set)) }
         ensures refused { OnErr result (items.items ≢ []) }
     {
-        let mut items = items;
-        // Where there is no memory to sort the elements, they are put as they come.
-        let _ = items.sort_by(by_bytes);
-        TreeSet::put_in_turn(alloc, items.into_iter())
-    }
-
-    // A set into which the elements that the iterator gives were put as they come.
-    fn put_in_turn<I: Iterator<Item = K>>(alloc: Global, items: I) -> Result<Self, AllocError>
-        requires can { I.can_next items }
-        requires ends { IsFinite (I.remaining items) }
-        ensures made { IfOk result (λ set. (xs : List K) × Drains I.next_gives items xs
-            × PutsAll K.bytes kept_item [] xs (elements set)) }
-        ensures refused { OnErr result ((x : K) × (rest : I) × I.next_gives items (Some x) rest) }
-    {
-        let mut set = TreeSet::with_prefix_len(alloc);
-        match set.extend(items) {
-            Ok(()) => Ok(set),
-            Err(refused) => {
-                drop(set);
-                Err(refused)
-            }
-        }
+        let pairs = with_units(alloc, items)?;
+        let map = TreeMap::from_vec(alloc, pairs)?;
+        Ok(TreeSet { map, alloc })
     }
 }
 
@@ -101,9 +81,14 @@ impl<K: NoPrefixesBytes + Copy, const PREFIX_LEN: usize> TreeSet<K, PREFIX_LEN> 
     }
 }
 
-// How two elements compare by their bytes.
-fn by_bytes<K: AsBytes>(one: &K, other: &K) -> Ordering
-    ensures { result ≡ bytes_cmp (K.bytes one.now) (K.bytes other.now) }
+// The elements, each with a unit.
+fn with_units<K: Drop>(alloc: Global, items: Vec<K>) -> Result<Vec<(K, ())>, AllocError>
+    ensures units { IfOk result (λ pairs. map (λ p. p.0) pairs.items ≡ items.items) }
+    ensures refused { OnErr result (items.items ≢ []) }
 {
-    one.as_bytes().cmp(other.as_bytes())
+    let mut pairs = Vec::with_capacity(alloc, items.len())?;
+    for item in items {
+        pairs.push_reserved((item, ()));
+    }
+    Ok(pairs)
 }

@@ -3,40 +3,41 @@ use Rattle.std.proofs.lemmas.List.{map-append}
 use Rattle.std.specs.Iterator.{Yields, IsFinite}
 use Rattle.std.specs.List.{AllZip}
 use Rattle.std.proofs.iter.Next as it
-use Rattle.blart_keys.specs.Stored.{kept_item}
-use Rattle.blart_set.specs.Elements.{elements}
-use Rattle.blart_map.proofs.Moved.BulkPuts.{puts_more, first_came}
-use Rattle.blart_set.proofs.Cloned.{now, zip_more}
+use Rattle.blart_map.proofs.Moved.BulkPuts.{first_came, on_ok, on_err}
+use Rattle.blart_set.proofs.Cloned.{now, zip_more, cloned_some}
 use Rattle.blart_set.proofs.operators.of_clones.Goals as goal
 
-pub loop-item-init : goal.loop-item-init
-loop-item-init g c =
-    let from = sym c.into_iter-item-iterator.ensures.into_iter_gives in
-    (subst (λ s. g.I.Iterator.can_next s) from c.requires.can, subst (λ s. IsFinite (g.I.Iterator.remaining s)) from c.requires.ends, record { clones = []; zipped = tt; put = c.with_prefix_len-set.ensures })
+pub returns-in_err-clone-clause-refused : goal.returns-in_err-clone-clause-refused
+returns-in_err-clone-clause-refused g c =
+    let gives = g.I.Iterator.next_gives in
+    let came = subst (λ from. Yields gives from c.loop-item.yielded c.loop-item.item-iterator) c.into_iter-item-iterator.ensures.into_iter_gives c.loop-item.yielded_by in
+    on_err c.from_residual.result (first_came gives c.args.items c.loop-item.yielded c.in-Some.item c.next.new.self (it.Yields-more gives c.args.items c.loop-item.yielded c.loop-item.item-iterator c.in-Some.item c.next.new.self came (it.said gives c.in-Some.is c.next.ensures.steps)))
+
+pub returns-in_err-push-clause-refused : goal.returns-in_err-push-clause-refused
+returns-in_err-push-clause-refused g c =
+    let gives = g.I.Iterator.next_gives in
+    let came = subst (λ from. Yields gives from c.loop-item.yielded c.loop-item.item-iterator) c.into_iter-item-iterator.ensures.into_iter_gives c.loop-item.yielded_by in
+    on_err c.from_residual-in_err-push.result (first_came gives c.args.items c.loop-item.yielded c.in-Some.item c.next.new.self (it.Yields-more gives c.args.items c.loop-item.yielded c.loop-item.item-iterator c.in-Some.item c.next.new.self came (it.said gives c.in-Some.is c.next.ensures.steps)))
 
 pub loop-item-preserved : goal.loop-item-preserved
 loop-item-preserved g c =
     let i = c.loop-item.invariant in
     let on = it.on c.in-Some.item c.in-Some.is c.next.ensures.goes i.1 in
-    let made = c.in_default.ensures in (
+    let clone = c.in_ok-clone.field-0 in
+    let zipped = zip_more g.K.Clone.is_clone (map now c.loop-item.yielded) c.loop-item.clones.items c.in-Some.item.now clone i.2 c.in_ok-clone.ensures.cases in (
       on.0,
       on.1,
-      record {
-        clones = i.2.clones ++ made.0 ∷ [];
-        zipped = subst (λ l. AllZip g.K.Clone.is_clone l (i.2.clones ++ made.0 ∷ [])) (sym (map-append now c.loop-item.yielded (c.in-Some.item ∷ []))) (zip_more g.K.Clone.is_clone (map now c.loop-item.yielded) i.2.clones c.in-Some.item.now made.0 i.2.zipped made.1);
-        put = puts_more g.K.AsBytes.bytes kept_item [] i.2.clones (elements c.loop-item.set) made.0 (elements c.put_clone.new.set) i.2.put made.2;
-      },
+      subst (λ l. AllZip g.K.Clone.is_clone (map now (c.loop-item.yielded ++ c.in-Some.item ∷ [])) l) (sym c.in_ok-push.ensures.items) (subst (λ l. AllZip g.K.Clone.is_clone l (c.loop-item.clones.items ++ clone ∷ [])) (sym (map-append now c.loop-item.yielded (c.in-Some.item ∷ []))) zipped),
     )
-
-pub returns-in-Err-clause-refused : goal.returns-in-Err-clause-refused
-returns-in-Err-clause-refused g c =
-    let came = subst (λ from. Yields g.I.Iterator.next_gives from c.loop-item.yielded c.loop-item.item-iterator) c.into_iter-item-iterator.ensures.into_iter_gives c.loop-item.yielded_by in
-    let steps = it.said g.I.Iterator.next_gives c.in-Some.is c.next.ensures.steps in
-    first_came g.I.Iterator.next_gives c.args.items c.loop-item.yielded c.in-Some.item c.next.new.self (it.Yields-more g.I.Iterator.next_gives c.args.items c.loop-item.yielded c.loop-item.item-iterator c.in-Some.item c.next.new.self came steps)
 
 pub returns-clause-made : goal.returns-clause-made
 returns-clause-made g c =
-    let i = c.loop-item.invariant in
-    let came = subst (λ from. Yields g.I.Iterator.next_gives from c.loop-item.yielded c.loop-item.item-iterator) c.into_iter-item-iterator.ensures.into_iter_gives c.loop-item.yielded_by in
-    let steps = it.said g.I.Iterator.next_gives c.in-None.is c.next.ensures.steps in
-    (c.loop-item.yielded, i.2.clones, (c.next.new.self, (c.loop-item.item-iterator, came, steps)), i.2.zipped, i.2.put)
+    let gives = g.I.Iterator.next_gives in
+    let came = subst (λ from. Yields gives from c.loop-item.yielded c.loop-item.item-iterator) c.into_iter-item-iterator.ensures.into_iter_gives c.loop-item.yielded_by in
+    on_ok c.from_vec.result (λ set made. (c.loop-item.yielded, c.loop-item.clones.items, (c.next.new.self, (c.loop-item.item-iterator, came, it.said gives c.in-None.is c.next.ensures.steps)), c.loop-item.invariant.2, made)) c.from_vec.ensures.made
+
+pub returns-clause-refused : goal.returns-clause-refused
+returns-clause-refused g c =
+    let gives = g.I.Iterator.next_gives in
+    let came = subst (λ from. Yields gives from c.loop-item.yielded c.loop-item.item-iterator) c.into_iter-item-iterator.ensures.into_iter_gives c.loop-item.yielded_by in
+    cloned_some gives g.K.Clone.is_clone now c.args.items c.loop-item.yielded c.loop-item.item-iterator c.loop-item.clones.items c.from_vec.result came c.loop-item.invariant.2 c.from_vec.ensures.refused
