@@ -3,8 +3,10 @@
 //! Each test passes wherever in it one request is refused, and a test that meets the refusal writes the line `refused`. `tools/refusals` refuses the first request of each, then the second, and so on, until none meets it.
 
 mod closures;
+mod cursors;
 mod driving;
 mod dropped;
+mod fronts;
 mod keys;
 mod reserved;
 mod router;

@@ -1,4 +1,6 @@
 //! Merges of two sets.
+ghost use Rattle.std.specs.Prelude.{◌≡◌};
+
 use super::set_of;
 use blart_set::{Compares, TreeSet};
 use std::iter::Iterator;
@@ -53,13 +55,16 @@ fn as_shown(rt: HostRuntime) {
     drop(right);
 }
 
-// The example of `blart_set::Compares`.
-fn compares() {
+// The example of `blart_set::Compares`. Only a clause reads the number.
+fn compares() -> Compares
+    ensures { result ≡ 1 }
+{
     let mut compares = Compares::new();
     compares.add_one();
+    compares
 }
 
 #[test]
 fn compares_as_shown(_rt: HostRuntime) {
-    compares();
+    drop(compares());
 }

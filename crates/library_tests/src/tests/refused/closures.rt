@@ -52,30 +52,55 @@ fn puts_by_key(map: &mut Map, way: Way, key: [u8; 2], ran: &mut bool) -> bool {
     }
 }
 
-// The closure runs if the value is put in. Else the map is empty.
-fn assert_runs(rt: &(impl Abort + Print), map: &mut Map, way: Way, of_key: bool) {
+// The closure runs if the value is put in. Else the map is as it was. Answers whether it is put in.
+fn assert_runs(
+    rt: &(impl Abort + Print),
+    map: &mut Map,
+    way: Way,
+    of_key: bool,
+    key: [u8; 2],
+) -> bool {
+    let before = map.len();
     let mut ran = false;
     let put = if of_key {
-        puts_by_key(map, way, [1, 7], &mut ran)
+        puts_by_key(map, way, key, &mut ran)
     } else {
-        puts(map, way, [1, 7], &mut ran)
+        puts(map, way, key, &mut ran)
     };
     assert!(rt; ran == put);
     if put {
-        assert!(rt; map.get(&[1u8, 7]) == Some(&7));
+        assert!(rt; map.get(&key) == Some(&7));
     } else {
         say_refused(rt);
-        assert!(rt; map.is_empty());
+        assert!(rt; map.get(&key).is_none());
+    }
+    assert!(rt; map.len() == before.wrapping_add(put as usize));
+    put
+}
+
+// In an empty map, where the leaf asks for memory, and beside a pair, where the inner node does.
+fn assert_both(rt: &(impl Abort + Print), map: &mut Map, way: Way, of_key: bool) {
+    let first = assert_runs(rt, map, way, of_key, [1, 7]);
+    let second = assert_runs(rt, map, way, of_key, [1, 9]);
+    assert!(rt; first || second);
+    assert!(rt; map.inner_nodes() == (first && second) as usize);
+}
+
+// Each way, in a map of its own.
+fn assert_ways(rt: &(impl Abort + AllocGlobal + Print), of_key: bool) {
+    for way in WAYS {
+        let mut map = Map::with_prefix_len(rt.alloc());
+        assert_both(rt, &mut map, way, of_key);
+        drop(map);
     }
 }
 
 #[test]
 fn closures(rt: HostRuntime) {
-    for way in WAYS {
-        for of_key in [false, true] {
-            let mut map = Map::with_prefix_len(rt.alloc());
-            assert_runs(&rt, &mut map, way, of_key);
-            drop(map);
-        }
-    }
+    assert_ways(&rt, false);
+}
+
+#[test]
+fn closures_of_keys(rt: HostRuntime) {
+    assert_ways(&rt, true);
 }

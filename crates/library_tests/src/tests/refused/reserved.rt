@@ -1,6 +1,7 @@
 //! Room that is made, or refused. Once it is made, the insertions are not.
 use super::{KEYS, say_refused};
 use blart_map::TreeMap;
+use blart_set::TreeSet;
 use std::process::Abort;
 
 type Map<const P: usize> = TreeMap<[u8; 2], usize, P>;
@@ -39,4 +40,23 @@ fn fills<const P: usize>(rt: &(impl Abort + AllocGlobal + Print)) {
 fn a_map_with_room_refuses_nothing(rt: HostRuntime) {
     fills::<0>(&rt);
     fills::<16>(&rt);
+}
+
+// Puts two elements, where there is room for them.
+fn fill_set(rt: &(impl Abort + Print), set: &mut TreeSet<u8, 2>) -> usize {
+    let Ok(mut room) = set.reserve(2) else {
+        say_refused(rt);
+        return 0;
+    };
+    assert!(rt; room.insert(3));
+    assert!(rt; room.insert(1));
+    2
+}
+
+#[test]
+fn a_set_with_room_refuses_nothing(rt: HostRuntime) {
+    let mut set = TreeSet::with_prefix_len(rt.alloc());
+    let count = fill_set(&rt, &mut set);
+    assert!(rt; set.len() == count);
+    drop(set);
 }

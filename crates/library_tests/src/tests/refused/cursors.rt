@@ -1,0 +1,38 @@
+//! Calls of a cursor, and of the leaves that it gives, which take no memory.
+use super::say_refused;
+use blart_map::TreeMap;
+use std::ops::Bound;
+use std::process::Abort;
+
+// A map of these keys, each with ten times itself as value. Where memory is refused, the pair is handed in again.
+fn fill(rt: &(impl Abort + Print), map: &mut TreeMap<u8, usize, 2>) {
+    for key in [5u8, 2, 8, 4] {
+        let value = 10 * key as usize;
+        if map.insert(key, value).is_err() {
+            say_refused(rt);
+            assert!(rt; map.insert(key, value).is_ok());
+        }
+    }
+}
+
+// From 4 on: the first pair is taken, the last one read, and the one between taken too, which is the last to be passed.
+fn step_and_take(rt: &impl Abort, map: &mut TreeMap<u8, usize, 2>) {
+    let mut cursor = map.cursor(Bound::Included(&4u8), Bound::Unbounded);
+    let first = map.step(&mut cursor).expect(rt, "a pair");
+    assert!(rt; map.take_leaf(first) == (4, 40));
+    let last = map.step_back(&mut cursor).expect(rt, "a pair");
+    assert!(rt; map.leaf(last) == (&8, &80));
+    let between = map.step(&mut cursor).expect(rt, "a pair");
+    assert!(rt; map.take_leaf(between) == (5, 50));
+    assert!(rt; map.step(&mut cursor).is_none());
+}
+
+#[test]
+fn cursors(rt: HostRuntime) {
+    let mut map = TreeMap::with_prefix_len(rt.alloc());
+    fill(&rt, &mut map);
+    step_and_take(&rt, &mut map);
+    assert!(rt; map.len() == 2);
+    assert!(rt; map.inner_nodes() == 1);
+    drop(map);
+}
