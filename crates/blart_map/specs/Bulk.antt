@@ -1,6 +1,7 @@
 -- Many pairs at once.
-use Rattle.std.specs.Prelude.{List, [], ◌∷◌, ◌++◌, Option, Some, None, Result, Ok, Err}
+use Rattle.std.specs.Prelude.{◌≡◌, ℕ, false, List, [], ◌∷◌, ◌++◌, Option, Some, None, Result, Ok, Err, Contains}
 use Rattle.std.specs.Iterator.{Yields, Drains}
+use Rattle.blart_keys.specs.Bytes.{less}
 -- pair by pair a clone
 pub use Rattle.art_tree.specs.Clones.{IsPairClone, AreClones}
 
@@ -14,3 +15,7 @@ module _ {I A E : Type 0} (steps : I → Option A → I → Type 0) (items : I) 
 abbrev pub or_else : {X : Type 0} → Option X → Option X → Option X
 or_else (Some x) o = Some x
 or_else None o = o
+
+-- no item's bytes are greater than q
+abbrev pub NoneGreater : {X : Type 0} → (X → List ℕ) → List X → List ℕ → Type 0
+NoneGreater {X} bytes S q = (x : X) → Contains S x → less q (bytes x) ≡ false

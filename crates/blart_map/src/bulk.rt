@@ -1,5 +1,6 @@
 //! Many pairs at once.
 mod append;
+mod ascending;
 mod clone;
 mod extend;
 mod from;

@@ -1,13 +1,16 @@
 //! New maps of given pairs.
 ghost use Rattle.std.specs.Prelude.{◌≡◌, ◌≢◌, [], List, IfOk, OnOk, OnErr, Some};
 ghost use Rattle.std.specs.Iterator.{IsFinite, Drains};
+ghost use Rattle.std.specs.List.Sorted.{IsSortedByKey};
 ghost use Rattle.blart_keys.specs.Bulk.{PutsAll};
 ghost use Rattle.blart_keys.specs.Bytes.{bytes_cmp};
 ghost use Rattle.blart_keys.specs.Steps.{bytes};
 ghost use Rattle.blart_keys.specs.Stored.{kept_pair};
 ghost use Rattle.blart_map.specs.Content.{pairs};
 
+use crate::bulk::ascending::put_ascending;
 use crate::map::TreeMap;
+use art_tree::{Frame, Leaves, Tree};
 use blart_keys::{AsBytes, NoPrefixesBytes};
 use std::alloc::{AllocError, Global};
 use std::cmp::Ordering;
@@ -16,7 +19,7 @@ use std::iter::Iterator;
 impl<K: NoPrefixesBytes + Drop, V: Drop, const PREFIX_LEN: usize> TreeMap<K, V, PREFIX_LEN> {
     /// A map into which the pairs that the iterator gives were put, one after another, as [`TreeMap::insert`] does: of pairs with the same bytes the first key stays, with the last value. No pairs take no memory.
     ///
-    /// The pairs are collected into a vector first, of which [`TreeMap::from_vec`] makes the map.
+    /// The pairs are collected into a vector first, of which [`TreeMap::from_vec`] makes the map: where there is memory to sort them, each inner node is made once.
     pub fn from_iter<I: Iterator<Item = (K, V)>>(
         alloc: Global,
         items: I,
@@ -37,7 +40,7 @@ impl<K: NoPrefixesBytes + Drop, V: Drop, const PREFIX_LEN: usize> TreeMap<K, V, 
 
     /// A map into which the pairs were put, one after another, as [`TreeMap::insert`] does: of pairs with the same bytes the first key stays, with the last value. No pairs take no memory.
     ///
-    /// The pairs are sorted by their keys' bytes before they are put, where there is memory for that. So they lie in order, and walks over the map find them side by side.
+    /// The pairs are sorted by their keys' bytes first, where there is memory for that. So they lie in order, walks over the map find them side by side, and each inner node is made once.
     ///
     /// ```
     /// let map = Map::from_vec(alloc, vec![in alloc; (U32Key::new(2), 'b'), (U32Key::new(1), 'a')]?)?;
@@ -48,9 +51,37 @@ impl<K: NoPrefixesBytes + Drop, V: Drop, const PREFIX_LEN: usize> TreeMap<K, V, 
         ensures refused { OnErr result (items.items ≢ []) }
     {
         let mut items = items;
-        // Where there is no memory to sort the pairs, they are put as they come.
-        let _ = items.sort_by(by_bytes);
-        TreeMap::put_in_turn(alloc, items.into_iter())
+        match items.sort_by(by_bytes) {
+            Ok(()) => TreeMap::of_sorted(alloc, items),
+            // Where there is no memory to sort the pairs, they are put as they come.
+            Err(_) => TreeMap::put_in_turn(alloc, items.into_iter()),
+        }
+    }
+
+    // A map of pairs whose keys' bytes do not descend: of pairs with the same bytes the first key stays, with the last value.
+    #[tactic(auto, unfolding(crate::specs::Content::pairs))]
+    fn of_sorted(alloc: Global, items: Vec<(K, V)>) -> Result<Self, AllocError>
+        requires { IsSortedByKey (bytes K.bytes) bytes_cmp items.items }
+        ensures made { IfOk result (λ map. PutsAll (bytes K.bytes) kept_pair [] items.items (pairs map)) }
+        ensures refused { OnErr result (items.items ≢ []) }
+    {
+        let mut leaves = Leaves::new(alloc);
+        if let Err(refused) = leaves.reserve(items.len()) {
+            drop(leaves);
+            drop(items);
+            return Err(refused);
+        }
+        put_ascending(&mut leaves, items);
+        match Frame::new(alloc, leaves.len()) {
+            Ok(frame) => Ok(TreeMap {
+                tree: Tree::from_leaves(leaves, frame),
+                alloc,
+            }),
+            Err(refused) => {
+                drop(leaves);
+                Err(refused)
+            }
+        }
     }
 
     // A map into which the pairs that the iterator gives were put as they come.

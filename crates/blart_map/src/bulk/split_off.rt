@@ -6,23 +6,25 @@ ghost use Rattle.blart_keys.specs.Content.{between};
 ghost use Rattle.blart_keys.specs.Steps.{bytes};
 ghost use Rattle.blart_keys.specs.Stored.{pair_at, CanCount};
 ghost use Rattle.art_tree.specs.Content.{room};
+ghost use Rattle.art_tree.specs.Leaves.{room as leaf_room};
 ghost use Rattle.art_walk.specs.Pairs.{pairs_of};
 ghost use Rattle.blart_map.specs.Content.{pairs};
 
+use crate::bulk::ascending::push;
 use crate::map::TreeMap;
 use crate::placing::place_reserved;
-use art_tree::{Tree, Visits};
+use art_tree::{Frame, Leaves, Tree, Visits};
 use art_walk::Range;
 use blart_keys::AsBytes;
-use std::alloc::AllocError;
+use std::alloc::{AllocError, Global};
 use std::iter::Iterator;
-use std::mem::swap;
+use std::mem::{replace, swap};
 use std::ops::Bound;
 
 impl<K: AsBytes + Drop, V: Drop, const PREFIX_LEN: usize> TreeMap<K, V, PREFIX_LEN> {
     /// Keeps the pairs whose keys' bytes are less than the query's, and gives a map of the others.
     ///
-    /// The pairs on the side that has fewer move, and where those are the ones that stay, the two maps are exchanged. It takes the memory for the pairs that move before any of them does; an error leaves the map as it was. Where no pair moves, or all do, it takes none. Its cost is that of the pairs that move.
+    /// Where one side has three times the pairs of the other or more, those of the smaller side move one by one, and where they are the ones that stay, the two maps are exchanged. Otherwise the pairs that stay move, and the inner nodes of both maps are made anew, each once: so at most four times as many pairs are read as the smaller side has. The memory is taken before any pair moves; an error leaves the map as it was. Where one side has no pairs it takes none.
     ///
     /// ```
     /// map.try_insert("ant", 1)?;
@@ -51,7 +53,7 @@ impl<K: AsBytes + Drop, V: Drop, const PREFIX_LEN: usize> TreeMap<K, V, PREFIX_L
         self.law();
         let mut tree = Tree::new(self.alloc);
         let count = self.count_from(query);
-        if let Err(refused) = part(&mut self.tree, &mut tree, count) {
+        if let Err(refused) = part(&mut self.tree, &mut tree, count, self.alloc) {
             drop(tree);
             return Err(refused);
         }
@@ -117,11 +119,12 @@ fn count_after<K, V, const P: usize>(
     count
 }
 
-// Moves the last pairs of one tree, so many, into an empty one, once there is room; or the first, where those are fewer, and exchanges the two.
+// Moves the last pairs of one tree, so many, into an empty one, once there is room; or the first, where those are fewer, and exchanges the two. Where neither side has three times the pairs of the other, makes both trees anew.
 fn part<K: AsBytes + Drop, V: Drop, const P: usize>(
     from: &mut Tree<K, V, P>,
     to: &mut Tree<K, V, P>,
     count: usize,
+    alloc: Global,
 ) -> Result<(), AllocError>
     requires enough { count ≤ length from.old.pairs }
     requires empty { to.old.pairs ≡ [] }
@@ -132,6 +135,9 @@ fn part<K: AsBytes + Drop, V: Drop, const P: usize>(
     ensures refused { OnErr result (0 < count) }
 {
     let low = from.len() - count;
+    if low / 3 < count && count / 3 < low {
+        return part_anew(from, to, low, count, alloc);
+    }
     if low <= count {
         to.reserve(low)?;
         move_first(from, to, low);
@@ -141,6 +147,90 @@ fn part<K: AsBytes + Drop, V: Drop, const P: usize>(
         move_last(from, to, count);
     }
     Ok(())
+}
+
+// Makes two trees of the leaves of one, of the first so many and of the others, once there is memory.
+fn part_anew<K: AsBytes + Drop, V: Drop, const P: usize>(
+    from: &mut Tree<K, V, P>,
+    to: &mut Tree<K, V, P>,
+    low: usize,
+    count: usize,
+    alloc: Global,
+) -> Result<(), AllocError>
+    requires parts { low + count ≡ length from.old.pairs }
+    ensures whole { OnOk result
+        (pairs_of from.old.pairs ≡ pairs_of from.new.pairs ++ pairs_of to.new.pairs) }
+    ensures moved { OnOk result (length (pairs_of to.new.pairs) ≡ count) }
+    ensures err { OnErr result (from.new.pairs ≡ from.old.pairs) }
+{
+    from.law();
+    let (mut lower, low_frame, high_frame) = memory_for(alloc, low, count)?;
+    let mut upper = replace(from, Tree::new(alloc)).into_leaves();
+    move_leaves(&mut upper, &mut lower, low);
+    drop(replace(from, Tree::from_leaves(lower, low_frame)));
+    drop(replace(to, Tree::from_leaves(upper, high_frame)));
+    Ok(())
+}
+
+// Memory for the first leaves, so many, and for the inner nodes of the two trees.
+fn memory_for<K: Drop, V: Drop, const P: usize>(
+    alloc: Global,
+    low: usize,
+    count: usize,
+) -> Result<(Leaves<K, V>, Frame<P>, Frame<P>), AllocError>
+    ensures none { IfOk result (λ m. m.0.pairs ≡ []) }
+    ensures room { IfOk result (λ m. low ≤ leaf_room m.0) }
+    ensures below { IfOk result (λ m. low ≤ m.1) }
+    ensures from { IfOk result (λ m. count ≤ m.2) }
+{
+    let mut leaves = Leaves::new(alloc);
+    if let Err(refused) = leaves.reserve(low) {
+        drop(leaves);
+        return Err(refused);
+    }
+    match frames_for(alloc, low, count) {
+        Ok((low_frame, high_frame)) => Ok((leaves, low_frame, high_frame)),
+        Err(refused) => {
+            drop(leaves);
+            Err(refused)
+        }
+    }
+}
+
+// Memory for the inner nodes of two trees.
+fn frames_for<const P: usize>(
+    alloc: Global,
+    low: usize,
+    count: usize,
+) -> Result<(Frame<P>, Frame<P>), AllocError>
+    ensures below { IfOk result (λ m. low ≤ m.0) }
+    ensures from { IfOk result (λ m. count ≤ m.1) }
+{
+    let low_frame = Frame::new(alloc, low)?;
+    match Frame::new(alloc, count) {
+        Ok(high_frame) => Ok((low_frame, high_frame)),
+        Err(refused) => {
+            drop(low_frame);
+            Err(refused)
+        }
+    }
+}
+
+// Moves the first of some leaves, so many, to the end of others, which have none yet, and the room.
+fn move_leaves<K: Drop, V: Drop>(from: &mut Leaves<K, V>, to: &mut Leaves<K, V>, count: usize)
+    requires enough { count ≤ length from.old.pairs }
+    requires empty { to.old.pairs ≡ [] }
+    requires room { count ≤ leaf_room to.old }
+    ensures whole { pairs_of from.old.pairs
+        ≡ pairs_of to.new.pairs ++ pairs_of from.new.pairs }
+    ensures moved { length (pairs_of to.new.pairs) ≡ count }
+{
+    for _ in 0..count {
+        let Some((key, value)) = from.take_first() else {
+            unreachable!()
+        };
+        push(to, key, value);
+    }
 }
 
 // Moves the last pairs of one tree, so many, into an empty one, which has the room.

@@ -1,6 +1,6 @@
 use Rattle.std.proofs.Common.{◌∷◌, [], ◌++◌, map, sym, subst}
 use Rattle.std.proofs.lemmas.List.{map-append}
-use Rattle.std.specs.Iterator.{Yields, IsFinite}
+use Rattle.std.specs.Iterator.{Yields}
 use Rattle.std.specs.List.{AllZip}
 use Rattle.std.proofs.iter.Next as it
 use Rattle.blart_map.proofs.Moved.BulkPuts.{first_came, on_ok, on_err}

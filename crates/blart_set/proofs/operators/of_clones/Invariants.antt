@@ -1,4 +1,4 @@
-use Rattle.std.proofs.Common.{List, [], map}
+use Rattle.std.proofs.Common.{map}
 use Rattle.std.specs.List.{AllZip}
 use Rattle.blart_set.proofs.Cloned.{now}
 use Rattle.blart_set.proofs.operators.of_clones.Given as goal

@@ -55,7 +55,9 @@ fn as_shown(rt: HostRuntime) {
     drop(right);
 }
 
-// The example of `blart_set::Compares`. Only a clause reads the number.
+// Only a clause reads the number.
+//
+// The example of `blart_set::Compares`.
 fn compares() -> Compares
     ensures { result ≡ 1 }
 {
