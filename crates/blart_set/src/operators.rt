@@ -1,10 +1,9 @@
 //! Merges of two sets as new sets.
-ghost use Rattle.std.specs.Prelude.{◌≡◌, List, [], map, IfOk, OnOk, OnErr, Some};
+ghost use Rattle.std.specs.Prelude.{◌≡◌, List, [], map, IfOk, OnErr, Some};
 ghost use Rattle.std.specs.Iterator.{IsFinite, Drains};
 ghost use Rattle.std.specs.List.{AllZip};
 ghost use denote.Ref.{Bor};
 ghost use Rattle.blart_keys.specs.Bulk.{PutsAll};
-ghost use Rattle.blart_keys.specs.Content.{at, IsPut};
 ghost use Rattle.blart_keys.specs.Merges.{IsUnion, IsSymmetricDifference, intersection, difference};
 ghost use Rattle.blart_keys.specs.Stored.{kept_item};
 ghost use Rattle.blart_set.specs.Clones.{KeepsBytes, MakesClones};
