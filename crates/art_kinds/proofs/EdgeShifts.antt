@@ -266,8 +266,3 @@ AscendsAbove-short k (x ∷ es) l a h =
     let c : k < x.byte = a.0 in
     let ih : x.byte + length es < 256 = AscendsAbove-short x.byte es h.0 a.1 h.1 in
     omega arith
-
--- there are at most 256 bytes
-pub Ascends-short : (es : List Edge) → Ascends es → AllBytes es → length es ≤ 256
-Ascends-short [] a h = omega arith
-Ascends-short (x ∷ es) a h = let ih : x.byte + length es < 256 = AscendsAbove-short x.byte es h.0 a h.1 in omega arith

@@ -3,7 +3,6 @@ pub mod EdgeShifts
 pub mod EdgeFills
 pub mod EdgeNexts
 pub mod Tables
-pub mod Results
 pub mod Places
 pub mod Rooms
 pub mod Changes

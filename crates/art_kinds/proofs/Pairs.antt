@@ -24,13 +24,6 @@ take-paired (suc n) [] cs = refl
 take-paired (suc n) (b ∷ bs) [] = refl
 take-paired (suc n) (b ∷ bs) (c ∷ cs) = ap (λ (t : List Edge). edge b c ∷ t) (take-paired n bs cs)
 
-pub set-paired : (bs : List ℕ) (cs : List Child) (i b : ℕ) (c : Child) → length cs ≡ length bs → paired (set bs i b) (set cs i c) ≡ set (paired bs cs) i (edge b c)
-set-paired [] [] i b c l = refl
-set-paired [] (y ∷ cs) i b c l = absurd (omega arith)
-set-paired (x ∷ bs) [] i b c l = absurd (omega arith)
-set-paired (x ∷ bs) (y ∷ cs) zero b c l = refl
-set-paired (x ∷ bs) (y ∷ cs) (suc i) b c l = ap (λ (t : List Edge). edge x y ∷ t) (set-paired bs cs i b c (omega arith))
-
 pub at-paired : (bs : List ℕ) (cs : List Child) (i b : ℕ) (c : Child) (e : Edge) → i < length bs → length cs ≡ length bs → get_or (paired bs cs) i e ≡ edge (get_or bs i b) (get_or cs i c)
 at-paired [] cs i b c e l m = absurd (omega arith)
 at-paired (x ∷ bs) [] i b c e l m = absurd (omega arith)

@@ -81,10 +81,6 @@ empty_index c = record {
   counted = none_of 256 (replicate 48 c);
 }
 
-no_child : (n : ℕ) → count_by is_some (replicate {A = Option Child} n None) ≡ 0
-no_child zero = refl
-no_child (suc n) = let ih : count_by is_some (replicate {A = Option Child} n None) ≡ 0 = no_child n in omega (arith, ih, sum_by-cons one None (replicate {A = Option Child} n None))
-
 -- an edge in the front
 pub get-take : (es : List Edge) (n i : ℕ) (d : Edge) → i < n → get_or (take n es) i d ≡ get_or es i d
 get-take es zero i d l = absurd (omega arith)

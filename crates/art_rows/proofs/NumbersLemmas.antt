@@ -611,11 +611,3 @@ module _ {X : Type 0} where
   -- the number that was taken out names nothing
   pub leaf_in-without_now : (ps : List (Numbered X)) (i : ℕ) → AreDistinct ps → leaf_in (without_number ps i) i ≡ None
   leaf_in-without_now ps i d = leaf_in_lacking (without_number ps i) i (Lacks-without_now ps i d)
-
-  -- a pair that is not the place is passed
-  with_pair_after-pass : (o : Option ℕ) (x p : Numbered X) (ps : List (Numbered X)) → IsSome o → is_at o p.0 ≡ false → with_pair_after o x (p ∷ ps) ≡ p ∷ with_pair_after o x ps
-  with_pair_after-pass None x p ps h n = absurd (let f : false ≡ true = h in cc)
-  with_pair_after-pass (Some i) x p ps h n = elim (eqb_tells p.0 i) [
-    | inl t ↦ (let f : eqb i p.0 ≡ true = rw t.1 (eqb_same i) in let g : true ≡ false = sym f ∙ n in cc)
-    | inr t ↦ rw t.0 refl
-  ]

@@ -111,10 +111,6 @@ module _ {rows : List (Numbered (List ℕ))} {k : ℕ} {p : Position} (s : IsSpo
   pub spot_ids : (P : List ℕ → Type 0) → IfSome (leaf_in rows p.row) P → P s.ids
   spot_ids P h = rw (spot-row rows k p s d) at h
 
-  -- a row that is not below full is full
-  pub spot_full : (n : ℕ) → IfSome (leaf_in rows p.row) (λ ids. n ≡ length ids) → n ≤ 32 → 32 ≤ n → length s.ids ≡ 32
-  spot_full n len most least = (let e = spot_ids (λ ids. n ≡ length ids) len in omega arith)
-
   -- with room, and the row full, there is a spare row
   pub spot_spare : (spare : ℕ) → length s.ids ≡ 32 → 0 < row_room rows spare → 0 < spare
   spot_spare spare full h = more_spare s.before s.after p.row s.ids spare full (subst (λ rs. 0 < row_room rs spare) s.is h)

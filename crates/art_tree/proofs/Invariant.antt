@@ -4,7 +4,6 @@ pub mod Counting
 pub mod EdgesAbove
 pub mod Exchanging
 pub mod Growing
-pub mod Led
 pub mod Losing
 pub mod Moving
 pub mod OneEdge

@@ -12,5 +12,4 @@ pub mod Numbers
 pub mod Outside
 pub mod Passing
 pub mod Placed
-pub mod Renumbered
 pub mod Turns

@@ -69,12 +69,22 @@ fn leaf_below(rt: &impl Abort, child: Option<Child>) -> usize {
     }
 }
 
-// The ten edges of the node lead to the leaves of the keys with these first two bytes.
-fn assert_leaves(rt: &impl Abort, tree: &Bare, node: &NodeRef<'_, 0>, first: u8, second: u8) {
+// The ten edges of the node lead to the leaves of the keys with these first two bytes, which have the numbers from a first one on as values.
+fn assert_leaves(
+    rt: &impl Abort,
+    tree: &Bare,
+    node: &NodeRef<'_, 0>,
+    front: [u8; 2],
+    least: usize,
+) {
+    let mut number = least;
     for third in BYTES {
-        let key = [first, second, third];
-        let found = tree.search(&key, &mut Visits::new()).expect(rt, "a leaf");
-        assert_eq!(rt; leaf_below(rt, node.find(third)), found.number());
+        let key = [front[0], front[1], third];
+        let (id, stored, value) = tree.get(&key, &mut Visits::new()).expect(rt, "a pair");
+        assert_eq!(rt; leaf_below(rt, node.find(third)), id.number());
+        assert!(rt; *stored == key);
+        assert_eq!(rt; *value, number);
+        number = number.saturating_add(1);
     }
 }
 
@@ -86,12 +96,14 @@ fn a_tree_taken_apart(rt: HostRuntime) {
         nodes,
         root,
     } = &tree;
+    let mut before = 0usize;
     let top = node_below(&rt, nodes, *root, 0);
     for first in BYTES {
         let middle = node_below(&rt, nodes, top.find(first), 1);
         for second in BYTES {
             let low = node_below(&rt, nodes, middle.find(second), 2);
-            assert_leaves(&rt, &tree, &low, first, second);
+            assert_leaves(&rt, &tree, &low, [first, second], before);
+            before = before.saturating_add(BYTES.len());
         }
     }
     // The keys part after no byte, after each byte and after each two bytes.

@@ -53,8 +53,5 @@ module _ {K V : Type 0} where
 -- ---- one item less
 
 module _ {X : Type 0} (x : X) (xs ys : List X) where
-  pub fewer_first : xs ≡ x ∷ ys → length ys < length xs
-  fewer_first e = let l : length xs ≡ suc (length ys) = ap length e in omega arith
-
   pub fewer_last : xs ≡ ys ++ x ∷ [] → length ys < length xs
   fewer_last e = let l : length xs ≡ length ys + 1 = ap length e ∙ length-append ys (x ∷ []) in omega arith

@@ -1,5 +1,5 @@
 //! Times calls that take or give many pairs at once.
-use crate::contest::Sheet;
+use crate::contest::{Sheet, filled};
 use crate::failure::Failure;
 use crate::joins::{Joiner, placed};
 use crate::keys::Key;
@@ -16,36 +16,65 @@ pub(crate) fn time_bulk<M: Parter, J: Joiner, R: Clock + AllocGlobal>(
     workload: &Workload<M::Key>,
     sheet: &mut Sheet,
 ) -> Result<(), Failure> {
-    time_makes::<J, M::Key, R>(rt, workload, sheet)?;
-    time_after::<J, M::Key, R>(rt, workload, sheet)?;
-    time_among::<J, M::Key, R>(rt, workload, sheet)?;
+    time_from_vec::<J, M::Key, R>(rt, &workload.keys, sheet)?;
+    time_in_order::<J, M::Key, R>(rt, &workload.sorted, sheet)?;
+    let (low, high) = workload.sorted.split_at(workload.sorted.len() / 2);
+    time_append::<J, M::Key, R>(rt, "append after", low, high, sheet)?;
+    let (one, two) = workload.keys.split_at(workload.keys.len() / 2);
+    time_append::<J, M::Key, R>(rt, "append among", one, two, sheet)?;
     time_copies::<M, R>(rt, workload, sheet)?;
     time_part::<M, R>(rt, workload, sheet)
 }
 
-// A map of the keys with their places.
-fn joiner_of<J: Joiner, K: AsBytes>(alloc: Global, keys: &[K]) -> Result<J, Failure> {
-    let mut map = J::empty(alloc);
-    map.put(placed(alloc, keys)?)?;
-    Ok(map)
-}
-
-// Times maps that are made of all pairs: in random order at once, with a walk over that map, and in order one by one.
-fn time_makes<J: Joiner, K: Key, R: Clock + AllocGlobal>(
+// Times a map that is made of all pairs at once, in random order, and a walk over it.
+fn time_from_vec<J: Joiner, K: Key, R: Clock + AllocGlobal>(
     rt: &R,
-    workload: &Workload<K>,
+    keys: &[K],
     sheet: &mut Sheet,
 ) -> Result<(), Failure> {
-    let items: Vec<(J::Key, u64)> = placed(rt.alloc(), &workload.keys)?;
-    let count = items.len();
+    let items: Vec<(J::Key, u64)> = placed(rt.alloc(), keys)?;
     let start = Instant::now(rt)?;
     let map = J::of(rt.alloc(), items)?;
+    let walked = time_walk(rt, &map, start, keys.len(), sheet);
+    drop(map);
+    walked
+}
+
+// Ends the time of a map that was just made, and times a walk over it.
+fn time_walk<J: Joiner>(
+    rt: &impl Clock,
+    map: &J,
+    start: Instant,
+    count: usize,
+    sheet: &mut Sheet,
+) -> Result<(), Failure> {
     sheet.stop(rt, "from_vec", start, count)?;
     let start = Instant::now(rt)?;
     let sum = map.sum();
-    sheet.add(rt, "iter, from_vec", start, count, sum)?;
-    let items: Vec<(J::Key, u64)> = placed(rt.alloc(), &workload.sorted)?;
+    sheet.add(rt, "iter, from_vec", start, count, sum)
+}
+
+// Times a map that is filled one by one, in order.
+fn time_in_order<J: Joiner, K: Key, R: Clock + AllocGlobal>(
+    rt: &R,
+    keys: &[K],
+    sheet: &mut Sheet,
+) -> Result<(), Failure> {
+    let items: Vec<(J::Key, u64)> = placed(rt.alloc(), keys)?;
     let mut map = J::empty(rt.alloc());
+    let filled = time_put(rt, &mut map, items, sheet);
+    drop(map);
+    filled
+}
+
+// Times insertions in order.
+fn time_put<J: Joiner>(
+    rt: &impl Clock,
+    map: &mut J,
+    items: Vec<(J::Key, u64)>,
+    sheet: &mut Sheet,
+) -> Result<(), Failure> {
+    let count = items.len();
     let start = Instant::now(rt)?;
     map.put(items)?;
     sheet.stop(rt, "insert in order", start, count)?;
@@ -53,34 +82,59 @@ fn time_makes<J: Joiner, K: Key, R: Clock + AllocGlobal>(
     Ok(())
 }
 
-// Times an `append` of a map whose keys all come after.
-fn time_after<J: Joiner, K: Key, R: Clock + AllocGlobal>(
-    rt: &R,
-    workload: &Workload<K>,
-    sheet: &mut Sheet,
-) -> Result<(), Failure> {
-    let (low, high) = workload.sorted.split_at(workload.sorted.len() / 2);
-    let mut map: J = joiner_of(rt.alloc(), low)?;
-    let mut other: J = joiner_of(rt.alloc(), high)?;
-    let start = Instant::now(rt)?;
-    map.join(&mut other)?;
-    sheet.stop(rt, "append after", start, high.len())?;
-    sheet.sum(map.sum());
-    Ok(())
+// A map of the keys with their places.
+fn joiner_of<J: Joiner, K: AsBytes>(alloc: Global, keys: &[K]) -> Result<J, Failure> {
+    let items = placed(alloc, keys)?;
+    let mut map = J::empty(alloc);
+    match map.put(items) {
+        Ok(()) => Ok(map),
+        Err(failure) => {
+            drop(map);
+            Err(failure)
+        }
+    }
 }
 
-// Times an `append` of a map whose keys stand among the others.
-fn time_among<J: Joiner, K: Key, R: Clock + AllocGlobal>(
+// Times an `append` of a map of some keys to one of others.
+fn time_append<J: Joiner, K: Key, R: Clock + AllocGlobal>(
     rt: &R,
-    workload: &Workload<K>,
+    call: &'static str,
+    to: &[K],
+    from: &[K],
     sheet: &mut Sheet,
 ) -> Result<(), Failure> {
-    let (one, two) = workload.keys.split_at(workload.keys.len() / 2);
-    let mut map: J = joiner_of(rt.alloc(), one)?;
-    let mut other: J = joiner_of(rt.alloc(), two)?;
+    let mut map: J = joiner_of(rt.alloc(), to)?;
+    let appended = time_append_to(rt, call, &mut map, from, sheet);
+    drop(map);
+    appended
+}
+
+// Times an `append` of a map of some keys to another map.
+fn time_append_to<J: Joiner, K: Key, R: Clock + AllocGlobal>(
+    rt: &R,
+    call: &'static str,
+    map: &mut J,
+    from: &[K],
+    sheet: &mut Sheet,
+) -> Result<(), Failure> {
+    let mut other: J = joiner_of(rt.alloc(), from)?;
+    let joined = time_join(rt, call, map, &mut other, from.len(), sheet);
+    drop(other);
+    joined
+}
+
+// Times an `append` by which so many pairs move.
+fn time_join<J: Joiner>(
+    rt: &impl Clock,
+    call: &'static str,
+    map: &mut J,
+    other: &mut J,
+    count: usize,
+    sheet: &mut Sheet,
+) -> Result<(), Failure> {
     let start = Instant::now(rt)?;
-    map.join(&mut other)?;
-    sheet.stop(rt, "append among", start, two.len())?;
+    map.join(other)?;
+    sheet.stop(rt, call, start, count)?;
     sheet.sum(map.sum());
     Ok(())
 }
@@ -91,18 +145,40 @@ fn time_copies<M: Parter, R: Clock + AllocGlobal>(
     workload: &Workload<M::Key>,
     sheet: &mut Sheet,
 ) -> Result<(), Failure> {
-    let mut map = M::empty(rt.alloc());
-    map.store(workload.keys.clone()?)?;
-    let count = workload.keys.len();
+    let map: M = filled(rt, workload)?;
+    let timed = time_copy(rt, &map, workload.keys.len(), sheet);
+    drop(map);
+    timed
+}
+
+// Times a copy of a map, and whether it is the same.
+fn time_copy<M: Parter>(
+    rt: &impl Clock,
+    map: &M,
+    count: usize,
+    sheet: &mut Sheet,
+) -> Result<(), Failure> {
     let start = Instant::now(rt)?;
     let copy = map.copy()?;
+    let compared = time_eq(rt, map, &copy, start, count, sheet);
+    drop(copy);
+    compared
+}
+
+// Ends the time of a copy that was just made, and times whether it is the same.
+fn time_eq<M: Parter>(
+    rt: &impl Clock,
+    map: &M,
+    copy: &M,
+    start: Instant,
+    count: usize,
+    sheet: &mut Sheet,
+) -> Result<(), Failure> {
     sheet.stop(rt, "clone", start, count)?;
     sheet.sum(copy.iterate());
     let start = Instant::now(rt)?;
-    let same = map.is_same(&copy);
-    sheet.stop(rt, "eq", start, count)?;
-    sheet.sum(u64::from(same));
-    Ok(())
+    let same = map.is_same(copy);
+    sheet.add(rt, "eq", start, count, u64::from(same))
 }
 
 // Times a map parted in half.
@@ -111,15 +187,28 @@ fn time_part<M: Parter, R: Clock + AllocGlobal>(
     workload: &Workload<M::Key>,
     sheet: &mut Sheet,
 ) -> Result<(), Failure> {
-    let mut map = M::empty(rt.alloc());
-    map.store(workload.keys.clone()?)?;
     let half = workload.sorted.len() / 2;
     let Some(from) = workload.sorted.get(half) else {
         return Ok(());
     };
+    let mut map: M = filled(rt, workload)?;
+    let parted = time_part_at(rt, &mut map, from, half, sheet);
+    drop(map);
+    parted
+}
+
+// Times a map parted at a key, before which so many pairs are.
+fn time_part_at<M: Parter>(
+    rt: &impl Clock,
+    map: &mut M,
+    from: &M::Key,
+    count: usize,
+    sheet: &mut Sheet,
+) -> Result<(), Failure> {
     let start = Instant::now(rt)?;
     let rest = map.part(from)?;
-    sheet.stop(rt, "split_off half", start, half)?;
+    let stopped = sheet.stop(rt, "split_off half", start, count);
     sheet.sum(map.iterate().wrapping_mul(3).wrapping_add(rest.iterate()));
-    Ok(())
+    drop(rest);
+    stopped
 }

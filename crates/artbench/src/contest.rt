@@ -135,11 +135,20 @@ fn time_pairs<M: Contestant, R: Clock + AllocGlobal>(
     time_rest::<M, R>(rt, workload, sheet)
 }
 
-// A map of the keys.
-fn filled<M: Contestant>(rt: &impl AllocGlobal, workload: &Workload<M::Key>) -> Result<M, Failure> {
+/// A map of the keys.
+pub(crate) fn filled<M: Contestant>(
+    rt: &impl AllocGlobal,
+    workload: &Workload<M::Key>,
+) -> Result<M, Failure> {
+    let keys = workload.keys.clone()?;
     let mut map = M::empty(rt.alloc());
-    map.store(workload.keys.clone()?)?;
-    Ok(map)
+    match map.store(keys) {
+        Ok(_) => Ok(map),
+        Err(failure) => {
+            drop(map);
+            Err(failure)
+        }
+    }
 }
 
 // Times a map from its first pair to its last.
@@ -150,12 +159,25 @@ fn time_stored<M: Contestant, R: Clock + AllocGlobal>(
 ) -> Result<(), Failure> {
     let keys = workload.keys.clone()?;
     let mut map = M::empty(rt.alloc());
+    let stored = time_store(rt, &mut map, keys, workload, sheet);
+    drop(map);
+    stored
+}
+
+// Times an empty map from its first pair to its last.
+fn time_store<M: Contestant>(
+    rt: &impl Clock,
+    map: &mut M,
+    keys: Vec<M::Key>,
+    workload: &Workload<M::Key>,
+    sheet: &mut Sheet,
+) -> Result<(), Failure> {
     let count = keys.len();
     let start = Instant::now(rt)?;
     let sum = map.store(keys)?;
     sheet.add(rt, "insert", start, count, sum)?;
-    time_look_ups(rt, &map, workload, sheet)?;
-    time_walks(rt, &map, workload, sheet)?;
+    time_look_ups(rt, map, workload, sheet)?;
+    time_walks(rt, map, workload, sheet)?;
     let start = Instant::now(rt)?;
     let sum = map.raise();
     sheet.add(rt, "iter_mut", start, count, sum)?;
@@ -172,6 +194,18 @@ fn time_reserved<M: Contestant, R: Clock + AllocGlobal>(
 ) -> Result<(), Failure> {
     let keys = workload.keys.clone()?;
     let mut map = M::empty(rt.alloc());
+    let stored = time_store_reserved(rt, &mut map, keys, sheet);
+    drop(map);
+    stored
+}
+
+// Times insertions into room that is made in an empty map.
+fn time_store_reserved<M: Contestant>(
+    rt: &impl Clock,
+    map: &mut M,
+    keys: Vec<M::Key>,
+    sheet: &mut Sheet,
+) -> Result<(), Failure> {
     let count = keys.len();
     let start = Instant::now(rt)?;
     let sum = map.store_reserved(keys)?;
@@ -179,8 +213,8 @@ fn time_reserved<M: Contestant, R: Clock + AllocGlobal>(
 }
 
 // Times look-ups.
-fn time_look_ups<M: Contestant, R: Clock>(
-    rt: &R,
+fn time_look_ups<M: Contestant>(
+    rt: &impl Clock,
     map: &M,
     workload: &Workload<M::Key>,
     sheet: &mut Sheet,
@@ -194,8 +228,8 @@ fn time_look_ups<M: Contestant, R: Clock>(
 }
 
 // Times walks that lend.
-fn time_walks<M: Contestant, R: Clock>(
-    rt: &R,
+fn time_walks<M: Contestant>(
+    rt: &impl Clock,
     map: &M,
     workload: &Workload<M::Key>,
     sheet: &mut Sheet,
@@ -226,14 +260,27 @@ fn time_rest<M: Contestant, R: Clock + AllocGlobal>(
     workload: &Workload<M::Key>,
     sheet: &mut Sheet,
 ) -> Result<(), Failure> {
+    let count = workload.keys.len();
     let mut map: M = filled(rt, workload)?;
+    let kept = time_retain(rt, &mut map, count, sheet);
+    drop(map);
+    kept?;
+    let map: M = filled(rt, workload)?;
+    let start = Instant::now(rt);
+    let sum = map.take_apart();
+    sheet.add(rt, "into_iter", start?, count, sum)
+}
+
+// Times a removal of every second pair.
+fn time_retain<M: Contestant>(
+    rt: &impl Clock,
+    map: &mut M,
+    count: usize,
+    sheet: &mut Sheet,
+) -> Result<(), Failure> {
     let start = Instant::now(rt)?;
     let sum = map.retain();
-    sheet.add(rt, "retain", start, workload.keys.len(), sum)?;
-    let map: M = filled(rt, workload)?;
-    let start = Instant::now(rt)?;
-    let sum = map.take_apart();
-    sheet.add(rt, "into_iter", start, workload.keys.len(), sum)
+    sheet.add(rt, "retain", start, count, sum)
 }
 
 /// The rows of one run.

@@ -160,8 +160,3 @@ module _ {X : Type 0} (bytes : X → List ℕ) where
 pub kept_pair-bytes : {K V : Type 0} (kb : K → List ℕ) → KeepsBytes (bytes_of kb) (kept_pair {K = K} {V = V})
 kept_pair-bytes kb None x h = refl
 kept_pair-bytes kb (Some old) x h = h
-
--- and so has the item that is kept
-pub kept_item-bytes : {X : Type 0} (bytes : X → List ℕ) → KeepsBytes bytes (kept_item {X = X})
-kept_item-bytes bytes None x h = refl
-kept_item-bytes bytes (Some old) x h = h

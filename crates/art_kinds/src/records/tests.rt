@@ -41,9 +41,14 @@ fn number_of(rt: &impl Abort, child: Child) -> usize {
 
 // The children of a node of few, whose bytes rise.
 fn few<const N: usize>(rt: &impl Abort, edges: &Few<N>) -> Table {
+    let Few {
+        count,
+        bytes,
+        children,
+    } = edges;
     let mut held: Table = [None; 256];
     let mut least = 0;
-    for (byte, link) in edges.bytes[..edges.count].iter().zip(edges.children.iter()) {
+    for (byte, link) in bytes[..*count].iter().zip(children.iter()) {
         assert!(rt; least <= usize::from(*byte));
         least = usize::from(*byte) + 1;
         held[usize::from(*byte)] = Some(number_of(rt, link.child()));
@@ -53,34 +58,49 @@ fn few<const N: usize>(rt: &impl Abort, edges: &Few<N>) -> Table {
 
 // The children of a node with an index.
 fn indexed(rt: &impl Abort, edges: &Indexed) -> Table {
+    let Indexed {
+        count,
+        index,
+        children,
+    } = edges;
     let mut held: Table = [None; 256];
     for byte in 0..256 {
-        let place = usize::from(edges.index[byte]);
+        let place = usize::from(index[byte]);
         if place != 48 {
-            assert!(rt; place < edges.count);
+            assert!(rt; place < *count);
             assert!(rt; place < 48);
-            held[byte] = Some(number_of(rt, edges.children[place].child()));
+            held[byte] = Some(number_of(rt, children[place].child()));
         }
     }
     held
 }
 
-// The children of a node of the largest kind.
+// The children of a node of the largest kind, as many as it counts.
 fn full(rt: &impl Abort, edges: &Full) -> Table {
+    let Full { count, children } = edges;
     let mut held: Table = [None; 256];
+    let mut found = 0usize;
     for byte in 0..256 {
-        if let Some(child) = edges.children[byte].child() {
+        if let Some(child) = children[byte].child() {
             held[byte] = Some(number_of(rt, child));
+            found = found.saturating_add(1);
         }
     }
+    assert_eq!(rt; found, *count);
     held
 }
 
 // The front and the prefix stand, and the children are these.
 fn assert_record<C: Children>(rt: &impl Abort, record: &Inner<C, 2>, held: &Table, table: &Table) {
-    assert_eq!(rt; record.depth, 9);
-    assert_eq!(rt; record.used, 2);
-    assert!(rt; record.prefix == [5, 6]);
+    let Inner {
+        depth,
+        used,
+        prefix,
+        edges: _,
+    } = record;
+    assert_eq!(rt; *depth, 9);
+    assert_eq!(rt; *used, 2);
+    assert!(rt; *prefix == [5, 6]);
     for byte in 0..256 {
         assert_eq!(rt; held[byte], table[byte]);
     }
@@ -121,14 +141,17 @@ fn assert_alone(rt: &impl Abort, nodes: &Nodes<2>, id: NodeId, count: usize) {
         17..=48 => Kind::FortyEight,
         _ => Kind::Full,
     };
+    let Nodes {
+        fours,
+        sixteens,
+        forty_eights,
+        fulls,
+    } = nodes;
     assert!(rt; id.kind == kind);
-    assert_eq!(rt; nodes.fours.used(), usize::from(kind == Kind::Four));
-    assert_eq!(rt; nodes.sixteens.used(), usize::from(kind == Kind::Sixteen));
-    assert_eq!(rt;
-        nodes.forty_eights.used(),
-        usize::from(kind == Kind::FortyEight)
-    );
-    assert_eq!(rt; nodes.fulls.used(), usize::from(kind == Kind::Full));
+    assert_eq!(rt; fours.used(), usize::from(kind == Kind::Four));
+    assert_eq!(rt; sixteens.used(), usize::from(kind == Kind::Sixteen));
+    assert_eq!(rt; forty_eights.used(), usize::from(kind == Kind::FortyEight));
+    assert_eq!(rt; fulls.used(), usize::from(kind == Kind::Full));
 }
 
 // A node with the children of the first two steps.

@@ -178,9 +178,6 @@ module _ {P : ℕ} (keys : ℕ → Option Bytes) (nodes nodes' : ℕ → Option 
   live_other : (j : ℕ) (x : Node) → nodes j ≡ Some x → j ≢ n
   live_other j x is e = let a : nodes n ≡ Some x = subst (λ z. nodes z ≡ Some x) e is in let b : nodes n ≡ None = made.fresh in cc
 
-  some_other : (j : ℕ) → IsSome (nodes j) → j ≢ n
-  some_other j live = let x = some_of (nodes j) live in live_other j x.0 x.1
-
   node_kept : (j : ℕ) (x : Node) → nodes j ≡ Some x → nodes' j ≡ Some x
   node_kept j x is = made.others j (live_other j x is) ∙ is
 
