@@ -80,7 +80,9 @@ fn assert_leaves(
     let mut number = least;
     for third in BYTES {
         let key = [front[0], front[1], third];
-        let (id, stored, value) = tree.get(&key, &mut Visits::new()).expect(rt, "a pair");
+        let Some((id, stored, value)) = tree.get(&key, &mut Visits::new()) else {
+            panic!(rt; "a pair");
+        };
         assert_eq!(rt; leaf_below(rt, node.find(third)), id.number());
         assert!(rt; *stored == key);
         assert_eq!(rt; *value, number);

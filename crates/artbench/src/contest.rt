@@ -48,16 +48,25 @@ pub(crate) fn contest<K: Key, F: Made + NoPrefixesBytes, R: Clock + AllocGlobal>
     workload: &Workload<K>,
     groups: &[Group],
 ) -> Result<Results, Failure> {
-    let mut ours = our_run::<K, F, R>(rt, workload, groups)?;
-    let mut theirs = their_run::<K, F, R>(rt, workload, groups)?;
+    let mut results = one_round::<K, F, R>(rt, workload, groups)?;
     for _ in 1..ROUNDS {
-        keep_least(&mut ours, &our_run::<K, F, R>(rt, workload, groups)?);
-        keep_least(&mut theirs, &their_run::<K, F, R>(rt, workload, groups)?);
+        let more = one_round::<K, F, R>(rt, workload, groups)?;
+        keep_least(&mut results.ours, &more.ours);
+        keep_least(&mut results.theirs, &more.theirs);
     }
-    for (our, their) in ours.iter().zip(&theirs) {
-        if our.sum != their.sum {
-            return Err(Failure::Differs);
-        }
+    Ok(results)
+}
+
+// One run of each. Both must give the same sums.
+fn one_round<K: Key, F: Made + NoPrefixesBytes, R: Clock + AllocGlobal>(
+    rt: &R,
+    workload: &Workload<K>,
+    groups: &[Group],
+) -> Result<Results, Failure> {
+    let ours = our_run::<K, F, R>(rt, workload, groups)?;
+    let theirs = their_run::<K, F, R>(rt, workload, groups)?;
+    if !are_same(&ours, &theirs) {
+        return Err(Failure::Differs);
     }
     Ok(Results {
         kind: workload.kind,
@@ -65,6 +74,13 @@ pub(crate) fn contest<K: Key, F: Made + NoPrefixesBytes, R: Clock + AllocGlobal>
         ours,
         theirs,
     })
+}
+
+// Whether both gave the same sum in each call.
+fn are_same(ours: &[Timed], theirs: &[Timed]) -> bool {
+    ours.iter()
+        .zip(theirs)
+        .all(|(our, their)| our.sum == their.sum)
 }
 
 // Keeps the lesser time of each call.
