@@ -92,6 +92,7 @@ fn move_all<K: NoPrefixesBytes + Drop, V: Drop, const P: usize>(
     while let Some((key, value)) = from.take_first() {
         put_reserved(to, key, value);
     }
+    drop(from);
 }
 
 // Moves all pairs of some leaves into a tree, which has the room: the tree's win where both have the bytes.
@@ -109,4 +110,5 @@ fn add_all<K: NoPrefixesBytes + Drop, V: Drop, const P: usize>(
     while let Some((key, value)) = from.take_first() {
         add_reserved(to, key, value);
     }
+    drop(from);
 }
