@@ -159,10 +159,7 @@ impl<'a, K: AsBytes + Drop, V: Drop, const PREFIX_LEN: usize> Entry<
             (λ r. UnwrapsOrElse (entry_value self.entry) V.is_default r.now) }
         ensures absent { OnErr result (entry_value self.entry ≡ None) }
     {
-        match self {
-            Entry::Occupied(entry) => Ok(entry.into_mut()),
-            Entry::Vacant(entry) => entry.insert_with(|| V::default()),
-        }
+        self.or_insert_with(|| V::default())
     }
 
     /// The entry of the key's pair, after placing the closure's answer where none is stored.
@@ -212,9 +209,6 @@ impl<'a, K: AsBytes + Drop, V: Drop, const PREFIX_LEN: usize> Entry<
         ensures set { IfOk result (IsKeptOrMade self.entry V.is_default) }
         ensures absent { OnErr result (entry_value self.entry ≡ None) }
     {
-        match self {
-            Entry::Occupied(entry) => entry.kept(),
-            Entry::Vacant(entry) => entry.insert_entry_with(|| V::default()),
-        }
+        self.or_insert_with_entry(|| V::default())
     }
 }

@@ -85,11 +85,10 @@ impl<K: AsBytes, V, const PREFIX_LEN: usize> TreeMap<K, V, PREFIX_LEN> {
     }
 
     /// Whether there are no pairs.
-    #[tactic(auto, unfolding(crate::specs::Content::pairs))]
     pub fn is_empty(&self) -> bool
         ensures { result ≡ (length (pairs self.now) == 0) }
     {
-        self.tree.is_empty()
+        self.len() == 0
     }
 
     /// The pair with the query's bytes. On n bytes it makes at most n + 1 visits, and none on an empty map.

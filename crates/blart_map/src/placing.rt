@@ -147,11 +147,15 @@ impl<K: AsBytes + Drop, V: Drop, const PREFIX_LEN: usize> TreeMap<K, V, PREFIX_L
             (λ id. (v : V) × F.post default v × IsPlaced K.bytes self.old key v id self.new) }
         ensures err { OnErr result (self.new ≡ self.old) }
     {
-        let point = room_for(&mut self.tree, &key)?;
-        let value = default();
-        let id = self.tree.place(point, key, value);
-        self.tree.law();
-        Ok(id)
+        match room_for(&mut self.tree, &key) {
+            Ok(point) => {
+                let value = default();
+                let id = self.tree.place(point, key, value);
+                self.tree.law();
+                Ok(id)
+            }
+            Err(refused) => Err(refused),
+        }
     }
 
     // The same with the answer of a closure that is given the key.
@@ -167,11 +171,15 @@ impl<K: AsBytes + Drop, V: Drop, const PREFIX_LEN: usize> TreeMap<K, V, PREFIX_L
             × IsPlaced K.bytes self.old key v id self.new) }
         ensures err { OnErr result (self.new ≡ self.old) }
     {
-        let point = room_for(&mut self.tree, &key)?;
-        let value = default(&key);
-        let id = self.tree.place(point, key, value);
-        self.tree.law();
-        Ok(id)
+        match room_for(&mut self.tree, &key) {
+            Ok(point) => {
+                let value = default(&key);
+                let id = self.tree.place(point, key, value);
+                self.tree.law();
+                Ok(id)
+            }
+            Err(refused) => Err(refused),
+        }
     }
 }
 

@@ -171,13 +171,7 @@ impl<'a, K: AsBytes + Drop, V: Drop, const PREFIX_LEN: usize> PrefixEntry<
         ensures set { IfOk result (IsPrefixKeptOrMade self.entry V.is_default) }
         ensures vacant { OnErr result (prefix_kind self.entry ≡ Kind.Vacant) }
     {
-        match self {
-            PrefixEntry::Occupied(PrefixOccupied::Leaf(entry)) => Ok(entry),
-            PrefixEntry::Occupied(PrefixOccupied::Inner(entry)) => {
-                Ok(entry.insert_entry(V::default()))
-            }
-            PrefixEntry::Vacant(entry) => entry.insert_entry_with(|| V::default()),
-        }
+        self.or_insert_with_entry(|| V::default())
     }
 
     /// As [`PrefixEntry::or_insert_entry`], and lends the value to be written. What the map becomes is said of `.kind().or_insert(..)`: see [`PrefixKind::or_insert`].

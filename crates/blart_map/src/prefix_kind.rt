@@ -157,10 +157,6 @@ impl<'a, K: AsBytes + Drop, V: Drop, const PREFIX_LEN: usize> PrefixKind<
             (λ r. UnwrapsOrElse (kind_value self.entry) V.is_default r.now) }
         ensures vacant { OnErr result (kind_kind self.entry ≡ Kind.Vacant) }
     {
-        match self {
-            PrefixKind::Leaf(entry) => Ok(entry.into_mut()),
-            PrefixKind::Inner(entry) => Ok(entry.insert(V::default())),
-            PrefixKind::Vacant(entry) => entry.insert_with(|| V::default()),
-        }
+        self.or_insert_with(|| V::default())
     }
 }

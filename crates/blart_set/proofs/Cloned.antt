@@ -104,3 +104,8 @@ cloned_some steps R f s xs t ys (Ok b) h z some = some
 cloned_some steps R f s [] t [] (Err e) h z some = absurd (some refl)
 cloned_some steps R f s [] t (y ∷ ys) (Err e) h z some = absurd z
 cloned_some steps R f s (x ∷ xs) t ys (Err e) h z some = (x, h.0, h.1)
+
+-- what holds anyway holds at an error
+pub on_err : {A E P : Type 0} (r : Result A E) → P → OnErr r P
+on_err (Ok a) p = tt
+on_err (Err e) p = p

@@ -1,5 +1,5 @@
 -- One step of two sets walked side by side.
-use Rattle.std.proofs.Common.{Less, Equal, Greater, ◌≡◌, ℕ, ◌+◌, ◌<◌, Bool, true, false, not, inl, inr, List, [], ◌∷◌, ◌⊎◌, length, drop, refl, sym, ap, ◌∙◌, subst, cond, filter, arith, Some, None}
+use Rattle.std.proofs.Common.{Less, Equal, Greater, ◌≡◌, ℕ, ◌<◌, Bool, true, false, not, inl, inr, List, [], ◌∷◌, ◌⊎◌, length, drop, refl, sym, ap, ◌∙◌, subst, cond, filter, arith, Some, None}
 use Rattle.std.specs.Set.{sorted_merge}
 use Rattle.std.specs.Cmp.Lexicographic.{bytes_decides}
 use denote.Ref.{Bor}

@@ -37,8 +37,3 @@ of_all e P d = subst P (sym (map-id d.0) ∙ items_from_drains d.0 (d.1.1.0, d.1
 pub on_ok : {A E : Type 0} {P Q : A → Type 0} (r : Result A E) → ((a : A) → P a → Q a) → IfOk r P → IfOk r Q
 on_ok (Ok a) f p = f a p
 on_ok (Err e) f p = p
-
--- what holds anyway holds at an error
-pub on_err : {A E P : Type 0} (r : Result A E) → P → OnErr r P
-on_err (Ok a) p = tt
-on_err (Err e) p = p

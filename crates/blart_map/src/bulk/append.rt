@@ -9,12 +9,13 @@ ghost use Rattle.art_walk.specs.Pairs.{pairs_of};
 ghost use Rattle.blart_map.specs.Bulk.{or_else};
 ghost use Rattle.blart_map.specs.Content.{pairs};
 
+use crate::bulk::split_off::take_leaves;
 use crate::map::TreeMap;
 use crate::placing::{add_reserved, put_reserved};
 use art_tree::{Leaves, Tree};
 use blart_keys::NoPrefixesBytes;
 use std::alloc::{AllocError, Global};
-use std::mem::{replace, swap};
+use std::mem::swap;
 
 impl<K: NoPrefixesBytes + Drop, V: Drop, const PREFIX_LEN: usize> TreeMap<K, V, PREFIX_LEN> {
     /// Moves all pairs of the other map here. Where both have a key with the same bytes the other's pair stays. The other map is empty then. Where all of the other's keys are greater than all here, as after a [`TreeMap::split_off`], the pairs are those of the one and then those of the other.
@@ -68,12 +69,10 @@ fn move_into<K: NoPrefixesBytes + Drop, V: Drop, const P: usize>(
     if to.len() < from.len() {
         from.reserve(to.len())?;
         swap(from, to);
-        let fewer = replace(from, Tree::new(alloc));
-        add_all(fewer.into_leaves(), to);
+        add_all(take_leaves(from, alloc), to);
     } else {
         to.reserve(from.len())?;
-        let fewer = replace(from, Tree::new(alloc));
-        move_all(fewer.into_leaves(), to);
+        move_all(take_leaves(from, alloc), to);
     }
     Ok(())
 }
@@ -93,6 +92,7 @@ fn move_all<K: NoPrefixesBytes + Drop, V: Drop, const P: usize>(
     while let Some((key, value)) = from.take_first() {
         put_reserved(to, key, value);
     }
+    drop(from);
 }
 
 // Moves all pairs of some leaves into a tree, which has the room: the tree's win where both have the bytes.
@@ -110,4 +110,5 @@ fn add_all<K: NoPrefixesBytes + Drop, V: Drop, const P: usize>(
     while let Some((key, value)) = from.take_first() {
         add_reserved(to, key, value);
     }
+    drop(from);
 }

@@ -4,8 +4,10 @@ ghost use Rattle.std.specs.Iterator.{IsFinite, Drains};
 ghost use Rattle.std.specs.List.Sorted.{IsSortedByKey};
 ghost use Rattle.blart_keys.specs.Bulk.{PutsAll};
 ghost use Rattle.blart_keys.specs.Bytes.{bytes_cmp};
+ghost use Rattle.blart_keys.specs.Content.{IsContent};
 ghost use Rattle.blart_keys.specs.Steps.{bytes};
 ghost use Rattle.blart_keys.specs.Stored.{kept_pair};
+ghost use Rattle.art_tree.specs.Leaves.{bytes as leaf_bytes};
 ghost use Rattle.blart_map.specs.Content.{pairs};
 
 use crate::bulk::ascending::put_ascending;
@@ -33,7 +35,10 @@ impl<K: NoPrefixesBytes + Drop, V: Drop, const PREFIX_LEN: usize> TreeMap<K, V, 
     {
         let mut all = Vec::new(alloc);
         for item in items {
-            all.push(item)?;
+            if let Err(refused) = all.push(item) {
+                drop(all);
+                return Err(refused.into());
+            }
         }
         TreeMap::from_vec(alloc, all)
     }
@@ -72,6 +77,15 @@ impl<K: NoPrefixesBytes + Drop, V: Drop, const PREFIX_LEN: usize> TreeMap<K, V, 
             return Err(refused);
         }
         put_ascending(&mut leaves, items);
+        TreeMap::of_leaves(alloc, leaves)
+    }
+
+    // The map of some leaves.
+    fn of_leaves(alloc: Global, leaves: Leaves<K, V>) -> Result<Self, AllocError>
+        requires { IsContent (leaf_bytes K.bytes) leaves.pairs }
+        ensures made { IfOk result (λ map. map ≡ leaves.pairs) }
+        ensures refused { OnErr result (leaves.pairs ≢ []) }
+    {
         match Frame::new(alloc, leaves.len()) {
             Ok(frame) => Ok(TreeMap {
                 tree: Tree::from_leaves(leaves, frame),

@@ -4,7 +4,7 @@ ghost use Rattle.std.specs.declared.ops.Bound.TheVariants.{Included, Excluded, U
 ghost use Rattle.blart_keys.specs.Bytes.{less};
 ghost use Rattle.blart_keys.specs.Content.{between};
 ghost use Rattle.blart_keys.specs.Steps.{bytes};
-ghost use Rattle.blart_keys.specs.Stored.{pair_at, CanCount};
+ghost use Rattle.blart_keys.specs.Stored.{pair_at};
 ghost use Rattle.art_tree.specs.Content.{room};
 ghost use Rattle.art_tree.specs.Leaves.{room as leaf_room};
 ghost use Rattle.art_walk.specs.Pairs.{pairs_of};
@@ -13,7 +13,7 @@ ghost use Rattle.blart_map.specs.Content.{pairs};
 use crate::bulk::ascending::push;
 use crate::map::TreeMap;
 use crate::placing::place_reserved;
-use art_tree::{Frame, Leaves, Tree, Visits};
+use art_tree::{Frame, Leaves, Tree};
 use art_walk::Range;
 use blart_keys::AsBytes;
 use std::alloc::{AllocError, Global};
@@ -65,37 +65,15 @@ impl<K: AsBytes + Drop, V: Drop, const PREFIX_LEN: usize> TreeMap<K, V, PREFIX_L
 }
 
 impl<K: AsBytes, V, const PREFIX_LEN: usize> TreeMap<K, V, PREFIX_LEN> {
-    // The pairs whose keys' bytes are not less than the query's.
-    #[tactic(auto, unfolding(crate::specs::Content::pairs))]
-    fn walk_from<Q: AsBytes>(&self, query: &Q) -> Range<'_, K, V, PREFIX_LEN>
-        ensures value { result
-            ≡ between (bytes K.bytes) (pairs self.now)
-            (Included (Q.bytes query.now)) Unbounded }
-        ensures fits { CanCount result }
-    {
-        self.law();
-        let start = Bound::Included(query.as_bytes());
-        Range::new(&self.tree, start, Bound::Unbounded, &mut Visits::new())
-    }
-
-    // The pairs whose keys' bytes are less than the query's.
-    #[tactic(auto, unfolding(crate::specs::Content::pairs))]
-    fn walk_below<Q: AsBytes>(&self, query: &Q) -> Range<'_, K, V, PREFIX_LEN>
-        ensures { result
-            ≡ between (bytes K.bytes) (pairs self.now)
-            Unbounded (Excluded (Q.bytes query.now)) }
-    {
-        let end = Bound::Excluded(query.as_bytes());
-        Range::new(&self.tree, Bound::Unbounded, end, &mut Visits::new())
-    }
-
     // How many keys' bytes are not less than the query's.
     fn count_from<Q: AsBytes>(&self, query: &Q) -> usize
         ensures { result ≡ length (between (bytes K.bytes) (pairs self.now)
             (Included (Q.bytes query.now)) Unbounded) }
     {
         self.law();
-        count_after(self.walk_below(query), self.walk_from(query), self.len())
+        let low = self.range(Bound::Unbounded, Bound::Excluded(query));
+        let high = self.range(Bound::Included(query), Bound::Unbounded);
+        count_after(low, high, self.len())
     }
 }
 
@@ -165,11 +143,22 @@ fn part_anew<K: AsBytes + Drop, V: Drop, const P: usize>(
 {
     from.law();
     let (mut lower, low_frame, high_frame) = memory_for(alloc, low, count)?;
-    let mut upper = replace(from, Tree::new(alloc)).into_leaves();
+    let mut upper = take_leaves(from, alloc);
     move_leaves(&mut upper, &mut lower, low);
     drop(replace(from, Tree::from_leaves(lower, low_frame)));
     drop(replace(to, Tree::from_leaves(upper, high_frame)));
     Ok(())
+}
+
+// Takes the leaves out of a tree, which has none then. The inner nodes are freed whole.
+pub(crate) fn take_leaves<K: AsBytes + Drop, V: Drop, const P: usize>(
+    tree: &mut Tree<K, V, P>,
+    alloc: Global,
+) -> Leaves<K, V>
+    ensures all { result.pairs ≡ tree.old.pairs }
+    ensures none { tree.new.pairs ≡ [] }
+{
+    replace(tree, Tree::new(alloc)).into_leaves()
 }
 
 // Memory for the first leaves, so many, and for the inner nodes of the two trees.

@@ -23,7 +23,7 @@ impl<K: AsBytes + PartialEq, V: PartialEq, const PREFIX_LEN: usize> PartialEq
     /// assert!(left == right);
     /// ```
     fn eq(&self, other: &Self) -> bool {
-        self.len() == other.len() && are_same(self.iter(), other.iter())
+        self.len() == other.len() && are_same(&mut self.iter(), &mut other.iter())
     }
 }
 
@@ -34,14 +34,13 @@ impl<K: AsBytes + Eq, V: Eq, const PREFIX_LEN: usize> Eq for TreeMap<K, V, PREFI
 
 // Whether the pairs are the same, one by one. There are as many on both sides.
 fn are_same<K: PartialEq, V: PartialEq, const P: usize>(
-    left: Iter<'_, K, V, P>,
-    right: Iter<'_, K, V, P>,
+    left: &mut Iter<'_, K, V, P>,
+    right: &mut Iter<'_, K, V, P>,
 ) -> bool
-    requires { length left ≡ length right }
+    requires { length left.old ≡ length right.old }
     ensures { result
-        ≡ pointwise (λ p q. K.eq p.0 q.0 && V.eq p.1 q.1) left.entry right.entry }
+        ≡ pointwise (λ p q. K.eq p.0 q.0 && V.eq p.1 q.1) left.old right.old }
 {
-    let (mut left, mut right) = (left, right);
     while let Some((key, value)) = left.next() {
         let Some((other, its)) = right.next() else {
             return false;

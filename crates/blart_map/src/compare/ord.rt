@@ -22,7 +22,7 @@ impl<K: AsBytes + PartialOrd, V: PartialOrd, const PREFIX_LEN: usize> PartialOrd
 
     /// The first two pairs that are not equal decide, by the keys' own order and then the values'; where there are none the map with fewer pairs is less. Goes over both maps once, up to there.
     fn partial_cmp(&self, other: &Self) -> Option<Ordering> {
-        partial_order(self.iter(), other.iter())
+        partial_order(&mut self.iter(), &mut other.iter())
     }
 }
 
@@ -54,21 +54,20 @@ impl<K: AsBytes + Ord, V: Ord, const PREFIX_LEN: usize> Ord for TreeMap<K, V, PR
     /// assert!(left < right);
     /// ```
     fn cmp(&self, other: &Self) -> Ordering {
-        order(self.iter(), other.iter())
+        order(&mut self.iter(), &mut other.iter())
     }
 }
 
 // How two lists of pairs compare, where some pairs may not.
 fn partial_order<K: PartialOrd, V: PartialOrd, const P: usize>(
-    left: Iter<'_, K, V, P>,
-    right: Iter<'_, K, V, P>,
+    left: &mut Iter<'_, K, V, P>,
+    right: &mut Iter<'_, K, V, P>,
 ) -> Option<Ordering>
     ensures { result
         ≡ slice_partial_cmp
         (λ p q. partial_ordering_then (K.partial_cmp p.0 q.0) (V.partial_cmp p.1 q.1))
-        left.entry right.entry }
+        left.old right.old }
 {
-    let (mut left, mut right) = (left, right);
     while let Some((key, value)) = left.next() {
         let Some((other, its)) = right.next() else {
             return Some(Ordering::Greater);
@@ -103,14 +102,13 @@ fn partial_pair<K: PartialOrd, V: PartialOrd>(
 
 // How two lists of pairs compare.
 fn order<K: Ord, V: Ord, const P: usize>(
-    left: Iter<'_, K, V, P>,
-    right: Iter<'_, K, V, P>,
+    left: &mut Iter<'_, K, V, P>,
+    right: &mut Iter<'_, K, V, P>,
 ) -> Ordering
     ensures { result
         ≡ slice_cmp (λ p q. ordering_then (K.cmp p.0 q.0) (V.cmp p.1 q.1))
-        left.entry right.entry }
+        left.old right.old }
 {
-    let (mut left, mut right) = (left, right);
     while let Some((key, value)) = left.next() {
         let Some((other, its)) = right.next() else {
             return Ordering::Greater;

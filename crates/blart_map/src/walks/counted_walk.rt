@@ -119,7 +119,7 @@ impl<'a, K: AsBytes, V, const PREFIX_LEN: usize> CountedWalk<'a, K, V, WithKeys,
             (λ id. leaf_in self.old.map.now id ≡ Some (result.0.now, result.1.now)) }
         ensures same_left { (w : V) → counted_left (counted_with self.old w) ≡ counted_left self.old }
     {
-        self.map.number_law();
+        self.map.numbers_law();
         let id = self.lent.unwrap();
         self.map.leaf_mut(id)
     }

@@ -18,7 +18,7 @@ impl<K: AsBytes, V, const PREFIX_LEN: usize> TreeMap<K, V, PREFIX_LEN> {
             self.new }
         ensures distinct { AreDistinct self.old }
     {
-        self.number_law();
+        self.numbers_law();
         'leaves: while let Some(id) = self.step(&mut cursor) {
             let (_, value) = self.leaf_mut(id);
             f(value);
@@ -34,7 +34,7 @@ impl<K: AsBytes, V, const PREFIX_LEN: usize> TreeMap<K, V, PREFIX_LEN> {
             self.new }
         ensures distinct { AreDistinct self.old }
     {
-        self.number_law();
+        self.numbers_law();
         'leaves: while let Some(id) = self.step(&mut cursor) {
             let (key, value) = self.leaf_mut(id);
             f(key, value);

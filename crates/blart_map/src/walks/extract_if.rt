@@ -66,7 +66,7 @@ impl<K: AsBytes, V, const PREFIX_LEN: usize> TreeMap<K, V, PREFIX_LEN> {
             (bound_bytes Q.bytes start.entry) (bound_bytes Q.bytes end.entry) }
         ensures same_pred { result.pred ≡ pred }
     {
-        self.number_law();
+        self.numbers_law();
         let cursor = Cursor::range(
             &self.tree,
             as_bytes(start),
@@ -100,7 +100,7 @@ impl<
 
     /// Asks from the first pair that is left on, and takes out the first at which the closure answers `true`.
     fn next(&mut self) -> Option<(K, V)> {
-        self.map.number_law();
+        self.map.numbers_law();
         while let Some(id) = self.map.step(&mut self.cursor) {
             let (key, value) = self.map.leaf_mut(id);
             if (self.pred)(key, value) {
@@ -126,7 +126,7 @@ impl<
 
     /// Asks from the last pair that is left on, and takes out the first at which the closure answers `true`.
     fn next_back(&mut self) -> Option<(K, V)> {
-        self.map.number_law();
+        self.map.numbers_law();
         while let Some(id) = self.map.step_back(&mut self.cursor) {
             let (key, value) = self.map.leaf_mut(id);
             if (self.pred)(key, value) {

@@ -18,13 +18,6 @@ use blart_keys::AsBytes;
 use std::ops::Bound;
 
 impl<K: AsBytes, V, const PREFIX_LEN: usize> TreeMap<K, V, PREFIX_LEN> {
-    // Answers nothing: no number comes twice.
-    pub(crate) fn number_law(&self)
-        ensures { AreDistinct self.now }
-    {
-        self.tree.law();
-    }
-
     /// A cursor over the pairs within both bounds. It holds no map: each call that steps it is given it beside the map. The bounds are in order where the map has pairs, as for [`TreeMap::range`]. Takes no memory.
     ///
     /// ```

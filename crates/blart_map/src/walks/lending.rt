@@ -39,7 +39,7 @@ impl<K: AsBytes, V, const PREFIX_LEN: usize> TreeMap<K, V, PREFIX_LEN> {
         ensures left { counted_left result ≡ self.old }
         ensures none_lent { result.lent ≡ None }
     {
-        self.number_law();
+        self.numbers_law();
         CountedWalk::all(self, WithKeys)
     }
 
@@ -58,7 +58,7 @@ impl<K: AsBytes, V, const PREFIX_LEN: usize> TreeMap<K, V, PREFIX_LEN> {
         ensures left { counted_left result ≡ self.old }
         ensures none_lent { result.lent ≡ None }
     {
-        self.number_law();
+        self.numbers_law();
         CountedWalk::all(self, ValuesAlone)
     }
 
@@ -79,7 +79,7 @@ impl<K: AsBytes, V, const PREFIX_LEN: usize> TreeMap<K, V, PREFIX_LEN> {
         ensures left { lending_left result ≡ under (bytes K.bytes) self.old front.now }
         ensures none_lent { result.lent ≡ None }
     {
-        self.number_law();
+        self.numbers_law();
         let cursor = Cursor::prefix(&self.tree, front, &mut Visits::new());
         LendingWalk::of(self, cursor, BelowFront)
     }
@@ -110,7 +110,7 @@ impl<K: AsBytes, V, const PREFIX_LEN: usize> TreeMap<K, V, PREFIX_LEN> {
             (bound_bytes Q.bytes start.entry) (bound_bytes Q.bytes end.entry) }
         ensures none_lent { result.lent ≡ None }
     {
-        self.number_law();
+        self.numbers_law();
         let cursor = Cursor::range(
             &self.tree,
             as_bytes(start),
@@ -154,7 +154,7 @@ impl<K: AsBytes, V, const PREFIX_LEN: usize> TreeMap<K, V, PREFIX_LEN> {
             (bound_bytes Q.bytes start.entry) (bound_bytes Q.bytes end.entry) }
         ensures decided { result.lent ≡ None }
     {
-        self.number_law();
+        self.numbers_law();
         let cursor = Cursor::range(
             &self.tree,
             as_bytes(start),

@@ -142,7 +142,7 @@ impl<'a, K: AsBytes, V, M, const PREFIX_LEN: usize> LendingWalk<'a, K, V, M, PRE
             (λ id. leaf_in self.old.map.now id ≡ Some (result.0.now, result.1.now)) }
         ensures same_left { (w : V) → lending_left (lending_with self.old w) ≡ lending_left self.old }
     {
-        self.map.number_law();
+        self.map.numbers_law();
         let id = self.lent.unwrap();
         self.map.leaf_mut(id)
     }

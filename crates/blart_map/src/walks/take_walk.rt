@@ -95,7 +95,7 @@ impl<'a, K: AsBytes, V, const PREFIX_LEN: usize> TakeWalk<'a, K, V, PREFIX_LEN> 
             (λ id. leaf_in self.old.map.now id ≡ Some (result.0.now, result.1.now)) }
         ensures same_left { (w : V) → take_left (take_with self.old w) ≡ take_left self.old }
     {
-        self.map.number_law();
+        self.map.numbers_law();
         let id = self.lent.unwrap();
         self.map.leaf_mut(id)
     }
@@ -125,7 +125,7 @@ impl<'a, K: AsBytes + Drop, V: Drop, const PREFIX_LEN: usize> TakeWalk<'a, K, V,
         ensures same_left { take_left self.new ≡ take_left self.old }
         ensures decided { self.new.lent ≡ None }
     {
-        self.map.number_law();
+        self.map.numbers_law();
         let id = self.lent.take().unwrap();
         self.map.take_leaf(id)
     }

@@ -24,7 +24,10 @@ impl<K: NoPrefixesBytes + Drop, const PREFIX_LEN: usize> TreeSet<K, PREFIX_LEN> 
     {
         let mut all = Vec::new(alloc);
         for item in items {
-            all.push(item)?;
+            if let Err(refused) = all.push(item) {
+                drop(all);
+                return Err(refused.into());
+            }
         }
         TreeSet::from_vec(alloc, all)
     }

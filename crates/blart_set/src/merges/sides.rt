@@ -1,5 +1,5 @@
 //! Two sets, walked side by side.
-ghost use Rattle.std.specs.Prelude.{◌≡◌, ◌+◌, ◌⊎◌, [], Some, IfSome, IfNone};
+ghost use Rattle.std.specs.Prelude.{◌≡◌, ◌+◌, ◌⊎◌, [], ◌∷◌, drop, Some, IfSome, IfNone};
 ghost use Rattle.blart_keys.specs.Bytes.{bytes_cmp};
 ghost use Rattle.blart_keys.specs.Content.{Ascends};
 ghost use Rattle.blart_set.specs.Merging.{Steps, Counts, IsBeginning, side_element, one_element, both_element, left_element};
@@ -66,19 +66,30 @@ impl<'a, K: OrderedBytes, const P: usize> Sides<'a, K, P> {
             self.left.advance();
             return Some(Side::Left(x));
         };
+        Some(self.step_least(x, y))
+    }
+
+    // The same, where these are the first that both sides have left. It compares once.
+    #[inline(always)]
+    fn step_least(&mut self, x: &'a K, y: &'a K) -> Side<'a, K>
+        requires left { self.old.left ≡ x.now ∷ drop 1 self.old.left }
+        requires right { self.old.right ≡ y.now ∷ drop 1 self.old.right }
+        ensures steps { Steps K.bytes self.old (Some result) self.new }
+        ensures counted { Counts self.old self.new }
+    {
         match compare(x, y, &mut self.compares) {
             Ordering::Less => {
                 self.left.advance();
-                Some(Side::Left(x))
+                Side::Left(x)
             }
             Ordering::Equal => {
                 self.left.advance();
                 self.right.advance();
-                Some(Side::Both(x))
+                Side::Both(x)
             }
             Ordering::Greater => {
                 self.right.advance();
-                Some(Side::Right(y))
+                Side::Right(y)
             }
         }
     }
@@ -90,10 +101,10 @@ impl<'a, K: OrderedBytes, const P: usize> Sides<'a, K, P> {
         ensures unchanged { IfNone result (self.new ≡ self.old) }
         ensures counted { Counts self.old self.new }
     {
-        let (Some(_), Some(_)) = (self.left.peek(), self.right.peek()) else {
+        let (Some(x), Some(y)) = (self.left.peek(), self.right.peek()) else {
             return None;
         };
-        self.step()
+        Some(self.step_least(x, y))
     }
 
     // The same, where the left side has something left.

@@ -3,8 +3,8 @@ use Rattle.std.proofs.lemmas.List.{map-append}
 use Rattle.std.specs.Iterator.{Yields}
 use Rattle.std.specs.List.{AllZip}
 use Rattle.std.proofs.iter.Next as it
-use Rattle.blart_map.proofs.Moved.BulkPuts.{first_came, on_ok, on_err}
-use Rattle.blart_set.proofs.Cloned.{now, zip_more, cloned_some}
+use Rattle.blart_map.proofs.Moved.BulkPuts.{first_came, on_ok}
+use Rattle.blart_set.proofs.Cloned.{now, zip_more, cloned_some, on_err}
 use Rattle.blart_set.proofs.operators.of_clones.Goals as goal
 
 pub returns-in_err-clone-clause-refused : goal.returns-in_err-clone-clause-refused

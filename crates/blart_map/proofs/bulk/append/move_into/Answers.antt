@@ -11,7 +11,7 @@ use Rattle.blart_map.proofs.bulk.append.move_into.Goals as goal
 pub add_all-requires : goal.add_all-requires
 add_all-requires g c =
     let kb = g.K.AsBytes.bytes in
-    let same = c.into_leaves.ensures ∙ ap (λ t. t.pairs) (c.replace-fewer.ensures.value ∙ c.swap.ensures.x_after) in
+    let same = c.take_leaves.ensures.all ∙ ap (λ t. t.pairs) c.swap.ensures.x_after in
     let content = subst (λ ps. IsContent (bytes kb) (pairs_of ps)) (sym same) (content_map (λ p. p.1) (bytes kb) c.args.to.now.pairs c.law-2.ensures.content) in
     let count = ap (λ (l : List _). length l) same in
     let there = ap room c.swap.ensures.y_after in
@@ -19,19 +19,19 @@ add_all-requires g c =
 
 pub returns-in_ok-reserve-clause-appended : goal.returns-in_ok-reserve-clause-appended
 returns-in_ok-reserve-clause-appended g c =
-    let moved = c.into_leaves.ensures ∙ ap (λ t. t.pairs) (c.replace-fewer.ensures.value ∙ c.swap.ensures.x_after) in
+    let moved = c.take_leaves.ensures.all ∙ ap (λ t. t.pairs) c.swap.ensures.x_after in
     let stayed = ap (λ t. t.pairs) c.swap.ensures.y_after ∙ c.in_ok-reserve.ensures.pairs in
     subst₂ (λ T S. IsUnion (bytes g.K.AsBytes.bytes) (pairs_of T) (pairs_of S) (pairs_of c.add_all.new.to.pairs)) stayed moved c.add_all.ensures
 
 pub move_all-requires : goal.move_all-requires
 move_all-requires g c =
     let kb = g.K.AsBytes.bytes in
-    let same = c.into_leaves-else-len.ensures ∙ ap (λ t. t.pairs) c.replace-fewer-else-len.ensures.value in
+    let same = c.take_leaves-else-len.ensures.all in
     let content = subst (λ ps. IsContent (bytes kb) (pairs_of ps)) (sym same) (content_map (λ p. p.1) (bytes kb) c.args.from.now.pairs c.law.ensures.content) in
     let count = ap (λ (l : List _). length l) same in
     (lit< tt, (content, omega (arith, count, c.len-else-len.ensures, c.in_ok-reserve-2.ensures.ok)))
 
 pub returns-in_ok-reserve-2-clause-appended : goal.returns-in_ok-reserve-2-clause-appended
 returns-in_ok-reserve-2-clause-appended g c =
-    let moved = c.into_leaves-else-len.ensures ∙ ap (λ t. t.pairs) c.replace-fewer-else-len.ensures.value in
+    let moved = c.take_leaves-else-len.ensures.all in
     subst₂ (λ T S. IsUnion (bytes g.K.AsBytes.bytes) (pairs_of T) (pairs_of S) (pairs_of c.move_all.new.to.pairs)) moved c.in_ok-reserve-2.ensures.pairs c.move_all.ensures

@@ -8,7 +8,7 @@ pub count_after-requires : goal.count_after-requires
 unfolding pairs
 count_after-requires g c =
     let kb = g.K.AsBytes.bytes in
-    let low = ap (λ (l : List _). length l) c.walk_below.ensures in
-    let high = ap (λ (l : List _). length l) c.walk_from.ensures.value in
+    let low = ap (λ (l : List _). length l) c.range-low.ensures.value in
+    let high = ap (λ (l : List _). length l) c.range-high.ensures.value in
     let whole = part_lengths (bytes kb) (g.Q.AsBytes.bytes c.args.query.now) (pairs c.args.self.now) c.law.ensures.content in
     (lit< tt, omega (arith, low, high, whole, c.len.ensures))

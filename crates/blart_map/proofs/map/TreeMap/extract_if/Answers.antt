@@ -16,7 +16,7 @@ returns-clause-all g c test =
     let lo = bound_bytes g.Q.AsBytes.bytes c.args.start in
     let hi = bound_bytes g.Q.AsBytes.bytes c.args.end in
     let left = c.range-cursor.ensures.left ∙ ap (λ l. between (bytes kb) ps l (slice_bound c.as_bytes-2.result)) c.as_bytes.ensures ∙ ap (λ h. between (bytes kb) ps lo h) c.as_bytes-2.ensures in
-    opened_taken test c.range-cursor.result c.range-cursor.result ps c.args.self.now c.args.self.now c.self.view_is refl c.number_law.ensures refl (λ pair. is_from_start lo (kb pair.0) && is_up_to_end hi (kb pair.0)) left
+    opened_taken test c.range-cursor.result c.range-cursor.result ps c.args.self.now c.args.self.now c.self.view_is refl c.numbers_law.ensures.distinct refl (λ pair. is_from_start lo (kb pair.0) && is_up_to_end hi (kb pair.0)) left
 
 pub returns-clause-picks : goal.returns-clause-picks
 returns-clause-picks g c test =

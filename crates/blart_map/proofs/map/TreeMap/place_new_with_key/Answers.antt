@@ -3,16 +3,16 @@ use Rattle.blart_keys.specs.Content.{IsContent, IsPut}
 use Rattle.art_tree.specs.Leaves.{bytes}
 use Rattle.blart_map.proofs.map.TreeMap.place_new_with_key.Goals as goal
 
-pub returns-clause-placed : goal.returns-clause-placed
-returns-clause-placed g c =
+pub returns-in-Ok-clause-placed : goal.returns-in-Ok-clause-placed
+returns-in-Ok-clause-placed g c =
     let kb = g.K.AsBytes.bytes in
     let v = c.default-value.result in (
       v,
       (_, c.default-value.ensures, refl),
       record {
-        put = subst (λ S. IsPut (bytes kb) S (c.place-id.result, (c.args.key, v)) c.place-id.new.self.pairs) (c.in_ok-point.ensures.pairs ∙ c.self.view_is) c.place-id.ensures.put;
+        put = subst (λ S. IsPut (bytes kb) S (c.place-id.result, (c.args.key, v)) c.place-id.new.self.pairs) (c.in-Ok.ensures.pairs ∙ c.self.view_is) c.place-id.ensures.put;
         now = c.place-id.ensures.now;
         distinct = c.law.ensures.distinct;
-        content = subst (IsContent (bytes kb)) c.self.view_is c.in_ok-point.ensures.content;
+        content = subst (IsContent (bytes kb)) c.self.view_is c.in-Ok.ensures.content;
       },
     )

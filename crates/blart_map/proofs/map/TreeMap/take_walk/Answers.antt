@@ -12,7 +12,7 @@ returns-clause-all g c test =
     let lo = bound_bytes g.Q.AsBytes.bytes c.args.start in
     let hi = bound_bytes g.Q.AsBytes.bytes c.args.end in
     let left = c.range-cursor.ensures.left ∙ ap (λ l. between (bytes kb) ps l (slice_bound c.as_bytes-2.result)) c.as_bytes.ensures ∙ ap (λ h. between (bytes kb) ps lo h) c.as_bytes-2.ensures in
-    opened_taken test c.range-cursor.result c.of.result.cursor ps c.args.self.now c.of.result.map.now c.self.view_is c.of.ensures.unchanged c.number_law.ensures c.of.ensures.same_cursor (λ pair. is_from_start lo (kb pair.0) && is_up_to_end hi (kb pair.0)) left
+    opened_taken test c.range-cursor.result c.of.result.cursor ps c.args.self.now c.of.result.map.now c.self.view_is c.of.ensures.unchanged c.numbers_law.ensures.distinct c.of.ensures.same_cursor (λ pair. is_from_start lo (kb pair.0) && is_up_to_end hi (kb pair.0)) left
 
 pub returns-clause-picks : goal.returns-clause-picks
 returns-clause-picks g c test =

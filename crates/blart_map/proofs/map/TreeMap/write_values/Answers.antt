@@ -9,7 +9,7 @@ use Rattle.blart_map.proofs.Written.EachWritten.{writing_start, writing_step, wr
 use Rattle.blart_map.proofs.map.TreeMap.write_values.Goals as goal
 
 pub leaves-init : goal.leaves-init
-leaves-init g c = (c.requires.callable, c.requires.fits, c.number_law.ensures, writing_start (LeavesValue g.F.FnMut) _ _ _)
+leaves-init g c = (c.requires.callable, c.requires.fits, c.numbers_law.ensures.distinct, writing_start (LeavesValue g.F.FnMut) _ _ _)
 
 pub f-requires : goal.f-requires
 f-requires g c =

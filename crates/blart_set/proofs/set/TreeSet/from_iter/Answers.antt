@@ -4,14 +4,14 @@ use Rattle.std.proofs.iter.Next as it
 use Rattle.blart_keys.specs.Bulk.{PutsAll}
 use Rattle.blart_keys.specs.Stored.{kept_item}
 use Rattle.blart_set.specs.Elements.{elements}
-use Rattle.blart_map.proofs.Moved.BulkPuts.{first_came, refused_some, on_ok, on_err}
+use Rattle.blart_map.proofs.Moved.BulkPuts.{first_came, refused_some, on_ok}
 use Rattle.blart_set.proofs.set.TreeSet.from_iter.Goals as goal
 
-pub returns-in_err-push-clause-refused : goal.returns-in_err-push-clause-refused
-returns-in_err-push-clause-refused g c =
+pub returns-in-Err-clause-refused : goal.returns-in-Err-clause-refused
+returns-in-Err-clause-refused g c =
     let gives = g.I.Iterator.next_gives in
     let came = subst (λ from. Yields gives from c.loop-item.yielded c.loop-item.item-iterator) c.into_iter-item-iterator.ensures.into_iter_gives c.loop-item.yielded_by in
-    on_err c.from_residual.result (first_came gives c.args.items c.loop-item.yielded c.in-Some.item c.next.new.self (it.Yields-more gives c.args.items c.loop-item.yielded c.loop-item.item-iterator c.in-Some.item c.next.new.self came (it.said gives c.in-Some.is c.next.ensures.steps)))
+    first_came gives c.args.items c.loop-item.yielded c.in-Some.item c.next.new.self (it.Yields-more gives c.args.items c.loop-item.yielded c.loop-item.item-iterator c.in-Some.item c.next.new.self came (it.said gives c.in-Some.is c.next.ensures.steps))
 
 pub returns-clause-made : goal.returns-clause-made
 returns-clause-made g c =

@@ -20,6 +20,6 @@ returns g c =
       record {
         writes_back = tt;
         value = pair_there s id _ c.unwrap-id.ensures c.leaf_mut.ensures.value;
-        same_left = λ w. same_left s.map.now c.number_law.ensures s.cursor s.lent (count_test s.cursor s.lent s.left s.map.now s.fits) w;
+        same_left = λ w. same_left s.map.now c.numbers_law.ensures.distinct s.cursor s.lent (count_test s.cursor s.lent s.left s.map.now s.fits) w;
       },
     )
