@@ -6,7 +6,7 @@ mod mounts;
 mod parts;
 
 use crate::session::parts::{Keyed, Part};
-use script_words::{Answered, Text, Unanswered, Words};
+use crate::words::{Answered, Text, Unanswered, Words};
 use std::alloc::Global;
 use std::cell::Cell;
 use std::iter::Iterator;

@@ -2,10 +2,10 @@
 //!
 //! The size of an entry whose key type is a parameter is not known, so each of the two key types has functions of its own.
 use crate::words::{
-    EntryCall, EntryLine, OccupiedCall, PlaceCall, VacantCall, ValueCall, length_of, value_of,
+    Answered, EntryCall, EntryLine, OccupiedCall, PlaceCall, ScriptKey, Shown, Text, Unanswered,
+    VacantCall, ValueCall, Words, length_of, value_of,
 };
 use blart_map::{Entry, InsertPrefixError, TreeMap};
-use script_words::{Answered, ScriptKey, Shown, Text, Unanswered, Words};
 use std::alloc::AllocError;
 use std::mem;
 

@@ -1,7 +1,6 @@
 //! What the entries of the first pair and of the last answer.
-use crate::words::{EndCall, OccupiedCall};
+use crate::words::{Answered, EndCall, OccupiedCall, ScriptKey, Shown, Text, Words};
 use blart_map::TreeMap;
-use script_words::{Answered, ScriptKey, Shown, Text, Words};
 use std::mem;
 
 // Adds what the call answers.

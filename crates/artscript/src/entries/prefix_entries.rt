@@ -3,11 +3,11 @@
 //! An entry is made and used in one function, which ends its loan of the map.
 use crate::entries::by_key::MapOf;
 use crate::words::{
-    Left, Lending, OccupiedCall, PlaceCall, PrefixCall, RelatedCall, SetCall, VacantCall,
-    ValueCall, WalkCall, length_of, raise, show_lending, show_walk, text_of, value_of, written,
+    Answered, Left, Lending, OccupiedCall, PlaceCall, PrefixCall, RelatedCall, ScriptKey, SetCall,
+    Shown, Text, Unanswered, VacantCall, ValueCall, WalkCall, Words, length_of, raise,
+    show_lending, show_walk, text_of, value_of, written,
 };
 use blart_map::{PrefixEntry, PrefixKind, PrefixOccupied, SubtreeIter, SubtreeIterMut, TreeMap};
-use script_words::{Answered, ScriptKey, Shown, Text, Unanswered, Words};
 use std::alloc::{AllocError, Global};
 use std::iter::{DoubleEndedIterator, Iterator};
 use std::mem;

@@ -2,10 +2,9 @@
 ghost use Rattle.std.specs.Prelude.{◌≡◌};
 
 use crate::maps::calls::Maps;
-use crate::words::pairs_of;
+use crate::words::{Answered, FixedKey, ScriptKey, Shown, Text, Unanswered, Words, pairs_of};
 use blart_keys::NoPrefixesBytes;
 use blart_map::TreeMap;
-use script_words::{Answered, FixedKey, ScriptKey, Shown, Text, Unanswered, Words};
 use std::alloc::AllocError;
 use std::iter::{IntoIterator, Iterator};
 use std::mem;

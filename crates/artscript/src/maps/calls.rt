@@ -2,9 +2,8 @@
 ghost use Rattle.std.specs.Prelude.{◌≡◌, []};
 ghost use Rattle.blart_map.specs.Content.{pairs};
 
-use crate::words::{MapName, written};
+use crate::words::{Answered, MapName, ScriptKey, Shown, Text, Words, written};
 use blart_map::TreeMap;
-use script_words::{Answered, ScriptKey, Shown, Text, Words};
 use std::alloc::Global;
 use std::mem;
 

@@ -1,7 +1,8 @@
 //! How the first map and the second compare, and what the first is as text.
 use crate::maps::calls::Maps;
-use crate::words::{MapName, have_one_digest};
-use script_words::{Answered, ScriptKey, Shown, Text, Unanswered, Words, show_debug};
+use crate::words::{
+    Answered, MapName, ScriptKey, Shown, Text, Unanswered, Words, have_one_digest, show_debug,
+};
 
 impl<K: ScriptKey, const PREFIX_LEN: usize> Maps<K, PREFIX_LEN> {
     /// Makes the call of this name, which compares the maps, and adds its answer.

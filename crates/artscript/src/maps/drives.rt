@@ -1,8 +1,7 @@
 //! The call that makes calls in turn.
 use crate::maps::calls::Maps;
-use crate::words::turns_of;
+use crate::words::{Answered, ScriptKey, Shown, Text, Words, show_list, turns_of};
 use blart_map::{Reply, drive};
-use script_words::{Answered, ScriptKey, Shown, Text, Words, show_list};
 use std::alloc::AllocError;
 
 impl<K: ScriptKey, const PREFIX_LEN: usize> Maps<K, PREFIX_LEN> {

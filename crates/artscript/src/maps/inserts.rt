@@ -2,9 +2,8 @@
 ghost use Rattle.std.specs.Prelude.{◌≡◌};
 
 use crate::maps::calls::Maps;
-use crate::words::{MapName, value_of};
+use crate::words::{Answered, FixedKey, MapName, ScriptKey, Shown, Text, Words, value_of};
 use blart_keys::NoPrefixesBytes;
-use script_words::{Answered, FixedKey, ScriptKey, Shown, Text, Words};
 
 impl<const PREFIX_LEN: usize> Maps<Vec<u8>, PREFIX_LEN> {
     /// Makes the call of this name with these words after it, and adds its answer.

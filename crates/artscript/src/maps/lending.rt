@@ -4,9 +4,10 @@ ghost use Rattle.blart_keys.specs.KeyBytes.{vec_bytes};
 ghost use Rattle.blart_map.specs.Content.{pairs};
 
 use crate::maps::calls::Maps;
-use crate::words::{Lending, raise, show_lending, text_of};
+use crate::words::{
+    Answered, Lending, ScriptKey, Text, Unanswered, Words, raise, show_lending, text_of,
+};
 use blart_map::{IterMut, PrefixMut, RangeMut, ValuesMut};
-use script_words::{Answered, ScriptKey, Text, Unanswered, Words};
 use std::alloc::Global;
 use std::ops::Bound;
 

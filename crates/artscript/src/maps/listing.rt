@@ -1,7 +1,7 @@
 //! All that both maps have.
 use crate::maps::calls::Maps;
+use crate::words::{Answered, ScriptKey, Shown, Text};
 use blart_map::TreeMap;
-use script_words::{Answered, ScriptKey, Shown, Text};
 use std::iter::{DoubleEndedIterator, Iterator};
 
 impl<K: ScriptKey, const PREFIX_LEN: usize> Maps<K, PREFIX_LEN> {

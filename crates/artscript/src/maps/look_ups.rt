@@ -5,9 +5,8 @@ ghost use Rattle.blart_map.specs.Content.{pairs};
 
 use crate::maps::calls::Maps;
 use crate::maps::within::show_order;
-use crate::words::{Left, MapName, show_walk};
+use crate::words::{Answered, Left, MapName, ScriptKey, Shown, Text, Unanswered, Words, show_walk};
 use blart_map::Visits;
-use script_words::{Answered, ScriptKey, Shown, Text, Unanswered, Words};
 use std::ops::Bound;
 
 impl<K: ScriptKey, const PREFIX_LEN: usize> Maps<K, PREFIX_LEN> {

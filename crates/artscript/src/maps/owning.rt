@@ -1,8 +1,7 @@
 //! Walks that take the map apart.
 use crate::maps::calls::Maps;
-use crate::words::{Left, MapName, show_walk};
+use crate::words::{Answered, Left, MapName, ScriptKey, Text, Words, show_walk};
 use blart_map::TreeMap;
-use script_words::{Answered, ScriptKey, Text, Words};
 use std::iter::IntoIterator;
 use std::mem;
 

@@ -5,9 +5,8 @@ ghost use Rattle.blart_keys.specs.Bounds.{bound_bytes, CanRange};
 ghost use Rattle.blart_keys.specs.KeyBytes.{vec_bytes};
 
 use crate::maps::calls::Maps;
-use crate::words::ValuePick;
+use crate::words::{Answered, ScriptKey, Shown, Text, Unanswered, ValuePick, Words};
 use blart_map::TakeWalk;
-use script_words::{Answered, ScriptKey, Shown, Text, Unanswered, Words};
 use std::alloc::AllocError;
 use std::iter;
 use std::iter::{DoubleEndedIterator, Iterator};

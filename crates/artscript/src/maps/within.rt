@@ -1,8 +1,7 @@
 //! The calls of the pairs within two bounds, or below some bytes.
 use crate::maps::calls::Maps;
-use crate::words::MapName;
+use crate::words::{Answered, MapName, ScriptKey, Shown, Text, Unanswered, Words};
 use blart_map::bounds_in_order;
-use script_words::{Answered, ScriptKey, Shown, Text, Unanswered, Words};
 use std::ops::Bound;
 
 impl<K: ScriptKey, const PREFIX_LEN: usize> Maps<K, PREFIX_LEN> {

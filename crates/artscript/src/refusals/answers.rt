@@ -2,7 +2,7 @@
 use crate::refusals::failure::Failure;
 use crate::refusals::standing::{changed, stands};
 use crate::session::Session;
-use script_words::{Answered, Text, Unanswered};
+use crate::words::{Answered, Text, Unanswered};
 use std::alloc::Global;
 use std::cell::Cell;
 use std::iter::Iterator;

@@ -1,5 +1,5 @@
 //! What stops a script.
-use script_words::{Text, Unanswered};
+use crate::words::{Text, Unanswered};
 
 /// Why a script has no answers.
 #[derive(Drop)]

@@ -1,7 +1,7 @@
 //! What came of a script in which a request was refused.
 use crate::refusals::answers::{Answers, answer_script};
 use crate::refusals::failure::Failure;
-use script_words::{Text, Unanswered};
+use crate::words::{Text, Unanswered};
 use std::alloc::Global;
 
 /// What came of a script, of whose requests one at most is refused.

@@ -3,7 +3,7 @@
 //! That must be what the lines before it make in a session of their own, for which there is memory. A line of `extend` may have added some of its items, from the first on.
 use crate::refusals::answers::{PREFIX_LEN, answer};
 use crate::session::Session;
-use script_words::{Answered, Text, Unanswered};
+use crate::words::{Answered, Text, Unanswered};
 use std::alloc::Global;
 use std::cell::Cell;
 use std::iter::Iterator;

@@ -1,8 +1,7 @@
 //! A map whose values count how often one is dropped, and the calls of it.
 use crate::maps::list_map;
-use crate::words::{Left, MapName, show_walk};
+use crate::words::{Answered, Left, MapName, Shown, Text, Unanswered, Words, show_walk};
 use blart_map::TreeMap;
-use script_words::{Answered, Shown, Text, Unanswered, Words};
 use std::alloc::{AllocError, Global};
 use std::cell::Cell;
 use std::iter::IntoIterator;

@@ -1,8 +1,7 @@
 //! The table of mounts of a part of a script, and the calls of it.
-use crate::words::{Left, named, show_walk};
+use crate::words::{Answered, Left, Shown, Text, Unanswered, Words, named, show_walk};
 use blart_map::Visits;
 use prefix_router::Mounts;
-use script_words::{Answered, Shown, Text, Unanswered, Words};
 use std::alloc::{AllocError, Global};
 use std::iter::Iterator;
 

@@ -6,9 +6,10 @@ use crate::maps::Maps;
 use crate::session::counted::CountedMap;
 use crate::session::mounts::Table;
 use crate::sets::Sets;
-use crate::words::{LineCall, MapName, Tagged, named};
+use crate::words::{
+    Answered, FixedKey, LineCall, MapName, ScriptKey, Tagged, Text, Unanswered, Words, named,
+};
 use blart_keys::{I32Key, U64Key, ZKey};
-use script_words::{Answered, FixedKey, ScriptKey, Text, Unanswered, Words};
 use std::alloc::{AllocError, Global};
 use std::cell::Cell;
 

@@ -2,10 +2,9 @@
 ghost use Rattle.std.specs.Prelude.{◌≡◌};
 
 use crate::sets::calls::Sets;
-use crate::words::elements_of;
+use crate::words::{Answered, FixedKey, ScriptKey, Shown, Text, Unanswered, Words, elements_of};
 use blart_keys::NoPrefixesBytes;
 use blart_set::TreeSet;
-use script_words::{Answered, FixedKey, ScriptKey, Shown, Text, Unanswered, Words};
 use std::alloc::AllocError;
 use std::iter::{IntoIterator, Iterator};
 use std::mem;

@@ -1,7 +1,8 @@
 //! How the first set and the second compare, and what the first is as text.
 use crate::sets::calls::Sets;
-use crate::words::{SetName, have_one_digest};
-use script_words::{Answered, ScriptKey, Shown, Text, Unanswered, Words, show_debug};
+use crate::words::{
+    Answered, ScriptKey, SetName, Shown, Text, Unanswered, Words, have_one_digest, show_debug,
+};
 
 impl<K: ScriptKey, const PREFIX_LEN: usize> Sets<K, PREFIX_LEN> {
     /// Makes the call of this name, which compares the sets, and adds its answer.

@@ -1,8 +1,7 @@
 //! How often merges and tests of both sets compare elements.
 use crate::sets::calls::Sets;
-use crate::words::{Compared, SetName};
+use crate::words::{Answered, Compared, ScriptKey, SetName, Shown, Text, Unanswered, Words};
 use blart_set::{TreeSet, TryInsertError};
-use script_words::{Answered, ScriptKey, Shown, Text, Unanswered, Words};
 use std::cell::Cell;
 use std::iter::Iterator;
 

@@ -1,7 +1,7 @@
 //! All that both sets have.
 use crate::sets::calls::Sets;
+use crate::words::{Answered, ScriptKey, Shown, Text};
 use blart_set::TreeSet;
-use script_words::{Answered, ScriptKey, Shown, Text};
 use std::iter::{DoubleEndedIterator, Iterator};
 
 impl<K: ScriptKey, const PREFIX_LEN: usize> Sets<K, PREFIX_LEN> {

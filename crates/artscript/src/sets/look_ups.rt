@@ -1,8 +1,7 @@
 //! The calls that leave the sets as they are.
 use crate::sets::calls::Sets;
-use crate::words::SetName;
+use crate::words::{Answered, ScriptKey, SetName, Shown, Text, Words};
 use blart_keys::OrderedBytes;
-use script_words::{Answered, ScriptKey, Shown, Text, Words};
 
 impl<K: ScriptKey, const PREFIX_LEN: usize> Sets<K, PREFIX_LEN> {
     /// Makes the call of this name, which leaves the sets as they are, and adds its answer.

@@ -2,9 +2,10 @@
 ghost use Rattle.std.specs.Prelude.{◌≡◌};
 
 use crate::sets::calls::Sets;
-use crate::words::{SetName, show_items};
+use crate::words::{
+    Answered, FixedKey, ScriptKey, SetName, Shown, Text, Unanswered, Words, show_items,
+};
 use blart_set::TreeSet;
-use script_words::{Answered, FixedKey, ScriptKey, Shown, Text, Unanswered, Words};
 use std::alloc::AllocError;
 
 impl<K: FixedKey, const PREFIX_LEN: usize> Sets<K, PREFIX_LEN> {

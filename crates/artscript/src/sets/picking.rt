@@ -5,8 +5,7 @@ ghost use Rattle.blart_keys.specs.KeyBytes.{vec_bytes};
 ghost use Rattle.blart_set.specs.Elements.{elements};
 
 use crate::sets::calls::Sets;
-use crate::words::BytesPick;
-use script_words::{Answered, ScriptKey, Shown, Text, Unanswered, Words};
+use crate::words::{Answered, BytesPick, ScriptKey, Shown, Text, Unanswered, Words};
 use std::alloc::AllocError;
 use std::iter;
 use std::iter::{DoubleEndedIterator, Iterator};

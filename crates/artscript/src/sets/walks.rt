@@ -4,10 +4,11 @@ ghost use Rattle.blart_keys.specs.KeyBytes.{vec_bytes};
 ghost use Rattle.blart_set.specs.Elements.{elements};
 
 use crate::sets::calls::Sets;
-use crate::words::{Left, SetName, show_items, show_walk};
+use crate::words::{
+    Answered, Left, ScriptKey, SetName, Shown, Text, Unanswered, Words, show_items, show_walk,
+};
 use blart_keys::OrderedBytes;
 use blart_set::{TreeSet, bounds_in_order};
-use script_words::{Answered, ScriptKey, Shown, Text, Unanswered, Words};
 use std::iter::IntoIterator;
 use std::mem;
 use std::ops::Bound;

@@ -8,8 +8,9 @@ ghost use Rattle.std.proofs.lemmas.Slice.Eq.{bytes_eq-Decides};
 ghost use Rattle.blart_keys.specs.Keys.{AreBytes};
 ghost use borrow.Author.Rules.{rules};
 
+use crate::words::answered::Answered;
+use crate::words::text::{Shown, Text, show_bytes};
 use blart_keys::{AsBytes, OrderedBytes};
-use script_words::{Answered, Shown, Text, show_bytes};
 use std::cell::Cell;
 use std::cmp::Ordering;
 

@@ -1,8 +1,9 @@
 //! The calls of the entries of the first pair and of the last.
 ghost use Rattle.std.specs.Prelude.{◌≡◌, None, OnOk};
 
+use crate::words::answered::Unanswered;
 use crate::words::entry_calls::{EntryCall, EntryLine, OccupiedCall};
-use script_words::{Unanswered, Words};
+use crate::words::reading::Words;
 
 /// A call of an entry at an end.
 #[derive(Clone, Copy)]

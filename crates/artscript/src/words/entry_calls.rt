@@ -1,6 +1,7 @@
 //! The calls of entries, and their words.
+use crate::words::answered::Unanswered;
 use crate::words::named::named;
-use script_words::{Unanswered, Words};
+use crate::words::reading::Words;
 
 /// A call of an entry, and what is added before it to a value that is stored.
 #[derive(Clone, Copy)]

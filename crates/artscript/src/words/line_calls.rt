@@ -1,7 +1,8 @@
 //! The call that a line names.
+use crate::words::answered::Unanswered;
 use crate::words::map_names::{MapName, map_name_of};
+use crate::words::reading::Words;
 use crate::words::set_names::{SetName, set_name_of};
-use script_words::{Unanswered, Words};
 
 /// A call of the maps, or of the sets.
 #[derive(Clone, Copy)]

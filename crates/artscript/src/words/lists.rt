@@ -1,5 +1,7 @@
 //! Lists of keys and of pairs.
-use script_words::{ScriptKey, Unanswered, Words};
+use crate::words::answered::Unanswered;
+use crate::words::keys::ScriptKey;
+use crate::words::reading::Words;
 use std::alloc::{AllocError, Global};
 
 /// The pairs that the words are.

@@ -1,6 +1,7 @@
 //! What closures look for.
-use script_words::{Unanswered, Words};
 
+use crate::words::answered::Unanswered;
+use crate::words::reading::Words;
 /// A value that, when a number is added, leaves this rest.
 #[derive(Clone, Copy)]
 pub struct ValuePick {

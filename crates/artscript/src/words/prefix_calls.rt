@@ -1,9 +1,10 @@
 //! The calls of prefix entries, and their words.
+use crate::words::answered::Unanswered;
 use crate::words::entry_calls::{
     EntryCall, OccupiedCall, PlaceCall, VacantCall, ValueCall, named_call,
 };
 use crate::words::named::named;
-use script_words::{Unanswered, Words};
+use crate::words::reading::Words;
 
 /// A call of a prefix entry.
 #[derive(Clone, Copy)]

@@ -4,8 +4,10 @@ ghost use Rattle.std.proofs.Common.{◌∙◌, sym};
 ghost use Rattle.std.proofs.lemmas.Slice.Eq.{bytes_eq-Decides};
 ghost use Rattle.blart_keys.specs.KeyLaws.{begins_same_length};
 
+use crate::words::answered::{Answered, Unanswered};
+use crate::words::keys::{FixedKey, ScriptKey};
+use crate::words::text::{Shown, Text, show_bytes};
 use blart_keys::{AsBytes, NoPrefixesBytes, OrderedBytes};
-use script_words::{Answered, FixedKey, ScriptKey, Shown, Text, Unanswered, show_bytes};
 
 /// Three bytes as a key, and a tag that no comparison sees.
 #[derive(Clone, Copy)]

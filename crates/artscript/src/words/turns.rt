@@ -1,7 +1,9 @@
 //! Calls that are made in turn.
+use crate::words::answered::Unanswered;
+use crate::words::keys::ScriptKey;
 use crate::words::named::named;
+use crate::words::reading::Words;
 use blart_keys::Call;
-use script_words::{ScriptKey, Unanswered, Words};
 use std::alloc::{AllocError, Global};
 
 /// The calls that the words are.

@@ -1,5 +1,5 @@
 //! What calls do with values and keys.
-use script_words::ScriptKey;
+use crate::words::keys::ScriptKey;
 use std::alloc::AllocError;
 use std::hash::{DefaultHasher, Hash, Hasher};
 use std::mem;

@@ -1,7 +1,8 @@
 //! Walks, and what their steps give.
 ghost use Rattle.std.specs.Iterator.{IsFinite};
 
-use script_words::{Answered, Shown, Text, Unanswered};
+use crate::words::answered::{Answered, Unanswered};
+use crate::words::text::{Shown, Text};
 use std::alloc::{AllocError, Global};
 use std::iter::{DoubleEndedIterator, Iterator};
 

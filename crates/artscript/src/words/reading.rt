@@ -3,11 +3,11 @@ ghost use Rattle.std.specs.Prelude.{◌≡◌, true, IfOk, Some, Contains};
 ghost use Rattle.std.specs.List.{list_all};
 ghost use Rattle.std.specs.Char.{is_ascii_digit};
 ghost use Rattle.std.specs.Str.Parse.{digits_value};
-ghost use Rattle.script_words.specs.Words.{read_bytes, read_number, below_limit};
-ghost use Rattle.script_words.specs.Words as spec;
+ghost use Rattle.artscript.specs.Words.{read_bytes, read_number, below_limit};
+ghost use Rattle.artscript.specs.Words as spec;
 
-use crate::answered::{Answered, Unanswered};
-use crate::keys::ScriptKey;
+use crate::words::answered::{Answered, Unanswered};
+use crate::words::keys::ScriptKey;
 use hex::FromHexError;
 use std::alloc::{AllocError, Global};
 use std::ops::Bound;

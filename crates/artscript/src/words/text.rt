@@ -1,5 +1,5 @@
 //! Answers as text: what `{:?}` would write, with keys in hexadecimal.
-use crate::answered::{Answered, Unanswered};
+use crate::words::answered::{Answered, Unanswered};
 use blart_keys::{AsBytes, I32Key, InsertPrefixError, Reply, TryInsertError, U64Key, ZKey};
 use std::alloc::{AllocError, Global};
 use std::cmp::Ordering;

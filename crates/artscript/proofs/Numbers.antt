@@ -10,7 +10,7 @@ use Rattle.std.proofs.lemmas.Bool.Decides.{nat_tests}
 use Rattle.std.proofs.lemmas.Fmt.{IsAscii-from_digits}
 use Rattle.std.proofs.lemmas.Str.{IsUtf8-from_ascii}
 use Rattle.std.proofs.lemmas.Str.Parse.{IsNumeralModel, numerals_by_value, tells_all_ascii_digits, parse_digits}
-use Rattle.script_words.specs.Words.{below_limit, is_numeral}
+use Rattle.artscript.specs.Words.{below_limit, is_numeral}
 
 -- the kit's lemmas on digits, by the kit's own test
 digits : IsNumeralModel (λ ds. all_ascii_digits ds ≡ true) (digits_value 10)

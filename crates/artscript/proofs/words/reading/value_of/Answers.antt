@@ -1,7 +1,7 @@
 use Rattle.std.proofs.Common.{◌∙◌, subst}
 use Rattle.std.specs.Str.Parse.{ParsesUnsigned}
-use Rattle.script_words.proofs.Numbers.{is_text, value_read}
-use Rattle.script_words.proofs.reading.value_of.Goals as goal
+use Rattle.artscript.proofs.Numbers.{is_text, value_read}
+use Rattle.artscript.proofs.words.reading.value_of.Goals as goal
 
 pub unreachable-requires : goal.unreachable-requires
 unreachable-requires c = c.in-Err.ensures.cases.0 (is_text c.args.digits.now c.requires)

@@ -2,8 +2,8 @@
 ghost use Rattle.std.specs.Prelude.{◌≡◌, IfOk};
 ghost use Rattle.std.specs.Int.{to_be_bytes, w32};
 
-use crate::answered::Unanswered;
-use crate::text::Shown;
+use crate::words::answered::Unanswered;
+use crate::words::text::Shown;
 use blart_keys::{AsBytes, I32Key, NoPrefixesBytes, OrderedBytes, U64Key, ZKey, ZKeyError};
 use std::alloc::AllocError;
 use std::fmt::Debug;
