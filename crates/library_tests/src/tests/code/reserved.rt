@@ -13,6 +13,7 @@ fn fill_map<const P: usize>(rt: &impl Abort, map: &mut TreeMap<u8, usize, P>) {
     assert!(rt; matches!(room.try_insert(5, 4), Ok(Some(3))));
     assert!(rt; matches!(room.try_insert(3, 5), Ok(None)));
     assert!(rt; room.left() == 1);
+    drop(room);
 }
 
 fn fills_map<const P: usize>(rt: &(impl Abort + AllocGlobal)) {
@@ -38,6 +39,7 @@ fn fill_words(rt: &(impl Abort + AllocGlobal), map: &mut TreeMap<Vec<u8>, usize,
     assert!(rt; room.left() == 1);
     assert!(rt; room.try_insert(vector(rt, b"cars"), 2).is_err());
     assert!(rt; room.left() == 1);
+    drop(room);
 }
 
 #[test]
@@ -56,6 +58,7 @@ fn fill_set(rt: &impl Abort, set: &mut TreeSet<u8, 2>) {
     assert!(rt; matches!(room.try_insert(3), Ok(false)));
     assert!(rt; room.insert(1));
     assert!(rt; room.left() == 0);
+    drop(room);
 }
 
 #[test]
