@@ -5,7 +5,8 @@ use std::alloc::{AllocError, Global};
 use std::process::Abort;
 
 // The example of `blart_map::InnerOccupiedEntry`.
-fn inner_occupied_entry(rt: &impl Abort, map: &mut Map<'_>) -> Result<(), TryInsertError> {
+fn inner_occupied_entry(rt: &impl Abort, alloc: Global) -> Result<(), TryInsertError> {
+    let mut map = TreeMap::new(alloc);
     map.try_insert("car", 1)?;
     map.try_insert("cat", 2)?;
     if let PrefixKind::Inner(entry) = map.prefix_entry("ca").kind() {
@@ -14,6 +15,7 @@ fn inner_occupied_entry(rt: &impl Abort, map: &mut Map<'_>) -> Result<(), TryIns
     }
     assert_eq!(rt; map.get(&"ca"), Some(&4));
     assert_eq!(rt; map.len(), 1);
+    drop(map);
     Ok(())
 }
 
@@ -40,19 +42,15 @@ fn prefix_kind(rt: &impl Abort, map: &mut Map<'_>) -> Result<(), AllocError> {
 
 // The example of `blart_map::PrefixOccupied`.
 fn prefix_occupied(rt: &impl Abort, alloc: Global) -> Result<(), TryInsertError> {
-    let mut map = TreeMap::<&str, i32, 16>::new(alloc);
-    let mut run = || -> Result<(), TryInsertError> {
-        map.try_insert("car", 1)?;
-        if let PrefixEntry::Occupied(entry) = map.prefix_entry("ca") {
-            assert_eq!(rt; entry.get_key(), Some(&"car"));
-            *entry.insert(2) = 3;
-        }
-        assert_eq!(rt; map.get(&"ca"), Some(&3));
-        Ok(())
-    };
-    let ran = run();
+    let mut map = TreeMap::new(alloc);
+    map.try_insert("car", 1)?;
+    if let PrefixEntry::Occupied(entry) = map.prefix_entry("ca") {
+        assert_eq!(rt; entry.get_key(), Some(&"car"));
+        *entry.insert(2) = 3;
+    }
+    assert_eq!(rt; map.get(&"ca"), Some(&3));
     drop(map);
-    ran
+    Ok(())
 }
 
 #[test]
@@ -61,8 +59,7 @@ fn as_shown(rt: HostRuntime) {
     prefix_entry(&rt, &mut map).expect(&rt, "memory");
     map.clear();
     prefix_kind(&rt, &mut map).expect(&rt, "memory");
-    map.clear();
-    inner_occupied_entry(&rt, &mut map).expect(&rt, "memory");
     drop(map);
+    inner_occupied_entry(&rt, rt.alloc()).expect(&rt, "memory");
     prefix_occupied(&rt, rt.alloc()).expect(&rt, "memory");
 }
