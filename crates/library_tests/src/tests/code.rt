@@ -6,14 +6,13 @@ mod closures;
 mod dropped;
 mod hashed;
 mod key_types;
-mod orders;
 mod reserved;
 mod shapes;
 mod tagged;
 mod trees;
 
 use blart_keys::AsBytes;
-use blart_map::{TreeMap, Values};
+use blart_map::TreeMap;
 use std::iter::Iterator;
 use std::process::Abort;
 
@@ -25,6 +24,11 @@ fn put<K: AsBytes + Drop, V: Drop, const P: usize>(
     value: V,
 ) {
     assert!(rt; matches!(map.try_insert(key, value), Ok(None)));
+}
+
+// A vector of these bytes.
+fn vector(rt: &(impl Abort + AllocGlobal), bytes: &[u8]) -> Vec<u8> {
+    Vec::from_slice(rt.alloc(), bytes).expect(rt, "memory")
 }
 
 // A map of these keys, each with its place as value.
@@ -39,13 +43,6 @@ fn map_of<K: AsBytes + Copy, const P: usize>(
     map
 }
 
-// The next value of a walk, if there is one.
-fn next_value<K: AsBytes + Drop, const P: usize>(
-    walk: &mut Values<'_, K, usize, P>,
-) -> Option<usize> {
-    walk.next().copied()
-}
-
 // The map has these values, in this order, and nothing else.
 fn assert_values<K: AsBytes + Drop, const P: usize>(
     rt: &impl Abort,
@@ -55,9 +52,9 @@ fn assert_values<K: AsBytes + Drop, const P: usize>(
     assert!(rt; map.len() == want.len());
     let mut walk = map.values();
     for place in 0..want.len() {
-        assert!(rt; next_value(&mut walk) == Some(want[place]));
+        assert!(rt; matches!(walk.next(), Some(value) if *value == want[place]));
     }
-    assert!(rt; next_value(&mut walk).is_none());
+    assert!(rt; walk.next().is_none());
 }
 
 // Adds to a value that was lent, and gives it as it was.

@@ -13,7 +13,7 @@ mod walks;
 use blart_keys::NoPrefixesBytes;
 use blart_map::{InsertPrefixError, TreeMap, TryInsertError};
 use blart_set::TreeSet;
-use std::alloc::{AllocError, AllocFailed};
+use std::alloc::AllocError;
 use std::process::Abort;
 
 // The map of the examples.
@@ -36,12 +36,6 @@ enum Fail {
 
 impl From<AllocError> for Fail {
     fn from(_: AllocError) -> Fail {
-        Fail::Memory
-    }
-}
-
-impl<T: Drop> From<AllocFailed<T>> for Fail {
-    fn from(_: AllocFailed<T>) -> Fail {
         Fail::Memory
     }
 }

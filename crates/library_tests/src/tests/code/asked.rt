@@ -64,13 +64,14 @@ type Map<'a, const P: usize> = TreeMap<Asked<'a>, usize, P>;
 
 const TEN_BYTES: [u8; 10] = [7, 250, 0, 31, 128, 64, 3, 255, 90, 1];
 
+// The byte of a number's last digit.
+fn byte_of(number: usize) -> u8 {
+    TEN_BYTES[number % 10]
+}
+
 // The bytes of a place below 1,000.
 fn bytes_of(place: usize) -> [u8; 3] {
-    [
-        TEN_BYTES[place / 100 % 10],
-        TEN_BYTES[place / 10 % 10],
-        TEN_BYTES[place % 10],
-    ]
+    [byte_of(place / 100), byte_of(place / 10), byte_of(place)]
 }
 
 // Each of a thousand insertions asks the key that comes, and one stored key at most, or two where less than two bytes of a prefix are kept.

@@ -84,6 +84,7 @@ fn raise_between<const P: usize>(rt: &impl Abort, map: &mut Names<P>) {
         assert!(rt; raise(walk.next(), 100) == Some(0));
     }
     assert!(rt; walk.next().is_none());
+    drop(walk);
 }
 
 // Doubles the values of the two names that begin with C.

@@ -19,18 +19,21 @@ impl Drop for Counted<'_> {
 
 type Values<'a> = TreeMap<[u8; 2], Counted<'a>, 2>;
 
-// Eight values, three of them under keys that begin with 1.
+// Three of them begin with 1.
+const KEYS: [[u8; 2]; 8] = [
+    [1, 1],
+    [2, 1],
+    [1, 2],
+    [3, 1],
+    [1, 3],
+    [4, 1],
+    [4, 2],
+    [5, 1],
+];
+
+// Eight values.
 fn put_eight<'a>(rt: &impl Abort, map: &mut Values<'a>, drops: &'a Cell<usize>) {
-    for key in [
-        [1, 1],
-        [2, 1],
-        [1, 2],
-        [3, 1],
-        [1, 3],
-        [4, 1],
-        [4, 2],
-        [5, 1],
-    ] {
+    for key in KEYS {
         super::put(rt, map, key, Counted { drops });
     }
     assert!(rt; drops.get() == 0);

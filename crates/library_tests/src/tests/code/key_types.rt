@@ -1,4 +1,5 @@
 //! The bytes of the keys of each type, and the texts of errors.
+use super::vector;
 use blart_keys::{
     AsBytes, I32Key, InsertPrefixError, OrderedBytes, TryInsertError, U32Key, U64Key, ZKey,
     ZKeyError,
@@ -49,10 +50,6 @@ fn assert_owners<K: OrderedBytes + Debug + Drop>(
     assert_keys(rt, (&&low, low_bytes), (&&high, high_bytes));
     drop(low);
     drop(high);
-}
-
-fn vector(rt: &(impl Abort + AllocGlobal), bytes: &[u8]) -> Vec<u8> {
-    Vec::from_slice(rt.alloc(), bytes).expect(rt, "memory")
 }
 
 fn boxed(rt: &(impl Abort + AllocGlobal), bytes: &[u8]) -> BoxedSlice<u8> {

@@ -1,5 +1,5 @@
 //! Insertions for which room was made.
-use super::{assert_values, map_of};
+use super::{assert_values, map_of, vector};
 use blart_map::TreeMap;
 use blart_set::TreeSet;
 use std::process::Abort;
@@ -13,6 +13,7 @@ fn fill_map<const P: usize>(rt: &impl Abort, map: &mut TreeMap<u8, usize, P>) {
     assert!(rt; matches!(room.try_insert(5, 4), Ok(Some(3))));
     assert!(rt; matches!(room.try_insert(3, 5), Ok(None)));
     assert!(rt; room.left() == 1);
+    drop(room);
 }
 
 fn fills_map<const P: usize>(rt: &(impl Abort + AllocGlobal)) {
@@ -31,18 +32,14 @@ fn a_map_is_filled(rt: HostRuntime) {
     fills_map::<16>(&rt);
 }
 
-// A key of these bytes.
-fn word(rt: &(impl Abort + AllocGlobal), bytes: &[u8]) -> Vec<u8> {
-    Vec::from_slice(rt.alloc(), bytes).expect(rt, "memory")
-}
-
 // Fills a map of words, of which one conflicts.
 fn fill_words(rt: &(impl Abort + AllocGlobal), map: &mut TreeMap<Vec<u8>, usize, 2>) {
     let mut room = map.reserve(2).expect(rt, "memory");
-    assert!(rt; matches!(room.try_insert(word(rt, b"car"), 1), Ok(None)));
+    assert!(rt; matches!(room.try_insert(vector(rt, b"car"), 1), Ok(None)));
     assert!(rt; room.left() == 1);
-    assert!(rt; room.try_insert(word(rt, b"cars"), 2).is_err());
+    assert!(rt; room.try_insert(vector(rt, b"cars"), 2).is_err());
     assert!(rt; room.left() == 1);
+    drop(room);
 }
 
 #[test]
@@ -61,6 +58,7 @@ fn fill_set(rt: &impl Abort, set: &mut TreeSet<u8, 2>) {
     assert!(rt; matches!(room.try_insert(3), Ok(false)));
     assert!(rt; room.insert(1));
     assert!(rt; room.left() == 0);
+    drop(room);
 }
 
 #[test]

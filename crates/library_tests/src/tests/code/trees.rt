@@ -141,16 +141,13 @@ fn children_of_the_largest_kind(rt: HostRuntime) {
 // The leaf before the one of a key, and the leaf after it.
 fn assert_neighbours(rt: &impl Abort, tree: &Tree<&[u8], usize, 2>) {
     let first = tree.search(b"abcdx", &mut Visits::new());
+    let first = first.expect(rt, "the key is there");
     let second = tree.search(b"abcdy", &mut Visits::new());
-    assert!(rt; first.is_some() && first == tree.first());
-    match (first, second) {
-        (Some(first), Some(second)) => {
-            assert!(rt; tree.next_of(first) == Some(second));
-            assert!(rt; tree.prev_of(second) == Some(first));
-            assert!(rt; tree.prev_of(first).is_none());
-        }
-        _ => panic!(rt; "both keys are there"),
-    }
+    let second = second.expect(rt, "the key is there");
+    assert!(rt; tree.first() == Some(first));
+    assert!(rt; tree.next_of(first) == Some(second));
+    assert!(rt; tree.prev_of(second) == Some(first));
+    assert!(rt; tree.prev_of(first).is_none());
 }
 
 #[test]

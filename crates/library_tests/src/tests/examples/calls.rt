@@ -1,7 +1,7 @@
 //! Calls as values, and refused insertions.
-use super::{Fail, Map};
+use super::Map;
 use blart_map::{Call, InsertPrefixError, Reply, TreeMap, TryInsertError, drive};
-use std::alloc::Global;
+use std::alloc::{AllocError, Global};
 use std::process::Abort;
 
 // The example of `blart_keys::InsertPrefixError`.
@@ -20,9 +20,9 @@ fn try_insert_error(rt: &impl Abort, map: &mut Map<'_>) -> Result<(), TryInsertE
 }
 
 // The example of `blart_keys::Call`.
-fn call(rt: &impl Abort, alloc: Global) -> Result<(), Fail> {
+fn call(rt: &impl Abort, alloc: Global) -> Result<(), AllocError> {
     let mut map = TreeMap::<&str, i32, 16>::new(alloc);
-    let mut run = || -> Result<(), Fail> {
+    let mut run = || -> Result<(), AllocError> {
         let calls = vec![in alloc; Call::TryInsert("cat", 1), Call::PopLast]?;
         let replies = drive(&mut map, calls)?;
         assert_eq!(rt; replies.len(), 2);
@@ -36,9 +36,9 @@ fn call(rt: &impl Abort, alloc: Global) -> Result<(), Fail> {
 }
 
 // The example of `blart_keys::Reply`.
-fn reply(rt: &impl Abort, alloc: Global) -> Result<(), Fail> {
+fn reply(rt: &impl Abort, alloc: Global) -> Result<(), AllocError> {
     let mut map = TreeMap::<&str, i32, 16>::new(alloc);
-    let mut run = || -> Result<(), Fail> {
+    let mut run = || -> Result<(), AllocError> {
         let replies = drive(&mut map, vec![in alloc; Call::ContainsKey("cat")]?)?;
         assert!(rt; matches!(replies.first(), Some(Reply::ContainsKey(false))));
         drop(replies);

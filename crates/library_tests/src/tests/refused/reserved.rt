@@ -16,6 +16,7 @@ fn fill<const P: usize>(rt: &(impl Abort + Print), map: &mut Map<P>) -> usize {
         assert!(rt; room.left() > 0);
         assert!(rt; room.insert(KEYS[place], place).is_none());
     }
+    drop(room);
     5
 }
 
@@ -50,6 +51,7 @@ fn fill_set(rt: &(impl Abort + Print), set: &mut TreeSet<u8, 2>) -> usize {
     };
     assert!(rt; room.insert(3));
     assert!(rt; room.insert(1));
+    drop(room);
     2
 }
 

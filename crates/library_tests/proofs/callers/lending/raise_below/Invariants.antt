@@ -1,0 +1,11 @@
+use Rattle.std.proofs.Common.{◌≡◌, ◌+◌, ◌%◌, ◌^◌, length}
+use Rattle.blart.specs.Words.{once_written, lending_left}
+use Rattle.library_tests.proofs.callers.lending.raise_below.Given as goal
+
+abbrev pub invariant-loop-value : goal.invariant-loop-value
+invariant-loop-value g l =
+    (l.walk.map.ghost_name ≡ l.initial.walk.map.ghost_name)
+    × (once_written (λ p. (p.1 + 1) % 2 ^ 64) l.walk ≡ once_written (λ p. (p.1 + 1) % 2 ^ 64) l.initial.walk)
+
+abbrev pub decreases-loop-value : goal.decreases-loop-value
+decreases-loop-value g l = length (lending_left l.walk)
