@@ -15,9 +15,7 @@ impl<K: AsBytes, V, const PREFIX_LEN: usize> Tree<K, V, PREFIX_LEN> {
     {
         self.leaves
     }
-}
 
-impl<K: AsBytes, V, const PREFIX_LEN: usize> Tree<K, V, PREFIX_LEN> {
     /// The tree of leaves whose keys' bytes ascend and do not begin one another, under the numbers that they have. Each inner node is made once, of all its children, so this is faster than a placement of each pair. Takes no memory but the frame's.
     pub fn from_leaves(leaves: Leaves<K, V>, frame: Frame<PREFIX_LEN>) -> Self
         requires content { IsContent (bytes K.bytes) leaves.pairs }
