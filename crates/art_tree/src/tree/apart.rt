@@ -13,7 +13,9 @@ impl<K: AsBytes, V, const PREFIX_LEN: usize> Tree<K, V, PREFIX_LEN> {
     pub fn into_leaves(self) -> Leaves<K, V>
         ensures { result.pairs ≡ self.pairs }
     {
-        self.leaves
+        let Tree { leaves, nodes, .. } = self;
+        drop(nodes);
+        leaves
     }
 
     /// The tree of leaves whose keys' bytes ascend and do not begin one another, under the numbers that they have. Each inner node is made once, of all its children, so this is faster than a placement of each pair. Takes no memory but the frame's.
