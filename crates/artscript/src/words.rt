@@ -36,5 +36,5 @@ pub use set_names::SetName;
 pub use tagged::Tagged;
 pub use text::{Shown, Text, show_bytes, show_debug, show_list};
 pub use turns::turns_of;
-pub use values::{have_one_digest, length_of, raise, value_of, written};
-pub use walks::{Left, Lending, show_items, show_lending, show_walk, text_of};
+pub use values::{have_one_digest, length_of, raise, raised, value_of, written};
+pub use walks::{Left, Lending, show_item, show_items, show_lending, show_walk};

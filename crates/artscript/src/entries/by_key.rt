@@ -34,14 +34,15 @@ fn kind_of<K: ScriptKey, const P: usize>(entry: &EntryOf<'_, K, P>) -> &'static 
 
 // Adds the value that the call lends.
 macro_rules! show_value {
-    ($entry:expr, $call:expr, $text:expr) => {
-        match $call {
-            ValueCall::OrInsert(value) => value_of($entry.or_insert(value)).show($text),
-            ValueCall::OrDefault => value_of($entry.or_default()).show($text),
-            ValueCall::OrInsertWith(value) => value_of($entry.or_insert_with(|| value)).show($text),
-            ValueCall::OrInsertWithKey => value_of($entry.or_insert_with_key(length_of)).show($text),
-        }
-    };
+    ($entry:expr, $call:expr, $text:expr) => {{
+        let lent = match $call {
+            ValueCall::OrInsert(value) => $entry.or_insert(value),
+            ValueCall::OrDefault => $entry.or_default(),
+            ValueCall::OrInsertWith(value) => $entry.or_insert_with(|| value),
+            ValueCall::OrInsertWithKey => $entry.or_insert_with_key(length_of),
+        };
+        value_of(lent).show($text)
+    }};
 }
 
 // Adds the pair of an entry.
@@ -72,14 +73,17 @@ macro_rules! show_place {
 macro_rules! show_occupied {
     ($entry:expr, $call:expr, $text:expr) => {
         match $entry.or_insert_entry(0) {
-            Ok(mut place) => match $call {
-                OccupiedCall::Get => place.get().show($text),
-                OccupiedCall::Insert(value) => place.insert(value).show($text),
-                OccupiedCall::GetMut(value) => mem::replace(place.get_mut(), value).show($text),
-                OccupiedCall::IntoMut(value) => mem::replace(place.into_mut(), value).show($text),
-                OccupiedCall::Remove => place.remove().show($text),
-                OccupiedCall::RemoveEntry => place.remove_entry().show($text),
-            },
+            Ok(mut place) => {
+                let value = match $call {
+                    OccupiedCall::Get => *place.get(),
+                    OccupiedCall::Insert(value) => place.insert(value),
+                    OccupiedCall::GetMut(value) => mem::replace(place.get_mut(), value),
+                    OccupiedCall::IntoMut(value) => mem::replace(place.into_mut(), value),
+                    OccupiedCall::Remove => place.remove(),
+                    OccupiedCall::RemoveEntry => return place.remove_entry().show($text),
+                };
+                value.show($text)
+            }
             Err(refused) => Err(Unanswered::Memory(refused)),
         }
     };
@@ -107,8 +111,9 @@ pub fn enter_bytes<const P: usize>(
     mut words: Words<'_>,
     text: &mut Text,
 ) -> Answered {
-    let key = words.key()?;
+    let word = words.word()?;
     let line = EntryLine::read(words)?;
+    let key = words.key_of(word)?;
     match line.call {
         EntryCall::Key => bytes_key(map, key, line, text),
         EntryCall::Value(call) => bytes_value(map, key, line, call, text),
@@ -215,8 +220,9 @@ pub fn enter_three<const P: usize>(
     mut words: Words<'_>,
     text: &mut Text,
 ) -> Answered {
-    let key = words.key()?;
+    let word = words.word()?;
     let line = EntryLine::read(words)?;
+    let key = words.key_of(word)?;
     match line.call {
         EntryCall::Key => three_key(map, key, by_try, line, text),
         EntryCall::Value(call) => three_value(map, key, by_try, line, call, text),

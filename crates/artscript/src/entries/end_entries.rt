@@ -8,14 +8,17 @@ macro_rules! show_end {
     ($entry:expr, $call:expr, $text:expr) => {
         match $call {
             EndCall::Key => $entry.key().show($text),
-            EndCall::Occupied(call) => match call {
-                OccupiedCall::Get => $entry.get().show($text),
-                OccupiedCall::Insert(value) => $entry.insert(value).show($text),
-                OccupiedCall::GetMut(value) => mem::replace($entry.get_mut(), value).show($text),
-                OccupiedCall::IntoMut(value) => mem::replace($entry.into_mut(), value).show($text),
-                OccupiedCall::Remove => $entry.remove().show($text),
-                OccupiedCall::RemoveEntry => $entry.remove_entry().show($text),
-            },
+            EndCall::Occupied(OccupiedCall::RemoveEntry) => $entry.remove_entry().show($text),
+            EndCall::Occupied(call) => {
+                let value = match call {
+                    OccupiedCall::Get => *$entry.get(),
+                    OccupiedCall::Insert(value) => $entry.insert(value),
+                    OccupiedCall::GetMut(value) => mem::replace($entry.get_mut(), value),
+                    OccupiedCall::IntoMut(value) => mem::replace($entry.into_mut(), value),
+                    _ => $entry.remove(),
+                };
+                value.show($text)
+            }
         }
     };
 }

@@ -4,11 +4,11 @@
 use crate::entries::by_key::MapOf;
 use crate::words::{
     Answered, Left, Lending, OccupiedCall, PlaceCall, PrefixCall, RelatedCall, ScriptKey, SetCall,
-    Shown, Text, Unanswered, VacantCall, ValueCall, WalkCall, Words, length_of, raise,
-    show_lending, show_walk, text_of, value_of, written,
+    Shown, Text, Unanswered, VacantCall, ValueCall, WalkCall, Words, length_of, raise, show_item,
+    show_lending, show_walk, value_of, written,
 };
 use blart_map::{PrefixEntry, PrefixKind, PrefixOccupied, SubtreeIter, SubtreeIterMut, TreeMap};
-use std::alloc::{AllocError, Global};
+use std::alloc::AllocError;
 use std::iter::{DoubleEndedIterator, Iterator};
 use std::mem;
 
@@ -20,8 +20,9 @@ pub fn enter_related<const P: usize>(
     mut words: Words<'_>,
     text: &mut Text,
 ) -> Answered {
-    let key = words.key()?;
+    let word = words.word()?;
     let call = PrefixCall::read(words)?;
+    let key = words.key_of(word)?;
     match call {
         PrefixCall::Key => show_key(map, key, text),
         PrefixCall::GetKey => show_found_key(map, key, text),
@@ -222,22 +223,17 @@ fn show_leaf<const P: usize>(
         return Err(Unanswered::NoCall);
     }
     match entry.or_insert_entry(0) {
-        Ok(mut place) => match call {
-            OccupiedCall::Get => show_after(kind, place.get(), text),
-            OccupiedCall::Insert(value) => show_after(kind, &place.insert(value), text),
-            OccupiedCall::GetMut(value) => show_after(
-                kind,
-                &mem::replace(place.get_mut(), value),
-                text,
-            ),
-            OccupiedCall::IntoMut(value) => show_after(
-                kind,
-                &mem::replace(place.into_mut(), value),
-                text,
-            ),
-            OccupiedCall::Remove => show_after(kind, &place.remove(), text),
-            OccupiedCall::RemoveEntry => show_after(kind, &place.remove_entry(), text),
-        },
+        Ok(mut place) => {
+            let value = match call {
+                OccupiedCall::Get => *place.get(),
+                OccupiedCall::Insert(value) => place.insert(value),
+                OccupiedCall::GetMut(value) => mem::replace(place.get_mut(), value),
+                OccupiedCall::IntoMut(value) => mem::replace(place.into_mut(), value),
+                OccupiedCall::Remove => place.remove(),
+                OccupiedCall::RemoveEntry => return show_after(kind, &place.remove_entry(), text),
+            };
+            show_after(kind, &value, text)
+        }
         Err(refused) => Err(Unanswered::Memory(refused)),
     }
 }
@@ -357,19 +353,19 @@ struct RaisingRelated<'a, K: ScriptKey, const PREFIX_LEN: usize> {
 }
 
 impl<'a, K: ScriptKey, const PREFIX_LEN: usize> Lending for RaisingRelated<'a, K, PREFIX_LEN> {
-    fn front(&mut self, alloc: Global) -> Result<Option<Text>, Unanswered> {
+    fn front(&mut self, part: &[u8], text: &mut Text) -> Result<bool, Unanswered> {
         if let Some(value) = self.walk.next() {
             let was = raise(value, self.add);
-            return text_of((self.walk.key(), was), alloc);
+            return show_item(Some((self.walk.key(), was)), part, text);
         }
-        Ok(None)
+        Ok(false)
     }
 
-    fn back(&mut self, alloc: Global) -> Result<Option<Text>, Unanswered> {
+    fn back(&mut self, part: &[u8], text: &mut Text) -> Result<bool, Unanswered> {
         if let Some(value) = self.walk.next_back() {
             let was = raise(value, self.add);
-            return text_of((self.walk.key(), was), alloc);
+            return show_item(Some((self.walk.key(), was)), part, text);
         }
-        Ok(None)
+        Ok(false)
     }
 }

@@ -80,10 +80,11 @@ impl<K: ScriptKey, const PREFIX_LEN: usize> Maps<K, PREFIX_LEN> {
     // The calls that take the pair at one end.
     fn pop(&mut self, name: MapName, words: Words<'_>, text: &mut Text) -> Answered {
         words.end()?;
-        match name {
-            MapName::PopFirst => self.first.pop_first().show(text),
-            _ => self.first.pop_last().show(text),
-        }
+        let popped = match name {
+            MapName::PopFirst => self.first.pop_first(),
+            _ => self.first.pop_last(),
+        };
+        popped.show(text)
     }
 
     // The calls that take the pair of some bytes, those below them, or those from them on.
@@ -128,11 +129,12 @@ impl<K: ScriptKey, const PREFIX_LEN: usize> Maps<K, PREFIX_LEN> {
         value: u64,
         text: &mut Text,
     ) -> Answered {
-        match name {
-            MapName::GetMut => written(self.first.get_mut(query), value).show(text),
-            MapName::PrefixGetMut => written(self.first.prefix_get_mut(query), value).show(text),
-            _ => self.write_pair(query, value, text),
-        }
+        let old = match name {
+            MapName::GetMut => written(self.first.get_mut(query), value),
+            MapName::PrefixGetMut => written(self.first.prefix_get_mut(query), value),
+            _ => return self.write_pair(query, value, text),
+        };
+        old.show(text)
     }
 
     fn write_pair(&mut self, query: &Vec<u8>, value: u64, text: &mut Text) -> Answered {

@@ -5,10 +5,9 @@ ghost use Rattle.blart_map.specs.Content.{pairs};
 
 use crate::maps::calls::Maps;
 use crate::words::{
-    Answered, Lending, ScriptKey, Text, Unanswered, Words, raise, show_lending, text_of,
+    Answered, Lending, ScriptKey, Text, Unanswered, Words, raise, raised, show_item, show_lending,
 };
 use blart_map::{IterMut, PrefixMut, RangeMut, ValuesMut};
-use std::alloc::Global;
 use std::ops::Bound;
 
 impl<K: ScriptKey, const PREFIX_LEN: usize> Maps<K, PREFIX_LEN> {
@@ -71,14 +70,6 @@ impl<K: ScriptKey, const PREFIX_LEN: usize> Maps<K, PREFIX_LEN> {
     }
 }
 
-// The value as text, as it was before it is added to.
-fn raised(lent: Option<&mut u64>, add: u64, alloc: Global) -> Result<Option<Text>, Unanswered> {
-    match lent {
-        Some(value) => text_of(raise(value, add), alloc),
-        None => Ok(None),
-    }
-}
-
 // A walk over values that adds to each.
 #[derive(Drop)]
 struct RaisingValues<'a, K: ScriptKey, const PREFIX_LEN: usize> {
@@ -87,14 +78,14 @@ struct RaisingValues<'a, K: ScriptKey, const PREFIX_LEN: usize> {
 }
 
 impl<'a, K: ScriptKey, const PREFIX_LEN: usize> Lending for RaisingValues<'a, K, PREFIX_LEN> {
-    fn front(&mut self, alloc: Global) -> Result<Option<Text>, Unanswered> {
+    fn front(&mut self, part: &[u8], text: &mut Text) -> Result<bool, Unanswered> {
         let add = self.add;
-        raised(self.walk.next(), add, alloc)
+        show_item(raised(self.walk.next(), add), part, text)
     }
 
-    fn back(&mut self, alloc: Global) -> Result<Option<Text>, Unanswered> {
+    fn back(&mut self, part: &[u8], text: &mut Text) -> Result<bool, Unanswered> {
         let add = self.add;
-        raised(self.walk.next_back(), add, alloc)
+        show_item(raised(self.walk.next_back(), add), part, text)
     }
 
     fn left(&self) -> Option<usize> {
@@ -110,20 +101,20 @@ struct RaisingPairs<'a, K: ScriptKey, const PREFIX_LEN: usize> {
 }
 
 impl<'a, K: ScriptKey, const PREFIX_LEN: usize> Lending for RaisingPairs<'a, K, PREFIX_LEN> {
-    fn front(&mut self, alloc: Global) -> Result<Option<Text>, Unanswered> {
+    fn front(&mut self, part: &[u8], text: &mut Text) -> Result<bool, Unanswered> {
         if let Some(value) = self.walk.next() {
             let was = raise(value, self.add);
-            return text_of((self.walk.key(), was), alloc);
+            return show_item(Some((self.walk.key(), was)), part, text);
         }
-        Ok(None)
+        Ok(false)
     }
 
-    fn back(&mut self, alloc: Global) -> Result<Option<Text>, Unanswered> {
+    fn back(&mut self, part: &[u8], text: &mut Text) -> Result<bool, Unanswered> {
         if let Some(value) = self.walk.next_back() {
             let was = raise(value, self.add);
-            return text_of((self.walk.key(), was), alloc);
+            return show_item(Some((self.walk.key(), was)), part, text);
         }
-        Ok(None)
+        Ok(false)
     }
 
     fn left(&self) -> Option<usize> {
@@ -139,20 +130,20 @@ struct RaisingRange<'a, K: ScriptKey, const PREFIX_LEN: usize> {
 }
 
 impl<'a, K: ScriptKey, const PREFIX_LEN: usize> Lending for RaisingRange<'a, K, PREFIX_LEN> {
-    fn front(&mut self, alloc: Global) -> Result<Option<Text>, Unanswered> {
+    fn front(&mut self, part: &[u8], text: &mut Text) -> Result<bool, Unanswered> {
         if let Some(value) = self.walk.next() {
             let was = raise(value, self.add);
-            return text_of((self.walk.key(), was), alloc);
+            return show_item(Some((self.walk.key(), was)), part, text);
         }
-        Ok(None)
+        Ok(false)
     }
 
-    fn back(&mut self, alloc: Global) -> Result<Option<Text>, Unanswered> {
+    fn back(&mut self, part: &[u8], text: &mut Text) -> Result<bool, Unanswered> {
         if let Some(value) = self.walk.next_back() {
             let was = raise(value, self.add);
-            return text_of((self.walk.key(), was), alloc);
+            return show_item(Some((self.walk.key(), was)), part, text);
         }
-        Ok(None)
+        Ok(false)
     }
 }
 
@@ -164,19 +155,19 @@ struct RaisingBelow<'a, K: ScriptKey, const PREFIX_LEN: usize> {
 }
 
 impl<'a, K: ScriptKey, const PREFIX_LEN: usize> Lending for RaisingBelow<'a, K, PREFIX_LEN> {
-    fn front(&mut self, alloc: Global) -> Result<Option<Text>, Unanswered> {
+    fn front(&mut self, part: &[u8], text: &mut Text) -> Result<bool, Unanswered> {
         if let Some(value) = self.walk.next() {
             let was = raise(value, self.add);
-            return text_of((self.walk.key(), was), alloc);
+            return show_item(Some((self.walk.key(), was)), part, text);
         }
-        Ok(None)
+        Ok(false)
     }
 
-    fn back(&mut self, alloc: Global) -> Result<Option<Text>, Unanswered> {
+    fn back(&mut self, part: &[u8], text: &mut Text) -> Result<bool, Unanswered> {
         if let Some(value) = self.walk.next_back() {
             let was = raise(value, self.add);
-            return text_of((self.walk.key(), was), alloc);
+            return show_item(Some((self.walk.key(), was)), part, text);
         }
-        Ok(None)
+        Ok(false)
     }
 }

@@ -5,7 +5,7 @@ ghost use Rattle.blart_keys.specs.Bounds.{bound_bytes, CanRange};
 ghost use Rattle.blart_keys.specs.KeyBytes.{vec_bytes};
 
 use crate::maps::calls::Maps;
-use crate::words::{Answered, ScriptKey, Shown, Text, Unanswered, ValuePick, Words};
+use crate::words::{Answered, ScriptKey, Shown, Text, Unanswered, ValuePick, Words, show_item};
 use blart_map::TakeWalk;
 use std::alloc::AllocError;
 use std::iter;
@@ -66,7 +66,7 @@ impl<K: ScriptKey, const PREFIX_LEN: usize> Maps<K, PREFIX_LEN> {
         });
         let mut part: &[u8] = b"";
         for _ in iter::repeat_n((), left) {
-            if !show_pair(walk.next(), part, text)? {
+            if !show_item(walk.next(), part, text)? {
                 break;
             }
             part = b", ";
@@ -123,20 +123,6 @@ impl<K: ScriptKey, const PREFIX_LEN: usize> Maps<K, PREFIX_LEN> {
         let mut walk = self.first.take_walk(start, end);
         take_steps(&mut walk, letters, text)
     }
-}
-
-// Adds the pair, if there is one, after what parts it from the one before, and gives whether there is.
-fn show_pair<K: ScriptKey>(
-    pair: Option<(K, u64)>,
-    part: &[u8],
-    text: &mut Text,
-) -> Result<bool, Unanswered> {
-    let Some(pair) = pair else {
-        return Ok(false);
-    };
-    text.push(part)?;
-    pair.show(text)?;
-    Ok(true)
 }
 
 // Adds what each letter gave, parted by spaces.

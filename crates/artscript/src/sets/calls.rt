@@ -65,10 +65,11 @@ impl<K: ScriptKey, const PREFIX_LEN: usize> Sets<K, PREFIX_LEN> {
     // The calls that take the element at one end.
     fn pop(&mut self, name: SetName, words: Words<'_>, text: &mut Text) -> Answered {
         words.end()?;
-        match name {
-            SetName::PopFirst => self.first.pop_first().show(text),
-            _ => self.first.pop_last().show(text),
-        }
+        let popped = match name {
+            SetName::PopFirst => self.first.pop_first(),
+            _ => self.first.pop_last(),
+        };
+        popped.show(text)
     }
 
     // The calls that take the element of some bytes, those below them, or those from them on.

@@ -1,7 +1,7 @@
 //! How often merges and tests of both sets compare elements.
 use crate::sets::calls::Sets;
 use crate::words::{Answered, Compared, ScriptKey, SetName, Shown, Text, Unanswered, Words};
-use blart_set::{TreeSet, TryInsertError};
+use blart_set::{DEFAULT_PREFIX_LEN, TreeSet, TryInsertError};
 use std::cell::Cell;
 use std::iter::Iterator;
 
@@ -25,44 +25,33 @@ impl<K: ScriptKey, const PREFIX_LEN: usize> Sets<K, PREFIX_LEN> {
         words: Words<'_>,
         text: &mut Text,
     ) -> Answered {
-        let sets = self.compared(count)?;
-        let answered = match name {
-            SetName::IsDisjoint | SetName::IsSubset | SetName::IsSuperset => {
-                sets.relate(name, words, text)
-            }
-            _ => sets.merge(name, words, text),
+        let mut sets = Sets {
+            first: TreeSet::new(self.alloc),
+            second: TreeSet::new(self.alloc),
+            alloc: self.alloc,
         };
+        let answered = self.call_in(&mut sets, count, name, words, text);
         drop(sets);
         answered
     }
 
-    // Sets of the same bytes, which count how often they are compared.
-    fn compared<'a>(
+    // Adds the bytes of both sets to those of others, makes the call of these, and adds its answer.
+    fn call_in<'a>(
         &'a self,
+        sets: &mut Sets<Compared<'a>, DEFAULT_PREFIX_LEN>,
         count: &'a Cell<u64>,
-    ) -> Result<Sets<Compared<'a>, PREFIX_LEN>, Unanswered> {
-        let mut sets = Sets {
-            first: TreeSet::with_prefix_len(self.alloc),
-            second: TreeSet::with_prefix_len(self.alloc),
-            alloc: self.alloc,
-        };
-        match self.fill(&mut sets, count) {
-            Ok(()) => Ok(sets),
-            Err(refused) => {
-                drop(sets);
-                Err(refused)
-            }
-        }
-    }
-
-    // Adds the bytes of both sets to those of the others.
-    fn fill<'a>(
-        &'a self,
-        sets: &mut Sets<Compared<'a>, PREFIX_LEN>,
-        count: &'a Cell<u64>,
+        name: SetName,
+        words: Words<'_>,
+        text: &mut Text,
     ) -> Answered {
         add_all(&mut sets.first, &self.first, count)?;
-        add_all(&mut sets.second, &self.second, count)
+        add_all(&mut sets.second, &self.second, count)?;
+        match name {
+            SetName::IsDisjoint | SetName::IsSubset | SetName::IsSuperset => {
+                sets.relate(name, words, text)
+            }
+            _ => sets.merge(name, words, text),
+        }
     }
 }
 
@@ -82,7 +71,7 @@ fn uncounted(name: SetName) -> Option<SetName> {
 
 // Adds the bytes of the elements, which count how often they are compared.
 fn add_all<'a, K: ScriptKey, const P: usize>(
-    copy: &mut TreeSet<Compared<'a>, P>,
+    copy: &mut TreeSet<Compared<'a>, DEFAULT_PREFIX_LEN>,
     set: &'a TreeSet<K, P>,
     count: &'a Cell<u64>,
 ) -> Answered {

@@ -55,10 +55,11 @@ impl<K: OrderedBytes + Shown + Drop, const PREFIX_LEN: usize> Sets<K, PREFIX_LEN
     /// Makes the test of this name of both sets, and adds its answer.
     pub(crate) fn relate(&self, name: SetName, words: Words<'_>, text: &mut Text) -> Answered {
         words.end()?;
-        match name {
-            SetName::IsDisjoint => self.first.is_disjoint(&self.second).show(text),
-            SetName::IsSubset => self.first.is_subset(&self.second).show(text),
-            _ => self.first.is_superset(&self.second).show(text),
-        }
+        let holds = match name {
+            SetName::IsDisjoint => self.first.is_disjoint(&self.second),
+            SetName::IsSubset => self.first.is_subset(&self.second),
+            _ => self.first.is_superset(&self.second),
+        };
+        holds.show(text)
     }
 }

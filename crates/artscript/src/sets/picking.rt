@@ -5,7 +5,7 @@ ghost use Rattle.blart_keys.specs.KeyBytes.{vec_bytes};
 ghost use Rattle.blart_set.specs.Elements.{elements};
 
 use crate::sets::calls::Sets;
-use crate::words::{Answered, BytesPick, ScriptKey, Shown, Text, Unanswered, Words};
+use crate::words::{Answered, BytesPick, ScriptKey, Shown, Text, Unanswered, Words, show_item};
 use std::alloc::AllocError;
 use std::iter;
 use std::iter::{DoubleEndedIterator, Iterator};
@@ -65,7 +65,7 @@ impl<K: ScriptKey, const PREFIX_LEN: usize> Sets<K, PREFIX_LEN> {
         });
         let mut part: &[u8] = b"";
         for _ in iter::repeat_n((), left) {
-            if !show_element(walk.next(), part, text)? {
+            if !show_item(walk.next(), part, text)? {
                 break;
             }
             part = b", ";
@@ -106,18 +106,4 @@ impl<K: ScriptKey, const PREFIX_LEN: usize> Sets<K, PREFIX_LEN> {
         drop(walk);
         Ok(asked)
     }
-}
-
-// Adds an element after the part, if there is one, and answers whether there is.
-fn show_element<K: ScriptKey>(
-    element: Option<K>,
-    part: &[u8],
-    text: &mut Text,
-) -> Result<bool, Unanswered> {
-    let Some(element) = element else {
-        return Ok(false);
-    };
-    text.push(part)?;
-    element.show(text)?;
-    Ok(true)
 }

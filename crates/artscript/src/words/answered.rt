@@ -2,7 +2,7 @@
 use std::alloc::AllocError;
 
 /// Why a line has no answer of its own.
-#[derive(Debug, Drop)]
+#[derive(Clone, Copy, Debug)]
 pub enum Unanswered {
     /// The line is no call, or one whose condition does not hold.
     NoCall,

@@ -1,5 +1,5 @@
 //! Lists of keys and of pairs.
-use crate::words::answered::Unanswered;
+use crate::words::answered::{Answered, Unanswered};
 use crate::words::keys::ScriptKey;
 use crate::words::reading::Words;
 use std::alloc::{AllocError, Global};
@@ -7,36 +7,59 @@ use std::alloc::{AllocError, Global};
 /// The pairs that the words are.
 pub fn pairs_of<K: ScriptKey>(
     alloc: Global,
-    mut words: Words<'_>,
+    words: Words<'_>,
 ) -> Result<Vec<(K, u64)>, Unanswered> {
     let mut pairs = Vec::new(alloc);
+    match push_pairs(&mut pairs, alloc, words) {
+        Ok(()) => Ok(pairs),
+        Err(refused) => {
+            drop(pairs);
+            Err(refused)
+        }
+    }
+}
+
+fn push_pairs<K: ScriptKey>(
+    pairs: &mut Vec<(K, u64)>,
+    alloc: Global,
+    mut words: Words<'_>,
+) -> Answered {
     for _ in 0..u64::MAX {
         if words.is_done() {
             break;
         }
         let word = words.word()?;
-        let pair = Words::new(word, b':', alloc).last_pair()?;
-        if pairs.push(pair).is_err() {
-            return Err(Unanswered::Memory(AllocError));
-        }
+        push(pairs, Words::new(word, b':', alloc).last_pair()?)?;
     }
-    Ok(pairs)
+    Ok(())
 }
 
 /// The elements that the words are.
-pub fn elements_of<K: ScriptKey>(
-    alloc: Global,
-    mut words: Words<'_>,
-) -> Result<Vec<K>, Unanswered> {
+pub fn elements_of<K: ScriptKey>(alloc: Global, words: Words<'_>) -> Result<Vec<K>, Unanswered> {
     let mut elements = Vec::new(alloc);
+    match push_elements(&mut elements, words) {
+        Ok(()) => Ok(elements),
+        Err(refused) => {
+            drop(elements);
+            Err(refused)
+        }
+    }
+}
+
+fn push_elements<K: ScriptKey>(elements: &mut Vec<K>, mut words: Words<'_>) -> Answered {
     for _ in 0..u64::MAX {
         if words.is_done() {
             break;
         }
-        let element = words.key()?;
-        if elements.push(element).is_err() {
-            return Err(Unanswered::Memory(AllocError));
-        }
+        push(elements, words.key()?)?;
     }
-    Ok(elements)
+    Ok(())
+}
+
+/// Adds the item after those of the list.
+pub fn push<T: Drop>(items: &mut Vec<T>, item: T) -> Answered {
+    match items.push(item) {
+        Ok(()) => Ok(()),
+        Err(_) => Err(Unanswered::Memory(AllocError)),
+    }
 }

@@ -61,6 +61,13 @@ impl<'a> Words<'a> {
         }
     }
 
+    /// The last word.
+    pub fn last_word(&mut self) -> Result<&'a [u8], Unanswered> {
+        let word = self.word()?;
+        self.end()?;
+        Ok(word)
+    }
+
     /// The bytes that the next word stands for.
     pub fn bytes(&mut self) -> Result<Vec<u8>, Unanswered> {
         joined_of(self.alloc, self.word()?)
@@ -68,31 +75,30 @@ impl<'a> Words<'a> {
 
     /// The bytes that the last word stands for.
     pub fn last_bytes(&mut self) -> Result<Vec<u8>, Unanswered> {
-        let bytes = self.bytes()?;
-        self.end()?;
-        Ok(bytes)
+        joined_of(self.alloc, self.last_word()?)
     }
 
-    /// The key that the next word stands for, with the tag after `#` where there is one.
-    pub fn key<K: ScriptKey>(&mut self) -> Result<K, Unanswered> {
-        let word = self.word()?;
+    /// The key that a word stands for, with the tag after `#` where there is one.
+    pub fn key_of<K: ScriptKey>(&self, word: &[u8]) -> Result<K, Unanswered> {
         match word.iter().position(|byte| *byte == b'#') {
-            Some(at) => {
-                let key = K::from_vec(joined_of(self.alloc, &word[..at])?)?;
-                match number_of(&word[at + 1..]) {
-                    Some(tag) => key.with_tag(tag),
-                    None => Err(Unanswered::NoCall),
-                }
-            }
+            Some(at) => match number_of(&word[at + 1..]) {
+                Some(tag) => K::from_vec(joined_of(self.alloc, &word[..at])?)?.with_tag(tag),
+                None => Err(Unanswered::NoCall),
+            },
             None => K::from_vec(joined_of(self.alloc, word)?),
         }
     }
 
+    /// The key that the next word stands for.
+    pub fn key<K: ScriptKey>(&mut self) -> Result<K, Unanswered> {
+        let word = self.word()?;
+        self.key_of(word)
+    }
+
     /// The key that the last word stands for.
     pub fn last_key<K: ScriptKey>(&mut self) -> Result<K, Unanswered> {
-        let key = self.key()?;
-        self.end()?;
-        Ok(key)
+        let word = self.last_word()?;
+        self.key_of(word)
     }
 
     /// The number that the next word is.
@@ -115,25 +121,30 @@ impl<'a> Words<'a> {
 
     /// The key and the number that the last two words stand for.
     pub fn last_pair<K: ScriptKey>(&mut self) -> Result<(K, u64), Unanswered> {
-        let key = self.key()?;
+        let word = self.word()?;
         let number = self.number()?;
         self.end()?;
-        Ok((key, number))
+        Ok((self.key_of(word)?, number))
     }
 
     /// The bytes and the number that the last two words stand for.
     pub fn last_bytes_and_number(&mut self) -> Result<(Vec<u8>, u64), Unanswered> {
-        let bytes = self.bytes()?;
+        let word = self.word()?;
         let number = self.number()?;
         self.end()?;
-        Ok((bytes, number))
+        Ok((joined_of(self.alloc, word)?, number))
     }
 
     /// The bounds that the next two words are.
     pub fn bounds(&mut self) -> Result<(Bound<Vec<u8>>, Bound<Vec<u8>>), Unanswered> {
         let start = self.start()?;
-        let end = self.finish()?;
-        Ok((start, end))
+        match self.finish() {
+            Ok(end) => Ok((start, end)),
+            Err(refused) => {
+                drop(start);
+                Err(refused)
+            }
+        }
     }
 
     // The start bound that the next word is.
@@ -161,8 +172,7 @@ impl<'a> Words<'a> {
         if self.is_done() {
             return Ok(None);
         }
-        let letters = self.word()?;
-        self.end()?;
+        let letters = self.last_word()?;
         if is_steps(letters) {
             Ok(Some(letters))
         } else {
@@ -181,8 +191,7 @@ impl<'a> Words<'a> {
 
     /// The letters of the decisions that the last word is.
     pub fn last_decisions(&mut self) -> Result<&'a [u8], Unanswered> {
-        let letters = self.word()?;
-        self.end()?;
+        let letters = self.last_word()?;
         if is_decisions(letters) {
             Ok(letters)
         } else {

@@ -1,27 +1,40 @@
 //! Calls that are made in turn.
-use crate::words::answered::Unanswered;
+use crate::words::answered::{Answered, Unanswered};
 use crate::words::keys::ScriptKey;
+use crate::words::lists::push;
 use crate::words::named::named;
 use crate::words::reading::Words;
 use blart_keys::Call;
-use std::alloc::{AllocError, Global};
+use std::alloc::Global;
 
 /// The calls that the words are.
 pub fn turns_of<K: ScriptKey>(
     alloc: Global,
-    mut words: Words<'_>,
+    words: Words<'_>,
 ) -> Result<Vec<Call<K, u64>>, Unanswered> {
     let mut calls = Vec::new(alloc);
+    match push_calls(&mut calls, alloc, words) {
+        Ok(()) => Ok(calls),
+        Err(refused) => {
+            drop(calls);
+            Err(refused)
+        }
+    }
+}
+
+fn push_calls<K: ScriptKey>(
+    calls: &mut Vec<Call<K, u64>>,
+    alloc: Global,
+    mut words: Words<'_>,
+) -> Answered {
     for _ in 0..u64::MAX {
         if words.is_done() {
             break;
         }
         let word = words.word()?;
-        if calls.push(call_of(Words::new(word, b':', alloc))?).is_err() {
-            return Err(Unanswered::Memory(AllocError));
-        }
+        push(calls, call_of(Words::new(word, b':', alloc))?)?;
     }
-    Ok(calls)
+    Ok(())
 }
 
 // The name of a call that is made in turn.

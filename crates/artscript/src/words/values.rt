@@ -17,6 +17,14 @@ pub fn raise(value: &mut u64, add: u64) -> u64 {
     mem::replace(value, value.wrapping_add(add))
 }
 
+/// Adds to the value that is lent, if one is, and gives it as it was.
+pub fn raised(lent: Option<&mut u64>, add: u64) -> Option<u64> {
+    match lent {
+        Some(value) => Some(raise(value, add)),
+        None => None,
+    }
+}
+
 /// The value that is lent.
 pub fn value_of(answer: Result<&mut u64, AllocError>) -> Result<u64, AllocError> {
     match answer {

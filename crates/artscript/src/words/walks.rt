@@ -3,7 +3,6 @@ ghost use Rattle.std.specs.Iterator.{IsFinite};
 
 use crate::words::answered::{Answered, Unanswered};
 use crate::words::text::{Shown, Text};
-use std::alloc::{AllocError, Global};
 use std::iter::{DoubleEndedIterator, Iterator};
 
 /// Whether a walk tells how many items are left.
@@ -80,11 +79,11 @@ where
 
 /// A walk that lends values, each of which is written as it passes.
 pub trait Lending {
-    /// A step from the front: the item as it was, if there was one.
-    fn front(&mut self, alloc: Global) -> Result<Option<Text>, Unanswered>;
+    /// A step from the front: adds the part and the item as it was, if there was one, and gives whether there was.
+    fn front(&mut self, part: &[u8], text: &mut Text) -> Result<bool, Unanswered>;
 
-    /// A step from the back: the item as it was, if there was one.
-    fn back(&mut self, alloc: Global) -> Result<Option<Text>, Unanswered>;
+    /// A step from the back.
+    fn back(&mut self, part: &[u8], text: &mut Text) -> Result<bool, Unanswered>;
 
     /// How many items are left, where the walk has `len`.
     fn left(&self) -> Option<usize> {
@@ -107,14 +106,12 @@ pub fn show_lending<W: Lending + Drop>(
 // Adds all items, between brackets and parted by commas.
 fn show_lent<W: Lending>(walk: &mut W, text: &mut Text) -> Answered {
     text.push(b"[")?;
-    for count in 0..u64::MAX {
-        let Some(item) = walk.front(text.alloc())? else {
+    let mut part: &[u8] = b"";
+    for _ in 0..u64::MAX {
+        if !walk.front(part, text)? {
             break;
-        };
-        if count > 0 {
-            text.push(b", ")?;
         }
-        item.show(text)?;
+        part = b", ";
     }
     text.push(b"]")
 }
@@ -124,22 +121,39 @@ fn show_lent_steps<W: Lending>(walk: &mut W, letters: &[u8], text: &mut Text) ->
     let mut part: &[u8] = b"";
     for letter in letters {
         text.push(part)?;
-        match *letter {
-            b'f' => walk.front(text.alloc())?.show(text)?,
-            b'b' => walk.back(text.alloc())?.show(text)?,
-            _ => match walk.left() {
-                Some(left) => left.show(text)?,
-                None => return Err(Unanswered::NoCall),
-            },
-        }
+        show_lent_step(walk, *letter, text)?;
         part = b" ";
     }
     Ok(())
 }
 
-/// The item as text.
-pub fn text_of<T: Shown + Drop>(item: T, alloc: Global) -> Result<Option<Text>, Unanswered> {
-    let mut text = Text::new(alloc);
-    item.show(&mut text)?;
-    Ok(Some(text))
+// Adds what the letter gave.
+fn show_lent_step<W: Lending>(walk: &mut W, letter: u8, text: &mut Text) -> Answered {
+    let is_some = match letter {
+        b'f' => walk.front(b"Some(", text)?,
+        b'b' => walk.back(b"Some(", text)?,
+        _ => {
+            return match walk.left() {
+                Some(left) => left.show(text),
+                None => Err(Unanswered::NoCall),
+            };
+        }
+    };
+    text.push(if is_some { b")" } else { b"None" })
+}
+
+/// Adds the item after what parts it from the one before, if there is an item, and gives whether there is.
+pub fn show_item<T: Shown + Drop>(
+    item: Option<T>,
+    part: &[u8],
+    text: &mut Text,
+) -> Result<bool, Unanswered> {
+    match item {
+        Some(item) => {
+            text.push(part)?;
+            item.show(text)?;
+            Ok(true)
+        }
+        None => Ok(false),
+    }
 }
