@@ -52,12 +52,12 @@ pub(crate) fn write_times(rt: &impl Eprint, results: &Results) -> Result<(), Fai
     Ok(())
 }
 
-/// The nanoseconds that one key or pair took.
-pub(crate) fn each(row: &Timed) -> u64 {
+// The nanoseconds that one key or pair took.
+fn each(row: &Timed) -> u64 {
     row.nanos / (row.count as u64).max(1)
 }
 
-/// The ratio of two times, in hundredths.
-pub(crate) fn hundredths(our: &Timed, their: &Timed) -> u64 {
+// The ratio of two times, in hundredths.
+fn hundredths(our: &Timed, their: &Timed) -> u64 {
     our.nanos.saturating_mul(100) / their.nanos.max(1)
 }

@@ -35,13 +35,12 @@ impl Group {
     }
 }
 
-/// How many keys of which kinds are asked for, which calls, and where a chart goes.
+/// How many keys of which kinds are asked for, and which calls.
 #[derive(Drop)]
 pub(crate) struct Wishes {
     pub(crate) keys: usize,
     pub(crate) kinds: Vec<Kind>,
     pub(crate) groups: Vec<Group>,
-    pub(crate) chart: Option<String>,
 }
 
 impl Wishes {
@@ -55,7 +54,6 @@ impl Wishes {
             Some(word) => groups_of(alloc, word.as_str())?,
             None => groups_of(alloc, "all")?,
         };
-        let chart = args.next();
         if args.next().is_some() {
             return Err(Failure::Usage);
         }
@@ -70,7 +68,6 @@ impl Wishes {
             keys,
             kinds,
             groups,
-            chart,
         })
     }
 }
