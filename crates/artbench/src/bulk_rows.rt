@@ -4,12 +4,11 @@ use crate::failure::Failure;
 use crate::joins::{Joiner, placed};
 use crate::keys::Key;
 use crate::parts::Parter;
-use crate::sheet::{Sheet, nanos_since};
+use crate::sheet::Sheet;
 use crate::workload::Workload;
 use blart::AsBytes;
 use std::alloc::Global;
 use std::rt::Clock;
-use std::time::Instant;
 
 /// Times the bulk calls of maps.
 pub(crate) fn time_bulk<M: Parter, J: Joiner, R: Clock + AllocGlobal>(
@@ -34,9 +33,9 @@ fn time_from_vec<J: Joiner, K: Key, R: Clock + AllocGlobal>(
     sheet: &mut Sheet,
 ) -> Result<(), Failure> {
     let items: Vec<(J::Key, u64)> = placed(rt.alloc(), keys)?;
-    let start = Instant::now(rt)?;
+    sheet.start(rt);
     let map = J::of(rt.alloc(), items)?;
-    let walked = time_walk(rt, &map, start, keys.len(), sheet);
+    let walked = time_walk(rt, &map, keys.len(), sheet);
     drop(map);
     walked
 }
@@ -45,13 +44,14 @@ fn time_from_vec<J: Joiner, K: Key, R: Clock + AllocGlobal>(
 fn time_walk<J: Joiner>(
     rt: &impl Clock,
     map: &J,
-    start: Instant,
     count: usize,
     sheet: &mut Sheet,
 ) -> Result<(), Failure> {
-    let nanos = nanos_since(rt, start)?;
+    let nanos = sheet.nanos(rt)?;
     sheet.note("from_vec", nanos, count, 0)?;
-    sheet.time(rt, "iter, from_vec", count, || map.sum())
+    sheet.start(rt);
+    let sum = map.sum();
+    sheet.stop(rt, "iter, from_vec", count, sum)
 }
 
 // Times a map that is filled one by one, in order.
@@ -75,9 +75,9 @@ fn time_put<J: Joiner>(
     sheet: &mut Sheet,
 ) -> Result<(), Failure> {
     let count = items.len();
-    let start = Instant::now(rt);
+    sheet.start(rt);
     map.put(items)?;
-    let nanos = nanos_since(rt, start?)?;
+    let nanos = sheet.nanos(rt)?;
     sheet.note("insert in order", nanos, count, map.sum())
 }
 
@@ -121,9 +121,9 @@ fn time_join<J: Joiner>(
     count: usize,
     sheet: &mut Sheet,
 ) -> Result<(), Failure> {
-    let start = Instant::now(rt)?;
+    sheet.start(rt);
     map.join(other)?;
-    let nanos = nanos_since(rt, start)?;
+    let nanos = sheet.nanos(rt)?;
     sheet.note(call, nanos, count, map.sum())
 }
 
@@ -146,9 +146,9 @@ fn time_copy<M: Parter>(
     count: usize,
     sheet: &mut Sheet,
 ) -> Result<(), Failure> {
-    let start = Instant::now(rt)?;
+    sheet.start(rt);
     let copy = map.copy()?;
-    let compared = time_eq(rt, map, &copy, start, count, sheet);
+    let compared = time_eq(rt, map, &copy, count, sheet);
     drop(copy);
     compared
 }
@@ -158,13 +158,14 @@ fn time_eq<M: Parter>(
     rt: &impl Clock,
     map: &M,
     copy: &M,
-    start: Instant,
     count: usize,
     sheet: &mut Sheet,
 ) -> Result<(), Failure> {
-    let nanos = nanos_since(rt, start)?;
+    let nanos = sheet.nanos(rt)?;
     sheet.note("clone", nanos, count, copy.iterate())?;
-    sheet.time(rt, "eq", count, || u64::from(map.is_same(copy)))
+    sheet.start(rt);
+    let sum = u64::from(map.is_same(copy));
+    sheet.stop(rt, "eq", count, sum)
 }
 
 // Times a map parted in half.
@@ -191,9 +192,9 @@ fn time_part_at<M: Parter>(
     count: usize,
     sheet: &mut Sheet,
 ) -> Result<(), Failure> {
-    let start = Instant::now(rt)?;
+    sheet.start(rt);
     let rest = map.part(from)?;
-    let nanos = nanos_since(rt, start);
+    let nanos = sheet.nanos(rt);
     let sum = map.iterate().wrapping_mul(3).wrapping_add(rest.iterate());
     drop(rest);
     sheet.note("split_off half", nanos?, count, sum)

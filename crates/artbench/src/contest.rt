@@ -9,14 +9,13 @@ use crate::parts::Parter;
 use crate::resolvers::{Resolver, Sorted};
 use crate::set_rows::time_sets;
 use crate::sets::{OurSet, SetContestant, TheirSet};
-use crate::sheet::{Sheet, nanos_since};
+use crate::sheet::Sheet;
 use crate::wishes::{Group, Wishes};
 use crate::workload::Workload;
 use blart::{Map, NoPrefixesBytes};
 use prefix_router::Mounts;
 use std::collections::BTreeMap;
 use std::rt::Clock;
-use std::time::Instant;
 
 /// How often each map is timed. The least time counts.
 const ROUNDS: usize = 3;
@@ -123,13 +122,17 @@ fn time_store<M: Contestant>(
     sheet: &mut Sheet,
 ) -> Result<(), Failure> {
     let count = keys.len();
-    let start = Instant::now(rt)?;
+    sheet.start(rt);
     let sum = map.store(keys)?;
-    sheet.note("insert", nanos_since(rt, start)?, count, sum)?;
+    sheet.stop(rt, "insert", count, sum)?;
     time_look_ups(rt, map, workload, sheet)?;
     time_walks(rt, map, workload, sheet)?;
-    sheet.time(rt, "iter_mut", count, || map.raise())?;
-    sheet.time(rt, "remove", count, || map.remove(&workload.hits))
+    sheet.start(rt);
+    let sum = map.raise();
+    sheet.stop(rt, "iter_mut", count, sum)?;
+    sheet.start(rt);
+    let sum = map.remove(&workload.hits);
+    sheet.stop(rt, "remove", count, sum)
 }
 
 // Times insertions into room that is made at once.
@@ -153,9 +156,9 @@ fn time_store_reserved<M: Contestant>(
     sheet: &mut Sheet,
 ) -> Result<(), Failure> {
     let count = keys.len();
-    let start = Instant::now(rt)?;
+    sheet.start(rt);
     let sum = map.store_reserved(keys)?;
-    sheet.note("insert, reserved", nanos_since(rt, start)?, count, sum)
+    sheet.stop(rt, "insert, reserved", count, sum)
 }
 
 // Times look-ups.
@@ -165,18 +168,12 @@ fn time_look_ups<M: Contestant>(
     workload: &Workload<M::Key>,
     sheet: &mut Sheet,
 ) -> Result<(), Failure> {
-    sheet.time(
-        rt,
-        "hit",
-        workload.hits.len(),
-        || map.look_up(&workload.hits),
-    )?;
-    sheet.time(
-        rt,
-        "miss",
-        workload.misses.len(),
-        || map.look_up(&workload.misses),
-    )
+    sheet.start(rt);
+    let sum = map.look_up(&workload.hits);
+    sheet.stop(rt, "hit", workload.hits.len(), sum)?;
+    sheet.start(rt);
+    let sum = map.look_up(&workload.misses);
+    sheet.stop(rt, "miss", workload.misses.len(), sum)
 }
 
 // Times walks that lend.
@@ -186,20 +183,18 @@ fn time_walks<M: Contestant>(
     workload: &Workload<M::Key>,
     sheet: &mut Sheet,
 ) -> Result<(), Failure> {
-    sheet.time(rt, "iter", workload.keys.len(), || map.iterate())?;
-    sheet.time(rt, "iter, keys", workload.keys.len(), || map.read_keys())?;
-    sheet.time(
-        rt,
-        "range of 100",
-        workload.hits.len().min(10_000),
-        || map.range(&workload.hits),
-    )?;
-    sheet.time(
-        rt,
-        "prefix",
-        workload.fronts.len(),
-        || map.prefix(&workload.fronts),
-    )
+    sheet.start(rt);
+    let sum = map.iterate();
+    sheet.stop(rt, "iter", workload.keys.len(), sum)?;
+    sheet.start(rt);
+    let sum = map.read_keys();
+    sheet.stop(rt, "iter, keys", workload.keys.len(), sum)?;
+    sheet.start(rt);
+    let sum = map.range(&workload.hits);
+    sheet.stop(rt, "range of 100", workload.hits.len().min(10_000), sum)?;
+    sheet.start(rt);
+    let sum = map.prefix(&workload.fronts);
+    sheet.stop(rt, "prefix", workload.fronts.len(), sum)
 }
 
 // Times calls that go over all pairs and change or take them.
@@ -210,9 +205,13 @@ fn time_rest<M: Contestant, R: Clock + AllocGlobal>(
 ) -> Result<(), Failure> {
     let count = workload.keys.len();
     let mut map: M = filled(rt, workload)?;
-    let kept = sheet.time(rt, "retain", count, || map.retain());
+    sheet.start(rt);
+    let sum = map.retain();
+    let kept = sheet.stop(rt, "retain", count, sum);
     drop(map);
     kept?;
     let map: M = filled(rt, workload)?;
-    sheet.time(rt, "into_iter", count, || map.take_apart())
+    sheet.start(rt);
+    let sum = map.take_apart();
+    sheet.stop(rt, "into_iter", count, sum)
 }

@@ -32,9 +32,22 @@ fn time_paths<T: Resolver, R: Clock + AllocGlobal>(
     let mounts = workload.mounts()?;
     let mut table = T::empty(rt.alloc());
     let timed = match table.fill(mounts) {
-        Ok(()) => sheet.time(rt, call, paths.len(), || table.resolve_all(paths)),
+        Ok(()) => time_resolve(rt, call, &table, paths, sheet),
         Err(failure) => Err(failure),
     };
     drop(table);
     timed
+}
+
+// Times paths that are resolved.
+fn time_resolve<T: Resolver>(
+    rt: &impl Clock,
+    call: &'static str,
+    table: &T,
+    paths: &[Vec<u8>],
+    sheet: &mut Sheet,
+) -> Result<(), Failure> {
+    sheet.start(rt);
+    let sum = table.resolve_all(paths);
+    sheet.stop(rt, call, paths.len(), sum)
 }

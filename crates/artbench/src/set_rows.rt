@@ -42,13 +42,16 @@ fn time_merges<S: SetContestant>(
     sheet: &mut Sheet,
 ) -> Result<(), Failure> {
     let count = count as usize;
-    sheet.time(rt, "union", count, || one.union_sum(other))?;
-    sheet.time(rt, "intersection", count, || one.intersection_sum(other))?;
-    sheet.time(rt, "difference", count, || one.difference_sum(other))?;
-    sheet.time(
-        rt,
-        "symmetric_difference",
-        count,
-        || one.symmetric_difference_sum(other),
-    )
+    sheet.start(rt);
+    let sum = one.union_sum(other);
+    sheet.stop(rt, "union", count, sum)?;
+    sheet.start(rt);
+    let sum = one.intersection_sum(other);
+    sheet.stop(rt, "intersection", count, sum)?;
+    sheet.start(rt);
+    let sum = one.difference_sum(other);
+    sheet.stop(rt, "difference", count, sum)?;
+    sheet.start(rt);
+    let sum = one.symmetric_difference_sum(other);
+    sheet.stop(rt, "symmetric_difference", count, sum)
 }

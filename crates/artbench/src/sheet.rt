@@ -25,6 +25,7 @@ pub(crate) struct Sheet {
     pub(crate) rows: Vec<Row>,
     next: usize,
     is_ours: bool,
+    started: Option<Instant>,
 }
 
 impl Sheet {
@@ -34,6 +35,7 @@ impl Sheet {
             rows: Vec::new(alloc),
             next: 0,
             is_ours: true,
+            started: None,
         }
     }
 
@@ -43,19 +45,34 @@ impl Sheet {
         self.is_ours = is_ours;
     }
 
-    /// Times a call, which gives its sum.
-    pub(crate) fn time<F: FnOnce() -> u64>(
+    /// Notes that a call begins.
+    pub(crate) fn start(&mut self, rt: &impl Clock) {
+        self.started = Instant::now(rt).ok();
+    }
+
+    /// How many nanoseconds have gone by since the call began.
+    pub(crate) fn nanos(&self, rt: &impl Clock) -> Result<u64, Failure> {
+        let Some(start) = self.started else {
+            return Err(Failure::Io);
+        };
+        let spent = start.elapsed(rt)?;
+        Ok(
+            spent
+                .as_secs()
+                .saturating_mul(1_000_000_000)
+                .saturating_add(u64::from(spent.subsec_nanos())),
+        )
+    }
+
+    /// Notes a call that has just ended.
+    pub(crate) fn stop(
         &mut self,
         rt: &impl Clock,
         call: &'static str,
         count: usize,
-        run: F,
-    ) -> Result<(), Failure>
-        requires { F.IsAlwaysCallable run }
-    {
-        let start = Instant::now(rt);
-        let sum = run();
-        let nanos = nanos_since(rt, start?)?;
+        sum: u64,
+    ) -> Result<(), Failure> {
+        let nanos = self.nanos(rt)?;
         self.note(call, nanos, count, sum)
     }
 
@@ -89,15 +106,4 @@ impl Sheet {
         self.next = self.next.wrapping_add(1);
         Ok(())
     }
-}
-
-/// How many nanoseconds have gone by.
-pub(crate) fn nanos_since(rt: &impl Clock, start: Instant) -> Result<u64, Failure> {
-    let spent = start.elapsed(rt)?;
-    Ok(
-        spent
-            .as_secs()
-            .saturating_mul(1_000_000_000)
-            .saturating_add(u64::from(spent.subsec_nanos())),
-    )
 }
