@@ -1,0 +1,69 @@
+//! When keys are dropped.
+use blart_keys::{AsBytes, NoPrefixesBytes};
+use blart_map::TreeMap;
+use std::cell::Cell;
+use std::process::Abort;
+
+// A key of one byte that counts how often one is dropped.
+struct Marked<'a> {
+    bytes: [u8; 1],
+    drops: &'a Cell<usize>,
+}
+
+impl Drop for Marked<'_> {
+    fn drop(self) {
+        let Marked { bytes: _, drops } = self;
+        drops.set(drops.get().wrapping_add(1));
+    }
+}
+
+impl AsBytes for Marked<'_> {
+    ghost use Rattle.std.specs.Prelude.{◌≡◌, length};
+
+    ghost bytes = { λ s. s.bytes };
+
+    ghost IsValue = { λ s. length s.bytes ≡ 1 };
+
+    fn as_bytes(&self) -> &[u8] {
+        &self.bytes
+    }
+
+    fn value_law(&self) {
+        let _bytes = self.bytes;
+    }
+}
+
+impl NoPrefixesBytes for Marked<'_> {
+    ghost use Rattle.std.proofs.Common.{◌∙◌, sym};
+    ghost use Rattle.blart_keys.specs.KeyLaws.{begins_same_length};
+
+    ghost no_fronts = { λ x y a b h. begins_same_length x.bytes y.bytes (a ∙ sym b) h };
+}
+
+fn key_of(drops: &Cell<usize>) -> Marked<'_> {
+    Marked { bytes: [7], drops }
+}
+
+// On stored bytes the key handed in is dropped by the call. A replacement gives the stored one to its caller.
+fn insert_again<'a>(rt: &impl Abort, map: &mut TreeMap<Marked<'a>, u8, 2>, drops: &'a Cell<usize>) {
+    assert!(rt; map.insert(key_of(drops), 1).is_ok());
+    assert!(rt; drops.get() == 0);
+    assert!(rt; map.insert(key_of(drops), 2).is_ok());
+    assert!(rt; drops.get() == 1);
+    assert!(rt; map.try_insert(key_of(drops), 3).is_ok());
+    assert!(rt; drops.get() == 2);
+    let old = map.replace_entry(key_of(drops), 4);
+    assert!(rt; drops.get() == 2);
+    drop(old);
+    assert!(rt; drops.get() == 3);
+}
+
+#[test]
+fn keys_for_stored_bytes(rt: HostRuntime) {
+    let drops = Cell::new(0usize);
+    let mut map = TreeMap::with_prefix_len(rt.alloc());
+    insert_again(&rt, &mut map, &drops);
+    assert!(rt; map.remove_prefix(&[7]) == 1);
+    assert!(rt; drops.get() == 4);
+    drop(map);
+}
