@@ -1,14 +1,14 @@
 //! Times calls that take or give many pairs at once.
-use crate::contest::{Sheet, filled};
+use crate::contest::filled;
 use crate::failure::Failure;
 use crate::joins::{Joiner, placed};
 use crate::keys::Key;
 use crate::parts::Parter;
+use crate::sheet::Sheet;
 use crate::workload::Workload;
 use blart::AsBytes;
 use std::alloc::Global;
 use std::rt::Clock;
-use std::time::Instant;
 
 /// Times the bulk calls of maps.
 pub(crate) fn time_bulk<M: Parter, J: Joiner, R: Clock + AllocGlobal>(
@@ -33,9 +33,9 @@ fn time_from_vec<J: Joiner, K: Key, R: Clock + AllocGlobal>(
     sheet: &mut Sheet,
 ) -> Result<(), Failure> {
     let items: Vec<(J::Key, u64)> = placed(rt.alloc(), keys)?;
-    let start = Instant::now(rt)?;
+    sheet.start(rt);
     let map = J::of(rt.alloc(), items)?;
-    let walked = time_walk(rt, &map, start, keys.len(), sheet);
+    let walked = time_walk(rt, &map, keys.len(), sheet);
     drop(map);
     walked
 }
@@ -44,14 +44,14 @@ fn time_from_vec<J: Joiner, K: Key, R: Clock + AllocGlobal>(
 fn time_walk<J: Joiner>(
     rt: &impl Clock,
     map: &J,
-    start: Instant,
     count: usize,
     sheet: &mut Sheet,
 ) -> Result<(), Failure> {
-    sheet.stop(rt, "from_vec", start, count)?;
-    let start = Instant::now(rt)?;
+    let nanos = sheet.nanos(rt)?;
+    sheet.note("from_vec", nanos, count, 0)?;
+    sheet.start(rt);
     let sum = map.sum();
-    sheet.add(rt, "iter, from_vec", start, count, sum)
+    sheet.stop(rt, "iter, from_vec", count, sum)
 }
 
 // Times a map that is filled one by one, in order.
@@ -75,24 +75,10 @@ fn time_put<J: Joiner>(
     sheet: &mut Sheet,
 ) -> Result<(), Failure> {
     let count = items.len();
-    let start = Instant::now(rt)?;
+    sheet.start(rt);
     map.put(items)?;
-    sheet.stop(rt, "insert in order", start, count)?;
-    sheet.sum(map.sum());
-    Ok(())
-}
-
-// A map of the keys with their places.
-fn joiner_of<J: Joiner, K: AsBytes>(alloc: Global, keys: &[K]) -> Result<J, Failure> {
-    let items = placed(alloc, keys)?;
-    let mut map = J::empty(alloc);
-    match map.put(items) {
-        Ok(()) => Ok(map),
-        Err(failure) => {
-            drop(map);
-            Err(failure)
-        }
-    }
+    let nanos = sheet.nanos(rt)?;
+    sheet.note("insert in order", nanos, count, map.sum())
 }
 
 // Times an `append` of a map of some keys to one of others.
@@ -103,24 +89,27 @@ fn time_append<J: Joiner, K: Key, R: Clock + AllocGlobal>(
     from: &[K],
     sheet: &mut Sheet,
 ) -> Result<(), Failure> {
-    let mut map: J = joiner_of(rt.alloc(), to)?;
-    let appended = time_append_to(rt, call, &mut map, from, sheet);
+    let mut map = J::empty(rt.alloc());
+    let mut other = J::empty(rt.alloc());
+    let joined = match put_both(rt.alloc(), &mut map, to, &mut other, from) {
+        Ok(()) => time_join(rt, call, &mut map, &mut other, from.len(), sheet),
+        Err(failure) => Err(failure),
+    };
     drop(map);
-    appended
-}
-
-// Times an `append` of a map of some keys to another map.
-fn time_append_to<J: Joiner, K: Key, R: Clock + AllocGlobal>(
-    rt: &R,
-    call: &'static str,
-    map: &mut J,
-    from: &[K],
-    sheet: &mut Sheet,
-) -> Result<(), Failure> {
-    let mut other: J = joiner_of(rt.alloc(), from)?;
-    let joined = time_join(rt, call, map, &mut other, from.len(), sheet);
     drop(other);
     joined
+}
+
+// Puts some keys into an empty map, and others into another.
+fn put_both<J: Joiner, K: AsBytes>(
+    alloc: Global,
+    map: &mut J,
+    to: &[K],
+    other: &mut J,
+    from: &[K],
+) -> Result<(), Failure> {
+    map.put(placed(alloc, to)?)?;
+    other.put(placed(alloc, from)?)
 }
 
 // Times an `append` by which so many pairs move.
@@ -132,11 +121,10 @@ fn time_join<J: Joiner>(
     count: usize,
     sheet: &mut Sheet,
 ) -> Result<(), Failure> {
-    let start = Instant::now(rt)?;
+    sheet.start(rt);
     map.join(other)?;
-    sheet.stop(rt, call, start, count)?;
-    sheet.sum(map.sum());
-    Ok(())
+    let nanos = sheet.nanos(rt)?;
+    sheet.note(call, nanos, count, map.sum())
 }
 
 // Times a copy, and whether it is the same.
@@ -158,9 +146,9 @@ fn time_copy<M: Parter>(
     count: usize,
     sheet: &mut Sheet,
 ) -> Result<(), Failure> {
-    let start = Instant::now(rt)?;
+    sheet.start(rt);
     let copy = map.copy()?;
-    let compared = time_eq(rt, map, &copy, start, count, sheet);
+    let compared = time_eq(rt, map, &copy, count, sheet);
     drop(copy);
     compared
 }
@@ -170,15 +158,14 @@ fn time_eq<M: Parter>(
     rt: &impl Clock,
     map: &M,
     copy: &M,
-    start: Instant,
     count: usize,
     sheet: &mut Sheet,
 ) -> Result<(), Failure> {
-    sheet.stop(rt, "clone", start, count)?;
-    sheet.sum(copy.iterate());
-    let start = Instant::now(rt)?;
-    let same = map.is_same(copy);
-    sheet.add(rt, "eq", start, count, u64::from(same))
+    let nanos = sheet.nanos(rt)?;
+    sheet.note("clone", nanos, count, copy.iterate())?;
+    sheet.start(rt);
+    let sum = u64::from(map.is_same(copy));
+    sheet.stop(rt, "eq", count, sum)
 }
 
 // Times a map parted in half.
@@ -205,10 +192,10 @@ fn time_part_at<M: Parter>(
     count: usize,
     sheet: &mut Sheet,
 ) -> Result<(), Failure> {
-    let start = Instant::now(rt)?;
+    sheet.start(rt);
     let rest = map.part(from)?;
-    let stopped = sheet.stop(rt, "split_off half", start, count);
-    sheet.sum(map.iterate().wrapping_mul(3).wrapping_add(rest.iterate()));
+    let nanos = sheet.nanos(rt);
+    let sum = map.iterate().wrapping_mul(3).wrapping_add(rest.iterate());
     drop(rest);
-    stopped
+    sheet.note("split_off half", nanos?, count, sum)
 }

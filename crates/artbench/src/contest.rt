@@ -9,113 +9,44 @@ use crate::parts::Parter;
 use crate::resolvers::{Resolver, Sorted};
 use crate::set_rows::time_sets;
 use crate::sets::{OurSet, SetContestant, TheirSet};
-use crate::wishes::Group;
-use crate::workload::{Kind, Workload};
+use crate::sheet::Sheet;
+use crate::wishes::{Group, Wishes};
+use crate::workload::Workload;
 use blart::{Map, NoPrefixesBytes};
 use prefix_router::Mounts;
 use std::collections::BTreeMap;
 use std::rt::Clock;
-use std::time::Instant;
 
 /// How often each map is timed. The least time counts.
 const ROUNDS: usize = 3;
-
-/// What one call was timed at.
-#[derive(Clone, Copy)]
-pub(crate) struct Timed {
-    /// The call's name.
-    pub(crate) call: &'static str,
-    /// How many keys or pairs it went over.
-    pub(crate) count: usize,
-    /// A sum over what it gave.
-    pub(crate) sum: u64,
-    /// How long it took.
-    pub(crate) nanos: u64,
-}
-
-/// What both maps were timed at, call by call.
-#[derive(Drop)]
-pub(crate) struct Results {
-    pub(crate) kind: Kind,
-    pub(crate) keys: usize,
-    pub(crate) ours: Vec<Timed>,
-    pub(crate) theirs: Vec<Timed>,
-}
 
 /// Times both maps, in turn, on keys of a type, and where no key may begin another on keys of a second type.
 pub(crate) fn contest<K: Key, F: Made + NoPrefixesBytes, R: Clock + AllocGlobal>(
     rt: &R,
     workload: &Workload<K>,
-    groups: &[Group],
-) -> Result<Results, Failure> {
-    let mut results = one_round::<K, F, R>(rt, workload, groups)?;
-    for _ in 1..ROUNDS {
-        let more = one_round::<K, F, R>(rt, workload, groups)?;
-        keep_least(&mut results.ours, &more.ours);
-        keep_least(&mut results.theirs, &more.theirs);
+    wishes: Wishes,
+    sheet: &mut Sheet,
+) -> Result<(), Failure> {
+    for _ in 0..ROUNDS {
+        sheet.begin_run(true);
+        one_run::<Ours<K>, Map<F, u64>, OurSet, Mounts<u64>, Mounts<u64>, R>(
+            rt, workload, wishes, sheet,
+        )?;
+        sheet.begin_run(false);
+        one_run::<Theirs<K>, BTreeMap<F, u64>, TheirSet, Theirs<Vec<u8>>, Sorted, R>(
+            rt, workload, wishes, sheet,
+        )?;
     }
-    Ok(results)
-}
-
-// One run of each. Both must give the same sums.
-fn one_round<K: Key, F: Made + NoPrefixesBytes, R: Clock + AllocGlobal>(
-    rt: &R,
-    workload: &Workload<K>,
-    groups: &[Group],
-) -> Result<Results, Failure> {
-    let ours = our_run::<K, F, R>(rt, workload, groups)?;
-    let theirs = their_run::<K, F, R>(rt, workload, groups)?;
-    if !are_same(&ours, &theirs) {
-        return Err(Failure::Differs);
-    }
-    Ok(Results {
-        kind: workload.kind,
-        keys: workload.keys.len(),
-        ours,
-        theirs,
-    })
-}
-
-// Whether both gave the same sum in each call.
-fn are_same(ours: &[Timed], theirs: &[Timed]) -> bool {
-    ours.iter()
-        .zip(theirs)
-        .all(|(our, their)| our.sum == their.sum)
-}
-
-// Keeps the lesser time of each call.
-fn keep_least(all: &mut [Timed], more: &[Timed]) {
-    for (one, other) in all.iter_mut().zip(more) {
-        one.nanos = one.nanos.min(other.nanos);
-    }
-}
-
-// One run of the map and the set under test.
-fn our_run<K: Key, F: Made + NoPrefixesBytes, R: Clock + AllocGlobal>(
-    rt: &R,
-    workload: &Workload<K>,
-    groups: &[Group],
-) -> Result<Vec<Timed>, Failure> {
-    one_run::<Ours<K>, Map<F, u64>, OurSet, Mounts<u64>, Mounts<u64>, R>(rt, workload, groups)
-}
-
-// One run of the library's.
-fn their_run<K: Key, F: Made + NoPrefixesBytes, R: Clock + AllocGlobal>(
-    rt: &R,
-    workload: &Workload<K>,
-    groups: &[Group],
-) -> Result<Vec<Timed>, Failure> {
-    one_run::<Theirs<K>, BTreeMap<F, u64>, TheirSet, Theirs<Vec<u8>>, Sorted, R>(
-        rt, workload, groups,
-    )
+    Ok(())
 }
 
 // One run of the calls that are asked for.
 fn one_run<M, J, S, T, V, R>(
     rt: &R,
     workload: &Workload<M::Key>,
-    groups: &[Group],
-) -> Result<Vec<Timed>, Failure>
+    wishes: Wishes,
+    sheet: &mut Sheet,
+) -> Result<(), Failure>
 where
     M: Parter,
     J: Joiner,
@@ -124,20 +55,22 @@ where
     V: Resolver,
     R: Clock + AllocGlobal,
 {
-    let mut sheet = Sheet {
-        rows: Vec::new(rt.alloc()),
-    };
-    for group in groups {
-        match group {
-            Group::Pairs => time_pairs::<M, R>(rt, workload, &mut sheet)?,
-            Group::Bulk => time_bulk::<M, J, R>(rt, workload, &mut sheet)?,
-            Group::Keys => {}
-            _ if workload.kind.is_of_arrays() => {}
-            Group::Sets => time_sets::<S, R>(rt, workload, &mut sheet)?,
-            Group::Mounts => time_mounts::<T, V, R>(rt, workload, &mut sheet)?,
-        }
+    if wishes.asks_for(Group::Pairs) {
+        time_pairs::<M, R>(rt, workload, sheet)?;
     }
-    Ok(sheet.rows)
+    if wishes.asks_for(Group::Bulk) {
+        time_bulk::<M, J, R>(rt, workload, sheet)?;
+    }
+    if workload.kind.is_of_arrays() {
+        return Ok(());
+    }
+    if wishes.asks_for(Group::Sets) {
+        time_sets::<S, R>(rt, workload, sheet)?;
+    }
+    if wishes.asks_for(Group::Mounts) {
+        time_mounts::<T, V, R>(rt, workload, sheet)?;
+    }
+    Ok(())
 }
 
 // Times the calls that go by a pair.
@@ -189,17 +122,17 @@ fn time_store<M: Contestant>(
     sheet: &mut Sheet,
 ) -> Result<(), Failure> {
     let count = keys.len();
-    let start = Instant::now(rt)?;
+    sheet.start(rt);
     let sum = map.store(keys)?;
-    sheet.add(rt, "insert", start, count, sum)?;
+    sheet.stop(rt, "insert", count, sum)?;
     time_look_ups(rt, map, workload, sheet)?;
     time_walks(rt, map, workload, sheet)?;
-    let start = Instant::now(rt)?;
+    sheet.start(rt);
     let sum = map.raise();
-    sheet.add(rt, "iter_mut", start, count, sum)?;
-    let start = Instant::now(rt)?;
+    sheet.stop(rt, "iter_mut", count, sum)?;
+    sheet.start(rt);
     let sum = map.remove(&workload.hits);
-    sheet.add(rt, "remove", start, count, sum)
+    sheet.stop(rt, "remove", count, sum)
 }
 
 // Times insertions into room that is made at once.
@@ -223,9 +156,9 @@ fn time_store_reserved<M: Contestant>(
     sheet: &mut Sheet,
 ) -> Result<(), Failure> {
     let count = keys.len();
-    let start = Instant::now(rt)?;
+    sheet.start(rt);
     let sum = map.store_reserved(keys)?;
-    sheet.add(rt, "insert, reserved", start, count, sum)
+    sheet.stop(rt, "insert, reserved", count, sum)
 }
 
 // Times look-ups.
@@ -235,12 +168,12 @@ fn time_look_ups<M: Contestant>(
     workload: &Workload<M::Key>,
     sheet: &mut Sheet,
 ) -> Result<(), Failure> {
-    let start = Instant::now(rt)?;
+    sheet.start(rt);
     let sum = map.look_up(&workload.hits);
-    sheet.add(rt, "hit", start, workload.hits.len(), sum)?;
-    let start = Instant::now(rt)?;
+    sheet.stop(rt, "hit", workload.hits.len(), sum)?;
+    sheet.start(rt);
     let sum = map.look_up(&workload.misses);
-    sheet.add(rt, "miss", start, workload.misses.len(), sum)
+    sheet.stop(rt, "miss", workload.misses.len(), sum)
 }
 
 // Times walks that lend.
@@ -250,24 +183,18 @@ fn time_walks<M: Contestant>(
     workload: &Workload<M::Key>,
     sheet: &mut Sheet,
 ) -> Result<(), Failure> {
-    let start = Instant::now(rt)?;
+    sheet.start(rt);
     let sum = map.iterate();
-    sheet.add(rt, "iter", start, workload.keys.len(), sum)?;
-    let start = Instant::now(rt)?;
+    sheet.stop(rt, "iter", workload.keys.len(), sum)?;
+    sheet.start(rt);
     let sum = map.read_keys();
-    sheet.add(rt, "iter, keys", start, workload.keys.len(), sum)?;
-    let start = Instant::now(rt)?;
+    sheet.stop(rt, "iter, keys", workload.keys.len(), sum)?;
+    sheet.start(rt);
     let sum = map.range(&workload.hits);
-    sheet.add(
-        rt,
-        "range of 100",
-        start,
-        workload.hits.len().min(10_000),
-        sum,
-    )?;
-    let start = Instant::now(rt)?;
+    sheet.stop(rt, "range of 100", workload.hits.len().min(10_000), sum)?;
+    sheet.start(rt);
     let sum = map.prefix(&workload.fronts);
-    sheet.add(rt, "prefix", start, workload.fronts.len(), sum)
+    sheet.stop(rt, "prefix", workload.fronts.len(), sum)
 }
 
 // Times calls that go over all pairs and change or take them.
@@ -278,72 +205,13 @@ fn time_rest<M: Contestant, R: Clock + AllocGlobal>(
 ) -> Result<(), Failure> {
     let count = workload.keys.len();
     let mut map: M = filled(rt, workload)?;
-    let kept = time_retain(rt, &mut map, count, sheet);
+    sheet.start(rt);
+    let sum = map.retain();
+    let kept = sheet.stop(rt, "retain", count, sum);
     drop(map);
     kept?;
     let map: M = filled(rt, workload)?;
-    let start = Instant::now(rt);
+    sheet.start(rt);
     let sum = map.take_apart();
-    sheet.add(rt, "into_iter", start?, count, sum)
-}
-
-// Times a removal of every second pair.
-fn time_retain<M: Contestant>(
-    rt: &impl Clock,
-    map: &mut M,
-    count: usize,
-    sheet: &mut Sheet,
-) -> Result<(), Failure> {
-    let start = Instant::now(rt)?;
-    let sum = map.retain();
-    sheet.add(rt, "retain", start, count, sum)
-}
-
-/// The rows of one run.
-#[derive(Drop)]
-pub(crate) struct Sheet {
-    rows: Vec<Timed>,
-}
-
-impl Sheet {
-    /// Adds a call that has just ended, whose sum is told by [`Sheet::sum`].
-    pub(crate) fn stop(
-        &mut self,
-        rt: &impl Clock,
-        call: &'static str,
-        start: Instant,
-        count: usize,
-    ) -> Result<(), Failure> {
-        self.add(rt, call, start, count, 0)
-    }
-
-    /// Tells the sum of the call that was added last.
-    pub(crate) fn sum(&mut self, sum: u64) {
-        if let Some(row) = self.rows.last_mut() {
-            row.sum = sum;
-        }
-    }
-
-    /// Adds a call that has just ended.
-    pub(crate) fn add(
-        &mut self,
-        rt: &impl Clock,
-        call: &'static str,
-        start: Instant,
-        count: usize,
-        sum: u64,
-    ) -> Result<(), Failure> {
-        let spent = start.elapsed(rt)?;
-        let nanos = spent
-            .as_secs()
-            .saturating_mul(1_000_000_000)
-            .saturating_add(u64::from(spent.subsec_nanos()));
-        self.rows.push(Timed {
-            call,
-            count,
-            sum,
-            nanos,
-        })?;
-        Ok(())
-    }
+    sheet.stop(rt, "into_iter", count, sum)
 }

@@ -6,7 +6,7 @@ use thiserror::Error;
 /// Why a run has no results.
 #[derive(Debug, Drop, Error)]
 pub(crate) enum Failure {
-    #[error("usage: artbench KEYS random|urls|dense|short|random8|random16|dense8|all [pairs|bulk|sets|mounts|all|keys [CHART.svg]]")]
+    #[error("usage: artbench KEYS random|urls|dense|short|random8|random16|dense8|all [pairs|bulk|sets|mounts|all|keys]")]
     Usage,
     #[error("out of memory")]
     Memory,

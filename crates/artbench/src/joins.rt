@@ -2,7 +2,7 @@
 use crate::failure::Failure;
 use crate::keys::Made;
 use blart::{AsBytes, Map, NoPrefixesBytes, TryInsertError};
-use std::alloc::Global;
+use std::alloc::{AllocError, Global};
 use std::collections::BTreeMap;
 use std::iter::FromIterator;
 
@@ -15,13 +15,13 @@ pub(crate) trait Joiner: Sized + Drop {
     fn empty(alloc: Global) -> Self;
 
     /// A map of the pairs.
-    fn of(alloc: Global, items: Vec<(Self::Key, u64)>) -> Result<Self, Failure>;
+    fn of(alloc: Global, items: Vec<(Self::Key, u64)>) -> Result<Self, AllocError>;
 
     /// Inserts the pairs one after another.
     fn put(&mut self, items: Vec<(Self::Key, u64)>) -> Result<(), Failure>;
 
     /// Moves all pairs of the other map here.
-    fn join(&mut self, other: &mut Self) -> Result<(), Failure>;
+    fn join(&mut self, other: &mut Self) -> Result<(), AllocError>;
 
     /// A sum over all pairs.
     fn sum(&self) -> u64;
@@ -34,8 +34,8 @@ impl<K: Made + NoPrefixesBytes> Joiner for Map<K, u64> {
         Map::new(alloc)
     }
 
-    fn of(alloc: Global, items: Vec<(K, u64)>) -> Result<Self, Failure> {
-        Ok(Map::from_vec(alloc, items)?)
+    fn of(alloc: Global, items: Vec<(K, u64)>) -> Result<Self, AllocError> {
+        Map::from_vec(alloc, items)
     }
 
     fn put(&mut self, items: Vec<(K, u64)>) -> Result<(), Failure> {
@@ -49,9 +49,8 @@ impl<K: Made + NoPrefixesBytes> Joiner for Map<K, u64> {
         Ok(())
     }
 
-    fn join(&mut self, other: &mut Self) -> Result<(), Failure> {
-        self.append(other)?;
-        Ok(())
+    fn join(&mut self, other: &mut Self) -> Result<(), AllocError> {
+        self.append(other)
     }
 
     fn sum(&self) -> u64 {
@@ -70,8 +69,8 @@ impl<K: Made> Joiner for BTreeMap<K, u64> {
         BTreeMap::new(alloc)
     }
 
-    fn of(alloc: Global, items: Vec<(K, u64)>) -> Result<Self, Failure> {
-        Ok(BTreeMap::from_iter(alloc, items.into_iter())?)
+    fn of(alloc: Global, items: Vec<(K, u64)>) -> Result<Self, AllocError> {
+        BTreeMap::from_iter(alloc, items.into_iter())
     }
 
     fn put(&mut self, items: Vec<(K, u64)>) -> Result<(), Failure> {
@@ -83,9 +82,8 @@ impl<K: Made> Joiner for BTreeMap<K, u64> {
         Ok(())
     }
 
-    fn join(&mut self, other: &mut Self) -> Result<(), Failure> {
-        self.append(other)?;
-        Ok(())
+    fn join(&mut self, other: &mut Self) -> Result<(), AllocError> {
+        self.append(other)
     }
 
     fn sum(&self) -> u64 {

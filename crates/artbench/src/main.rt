@@ -1,10 +1,9 @@
 //! Times the map beside the library's `BTreeMap`, on keys that the program makes from a seed.
 //!
-//! `artbench KEYS KIND [ROWS [CHART]]`: how many keys, which kind of them (`random`, `urls`, `dense`, `short`, `random8`, `random16`, `dense8` or `all`), which calls (`pairs`, `bulk`, `sets`, `mounts` or `all`; `all` where nothing is said; `keys` where the keys are to be written and nothing is timed), and a file for a chart of the ratios. Sums over what the calls gave go to standard output, which are the same on each run; times and ratios go to standard error.
+//! `artbench KEYS KIND [ROWS]`: how many keys, which kind of them (`random`, `urls`, `dense`, `short`, `random8`, `random16`, `dense8` or `all`), and which calls (`pairs`, `bulk`, `sets`, `mounts` or `all`; `all` where nothing is said; `keys` where the keys are to be written and nothing is timed). Sums over what the calls gave go to standard output, which are the same on each run; times and ratios go to standard error.
 #![tactic(auto)]
 
 mod bulk_rows;
-mod chart;
 mod contest;
 mod failure;
 mod joins;
@@ -15,20 +14,21 @@ mod parts;
 mod resolvers;
 mod set_rows;
 mod sets;
+mod sheet;
 mod tables;
 mod wishes;
 mod workload;
 
-use crate::chart::chart;
-use crate::contest::{Results, contest};
+use crate::contest::contest;
 use crate::failure::Failure;
 use crate::keys::{Key, Made};
+use crate::sheet::Sheet;
 use crate::tables::{write_keys, write_sums, write_times};
 use crate::wishes::{Group, Wishes};
 use crate::workload::{Kind, Workload};
 use blart::{NoPrefixesBytes, ZKey};
+use std::env;
 use std::process::ExitCode;
-use std::{env, fs};
 
 fn main(rt: HostRuntime) -> ExitCode {
     match run(&rt) {
@@ -42,45 +42,69 @@ fn main(rt: HostRuntime) -> ExitCode {
 
 // Runs what the arguments ask for.
 fn run(rt: &HostRuntime) -> Result<(), Failure> {
-    let wishes = Wishes::read(rt.alloc(), env::args(rt)?)?;
-    let mut all = Vec::new(rt.alloc());
-    for kind in &wishes.kinds {
-        if wishes.groups.contains(&Group::Keys) {
-            write_keys(rt, &Workload::new(rt.alloc(), *kind, wishes.keys)?)?;
-        } else {
-            all.push(times_of(rt, *kind, &wishes)?)?;
+    let wishes = Wishes::read(env::args(rt)?)?;
+    for kind in Kind::ALL {
+        if wishes.kind.is_none() || wishes.kind == Some(kind) {
+            run_kind(rt, kind, wishes)?;
         }
     }
-    write_chart(rt, &wishes, &all)
+    Ok(())
 }
 
-// Times both maps on keys of a kind, each of the kind's type.
-fn times_of(rt: &HostRuntime, kind: Kind, wishes: &Wishes) -> Result<Results, Failure> {
-    let results = match kind {
-        Kind::Random8 | Kind::Dense8 => results_of::<[u8; 8], [u8; 8]>(rt, kind, wishes)?,
-        Kind::Random16 => results_of::<[u8; 16], [u8; 16]>(rt, kind, wishes)?,
-        _ => results_of::<Vec<u8>, ZKey>(rt, kind, wishes)?,
+// Writes the keys of a kind, or times both maps on them.
+fn run_kind(rt: &HostRuntime, kind: Kind, wishes: Wishes) -> Result<(), Failure> {
+    if wishes.group == Some(Group::Keys) {
+        write_keys_of(rt, kind, wishes.keys)
+    } else {
+        write_times_of(rt, kind, wishes)
+    }
+}
+
+// Writes so many keys of a kind.
+fn write_keys_of(rt: &HostRuntime, kind: Kind, count: usize) -> Result<(), Failure> {
+    let mut workload = Workload::new(rt.alloc(), kind);
+    let written = match workload.fill(count) {
+        Ok(()) => write_keys(rt, &workload),
+        Err(failure) => Err(failure),
     };
-    write_sums(rt, &results)?;
-    write_times(rt, &results)?;
-    Ok(results)
+    drop(workload);
+    written
+}
+
+// Times both maps on keys of a kind, each of the kind's type, and writes what they gave.
+fn write_times_of(rt: &HostRuntime, kind: Kind, wishes: Wishes) -> Result<(), Failure> {
+    let mut sheet = Sheet::new(rt.alloc());
+    let written = match kind {
+        Kind::Random8 | Kind::Dense8 => write_rows::<[u8; 8], [u8; 8]>(
+            rt, kind, wishes, &mut sheet,
+        ),
+        Kind::Random16 => write_rows::<[u8; 16], [u8; 16]>(rt, kind, wishes, &mut sheet),
+        _ => write_rows::<Vec<u8>, ZKey>(rt, kind, wishes, &mut sheet),
+    };
+    drop(sheet);
+    written
 }
 
 // Times both maps on keys of a type; on those of a second type where no key may begin another.
-fn results_of<K: Key, F: Made + NoPrefixesBytes>(
+fn write_rows<K: Key, F: Made + NoPrefixesBytes>(
     rt: &HostRuntime,
     kind: Kind,
-    wishes: &Wishes,
-) -> Result<Results, Failure> {
-    let workload: Workload<K> = Workload::new(rt.alloc(), kind, wishes.keys)?;
-    contest::<K, F, HostRuntime>(rt, &workload, &wishes.groups)
-}
-
-// Writes the chart, if a file is named for it.
-fn write_chart(rt: &HostRuntime, wishes: &Wishes, all: &[Results]) -> Result<(), Failure> {
-    if let Some(path) = &wishes.chart {
-        let text = chart(rt.alloc(), all)?;
-        fs::write(rt, path.as_str(), text.as_str())?;
-    }
-    Ok(())
+    wishes: Wishes,
+    sheet: &mut Sheet,
+) -> Result<(), Failure> {
+    let mut workload: Workload<K> = Workload::new(rt.alloc(), kind);
+    let timed = match workload.fill(wishes.keys) {
+        Ok(()) => contest::<K, F, HostRuntime>(rt, &workload, wishes, sheet),
+        Err(failure) => Err(failure),
+    };
+    drop(workload);
+    timed?;
+    let name = kind.name();
+    println!(rt; "{name} {}", wishes.keys)?;
+    write_sums(rt, &sheet.rows)?;
+    eprintln!(rt;
+        "{name}, {} keys: nanoseconds, and the ratio to BTreeMap",
+        wishes.keys
+    )?;
+    write_times(rt, &sheet.rows)
 }

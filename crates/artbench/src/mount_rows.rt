@@ -1,11 +1,10 @@
 //! Times paths that a table of mounts resolves.
-use crate::contest::Sheet;
 use crate::failure::Failure;
 use crate::keys::Key;
 use crate::resolvers::Resolver;
+use crate::sheet::Sheet;
 use crate::workload::Workload;
 use std::rt::Clock;
-use std::time::Instant;
 
 /// Times as many paths as there are keys, over a tenth as many mounts: beside a map with ranges, and beside a vector with a binary search.
 pub(crate) fn time_mounts<M: Resolver, V: Resolver, R: Clock + AllocGlobal>(
@@ -13,8 +12,13 @@ pub(crate) fn time_mounts<M: Resolver, V: Resolver, R: Clock + AllocGlobal>(
     workload: &Workload<impl Key>,
     sheet: &mut Sheet,
 ) -> Result<(), Failure> {
-    time_paths::<M, R>(rt, workload, "resolve", sheet)?;
-    time_paths::<V, R>(rt, workload, "resolve (vector)", sheet)
+    let paths = workload.paths()?;
+    let mut timed = time_paths::<M, R>(rt, workload, "resolve", &paths, sheet);
+    if timed.is_ok() {
+        timed = time_paths::<V, R>(rt, workload, "resolve (vector)", &paths, sheet);
+    }
+    drop(paths);
+    timed
 }
 
 // Times a table of mounts.
@@ -22,12 +26,28 @@ fn time_paths<T: Resolver, R: Clock + AllocGlobal>(
     rt: &R,
     workload: &Workload<impl Key>,
     call: &'static str,
+    paths: &[Vec<u8>],
     sheet: &mut Sheet,
 ) -> Result<(), Failure> {
+    let mounts = workload.mounts()?;
     let mut table = T::empty(rt.alloc());
-    table.fill(workload.mounts()?)?;
-    let paths = workload.paths()?;
-    let start = Instant::now(rt)?;
-    let sum = table.resolve_all(&paths);
-    sheet.add(rt, call, start, paths.len(), sum)
+    let timed = match table.fill(mounts) {
+        Ok(()) => time_resolve(rt, call, &table, paths, sheet),
+        Err(failure) => Err(failure),
+    };
+    drop(table);
+    timed
+}
+
+// Times paths that are resolved.
+fn time_resolve<T: Resolver>(
+    rt: &impl Clock,
+    call: &'static str,
+    table: &T,
+    paths: &[Vec<u8>],
+    sheet: &mut Sheet,
+) -> Result<(), Failure> {
+    sheet.start(rt);
+    let sum = table.resolve_all(paths);
+    sheet.stop(rt, call, paths.len(), sum)
 }

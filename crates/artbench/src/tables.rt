@@ -1,6 +1,6 @@
 //! The results as tables.
-use crate::contest::{Results, Timed};
 use crate::failure::Failure;
+use crate::sheet::Row;
 use crate::workload::Workload;
 
 /// Writes the keys of a kind on standard output, each in a line of hexadecimal digits: those that are stored, those that are looked up and found, and those that are missing.
@@ -23,41 +23,26 @@ fn write_lines(rt: &(impl Print + AllocGlobal), keys: &[Vec<u8>]) -> Result<(), 
 }
 
 /// Writes on standard output what the calls gave, which is the same on each run.
-pub(crate) fn write_sums(rt: &impl Print, results: &Results) -> Result<(), Failure> {
-    println!(rt; "{} {}", results.kind.name(), results.keys)?;
-    for row in &results.ours {
+pub(crate) fn write_sums(rt: &impl Print, rows: &[Row]) -> Result<(), Failure> {
+    for row in rows {
         println!(rt; "{} {} {}", row.call, row.count, row.sum)?;
     }
     Ok(())
 }
 
 /// Writes on standard error the nanoseconds a key or pair, and the ratio: below 1 the map is faster.
-pub(crate) fn write_times(rt: &impl Eprint, results: &Results) -> Result<(), Failure> {
-    eprintln!(rt;
-        "{}, {} keys: nanoseconds, and the ratio to BTreeMap",
-        results.kind.name(),
-        results.keys
-    )?;
-    for (our, their) in results.ours.iter().zip(&results.theirs) {
-        let hundredths = hundredths(our, their);
+pub(crate) fn write_times(rt: &impl Eprint, rows: &[Row]) -> Result<(), Failure> {
+    for row in rows {
+        let count = (row.count as u64).max(1);
+        let hundredths = row.ours.saturating_mul(100) / row.theirs.max(1);
         eprintln!(rt;
             "{:>20} {:>8} {:>8} {:>5}.{:02}",
-            our.call,
-            each(our),
-            each(their),
+            row.call,
+            row.ours / count,
+            row.theirs / count,
             hundredths / 100,
             hundredths % 100
         )?;
     }
     Ok(())
-}
-
-/// The nanoseconds that one key or pair took.
-pub(crate) fn each(row: &Timed) -> u64 {
-    row.nanos / (row.count as u64).max(1)
-}
-
-/// The ratio of two times, in hundredths.
-pub(crate) fn hundredths(our: &Timed, their: &Timed) -> u64 {
-    our.nanos.saturating_mul(100) / their.nanos.max(1)
 }

@@ -1,7 +1,6 @@
 //! What the arguments ask for.
 use crate::failure::Failure;
 use crate::workload::Kind;
-use std::alloc::{AllocError, Global};
 use std::env::Args;
 
 /// Calls that are timed together.
@@ -20,8 +19,14 @@ pub(crate) enum Group {
 }
 
 impl Group {
-    /// Every group that is timed.
-    pub(crate) const ALL: [Group; 4] = [Group::Pairs, Group::Bulk, Group::Sets, Group::Mounts];
+    /// Every group.
+    const ALL: [Group; 5] = [
+        Group::Pairs,
+        Group::Bulk,
+        Group::Sets,
+        Group::Mounts,
+        Group::Keys,
+    ];
 
     /// The word that names the group.
     pub(crate) fn name(self) -> &'static str {
@@ -35,67 +40,75 @@ impl Group {
     }
 }
 
-/// How many keys of which kinds are asked for, which calls, and where a chart goes.
-#[derive(Drop)]
+/// How many keys are asked for, of which kind, and which calls; where none is named, of all.
+#[derive(Clone, Copy)]
 pub(crate) struct Wishes {
     pub(crate) keys: usize,
-    pub(crate) kinds: Vec<Kind>,
-    pub(crate) groups: Vec<Group>,
-    pub(crate) chart: Option<String>,
+    pub(crate) kind: Option<Kind>,
+    pub(crate) group: Option<Group>,
 }
 
 impl Wishes {
     /// What the arguments say, the first of which is the program's name.
-    pub(crate) fn read(alloc: Global, mut args: Args) -> Result<Self, Failure> {
+    pub(crate) fn read(mut args: Args) -> Result<Self, Failure> {
         let _program = args.next();
-        let (Some(keys), Some(kind)) = (args.next(), args.next()) else {
-            return Err(Failure::Usage);
+        let (keys, kind, rows, more) = (args.next(), args.next(), args.next(), args.next());
+        let wishes = match (&keys, &kind, &rows, &more) {
+            (Some(keys), Some(kind), None, None) => wishes_of(keys, kind, "all"),
+            (Some(keys), Some(kind), Some(rows), None) => wishes_of(keys, kind, rows),
+            _ => Err(Failure::Usage),
         };
-        let groups = match args.next() {
-            Some(word) => groups_of(alloc, word.as_str())?,
-            None => groups_of(alloc, "all")?,
-        };
-        let chart = args.next();
-        if args.next().is_some() {
-            return Err(Failure::Usage);
-        }
-        let Ok(keys) = keys.as_str().parse::<usize>() else {
-            return Err(Failure::Usage);
-        };
-        let kinds = kinds_of(alloc, kind.as_str())?;
-        if kinds.is_empty() || groups.is_empty() {
-            return Err(Failure::Usage);
-        }
-        Ok(Wishes {
-            keys,
-            kinds,
-            groups,
-            chart,
-        })
+        drop(args);
+        drop(keys);
+        drop(kind);
+        drop(rows);
+        drop(more);
+        wishes
+    }
+
+    /// Whether calls of a group are to be timed.
+    pub(crate) fn asks_for(self, group: Group) -> bool {
+        self.group.is_none() || self.group == Some(group)
     }
 }
 
-// The kinds of keys that a word names: none for a word that names none.
-fn kinds_of(alloc: Global, word: &str) -> Result<Vec<Kind>, AllocError> {
-    let mut kinds = Vec::new(alloc);
+// What three words ask for.
+fn wishes_of(keys: &str, kind: &str, rows: &str) -> Result<Wishes, Failure> {
+    let Ok(keys) = keys.parse::<usize>() else {
+        return Err(Failure::Usage);
+    };
+    Ok(Wishes {
+        keys,
+        kind: kind_of(kind)?,
+        group: group_of(rows)?,
+    })
+}
+
+// The kind of keys that a word names, or none for all.
+fn kind_of(word: &str) -> Result<Option<Kind>, Failure> {
     for kind in Kind::ALL {
-        if word == "all" || word == kind.name() {
-            kinds.push(kind)?;
+        if word == kind.name() {
+            return Ok(Some(kind));
         }
     }
-    Ok(kinds)
+    none_for_all(word)
 }
 
-// The groups of calls that a word names: none for a word that names none.
-fn groups_of(alloc: Global, word: &str) -> Result<Vec<Group>, AllocError> {
-    let mut groups = Vec::new(alloc);
+// The group of calls that a word names, or none for all.
+fn group_of(word: &str) -> Result<Option<Group>, Failure> {
     for group in Group::ALL {
-        if word == "all" || word == group.name() {
-            groups.push(group)?;
+        if word == group.name() {
+            return Ok(Some(group));
         }
     }
-    if word == Group::Keys.name() {
-        groups.push(Group::Keys)?;
+    none_for_all(word)
+}
+
+// None, where the word asks for all.
+fn none_for_all<T>(word: &str) -> Result<Option<T>, Failure> {
+    if word == "all" {
+        Ok(None)
+    } else {
+        Err(Failure::Usage)
     }
-    Ok(groups)
 }

@@ -116,98 +116,129 @@ pub(crate) struct Workload<K> {
 }
 
 impl<K: Key> Workload<K> {
-    /// So many keys of a kind. The seed is always the same.
-    pub(crate) fn new(alloc: Global, kind: Kind, count: usize) -> Result<Self, Failure> {
-        let mut rng = Xoshiro256PlusPlus::seed_from_u64(7);
-        let mut keys: Vec<K> = keys_of(alloc, kind, count, false, &mut rng)?;
-        keys.shuffle(&mut rng);
-        let mut sorted = keys.clone()?;
-        sorted.sort()?;
-        let mut hits = keys.clone()?;
-        hits.shuffle(&mut rng);
-        let misses: Vec<K> = keys_of(alloc, kind, count, true, &mut rng)?;
-        let fronts = fronts_of(alloc, kind, &hits)?;
-        Ok(Workload {
+    /// No keys of a kind, so far.
+    pub(crate) fn new(alloc: Global, kind: Kind) -> Self {
+        Workload {
             alloc,
             kind,
-            keys,
-            sorted,
-            hits,
-            misses,
-            fronts,
-        })
+            keys: Vec::new(alloc),
+            sorted: Vec::new(alloc),
+            hits: Vec::new(alloc),
+            misses: Vec::new(alloc),
+            fronts: Vec::new(alloc),
+        }
     }
-}
 
-impl<K: Key> Workload<K> {
+    /// Makes so many keys. The seed is always the same.
+    pub(crate) fn fill(&mut self, count: usize) -> Result<(), Failure> {
+        let mut rng = Xoshiro256PlusPlus::seed_from_u64(7);
+        push_keys(
+            &mut self.keys,
+            self.alloc,
+            self.kind,
+            count,
+            false,
+            &mut rng,
+        )?;
+        self.keys.shuffle(&mut rng);
+        self.sorted.extend_from_slice(&self.keys)?;
+        self.sorted.sort()?;
+        self.hits.extend_from_slice(&self.keys)?;
+        self.hits.shuffle(&mut rng);
+        push_keys(
+            &mut self.misses,
+            self.alloc,
+            self.kind,
+            count,
+            true,
+            &mut rng,
+        )?;
+        push_fronts(&mut self.fronts, self.alloc, self.kind, &self.hits)
+    }
+
     /// The bytes of the keys whose place is no multiple of a number.
     pub(crate) fn every(&self, number: usize) -> Result<Vec<Vec<u8>>, Failure> {
-        let mut keys = Vec::with_capacity(self.alloc, self.keys.len())?;
+        let mut lists = Vec::new(self.alloc);
         for (place, key) in self.keys.iter().enumerate() {
             if place % number.max(1) != 0 {
-                keys.push(Vec::made(self.alloc, key.as_bytes())?)?;
+                push_list(&mut lists, self.alloc, key, b"")?;
             }
         }
-        Ok(keys)
+        Ok(lists)
     }
 
     /// The bytes of the first tenth of the keys, in order.
     pub(crate) fn mounts(&self) -> Result<Vec<Vec<u8>>, Failure> {
-        let mut mounts = Vec::new(self.alloc);
+        let mut lists = Vec::new(self.alloc);
         for key in self.keys.iter().take(self.keys.len() / 10) {
-            mounts.push(Vec::made(self.alloc, key.as_bytes())?)?;
+            push_list(&mut lists, self.alloc, key, b"")?;
         }
-        mounts.sort()?;
-        Ok(mounts)
+        lists.sort()?;
+        Ok(lists)
     }
 
     /// As many paths as there are keys: by turns one below a mount, and one that is like it.
     pub(crate) fn paths(&self) -> Result<Vec<Vec<u8>>, Failure> {
         let mounts = (self.keys.len() / 10).max(1);
-        let mut paths = Vec::with_capacity(self.alloc, self.keys.len())?;
+        let mut lists = Vec::new(self.alloc);
         for (place, other) in self.misses.iter().enumerate() {
             let key = match self.keys.get(place.wrapping_mul(7) % mounts) {
                 Some(mount) if place % 2 == 0 => mount,
                 _ => other,
             };
-            let mut path = Vec::made(self.alloc, key.as_bytes())?;
-            path.extend_from_slice(b"/index")?;
-            paths.push(path)?;
+            push_list(&mut lists, self.alloc, key, b"/index")?;
         }
-        Ok(paths)
+        Ok(lists)
     }
 }
 
-// So many keys of a kind.
-fn keys_of<K: Key>(
+// Adds the bytes of a key, and some more after them.
+fn push_list(
+    lists: &mut Vec<Vec<u8>>,
+    alloc: Global,
+    key: &impl AsBytes,
+    more: &[u8],
+) -> Result<(), Failure> {
+    let mut list = Vec::made(alloc, key.as_bytes())?;
+    list.extend_from_slice(more)?;
+    lists.push(list)?;
+    Ok(())
+}
+
+// Adds so many keys of a kind.
+fn push_keys<K: Key>(
+    keys: &mut Vec<K>,
     alloc: Global,
     kind: Kind,
     count: usize,
     missing: bool,
     rng: &mut Xoshiro256PlusPlus,
-) -> Result<Vec<K>, Failure> {
-    let mut keys = Vec::with_capacity(alloc, count)?;
-    let mut key = Vec::new(alloc);
+) -> Result<(), Failure> {
     for place in 0..count {
-        key.clear();
+        let mut key = Vec::new(alloc);
         kind.write(&mut key, place, missing, rng)?;
         keys.push(K::made(alloc, key.as_slice())?)?;
     }
-    Ok(keys)
+    Ok(())
 }
 
-// What begins the first 10,000 of the keys.
-fn fronts_of<K: Key>(alloc: Global, kind: Kind, keys: &[K]) -> Result<Vec<Front<K>>, Failure> {
-    let mut fronts = Vec::new(alloc);
+// Adds what begins the first 10,000 of the keys.
+fn push_fronts<K: Key>(
+    fronts: &mut Vec<Front<K>>,
+    alloc: Global,
+    kind: Kind,
+    keys: &[K],
+) -> Result<(), Failure> {
     for key in keys.iter().take(10_000) {
         let bytes = key.as_bytes();
         let (front, _) = bytes.split_at(kind.front(bytes.len()).min(bytes.len()));
+        let least = K::made(alloc, front)?;
         fronts.push(Front {
             bytes: Vec::made(alloc, front)?,
-            least: K::made(alloc, front)?,
+            least,
         })?;
     }
-    Ok(fronts)
+    Ok(())
 }
 
 const HOSTS: [&str; 7] = [

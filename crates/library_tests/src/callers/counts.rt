@@ -1,8 +1,8 @@
 //! Counts of words.
-ghost use Rattle.std.specs.Prelude.{◌≡◌, ◌≢◌, ◌+◌, ◌<◌, ◌^◌, ℕ, List, true, false, not, option_map, unwrap_or, OnOk, IfOk, OnErr, Some};
+ghost use Rattle.std.specs.Prelude.{◌≡◌, ◌≢◌, ◌+◌, ◌<◌, ◌^◌, ℕ, List, true, false, not, unwrap_or, OnOk, IfOk, OnErr, Some};
 ghost use Rattle.blart.specs.Words.{pairs, pair_at, value_at, has};
 
-use blart::{AsBytes, Map, NoPrefixesBytes};
+use blart::{Map, NoPrefixesBytes};
 use std::alloc::AllocError;
 
 /// Adds one to the count of a word, by a look-up and an insertion.
@@ -39,18 +39,6 @@ pub fn count_in_place<W: NoPrefixesBytes + Drop>(
         }
     }
     Ok(())
-}
-
-/// Adds one to the count of a word that is there, and leaves others alone.
-pub fn raise<W: AsBytes>(counts: &mut Map<W, u64>, word: &W)
-    requires { unwrap_or (value_at W.bytes (pairs counts.old) (W.bytes word.now)) 0 + 1 < 2 ^ 64 }
-    ensures raised { value_at W.bytes (pairs counts.new) (W.bytes word.now)
-        ≡ option_map (λ n. n + 1) (value_at W.bytes (pairs counts.old) (W.bytes word.now)) }
-    ensures others { (q : List ℕ) → q ≢ W.bytes word.now → value_at W.bytes (pairs counts.new) q ≡ value_at W.bytes (pairs counts.old) q }
-{
-    if let Some(n) = counts.get_mut(word) {
-        *n += 1;
-    }
 }
 
 /// Stores the pair unless its key is stored, and answers whether it did.

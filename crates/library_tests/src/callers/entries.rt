@@ -168,15 +168,6 @@ pub fn redirect(routes: &mut Map<&'static str, u32>, path: &'static str, target:
     }
 }
 
-/// Sets a score by its entry, which is dropped.
-pub fn set_score(scores: &mut Map<ZKey, u64>, player: ZKey, next: u64) -> Result<(), AllocError>
-    ensures set { OnOk result (value_at zkey_bytes (pairs scores.new) (zkey_bytes player) ≡ Some next) }
-    ensures refused { OnErr result (scores.new ≡ scores.old) }
-{
-    let _entry = scores.entry(player).insert_entry(next)?;
-    Ok(())
-}
-
 /// Sets the value of the first pair, and answers whether there is one.
 pub fn set_first(scores: &mut Map<ZKey, u64>, next: u64) -> bool
     ensures none { result ≡ false → scores.new ≡ scores.old }
@@ -188,20 +179,6 @@ pub fn set_first(scores: &mut Map<ZKey, u64>, next: u64) -> bool
             true
         }
         None => false,
-    }
-}
-
-/// Replaces the score of a player who has one.
-pub fn replace_score(scores: &mut Map<ZKey, u64>, player: ZKey, next: u64)
-    ensures set { has zkey_bytes (pairs scores.old) (zkey_bytes player) ≡ true
-        → value_at zkey_bytes (pairs scores.new) (zkey_bytes player) ≡ Some next }
-    ensures len { length (pairs scores.new) ≡ length (pairs scores.old) }
-{
-    match scores.entry(player).and_modify(|score| *score = next) {
-        Entry::Occupied(_) => {}
-        Entry::Vacant(entry) => {
-            entry.into_key();
-        }
     }
 }
 

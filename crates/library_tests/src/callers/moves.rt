@@ -3,7 +3,7 @@ ghost use Rattle.std.specs.Prelude.{◌≡◌, ◌≢◌, ◌+◌, ℕ, List, tr
 ghost use Rattle.std.specs.declared.ops.Bound.TheVariants.{Included, Excluded};
 ghost use Rattle.blart.specs.Words.{pairs, bytes, between, in_order, pair_at, value_at, has, overlaps, slice_bytes, u32_bytes};
 
-use blart::{AsBytes, Map, NoPrefixesBytes, TryInsertError, U32Key};
+use blart::{AsBytes, Map, TryInsertError, U32Key};
 use std::alloc::AllocError;
 use std::iter::Iterator;
 use std::ops::Bound;
@@ -102,18 +102,6 @@ pub fn add_or_give_back<K: AsBytes + Drop, V: Drop>(
         Err(TryInsertError::Memory(refused)) => Err(refused),
         Err(TryInsertError::Prefix(_)) => unreachable!(),
     }
-}
-
-/// The length after an insertion.
-pub fn len_with<K: NoPrefixesBytes + Drop, V: Drop>(
-    store: &mut Map<K, V>,
-    key: K,
-    value: V,
-) -> Result<usize, AllocError>
-    ensures { IfOk result (λ n. n ≡ length (pairs store.old) + (if has K.bytes (pairs store.old) (K.bytes key) then 0 else 1)) }
-{
-    store.insert(key, value)?;
-    Ok(store.len())
 }
 
 /// The length after a removal.

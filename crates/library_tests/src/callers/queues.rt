@@ -6,14 +6,6 @@ ghost use Rattle.blart.specs.Words.{pairs, bytes, between, shown, u32_bytes};
 use blart::{AsBytes, Map, U32Key};
 use std::ops::Bound;
 
-/// Takes the least of a queue.
-pub fn take_least(queue: &mut Map<U32Key, u64>) -> Option<(U32Key, u64)>
-    ensures least { result ≡ slice_get (pairs queue.old) 0 }
-    ensures rest { pairs queue.new ≡ drop 1 (pairs queue.old) }
-{
-    queue.pop_first()
-}
-
 /// Takes the least of a queue, and gives its value.
 pub fn take_next<K: AsBytes + Drop, V: Drop>(queue: &mut Map<K, V>) -> Option<V>
     ensures least { result ≡ option_map (λ p. p.1) (slice_get (pairs queue.old) 0) }

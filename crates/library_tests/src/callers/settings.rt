@@ -1,6 +1,6 @@
 //! Settings in sections: the names of a section begin with its bytes.
 ghost use Rattle.std.specs.Prelude.{◌≡◌, ◌+◌, ℕ, List, true, false, length, None};
-ghost use Rattle.blart.specs.Words.{pairs, value_at, value_at_front, begins, under, bytes, elements, stores, slice_bytes};
+ghost use Rattle.blart.specs.Words.{pairs, value_at, begins, under, bytes, elements, stores, slice_bytes};
 
 use blart::{AsBytes, Map, TreeSet};
 
@@ -30,15 +30,6 @@ pub fn setting_beside(
     settings.remove_prefix(first);
     settings.remove_prefix(second);
     settings.get(&name).copied()
-}
-
-/// Closes a part of a site, and answers the target of a path elsewhere, which is as before.
-pub fn target_beside(routes: &mut Map<&'static [u8], u64>, part: &[u8], path: &[u8]) -> Option<u64>
-    requires { begins part.now path.now ≡ false }
-    ensures { result ≡ value_at_front slice_bytes (pairs routes.old) path.now }
-{
-    routes.remove_prefix(part);
-    routes.prefix_get(&path).copied()
 }
 
 /// Takes back all grants of a section, and answers whether a name is still granted: not one of the section.

@@ -1,4 +1,4 @@
-//! What no script can say: how often keys are asked, what a hasher is fed, when keys and values are dropped, closures, and calls that no line makes.
+//! What no script can say: how often keys are asked, what a hasher is fed, when keys are dropped, closures, and calls that no line makes.
 
 mod asked;
 mod calls;

@@ -134,30 +134,6 @@ fn writers_take_a_byte_a_call(rt: HostRuntime) {
     }
 }
 
-#[test]
-fn writers_fail(rt: HostRuntime) {
-    for full in [Full::Fails, Full::TakesNothing] {
-        for text in ["insert 01 5", "insert 01 5\n", "insert 01 5\nlist\n"] {
-            let ends = Ends {
-                room: 4,
-                full,
-                ..SOUND
-            };
-            assert_outcome(&rt, text.as_bytes(), ends, Err(RunError::Write), b"none");
-        }
-    }
-}
-
-#[test]
-fn a_writer_takes_nothing(rt: HostRuntime) {
-    let ends = Ends {
-        room: 0,
-        full: Full::TakesNothing,
-        ..SOUND
-    };
-    assert_outcome(&rt, b"insert 01 5\n", ends, Err(RunError::Write), b"");
-}
-
 // Adds some bytes to a text, so many times.
 fn push(rt: &impl Abort, text: &mut Vec<u8>, bytes: &[u8], count: usize) {
     for _ in 0..count {
@@ -285,22 +261,4 @@ fn a_writer_remembers_that_it_took_nothing(rt: HostRuntime) {
     assert!(rt; writer.flush().is_ok());
     assert!(rt; writer.failed());
     assert!(rt; writer.into_inner().taken.as_slice() == b"xyz".as_slice());
-}
-
-#[test]
-fn a_writer_fails_within_a_listing(rt: HostRuntime) {
-    for (text, answers) in [
-        (
-            "insert 01 5\ninsert 02 6\nprefix -\n",
-            "none\nnone\n01 5\n02",
-        ),
-        (
-            "insert 01 5\ninsert 02 6\nrange 02 03\n",
-            "none\nnone\n02 6\nen",
-        ),
-    ] {
-        let ends = Ends { room: 17, ..SOUND };
-        let written = answers.as_bytes();
-        assert_outcome(&rt, text.as_bytes(), ends, Err(RunError::Write), written);
-    }
 }

@@ -1,73 +1,8 @@
-//! When keys and values are dropped.
+//! When keys are dropped.
 use blart_keys::{AsBytes, NoPrefixesBytes};
 use blart_map::TreeMap;
 use std::cell::Cell;
-use std::iter::{DoubleEndedIterator, IntoIterator, Iterator};
 use std::process::Abort;
-
-// A value that counts how often one is dropped.
-struct Counted<'a> {
-    drops: &'a Cell<usize>,
-}
-
-impl Drop for Counted<'_> {
-    fn drop(self) {
-        let Counted { drops } = self;
-        drops.set(drops.get().wrapping_add(1));
-    }
-}
-
-type Values<'a> = TreeMap<[u8; 2], Counted<'a>, 2>;
-
-// Three of them begin with 1.
-const KEYS: [[u8; 2]; 8] = [
-    [1, 1],
-    [2, 1],
-    [1, 2],
-    [3, 1],
-    [1, 3],
-    [4, 1],
-    [4, 2],
-    [5, 1],
-];
-
-// Eight values.
-fn put_eight<'a>(rt: &impl Abort, map: &mut Values<'a>, drops: &'a Cell<usize>) {
-    for key in KEYS {
-        super::put(rt, map, key, Counted { drops });
-    }
-    assert!(rt; drops.get() == 0);
-}
-
-// Of the items one from each end is dropped where it comes, and the other six with the walk.
-fn take<W: DoubleEndedIterator>(rt: &impl Abort, mut walk: W, drops: &Cell<usize>)
-where
-    W::Item: Drop,
-    requires front { (s : W) → W.can_next s }
-    requires back { (s : W) → W.can_next_back s }
-{
-    drop(walk.next());
-    drop(walk.next_back());
-    assert!(rt; drops.get() == 2);
-    drop(walk);
-    assert!(rt; drops.get() == 8);
-    drops.set(0);
-}
-
-// A map of eight values.
-fn eight<'a>(rt: &(impl Abort + AllocGlobal), drops: &'a Cell<usize>) -> Values<'a> {
-    let mut map = Values::with_prefix_len(rt.alloc());
-    put_eight(rt, &mut map, drops);
-    map
-}
-
-#[test]
-fn by_walks_that_own(rt: HostRuntime) {
-    let drops = Cell::new(0usize);
-    take(&rt, eight(&rt, &drops).into_iter(), &drops);
-    take(&rt, eight(&rt, &drops).into_values(), &drops);
-    take(&rt, eight(&rt, &drops).into_keys(), &drops);
-}
 
 // A key of one byte that counts how often one is dropped.
 struct Marked<'a> {

@@ -54,42 +54,21 @@ fn assert_children<const P: usize>(
     assert!(rt; children == count, "at {front:?}");
 }
 
-// Forty zeros and a 1.
-fn first_far() -> [u8; 41] {
+// Forty-one zeros, but for one byte.
+fn zeros_but(place: usize, byte: u8) -> [u8; 41] {
     let mut key = [0; 41];
-    key[40] = 1;
+    key[place % 41] = byte;
     key
-}
-
-// Forty zeros and a 2.
-fn second_far() -> [u8; 41] {
-    let mut key = [0; 41];
-    key[40] = 2;
-    key
-}
-
-// Twenty zeros and a 3.
-fn halfway() -> [u8; 21] {
-    let mut key = [0; 21];
-    key[20] = 3;
-    key
-}
-
-// Zeros with a 1 among them.
-fn beside() -> [u8; 40] {
-    let mut front = [0; 40];
-    front[30] = 1;
-    front
 }
 
 // Two keys part after forty zeros, and a third from them after twenty.
 fn children_far_down<const P: usize>(rt: &(impl Abort + AllocGlobal)) {
-    let (first, second, third) = (first_far(), second_far(), halfway());
+    let (first, second, third) = (zeros_but(40, 1), zeros_but(40, 2), zeros_but(20, 3));
     let tree = tree_of::<P>(rt, &[&third, &second, &first]);
     assert_children(rt, &tree, &[0; 20], 2);
     assert_children(rt, &tree, &[0; 40], 2);
     assert_children(rt, &tree, &[0; 30], 0);
-    assert_children(rt, &tree, &beside(), 0);
+    assert_children(rt, &tree, &zeros_but(30, 1), 0);
     drop(tree);
 }
 

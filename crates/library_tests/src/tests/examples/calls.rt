@@ -53,7 +53,6 @@ fn reply(rt: &impl Abort, alloc: Global) -> Result<(), AllocError> {
 fn as_shown(rt: HostRuntime) {
     let mut map = Map::new(rt.alloc());
     insert_prefix_error(&rt, &mut map).expect(&rt, "memory");
-    map.clear();
     try_insert_error(&rt, &mut map).expect(&rt, "memory");
     drop(map);
     call(&rt, rt.alloc()).expect(&rt, "memory");

@@ -52,9 +52,7 @@ fn tree_map(rt: &impl Abort, alloc: Global) -> Result<(), TryInsertError> {
 fn as_shown(rt: HostRuntime) {
     let mut map = Map::new(rt.alloc());
     entry(&rt, &mut map).expect(&rt, "memory");
-    map.clear();
     occupied_entry(&rt, &mut map).expect(&rt, "memory");
-    map.clear();
     vacant_entry(&rt, &mut map).expect(&rt, "memory");
     drop(map);
     tree_map(&rt, rt.alloc()).expect(&rt, "memory");

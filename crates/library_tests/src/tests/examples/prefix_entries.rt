@@ -56,9 +56,8 @@ fn prefix_occupied(rt: &impl Abort, alloc: Global) -> Result<(), TryInsertError>
 #[test]
 fn as_shown(rt: HostRuntime) {
     let mut map = Map::new(rt.alloc());
-    prefix_entry(&rt, &mut map).expect(&rt, "memory");
-    map.clear();
     prefix_kind(&rt, &mut map).expect(&rt, "memory");
+    prefix_entry(&rt, &mut map).expect(&rt, "memory");
     drop(map);
     inner_occupied_entry(&rt, rt.alloc()).expect(&rt, "memory");
     prefix_occupied(&rt, rt.alloc()).expect(&rt, "memory");

@@ -115,25 +115,22 @@ fn extract_if(rt: &impl Abort, map: &mut Map<'_>) -> Result<(), TryInsertError> 
     Ok(())
 }
 
+// Each but the last leaves one pair or none, and the next puts that pair again.
+fn in_turn(rt: &impl Abort, map: &mut Map<'_>) -> Result<(), TryInsertError> {
+    iter_mut(rt, map)?;
+    values_mut(rt, map)?;
+    counted_walk(rt, map)?;
+    range_mut(rt, map)?;
+    prefix_mut(rt, map)?;
+    subtree_iter_mut(rt, map)?;
+    take_walk(rt, map)?;
+    extract_if(rt, map)?;
+    lending_walk(rt, map)
+}
+
 #[test]
 fn as_shown(rt: HostRuntime) {
     let mut map = Map::new(rt.alloc());
-    iter_mut(&rt, &mut map).expect(&rt, "memory");
-    map.clear();
-    values_mut(&rt, &mut map).expect(&rt, "memory");
-    map.clear();
-    counted_walk(&rt, &mut map).expect(&rt, "memory");
-    map.clear();
-    range_mut(&rt, &mut map).expect(&rt, "memory");
-    map.clear();
-    prefix_mut(&rt, &mut map).expect(&rt, "memory");
-    map.clear();
-    subtree_iter_mut(&rt, &mut map).expect(&rt, "memory");
-    map.clear();
-    lending_walk(&rt, &mut map).expect(&rt, "memory");
-    map.clear();
-    take_walk(&rt, &mut map).expect(&rt, "memory");
-    map.clear();
-    extract_if(&rt, &mut map).expect(&rt, "memory");
+    in_turn(&rt, &mut map).expect(&rt, "memory");
     drop(map);
 }

@@ -74,45 +74,55 @@ fn commands_with_a_byte_that_none_has(rt: HostRuntime) {
 #[test]
 fn a_last_line_after_a_failed_read_is_not_answered(rt: HostRuntime) {
     for piece in [1, 2, 3, 5, 1000] {
-        for (read_fails, ended, answers) in [
-            (false, Ok(()), "none\n5\n"),
-            (true, Err(RunError::Read), "none\n"),
+        for (text, read_fails, ended, answers) in [
+            ("insert 01 5\nget 01", false, Ok(()), "none\n5\n"),
+            ("insert 01 5\nget 01", true, Err(RunError::Read), "none\n"),
+            ("", true, Err(RunError::Read), ""),
         ] {
             let ends = Ends {
                 piece,
                 read_fails,
                 ..SOUND
             };
-            assert_outcome(&rt, b"insert 01 5\nget 01", ends, ended, answers.as_bytes());
+            assert_outcome(&rt, text.as_bytes(), ends, ended, answers.as_bytes());
         }
     }
 }
 
-// A read that fails at once: nothing is written.
-#[test]
-fn a_read_fails_at_once(rt: HostRuntime) {
-    let ends = Ends {
-        read_fails: true,
-        ..SOUND
-    };
-    assert_outcome(&rt, b"", ends, Err(RunError::Read), b"");
-}
-
 // Whatever the room, what was written is a beginning of the answers.
-#[test]
-fn a_writer_is_full_after_any_byte(rt: HostRuntime) {
-    let answers: &[u8] = b"none\n01 5\nend 1\nrefused line\n";
+fn assert_cut_short(rt: &(impl Abort + AllocGlobal), text: &str, answers: &[u8], full: Full) {
     for room in 0..answers.len() {
         for most in [1, 4, AMPLE] {
             let ends = Ends {
                 most,
                 room,
-                full: Full::TakesNothing,
+                full,
                 ..SOUND
             };
             let written = answers.split_at(room).0;
-            let text = b"insert 01 5\nlist\nlast";
-            assert_outcome(&rt, text, ends, Err(RunError::Write), written);
+            assert_outcome(rt, text.as_bytes(), ends, Err(RunError::Write), written);
         }
+    }
+}
+
+#[test]
+fn a_writer_is_full_after_any_byte(rt: HostRuntime) {
+    for (text, answers) in [
+        ("insert 01 5", "none\n"),
+        (
+            "insert 01 5\nlist\nlast",
+            "none\n01 5\nend 1\nrefused line\n",
+        ),
+        (
+            "insert 01 5\ninsert 02 6\nprefix -\n",
+            "none\nnone\n01 5\n02 6\nend 2\n",
+        ),
+        (
+            "insert 01 5\ninsert 02 6\nrange 02 03\n",
+            "none\nnone\n02 6\nend 1\n",
+        ),
+    ] {
+        assert_cut_short(&rt, text, answers.as_bytes(), Full::Fails);
+        assert_cut_short(&rt, text, answers.as_bytes(), Full::TakesNothing);
     }
 }

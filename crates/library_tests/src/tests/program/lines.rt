@@ -58,18 +58,6 @@ fn tables_of_lines(rt: HostRuntime) {
             "refused line\nrefused line\nrefused line\nremoved 0\nrefused line\n",
         ),
         ("", ""),
-    ];
-    for (text, answers) in tables {
-        for piece in [1, 2, 3, 5, 100] {
-            let ends = Ends { piece, ..SOUND };
-            assert_outcome(&rt, text.as_bytes(), ends, Ok(()), answers.as_bytes());
-        }
-    }
-}
-
-#[test]
-fn listings_of_a_part(rt: HostRuntime) {
-    let tables = [
         (
             "range 02 01\ninsert 0101 1\ninsert 0102 2\ninsert 02 3\nprefix 01\nrange 0102 -\nrange - 0102\nrange 0102 0102\n",
             "end 0\nnone\nnone\nnone\n0101 1\n0102 2\nend 2\nrefused bounds\n0101 1\nend 1\nend 0\n",
@@ -92,7 +80,7 @@ fn listings_of_a_part(rt: HostRuntime) {
         ),
     ];
     for (text, answers) in tables {
-        for piece in [1, 7, 100] {
+        for piece in [1, 2, 3, 5, 7, 100] {
             let ends = Ends { piece, ..SOUND };
             assert_outcome(&rt, text.as_bytes(), ends, Ok(()), answers.as_bytes());
         }

@@ -52,7 +52,7 @@ fn puts_by_key(map: &mut Map, way: Way, key: [u8; 2], ran: &mut bool) -> bool {
     }
 }
 
-// The closure runs if the value is put in. Else the map is as it was. Answers whether it is put in.
+// The closure runs if the value is new and put in. Else the map is as it was. Answers whether the value is there now.
 fn assert_runs(
     rt: &(impl Abort + Print),
     map: &mut Map,
@@ -60,30 +60,31 @@ fn assert_runs(
     of_key: bool,
     key: [u8; 2],
 ) -> bool {
-    let before = map.len();
+    let (before, was_there) = (map.len(), map.contains_key(&key));
     let mut ran = false;
     let put = if of_key {
         puts_by_key(map, way, key, &mut ran)
     } else {
         puts(map, way, key, &mut ran)
     };
-    assert!(rt; ran == put);
+    assert!(rt; ran == (put && !was_there));
     if put {
         assert!(rt; map.get(&key) == Some(&7));
     } else {
         say_refused(rt);
         assert!(rt; map.get(&key).is_none());
     }
-    assert!(rt; map.len() == before.wrapping_add(put as usize));
+    assert!(rt; map.len() == before.wrapping_add(ran as usize));
     put
 }
 
-// In an empty map, where the leaf asks for memory, and beside a pair, where the inner node does.
+// In an empty map, where the leaf asks for memory, and beside a pair, where the inner node does; at stored bytes the closure does not run.
 fn assert_both(rt: &(impl Abort + Print), map: &mut Map, way: Way, of_key: bool) {
     let first = assert_runs(rt, map, way, of_key, [1, 7]);
     let second = assert_runs(rt, map, way, of_key, [1, 9]);
     assert!(rt; first || second);
     assert!(rt; map.inner_nodes() == (first && second) as usize);
+    assert!(rt; assert_runs(rt, map, way, of_key, [1, 7]));
 }
 
 // Each way, in a map of its own.

@@ -6,16 +6,22 @@ use std::process::Abort;
 
 type Map<const P: usize> = TreeMap<[u8; 2], usize, P>;
 
-// Puts five pairs beside the one that is there, where there is room for them.
+// Puts five pairs beside the one that is there, where there is room for them. What adds no pair leaves the room as it is.
 fn fill<const P: usize>(rt: &(impl Abort + Print), map: &mut Map<P>) -> usize {
     let Ok(mut room) = map.reserve(5) else {
         say_refused(rt);
         return 0;
     };
-    for place in 0..5 {
+    for place in 0..4 {
         assert!(rt; room.left() > 0);
         assert!(rt; room.insert(KEYS[place], place).is_none());
     }
+    assert!(rt; room.left() == 1);
+    assert!(rt; room.insert(KEYS[0], 7) == Some(0));
+    assert!(rt; matches!(room.try_insert(KEYS[0], 8), Ok(Some(7))));
+    assert!(rt; room.left() == 1);
+    assert!(rt; matches!(room.try_insert(KEYS[4], 4), Ok(None)));
+    assert!(rt; room.left() == 0);
     drop(room);
     5
 }
@@ -40,17 +46,21 @@ fn fills<const P: usize>(rt: &(impl Abort + AllocGlobal + Print)) {
 #[test]
 fn a_map_with_room_refuses_nothing(rt: HostRuntime) {
     fills::<0>(&rt);
+    fills::<2>(&rt);
     fills::<16>(&rt);
 }
 
-// Puts two elements, where there is room for them.
+// Puts two elements, where there is room for them. What adds none leaves the room as it is.
 fn fill_set(rt: &(impl Abort + Print), set: &mut TreeSet<u8, 2>) -> usize {
     let Ok(mut room) = set.reserve(2) else {
         say_refused(rt);
         return 0;
     };
     assert!(rt; room.insert(3));
+    assert!(rt; !room.insert(3));
+    assert!(rt; matches!(room.try_insert(3), Ok(false)));
     assert!(rt; room.insert(1));
+    assert!(rt; room.left() == 0);
     drop(room);
     2
 }
