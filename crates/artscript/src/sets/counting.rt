@@ -1,7 +1,7 @@
 //! How often merges and tests of both sets compare elements.
 use crate::sets::calls::Sets;
 use crate::words::{Answered, Compared, ScriptKey, SetName, Shown, Text, Unanswered, Words};
-use blart_set::{DEFAULT_PREFIX_LEN, TreeSet, TryInsertError};
+use blart_set::{TreeSet, TryInsertError};
 use std::cell::Cell;
 use std::iter::Iterator;
 
@@ -26,8 +26,8 @@ impl<K: ScriptKey, const PREFIX_LEN: usize> Sets<K, PREFIX_LEN> {
         text: &mut Text,
     ) -> Answered {
         let mut sets = Sets {
-            first: TreeSet::new(self.alloc),
-            second: TreeSet::new(self.alloc),
+            first: TreeSet::with_prefix_len(self.alloc),
+            second: TreeSet::with_prefix_len(self.alloc),
             alloc: self.alloc,
         };
         let answered = self.call_in(&mut sets, count, name, words, text);
@@ -38,7 +38,7 @@ impl<K: ScriptKey, const PREFIX_LEN: usize> Sets<K, PREFIX_LEN> {
     // Adds the bytes of both sets to those of others, makes the call of these, and adds its answer.
     fn call_in<'a>(
         &'a self,
-        sets: &mut Sets<Compared<'a>, DEFAULT_PREFIX_LEN>,
+        sets: &mut Sets<Compared<'a>, PREFIX_LEN>,
         count: &'a Cell<u64>,
         name: SetName,
         words: Words<'_>,
@@ -71,7 +71,7 @@ fn uncounted(name: SetName) -> Option<SetName> {
 
 // Adds the bytes of the elements, which count how often they are compared.
 fn add_all<'a, K: ScriptKey, const P: usize>(
-    copy: &mut TreeSet<Compared<'a>, DEFAULT_PREFIX_LEN>,
+    copy: &mut TreeSet<Compared<'a>, P>,
     set: &'a TreeSet<K, P>,
     count: &'a Cell<u64>,
 ) -> Answered {
