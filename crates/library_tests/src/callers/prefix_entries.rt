@@ -1,9 +1,10 @@
 //! Calls of prefix entries.
 ghost use Rattle.std.specs.Prelude.{◌≡◌, ◌≢◌, ◌+◌, ◌<◌, ◌^◌, ℕ, List, true, false, unwrap_or, OnOk, OnErr, None, Some};
-ghost use Rattle.blart.specs.Words.{pairs, pair_at, value_at, overlaps, related, slice_bytes, zkey_bytes};
+ghost use Rattle.blart.specs.Words.{pairs, pair_at, value_at, overlaps, related, slice_bytes, zkey_bytes, PrefixEntryFits};
+ghost use denote.Param.{number};
 
 use blart::map::PrefixKind;
-use blart::{Map, ZKey};
+use blart::{AsBytes, Map, ZKey};
 use std::alloc::AllocError;
 
 /// Puts one route in the place of those that it overlaps, and answers whether there were any.
@@ -76,14 +77,24 @@ pub fn set_section(
     Ok(())
 }
 
-/// Puts a pair in the place of those that its word overlaps.
+/// Puts a pair of any key type in the place of those that it overlaps.
+pub fn put_over<K: AsBytes + Drop, V: Drop>(
+    map: &mut Map<K, V>,
+    key: K,
+    value: V,
+) -> Result<(), AllocError>
+    requires { PrefixEntryFits K.row V.row (number 16) K.AsBytes }
+    ensures set { OnOk result (value_at K.bytes (pairs map.new) (K.bytes key) ≡ Some value) }
+    ensures refused { OnErr result (map.new ≡ map.old) }
+{
+    map.prefix_entry(key).kind().insert_entry(value)?.into_mut();
+    Ok(())
+}
+
+/// The same of words, whose entries fit.
 pub fn put_word_over(map: &mut Map<ZKey, u64>, word: ZKey, value: u64) -> Result<(), AllocError>
     ensures set { OnOk result (value_at zkey_bytes (pairs map.new) (zkey_bytes word) ≡ Some value) }
     ensures refused { OnErr result (map.new ≡ map.old) }
 {
-    map.prefix_entry(word)
-        .kind()
-        .insert_entry(value)?
-        .into_mut();
-    Ok(())
+    put_over(map, word, value)
 }
