@@ -4,7 +4,7 @@ use Rattle.std.proofs.lemmas.Bool.{cases_eq}
 use Rattle.std.proofs.lemmas.Slice.Zip.{AllZip-long}
 use Rattle.art_slots.specs.Store.{IsSlotClone}
 use Rattle.art_rows.specs.Numbers.{Numbered, leaf_in}
-use Rattle.art_rows.specs.Rows.{among, numbers, row_with}
+use Rattle.art_rows.specs.Rows.{among, numbers}
 use Rattle.art_rows.specs.Leaves.{IsCopy, AreCopies}
 use Rattle.art_rows.specs.Links.{Links, follow}
 use Rattle.art_rows.specs.Filing.{put, gather, Files, filed}
@@ -50,7 +50,7 @@ module _ {K V : Type 0} where
 module _ {K V : Type 0} (is_key : K → K → Type 0) (is_value : V → V → Type 0) where
   -- what a copy of a record has
   abbrev IsLeafCopy : Leaf K V → Leaf K V → Type 0
-  IsLeafCopy x y = is_key x.key y.key × is_value x.value y.value × (y.row ≡ x.row)
+  IsLeafCopy x y = is_key x.key y.key × is_value x.value y.value
 
   -- copies have the same numbers
   pub numbers-copies : (ps qs : List (Numbered (K × V))) → AreCopies is_key is_value ps qs → map (λ p. p.0) qs ≡ map (λ p. p.0) ps
@@ -88,15 +88,15 @@ module _ {K V : Type 0} (is_key : K → K → Type 0) (is_value : V → V → Ty
       joined = numbers-copies (gather leaves (numbers rows)) (gather copies (numbers rows)) (gather-copies (numbers rows)) ∙ f.joined;
       filled = f.filled;
       apart = f.apart;
+      own = f.own;
       counted = u ∙ f.counted ∙ sym (AllZip-long (IsCopy is_key is_value) (gather leaves (numbers rows)) (gather copies (numbers rows)) (gather-copies (numbers rows)));
     }
       where
-        by_record : (i : ℕ) (o p : Option (Leaf K V)) → leaves i ≡ o → copies i ≡ p → IsSlotClone IsLeafCopy o p → copies i ≡ filed rows (gather copies (numbers rows)) i
+        by_record : (i : ℕ) (o p : Option (Leaf K V)) → leaves i ≡ o → copies i ≡ p → IsSlotClone IsLeafCopy o p → copies i ≡ filed (gather copies (numbers rows)) i
         by_record i None p a b c = rw (b ∙ c, none-copies (gather leaves (numbers rows)) (gather copies (numbers rows)) (gather-copies (numbers rows)) i (no_record f i a)) refl
         by_record i (Some x) None a b c = absurd c
         by_record i (Some x) (Some y) a b c =
             let r = record_is f i x a in
-            let m : among (numbers rows) i ≡ true = in_rows f i (rw r.0 refl) in
+            let m : among (numbers rows) i ≡ true = in_rows f i (rw r refl) in
             let g : leaf_in (gather copies (numbers rows)) i ≡ Some (y.key, y.value) = leaf-gather copies (numbers rows) i y b m in
-            let w : y.row ≡ row_with rows i = c.2 ∙ r.1 in
-            rw (b, g) (ap (λ n. Some (record { key = y.key; value = y.value; row = n })) w)
+            rw (b, g) refl

@@ -5,12 +5,14 @@ use Rattle.std.proofs.lemmas.List.{length-map}
 use Rattle.art_rows.specs.Numbers.{Numbered, leaf_in, Has, last_number, number_after, number_before, Lacks, AreDistinct}
 use Rattle.art_rows.specs.Rows.{among, place_in, nth, numbers, row_with, position_at, start_of}
 use Rattle.art_rows.specs.Leaves.{Leaves, index_of}
-use Rattle.art_rows.specs.Filing.{gather, Files, pairs_in, AllFiled, content}
+use Rattle.art_rows.specs.Blocks.{row_of}
+use Rattle.art_rows.specs.Filing.{gather, Files, pairs_in, AllFiled, AllPlaced, content}
 use Rattle.art_slots.specs.Store.{Store, slot_at, used_count}
 use Rattle.art_rows.specs.declared.leaves.Leaf.{Leaf}
 use Rattle.art_rows.specs.declared.leaves.Leaves.TheInside.{Inside}
 use Rattle.art_rows.specs.declared.row.Position.{Position}
 use Rattle.art_rows.proofs.NumbersLemmas.{eqb_same, eqb_other, has_other, split, leaf_in-split}
+use Rattle.art_rows.proofs.RowChanges.{own-in}
 use Rattle.art_rows.proofs.RowsLemmas.{among-numbers, number_after-nth, number_before-first, number_before-nth, before_cases, nth-within, place_in-within, place_in-nth, position-split, position-here, found, standing, standing-row, standing-number, standing-within, standing-after, standing-earlier, standing-first, standing-not_first, standing-row_end, end_of, position-none, position-last, none-last, filled-row}
 
 -- what follows of what there is
@@ -49,7 +51,7 @@ module _ {K V : Type 0} {leaves : ℕ → Option (Leaf K V)} {rows : List (Numbe
     where
       go : (o : Option (K × V)) → leaf_in ps i ≡ o → IsSome o → (x : Leaf K V) × (leaves i ≡ Some x) × (leaf_in ps i ≡ Some (x.key, x.value))
       go None e s = absurd (let f : false ≡ true = s in cc)
-      go (Some x) e s = (record { key = x.0; value = x.1; row = row_with rows i }, f.each i ∙ ap (option_map (λ (x : K × V). record { key = x.0; value = x.1; row = row_with rows i })) e, e)
+      go (Some x) e s = (record { key = x.0; value = x.1 }, f.each i ∙ ap (option_map (λ (x : K × V). record { key = x.0; value = x.1 })) e, e)
 
   -- the rows give the pairs
   pub gather-filed : gather leaves (numbers rows) ≡ ps
@@ -64,16 +66,20 @@ module _ {K V : Type 0} {leaves : ℕ → Option (Leaf K V)} {rows : List (Numbe
   in_rows i h = rw (← f.joined) (among-numbers ps i h)
 
   -- the record of a number
-  pub record_is : (i : ℕ) (x : Leaf K V) → leaves i ≡ Some x → (leaf_in ps i ≡ Some (x.key, x.value)) × (x.row ≡ row_with rows i)
+  pub record_is : (i : ℕ) (x : Leaf K V) → leaves i ≡ Some x → leaf_in ps i ≡ Some (x.key, x.value)
   record_is i x e = go (leaf_in ps i) refl
     where
-      go : (o : Option (K × V)) → leaf_in ps i ≡ o → (leaf_in ps i ≡ Some (x.key, x.value)) × (x.row ≡ row_with rows i)
+      go : (o : Option (K × V)) → leaf_in ps i ≡ o → leaf_in ps i ≡ Some (x.key, x.value)
       go None g = (let h : Some x ≡ None = sym e ∙ f.each i ∙ rw g refl in absurd (cc))
       go (Some y) g =
-          let r : Leaf K V = record { key = y.0; value = y.1; row = row_with rows i } in
+          let r : Leaf K V = record { key = y.0; value = y.1 } in
           let h : Some x ≡ Some r = sym e ∙ f.each i ∙ rw g refl in
           let k : x ≡ r = cc in
-          rw k (g, refl)
+          rw k g
+
+  -- a number that the list has has no empty cell
+  pub no_pair : (i : ℕ) → leaf_in ps i ≡ None → leaves i ≡ None
+  no_pair i e = f.each i ∙ ap (option_map (λ (x : K × V). record { key = x.0; value = x.1 })) e
 
   -- a number that has no record names nothing
   pub no_record : (i : ℕ) → leaves i ≡ None → leaf_in ps i ≡ None
@@ -82,20 +88,20 @@ module _ {K V : Type 0} {leaves : ℕ → Option (Leaf K V)} {rows : List (Numbe
       go : (o : Option (K × V)) → leaf_in ps i ≡ o → leaf_in ps i ≡ None
       go None g = g
       go (Some y) g =
-          let r : Leaf K V = record { key = y.0; value = y.1; row = row_with rows i } in
+          let r : Leaf K V = record { key = y.0; value = y.1 } in
           let h : None ≡ Some r = sym e ∙ f.each i ∙ rw g refl in
           absurd (cc)
 
 module _ {K V : Type 0} where
   -- what a contract sees is filed
-  pub seen : {c : Leaves K V} (i : Inside K V) → content i.records i.rows ≡ c → AllFiled i.records i.rows.pairs →
+  pub seen : {c : Leaves K V} (i : Inside K V) → content i.records i.rows ≡ c → AllPlaced i.records i.rows →
       Files (slot_at i.records) i.rows.pairs (used_count i.records) c.pairs
-  seen i e f = subst (λ (d : Leaves K V). Files (slot_at i.records) i.rows.pairs (used_count i.records) d.pairs) e f
+  seen i e f = subst (λ (d : Leaves K V). Files (slot_at i.records) i.rows.pairs (used_count i.records) d.pairs) e f.0
 
   -- what a contract sees is filed in the rows that it sees
-  pub seen_rows : {c : Leaves K V} (i : Inside K V) → content i.records i.rows ≡ c → AllFiled i.records i.rows.pairs →
+  pub seen_rows : {c : Leaves K V} (i : Inside K V) → content i.records i.rows ≡ c → AllPlaced i.records i.rows →
       Files (slot_at i.records) c.rows (used_count i.records) c.pairs
-  seen_rows i e f = subst (λ (d : Leaves K V). Files (slot_at i.records) d.rows (used_count i.records) d.pairs) e f
+  seen_rows i e f = subst (λ (d : Leaves K V). Files (slot_at i.records) d.rows (used_count i.records) d.pairs) e f.0
 
 module _ {K V : Type 0} (s : Store (Leaf K V)) {rows : List (Numbered (List ℕ))} {ps : List (Numbered (K × V))} (f : Files (slot_at s) rows (used_count s) ps) where
   -- filed pairs are those that a contract sees
@@ -107,21 +113,32 @@ module _ {K V : Type 0} (s : Store (Leaf K V)) {rows : List (Numbered (List ℕ)
   all_filed = subst (λ qs. Files (slot_at s) rows (used_count s) qs) (sym pairs_are) f
 
 module _ {K V : Type 0} {leaves : ℕ → Option (Leaf K V)} {rows : List (Numbered (List ℕ))} {count : ℕ} {ps : List (Numbered (K × V))} (f : Files leaves rows count ps) where
-  -- the row that a record names
-  pub row_has : (i n : ℕ) → n ≡ i → Has ps i → (x : Leaf K V) → leaves n ≡ Some x → Has rows x.row
-  row_has i n is h x e =
-      let r = (record_is f n x e).1 in
-      let s = found rows i f.apart (in_rows f i h) in
-      rw (r, is, s.row) refl
+  -- a number's row
+  pub own_row : (i : ℕ) → Has ps i → row_with rows i ≡ row_of i
+  own_row i h = (let s = found rows i f.apart (in_rows f i h) in sym (own-in rows f.own (row_with rows i) s.ids s.row i s.inside))
 
-  -- the position that a record and its row give
-  pub located : (i n : ℕ) → n ≡ i → Has ps i → (x : Leaf K V) → leaves n ≡ Some x → (ids : List ℕ) → leaf_in rows x.row ≡ Some ids → position_at rows (index_of ps i) ≡ Some (record { row = x.row; place = place_in ids n })
-  located i n is h x e ids g =
-      let r : x.row ≡ row_with rows i = (record_is f n x e).1 ∙ ap (row_with rows) is in
+  pub row_has : (i : ℕ) → Has ps i → Has rows (row_of i)
+  row_has i h = (let s = found rows i f.apart (in_rows f i h) in subst (λ r. Has rows r) (own_row i h) (rw s.row refl))
+
+  -- the position that a number and its row give
+  pub located : (i : ℕ) → Has ps i → (ids : List ℕ) → leaf_in rows (row_of i) ≡ Some ids → position_at rows (index_of ps i) ≡ Some (record { row = row_of i; place = place_in ids i })
+  located i h ids g =
       let s = found rows i f.apart (in_rows f i h) in
-      let a : Some ids ≡ Some s.ids = sym g ∙ ap (leaf_in rows) r ∙ s.row in
+      let a : Some ids ≡ Some s.ids = sym g ∙ ap (leaf_in rows) (sym (own_row i h)) ∙ s.row in
       let b : ids ≡ s.ids = cc in
-      rw (r, is, b, f.joined) s.position
+      rw (b, f.joined, ← own_row i h) s.position
+
+  -- a position that is found is that
+  pub located_at : (i : ℕ) → Has ps i → (p : Position) → position_at rows (index_of ps i) ≡ Some p → (p.row ≡ row_of i) × IfSome (leaf_in rows (row_of i)) (λ ids. p.place ≡ place_in ids i)
+  located_at i h p at = go (leaf_in rows (row_of i)) refl
+    where
+      go : (o : Option (List ℕ)) → leaf_in rows (row_of i) ≡ o → (p.row ≡ row_of i) × IfSome o (λ ids. p.place ≡ place_in ids i)
+      go None e = absurd (let a : Has rows (row_of i) = row_has i h in let b : false ≡ true = rw e at a in cc)
+      go (Some ids) e =
+          let q : Position = record { row = row_of i; place = place_in ids i } in
+          let a : Some p ≡ Some q = sym at ∙ located i h ids e in
+          let b : p ≡ q = cc in
+          (ap (λ (x : Position). x.row) b, ap (λ (x : Position). x.place) b)
 
   module _ (k : ℕ) (p : Position) (at : position_at rows k ≡ Some p) where
     -- the row of a position

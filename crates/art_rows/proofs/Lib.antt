@@ -2,6 +2,10 @@ pub mod CallerLemmas
 pub mod Copies
 pub mod NumbersLemmas
 pub mod LinksLemmas
+pub mod Blocks
+pub mod Carried
+pub mod Crowds
+pub mod RowRoomLemmas
 pub mod RowEdits
 pub mod Rooms
 pub mod FilingChanges

@@ -49,9 +49,9 @@ module _ {X : Type 0} (leaves : ℕ → Option (Link X)) where
 
 module _ {X : Type 0} where
   -- the pairs that a contract sees are linked
-  pub seen : {c : Numbers X} (i : Inside X) → content i.records i.first ≡ c → AllLinked i.records i.first i.last →
-      Links (slot_at i.records) i.first i.last (used_count i.records) c.pairs
-  seen i e l = subst (λ (d : Numbers X). Links (slot_at i.records) i.first i.last (used_count i.records) d.pairs) e l
+  pub seen : {c : Numbers X} (i : Inside X) → content i.records i.first ≡ c → AllLinked i.records.store i.first i.last →
+      Links (slot_at i.records.store) i.first i.last (used_count i.records.store) c.pairs
+  seen i e l = subst (λ (d : Numbers X). Links (slot_at i.records.store) i.first i.last (used_count i.records.store) d.pairs) e l
 
 module _ {X : Type 0} (s : Store (Link X)) {first last : Option ℕ} {ps : List (Numbered X)} (l : Links (slot_at s) first last (used_count s) ps) where
   -- linked pairs are those that a contract sees

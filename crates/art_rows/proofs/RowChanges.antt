@@ -5,26 +5,39 @@ use Rattle.std.proofs.lemmas.Bool.Decides.{eqb_tells}
 use Rattle.std.proofs.lemmas.List.{length-append, take-append-le, drop-append-le, length-take-le, length-drop, nil_from_length}
 use Rattle.std.proofs.Math.Seq.{take-append-add, drop-append-add}
 use Rattle.art_rows.specs.Numbers.{Numbered, leaf_in, Has, with_pair_after, without_number, with_pair, Lacks, AreDistinct}
-use Rattle.art_rows.specs.Rows.{among, place_in, nth, numbers, row_with, position_at, AreFilled, IsSpot, row_end}
+use Rattle.art_rows.specs.Rows.{among, place_in, nth, numbers, position_at, AreFilled, IsSpot, row_end}
+use Rattle.art_rows.specs.Blocks.{row_of, AreOwn}
 use Rattle.art_rows.specs.declared.row.Position.{Position}
-use Rattle.art_rows.proofs.NumbersLemmas.{eqb_same, eqb_other, Has-tail, with_pair-split, without_number-split, same_distinct, numbers-with_pair, AreDistinct-without_number, distinct_parts, leaf_in-split, AreDistinct-with_pair_after, Lacks-from_leaf_in}
-use Rattle.art_rows.proofs.RowsLemmas.{is_or_not, among-append, numbers-append, AreFilled-parts, AreFilled-append, Standing, standing, position-first, standing-number, standing-numbers, standing-lacks}
+use Rattle.art_rows.proofs.NumbersLemmas.{eqb_other, Has-tail, with_pair-split, without_number-split, same_distinct, numbers-with_pair, AreDistinct-without_number, distinct_parts, leaf_in-split, AreDistinct-with_pair_after, Lacks-from_leaf_in}
+use Rattle.art_rows.proofs.RowsLemmas.{among-append, numbers-append, AreFilled-parts, AreFilled-append, Standing, standing, position-first, standing-numbers, standing-lacks}
 
--- the row that has a number, among the first rows or the others
-pub row_with-append : (xs ys : List (Numbered (List ℕ))) (i : ℕ) → row_with (xs ++ ys) i ≡ cond (among (numbers xs) i) (row_with xs i) (row_with ys i)
-row_with-append [] ys i = refl
-row_with-append (r ∷ rs) ys i = elim (is_or_not (among r.1 i)) [
-  | inl t ↦ rw (among-append r.1 (numbers rs) i, t) refl
-  | inr t ↦ rw (among-append r.1 (numbers rs) i, t) (row_with-append rs ys i)
+-- ---- rows with numbers of their own
+
+pub AreOwn-append : (xs ys : List (Numbered (List ℕ))) → AreOwn xs → AreOwn ys → AreOwn (xs ++ ys)
+AreOwn-append [] ys o q = q
+AreOwn-append (x ∷ xs) ys o q = (o.0, AreOwn-append xs ys o.1 q)
+
+pub AreOwn-parts : (xs ys : List (Numbered (List ℕ))) → AreOwn (xs ++ ys) → AreOwn xs × AreOwn ys
+AreOwn-parts [] ys o = (tt, o)
+AreOwn-parts (x ∷ xs) ys o = let r = AreOwn-parts xs ys o.1 in ((o.0, r.0), r.1)
+
+-- a number in a row is of that row
+pub own-in : (rows : List (Numbered (List ℕ))) → AreOwn rows → (r : ℕ) (ids : List ℕ) → leaf_in rows r ≡ Some ids → (n : ℕ) → among ids n ≡ true → row_of n ≡ r
+own-in [] o r ids e n h = absurd cc
+own-in (q ∷ qs) o r ids e n h = elim (eqb_tells q.0 r) [
+  | inl t ↦ (let f : Some q.1 ≡ Some ids = rw t.0 at e in let g : q.1 ≡ ids = cc in o.0 n (rw g h) ∙ t.1)
+  | inr t ↦ own-in qs o.1 r ids (rw t.0 at e) n h
 ]
 
--- a row between others that has the same number has it still
-pub row_with-middle : (before after : List (Numbered (List ℕ))) (r : ℕ) (xs ys : List ℕ) (i : ℕ) → among xs i ≡ among ys i → row_with (before ++ (r, xs) ∷ after) i ≡ row_with (before ++ (r, ys) ∷ after) i
-row_with-middle before after r xs ys i e = row_with-append before ((r, xs) ∷ after) i ∙ ap (λ b. cond (among (numbers before) i) (row_with before i) (cond b r (row_with after i))) e ∙ sym (row_with-append before ((r, ys) ∷ after) i)
-
--- a row that has not the number may be gone
-pub row_with-gone : (before after : List (Numbered (List ℕ))) (r : ℕ) (xs : List ℕ) (i : ℕ) → among xs i ≡ false → row_with (before ++ (r, xs) ∷ after) i ≡ row_with (before ++ after) i
-row_with-gone before after r xs i e = row_with-append before ((r, xs) ∷ after) i ∙ ap (λ b. cond (among (numbers before) i) (row_with before i) (cond b r (row_with after i))) e ∙ sym (row_with-append before after i)
+-- what is left of a list was in it
+pub among-left : (ns : List ℕ) (k i : ℕ) → among (take k ns ++ drop (k + 1) ns) i ≡ true → among ns i ≡ true
+among-left [] zero i h = h
+among-left [] (suc k) i h = (let a : suc k + 1 ≡ suc (k + 1) = omega arith in rw a at h)
+among-left (m ∷ ns) zero i h = elim (eqb_tells m i) [ inl t ↦ rw t.0 refl | inr t ↦ rw t.0 h ]
+among-left (m ∷ ns) (suc k) i h =
+    let a : suc k + 1 ≡ suc (k + 1) = omega arith in
+    let g : cond (eqb m i) true (among (take k ns ++ drop (k + 1) ns) i) ≡ true = rw a at h in
+    elim (eqb_tells m i) [ inl t ↦ rw t.0 refl | inr t ↦ rw t.0 (among-left ns k i (rw t.0 at g)) ]
 
 -- the first so many of three lists, and the others
 module _ {X : Type 0} (xs ys zs : List X) (j : ℕ) (le : j ≤ length ys) where
@@ -72,11 +85,11 @@ pub record TakesOut (rows new : List (Numbered (List ℕ))) (k n : ℕ) : Type 0
   pub joined : numbers new ≡ take k (numbers rows) ++ drop (k + 1) (numbers rows)
   pub filled : AreFilled new
   pub apart : AreDistinct new
-  pub others : (i : ℕ) → n ≢ i → row_with new i ≡ row_with rows i
+  pub own : AreOwn new
 
-module _ (rows : List (Numbered (List ℕ))) (k : ℕ) (p : Position) (s : Standing rows k p) (d : AreDistinct rows) (f : AreFilled rows) (n : ℕ) (there : nth (numbers rows) k ≡ Some n) where
-  nth_there : nth s.ids p.place ≡ Some n
-  nth_there = sym (standing-number rows k p s) ∙ there
+module _ (rows : List (Numbered (List ℕ))) (k : ℕ) (p : Position) (s : Standing rows k p) (d : AreDistinct rows) (f : AreFilled rows) (o : AreOwn rows) (n : ℕ) (there : nth (numbers rows) k ≡ Some n) where
+  owners : AreOwn s.before × AreOwn ((p.row, s.ids) ∷ s.after)
+  owners = AreOwn-parts s.before ((p.row, s.ids) ∷ s.after) (subst AreOwn s.is o)
 
   parts : AreFilled s.before × AreFilled ((p.row, s.ids) ∷ s.after)
   parts = AreFilled-parts s.before ((p.row, s.ids) ∷ s.after) (subst AreFilled s.is f)
@@ -102,7 +115,7 @@ module _ (rows : List (Numbered (List ℕ))) (k : ℕ) (p : Position) (s : Stand
         joined = numbers-append s.before ((p.row, out) ∷ s.after) ∙ sym less;
         filled = AreFilled-append s.before ((p.row, out) ∷ s.after) parts.0 (z, parts.1.1);
         apart = rw (← is, e) (same_distinct rows (with_pair rows p.row out) (sym (numbers-with_pair rows p.row out)) d);
-        others = λ i m. row_with-middle s.before s.after p.row out s.ids i (among-out s.ids p.place n i nth_there m) ∙ ap (λ rs. row_with rs i) (sym s.is);
+        own = AreOwn-append s.before ((p.row, out) ∷ s.after) owners.0 ((λ i h. owners.1.0 i (among-left s.ids p.place i h)), owners.1.1);
       })
     where
       two : (l j o : ℕ) → l ≢ 1 → j < l → o ≡ j + (l - (j + 1)) → 0 < o
@@ -124,18 +137,17 @@ module _ (rows : List (Numbered (List ℕ))) (k : ℕ) (p : Position) (s : Stand
         joined = numbers-append s.before s.after ∙ ap (λ l. numbers s.before ++ (l ++ numbers s.after)) (sym z) ∙ sym less;
         filled = AreFilled-append s.before s.after parts.0 parts.1.1;
         apart = rw (← is, e) (AreDistinct-without_number rows p.row d);
-        others = λ i m. sym (ap (λ rs. row_with rs i) s.is ∙ row_with-gone s.before s.after p.row s.ids i (sym (among-out s.ids p.place n i nth_there m) ∙ ap (λ l. among l i) z));
+        own = AreOwn-append s.before s.after owners.0 owners.1.1;
       })
 
 -- ---- a number more
 
 -- rows with one number more, in a row
-pub record PutsIn (rows new : List (Numbered (List ℕ))) (k n r : ℕ) : Type 0 where
+pub record PutsIn (rows new : List (Numbered (List ℕ))) (k n : ℕ) : Type 0 where
   pub joined : numbers new ≡ take k (numbers rows) ++ n ∷ drop k (numbers rows)
   pub filled : AreFilled new
   pub apart : AreDistinct new
-  pub row : row_with new n ≡ r
-  pub others : (i : ℕ) → n ≢ i → row_with new i ≡ row_with rows i
+  pub own : AreOwn new
 
 -- a list with a part that has not a number
 pub among-parts : (xs ys : List ℕ) (i : ℕ) → among (xs ++ ys) i ≡ false → (among xs i ≡ false) × (among ys i ≡ false)
@@ -155,23 +167,28 @@ module _ (rows : List (Numbered (List ℕ))) (k : ℕ) (p : Position) (s : IsSpo
   pub spot-numbers : numbers rows ≡ numbers s.before ++ (s.ids ++ numbers s.after)
   spot-numbers = ap numbers s.is ∙ numbers-append s.before ((p.row, s.ids) ∷ s.after)
 
-  module _ (f : AreFilled rows) (n : ℕ) (lacks : among (numbers rows) n ≡ false) where
+  module _ (f : AreFilled rows) (o : AreOwn rows) (n : ℕ) (own : row_of n ≡ p.row) where
+    put_own : (i : ℕ) → among (take p.place s.ids ++ n ∷ drop p.place s.ids) i ≡ true → row_of i ≡ p.row
+    put_own i h = elim (eqb_tells n i) [
+      | inl t ↦ sym (ap row_of t.1) ∙ own
+      | inr t ↦ (let q = AreOwn-parts s.before ((p.row, s.ids) ∷ s.after) (subst AreOwn s.is o) in q.1.0 i (rw t.0 at (sym (among-put s.ids p.place n i) ∙ h)))
+    ]
+
     -- the rows with the number in the row
-    pub puts_in : (new : List (Numbered (List ℕ))) → new ≡ with_pair rows p.row (take p.place s.ids ++ n ∷ drop p.place s.ids) → PutsIn rows new k n p.row
+    pub puts_in : (new : List (Numbered (List ℕ))) → new ≡ with_pair rows p.row (take p.place s.ids ++ n ∷ drop p.place s.ids) → PutsIn rows new k n
     puts_in new e =
         let more : List ℕ = take p.place s.ids ++ n ∷ drop p.place s.ids in
         let w = s.within in
         let is : new ≡ s.before ++ (p.row, more) ∷ s.after = e ∙ ap (λ rs. with_pair rs p.row more) s.is ∙ with_pair-split p.row s.ids s.after more s.before spot-lacks.0 in
         let g = AreFilled-parts s.before ((p.row, s.ids) ∷ s.after) (subst AreFilled s.is f) in
         let z : length more ≡ length (take p.place s.ids) + suc (length (drop p.place s.ids)) = length-append (take p.place s.ids) (n ∷ drop p.place s.ids) in
-        let a = among-parts (numbers s.before) (s.ids ++ numbers s.after) n (sym (ap (λ l. among l n) spot-numbers) ∙ lacks) in
+        let a = AreOwn-parts s.before ((p.row, s.ids) ∷ s.after) (subst AreOwn s.is o) in
         rw is (record {
           joined =
               numbers-append s.before ((p.row, more) ∷ s.after) ∙ sym (rw (spot-numbers, s.index, take-middle (numbers s.before) s.ids (numbers s.after) p.place w, drop-middle (numbers s.before) s.ids (numbers s.after) p.place w) (simp append_assoc));
           filled = AreFilled-append s.before ((p.row, more) ∷ s.after) g.0 (omega arith, g.1.1);
           apart = rw (← is, e) (same_distinct rows (with_pair rows p.row more) (sym (numbers-with_pair rows p.row more)) d);
-          row = row_with-append s.before ((p.row, more) ∷ s.after) n ∙ rw (a.0, among-put s.ids p.place n n, eqb_same n) refl;
-          others = λ i m. row_with-middle s.before s.after p.row more s.ids i (among-put s.ids p.place n i ∙ rw (eqb_other n i m) refl) ∙ ap (λ rs. row_with rs i) (sym s.is);
+          own = AreOwn-append s.before ((p.row, more) ∷ s.after) a.0 (put_own, a.1.1);
         })
 
 module _ (r n : ℕ) where
@@ -195,33 +212,25 @@ module _ (r n : ℕ) where
     | inr t ↦ rw t.0 (f.0, filled-placed_row (Some i) qs f.1)
   ]
 
-  row_with-placed_row : (b : Option ℕ) (rows : List (Numbered (List ℕ))) (i : ℕ) → n ≢ i → row_with (with_pair_after b (r, n ∷ []) rows) i ≡ row_with rows i
-  row_with-placed_row None rows i m = rw (eqb_other n i m) refl
-  row_with-placed_row (Some b) [] i m = refl
-  row_with-placed_row (Some b) (q ∷ qs) i m = elim (eqb_tells q.0 b) [
-    | inl t ↦ rw (t.0, eqb_other n i m) refl
-    | inr t ↦ rw t.0 (ap (λ x. cond (among q.1 i) q.0 x) (row_with-placed_row (Some b) qs i m))
+  own-placed_row : (b : Option ℕ) (rows : List (Numbered (List ℕ))) → row_of n ≡ r → AreOwn rows → AreOwn (with_pair_after b (r, n ∷ []) rows)
+  own-placed_row None rows e o = (only, o)
+    where
+      only : (i : ℕ) → among (n ∷ []) i ≡ true → row_of i ≡ r
+      only i h = elim (eqb_tells n i) [ inl t ↦ sym (ap row_of t.1) ∙ e | inr t ↦ (let f : false ≡ true = rw t.0 at h in absurd cc) ]
+  own-placed_row (Some i) [] e o = tt
+  own-placed_row (Some i) (q ∷ qs) e o = elim (eqb_tells q.0 i) [
+    | inl t ↦ rw t.0 (o.0, own-placed_row None qs e o.1)
+    | inr t ↦ rw t.0 (o.0, own-placed_row (Some i) qs e o.1)
   ]
 
-  row_with-placed_now : (b : Option ℕ) (rows : List (Numbered (List ℕ))) → IfSome b (Has rows) → among (numbers rows) n ≡ false → row_with (with_pair_after b (r, n ∷ []) rows) n ≡ r
-  row_with-placed_now None rows h l = rw (eqb_same n) refl
-  row_with-placed_now (Some b) [] h l = absurd (let f : false ≡ true = h in cc)
-  row_with-placed_now (Some b) (q ∷ qs) h l =
-      let a = among-parts q.1 (numbers qs) n l in
-      elim (eqb_tells q.0 b) [
-        | inl t ↦ rw (t.0, a.0, eqb_same n) refl
-        | inr t ↦ rw (t.0, a.0) (row_with-placed_now (Some b) qs (Has-tail q qs b t.1 h) a.1)
-      ]
-
   -- the rows with the number in a new row
-  pub puts_row : (b : Option ℕ) (rows new : List (Numbered (List ℕ))) → AreDistinct rows → AreFilled rows → IfSome b (Has rows) → leaf_in rows r ≡ None → among (numbers rows) n ≡ false → new ≡ with_pair_after b (r, n ∷ []) rows → PutsIn rows new (row_end b rows) n r
-  puts_row b rows new d f h fresh l e =
+  pub puts_row : (b : Option ℕ) (rows new : List (Numbered (List ℕ))) → AreDistinct rows → AreFilled rows → AreOwn rows → row_of n ≡ r → IfSome b (Has rows) → leaf_in rows r ≡ None → new ≡ with_pair_after b (r, n ∷ []) rows → PutsIn rows new (row_end b rows) n
+  puts_row b rows new d f o own h fresh e =
       rw e (record {
         joined = numbers-placed_row b rows h;
         filled = filled-placed_row b rows f;
         apart = AreDistinct-with_pair_after b (r, n ∷ []) rows d (Lacks-from_leaf_in rows r fresh);
-        row = row_with-placed_now b rows h l;
-        others = row_with-placed_row b rows;
+        own = own-placed_row b rows own o;
       })
 
 module _ {X : Type 0} where
@@ -246,16 +255,3 @@ first_none rows f (Some p) e = tt
 -- after a position there is a spot
 pub spot_after : (rows : List (Numbered (List ℕ))) (k : ℕ) (p : Position) → position_at rows k ≡ Some p → IsSpot rows (record { row = p.row; place = p.place + 1 }) (k + 1)
 spot_after rows k p e = (let s = standing rows k p e in record { before = s.before; ids = s.ids; after = s.after; is = s.is; index = let i = s.index in omega arith; within = let w = s.within in omega arith })
-
--- the first so many, and one more
-pub among-take : (ns : List ℕ) (k n j : ℕ) → nth ns k ≡ Some n → among (take (k + 1) ns) j ≡ cond (eqb n j) true (among (take k ns) j)
-among-take [] k n j e = absurd cc
-among-take (m ∷ ns) zero n j e = (let g : m ≡ n = cc in rw g refl)
-among-take (m ∷ ns) (suc k) n j e =
-    let a : suc k + 1 ≡ suc (k + 1) = omega arith in
-    rw (a, among-take ns k n j e) (swap (eqb m j) (eqb n j) (among (take k ns) j))
-  where
-    swap : (a b c : Bool) → cond a true (cond b true c) ≡ cond b true (cond a true c)
-    swap true true c = refl
-    swap true false c = refl
-    swap false b c = refl

@@ -1,8 +1,10 @@
--- How leaf records and rows name one another.
-use Rattle.std.specs.Prelude.{◌≡◌, ℕ, List, [], ◌∷◌, map, length, Option, option_map, Some, None, if◌then◌else◌}
+-- How leaf records are filed in rows.
+use Rattle.std.specs.Prelude.{◌≡◌, ℕ, ◌*◌, ◌≤◌, List, [], ◌∷◌, map, length, Option, option_map, Some, None}
 use Rattle.art_slots.specs.Store.{Store, slot_at as at, used_count}
 use Rattle.art_rows.specs.Numbers.{Numbered, Numbers, leaf_in, AreDistinct}
-use Rattle.art_rows.specs.Rows.{among, numbers, row_with, AreFilled}
+use Rattle.art_rows.specs.Rows.{numbers, AreFilled}
+use Rattle.art_rows.specs.Blocks.{AreOwn}
+use Rattle.art_rows.specs.declared.row.TheConstants.{ROW}
 use Rattle.art_rows.specs.Leaves.{Leaves}
 use Rattle.art_rows.specs.declared.leaves.Leaf.{Leaf}
 
@@ -17,17 +19,18 @@ module _ {K V : Type 0} where
   gather leaves [] = []
   gather leaves (n ∷ ns) = put n (leaves n) (gather leaves ns)
 
-  -- the record under a number: its pair, and the row that has the number
-  abbrev pub filed : List (Numbered (List ℕ)) → List (Numbered (K × V)) → ℕ → Option (Leaf K V)
-  filed rows ps i = option_map (λ (x : K × V). record { key = x.0; value = x.1; row = row_with rows i }) (leaf_in ps i)
+  -- the record under a number: its pair
+  abbrev pub filed : List (Numbered (K × V)) → ℕ → Option (Leaf K V)
+  filed ps i = option_map (λ (x : K × V). record { key = x.0; value = x.1 }) (leaf_in ps i)
 
-  -- the records are those of the pairs, whose numbers are those of the rows; each record names the row that has it
+  -- the records are those of the pairs, whose numbers are those of the rows; each row has numbers of its own
   pub record Files (leaves : ℕ → Option (Leaf K V)) (rows : List (Numbered (List ℕ))) (count : ℕ) (pairs : List (Numbered (K × V))) : Type 0 where
     pub distinct : AreDistinct pairs
-    pub each : (i : ℕ) → leaves i ≡ filed rows pairs i
+    pub each : (i : ℕ) → leaves i ≡ filed pairs i
     pub joined : map (λ p. p.0) pairs ≡ numbers rows
     pub filled : AreFilled rows
     pub apart : AreDistinct rows
+    pub own : AreOwn rows
     pub counted : count ≡ length pairs
 
   -- the pairs of a store of leaves
@@ -40,8 +43,8 @@ module _ {K V : Type 0} where
 
   -- what a contract sees of leaves in rows
   abbrev pub content : Store (Leaf K V) → Numbers (List ℕ) → Leaves K V
-  content leaves rows = record { pairs = pairs_in leaves rows.pairs; rows = rows.pairs; spare = leaves.spare; spare_rows = rows.spare }
+  content leaves rows = record { pairs = pairs_in leaves rows.pairs; rows = rows.pairs; spare_rows = rows.spare }
 
-  -- the records, those under these numbers in another row
-  abbrev pub in_row : (ℕ → Option (Leaf K V)) → List ℕ → ℕ → ℕ → Option (Leaf K V)
-  in_row leaves ns r j = if among ns j then option_map (λ (x : Leaf K V). record x { row = r }) (leaves j) else leaves j
+  -- the records are filed, and there are cells for the numbers of each row
+  abbrev pub AllPlaced : Store (Leaf K V) → Numbers (List ℕ) → Type 0
+  AllPlaced leaves rows = AllFiled leaves rows.pairs × (ROW * rows.top ≤ length leaves.slots)

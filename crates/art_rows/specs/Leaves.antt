@@ -1,30 +1,30 @@
 -- What a contract sees of leaves in rows.
-use Rattle.std.specs.Prelude.{◌≡◌, ◌+◌, ℕ, min, List, [], ◌∷◌, ◌++◌, map, Option, Some, None, refl, if◌then◌else◌, eqb}
+use Rattle.std.specs.Prelude.{◌≡◌, ◌+◌, ℕ, List, [], ◌∷◌, ◌++◌, map, Option, Some, None, refl, if◌then◌else◌, eqb}
 use Rattle.std.specs.Coded.{Coded, code_by, coded×, coded_ℕ, coded_list}
 use Rattle.std.specs.List.{AllZip}
 use Rattle.art_rows.specs.Numbers.{Numbered}
-use Rattle.art_rows.specs.Rows.{place_in, row_room}
+use Rattle.art_rows.specs.Rows.{place_in, lengths}
+use Rattle.art_rows.specs.RowRoom.{row_room}
 
--- the pairs in order, each under its number; the rows of their numbers; and the spare records and rows
+-- the pairs in order, each under its number; the rows of their numbers; and the spare rows
 pub record Leaves (K V : Type 0) : Type 0 where
   pub pairs : List (Numbered (K × V))
   pub rows : List (Numbered (List ℕ))
-  pub spare : ℕ
   pub spare_rows : ℕ
 
 abbrev pub leaves_code : {K V : Type 0} → Coded K → Coded V → Coded (Leaves K V)
 leaves_code {K} {V} k v =
     code_by
-    (List (ℕ × (K × V)) × (List (ℕ × List ℕ) × (ℕ × ℕ)))
-    (coded× (coded_list (coded× coded_ℕ (coded× k v))) (coded× (coded_list (coded× coded_ℕ (coded_list coded_ℕ))) (coded× coded_ℕ coded_ℕ)))
-    (λ s. (s.pairs, (s.rows, (s.spare, s.spare_rows))))
-    (λ p. record { pairs = p.0; rows = p.1.0; spare = p.1.1.0; spare_rows = p.1.1.1 })
+    (List (ℕ × (K × V)) × (List (ℕ × List ℕ) × ℕ))
+    (coded× (coded_list (coded× coded_ℕ (coded× k v))) (coded× (coded_list (coded× coded_ℕ (coded_list coded_ℕ))) coded_ℕ))
+    (λ s. (s.pairs, (s.rows, s.spare_rows)))
+    (λ p. record { pairs = p.0; rows = p.1.0; spare_rows = p.1.1 })
     (λ _. refl)
 
 module _ {K V : Type 0} where
-  -- for how many leaves more there surely are a record and a row
+  -- for how many leaves more there surely is a row
   abbrev pub room : Leaves K V → ℕ
-  room l = min l.spare (row_room l.rows l.spare_rows)
+  room l = row_room (lengths l.rows) l.spare_rows
 
   -- how many pairs stand before that of a number
   abbrev pub index_of : List (Numbered (K × V)) → ℕ → ℕ

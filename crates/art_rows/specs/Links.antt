@@ -1,5 +1,6 @@
 -- How the leaf records are linked.
 use Rattle.std.specs.Prelude.{◌≡◌, ℕ, zero, suc, List, [], ◌∷◌, length, Option, option_map, Some, None, Bool, false, if◌then◌else◌, eqb}
+use Rattle.art_slots.specs.Slots.{Slots}
 use Rattle.art_slots.specs.Store.{Store, slot_at as at, used_count}
 use Rattle.art_rows.specs.Numbers.{Numbered as Pair, Numbers as Content, leaf_in, first_number, last_number, number_after, number_before, AreDistinct}
 use Rattle.art_rows.specs.declared.chain.Link.{Link}
@@ -50,8 +51,8 @@ module _ {X : Type 0} where
   AllLinked leaves first last = Links (at leaves) first last (used_count leaves) (pairs_in leaves first)
 
   -- what a contract sees of linked leaves
-  abbrev pub content : Store (Link X) → Option ℕ → Content X
-  content leaves first = record { pairs = pairs_in leaves first; spare = leaves.spare }
+  abbrev pub content : Slots (Link X) → Option ℕ → Content X
+  content leaves first = record { pairs = pairs_in leaves.store first; spare = leaves.store.spare; room = leaves.room; top = leaves.top; next = leaves.next }
 
   -- the leaves, with one linked to another after it
   abbrev pub with_next : (ℕ → Option (Link X)) → Option ℕ → Option ℕ → ℕ → Option (Link X)

@@ -6,18 +6,21 @@ use Rattle.std.specs.Coded.{Coded, code_by, coded×, coded_ℕ, coded_list}
 abbrev pub Numbered : Type 0 → Type 0
 Numbered X = ℕ × X
 
--- the pairs in the order of the links, and how many spare records there are
+-- the pairs in the order of the links, how many spare records there are, for how many more there is memory, a number above those of all records, and that of the next one that is made
 pub record Numbers (X : Type 0) : Type 0 where
   pub pairs : List (Numbered X)
   pub spare : ℕ
+  pub room : ℕ
+  pub top : ℕ
+  pub next : ℕ
 
 abbrev pub numbers_code : {X : Type 0} → Coded X → Coded (Numbers X)
 numbers_code {X} x =
     code_by
-    (List (ℕ × X) × ℕ)
-    (coded× (coded_list (coded× coded_ℕ x)) coded_ℕ)
-    (λ s. (s.pairs, s.spare))
-    (λ p. record { pairs = p.0; spare = p.1 })
+    (List (ℕ × X) × (ℕ × (ℕ × (ℕ × ℕ))))
+    (coded× (coded_list (coded× coded_ℕ x)) (coded× coded_ℕ (coded× coded_ℕ (coded× coded_ℕ coded_ℕ))))
+    (λ s. (s.pairs, (s.spare, (s.room, (s.top, s.next)))))
+    (λ p. record { pairs = p.0; spare = p.1.0; room = p.1.1.0; top = p.1.1.1.0; next = p.1.1.1.1 })
     (λ _. refl)
 
 module _ {X : Type 0} where
@@ -75,6 +78,11 @@ module _ {X : Type 0} where
   abbrev pub with_pair : List (Numbered X) → ℕ → X → List (Numbered X)
   with_pair [] i x = []
   with_pair (p ∷ ps) i x = if eqb p.0 i then (p.0, x) ∷ ps else p ∷ with_pair ps i x
+
+  -- the pairs, that of the number i under the number j in its place
+  abbrev pub with_number : List (Numbered X) → ℕ → ℕ → List (Numbered X)
+  with_number [] i j = []
+  with_number (p ∷ ps) i j = if eqb p.0 i then (j, p.1) ∷ ps else p ∷ with_number ps i j
 
   -- no pair of this list has the number
   abbrev pub Lacks : List (Numbered X) → ℕ → Type 0

@@ -1,9 +1,8 @@
 -- Rows of numbers: which row has a number, at which place, and the numbers of all rows in order.
-use Rattle.std.specs.Prelude.{◌≡◌, ◌≤◌, ℕ, zero, suc, ◌+◌, ◌-◌, ◌*◌, ◌<◌, min, max, List, [], ◌∷◌, ◌++◌, length, map, Option, option_map, Some, None, Bool, true, false, if◌then◌else◌, eqb, ltb}
-use Rattle.art_rows.specs.Numbers.{Numbered, AreDistinct}
+use Rattle.std.specs.Prelude.{◌≡◌, ◌≤◌, ℕ, zero, suc, ◌+◌, ◌-◌, ◌<◌, List, [], ◌∷◌, ◌++◌, length, map, Option, option_map, Some, None, Bool, true, false, if◌then◌else◌, eqb, ltb}
+use Rattle.art_rows.specs.Numbers.{Numbered}
 use Rattle.art_rows.specs.declared.following.Following.{Following}
 use Rattle.art_rows.specs.declared.row.Position.{Position}
-use Rattle.art_rows.specs.declared.row.TheConstants.{HALF}
 
 -- the number is in the list
 abbrev pub among : List ℕ → ℕ → Bool
@@ -50,37 +49,15 @@ pub record IsSpot (rows : List (Numbered (List ℕ))) (p : Position) (k : ℕ) :
   pub index : k ≡ length (numbers before) + p.place
   pub within : p.place ≤ length ids
 
--- a full row in two, the second half after the first
-pub record IsSplit (old new : List (Numbered (List ℕ))) (r s : ℕ) : Type 0 where
-  pub before : List (Numbered (List ℕ))
-  pub first : List ℕ
-  pub second : List ℕ
-  pub after : List (Numbered (List ℕ))
-  pub was : old ≡ before ++ (r, first ++ second) ∷ after
-  pub is : new ≡ before ++ (r, first) ∷ (s, second) ∷ after
-  pub half : length first ≡ HALF
-  pub rest : length second ≡ HALF
-  pub apart : AreDistinct new
-
 -- how many numbers stand in a row and those before it, or none where no row is named
 abbrev pub row_end : Option ℕ → List (Numbered (List ℕ)) → ℕ
 row_end None rows = 0
 row_end (Some r) [] = 0
 row_end (Some r) (q ∷ qs) = length q.1 + (if eqb q.0 r then 0 else row_end (Some r) qs)
 
--- how many numbers the rows have above half of each, and above one in the last
-abbrev pub above_half : List (Numbered (List ℕ)) → ℕ
-above_half [] = 0
-above_half (r ∷ []) = length r.1 - 1
-above_half (r ∷ q ∷ rs) = length r.1 - HALF + above_half (q ∷ rs)
-
--- half a row for each spare one and for the first, but those above half
-abbrev pub half_room : List (Numbered (List ℕ)) → ℕ → ℕ
-half_room rows spare = HALF * (spare + min 1 (length rows)) - above_half rows
-
--- how many numbers more surely find a place: one for each spare row, or more where few are above half
-abbrev pub row_room : List (Numbered (List ℕ)) → ℕ → ℕ
-row_room rows spare = max spare (half_room rows spare)
+-- how many numbers each row has
+abbrev pub lengths : List (Numbered (List ℕ)) → List ℕ
+lengths rows = map (λ r. length r.1) rows
 
 -- how many numbers stand before those of a row
 abbrev pub row_start : List (Numbered (List ℕ)) → ℕ → ℕ

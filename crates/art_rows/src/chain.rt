@@ -1,5 +1,5 @@
 //! Records in a chain: each is under a number, and linked to its neighbours.
-ghost use Rattle.std.specs.Prelude.{◌≡◌, ◌+◌, ◌<◌, ◌≤◌, ℕ, [], length, option_map, Some, None, IsSome, IfSome, OnOk, IfOk, OnErr};
+ghost use Rattle.std.specs.Prelude.{◌≡◌, ◌+◌, ◌^◌, ◌<◌, max, ℕ, [], length, option_map, Some, None, IsSome, IfSome, OnOk, IfOk};
 ghost use Rattle.std.specs.Borrow.{sem};
 ghost use Rattle.art_slots.specs.Store.{slot_at, used_count};
 ghost use Rattle.art_rows.specs.Numbers.{leaf_in, Has, AreDistinct, first_number, last_number, number_after, number_before, with_pair_after, without_number};
@@ -7,7 +7,7 @@ ghost use Rattle.art_rows.specs.Links.{with_next, with_prev, end_with};
 ghost use Rattle.art_rows.specs.ChainLends.{lends_item, lends_at};
 
 use crate::row::Row;
-use art_slots::Store;
+use art_slots::Slots;
 use std::alloc::{AllocError, Global};
 use std::marker::Model;
 
@@ -40,10 +40,10 @@ impl Clone for Link<Row> {
     }
 }
 
-/// Items in order, each under a number. A contract sees them so, and how many more find a place.
+/// Items in order, each under a number. A contract sees them so, how many more find a place, and for how many places there is memory; and a number above those of all, and the number of the next place.
 #[derive(Drop)]
 pub(crate) struct Chain<T> {
-    pub(crate) records: Store<Link<T>>,
+    pub(crate) records: Slots<Link<T>>,
     pub(crate) first: Option<usize>,
     pub(crate) last: Option<usize>,
 }
@@ -59,21 +59,22 @@ impl<T> Model for Chain<T> {
 
     ghost view = { λ t. content t.records t.first };
 
-    ghost invariant = { λ t. AllLinked t.records t.first t.last };
+    ghost invariant = { λ t. AllLinked t.records.store t.first t.last };
 }
 
 // Links the record `at` to the one after it, or makes that one the first.
 fn set_next<T>(
-    records: &mut Store<Link<T>>,
+    records: &mut Slots<Link<T>>,
     first: &mut Option<usize>,
     at: Option<usize>,
     to: Option<usize>,
 )
-    requires { IfSome at (λ i. IsSome (slot_at records.old i)) }
-    ensures leaves { (j : ℕ) → slot_at records.new j ≡ with_next (slot_at records.old) at to j }
+    requires { IfSome at (λ i. IsSome (slot_at records.old.store i)) }
+    ensures leaves { (j : ℕ) → slot_at records.new.store j ≡ with_next (slot_at records.old.store) at to j }
     ensures first { first.new ≡ end_with at to first.old }
-    ensures used { used_count records.new ≡ used_count records.old }
-    ensures spare { records.new.spare ≡ records.old.spare }
+    ensures used { used_count records.new.store ≡ used_count records.old.store }
+    ensures spare { records.new.store.spare ≡ records.old.store.spare }
+    ensures top { records.new.top ≡ records.old.top }
 {
     match at {
         None => *first = to,
@@ -83,16 +84,17 @@ fn set_next<T>(
 
 // Links the record `at` to the one before it, or makes that one the last.
 fn set_prev<T>(
-    records: &mut Store<Link<T>>,
+    records: &mut Slots<Link<T>>,
     last: &mut Option<usize>,
     at: Option<usize>,
     to: Option<usize>,
 )
-    requires { IfSome at (λ i. IsSome (slot_at records.old i)) }
-    ensures leaves { (j : ℕ) → slot_at records.new j ≡ with_prev (slot_at records.old) at to j }
+    requires { IfSome at (λ i. IsSome (slot_at records.old.store i)) }
+    ensures leaves { (j : ℕ) → slot_at records.new.store j ≡ with_prev (slot_at records.old.store) at to j }
     ensures last { last.new ≡ end_with at to last.old }
-    ensures used { used_count records.new ≡ used_count records.old }
-    ensures spare { records.new.spare ≡ records.old.spare }
+    ensures used { used_count records.new.store ≡ used_count records.old.store }
+    ensures spare { records.new.store.spare ≡ records.old.store.spare }
+    ensures top { records.new.top ≡ records.old.top }
 {
     match at {
         None => *last = to,
@@ -104,6 +106,7 @@ impl Chain<Row> {
     /// The same rows under the same numbers.
     pub(crate) fn clone(&self) -> Result<Self, AllocError>
         ensures same { IfOk result (λ copy. copy.pairs ≡ self.now.pairs) }
+        ensures top { IfOk result (λ copy. copy.top ≡ self.now.top) }
     {
         Ok(Chain {
             records: self.records.clone()?,
@@ -118,9 +121,10 @@ impl<T> Chain<T> {
     pub(crate) fn new(alloc: Global) -> Self
         ensures pairs { result.pairs ≡ [] }
         ensures spare { result.spare ≡ 0 }
+        ensures top { result.top ≡ 0 }
     {
         Chain {
-            records: Store::new(alloc),
+            records: Slots::new(alloc),
             first: None,
             last: None,
         }
@@ -133,11 +137,33 @@ impl<T> Chain<T> {
         let _ = &self.first;
     }
 
+    /// How many items there are.
+    pub(crate) fn len(&self) -> usize
+        ensures value { result ≡ length self.now.pairs }
+        ensures small { result < 2 ^ 61 }
+    {
+        self.records.used()
+    }
+
     /// How many items more find a place with no memory asked for.
     pub(crate) fn spare(&self) -> usize
         ensures { result ≡ self.now.spare }
     {
         self.records.spare()
+    }
+
+    /// The number of the next place that is made.
+    pub(crate) fn next_place(&self) -> usize
+        ensures { result ≡ self.now.next }
+    {
+        self.records.next()
+    }
+
+    /// For how many places more there is memory.
+    pub(crate) fn room(&self) -> usize
+        ensures { result ≡ self.now.room }
+    {
+        self.records.room()
     }
 
     /// The first number.
@@ -203,6 +229,7 @@ impl<T> Chain<T> {
         requires { Has self.old.pairs id }
         ensures* writes_back { sem 𝓛 (lends_at T.row self.entry id result) }
         ensures value { leaf_in self.old.pairs id ≡ Some result.now }
+        ensures below { id < self.old.top }
     {
         self.records.get_mut(id).item_mut()
     }
@@ -216,6 +243,8 @@ impl<T: Drop> Chain<T> {
         ensures fresh { leaf_in self.old.pairs result ≡ None }
         ensures placed { self.new.pairs ≡ with_pair_after prev (result, item) self.old.pairs }
         ensures spare { self.new.spare + 1 ≡ self.old.spare }
+        ensures below { result < self.old.top }
+        ensures top { self.new.top ≡ self.old.top }
     {
         let next = match prev {
             None => self.first,
@@ -238,6 +267,7 @@ impl<T: Drop> Chain<T> {
         ensures value { leaf_in self.old.pairs id ≡ Some result }
         ensures rest { self.new.pairs ≡ without_number self.old.pairs id }
         ensures spare { self.new.spare ≡ self.old.spare + 1 }
+        ensures top { self.new.top ≡ self.old.top }
     {
         let link = self.records.take(id);
         set_next(&mut self.records, &mut self.first, link.prev, link.next);
@@ -245,21 +275,31 @@ impl<T: Drop> Chain<T> {
         link.item
     }
 
-    /// Makes places for so many items more.
-    #[inline(always)]
-    pub(crate) fn reserve(&mut self, n: usize) -> Result<(), AllocError>
+    /// Takes memory for one place more, where there is none.
+    pub(crate) fn grow(&mut self) -> Result<(), AllocError>
         ensures pairs { self.new.pairs ≡ self.old.pairs }
-        ensures grows { self.old.spare ≤ self.new.spare }
-        ensures ok { OnOk result (n ≤ self.new.spare) }
-        ensures needed { OnErr result (self.old.spare < n) }
+        ensures spare { self.new.spare ≡ self.old.spare }
+        ensures top { self.new.top ≡ self.old.top }
+        ensures ok { OnOk result (0 < self.new.room) }
     {
-        self.records.reserve(n)
+        self.records.grow(1)
+    }
+
+    /// Makes a place for one item more, for which there is memory.
+    pub(crate) fn add_place(&mut self)
+        requires { 0 < self.old.room }
+        ensures pairs { self.new.pairs ≡ self.old.pairs }
+        ensures spare { self.new.spare ≡ self.old.spare + 1 }
+        ensures top { self.new.top ≡ max self.old.top (self.old.next + 1) }
+    {
+        self.records.add_spare();
     }
 
     /// Drops every item.
     pub(crate) fn clear(&mut self)
         ensures pairs { self.new.pairs ≡ [] }
         ensures spare { self.new.spare ≡ 0 }
+        ensures top { self.new.top ≡ 0 }
     {
         self.records.clear();
         self.first = None;

@@ -1,28 +1,35 @@
 //! The leaf records, in rows in the order of their keys.
-ghost use Rattle.std.specs.Prelude.{◌≡◌, ◌≢◌, ◌+◌, ◌-◌, ◌<◌, ◌≤◌, ◌++◌, ◌⊎◌, ℕ, [], ◌∷◌, length, map, option_map, take, drop, Some, None, IsSome, IfSome, IfNone, true, OnOk, IfOk, OnErr};
-ghost use Rattle.art_slots.specs.Store.{slot_at, used_count};
-ghost use Rattle.art_rows.specs.Numbers.{leaf_in, Has, AreDistinct, first_number, last_number, number_after, number_before, with_pair_after, without_number, with_pair};
-ghost use Rattle.art_rows.specs.Rows.{position_at, nth, numbers, IsSpot, IsSplit, row_end, row_room, row_start, among, RunsBefore, StandsAfter};
+ghost use Rattle.std.specs.Prelude.{◌≡◌, ◌≢◌, ℕ, ◌+◌, ◌-◌, ◌<◌, ◌≤◌, ◌++◌, List, [], ◌∷◌, length, map, option_map, take, drop, Option, Some, None, IsSome, IfSome, IfNone, OnOk, IfOk, OnErr};
+ghost use Rattle.art_rows.specs.Numbers.{leaf_in, Has, AreDistinct, first_number, last_number, number_after, number_before, with_pair_after, without_number, with_number, with_pair};
+ghost use Rattle.art_rows.specs.Rows.{position_at, nth, IsSpot, row_end, lengths, RunsBefore, StandsAfter};
+ghost use Rattle.art_rows.specs.RowRoom.{row_room};
+ghost use Rattle.art_rows.specs.Blocks.{row_of, HasWay, IsCrowded, IsAfter, IsShut, GoesBeyond};
 ghost use Rattle.art_rows.specs.declared.row.Position.{Position};
 ghost use Rattle.art_rows.specs.Leaves.{index_of, room, spot_index, TakesFirst, TakesLast, AreCopies};
-ghost use Rattle.art_rows.specs.Filing.{in_row};
 ghost use Rattle.art_rows.specs.LeafLends.{lends_value, lends_leaf};
 ghost use Rattle.std.specs.Borrow.{sem};
 
+mod placing;
+
 use crate::chain::Chain;
 use crate::following::Following;
-use crate::row::{HALF, Position, ROW, Row};
-use art_slots::{LeafId, Store, Visits};
+use crate::row::{Position, ROW, Row};
+use art_slots::{LeafId, Table, Visits};
 use std::alloc::{AllocError, Global};
 use std::marker::Model;
 use std::mem;
 
-/// A key and its value, and the row that has its number.
+/// There are no more rows than this, so that the numbers of all are small.
+const MOST_ROWS: usize = 1 << 56;
+
+/// So many leaves each spare row surely takes, once the others are full: a row begins with one leaf, and only beside a full one does another begin.
+const SURE: usize = 15;
+
+/// A key and its value.
 #[derive(Drop)]
 pub(crate) struct Leaf<K, V> {
     pub(crate) key: K,
     pub(crate) value: V,
-    pub(crate) row: usize,
 }
 
 impl<K, V> Leaf<K, V> {
@@ -36,21 +43,22 @@ impl<K, V> Leaf<K, V> {
 }
 
 impl<K: Clone, V: Clone> Clone for Leaf<K, V> {
-    ghost is_clone = { λ x y. K.is_clone x.key y.key × V.is_clone x.value y.value × (y.row ≡ x.row) };
+    ghost is_clone = { λ x y. K.is_clone x.key y.key × V.is_clone x.value y.value };
 
     fn clone(&self) -> Result<Self, AllocError> {
         Ok(Leaf {
             key: self.key.clone()?,
             value: self.value.clone()?,
-            row: self.row,
         })
     }
 }
 
-/// The leaves of a tree in byte order. A contract sees the pairs in order, each under its number, the rows of the numbers, and how many more records and rows find a place.
+/// The leaves of a tree in byte order. A contract sees the pairs in order, each under its number, the rows of the numbers, and how many more rows find a place.
+///
+/// The numbers of a row are those of 32 cells that follow one another, in which the leaves of the row lie: so a leaf's number tells its row, and leaves that are neighbours lie together.
 #[derive(Drop)]
 pub struct Leaves<K, V> {
-    pub(crate) records: Store<Leaf<K, V>>,
+    pub(crate) records: Table<Leaf<K, V>>,
     pub(crate) rows: Chain<Row>,
 }
 
@@ -61,11 +69,11 @@ impl<K, V> Model for Leaves<K, V> {
 
     ghost coded = { leaves_code K.code V.code };
 
-    ghost use Rattle.art_rows.specs.Filing.{content, AllFiled};
+    ghost use Rattle.art_rows.specs.Filing.{content, AllPlaced};
 
     ghost view = { λ t. content t.records t.rows };
 
-    ghost invariant = { λ t. AllFiled t.records t.rows.pairs };
+    ghost invariant = { λ t. AllPlaced t.records t.rows };
 }
 
 impl<K, V> Leaves<K, V> {
@@ -73,11 +81,10 @@ impl<K, V> Leaves<K, V> {
     pub fn new(alloc: Global) -> Self
         ensures pairs { result.pairs ≡ [] }
         ensures rows { result.rows ≡ [] }
-        ensures spare { result.spare ≡ 0 }
         ensures spare_rows { result.spare_rows ≡ 0 }
     {
         Leaves {
-            records: Store::new(alloc),
+            records: Table::new(alloc),
             rows: Chain::new(alloc),
         }
     }
@@ -96,13 +103,6 @@ impl<K, V> Leaves<K, V> {
         self.records.used()
     }
 
-    /// How many records of leaves are spare.
-    pub fn spare(&self) -> usize
-        ensures { result ≡ self.now.spare }
-    {
-        self.records.spare()
-    }
-
     /// How many rows are spare.
     pub fn spare_rows(&self) -> usize
         ensures { result ≡ self.now.spare_rows }
@@ -115,7 +115,7 @@ impl<K, V> Leaves<K, V> {
         requires { Has self.now.pairs id }
         ensures { position_at self.now.rows (index_of self.now.pairs id) ≡ Some result }
     {
-        let row = self.records.read(id.number()).row;
+        let row = id.number() / ROW;
         let ids = self.rows.read(row);
         let last = ids.len() - 1;
         if ids.has_at(last, id) {
@@ -459,6 +459,8 @@ fn take_out(rows: &mut Chain<Row>, position: Position)
     ensures more { IfSome (leaf_in rows.old.pairs position.row) (λ ids. length ids ≢ 1 → rows.new.pairs ≡ with_pair rows.old.pairs position.row (take position.place ids ++ drop (position.place + 1) ids)) }
     ensures grows { rows.old.spare ≤ rows.new.spare }
     ensures gains { IfSome (leaf_in rows.old.pairs position.row) (λ ids. length ids ≡ 1 → rows.new.spare ≡ rows.old.spare + 1) }
+    ensures keeps { IfSome (leaf_in rows.old.pairs position.row) (λ ids. length ids ≢ 1 → rows.new.spare ≡ rows.old.spare) }
+    ensures top { rows.new.top ≡ rows.old.top }
 {
     if rows.read(position.row).len() == 1 {
         let _ = rows.remove(position.row);
@@ -497,6 +499,8 @@ impl<K: Drop, V: Drop> Leaves<K, V> {
         requires at { position_at self.old.rows (index_of self.old.pairs id) ≡ Some position }
         ensures value { leaf_in self.old.pairs id ≡ Some result }
         ensures rest { self.new.pairs ≡ without_number self.old.pairs id }
+        ensures rows { IfSome (leaf_in self.old.rows position.row) (λ ids. length ids ≢ 1 → self.new.rows ≡ with_pair self.old.rows position.row (take position.place ids ++ drop (position.place + 1) ids)) }
+        ensures spare_rows { IfSome (leaf_in self.old.rows position.row) (λ ids. length ids ≢ 1 → self.new.spare_rows ≡ self.old.spare_rows) }
         ensures room { room self.old ≤ room self.new }
     {
         let leaf = self.records.take(id.number());
@@ -534,7 +538,6 @@ impl<K: Drop, V: Drop> Leaves<K, V> {
         ensures value { leaf_in self.old.pairs id ≡ Some result }
         ensures pairs { self.new.pairs ≡ with_pair self.old.pairs id (key, value) }
         ensures rows { self.new.rows ≡ self.old.rows }
-        ensures spare { self.new.spare ≡ self.old.spare }
         ensures spare_rows { self.new.spare_rows ≡ self.old.spare_rows }
     {
         let leaf = self.records.get_mut(id.number());
@@ -550,179 +553,65 @@ impl<K: Drop, V: Drop> Leaves<K, V> {
         ensures rows { self.new.rows ≡ self.old.rows }
         ensures grows { room self.old ≤ room self.new }
         ensures ok { OnOk result (n ≤ room self.new) }
-        ensures needed { OnErr result ((self.old.spare < n) ⊎ (self.old.spare_rows < n)) }
+        ensures needed { OnErr result (self.old.spare_rows < n) }
     {
-        self.records.reserve(n)?;
-        let half = n / HALF + self.records.used() / HALF + 2;
-        self.rows.reserve(if half < n { half } else { n })
+        let sure = n / SURE + self.records.used() / ROW + 2;
+        let rows = if sure < n { sure } else { n };
+        if rows <= self.rows.spare() {
+            return Ok(());
+        }
+        self.add_rows(rows)
+    }
+
+    // Makes spare rows until there are so many.
+    #[cold]
+    #[inline(never)]
+    fn add_rows(&mut self, count: usize) -> Result<(), AllocError>
+        requires { self.old.spare_rows < count }
+        ensures pairs { self.new.pairs ≡ self.old.pairs }
+        ensures rows { self.new.rows ≡ self.old.rows }
+        ensures grows { self.old.spare_rows ≤ self.new.spare_rows }
+        ensures ok { OnOk result (count ≤ self.new.spare_rows) }
+    {
+        if count >= MOST_ROWS {
+            return Err(AllocError);
+        }
+        let rows = self.rows.len() + count;
+        if rows >= MOST_ROWS {
+            return Err(AllocError);
+        }
+        // The numbers of rows follow one another, though a slab does not promise it: so these are the cells of all, at once.
+        self.records.grow(ROW * rows)?;
+        for _ in self.rows.spare()..count {
+            self.add_row()?;
+        }
+        Ok(())
+    }
+
+    // Makes a row more that is spare, with cells for its numbers.
+    fn add_row(&mut self) -> Result<(), AllocError>
+        ensures pairs { self.new.pairs ≡ self.old.pairs }
+        ensures rows { self.new.rows ≡ self.old.rows }
+        ensures grows { self.old.spare_rows ≤ self.new.spare_rows }
+        ensures ok { OnOk result (self.new.spare_rows ≡ self.old.spare_rows + 1) }
+    {
+        self.rows.grow()?;
+        let row = self.rows.next_place();
+        if row >= MOST_ROWS {
+            return Err(AllocError);
+        }
+        self.records.grow(ROW * (row + 1))?;
+        self.rows.add_place();
+        Ok(())
     }
 
     /// Drops every leaf.
     pub fn clear(&mut self)
         ensures pairs { self.new.pairs ≡ [] }
         ensures rows { self.new.rows ≡ [] }
-        ensures spare { self.new.spare ≡ 0 }
         ensures spare_rows { self.new.spare_rows ≡ 0 }
     {
         self.records.clear();
         self.rows.clear();
-    }
-
-    // How many numbers a row has.
-    fn row_len(&self, row: usize) -> usize
-        requires { Has self.now.rows row }
-        ensures len { IfSome (leaf_in self.now.rows row) (λ ids. result ≡ length ids) }
-        ensures fits { result ≤ ROW }
-    {
-        self.rows.read(row).len()
-    }
-
-    // The row after another.
-    fn row_after(&self, row: usize) -> Option<usize>
-        requires { Has self.now.rows row }
-        ensures { result ≡ number_after self.now.rows row }
-    {
-        self.rows.next_of(row)
-    }
-
-    /// Puts a pair after the leaf `prev`, or in front of all. `seen` is where `prev` may stand: where it does, no row is searched. It asks for no memory.
-    pub fn insert(&mut self, prev: Option<LeafId>, seen: Position, key: K, value: V) -> LeafId
-        requires room { 0 < room self.old }
-        requires prev { IfSome prev (Has self.old.pairs) }
-        ensures fresh { leaf_in self.old.pairs result ≡ None }
-        ensures placed { self.new.pairs ≡ with_pair_after prev (result, (key, value)) self.old.pairs }
-        ensures room { room self.old ≤ room self.new + 1 }
-    {
-        let _ = &self.rows;
-        // The prover takes an `Option<LeafId>` that is passed on as moved, so this is a copy.
-        let after = prev;
-        let position = match self.spot(after, seen) {
-            None => return self.begin(prev, None, key, value),
-            Some(position) => position,
-        };
-        if self.row_len(position.row) < ROW {
-            return self.put(prev, position, key, value);
-        }
-        self.put_in_full(prev, position, key, value)
-    }
-
-    // Puts a pair at a spot of a full row, which is split, or after a full last row, where a new one begins.
-    #[cold]
-    #[inline(never)]
-    fn put_in_full(&mut self, prev: Option<LeafId>, position: Position, key: K, value: V) -> LeafId
-        requires room { 0 < room self.old }
-        requires prev { IfSome prev (Has self.old.pairs) }
-        requires spot { IsSpot self.old.rows position (spot_index prev self.old.pairs) }
-        requires full { IfSome (leaf_in self.old.rows position.row) (λ ids. length ids ≡ ROW) }
-        ensures fresh { leaf_in self.old.pairs result ≡ None }
-        ensures placed { self.new.pairs ≡ with_pair_after prev (result, (key, value)) self.old.pairs }
-        ensures room { room self.old ≤ room self.new + 1 }
-    {
-        let _ = &self.rows;
-        if position.place == ROW && self.row_after(position.row).is_none() {
-            return self.begin(prev, Some(position.row), key, value);
-        }
-        let fresh = self.split(position.row);
-        if position.place <= HALF {
-            return self.put(prev, position, key, value);
-        }
-        let place = position.place - HALF;
-        self.put(prev, Position { row: fresh, place }, key, value)
-    }
-
-    // Where a pair after a leaf, which may stand where it was seen, or in front of all, has its place; nowhere while there is no row.
-    fn spot(&self, prev: Option<LeafId>, seen: Position) -> Option<Position>
-        requires { IfSome prev (Has self.now.pairs) }
-        ensures some { IfSome result (λ p. IsSpot self.now.rows p (spot_index prev self.now.pairs)) }
-        ensures none { IfNone result (self.now.rows ≡ []) }
-    {
-        let _ = &self.rows;
-        match prev {
-            None => self.first_position(),
-            Some(id) => {
-                let position = self.position_near(id, seen);
-                // A place is less than the count of leaves, and so has one after it.
-                let _used = self.records.used();
-                Some(Position {
-                    row: position.row,
-                    place: position.place + 1,
-                })
-            }
-        }
-    }
-
-    // Puts a pair at a spot of a row that is not full.
-    #[inline(always)]
-    fn put(&mut self, prev: Option<LeafId>, position: Position, key: K, value: V) -> LeafId
-        requires spare { 0 < self.old.spare }
-        requires prev { IfSome prev (Has self.old.pairs) }
-        requires spot { IsSpot self.old.rows position (spot_index prev self.old.pairs) }
-        requires room { IfSome (leaf_in self.old.rows position.row) (λ ids. length ids < ROW) }
-        ensures fresh { leaf_in self.old.pairs result ≡ None }
-        ensures placed { self.new.pairs ≡ with_pair_after prev (result, (key, value)) self.old.pairs }
-        ensures spare { self.new.spare + 1 ≡ self.old.spare }
-        ensures spare_rows { self.new.spare_rows ≡ self.old.spare_rows }
-        ensures rows { IfSome (leaf_in self.old.rows position.row) (λ ids. self.new.rows ≡ with_pair self.old.rows position.row (take position.place ids ++ result ∷ drop position.place ids)) }
-    {
-        let number = self.records.fill(Leaf {
-            key,
-            value,
-            row: position.row,
-        });
-        let id = LeafId::new(number);
-        self.rows.get_mut(position.row).insert(position.place, id);
-        id
-    }
-
-    // Puts a pair into a new row, after another or in front of all.
-    #[cold]
-    #[inline(never)]
-    fn begin(&mut self, prev: Option<LeafId>, prev_row: Option<usize>, key: K, value: V) -> LeafId
-        requires spare { 0 < self.old.spare }
-        requires spare_rows { 0 < self.old.spare_rows }
-        requires prev { IfSome prev (Has self.old.pairs) }
-        requires prev_row { IfSome prev_row (Has self.old.rows) }
-        requires index { spot_index prev self.old.pairs ≡ row_end prev_row self.old.rows }
-        ensures fresh { leaf_in self.old.pairs result ≡ None }
-        ensures placed { self.new.pairs ≡ with_pair_after prev (result, (key, value)) self.old.pairs }
-        ensures spare { self.new.spare + 1 ≡ self.old.spare }
-        ensures spare_rows { self.new.spare_rows + 1 ≡ self.old.spare_rows }
-        ensures rows { (r : ℕ) × (self.new.rows ≡ with_pair_after prev_row (r, result ∷ []) self.old.rows) }
-    {
-        let number = self.records.fill(Leaf { key, value, row: 0 });
-        let id = LeafId::new(number);
-        let row = self.rows.insert(prev_row, Row::new(id));
-        self.records.get_mut(number).row = row;
-        id
-    }
-
-    // Moves the second half of a full row into a new one after it.
-    #[cold]
-    #[inline(never)]
-    fn split(&mut self, row: usize) -> usize
-        requires spare_rows { 0 < self.old.spare_rows }
-        requires has { Has self.old.rows row }
-        requires full { IfSome (leaf_in self.old.rows row) (λ ids. length ids ≡ ROW) }
-        ensures pairs { self.new.pairs ≡ self.old.pairs }
-        ensures rows { IsSplit self.old.rows self.new.rows row result }
-        ensures spare { self.new.spare ≡ self.old.spare }
-        ensures spare_rows { self.new.spare_rows + 1 ≡ self.old.spare_rows }
-    {
-        let half = self.rows.get_mut(row).split();
-        let fresh = self.rows.insert(Some(row), half);
-        name_row(&mut self.records, self.rows.read(fresh), fresh);
-        fresh
-    }
-}
-
-// Names a row in the records of its numbers.
-fn name_row<K, V>(records: &mut Store<Leaf<K, V>>, row: &Row, number: usize)
-    requires { (j : ℕ) → among row.now j ≡ true → IsSome (slot_at records.old j) }
-    ensures named { (j : ℕ) → slot_at records.new j ≡ in_row (slot_at records.old) row.now number j }
-    ensures used { used_count records.new ≡ used_count records.old }
-    ensures spare { records.new.spare ≡ records.old.spare }
-{
-    for place in 0..row.len() {
-        records.get_mut(row.at(place).number()).row = number;
     }
 }

@@ -1,15 +1,13 @@
 //! A row of numbers.
-ghost use Rattle.std.specs.Prelude.{◌≡◌, ℕ, ◌+◌, ◌-◌, ◌<◌, ◌≤◌, [], ◌∷◌, ◌++◌, length, take, drop, Some, true, IfSome};
-ghost use Rattle.art_rows.specs.Rows.{place_in, nth, nowhere};
+ghost use Rattle.std.specs.Prelude.{◌≡◌, ℕ, ◌+◌, ◌-◌, ◌*◌, ◌^◌, ◌<◌, ◌≤◌, [], ◌∷◌, ◌++◌, length, take, drop, Some, true, false, IfSome, slice_index_or};
+ghost use Rattle.art_rows.specs.Rows.{among, place_in, nth, nowhere};
+ghost use Rattle.art_rows.specs.Blocks.{times, row_of};
 
 use art_slots::LeafId;
 use std::marker::Model;
 
 /// How many numbers a row has room for.
 pub(crate) const ROW: usize = 32;
-
-/// How many stay in a row that is split.
-pub(crate) const HALF: usize = 16;
 
 /// A row, and a place in it.
 #[derive(Clone, Copy)]
@@ -27,7 +25,7 @@ impl Position {
     }
 }
 
-/// Up to 32 numbers in order. A contract sees their list.
+/// The 32 numbers of a block: those in use in order, and then the others. A contract sees the list of those in use.
 #[derive(Drop)]
 pub(crate) struct Row {
     count: usize,
@@ -45,19 +43,23 @@ impl Model for Row {
     ghost view = { λ r. take r.count r.ids };
 
     ghost use Rattle.art_rows.specs.declared.row.TheConstants.{ROW};
+    ghost use Rattle.art_rows.specs.Blocks.{ArePlaces};
 
-    ghost invariant = { λ r. (r.count ≤ ROW) × (length r.ids ≡ ROW) };
+    ghost invariant = { λ r. (r.count ≤ ROW) × (length r.ids ≡ ROW) × ArePlaces r.ids };
 }
 
 impl Row {
-    /// A row of one number.
-    pub(crate) fn new(number: LeafId) -> Self
-        ensures { result ≡ number ∷ [] }
+    /// The numbers of a block, of which the first is in use.
+    pub(crate) fn new(block: usize) -> Self
+        requires { ROW * block + ROW ≤ 2 ^ 61 }
+        ensures { result ≡ ROW * block ∷ [] }
     {
-        Row {
-            count: 1,
-            ids: [number; 32],
+        let first = ROW * block;
+        let mut ids = [LeafId::new(first); 32];
+        for place in 0..ROW {
+            ids[place] = LeafId::new(first + place);
         }
+        Row { count: 1, ids }
     }
 
     /// The same numbers.
@@ -148,14 +150,18 @@ impl Row {
         place_among(&self.ids[..self.count], number)
     }
 
-    /// Puts a number at a place.
-    pub(crate) fn insert(&mut self, place: usize, number: LeafId)
+    /// Puts another number of the block at a place, and answers it.
+    pub(crate) fn insert(&mut self, place: usize) -> LeafId
         requires room { length self.old < ROW }
         requires place { place ≤ length self.old }
-        ensures { self.new ≡ take place self.old ++ number ∷ drop place self.old }
+        ensures row { self.new ≡ take place self.old ++ result ∷ drop place self.old }
+        ensures fresh { among self.old result ≡ false }
+        ensures block { (n : ℕ) → among self.old n ≡ true → row_of result ≡ row_of n }
     {
-        insert_in(&mut self.ids, self.count, place, number);
+        let number = self.ids[self.count];
+        insert_in(&mut self.ids, self.count, place);
         self.count += 1;
+        number
     }
 
     /// Takes the number at a place out.
@@ -165,19 +171,6 @@ impl Row {
     {
         remove_in(&mut self.ids, self.count, place);
         self.count -= 1;
-    }
-
-    /// Takes the second half out of a full row.
-    pub(crate) fn split(&mut self) -> Row
-        requires { length self.old ≡ ROW }
-        ensures parts { self.old ≡ self.new ++ result }
-        ensures half { length self.new ≡ HALF }
-    {
-        let mut ids = [self.ids[0]; 32];
-        let own = &self.ids[..];
-        ids[..HALF].copy_from_slice(&own[HALF..]);
-        self.count = HALF;
-        Row { count: HALF, ids }
     }
 }
 
@@ -193,21 +186,23 @@ fn place_among(ids: &[LeafId], number: LeafId) -> usize
     ids.len()
 }
 
-// Puts a number at a place of the first so many.
-fn insert_in(ids: &mut [LeafId], count: usize, place: usize, number: LeafId)
+// Moves the number after the first so many to a place among them.
+fn insert_in(ids: &mut [LeafId], count: usize, place: usize)
     requires place { place ≤ count }
     requires room { count < length ids.old }
-    ensures { take (count + 1) ids.new ≡ take place (take count ids.old) ++ number ∷ drop place (take count ids.old) }
+    ensures first { take (count + 1) ids.new
+        ≡ take place (take count ids.old) ++ slice_index_or ids.old count 0 ∷ drop place (take count ids.old) }
+    ensures same { (n : ℕ) → times ids.new n ≡ times ids.old n }
 {
-    ids[count] = number;
     ids[place..count + 1].rotate_right(1);
 }
 
-// Closes up over a place of the first so many.
+// Moves a number among the first so many to their end.
 fn remove_in(ids: &mut [LeafId], count: usize, place: usize)
     requires place { place < count }
     requires within { count ≤ length ids.old }
-    ensures { take (count - 1) ids.new ≡ take place (take count ids.old) ++ drop (place + 1) (take count ids.old) }
+    ensures first { take (count - 1) ids.new ≡ take place (take count ids.old) ++ drop (place + 1) (take count ids.old) }
+    ensures same { (n : ℕ) → times ids.new n ≡ times ids.old n }
 {
     ids[place..count].rotate_left(1);
 }

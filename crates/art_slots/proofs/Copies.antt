@@ -70,8 +70,8 @@ module _ {T : Type 0} (is_clone : T → T → Type 0) where
   has-copy (Some x) p y h e = (x, refl)
 
   -- copies of slots have the same spares
-  pub spares-copies : (xs ys : List (Option (Slot T))) (free : Option ℕ) (spare : ℕ) → AreCopies xs ys → HasSpares xs free spare → HasSpares ys free spare
-  spares-copies xs ys free spare h s =
+  pub spares-copies : (xs ys : List (Option (Slot T))) (free : Option ℕ) (spare : ℕ) → AreCopies xs ys → {top : ℕ} → HasSpares xs free spare top → HasSpares ys free spare top
+  spares-copies xs ys free spare h {top} s =
       let c : count_by is_some ys ≡ count_by is_some xs = count-copies (IsCopy is_clone) xs ys h in
       let d : count_by is_some (map used_of ys) ≡ count_by is_some (map used_of xs) = count-copies is_clone (map used_of xs) (map used_of ys) (records-copy xs ys h) in
       let a = s.all in
@@ -81,4 +81,5 @@ module _ {T : Type 0} (is_clone : T → T → Type 0) where
         all = omega arith;
         fits = omega arith;
         numbered = λ i y e. (let x = has-copy (get_or xs i None) (get_or ys i None) y (at-copy (IsCopy is_clone) xs ys h i) e in s.numbered i x.0 x.1);
+        small = s.small;
       }

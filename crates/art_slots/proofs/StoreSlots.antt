@@ -1,5 +1,5 @@
 -- The slots of a store: what a change of one leaves of the records and of the chain of spares.
-use Rattle.std.proofs.Common.{◌≡◌, ◌≢◌, ◌⊎◌, ℕ, zero, suc, ◌+◌, ◌-◌, ◌^◌, ◌<◌, ◌≤◌, List, [], ◌∷◌, map, length, get_or, set, Option, Some, None, is_some, IsSome, count_by, cond, refl, sym, ap, subst, ◌∙◌, inl, inr, arith, true≢false}
+use Rattle.std.proofs.Common.{◌≡◌, ◌≢◌, ◌⊎◌, ℕ, zero, suc, ◌+◌, ◌-◌, ◌^◌, ◌<◌, ◌≤◌, max, List, [], ◌∷◌, map, length, get_or, set, Option, Some, None, is_some, IsSome, count_by, cond, refl, sym, ap, subst, ◌∙◌, inl, inr, arith, true≢false}
 use Rattle.std.proofs.lemmas.List.{map-set, length-map, get_or-set_same, get_or-set_other}
 use Rattle.std.proofs.lemmas.Bool.{cases_eq, cases_lt, cond_below, cond_above}
 use Rattle.std.proofs.lemmas.List.Sums.{sum_by-set, sum_by-cons}
@@ -159,20 +159,20 @@ module _ {T : Type 0} where
     pub others-set : (j : ℕ) → j ≢ i → get_or (map used_of (set xs i (Some new))) j None ≡ get_or (map used_of xs) j None
     others-set j h = at-map (set xs i (Some new)) j ∙ ap used_of (get_or-set_other xs i j (Some new) None h) ∙ sym (at-map xs j)
 
-  -- the numbers of slots are small
-  abbrev Numbered : List (Option (Slot T)) → Type 0
-  Numbered xs = (i : ℕ) (x : Slot T) → get_or xs i None ≡ Some x → i < 2 ^ 61
+  -- the numbers of slots are below the top
+  abbrev Numbered : ℕ → List (Option (Slot T)) → Type 0
+  Numbered top xs = (i : ℕ) (x : Slot T) → get_or xs i None ≡ Some x → i < top
 
   -- also after a write of one
-  numbered-set : (xs : List (Option (Slot T))) (i : ℕ) (old new : Slot T) → get_or xs i None ≡ Some old → Numbered xs → Numbered (set xs i (Some new))
-  numbered-set xs i old new found small j x e = elim (cases_eq j i) [
-    | inl p ↦ subst (λ z. z < 2 ^ 61) (sym p) (small i old found)
+  numbered-set : (top : ℕ) (xs : List (Option (Slot T))) (i : ℕ) (old new : Slot T) → get_or xs i None ≡ Some old → Numbered top xs → Numbered top (set xs i (Some new))
+  numbered-set top xs i old new found small j x e = elim (cases_eq j i) [
+    | inl p ↦ subst (λ z. z < top) (sym p) (small i old found)
     | inr p ↦ small j x (sym (get_or-set_other xs i j (Some new) None p) ∙ e)
   ]
 
   -- a record is written over
-  pub spares-rewrite : (xs : List (Option (Slot T))) (free : Option ℕ) (n i : ℕ) (x y : T) → HasSpares xs free n → get_or xs i None ≡ Some (Used x) → HasSpares (set xs i (Some (Used y))) free n
-  spares-rewrite xs free n i x y s found =
+  pub spares-rewrite : (xs : List (Option (Slot T))) (free : Option ℕ) (n i : ℕ) (x y : T) {top : ℕ} → HasSpares xs free n top → get_or xs i None ≡ Some (Used x) → HasSpares (set xs i (Some (Used y))) free n top
+  spares-rewrite xs free n i x y {top} s found =
       let k = counts-set xs i (Used x) (Used y) found in
       let a = s.all in
       let f = s.fits in
@@ -182,7 +182,8 @@ module _ {T : Type 0} where
         linked = linked-others xs (set xs i (Some (Used y))) i (λ j h. get_or-set_other xs i j (Some (Used y)) None h) n free (off_used xs i x n found) s.linked;
         all = omega arith;
         fits = omega arith;
-        numbered = numbered-set xs i (Used x) (Used y) found s.numbered;
+        numbered = numbered-set top xs i (Used x) (Used y) found s.numbered;
+        small = s.small;
       }
 
   -- there are as many slots then
@@ -190,10 +191,10 @@ module _ {T : Type 0} where
   slots-rewrite xs i y h = let u = used_at xs i h in (counts-set xs i (Used u.0) (Used y) u.1).1
 
   -- a record is put into the first spare slot
-  pub spares-fill : (xs : List (Option (Slot T))) (free : Option ℕ) (n i : ℕ) (next : Option ℕ) (y : T) → HasSpares xs free n → free ≡ Some i → get_or xs i None ≡ Some (Spare next) → HasSpares (set xs i (Some (Used y))) next (n - 1)
-  spares-fill xs free n i next y s first found = by_count n s.linked s.all
+  pub spares-fill : (xs : List (Option (Slot T))) (free : Option ℕ) (n i : ℕ) (next : Option ℕ) (y : T) {top : ℕ} → HasSpares xs free n top → free ≡ Some i → get_or xs i None ≡ Some (Spare next) → HasSpares (set xs i (Some (Used y))) next (n - 1) top
+  spares-fill xs free n i next y {top} s first found = by_count n s.linked s.all
     where
-      by_count : (n : ℕ) → AreLinked xs n free → count_by is_some (map used_of xs) + n ≡ count_by is_some xs → HasSpares (set xs i (Some (Used y))) next (n - 1)
+      by_count : (n : ℕ) → AreLinked xs n free → count_by is_some (map used_of xs) + n ≡ count_by is_some xs → HasSpares (set xs i (Some (Used y))) next (n - 1) top
       by_count zero linked all = let e : free ≡ None = linked in absurd cc
       by_count (suc n) linked all =
           let k = counts-set xs i (Spare next) (Used y) found in
@@ -206,16 +207,17 @@ module _ {T : Type 0} where
           let e : linked.1 ≡ next = cc in
           let m : suc n - 1 ≡ n = omega arith in
           let off : IsOff xs i n = λ m below p. omega (arith, linked-unique xs (suc m) (suc n) free (subst (AreLinked xs (suc m)) (sym first) p) linked) in
-          subst (HasSpares (set xs i (Some (Used y))) next) (sym m) (record {
+          subst (λ z. HasSpares (set xs i (Some (Used y))) next z top) (sym m) (record {
             linked = linked-others xs (set xs i (Some (Used y))) i (λ j h. get_or-set_other xs i j (Some (Used y)) None h) n next off (subst (AreLinked xs n) e linked.4);
             all = omega arith;
             fits = omega arith;
-            numbered = numbered-set xs i (Spare next) (Used y) found s.numbered;
+            numbered = numbered-set top xs i (Spare next) (Used y) found s.numbered;
+            small = s.small;
           })
 
   -- a record is taken out, and its slot comes first of the spare ones
-  pub spares-take : (xs : List (Option (Slot T))) (free : Option ℕ) (n i : ℕ) (x : T) → HasSpares xs free n → get_or xs i None ≡ Some (Used x) → HasSpares (set xs i (Some (Spare free))) (Some i) (n + 1)
-  spares-take xs free n i x s found =
+  pub spares-take : (xs : List (Option (Slot T))) (free : Option ℕ) (n i : ℕ) (x : T) {top : ℕ} → HasSpares xs free n top → get_or xs i None ≡ Some (Used x) → HasSpares (set xs i (Some (Spare free))) (Some i) (n + 1) top
+  spares-take xs free n i x {top} s found =
       let k = counts-set xs i (Used x) (Spare free) found in
       let a = s.all in
       let f = s.fits in
@@ -232,7 +234,8 @@ module _ {T : Type 0} where
         );
         all = omega arith;
         fits = omega arith;
-        numbered = numbered-set xs i (Used x) (Spare free) found s.numbered;
+        numbered = numbered-set top xs i (Used x) (Spare free) found s.numbered;
+        small = s.small;
       }
 
   -- a slot with a record is added
@@ -246,8 +249,8 @@ module _ {T : Type 0} where
     used-put = count-more (map used_of xs) (map used_of ys) i y (at-map xs i ∙ ap used_of none) (at-map ys i ∙ ap used_of now) others-put
 
     -- the chain stays
-    pub spares-put : (free : Option ℕ) (n : ℕ) → count_by is_some ys ≡ count_by is_some xs + 1 → count_by is_some ys < 2 ^ 61 → i < 2 ^ 61 → HasSpares xs free n → HasSpares ys free n
-    spares-put free n more fits small s =
+    pub spares-put : (free : Option ℕ) (n : ℕ) → count_by is_some ys ≡ count_by is_some xs + 1 → count_by is_some ys < 2 ^ 61 → i < 2 ^ 61 → {top : ℕ} → HasSpares xs free n top → (above : ℕ) → above ≡ max top (i + 1) → HasSpares ys free n above
+    spares-put free n more fits small {top} s above raised =
         let a = s.all in
         let u = used-put in
         record {
@@ -255,9 +258,10 @@ module _ {T : Type 0} where
           all = omega arith;
           fits = fits;
           numbered = λ j x e. elim (cases_eq j i) [
-            | inl p ↦ subst (λ z. z < 2 ^ 61) (sym p) small
-            | inr p ↦ s.numbered j x (sym (others j p) ∙ e)
+            | inl p ↦ omega (arith, p, raised)
+            | inr p ↦ (let b = s.numbered j x (sym (others j p) ∙ e) in omega (arith, raised))
           ];
+          small = (let b = s.small in omega (arith, raised));
         }
 
   -- a spare slot is added
@@ -271,8 +275,8 @@ module _ {T : Type 0} where
         by_place (inr h) = ap used_of (others j h)
 
     -- the new slot comes first of the spare ones
-    pub spares-add : count_by is_some ys ≡ count_by is_some xs + 1 → count_by is_some ys < 2 ^ 61 → i < 2 ^ 61 → HasSpares xs free n → HasSpares ys (Some i) (n + 1)
-    spares-add more fits small s =
+    pub spares-add : count_by is_some ys ≡ count_by is_some xs + 1 → count_by is_some ys < 2 ^ 61 → i < 2 ^ 61 → {top : ℕ} → HasSpares xs free n top → (above : ℕ) → above ≡ max top (i + 1) → HasSpares ys (Some i) (n + 1) above
+    spares-add more fits small {top} s above raised =
         let a = s.all in
         let u = count-same (map used_of xs) (map used_of ys) same-add in
         let m : n + 1 ≡ suc n = omega arith in
@@ -281,9 +285,10 @@ module _ {T : Type 0} where
           all = omega arith;
           fits = fits;
           numbered = λ j x e. elim (cases_eq j i) [
-            | inl p ↦ subst (λ z. z < 2 ^ 61) (sym p) small
-            | inr p ↦ s.numbered j x (sym (others j p) ∙ e)
+            | inl p ↦ omega (arith, p, raised)
+            | inr p ↦ (let b = s.numbered j x (sym (others j p) ∙ e) in omega (arith, raised))
           ];
+          small = (let b = s.small in omega (arith, raised));
         }
 
 -- a store with a record written over

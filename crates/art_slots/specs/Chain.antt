@@ -1,5 +1,5 @@
 -- How slots lay out their records. No clause of another module cites this one.
-use Rattle.std.specs.Prelude.{◌≡◌, ◌+◌, ◌-◌, ◌<◌, ◌^◌, ℕ, zero, suc, List, map, Option, Some, None, is_some, count_by, slice_index_or, if◌then◌else◌, ltb}
+use Rattle.std.specs.Prelude.{◌≡◌, ◌+◌, ◌-◌, ◌<◌, ◌≤◌, ◌^◌, ℕ, zero, suc, List, map, Option, Some, None, is_some, count_by, slice_index_or, if◌then◌else◌, ltb}
 use Rattle.art_slots.specs.declared.slots.Slot.{Slot}
 use Rattle.art_slots.specs.declared.slots.Slot.TheVariants.{Used, Spare}
 
@@ -22,12 +22,13 @@ module _ {T : Type 0} where
       (id : ℕ) × (next : Option ℕ) × (from ≡ Some id) × (slice_index_or slots id None ≡ Some (Spare next))
       × AreLinked slots n next
 
-  -- so many spare slots are linked, and with the records they are all the slots, whose numbers are small
-  pub record HasSpares (slots : List (Option (Slot T))) (free : Option ℕ) (spare : ℕ) : Type 0 where
+  -- so many spare slots are linked, and with the records they are all the slots, whose numbers are below a small top
+  pub record HasSpares (slots : List (Option (Slot T))) (free : Option ℕ) (spare top : ℕ) : Type 0 where
     pub linked : AreLinked slots spare free
     pub all : count_by is_some (map used_of slots) + spare ≡ count_by is_some slots
     pub fits : count_by is_some slots < 2 ^ 61
-    pub numbered : (i : ℕ) (x : Slot T) → slice_index_or slots i None ≡ Some x → i < 2 ^ 61
+    pub numbered : (i : ℕ) (x : Slot T) → slice_index_or slots i None ≡ Some x → i < top
+    pub small : top ≤ 2 ^ 61
 
 -- how many slots more there can be with no memory, where there are so many and places for so many: none where a place's number may be too great
 abbrev pub room_of : (slots capacity : ℕ) → ℕ

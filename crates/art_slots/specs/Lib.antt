@@ -3,3 +3,5 @@ pub mod Slots
 pub mod Chain
 pub mod SlotLends
 pub mod Lends
+pub mod Table
+pub mod TableLends

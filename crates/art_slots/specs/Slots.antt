@@ -3,14 +3,22 @@ use Rattle.std.specs.Prelude.{ℕ, refl}
 use Rattle.std.specs.Coded.{Coded, code_by, coded×, coded_ℕ}
 use Rattle.art_slots.specs.Store.{Store, store_code, with_record}
 
--- the records and how many slots are spare, as a store, and how many slots more there can be with no memory
+-- the records and how many slots are spare, as a store, how many slots more there can be with no memory, a number above those of all slots, and that of the next new slot
 pub record Slots (T : Type 0) : Type 0 where
   pub store : Store T
   pub room : ℕ
+  pub top : ℕ
+  pub next : ℕ
 
--- slots are coded as the pair of these
+-- slots are coded as the tuple of these
 abbrev pub slots_code : {T : Type 0} → Coded T → Coded (Slots T)
-slots_code {T} code = code_by (Store T × ℕ) (coded× (store_code code) coded_ℕ) (λ s. (s.store, s.room)) (λ p. record { store = p.0; room = p.1 }) (λ _. refl)
+slots_code {T} code =
+    code_by
+    (Store T × (ℕ × (ℕ × ℕ)))
+    (coded× (store_code code) (coded× coded_ℕ (coded× coded_ℕ coded_ℕ)))
+    (λ s. (s.store, (s.room, (s.top, s.next))))
+    (λ p. record { store = p.0; room = p.1.0; top = p.1.1.0; next = p.1.1.1 })
+    (λ _. refl)
 
 -- the slots with another record at a number
 abbrev pub with_slot : {T : Type 0} → Slots T → ℕ → T → Slots T

@@ -3,7 +3,7 @@ ghost use Rattle.std.specs.Prelude.{◌≡◌, ◌<◌, ◌^◌};
 
 use std::marker::Model;
 
-/// The number of a leaf, less than 2^61. It stays while the leaf stands, whatever becomes of others. A contract sees the number.
+/// The number of a leaf, less than 2^61. It stays until the leaf goes or a pair is placed. A contract sees the number.
 #[derive(Clone, Copy, PartialEq, Eq)]
 pub struct LeafId {
     number: usize,

@@ -1,4 +1,4 @@
-//! Records under numbers, in the slots of a slab. A slot that a record leaves is spare, and serves a later record with no memory.
+//! Records under numbers, in the slots of a slab. A slot that a record leaves is spare, and serves a later record with no memory. In a [`Table`] whoever puts a record there names its number.
 //!
 //! A contract sees a [`Store`] as the record at each number, and how many spare slots there are.
 #![tactic(auto)]
@@ -6,8 +6,11 @@
 mod leaf_id;
 mod slots;
 mod store;
+mod table;
 mod visits;
 
 pub use leaf_id::LeafId;
+pub use slots::Slots;
 pub use store::Store;
+pub use table::Table;
 pub use visits::Visits;

@@ -1,5 +1,5 @@
 //! The slots of a store: the records and the spare slots, in a slab.
-ghost use Rattle.std.specs.Prelude.{◌≡◌, ◌≢◌, ℕ, ◌+◌, ◌^◌, ◌<◌, ◌≤◌, [], option_map, Some, None, IsSome, is_some, OnOk, IfOk};
+ghost use Rattle.std.specs.Prelude.{◌≡◌, ◌≢◌, ℕ, ◌+◌, ◌^◌, ◌<◌, ◌≤◌, max, [], option_map, Some, None, IsSome, is_some, OnOk, IfOk};
 ghost use Rattle.art_slots.specs.Store.{slot_at, used_count, SameRecords, AreClones};
 ghost use Rattle.art_slots.specs.Chain.{used_of};
 ghost use Rattle.std.specs.Borrow.{Lends, sem};
@@ -49,13 +49,15 @@ impl<T: Clone> Clone for Slot<T> {
 
 /// Records under numbers, in slots. A slot that a record leaves is spare, and names the next spare one. A contract sees the records and how many slots are spare as a store, and the room: how many slots more there can be with no memory.
 ///
-/// The room is the slab's, and none where a number of that slab may be too great.
+/// The room is the slab's, and none where a number of that slab may be too great. The number of each slot is less than the top.
 #[derive(Drop)]
-pub(crate) struct Slots<T> {
+pub struct Slots<T> {
     slab: Slab<Slot<T>>,
     // The first spare slot.
     free: Option<usize>,
     spare: usize,
+    // No slot has a number as great.
+    top: usize,
 }
 
 impl<T> Model for Slots<T> {
@@ -69,9 +71,9 @@ impl<T> Model for Slots<T> {
 
     ghost use Rattle.art_slots.specs.Chain.{used_of, HasSpares, room_of};
 
-    ghost view = { λ s. record { store = record { slots = map used_of s.slab.slots; spare = s.spare }; room = room_of (slab_len s.slab) s.slab.capacity } };
+    ghost view = { λ s. record { store = record { slots = map used_of s.slab.slots; spare = s.spare }; room = room_of (slab_len s.slab) s.slab.capacity; top = s.top; next = s.slab.vacant_key } };
 
-    ghost invariant = { λ s. HasSpares s.slab.slots s.free s.spare };
+    ghost invariant = { λ s. HasSpares s.slab.slots s.free s.spare s.top };
 }
 
 impl<T> Slots<T> {
@@ -82,12 +84,28 @@ impl<T> Slots<T> {
         ensures empty { result.store.slots ≡ [] }
         ensures spare { result.store.spare ≡ 0 }
         ensures room { result.room ≡ 0 }
+        ensures top { result.top ≡ 0 }
     {
         Slots {
             slab: Slab::new(alloc),
             free: None,
             spare: 0,
+            top: 0,
         }
+    }
+
+    /// A number that no slot has, nor a greater one.
+    pub fn top(&self) -> usize
+        ensures { result ≡ self.now.top }
+    {
+        self.top
+    }
+
+    /// The number of the next new slot.
+    pub fn next(&self) -> usize
+        ensures { result ≡ self.now.next }
+    {
+        self.slab.vacant_key()
     }
 
     /// How many slots are spare.
@@ -131,6 +149,7 @@ impl<T> Slots<T> {
     pub fn read(&self, id: usize) -> &T
         requires { IsSome (slot_at self.now.store id) }
         ensures value { slot_at self.now.store id ≡ Some result.now }
+        ensures below { id < self.now.top }
     {
         match self.slab.get(id) {
             Some(Slot::Used(record)) => record,
@@ -150,6 +169,7 @@ impl<T> Slots<T> {
         requires { IsSome (slot_at self.old.store id) }
         ensures* writes_back { sem 𝓛 (lends_slot T.row self.entry id result) }
         ensures value { slot_at self.old.store id ≡ Some result.now }
+        ensures below { id < self.old.top }
     {
         self.slab[id].record_mut()
     }
@@ -161,10 +181,12 @@ impl<T> Slots<T> {
         ensures used { used_count self.new.store ≡ used_count self.old.store }
         ensures spare { self.new.store.spare ≡ self.old.store.spare + 1 }
         ensures room { self.new.room + 1 ≡ self.old.room }
+        ensures top { self.new.top ≡ max self.old.top (self.old.next + 1) }
     {
         let id = self.slab.insert_reserved(Slot::Spare(self.free));
         self.free = Some(id);
         self.spare += 1;
+        self.top = above(self.top, id);
     }
 
     /// Makes so many new slots, spare ones.
@@ -184,6 +206,8 @@ impl<T> Slots<T> {
     pub fn grow(&mut self, count: usize) -> Result<(), AllocError>
         ensures same { self.new.store ≡ self.old.store }
         ensures room { OnOk result (count ≤ self.new.room) }
+        ensures top { self.new.top ≡ self.old.top }
+        ensures next { self.new.next ≡ self.old.next }
     {
         self.slab.reserve(count)?;
         if self.slab.capacity() > MOST {
@@ -199,11 +223,13 @@ impl<T: Clone> Slots<T> {
         ensures cloned { IfOk result (λ copy. AreClones T.is_clone self.now.store copy.store) }
         ensures used { IfOk result (λ copy. used_count copy.store ≡ used_count self.now.store) }
         ensures spare { IfOk result (λ copy. copy.store.spare ≡ self.now.store.spare) }
+        ensures top { IfOk result (λ copy. copy.top ≡ self.now.top) }
     {
         Ok(Slots {
             slab: self.slab.clone()?,
             free: self.free,
             spare: self.spare,
+            top: self.top,
         })
     }
 }
@@ -214,6 +240,8 @@ impl<T: Drop> Slots<T> {
     pub fn fill(&mut self, fresh: T) -> usize
         requires { 0 < self.old.store.spare }
         ensures small { result < 2 ^ 61 }
+        ensures below { result < self.old.top }
+        ensures top { self.new.top ≡ self.old.top }
         ensures fresh { slot_at self.old.store result ≡ None }
         ensures now { slot_at self.new.store result ≡ Some fresh }
         ensures others { (j : ℕ) → j ≢ result → slot_at self.new.store j ≡ slot_at self.old.store j }
@@ -246,7 +274,9 @@ impl<T: Drop> Slots<T> {
         ensures used { used_count self.new.store ≡ used_count self.old.store + 1 }
         ensures room { self.new.room + 1 ≡ self.old.room }
     {
-        self.slab.insert_reserved(Slot::Used(fresh))
+        let id = self.slab.insert_reserved(Slot::Used(fresh));
+        self.top = above(self.top, id);
+        id
     }
 
     /// Takes a record out, and makes its slot a spare one.
@@ -258,6 +288,7 @@ impl<T: Drop> Slots<T> {
         ensures spare { self.new.store.spare ≡ self.old.store.spare + 1 }
         ensures used { used_count self.new.store + 1 ≡ used_count self.old.store }
         ensures room { self.new.room ≡ self.old.room }
+        ensures top { self.new.top ≡ self.old.top }
     {
         match mem::replace(&mut self.slab[id], Slot::Spare(self.free)) {
             Slot::Used(record) => {
@@ -277,6 +308,7 @@ impl<T: Drop> Slots<T> {
         ensures spare { self.new.store.spare ≡ self.old.store.spare + 1 }
         ensures used { used_count self.new.store + 1 ≡ used_count self.old.store }
         ensures room { self.new.room ≡ self.old.room }
+        ensures top { self.new.top ≡ self.old.top }
     {
         self.slab[id] = Slot::Spare(self.free);
         self.free = Some(id);
@@ -288,9 +320,22 @@ impl<T: Drop> Slots<T> {
         ensures empty { self.new.store.slots ≡ [] }
         ensures spare { self.new.store.spare ≡ 0 }
         ensures room { self.old.room ≤ self.new.room }
+        ensures top { self.new.top ≡ 0 }
     {
         self.slab.clear();
         self.free = None;
         self.spare = 0;
+        self.top = 0;
     }
+}
+
+// The least number that is as great as another and greater than this one.
+fn above(top: usize, id: usize) -> usize
+    requires { id < 2 ^ 61 }
+    ensures { result ≡ max top (id + 1) }
+{
+    if top <= id {
+        return id + 1;
+    }
+    top
 }

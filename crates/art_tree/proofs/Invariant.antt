@@ -4,6 +4,7 @@ pub mod Counting
 pub mod EdgesAbove
 pub mod Exchanging
 pub mod Growing
+pub mod Led
 pub mod Losing
 pub mod Moving
 pub mod OneEdge

@@ -1,8 +1,10 @@
 pub mod Answers
 pub mod Bounds
 pub mod Branches
+pub mod Carried
 pub mod Changes
 pub mod Copies
+pub mod Crowded
 pub mod Filtering
 pub mod KeyChanges
 pub mod Keys
@@ -12,4 +14,5 @@ pub mod Numbers
 pub mod Outside
 pub mod Passing
 pub mod Placed
+pub mod Renumbered
 pub mod Turns

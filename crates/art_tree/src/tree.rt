@@ -1,10 +1,11 @@
 //! The tree.
-ghost use Rattle.std.specs.Prelude.{◌≡◌, ◌==◌, ◌+◌, ◌-◌, ◌<◌, ◌≤◌, ℕ, [], length, option_map, Some, None, OnOk, OnErr, IfSome};
+ghost use Rattle.std.specs.Prelude.{◌≡◌, ◌==◌, ◌+◌, ◌-◌, ◌<◌, ◌≤◌, ℕ, [], length, map, Some, OnOk, OnErr, IfSome};
 ghost use Rattle.std.specs.Borrow.{sem};
 ghost use Rattle.std.specs.FinSet as set;
 ghost use Rattle.blart_keys.specs.Content.{at, IsContent, IsPut};
+ghost use Rattle.blart_keys.specs.Steps.{bytes as pair_bytes};
 ghost use Rattle.blart_keys.specs.Fronts.{fronts, parts};
-ghost use Rattle.art_tree.specs.Leaves.{leaf_in, Has, AreDistinct, OthersStand, first_number, last_number, number_after, number_before, bytes};
+ghost use Rattle.art_tree.specs.Leaves.{leaf_in, Has, AreDistinct, first_number, last_number, number_after, number_before, bytes};
 ghost use Rattle.art_tree.specs.Content.{room, Fits, IsOpen};
 ghost use Rattle.art_tree.specs.Invariant.Sound.{IsSound};
 ghost use Rattle.art_tree.specs.Points.{IsGood};
@@ -200,15 +201,14 @@ impl<K: AsBytes + Drop, V: Drop, const PREFIX_LEN: usize> Tree<K, V, PREFIX_LEN>
         }
     }
 
-    /// Places a pair at a point that is good for its key and fits. Takes no memory. The number of each other leaf stays.
+    /// Places a pair at a point that is good for its key and fits. Takes no memory. Another leaf may have another number then.
     pub fn place(&mut self, point: Point, key: K, value: V) -> LeafId
         requires good { IsGood K.bytes self.old.pairs point (K.bytes key) }
         requires open { IsOpen point }
         requires fits { Fits self.old point }
-        ensures put { IsPut (bytes K.bytes) self.old.pairs (result, (key, value)) self.new.pairs }
-        ensures fresh { leaf_in self.old.pairs result ≡ None }
+        ensures put { IsPut (pair_bytes K.bytes) (map (λ p. p.1) self.old.pairs) (key, value)
+            (map (λ p. p.1) self.new.pairs) }
         ensures now { leaf_in self.new.pairs result ≡ Some (key, value) }
-        ensures others { OthersStand self.old.pairs self.new.pairs result }
         ensures room { room self.old ≤ room self.new + 1 }
     {
         let (id, root) = place_at(

@@ -4,13 +4,18 @@ use Rattle.blart_keys.specs.Content.{IsContent}
 use Rattle.blart_keys.proofs.ContentLemmas.{empty_content}
 use Rattle.blart_keys.proofs.RankLemmas.{Member}
 use Rattle.art_tree.specs.Begins.{Bytes}
-use Rattle.art_tree.specs.Leaves.{Numbered, Leaves, keys_in, bytes}
+use Rattle.art_tree.specs.Leaves.{Numbered, Leaves, leaf_in, Has, AreDistinct, with_number, keys_in, bytes}
 use Rattle.art_tree.specs.Longest.{longest}
 use Rattle.art_kinds.specs.Nodes.{Nodes, Node, at, SameNodes}
+use Rattle.art_tree.specs.Invariant.EdgesAbove.{LeadsTo, TurnsTo}
 use Rattle.art_tree.specs.Invariant.Shape.{Shape}
 use Rattle.art_tree.specs.Invariant.Sound.{IsSound}
 use Rattle.art_kinds.specs.declared.records.ids.Child.{Child}
+use Rattle.art_kinds.specs.declared.records.ids.Child.TheVariants.{Leaf}
+use Rattle.blart_keys.proofs.Options.{some_of}
 use Rattle.art_tree.proofs.Pairs.Keys.{member_of_key}
+use Rattle.art_tree.proofs.Pairs.Renumbered.{content_renumbered, renumbers_from}
+use Rattle.art_tree.proofs.Invariant.Led.{leaf_led}
 use Rattle.art_tree.proofs.Invariant.SameShapes.{renoded, rekeyed}
 use Rattle.art_tree.proofs.Invariant.SmallShapes.{shape_empty}
 
@@ -32,6 +37,18 @@ module _ {K V : Type 0} (key_bytes : K → List ℕ) where
   -- so are other values of the same keys
   pub sound_over : {P : ℕ} → (leaves leaves' : Leaves K V) (nodes : Nodes) (root : Option Child) → IsSound key_bytes P leaves nodes root → IsContent (bytes key_bytes) leaves'.pairs → ((j : ℕ) → keys_in key_bytes leaves'.pairs j ≡ keys_in key_bytes leaves.pairs j) → IsSound key_bytes P leaves' nodes root
   sound_over leaves leaves' nodes root s content same = record { content = content; shape = rekeyed (keys_in key_bytes leaves.pairs) (keys_in key_bytes leaves'.pairs) (at nodes) root s.shape same }
+
+  -- so are the pairs, one of them under a fresh number in its place, where the edge to its leaf leads to that
+  pub sound_led : {P : ℕ} → (leaves leaves' : Leaves K V) (nodes nodes' : Nodes) (root root' : Option Child) (i j : ℕ) (above : Option (ℕ × ℕ)) → IsSound key_bytes P leaves nodes root → AreDistinct leaves.pairs → Has leaves.pairs i → leaf_in leaves.pairs j ≡ None → leaves'.pairs ≡ with_number leaves.pairs i j
+      → LeadsTo (at nodes) root above (Leaf i) → TurnsTo (at nodes) (at nodes') root root' above (Leaf j) → IsSound key_bytes P leaves' nodes' root'
+  sound_led {P} leaves leaves' nodes nodes' root root' i j above s d has fresh e leads turns =
+      let x = some_of (leaf_in leaves.pairs i) has in
+      let keys : ℕ → Option Bytes = keys_in key_bytes (with_number leaves.pairs i j) in
+      let shape = leaf_led (keys_in key_bytes leaves.pairs) (at nodes) root s.shape i keys (at nodes') root' j above (renumbers_from key_bytes leaves.pairs i j x.0 d x.1 fresh) leads turns in
+      record {
+        content = subst (IsContent (bytes key_bytes)) (sym e) (content_renumbered key_bytes leaves.pairs i j s.content);
+        shape = subst (λ (S : List (Numbered K V)). Shape P (keys_in key_bytes S) (at nodes') root') (sym e) shape;
+      }
 
   -- where no number has a key there are no pairs
   pub no_pairs : (S : List (Numbered K V)) → ((j : ℕ) → keys_in key_bytes S j ≡ None) → S ≡ []

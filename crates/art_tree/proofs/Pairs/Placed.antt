@@ -1,12 +1,14 @@
 -- The pairs with one more.
-use Rattle.std.proofs.Common.{◌≡◌, ◌≢◌, ℕ, List, [], refl, ap, sym, subst, Option, Some, None, ◌∙◌, false, option_map}
-use Rattle.std.specs.Prelude.{IfSome}
+use Rattle.std.proofs.Common.{◌≡◌, ◌≢◌, ℕ, List, [], refl, ap, sym, subst, Option, Some, None, ◌∙◌, false}
+use Rattle.std.specs.Prelude.{IfSome, map}
 use Rattle.blart_keys.specs.Bytes.{related}
-use Rattle.blart_keys.specs.Content.{IsContent}
+use Rattle.blart_keys.specs.Content.{IsContent, IsPut}
+use Rattle.blart_keys.specs.Steps.{bytes as pair_bytes}
+use Rattle.blart_keys.proofs.Mapped.{put_map}
 use Rattle.art_tree.specs.Begins.{Bytes}
 use Rattle.art_tree.specs.Places.{LeavesNearest, IsLeafBefore, IsBeside, neighbour, number_before_place}
-use Rattle.art_tree.specs.Calls.Placing.{IsSpotFor, TreeGains, Places}
-use Rattle.art_tree.specs.Leaves.{Leaves, Numbered, leaf_in, Has, AreDistinct, with_pair_after, bytes, keys_in}
+use Rattle.art_tree.specs.Calls.Placing.{IsSpotFor, IsToJoin, TreeGains, PutsPair}
+use Rattle.art_tree.specs.Leaves.{Leaves, Numbered, leaf_in, Has, AreDistinct, OthersStand, with_pair_after, bytes, keys_in}
 use Rattle.art_kinds.specs.Nodes.{Nodes, Node, at}
 use Rattle.art_tree.specs.Points.{IsFree}
 use Rattle.art_tree.specs.Invariant.Shape.{Shape}
@@ -27,6 +29,13 @@ use Rattle.blart_keys.proofs.Options.{is_some}
 use Rattle.art_tree.proofs.Pairs.Keys.{pair_of_key, has_key}
 use Rattle.art_tree.proofs.Invariant.SameShapes.{rooted}
 use Rattle.art_tree.proofs.Invariant.SmallShapes.{first_key}
+
+-- the pair was put under a fresh number, and each other number names what it named
+pub record Places {K V : Type 0} (key_bytes : K → Bytes) (old new : List (Numbered K V)) (i : ℕ) (x : K × V) : Type 0 where
+  pub put : IsPut (bytes key_bytes) old (i, x) new
+  pub fresh : leaf_in old i ≡ None
+  pub now : leaf_in new i ≡ Some x
+  pub others : OthersStand old new i
 
 -- a tree with no key has no root
 pub no_root : {P : ℕ} → (keys : ℕ → Option Bytes) (nodes : ℕ → Option Node) (root : Option Child) → Shape P keys nodes root → ((j : ℕ) → keys j ≡ None) → root ≡ None
@@ -97,50 +106,50 @@ module _ {K V : Type 0} (key_bytes : K → Bytes) where
   has_beside pairs q (AfterLeaf i) st = has_key key_bytes pairs i st.key st.is
   has_beside pairs q (BeforeLeaf i) st = has_key key_bytes pairs i st.key st.is
 
-  module _ (old new : List (Numbered K V)) (i : ℕ) (x : K × V) (p : Places key_bytes old new i x) where
-    -- what a number names it names then
-    pub kept_pair : (j : ℕ) (y : K × V) → leaf_in old j ≡ Some y → leaf_in new j ≡ Some y
-    kept_pair j y e =
-        let off : j ≢ i = λ z. (let a : leaf_in old i ≡ Some y = ap (leaf_in old) (sym z) ∙ e in let b : leaf_in old i ≡ None = p.fresh in absurd cc) in
-        p.others j off ∙ e
+  -- a pair under a fresh number is a pair put, also among pairs of other numbers
+  pub puts_pair : (old mid new : List (Numbered K V)) (i : ℕ) (x : K × V) → map (λ p. p.1) mid ≡ map (λ p. p.1) old → Places key_bytes mid new i x → PutsPair key_bytes old new i x
+  puts_pair old mid new i x same p = record {
+    put = subst (λ (S : List (K × V)). IsPut (pair_bytes key_bytes) S x (map (λ p. p.1) new)) same (put_map (λ p. p.1) (pair_bytes key_bytes) mid new (i, x) p.put);
+    now = p.now;
+  }
 
-    module _ {P : ℕ} (nodes : ℕ → Option Node) (root : Child) (s : Shape P (keys_in key_bytes old) nodes (Some root)) (place : Place) (free : IsFree key_bytes old place (key_bytes x.0)) (y y' z : K × V)
-        (nearest_was : leaf_in old place.nearest ≡ Some y) (nearest_is : leaf_in new place.nearest ≡ Some y') (own_is : leaf_in new i ≡ Some z) (k m m' : Bytes) (k_is : k ≡ key_bytes z.0) (m_is : m ≡ key_bytes y.0) (m'_is : m' ≡ key_bytes y'.0)
-        (spot : Spot) (found : keys_in key_bytes old place.nearest ≡ Some m → SpotFits nodes (Some root) s.front_of m place.depth spot) where
-      own_key : k ≡ key_bytes x.0
-      own_key =
-          let a : leaf_in new i ≡ Some x = p.now in
-          let b : z ≡ x = cc in
-          k_is ∙ ap (λ (z : K × V). key_bytes z.0) b
+  -- the new leaf is to join the tree
+  pub joins : {P : ℕ} → (leaves : Leaves K V) (nodes : Nodes) (root : Child) (new : List (Numbered K V)) (nearest depth i : ℕ) (x : K × V) → IsSound key_bytes P leaves nodes (Some root) → LeavesNearest (keys_in key_bytes leaves.pairs) nearest depth (key_bytes x.0)
+      → Places key_bytes leaves.pairs new i x → IsToJoin P (keys_in key_bytes new) (at nodes) root nearest depth i
+  joins leaves nodes root new nearest depth i x sound good p = record {
+    rest = keys_in key_bytes leaves.pairs;
+    shape = sound.shape;
+    key = key_bytes x.0;
+    leaves = good;
+    gains = places_gain leaves.pairs new i x p;
+  }
 
-      same_nearest : m' ≡ m
-      same_nearest =
-          let a : leaf_in new place.nearest ≡ Some y = kept_pair place.nearest y nearest_was in
-          let b : y' ≡ y = cc in
-          m'_is ∙ ap (λ (y : K × V). key_bytes y.0) b ∙ sym m_is
+module _ {P : ℕ} (keys : ℕ → Option Bytes) (nodes : ℕ → Option Node) (root : Child) (nearest depth i : ℕ) (new : IsToJoin P keys nodes root nearest depth i) where
+  -- the nearest leaf is another
+  another : nearest ≢ i
+  another e = let a : new.rest i ≡ Some new.leaves.nearest_key = ap new.rest (sym e) ∙ new.leaves.nearest_is in let b : new.rest i ≡ None = new.gains.fresh in let z : None ≡ Some new.leaves.nearest_key = sym b ∙ a in cc
 
-      nearest_key : keys_in key_bytes old place.nearest ≡ Some m
-      nearest_key = ap (option_map (λ (x : K × V). key_bytes x.0)) nearest_was ∙ ap Some (sym m_is)
+  -- it has its key
+  pub has_nearest : keys nearest ≡ Some new.leaves.nearest_key
+  has_nearest = new.gains.others nearest another ∙ new.leaves.nearest_is
 
-      leaves : LeavesNearest (keys_in key_bytes old) place.nearest place.depth k
-      leaves = subst (λ (k : Bytes). LeavesNearest (keys_in key_bytes old) place.nearest place.depth k) (sym own_key) free.leaves
+  module _ (k m : Bytes) (own : keys i ≡ Some k) (near : keys nearest ≡ Some m) where
+    own_key : new.key ≡ k
+    own_key = let a : keys i ≡ Some new.key = new.gains.has in cc
 
-      fits : SpotFits nodes (Some root) s.front_of m' place.depth spot
-      fits = subst (λ (m : Bytes). SpotFits nodes (Some root) s.front_of m place.depth spot) (sym same_nearest) (found nearest_key)
+    -- the nearest key was there before
+    pub near_rest : new.rest nearest ≡ Some m
+    near_rest = sym (new.gains.others nearest another) ∙ near
 
-      -- a key at a free place leaves the nearest key at the spot that was found
-      pub free_spot : IsSpotFor P nodes root spot k m' place.depth
-      free_spot = record {
-        keys = keys_in key_bytes old;
-        shape = s;
-        leaf = place.nearest;
-        is = nearest_key ∙ ap Some (sym same_nearest);
-        leaves = leaves;
-        fits = fits;
-      }
+    -- the key leaves it
+    pub leaves_near : LeavesNearest new.rest nearest depth k
+    leaves_near = subst (λ (k : Bytes). LeavesNearest new.rest nearest depth k) own_key new.leaves
+
+    module _ (spot : Spot) (fits : SpotFits nodes (Some root) new.shape.front_of m depth spot) where
+      -- at the spot that was found
+      pub new_spot : IsSpotFor P nodes root spot k m depth
+      new_spot = record { keys = new.rest; shape = new.shape; leaf = nearest; is = near_rest; leaves = leaves_near; fits = fits }
 
       -- and the tree has it when it was added there
-      pub free_gains : (nodes' : ℕ → Option Node) (root' : Child) → TreeGains P nodes nodes' root root' spot k m' place.depth i → Shape P (keys_in key_bytes new) nodes' (Some root')
-      free_gains nodes' root' joined =
-          joined (keys_in key_bytes old) (keys_in key_bytes new) s place.nearest (nearest_key ∙ ap Some (sym same_nearest)) leaves fits
-          (subst (λ (k : Bytes). Gains (keys_in key_bytes old) (keys_in key_bytes new) i k) (sym own_key) (places_gain old new i x p))
+      pub new_shape : (nodes' : ℕ → Option Node) (root' : Child) → TreeGains P nodes nodes' root root' spot k m depth i → Shape P keys nodes' (Some root')
+      new_shape nodes' root' joined = joined new.rest keys new.shape nearest near_rest leaves_near fits (subst (λ (k : Bytes). Gains new.rest keys i k) own_key new.gains)

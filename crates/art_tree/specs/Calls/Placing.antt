@@ -1,10 +1,11 @@
 -- How a leaf joins the tree.
-use Rattle.std.specs.Prelude.{◌≡◌, ◌≢◌, ◌<◌, ◌≤◌, ◌⊎◌, ℕ, List, take, slice_range, length, Option, Some, None}
+use Rattle.std.specs.Prelude.{◌≡◌, ◌≢◌, ◌<◌, ◌≤◌, ◌⊎◌, ℕ, List, map, take, slice_range, length, Option, Some, None}
 use Rattle.blart_keys.specs.Content.{IsPut}
+use Rattle.blart_keys.specs.Steps.{bytes as pair_bytes}
 use Rattle.art_tree.specs.Begins.{Bytes}
 use Rattle.art_tree.specs.Content.{Content}
 use Rattle.art_tree.specs.Places.{LeavesNearest}
-use Rattle.art_tree.specs.Leaves.{Leaves, Numbered, leaf_in, OthersStand, bytes, room as leaves_room}
+use Rattle.art_tree.specs.Leaves.{Leaves, Numbered, leaf_in, room as leaves_room}
 use Rattle.art_kinds.specs.Edges.{child_at}
 use Rattle.art_kinds.specs.Nodes.{Node, Nodes, Makes, room}
 use Rattle.art_tree.specs.Invariant.Shape.{Shape}
@@ -72,9 +73,15 @@ KeepsFrom P nodes (Inner n) key from = (x : Node) → nodes n ≡ Some x → x.p
 abbrev pub content_of : {K V : Type 0} → Leaves K V → Nodes → Content K V
 content_of leaves nodes = record { pairs = leaves.pairs; spares = record { leaves = leaves_room leaves; nodes = room nodes } }
 
--- the pair was put under a fresh number, and each other number names what it named
-pub record Places {K V : Type 0} (key_bytes : K → List ℕ) (old new : List (Numbered K V)) (i : ℕ) (x : K × V) : Type 0 where
-  pub put : IsPut (bytes key_bytes) old (i, x) new
-  pub fresh : leaf_in old i ≡ None
+-- the leaf i is to join the tree: that has the other keys, and the leaf's key leaves the nearest of them at a depth
+pub record IsToJoin (P : ℕ) (keys : ℕ → Option Bytes) (nodes : ℕ → Option Node) (root : Child) (nearest depth i : ℕ) : Type 0 where
+  pub rest : ℕ → Option Bytes
+  pub shape : Shape P rest nodes (Some root)
+  pub key : Bytes
+  pub leaves : LeavesNearest rest nearest depth key
+  pub gains : Gains rest keys i key
+
+-- the pair was put under this number; another number may be another now
+pub record PutsPair {K V : Type 0} (key_bytes : K → List ℕ) (old new : List (Numbered K V)) (i : ℕ) (x : K × V) : Type 0 where
+  pub put : IsPut (pair_bytes key_bytes) (map (λ p. p.1) old) x (map (λ p. p.1) new)
   pub now : leaf_in new i ≡ Some x
-  pub others : OthersStand old new i

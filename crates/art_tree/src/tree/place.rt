@@ -1,13 +1,13 @@
 //! A leaf joins the tree.
-ghost use Rattle.std.specs.Prelude.{◌≡◌, ◌≢◌, ℕ, ◌+◌, ◌-◌, ◌^◌, ◌<◌, ◌≤◌, [], length, take, slice_range, slice_index_or, true, Option, Some, IfSome};
+ghost use Rattle.std.specs.Prelude.{◌≡◌, ◌≢◌, ℕ, ◌+◌, ◌-◌, ◌^◌, ◌<◌, ◌≤◌, [], length, take, slice_range, slice_index_or, true, Option, Some, IfSome, eqb, if◌then◌else◌};
 ghost use Rattle.art_tree.specs.Begins.{Bytes};
 ghost use Rattle.art_tree.specs.Invariant.Shape.{Shape};
 ghost use Rattle.art_tree.specs.Calls.Spots.{SpotFits};
 ghost use Rattle.art_tree.specs.Invariant.EdgesAbove.{LeadsTo, TurnsTo, AscendsAt};
 ghost use Rattle.art_tree.specs.Content.{Fits, IsOpen, room as places};
-ghost use Rattle.art_tree.specs.Calls.Placing.{IsSpotFor, HasNearest, IsOverLeaf, TreeGains, Forks, DepthWithin, KeepsFrom, Places, content_of};
+ghost use Rattle.art_tree.specs.Calls.Placing.{IsSpotFor, HasNearest, IsOverLeaf, IsToJoin, TreeGains, Forks, DepthWithin, KeepsFrom, PutsPair, content_of};
 ghost use Rattle.art_kinds.specs.Nodes.{at, room, FitsNew, SameSpares};
-ghost use Rattle.art_tree.specs.Leaves.{room as leaves_room};
+ghost use Rattle.art_tree.specs.Leaves.{keys_in, room as leaves_room};
 ghost use Rattle.art_tree.specs.Calls.Removing.{StartsBelow, EndsBelow, Cuts};
 ghost use Rattle.art_tree.specs.Points.{IsFree, IsGood};
 ghost use Rattle.art_tree.specs.Invariant.Sound.{IsSound};
@@ -17,6 +17,7 @@ ghost use Rattle.art_kinds.specs.declared.records.ids.Child.TheVariants.{Inner};
 use crate::tree::descent::{EdgeAbove, Spot, locate};
 use crate::tree::parting::leaf_before;
 use crate::tree::point::{Place, Point};
+use crate::tree::remove::spot_of;
 use art_kinds::{Child, Edge, NodeId, Nodes};
 use art_rows::{Leaves, Position};
 use art_slots::{LeafId, Visits};
@@ -44,7 +45,7 @@ pub(crate) fn place_at<K: AsBytes + Drop, V: Drop, const P: usize>(
     requires good { IsGood K.bytes leaves.old.pairs point.now (K.bytes key) }
     requires open { IsOpen point.now }
     requires fits { Fits (content_of leaves.old nodes.old) point.now }
-    ensures placed { Places K.bytes leaves.old.pairs leaves.new.pairs result.0 (key, value) }
+    ensures placed { PutsPair K.bytes leaves.old.pairs leaves.new.pairs result.0 (key, value) }
     ensures whole { IsSound K.bytes P leaves.new nodes.new (Some result.1) }
     ensures room { places (content_of leaves.old nodes.old)
         ≤ places (content_of leaves.new nodes.new) + 1 }
@@ -70,7 +71,7 @@ fn place_first<K: AsBytes + Drop, V: Drop, const P: usize>(
     requires whole { IsSound K.bytes P leaves.old nodes.now root.now }
     requires empty { leaves.old.pairs ≡ [] }
     requires room { 0 < leaves_room leaves.old }
-    ensures placed { Places K.bytes leaves.old.pairs leaves.new.pairs result.0 (key, value) }
+    ensures placed { PutsPair K.bytes leaves.old.pairs leaves.new.pairs result.0 (key, value) }
     ensures whole { IsSound K.bytes P leaves.new nodes.now (Some result.1) }
     ensures room { leaves_room leaves.old ≤ leaves_room leaves.new + 1 }
 {
@@ -91,17 +92,55 @@ fn place_beside<K: AsBytes + Drop, V: Drop, const P: usize>(
     requires free { IsFree K.bytes leaves.old.pairs place.now (K.bytes key) }
     requires leaves_room { 0 < leaves_room leaves.old }
     requires nodes_room { 0 < room nodes.old }
-    ensures placed { Places K.bytes leaves.old.pairs leaves.new.pairs result.0 (key, value) }
+    ensures placed { PutsPair K.bytes leaves.old.pairs leaves.new.pairs result.0 (key, value) }
     ensures whole { IsSound K.bytes P leaves.new nodes.new (Some result.1) }
     ensures leaves_room { leaves_room leaves.old ≤ leaves_room leaves.new + 1 }
     ensures nodes_room { room nodes.old ≤ room nodes.new + 1 }
 {
     leaves.law();
+    let (prev, mut seen) = leaf_before(leaves, &place.beside);
+    // The prover takes an `Option<LeafId>` that is passed on as moved, so this is a copy.
+    let after = prev;
+    let Some(last) = leaves.crowd(after, &mut seen) else {
+        let id = leaves.insert(prev, seen, key, value);
+        let top = join(leaves, nodes, root, place, id);
+        return (id, top);
+    };
+    let spot = spot_of(leaves, nodes, &Some(*root), &last);
+    let (id, moved) = leaves.insert_crowded(prev, seen, last, key, value);
+    let led = lead(nodes, root, &spot.edge, &Child::Leaf(moved));
+    let top = join(leaves, nodes, &led, &renumbered(place, last, moved), id);
+    (id, top)
+}
+
+// A place after a leaf's number became another.
+fn renumbered(place: &Place, was: LeafId, now: LeafId) -> Place
+    ensures nearest { result.nearest ≡ (if eqb place.now.nearest was then now else place.now.nearest) }
+    ensures depth { result.depth ≡ place.now.depth }
+{
+    let nearest = if place.nearest == was {
+        now
+    } else {
+        place.nearest
+    };
+    Place { nearest, ..*place }
+}
+
+// Leads the tree to a leaf whose key leaves the nearest one at a place. Answers the root.
+fn join<K: AsBytes, V, const P: usize>(
+    leaves: &Leaves<K, V>,
+    nodes: &mut Nodes<P>,
+    root: &Child,
+    place: &Place,
+    id: LeafId,
+) -> Child
+    requires joins { IsToJoin P (keys_in K.bytes leaves.now.pairs) (at nodes.old) root.now
+        place.now.nearest place.now.depth id }
+    requires room { 0 < room nodes.old }
+    ensures shape { Shape P (keys_in K.bytes leaves.now.pairs) (at nodes.new) (Some result) }
+    ensures room { room nodes.old ≤ room nodes.new + 1 }
+{
     let mut visits = Visits::new();
-    let (nearest, _) = leaves.read(place.nearest, &mut visits);
-    let spot = spot_for(nodes, root, place, key.as_bytes(), nearest.as_bytes());
-    let (prev, seen) = leaf_before(leaves, &place.beside);
-    let id = leaves.insert(prev, seen, key, value);
     let (own, _) = leaves.read(id, &mut visits);
     let (nearest, _) = leaves.read(place.nearest, &mut visits);
     let leaf = NewLeaf {
@@ -110,8 +149,8 @@ fn place_beside<K: AsBytes + Drop, V: Drop, const P: usize>(
         nearest: nearest.as_bytes(),
         depth: place.depth,
     };
-    let top = add_leaf(nodes, root, &spot, &leaf);
-    (id, top)
+    let spot = spot_for(nodes, root, place, leaf.key, leaf.nearest);
+    add_leaf(nodes, root, &spot, &leaf)
 }
 
 // Where a key leaves the nearest key at the depth of a place: at the end of the place's edge, where that shows, or else at the end of a way down.

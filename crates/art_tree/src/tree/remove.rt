@@ -75,8 +75,8 @@ fn spot_at<K: AsBytes, V, const P: usize>(
     }
 }
 
-// Where a leaf is.
-fn spot_of<K: AsBytes, V, const P: usize>(
+/// Where a leaf is.
+pub(crate) fn spot_of<K: AsBytes, V, const P: usize>(
     leaves: &Leaves<K, V>,
     nodes: &Nodes<P>,
     root: &Option<Child>,

@@ -17,7 +17,7 @@ use Rattle.blart_keys.proofs.ContentLemmas.{Before, Ranked-from_content, empty_c
 use Rattle.blart_keys.proofs.PutLemmas.{put_at, put_member}
 use Rattle.blart_keys.proofs.Options.{some_of}
 use Rattle.blart_keys.proofs.Mapped.{find-map, put_map, Member-map}
-use Rattle.art_tree.specs.Leaves.{Numbered, leaf_in, Has, AreDistinct, Lacks, last_number, with_value, with_pair_after, bytes}
+use Rattle.art_tree.specs.Leaves.{Numbered, leaf_in, AreDistinct, Lacks, last_number, with_value, with_pair_after, bytes}
 use Rattle.art_tree.proofs.CallerLemmas.{Has-last, has_not_lacks, Member-from_leaf_in, with_value-split}
 use Rattle.art_walk.specs.Pairs.{pairs_of}
 use Rattle.art_walk.proofs.Steps.{no_last}
@@ -51,21 +51,19 @@ module _ {K V : Type 0} where
   after_last id x y (p ∷ before) l = rw (ne_eqb p.0 id l.0) (ap (λ s. p ∷ s) (after_last id x y before l.1))
 
   -- a pair after the last of all comes at the end
-  at_end : (ps : List (Numbered K V)) (o : Option ℕ) (y : Numbered K V) → AreDistinct ps → o ≡ last_number ps → with_pair_after o y ps ≡ ps ++ y ∷ []
-  at_end ps None y d e = let none = no_last ps (sym e) in ap (λ l. y ∷ l) none ∙ ap (λ l. l ++ y ∷ []) (sym none)
-  at_end ps (Some id) y d e =
-      let leaf = some_of (leaf_in ps id) (Has-last ps id (sym e)) in
-      let cut = ends ps id leaf.0 d (sym e) leaf.1 in
-      ap (with_pair_after (Some id) y) cut.is ∙ after_last id leaf.0 y cut.before cut.lacks ∙ ap (λ l. l ++ y ∷ []) (sym cut.is)
+  at_end : (ps : List (Numbered K V)) (y : Numbered K V) → AreDistinct ps → with_pair_after (last_number ps) y ps ≡ ps ++ y ∷ []
+  at_end ps y d = from (last_number ps) refl
+    where
+      from : (o : Option ℕ) → last_number ps ≡ o → with_pair_after o y ps ≡ ps ++ y ∷ []
+      from None e = let none = no_last ps e in ap (λ l. y ∷ l) none ∙ ap (λ l. l ++ y ∷ []) (sym none)
+      from (Some id) e =
+          let leaf = some_of (leaf_in ps id) (Has-last ps id e) in
+          let cut = ends ps id leaf.0 d e leaf.1 in
+          ap (with_pair_after (Some id) y) cut.is ∙ after_last id leaf.0 y cut.before cut.lacks ∙ ap (λ l. l ++ y ∷ []) (sym cut.is)
 
   -- and so among the pairs
-  pub pushed : (ps ns : List (Numbered K V)) (o : Option ℕ) (n : ℕ) (x : K × V) → AreDistinct ps → o ≡ last_number ps → ns ≡ with_pair_after o (n, x) ps → pairs_of ns ≡ pairs_of ps ++ x ∷ []
-  pushed ps ns o n x d last e = ap pairs_of (e ∙ at_end ps o (n, x) d last) ∙ map-append (λ (p : Numbered K V). p.1) ps ((n, x) ∷ [])
-
-  -- the last number is that of a pair
-  pub last_has : (ps : List (Numbered K V)) (o : Option ℕ) → o ≡ last_number ps → IfSome o (Has ps)
-  last_has ps None e = tt
-  last_has ps (Some id) e = Has-last ps id (sym e)
+  pub pushed : (ps ns : List (Numbered K V)) (n : ℕ) (x : K × V) → AreDistinct ps → ns ≡ with_pair_after (last_number ps) (n, x) ps → pairs_of ns ≡ pairs_of ps ++ x ∷ []
+  pushed ps ns n x d e = ap pairs_of (e ∙ at_end ps (n, x) d) ∙ map-append (λ (p : Numbered K V). p.1) ps ((n, x) ∷ [])
 
 -- ---- what is put
 
@@ -84,12 +82,12 @@ module _ {K V : Type 0} (kb : K → List ℕ) (ps : List (Numbered K V)) (key : 
       (subst (λ w. IsPut (pair_bytes kb) (pairs_of ps) (kept_pair w (key, v)) (pairs_of ns)) (sym found) (put_map (λ p. p.1) (pair_bytes kb) ps ns _ put), put.content)
 
   -- where there are no pairs
-  pub first_put : None ≡ last_number ps → (ns : List (Numbered K V)) (n : ℕ) → ns ≡ with_pair_after None (n, (key, v)) ps → Puts ns
+  pub first_put : None ≡ last_number ps → (ns : List (Numbered K V)) (n : ℕ) → ns ≡ with_pair_after (last_number ps) (n, (key, v)) ps → Puts ns
   first_put last ns n e =
       let y : Numbered K V = (n, (key, v)) in
       let none = no_last ps (sym last) in
       let put = put_between (bytes kb) [] [] y (empty_content (bytes kb)) (λ y m. absurd m) (λ y m. absurd m) in
-      puts ns None n (ap (λ l. at (bytes kb) l q) none) (subst₂ (λ S T. IsPut (bytes kb) S y T) (sym none) (sym (e ∙ ap (λ l. y ∷ l) none)) put)
+      puts ns None n (ap (λ l. at (bytes kb) l q) none) (subst₂ (λ S T. IsPut (bytes kb) S y T) (sym none) (sym (e ∙ ap (λ l. with_pair_after (last_number l) y l) none)) put)
 
   module _ (content : IsContent (bytes kb) ps) (distinct : AreDistinct ps) (id : ℕ) (last : Some id ≡ last_number ps) where
     -- the pair of the last number
@@ -129,11 +127,11 @@ module _ {K V : Type 0} (kb : K → List ℕ) (ps : List (Numbered K V)) (key : 
         | inr (inr n) ↦ absurd n
       ]
 
-      pub new_put : (ns : List (Numbered K V)) (n : ℕ) → ns ≡ with_pair_after (Some id) (n, (key, v)) ps → Puts ns
+      pub new_put : (ns : List (Numbered K V)) (n : ℕ) → ns ≡ with_pair_after (last_number ps) (n, (key, v)) ps → Puts ns
       new_put ns n e =
           let y : Numbered K V = (n, (key, v)) in
           let put = put_between (bytes kb) ps [] y (subst (IsContent (bytes kb)) (sym (append-nil ps)) content) all_below (λ y m. absurd m) in
-          let is : ns ≡ ps ++ y ∷ [] = e ∙ at_end ps (Some id) y distinct last in
+          let is : ns ≡ ps ++ y ∷ [] = e ∙ at_end ps y distinct in
           let none : at (bytes kb) ps q ≡ None = alone_none (bytes kb) ps q (λ z m. related-from_PartsBelow (bytes kb z) q (all_below z m)) in
           puts ns None n none (subst₂ (λ S T. IsPut (bytes kb) S y T) (append-nil ps) (sym is) put)
 

@@ -20,7 +20,7 @@ use Rattle.art_tree.specs.declared.tree.point.Point.TheVariants.{Empty, Exact, R
 use Rattle.art_tree.proofs.CallerLemmas.{leaf_in-member, Member-from_leaf_in, free_alone}
 use Rattle.blart_keys.proofs.Options.{is_some}
 use Rattle.art_walk.specs.Pairs.{pairs_of}
-use Rattle.blart_keys.proofs.Mapped.{find-map, list_any-map, content_map, put_map}
+use Rattle.blart_keys.proofs.Mapped.{find-map, list_any-map, content_map}
 use Rattle.blart_map.proofs.Numbers.{cut_at, cut_pairs, exchanged_pairs}
 
 -- at these points a pair may be placed
@@ -102,13 +102,12 @@ module _ {K V : Type 0} (kb : K → Bytes) (ps : List (Numbered K V)) where
 
     module _ (distinct : AreDistinct ps) (x : K × V) where
       -- a pair placed where none is related is put
-      pub placed : ((y : Numbered K V) → Member y ps → related (bytes kb y) (kb x.0) ≡ false) → (old new : List (Numbered K V)) (id : ℕ) → old ≡ ps → IsPut (bytes kb) old (id, x) new → Puts kb (λ pair. pair) (pairs_of ps) x x (Ok None) (pairs_of new)
-      placed alone old new id e put =
-          let p = put_map (λ p. p.1) (pair_bytes kb) ps new (id, x) (subst (λ S. IsPut (bytes kb) S (id, x) new) e put) in (
-            conflict_pairs (kb x.0) ∙ alone_no_conflict (bytes kb) ps (kb x.0) alone,
-            p,
-            sym (find-map (λ p. p.1) (λ y. bytes_eq (kb y.0) (kb x.0)) ps ∙ ap (option_map (λ p. p.1)) (alone_none (bytes kb) ps (kb x.0) alone)),
-          )
+      pub placed : ((y : Numbered K V) → Member y ps → related (bytes kb y) (kb x.0) ≡ false) → (old new : List (Numbered K V)) → old ≡ ps → IsPut (pair_bytes kb) (pairs_of old) x (pairs_of new) → Puts kb (λ pair. pair) (pairs_of ps) x x (Ok None) (pairs_of new)
+      placed alone old new e put = (
+        conflict_pairs (kb x.0) ∙ alone_no_conflict (bytes kb) ps (kb x.0) alone,
+        subst (λ S. IsPut (pair_bytes kb) (pairs_of S) x (pairs_of new)) e put,
+        sym (find-map (λ p. p.1) (λ y. bytes_eq (kb y.0) (kb x.0)) ps ∙ ap (option_map (λ p. p.1)) (alone_none (bytes kb) ps (kb x.0) alone)),
+      )
 
       -- where there was no memory for it the pairs stand
       pub refused : ((y : Numbered K V) → Member y ps → related (bytes kb y) (kb x.0) ≡ false) → {R : Type 0} (tell : Option (K × V) → R) (new : List (Numbered K V)) → new ≡ ps → (e : _) → Puts kb tell (pairs_of ps) x x (Err (Memory e)) (pairs_of new)

@@ -29,9 +29,9 @@ pub open_new : {K V : Type 0} (kb : K → List ℕ) (ps : List (Numbered K V)) (
 open_new kb ps q alone = list_any-map (λ p. p.1) (λ y. bytes_eq (kb y.0) q) ps ∙ alone_absent (bytes kb) ps q alone
 
 -- a pair placed where no key is related is put, and is kept as it is
-pub placed_kept : {K V : Type 0} (kb : K → List ℕ) (ps : List (Numbered K V)) → IsContent (bytes kb) ps → AreDistinct ps → (x : K × V) → ((y : Numbered K V) → Member y ps → related (bytes kb y) (kb x.0) ≡ false) → (new : List (Numbered K V)) (id : ℕ) → IsPut (bytes kb) ps (id, x) new
+pub placed_kept : {K V : Type 0} (kb : K → List ℕ) (ps : List (Numbered K V)) → IsContent (bytes kb) ps → AreDistinct ps → (x : K × V) → ((y : Numbered K V) → Member y ps → related (bytes kb y) (kb x.0) ≡ false) → (new : List (Numbered K V)) → IsPut (pair_bytes kb) (pairs_of ps) x (pairs_of new)
     → Puts kb (option_map (λ pair. pair.1)) (pairs_of ps) x (kept kb (pairs_of ps) x) (Ok None) (pairs_of new)
 unfolding pair_at
-placed_kept kb ps content distinct x alone new id put =
-    let p = placed kb ps content distinct x alone ps new id refl put in
+placed_kept kb ps content distinct x alone new put =
+    let p = placed kb ps content distinct x alone ps new refl put in
     added_kept kb (option_map (λ pair. pair.1)) (pairs_of ps) x (pairs_of new) (p.0, p.1, refl) (sym p.2)

@@ -5,7 +5,7 @@ use Rattle.blart_keys.specs.Content.{IsContent, IsPut, stores, at, without}
 use Rattle.blart_keys.specs.Steps.{bytes as pair_bytes}
 use Rattle.blart_keys.specs.Stored.{pair_at, value_at, has, Updates, written_at}
 use Rattle.blart_keys.proofs.ContentLemmas.{at_Some, at_member}
-use Rattle.blart_keys.proofs.Mapped.{content_map, put_map, list_any-map, Member-map}
+use Rattle.blart_keys.proofs.Mapped.{content_map, list_any-map, Member-map}
 use Rattle.blart_keys.proofs.Options.{some_of}
 use Rattle.blart_keys.proofs.RankLemmas.{Member, Contains-from_Member, Member-from_Contains}
 use Rattle.blart_keys.proofs.StoredLemmas.{writes_at, updates_put, len_put, stores_is, pair_at-member, updates_without, len_without}
@@ -118,7 +118,7 @@ module _ {K V : Type 0} (kb : K → List ℕ) where
       twice (Some x) = refl
 
   -- a new pair placed, and then a value written there
-  module _ (ps mid ns : List (Numbered K V)) (same : mid ≡ ps) (content : IsContent (bytes kb) ps) (id : ℕ) (k : K) (v : V) (absent : stores (bytes kb) ps (kb k) ≡ false) (put : IsPut (bytes kb) mid (id, (k, v)) ns) (distinct : AreDistinct ns) (there : leaf_in ns id ≡ Some (k, v)) where
+  module _ (ps mid ns : List (Numbered K V)) (same : mid ≡ ps) (content : IsContent (bytes kb) ps) (id : ℕ) (k : K) (v : V) (absent : stores (bytes kb) ps (kb k) ≡ false) (put : IsPut (pair_bytes kb) (pairs_of mid) (k, v) (pairs_of ns)) (whole_now : IsContent (bytes kb) ns) (distinct : AreDistinct ns) (there : leaf_in ns id ≡ Some (k, v)) where
     abbrev S : List (K × V)
     S = pairs_of ps
 
@@ -126,7 +126,7 @@ module _ {K V : Type 0} (kb : K → List ℕ) where
     old = content_map (λ p. p.1) (pair_bytes kb) ps content
 
     pub placed_put : IsPut (pair_bytes kb) (pairs_of ps) (k, v) (pairs_of ns)
-    placed_put = put_map (λ p. p.1) (pair_bytes kb) ps ns (id, (k, v)) (subst (λ l. IsPut (bytes kb) l (id, (k, v)) ns) same put)
+    placed_put = subst (λ l. IsPut (pair_bytes kb) (pairs_of l) (k, v) (pairs_of ns)) same put
 
     placed_len : length (pairs_of ns) ≡ length (pairs_of ps) + 1
     placed_len =
@@ -136,13 +136,13 @@ module _ {K V : Type 0} (kb : K → List ℕ) where
     pub placed_set : (w : V) → Updates kb (pairs_of ps) (pairs_of (with_value ns id w)) (kb k) (Some (k, w)) × (value_at kb (pairs_of (with_value ns id w)) (kb k) ≡ Some w)
         × (length (pairs_of (with_value ns id w)) ≡ length (pairs_of ps) + 1) × IsPut (pair_bytes kb) (pairs_of ps) (k, w) (pairs_of (with_value ns id w))
     placed_set w =
-        let r = rewritten ns put.content distinct id (k, v) there w in
+        let r = rewritten ns whole_now distinct id (k, v) there w in
         let first = updates_put kb S (pairs_of ns) (k, v) old placed_put in
         let up : Updates kb S (pairs_of (with_value ns id w)) (kb k) (Some (k, w)) = (r.0.0, λ q off. r.0.1 q off ∙ first.1 q off) in (
           up,
           ap (option_map (λ (p : K × V). p.1)) r.0.0,
           r.1 ∙ placed_len,
-          put_from_updates S (pairs_of (with_value ns id w)) (k, w) old (rewritten_content ns put.content distinct id (k, v) there w) up,
+          put_from_updates S (pairs_of (with_value ns id w)) (k, w) old (rewritten_content ns whole_now distinct id (k, v) there w) up,
         )
 
     -- the same where no other value was written

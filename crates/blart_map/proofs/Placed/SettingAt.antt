@@ -61,10 +61,10 @@ module _ {K V : Type 0} (kb : K → List ℕ) (ps : List (Numbered K V)) (S : Li
     pub new_value_at : (r d : V) → r ≡ d → r ≡ unwrap_or (value_at kb S (kb key)) d
     new_value_at r d e = e ∙ ap (λ (o : Option (K × V)). unwrap_or (option_map (λ p. p.1) o) d) none
 
-    pub new_set_at : (mid ns : List (Numbered K V)) (v : V) (id : ℕ) → mid ≡ ps → IsPut (bytes kb) mid (id, (key, v)) ns → AreDistinct ns → leaf_in ns id ≡ Some (key, v) → (w : V) → IsSetAt kb S key w (pairs_of (with_value ns id w))
-    new_set_at mid ns v id same put d there w =
+    pub new_set_at : (mid ns : List (Numbered K V)) (v : V) (id : ℕ) → mid ≡ ps → IsPut (pair_bytes kb) (pairs_of mid) (key, v) (pairs_of ns) → IsContent (bytes kb) ns → AreDistinct ns → leaf_in ns id ≡ Some (key, v) → (w : V) → IsSetAt kb S key w (pairs_of (with_value ns id w))
+    new_set_at mid ns v id same put c d there w =
         set_of None (absent_pair kb ps content distinct (kb key) absent) w (pairs_of (with_value ns id w))
-        (placed_set kb ps mid ns same content id key v absent put d there w)
+        (placed_set kb ps mid ns same content id key v absent put c d there w)
 
     pub new_none : value_at kb S (kb key) ≡ None
     new_none = ap (λ (o : Option (K × V)). option_map (λ p. p.1) o) (sym none)

@@ -10,7 +10,7 @@ ghost use Rattle.art_tree.specs.Leaves.{leaf_in, Has, room, bytes};
 ghost use Rattle.art_walk.specs.Pairs.{pairs_of};
 ghost use Rattle.blart_map.specs.Bulk.{NoneGreater};
 
-use art_tree::{LeafId, Leaves, Position, Visits};
+use art_tree::{LeafId, Leaves, Visits};
 use blart_keys::NoPrefixesBytes;
 use std::mem::replace;
 
@@ -43,14 +43,14 @@ fn put_last<K: NoPrefixesBytes + Drop, V: Drop>(leaves: &mut Leaves<K, V>, key: 
 {
     leaves.law();
     let Some(last) = leaves.last() else {
-        let _first = leaves.insert(None, Position::unknown(), key, value);
+        let _first = leaves.push(key, value);
         return;
     };
     if has_bytes(leaves, last, &key) {
         let _old = replace(leaves.value_mut(last), value);
         return;
     }
-    let _new = leaves.insert(Some(last), Position::unknown(), key, value);
+    let _new = leaves.push(key, value);
 }
 
 // Whether the key of a leaf has the bytes of this one. Where it has not, the two are not related.
@@ -74,6 +74,5 @@ pub(crate) fn push<K: Drop, V: Drop>(leaves: &mut Leaves<K, V>, key: K, value: V
     ensures room { room leaves.old ≤ room leaves.new + 1 }
 {
     leaves.law();
-    let last = leaves.last();
-    let _new = leaves.insert(last, Position::unknown(), key, value);
+    let _last = leaves.push(key, value);
 }

@@ -25,12 +25,12 @@ returns-in_default-clause-none g c =
     let kb = g.K.AsBytes.bytes in
     let ps = c.args.tree.now.pairs in
     let alone = open_alone kb ps c.law.ensures.content c.law.ensures.distinct (kb c.args.key) c.args.point c.requires.good (opens c.args.point c.in-Empty.is) in
-    sym (placed kb ps c.law.ensures.content c.law.ensures.distinct (c.args.key, c.args.value) alone c.make_room.new.self.pairs c.place.new.self.pairs c.place.result c.in_default.ensures.pairs c.place.ensures.put).2
+    sym (placed kb ps c.law.ensures.content c.law.ensures.distinct (c.args.key, c.args.value) alone c.make_room.new.self.pairs c.place.new.self.pairs c.in_default.ensures.pairs c.place.ensures.put).2
 
 pub returns-in_default-clause-put : goal.returns-in_default-clause-put
 returns-in_default-clause-put g c =
     let kb = g.K.AsBytes.bytes in
     let ps = c.args.tree.now.pairs in
     let alone = open_alone kb ps c.law.ensures.content c.law.ensures.distinct (kb c.args.key) c.args.point c.requires.good (opens c.args.point c.in-Empty.is) in
-    let put = placed kb ps c.law.ensures.content c.law.ensures.distinct (c.args.key, c.args.value) alone c.make_room.new.self.pairs c.place.new.self.pairs c.place.result c.in_default.ensures.pairs c.place.ensures.put in
+    let put = placed kb ps c.law.ensures.content c.law.ensures.distinct (c.args.key, c.args.value) alone c.make_room.new.self.pairs c.place.new.self.pairs c.in_default.ensures.pairs c.place.ensures.put in
     (put.0, put.1, refl)

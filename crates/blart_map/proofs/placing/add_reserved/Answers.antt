@@ -17,7 +17,7 @@ returns-in_default-clause-added g c =
     let ps = c.args.tree.now.pairs in
     let good = c.lawful_point.ensures.good in
     let alone = open_alone kb ps c.lawful_point.ensures.content c.lawful_point.ensures.distinct (kb c.args.key) c.lawful_point.result good (opens_else c.lawful_point.result c.in_default.not-Exact c.in_default.not-Related) in
-    λ absent. (placed kb ps c.lawful_point.ensures.content c.lawful_point.ensures.distinct (c.args.key, c.args.value) alone ps c.place.new.self.pairs c.place.result refl c.place.ensures.put).1
+    λ absent. (placed kb ps c.lawful_point.ensures.content c.lawful_point.ensures.distinct (c.args.key, c.args.value) alone ps c.place.new.self.pairs refl c.place.ensures.put).1
 
 pub returns-in_default-clause-stays : goal.returns-in_default-clause-stays
 returns-in_default-clause-stays g c =

@@ -17,4 +17,4 @@ returns-clause-put g c =
     let ps = c.args.tree.now.pairs in
     let good = rw c.as_bytes.ensures at c.point.ensures in
     let alone = open_alone kb ps c.law.ensures.content c.law.ensures.distinct (kb c.args.key) c.point.result good (opens_else c.point.result c.in_default.not-Exact c.in_default.not-Related) in
-    (placed kb ps c.law.ensures.content c.law.ensures.distinct (c.args.key, c.args.value) alone ps c.place.new.self.pairs c.place.result refl c.place.ensures.put).1
+    (placed kb ps c.law.ensures.content c.law.ensures.distinct (c.args.key, c.args.value) alone ps c.place.new.self.pairs refl c.place.ensures.put).1

@@ -34,4 +34,4 @@ returns-in_default-clause-put g c =
     let kb = g.K.AsBytes.bytes in
     let ps = c.args.tree.now.pairs in
     let alone = open_alone kb ps c.law.ensures.content c.law.ensures.distinct (kb c.args.key) c.args.point c.requires.good (opens_else c.args.point c.in_default.not-Exact c.in_default.not-Related) in
-    placed_kept kb ps c.law.ensures.content c.law.ensures.distinct (c.args.key, c.args.value) alone c.place.new.self.pairs c.place.result c.place.ensures.put
+    placed_kept kb ps c.law.ensures.content c.law.ensures.distinct (c.args.key, c.args.value) alone c.place.new.self.pairs c.place.ensures.put

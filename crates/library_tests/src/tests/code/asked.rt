@@ -74,9 +74,9 @@ fn bytes_of(place: usize) -> [u8; 3] {
     [byte_of(place / 100), byte_of(place / 10), byte_of(place)]
 }
 
-// Each of a thousand insertions asks the key that comes, and one stored key at most, or two where less than two bytes of a prefix are kept.
+// Each of a thousand insertions asks the key that comes, and one stored key at most, or two where less than two bytes of a prefix are kept; and that of a leaf which makes way.
 fn put_thousand<'a, const P: usize>(rt: &impl Abort, map: &mut Map<'a, P>, tally: &'a Tally) {
-    let most = if P < 2 { 3 } else { 2 };
+    let most = if P < 2 { 4 } else { 3 };
     for place in 0..1000 {
         tally.begin_round();
         let key = Asked {

@@ -161,14 +161,14 @@ fn memory(rt: &(impl Abort + AllocGlobal + Files), name: &str) -> u64 {
 
 type Texts = Tree<&'static [u8], u64, 16>;
 
-// Room for a million pairs takes less than 600 MB of addresses, and less than 20 MB are written before a pair comes.
+// Room for a million pairs takes less than 600 MB of addresses, and less than 200 MB are written before a pair comes.
 fn reserve_million(rt: &(impl Abort + AllocGlobal + Files), tree: &mut Texts) {
     let (most, held) = (memory(rt, "VmPeak:"), memory(rt, "VmRSS:"));
     tree.reserve(1_000_000).expect(rt, "memory");
     let taken = memory(rt, "VmPeak:").saturating_sub(most);
     let written = memory(rt, "VmRSS:").saturating_sub(held);
     assert!(rt; taken < 600_000_000 / 1024);
-    assert!(rt; written < 20_000_000 / 1024);
+    assert!(rt; written < 200_000_000 / 1024);
 }
 
 #[test]

@@ -12,7 +12,7 @@ set_next-requires g c =
       | in-None w ↦ (cc, rw (w.next-is, w.in-None.is) l.starts)
       | in-Some w ↦ (cc, rw (w.next-is, w.in-Some.is) w.next_of-next.ensures)
     ] in
-    made_before c.self.inside.records l c.match-prev.prev c.match-prev.next (rw at.0 at.1) (rw at.0 c.requires.prev) c.fill-number.result c.fill-number.ensures.fresh c.args.item c.fill-number.new.self c.fill-number.ensures.now c.fill-number.ensures.others
+    made_before c.self.inside.records.store l c.match-prev.prev c.match-prev.next (rw at.0 at.1) (rw at.0 c.requires.prev) c.fill-number.result c.fill-number.ensures.fresh c.args.item c.fill-number.new.self.store c.fill-number.ensures.now c.fill-number.ensures.others
 
 pub set_prev-requires : goal.set_prev-requires
 set_prev-requires g c =
@@ -21,7 +21,7 @@ set_prev-requires g c =
       | in-None w ↦ (cc, rw (w.next-is, w.in-None.is) l.starts)
       | in-Some w ↦ (cc, rw (w.next-is, w.in-Some.is) w.next_of-next.ensures)
     ] in
-    still_linked c.match-prev.next (slot_at c.fill-number.new.self) (slot_at c.set_next.new.records) _ _ c.set_next.ensures.leaves (made_next c.self.inside.records l c.match-prev.prev c.match-prev.next (rw at.0 at.1) (rw at.0 c.requires.prev) c.fill-number.result c.fill-number.ensures.fresh c.args.item c.fill-number.new.self c.fill-number.ensures.now c.fill-number.ensures.others)
+    still_linked c.match-prev.next (slot_at c.fill-number.new.self.store) (slot_at c.set_next.new.records.store) _ _ c.set_next.ensures.leaves (made_next c.self.inside.records.store l c.match-prev.prev c.match-prev.next (rw at.0 at.1) (rw at.0 c.requires.prev) c.fill-number.result c.fill-number.ensures.fresh c.args.item c.fill-number.new.self.store c.fill-number.ensures.now c.fill-number.ensures.others)
 
 pub invariant_of-self : goal.invariant_of-self
 invariant_of-self g c =
@@ -30,7 +30,7 @@ invariant_of-self g c =
       | in-None w ↦ (cc, rw (w.next-is, w.in-None.is) l.starts)
       | in-Some w ↦ (cc, rw (w.next-is, w.in-Some.is) w.next_of-next.ensures)
     ] in
-    all_linked c.set_prev.new.records (store_inserted c.self.inside.records l c.match-prev.prev c.match-prev.next (rw at.0 at.1) (rw at.0 c.requires.prev) c.fill-number.result c.fill-number.ensures.fresh c.args.item c.fill-number.new.self c.fill-number.ensures.now c.fill-number.ensures.others c.fill-number.ensures.used c.set_next.new.records c.set_prev.new.records c.set_next.ensures.leaves c.set_prev.ensures.leaves c.set_next.ensures.used c.set_prev.ensures.used _ _ c.set_next.ensures.first c.set_prev.ensures.last)
+    all_linked c.set_prev.new.records.store (store_inserted c.self.inside.records.store l c.match-prev.prev c.match-prev.next (rw at.0 at.1) (rw at.0 c.requires.prev) c.fill-number.result c.fill-number.ensures.fresh c.args.item c.fill-number.new.self.store c.fill-number.ensures.now c.fill-number.ensures.others c.fill-number.ensures.used c.set_next.new.records.store c.set_prev.new.records.store c.set_next.ensures.leaves c.set_prev.ensures.leaves c.set_next.ensures.used c.set_prev.ensures.used _ _ c.set_next.ensures.first c.set_prev.ensures.last)
 
 pub returns-clause-placed : goal.returns-clause-placed
 returns-clause-placed g c =
@@ -39,4 +39,4 @@ returns-clause-placed g c =
       | in-None w ↦ (cc, rw (w.next-is, w.in-None.is) l.starts)
       | in-Some w ↦ (cc, rw (w.next-is, w.in-Some.is) w.next_of-next.ensures)
     ] in
-    rw (← at.0) (pairs_are c.set_prev.new.records (store_inserted c.self.inside.records l c.match-prev.prev c.match-prev.next (rw at.0 at.1) (rw at.0 c.requires.prev) c.fill-number.result c.fill-number.ensures.fresh c.args.item c.fill-number.new.self c.fill-number.ensures.now c.fill-number.ensures.others c.fill-number.ensures.used c.set_next.new.records c.set_prev.new.records c.set_next.ensures.leaves c.set_prev.ensures.leaves c.set_next.ensures.used c.set_prev.ensures.used _ _ c.set_next.ensures.first c.set_prev.ensures.last))
+    rw (← at.0) (pairs_are c.set_prev.new.records.store (store_inserted c.self.inside.records.store l c.match-prev.prev c.match-prev.next (rw at.0 at.1) (rw at.0 c.requires.prev) c.fill-number.result c.fill-number.ensures.fresh c.args.item c.fill-number.new.self.store c.fill-number.ensures.now c.fill-number.ensures.others c.fill-number.ensures.used c.set_next.new.records.store c.set_prev.new.records.store c.set_next.ensures.leaves c.set_prev.ensures.leaves c.set_next.ensures.used c.set_prev.ensures.used _ _ c.set_next.ensures.first c.set_prev.ensures.last))

@@ -1,53 +1,75 @@
-use Rattle.std.proofs.Common.{◌≡◌, sym, ap, subst, ◌∙◌, Some}
-use Rattle.art_slots.specs.Store.{slot_at, used_count, with_record}
-use Rattle.art_rows.specs.Numbers.{Has, with_pair_after}
+use Rattle.std.proofs.Common.{◌≡◌, ◌*◌, [], ◌∷◌, refl, sym, ap, subst, ◌∙◌, arith}
 use Rattle.std.specs.Prelude.{IfSome}
-use Rattle.art_slots.proofs.CallerLemmas.{with-now, with-others, with-count}
-use Rattle.art_rows.specs.declared.leaves.Leaf.{Leaf}
+use Rattle.art_slots.specs.Store.{slot_at, used_count}
+use Rattle.art_rows.specs.Numbers.{Has, with_pair_after, with_pair}
 use Rattle.art_rows.specs.Rows.{row_end}
+use Rattle.art_rows.specs.Blocks.{row_of}
 use Rattle.art_rows.specs.Leaves.{spot_index}
-use Rattle.art_rows.proofs.FilingLemmas.{seen, all_filed, pairs_are, no_record}
-use Rattle.art_rows.proofs.FilingChanges.{files_begun}
+use Rattle.art_rows.proofs.NumbersLemmas.{leaf_in-placed_now, Lacks-from_leaf_in}
+use Rattle.art_rows.proofs.Carried.{with_pair-placed}
+use Rattle.art_rows.proofs.FilingLemmas.{seen, all_filed, pairs_are, no_pair}
+use Rattle.art_rows.proofs.FilingChanges.{files_begun, begun_fresh}
 use Rattle.art_rows.proofs.leaves.Leaves.begin.Goals as goal
+
+pub get_mut-requires : goal.get_mut-requires
+get_mut-requires g c =
+    let f = seen c.self.inside c.self.view_is c.self.invariant in
+    let e : c.self.inside.rows.pairs ≡ c.args.self.now.rows = ap (λ t. t.rows) c.self.view_is in
+    let has = subst (λ rs. IfSome c.args.prev_row (Has rs)) (sym e) c.requires.prev_row in
+    rw (c.insert-row.ensures.placed, leaf_in-placed_now c.args.prev_row (c.insert-row.result, c.new.result) c.self.inside.rows.pairs has (Lacks-from_leaf_in c.self.inside.rows.pairs c.insert-row.result c.insert-row.ensures.fresh)) refl
+
+pub put-requires-clause-within : goal.put-requires-clause-within
+put-requires-clause-within g c =
+    let cells = c.self.invariant.1 in
+    omega (arith, cells, c.insert-row.ensures.below, c.number.ensures.value, c.new-id.ensures)
+
+pub put-requires-clause-empty : goal.put-requires-clause-empty
+put-requires-clause-empty g c =
+    let f = seen c.self.inside c.self.view_is c.self.invariant in
+    let own : row_of c.number.result ≡ c.insert-row.result = omega (arith, c.number.ensures.value, c.new-id.ensures) in
+    no_pair f c.number.result (begun_fresh f c.insert-row.result c.insert-row.ensures.fresh c.number.result own)
 
 pub invariant_of-self : goal.invariant_of-self
 invariant_of-self g c =
     let f = seen c.self.inside c.self.view_is c.self.invariant in
     let e : c.self.inside.rows.pairs ≡ c.args.self.now.rows = ap (λ t. t.rows) c.self.view_is in
-    let n = c.fill-number.result in
+    let n = c.number.result in
     let r = c.insert-row.result in
-    let made = c.fill-number.new.self in
-    let x0 = c.get_mut.result.now in
-    let was = c.get_mut.ensures.value in
-    let y0 : Leaf g.row.K.Denot g.row.V.Denot = record { key = c.args.key; value = c.args.value; row = 0 } in
-    let y : Leaf g.row.K.Denot g.row.V.Denot = record { key = c.args.key; value = c.args.value; row = r } in
-    let q : Some x0 ≡ Some y0 = sym was ∙ c.fill-number.ensures.now in
-    let q1 : x0 ≡ y0 = cc in
-    let x : Leaf g.row.K.Denot g.row.V.Denot = record x0 { row = r } in
-    let xy : x ≡ y = ap (λ (l : Leaf g.row.K.Denot g.row.V.Denot). record l { row = r }) q1 in
+    let own : row_of n ≡ r = omega (arith, c.number.ensures.value, c.new-id.ensures) in
+    let is : n ≡ 32 * r = c.number.ensures.value ∙ c.new-id.ensures in
     let prev_row = subst (λ rs. IfSome c.args.prev_row (Has rs)) (sym e) c.requires.prev_row in
     let index = subst (λ rs. spot_index c.args.prev c.args.self.now.pairs ≡ row_end c.args.prev_row rs) (sym e) c.requires.index in
-    let put = c.insert-row.ensures.placed ∙ ap (λ l. with_pair_after c.args.prev_row (r, l) c.self.inside.rows.pairs) (rw c.new-id.ensures at c.new.ensures) in
-    let files = files_begun f c.args.prev c.requires.prev n (no_record f n c.fill-number.ensures.fresh) c.args.key c.args.value c.args.prev_row prev_row index r c.insert-row.ensures.fresh c.insert-row.new.self.pairs put (slot_at (with_record made n x)) (with-now made n x0 x was ∙ ap Some xy) (λ j ne. with-others made n x0 x was j ne ∙ c.fill-number.ensures.others j ne) (used_count (with_record made n x)) (with-count made n x0 x was ∙ c.fill-number.ensures.used) in
-    all_filed (with_record made n x) files
+    let lacks = Lacks-from_leaf_in c.self.inside.rows.pairs r c.insert-row.ensures.fresh in
+    let put = ap (λ l. with_pair l r c.new-2.result) c.insert-row.ensures.placed ∙ with_pair-placed c.args.prev_row r c.new.result c.new-2.result c.self.inside.rows.pairs lacks ∙ ap (λ l. with_pair_after c.args.prev_row (r, l) c.self.inside.rows.pairs) (c.new-2.ensures ∙ ap (λ m. m ∷ []) (sym is)) in
+    let files = files_begun f c.args.prev c.requires.prev n (begun_fresh f r c.insert-row.ensures.fresh n own) c.args.key c.args.value c.args.prev_row prev_row index r own c.insert-row.ensures.fresh _ put (slot_at c.put.new.self) c.put.ensures.now c.put.ensures.others (used_count c.put.new.self) c.put.ensures.used in
+    let cells = c.self.invariant.1 in
+    (all_filed c.put.new.self files, omega (arith, cells, c.put.ensures.len, c.insert-row.ensures.top))
+
+pub returns-clause-fresh : goal.returns-clause-fresh
+returns-clause-fresh g c =
+    let f = seen c.self.inside c.self.view_is c.self.invariant in
+    let own : row_of c.new-id.result ≡ c.insert-row.result = omega (arith, c.new-id.ensures) in
+    begun_fresh f c.insert-row.result c.insert-row.ensures.fresh c.new-id.result own
 
 pub returns-clause-placed : goal.returns-clause-placed
 returns-clause-placed g c =
     let f = seen c.self.inside c.self.view_is c.self.invariant in
     let e : c.self.inside.rows.pairs ≡ c.args.self.now.rows = ap (λ t. t.rows) c.self.view_is in
-    let n = c.fill-number.result in
+    let n = c.number.result in
     let r = c.insert-row.result in
-    let made = c.fill-number.new.self in
-    let x0 = c.get_mut.result.now in
-    let was = c.get_mut.ensures.value in
-    let y0 : Leaf g.row.K.Denot g.row.V.Denot = record { key = c.args.key; value = c.args.value; row = 0 } in
-    let y : Leaf g.row.K.Denot g.row.V.Denot = record { key = c.args.key; value = c.args.value; row = r } in
-    let q : Some x0 ≡ Some y0 = sym was ∙ c.fill-number.ensures.now in
-    let q1 : x0 ≡ y0 = cc in
-    let x : Leaf g.row.K.Denot g.row.V.Denot = record x0 { row = r } in
-    let xy : x ≡ y = ap (λ (l : Leaf g.row.K.Denot g.row.V.Denot). record l { row = r }) q1 in
+    let own : row_of n ≡ r = omega (arith, c.number.ensures.value, c.new-id.ensures) in
+    let is : n ≡ 32 * r = c.number.ensures.value ∙ c.new-id.ensures in
     let prev_row = subst (λ rs. IfSome c.args.prev_row (Has rs)) (sym e) c.requires.prev_row in
     let index = subst (λ rs. spot_index c.args.prev c.args.self.now.pairs ≡ row_end c.args.prev_row rs) (sym e) c.requires.index in
-    let put = c.insert-row.ensures.placed ∙ ap (λ l. with_pair_after c.args.prev_row (r, l) c.self.inside.rows.pairs) (rw c.new-id.ensures at c.new.ensures) in
-    let files = files_begun f c.args.prev c.requires.prev n (no_record f n c.fill-number.ensures.fresh) c.args.key c.args.value c.args.prev_row prev_row index r c.insert-row.ensures.fresh c.insert-row.new.self.pairs put (slot_at (with_record made n x)) (with-now made n x0 x was ∙ ap Some xy) (λ j ne. with-others made n x0 x was j ne ∙ c.fill-number.ensures.others j ne) (used_count (with_record made n x)) (with-count made n x0 x was ∙ c.fill-number.ensures.used) in
-    rw c.new-id.ensures (pairs_are (with_record made n x) files)
+    let lacks = Lacks-from_leaf_in c.self.inside.rows.pairs r c.insert-row.ensures.fresh in
+    let put = ap (λ l. with_pair l r c.new-2.result) c.insert-row.ensures.placed ∙ with_pair-placed c.args.prev_row r c.new.result c.new-2.result c.self.inside.rows.pairs lacks ∙ ap (λ l. with_pair_after c.args.prev_row (r, l) c.self.inside.rows.pairs) (c.new-2.ensures ∙ ap (λ m. m ∷ []) (sym is)) in
+    let files = files_begun f c.args.prev c.requires.prev n (begun_fresh f r c.insert-row.ensures.fresh n own) c.args.key c.args.value c.args.prev_row prev_row index r own c.insert-row.ensures.fresh _ put (slot_at c.put.new.self) c.put.ensures.now c.put.ensures.others (used_count c.put.new.self) c.put.ensures.used in
+    rw (← c.number.ensures.value) (pairs_are c.put.new.self files)
+
+pub returns-clause-rows : goal.returns-clause-rows
+returns-clause-rows g c =
+    let r = c.insert-row.result in
+    let own : row_of c.new-id.result ≡ r = omega (arith, c.new-id.ensures) in
+    let lacks = Lacks-from_leaf_in c.self.inside.rows.pairs r c.insert-row.ensures.fresh in
+    let put = ap (λ l. with_pair l r c.new-2.result) c.insert-row.ensures.placed ∙ with_pair-placed c.args.prev_row r c.new.result c.new-2.result c.self.inside.rows.pairs lacks ∙ ap (λ l. with_pair_after c.args.prev_row (r, l) c.self.inside.rows.pairs) (c.new-2.ensures ∙ ap (λ m. m ∷ []) (sym c.new-id.ensures)) in
+    (rw own (rw (← c.self.view_is) put), rw own (rw (← c.self.view_is) c.insert-row.ensures.fresh))

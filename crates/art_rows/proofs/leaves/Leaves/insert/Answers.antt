@@ -1,37 +1,82 @@
-use Rattle.std.proofs.Common.{◌≡◌, ◌≤◌, ℕ, List, length, Option, Some, None, subst, arith}
-use Rattle.std.specs.Prelude.{IfSome}
-use Rattle.art_rows.specs.Numbers.{AreDistinct, leaf_in}
-use Rattle.art_rows.specs.Rows.{IsSpot}
-use Rattle.art_rows.specs.Leaves.{Leaves}
-use Rattle.art_rows.specs.Filing.{AllFiled, content}
+use Rattle.std.proofs.Common.{◌≡◌, ◌≢◌, ◌≤◌, ℕ, List, [], length, Option, Some, None, sym, ◌∙◌, arith}
+use Rattle.std.specs.Prelude.{IfSome, IfNone}
+use Rattle.art_rows.specs.Numbers.{Numbered, AreDistinct, leaf_in}
+use Rattle.art_rows.specs.Rows.{IsSpot, lengths, position_at}
+use Rattle.art_rows.specs.Blocks.{row_of}
 use Rattle.art_rows.specs.declared.row.Position.{Position}
-use Rattle.art_rows.specs.declared.leaves.Leaves.TheInside.{Inside}
-use Rattle.art_rows.proofs.Rooms.{spot_has, spot_put}
+use Rattle.art_rows.proofs.FilingLemmas.{seen_rows}
+use Rattle.art_rows.proofs.RowsLemmas.{standing}
+use Rattle.art_rows.proofs.RowRoomLemmas.{room_spare}
+use Rattle.art_rows.proofs.Rooms.{spot_has, spot_ids, spot_put, spot_end, spot_front, front_room, spare_beyond, beyond_room}
+use Rattle.art_rows.proofs.RowChanges.{spot-row}
+use Rattle.art_rows.proofs.Crowds.{is_full, in_front, at_end}
 use Rattle.art_rows.proofs.leaves.Leaves.insert.Goals as goal
 
--- the spot that was found, in the rows that a contract sees
-spotted : {K V : Type 0} {l : Leaves K V} {o : Option Position} {p : Position} {k : ℕ} (i : Inside K V) → content i.records i.rows ≡ l →
-    AllFiled i.records i.rows.pairs → o ≡ Some p → IfSome o (λ q. IsSpot l.rows q k) → IsSpot l.rows p k × AreDistinct l.rows
-spotted {K} {V} i e f is found = (rw is at found, subst (λ (l : Leaves K V). AreDistinct l.rows) e f.apart)
+-- a full row
+full_row : {rows : List (Numbered (List ℕ))} {k : ℕ} {p : Position} (s : IsSpot rows p k) → AreDistinct rows → (n : ℕ) → IfSome (leaf_in rows p.row) (λ ids. n ≡ length ids) → n ≤ 32 → 32 ≤ n → length s.ids ≡ 32
+full_row {rows} {k} {p} s d n len most least = spot_ids s d (λ ids. length ids ≡ 32) (is_full (leaf_in rows p.row) n len most least)
 
--- a row that has at least as many numbers as fit has just as many
-full_row : (o : Option (List ℕ)) (n : ℕ) → IfSome o (λ ids. n ≡ length ids) → n ≤ 32 → 32 ≤ n → IfSome o (λ ids. length ids ≡ 32)
-full_row None n len most least = len
-full_row (Some ids) n len most least = omega arith
+-- the first place is in front
+not_first : (rows : List (Numbered (List ℕ))) (prev : Option ℕ) (p : Position) → IfNone prev (Some p ≡ position_at rows 0) → p.place ≢ 0 → IfNone prev ⊥
+not_first rows (Some i) p e z = tt
+not_first rows None p e z = z (let s = standing rows 0 p (sym e) in let i = s.index in omega arith)
 
 pub row_len-requires : goal.row_len-requires
 row_len-requires g c =
-    let s = spotted c.self.inside c.self.view_is c.self.invariant c.in-Some.is c.spot.ensures.some in
-    spot_has s.0 s.1
+    let f = seen_rows c.self.inside c.self.view_is c.self.invariant in
+    spot_has c.in-Some.ensures.some f.apart
 
 pub returns-then-row_len-lt-ROW-clause-room : goal.returns-then-row_len-lt-ROW-clause-room
 returns-then-row_len-lt-ROW-clause-room g c =
-    let s = spotted c.self.inside c.self.view_is c.self.invariant c.in-Some.is c.spot.ensures.some in
-    let a = spot_put s.0 s.1 c.put.new.self.rows c.put.result c.args.self.now.spare_rows c.put.ensures.rows in
-    rw c.put.ensures.spare_rows (omega (arith, c.put.ensures.spare))
+    let f = seen_rows c.self.inside c.self.view_is c.self.invariant in
+    rw c.put.ensures.spare_rows (spot_put c.in-Some.ensures.some f.apart c.put.new.self.rows c.put.result c.args.self.now.spare_rows c.put.ensures.rows)
 
-pub put_in_full-requires-clause-spot : goal.put_in_full-requires-clause-spot
-put_in_full-requires-clause-spot g c = (spotted c.self.inside c.self.view_is c.self.invariant c.in-Some.is c.spot.ensures.some).0
+pub begin-requires-then-position-eq0-clause-spare_rows : goal.begin-requires-then-position-eq0-clause-spare_rows
+begin-requires-then-position-eq0-clause-spare_rows g c =
+    let f = seen_rows c.self.inside c.self.view_is c.self.invariant in
+    let s = c.in-Some.ensures.some in
+    let front = in_front f c.args.prev c.requires.prev c.in-Some.position c.in-Some.ensures.after c.if-position-eq0.true in
+    let starts = spot_front s f.apart front f.filled (full_row s f.apart c.row_len.result c.row_len.ensures.len c.row_len.ensures.fits c.if-row_len-lt-ROW.false) in
+    room_spare [] (lengths c.args.self.now.rows) c.args.self.now.spare_rows tt starts c.requires.room
 
-pub put_in_full-requires-clause-full : goal.put_in_full-requires-clause-full
-put_in_full-requires-clause-full g c = full_row (leaf_in c.args.self.now.rows c.in-Some.position.row) c.row_len.result c.row_len.ensures.len c.row_len.ensures.fits c.if-row_len-lt-ROW.false
+pub begin-requires-then-position-eq0-clause-index : goal.begin-requires-then-position-eq0-clause-index
+begin-requires-then-position-eq0-clause-index g c =
+    in_front (seen_rows c.self.inside c.self.view_is c.self.invariant) c.args.prev c.requires.prev c.in-Some.position c.in-Some.ensures.after c.if-position-eq0.true
+
+pub returns-then-position-eq0-clause-room : goal.returns-then-position-eq0-clause-room
+returns-then-position-eq0-clause-room g c =
+    let f = seen_rows c.self.inside c.self.view_is c.self.invariant in
+    let s = c.in-Some.ensures.some in
+    let front = in_front f c.args.prev c.requires.prev c.in-Some.position c.in-Some.ensures.after c.if-position-eq0.true in
+    let starts = spot_front s f.apart front f.filled (full_row s f.apart c.row_len.result c.row_len.ensures.len c.row_len.ensures.fits c.if-row_len-lt-ROW.false) in
+    let b = c.begin-then-position-eq0 in
+    front_room c.args.self.now.rows b.new.self.rows (row_of b.result) b.result c.args.self.now.spare_rows b.new.self.spare_rows starts b.ensures.rows.0 b.ensures.spare_rows
+
+pub put_beyond-requires-clause-has : goal.put_beyond-requires-clause-has
+put_beyond-requires-clause-has g c =
+    let f = seen_rows c.self.inside c.self.view_is c.self.invariant in
+    spot_has c.in-Some.ensures.some f.apart
+
+pub put_beyond-requires-clause-index : goal.put_beyond-requires-clause-index
+put_beyond-requires-clause-index g c =
+    let f = seen_rows c.self.inside c.self.view_is c.self.invariant in
+    let s = c.in-Some.ensures.some in
+    let full = full_row s f.apart c.row_len.result c.row_len.ensures.len c.row_len.ensures.fits c.if-row_len-lt-ROW.false in
+    let some = not_first c.args.self.now.rows c.args.prev c.in-Some.position c.in-Some.ensures.first c.if-position-eq0.false in
+    let e = at_end f c.args.prev some c.in-Some.position c.in-Some.ensures.after c.requires.way s.ids (spot-row c.args.self.now.rows _ c.in-Some.position s f.apart) full in
+    spot_end s f.apart (e ∙ sym full)
+
+pub put_beyond-requires-clause-room : goal.put_beyond-requires-clause-room
+put_beyond-requires-clause-room g c =
+    let f = seen_rows c.self.inside c.self.view_is c.self.invariant in
+    let s = c.in-Some.ensures.some in
+    let full = full_row s f.apart c.row_len.result c.row_len.ensures.len c.row_len.ensures.fits c.if-row_len-lt-ROW.false in
+    spare_beyond c.args.self.now.rows f.apart c.in-Some.position.row s.ids (spot-row c.args.self.now.rows _ c.in-Some.position s f.apart) full c.args.self.now.spare_rows c.requires.room
+
+pub returns-clause-room : goal.returns-clause-room
+returns-clause-room g c =
+    let f = seen_rows c.self.inside c.self.view_is c.self.invariant in
+    let s = c.in-Some.ensures.some in
+    let full = full_row s f.apart c.row_len.result c.row_len.ensures.len c.row_len.ensures.fits c.if-row_len-lt-ROW.false in
+    let n = c.put_beyond.new.self in
+    beyond_room c.args.self.now.rows f.apart c.in-Some.position.row s.ids (spot-row c.args.self.now.rows _ c.in-Some.position s f.apart) full n.rows c.args.self.now.spare_rows n.spare_rows c.put_beyond.result c.put_beyond.ensures.rows

@@ -1,15 +1,13 @@
-use Rattle.std.proofs.Common.{◌≡◌, Some, refl, ap, subst, arith}
-use Rattle.art_slots.specs.Store.{slot_at}
+use Rattle.std.proofs.Common.{ap, arith}
 use Rattle.art_rows.proofs.FilingLemmas.{seen, row_has, row_filled, located, stands_there}
 use Rattle.art_rows.proofs.leaves.Leaves.position_of.Goals as goal
 
 pub read-ids-requires : goal.read-ids-requires
-read-ids-requires g c =
-    row_has (seen c.self.inside c.self.view_is c.self.invariant) c.args.id c.number.result c.number.ensures.value c.requires _ c.read.ensures.value
+read-ids-requires g c = rw c.number-row.ensures.value (row_has (seen c.self.inside c.self.view_is c.self.invariant) c.args.id c.requires)
 
 pub overflow_sub-last : goal.overflow_sub-last
 overflow_sub-last g c =
-    let w = row_filled (seen c.self.inside c.self.view_is c.self.invariant) c.read.result.now.row _ c.read-ids.ensures in
+    let w = row_filled (seen c.self.inside c.self.view_is c.self.invariant) _ _ c.read-ids.ensures in
     omega (arith, w, c.len-last.ensures.len)
 
 pub returns-then-has_at : goal.returns-then-has_at
@@ -19,4 +17,4 @@ returns-then-has_at g c =
 pub returns : goal.returns
 returns g c =
     let f = seen c.self.inside c.self.view_is c.self.invariant in
-    rw (← ap (λ t. t.rows) c.self.view_is, c.place_of-place.ensures) (located f c.args.id c.args.id refl c.requires _ (subst (λ n. slot_at c.self.inside.records n ≡ Some c.read.result.now) c.number.ensures.value c.read.ensures.value) _ c.read-ids.ensures)
+    rw (← ap (λ t. t.rows) c.self.view_is, c.place_of-place.ensures, c.number-row.ensures.value) (located f c.args.id c.requires _ (rw c.number-row.ensures.value at c.read-ids.ensures))

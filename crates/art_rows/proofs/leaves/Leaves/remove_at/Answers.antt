@@ -24,7 +24,8 @@ pub invariant_of-self : goal.invariant_of-self
 invariant_of-self g c =
     let f = seen c.self.inside c.self.view_is c.self.invariant in
     let at = rw (← ap (λ t. t.rows) c.self.view_is) at c.requires.at in
-    all_filed c.take-leaf.new.self (files_removed f c.args.id c.requires.has c.take_out.new.rows.pairs (taken_out f c.args.id c.requires.has c.args.position at c.take_out.new.rows.pairs c.take_out.ensures.one c.take_out.ensures.more) (slot_at c.take-leaf.new.self) (subst (λ n. slot_at c.take-leaf.new.self n ≡ None) c.number.ensures.value c.take-leaf.ensures.gone) (λ j ne. c.take-leaf.ensures.others j (λ e. ne (e ∙ c.number.ensures.value))) (used_count c.take-leaf.new.self) c.take-leaf.ensures.used)
+    let bound = c.self.invariant.1 in
+    (all_filed c.take-leaf.new.self (files_removed f c.args.id c.requires.has c.take_out.new.rows.pairs (taken_out f c.args.id c.requires.has c.args.position at c.take_out.new.rows.pairs c.take_out.ensures.one c.take_out.ensures.more) (slot_at c.take-leaf.new.self) (subst (λ n. slot_at c.take-leaf.new.self n ≡ None) c.number.ensures.value c.take-leaf.ensures.gone) (λ j ne. c.take-leaf.ensures.others j (λ e. ne (e ∙ c.number.ensures.value))) (used_count c.take-leaf.new.self) c.take-leaf.ensures.used), omega (arith, c.take-leaf.ensures.len, c.take_out.ensures.top))
 
 pub returns-clause-rest : goal.returns-clause-rest
 returns-clause-rest g c =
@@ -36,6 +37,5 @@ pub returns-clause-room : goal.returns-clause-room
 returns-clause-room g c =
     let f = seen c.self.inside c.self.view_is c.self.invariant in
     let at = rw (← ap (λ t. t.rows) c.self.view_is) at c.requires.at in
-    let sp = c.take-leaf.ensures.spare in
     let a = taken_room c.self.inside.rows.pairs _ c.args.position at f.apart c.take_out.new.rows.pairs c.self.inside.rows.spare c.take_out.new.rows.spare c.take_out.ensures.one c.take_out.ensures.more c.take_out.ensures.gains c.take_out.ensures.grows in
-    rw (← c.self.view_is) (omega arith)
+    rw (← c.self.view_is) a

@@ -1,4 +1,4 @@
-use Rattle.std.proofs.Common.{◌≡◌, ◌-◌, ◌∷◌, ◌++◌, [], length, map, Some, sym, ap, ◌∙◌}
+use Rattle.std.proofs.Common.{◌≡◌, ◌∷◌, map, Some, sym, ap, ◌∙◌}
 use Rattle.art_rows.specs.Rows.{position_at, nth}
 use Rattle.art_rows.proofs.FilingLemmas.{seen, none_there}
 use Rattle.art_rows.proofs.Ends.{first_none, first_has, first_place, first_taken}

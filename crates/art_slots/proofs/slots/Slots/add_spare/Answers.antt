@@ -15,7 +15,7 @@ invariant_of-self g c =
     spares-add i.slab.slots c.insert_reserved-id.new.self.slots i.free i.spare c.insert_reserved-id.result r.was_vacant r.updates.changed r.updates.others r.len
     (omega (arith, r.len))
     (omega (arith, r.key_in_range, r.capacity))
-    c.self.invariant
+    c.self.invariant c.above-self-inside.result c.above-self-inside.ensures
 
 pub returns-clause-same : goal.returns-clause-same
 returns-clause-same g c j =

@@ -13,4 +13,5 @@ returns g c =
       cloned = λ j. rw (← c.self.view_is) (at-copy g.T.Clone.is_clone (map used_of c.self.inside.slab.slots) (map used_of c.in_ok-clone.field-0.slots) copies j);
       used = rw (← c.self.view_is) (count-copies g.T.Clone.is_clone (map used_of c.self.inside.slab.slots) (map used_of c.in_ok-clone.field-0.slots) copies);
       spare = rw (← c.self.view_is) refl;
+      top = rw (← c.self.view_is) refl;
     }

@@ -20,4 +20,10 @@ returns-clause-used g c =
     rw (← c.self.view_is) (omega arith)
 
 pub returns-clause-small : goal.returns-clause-small
-returns-clause-small g c = c.self.invariant.numbered c.in-Some.id (Spare c.in-Spare.next) (c.index.ensures ∙ ap Some c.in-Spare.is)
+returns-clause-small g c =
+    let b = c.self.invariant.numbered c.in-Some.id (Spare c.in-Spare.next) (c.index.ensures ∙ ap Some c.in-Spare.is) in
+    let t = c.self.invariant.small in
+    omega arith
+
+pub returns-clause-below : goal.returns-clause-below
+returns-clause-below g c = rw (← c.self.view_is) (c.self.invariant.numbered c.in-Some.id (Spare c.in-Spare.next) (c.index.ensures ∙ ap Some c.in-Spare.is))

@@ -1,6 +1,7 @@
 use Rattle.std.proofs.Common.{refl, ap, ◌∙◌}
 use Rattle.std.proofs.lemmas.List.{map-set}
 use Rattle.art_slots.specs.Chain.{used_of}
+use Rattle.art_slots.specs.declared.slots.Slot.TheVariants.{Used}
 use Rattle.art_slots.proofs.StoreSlots.{at-map, used_at, spares-rewrite, slots-rewrite}
 use Rattle.art_slots.proofs.slots.Slots.get_mut.Goals as goal
 
@@ -13,5 +14,9 @@ invariant_of-self-lent g c w =
 pub returns : goal.returns
 returns g c = (
   (refl, λ w. rw (← c.self.view_is, map-set, slots-rewrite c.self.inside.slab.slots c.args.id w (rw (← c.self.view_is) at c.requires))),
-  record { writes_back = tt; value = rw (← c.self.view_is) (at-map c.self.inside.slab.slots c.args.id ∙ ap used_of c.index_mut.ensures.value ∙ c.record_mut.ensures.value) },
+  record {
+    writes_back = tt;
+    value = rw (← c.self.view_is) (at-map c.self.inside.slab.slots c.args.id ∙ ap used_of c.index_mut.ensures.value ∙ c.record_mut.ensures.value);
+    below = (let u = used_at c.self.inside.slab.slots c.args.id (rw (← c.self.view_is) at c.requires) in rw (← c.self.view_is) (c.self.invariant.numbered c.args.id (Used u.0) u.1));
+  },
 )

@@ -1,68 +1,110 @@
-use Rattle.std.proofs.Common.{Some, lit<, arith}
-use Rattle.art_tree.specs.Leaves.{leaf_in}
-use Rattle.art_tree.specs.Calls.Placing.{HasNearest}
-use Rattle.art_tree.proofs.Calls.PlacedShapes.{nearest_long}
-use Rattle.art_tree.proofs.Pairs.Keys.{key_read}
-use Rattle.art_kinds.specs.Nodes.{at}
-use Rattle.blart_keys.proofs.Options.{is_some}
-use Rattle.art_tree.proofs.Pairs.Placed.{has_beside, has_leaf_before, free_before, placed_free, kept_pair, free_spot, free_gains}
+use Rattle.std.proofs.Common.{◌≡◌, ◌≤◌, ◌+◌, ℕ, refl, subst, arith, lit<, Some}
+use Rattle.art_kinds.specs.Nodes.{at, room}
+use Rattle.art_kinds.proofs.CallerLemmas.{room-same}
+use Rattle.art_kinds.specs.declared.records.ids.Child.TheVariants.{Leaf}
+use Rattle.art_tree.specs.Invariant.EdgesAbove.{LeadsTo}
+use Rattle.art_tree.specs.Leaves.{with_number}
+use Rattle.art_tree.proofs.Pairs.Crowded.{near_moved, placed_moved, sound_moved}
+use Rattle.art_tree.proofs.Pairs.Placed.{has_beside, has_leaf_before, free_before, placed_free, puts_pair, joins}
+use Rattle.art_tree.proofs.Pairs.Renumbered.{pairs_renumbered}
 use Rattle.art_tree.proofs.tree.place.place_beside.Goals as goal
 
-pub leaf_before-prev-requires : goal.leaf_before-prev-requires
-leaf_before-prev-requires g c = has_beside g.K.AsBytes.bytes c.args.leaves.now.pairs (g.K.AsBytes.bytes c.args.key) c.args.place.now.beside c.requires.free.beside
+pub leaf_before-requires : goal.leaf_before-requires
+leaf_before-requires g c = has_beside g.K.AsBytes.bytes c.args.leaves.now.pairs (g.K.AsBytes.bytes c.args.key) c.args.place.now.beside c.requires.free.beside
+
+-- ---- the leaf before the place stands
+
+pub crowd-requires : goal.crowd-requires
+crowd-requires g c =
+    let kb = g.K.AsBytes.bytes in
+    let l = c.args.leaves.now in
+    let q = kb c.args.key in
+    has_leaf_before kb l.pairs q c.leaf_before.result.0 (free_before kb l c.args.nodes.now (Some c.args.root.now) c.args.place.now q c.requires.whole c.law.ensures.distinct c.requires.free c.leaf_before.result.0 c.leaf_before.ensures)
 
 pub insert-id-requires-clause-prev : goal.insert-id-requires-clause-prev
 insert-id-requires-clause-prev g c =
     let kb = g.K.AsBytes.bytes in
     let l = c.args.leaves.now in
     let q = kb c.args.key in
-    let before = free_before kb l c.args.nodes.now (Some c.args.root.now) c.args.place.now q c.requires.whole c.law.ensures.distinct c.requires.free c.leaf_before-prev.result.0 c.leaf_before-prev.ensures in
-    has_leaf_before kb l.pairs q c.leaf_before-prev.result.0 before
+    has_leaf_before kb l.pairs q c.leaf_before.result.0 (free_before kb l c.args.nodes.now (Some c.args.root.now) c.args.place.now q c.requires.whole c.law.ensures.distinct c.requires.free c.leaf_before.result.0 c.leaf_before.ensures)
 
-pub read-requires-2 : goal.read-requires-2
-read-requires-2 g c =
+pub insert_crowded-requires-clause-prev : goal.insert_crowded-requires-clause-prev
+insert_crowded-requires-clause-prev g c =
+    let kb = g.K.AsBytes.bytes in
+    let l = c.args.leaves.now in
+    let q = kb c.args.key in
+    has_leaf_before kb l.pairs q c.leaf_before.result.0 (free_before kb l c.args.nodes.now (Some c.args.root.now) c.args.place.now q c.requires.whole c.law.ensures.distinct c.requires.free c.leaf_before.result.0 c.leaf_before.ensures)
+
+-- ---- no leaf makes way
+
+pub join-top-requires : goal.join-top-requires
+join-top-requires g c =
+    let kb = g.K.AsBytes.bytes in
+    let l = c.args.leaves.now in
     let i = c.insert-id in
     let x : g.row.K.Denot × g.row.V.Denot = (c.args.key, c.args.value) in
-    let p = placed_free g.K.AsBytes.bytes c.args.leaves.now c.args.nodes.now (Some c.args.root.now) c.args.place.now i.new.self.pairs i.result x c.requires.whole c.law.ensures.distinct c.requires.free c.leaf_before-prev.result.0 c.leaf_before-prev.ensures i.ensures.fresh i.ensures.placed in
-    is_some (leaf_in i.new.self.pairs i.result) x p.now
+    let p = placed_free kb l c.args.nodes.now (Some c.args.root.now) c.args.place.now i.new.self.pairs i.result x c.requires.whole c.law.ensures.distinct c.requires.free c.leaf_before.result.0 c.leaf_before.ensures i.ensures.fresh i.ensures.placed in
+    (lit< tt, (joins kb l c.args.nodes.now c.args.root.now i.new.self.pairs c.args.place.now.nearest c.args.place.now.depth i.result x c.requires.whole c.requires.free.leaves p, c.requires.nodes_room))
 
-pub read-requires-3 : goal.read-requires-3
-read-requires-3 g c =
+pub returns-in_default-clause-placed : goal.returns-in_default-clause-placed
+returns-in_default-clause-placed g c =
+    let kb = g.K.AsBytes.bytes in
+    let l = c.args.leaves.now in
     let i = c.insert-id in
     let x : g.row.K.Denot × g.row.V.Denot = (c.args.key, c.args.value) in
-    let y : g.row.K.Denot × g.row.V.Denot = (c.read.result.0.now, c.read.result.1.now) in
-    let p = placed_free g.K.AsBytes.bytes c.args.leaves.now c.args.nodes.now (Some c.args.root.now) c.args.place.now i.new.self.pairs i.result x c.requires.whole c.law.ensures.distinct c.requires.free c.leaf_before-prev.result.0 c.leaf_before-prev.ensures i.ensures.fresh i.ensures.placed in
-    is_some (leaf_in i.new.self.pairs c.args.place.now.nearest) y (kept_pair g.K.AsBytes.bytes c.args.leaves.now.pairs i.new.self.pairs i.result x p c.args.place.now.nearest y c.read.ensures.value)
+    puts_pair kb l.pairs l.pairs i.new.self.pairs i.result x refl
+    (placed_free kb l c.args.nodes.now (Some c.args.root.now) c.args.place.now i.new.self.pairs i.result x c.requires.whole c.law.ensures.distinct c.requires.free c.leaf_before.result.0 c.leaf_before.ensures i.ensures.fresh i.ensures.placed)
 
-pub add_leaf-top-requires : goal.add_leaf-top-requires
-add_leaf-top-requires g c =
+pub returns-in_default-clause-whole : goal.returns-in_default-clause-whole
+returns-in_default-clause-whole g c =
     let i = c.insert-id in
     let x : g.row.K.Denot × g.row.V.Denot = (c.args.key, c.args.value) in
-    let s = c.requires.whole.shape in
-    let p = placed_free g.K.AsBytes.bytes c.args.leaves.now c.args.nodes.now (Some c.args.root.now) c.args.place.now i.new.self.pairs i.result x c.requires.whole c.law.ensures.distinct c.requires.free c.leaf_before-prev.result.0 c.leaf_before-prev.ensures i.ensures.fresh i.ensures.placed in
-    (lit< tt, (free_spot g.K.AsBytes.bytes c.args.leaves.now.pairs i.new.self.pairs i.result x p (at c.args.nodes.now) c.args.root.now s c.args.place.now c.requires.free _ _ _ c.read.ensures.value c.read-3.ensures.value c.read-2.ensures.value _ _ _ c.as_bytes-3.ensures c.as_bytes-2.ensures c.as_bytes-4.ensures c.spot_for-spot.result (c.spot_for-spot.ensures _ s), c.requires.nodes_room))
+    let p = placed_free g.K.AsBytes.bytes c.args.leaves.now c.args.nodes.now (Some c.args.root.now) c.args.place.now i.new.self.pairs i.result x c.requires.whole c.law.ensures.distinct c.requires.free c.leaf_before.result.0 c.leaf_before.ensures i.ensures.fresh i.ensures.placed in
+    record { content = p.put.content; shape = c.join-top.ensures.shape }
+
+-- ---- a leaf makes way
+
+pub join-top-requires-2 : goal.join-top-requires-2
+join-top-requires-2 g c =
+    let kb = g.K.AsBytes.bytes in
+    let l = c.args.leaves.now in
+    let n = c.args.nodes.now in
+    let root = c.args.root.now in
+    let place = c.args.place.now in
+    let i = c.insert_crowded in
+    let e = i.ensures in
+    let x : g.row.K.Denot × g.row.V.Denot = (c.args.key, c.args.value) in
+    let s = c.spot_of-spot in
+    let leads : LeadsTo (at n) (Some root) s.result.edge (Leaf c.in-Some.last) = subst (λ (j : ℕ). LeadsTo (at n) (Some root) s.result.edge (Leaf j)) s.ensures.same s.ensures.spot.leads in
+    let p = placed_moved kb l n (Some root) place x c.requires.whole c.law.ensures.distinct c.requires.free c.in-Some.last i.result.1 c.in-Some.ensures.has e.moved c.leaf_before.result.0 c.leaf_before.ensures c.in-Some.ensures.some.apart i.new.self.pairs i.result.0 e.fresh e.placed in
+    let sound = sound_moved kb l n (Some root) place x c.requires.whole c.law.ensures.distinct c.requires.free c.in-Some.last i.result.1 c.in-Some.ensures.has e.moved c.lead-led.new.nodes (Some c.lead-led.result) s.result.edge leads c.lead-led.ensures.turned in
+    let near = near_moved kb l n (Some root) place x c.requires.whole c.law.ensures.distinct c.requires.free c.in-Some.last i.result.1 c.in-Some.ensures.has e.moved in
+    let j = joins kb (record l { pairs = with_number l.pairs c.in-Some.last i.result.1 }) c.lead-led.new.nodes c.lead-led.result i.new.self.pairs _ place.depth i.result.0 x sound near p in
+    let same : room c.lead-led.new.nodes ≡ room n = room-same n c.lead-led.new.nodes c.lead-led.ensures.spares in
+    (lit< tt, (rw (c.renumbered.ensures.nearest, c.renumbered.ensures.depth) j, rw same c.requires.nodes_room))
 
 pub returns-clause-placed : goal.returns-clause-placed
 returns-clause-placed g c =
-    let i = c.insert-id in
-    placed_free g.K.AsBytes.bytes c.args.leaves.now c.args.nodes.now (Some c.args.root.now) c.args.place.now i.new.self.pairs i.result (c.args.key, c.args.value) c.requires.whole c.law.ensures.distinct c.requires.free c.leaf_before-prev.result.0 c.leaf_before-prev.ensures i.ensures.fresh i.ensures.placed
+    let kb = g.K.AsBytes.bytes in
+    let l = c.args.leaves.now in
+    let i = c.insert_crowded in
+    let e = i.ensures in
+    let last = c.in-Some.last in
+    let x : g.row.K.Denot × g.row.V.Denot = (c.args.key, c.args.value) in
+    puts_pair kb l.pairs (with_number l.pairs last i.result.1) i.new.self.pairs i.result.0 x (pairs_renumbered l.pairs last i.result.1)
+    (placed_moved kb l c.args.nodes.now (Some c.args.root.now) c.args.place.now x c.requires.whole c.law.ensures.distinct c.requires.free last i.result.1 c.in-Some.ensures.has e.moved c.leaf_before.result.0 c.leaf_before.ensures c.in-Some.ensures.some.apart i.new.self.pairs i.result.0 e.fresh e.placed)
 
 pub returns-clause-whole : goal.returns-clause-whole
 returns-clause-whole g c =
-    let i = c.insert-id in
+    let kb = g.K.AsBytes.bytes in
+    let i = c.insert_crowded in
+    let e = i.ensures in
     let x : g.row.K.Denot × g.row.V.Denot = (c.args.key, c.args.value) in
-    let s = c.requires.whole.shape in
-    let p = placed_free g.K.AsBytes.bytes c.args.leaves.now c.args.nodes.now (Some c.args.root.now) c.args.place.now i.new.self.pairs i.result x c.requires.whole c.law.ensures.distinct c.requires.free c.leaf_before-prev.result.0 c.leaf_before-prev.ensures i.ensures.fresh i.ensures.placed in
-    record {
-      content = p.put.content;
-      shape = free_gains g.K.AsBytes.bytes c.args.leaves.now.pairs i.new.self.pairs i.result x p (at c.args.nodes.now) c.args.root.now s c.args.place.now c.requires.free _ _ _ c.read.ensures.value c.read-3.ensures.value c.read-2.ensures.value _ _ _ c.as_bytes-3.ensures c.as_bytes-2.ensures c.as_bytes-4.ensures c.spot_for-spot.result (c.spot_for-spot.ensures _ s)
-          (at c.add_leaf-top.new.nodes) c.add_leaf-top.result c.add_leaf-top.ensures.gains;
-    }
+    let p = placed_moved kb c.args.leaves.now c.args.nodes.now (Some c.args.root.now) c.args.place.now x c.requires.whole c.law.ensures.distinct c.requires.free c.in-Some.last i.result.1 c.in-Some.ensures.has e.moved c.leaf_before.result.0 c.leaf_before.ensures c.in-Some.ensures.some.apart i.new.self.pairs i.result.0 e.fresh e.placed in
+    record { content = p.put.content; shape = c.join-top-2.ensures.shape }
 
-pub spot_for-spot-requires : goal.spot_for-spot-requires
-spot_for-spot-requires g c =
-    let is = key_read g.K.AsBytes.bytes c.args.leaves.now.pairs c.args.place.now.nearest c.read.ensures.value c.as_bytes-2.ensures in
-    let long = nearest_long _ _ _ _ c.requires.free.leaves _ is in
-    let longer = c.requires.free.leaves.longer in
-    let nearest : HasNearest g.row.P (at c.args.nodes.now) c.args.root.now c.args.place.now c.as_bytes-2.result.now = record { keys = _; shape = c.requires.whole.shape; is = is; within = omega arith } in
-    (lit< tt, (nearest, rw c.as_bytes.ensures (omega (arith, longer))))
+pub returns-clause-nodes_room : goal.returns-clause-nodes_room
+returns-clause-nodes_room g c =
+    let same : room c.lead-led.new.nodes ≡ room c.args.nodes.now = room-same c.args.nodes.now c.lead-led.new.nodes c.lead-led.ensures.spares in
+    let r : room c.lead-led.new.nodes ≤ room c.join-top-2.new.nodes + 1 = c.join-top-2.ensures.room in
+    omega arith

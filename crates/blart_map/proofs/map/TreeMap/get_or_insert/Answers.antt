@@ -47,7 +47,7 @@ returns-in-Ok g c =
     let is : got.result.now ≡ c.args.value = cc in (
       (
         refl,
-        (λ w o. new_set_at kb ps (pairs_of ps) refl content distinct c.args.key absent ps c.place_new.new.self c.args.value c.in-Ok.id refl placed.put placed.distinct placed.now w),
+        (λ w o. new_set_at kb ps (pairs_of ps) refl content distinct c.args.key absent ps c.place_new.new.self c.args.value c.in-Ok.id refl placed.put placed.whole placed.distinct placed.now w),
         tt,
       ),
       record {

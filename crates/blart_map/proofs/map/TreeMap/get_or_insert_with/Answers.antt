@@ -49,7 +49,7 @@ returns-in-Ok g c =
     let is : got.result.now ≡ v0 = cc in (
       (
         refl,
-        (λ w o. new_set_at kb ps (pairs_of ps) refl content distinct c.args.key absent ps c.place_new_with.new.self v0 c.in-Ok.id refl placed.put placed.distinct placed.now w),
+        (λ w o. new_set_at kb ps (pairs_of ps) refl content distinct c.args.key absent ps c.place_new_with.new.self v0 c.in-Ok.id refl placed.put placed.whole placed.distinct placed.now w),
         tt,
       ),
       record {

@@ -66,7 +66,7 @@ returns-in_ok-make_room-in_default g c =
     let x : g.row.K.Denot × g.row.V.Denot = (c.args.key, c.args.value) in
     let good = rw c.as_bytes.ensures at c.point.ensures in
     let alone = open_alone kb ps c.law.ensures.content c.law.ensures.distinct q c.point.result good (opens_else c.point.result c.in_default.not-Exact c.in_default.not-Related) in
-    let put = (placed kb ps c.law.ensures.content c.law.ensures.distinct x alone c.make_room.new.self.pairs c.place.new.self.pairs c.place.result c.in_ok-make_room-in_default.ensures.pairs c.place.ensures.put).1 in
+    let put = (placed kb ps c.law.ensures.content c.law.ensures.distinct x alone c.make_room.new.self.pairs c.place.new.self.pairs c.in_ok-make_room-in_default.ensures.pairs c.place.ensures.put).1 in
     let over = subst (λ S. IsOver (bytes kb) S x (pairs_of c.place.new.self.pairs)) (ap pairs_of c.self.view_is) (over_of_put (bytes kb) (pairs_of ps) (pairs_of c.place.new.self.pairs) x put) in
     record {
       put = over;

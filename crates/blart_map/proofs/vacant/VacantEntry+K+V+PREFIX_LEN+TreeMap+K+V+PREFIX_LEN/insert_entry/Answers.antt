@@ -16,7 +16,7 @@ unfolding pairs
 returns g c =
     let kb = g.K.AsBytes.bytes in
     let same = ap (λ o. unwrap_or (option_map (λ x. kb x.0) o) []) c.in_ok-leaf.ensures.placed.now in
-    let set = placed_entry_set kb c.args.self.map.now c.args.self.map.now c.place_new.new.self refl c.in_ok-leaf.ensures.placed.content c.in_ok-leaf.leaf c.args.self.key c.args.value c.args.self.absent c.in_ok-leaf.ensures.placed.put c.in_ok-leaf.ensures.placed.distinct c.in_ok-leaf.ensures.placed.now in (
+    let set = placed_entry_set kb c.args.self.map.now c.args.self.map.now c.place_new.new.self refl c.in_ok-leaf.ensures.placed.content c.in_ok-leaf.leaf c.args.self.key c.args.value c.args.self.absent c.in_ok-leaf.ensures.placed.put c.in_ok-leaf.ensures.placed.whole c.in_ok-leaf.ensures.placed.distinct c.in_ok-leaf.ensures.placed.now in (
       (refl, (λ w. refl), tt),
       record {
         stands = tt;

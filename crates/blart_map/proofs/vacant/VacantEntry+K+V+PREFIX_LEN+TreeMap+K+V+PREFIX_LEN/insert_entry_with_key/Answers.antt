@@ -14,7 +14,7 @@ pub returns : goal.returns
 unfolding pairs
 returns g c =
     let kb = g.K.AsBytes.bytes in
-    let set = placed_entry_set kb c.args.self.map.now c.args.self.map.now c.place_new_with_key.new.self refl c.in_ok-id.ensures.placed.2.content c.in_ok-id.id c.args.self.key c.in_ok-id.ensures.placed.0 c.args.self.absent c.in_ok-id.ensures.placed.2.put c.in_ok-id.ensures.placed.2.distinct c.in_ok-id.ensures.placed.2.now in (
+    let set = placed_entry_set kb c.args.self.map.now c.args.self.map.now c.place_new_with_key.new.self refl c.in_ok-id.ensures.placed.2.content c.in_ok-id.id c.args.self.key c.in_ok-id.ensures.placed.0 c.args.self.absent c.in_ok-id.ensures.placed.2.put c.in_ok-id.ensures.placed.2.whole c.in_ok-id.ensures.placed.2.distinct c.in_ok-id.ensures.placed.2.now in (
       (refl, (λ w. refl), tt),
       record {
         stands = tt;

@@ -1,0 +1,180 @@
+-- Full rows, and the leaves that make way.
+use Rattle.std.proofs.Common.{◌≡◌, ◌≢◌, ◌⊎◌, eqb, eq-eqb, true, false, IsSome, ◌∷◌, ◌++◌, [], ℕ, zero, suc, take, drop, ◌+◌, ◌-◌, ◌<◌, ◌≤◌, List, length, map, refl, sym, ap, ◌∙◌, Option, Some, None, inl, inr, arith}
+use Rattle.std.specs.Prelude.{IfSome, IfNone}
+use Rattle.std.proofs.lemmas.List.{length-append, length-take-le, length-drop}
+use Rattle.art_rows.specs.Numbers.{Numbered, leaf_in, Has, AreDistinct, last_number, number_after, number_before, with_pair}
+use Rattle.art_rows.specs.Links.{is_at}
+use Rattle.art_rows.specs.Rows.{position_at, place_in, nth, numbers, row_end}
+use Rattle.art_rows.specs.Blocks.{row_of, HasWay, IsCrowded, IsAfter, GoesOn}
+use Rattle.art_rows.specs.Leaves.{index_of, spot_index}
+use Rattle.art_rows.specs.Filing.{Files}
+use Rattle.art_rows.specs.declared.leaves.Leaf.{Leaf}
+use Rattle.art_rows.specs.declared.row.Position.{Position}
+use Rattle.art_rows.proofs.NumbersLemmas.{after_other, Has-last, leaf_in-with_now}
+use Rattle.art_rows.proofs.RowsLemmas.{among-nth, Has-among, standing, standing-row, numbers-append, last_number-nth}
+use Rattle.art_rows.proofs.Ends.{last_place}
+use Rattle.art_rows.proofs.FilingLemmas.{located, located_at, row_has, how_many, stands_there, number_there, before_there}
+use Rattle.art_rows.proofs.RowChanges.{spot_after}
+use Rattle.art_rows.proofs.Rooms.{spot_ids, spot_end}
+
+-- the number goes to the front of the next row
+pub goes_on : (rows new : List (Numbered (List ℕ))) (r n next : ℕ) → number_after rows r ≡ Some next → Has rows next → IfSome (leaf_in rows next) (λ ids. new ≡ with_pair rows next (n ∷ ids)) → GoesOn rows new r n
+goes_on rows new r n next after has put = go (leaf_in rows next) refl has put
+  where
+    go : (o : Option (List ℕ)) → leaf_in rows next ≡ o → IsSome o → IfSome o (λ ids. new ≡ with_pair rows next (n ∷ ids)) → GoesOn rows new r n
+    go None e h p = absurd (let f : false ≡ true = h in cc)
+    go (Some ids) e h p = record { next = next; after = after; ids = ids; was = e; is = p }
+
+-- a row that has as many numbers as fit has no room
+pub is_full : (o : Option (List ℕ)) (n : ℕ) → IfSome o (λ ids. n ≡ length ids) → n ≤ 32 → 32 ≤ n → IfSome o (λ ids. length ids ≡ 32)
+is_full None n len most least = len
+is_full (Some ids) n len most least = omega arith
+
+-- one that has fewer has
+pub has_room : (o : Option (List ℕ)) (n : ℕ) → IfSome o (λ ids. n ≡ length ids) → n < 32 → IfSome o (λ ids. length ids < 32)
+has_room None n len less = len
+has_room (Some ids) n len less = omega arith
+
+-- no row comes after itself
+pub not_after : (rows : List (Numbered (List ℕ))) → AreDistinct rows → (r next : ℕ) → Has rows r → number_after rows r ≡ Some next → next ≢ r
+not_after rows d r next has after e = (let a : is_at (number_after rows r) r ≡ false = after_other rows r d has in let b : eqb next r ≡ false = rw after at a in let t : true ≡ false = sym (eq-eqb next r e) ∙ b in absurd cc)
+
+module _ {K V : Type 0} {leaves : ℕ → Option (Leaf K V)} {rows : List (Numbered (List ℕ))} {count : ℕ} {ps : List (Numbered (K × V))} (f : Files leaves rows count ps) where
+  -- what stands in a row is a leaf
+  pub has_there : (p : Position) (ids : List ℕ) → leaf_in rows p.row ≡ Some ids → (i : ℕ) → nth ids p.place ≡ Some i → Has ps i
+  has_there p ids at i e =
+      let s = stands_there f i p ids at e in
+      let n = number_there f (index_of ps i) p s ids at ∙ e in
+      Has-among ps i (among-nth (map (λ q. q.0) ps) (index_of ps i) i n)
+
+  module _ (i : ℕ) (has : Has ps i) (p : Position) (is : position_at rows (index_of ps i) ≡ Some p) (ids : List ℕ) (at : leaf_in rows p.row ≡ Some ids) where
+    -- the row of the leaf
+    pub own_ids : leaf_in rows (row_of i) ≡ Some ids
+    own_ids = ap (leaf_in rows) (sym (located_at f i has p is).0) ∙ at
+
+    -- and its place there
+    pub own_place : p.place ≡ place_in ids i
+    own_place = rw own_ids at (located_at f i has p is).1
+
+    -- where the row is not full, or the leaf is the last of it, a pair may come after it
+    pub has_way : (length ids < 32) ⊎ (p.place ≡ 31) → HasWay rows (Some i)
+    has_way h = rw own_ids (λ full. (let o = own_place in elim h [ inl l ↦ absurd (omega arith) | inr e ↦ omega arith ]))
+
+    -- or else the last leaf makes way
+    pub crowded : length ids ≡ 32 → p.place ≢ 31 → (last : ℕ) → nth ids 31 ≡ Some last → IsCrowded rows (Some i) last
+    crowded full off last end = record {
+      leaf = i;
+      is = refl;
+      apart = λ e. (
+          let same : i ≡ last = cc in
+          let q : Position = record { row = p.row; place = 31 } in
+          let a : Some p ≡ Some q = sym is ∙ ap (λ n. position_at rows (index_of ps n)) same ∙ stands_there f last q ids at end in
+          let b : p ≡ q = cc in
+          off (ap (λ (x : Position). x.place) b));
+      ids = ids;
+      row = own_ids;
+      full = full;
+      end = end;
+    }
+
+  -- a place in front is that of no leaf
+  pub in_front : (prev : Option ℕ) → IfSome prev (Has ps) → (p : Position) → IfSome prev (λ i. IsAfter rows i p) → p.place ≡ 0 → spot_index prev ps ≡ 0
+  in_front None has p after z = refl
+  in_front (Some i) has p after z = go (leaf_in rows (row_of i)) (row_has f i has) after.1
+    where
+      go : (o : Option (List ℕ)) → IsSome o → IfSome o (λ ids. p.place ≡ place_in ids i + 1) → index_of ps i + 1 ≡ 0
+      go None h e = absurd (let t : false ≡ true = h in cc)
+      go (Some ids) h e = absurd (omega arith)
+
+  -- where no leaf has to make way, the place after one in a full row is the end of the row
+  pub at_end : (prev : Option ℕ) → IfNone prev (⊥) → (p : Position) → IfSome prev (λ i. IsAfter rows i p) → HasWay rows prev → (ids : List ℕ) → leaf_in rows p.row ≡ Some ids → length ids ≡ 32 → p.place ≡ 32
+  at_end None some p after way ids at full = absurd some
+  at_end (Some i) some p after way ids at full =
+      let own : leaf_in rows (row_of i) ≡ Some ids = ap (leaf_in rows) (sym after.0) ∙ at in
+      let a : p.place ≡ place_in ids i + 1 = rw own at after.1 in
+      let b : length ids ≡ 32 → place_in ids i + 1 ≡ 32 = rw own at way in
+      a ∙ b full
+
+  -- the last leaf of all is the last of its row
+  pub last_way : (o : Option ℕ) → o ≡ last_number ps → HasWay rows o
+  last_way None e = tt
+  last_way (Some i) e = go (leaf_in rows (row_of i)) refl
+    where
+      has : Has ps i
+      has = Has-last ps i (sym e)
+
+      at_last : (ids : List ℕ) → leaf_in rows (row_of i) ≡ Some ids → length ids ≡ 32 → place_in ids i + 1 ≡ 32
+      at_last ids at full =
+          let q : Position = record { row = row_of i; place = place_in ids i } in
+          let l = located f i has ids at in
+          let s = standing rows (index_of ps i) q l in
+          let r : Some ids ≡ Some s.ids = sym at ∙ standing-row rows (index_of ps i) q s f.apart in
+          let same : ids ≡ s.ids = cc in
+          let k : index_of ps i ≡ length ps - 1 = last_place ps i f.distinct (sym (last_number-nth ps) ∙ sym e) in
+          let n : length (numbers rows) ≡ length (numbers s.before) + (length s.ids + length (numbers s.after)) = ap (λ rs. length (numbers rs)) s.is ∙ ap length (numbers-append s.before ((row_of i, s.ids) ∷ s.after)) ∙ length-append (numbers s.before) (s.ids ++ numbers s.after) ∙ ap (λ m. length (numbers s.before) + m) (length-append s.ids (numbers s.after)) in
+          let h : length (numbers rows) ≡ length ps = how_many f in
+          let x = s.index in
+          let w = s.within in
+          let m : length ids ≡ length s.ids = ap length same in
+          omega arith
+
+      go : (o : Option (List ℕ)) → leaf_in rows (row_of i) ≡ o → IfSome o (λ ids. length ids ≡ 32 → place_in ids i + 1 ≡ 32)
+      go None at = tt
+      go (Some ids) at = at_last ids at
+
+-- ---- a row without its last number
+
+-- what stands among the first numbers
+nth-left : {X : Type 0} (xs ys : List X) (k j : ℕ) → j < k → k ≤ length xs → nth (take k xs ++ ys) j ≡ nth xs j
+nth-left xs ys zero j l w = absurd (omega arith)
+nth-left [] ys (suc k) j l w = absurd (omega arith)
+nth-left (x ∷ xs) ys (suc k) zero l w = refl
+nth-left (x ∷ xs) ys (suc k) (suc j) l w = nth-left xs ys k j (omega arith) (omega arith)
+
+module _ (rows mid : List (Numbered (List ℕ))) (r : ℕ) (ids : List ℕ) (at : leaf_in rows r ≡ Some ids) (full : length ids ≡ 32) (is : mid ≡ with_pair rows r (take 31 ids ++ drop 32 ids)) where
+  -- the numbers that are left
+  abbrev pub left : List ℕ
+  left = take 31 ids ++ drop 32 ids
+
+  pub left_length : length left ≡ 31
+  left_length =
+      let a = length-append (take 31 ids) (drop 32 ids) in
+      let b = length-take-le 31 ids (omega arith) in
+      let c = length-drop 32 ids in
+      omega arith
+
+  pub left_there : leaf_in mid r ≡ Some left
+  left_there = ap (λ rs. leaf_in rs r) is ∙ leaf_in-with_now rows r left (rw at refl)
+
+  pub left_end : (n : ℕ) → nth ids 30 ≡ Some n → nth left 30 ≡ Some n
+  left_end n e = nth-left ids (drop 32 ids) 31 30 (omega arith) (omega arith) ∙ e
+
+module _ {K V : Type 0} {leaves : ℕ → Option (Leaf K V)} {rows : List (Numbered (List ℕ))} {count : ℕ} {ps : List (Numbered (K × V))} (f : Files leaves rows count ps) (last : ℕ) (has : Has ps last) (ids : List ℕ) (at : leaf_in rows (row_of last) ≡ Some ids) (full : length ids ≡ 32) (end : nth ids 31 ≡ Some last) where
+  -- where the last leaf of a full row stands
+  pub carry_at : position_at rows (index_of ps last) ≡ Some (record { row = row_of last; place = 31 })
+  carry_at = stands_there f last (record { row = row_of last; place = 31 }) ids at end
+
+  module _ (before : ℕ) (then : nth ids 30 ≡ Some before) where
+    -- and before it
+    pub carry_before : number_before ps last ≡ Some before
+    carry_before = before_there f last before has (record { row = row_of last; place = 31 }) ids at (omega arith) end then
+
+    module _ {less : ℕ → Option (Leaf K V)} {mid : List (Numbered (List ℕ))} {fewer : ℕ} {qs : List (Numbered (K × V))} (h : Files less mid fewer qs) (is : mid ≡ with_pair rows (row_of last) (take 31 ids ++ drop 32 ids)) where
+      abbrev p : Position
+      p = record { row = row_of last; place = 30 }
+
+      there : leaf_in mid (row_of last) ≡ Some (left rows mid (row_of last) ids at full is)
+      there = left_there rows mid (row_of last) ids at full is
+
+      e : nth (left rows mid (row_of last) ids at full is) 30 ≡ Some before
+      e = left_end rows mid (row_of last) ids at full is before then
+
+      -- without it that one is the last of the row
+      pub carry_has : Has qs before
+      carry_has = has_there h p (left rows mid (row_of last) ids at full is) there before e
+
+      pub carry_index : index_of qs before + 1 ≡ row_end (Some (row_of last)) mid
+      carry_index =
+          let s = spot_after mid (index_of qs before) p (stands_there h before p (left rows mid (row_of last) ids at full is) there e) in
+          let n : length s.ids ≡ 31 = spot_ids s h.apart (λ l. length l ≡ 31) (rw there (left_length rows mid (row_of last) ids at full is)) in
+          spot_end s h.apart (omega arith)

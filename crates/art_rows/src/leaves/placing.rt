@@ -1,0 +1,224 @@
+//! Leaves that join others.
+ghost use Rattle.std.specs.Prelude.{◌≡◌, ◌≢◌, ℕ, ◌+◌, ◌-◌, ◌<◌, ◌≤◌, ◌++◌, List, [], ◌∷◌, length, take, drop, Some, None, IsSome, IfSome, IfNone};
+ghost use Rattle.art_rows.specs.Numbers.{leaf_in, Has, last_number, number_after, with_pair_after, with_number, with_pair};
+ghost use Rattle.art_rows.specs.Rows.{position_at, nth, IsSpot, row_end, lengths};
+ghost use Rattle.art_rows.specs.RowRoom.{row_room};
+ghost use Rattle.art_rows.specs.Blocks.{row_of, HasWay, IsCrowded, IsAfter, IsShut, GoesBeyond};
+ghost use Rattle.art_rows.specs.Leaves.{room, spot_index};
+
+use crate::leaves::{Leaf, Leaves};
+use crate::row::{Position, ROW, Row};
+use art_slots::LeafId;
+
+impl<K: Drop, V: Drop> Leaves<K, V> {
+    // How many numbers a row has.
+    fn row_len(&self, row: usize) -> usize
+        requires { Has self.now.rows row }
+        ensures len { IfSome (leaf_in self.now.rows row) (λ ids. result ≡ length ids) }
+        ensures fits { result ≤ ROW }
+    {
+        self.rows.read(row).len()
+    }
+
+    // The row after another.
+    fn row_after(&self, row: usize) -> Option<usize>
+        requires { Has self.now.rows row }
+        ensures { result ≡ number_after self.now.rows row }
+    {
+        self.rows.next_of(row)
+    }
+
+    /// The leaf that has to make way before a pair comes after `prev`: the last of a full row. `seen` is where `prev` may stand, and then where it does.
+    pub fn crowd(&self, prev: Option<LeafId>, seen: &mut Position) -> Option<LeafId>
+        requires { IfSome prev (Has self.now.pairs) }
+        ensures none { IfNone result (HasWay self.now.rows prev) }
+        ensures some { IfSome result (IsCrowded self.now.rows prev) }
+        ensures has { IfSome result (Has self.now.pairs) }
+    {
+        let _ = &self.rows;
+        let Some(id) = prev else {
+            return None;
+        };
+        let position = self.position_near(id, *seen);
+        *seen = position;
+        let row = self.rows.read(position.row);
+        if row.len() < ROW || position.place == ROW - 1 {
+            return None;
+        }
+        Some(row.at(ROW - 1))
+    }
+
+    /// Puts a pair after the leaf `prev`, or in front of all, where no leaf has to make way. `seen` is where `prev` may stand: where it does, no row is searched. It asks for no memory.
+    pub fn insert(&mut self, prev: Option<LeafId>, seen: Position, key: K, value: V) -> LeafId
+        requires room { 0 < room self.old }
+        requires prev { IfSome prev (Has self.old.pairs) }
+        requires way { HasWay self.old.rows prev }
+        ensures fresh { leaf_in self.old.pairs result ≡ None }
+        ensures placed { self.new.pairs ≡ with_pair_after prev (result, (key, value)) self.old.pairs }
+        ensures room { room self.old ≤ room self.new + 1 }
+    {
+        let _ = &self.rows;
+        // The prover takes an `Option<LeafId>` that is passed on as moved, so this is a copy.
+        let after = prev;
+        let position = match self.spot(after, seen) {
+            None => return self.begin(prev, None, key, value),
+            Some(position) => position,
+        };
+        if self.row_len(position.row) < ROW {
+            return self.put(prev, position, key, value);
+        }
+        if position.place == 0 {
+            return self.begin(prev, None, key, value);
+        }
+        self.put_beyond(prev, position.row, key, value)
+    }
+
+    /// Puts a pair after the leaf `prev` in a full row, whose last leaf makes way: it goes to the row after it, and has another number then. Answers the new leaf, and that number. It asks for no memory.
+    pub fn insert_crowded(
+        &mut self,
+        prev: Option<LeafId>,
+        seen: Position,
+        last: LeafId,
+        key: K,
+        value: V,
+    ) -> (LeafId, LeafId)
+        requires room { 0 < room self.old }
+        requires prev { IfSome prev (Has self.old.pairs) }
+        requires has { Has self.old.pairs last }
+        requires crowded { IsCrowded self.old.rows prev last }
+        ensures moved { leaf_in self.old.pairs result.1 ≡ None }
+        ensures fresh { leaf_in (with_number self.old.pairs last result.1) result.0 ≡ None }
+        ensures placed { self.new.pairs ≡ with_pair_after prev (result.0, (key, value)) (with_number self.old.pairs last result.1) }
+        ensures room { room self.old ≤ room self.new + 1 }
+    {
+        let _ = &self.rows;
+        let moved = self.carry(last);
+        let _ = &self.rows;
+        let after = prev;
+        match self.spot(after, seen) {
+            Some(position) => (self.put(prev, position, key, value), moved),
+            None => unreachable!(),
+        }
+    }
+
+    /// Puts a pair after all others. It asks for no memory.
+    pub fn push(&mut self, key: K, value: V) -> LeafId
+        requires room { 0 < room self.old }
+        ensures fresh { leaf_in self.old.pairs result ≡ None }
+        ensures placed { self.new.pairs ≡ with_pair_after (last_number self.old.pairs) (result, (key, value)) self.old.pairs }
+        ensures room { room self.old ≤ room self.new + 1 }
+    {
+        let _ = &self.rows;
+        let last = self.last();
+        self.insert(last, Position::unknown(), key, value)
+    }
+
+    // Moves the last leaf of a full row to the row after it. Answers the number that it has then.
+    #[cold]
+    #[inline(never)]
+    fn carry(&mut self, last: LeafId) -> LeafId
+        requires room { 0 < room self.old }
+        requires has { Has self.old.pairs last }
+        requires row { IfSome (leaf_in self.old.rows (row_of last)) (λ ids. (length ids ≡ ROW) × (nth ids (ROW - 1) ≡ Some last)) }
+        ensures fresh { leaf_in self.old.pairs result ≡ None }
+        ensures pairs { self.new.pairs ≡ with_number self.old.pairs last result }
+        ensures row { IfSome (leaf_in self.new.rows (row_of last)) (λ ids. length ids + 1 ≡ ROW) }
+        ensures room { (ids : List ℕ) → length ids ≡ ROW → room self.old ≤ row_room (lengths (with_pair self.new.rows (row_of last) ids)) self.new.spare_rows + 1 }
+    {
+        let row = last.number() / ROW;
+        let before = self.rows.read(row).at(ROW - 2);
+        let place = ROW - 1;
+        let (key, value) = self.remove_at(last, Position { row, place });
+        let _ = &self.rows;
+        self.put_beyond(Some(before), row, key, value)
+    }
+
+    // Puts a pair after the last leaf of a row: into the row after it, where that is not full, or else into a new one.
+    #[cold]
+    #[inline(never)]
+    fn put_beyond(&mut self, prev: Option<LeafId>, row: usize, key: K, value: V) -> LeafId
+        requires prev { IfSome prev (Has self.old.pairs) }
+        requires has { Has self.old.rows row }
+        requires index { spot_index prev self.old.pairs ≡ row_end (Some row) self.old.rows }
+        requires room { IsShut self.old.rows row → 0 < self.old.spare_rows }
+        ensures fresh { leaf_in self.old.pairs result ≡ None }
+        ensures placed { self.new.pairs ≡ with_pair_after prev (result, (key, value)) self.old.pairs }
+        ensures rows { GoesBeyond self.old.rows self.old.spare_rows self.new.rows self.new.spare_rows row result }
+        ensures apart { row_of result ≢ row }
+    {
+        let _ = &self.rows;
+        if let Some(next) = self.row_after(row) {
+            if self.row_len(next) < ROW {
+                let start = Position {
+                    row: next,
+                    place: 0,
+                };
+                return self.put(prev, start, key, value);
+            }
+        }
+        self.begin(prev, Some(row), key, value)
+    }
+
+    // Where a pair after a leaf, which may stand where it was seen, or in front of all, has its place; nowhere while there is no row.
+    fn spot(&self, prev: Option<LeafId>, seen: Position) -> Option<Position>
+        requires { IfSome prev (Has self.now.pairs) }
+        ensures some { IfSome result (λ p. IsSpot self.now.rows p (spot_index prev self.now.pairs)) }
+        ensures none { IfNone result (self.now.rows ≡ []) }
+        ensures first { IfNone prev (result ≡ position_at self.now.rows 0) }
+        ensures found { IfSome prev (λ _. IsSome result) }
+        ensures after { IfSome prev (λ i. IfSome result (IsAfter self.now.rows i)) }
+    {
+        let _ = &self.rows;
+        match prev {
+            None => self.first_position(),
+            Some(id) => {
+                let position = self.position_near(id, seen);
+                // A place is less than the count of leaves, and so has one after it.
+                let _used = self.records.used();
+                Some(Position {
+                    row: position.row,
+                    place: position.place + 1,
+                })
+            }
+        }
+    }
+
+    // Puts a pair at a spot of a row that is not full.
+    #[inline(always)]
+    fn put(&mut self, prev: Option<LeafId>, position: Position, key: K, value: V) -> LeafId
+        requires prev { IfSome prev (Has self.old.pairs) }
+        requires spot { IsSpot self.old.rows position (spot_index prev self.old.pairs) }
+        requires room { IfSome (leaf_in self.old.rows position.row) (λ ids. length ids < ROW) }
+        ensures fresh { leaf_in self.old.pairs result ≡ None }
+        ensures placed { self.new.pairs ≡ with_pair_after prev (result, (key, value)) self.old.pairs }
+        ensures spare_rows { self.new.spare_rows ≡ self.old.spare_rows }
+        ensures rows { IfSome (leaf_in self.old.rows position.row) (λ ids. self.new.rows ≡ with_pair self.old.rows position.row (take position.place ids ++ result ∷ drop position.place ids)) }
+        ensures own { row_of result ≡ position.row }
+    {
+        let id = self.rows.get_mut(position.row).insert(position.place);
+        self.records.put(id.number(), Leaf { key, value });
+        id
+    }
+
+    // Puts a pair into a new row, after another or in front of all.
+    #[cold]
+    #[inline(never)]
+    fn begin(&mut self, prev: Option<LeafId>, prev_row: Option<usize>, key: K, value: V) -> LeafId
+        requires spare_rows { 0 < self.old.spare_rows }
+        requires prev { IfSome prev (Has self.old.pairs) }
+        requires prev_row { IfSome prev_row (Has self.old.rows) }
+        requires index { spot_index prev self.old.pairs ≡ row_end prev_row self.old.rows }
+        ensures fresh { leaf_in self.old.pairs result ≡ None }
+        ensures placed { self.new.pairs ≡ with_pair_after prev (result, (key, value)) self.old.pairs }
+        ensures spare_rows { self.new.spare_rows + 1 ≡ self.old.spare_rows }
+        ensures rows { (self.new.rows ≡ with_pair_after prev_row (row_of result, result ∷ []) self.old.rows) × (leaf_in self.old.rows (row_of result) ≡ None) }
+    {
+        // The row's number is known once it has a place, and its own numbers with it.
+        let row = self.rows.insert(prev_row, Row::new(0));
+        let _cells = self.records.len();
+        *self.rows.get_mut(row) = Row::new(row);
+        let id = LeafId::new(ROW * row);
+        self.records.put(id.number(), Leaf { key, value });
+        id
+    }
+}
