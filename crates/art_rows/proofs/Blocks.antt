@@ -1,11 +1,11 @@
 -- The numbers of a block.
-use Rattle.std.proofs.Common.{◌≡◌, ℕ, zero, suc, ◌+◌, ◌*◌, ◌<◌, ◌≤◌, List, [], ◌∷◌, ◌++◌, length, take, drop, get_or, set, refl, sym, ap, ◌∙◌, true, false, cond, eqb, inl, inr, arith}
-use Rattle.std.specs.List.{range_with_len}
+use Rattle.std.proofs.Common.{◌≡◌, ℕ, zero, suc, ◌+◌, ◌*◌, ◌<◌, ◌≤◌, List, [], ◌∷◌, ◌++◌, length, take, drop, get_or, refl, ap, ◌∙◌, Some, true, false, cond, eqb, eq-eqb, inl, inr, arith}
 use Rattle.std.proofs.lemmas.Bool.Decides.{eqb_tells}
-use Rattle.std.proofs.lemmas.List.{take-append-drop, take_more_set}
+use Rattle.std.proofs.lemmas.List.{take-append-drop, length-map, length-take-le, map-append, take-map, drop-map}
 use Rattle.std.proofs.lemmas.List.Sums.{sum_by-append, sum_by-cons}
-use Rattle.art_rows.specs.Rows.{among}
-use Rattle.art_rows.specs.Blocks.{times, row_of, ArePlaces}
+use Rattle.art_rows.specs.Rows.{among, nth}
+use Rattle.art_rows.specs.Blocks.{times, row_of, numbers_at, AreWithin, ArePlaces}
+use Rattle.art_rows.specs.declared.row.TheConstants.{ROW}
 use Rattle.art_rows.proofs.NumbersLemmas.{eqb_same, eqb_other}
 
 times-same : (m : ℕ) (ns : List ℕ) (n : ℕ) → eqb m n ≡ true → times (m ∷ ns) n ≡ times ns n + 1
@@ -40,12 +40,6 @@ times-take ns k n =
     let b : times (take k ns ++ drop k ns) n ≡ times ns n = ap (λ l. times l n) (take-append-drop k ns) in
     omega arith
 
--- what stands at a place does whatever would stand elsewhere
-pub get_or-any : (ns : List ℕ) (k d e : ℕ) → k < length ns → get_or ns k d ≡ get_or ns k e
-get_or-any [] k d e l = absurd (omega arith)
-get_or-any (m ∷ ns) zero d e l = refl
-get_or-any (m ∷ ns) (suc k) d e l = get_or-any ns k d e (omega arith)
-
 -- the number at a place stands there
 pub next_there : (ns : List ℕ) (k d : ℕ) → k < length ns → 0 < times ns (get_or ns k d)
 next_there [] k d l = absurd (omega arith)
@@ -67,51 +61,75 @@ next_fresh ns k d p l = among-times (take k ns) (get_or ns k d) (go ns k l (p.on
       | inr t ↦ (let a = times-other m ns (get_or ns k d) t.0 in times-other m (take k ns) (get_or ns k d) t.0 ∙ go ns k (omega arith) (omega arith))
     ]
 
--- and it is of the row of those
-pub next_row : (ns : List ℕ) (k d : ℕ) → ArePlaces ns → k < length ns → (n : ℕ) → among (take k ns) n ≡ true → row_of (get_or ns k d) ≡ row_of n
-next_row ns k d p l n h = p.together (get_or ns k d) n (next_there ns k d l) (let a = times-among (take k ns) n h in let b = times-take ns k n in omega arith)
-
--- numbers in another order are places too
+-- cells in another order are places too
 pub places_moved : (xs ys : List ℕ) → ((n : ℕ) → times ys n ≡ times xs n) → ArePlaces xs → ArePlaces ys
 places_moved xs ys same p = record {
   once = λ n. (let e = same n in let o = p.once n in omega arith);
-  together = λ n m a b. p.together n m (let e = same n in omega arith) (let e = same m in omega arith);
+  within = λ n a. p.within n (let e = same n in omega arith);
 }
 
--- ---- numbers that follow one another
+-- ---- cells of a block
 
--- one number more
-pub range_more : (a n : ℕ) → range_with_len a (n + 1) ≡ range_with_len a n ++ (a + n) ∷ []
-range_more a zero = (let e : a + 0 ≡ a = omega arith in rw e refl)
-range_more a (suc n) = (let e : a + suc n ≡ a + 1 + n = omega arith in let f : suc n + 1 ≡ suc (n + 1) = omega arith in rw (f, e) (ap (λ l. a ∷ l) (range_more (a + 1) n)))
+pub within_take : (ns : List ℕ) (k : ℕ) → AreWithin ns → AreWithin (take k ns)
+within_take ns k w n h = w n (let a = times-take ns k n in omega arith)
 
--- so is it of a list whose first numbers follow one another
-pub range_set : (a n : ℕ) (xs : List ℕ) (y : ℕ) → n < length xs → take n xs ≡ range_with_len a n → y ≡ a + n → take (n + 1) (set xs n y) ≡ range_with_len a (n + 1)
-range_set a n xs y l e is = take_more_set xs n y l ∙ rw (e, is) (sym (range_more a n))
+pub within_drop : (ns : List ℕ) (k : ℕ) → AreWithin ns → AreWithin (drop k ns)
+within_drop ns k w n h = w n (
+    let a = times-append (take k ns) (drop k ns) n in
+    let b : times (take k ns ++ drop k ns) n ≡ times ns n = ap (λ l. times l n) (take-append-drop k ns) in
+    omega arith)
 
-times-below : (a k n : ℕ) → n < a → times (range_with_len a k) n ≡ 0
-times-below a zero n h = refl
-times-below a (suc k) n h =
-    let e = times-other a (range_with_len (a + 1) k) n (eqb_other a n (λ s. omega arith)) in
-    let i = times-below (a + 1) k n (omega arith) in
-    omega arith
+-- a cell at a place is one
+pub within_at : (ns : List ℕ) (k d : ℕ) → AreWithin ns → k < length ns → get_or ns k d < ROW
+within_at ns k d w l = w (get_or ns k d) (next_there ns k d l)
 
-times-range : (a k n : ℕ) → (times (range_with_len a k) n ≤ 1) × (0 < times (range_with_len a k) n → (a ≤ n) × (n < a + k))
-times-range a zero n = (omega arith, λ h. absurd (omega arith))
-times-range a (suc k) n = elim (eqb_tells a n) [
-  | inl t ↦
-      let e = times-same a (range_with_len (a + 1) k) n t.0 in
-      let g = times-below (a + 1) k n (omega (arith, t.1)) in
-      (omega arith, λ h. (omega (arith, t.1), omega (arith, t.1)))
-  | inr t ↦
-      let e = times-other a (range_with_len (a + 1) k) n t.0 in
-      let i = times-range (a + 1) k n in
-      (omega (arith, i.0), λ h. (let j = i.1 (omega arith) in (omega (arith, j.0), omega (arith, j.1))))
+-- the first cell, and the others
+pub within_cons : (n : ℕ) (ns : List ℕ) → AreWithin (n ∷ ns) → (n < ROW) × AreWithin ns
+within_cons n ns w = (w n (let e = times-same n ns n (eqb_same n) in omega arith), within_drop (n ∷ ns) 1 w)
+
+-- the last cell, and the others
+pub within_more : (ns : List ℕ) (n : ℕ) → AreWithin (ns ++ n ∷ []) → (n < ROW) × AreWithin ns
+within_more ns n w = (
+  w n (let a = times-append ns (n ∷ []) n in let e = times-same n [] n (eqb_same n) in omega arith),
+  λ m h. w m (let a = times-append ns (n ∷ []) m in omega arith),
+)
+
+-- ---- the numbers of cells
+
+-- so many as there are cells
+pub length-numbers : (first : ℕ) (cells : List ℕ) → length (numbers_at first cells) ≡ length cells
+length-numbers first cells = length-map cells (λ c. first + c)
+
+-- the number at a place
+pub nth-numbers : (first : ℕ) (cells : List ℕ) (k d : ℕ) → k < length cells → nth (numbers_at first cells) k ≡ Some (first + get_or cells k d)
+nth-numbers first [] k d l = absurd (omega arith)
+nth-numbers first (c ∷ cells) zero d l = refl
+nth-numbers first (c ∷ cells) (suc k) d l = nth-numbers first cells k d (omega arith)
+
+-- a number stands there as its cell does
+pub among-numbers_at : (first : ℕ) (cells : List ℕ) (c : ℕ) → among (numbers_at first cells) (first + c) ≡ among cells c
+among-numbers_at first [] c = refl
+among-numbers_at first (d ∷ cells) c = elim (eqb_tells d c) [
+  | inl t ↦ (let e : eqb (first + d) (first + c) ≡ true = eq-eqb (first + d) (first + c) (omega (arith, t.1)) in rw (t.0, e) refl)
+  | inr t ↦ (let e : eqb (first + d) (first + c) ≡ false = eqb_other (first + d) (first + c) (λ s. t.1 (omega arith)) in rw (t.0, e) (among-numbers_at first cells c))
 ]
 
--- the numbers of a block are places
-pub block_places : (b : ℕ) → ArePlaces (range_with_len (32 * b) 32)
-block_places b = record {
-  once = λ n. (times-range (32 * b) 32 n).0;
-  together = λ n m h i. (let j = (times-range (32 * b) 32 n).1 h in let k = (times-range (32 * b) 32 m).1 i in omega (arith, j.0, j.1, k.0, k.1));
-}
+-- a number that stands there is that of a cell
+pub number_of : (b : ℕ) (cells : List ℕ) → AreWithin cells → (n : ℕ) → among (numbers_at (ROW * b) cells) n ≡ true → row_of n ≡ b
+number_of b [] w n h = absurd cc
+number_of b (c ∷ cells) w n h = elim (eqb_tells (ROW * b + c) n) [
+  | inl t ↦ (let l = (within_cons c cells w).0 in omega (arith, t.1))
+  | inr t ↦ number_of b cells (within_cons c cells w).1 n (rw t.0 at h)
+]
+
+-- of the first so many cells
+pub length-first : (first k : ℕ) (cells : List ℕ) → k ≤ length cells → length (numbers_at first (take k cells)) ≡ k
+length-first first k cells l = length-numbers first (take k cells) ∙ length-take-le k cells l
+
+-- a cell is put at a place
+pub numbers-put : (first c place : ℕ) (cells : List ℕ) → numbers_at first (take place cells ++ c ∷ drop place cells) ≡ take place (numbers_at first cells) ++ (first + c) ∷ drop place (numbers_at first cells)
+numbers-put first c place cells = map-append (λ d. first + d) (take place cells) (c ∷ drop place cells) ∙ rw (take-map (λ d. first + d) place cells, drop-map (λ d. first + d) place cells) refl
+
+-- the cell at a place is taken out
+pub numbers-cut : (first place : ℕ) (cells : List ℕ) → numbers_at first (take place cells ++ drop (place + 1) cells) ≡ take place (numbers_at first cells) ++ drop (place + 1) (numbers_at first cells)
+numbers-cut first place cells = map-append (λ d. first + d) (take place cells) (drop (place + 1) cells) ∙ rw (take-map (λ d. first + d) place cells, drop-map (λ d. first + d) (place + 1) cells) refl

@@ -42,12 +42,12 @@ module _ {X : Type 0} (ps : List (Numbered X)) (distinct : AreDistinct ps) (i n 
   after_index e = place_in-nth ps (place_in (map (λ p. p.0) ps) i + 1) n distinct (sym (number_after-nth ps i has) ∙ e)
 
   -- the same of all that follows
-  pub following_step : (rows : List (Numbered (List ℕ))) (a b : Following) → a.run.now ≡ n ∷ b.run.now → b.row ≡ a.row → b.run.now ≡ rest → StandsAfter ps rows i a → (number_after ps i ≡ Some n) × StandsAfter ps rows n b
+  pub following_step : (rows : List (Numbered (List ℕ))) (a b : Following) → a.run ≡ n ∷ b.run → b.row ≡ a.row → b.run ≡ rest → StandsAfter ps rows i a → (number_after ps i ≡ Some n) × StandsAfter ps rows n b
   following_step rows a b cut same is s =
       let r = after_step (subst (RunsAfter ps i) (cut ∙ ap (λ l. n ∷ l) is) s.run) in
       let c : place_in (map (λ p. p.0) ps) n ≡ place_in (map (λ p. p.0) ps) i + 1 = after_index r.0 in
-      let l : length a.run.now ≡ suc (length b.run.now) = ap length cut in
-      let e : place_in (map (λ p. p.0) ps) n + 1 + length b.run.now ≡ place_in (map (λ p. p.0) ps) i + 1 + length a.run.now = omega arith in (
+      let l : length a.run ≡ suc (length b.run) = ap length cut in
+      let e : place_in (map (λ p. p.0) ps) n + 1 + length b.run ≡ place_in (map (λ p. p.0) ps) i + 1 + length a.run = omega arith in (
         r.0,
         record {
           run = subst (RunsAfter ps n) (sym is) r.1;
@@ -113,7 +113,7 @@ module _ {K V : Type 0} {leaves : ℕ → Option (Leaf K V)} {rows : List (Numbe
       standing-end rows k p s f.apart f.filled _ b
 
   -- what was looked up in a row and after it follows the number
-  pub following_there : (b : Following) → b.run.now ≡ drop (p.place + 1) ids → b.row ≡ number_after rows p.row → StandsAfter ps rows n b
+  pub following_there : (b : Following) → b.run ≡ drop (p.place + 1) ids → b.row ≡ number_after rows p.row → StandsAfter ps rows n b
   following_there b run row = record { run = subst (RunsAfter ps n) (sym run) after_in_row; row = ap (option_map start_of) row ∙ sym row_after_run ∙ ap (λ l. position_at rows (place_in (map (λ q. q.0) ps) n + 1 + length l)) (sym run) }
 
   -- the number there is the next one
@@ -133,9 +133,9 @@ module _ {K V : Type 0} {leaves : ℕ → Option (Leaf K V)} {rows : List (Numbe
 
 module _ {K V : Type 0} {leaves : ℕ → Option (Leaf K V)} {rows : List (Numbered (List ℕ))} {count : ℕ} {ps : List (Numbered (K × V))} (f : Files leaves rows count ps) where
   -- at the end of a run the next number is the first of the next row, and the others of that row follow it
-  pub following_row : (i n : ℕ) → Has ps i → (a b : Following) → length a.run.now ≡ 0 → StandsAfter ps rows i a → (r : ℕ) → a.row ≡ Some r → (ids : List ℕ) → leaf_in rows r ≡ Some ids → ids ≡ n ∷ b.run.now → b.row ≡ number_after rows r → (number_after ps i ≡ Some n) × StandsAfter ps rows n b
+  pub following_row : (i n : ℕ) → Has ps i → (a b : Following) → length a.run ≡ 0 → StandsAfter ps rows i a → (r : ℕ) → a.row ≡ Some r → (ids : List ℕ) → leaf_in rows r ≡ Some ids → ids ≡ n ∷ b.run → b.row ≡ number_after rows r → (number_after ps i ≡ Some n) × StandsAfter ps rows n b
   following_row i n has a b l s r row ids is cut after =
-      let k : ℕ = place_in (map (λ q. q.0) ps) i + 1 + length a.run.now in
+      let k : ℕ = place_in (map (λ q. q.0) ps) i + 1 + length a.run in
       let at : position_at rows k ≡ Some (start_of r) = sym s.row ∙ ap (option_map start_of) row in
       let there : nth ids 0 ≡ Some n = ap (λ ns. nth ns 0) cut in (
         next_there f k (start_of r) at ids is n there i has (omega arith),

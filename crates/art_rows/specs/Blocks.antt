@@ -1,5 +1,5 @@
 -- The numbers of a block: a leaf's number tells the block, and with it the row, that it is of.
-use Rattle.std.specs.Prelude.{◌≡◌, ◌≢◌, ◌⊎◌, ℕ, ◌+◌, ◌-◌, ◌/◌, ◌<◌, ◌≤◌, List, [], ◌∷◌, length, count_by, eqb, true, Option, Some, None, IfSome}
+use Rattle.std.specs.Prelude.{◌≡◌, ◌≢◌, ◌⊎◌, ℕ, ◌+◌, ◌-◌, ◌/◌, ◌<◌, ◌≤◌, List, [], ◌∷◌, length, map, count_by, eqb, true, Option, Some, None, IfSome}
 use Rattle.art_rows.specs.Numbers.{Numbered, leaf_in, number_after, with_pair_after, with_pair}
 use Rattle.art_rows.specs.Rows.{among, place_in, nth}
 use Rattle.art_rows.specs.declared.row.Position.{Position}
@@ -13,10 +13,18 @@ times ns n = count_by (λ m. eqb m n) ns
 abbrev pub row_of : ℕ → ℕ
 row_of n = n / ROW
 
--- each number stands there once at most, and all are of one row
-pub record ArePlaces (ids : List ℕ) : Type 0 where
-  pub once : (n : ℕ) → times ids n ≤ 1
-  pub together : (n m : ℕ) → 0 < times ids n → 0 < times ids m → row_of n ≡ row_of m
+-- the numbers of some cells of a block whose first number is this one
+abbrev pub numbers_at : ℕ → List ℕ → List ℕ
+numbers_at first cells = map (λ c. first + c) cells
+
+-- each is a cell of a block
+abbrev pub AreWithin : List ℕ → Type 0
+AreWithin cells = (c : ℕ) → 0 < times cells c → c < ROW
+
+-- each is a cell of a block, and stands there once at most
+pub record ArePlaces (cells : List ℕ) : Type 0 where
+  pub once : (c : ℕ) → times cells c ≤ 1
+  pub within : AreWithin cells
 
 -- each row has numbers of its own block
 abbrev pub AreOwn : List (Numbered (List ℕ)) → Type 0

@@ -83,5 +83,5 @@ module _ {X : Type 0} where
 
   -- the run stands directly after the number i, and after the run the row, or nothing where none is named
   pub record StandsAfter (ps : List (Numbered X)) (rows : List (Numbered (List ℕ))) (i : ℕ) (following : Following) : Type 0 where
-    pub run : RunsAfter ps i following.run.now
-    pub row : option_map start_of following.row ≡ position_at rows (place_in (map (λ p. p.0) ps) i + 1 + length following.run.now)
+    pub run : RunsAfter ps i following.run
+    pub row : option_map start_of following.row ≡ position_at rows (place_in (map (λ p. p.0) ps) i + 1 + length following.run)

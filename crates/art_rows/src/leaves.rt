@@ -14,6 +14,7 @@ mod placing;
 use crate::chain::Chain;
 use crate::following::Following;
 use crate::row::{Position, ROW, Row};
+use crate::run::Run;
 use art_slots::{LeafId, Table, Visits};
 use std::alloc::{AllocError, Global};
 use std::marker::Model;
@@ -118,10 +119,11 @@ impl<K, V> Leaves<K, V> {
         let row = id.number() / ROW;
         let ids = self.rows.read(row);
         let last = ids.len() - 1;
-        if ids.has_at(last, id) {
+        let run = ids.run();
+        if run.has_at(last, id) {
             return Position { row, place: last };
         }
-        let place = ids.place_of(id);
+        let place = run.place_of(id);
         Position { row, place }
     }
 
@@ -132,7 +134,7 @@ impl<K, V> Leaves<K, V> {
         ensures { position_at self.now.rows (index_of self.now.pairs id) ≡ Some result }
     {
         match self.rows.get(seen.row) {
-            Some(row) if row.has_at(seen.place, id) => seen,
+            Some(row) if row.run().has_at(seen.place, id) => seen,
             _ => self.position_of(id),
         }
     }
@@ -145,7 +147,7 @@ impl<K, V> Leaves<K, V> {
     {
         let row = self.rows.get(seen.row)?;
         let _len = row.len();
-        row.after(seen.place, id)
+        row.run().after(seen.place, id)
     }
 
     // The leaf before this one, where this one stands as it was seen, and is not the first of its row.
@@ -155,7 +157,7 @@ impl<K, V> Leaves<K, V> {
         ensures within { IfSome result (λ _. 0 < seen.place) }
     {
         let row = self.rows.get(seen.row)?;
-        row.before(seen.place, id)
+        row.run().before(seen.place, id)
     }
 
     // The number at a position.
@@ -163,7 +165,7 @@ impl<K, V> Leaves<K, V> {
         requires { (k : ℕ) × (position_at self.now.rows k ≡ Some position) }
         ensures { (k : ℕ) → position_at self.now.rows k ≡ Some position → nth (map (λ p. p.0) self.now.pairs) k ≡ Some result }
     {
-        self.rows.read(position.row).at(position.place)
+        self.rows.read(position.row).run().at(position.place)
     }
 
     /// The position of the first leaf.
@@ -339,7 +341,7 @@ impl<K, V> Leaves<K, V> {
         ensures { StandsAfter self.now.pairs self.now.rows id result }
     {
         let position = self.position_of(id);
-        let run = self.rows.read(position.row).run_after(position.place);
+        let run = self.rows.read(position.row).run().run_after(position.place);
         let row = self.row_told(position.row);
         Following { run, row }
     }
@@ -355,19 +357,18 @@ impl<K, V> Leaves<K, V> {
     {
         self.law();
         // the run alone is written on most steps
-        if let Some((next, run)) = following.run.split_first() {
-            following.run = run;
-            return Some(*next);
+        if let Some(next) = following.run.split_off_first() {
+            return Some(next);
         }
         let rows = &self.rows;
         let Some(row) = following.row else {
             return None;
         };
-        let ids = rows.read(row).ids();
-        let (next, rest) = ids.split_first().unwrap();
-        following.run = rest;
+        let mut run = rows.read(row).run();
+        let next = run.split_off_first().unwrap();
+        following.run = run;
         following.row = self.row_told(row);
-        Some(*next)
+        Some(next)
     }
 
     // The row after another. It is read here, so that a walk that comes to it later need not wait for it; and the answer goes in registers, so that no step of a walk clears a place for it.
@@ -387,35 +388,37 @@ impl<K, V> Leaves<K, V> {
         }
     }
 
-    /// The leaf before this one, and the run of numbers before that one in its row. `run` is such a run before this leaf: where it is not empty, no row is read.
+    /// The leaf before this one; `run` is a run of numbers before this one in its row, and then such a run before that one: where it is not empty, no row is read.
     #[inline(always)]
-    pub fn prev_in<'a>(&'a self, id: LeafId, run: &'a [LeafId]) -> (Option<LeafId>, &'a [LeafId])
+    pub fn prev_in<'a>(&'a self, id: LeafId, run: &mut Run<'a>) -> Option<LeafId>
         requires has { Has self.now.pairs id }
-        requires runs { RunsBefore self.now.pairs id run.now }
-        ensures prev { result.0 ≡ number_before self.now.pairs id }
-        ensures runs { IfSome result.0 (λ n. RunsBefore self.now.pairs n result.1.now) }
+        requires runs { RunsBefore self.now.pairs id run.old }
+        ensures prev { result ≡ number_before self.now.pairs id }
+        ensures runs { IfSome result (λ n. RunsBefore self.now.pairs n run.new) }
     {
         self.law();
-        match run.split_last() {
-            Some((prev, rest)) => (Some(*prev), rest),
-            None => self.prev_run(id),
+        if let Some(prev) = run.split_off_last() {
+            return Some(prev);
         }
+        let (prev, before) = self.prev_run(id);
+        *run = before;
+        prev
     }
 
     // The leaf before this one, and the numbers before that one in its row.
     #[cold]
     #[inline(never)]
-    fn prev_run(&self, id: LeafId) -> (Option<LeafId>, &[LeafId])
+    fn prev_run(&self, id: LeafId) -> (Option<LeafId>, Run<'_>)
         requires { Has self.now.pairs id }
         ensures prev { result.0 ≡ number_before self.now.pairs id }
-        ensures runs { IfSome result.0 (λ n. RunsBefore self.now.pairs n result.1.now) }
+        ensures runs { IfSome result.0 (λ n. RunsBefore self.now.pairs n result.1) }
     {
         let rows = &self.rows;
         let Some(position) = self.backward(self.position_of(id)) else {
-            return (None, &[]);
+            return (None, Run::empty());
         };
-        let row = rows.read(position.row);
-        (Some(row.at(position.place)), row.run_before(position.place))
+        let run = rows.read(position.row).run();
+        (Some(run.at(position.place)), run.run_before(position.place))
     }
 
     /// The leaf before this one.

@@ -7,8 +7,10 @@ mod chain;
 mod following;
 mod leaves;
 mod row;
+mod run;
 
 pub use art_slots::{LeafId, Visits};
 pub use following::Following;
 pub use leaves::Leaves;
 pub use row::Position;
+pub use run::Run;

@@ -3,6 +3,7 @@ ghost use Rattle.std.specs.Prelude.{◌≡◌, ℕ, ◌+◌, ◌-◌, ◌*◌, �
 ghost use Rattle.art_rows.specs.Rows.{among, place_in, nth, nowhere};
 ghost use Rattle.art_rows.specs.Blocks.{times, row_of};
 
+use crate::run::Run;
 use art_slots::LeafId;
 use std::marker::Model;
 
@@ -25,41 +26,56 @@ impl Position {
     }
 }
 
-/// The 32 numbers of a block: those in use in order, and then the others. A contract sees the list of those in use.
+/// The cells of a block in ascending order, and in descending.
+const UP: [u8; 32] = [
+    0, 1, 2, 3, 4, 5, 6, 7, 8, 9, 10, 11, 12, 13, 14, 15, 16, 17, 18, 19, 20, 21, 22, 23, 24, 25,
+    26, 27, 28, 29, 30, 31,
+];
+
+const DOWN: [u8; 32] = [
+    31, 30, 29, 28, 27, 26, 25, 24, 23, 22, 21, 20, 19, 18, 17, 16, 15, 14, 13, 12, 11, 10, 9, 8,
+    7, 6, 5, 4, 3, 2, 1, 0,
+];
+
+/// The numbers of a block, each as its distance from the first: those in use in order, and then the others. A contract sees the list of those in use.
 #[derive(Drop)]
 pub(crate) struct Row {
+    block: usize,
     count: usize,
-    ids: [LeafId; 32],
+    cells: [u8; 32],
 }
 
 impl Model for Row {
-    ghost use Rattle.std.specs.Prelude.{◌≡◌, ◌≤◌, List, ℕ, take, length};
+    ghost use Rattle.std.specs.Prelude.{◌≡◌, ◌≤◌, ◌+◌, ◌*◌, ◌^◌, List, ℕ, take, length};
     ghost use Rattle.std.specs.Coded.{coded_list, coded_ℕ};
 
     ghost Value = { List ℕ };
 
     ghost coded = { coded_list coded_ℕ };
 
-    ghost view = { λ r. take r.count r.ids };
-
+    ghost use Rattle.art_rows.specs.Blocks.{numbers_at, ArePlaces};
     ghost use Rattle.art_rows.specs.declared.row.TheConstants.{ROW};
-    ghost use Rattle.art_rows.specs.Blocks.{ArePlaces};
 
-    ghost invariant = { λ r. (r.count ≤ ROW) × (length r.ids ≡ ROW) × ArePlaces r.ids };
+    ghost view = { λ r. numbers_at (ROW * r.block) (take r.count r.cells) };
+
+    ghost invariant = { λ r. (ROW * r.block + ROW ≤ 2 ^ 61) × (r.count ≤ ROW) × (length r.cells ≡ ROW) × ArePlaces r.cells };
 }
 
 impl Row {
-    /// The numbers of a block, of which the first is in use.
-    pub(crate) fn new(block: usize) -> Self
+    /// The numbers of a block, of which one is in use: the last where they are taken downwards, or else the first.
+    pub(crate) fn new(block: usize, down: bool) -> (Row, LeafId)
         requires { ROW * block + ROW ≤ 2 ^ 61 }
-        ensures { result ≡ ROW * block ∷ [] }
+        ensures row { result.0 ≡ result.1 ∷ [] }
+        ensures own { row_of result.1 ≡ block }
     {
-        let first = ROW * block;
-        let mut ids = [LeafId::new(first); 32];
-        for place in 0..ROW {
-            ids[place] = LeafId::new(first + place);
-        }
-        Row { count: 1, ids }
+        let cells = if down { DOWN } else { UP };
+        let number = LeafId::new(ROW * block + cells[0] as usize);
+        let row = Row {
+            block,
+            count: 1,
+            cells,
+        };
+        (row, number)
     }
 
     /// The same numbers.
@@ -67,8 +83,9 @@ impl Row {
         ensures { result ≡ self.now }
     {
         Row {
+            block: self.block,
             count: self.count,
-            ids: self.ids,
+            cells: self.cells,
         }
     }
 
@@ -80,74 +97,11 @@ impl Row {
         self.count
     }
 
-    /// The number at a place.
-    pub(crate) fn at(&self, place: usize) -> LeafId
-        requires { place < length self.now }
-        ensures { nth self.now place ≡ Some result }
-    {
-        self.ids[..self.count][place]
-    }
-
-    /// Whether a number stands at a place.
-    pub(crate) fn has_at(&self, place: usize, number: LeafId) -> bool
-        ensures { result ≡ true → nth self.now place ≡ Some number }
-    {
-        place < self.count && self.ids[..self.count][place] == number
-    }
-
-    /// The number after another, where that stands at a place and is not the last.
-    pub(crate) fn after(&self, place: usize, number: LeafId) -> Option<LeafId>
-        ensures { IfSome result (λ n. (nth self.now place ≡ Some number) × (nth self.now (place + 1) ≡ Some n)) }
-    {
-        let ids = &self.ids[..self.count];
-        if place < ids.len() && place + 1 < ids.len() && ids[place] == number {
-            Some(ids[place + 1])
-        } else {
-            None
-        }
-    }
-
-    /// The number before another, where that stands at a place and is not the first.
-    pub(crate) fn before(&self, place: usize, number: LeafId) -> Option<LeafId>
-        ensures { IfSome result (λ n. (0 < place) × (nth self.now place ≡ Some number) × (nth self.now (place - 1) ≡ Some n)) }
-    {
-        let ids = &self.ids[..self.count];
-        if 0 < place && place < ids.len() && ids[place] == number {
-            Some(ids[place - 1])
-        } else {
-            None
-        }
-    }
-
     /// All numbers.
-    pub(crate) fn ids(&self) -> &[LeafId]
-        ensures { result.now ≡ self.now }
+    pub(crate) fn run(&self) -> Run<'_>
+        ensures { result ≡ self.now }
     {
-        &self.ids[..self.count]
-    }
-
-    /// The numbers after a place.
-    pub(crate) fn run_after(&self, place: usize) -> &[LeafId]
-        requires { place < length self.now }
-        ensures { result.now ≡ drop (place + 1) self.now }
-    {
-        let ids = &self.ids[..self.count];
-        &ids[place + 1..]
-    }
-
-    /// The numbers before a place.
-    pub(crate) fn run_before(&self, place: usize) -> &[LeafId]
-        requires { place < length self.now }
-        ensures { result.now ≡ take place self.now }
-    {
-        &self.ids[..place]
-    }
-
-    /// The place of a number.
-    pub(crate) fn place_of(&self, number: LeafId) -> usize
-        ensures { result ≡ place_in self.now number }
-    {
-        place_among(&self.ids[..self.count], number)
+        Run::new(ROW * self.block, &self.cells[..self.count])
     }
 
     /// Puts another number of the block at a place, and answers it.
@@ -158,8 +112,8 @@ impl Row {
         ensures fresh { among self.old result ≡ false }
         ensures block { (n : ℕ) → among self.old n ≡ true → row_of result ≡ row_of n }
     {
-        let number = self.ids[self.count];
-        insert_in(&mut self.ids, self.count, place);
+        let number = LeafId::new(ROW * self.block + self.cells[self.count] as usize);
+        insert_in(&mut self.cells, self.count, place);
         self.count += 1;
         number
     }
@@ -169,40 +123,28 @@ impl Row {
         requires { place < length self.old }
         ensures { self.new ≡ take place self.old ++ drop (place + 1) self.old }
     {
-        remove_in(&mut self.ids, self.count, place);
+        remove_in(&mut self.cells, self.count, place);
         self.count -= 1;
     }
 }
 
-// How many numbers stand before this one.
-fn place_among(ids: &[LeafId], number: LeafId) -> usize
-    ensures { result ≡ place_in ids.now number }
-{
-    for (place, id) in ids.iter().enumerate() {
-        if *id == number {
-            return place;
-        }
-    }
-    ids.len()
-}
-
-// Moves the number after the first so many to a place among them.
-fn insert_in(ids: &mut [LeafId], count: usize, place: usize)
+// Moves the cell after the first so many to a place among them.
+fn insert_in(cells: &mut [u8], count: usize, place: usize)
     requires place { place ≤ count }
-    requires room { count < length ids.old }
-    ensures first { take (count + 1) ids.new
-        ≡ take place (take count ids.old) ++ slice_index_or ids.old count 0 ∷ drop place (take count ids.old) }
-    ensures same { (n : ℕ) → times ids.new n ≡ times ids.old n }
+    requires room { count < length cells.old }
+    ensures first { take (count + 1) cells.new
+        ≡ take place (take count cells.old) ++ slice_index_or cells.old count 0 ∷ drop place (take count cells.old) }
+    ensures same { (n : ℕ) → times cells.new n ≡ times cells.old n }
 {
-    ids[place..count + 1].rotate_right(1);
+    cells[place..count + 1].rotate_right(1);
 }
 
-// Moves a number among the first so many to their end.
-fn remove_in(ids: &mut [LeafId], count: usize, place: usize)
+// Moves a cell among the first so many to their end.
+fn remove_in(cells: &mut [u8], count: usize, place: usize)
     requires place { place < count }
-    requires within { count ≤ length ids.old }
-    ensures first { take (count - 1) ids.new ≡ take place (take count ids.old) ++ drop (place + 1) (take count ids.old) }
-    ensures same { (n : ℕ) → times ids.new n ≡ times ids.old n }
+    requires within { count ≤ length cells.old }
+    ensures first { take (count - 1) cells.new ≡ take place (take count cells.old) ++ drop (place + 1) (take count cells.old) }
+    ensures same { (n : ℕ) → times cells.new n ≡ times cells.old n }
 {
-    ids[place..count].rotate_left(1);
+    cells[place..count].rotate_left(1);
 }

@@ -6,7 +6,7 @@ ghost use Rattle.art_walk.specs.Cursor.{leaves_left, FitsIn};
 ghost use Rattle.art_walk.specs.Pairs.{pairs_of};
 
 use crate::cursor::Cursor;
-use art_tree::{Following, LeafId, Leaves, Visits};
+use art_tree::{Following, LeafId, Leaves, Run, Visits};
 use std::iter::{DoubleEndedIterator, Iterator};
 use std::marker::Model;
 
@@ -46,29 +46,27 @@ fn without_first<'a, K, V>(
     Some((next, last))
 }
 
-// The ends without the last leaf, and the run before what is then the last. Nothing is looked for before the first.
+// The ends without the last leaf; `run` is a run before that, and then one before what is the last. Nothing is looked for before the first.
 #[inline(always)]
 fn without_last<'a, K, V>(
     leaves: &'a Leaves<K, V>,
     first: LeafId,
     last: LeafId,
-    run: &'a [LeafId],
-) -> (Option<(LeafId, LeafId)>, &'a [LeafId])
+    run: &mut Run<'a>,
+) -> Option<(LeafId, LeafId)>
     requires has { Has leaves.now.pairs last }
-    requires runs { RunsBefore leaves.now.pairs last run.now }
-    ensures one { first ≡ last → result.0 ≡ None }
-    ensures more { first ≢ last → result.0
+    requires runs { RunsBefore leaves.now.pairs last run.old }
+    ensures one { first ≡ last → result ≡ None }
+    ensures more { first ≢ last → result
         ≡ option_map (λ id. (first, id)) (number_before leaves.now.pairs last) }
-    ensures stays { IfSome result.0 (λ ends. ends.0 ≡ first) }
-    ensures runs { IfSome result.0 (λ ends. RunsBefore leaves.now.pairs ends.1 result.1.now) }
+    ensures stays { IfSome result (λ ends. ends.0 ≡ first) }
+    ensures runs { IfSome result (λ ends. RunsBefore leaves.now.pairs ends.1 run.new) }
 {
     if last == first {
-        return (None, run);
+        return None;
     }
-    match leaves.prev_in(last, run) {
-        (Some(prev), before) => (Some((first, prev)), before),
-        (None, before) => (None, before),
-    }
+    let prev = leaves.prev_in(last, run)?;
+    Some((first, prev))
 }
 
 /// The pairs of some leaves that stand one after the other, from both ends.
@@ -79,7 +77,7 @@ pub(crate) struct Walk<'a, K, V> {
     ends: Option<(LeafId, LeafId)>,
     // what follows the first, where that is not the last, and before the last in its row: a step that finds its leaf here searches no row
     following: Following<'a>,
-    before: &'a [LeafId],
+    before: Run<'a>,
 }
 
 impl<'a, K, V> Model for Walk<'a, K, V> {
@@ -92,7 +90,7 @@ impl<'a, K, V> Model for Walk<'a, K, V> {
 
     ghost view = { λ it. pairs_of (ends_left it.ends it.leaves.now.pairs) };
 
-    ghost invariant = { λ it. EndsFit it.ends it.leaves.now.pairs × StandsBeside it.ends it.following it.before.now it.leaves.now.pairs it.leaves.now.rows };
+    ghost invariant = { λ it. EndsFit it.ends it.leaves.now.pairs × StandsBeside it.ends it.following it.before it.leaves.now.pairs it.leaves.now.rows };
 }
 
 impl<'a, K, V> Walk<'a, K, V> {
@@ -110,7 +108,7 @@ impl<'a, K, V> Walk<'a, K, V> {
             leaves,
             ends: cursor.ends(),
             following,
-            before: &[],
+            before: Run::empty(),
         }
     }
 }
@@ -141,9 +139,8 @@ impl<'a, K, V> DoubleEndedIterator for Walk<'a, K, V> {
         self.leaves.law();
         let (first, last) = self.ends?;
         let pair = self.leaves.read(last, &mut Visits::new());
-        let (ends, before) = without_last(self.leaves, first, last, self.before);
+        let ends = without_last(self.leaves, first, last, &mut self.before);
         self.ends = ends;
-        self.before = before;
         Some(pair)
     }
 }

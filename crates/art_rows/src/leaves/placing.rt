@@ -45,7 +45,7 @@ impl<K: Drop, V: Drop> Leaves<K, V> {
         if row.len() < ROW || position.place == ROW - 1 {
             return None;
         }
-        Some(row.at(ROW - 1))
+        Some(row.run().at(ROW - 1))
     }
 
     /// Puts a pair after the leaf `prev`, or in front of all, where no leaf has to make way. `seen` is where `prev` may stand: where it does, no row is searched. It asks for no memory.
@@ -126,7 +126,7 @@ impl<K: Drop, V: Drop> Leaves<K, V> {
         ensures room { (ids : List ℕ) → length ids ≡ ROW → room self.old ≤ row_room (lengths (with_pair self.new.rows (row_of last) ids)) self.new.spare_rows + 1 }
     {
         let row = last.number() / ROW;
-        let before = self.rows.read(row).at(ROW - 2);
+        let before = self.rows.read(row).run().at(ROW - 2);
         let place = ROW - 1;
         let (key, value) = self.remove_at(last, Position { row, place });
         let _ = &self.rows;
@@ -214,11 +214,19 @@ impl<K: Drop, V: Drop> Leaves<K, V> {
         ensures rows { (self.new.rows ≡ with_pair_after prev_row (row_of result, result ∷ []) self.old.rows) × (leaf_in self.old.rows (row_of result) ≡ None) }
     {
         // The row's number is known once it has a place, and its own numbers with it.
-        let row = self.rows.insert(prev_row, Row::new(0));
+        let row = self.rows.insert(prev_row, Row::new(0, false).0);
         let _cells = self.records.len();
-        *self.rows.get_mut(row) = Row::new(row);
-        let id = LeafId::new(ROW * row);
+        let (numbers, id) = Row::new(row, is_before(row, prev_row));
+        *self.rows.get_mut(row) = numbers;
         self.records.put(id.number(), Leaf { key, value });
         id
+    }
+}
+
+// Whether a row lies before another. Rows that are made at once are taken from the last one down, and their cells with them, so that leaves in order lie in one direction.
+fn is_before(row: usize, other: Option<usize>) -> bool {
+    match other {
+        Some(other) => row < other,
+        None => false,
     }
 }

@@ -30,7 +30,7 @@ put_beyond-requires-clause-prev g c =
     let left_ids : length ids ≢ 1 → mid.rows ≡ with_pair c.args.self.now.rows (row_of c.args.last) (take 31 ids ++ drop 32 ids) = rw at at (rw c.number-row.ensures.value at c.remove_at-key.ensures.rows) in
     let is = left_ids (λ e. omega (arith, q.0)) in
     let h = seen_rows c.self-2.inside c.self-2.view_is c.self-2.invariant in
-    carry_has f c.args.last c.requires.has ids at q.0 q.1 c.at-before.result c.at-before.ensures h is
+    carry_has f c.args.last c.requires.has ids at q.0 q.1 c.at-before.result (rw c.run.ensures at c.at-before.ensures) h is
 
 pub put_beyond-requires-clause-has : goal.put_beyond-requires-clause-has
 put_beyond-requires-clause-has g c =
@@ -53,7 +53,7 @@ put_beyond-requires-clause-index g c =
     let left_ids : length ids ≢ 1 → mid.rows ≡ with_pair c.args.self.now.rows (row_of c.args.last) (take 31 ids ++ drop 32 ids) = rw at at (rw c.number-row.ensures.value at c.remove_at-key.ensures.rows) in
     let is = left_ids (λ e. omega (arith, q.0)) in
     let h = seen_rows c.self-2.inside c.self-2.view_is c.self-2.invariant in
-    rw c.number-row.ensures.value (carry_index f c.args.last c.requires.has ids at q.0 q.1 c.at-before.result c.at-before.ensures h is)
+    rw c.number-row.ensures.value (carry_index f c.args.last c.requires.has ids at q.0 q.1 c.at-before.result (rw c.run.ensures at c.at-before.ensures) h is)
 
 pub put_beyond-requires-clause-room : goal.put_beyond-requires-clause-room
 put_beyond-requires-clause-room g c shut =
@@ -84,7 +84,7 @@ returns-clause-pairs g c =
     let ids = c.read.result.now in
     let at : leaf_in c.args.self.now.rows (row_of c.args.last) ≡ Some ids = rw (← ap (λ t. t.rows) c.self.view_is, ← c.number-row.ensures.value) c.read.ensures in
     let q : (length ids ≡ 32) × (nth ids 31 ≡ Some c.args.last) = rw at at c.requires.row in
-    let b = carry_before f c.args.last c.requires.has ids at q.0 q.1 c.at-before.result c.at-before.ensures in
+    let b = carry_before f c.args.last c.requires.has ids at q.0 q.1 c.at-before.result (rw c.run.ensures at c.at-before.ensures) in
     c.put_beyond.ensures.placed ∙ ap (with_pair_after (Some c.at-before.result) (c.put_beyond.result, c.remove_at-key.result)) c.remove_at-key.ensures.rest ∙ carried c.args.self.now.pairs c.args.last c.put_beyond.result c.at-before.result c.remove_at-key.result f.distinct c.remove_at-key.ensures.value b
 
 pub returns-clause-row : goal.returns-clause-row

@@ -28,11 +28,11 @@ returns-clause-some g c =
     let f = seen_rows c.self.inside c.self.view_is c.self.invariant in
     let at : leaf_in c.args.self.now.rows c.position_near-position.result.row ≡ Some c.read-row.result.now = rw (← ap (λ t. t.rows) c.self.view_is) c.read-row.ensures in
     let full : length c.read-row.result.now ≡ 32 = (let a = c.if-len-lt-ROW.false in let b = c.len.ensures.len in let d = c.len.ensures.fits in omega arith) in
-    rw c.in-Some.is (crowded f c.in-Some.id (rw c.in-Some.is at c.requires) c.position_near-position.result c.position_near-position.ensures c.read-row.result.now at full c.if-position.false c.at.result c.at.ensures)
+    rw c.in-Some.is (crowded f c.in-Some.id (rw c.in-Some.is at c.requires) c.position_near-position.result c.position_near-position.ensures c.read-row.result.now at full c.if-position.false c.at.result (rw c.run.ensures at c.at.ensures))
 
 pub returns-clause-has : goal.returns-clause-has
 returns-clause-has g c =
     let f = seen_rows c.self.inside c.self.view_is c.self.invariant in
     let at : leaf_in c.args.self.now.rows c.position_near-position.result.row ≡ Some c.read-row.result.now = rw (← ap (λ t. t.rows) c.self.view_is) c.read-row.ensures in
     let q : Position = record { row = c.position_near-position.result.row; place = 31 } in
-    has_there f q c.read-row.result.now at c.at.result c.at.ensures
+    has_there f q c.read-row.result.now at c.at.result (rw c.run.ensures at c.at.ensures)

@@ -15,7 +15,7 @@ read-requires g c =
 pub run_after-run-requires : goal.run_after-run-requires
 run_after-run-requires g c =
     let f = seen c.self.inside c.self.view_is c.self.invariant in
-    place_at f _ c.position_of-position.result (ap (λ t. position_at t.rows (index_of c.args.self.now.pairs c.args.id)) c.self.view_is ∙ c.position_of-position.ensures) _ c.read.ensures
+    rw c.run.ensures (place_at f _ c.position_of-position.result (ap (λ t. position_at t.rows (index_of c.args.self.now.pairs c.args.id)) c.self.view_is ∙ c.position_of-position.ensures) _ c.read.ensures)
 
 pub returns : goal.returns
 returns g c =
@@ -25,4 +25,4 @@ returns g c =
     let p = c.position_of-position.result in
     let is : leaf_in c.args.self.now.rows p.row ≡ Some c.read.result.now = rw (← ap (λ t. t.rows) c.self.view_is) c.read.ensures in
     let there : nth c.read.result.now p.place ≡ Some c.args.id = sym (number_there f k p c.position_of-position.ensures c.read.result.now is) ∙ nth-place (map (λ q. q.0) ps) c.args.id (among-numbers ps c.args.id c.requires) in
-    following_there f k p c.position_of-position.ensures c.read.result.now is c.args.id there (record { run = c.run_after-run.result; row = c.row_told-row.result }) c.run_after-run.ensures c.row_told-row.ensures
+    following_there f k p c.position_of-position.ensures c.read.result.now is c.args.id there (record { run = c.run_after-run.result; row = c.row_told-row.result }) (rw c.run.ensures at c.run_after-run.ensures) c.row_told-row.ensures

@@ -10,8 +10,8 @@ returns-in_default-clause-prev g c =
     let f = seen_rows c.self.inside c.self.view_is c.self.invariant in
     sym (none_before f c.args.id c.requires _ _ c.backward.ensures.before c.backward.ensures.first c.position_of.ensures c.in_default.is)
 
-pub read-row-requires : goal.read-row-requires
-read-row-requires g c =
+pub read-requires : goal.read-requires
+read-requires g c =
     let b = before_some c.args.self.now.rows c.backward.ensures.before c.backward.ensures.first c.position_of.ensures c.in-Some.is in
     has_row_at (seen c.self.inside c.self.view_is c.self.invariant) b.0 c.in-Some.position (ap (λ s. position_at s.rows b.0) c.self.view_is ∙ b.2)
 
@@ -19,25 +19,25 @@ pub at-requires : goal.at-requires
 at-requires g c =
     let b = before_some c.args.self.now.rows c.backward.ensures.before c.backward.ensures.first c.position_of.ensures c.in-Some.is in
     let at = ap (λ s. position_at s.rows b.0) c.self.view_is ∙ b.2 in
-    place_at (seen c.self.inside c.self.view_is c.self.invariant) b.0 c.in-Some.position at _ c.read-row.ensures
+    rw c.run-run.ensures (place_at (seen c.self.inside c.self.view_is c.self.invariant) b.0 c.in-Some.position at _ c.read.ensures)
 
 pub run_before-requires : goal.run_before-requires
 run_before-requires g c =
     let b = before_some c.args.self.now.rows c.backward.ensures.before c.backward.ensures.first c.position_of.ensures c.in-Some.is in
     let at = ap (λ s. position_at s.rows b.0) c.self.view_is ∙ b.2 in
-    place_at (seen c.self.inside c.self.view_is c.self.invariant) b.0 c.in-Some.position at _ c.read-row.ensures
+    rw c.run-run.ensures (place_at (seen c.self.inside c.self.view_is c.self.invariant) b.0 c.in-Some.position at _ c.read.ensures)
 
 pub returns-clause-prev : goal.returns-clause-prev
 returns-clause-prev g c =
     let f = seen c.self.inside c.self.view_is c.self.invariant in
     let b = before_some c.args.self.now.rows c.backward.ensures.before c.backward.ensures.first c.position_of.ensures c.in-Some.is in
-    let there = number_there f b.0 c.in-Some.position (ap (λ s. position_at s.rows b.0) c.self.view_is ∙ b.2) _ c.read-row.ensures in
-    sym (number_before-nth None c.args.self.now.pairs c.args.id b.0 c.requires b.1 ∙ there ∙ c.at.ensures)
+    let there = number_there f b.0 c.in-Some.position (ap (λ s. position_at s.rows b.0) c.self.view_is ∙ b.2) _ c.read.ensures in
+    sym (number_before-nth None c.args.self.now.pairs c.args.id b.0 c.requires b.1 ∙ there ∙ (rw c.run-run.ensures at c.at.ensures))
 
 pub returns-clause-runs : goal.returns-clause-runs
 returns-clause-runs g c =
     let f = seen c.self.inside c.self.view_is c.self.invariant in
     let b = before_some c.args.self.now.rows c.backward.ensures.before c.backward.ensures.first c.position_of.ensures c.in-Some.is in
     let at = ap (λ s. position_at s.rows b.0) c.self.view_is ∙ b.2 in
-    let runs = before_in_row f b.0 c.in-Some.position at _ c.read-row.ensures c.at.result c.at.ensures in
-    subst (RunsBefore c.args.self.now.pairs c.at.result) (sym c.run_before.ensures) runs
+    let runs = before_in_row f b.0 c.in-Some.position at _ c.read.ensures c.at.result (rw c.run-run.ensures at c.at.ensures) in
+    subst (RunsBefore c.args.self.now.pairs c.at.result) (sym (rw c.run-run.ensures at c.run_before.ensures)) runs

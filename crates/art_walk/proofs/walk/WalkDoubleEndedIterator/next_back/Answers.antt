@@ -15,18 +15,18 @@ pub invariant_of-self : goal.invariant_of-self
 invariant_of-self g c =
     let i = c.self.inside in (
       (passed_last i.leaves.now.pairs c.law.ensures.distinct i.ends (c.in_ok-first.first, c.in_ok-first.last) c.in_ok-first.was c.self.invariant.0
-          c.without_last-ends.result.0 (c.read-pair.result.0.now, c.read-pair.result.1.now) (number_before i.leaves.now.pairs c.in_ok-first.last)
+          c.without_last-ends.result (c.read-pair.result.0.now, c.read-pair.result.1.now) (number_before i.leaves.now.pairs c.in_ok-first.last)
           c.read-pair.ensures.value refl c.without_last-ends.ensures.one c.without_last-ends.ensures.more).0,
-      beside_last i.leaves.now.pairs i.leaves.now.rows c.in_ok-first.first c.in_ok-first.last i.following i.before.now c.without_last-ends.result.0 c.without_last-ends.result.1.now c.without_last-ends.ensures.stays c.without_last-ends.ensures.runs c.without_last-ends.ensures.one
-          (stands_after i.leaves.now.pairs i.leaves.now.rows c.in_ok-first.first c.in_ok-first.last i.following i.before.now i.ends c.in_ok-first.was c.self.invariant.1),
+      beside_last i.leaves.now.pairs i.leaves.now.rows c.in_ok-first.first c.in_ok-first.last i.following i.before c.without_last-ends.result c.without_last-ends.new.run c.without_last-ends.ensures.stays c.without_last-ends.ensures.runs c.without_last-ends.ensures.one
+          (stands_after i.leaves.now.pairs i.leaves.now.rows c.in_ok-first.first c.in_ok-first.last i.following i.before i.ends c.in_ok-first.was c.self.invariant.1),
     )
 
 pub returns-clause-steps : goal.returns-clause-steps
 returns-clause-steps g c =
     let i = c.self.inside in
     rw (← c.self.view_is) (ap pairs_of (passed_last i.leaves.now.pairs c.law.ensures.distinct i.ends (c.in_ok-first.first, c.in_ok-first.last) c.in_ok-first.was c.self.invariant.0
-    c.without_last-ends.result.0 (c.read-pair.result.0.now, c.read-pair.result.1.now) (number_before i.leaves.now.pairs c.in_ok-first.last)
-    c.read-pair.ensures.value refl c.without_last-ends.ensures.one c.without_last-ends.ensures.more).1 ∙ map-append (λ p. p.1) (ends_left c.without_last-ends.result.0 i.leaves.now.pairs) _)
+    c.without_last-ends.result (c.read-pair.result.0.now, c.read-pair.result.1.now) (number_before i.leaves.now.pairs c.in_ok-first.last)
+    c.read-pair.ensures.value refl c.without_last-ends.ensures.one c.without_last-ends.ensures.more).1 ∙ map-append (λ p. p.1) (ends_left c.without_last-ends.result i.leaves.now.pairs) _)
 
 pub returns-clause-goes : goal.returns-clause-goes
 returns-clause-goes g c =

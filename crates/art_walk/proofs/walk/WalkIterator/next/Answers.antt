@@ -14,8 +14,8 @@ invariant_of-self g c =
       (passed_first i.leaves.now.pairs c.law.ensures.distinct i.ends (c.in_ok-first.first, c.in_ok-first.last) c.in_ok-first.was c.self.invariant.0
           c.without_first-ends.result (c.read-pair.result.0.now, c.read-pair.result.1.now) (number_after i.leaves.now.pairs c.in_ok-first.first)
           c.read-pair.ensures.value refl c.without_first-ends.ensures.one c.without_first-ends.ensures.more).0,
-      beside_first i.leaves.now.pairs i.leaves.now.rows c.in_ok-first.first c.in_ok-first.last i.following i.before.now c.without_first-ends.result c.without_first-ends.new.following c.without_first-ends.ensures.stays c.without_first-ends.ensures.following
-          (runs_before i.leaves.now.pairs i.leaves.now.rows c.in_ok-first.first c.in_ok-first.last i.following i.before.now i.ends c.in_ok-first.was c.self.invariant.1),
+      beside_first i.leaves.now.pairs i.leaves.now.rows c.in_ok-first.first c.in_ok-first.last i.following i.before c.without_first-ends.result c.without_first-ends.new.following c.without_first-ends.ensures.stays c.without_first-ends.ensures.following
+          (runs_before i.leaves.now.pairs i.leaves.now.rows c.in_ok-first.first c.in_ok-first.last i.following i.before i.ends c.in_ok-first.was c.self.invariant.1),
     )
 
 pub returns-clause-steps : goal.returns-clause-steps

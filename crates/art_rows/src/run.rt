@@ -1,0 +1,151 @@
+//! Numbers of a block, side by side.
+ghost use Rattle.std.specs.Prelude.{◌≡◌, ◌+◌, ◌-◌, ◌*◌, ◌^◌, ◌<◌, ◌≤◌, [], ◌∷◌, ◌++◌, length, take, drop, Some, true, IfSome};
+ghost use Rattle.std.specs.Option.{MatchOption};
+ghost use Rattle.art_rows.specs.Rows.{place_in, nth};
+ghost use Rattle.art_rows.specs.Blocks.{numbers_at, AreWithin};
+ghost use Rattle.art_rows.specs.declared.row.TheConstants.{ROW};
+
+use art_slots::LeafId;
+use std::marker::Model;
+
+/// Numbers of a block that stand side by side, each as its distance from the first of the block. A contract sees the list of the numbers.
+#[derive(Drop)]
+pub struct Run<'a> {
+    first: usize,
+    cells: &'a [u8],
+}
+
+impl<'a> Model for Run<'a> {
+    ghost use Rattle.std.specs.Prelude.{◌≤◌, ◌+◌, ◌^◌, List, ℕ};
+    ghost use Rattle.std.specs.Coded.{coded_list, coded_ℕ};
+
+    ghost Value = { List ℕ };
+
+    ghost coded = { coded_list coded_ℕ };
+
+    ghost use Rattle.art_rows.specs.Blocks.{numbers_at, AreWithin};
+    ghost use Rattle.art_rows.specs.declared.row.TheConstants.{ROW};
+
+    ghost view = { λ r. numbers_at r.first r.cells.now };
+
+    ghost invariant = { λ r. (r.first + ROW ≤ 2 ^ 61) × AreWithin r.cells.now };
+}
+
+impl<'a> Run<'a> {
+    /// No numbers.
+    pub fn empty() -> Self
+        ensures { result ≡ [] }
+    {
+        Run {
+            first: 0,
+            cells: &[],
+        }
+    }
+
+    /// The numbers of some cells of a block.
+    pub(crate) fn new(first: usize, cells: &'a [u8]) -> Self
+        requires small { first + ROW ≤ 2 ^ 61 }
+        requires within { AreWithin cells.now }
+        ensures { result ≡ numbers_at first cells.now }
+    {
+        Run { first, cells }
+    }
+
+    /// How many numbers there are.
+    pub(crate) fn len(&self) -> usize
+        ensures { result ≡ length self.now }
+    {
+        self.cells.len()
+    }
+
+    /// The number at a place.
+    pub(crate) fn at(&self, place: usize) -> LeafId
+        requires { place < length self.now }
+        ensures { nth self.now place ≡ Some result }
+    {
+        LeafId::new(self.first + self.cells[place] as usize)
+    }
+
+    /// Whether a number stands at a place.
+    pub(crate) fn has_at(&self, place: usize, number: LeafId) -> bool
+        ensures { result ≡ true → nth self.now place ≡ Some number }
+    {
+        place < self.len() && self.at(place) == number
+    }
+
+    /// The number after another, where that stands at a place and is not the last.
+    pub(crate) fn after(&self, place: usize, number: LeafId) -> Option<LeafId>
+        ensures { IfSome result (λ n. (nth self.now place ≡ Some number) × (nth self.now (place + 1) ≡ Some n)) }
+    {
+        if place < self.len() && place + 1 < self.len() && self.at(place) == number {
+            Some(self.at(place + 1))
+        } else {
+            None
+        }
+    }
+
+    /// The number before another, where that stands at a place and is not the first.
+    pub(crate) fn before(&self, place: usize, number: LeafId) -> Option<LeafId>
+        ensures { IfSome result (λ n. (0 < place) × (nth self.now place ≡ Some number) × (nth self.now (place - 1) ≡ Some n)) }
+    {
+        if 0 < place && place < self.len() && self.at(place) == number {
+            Some(self.at(place - 1))
+        } else {
+            None
+        }
+    }
+
+    /// The numbers after a place.
+    pub(crate) fn run_after(&self, place: usize) -> Run<'a>
+        requires { place < length self.now }
+        ensures { result ≡ drop (place + 1) self.now }
+    {
+        Run {
+            first: self.first,
+            cells: &self.cells[place + 1..],
+        }
+    }
+
+    /// The numbers before a place.
+    pub(crate) fn run_before(&self, place: usize) -> Run<'a>
+        requires { place < length self.now }
+        ensures { result ≡ take place self.now }
+    {
+        Run {
+            first: self.first,
+            cells: &self.cells[..place],
+        }
+    }
+
+    /// Takes the first number off.
+    #[inline(always)]
+    pub(crate) fn split_off_first(&mut self) -> Option<LeafId>
+        ensures { MatchOption result (self.old ≡ []) (λ n. self.old ≡ n ∷ self.new) }
+    {
+        let (cell, rest) = self.cells.split_first()?;
+        self.cells = rest;
+        Some(LeafId::new(self.first + *cell as usize))
+    }
+
+    /// Takes the last number off.
+    #[inline(always)]
+    pub(crate) fn split_off_last(&mut self) -> Option<LeafId>
+        ensures { MatchOption result (self.old ≡ []) (λ n. self.old ≡ self.new ++ n ∷ []) }
+    {
+        let (cell, rest) = self.cells.split_last()?;
+        self.cells = rest;
+        Some(LeafId::new(self.first + *cell as usize))
+    }
+
+    /// The place of a number.
+    pub(crate) fn place_of(&self, number: LeafId) -> usize
+        ensures { result ≡ place_in self.now number }
+    {
+        for (place, cell) in self.cells.iter().enumerate() {
+            if self.first + *cell as usize == number.number() {
+                return place;
+            }
+        }
+        self.cells.len()
+    }
+}
