@@ -2,7 +2,7 @@
 use Rattle.std.proofs.Common.{◌≡◌, ◌≢◌, ◌⊎◌, eqb, eq-eqb, true, false, IsSome, ◌∷◌, ◌++◌, [], ℕ, zero, suc, take, drop, ◌+◌, ◌-◌, ◌<◌, ◌≤◌, List, length, map, refl, sym, ap, ◌∙◌, Option, Some, None, inl, inr, arith}
 use Rattle.std.specs.Prelude.{IfSome, IfNone}
 use Rattle.std.proofs.lemmas.List.{length-append, length-take-le, length-drop}
-use Rattle.art_rows.specs.Numbers.{Numbered, leaf_in, Has, AreDistinct, last_number, number_after, number_before, with_pair}
+use Rattle.art_rows.specs.Numbers.{Numbered, leaf_in, Has, AreDistinct, number_after, number_before, with_pair}
 use Rattle.art_rows.specs.Links.{is_at}
 use Rattle.art_rows.specs.Rows.{position_at, place_in, nth, numbers, row_end}
 use Rattle.art_rows.specs.Blocks.{row_of, HasWay, IsCrowded, IsAfter, GoesOn}
@@ -10,12 +10,12 @@ use Rattle.art_rows.specs.Leaves.{index_of, spot_index}
 use Rattle.art_rows.specs.Filing.{Files}
 use Rattle.art_rows.specs.declared.leaves.Leaf.{Leaf}
 use Rattle.art_rows.specs.declared.row.Position.{Position}
-use Rattle.art_rows.proofs.NumbersLemmas.{after_other, Has-last, leaf_in-with_now}
-use Rattle.art_rows.proofs.RowsLemmas.{among-nth, Has-among, standing, standing-row, numbers-append, last_number-nth}
-use Rattle.art_rows.proofs.Ends.{last_place}
-use Rattle.art_rows.proofs.FilingLemmas.{located, located_at, row_has, how_many, stands_there, number_there, before_there}
+use Rattle.art_rows.proofs.NumbersLemmas.{after_other, leaf_in-with_now}
+use Rattle.art_rows.proofs.RowsLemmas.{among-nth, Has-among}
+use Rattle.art_rows.proofs.Ends.{last_place, last_none}
+use Rattle.art_rows.proofs.FilingLemmas.{located_at, row_has, how_many, stands_there, number_there, before_there, none_there}
 use Rattle.art_rows.proofs.RowChanges.{spot_after}
-use Rattle.art_rows.proofs.Rooms.{spot_ids, spot_end}
+use Rattle.art_rows.proofs.Rooms.{spot_ids, spot_end, no_rows, IsLast, is_last, last_end}
 
 -- the number goes to the front of the next row
 pub goes_on : (rows new : List (Numbered (List ℕ))) (r n next : ℕ) → number_after rows r ≡ Some next → Has rows next → IfSome (leaf_in rows next) (λ ids. new ≡ with_pair rows next (n ∷ ids)) → GoesOn rows new r n
@@ -95,33 +95,6 @@ module _ {K V : Type 0} {leaves : ℕ → Option (Leaf K V)} {rows : List (Numbe
       let b : length ids ≡ 32 → place_in ids i + 1 ≡ 32 = rw own at way in
       a ∙ b full
 
-  -- the last leaf of all is the last of its row
-  pub last_way : (o : Option ℕ) → o ≡ last_number ps → HasWay rows o
-  last_way None e = tt
-  last_way (Some i) e = go (leaf_in rows (row_of i)) refl
-    where
-      has : Has ps i
-      has = Has-last ps i (sym e)
-
-      at_last : (ids : List ℕ) → leaf_in rows (row_of i) ≡ Some ids → length ids ≡ 32 → place_in ids i + 1 ≡ 32
-      at_last ids at full =
-          let q : Position = record { row = row_of i; place = place_in ids i } in
-          let l = located f i has ids at in
-          let s = standing rows (index_of ps i) q l in
-          let r : Some ids ≡ Some s.ids = sym at ∙ standing-row rows (index_of ps i) q s f.apart in
-          let same : ids ≡ s.ids = cc in
-          let k : index_of ps i ≡ length ps - 1 = last_place ps i f.distinct (sym (last_number-nth ps) ∙ sym e) in
-          let n : length (numbers rows) ≡ length (numbers s.before) + (length s.ids + length (numbers s.after)) = ap (λ rs. length (numbers rs)) s.is ∙ ap length (numbers-append s.before ((row_of i, s.ids) ∷ s.after)) ∙ length-append (numbers s.before) (s.ids ++ numbers s.after) ∙ ap (λ m. length (numbers s.before) + m) (length-append s.ids (numbers s.after)) in
-          let h : length (numbers rows) ≡ length ps = how_many f in
-          let x = s.index in
-          let w = s.within in
-          let m : length ids ≡ length s.ids = ap length same in
-          omega arith
-
-      go : (o : Option (List ℕ)) → leaf_in rows (row_of i) ≡ o → IfSome o (λ ids. length ids ≡ 32 → place_in ids i + 1 ≡ 32)
-      go None at = tt
-      go (Some ids) at = at_last ids at
-
 -- ---- a row without its last number
 
 -- what stands among the first numbers
@@ -178,3 +151,22 @@ module _ {K V : Type 0} {leaves : ℕ → Option (Leaf K V)} {rows : List (Numbe
           let s = spot_after mid (index_of qs before) p (stands_there h before p (left rows mid (row_of last) ids at full is) there e) in
           let n : length s.ids ≡ 31 = spot_ids s h.apart (λ l. length l ≡ 31) (rw there (left_length rows mid (row_of last) ids at full is)) in
           spot_end s h.apart (omega arith)
+
+-- ---- the end of all
+
+module _ {K V : Type 0} {leaves : ℕ → Option (Leaf K V)} {rows : List (Numbered (List ℕ))} {count : ℕ} {ps : List (Numbered (K × V))} (f : Files leaves rows count ps) where
+  -- with no last position there are no pairs and no rows
+  pub nothing_there : position_at rows (length ps - 1) ≡ None → (ps ≡ []) × (rows ≡ [])
+  nothing_there e =
+      let none = last_none ps (none_there f (length ps - 1) e) in
+      let n : length (numbers rows) ≡ 0 = how_many f ∙ ap length none in
+      (none, no_rows rows f.filled n)
+
+  module _ (p : Position) (at : position_at rows (length ps - 1) ≡ Some p) where
+    -- the last position is that of the last row
+    pub at_last : IsLast rows p
+    at_last = is_last rows f.filled (length ps - 1) p at (ap (λ n. n - 1) (sym (how_many f)))
+
+    -- the place after the last leaf is the end of that row
+    pub last_leaf_end : (i : ℕ) → nth (map (λ q. q.0) ps) (length ps - 1) ≡ Some i → index_of ps i + 1 ≡ row_end (Some p.row) rows
+    last_leaf_end i is = ap (λ n. n + 1) (last_place ps i f.distinct is) ∙ last_end at_last f.apart (length ps - 1) (ap (λ n. n - 1) (sym (how_many f)))

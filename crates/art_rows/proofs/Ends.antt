@@ -1,6 +1,5 @@
 -- The first and the last of a list of numbered pairs, taken out.
-use Rattle.std.proofs.Common.{◌≡◌, ◌≢◌, ℕ, ◌-◌, List, [], ◌∷◌, ◌++◌, length, map, Option, Some, None, sym, ap, ◌∙◌, refl}
-use Rattle.std.specs.Prelude.{IfSome}
+use Rattle.std.proofs.Common.{◌≡◌, ◌≢◌, ℕ, ◌-◌, List, [], ◌∷◌, ◌++◌, length, map, Some, None, sym, ap, ◌∙◌, refl}
 use Rattle.std.proofs.lemmas.Bool.{ne_eqb, eq-eqb}
 use Rattle.art_rows.specs.Numbers.{Numbered, leaf_in, Has, AreDistinct, last_number, without_number}
 use Rattle.art_rows.specs.Rows.{nth, place_in}
@@ -45,11 +44,6 @@ module _ {X : Type 0} where
 
   pub last_has : (ps : List (Numbered X)) (id : ℕ) → nth (map (λ p. p.0) ps) (length ps - 1) ≡ Some id → Has ps id
   last_has ps id e = Has-last ps id (last_number-nth ps ∙ e)
-
-  -- the last number, if there is one, is that of a pair
-  pub last_number-has : (ps : List (Numbered X)) (o : Option ℕ) → o ≡ last_number ps → IfSome o (Has ps)
-  last_number-has ps None e = tt
-  last_number-has ps (Some id) e = Has-last ps id (sym e)
 
   taken_off : (ps : List (Numbered X)) (id : ℕ) (x : X) → AreDistinct ps → last_number ps ≡ Some id → leaf_in ps id ≡ Some x → ps ≡ without_number ps id ++ (id, x) ∷ []
   taken_off [] id x d e l = absurd cc

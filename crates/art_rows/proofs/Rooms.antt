@@ -5,13 +5,13 @@ use Rattle.std.proofs.lemmas.Bool.Decides.{eqb_tells}
 use Rattle.std.proofs.lemmas.List.{length-append, length-take-le, length-drop, map-append}
 use Rattle.art_rows.specs.Numbers.{Numbered, leaf_in, Has, first_number, number_after, with_pair_after, without_number, with_pair, Lacks, AreDistinct}
 use Rattle.art_rows.specs.Rows.{numbers, position_at, AreFilled, IsSpot, row_end, lengths}
-use Rattle.art_rows.specs.RowRoom.{EndsFull, StartsFull, row_room}
+use Rattle.art_rows.specs.RowRoom.{EndsFull, StartsFull, row_room, row_end_room}
 use Rattle.art_rows.specs.Blocks.{IsShut, GoesOn, GoesApart, GoesBeyond}
 use Rattle.art_rows.specs.declared.row.Position.{Position}
 use Rattle.art_rows.proofs.NumbersLemmas.{eqb_same, eqb_other, distinct_parts, Split, split, leaf_in-split, number_after-split, with_pair-split, with_pair_after-split, without_number-split}
-use Rattle.art_rows.proofs.RowsLemmas.{numbers-append, standing, standing-lacks, standing-row}
+use Rattle.art_rows.proofs.RowsLemmas.{numbers-append, AreFilled-parts, standing, standing-lacks, standing-row}
 use Rattle.art_rows.proofs.RowChanges.{spot-lacks, spot-row}
-use Rattle.art_rows.proofs.RowRoomLemmas.{room_spare, room_begun, room_put, room_taken, room_ended, room_more}
+use Rattle.art_rows.proofs.RowRoomLemmas.{room_spare, room_begun, room_put, room_taken, room_ended, room_more, row_end_room-last}
 
 -- the lengths, where one row is shown
 lengths_at : (xs ys : List (Numbered (List ℕ))) (r : ℕ) (ids : List ℕ) → lengths (xs ++ (r, ids) ∷ ys) ≡ lengths xs ++ length ids ∷ lengths ys
@@ -242,3 +242,67 @@ taken_room rows k p at d new spare more one two gain grows =
           let h = room_more (lengths s.before ++ length out ∷ lengths s.after) spare more grows in
           rw (was, z, ap lengths e ∙ lengths_at s.before s.after p.row out) (omega arith)
     ]
+
+-- ---- the end of the rows
+
+-- filled rows with no number are none
+pub no_rows : (rows : List (Numbered (List ℕ))) → AreFilled rows → length (numbers rows) ≡ 0 → rows ≡ []
+no_rows [] f e = refl
+no_rows (r ∷ rows) f e = absurd (let n = length-append r.1 (numbers rows) in let w = f.0 in omega arith)
+
+-- a position is the last of the last row
+pub record IsLast (rows : List (Numbered (List ℕ))) (p : Position) : Type 0 where
+  pub before : List (Numbered (List ℕ))
+  pub ids : List ℕ
+  pub is : rows ≡ before ++ (p.row, ids) ∷ []
+  pub len : length ids ≡ p.place + 1
+
+-- the last position is
+pub is_last : (rows : List (Numbered (List ℕ))) → AreFilled rows → (k : ℕ) (p : Position) → position_at rows k ≡ Some p → k ≡ length (numbers rows) - 1 → IsLast rows p
+is_last rows f k p at e =
+    let s = standing rows k p at in
+    let n : length (numbers rows) ≡ length (numbers s.before) + (length s.ids + length (numbers s.after)) = ap (λ rs. length (numbers rs)) s.is ∙ ap length (numbers-append s.before ((p.row, s.ids) ∷ s.after)) ∙ length-append (numbers s.before) (s.ids ++ numbers s.after) ∙ ap (λ m. length (numbers s.before) + m) (length-append s.ids (numbers s.after)) in
+    let g = (AreFilled-parts s.before ((p.row, s.ids) ∷ s.after) (subst AreFilled s.is f)).1 in
+    let i = s.index in
+    let w = s.within in
+    let none : s.after ≡ [] = no_rows s.after g.1 (omega arith) in
+    record { before = s.before; ids = s.ids; is = s.is ∙ ap (λ l. s.before ++ (p.row, s.ids) ∷ l) none; len = omega arith }
+
+module _ {rows : List (Numbered (List ℕ))} {p : Position} (l : IsLast rows p) (d : AreDistinct rows) where
+  last_lacks : Lacks l.before p.row
+  last_lacks = (distinct_parts l.before [] (p.row, l.ids) (subst AreDistinct l.is d)).0
+
+  -- the last row
+  pub last_row : leaf_in rows p.row ≡ Some l.ids
+  last_row = ap (λ rs. leaf_in rs p.row) l.is ∙ leaf_in-split p.row l.ids [] l.before last_lacks
+
+  -- where it ends
+  pub last_end : (k : ℕ) → k ≡ length (numbers rows) - 1 → k + 1 ≡ row_end (Some p.row) rows
+  last_end k e =
+      let r = ap (row_end (Some p.row)) l.is ∙ row_end-split l.before [] p.row l.ids last_lacks in
+      let n : length (numbers rows) ≡ length (numbers l.before) + (length l.ids + 0) = ap (λ rs. length (numbers rs)) l.is ∙ ap length (numbers-append l.before ((p.row, l.ids) ∷ [])) ∙ length-append (numbers l.before) (l.ids ++ []) ∙ ap (λ m. length (numbers l.before) + m) (length-append l.ids []) in
+      let i = l.len in
+      omega arith
+
+  -- for how many numbers it has place
+  pub last_room : row_end_room (lengths rows) ≡ 32 - (p.place + 1)
+  last_room = ap row_end_room (ap lengths l.is ∙ lengths_at l.before [] p.row l.ids) ∙ row_end_room-last (lengths l.before) (length l.ids) ∙ ap (λ n. 32 - n) l.len
+
+  -- with a number at its end
+  pub last_put : (new : List (Numbered (List ℕ))) (n : ℕ) → IfSome (leaf_in rows p.row) (λ ids. new ≡ with_pair rows p.row (take (p.place + 1) ids ++ n ∷ drop (p.place + 1) ids)) → row_end_room (lengths new) ≡ 32 - (p.place + 2)
+  last_put new n put =
+      let more : List ℕ = take (p.place + 1) l.ids ++ n ∷ drop (p.place + 1) l.ids in
+      let e : new ≡ with_pair rows p.row more = rw last_row at put in
+      let is : new ≡ l.before ++ (p.row, more) ∷ [] = e ∙ ap (λ rs. with_pair rs p.row more) l.is ∙ with_pair-split p.row l.ids [] more l.before last_lacks in
+      let i = l.len in
+      let z = length-append (take (p.place + 1) l.ids) (n ∷ drop (p.place + 1) l.ids) in
+      let t = length-take-le (p.place + 1) l.ids (omega arith) in
+      let q = length-drop (p.place + 1) l.ids in
+      let m : length more ≡ p.place + 2 = omega arith in
+      ap row_end_room (ap lengths is ∙ lengths_at l.before [] p.row more) ∙ row_end_room-last (lengths l.before) (length more) ∙ ap (λ n. 32 - n) m
+
+  -- with a row of one number after it
+  pub last_begun : (new : List (Numbered (List ℕ))) (r n : ℕ) → new ≡ with_pair_after (Some p.row) (r, n ∷ []) rows → row_end_room (lengths new) ≡ 31
+  last_begun new r n e =
+      let is : new ≡ l.before ++ (p.row, l.ids) ∷ (r, n ∷ []) ∷ [] = e ∙ ap (with_pair_after (Some p.row) (r, n ∷ [])) l.is ∙ with_pair_after-split p.row l.ids [] (r, n ∷ []) l.before last_lacks in
+      ap row_end_room (ap lengths is ∙ lengths_two l.before [] p.row r l.ids (n ∷ [])) ∙ row_end_room-last (lengths l.before ++ length l.ids ∷ []) 1

@@ -1,9 +1,9 @@
 -- How the room of rows changes where a number is put in or taken out, and how many spare rows are enough.
-use Rattle.std.proofs.Common.{◌≡◌, ℕ, zero, suc, ◌+◌, ◌*◌, ◌/◌, ◌<◌, ◌≤◌, List, [], ◌∷◌, ◌++◌, length, map, refl, arith}
+use Rattle.std.proofs.Common.{◌≡◌, ℕ, zero, suc, ◌+◌, ◌-◌, ◌*◌, ◌/◌, ◌<◌, ◌≤◌, List, [], ◌∷◌, ◌++◌, length, map, refl, arith}
 use Rattle.std.proofs.lemmas.List.{length-append}
 use Rattle.art_rows.specs.Numbers.{Numbered}
 use Rattle.art_rows.specs.Rows.{numbers}
-use Rattle.art_rows.specs.RowRoom.{over, crowding, row_room, EndsFull, StartsFull}
+use Rattle.art_rows.specs.RowRoom.{over, crowding, row_room, EndsFull, StartsFull, row_end_room}
 
 -- ---- the crowding of rows, in two parts
 
@@ -100,3 +100,11 @@ crowding-numbers a (r ∷ rows) =
 -- so many spare rows are enough
 pub room_enough : (rows : List (Numbered (List ℕ))) (n spare : ℕ) → n / 15 + length (numbers rows) / 32 + 2 ≤ spare → n ≤ row_room (map (λ r. length r.1) rows) spare
 room_enough rows n spare h = (let c = crowding-numbers 32 rows in omega arith)
+
+-- ---- the room at the end
+
+-- it is what the last row has
+pub row_end_room-last : (xs : List ℕ) (n : ℕ) → row_end_room (xs ++ n ∷ []) ≡ 32 - n
+row_end_room-last [] n = refl
+row_end_room-last (x ∷ []) n = refl
+row_end_room-last (x ∷ y ∷ xs) n = row_end_room-last (y ∷ xs) n

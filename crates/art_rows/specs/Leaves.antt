@@ -1,10 +1,11 @@
 -- What a contract sees of leaves in rows.
-use Rattle.std.specs.Prelude.{◌≡◌, ◌+◌, ℕ, List, [], ◌∷◌, ◌++◌, map, Option, Some, None, refl, if◌then◌else◌, eqb}
+use Rattle.std.specs.Prelude.{◌≡◌, ◌+◌, ◌*◌, ℕ, List, [], ◌∷◌, ◌++◌, map, Option, Some, None, refl, if◌then◌else◌, eqb}
 use Rattle.std.specs.Coded.{Coded, code_by, coded×, coded_ℕ, coded_list}
 use Rattle.std.specs.List.{AllZip}
 use Rattle.art_rows.specs.Numbers.{Numbered}
 use Rattle.art_rows.specs.Rows.{place_in, lengths}
-use Rattle.art_rows.specs.RowRoom.{row_room}
+use Rattle.art_rows.specs.RowRoom.{row_room, row_end_room}
+use Rattle.art_rows.specs.declared.row.TheConstants.{ROW}
 
 -- the pairs in order, each under its number; the rows of their numbers; and the spare rows
 pub record Leaves (K V : Type 0) : Type 0 where
@@ -25,6 +26,10 @@ module _ {K V : Type 0} where
   -- for how many leaves more there surely is a row
   abbrev pub room : Leaves K V → ℕ
   room l = row_room (lengths l.rows) l.spare_rows
+
+  -- for how many leaves more there is place after all others
+  abbrev pub end_room : Leaves K V → ℕ
+  end_room l = ROW * l.spare_rows + row_end_room (lengths l.rows)
 
   -- how many pairs stand before that of a number
   abbrev pub index_of : List (Numbered (K × V)) → ℕ → ℕ

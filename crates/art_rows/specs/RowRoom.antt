@@ -25,3 +25,9 @@ EndsFull (n ∷ m ∷ ns) = EndsFull (m ∷ ns)
 abbrev pub StartsFull : List ℕ → Type 0
 StartsFull [] = Unit {0}
 StartsFull (n ∷ ns) = n ≡ ROW
+
+-- how many more numbers the last row has place for, none where there is no row
+abbrev pub row_end_room : List ℕ → ℕ
+row_end_room [] = 0
+row_end_room (n ∷ []) = ROW - n
+row_end_room (n ∷ m ∷ ns) = row_end_room (m ∷ ns)

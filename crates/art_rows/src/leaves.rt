@@ -5,7 +5,7 @@ ghost use Rattle.art_rows.specs.Rows.{position_at, nth, IsSpot, row_end, lengths
 ghost use Rattle.art_rows.specs.RowRoom.{row_room};
 ghost use Rattle.art_rows.specs.Blocks.{row_of, HasWay, IsCrowded, IsAfter, IsShut, GoesBeyond};
 ghost use Rattle.art_rows.specs.declared.row.Position.{Position};
-ghost use Rattle.art_rows.specs.Leaves.{index_of, room, spot_index, TakesFirst, TakesLast, AreCopies};
+ghost use Rattle.art_rows.specs.Leaves.{index_of, room, end_room, spot_index, TakesFirst, TakesLast, AreCopies};
 ghost use Rattle.art_rows.specs.LeafLends.{lends_value, lends_leaf};
 ghost use Rattle.std.specs.Borrow.{sem};
 
@@ -560,6 +560,21 @@ impl<K: Drop, V: Drop> Leaves<K, V> {
     {
         let sure = n / SURE + self.records.used() / ROW + 2;
         let rows = if sure < n { sure } else { n };
+        if rows <= self.rows.spare() {
+            return Ok(());
+        }
+        self.add_rows(rows)
+    }
+
+    /// Makes places for so many leaves more after all others, with a spare row for each 32. It fails where memory is refused, and then changes nothing that a contract sees but, it may be, the number of places.
+    pub fn reserve_end(&mut self, n: usize) -> Result<(), AllocError>
+        ensures pairs { self.new.pairs ≡ self.old.pairs }
+        ensures rows { self.new.rows ≡ self.old.rows }
+        ensures grows { end_room self.old ≤ end_room self.new }
+        ensures ok { OnOk result (n ≤ end_room self.new) }
+        ensures needed { OnErr result (self.old.spare_rows < n) }
+    {
+        let rows = n.div_ceil(ROW);
         if rows <= self.rows.spare() {
             return Ok(());
         }

@@ -4,7 +4,7 @@ ghost use Rattle.art_rows.specs.Numbers.{leaf_in, Has, last_number, number_after
 ghost use Rattle.art_rows.specs.Rows.{position_at, nth, IsSpot, row_end, lengths};
 ghost use Rattle.art_rows.specs.RowRoom.{row_room};
 ghost use Rattle.art_rows.specs.Blocks.{row_of, HasWay, IsCrowded, IsAfter, IsShut, GoesBeyond};
-ghost use Rattle.art_rows.specs.Leaves.{room, spot_index};
+ghost use Rattle.art_rows.specs.Leaves.{room, end_room, spot_index};
 
 use crate::leaves::{Leaf, Leaves};
 use crate::row::{Position, ROW, Row};
@@ -103,14 +103,24 @@ impl<K: Drop, V: Drop> Leaves<K, V> {
 
     /// Puts a pair after all others. It asks for no memory.
     pub fn push(&mut self, key: K, value: V) -> LeafId
-        requires room { 0 < room self.old }
+        requires room { 0 < end_room self.old }
         ensures fresh { leaf_in self.old.pairs result ≡ None }
         ensures placed { self.new.pairs ≡ with_pair_after (last_number self.old.pairs) (result, (key, value)) self.old.pairs }
-        ensures room { room self.old ≤ room self.new + 1 }
+        ensures room { end_room self.old ≤ end_room self.new + 1 }
     {
         let _ = &self.rows;
-        let last = self.last();
-        self.insert(last, Position::unknown(), key, value)
+        let Some(position) = self.last_position() else {
+            return self.begin(None, None, key, value);
+        };
+        let last = self.number(position);
+        if position.place < ROW - 1 {
+            let end = Position {
+                row: position.row,
+                place: position.place + 1,
+            };
+            return self.put(Some(last), end, key, value);
+        }
+        self.begin(Some(last), Some(position.row), key, value)
     }
 
     // Moves the last leaf of a full row to the row after it. Answers the number that it has then.
