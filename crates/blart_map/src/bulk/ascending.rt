@@ -6,7 +6,7 @@ ghost use Rattle.blart_keys.specs.Bytes.{bytes_cmp, related};
 ghost use Rattle.blart_keys.specs.Content.{at, IsContent, IsPut};
 ghost use Rattle.blart_keys.specs.Steps.{bytes as pair_bytes};
 ghost use Rattle.blart_keys.specs.Stored.{kept_pair};
-ghost use Rattle.art_tree.specs.Leaves.{leaf_in, Has, room, bytes};
+ghost use Rattle.art_tree.specs.Leaves.{leaf_in, Has, end_room, bytes};
 ghost use Rattle.art_walk.specs.Pairs.{pairs_of};
 ghost use Rattle.blart_map.specs.Bulk.{NoneGreater};
 
@@ -21,7 +21,7 @@ pub(crate) fn put_ascending<K: NoPrefixesBytes + Drop, V: Drop>(
 )
     requires none { leaves.old.pairs ≡ [] }
     requires sorted { IsSortedByKey (pair_bytes K.bytes) bytes_cmp items.items }
-    requires room { length items.items ≤ room leaves.old }
+    requires room { length items.items ≤ end_room leaves.old }
     ensures put { PutsAll (pair_bytes K.bytes) kept_pair [] items.items (pairs_of leaves.new.pairs) }
     ensures content { IsContent (bytes K.bytes) leaves.new.pairs }
 {
@@ -34,12 +34,12 @@ pub(crate) fn put_ascending<K: NoPrefixesBytes + Drop, V: Drop>(
 fn put_last<K: NoPrefixesBytes + Drop, V: Drop>(leaves: &mut Leaves<K, V>, key: K, value: V)
     requires content { IsContent (bytes K.bytes) leaves.old.pairs }
     requires order { NoneGreater (pair_bytes K.bytes) (pairs_of leaves.old.pairs) (K.bytes key) }
-    requires room { 0 < room leaves.old }
+    requires room { 0 < end_room leaves.old }
     ensures put { IsPut (pair_bytes K.bytes) (pairs_of leaves.old.pairs)
         (kept_pair (at (pair_bytes K.bytes) (pairs_of leaves.old.pairs) (K.bytes key)) (key, value))
         (pairs_of leaves.new.pairs) }
     ensures content { IsContent (bytes K.bytes) leaves.new.pairs }
-    ensures room { room leaves.old ≤ room leaves.new + 1 }
+    ensures room { end_room leaves.old ≤ end_room leaves.new + 1 }
 {
     leaves.law();
     let Some(last) = leaves.last() else {
@@ -69,9 +69,9 @@ fn has_bytes<K: NoPrefixesBytes, V>(leaves: &Leaves<K, V>, id: LeafId, key: &K) 
 
 // Puts a pair after all others.
 pub(crate) fn push<K: Drop, V: Drop>(leaves: &mut Leaves<K, V>, key: K, value: V)
-    requires room { 0 < room leaves.old }
+    requires room { 0 < end_room leaves.old }
     ensures pushed { pairs_of leaves.new.pairs ≡ pairs_of leaves.old.pairs ++ (key, value) ∷ [] }
-    ensures room { room leaves.old ≤ room leaves.new + 1 }
+    ensures room { end_room leaves.old ≤ end_room leaves.new + 1 }
 {
     leaves.law();
     let _last = leaves.push(key, value);

@@ -71,7 +71,7 @@ impl<K: NoPrefixesBytes + Drop, V: Drop, const PREFIX_LEN: usize> TreeMap<K, V, 
         ensures refused { OnErr result (items.items ≢ []) }
     {
         let mut leaves = Leaves::new(alloc);
-        if let Err(refused) = leaves.reserve(items.len()) {
+        if let Err(refused) = leaves.reserve_end(items.len()) {
             drop(leaves);
             drop(items);
             return Err(refused);

@@ -6,7 +6,7 @@ ghost use Rattle.blart_keys.specs.Content.{between};
 ghost use Rattle.blart_keys.specs.Steps.{bytes};
 ghost use Rattle.blart_keys.specs.Stored.{pair_at};
 ghost use Rattle.art_tree.specs.Content.{room};
-ghost use Rattle.art_tree.specs.Leaves.{room as leaf_room};
+ghost use Rattle.art_tree.specs.Leaves.{end_room};
 ghost use Rattle.art_walk.specs.Pairs.{pairs_of};
 ghost use Rattle.blart_map.specs.Content.{pairs};
 
@@ -168,12 +168,12 @@ fn memory_for<K: Drop, V: Drop, const P: usize>(
     count: usize,
 ) -> Result<(Leaves<K, V>, Frame<P>, Frame<P>), AllocError>
     ensures none { IfOk result (λ m. m.0.pairs ≡ []) }
-    ensures room { IfOk result (λ m. low ≤ leaf_room m.0) }
+    ensures room { IfOk result (λ m. low ≤ end_room m.0) }
     ensures below { IfOk result (λ m. low ≤ m.1) }
     ensures from { IfOk result (λ m. count ≤ m.2) }
 {
     let mut leaves = Leaves::new(alloc);
-    if let Err(refused) = leaves.reserve(low) {
+    if let Err(refused) = leaves.reserve_end(low) {
         drop(leaves);
         return Err(refused);
     }
@@ -209,7 +209,7 @@ fn frames_for<const P: usize>(
 fn move_leaves<K: Drop, V: Drop>(from: &mut Leaves<K, V>, to: &mut Leaves<K, V>, count: usize)
     requires enough { count ≤ length from.old.pairs }
     requires empty { to.old.pairs ≡ [] }
-    requires room { count ≤ leaf_room to.old }
+    requires room { count ≤ end_room to.old }
     ensures whole { pairs_of from.old.pairs
         ≡ pairs_of to.new.pairs ++ pairs_of from.new.pairs }
     ensures moved { length (pairs_of to.new.pairs) ≡ count }

@@ -4,7 +4,7 @@ use Rattle.blart_keys.specs.Bulk.{PutsAll}
 use Rattle.blart_keys.specs.Content.{IsContent}
 use Rattle.blart_keys.specs.Steps.{bytes as pair_bytes}
 use Rattle.blart_keys.specs.Stored.{kept_pair}
-use Rattle.art_tree.specs.Leaves.{room, bytes}
+use Rattle.art_tree.specs.Leaves.{end_room, bytes}
 use Rattle.art_walk.specs.Pairs.{pairs_of}
 use Rattle.blart_map.proofs.Moved.AtEnd.{NoneOver, AreRanked}
 use Rattle.blart_map.proofs.bulk.ascending.put_ascending.Given as goal
@@ -17,5 +17,5 @@ invariant-loop-item g l = record {
   content : IsContent (bytes g.K.AsBytes.bytes) l.leaves.pairs;
   sorted : AreRanked (pair_bytes g.K.AsBytes.bytes) (into_iter_items l.item-iterator);
   order : NoneOver (pair_bytes g.K.AsBytes.bytes) (pairs_of l.leaves.pairs) (into_iter_items l.item-iterator);
-  room : length (into_iter_items l.item-iterator) ≤ room l.leaves;
+  room : length (into_iter_items l.item-iterator) ≤ end_room l.leaves;
 }

@@ -1,5 +1,5 @@
 use Rattle.std.proofs.Common.{◌≡◌, ◌≤◌, ◌+◌, ◌++◌, length}
-use Rattle.art_tree.specs.Leaves.{room}
+use Rattle.art_tree.specs.Leaves.{end_room}
 use Rattle.art_walk.specs.Pairs.{pairs_of}
 use Rattle.blart_map.proofs.bulk.split_off.move_leaves.Given as goal
 
@@ -8,5 +8,5 @@ invariant-loop g l = record {
   whole : pairs_of l.initial.from.pairs ≡ pairs_of l.to.pairs ++ pairs_of l.from.pairs;
   moved : length (pairs_of l.to.pairs) ≡ l.counter;
   enough : l.count ≤ length l.from.pairs + l.counter;
-  room : l.count ≤ room l.to + l.counter;
+  room : l.count ≤ end_room l.to + l.counter;
 }
