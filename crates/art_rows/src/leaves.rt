@@ -1,10 +1,11 @@
 //! The leaf records, in rows in the order of their keys.
-ghost use Rattle.std.specs.Prelude.{◌≡◌, ◌≢◌, ℕ, ◌+◌, ◌-◌, ◌<◌, ◌≤◌, ◌++◌, List, [], ◌∷◌, length, map, option_map, take, drop, Option, Some, None, IsSome, IfSome, IfNone, OnOk, IfOk, OnErr};
+ghost use Rattle.std.specs.Prelude.{◌≡◌, ◌≢◌, ℕ, ◌+◌, ◌-◌, ◌*◌, ◌<◌, ◌≤◌, ◌++◌, List, [], ◌∷◌, length, map, option_map, take, drop, Option, Some, None, IsSome, IfSome, IfNone, OnOk, IfOk, OnErr};
 ghost use Rattle.art_rows.specs.Numbers.{leaf_in, Has, AreDistinct, first_number, last_number, number_after, number_before, with_pair_after, without_number, with_number, with_pair};
 ghost use Rattle.art_rows.specs.Rows.{position_at, nth, IsSpot, row_end, lengths, RunsBefore, StandsAfter};
 ghost use Rattle.art_rows.specs.RowRoom.{row_room};
 ghost use Rattle.art_rows.specs.Blocks.{row_of, HasWay, IsCrowded, IsAfter, IsShut, GoesBeyond};
 ghost use Rattle.art_rows.specs.declared.row.Position.{Position};
+ghost use Rattle.art_rows.specs.declared.row.TheConstants.{ROW};
 ghost use Rattle.art_rows.specs.Leaves.{index_of, room, end_room, spot_index, TakesFirst, TakesLast, AreCopies};
 ghost use Rattle.art_rows.specs.LeafLends.{lends_value, lends_leaf};
 ghost use Rattle.std.specs.Borrow.{sem};
@@ -572,7 +573,7 @@ impl<K: Drop, V: Drop> Leaves<K, V> {
         ensures rows { self.new.rows ≡ self.old.rows }
         ensures grows { end_room self.old ≤ end_room self.new }
         ensures ok { OnOk result (n ≤ end_room self.new) }
-        ensures needed { OnErr result (self.old.spare_rows < n) }
+        ensures needed { OnErr result (ROW * self.old.spare_rows < n) }
     {
         let rows = n.div_ceil(ROW);
         if rows <= self.rows.spare() {
