@@ -14,4 +14,3 @@ mod picking;
 mod within;
 
 pub use calls::Maps;
-pub use listing::list_map;

@@ -3,26 +3,6 @@ use crate::words::{Answered, EndCall, OccupiedCall, ScriptKey, Shown, Text, Word
 use blart_map::TreeMap;
 use std::mem;
 
-// Adds what the call answers.
-macro_rules! show_end {
-    ($entry:expr, $call:expr, $text:expr) => {
-        match $call {
-            EndCall::Key => $entry.key().show($text),
-            EndCall::Occupied(OccupiedCall::RemoveEntry) => $entry.remove_entry().show($text),
-            EndCall::Occupied(call) => {
-                let value = match call {
-                    OccupiedCall::Get => *$entry.get(),
-                    OccupiedCall::Insert(value) => $entry.insert(value),
-                    OccupiedCall::GetMut(value) => mem::replace($entry.get_mut(), value),
-                    OccupiedCall::IntoMut(value) => mem::replace($entry.into_mut(), value),
-                    _ => $entry.remove(),
-                };
-                value.show($text)
-            }
-        }
-    };
-}
-
 /// Makes the call of the entry of the first pair, or of the last, and adds its answer.
 pub fn enter_end<K: ScriptKey, const P: usize>(
     map: &mut TreeMap<K, u64, P>,
@@ -36,12 +16,19 @@ pub fn enter_end<K: ScriptKey, const P: usize>(
     } else {
         map.last_entry()
     };
-    match found {
-        Some(mut entry) => {
-            text.push(b"Some(")?;
-            show_end!(entry, call, text)?;
+    let Some(mut entry) = found else {
+        return text.push(b"None");
+    };
+    let value = match call {
+        EndCall::Key => return Some(entry.key()).show(text),
+        EndCall::Occupied(OccupiedCall::Get) => *entry.get(),
+        EndCall::Occupied(OccupiedCall::Insert(value)) => entry.insert(value),
+        EndCall::Occupied(OccupiedCall::GetMut(value)) => mem::replace(entry.get_mut(), value),
+        EndCall::Occupied(OccupiedCall::IntoMut(value)) => mem::replace(entry.into_mut(), value),
+        EndCall::Occupied(OccupiedCall::Remove) => entry.remove(),
+        EndCall::Occupied(OccupiedCall::RemoveEntry) => {
+            return Some(entry.remove_entry()).show(text);
         }
-        None => return text.push(b"None"),
-    }
-    text.push(b")")
+    };
+    Some(value).show(text)
 }

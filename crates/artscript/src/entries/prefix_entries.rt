@@ -3,11 +3,11 @@
 //! An entry is made and used in one function, which ends its loan of the map.
 use crate::entries::by_key::MapOf;
 use crate::words::{
-    Answered, Left, Lending, OccupiedCall, PlaceCall, PrefixCall, RelatedCall, ScriptKey, SetCall,
-    Shown, Text, Unanswered, VacantCall, ValueCall, WalkCall, Words, length_of, raise, show_item,
-    show_lending, show_walk, value_of, written,
+    Answered, InnerCall, Left, OccupiedCall, PlaceCall, PrefixCall, RelatedCall, SetCall, Shown,
+    Text, Unanswered, VacantCall, ValueCall, Words, length_of, show_lending, show_walk, value_of,
+    written,
 };
-use blart_map::{PrefixEntry, PrefixKind, PrefixOccupied, SubtreeIter, SubtreeIterMut, TreeMap};
+use blart_map::{PrefixEntry, PrefixKind, PrefixOccupied, TreeMap};
 use std::alloc::AllocError;
 use std::iter::{DoubleEndedIterator, Iterator};
 use std::mem;
@@ -24,8 +24,8 @@ pub fn enter_related<const P: usize>(
     let call = PrefixCall::read(words)?;
     let key = words.key_of(word)?;
     match call {
-        PrefixCall::Key => show_key(map, key, text),
-        PrefixCall::GetKey => show_found_key(map, key, text),
+        PrefixCall::Key => show_key(map, key, false, text),
+        PrefixCall::GetKey => show_key(map, key, true, text),
         PrefixCall::Value(call) => show_value(map, key, call, text),
         PrefixCall::Place(call) => show_place(map, key, call, text),
         PrefixCall::KindValue(call) => show_kind_value(map, key, call, text),
@@ -34,9 +34,6 @@ pub fn enter_related<const P: usize>(
         PrefixCall::OccupiedSet(call) => set_related(map, key, call, text),
         PrefixCall::Leaf(call) => show_leaf(map, key, call, text),
         PrefixCall::Inner(call) => show_inner(map, key, call, text),
-        PrefixCall::InnerSet(call) => set_inner(map, key, call, text),
-        PrefixCall::OnlyMut(value) => set_only(map, key, value, text),
-        PrefixCall::Walk(call) => show_below(map, key, call, text),
         PrefixCall::Vacant(call) => show_vacant(map, key, call, text),
     }
 }
@@ -69,24 +66,20 @@ macro_rules! show_placed {
     };
 }
 
-// Adds the entry's key.
-fn show_key<const P: usize>(map: &mut BytesMap<P>, key: Vec<u8>, text: &mut Text) -> Answered {
-    let entry = map.prefix_entry(key);
-    let kind = kind_of(&entry);
-    let answered = show_after(kind, entry.key(), text);
-    drop(entry);
-    answered
-}
-
-// Adds the key of the entry's pair, where it has one.
-fn show_found_key<const P: usize>(
+// Adds the entry's key, or the key of its pair, where it has one.
+fn show_key<const P: usize>(
     map: &mut BytesMap<P>,
     key: Vec<u8>,
+    is_found: bool,
     text: &mut Text,
 ) -> Answered {
     let entry = map.prefix_entry(key);
     let kind = kind_of(&entry);
-    let answered = show_after(kind, &entry.get_key(), text);
+    let answered = if is_found {
+        show_after(kind, &entry.get_key(), text)
+    } else {
+        show_after(kind, entry.key(), text)
+    };
     drop(entry);
     answered
 }
@@ -242,61 +235,39 @@ fn show_leaf<const P: usize>(
 fn show_inner<const P: usize>(
     map: &mut BytesMap<P>,
     key: Vec<u8>,
-    call: RelatedCall,
+    call: InnerCall<'_>,
     text: &mut Text,
 ) -> Answered {
     let entry = map.prefix_entry(key);
     let kind = kind_of(&entry);
-    match entry.kind() {
-        PrefixKind::Inner(mut inner) => match call {
-            RelatedCall::Key => show_after(kind, inner.key(), text),
-            RelatedCall::Get => show_after(kind, &inner.get(), text),
-            RelatedCall::GetKey => show_after(kind, &inner.get_key(), text),
-            RelatedCall::GetMut(value) => show_after(kind, &written(inner.get_mut(), value), text),
-        },
-        _ => Err(Unanswered::NoCall),
-    }
-}
-
-// Puts the entry's key in the place of the pairs, and adds what the call answers.
-fn set_inner<const P: usize>(
-    map: &mut BytesMap<P>,
-    key: Vec<u8>,
-    call: SetCall,
-    text: &mut Text,
-) -> Answered {
-    let entry = map.prefix_entry(key);
-    let kind = kind_of(&entry);
-    match entry.kind() {
-        PrefixKind::Inner(inner) => match call {
-            SetCall::Insert(value) => show_after(kind, &*inner.insert(value), text),
-            SetCall::InsertEntry(value) => {
-                let place = inner.insert_entry(value);
-                show_after(kind, &(place.key(), place.get()), text)
-            }
-        },
-        _ => Err(Unanswered::NoCall),
-    }
-}
-
-// Writes the value of the only related pair, and adds the pair as it was.
-fn set_only<const P: usize>(
-    map: &mut BytesMap<P>,
-    key: Vec<u8>,
-    value: u64,
-    text: &mut Text,
-) -> Answered {
-    let entry = map.prefix_entry(key);
-    let kind = kind_of(&entry);
-    match entry.kind() {
-        PrefixKind::Inner(inner) => match inner.get_key_value_mut() {
+    let PrefixKind::Inner(mut inner) = entry.kind() else {
+        return Err(Unanswered::NoCall);
+    };
+    match call {
+        InnerCall::Key => show_after(kind, inner.key(), text),
+        InnerCall::Get => show_after(kind, &inner.get(), text),
+        InnerCall::GetKey => show_after(kind, &inner.get_key(), text),
+        InnerCall::GetMut(value) => show_after(kind, &written(inner.get_mut(), value), text),
+        InnerCall::Insert(value) => show_after(kind, &*inner.insert(value), text),
+        InnerCall::InsertEntry(value) => {
+            let place = inner.insert_entry(value);
+            show_after(kind, &(place.key(), place.get()), text)
+        }
+        InnerCall::OnlyMut(value) => match inner.get_key_value_mut() {
             Some(mut place) => {
                 let old = place.insert(value);
                 show_after(kind, &Some((place.key(), old)), text)
             }
             None => show_after(kind, &None::<()>, text),
         },
-        _ => Err(Unanswered::NoCall),
+        InnerCall::Iter(letters) => {
+            text.push(kind)?;
+            show_walk(inner.iter(), Left::Untold, letters, text)
+        }
+        InnerCall::IterMut(add, letters) => {
+            text.push(kind)?;
+            show_lending(inner.iter_mut(), add, letters, text)
+        }
     }
 }
 
@@ -316,56 +287,5 @@ fn show_vacant<const P: usize>(
             VacantCall::InsertEntry(value) => show_placed!(kind, entry.insert_entry(value), text),
         },
         _ => Err(Unanswered::NoCall),
-    }
-}
-
-// Adds what a walk gives over the pairs in whose place the entry is.
-fn show_below<const P: usize>(
-    map: &mut BytesMap<P>,
-    key: Vec<u8>,
-    call: WalkCall<'_>,
-    text: &mut Text,
-) -> Answered {
-    let entry = map.prefix_entry(key);
-    text.push(kind_of(&entry))?;
-    match entry.kind() {
-        PrefixKind::Inner(entry) => match call.add {
-            Some(add) => {
-                let walk = RaisingRelated {
-                    walk: entry.iter_mut(),
-                    add,
-                };
-                show_lending(walk, call.letters, text)
-            }
-            None => show_walk(entry.iter(), Left::Untold, call.letters, text),
-        },
-        _ => Err(Unanswered::NoCall),
-    }
-}
-
-// ---- walks
-
-// A walk over the pairs that are related to a key, which adds to each value.
-#[derive(Drop)]
-struct RaisingRelated<'a, K: ScriptKey, const PREFIX_LEN: usize> {
-    walk: SubtreeIterMut<'a, K, u64, PREFIX_LEN>,
-    add: u64,
-}
-
-impl<'a, K: ScriptKey, const PREFIX_LEN: usize> Lending for RaisingRelated<'a, K, PREFIX_LEN> {
-    fn front(&mut self, part: &[u8], text: &mut Text) -> Result<bool, Unanswered> {
-        if let Some(value) = self.walk.next() {
-            let was = raise(value, self.add);
-            return show_item(Some((self.walk.key(), was)), part, text);
-        }
-        Ok(false)
-    }
-
-    fn back(&mut self, part: &[u8], text: &mut Text) -> Result<bool, Unanswered> {
-        if let Some(value) = self.walk.next_back() {
-            let was = raise(value, self.add);
-            return show_item(Some((self.walk.key(), was)), part, text);
-        }
-        Ok(false)
     }
 }

@@ -9,7 +9,7 @@ use std::alloc::AllocError;
 use std::iter::{IntoIterator, Iterator};
 use std::mem;
 
-impl<K: ScriptKey, const PREFIX_LEN: usize> Maps<K, PREFIX_LEN> {
+impl<K: ScriptKey, V: Drop, const PREFIX_LEN: usize> Maps<K, V, PREFIX_LEN> {
     /// Gives the pairs from the bytes on to the second map, in the place of its own.
     pub(crate) fn split_off(&mut self, query: &Vec<u8>, text: &mut Text) -> Answered {
         let rest = self.first.split_off(query);
@@ -17,7 +17,7 @@ impl<K: ScriptKey, const PREFIX_LEN: usize> Maps<K, PREFIX_LEN> {
     }
 }
 
-impl<K: ScriptKey + Clone, const PREFIX_LEN: usize> Maps<K, PREFIX_LEN> {
+impl<K: ScriptKey + Clone, const PREFIX_LEN: usize> Maps<K, u64, PREFIX_LEN> {
     /// Puts a clone of the first map in the place of the second.
     pub(crate) fn make_clone(&mut self, words: Words<'_>, text: &mut Text) -> Answered
         requires { (k j : K) → K.is_clone k j → K.bytes j ≡ K.bytes k }
@@ -28,7 +28,7 @@ impl<K: ScriptKey + Clone, const PREFIX_LEN: usize> Maps<K, PREFIX_LEN> {
     }
 }
 
-impl<K: ScriptKey + NoPrefixesBytes, const PREFIX_LEN: usize> Maps<K, PREFIX_LEN> {
+impl<K: ScriptKey + NoPrefixesBytes, const PREFIX_LEN: usize> Maps<K, u64, PREFIX_LEN> {
     /// Moves the pairs of the second map to the first.
     pub(crate) fn append(&mut self, words: Words<'_>, text: &mut Text) -> Answered {
         words.end()?;
@@ -56,7 +56,7 @@ impl<K: ScriptKey + NoPrefixesBytes, const PREFIX_LEN: usize> Maps<K, PREFIX_LEN
     }
 }
 
-impl<K: FixedKey, const PREFIX_LEN: usize> Maps<K, PREFIX_LEN> {
+impl<K: FixedKey, const PREFIX_LEN: usize> Maps<K, u64, PREFIX_LEN> {
     /// Inserts copies of the pairs in turn.
     pub(crate) fn extend_copied(&mut self, words: Words<'_>, text: &mut Text) -> Answered {
         let items: Vec<(K, u64)> = pairs_of(self.alloc, words)?;
@@ -86,9 +86,9 @@ impl<K: FixedKey, const PREFIX_LEN: usize> Maps<K, PREFIX_LEN> {
 }
 
 // Puts the map, if it was made, in the place of another, and adds whether it was.
-fn put<K: ScriptKey, const P: usize>(
-    place: &mut TreeMap<K, u64, P>,
-    made: Result<TreeMap<K, u64, P>, AllocError>,
+fn put<K: ScriptKey, V: Drop, const P: usize>(
+    place: &mut TreeMap<K, V, P>,
+    made: Result<TreeMap<K, V, P>, AllocError>,
     text: &mut Text,
 ) -> Answered {
     match made {

@@ -9,14 +9,14 @@ use std::mem;
 
 /// The two maps. Each call is one of the first.
 #[derive(Drop)]
-pub struct Maps<K: ScriptKey, const PREFIX_LEN: usize> {
+pub struct Maps<K: ScriptKey, V, const PREFIX_LEN: usize> {
     /// The map that calls are of.
-    pub first: TreeMap<K, u64, PREFIX_LEN>,
-    pub(crate) second: TreeMap<K, u64, PREFIX_LEN>,
+    pub first: TreeMap<K, V, PREFIX_LEN>,
+    pub(crate) second: TreeMap<K, V, PREFIX_LEN>,
     pub(crate) alloc: Global,
 }
 
-impl<K: ScriptKey, const PREFIX_LEN: usize> Maps<K, PREFIX_LEN> {
+impl<K: ScriptKey, V, const PREFIX_LEN: usize> Maps<K, V, PREFIX_LEN> {
     /// Two maps with no pairs.
     pub fn new(alloc: Global) -> Self
         ensures first { pairs result.first ≡ [] }
@@ -28,37 +28,25 @@ impl<K: ScriptKey, const PREFIX_LEN: usize> Maps<K, PREFIX_LEN> {
             alloc,
         }
     }
+}
 
-    /// Makes the call of this name with these words after it, and adds its answer.
-    pub(crate) fn call(&mut self, name: MapName, words: Words<'_>, text: &mut Text) -> Answered {
+impl<K: ScriptKey, V: Shown + Drop, const PREFIX_LEN: usize> Maps<K, V, PREFIX_LEN> {
+    /// Makes the call of this name, which is one of maps with values of any type, and adds its answer.
+    pub(crate) fn call_of_any(
+        &mut self,
+        name: MapName,
+        words: Words<'_>,
+        text: &mut Text,
+    ) -> Answered {
         match name {
             MapName::New | MapName::Clear | MapName::Swap => self.renew(name, words, text),
             MapName::PopFirst | MapName::PopLast => self.pop(name, words, text),
-            MapName::Remove | MapName::RemoveEntry | MapName::RemovePrefix => {
+            MapName::Remove | MapName::RemoveEntry | MapName::RemovePrefix | MapName::SplitOff => {
                 self.remove(name, words, text)
             }
-            MapName::TryInsert | MapName::ReplaceEntry => self.place(name, words, text),
-            MapName::PrefixInsert => self.place(name, words, text),
-            MapName::GetMut | MapName::PrefixGetMut => self.write(name, words, text),
-            MapName::PrefixGetKeyValueMut => self.write(name, words, text),
-            MapName::Drive => self.drive(words, text),
-            MapName::SplitOff => self.remove(name, words, text),
             MapName::IntoIter | MapName::IntoKeys | MapName::IntoValues => self.own(
                 name, words, text,
             ),
-            MapName::Retain => self.retain(words, text),
-            MapName::ExtractIf | MapName::TakeWalk => self.within(name, words, text),
-            MapName::Range | MapName::RangeCounted => self.within(name, words, text),
-            MapName::RangeMut => self.within(name, words, text),
-            MapName::Prefix | MapName::PrefixCounted => self.below(name, words, text),
-            MapName::PrefixMut => self.below(name, words, text),
-            MapName::IterMut => self.iter_mut(words, text),
-            MapName::ValuesMut => self.values_mut(words, text),
-            MapName::Equal
-            | MapName::PartialCmp
-            | MapName::Cmp
-            | MapName::SameHash
-            | MapName::DebugText => { self.compare(name, words, text) }
             _ => self.look_up(name, words, text),
         }
     }
@@ -90,17 +78,39 @@ impl<K: ScriptKey, const PREFIX_LEN: usize> Maps<K, PREFIX_LEN> {
     // The calls that take the pair of some bytes, those below them, or those from them on.
     fn remove(&mut self, name: MapName, mut words: Words<'_>, text: &mut Text) -> Answered {
         let query = words.last_bytes()?;
-        let answered = self.remove_at(name, &query, text);
+        let answered = match name {
+            MapName::Remove => self.first.remove(&query).show(text),
+            MapName::RemovePrefix => self.first.remove_prefix(&query).show(text),
+            MapName::RemoveEntry => self.first.remove_entry(&query).show(text),
+            _ => self.split_off(&query, text),
+        };
         drop(query);
         answered
     }
+}
 
-    fn remove_at(&mut self, name: MapName, query: &Vec<u8>, text: &mut Text) -> Answered {
+impl<K: ScriptKey, const PREFIX_LEN: usize> Maps<K, u64, PREFIX_LEN> {
+    /// Makes the call of this name with these words after it, and adds its answer.
+    pub(crate) fn call(&mut self, name: MapName, words: Words<'_>, text: &mut Text) -> Answered {
         match name {
-            MapName::Remove => self.first.remove(query).show(text),
-            MapName::RemovePrefix => self.first.remove_prefix(query).show(text),
-            MapName::RemoveEntry => self.first.remove_entry(query).show(text),
-            _ => self.split_off(query, text),
+            MapName::TryInsert | MapName::ReplaceEntry => self.place(name, words, text),
+            MapName::PrefixInsert => self.place(name, words, text),
+            MapName::GetMut | MapName::PrefixGetMut => self.write(name, words, text),
+            MapName::PrefixGetKeyValueMut => self.write(name, words, text),
+            MapName::Drive => self.drive(words, text),
+            MapName::Retain => self.retain(words, text),
+            MapName::ExtractIf | MapName::TakeWalk => self.within(name, words, text),
+            MapName::Range | MapName::RangeCounted => self.within(name, words, text),
+            MapName::RangeMut => self.within(name, words, text),
+            MapName::Prefix | MapName::PrefixCounted => self.below(name, words, text),
+            MapName::PrefixMut => self.below(name, words, text),
+            MapName::IterMut | MapName::ValuesMut => self.lend_all(name, words, text),
+            MapName::Equal
+            | MapName::PartialCmp
+            | MapName::Cmp
+            | MapName::SameHash
+            | MapName::DebugText => { self.compare(name, words, text) }
+            _ => self.call_of_any(name, words, text),
         }
     }
 
@@ -116,25 +126,14 @@ impl<K: ScriptKey, const PREFIX_LEN: usize> Maps<K, PREFIX_LEN> {
 
     // The calls that lend a value to be written.
     fn write(&mut self, name: MapName, mut words: Words<'_>, text: &mut Text) -> Answered {
-        let (query, value) = words.last_bytes_and_number()?;
-        let answered = self.write_at(name, &query, value, text);
+        let (query, value): (Vec<u8>, u64) = words.last_pair()?;
+        let answered = match name {
+            MapName::GetMut => written(self.first.get_mut(&query), value).show(text),
+            MapName::PrefixGetMut => written(self.first.prefix_get_mut(&query), value).show(text),
+            _ => self.write_pair(&query, value, text),
+        };
         drop(query);
         answered
-    }
-
-    fn write_at(
-        &mut self,
-        name: MapName,
-        query: &Vec<u8>,
-        value: u64,
-        text: &mut Text,
-    ) -> Answered {
-        let old = match name {
-            MapName::GetMut => written(self.first.get_mut(query), value),
-            MapName::PrefixGetMut => written(self.first.prefix_get_mut(query), value),
-            _ => return self.write_pair(query, value, text),
-        };
-        old.show(text)
     }
 
     fn write_pair(&mut self, query: &Vec<u8>, value: u64, text: &mut Text) -> Answered {

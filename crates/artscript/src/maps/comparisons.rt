@@ -4,7 +4,7 @@ use crate::words::{
     Answered, MapName, ScriptKey, Shown, Text, Unanswered, Words, have_one_digest, show_debug,
 };
 
-impl<K: ScriptKey, const PREFIX_LEN: usize> Maps<K, PREFIX_LEN> {
+impl<K: ScriptKey, const PREFIX_LEN: usize> Maps<K, u64, PREFIX_LEN> {
     /// Makes the call of this name, which compares the maps, and adds its answer.
     pub(crate) fn compare(&self, name: MapName, words: Words<'_>, text: &mut Text) -> Answered {
         words.end()?;

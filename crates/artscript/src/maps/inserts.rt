@@ -5,17 +5,7 @@ use crate::maps::calls::Maps;
 use crate::words::{Answered, FixedKey, MapName, ScriptKey, Shown, Text, Words, value_of};
 use blart_keys::NoPrefixesBytes;
 
-impl<const PREFIX_LEN: usize> Maps<Vec<u8>, PREFIX_LEN> {
-    /// Makes the call of this name with these words after it, and adds its answer.
-    pub fn call_of_bytes(&mut self, name: MapName, words: Words<'_>, text: &mut Text) -> Answered {
-        match name {
-            MapName::MakeClone => self.make_clone(words, text),
-            _ => self.call(name, words, text),
-        }
-    }
-}
-
-impl<K: FixedKey, const PREFIX_LEN: usize> Maps<K, PREFIX_LEN> {
+impl<K: FixedKey, const PREFIX_LEN: usize> Maps<K, u64, PREFIX_LEN> {
     /// Makes the call of this name with these words after it, and adds its answer.
     pub fn call_of_fixed(&mut self, name: MapName, words: Words<'_>, text: &mut Text) -> Answered
         requires { (k j : K) → K.is_clone k j → K.bytes j ≡ K.bytes k }
@@ -29,7 +19,7 @@ impl<K: FixedKey, const PREFIX_LEN: usize> Maps<K, PREFIX_LEN> {
     }
 }
 
-impl<K: ScriptKey + NoPrefixesBytes, const PREFIX_LEN: usize> Maps<K, PREFIX_LEN> {
+impl<K: ScriptKey + NoPrefixesBytes, const PREFIX_LEN: usize> Maps<K, u64, PREFIX_LEN> {
     /// Makes the call of this name with these words after it, and adds its answer.
     pub fn call_of_apart(&mut self, name: MapName, words: Words<'_>, text: &mut Text) -> Answered {
         match name {

@@ -9,7 +9,7 @@ use crate::words::{Answered, Left, MapName, ScriptKey, Shown, Text, Unanswered, 
 use blart_map::Visits;
 use std::ops::Bound;
 
-impl<K: ScriptKey, const PREFIX_LEN: usize> Maps<K, PREFIX_LEN> {
+impl<K: ScriptKey, V: Shown + Drop, const PREFIX_LEN: usize> Maps<K, V, PREFIX_LEN> {
     /// Makes the call of this name, which leaves the maps as they are, and adds its answer.
     pub(crate) fn look_up(&self, name: MapName, words: Words<'_>, text: &mut Text) -> Answered {
         match name {
@@ -42,24 +42,20 @@ impl<K: ScriptKey, const PREFIX_LEN: usize> Maps<K, PREFIX_LEN> {
     // The calls that look for some bytes.
     fn find(&self, name: MapName, mut words: Words<'_>, text: &mut Text) -> Answered {
         let query = words.last_bytes()?;
-        let answered = self.find_at(name, &query, text);
+        let answered = match name {
+            MapName::Get => self.first.get(&query).show(text),
+            MapName::PrefixGet => self.first.prefix_get(&query).show(text),
+            MapName::ContainsKey => self.first.contains_key(&query).show(text),
+            MapName::Conflicts => self.first.conflicts(&query).show(text),
+            MapName::Index => self.index(&query, text),
+            _ => self.find_pair(name, &query).show(text),
+        };
         drop(query);
         answered
     }
 
-    fn find_at(&self, name: MapName, query: &Vec<u8>, text: &mut Text) -> Answered {
-        match name {
-            MapName::Get => self.first.get(query).show(text),
-            MapName::PrefixGet => self.first.prefix_get(query).show(text),
-            MapName::ContainsKey => self.first.contains_key(query).show(text),
-            MapName::Conflicts => self.first.conflicts(query).show(text),
-            MapName::Index => self.index(query, text),
-            _ => self.find_pair(name, query).show(text),
-        }
-    }
-
     // The pair that a look-up finds.
-    fn find_pair(&self, name: MapName, query: &Vec<u8>) -> Option<(&K, &u64)> {
+    fn find_pair(&self, name: MapName, query: &Vec<u8>) -> Option<(&K, &V)> {
         match name {
             MapName::GetKeyValue => self.first.get_key_value(query),
             MapName::PrefixGetKeyValue => self.first.prefix_get_key_value(query),

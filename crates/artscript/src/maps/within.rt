@@ -4,7 +4,7 @@ use crate::words::{Answered, MapName, ScriptKey, Shown, Text, Unanswered, Words}
 use blart_map::bounds_in_order;
 use std::ops::Bound;
 
-impl<K: ScriptKey, const PREFIX_LEN: usize> Maps<K, PREFIX_LEN> {
+impl<K: ScriptKey, const PREFIX_LEN: usize> Maps<K, u64, PREFIX_LEN> {
     /// Makes the call of this name, which is of the pairs within two bounds, and adds its answer.
     pub(crate) fn within(
         &mut self,

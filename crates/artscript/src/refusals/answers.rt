@@ -30,8 +30,8 @@ pub(crate) fn answer_script(alloc: Global, script: &[u8]) -> Result<Answers, Fai
         made_again: Text::with_capacity(alloc, ROOM)?,
     };
     let drops = Cell::new(0u64);
-    let mut session = Session::new(alloc, &drops);
-    let answered = answer_all(alloc, &mut session, script, &mut answers);
+    let mut session = Session::new(alloc);
+    let answered = answer_all(alloc, &mut session, &drops, script, &mut answers);
     drop(session);
     match answered {
         Ok(()) => Ok(answers),
@@ -40,15 +40,16 @@ pub(crate) fn answer_script(alloc: Global, script: &[u8]) -> Result<Answers, Fai
 }
 
 // Adds what stands for each line of the script.
-fn answer_all(
+fn answer_all<'a>(
     alloc: Global,
-    session: &mut Session<'_, PREFIX_LEN>,
+    session: &mut Session<'a, PREFIX_LEN>,
+    drops: &'a Cell<u64>,
     script: &[u8],
     answers: &mut Answers,
 ) -> Result<(), Failure> {
     for (number, line) in script.split(|byte| *byte == b'\n').enumerate() {
         let start = answers.text.as_slice().len();
-        answer(alloc, session, line, &mut answers.text)?;
+        answer(session, drops, line, &mut answers.text)?;
         if is_refused(line, &answers.text, start) {
             if !stands(alloc, session, script, number, line)? {
                 return Err(Failure::Changed(changed(alloc, session, line)?));
@@ -56,7 +57,7 @@ fn answer_all(
             answers.made_again.push(line)?;
             answers.made_again.push(b"\n")?;
             answers.text.truncate(start);
-            answer(alloc, session, line, &mut answers.text)?;
+            answer(session, drops, line, &mut answers.text)?;
         }
         answers.text.push(b"\n")?;
     }
@@ -64,16 +65,16 @@ fn answer_all(
 }
 
 /// Makes the call that the line is, and adds its answer. A remark has none.
-pub(crate) fn answer(
-    alloc: Global,
-    session: &mut Session<'_, PREFIX_LEN>,
+pub(crate) fn answer<'a>(
+    session: &mut Session<'a, PREFIX_LEN>,
+    drops: &'a Cell<u64>,
     line: &[u8],
     text: &mut Text,
 ) -> Answered {
     if line.is_empty() || line.starts_with(b"#") {
         return Ok(());
     }
-    match session.call(alloc, call_of(line), text) {
+    match session.call(drops, call_of(line), text) {
         Ok(()) => Ok(()),
         Err(Unanswered::NoCall) => text.push(b"?"),
         Err(refused) => Err(refused),

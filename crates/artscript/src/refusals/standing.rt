@@ -60,25 +60,26 @@ fn listing_after(
     last: &[u8],
 ) -> Result<Text, Unanswered> {
     let drops = Cell::new(0u64);
-    let mut session = Session::new(alloc, &drops);
-    let listing = list_after(alloc, &mut session, script, count, last);
+    let mut session = Session::new(alloc);
+    let listing = list_after(alloc, &mut session, &drops, script, count, last);
     drop(session);
     listing
 }
 
 // The listing of the session after the first lines of the script and one more.
-fn list_after(
+fn list_after<'a>(
     alloc: Global,
-    session: &mut Session<'_, PREFIX_LEN>,
+    session: &mut Session<'a, PREFIX_LEN>,
+    drops: &'a Cell<u64>,
     script: &[u8],
     count: usize,
     last: &[u8],
 ) -> Result<Text, Unanswered> {
     let mut answers = Text::new(alloc);
     for line in script.split(|byte| *byte == b'\n').take(count) {
-        answer(alloc, session, line, &mut answers)?;
+        answer(session, drops, line, &mut answers)?;
     }
-    answer(alloc, session, last, &mut answers)?;
+    answer(session, drops, last, &mut answers)?;
     let mut listing = Text::new(alloc);
     session.list(&mut listing)?;
     Ok(listing)

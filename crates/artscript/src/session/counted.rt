@@ -1,11 +1,8 @@
-//! A map whose values count how often one is dropped, and the calls of it.
-use crate::maps::list_map;
-use crate::words::{Answered, Left, MapName, Shown, Text, Unanswered, Words, show_walk};
-use blart_map::TreeMap;
+//! Maps whose values count how often one is dropped, and the calls of them.
+use crate::maps::Maps;
+use crate::words::{Answered, MapName, Shown, Text, Words};
 use std::alloc::{AllocError, Global};
 use std::cell::Cell;
-use std::iter::IntoIterator;
-use std::mem;
 
 // A number that counts how often one is dropped.
 struct Counted<'a> {
@@ -26,27 +23,25 @@ impl Shown for Counted<'_> {
     }
 }
 
-/// A map of such values, under lists of bytes.
+/// Maps of such values, under lists of bytes.
 #[derive(Drop)]
-pub(crate) struct CountedMap<'a, const PREFIX_LEN: usize> {
-    map: TreeMap<Vec<u8>, Counted<'a>, PREFIX_LEN>,
+pub(crate) struct CountedMaps<'a, const PREFIX_LEN: usize> {
+    maps: Maps<Vec<u8>, Counted<'a>, PREFIX_LEN>,
     drops: &'a Cell<u64>,
-    alloc: Global,
 }
 
-impl<'a, const PREFIX_LEN: usize> CountedMap<'a, PREFIX_LEN> {
-    /// A map with no pairs. Its values are counted in the cell.
+impl<'a, const PREFIX_LEN: usize> CountedMaps<'a, PREFIX_LEN> {
+    /// Maps with no pairs. Their values are counted in the cell.
     pub(crate) fn new(alloc: Global, drops: &'a Cell<u64>) -> Self {
-        CountedMap {
-            map: TreeMap::with_prefix_len(alloc),
+        CountedMaps {
+            maps: Maps::new(alloc),
             drops,
-            alloc,
         }
     }
 
-    /// Adds all that the map has.
+    /// Adds all that the maps have.
     pub(crate) fn list(&self, text: &mut Text) -> Answered {
-        list_map(&self.map, text)
+        self.maps.list(text)
     }
 
     /// Makes the call of this name with these words after it, and adds its answer.
@@ -55,30 +50,11 @@ impl<'a, const PREFIX_LEN: usize> CountedMap<'a, PREFIX_LEN> {
             MapName::TryInsert | MapName::ReplaceEntry | MapName::PrefixInsert => {
                 self.place(name, words, text)
             }
-            MapName::Remove | MapName::RemoveEntry | MapName::RemovePrefix => {
-                self.remove(name, words, text)
+            MapName::Drops => {
+                words.end()?;
+                self.drops.get().show(text)
             }
-            MapName::IntoIter | MapName::IntoKeys | MapName::IntoValues => self.own(
-                name, words, text,
-            ),
-            _ => self.bare(name, words, text),
-        }
-    }
-
-    // The calls with no argument.
-    fn bare(&mut self, name: MapName, words: Words<'_>, text: &mut Text) -> Answered {
-        words.end()?;
-        match name {
-            MapName::Clear => {
-                self.map.clear();
-                ().show(text)
-            }
-            MapName::PopFirst => self.map.pop_first().show(text),
-            MapName::PopLast => self.map.pop_last().show(text),
-            MapName::Len => self.map.len().show(text),
-            MapName::Drops => self.drops.get().show(text),
-            MapName::Iter => show_walk(self.map.iter(), Left::Told, None, text),
-            _ => Err(Unanswered::NoCall),
+            _ => self.maps.call_of_any(name, words, text),
         }
     }
 
@@ -87,37 +63,11 @@ impl<'a, const PREFIX_LEN: usize> CountedMap<'a, PREFIX_LEN> {
         let (key, number) = words.last_pair()?;
         let drops = self.drops;
         let value = Counted { number, drops };
+        let map = &mut self.maps.first;
         match name {
-            MapName::TryInsert => self.map.try_insert(key, value).show(text),
-            MapName::ReplaceEntry => self.map.replace_entry(key, value).show(text),
-            _ => self.map.prefix_insert(key, value).show(text),
-        }
-    }
-
-    // The calls that take the pair of some bytes, or those below them.
-    fn remove(&mut self, name: MapName, mut words: Words<'_>, text: &mut Text) -> Answered {
-        let query = words.last_bytes()?;
-        let answered = self.remove_at(name, &query, text);
-        drop(query);
-        answered
-    }
-
-    fn remove_at(&mut self, name: MapName, query: &Vec<u8>, text: &mut Text) -> Answered {
-        match name {
-            MapName::Remove => self.map.remove(query).show(text),
-            MapName::RemovePrefix => self.map.remove_prefix(query).show(text),
-            _ => self.map.remove_entry(query).show(text),
-        }
-    }
-
-    // The calls that take the map apart.
-    fn own(&mut self, name: MapName, mut words: Words<'_>, text: &mut Text) -> Answered {
-        let letters = words.last_steps()?;
-        let map = mem::replace(&mut self.map, TreeMap::with_prefix_len(self.alloc));
-        match name {
-            MapName::IntoIter => show_walk(map.into_iter(), Left::Told, letters, text),
-            MapName::IntoKeys => show_walk(map.into_keys(), Left::Told, letters, text),
-            _ => show_walk(map.into_values(), Left::Told, letters, text),
+            MapName::TryInsert => map.try_insert(key, value).show(text),
+            MapName::ReplaceEntry => map.replace_entry(key, value).show(text),
+            _ => map.prefix_insert(key, value).show(text),
         }
     }
 }

@@ -1,9 +1,8 @@
 //! The table of mounts of a part of a script, and the calls of it.
-use crate::words::{Answered, Left, Shown, Text, Unanswered, Words, named, show_walk};
+use crate::words::{Answered, Left, Shown, Text, Unanswered, Words, named, show_items, show_walk};
 use blart_map::Visits;
 use prefix_router::Mounts;
 use std::alloc::{AllocError, Global};
-use std::iter::Iterator;
 
 // A call of the table.
 #[derive(Clone, Copy)]
@@ -44,10 +43,7 @@ impl Table {
 
     /// Adds all mounts.
     pub(crate) fn list(&self, text: &mut Text) -> Answered {
-        for mount in self.mounts.under(b"") {
-            mount.show(text)?;
-            text.push(b" ")?;
-        }
+        show_items(self.mounts.under(b""), text)?;
         text.push(b"\n")
     }
 
@@ -81,32 +77,26 @@ impl Table {
     // The calls that look for a path.
     fn find(&mut self, name: MountName, mut words: Words<'_>, text: &mut Text) -> Answered {
         let path = words.last_bytes()?;
-        let answered = self.find_at(name, &path, text);
-        drop(path);
-        answered
-    }
-
-    fn find_at(&mut self, name: MountName, path: &Vec<u8>, text: &mut Text) -> Answered {
-        match name {
-            MountName::Unmount => self.mounts.unmount(path).show(text),
-            MountName::Resolve => self.mounts.resolve(path).show(text),
+        let answered = match name {
+            MountName::Unmount => self.mounts.unmount(&path).show(text),
+            MountName::Resolve => self.mounts.resolve(&path).show(text),
             _ => self
                 .mounts
-                .resolve_counted(path, &mut Visits::new())
+                .resolve_counted(&path, &mut Visits::new())
                 .show(text),
-        }
+        };
+        drop(path);
+        answered
     }
 
     // The walk over the mounts under some bytes.
     fn walk(&self, mut words: Words<'_>, text: &mut Text) -> Answered {
         let front = words.bytes()?;
-        let answered = self.walk_under(&front, words, text);
+        let answered = match words.last_moves() {
+            Ok(letters) => show_walk(self.mounts.under(&front), Left::Untold, letters, text),
+            Err(refused) => Err(refused),
+        };
         drop(front);
         answered
-    }
-
-    fn walk_under(&self, front: &Vec<u8>, mut words: Words<'_>, text: &mut Text) -> Answered {
-        let letters = words.last_moves()?;
-        show_walk(self.mounts.under(front), Left::Untold, letters, text)
     }
 }

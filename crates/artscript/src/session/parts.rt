@@ -3,20 +3,22 @@ ghost use Rattle.std.specs.Prelude.{◌≡◌};
 
 use crate::entries::{enter_bytes, enter_end, enter_related, enter_three};
 use crate::maps::Maps;
-use crate::session::counted::CountedMap;
+use crate::session::counted::CountedMaps;
 use crate::session::mounts::Table;
 use crate::sets::Sets;
 use crate::words::{
-    Answered, FixedKey, LineCall, MapName, ScriptKey, Tagged, Text, Unanswered, Words, named,
+    Answered, FixedKey, LineCall, MapName, ScriptKey, SetName, Tagged, Text, Unanswered, Words,
+    named,
 };
 use blart_keys::{I32Key, U64Key, ZKey};
 use std::alloc::{AllocError, Global};
 use std::cell::Cell;
+use std::mem;
 
 /// Two maps and two sets.
 #[derive(Drop)]
 pub(crate) struct Part<K: ScriptKey, const PREFIX_LEN: usize> {
-    maps: Maps<K, PREFIX_LEN>,
+    maps: Maps<K, u64, PREFIX_LEN>,
     sets: Sets<K, PREFIX_LEN>,
 }
 
@@ -44,8 +46,10 @@ impl<const PREFIX_LEN: usize> Part<Vec<u8>, PREFIX_LEN> {
             LineCall::Map(MapName::PrefixEntry) => enter_related(map, words, text),
             LineCall::Map(MapName::FirstEntry) => enter_end(map, true, words, text),
             LineCall::Map(MapName::LastEntry) => enter_end(map, false, words, text),
-            LineCall::Map(name) => self.maps.call_of_bytes(name, words, text),
-            LineCall::Set(name) => self.sets.call_of_bytes(name, words, text),
+            LineCall::Map(MapName::MakeClone) => self.maps.make_clone(words, text),
+            LineCall::Map(name) => self.maps.call(name, words, text),
+            LineCall::Set(SetName::MakeClone) => self.sets.make_clone(words, text),
+            LineCall::Set(name) => self.sets.call(name, words, text),
         }
     }
 }
@@ -123,7 +127,7 @@ const NAMES: [(&str, PartName); 9] = [
 
 /// The part of a script that calls are of, by the type of its keys.
 #[derive(Drop)]
-pub(crate) enum Keyed<'a, const PREFIX_LEN: usize> {
+pub(crate) enum Session<'a, const PREFIX_LEN: usize> {
     Bytes(Part<Vec<u8>, PREFIX_LEN>),
     Byte(Part<u8, KEPT>),
     Three(Part<[u8; 3], PREFIX_LEN>),
@@ -131,60 +135,76 @@ pub(crate) enum Keyed<'a, const PREFIX_LEN: usize> {
     U64(Part<U64Key, KEPT>),
     Zero(Part<ZKey, KEPT>),
     Tagged(Part<Tagged, KEPT>),
-    Counted(CountedMap<'a, KEPT>),
+    Counted(CountedMaps<'a, KEPT>),
     Mounts(Table),
 }
 
-impl<'a, const PREFIX_LEN: usize> Keyed<'a, PREFIX_LEN> {
-    /// The part that the line begins, if it begins one. Values that are dropped are counted in the cell.
-    pub(crate) fn begun(alloc: Global, drops: &'a Cell<u64>, line: &[u8]) -> Option<Self> {
+impl<'a, const PREFIX_LEN: usize> Session<'a, PREFIX_LEN> {
+    /// The part with which every script begins.
+    pub(crate) fn new(alloc: Global) -> Self {
+        Session::Bytes(Part::new(alloc))
+    }
+
+    // The part that the line begins, if it begins one. Values that are dropped are counted in the cell.
+    fn begun(alloc: Global, drops: &'a Cell<u64>, line: &[u8]) -> Option<Self> {
         Some(match named(&NAMES, line)? {
-            PartName::Bytes => Keyed::Bytes(Part::new(alloc)),
-            PartName::Byte => Keyed::Byte(Part::new(alloc)),
-            PartName::Three => Keyed::Three(Part::new(alloc)),
-            PartName::I32 => Keyed::I32(Part::new(alloc)),
-            PartName::U64 => Keyed::U64(Part::new(alloc)),
-            PartName::Zero => Keyed::Zero(Part::new(alloc)),
-            PartName::Tagged => Keyed::Tagged(Part::new(alloc)),
-            PartName::Counted => Keyed::Counted(CountedMap::new(alloc, drops)),
-            PartName::Mounts => Keyed::Mounts(Table::new(alloc)),
+            PartName::Bytes => Session::Bytes(Part::new(alloc)),
+            PartName::Byte => Session::Byte(Part::new(alloc)),
+            PartName::Three => Session::Three(Part::new(alloc)),
+            PartName::I32 => Session::I32(Part::new(alloc)),
+            PartName::U64 => Session::U64(Part::new(alloc)),
+            PartName::Zero => Session::Zero(Part::new(alloc)),
+            PartName::Tagged => Session::Tagged(Part::new(alloc)),
+            PartName::Counted => Session::Counted(CountedMaps::new(alloc, drops)),
+            PartName::Mounts => Session::Mounts(Table::new(alloc)),
         })
     }
 
     /// Adds all that stands.
     pub(crate) fn list(&self, text: &mut Text) -> Answered {
         match self {
-            Keyed::Bytes(part) => part.list(text),
-            Keyed::Byte(part) => part.list(text),
-            Keyed::Three(part) => part.list(text),
-            Keyed::I32(part) => part.list(text),
-            Keyed::U64(part) => part.list(text),
-            Keyed::Zero(part) => part.list(text),
-            Keyed::Tagged(part) => part.list(text),
-            Keyed::Counted(part) => part.list(text),
-            Keyed::Mounts(table) => table.list(text),
+            Session::Bytes(part) => part.list(text),
+            Session::Byte(part) => part.list(text),
+            Session::Three(part) => part.list(text),
+            Session::I32(part) => part.list(text),
+            Session::U64(part) => part.list(text),
+            Session::Zero(part) => part.list(text),
+            Session::Tagged(part) => part.list(text),
+            Session::Counted(part) => part.list(text),
+            Session::Mounts(table) => table.list(text),
         }
     }
 
-    /// Makes the call that the words are, and adds its answer.
-    pub(crate) fn call(&mut self, mut words: Words<'_>, text: &mut Text) -> Answered {
-        if let Keyed::Mounts(table) = self {
+    /// Makes the call that the line is, or begins a part, and adds the answer.
+    pub(crate) fn call(&mut self, drops: &'a Cell<u64>, line: &[u8], text: &mut Text) -> Answered {
+        let alloc = text.alloc();
+        if let Some(part) = Session::begun(alloc, drops, line) {
+            drop(mem::replace(self, part));
+            drops.set(0);
+            return text.push(b"()");
+        }
+        self.call_of_part(Words::new(line, b' ', alloc), text)
+    }
+
+    // Makes the call that the words are, and adds its answer.
+    fn call_of_part(&mut self, mut words: Words<'_>, text: &mut Text) -> Answered {
+        if let Session::Mounts(table) = self {
             return table.call(words, text);
         }
         let call = LineCall::read(&mut words)?;
         match self {
-            Keyed::Bytes(part) => part.call_of_bytes(call, words, text),
-            Keyed::Byte(part) => part.call_of_fixed(call, words, text),
-            Keyed::Three(part) => part.call_of_three(call, words, text),
-            Keyed::I32(part) => part.call_of_fixed(call, words, text),
-            Keyed::U64(part) => part.call_of_fixed(call, words, text),
-            Keyed::Zero(part) => part.call_of_zkeys(call, words, text),
-            Keyed::Tagged(part) => part.call_of_fixed(call, words, text),
-            Keyed::Counted(part) => match call {
+            Session::Bytes(part) => part.call_of_bytes(call, words, text),
+            Session::Byte(part) => part.call_of_fixed(call, words, text),
+            Session::Three(part) => part.call_of_three(call, words, text),
+            Session::I32(part) => part.call_of_fixed(call, words, text),
+            Session::U64(part) => part.call_of_fixed(call, words, text),
+            Session::Zero(part) => part.call_of_zkeys(call, words, text),
+            Session::Tagged(part) => part.call_of_fixed(call, words, text),
+            Session::Counted(part) => match call {
                 LineCall::Map(name) => part.call(name, words, text),
                 LineCall::Set(_) => Err(Unanswered::NoCall),
             },
-            Keyed::Mounts(_) => Err(Unanswered::NoCall),
+            Session::Mounts(_) => Err(Unanswered::NoCall),
         }
     }
 }

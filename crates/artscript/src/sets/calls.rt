@@ -75,18 +75,14 @@ impl<K: ScriptKey, const PREFIX_LEN: usize> Sets<K, PREFIX_LEN> {
     // The calls that take the element of some bytes, those below them, or those from them on.
     fn remove(&mut self, name: SetName, mut words: Words<'_>, text: &mut Text) -> Answered {
         let query = words.last_bytes()?;
-        let answered = self.remove_at(name, &query, text);
+        let answered = match name {
+            SetName::Remove => self.first.remove(&query).show(text),
+            SetName::RemovePrefix => self.first.remove_prefix(&query).show(text),
+            SetName::Take => self.first.take(&query).show(text),
+            _ => self.split_off(&query, text),
+        };
         drop(query);
         answered
-    }
-
-    fn remove_at(&mut self, name: SetName, query: &Vec<u8>, text: &mut Text) -> Answered {
-        match name {
-            SetName::Remove => self.first.remove(query).show(text),
-            SetName::RemovePrefix => self.first.remove_prefix(query).show(text),
-            SetName::Take => self.first.take(query).show(text),
-            _ => self.split_off(query, text),
-        }
     }
 
     // The calls that place an element.
@@ -95,16 +91,6 @@ impl<K: ScriptKey, const PREFIX_LEN: usize> Sets<K, PREFIX_LEN> {
         match name {
             SetName::TryInsert => self.first.try_insert(element).show(text),
             _ => self.first.prefix_insert(element).show(text),
-        }
-    }
-}
-
-impl<const PREFIX_LEN: usize> Sets<Vec<u8>, PREFIX_LEN> {
-    /// Makes the call of this name with these words after it, and adds its answer.
-    pub fn call_of_bytes(&mut self, name: SetName, words: Words<'_>, text: &mut Text) -> Answered {
-        match name {
-            SetName::MakeClone => self.make_clone(words, text),
-            _ => self.call(name, words, text),
         }
     }
 }

@@ -8,31 +8,17 @@ use std::iter::Iterator;
 impl<K: ScriptKey, const PREFIX_LEN: usize> Sets<K, PREFIX_LEN> {
     /// Makes the call of this name over sets of the same bytes, and adds its answer and how often it compared elements.
     pub(crate) fn count(&self, name: SetName, words: Words<'_>, text: &mut Text) -> Answered {
-        let Some(name) = uncounted(name) else {
-            return Err(Unanswered::NoCall);
-        };
         let count = Cell::new(0u64);
-        self.call_compared(&count, name, words, text)?;
-        text.push(b" ")?;
-        count.get().show(text)
-    }
-
-    // Makes the call over sets of the same bytes, and adds its answer.
-    fn call_compared(
-        &self,
-        count: &Cell<u64>,
-        name: SetName,
-        words: Words<'_>,
-        text: &mut Text,
-    ) -> Answered {
         let mut sets = Sets {
             first: TreeSet::with_prefix_len(self.alloc),
             second: TreeSet::with_prefix_len(self.alloc),
             alloc: self.alloc,
         };
-        let answered = self.call_in(&mut sets, count, name, words, text);
+        let answered = self.call_in(&mut sets, &count, name, words, text);
         drop(sets);
-        answered
+        answered?;
+        text.push(b" ")?;
+        count.get().show(text)
     }
 
     // Adds the bytes of both sets to those of others, makes the call of these, and adds its answer.
@@ -47,25 +33,10 @@ impl<K: ScriptKey, const PREFIX_LEN: usize> Sets<K, PREFIX_LEN> {
         add_all(&mut sets.first, &self.first, count)?;
         add_all(&mut sets.second, &self.second, count)?;
         match name {
-            SetName::IsDisjoint | SetName::IsSubset | SetName::IsSuperset => {
-                sets.relate(name, words, text)
-            }
+            SetName::IsDisjointCounted | SetName::IsSubsetCounted | SetName::IsSupersetCounted =>
+                sets.relate(name, words, text),
             _ => sets.merge(name, words, text),
         }
-    }
-}
-
-// The call whose comparisons the call of this name tells.
-fn uncounted(name: SetName) -> Option<SetName> {
-    match name {
-        SetName::UnionCounted => Some(SetName::Union),
-        SetName::IntersectionCounted => Some(SetName::Intersection),
-        SetName::DifferenceCounted => Some(SetName::Difference),
-        SetName::SymmetricDifferenceCounted => Some(SetName::SymmetricDifference),
-        SetName::IsDisjointCounted => Some(SetName::IsDisjoint),
-        SetName::IsSubsetCounted => Some(SetName::IsSubset),
-        SetName::IsSupersetCounted => Some(SetName::IsSuperset),
-        _ => None,
     }
 }
 

@@ -1,8 +1,7 @@
 //! All that both sets have.
 use crate::sets::calls::Sets;
-use crate::words::{Answered, ScriptKey, Shown, Text};
+use crate::words::{Answered, ScriptKey, Shown, Text, show_items};
 use blart_set::TreeSet;
-use std::iter::{DoubleEndedIterator, Iterator};
 
 impl<K: ScriptKey, const PREFIX_LEN: usize> Sets<K, PREFIX_LEN> {
     /// Adds the elements of both sets, and how many they are.
@@ -15,9 +14,6 @@ impl<K: ScriptKey, const PREFIX_LEN: usize> Sets<K, PREFIX_LEN> {
 // Adds the set on a line of its own.
 fn list_set<K: ScriptKey, const P: usize>(set: &TreeSet<K, P>, text: &mut Text) -> Answered {
     set.len().show(text)?;
-    for element in set.iter() {
-        text.push(b" ")?;
-        element.show(text)?;
-    }
+    show_items(set.iter(), text)?;
     text.push(b"\n")
 }

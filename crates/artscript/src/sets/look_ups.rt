@@ -1,6 +1,6 @@
 //! The calls that leave the sets as they are.
 use crate::sets::calls::Sets;
-use crate::words::{Answered, ScriptKey, SetName, Shown, Text, Words};
+use crate::words::{Answered, ScriptKey, SetName, Shown, Text, Unanswered, Words};
 use blart_keys::OrderedBytes;
 
 impl<K: ScriptKey, const PREFIX_LEN: usize> Sets<K, PREFIX_LEN> {
@@ -18,7 +18,12 @@ impl<K: ScriptKey, const PREFIX_LEN: usize> Sets<K, PREFIX_LEN> {
             SetName::Union | SetName::Intersection => self.merge(name, words, text),
             SetName::Difference => self.merge(name, words, text),
             SetName::SymmetricDifference => self.merge(name, words, text),
-            _ => self.count(name, words, text),
+            SetName::UnionCounted | SetName::IntersectionCounted => self.count(name, words, text),
+            SetName::DifferenceCounted => self.count(name, words, text),
+            SetName::SymmetricDifferenceCounted => self.count(name, words, text),
+            SetName::IsDisjointCounted | SetName::IsSubsetCounted => self.count(name, words, text),
+            SetName::IsSupersetCounted => self.count(name, words, text),
+            _ => Err(Unanswered::NoCall),
         }
     }
 
@@ -36,18 +41,14 @@ impl<K: ScriptKey, const PREFIX_LEN: usize> Sets<K, PREFIX_LEN> {
     // The calls that look for some bytes.
     fn find(&self, name: SetName, mut words: Words<'_>, text: &mut Text) -> Answered {
         let query = words.last_bytes()?;
-        let answered = self.find_at(name, &query, text);
+        let answered = match name {
+            SetName::Contains => self.first.contains(&query).show(text),
+            SetName::Conflicts => self.first.conflicts(&query).show(text),
+            SetName::Get => self.first.get(&query).show(text),
+            _ => self.first.prefix_get(&query).show(text),
+        };
         drop(query);
         answered
-    }
-
-    fn find_at(&self, name: SetName, query: &Vec<u8>, text: &mut Text) -> Answered {
-        match name {
-            SetName::Contains => self.first.contains(query).show(text),
-            SetName::Conflicts => self.first.conflicts(query).show(text),
-            SetName::Get => self.first.get(query).show(text),
-            _ => self.first.prefix_get(query).show(text),
-        }
     }
 }
 
@@ -56,8 +57,10 @@ impl<K: OrderedBytes + Shown + Drop, const PREFIX_LEN: usize> Sets<K, PREFIX_LEN
     pub(crate) fn relate(&self, name: SetName, words: Words<'_>, text: &mut Text) -> Answered {
         words.end()?;
         let holds = match name {
-            SetName::IsDisjoint => self.first.is_disjoint(&self.second),
-            SetName::IsSubset => self.first.is_subset(&self.second),
+            SetName::IsDisjoint | SetName::IsDisjointCounted => {
+                self.first.is_disjoint(&self.second)
+            }
+            SetName::IsSubset | SetName::IsSubsetCounted => self.first.is_subset(&self.second),
             _ => self.first.is_superset(&self.second),
         };
         holds.show(text)

@@ -88,13 +88,16 @@ impl<K: OrderedBytes + Shown + Drop, const PREFIX_LEN: usize> Sets<K, PREFIX_LEN
     pub(crate) fn merge(&self, name: SetName, words: Words<'_>, text: &mut Text) -> Answered {
         words.end()?;
         match name {
-            SetName::Union => show_items(self.first.union(&self.second), text),
-            SetName::Intersection => show_items(self.first.intersection(&self.second), text),
-            SetName::Difference => show_items(self.first.difference(&self.second), text),
-            SetName::SymmetricDifference => {
-                show_items(self.first.symmetric_difference(&self.second), text)
+            SetName::Union | SetName::UnionCounted => {
+                show_items(self.first.union(&self.second), text)
             }
-            _ => Err(Unanswered::NoCall),
+            SetName::Intersection | SetName::IntersectionCounted => {
+                show_items(self.first.intersection(&self.second), text)
+            }
+            SetName::Difference | SetName::DifferenceCounted => {
+                show_items(self.first.difference(&self.second), text)
+            }
+            _ => show_items(self.first.symmetric_difference(&self.second), text),
         }
     }
 }

@@ -18,10 +18,7 @@ pub enum PrefixCall<'a> {
     Occupied(RelatedCall),
     OccupiedSet(SetCall),
     Leaf(OccupiedCall),
-    Inner(RelatedCall),
-    InnerSet(SetCall),
-    OnlyMut(u64),
-    Walk(WalkCall<'a>),
+    Inner(InnerCall<'a>),
     Vacant(VacantCall),
 }
 
@@ -41,11 +38,18 @@ pub enum SetCall {
     InsertEntry(u64),
 }
 
-/// A walk over the pairs that an entry stands for: what is added to each value that is lent, if they are lent, and the letters of its steps.
+/// A call of an entry in the place of pairs. A walk over these has the letters of its steps, and one that lends their values what is added to each.
 #[derive(Clone, Copy)]
-pub struct WalkCall<'a> {
-    pub add: Option<u64>,
-    pub letters: Option<&'a [u8]>,
+pub enum InnerCall<'a> {
+    Key,
+    Get,
+    GetKey,
+    GetMut(u64),
+    Insert(u64),
+    InsertEntry(u64),
+    OnlyMut(u64),
+    Iter(Option<&'a [u8]>),
+    IterMut(u64, Option<&'a [u8]>),
 }
 
 // The name of a call that prefix entries alone have, or that theirs differs in.
@@ -96,22 +100,17 @@ impl<'a> PrefixCall<'a> {
     pub fn read(mut words: Words<'a>) -> Result<PrefixCall<'a>, Unanswered> {
         let word = words.word()?;
         match named(&NAMES, word) {
-            Some(PrefixName::Iter) => walk_of(None, words),
+            Some(PrefixName::Iter) => Ok(PrefixCall::Inner(InnerCall::Iter(words.last_moves()?))),
             Some(PrefixName::IterMut) => {
                 let add = words.number()?;
-                walk_of(Some(add), words)
+                let letters = words.last_moves()?;
+                Ok(PrefixCall::Inner(InnerCall::IterMut(add, letters)))
             }
             Some(PrefixName::Kind) => kind_call(words),
             Some(name) => call_of(name, words.last_number()?),
             None => shared_call(named_call(word, words.last_number()?)?),
         }
     }
-}
-
-// The walk whose letters are the last word, where one is left.
-fn walk_of<'a>(add: Option<u64>, mut words: Words<'a>) -> Result<PrefixCall<'a>, Unanswered> {
-    let letters = words.last_moves()?;
-    Ok(PrefixCall::Walk(WalkCall { add, letters }))
 }
 
 // The call of the entry's kind that the words which are left say.
@@ -154,9 +153,9 @@ fn bare_call<'a>(name: PrefixName) -> Option<PrefixCall<'a>> {
         PrefixName::OccupiedKey => Some(PrefixCall::Occupied(RelatedCall::Key)),
         PrefixName::Get => Some(PrefixCall::Occupied(RelatedCall::Get)),
         PrefixName::OccupiedGetKey => Some(PrefixCall::Occupied(RelatedCall::GetKey)),
-        PrefixName::InnerKey => Some(PrefixCall::Inner(RelatedCall::Key)),
-        PrefixName::InnerGet => Some(PrefixCall::Inner(RelatedCall::Get)),
-        PrefixName::InnerGetKey => Some(PrefixCall::Inner(RelatedCall::GetKey)),
+        PrefixName::InnerKey => Some(PrefixCall::Inner(InnerCall::Key)),
+        PrefixName::InnerGet => Some(PrefixCall::Inner(InnerCall::Get)),
+        PrefixName::InnerGetKey => Some(PrefixCall::Inner(InnerCall::GetKey)),
         _ => None,
     }
 }
@@ -169,10 +168,10 @@ fn call_with<'a>(name: PrefixName, number: u64) -> Option<PrefixCall<'a>> {
         PrefixName::OccupiedInsertEntry => {
             Some(PrefixCall::OccupiedSet(SetCall::InsertEntry(number)))
         }
-        PrefixName::InnerGetMut => Some(PrefixCall::Inner(RelatedCall::GetMut(number))),
-        PrefixName::InnerInsert => Some(PrefixCall::InnerSet(SetCall::Insert(number))),
-        PrefixName::InnerInsertEntry => Some(PrefixCall::InnerSet(SetCall::InsertEntry(number))),
-        PrefixName::OnlyMut => Some(PrefixCall::OnlyMut(number)),
+        PrefixName::InnerGetMut => Some(PrefixCall::Inner(InnerCall::GetMut(number))),
+        PrefixName::InnerInsert => Some(PrefixCall::Inner(InnerCall::Insert(number))),
+        PrefixName::InnerInsertEntry => Some(PrefixCall::Inner(InnerCall::InsertEntry(number))),
+        PrefixName::OnlyMut => Some(PrefixCall::Inner(InnerCall::OnlyMut(number))),
         _ => None,
     }
 }

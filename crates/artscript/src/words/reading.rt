@@ -127,14 +127,6 @@ impl<'a> Words<'a> {
         Ok((self.key_of(word)?, number))
     }
 
-    /// The bytes and the number that the last two words stand for.
-    pub fn last_bytes_and_number(&mut self) -> Result<(Vec<u8>, u64), Unanswered> {
-        let word = self.word()?;
-        let number = self.number()?;
-        self.end()?;
-        Ok((joined_of(self.alloc, word)?, number))
-    }
-
     /// The bounds that the next two words are.
     pub fn bounds(&mut self) -> Result<(Bound<Vec<u8>>, Bound<Vec<u8>>), Unanswered> {
         let start = self.start()?;

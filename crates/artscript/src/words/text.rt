@@ -62,20 +62,6 @@ pub fn show_bytes(bytes: &[u8], text: &mut Text) -> Answered {
     text.push(digits.as_bytes())
 }
 
-/// Adds the values, between brackets and parted by commas.
-pub fn show_list<T: Shown>(values: &[T], text: &mut Text) -> Answered {
-    let mut part: &[u8] = b"[";
-    for value in values {
-        text.push(part)?;
-        value.show(text)?;
-        part = b", ";
-    }
-    if values.is_empty() {
-        text.push(b"[")?;
-    }
-    text.push(b"]")
-}
-
 /// Adds the value's own text.
 pub fn show_debug<T: Debug>(value: &T, text: &mut Text) -> Answered {
     let own = format!(in text.alloc(); "{value:?}")?;

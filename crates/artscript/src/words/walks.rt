@@ -77,13 +77,13 @@ where
     Ok(())
 }
 
-/// A walk that lends values, each of which is written as it passes.
+/// A walk that lends values, to each of which a number is added as it passes.
 pub trait Lending {
     /// A step from the front: adds the part and the item as it was, if there was one, and gives whether there was.
-    fn front(&mut self, part: &[u8], text: &mut Text) -> Result<bool, Unanswered>;
+    fn front(&mut self, add: u64, part: &[u8], text: &mut Text) -> Result<bool, Unanswered>;
 
     /// A step from the back.
-    fn back(&mut self, part: &[u8], text: &mut Text) -> Result<bool, Unanswered>;
+    fn back(&mut self, add: u64, part: &[u8], text: &mut Text) -> Result<bool, Unanswered>;
 
     /// How many items are left, where the walk has `len`.
     fn left(&self) -> Option<usize> {
@@ -94,21 +94,22 @@ pub trait Lending {
 /// Adds what each letter gave, or all items where there are no letters.
 pub fn show_lending<W: Lending + Drop>(
     mut walk: W,
+    add: u64,
     letters: Option<&[u8]>,
     text: &mut Text,
 ) -> Answered {
     match letters {
-        Some(letters) => show_lent_steps(&mut walk, letters, text),
-        None => show_lent(&mut walk, text),
+        Some(letters) => show_lent_steps(&mut walk, add, letters, text),
+        None => show_lent(&mut walk, add, text),
     }
 }
 
 // Adds all items, between brackets and parted by commas.
-fn show_lent<W: Lending>(walk: &mut W, text: &mut Text) -> Answered {
+fn show_lent<W: Lending>(walk: &mut W, add: u64, text: &mut Text) -> Answered {
     text.push(b"[")?;
     let mut part: &[u8] = b"";
     for _ in 0..u64::MAX {
-        if !walk.front(part, text)? {
+        if !walk.front(add, part, text)? {
             break;
         }
         part = b", ";
@@ -117,21 +118,26 @@ fn show_lent<W: Lending>(walk: &mut W, text: &mut Text) -> Answered {
 }
 
 // Adds what each letter gave, parted by spaces.
-fn show_lent_steps<W: Lending>(walk: &mut W, letters: &[u8], text: &mut Text) -> Answered {
+fn show_lent_steps<W: Lending>(
+    walk: &mut W,
+    add: u64,
+    letters: &[u8],
+    text: &mut Text,
+) -> Answered {
     let mut part: &[u8] = b"";
     for letter in letters {
         text.push(part)?;
-        show_lent_step(walk, *letter, text)?;
+        show_lent_step(walk, add, *letter, text)?;
         part = b" ";
     }
     Ok(())
 }
 
 // Adds what the letter gave.
-fn show_lent_step<W: Lending>(walk: &mut W, letter: u8, text: &mut Text) -> Answered {
+fn show_lent_step<W: Lending>(walk: &mut W, add: u64, letter: u8, text: &mut Text) -> Answered {
     let is_some = match letter {
-        b'f' => walk.front(b"Some(", text)?,
-        b'b' => walk.back(b"Some(", text)?,
+        b'f' => walk.front(add, b"Some(", text)?,
+        b'b' => walk.back(add, b"Some(", text)?,
         _ => {
             return match walk.left() {
                 Some(left) => left.show(text),
