@@ -61,28 +61,30 @@ fn listing_after(
 ) -> Result<Text, Unanswered> {
     let drops = Cell::new(0u64);
     let mut session = Session::new(alloc);
-    let listing = list_after(alloc, &mut session, &drops, script, count, last);
+    let mut listing = Text::new(alloc);
+    let listed = list_after(&mut session, &drops, script, count, last, &mut listing);
     drop(session);
-    listing
+    match listed {
+        Ok(()) => Ok(listing),
+        Err(refused) => Err(refused),
+    }
 }
 
-// The listing of the session after the first lines of the script and one more.
+// Puts into the text the listing of the session after the first lines of the script and one more.
 fn list_after<'a>(
-    alloc: Global,
     session: &mut Session<'a, PREFIX_LEN>,
     drops: &'a Cell<u64>,
     script: &[u8],
     count: usize,
     last: &[u8],
-) -> Result<Text, Unanswered> {
-    let mut answers = Text::new(alloc);
+    text: &mut Text,
+) -> Answered {
     for line in script.split(|byte| *byte == b'\n').take(count) {
-        answer(session, drops, line, &mut answers)?;
+        answer(session, drops, line, text)?;
     }
-    answer(session, drops, last, &mut answers)?;
-    let mut listing = Text::new(alloc);
-    session.list(&mut listing)?;
-    Ok(listing)
+    answer(session, drops, last, text)?;
+    text.truncate(0);
+    session.list(text)
 }
 
 /// The line, and what stands in the session.
