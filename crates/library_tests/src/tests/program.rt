@@ -125,15 +125,6 @@ fn assert_outcome(
     drop(got);
 }
 
-#[test]
-fn writers_take_a_byte_a_call(rt: HostRuntime) {
-    for most in [1, 4, 100] {
-        let ends = Ends { most, ..SOUND };
-        let answers = b"none\n01 5\nend 1\nrefused line\n";
-        assert_outcome(&rt, b"insert 01 5\nlist\nlast", ends, Ok(()), answers);
-    }
-}
-
 // Adds some bytes to a text, so many times.
 fn push(rt: &impl Abort, text: &mut Vec<u8>, bytes: &[u8], count: usize) {
     for _ in 0..count {
@@ -141,44 +132,21 @@ fn push(rt: &impl Abort, text: &mut Vec<u8>, bytes: &[u8], count: usize) {
     }
 }
 
-#[test]
-fn a_line_of_many_letters_is_one_line(rt: HostRuntime) {
+// The parts in turn, each so many times.
+fn text_of(rt: &(impl Abort + AllocGlobal), parts: &[(&str, usize)]) -> Vec<u8> {
     let mut text = Vec::new(rt.alloc());
-    push(&rt, &mut text, b"a", 1_000_000);
-    push(&rt, &mut text, b"\nlist", 1);
-    let ends = Ends {
-        piece: 5000,
-        ..SOUND
-    };
-    assert_outcome(&rt, &text, ends, Ok(()), b"refused line\nend 0\n");
-    drop(text);
+    for (part, count) in parts {
+        push(rt, &mut text, part.as_bytes(), *count);
+    }
+    text
 }
 
-// Adds an insertion of a key of 5,000 bytes, whose digits come in pairs, and what answers it.
-fn push_insertion(rt: &impl Abort, text: &mut Vec<u8>, answers: &mut Vec<u8>, digits: &[u8]) {
-    push(rt, text, b"insert ", 1);
-    push(rt, text, digits, 5000);
-    push(rt, text, b" 3\n", 1);
-    push(rt, answers, b"none\n", 1);
-}
-
-// Adds what lists such a key.
-fn push_listed(rt: &impl Abort, answers: &mut Vec<u8>, digits: &[u8]) {
-    push(rt, answers, digits, 5000);
-    push(rt, answers, b" 3\n", 1);
-}
-
+// An answer of more bytes than wait for the writer.
 #[test]
-fn answers_are_longer_than_the_room_that_waits(rt: HostRuntime) {
-    let mut text: Vec<u8> = Vec::new(rt.alloc());
-    let mut answers: Vec<u8> = Vec::new(rt.alloc());
-    push_insertion(&rt, &mut text, &mut answers, b"1A");
-    push_insertion(&rt, &mut text, &mut answers, b"2A");
-    push(&rt, &mut text, b"list", 1);
-    push_listed(&rt, &mut answers, b"1a");
-    push_listed(&rt, &mut answers, b"2a");
-    push(&rt, &mut answers, b"end 2\n", 1);
-    for most in [7, AMPLE] {
+fn writers_take_a_byte_a_call(rt: HostRuntime) {
+    let text = text_of(&rt, &[("insert ", 1), ("1A", 5000), (" 3\nlist", 1)]);
+    let answers = text_of(&rt, &[("none\n", 1), ("1a", 5000), (" 3\nend 1\n", 1)]);
+    for most in [1, 7, AMPLE] {
         let ends = Ends {
             piece: 3000,
             most,
@@ -190,75 +158,28 @@ fn answers_are_longer_than_the_room_that_waits(rt: HostRuntime) {
     drop(answers);
 }
 
-// The error's text, and the line that the program writes of it.
-fn assert_texts(rt: &(impl Abort + AllocGlobal), error: RunError, text: &str, line: &str) {
-    let own = error.to_string(rt.alloc()).expect(rt, "memory");
-    assert!(rt; own.as_str() == text);
-    drop(own);
-    assert!(rt; fault_line(error) == line);
+#[test]
+fn a_line_of_many_letters_is_one_line(rt: HostRuntime) {
+    let text = text_of(&rt, &[("a", 1_000_000), ("\nlist", 1)]);
+    let ends = Ends {
+        piece: 5000,
+        ..SOUND
+    };
+    assert_outcome(&rt, &text, ends, Ok(()), b"refused line\nend 0\n");
+    drop(text);
 }
 
+// Each error's text, and the line that the program writes of it.
 #[test]
 fn texts_of_errors(rt: HostRuntime) {
-    assert_texts(&rt, RunError::Read, "read failed", "artmap: read failed");
-    assert_texts(&rt, RunError::Write, "write failed", "artmap: write failed");
-    let line = "artmap: out of memory";
-    assert_texts(&rt, RunError::Memory, "out of memory", line);
-}
-
-// A read takes so many bytes, or fails, and then the reader is marked so.
-fn assert_read(
-    rt: &impl Abort,
-    reader: &mut Watched<Pieces<'_>>,
-    count: Option<usize>,
-    is_marked: bool,
-) {
-    let mut buf = [0; 4];
-    let got = reader.read(&mut buf).ok();
-    assert!(rt; got == count);
-    assert!(rt; reader.failed() == is_marked);
-}
-
-#[test]
-fn a_reader_remembers_that_it_failed(rt: HostRuntime) {
-    let mut reader = Watched::new(Pieces {
-        text: b"ab",
-        most: 1,
-        fails: true,
-    });
-    assert_read(&rt, &mut reader, Some(1), false);
-    assert_read(&rt, &mut reader, Some(1), false);
-    assert_read(&rt, &mut reader, None, true);
-}
-
-// A write takes so many bytes, and then the writer is marked so.
-fn assert_write(
-    rt: &impl Abort,
-    writer: &mut Watched<Sink>,
-    text: &[u8],
-    count: usize,
-    is_marked: bool,
-) {
-    match writer.write(text) {
-        Ok(got) => assert!(rt; got == count),
-        Err(_) => panic!(rt; "the write fails"),
+    for (error, text, line) in [
+        (RunError::Read, "read failed", "artmap: read failed"),
+        (RunError::Write, "write failed", "artmap: write failed"),
+        (RunError::Memory, "out of memory", "artmap: out of memory"),
+    ] {
+        let own = error.to_string(rt.alloc()).expect(&rt, "memory");
+        assert!(rt; own.as_str() == text);
+        drop(own);
+        assert!(rt; fault_line(error) == line);
     }
-    assert!(rt; writer.failed() == is_marked);
-}
-
-#[test]
-fn a_writer_remembers_that_it_took_nothing(rt: HostRuntime) {
-    let mut writer = Watched::new(Sink {
-        taken: Vec::new(rt.alloc()),
-        most: 2,
-        room: 3,
-        full: Full::TakesNothing,
-    });
-    assert_write(&rt, &mut writer, b"xyz", 2, false);
-    assert_write(&rt, &mut writer, b"z", 1, false);
-    assert_write(&rt, &mut writer, b"", 0, false);
-    assert_write(&rt, &mut writer, b"z", 0, true);
-    assert!(rt; writer.flush().is_ok());
-    assert!(rt; writer.failed());
-    assert!(rt; writer.into_inner().taken.as_slice() == b"xyz".as_slice());
 }
