@@ -92,28 +92,17 @@ fn children_at_fronts(rt: HostRuntime) {
     children::<64>(&rt);
 }
 
-// A tree of two bytes a key.
-type Pairs = Tree<[u8; 2], usize, 2>;
-
 // Keys of two bytes, each below 49, of which each first byte begins 49.
-fn add_squares(rt: &impl Abort, tree: &mut Pairs) {
+#[test]
+fn children_of_the_largest_kind(rt: HostRuntime) {
+    let mut tree = Tree::<[u8; 2], usize, 2>::new(rt.alloc());
     for place in 0..2401usize {
         let key = [(place / 49) as u8, (place % 49) as u8];
-        add(rt, tree, key, place);
+        add(&rt, &mut tree, key, place);
     }
-}
-
-fn assert_squares(rt: &impl Abort, tree: &Pairs) {
     assert!(rt; tree.inner_nodes() == 50);
     assert!(rt; tree.children_at(&[48], &mut Visits::new()) == 49);
     assert!(rt; tree.children_at(&[], &mut Visits::new()) == 49);
-}
-
-#[test]
-fn children_of_the_largest_kind(rt: HostRuntime) {
-    let mut tree = Pairs::new(rt.alloc());
-    add_squares(&rt, &mut tree);
-    assert_squares(&rt, &tree);
     drop(tree);
 }
 

@@ -4,8 +4,10 @@ use blart_map::TreeMap;
 use std::ops::Bound;
 use std::process::Abort;
 
+type Map = TreeMap<u8, usize, 2>;
+
 // A map of these keys, each with ten times itself as value. Where memory is refused, the pair is handed in again.
-fn fill<const P: usize>(rt: &(impl Abort + Print), map: &mut TreeMap<u8, usize, P>) {
+fn fill(rt: &(impl Abort + Print), map: &mut Map) {
     for key in [5u8, 2, 8, 4] {
         let value = 10 * key as usize;
         if map.insert(key, value).is_err() {
@@ -16,7 +18,7 @@ fn fill<const P: usize>(rt: &(impl Abort + Print), map: &mut TreeMap<u8, usize, 
 }
 
 // From 4 on: the first pair is taken, the last one read, and the one between taken too, which is the last to be passed.
-fn step_and_take<const P: usize>(rt: &impl Abort, map: &mut TreeMap<u8, usize, P>) {
+fn step_and_take(rt: &impl Abort, map: &mut Map) {
     let mut cursor = map.cursor(Bound::Included(&4u8), Bound::Unbounded);
     let first = map.step(&mut cursor).expect(rt, "a pair");
     assert!(rt; map.take_leaf(first) == (4, 40));
@@ -27,18 +29,12 @@ fn step_and_take<const P: usize>(rt: &impl Abort, map: &mut TreeMap<u8, usize, P
     assert!(rt; map.step(&mut cursor).is_none());
 }
 
-fn takes<const P: usize>(rt: &(impl Abort + AllocGlobal + Print)) {
-    let mut map = TreeMap::with_prefix_len(rt.alloc());
-    fill::<P>(rt, &mut map);
-    step_and_take(rt, &mut map);
+#[test]
+fn cursors(rt: HostRuntime) {
+    let mut map = Map::with_prefix_len(rt.alloc());
+    fill(&rt, &mut map);
+    step_and_take(&rt, &mut map);
     assert!(rt; map.len() == 2);
     assert!(rt; map.inner_nodes() == 1);
     drop(map);
-}
-
-#[test]
-fn cursors(rt: HostRuntime) {
-    takes::<0>(&rt);
-    takes::<2>(&rt);
-    takes::<16>(&rt);
 }

@@ -4,30 +4,42 @@ use blart_map::TreeMap;
 use blart_set::TreeSet;
 use std::process::Abort;
 
-type Map<const P: usize> = TreeMap<[u8; 2], usize, P>;
+type Map = TreeMap<[u8; 2], usize, 2>;
+
+// Whether by `try_insert`, at which place of the keys, what the call answers, and how much room is left after it.
+const CALLS: [(bool, usize, Option<usize>, usize); 7] = [
+    (false, 0, None, 4),
+    (true, 1, None, 3),
+    (false, 2, None, 2),
+    (false, 3, None, 1),
+    (false, 0, Some(0), 1),
+    (true, 0, Some(0), 1),
+    (true, 4, None, 0),
+];
 
 // Puts five pairs beside the one that is there, where there is room for them. What adds no pair leaves the room as it is.
-fn fill<const P: usize>(rt: &(impl Abort + Print), map: &mut Map<P>) -> usize {
+fn fill(rt: &(impl Abort + Print), map: &mut Map) -> usize {
     let Ok(mut room) = map.reserve(5) else {
         say_refused(rt);
         return 0;
     };
-    for place in 0..4 {
+    for (is_tried, place, old, left) in CALLS {
+        let key = KEYS[place % KEYS.len()];
         assert!(rt; room.left() > 0);
-        assert!(rt; room.insert(KEYS[place], place).is_none());
+        let got = if is_tried {
+            room.try_insert(key, place)
+        } else {
+            Ok(room.insert(key, place))
+        };
+        assert!(rt; got == Ok(old));
+        assert!(rt; room.left() == left);
     }
-    assert!(rt; room.left() == 1);
-    assert!(rt; room.insert(KEYS[0], 7) == Some(0));
-    assert!(rt; matches!(room.try_insert(KEYS[0], 8), Ok(Some(7))));
-    assert!(rt; room.left() == 1);
-    assert!(rt; matches!(room.try_insert(KEYS[4], 4), Ok(None)));
-    assert!(rt; room.left() == 0);
     drop(room);
     5
 }
 
 // Fills a map that has a pair, which stays.
-fn fill_beside<const P: usize>(rt: &(impl Abort + Print), map: &mut Map<P>) {
+fn fill_beside(rt: &(impl Abort + Print), map: &mut Map) {
     if map.insert([4, 4], 7).is_err() {
         say_refused(rt);
         return;
@@ -37,17 +49,11 @@ fn fill_beside<const P: usize>(rt: &(impl Abort + Print), map: &mut Map<P>) {
     assert!(rt; map.get(&[4u8, 4]) == Some(&7));
 }
 
-fn fills<const P: usize>(rt: &(impl Abort + AllocGlobal + Print)) {
-    let mut map = TreeMap::with_prefix_len(rt.alloc());
-    fill_beside::<P>(rt, &mut map);
-    drop(map);
-}
-
 #[test]
 fn a_map_with_room_refuses_nothing(rt: HostRuntime) {
-    fills::<0>(&rt);
-    fills::<2>(&rt);
-    fills::<16>(&rt);
+    let mut map = Map::with_prefix_len(rt.alloc());
+    fill_beside(&rt, &mut map);
+    drop(map);
 }
 
 // Puts two elements, where there is room for them. What adds none leaves the room as it is.

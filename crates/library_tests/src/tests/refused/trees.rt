@@ -6,13 +6,10 @@ use super::{KEYS, say_refused};
 use art_tree::{Point, Tree, Visits};
 use std::process::Abort;
 
+type Keys = Tree<[u8; 2], usize, 2>;
+
 // The tree has the first so many of the keys, each with its place as value, and so many inner nodes.
-fn assert_keys<const P: usize>(
-    rt: &impl Abort,
-    tree: &Tree<[u8; 2], usize, P>,
-    count: usize,
-    nodes: usize,
-) {
+fn assert_keys(rt: &impl Abort, tree: &Keys, count: usize, nodes: usize) {
     assert!(rt; tree.len() == count);
     assert!(rt; tree.inner_nodes() == nodes);
     for place in 0..count.min(KEYS.len()) {
@@ -24,12 +21,7 @@ fn assert_keys<const P: usize>(
 }
 
 // Makes room for the point of the key that comes next. After a refusal the tree is as before, and there is memory the next time.
-fn room_at<const P: usize>(
-    rt: &(impl Abort + Print),
-    tree: &mut Tree<[u8; 2], usize, P>,
-    point: &Point,
-    count: usize,
-)
+fn room_at(rt: &(impl Abort + Print), tree: &mut Keys, point: &Point, count: usize)
     ensures pairs { tree.new.pairs ≡ tree.old.pairs }
     ensures fits { Fits tree.new point.now }
 {
@@ -43,12 +35,7 @@ fn room_at<const P: usize>(
 }
 
 // Places the key that comes next, at the point that was found before room was made.
-fn place_next<const P: usize>(
-    rt: &(impl Abort + Print),
-    tree: &mut Tree<[u8; 2], usize, P>,
-    place: usize,
-    key: [u8; 2],
-) {
+fn place_next(rt: &(impl Abort + Print), tree: &mut Keys, place: usize, key: [u8; 2]) {
     let point = tree.point(&key);
     room_at(rt, tree, &point, place);
     match point {
@@ -60,27 +47,18 @@ fn place_next<const P: usize>(
 }
 
 #[test]
-fn make_room(rt: HostRuntime) {
-    let mut tree: Tree<[u8; 2], usize, 2> = Tree::new(rt.alloc());
+fn make_room_and_reserve(rt: HostRuntime) {
+    let mut tree = Keys::new(rt.alloc());
     for place in 0..KEYS.len() {
         place_next(&rt, &mut tree, place, KEYS[place]);
     }
-    assert_keys(&rt, &tree, KEYS.len(), 2);
-    drop(tree);
-}
-
-#[test]
-fn reserve(rt: HostRuntime) {
-    let mut tree: Tree<[u8; 2], usize, 2> = Tree::new(rt.alloc());
-    for place in 0..2usize {
-        place_next(&rt, &mut tree, place, KEYS[place]);
-    }
+    assert_keys(&rt, &tree, 5, 2);
     tree.reserve(0).expect(&rt, "no memory is asked for");
-    if tree.reserve(12).is_err() {
+    if tree.reserve(100).is_err() {
         say_refused(&rt);
-        assert_keys(&rt, &tree, 2, 1);
-        tree.reserve(12).expect(&rt, "one request is refused");
+        assert_keys(&rt, &tree, 5, 2);
+        tree.reserve(100).expect(&rt, "one request is refused");
     }
-    assert_keys(&rt, &tree, 2, 1);
+    assert_keys(&rt, &tree, 5, 2);
     drop(tree);
 }
