@@ -33,9 +33,14 @@ pub enum TryInsertError {
 /// One call of a map, with its arguments.
 ///
 /// ```
-/// let calls = vec![in alloc; Call::TryInsert("cat", 1), Call::PopLast]?;
+/// let calls = vec![in alloc;
+///     Call::ContainsKey("cat"),
+///     Call::TryInsert("cat", 1),
+///     Call::PopLast,
+/// ]?;
 /// let replies = drive(&mut map, calls)?;
-/// assert_eq!(replies.len(), 2);
+/// assert!(matches!(replies.first(), Some(Reply::ContainsKey(false))));
+/// assert_eq!(replies.len(), 3);
 /// assert!(map.is_empty());
 /// ```
 #[derive(Drop)]
@@ -62,10 +67,7 @@ pub enum Call<K, V> {
 
 /// What a call answered.
 ///
-/// ```
-/// let replies = drive(&mut map, vec![in alloc; Call::ContainsKey("cat")]?)?;
-/// assert!(matches!(replies.first(), Some(Reply::ContainsKey(false))));
-/// ```
+/// The example of [`Call`] shows it.
 #[derive(Drop)]
 pub enum Reply<K, V> {
     /// The old value, if a pair with these bytes was stored, or why the insertion was refused.

@@ -23,8 +23,7 @@ use std::marker::PhantomData;
 /// Two keys are related if the bytes of one begin those of the other. Either one key begins the entry's, and then it is the only one, or there are one or more that the entry's begins.
 ///
 /// ```
-/// map.try_insert("car", 1)?;
-/// map.try_insert("cat", 2)?;
+/// // map is {"car": 1, "cat": 2}
 /// if let PrefixKind::Inner(entry) = map.prefix_entry("ca").kind() {
 ///     assert!(entry.get().is_none());
 ///     *entry.insert(3) += 1;

@@ -11,7 +11,7 @@ use blart_keys::AsBytes;
 /// A key whose bytes are stored in a map, or that conflicts there. None of its calls takes memory.
 ///
 /// ```
-/// map.try_insert("car", 1)?;
+/// // map is {"car": 1}
 /// if let PrefixEntry::Occupied(entry) = map.prefix_entry("ca") {
 ///     assert_eq!(entry.get_key(), Some(&"car"));
 ///     *entry.insert(2) = 3;

@@ -18,6 +18,7 @@ use blart_keys::AsBytes;
 /// ```
 /// map.try_insert("cat", 1)?;
 /// let mut walk = map.iter_mut();
+/// assert_eq!(walk.len(), 1);
 /// if let Some(value) = walk.next_back() {
 ///     *value = 2;
 /// }
@@ -45,15 +46,7 @@ pub type ValuesMut<'a, K, V, const PREFIX_LEN: usize> = CountedWalk<
 
 /// The values of a map from both ends, in byte order of their keys, each lent in turn. Each step reads one pair, and where the ends have met none comes at either.
 ///
-/// ```
-/// map.try_insert("cat", 1)?;
-/// let mut walk = map.iter_mut();
-/// assert_eq!(walk.len(), 1);
-/// if let Some(value) = walk.next() {
-///     *value = 2;
-/// }
-/// assert_eq!(walk.len(), 0);
-/// ```
+/// The example of [`IterMut`] shows it.
 #[derive(Drop)]
 pub struct CountedWalk<'a, K: AsBytes, V, M, const PREFIX_LEN: usize> {
     map: &'a mut TreeMap<K, V, PREFIX_LEN>,

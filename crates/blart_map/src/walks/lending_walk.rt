@@ -28,12 +28,13 @@ pub type RangeMut<'a, K, V, const PREFIX_LEN: usize> = LendingWalk<'a, K, V, InR
 /// The values whose keys begin with some bytes, each lent in turn.
 ///
 /// ```
-/// map.try_insert("cat", 1)?;
+/// map.try_insert("car", 1)?;
+/// map.try_insert("cat", 2)?;
 /// let mut walk = map.prefix_mut(b"ca");
-/// if let Some(value) = walk.next() {
-///     *value = 2;
+/// if let Some(value) = walk.next_back() {
+///     *value = 3;
 /// }
-/// assert_eq!(map.get(&"cat"), Some(&2));
+/// assert_eq!(map.get(&"cat"), Some(&3));
 /// ```
 pub type PrefixMut<'a, K, V, const PREFIX_LEN: usize> = LendingWalk<
     'a,
@@ -65,15 +66,7 @@ pub type SubtreeIterMut<'a, K, V, const PREFIX_LEN: usize> = LendingWalk<
 
 /// Some values of a map from both ends, in byte order of their keys, each lent in turn. Each step reads one pair, and where the ends have met none comes at either.
 ///
-/// ```
-/// map.try_insert("car", 1)?;
-/// map.try_insert("cat", 2)?;
-/// let mut walk = map.prefix_mut(b"ca");
-/// if let Some(value) = walk.next_back() {
-///     *value = 3;
-/// }
-/// assert_eq!(map.get(&"cat"), Some(&3));
-/// ```
+/// The example of [`PrefixMut`] shows it.
 #[derive(Drop)]
 pub struct LendingWalk<'a, K: AsBytes, V, M, const PREFIX_LEN: usize> {
     map: &'a mut TreeMap<K, V, PREFIX_LEN>,

@@ -12,35 +12,35 @@ type Set = TreeSet<u8, 16>;
 fn union(rt: &impl Abort, left: &Set, right: &Set) {
     // left is {1, 2}, right is {2, 3}
     let mut merged = left.union(&right);
-    assert_eq!(rt; merged.next(), Some(&1));
-    assert_eq!(rt; merged.next(), Some(&2));
-    assert_eq!(rt; merged.next(), Some(&3));
-    assert_eq!(rt; merged.next(), None);
+    assert!(rt; merged.next() == Some(&1));
+    assert!(rt; merged.next() == Some(&2));
+    assert!(rt; merged.next() == Some(&3));
+    assert!(rt; merged.next() == None);
 }
 
 // The example of `blart_set::Intersection`.
 fn intersection(rt: &impl Abort, left: &Set, right: &Set) {
     // left is {1, 2}, right is {2, 3}
     let mut merged = left.intersection(&right);
-    assert_eq!(rt; merged.next(), Some(&2));
-    assert_eq!(rt; merged.next(), None);
+    assert!(rt; merged.next() == Some(&2));
+    assert!(rt; merged.next() == None);
 }
 
 // The example of `blart_set::Difference`.
 fn difference(rt: &impl Abort, left: &Set, right: &Set) {
     // left is {1, 2}, right is {2, 3}
     let mut merged = left.difference(&right);
-    assert_eq!(rt; merged.next(), Some(&1));
-    assert_eq!(rt; merged.next(), None);
+    assert!(rt; merged.next() == Some(&1));
+    assert!(rt; merged.next() == None);
 }
 
 // The example of `blart_set::SymmetricDifference`.
 fn symmetric_difference(rt: &impl Abort, left: &Set, right: &Set) {
     // left is {1, 2}, right is {2, 3}
     let mut merged = left.symmetric_difference(&right);
-    assert_eq!(rt; merged.next(), Some(&1));
-    assert_eq!(rt; merged.next(), Some(&3));
-    assert_eq!(rt; merged.next(), None);
+    assert!(rt; merged.next() == Some(&1));
+    assert!(rt; merged.next() == Some(&3));
+    assert!(rt; merged.next() == None);
 }
 
 #[test]

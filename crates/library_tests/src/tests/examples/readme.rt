@@ -1,20 +1,23 @@
 //! The code of the README.
-use super::Fail;
+use super::{Fail, Map};
 use blart_map::{TreeMap, TryInsertError};
 use prefix_router::Mounts;
 use std::alloc::Global;
 use std::iter::Iterator;
 use std::process::Abort;
 
-// The example of `README::map`.
-fn map(rt: &impl Abort, alloc: Global) -> Result<(), TryInsertError> {
+// The example of `blart_map::TreeMap`.
+//
+// The README shows it with the last line here in the place of the one before.
+fn tree_map(rt: &impl Abort, alloc: Global) -> Result<(), TryInsertError> {
     let mut map = TreeMap::new(alloc);
     let mut run = || -> Result<(), TryInsertError> {
         map.try_insert("car", 1)?;
         map.try_insert("cat", 2)?;
-        assert_eq!(rt; map.get(&"cat"), Some(&2));
+        assert!(rt; map.get(&"cat") == Some(&2));
         assert!(rt; map.try_insert("ca", 3).is_err());
-        assert_eq!(rt; map.prefix(b"ca").next(), Some((&"car", &1)));
+        assert!(rt; map.first_key_value() == Some((&"car", &1)));
+        assert!(rt; map.prefix(b"ca").next() == Some((&"car", &1)));
         Ok(())
     };
     let ran = run();
@@ -23,17 +26,11 @@ fn map(rt: &impl Abort, alloc: Global) -> Result<(), TryInsertError> {
 }
 
 // The example of `README::fronts`.
-fn fronts(rt: &impl Abort, alloc: Global) -> Result<(), TryInsertError> {
-    let mut map = TreeMap::new(alloc);
-    let mut run = || -> Result<(), TryInsertError> {
-        map.try_insert("/static/", 7)?;
-        assert_eq!(rt; map.prefix_get(&"/static/logo.png"), Some(&7));
-        assert_eq!(rt; map.prefix_get(&"/stat"), None);
-        Ok(())
-    };
-    let ran = run();
-    drop(map);
-    ran
+fn fronts(rt: &impl Abort, map: &mut Map<'_>) -> Result<(), TryInsertError> {
+    map.try_insert("/static/", 7)?;
+    assert!(rt; map.prefix_get(&"/static/logo.png") == Some(&7));
+    assert!(rt; map.prefix_get(&"/stat") == None);
+    Ok(())
 }
 
 // The example of `README::router`.
@@ -48,7 +45,7 @@ fn router(rt: &impl Abort, alloc: Global) -> Result<(), Fail> {
                 .is_err()
         );
         let target = mounts.resolve(b"/api/v1/users").map(|(_, target)| *target);
-        assert_eq!(rt; target, Some(1));
+        assert!(rt; target == Some(1));
         Ok(())
     };
     let ran = run();
@@ -58,7 +55,9 @@ fn router(rt: &impl Abort, alloc: Global) -> Result<(), Fail> {
 
 #[test]
 fn the_readme(rt: HostRuntime) {
-    map(&rt, rt.alloc()).expect(&rt, "memory");
-    fronts(&rt, rt.alloc()).expect(&rt, "memory");
+    tree_map(&rt, rt.alloc()).expect(&rt, "memory");
+    let mut map = Map::new(rt.alloc());
+    fronts(&rt, &mut map).expect(&rt, "memory");
+    drop(map);
     router(&rt, rt.alloc()).expect(&rt, "memory");
 }

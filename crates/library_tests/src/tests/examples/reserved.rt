@@ -7,11 +7,11 @@ use std::process::Abort;
 // The example of `blart_map::Reserved`.
 fn of_map(rt: &impl Abort, map: &mut TreeMap<u8, i32, 16>) -> Result<(), AllocError> {
     let mut room = map.reserve(2)?;
-    assert_eq!(rt; room.insert(7, 1), None);
-    assert_eq!(rt; room.insert(7, 2), Some(1));
-    assert_eq!(rt; room.left(), 1);
+    assert!(rt; room.insert(7, 1) == None);
+    assert!(rt; room.insert(7, 2) == Some(1));
+    assert!(rt; room.left() == 1);
     drop(room);
-    assert_eq!(rt; map.get(&7u8), Some(&2));
+    assert!(rt; map.get(&7u8) == Some(&2));
     Ok(())
 }
 
@@ -20,7 +20,7 @@ fn of_set(rt: &impl Abort, set: &mut TreeSet<u8, 16>) -> Result<(), AllocError> 
     let mut room = set.reserve(2)?;
     assert!(rt; room.insert(7));
     assert!(rt; !room.insert(7));
-    assert_eq!(rt; room.left(), 1);
+    assert!(rt; room.left() == 1);
     drop(room);
     assert!(rt; set.contains(&7u8));
     Ok(())

@@ -12,7 +12,7 @@ fn tree_set(rt: &impl Abort, set: &mut TreeSet<&str, 16>) -> Result<(), TryInser
     assert!(rt; set.try_insert("car")?);
     assert!(rt; !set.try_insert("cat")?);
     assert!(rt; set.try_insert("ca").is_err());
-    assert_eq!(rt; set.first(), Some(&"car"));
+    assert!(rt; set.first() == Some(&"car"));
     Ok(())
 }
 
@@ -20,33 +20,33 @@ fn tree_set(rt: &impl Abort, set: &mut TreeSet<&str, 16>) -> Result<(), TryInser
 fn iter(rt: &impl Abort, set: &TreeSet<u8, 16>) {
     // set is {1, 2}
     let mut elements = set.iter();
-    assert_eq!(rt; elements.len(), 2);
-    assert_eq!(rt; elements.next_back(), Some(&2));
+    assert!(rt; elements.len() == 2);
+    assert!(rt; elements.next_back() == Some(&2));
 }
 
 // The example of `blart_set::Range`.
 fn range(rt: &impl Abort, set: &TreeSet<u8, 16>) {
     // set is {1, 2, 3}
     let mut elements = set.range(Bound::Included(&2u8), Bound::Unbounded);
-    assert_eq!(rt; elements.next(), Some(&2));
-    assert_eq!(rt; elements.next_back(), Some(&3));
-    assert_eq!(rt; elements.next(), None);
+    assert!(rt; elements.next() == Some(&2));
+    assert!(rt; elements.next_back() == Some(&3));
+    assert!(rt; elements.next() == None);
 }
 
 // The example of `blart_set::Prefix`.
 fn prefix(rt: &impl Abort, set: &TreeSet<[u8; 2], 16>) {
     // set is {[1, 2], [3, 4]}
     let mut elements = set.prefix(&[3]);
-    assert_eq!(rt; elements.next(), Some(&[3, 4]));
-    assert_eq!(rt; elements.next(), None);
+    assert!(rt; elements.next() == Some(&[3, 4]));
+    assert!(rt; elements.next() == None);
 }
 
 // The example of `blart_set::IntoIter`.
 fn into_iter(rt: &impl Abort, set: TreeSet<u8, 16>) {
     // set is {1, 2}
     let mut elements = set.into_iter();
-    assert_eq!(rt; elements.next(), Some(1));
-    assert_eq!(rt; elements.len(), 1);
+    assert!(rt; elements.next() == Some(1));
+    assert!(rt; elements.len() == 1);
     drop(elements);
 }
 
@@ -54,8 +54,8 @@ fn into_iter(rt: &impl Abort, set: TreeSet<u8, 16>) {
 fn extract_if(rt: &impl Abort, set: &mut TreeSet<u8, 16>) {
     // set is {1, 2, 3, 4}
     let mut walk = set.extract_if(Bound::<&u8>::Unbounded, Bound::Unbounded, |x| *x % 2 == 0);
-    assert_eq!(rt; walk.next_back(), Some(4));
-    assert_eq!(rt; walk.next(), Some(2));
+    assert!(rt; walk.next_back() == Some(4));
+    assert!(rt; walk.next() == Some(2));
     // dropped here, it leaves {1, 3}
     drop(walk);
 }
