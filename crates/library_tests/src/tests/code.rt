@@ -6,7 +6,6 @@ mod closures;
 mod dropped;
 mod hashed;
 mod key_types;
-mod reserved;
 mod shapes;
 mod tagged;
 mod trees;
