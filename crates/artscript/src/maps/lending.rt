@@ -70,21 +70,24 @@ impl<K: ScriptKey, const PREFIX_LEN: usize> Lending for ValuesMut<'_, K, u64, PR
     }
 }
 
-impl<K: ScriptKey, const PREFIX_LEN: usize> Lending for IterMut<'_, K, u64, PREFIX_LEN> {
-    fn front(&mut self, add: u64, part: &[u8], text: &mut Text) -> Result<bool, Unanswered> {
-        if let Some(value) = self.next() {
-            let was = raise(value, add);
-            return show_item(Some((self.key(), was)), part, text);
+// Raises the value that a step lends, and adds its key and what it was. It is the same for each walk that knows the key.
+macro_rules! show_raised {
+    ($walk:expr, $step:ident, $add:expr, $part:expr, $text:expr) => {{
+        if let Some(value) = $walk.$step() {
+            let was = raise(value, $add);
+            return show_item(Some(($walk.key(), was)), $part, $text);
         }
         Ok(false)
+    }};
+}
+
+impl<K: ScriptKey, const PREFIX_LEN: usize> Lending for IterMut<'_, K, u64, PREFIX_LEN> {
+    fn front(&mut self, add: u64, part: &[u8], text: &mut Text) -> Result<bool, Unanswered> {
+        show_raised!(self, next, add, part, text)
     }
 
     fn back(&mut self, add: u64, part: &[u8], text: &mut Text) -> Result<bool, Unanswered> {
-        if let Some(value) = self.next_back() {
-            let was = raise(value, add);
-            return show_item(Some((self.key(), was)), part, text);
-        }
-        Ok(false)
+        show_raised!(self, next_back, add, part, text)
     }
 
     fn left(&self) -> Option<usize> {
@@ -94,54 +97,30 @@ impl<K: ScriptKey, const PREFIX_LEN: usize> Lending for IterMut<'_, K, u64, PREF
 
 impl<K: ScriptKey, const PREFIX_LEN: usize> Lending for RangeMut<'_, K, u64, PREFIX_LEN> {
     fn front(&mut self, add: u64, part: &[u8], text: &mut Text) -> Result<bool, Unanswered> {
-        if let Some(value) = self.next() {
-            let was = raise(value, add);
-            return show_item(Some((self.key(), was)), part, text);
-        }
-        Ok(false)
+        show_raised!(self, next, add, part, text)
     }
 
     fn back(&mut self, add: u64, part: &[u8], text: &mut Text) -> Result<bool, Unanswered> {
-        if let Some(value) = self.next_back() {
-            let was = raise(value, add);
-            return show_item(Some((self.key(), was)), part, text);
-        }
-        Ok(false)
+        show_raised!(self, next_back, add, part, text)
     }
 }
 
 impl<K: ScriptKey, const PREFIX_LEN: usize> Lending for PrefixMut<'_, K, u64, PREFIX_LEN> {
     fn front(&mut self, add: u64, part: &[u8], text: &mut Text) -> Result<bool, Unanswered> {
-        if let Some(value) = self.next() {
-            let was = raise(value, add);
-            return show_item(Some((self.key(), was)), part, text);
-        }
-        Ok(false)
+        show_raised!(self, next, add, part, text)
     }
 
     fn back(&mut self, add: u64, part: &[u8], text: &mut Text) -> Result<bool, Unanswered> {
-        if let Some(value) = self.next_back() {
-            let was = raise(value, add);
-            return show_item(Some((self.key(), was)), part, text);
-        }
-        Ok(false)
+        show_raised!(self, next_back, add, part, text)
     }
 }
 
 impl<K: ScriptKey, const PREFIX_LEN: usize> Lending for SubtreeIterMut<'_, K, u64, PREFIX_LEN> {
     fn front(&mut self, add: u64, part: &[u8], text: &mut Text) -> Result<bool, Unanswered> {
-        if let Some(value) = self.next() {
-            let was = raise(value, add);
-            return show_item(Some((self.key(), was)), part, text);
-        }
-        Ok(false)
+        show_raised!(self, next, add, part, text)
     }
 
     fn back(&mut self, add: u64, part: &[u8], text: &mut Text) -> Result<bool, Unanswered> {
-        if let Some(value) = self.next_back() {
-            let was = raise(value, add);
-            return show_item(Some((self.key(), was)), part, text);
-        }
-        Ok(false)
+        show_raised!(self, next_back, add, part, text)
     }
 }

@@ -6,6 +6,7 @@ mod closures;
 mod dropped;
 mod hashed;
 mod key_types;
+mod reserved;
 mod shapes;
 mod tagged;
 mod trees;

@@ -6,11 +6,8 @@ use std::iter::{DoubleEndedIterator, Iterator};
 use std::ops::Bound;
 use std::process::Abort;
 
-// A map of bytes.
-type Letters = TreeMap<u8, usize, 2>;
-
 // One step from each end; the closure adds 1 to the value, and picks each second pair that it is asked about. Answers how often it was asked.
-fn extract_by_count(rt: &impl Abort, map: &mut Letters) -> usize {
+fn extract_by_count<const P: usize>(rt: &impl Abort, map: &mut TreeMap<u8, usize, P>) -> usize {
     let mut asked = 0usize;
     let mut walk = map.extract_if(Bound::<&u8>::Unbounded, Bound::Unbounded, |_, value| {
         *value = value.wrapping_add(1);
@@ -24,8 +21,8 @@ fn extract_by_count(rt: &impl Abort, map: &mut Letters) -> usize {
 }
 
 // The keys 1 to 6, each with its place as value: a kept value stays as the closure left it, and pairs that are not reached stay as they were.
-fn asks_once(rt: &(impl Abort + AllocGlobal)) {
-    let mut map: Letters = map_of(rt, &[1, 2, 3, 4, 5, 6]);
+fn asks_once<const P: usize>(rt: &(impl Abort + AllocGlobal)) {
+    let mut map: TreeMap<u8, usize, P> = map_of(rt, &[1, 2, 3, 4, 5, 6]);
     assert!(rt; extract_by_count(rt, &mut map) == 4);
     assert_values(rt, &map, &[1, 2, 3, 6]);
     drop(map);
@@ -96,17 +93,20 @@ fn raises<const P: usize>(rt: &(impl Abort + AllocGlobal)) {
 
 // Where inner nodes keep so many bytes of their prefix.
 fn at_length<const P: usize>(rt: &(impl Abort + AllocGlobal)) {
+    asks_once::<P>(rt);
     doubles::<P>(rt);
     raises::<P>(rt);
 }
 
 #[test]
 fn values_are_written_and_picked(rt: HostRuntime) {
-    asks_once(&rt);
     at_length::<0>(&rt);
     at_length::<2>(&rt);
     at_length::<16>(&rt);
 }
+
+// A map of bytes.
+type Letters = TreeMap<u8, usize, 2>;
 
 // Adds to each value its key; what begins with 20 gets 0.
 fn call_on_each(rt: &impl Abort, map: &mut Letters) {
