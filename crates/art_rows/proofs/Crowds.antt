@@ -26,12 +26,12 @@ goes_on rows new r n next after has put = go (leaf_in rows next) refl has put
     go (Some ids) e h p = record { next = next; after = after; ids = ids; was = e; is = p }
 
 -- a row that has as many numbers as fit has no room
-pub is_full : (o : Option (List ℕ)) (n : ℕ) → IfSome o (λ ids. n ≡ length ids) → n ≤ 32 → 32 ≤ n → IfSome o (λ ids. length ids ≡ 32)
+pub is_full : (o : Option (List ℕ)) (n : ℕ) → IfSome o (λ ids. n ≡ length ids) → n ≤ 64 → 64 ≤ n → IfSome o (λ ids. length ids ≡ 64)
 is_full None n len most least = len
 is_full (Some ids) n len most least = omega arith
 
 -- one that has fewer has
-pub has_room : (o : Option (List ℕ)) (n : ℕ) → IfSome o (λ ids. n ≡ length ids) → n < 32 → IfSome o (λ ids. length ids < 32)
+pub has_room : (o : Option (List ℕ)) (n : ℕ) → IfSome o (λ ids. n ≡ length ids) → n < 64 → IfSome o (λ ids. length ids < 64)
 has_room None n len less = len
 has_room (Some ids) n len less = omega arith
 
@@ -57,17 +57,17 @@ module _ {K V : Type 0} {leaves : ℕ → Option (Leaf K V)} {rows : List (Numbe
     own_place = rw own_ids at (located_at f i has p is).1
 
     -- where the row is not full, or the leaf is the last of it, a pair may come after it
-    pub has_way : (length ids < 32) ⊎ (p.place ≡ 31) → HasWay rows (Some i)
+    pub has_way : (length ids < 64) ⊎ (p.place ≡ 63) → HasWay rows (Some i)
     has_way h = rw own_ids (λ full. (let o = own_place in elim h [ inl l ↦ absurd (omega arith) | inr e ↦ omega arith ]))
 
     -- or else the last leaf makes way
-    pub crowded : length ids ≡ 32 → p.place ≢ 31 → (last : ℕ) → nth ids 31 ≡ Some last → IsCrowded rows (Some i) last
+    pub crowded : length ids ≡ 64 → p.place ≢ 63 → (last : ℕ) → nth ids 63 ≡ Some last → IsCrowded rows (Some i) last
     crowded full off last end = record {
       leaf = i;
       is = refl;
       apart = λ e. (
           let same : i ≡ last = cc in
-          let q : Position = record { row = p.row; place = 31 } in
+          let q : Position = record { row = p.row; place = 63 } in
           let a : Some p ≡ Some q = sym is ∙ ap (λ n. position_at rows (index_of ps n)) same ∙ stands_there f last q ids at end in
           let b : p ≡ q = cc in
           off (ap (λ (x : Position). x.place) b));
@@ -87,12 +87,12 @@ module _ {K V : Type 0} {leaves : ℕ → Option (Leaf K V)} {rows : List (Numbe
       go (Some ids) h e = absurd (omega arith)
 
   -- where no leaf has to make way, the place after one in a full row is the end of the row
-  pub at_end : (prev : Option ℕ) → IfNone prev (⊥) → (p : Position) → IfSome prev (λ i. IsAfter rows i p) → HasWay rows prev → (ids : List ℕ) → leaf_in rows p.row ≡ Some ids → length ids ≡ 32 → p.place ≡ 32
+  pub at_end : (prev : Option ℕ) → IfNone prev (⊥) → (p : Position) → IfSome prev (λ i. IsAfter rows i p) → HasWay rows prev → (ids : List ℕ) → leaf_in rows p.row ≡ Some ids → length ids ≡ 64 → p.place ≡ 64
   at_end None some p after way ids at full = absurd some
   at_end (Some i) some p after way ids at full =
       let own : leaf_in rows (row_of i) ≡ Some ids = ap (leaf_in rows) (sym after.0) ∙ at in
       let a : p.place ≡ place_in ids i + 1 = rw own at after.1 in
-      let b : length ids ≡ 32 → place_in ids i + 1 ≡ 32 = rw own at way in
+      let b : length ids ≡ 64 → place_in ids i + 1 ≡ 64 = rw own at way in
       a ∙ b full
 
 -- ---- a row without its last number
@@ -104,42 +104,42 @@ nth-left [] ys (suc k) j l w = absurd (omega arith)
 nth-left (x ∷ xs) ys (suc k) zero l w = refl
 nth-left (x ∷ xs) ys (suc k) (suc j) l w = nth-left xs ys k j (omega arith) (omega arith)
 
-module _ (rows mid : List (Numbered (List ℕ))) (r : ℕ) (ids : List ℕ) (at : leaf_in rows r ≡ Some ids) (full : length ids ≡ 32) (is : mid ≡ with_pair rows r (take 31 ids ++ drop 32 ids)) where
+module _ (rows mid : List (Numbered (List ℕ))) (r : ℕ) (ids : List ℕ) (at : leaf_in rows r ≡ Some ids) (full : length ids ≡ 64) (is : mid ≡ with_pair rows r (take 63 ids ++ drop 64 ids)) where
   -- the numbers that are left
   abbrev pub left : List ℕ
-  left = take 31 ids ++ drop 32 ids
+  left = take 63 ids ++ drop 64 ids
 
-  pub left_length : length left ≡ 31
+  pub left_length : length left ≡ 63
   left_length =
-      let a = length-append (take 31 ids) (drop 32 ids) in
-      let b = length-take-le 31 ids (omega arith) in
-      let c = length-drop 32 ids in
+      let a = length-append (take 63 ids) (drop 64 ids) in
+      let b = length-take-le 63 ids (omega arith) in
+      let c = length-drop 64 ids in
       omega arith
 
   pub left_there : leaf_in mid r ≡ Some left
   left_there = ap (λ rs. leaf_in rs r) is ∙ leaf_in-with_now rows r left (rw at refl)
 
-  pub left_end : (n : ℕ) → nth ids 30 ≡ Some n → nth left 30 ≡ Some n
-  left_end n e = nth-left ids (drop 32 ids) 31 30 (omega arith) (omega arith) ∙ e
+  pub left_end : (n : ℕ) → nth ids 62 ≡ Some n → nth left 62 ≡ Some n
+  left_end n e = nth-left ids (drop 64 ids) 63 62 (omega arith) (omega arith) ∙ e
 
-module _ {K V : Type 0} {leaves : ℕ → Option (Leaf K V)} {rows : List (Numbered (List ℕ))} {count : ℕ} {ps : List (Numbered (K × V))} (f : Files leaves rows count ps) (last : ℕ) (has : Has ps last) (ids : List ℕ) (at : leaf_in rows (row_of last) ≡ Some ids) (full : length ids ≡ 32) (end : nth ids 31 ≡ Some last) where
+module _ {K V : Type 0} {leaves : ℕ → Option (Leaf K V)} {rows : List (Numbered (List ℕ))} {count : ℕ} {ps : List (Numbered (K × V))} (f : Files leaves rows count ps) (last : ℕ) (has : Has ps last) (ids : List ℕ) (at : leaf_in rows (row_of last) ≡ Some ids) (full : length ids ≡ 64) (end : nth ids 63 ≡ Some last) where
   -- where the last leaf of a full row stands
-  pub carry_at : position_at rows (index_of ps last) ≡ Some (record { row = row_of last; place = 31 })
-  carry_at = stands_there f last (record { row = row_of last; place = 31 }) ids at end
+  pub carry_at : position_at rows (index_of ps last) ≡ Some (record { row = row_of last; place = 63 })
+  carry_at = stands_there f last (record { row = row_of last; place = 63 }) ids at end
 
-  module _ (before : ℕ) (then : nth ids 30 ≡ Some before) where
+  module _ (before : ℕ) (then : nth ids 62 ≡ Some before) where
     -- and before it
     pub carry_before : number_before ps last ≡ Some before
-    carry_before = before_there f last before has (record { row = row_of last; place = 31 }) ids at (omega arith) end then
+    carry_before = before_there f last before has (record { row = row_of last; place = 63 }) ids at (omega arith) end then
 
-    module _ {less : ℕ → Option (Leaf K V)} {mid : List (Numbered (List ℕ))} {fewer : ℕ} {qs : List (Numbered (K × V))} (h : Files less mid fewer qs) (is : mid ≡ with_pair rows (row_of last) (take 31 ids ++ drop 32 ids)) where
+    module _ {less : ℕ → Option (Leaf K V)} {mid : List (Numbered (List ℕ))} {fewer : ℕ} {qs : List (Numbered (K × V))} (h : Files less mid fewer qs) (is : mid ≡ with_pair rows (row_of last) (take 63 ids ++ drop 64 ids)) where
       abbrev p : Position
-      p = record { row = row_of last; place = 30 }
+      p = record { row = row_of last; place = 62 }
 
       there : leaf_in mid (row_of last) ≡ Some (left rows mid (row_of last) ids at full is)
       there = left_there rows mid (row_of last) ids at full is
 
-      e : nth (left rows mid (row_of last) ids at full is) 30 ≡ Some before
+      e : nth (left rows mid (row_of last) ids at full is) 62 ≡ Some before
       e = left_end rows mid (row_of last) ids at full is before then
 
       -- without it that one is the last of the row
@@ -149,7 +149,7 @@ module _ {K V : Type 0} {leaves : ℕ → Option (Leaf K V)} {rows : List (Numbe
       pub carry_index : index_of qs before + 1 ≡ row_end (Some (row_of last)) mid
       carry_index =
           let s = spot_after mid (index_of qs before) p (stands_there h before p (left rows mid (row_of last) ids at full is) there e) in
-          let n : length s.ids ≡ 31 = spot_ids s h.apart (λ l. length l ≡ 31) (rw there (left_length rows mid (row_of last) ids at full is)) in
+          let n : length s.ids ≡ 63 = spot_ids s h.apart (λ l. length l ≡ 63) (rw there (left_length rows mid (row_of last) ids at full is)) in
           spot_end s h.apart (omega arith)
 
 -- ---- the end of all

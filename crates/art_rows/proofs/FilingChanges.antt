@@ -143,7 +143,7 @@ files_changed_at {K = K} {V = V} s f id n is r was k v x e =
     rw (with-count s n r x was) (files_changed f id r (rw is at was) (k, v) (slot_at (with_record s n x)) now rest)
 
 -- there are as many cells
-pub cells_changed : {K V : Type 0} (s : Store (Leaf K V)) (rows : Numbers (List ℕ)) (n : ℕ) (x : Leaf K V) → 32 * rows.top ≤ length s.slots → 32 * rows.top ≤ length (with_record s n x).slots
+pub cells_changed : {K V : Type 0} (s : Store (Leaf K V)) (rows : Numbers (List ℕ)) (n : ℕ) (x : Leaf K V) → 64 * rows.top ≤ length s.slots → 64 * rows.top ≤ length (with_record s n x).slots
 cells_changed s rows n x h = (let e = length-set s.slots n (Some x) in omega arith)
 
 -- another value is another pair

@@ -22,7 +22,7 @@ lengths_two : (xs ys : List (Numbered (List ℕ))) (r s : ℕ) (ids more : List 
 lengths_two xs ys r s ids more = lengths_at xs ((s, more) ∷ ys) r ids ∙ sym (append_assoc (lengths xs) (length ids ∷ []) (length more ∷ lengths ys))
 
 -- a list that ends with a full row does
-ends_full : (xs : List ℕ) (n : ℕ) → n ≡ 32 → EndsFull (xs ++ n ∷ [])
+ends_full : (xs : List ℕ) (n : ℕ) → n ≡ 64 → EndsFull (xs ++ n ∷ [])
 ends_full [] n e = e
 ends_full (x ∷ []) n e = e
 ends_full (x ∷ y ∷ xs) n e = ends_full (y ∷ xs) n e
@@ -80,7 +80,7 @@ module _ (rows : List (Numbered (List ℕ))) (d : AreDistinct rows) (r : ℕ) (b
   apart : (after new : List (Numbered (List ℕ))) (n : ℕ) → rows ≡ before ++ (r, ids) ∷ after → (g : GoesApart rows new r n) → new ≡ before ++ (r, ids) ∷ (g.fresh, n ∷ []) ∷ after
   apart after new n is g = g.is ∙ ap (with_pair_after (Some r) (g.fresh, n ∷ [])) is ∙ with_pair_after-split r ids after (g.fresh, n ∷ []) before (row_lacks after is).0
 
-module _ (rows : List (Numbered (List ℕ))) (d : AreDistinct rows) (r : ℕ) (ids : List ℕ) (at : leaf_in rows r ≡ Some ids) (full : length ids ≡ 32) where
+module _ (rows : List (Numbered (List ℕ))) (d : AreDistinct rows) (r : ℕ) (ids : List ℕ) (at : leaf_in rows r ≡ Some ids) (full : length ids ≡ 64) where
   cut : Split rows r
   cut = split rows r (rw at refl)
 
@@ -125,7 +125,7 @@ module _ (rows : List (Numbered (List ℕ))) (d : AreDistinct rows) (r : ℕ) (i
       spare_crowded spare h s = spare_at spare h (shut_starts (with_pair rows r init) e r cut.before init cut.after left_is s)
 
       -- the room, once the row is full again
-      pub crowded_room : (new : List (Numbered (List ℕ))) (spare less n : ℕ) → GoesBeyond (with_pair rows r init) spare new less r n → (more : List ℕ) → length more ≡ 32 → row_room (lengths rows) spare ≤ row_room (lengths (with_pair new r more)) less + 1
+      pub crowded_room : (new : List (Numbered (List ℕ))) (spare less n : ℕ) → GoesBeyond (with_pair rows r init) spare new less r n → (more : List ℕ) → length more ≡ 64 → row_room (lengths rows) spare ≤ row_room (lengths (with_pair new r more)) less + 1
       crowded_room new spare less n (inl (g, f)) more again =
           let o = onward (with_pair rows r init) e r cut.before init cut.after new n left_is g in
           let w = halves ∙ ap (λ l. (lengths cut.before ++ length ids ∷ []) ++ lengths l) o.was in
@@ -187,7 +187,7 @@ module _ {rows : List (Numbered (List ℕ))} {k : ℕ} {p : Position} (s : IsSpo
   spot_end e = (let r = ap (row_end (Some p.row)) s.is ∙ row_end-split s.before s.after p.row s.ids (spot-lacks rows k p s d).0 in let i = s.index in omega arith)
 
   -- in front of all, where the first row is full
-  pub spot_front : k ≡ 0 → AreFilled rows → length s.ids ≡ 32 → StartsFull (lengths rows)
+  pub spot_front : k ≡ 0 → AreFilled rows → length s.ids ≡ 64 → StartsFull (lengths rows)
   spot_front z f full = rw s.is (at_front s.before s.is s.index)
     where
       at_front : (before : List (Numbered (List ℕ))) → rows ≡ before ++ (p.row, s.ids) ∷ s.after → k ≡ length (numbers before) + p.place → StartsFull (lengths (before ++ (p.row, s.ids) ∷ s.after))
@@ -285,11 +285,11 @@ module _ {rows : List (Numbered (List ℕ))} {p : Position} (l : IsLast rows p) 
       omega arith
 
   -- for how many numbers it has place
-  pub last_room : row_end_room (lengths rows) ≡ 32 - (p.place + 1)
-  last_room = ap row_end_room (ap lengths l.is ∙ lengths_at l.before [] p.row l.ids) ∙ row_end_room-last (lengths l.before) (length l.ids) ∙ ap (λ n. 32 - n) l.len
+  pub last_room : row_end_room (lengths rows) ≡ 64 - (p.place + 1)
+  last_room = ap row_end_room (ap lengths l.is ∙ lengths_at l.before [] p.row l.ids) ∙ row_end_room-last (lengths l.before) (length l.ids) ∙ ap (λ n. 64 - n) l.len
 
   -- with a number at its end
-  pub last_put : (new : List (Numbered (List ℕ))) (n : ℕ) → IfSome (leaf_in rows p.row) (λ ids. new ≡ with_pair rows p.row (take (p.place + 1) ids ++ n ∷ drop (p.place + 1) ids)) → row_end_room (lengths new) ≡ 32 - (p.place + 2)
+  pub last_put : (new : List (Numbered (List ℕ))) (n : ℕ) → IfSome (leaf_in rows p.row) (λ ids. new ≡ with_pair rows p.row (take (p.place + 1) ids ++ n ∷ drop (p.place + 1) ids)) → row_end_room (lengths new) ≡ 64 - (p.place + 2)
   last_put new n put =
       let more : List ℕ = take (p.place + 1) l.ids ++ n ∷ drop (p.place + 1) l.ids in
       let e : new ≡ with_pair rows p.row more = rw last_row at put in
@@ -299,10 +299,10 @@ module _ {rows : List (Numbered (List ℕ))} {p : Position} (l : IsLast rows p) 
       let t = length-take-le (p.place + 1) l.ids (omega arith) in
       let q = length-drop (p.place + 1) l.ids in
       let m : length more ≡ p.place + 2 = omega arith in
-      ap row_end_room (ap lengths is ∙ lengths_at l.before [] p.row more) ∙ row_end_room-last (lengths l.before) (length more) ∙ ap (λ n. 32 - n) m
+      ap row_end_room (ap lengths is ∙ lengths_at l.before [] p.row more) ∙ row_end_room-last (lengths l.before) (length more) ∙ ap (λ n. 64 - n) m
 
   -- with a row of one number after it
-  pub last_begun : (new : List (Numbered (List ℕ))) (r n : ℕ) → new ≡ with_pair_after (Some p.row) (r, n ∷ []) rows → row_end_room (lengths new) ≡ 31
+  pub last_begun : (new : List (Numbered (List ℕ))) (r n : ℕ) → new ≡ with_pair_after (Some p.row) (r, n ∷ []) rows → row_end_room (lengths new) ≡ 63
   last_begun new r n e =
       let is : new ≡ l.before ++ (p.row, l.ids) ∷ (r, n ∷ []) ∷ [] = e ∙ ap (with_pair_after (Some p.row) (r, n ∷ [])) l.is ∙ with_pair_after-split p.row l.ids [] (r, n ∷ []) l.before last_lacks in
       ap row_end_room (ap lengths is ∙ lengths_two l.before [] p.row r l.ids (n ∷ [])) ∙ row_end_room-last (lengths l.before ++ length l.ids ∷ []) 1

@@ -25,7 +25,7 @@ use std::mem;
 const MOST_ROWS: usize = 1 << 56;
 
 /// So many leaves each spare row surely takes, once the others are full: a row begins with one leaf, and only beside a full one does another begin.
-const SURE: usize = 15;
+const SURE: usize = 31;
 
 /// A key and its value.
 #[derive(Drop)]
@@ -57,7 +57,7 @@ impl<K: Clone, V: Clone> Clone for Leaf<K, V> {
 
 /// The leaves of a tree in byte order. A contract sees the pairs in order, each under its number, the rows of the numbers, and how many more rows find a place.
 ///
-/// The numbers of a row are those of 32 cells that follow one another, in which the leaves of the row lie: so a leaf's number tells its row, and leaves that are neighbours lie together.
+/// The numbers of a row are those of 64 cells that follow one another, in which the leaves of the row lie: so a leaf's number tells its row, and leaves that are neighbours lie together.
 #[derive(Drop)]
 pub struct Leaves<K, V> {
     pub(crate) records: Table<Leaf<K, V>>,
@@ -567,7 +567,7 @@ impl<K: Drop, V: Drop> Leaves<K, V> {
         self.add_rows(rows)
     }
 
-    /// Makes places for so many leaves more after all others, with a spare row for each 32. It fails where memory is refused, and then changes nothing that a contract sees but, it may be, the number of places.
+    /// Makes places for so many leaves more after all others, with a spare row for each 64. It fails where memory is refused, and then changes nothing that a contract sees but, it may be, the number of places.
     pub fn reserve_end(&mut self, n: usize) -> Result<(), AllocError>
         ensures pairs { self.new.pairs ≡ self.old.pairs }
         ensures rows { self.new.rows ≡ self.old.rows }

@@ -8,7 +8,7 @@ use art_slots::LeafId;
 use std::marker::Model;
 
 /// How many numbers a row has room for.
-pub(crate) const ROW: usize = 32;
+pub(crate) const ROW: usize = 64;
 
 /// A row, and a place in it.
 #[derive(Clone, Copy)]
@@ -26,15 +26,11 @@ impl Position {
     }
 }
 
-/// The cells of a block in ascending order, and in descending.
-const UP: [u8; 32] = [
+/// The cells of a block in order.
+const CELLS: [u8; 64] = [
     0, 1, 2, 3, 4, 5, 6, 7, 8, 9, 10, 11, 12, 13, 14, 15, 16, 17, 18, 19, 20, 21, 22, 23, 24, 25,
-    26, 27, 28, 29, 30, 31,
-];
-
-const DOWN: [u8; 32] = [
-    31, 30, 29, 28, 27, 26, 25, 24, 23, 22, 21, 20, 19, 18, 17, 16, 15, 14, 13, 12, 11, 10, 9, 8,
-    7, 6, 5, 4, 3, 2, 1, 0,
+    26, 27, 28, 29, 30, 31, 32, 33, 34, 35, 36, 37, 38, 39, 40, 41, 42, 43, 44, 45, 46, 47, 48, 49,
+    50, 51, 52, 53, 54, 55, 56, 57, 58, 59, 60, 61, 62, 63,
 ];
 
 /// The numbers of a block, each as its distance from the first: those in use in order, and then the others. A contract sees the list of those in use.
@@ -42,7 +38,7 @@ const DOWN: [u8; 32] = [
 pub(crate) struct Row {
     block: usize,
     count: usize,
-    cells: [u8; 32],
+    cells: [u8; 64],
 }
 
 impl Model for Row {
@@ -68,7 +64,10 @@ impl Row {
         ensures row { result.0 ≡ result.1 ∷ [] }
         ensures own { row_of result.1 ≡ block }
     {
-        let cells = if down { DOWN } else { UP };
+        let mut cells = CELLS;
+        if down {
+            cells.reverse();
+        }
         let number = LeafId::new(ROW * block + cells[0] as usize);
         let row = Row {
             block,

@@ -18,5 +18,5 @@ pub returns-clause-within : goal.returns-clause-within
 returns-clause-within g c =
     let p = c.args.seen in
     let ids = c.in_ok-row.row.now in
-    if_some c.after.result (λ n. (nth ids p.place ≡ Some c.args.id) × (nth ids (p.place + 1) ≡ Some n)) (λ _. p.place < 32)
-    (λ n h. let w : p.place < length ids = nth-within ids p.place c.args.id h.0 in let l : length ids ≤ 32 = c.len-len.ensures.fits in omega arith) (rw c.run.ensures at c.after.ensures)
+    if_some c.after.result (λ n. (nth ids p.place ≡ Some c.args.id) × (nth ids (p.place + 1) ≡ Some n)) (λ _. p.place < 64)
+    (λ n h. let w : p.place < length ids = nth-within ids p.place c.args.id h.0 in let l : length ids ≤ 64 = c.len-len.ensures.fits in omega arith) (rw c.run.ensures at c.after.ensures)

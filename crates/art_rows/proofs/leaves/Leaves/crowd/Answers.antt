@@ -17,7 +17,7 @@ pub returns-then-len-lt-ROW-clause-none : goal.returns-then-len-lt-ROW-clause-no
 returns-then-len-lt-ROW-clause-none g c =
     let f = seen_rows c.self.inside c.self.view_is c.self.invariant in
     let at : leaf_in c.args.self.now.rows c.position_near-position.result.row ≡ Some c.read-row.result.now = rw (← ap (λ t. t.rows) c.self.view_is) c.read-row.ensures in
-    let h : (length c.read-row.result.now < 32) ⊎ (c.position_near-position.result.place ≡ 31) = elim c.then-len-lt-ROW.branch [
+    let h : (length c.read-row.result.now < 64) ⊎ (c.position_near-position.result.place ≡ 63) = elim c.then-len-lt-ROW.branch [
       | then-len-lt-ROW-via-then-len-lt-ROW w ↦ inl (let a = w.if-len-lt-ROW.true in let b = c.len.ensures.len in omega arith)
       | then-len-lt-ROW-via-else-len-lt-ROW+then-position w ↦ inr (let a = w.if-position.true in omega arith)
     ] in
@@ -27,12 +27,12 @@ pub returns-clause-some : goal.returns-clause-some
 returns-clause-some g c =
     let f = seen_rows c.self.inside c.self.view_is c.self.invariant in
     let at : leaf_in c.args.self.now.rows c.position_near-position.result.row ≡ Some c.read-row.result.now = rw (← ap (λ t. t.rows) c.self.view_is) c.read-row.ensures in
-    let full : length c.read-row.result.now ≡ 32 = (let a = c.if-len-lt-ROW.false in let b = c.len.ensures.len in let d = c.len.ensures.fits in omega arith) in
+    let full : length c.read-row.result.now ≡ 64 = (let a = c.if-len-lt-ROW.false in let b = c.len.ensures.len in let d = c.len.ensures.fits in omega arith) in
     rw c.in-Some.is (crowded f c.in-Some.id (rw c.in-Some.is at c.requires) c.position_near-position.result c.position_near-position.ensures c.read-row.result.now at full c.if-position.false c.at.result (rw c.run.ensures at c.at.ensures))
 
 pub returns-clause-has : goal.returns-clause-has
 returns-clause-has g c =
     let f = seen_rows c.self.inside c.self.view_is c.self.invariant in
     let at : leaf_in c.args.self.now.rows c.position_near-position.result.row ≡ Some c.read-row.result.now = rw (← ap (λ t. t.rows) c.self.view_is) c.read-row.ensures in
-    let q : Position = record { row = c.position_near-position.result.row; place = 31 } in
+    let q : Position = record { row = c.position_near-position.result.row; place = 63 } in
     has_there f q c.read-row.result.now at c.at.result (rw c.run.ensures at c.at.ensures)

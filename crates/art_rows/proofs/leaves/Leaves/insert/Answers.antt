@@ -13,8 +13,8 @@ use Rattle.art_rows.proofs.Crowds.{is_full, in_front, at_end}
 use Rattle.art_rows.proofs.leaves.Leaves.insert.Goals as goal
 
 -- a full row
-full_row : {rows : List (Numbered (List ℕ))} {k : ℕ} {p : Position} (s : IsSpot rows p k) → AreDistinct rows → (n : ℕ) → IfSome (leaf_in rows p.row) (λ ids. n ≡ length ids) → n ≤ 32 → 32 ≤ n → length s.ids ≡ 32
-full_row {rows} {k} {p} s d n len most least = spot_ids s d (λ ids. length ids ≡ 32) (is_full (leaf_in rows p.row) n len most least)
+full_row : {rows : List (Numbered (List ℕ))} {k : ℕ} {p : Position} (s : IsSpot rows p k) → AreDistinct rows → (n : ℕ) → IfSome (leaf_in rows p.row) (λ ids. n ≡ length ids) → n ≤ 64 → 64 ≤ n → length s.ids ≡ 64
+full_row {rows} {k} {p} s d n len most least = spot_ids s d (λ ids. length ids ≡ 64) (is_full (leaf_in rows p.row) n len most least)
 
 -- the first place is in front
 not_first : (rows : List (Numbered (List ℕ))) (prev : Option ℕ) (p : Position) → IfNone prev (Some p ≡ position_at rows 0) → p.place ≢ 0 → IfNone prev ⊥

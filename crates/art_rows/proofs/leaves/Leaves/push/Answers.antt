@@ -17,7 +17,7 @@ begin-requires-clause-spare_rows g c =
     let l = c.args.self.now in
     let none = nothing_there (seen_rows c.self.inside c.self.view_is c.self.invariant) (sym c.last_position.ensures ∙ c.in_default.is) in
     let e : row_end_room (lengths l.rows) ≡ 0 = ap (λ rs. row_end_room (lengths rs)) none.1 in
-    let h : 0 < 32 * l.spare_rows + row_end_room (lengths l.rows) = c.requires.room in
+    let h : 0 < 64 * l.spare_rows + row_end_room (lengths l.rows) = c.requires.room in
     omega arith
 
 pub returns-in_default-clause-placed : goal.returns-in_default-clause-placed
@@ -31,7 +31,7 @@ returns-in_default-clause-room g c =
     let n = c.begin.new.self in
     let none = nothing_there (seen_rows c.self.inside c.self.view_is c.self.invariant) (sym c.last_position.ensures ∙ c.in_default.is) in
     let e : row_end_room (lengths l.rows) ≡ 0 = ap (λ rs. row_end_room (lengths rs)) none.1 in
-    let i : row_end_room (lengths n.rows) ≡ 31 = rw (c.begin.ensures.rows.0, none.1) refl in
+    let i : row_end_room (lengths n.rows) ≡ 63 = rw (c.begin.ensures.rows.0, none.1) refl in
     let s = c.begin.ensures.spare_rows in
     omega arith
 
@@ -65,8 +65,8 @@ returns-then-position-clause-room g c =
     let f = seen_rows c.self.inside c.self.view_is c.self.invariant in
     let p = c.in-Some.position in
     let s = at_last f p (sym c.last_position.ensures ∙ c.in-Some.is) in
-    let was : row_end_room (lengths l.rows) ≡ 32 - (p.place + 1) = last_room s f.apart in
-    let is : row_end_room (lengths n.rows) ≡ 32 - (p.place + 2) = last_put s f.apart n.rows c.put.result c.put.ensures.rows in
+    let was : row_end_room (lengths l.rows) ≡ 64 - (p.place + 1) = last_room s f.apart in
+    let is : row_end_room (lengths n.rows) ≡ 64 - (p.place + 2) = last_put s f.apart n.rows c.put.result c.put.ensures.rows in
     let e = c.put.ensures.spare_rows in
     let w = c.if-position.true in
     omega arith
@@ -78,9 +78,9 @@ begin-requires-2-clause-spare_rows g c =
     let l = c.args.self.now in
     let f = seen_rows c.self.inside c.self.view_is c.self.invariant in
     let p = c.in-Some.position in
-    let was : row_end_room (lengths l.rows) ≡ 32 - (p.place + 1) = last_room (at_last f p (sym c.last_position.ensures ∙ c.in-Some.is)) f.apart in
+    let was : row_end_room (lengths l.rows) ≡ 64 - (p.place + 1) = last_room (at_last f p (sym c.last_position.ensures ∙ c.in-Some.is)) f.apart in
     let w = c.if-position.false in
-    let h : 0 < 32 * l.spare_rows + row_end_room (lengths l.rows) = c.requires.room in
+    let h : 0 < 64 * l.spare_rows + row_end_room (lengths l.rows) = c.requires.room in
     omega arith
 
 pub begin-requires-2-clause-prev : goal.begin-requires-2-clause-prev
@@ -108,8 +108,8 @@ returns-clause-room g c =
     let f = seen_rows c.self.inside c.self.view_is c.self.invariant in
     let p = c.in-Some.position in
     let s = at_last f p (sym c.last_position.ensures ∙ c.in-Some.is) in
-    let was : row_end_room (lengths l.rows) ≡ 32 - (p.place + 1) = last_room s f.apart in
-    let is : row_end_room (lengths n.rows) ≡ 31 = last_begun s f.apart n.rows _ c.begin-2.result c.begin-2.ensures.rows.0 in
+    let was : row_end_room (lengths l.rows) ≡ 64 - (p.place + 1) = last_room s f.apart in
+    let is : row_end_room (lengths n.rows) ≡ 63 = last_begun s f.apart n.rows _ c.begin-2.result c.begin-2.ensures.rows.0 in
     let e = c.begin-2.ensures.spare_rows in
     let w = c.if-position.false in
     omega arith
