@@ -1,10 +1,10 @@
 -- The edges of one node put into another, one by one.
-use Rattle.std.proofs.Common.{◌≡◌, ◌≢◌, ℕ, zero, suc, ◌<◌, ◌≤◌, List, [], ◌∷◌, length, get_or, take, replicate, Option, Some, None, IsSome, is_some, count_by, cond, eqb, false, refl, arith, sym, ap, ◌∙◌, inl, inr, eq-eqb, true}
+use Rattle.std.proofs.Common.{◌≡◌, ◌≢◌, ℕ, zero, suc, ◌+◌, ◌<◌, ◌≤◌, List, [], ◌∷◌, length, get_or, take, replicate, Option, Some, None, IsSome, is_some, count_by, cond, eqb, false, refl, arith, sym, ap, subst, ◌∙◌, inl, inr, eq-eqb, true}
 use Rattle.std.proofs.lemmas.Bool.{ne_eqb, cases_eq}
 use Rattle.std.proofs.lemmas.Bool.Decides.{eqb_tells, leb_tells}
 use Rattle.std.proofs.lemmas.List.{length-replicate}
 use Rattle.std.proofs.lemmas.List.Sums.{sum_by-cons}
-use Rattle.art_kinds.specs.Edges.{child_at, AscendsAbove, Ascends, AddsChild, IsIndex, table}
+use Rattle.art_kinds.specs.Edges.{child_at, AscendsAbove, Ascends, AddsChild, IsIndex, Filled, table, edges_from, edges_of}
 use Rattle.art_kinds.specs.declared.records.ids.Child.{Child}
 use Rattle.art_kinds.specs.declared.records.ids.Edge.{Edge}
 use Rattle.art_kinds.proofs.EdgeShifts.{same_edges, AscendsAbove-Ascends, AscendsAbove-absent}
@@ -126,3 +126,19 @@ fewer_before b (x ∷ xs) (y ∷ es) a d h n s =
     let none : (c : ℕ) → b ≤ c → child_at xs c ≡ None = λ c l. (let g : eqb x.byte c ≡ false = ne_eqb x.byte c (λ z. omega (arith, z, lt, l)) in let hc : cond (eqb x.byte c) (Some x.to) (child_at xs c) ≡ None = n c l in rw g at hc) in
     let ih : length xs < length es = fewer_before b xs es (AscendsAbove-Ascends x.byte xs a) (AscendsAbove-Ascends y.byte es d) same none t in
     omega arith
+
+-- a table with no child
+pub empty_table : (x : Option Child) → x ≡ None → Filled 0 (replicate 256 x)
+empty_table x e = subst (λ (y : Option Child). Filled 0 (replicate 256 y)) (sym e) (record { wide = length-replicate {A = Option Child} 256 None; counted = none_in 256 })
+  where
+    none_in : (n : ℕ) → count_by is_some (replicate {A = Option Child} n None) ≡ 0
+    none_in zero = refl
+    none_in (suc n) = let ih : count_by is_some (replicate {A = Option Child} n None) ≡ 0 = none_in n in omega (arith, ih, sum_by-cons one None (replicate {A = Option Child} n None))
+
+-- and its edges
+pub no_edges : (x : Option Child) → x ≡ None → edges_of (replicate 256 x) ≡ []
+no_edges x e = subst (λ (y : Option Child). edges_of (replicate 256 y) ≡ []) (sym e) (none_from 256 0)
+  where
+    none_from : (n k : ℕ) → edges_from (replicate {A = Option Child} n None) k ≡ []
+    none_from zero k = refl
+    none_from (suc n) k = none_from n (k + 1)

@@ -98,6 +98,28 @@ impl<const N: usize> Few<N> {
         )
     }
 
+    /// The edges of a node with another number of places.
+    pub(crate) fn of_few<const M: usize>(few: &Few<M>) -> Self
+        requires { length few.now ≤ N }
+        ensures { result ≡ few.now }
+    {
+        // Whoever counts the edges learns how many places are used.
+        let count = few.count();
+        let mut bytes = [0; N];
+        let mut children = [Link::none(); N];
+        copy_in(
+            &mut bytes,
+            &mut children,
+            &few.bytes[..count],
+            &few.children[..count],
+        );
+        Few {
+            count,
+            bytes,
+            children,
+        }
+    }
+
     /// Adds an edge, at a byte that has none.
     pub(crate) fn insert(&mut self, byte: u8, to: Child)
         requires room { length self.old < N }
@@ -257,30 +279,6 @@ impl Few<4> {
     }
 }
 
-impl Few<4> {
-    /// The edges of a larger node that has four.
-    pub(crate) fn of_sixteen(sixteen: &Few<16>) -> Self
-        requires { length sixteen.now ≡ 4 }
-        ensures { result ≡ sixteen.now }
-    {
-        // Whoever counts the edges learns how many places are used.
-        let _count = sixteen.count();
-        let mut bytes = [0; 4];
-        let mut children = [Link::none(); 4];
-        copy_in(
-            &mut bytes,
-            &mut children,
-            &sixteen.bytes[..sixteen.count],
-            &sixteen.children[..sixteen.count],
-        );
-        Few {
-            count: sixteen.count,
-            bytes,
-            children,
-        }
-    }
-}
-
 impl Few<16> {
     /// The edges of a larger node that has sixteen.
     pub(crate) fn of_indexed(indexed: &Indexed) -> Self
@@ -300,25 +298,6 @@ impl Few<16> {
             }
         }
         edges
-    }
-
-    /// The edges of a smaller node.
-    pub(crate) fn of_four(four: &Few<4>) -> Self
-        ensures { result ≡ four.now }
-    {
-        let mut bytes = [0; 16];
-        let mut children = [Link::none(); 16];
-        copy_in(
-            &mut bytes,
-            &mut children,
-            &four.bytes[..four.count],
-            &four.children[..four.count],
-        );
-        Few {
-            count: four.count,
-            bytes,
-            children,
-        }
     }
 }
 

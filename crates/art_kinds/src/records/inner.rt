@@ -84,15 +84,17 @@ impl<C: Children, const P: usize> Clone for Inner<C, P> {
     }
 }
 
-/// The same nodes in another store.
-pub(super) fn copy<C: Children, const P: usize>(
-    store: &Store<Inner<C, P>>,
-) -> Result<Store<Inner<C, P>>, AllocError>
-    requires kind { IsOneKind P C.places store.now }
-    ensures same { IfOk result (λ copy. SameRecords store.now copy) }
-    ensures kind { IfOk result (IsOneKind P C.places) }
+/// The same nodes of two kinds in other stores.
+pub(super) fn copy_both<C: Children, D: Children, const P: usize>(
+    first: &Store<Inner<C, P>>,
+    second: &Store<Inner<D, P>>,
+) -> Result<(Store<Inner<C, P>>, Store<Inner<D, P>>), AllocError>
+    requires first { IsOneKind P C.places first.now }
+    requires second { IsOneKind P D.places second.now }
+    ensures same { IfOk result (λ copies. SameRecords first.now copies.0 × SameRecords second.now copies.1) }
+    ensures kinds { IfOk result (λ copies. IsOneKind P C.places copies.0 × IsOneKind P D.places copies.1) }
 {
-    store.clone()
+    Ok((first.clone()?, second.clone()?))
 }
 
 /// How many children the node at a place has.

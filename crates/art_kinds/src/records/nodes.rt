@@ -212,11 +212,13 @@ impl<const P: usize> Nodes<P> {
         if P >= PREFIX_BOUND {
             return Err(AllocError);
         }
+        let (fours, sixteens) = inner::copy_both(&self.fours, &self.sixteens)?;
+        let (forty_eights, fulls) = inner::copy_both(&self.forty_eights, &self.fulls)?;
         Ok(Nodes {
-            fours: inner::copy(&self.fours)?,
-            sixteens: inner::copy(&self.sixteens)?,
-            forty_eights: inner::copy(&self.forty_eights)?,
-            fulls: inner::copy(&self.fulls)?,
+            fours,
+            sixteens,
+            forty_eights,
+            fulls,
         })
     }
 
@@ -392,7 +394,7 @@ impl<const P: usize> Nodes<P> {
         ensures spares { Lowers 1 self.old self.new }
     {
         let four = self.fours.take(place);
-        let edges = Few::of_four(&four.edges);
+        let edges = Few::of_few(&four.edges);
         let at = self.sixteens.fill(four.with_edges(edges));
         NodeId {
             kind: Kind::Sixteen,
@@ -477,17 +479,23 @@ impl<const P: usize> Nodes<P> {
         }
     }
 
-    // Moves a node of the kind of 16 with four children to the kind below.
+    // Moves a node of the kind of 16 with four children to the kind below, where there is memory.
     #[cold]
     #[inline(never)]
     fn shrink_sixteen(&mut self, place: usize) -> NodeId
         requires few { IsSomeAnd (slot_at self.old.sixteens place) (λ x. length x.edges ≡ 4) }
-        requires spare { 0 < self.old.fours.spare }
+        requires small { place < 2 ^ 61 }
         ensures moved { Renames (at self.old) (at self.new) (4 * place + 1) result }
         ensures live { live self.new ≡ live self.old }
     {
+        if inner::reserve(&mut self.fours, 1).is_err() {
+            return NodeId {
+                kind: Kind::Sixteen,
+                place,
+            };
+        }
         let large = self.sixteens.take(place);
-        let edges = Few::of_sixteen(&large.edges);
+        let edges = Few::of_few(&large.edges);
         let at = self.fours.fill(large.with_edges(edges));
         NodeId {
             kind: Kind::Four,
@@ -495,15 +503,21 @@ impl<const P: usize> Nodes<P> {
         }
     }
 
-    // Moves a node of the kind of 48 with sixteen children to the kind below.
+    // Moves a node of the kind of 48 with sixteen children to the kind below, where there is memory.
     #[cold]
     #[inline(never)]
     fn shrink_forty_eight(&mut self, place: usize) -> NodeId
         requires few { IsSomeAnd (slot_at self.old.forty_eights place) (λ x. length x.edges ≡ 16) }
-        requires spare { 0 < self.old.sixteens.spare }
+        requires small { place < 2 ^ 61 }
         ensures moved { Renames (at self.old) (at self.new) (4 * place + 2) result }
         ensures live { live self.new ≡ live self.old }
     {
+        if inner::reserve(&mut self.sixteens, 1).is_err() {
+            return NodeId {
+                kind: Kind::FortyEight,
+                place,
+            };
+        }
         let large = self.forty_eights.take(place);
         let edges = Few::of_indexed(&large.edges);
         let at = self.sixteens.fill(large.with_edges(edges));
@@ -513,15 +527,21 @@ impl<const P: usize> Nodes<P> {
         }
     }
 
-    // Moves a node of the kind of 256 with 48 children to the kind below.
+    // Moves a node of the kind of 256 with 48 children to the kind below, where there is memory.
     #[cold]
     #[inline(never)]
     fn shrink_full(&mut self, place: usize) -> NodeId
         requires few { IsSomeAnd (slot_at self.old.fulls place) (λ x. length x.edges ≡ 48) }
-        requires spare { 0 < self.old.forty_eights.spare }
+        requires small { place < 2 ^ 61 }
         ensures moved { Renames (at self.old) (at self.new) (4 * place + 3) result }
         ensures live { live self.new ≡ live self.old }
     {
+        if inner::reserve(&mut self.forty_eights, 1).is_err() {
+            return NodeId {
+                kind: Kind::Full,
+                place,
+            };
+        }
         let wide = self.fulls.take(place);
         let edges = Indexed::of_full(&wide.edges);
         let at = self.forty_eights.fill(wide.with_edges(edges));
@@ -529,42 +549,6 @@ impl<const P: usize> Nodes<P> {
             kind: Kind::FortyEight,
             place: at,
         }
-    }
-
-    // Sees to a spare record for a node of 4. The nodes stand where there is no memory.
-    fn spare_four(&mut self) -> Result<(), AllocError>
-        ensures same { SameNodes self.old self.new }
-        ensures live { live self.new ≡ live self.old }
-        ensures fits { OnOk result (0 < self.new.fours.spare) }
-    {
-        if P >= PREFIX_BOUND {
-            return Err(AllocError);
-        }
-        inner::reserve(&mut self.fours, 1)
-    }
-
-    // Sees to a spare record for a node of 16. The nodes stand where there is no memory.
-    fn spare_sixteen(&mut self) -> Result<(), AllocError>
-        ensures same { SameNodes self.old self.new }
-        ensures live { live self.new ≡ live self.old }
-        ensures fits { OnOk result (0 < self.new.sixteens.spare) }
-    {
-        if P >= PREFIX_BOUND {
-            return Err(AllocError);
-        }
-        inner::reserve(&mut self.sixteens, 1)
-    }
-
-    // Sees to a spare record for a node of 48. The nodes stand where there is no memory.
-    fn spare_forty_eight(&mut self) -> Result<(), AllocError>
-        ensures same { SameNodes self.old self.new }
-        ensures live { live self.new ≡ live self.old }
-        ensures fits { OnOk result (0 < self.new.forty_eights.spare) }
-    {
-        if P >= PREFIX_BOUND {
-            return Err(AllocError);
-        }
-        inner::reserve(&mut self.forty_eights, 1)
     }
 
     /// Moves a node to the smaller kind where its children fill that: where 4, 16 or 48 are left in the next larger kind. It tries once, and the node stays where memory is refused. Answers the number that the node has then.
@@ -576,23 +560,21 @@ impl<const P: usize> Nodes<P> {
         match id.kind {
             Kind::Four => id,
             Kind::Sixteen => {
-                if inner::count(&self.sixteens, id.place) == 4 && self.spare_four().is_ok() {
+                if inner::count(&self.sixteens, id.place) == 4 {
                     self.shrink_sixteen(id.place)
                 } else {
                     id
                 }
             }
             Kind::FortyEight => {
-                if inner::count(&self.forty_eights, id.place) == 16
-                    && self.spare_sixteen().is_ok()
-                {
+                if inner::count(&self.forty_eights, id.place) == 16 {
                     self.shrink_forty_eight(id.place)
                 } else {
                     id
                 }
             }
             Kind::Full => {
-                if inner::count(&self.fulls, id.place) == 48 && self.spare_forty_eight().is_ok() {
+                if inner::count(&self.fulls, id.place) == 48 {
                     self.shrink_full(id.place)
                 } else {
                     id
@@ -623,8 +605,7 @@ impl<const P: usize> Nodes<P> {
         inner::reserve(
             &mut self.fulls,
             outgrown(count, self.forty_eights.used(), 33),
-        )?;
-        Ok(())
+        )
     }
 
     /// Gives a node another prefix, of which it keeps the first P bytes.

@@ -86,7 +86,7 @@ fn full(rt: &impl Abort, edges: &Full) -> Table {
             found = found.saturating_add(1);
         }
     }
-    assert_eq!(rt; found, *count);
+    assert!(rt; found == *count);
     held
 }
 
@@ -98,11 +98,11 @@ fn assert_record<C: Children>(rt: &impl Abort, record: &Inner<C, 2>, held: &Tabl
         prefix,
         edges: _,
     } = record;
-    assert_eq!(rt; *depth, 9);
-    assert_eq!(rt; *used, 2);
+    assert!(rt; *depth == 9);
+    assert!(rt; *used == 2);
     assert!(rt; *prefix == [5, 6]);
     for byte in 0..256 {
-        assert_eq!(rt; held[byte], table[byte]);
+        assert!(rt; held[byte] == table[byte]);
     }
 }
 
@@ -112,22 +112,22 @@ fn assert_node(rt: &impl Abort, nodes: &Nodes<2>, id: NodeId, count: usize, tabl
     match id.kind {
         Kind::Four => {
             let record = nodes.fours.get(id.place).expect(rt, "a node");
-            assert_eq!(rt; record.edges.count, count);
+            assert!(rt; record.edges.count == count);
             assert_record(rt, record, &few(rt, &record.edges), table);
         }
         Kind::Sixteen => {
             let record = nodes.sixteens.get(id.place).expect(rt, "a node");
-            assert_eq!(rt; record.edges.count, count);
+            assert!(rt; record.edges.count == count);
             assert_record(rt, record, &few(rt, &record.edges), table);
         }
         Kind::FortyEight => {
             let record = nodes.forty_eights.get(id.place).expect(rt, "a node");
-            assert_eq!(rt; record.edges.count, count);
+            assert!(rt; record.edges.count == count);
             assert_record(rt, record, &indexed(rt, &record.edges), table);
         }
         Kind::Full => {
             let record = nodes.fulls.get(id.place).expect(rt, "a node");
-            assert_eq!(rt; record.edges.count, count);
+            assert!(rt; record.edges.count == count);
             assert_record(rt, record, &full(rt, &record.edges), table);
         }
     }
@@ -148,10 +148,10 @@ fn assert_alone(rt: &impl Abort, nodes: &Nodes<2>, id: NodeId, count: usize) {
         fulls,
     } = nodes;
     assert!(rt; id.kind == kind);
-    assert_eq!(rt; fours.used(), usize::from(kind == Kind::Four));
-    assert_eq!(rt; sixteens.used(), usize::from(kind == Kind::Sixteen));
-    assert_eq!(rt; forty_eights.used(), usize::from(kind == Kind::FortyEight));
-    assert_eq!(rt; fulls.used(), usize::from(kind == Kind::Full));
+    assert!(rt; fours.used() == usize::from(kind == Kind::Four));
+    assert!(rt; sixteens.used() == usize::from(kind == Kind::Sixteen));
+    assert!(rt; forty_eights.used() == usize::from(kind == Kind::FortyEight));
+    assert!(rt; fulls.used() == usize::from(kind == Kind::Full));
 }
 
 // A node with the children of the first two steps.
@@ -231,7 +231,7 @@ fn turn(rt: &impl Abort, nodes: &mut Nodes<2>) {
     let id = empty(rt, nodes, id, &mut table);
     assert!(rt; nodes.has(id));
     nodes.free(id);
-    assert_eq!(rt; nodes.live(), 0);
+    assert!(rt; nodes.live() == 0);
 }
 
 #[test]

@@ -11,7 +11,7 @@ returns g c =
     let t = c.take-four.ensures in
     let u = c.fill-at.ensures in
     let off : 0 ≢ 1 = λ z. omega (arith, z) in
-    let same = same_node c.with_edges.ensures c.of_four-edges.ensures c.four.view_is in
+    let same = same_node c.with_edges.ensures c.of_few-edges.ensures c.four.view_is in
     let left : Loses i.fours c.take-four.new.self c.args.place = record { gone = t.gone; others = t.others; spare = t.spare; used = t.used } in
     let came : Gains i.sixteens c.fill-at.new.self c.fill-at.result c.with_edges.result =
     record { fresh = u.fresh; is = u.now; others = u.others; spare = u.spare; used = u.used } in
