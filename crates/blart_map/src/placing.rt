@@ -128,10 +128,10 @@ impl<K: AsBytes + Drop, V: Drop, const PREFIX_LEN: usize> TreeMap<K, V, PREFIX_L
         ensures placed { IfOk result (λ id. IsPlaced K.bytes self.old key value id self.new) }
         ensures err { OnErr result (self.new ≡ self.old) }
     {
-        let point = room_for(&mut self.tree, &key)?;
-        let id = self.tree.place(point, key, value);
-        self.tree.law();
-        Ok(id)
+        match room_for(&mut self.tree, &key) {
+            Ok(point) => Ok(place_ready(&mut self.tree, point, key, value)),
+            Err(refused) => Err(refused),
+        }
     }
 
     // The same with the closure's answer, which is called once there is room.
@@ -150,9 +150,7 @@ impl<K: AsBytes + Drop, V: Drop, const PREFIX_LEN: usize> TreeMap<K, V, PREFIX_L
         match room_for(&mut self.tree, &key) {
             Ok(point) => {
                 let value = default();
-                let id = self.tree.place(point, key, value);
-                self.tree.law();
-                Ok(id)
+                Ok(place_ready(&mut self.tree, point, key, value))
             }
             Err(refused) => Err(refused),
         }
@@ -174,9 +172,7 @@ impl<K: AsBytes + Drop, V: Drop, const PREFIX_LEN: usize> TreeMap<K, V, PREFIX_L
         match room_for(&mut self.tree, &key) {
             Ok(point) => {
                 let value = default(&key);
-                let id = self.tree.place(point, key, value);
-                self.tree.law();
-                Ok(id)
+                Ok(place_ready(&mut self.tree, point, key, value))
             }
             Err(refused) => Err(refused),
         }
@@ -203,6 +199,22 @@ fn room_for<K: AsBytes + Drop, V: Drop, const P: usize>(
         }
         Point::Exact(_) | Point::Related { .. } => unreachable!(),
     }
+}
+
+// Places a pair at a point that is ready for its key.
+fn place_ready<K: AsBytes + Drop, V: Drop, const P: usize>(
+    tree: &mut Tree<K, V, P>,
+    point: Point,
+    key: K,
+    value: V,
+) -> LeafId
+    requires ready { IsReady K.bytes tree.old point (K.bytes key) }
+    ensures placed { IsPlaced K.bytes tree.old.pairs key value result tree.new.pairs }
+{
+    tree.law();
+    let id = tree.place(point, key, value);
+    tree.law();
+    id
 }
 
 // Where the key stands, or would go: it never conflicts.
