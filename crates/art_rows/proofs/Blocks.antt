@@ -71,9 +71,9 @@ times-up-outside : (first n c : ℕ) → (c < first) ⊎ (first + n ≤ c) → t
 unfolding up
 times-up-outside first zero c h = refl
 times-up-outside first (suc n) c h =
-    let e : eqb first c ≡ false = eqb_other first c (elim h [ | inl l ↦ λ s. omega arith | inr l ↦ λ s. omega arith ]) in
+    let e : eqb first c ≡ false = eqb_other first c (elim h [ inl l ↦ λ s. omega arith | inr l ↦ λ s. omega arith ]) in
     let a : times (up first (suc n)) c ≡ times (up (suc first) n) c = times-other first (up (suc first) n) c e in
-    a ∙ times-up-outside (suc first) n c (elim h [ | inl l ↦ inl (omega arith) | inr l ↦ inr (omega arith) ])
+    a ∙ times-up-outside (suc first) n c (elim h [ inl l ↦ inl (omega arith) | inr l ↦ inr (omega arith) ])
 
 times-up : (first n c : ℕ) → times (up first n) c ≤ 1
 unfolding up
