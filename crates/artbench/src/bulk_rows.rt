@@ -16,14 +16,21 @@ pub(crate) fn time_bulk<M: Parter, J: Joiner, R: Clock + AllocGlobal>(
     workload: &Workload<M::Key>,
     sheet: &mut Sheet,
 ) -> Result<(), Failure> {
-    time_from_vec::<J, M::Key, R>(rt, &workload.keys, sheet)?;
-    time_in_order::<J, M::Key, R>(rt, &workload.sorted, sheet)?;
-    let (low, high) = workload.sorted.split_at(workload.sorted.len() / 2);
-    time_append::<J, M::Key, R>(rt, "append after", low, high, sheet)?;
-    let (one, two) = workload.keys.split_at(workload.keys.len() / 2);
-    time_append::<J, M::Key, R>(rt, "append among", one, two, sheet)?;
+    time_joins::<J, M::Key, R>(rt, workload, sheet)?;
     time_copies::<M, R>(rt, workload, sheet)?;
     time_part::<M, R>(rt, workload, sheet)
+}
+
+// Times maps that are made of many pairs, filled in order, and joined.
+fn time_joins<J: Joiner, K: Key, R: Clock + AllocGlobal>(
+    rt: &R,
+    workload: &Workload<K>,
+    sheet: &mut Sheet,
+) -> Result<(), Failure> {
+    time_from_vec::<J, K, R>(rt, &workload.keys, sheet)?;
+    time_in_order::<J, K, R>(rt, &workload.sorted, sheet)?;
+    time_append::<J, K, R>(rt, "append after", &workload.sorted, sheet)?;
+    time_append::<J, K, R>(rt, "append among", &workload.keys, sheet)
 }
 
 // Times a map that is made of all pairs at once, in random order, and a walk over it.
@@ -35,23 +42,17 @@ fn time_from_vec<J: Joiner, K: Key, R: Clock + AllocGlobal>(
     let items: Vec<(J::Key, u64)> = placed(rt.alloc(), keys)?;
     sheet.start(rt);
     let map = J::of(rt.alloc(), items)?;
-    let walked = time_walk(rt, &map, keys.len(), sheet);
+    time_walk(rt, &map, keys.len(), sheet);
     drop(map);
-    walked
+    Ok(())
 }
 
 // Ends the time of a map that was just made, and times a walk over it.
-fn time_walk<J: Joiner>(
-    rt: &impl Clock,
-    map: &J,
-    count: usize,
-    sheet: &mut Sheet,
-) -> Result<(), Failure> {
-    let nanos = sheet.nanos(rt)?;
-    sheet.note("from_vec", nanos, count, 0)?;
+fn time_walk<J: Joiner>(rt: &impl Clock, map: &J, count: usize, sheet: &mut Sheet) {
+    sheet.stop(rt, "from_vec", count, 0);
     sheet.start(rt);
     let sum = map.sum();
-    sheet.stop(rt, "iter, from_vec", count, sum)
+    sheet.stop(rt, "iter, from_vec", count, sum);
 }
 
 // Times a map that is filled one by one, in order.
@@ -77,54 +78,48 @@ fn time_put<J: Joiner>(
     let count = items.len();
     sheet.start(rt);
     map.put(items)?;
-    let nanos = sheet.nanos(rt)?;
-    sheet.note("insert in order", nanos, count, map.sum())
+    sheet.end(rt);
+    sheet.note("insert in order", count, map.sum());
+    Ok(())
 }
 
-// Times an `append` of a map of some keys to one of others.
+// Times an `append` of a map of the second half of some keys to one of the first.
 fn time_append<J: Joiner, K: Key, R: Clock + AllocGlobal>(
     rt: &R,
     call: &'static str,
-    to: &[K],
-    from: &[K],
+    keys: &[K],
     sheet: &mut Sheet,
 ) -> Result<(), Failure> {
     let mut map = J::empty(rt.alloc());
     let mut other = J::empty(rt.alloc());
-    let joined = match put_both(rt.alloc(), &mut map, to, &mut other, from) {
-        Ok(()) => time_join(rt, call, &mut map, &mut other, from.len(), sheet),
-        Err(failure) => Err(failure),
-    };
+    let joined = time_join(rt, call, &mut map, &mut other, keys, sheet);
     drop(map);
     drop(other);
     joined
 }
 
-// Puts some keys into an empty map, and others into another.
-fn put_both<J: Joiner, K: AsBytes>(
-    alloc: Global,
-    map: &mut J,
-    to: &[K],
-    other: &mut J,
-    from: &[K],
-) -> Result<(), Failure> {
-    map.put(placed(alloc, to)?)?;
-    other.put(placed(alloc, from)?)
-}
-
-// Times an `append` by which so many pairs move.
-fn time_join<J: Joiner>(
-    rt: &impl Clock,
+// Times an `append` to an empty map, which gets the first half of the keys before, and the other map the second.
+fn time_join<J: Joiner, K: AsBytes>(
+    rt: &(impl Clock + AllocGlobal),
     call: &'static str,
     map: &mut J,
     other: &mut J,
-    count: usize,
+    keys: &[K],
     sheet: &mut Sheet,
 ) -> Result<(), Failure> {
+    let (to, from) = keys.split_at(keys.len() / 2);
+    put(rt.alloc(), map, to)?;
+    put(rt.alloc(), other, from)?;
     sheet.start(rt);
     map.join(other)?;
-    let nanos = sheet.nanos(rt)?;
-    sheet.note(call, nanos, count, map.sum())
+    sheet.end(rt);
+    sheet.note(call, from.len(), map.sum());
+    Ok(())
+}
+
+// Puts some keys into an empty map.
+fn put<J: Joiner, K: AsBytes>(alloc: Global, map: &mut J, keys: &[K]) -> Result<(), Failure> {
+    map.put(placed(alloc, keys)?)
 }
 
 // Times a copy, and whether it is the same.
@@ -148,24 +143,18 @@ fn time_copy<M: Parter>(
 ) -> Result<(), Failure> {
     sheet.start(rt);
     let copy = map.copy()?;
-    let compared = time_eq(rt, map, &copy, count, sheet);
+    time_eq(rt, map, &copy, count, sheet);
     drop(copy);
-    compared
+    Ok(())
 }
 
 // Ends the time of a copy that was just made, and times whether it is the same.
-fn time_eq<M: Parter>(
-    rt: &impl Clock,
-    map: &M,
-    copy: &M,
-    count: usize,
-    sheet: &mut Sheet,
-) -> Result<(), Failure> {
-    let nanos = sheet.nanos(rt)?;
-    sheet.note("clone", nanos, count, copy.iterate())?;
+fn time_eq<M: Parter>(rt: &impl Clock, map: &M, copy: &M, count: usize, sheet: &mut Sheet) {
+    sheet.end(rt);
+    sheet.note("clone", count, copy.iterate());
     sheet.start(rt);
     let sum = u64::from(map.is_same(copy));
-    sheet.stop(rt, "eq", count, sum)
+    sheet.stop(rt, "eq", count, sum);
 }
 
 // Times a map parted in half.
@@ -194,8 +183,9 @@ fn time_part_at<M: Parter>(
 ) -> Result<(), Failure> {
     sheet.start(rt);
     let rest = map.part(from)?;
-    let nanos = sheet.nanos(rt);
+    sheet.end(rt);
     let sum = map.iterate().wrapping_mul(3).wrapping_add(rest.iterate());
     drop(rest);
-    sheet.note("split_off half", nanos?, count, sum)
+    sheet.note("split_off half", count, sum);
+    Ok(())
 }

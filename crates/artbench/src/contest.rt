@@ -37,7 +37,7 @@ pub(crate) fn contest<K: Key, F: Made + NoPrefixesBytes, R: Clock + AllocGlobal>
             rt, workload, wishes, sheet,
         )?;
     }
-    Ok(())
+    sheet.ended()
 }
 
 // One run of the calls that are asked for.
@@ -124,15 +124,27 @@ fn time_store<M: Contestant>(
     let count = keys.len();
     sheet.start(rt);
     let sum = map.store(keys)?;
-    sheet.stop(rt, "insert", count, sum)?;
-    time_look_ups(rt, map, workload, sheet)?;
-    time_walks(rt, map, workload, sheet)?;
+    sheet.stop(rt, "insert", count, sum);
+    time_look_ups(rt, map, workload, sheet);
+    time_walks(rt, map, workload, sheet);
+    time_changes(rt, map, workload, sheet);
+    Ok(())
+}
+
+// Times calls that change all values, and that take each pair.
+fn time_changes<M: Contestant>(
+    rt: &impl Clock,
+    map: &mut M,
+    workload: &Workload<M::Key>,
+    sheet: &mut Sheet,
+) {
+    let count = workload.keys.len();
     sheet.start(rt);
     let sum = map.raise();
-    sheet.stop(rt, "iter_mut", count, sum)?;
+    sheet.stop(rt, "iter_mut", count, sum);
     sheet.start(rt);
     let sum = map.remove(&workload.hits);
-    sheet.stop(rt, "remove", count, sum)
+    sheet.stop(rt, "remove", count, sum);
 }
 
 // Times insertions into room that is made at once.
@@ -158,7 +170,8 @@ fn time_store_reserved<M: Contestant>(
     let count = keys.len();
     sheet.start(rt);
     let sum = map.store_reserved(keys)?;
-    sheet.stop(rt, "insert, reserved", count, sum)
+    sheet.stop(rt, "insert, reserved", count, sum);
+    Ok(())
 }
 
 // Times look-ups.
@@ -167,13 +180,13 @@ fn time_look_ups<M: Contestant>(
     map: &M,
     workload: &Workload<M::Key>,
     sheet: &mut Sheet,
-) -> Result<(), Failure> {
+) {
     sheet.start(rt);
     let sum = map.look_up(&workload.hits);
-    sheet.stop(rt, "hit", workload.hits.len(), sum)?;
+    sheet.stop(rt, "hit", workload.hits.len(), sum);
     sheet.start(rt);
     let sum = map.look_up(&workload.misses);
-    sheet.stop(rt, "miss", workload.misses.len(), sum)
+    sheet.stop(rt, "miss", workload.misses.len(), sum);
 }
 
 // Times walks that lend.
@@ -182,19 +195,19 @@ fn time_walks<M: Contestant>(
     map: &M,
     workload: &Workload<M::Key>,
     sheet: &mut Sheet,
-) -> Result<(), Failure> {
+) {
     sheet.start(rt);
     let sum = map.iterate();
-    sheet.stop(rt, "iter", workload.keys.len(), sum)?;
+    sheet.stop(rt, "iter", workload.keys.len(), sum);
     sheet.start(rt);
     let sum = map.read_keys();
-    sheet.stop(rt, "iter, keys", workload.keys.len(), sum)?;
+    sheet.stop(rt, "iter, keys", workload.keys.len(), sum);
     sheet.start(rt);
     let sum = map.range(&workload.hits);
-    sheet.stop(rt, "range of 100", workload.hits.len().min(10_000), sum)?;
+    sheet.stop(rt, "range of 100", workload.hits.len().min(10_000), sum);
     sheet.start(rt);
     let sum = map.prefix(&workload.fronts);
-    sheet.stop(rt, "prefix", workload.fronts.len(), sum)
+    sheet.stop(rt, "prefix", workload.fronts.len(), sum);
 }
 
 // Times calls that go over all pairs and change or take them.
@@ -207,11 +220,11 @@ fn time_rest<M: Contestant, R: Clock + AllocGlobal>(
     let mut map: M = filled(rt, workload)?;
     sheet.start(rt);
     let sum = map.retain();
-    let kept = sheet.stop(rt, "retain", count, sum);
+    sheet.stop(rt, "retain", count, sum);
     drop(map);
-    kept?;
     let map: M = filled(rt, workload)?;
     sheet.start(rt);
     let sum = map.take_apart();
-    sheet.stop(rt, "into_iter", count, sum)
+    sheet.stop(rt, "into_iter", count, sum);
+    Ok(())
 }

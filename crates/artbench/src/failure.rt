@@ -4,7 +4,7 @@ use std::io;
 use thiserror::Error;
 
 /// Why a run has no results.
-#[derive(Debug, Drop, Error)]
+#[derive(Debug, Clone, Copy, Error)]
 pub(crate) enum Failure {
     #[error("usage: artbench KEYS random|urls|dense|short|random8|random16|dense8|all [pairs|bulk|sets|mounts|all|keys]")]
     Usage,

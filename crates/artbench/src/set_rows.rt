@@ -30,7 +30,8 @@ fn time_both<S: SetContestant>(
 ) -> Result<(), Failure> {
     let left = one.store(workload.every(3)?)?;
     let right = other.store(workload.every(2)?)?;
-    time_merges(rt, one, other, left.saturating_add(right), sheet)
+    time_merges(rt, one, other, left.saturating_add(right), sheet);
+    Ok(())
 }
 
 // Times the four merges of two sets that have so many elements.
@@ -40,18 +41,18 @@ fn time_merges<S: SetContestant>(
     other: &S,
     count: u64,
     sheet: &mut Sheet,
-) -> Result<(), Failure> {
+) {
     let count = count as usize;
     sheet.start(rt);
     let sum = one.union_sum(other);
-    sheet.stop(rt, "union", count, sum)?;
+    sheet.stop(rt, "union", count, sum);
     sheet.start(rt);
     let sum = one.intersection_sum(other);
-    sheet.stop(rt, "intersection", count, sum)?;
+    sheet.stop(rt, "intersection", count, sum);
     sheet.start(rt);
     let sum = one.difference_sum(other);
-    sheet.stop(rt, "difference", count, sum)?;
+    sheet.stop(rt, "difference", count, sum);
     sheet.start(rt);
     let sum = one.symmetric_difference_sum(other);
-    sheet.stop(rt, "symmetric_difference", count, sum)
+    sheet.stop(rt, "symmetric_difference", count, sum);
 }

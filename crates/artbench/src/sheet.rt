@@ -19,6 +19,17 @@ pub(crate) struct Row {
     pub(crate) theirs: u64,
 }
 
+impl Row {
+    // Keeps the least time of a map.
+    fn keep_least(&mut self, is_ours: bool, nanos: u64) {
+        if is_ours {
+            self.ours = self.ours.min(nanos);
+        } else {
+            self.theirs = self.theirs.min(nanos);
+        }
+    }
+}
+
 /// The rows, which each run goes over from the first on.
 #[derive(Drop)]
 pub(crate) struct Sheet {
@@ -26,6 +37,8 @@ pub(crate) struct Sheet {
     next: usize,
     is_ours: bool,
     started: Option<Instant>,
+    nanos: u64,
+    failure: Option<Failure>,
 }
 
 impl Sheet {
@@ -36,6 +49,8 @@ impl Sheet {
             next: 0,
             is_ours: true,
             started: None,
+            nanos: 0,
+            failure: None,
         }
     }
 
@@ -50,8 +65,16 @@ impl Sheet {
         self.started = Instant::now(rt).ok();
     }
 
-    /// How many nanoseconds have gone by since the call began.
-    pub(crate) fn nanos(&self, rt: &impl Clock) -> Result<u64, Failure> {
+    /// Notes that the call has ended.
+    pub(crate) fn end(&mut self, rt: &impl Clock) {
+        match self.elapsed(rt) {
+            Ok(nanos) => self.nanos = nanos,
+            Err(failure) => self.fail(failure),
+        }
+    }
+
+    // How many nanoseconds have gone by since the call began.
+    fn elapsed(&self, rt: &impl Clock) -> Result<u64, Failure> {
         let Some(start) = self.started else {
             return Err(Failure::Io);
         };
@@ -64,46 +87,48 @@ impl Sheet {
         )
     }
 
-    /// Notes a call that has just ended.
-    pub(crate) fn stop(
-        &mut self,
-        rt: &impl Clock,
-        call: &'static str,
-        count: usize,
-        sum: u64,
-    ) -> Result<(), Failure> {
-        let nanos = self.nanos(rt)?;
-        self.note(call, nanos, count, sum)
+    /// Notes a call that has just ended, and what it gave.
+    pub(crate) fn stop(&mut self, rt: &impl Clock, call: &'static str, count: usize, sum: u64) {
+        self.end(rt);
+        self.note(call, count, sum);
     }
 
-    /// Notes how long a call took, unless it was less before. Its sum must be that of the runs before.
-    pub(crate) fn note(
-        &mut self,
-        call: &'static str,
-        nanos: u64,
-        count: usize,
-        sum: u64,
-    ) -> Result<(), Failure> {
+    /// Notes what the call gave that ended last, and how long it took, unless it was less before. Its sum must be that of the runs before.
+    pub(crate) fn note(&mut self, call: &'static str, count: usize, sum: u64) {
         if self.next == self.rows.len() {
-            self.rows.push(Row {
-                call,
-                count,
-                sum,
-                ours: u64::MAX,
-                theirs: u64::MAX,
-            })?;
+            self.add_row(call, count, sum);
         }
         match self.rows.get_mut(self.next) {
-            Some(row) if row.sum == sum => {
-                if self.is_ours {
-                    row.ours = row.ours.min(nanos);
-                } else {
-                    row.theirs = row.theirs.min(nanos);
-                }
-            }
-            _ => return Err(Failure::Differs),
+            Some(row) if row.sum == sum => row.keep_least(self.is_ours, self.nanos),
+            _ => self.fail(Failure::Differs),
         }
         self.next = self.next.wrapping_add(1);
-        Ok(())
+    }
+
+    // Adds a row without times.
+    fn add_row(&mut self, call: &'static str, count: usize, sum: u64) {
+        let row = Row {
+            call,
+            count,
+            sum,
+            ours: u64::MAX,
+            theirs: u64::MAX,
+        };
+        if self.rows.push(row).is_err() {
+            self.fail(Failure::Memory);
+        }
+    }
+
+    // Notes why the run has no results, if it had any so far.
+    fn fail(&mut self, failure: Failure) {
+        self.failure = self.failure.or(Some(failure));
+    }
+
+    /// Why the run has no results, if so.
+    pub(crate) fn ended(&self) -> Result<(), Failure> {
+        match self.failure {
+            None => Ok(()),
+            Some(failure) => Err(failure),
+        }
     }
 }
