@@ -3,6 +3,7 @@ use Rattle.std.proofs.Common.{◌≡◌, ◌⊎◌, ℕ, zero, suc, ◌+◌, ◌
 use Rattle.std.proofs.lemmas.Bool.Decides.{leb_tells, eqb_tells}
 use Rattle.std.proofs.lemmas.List.{take-append-drop, length-map, length-take-le, map-append, take-map, drop-map}
 use Rattle.std.proofs.lemmas.List.Sums.{sum_by-append, sum_by-cons}
+use Rattle.std.specs.List.{range_with_len}
 use Rattle.art_rows.specs.Rows.{among, nth}
 use Rattle.art_rows.specs.Blocks.{times, row_of, numbers_at, AreWithin, ArePlaces}
 use Rattle.art_rows.specs.declared.row.TheConstants.{ROW}
@@ -61,40 +62,33 @@ next_fresh ns k d p l = among-times (take k ns) (get_or ns k d) (go ns k l (p.on
       | inr t ↦ (let a = times-other m ns (get_or ns k d) t.0 in times-other m (take k ns) (get_or ns k d) t.0 ∙ go ns k (omega arith) (omega arith))
     ]
 
--- so many numbers from one on, each one more than the one before
-unfoldable pub up : ℕ → ℕ → List ℕ
-up first zero = []
-up first (suc n) = first ∷ up (suc first) n
-
 -- none is less than the first, or as great as the one after the last
-times-up-outside : (first n c : ℕ) → (c < first) ⊎ (first + n ≤ c) → times (up first n) c ≡ 0
-unfolding up
-times-up-outside first zero c h = refl
-times-up-outside first (suc n) c h =
+times-range-outside : (first n c : ℕ) → (c < first) ⊎ (first + n ≤ c) → times (range_with_len first n) c ≡ 0
+times-range-outside first zero c h = refl
+times-range-outside first (suc n) c h =
     let e : eqb first c ≡ false = eqb_other first c (elim h [ inl l ↦ λ s. omega arith | inr l ↦ λ s. omega arith ]) in
-    let a : times (up first (suc n)) c ≡ times (up (suc first) n) c = times-other first (up (suc first) n) c e in
-    a ∙ times-up-outside (suc first) n c (elim h [ inl l ↦ inl (omega arith) | inr l ↦ inr (omega arith) ])
+    let a : times (range_with_len first (suc n)) c ≡ times (range_with_len (first + 1) n) c = times-other first (range_with_len (first + 1) n) c e in
+    a ∙ times-range-outside (first + 1) n c (elim h [ inl l ↦ inl (omega arith) | inr l ↦ inr (omega arith) ])
 
-times-up : (first n c : ℕ) → times (up first n) c ≤ 1
-unfolding up
-times-up first zero c = (let z : times (up first 0) c ≡ 0 = refl in omega arith)
-times-up first (suc n) c = elim (eqb_tells first c) [
+times-range : (first n c : ℕ) → times (range_with_len first n) c ≤ 1
+times-range first zero c = (let z : times (range_with_len first 0) c ≡ 0 = refl in omega arith)
+times-range first (suc n) c = elim (eqb_tells first c) [
   | inl t ↦ (
-      let a : times (up first (suc n)) c ≡ times (up (suc first) n) c + 1 = times-same first (up (suc first) n) c t.0 in
-      let b = times-up-outside (suc first) n c (inl (omega (arith, t.1))) in
+      let a : times (range_with_len first (suc n)) c ≡ times (range_with_len (first + 1) n) c + 1 = times-same first (range_with_len (first + 1) n) c t.0 in
+      let b = times-range-outside (first + 1) n c (inl (omega (arith, t.1))) in
       omega arith)
   | inr t ↦ (
-      let a : times (up first (suc n)) c ≡ times (up (suc first) n) c = times-other first (up (suc first) n) c t.0 in
-      let b = times-up (suc first) n c in
+      let a : times (range_with_len first (suc n)) c ≡ times (range_with_len (first + 1) n) c = times-other first (range_with_len (first + 1) n) c t.0 in
+      let b = times-range (first + 1) n c in
       omega arith)
 ]
 
 -- the cells of a block in order
-pub cells-apart : ArePlaces (up 0 ROW)
+pub cells-apart : ArePlaces (range_with_len 0 ROW)
 cells-apart = record {
-  once = λ c. times-up 0 ROW c;
+  once = λ c. times-range 0 ROW c;
   within = λ c h. elim (leb_tells ROW c) [
-    | inl l ↦ absurd (let z = times-up-outside 0 ROW c (inr (omega (arith, l.1))) in omega arith)
+    | inl l ↦ absurd (let z = times-range-outside 0 ROW c (inr (omega (arith, l.1))) in omega arith)
     | inr l ↦ l.1
   ];
 }

@@ -13,4 +13,5 @@ pub mod RowChanges
 pub mod FilingLemmas
 pub mod RowsLemmas
 pub mod Runs
+pub mod Searches
 pub mod Ends

@@ -5,7 +5,9 @@ ghost use Rattle.art_rows.specs.Rows.{place_in, nth};
 ghost use Rattle.art_rows.specs.Blocks.{numbers_at, AreWithin};
 ghost use Rattle.art_rows.specs.declared.row.TheConstants.{ROW};
 
+use crate::row::ROW;
 use art_slots::LeafId;
+use memchr::memchr;
 use std::marker::Model;
 
 /// Numbers of a block that stand side by side, each as its distance from the first of the block. A contract sees the list of the numbers.
@@ -141,11 +143,13 @@ impl<'a> Run<'a> {
     pub(crate) fn place_of(&self, number: LeafId) -> usize
         ensures { result ≡ place_in self.now number }
     {
-        for (place, cell) in self.cells.iter().enumerate() {
-            if self.first + *cell as usize == number.number() {
-                return place;
-            }
+        let number = number.number();
+        if number < self.first || number - self.first >= ROW {
+            return self.cells.len();
         }
-        self.cells.len()
+        match memchr((number - self.first) as u8, self.cells) {
+            Some(place) => place,
+            None => self.cells.len(),
+        }
     }
 }

@@ -1,0 +1,22 @@
+-- Where a search for a number ends.
+use Rattle.std.proofs.Common.{◌≡◌, ◌≢◌, ℕ, zero, suc, ◌+◌, ◌<◌, List, [], ◌∷◌, length, get_or, refl, ap, eq-eqb, inl, inr, arith}
+use Rattle.std.proofs.lemmas.Bool.Decides.{eqb_tells}
+use Rattle.art_rows.specs.Rows.{place_in}
+use Rattle.art_rows.specs.Blocks.{numbers_at}
+
+-- what stands nowhere has its place after all
+pub found_nowhere : (first : ℕ) (cells : List ℕ) (n : ℕ) → ((k : ℕ) → k < length cells → first + get_or cells k 0 ≢ n) → place_in (numbers_at first cells) n ≡ length cells
+found_nowhere first [] n h = refl
+found_nowhere first (c ∷ cells) n h = elim (eqb_tells (first + c) n) [
+  | inl t ↦ absurd (h 0 (omega arith) t.1)
+  | inr t ↦ rw t.0 (ap suc (found_nowhere first cells n (λ k l. h (suc k) (omega arith))))
+]
+
+-- and else the first place where it stands
+pub found_first : (first : ℕ) (cells : List ℕ) (n k : ℕ) → k < length cells → first + get_or cells k 0 ≡ n → ((j : ℕ) → j < k → first + get_or cells j 0 ≢ n) → place_in (numbers_at first cells) n ≡ k
+found_first first [] n k l e h = absurd (omega arith)
+found_first first (c ∷ cells) n zero l e h = rw (eq-eqb (first + c) n e) refl
+found_first first (c ∷ cells) n (suc k) l e h = elim (eqb_tells (first + c) n) [
+  | inl t ↦ absurd (h 0 (omega arith) t.1)
+  | inr t ↦ rw t.0 (ap suc (found_first first cells n k (omega arith) e (λ j l. h (suc j) (omega arith))))
+]
