@@ -4,14 +4,13 @@ use Rattle.std.proofs.lemmas.Bool.{false≢true}
 use Rattle.std.specs.Option.{IsSomeAnd}
 use Rattle.std.specs.Result.{OnOk, OnErr, IsErr}
 use Rattle.art_kinds.specs.OneKinds.{AllFit, Loses, Gains, Grows}
-use Rattle.art_kinds.specs.Nodes.{Node, Nodes, store_of, at, live, room, grown, floor, places, takes, serves, HasPlace, FitsMore, Lowers, SameNodes, Renames}
-use Rattle.art_kinds.specs.Numbers.{number, digit, digit-lt}
+use Rattle.art_kinds.specs.Nodes.{Node, Nodes, store_of, at, live, room, grown, floor, places, takes, serves, HasPlace, Lowers, SameNodes, Renames}
+use Rattle.art_kinds.specs.Numbers.{digit, digit-lt}
 use Rattle.art_kinds.specs.declared.records.ids.Edge.{Edge}
 use Rattle.art_kinds.specs.declared.records.ids.Kind.{Kind}
 use Rattle.art_kinds.specs.declared.records.ids.Kind.TheVariants.{Four}
-use Rattle.art_kinds.specs.declared.records.ids.NodeId.TheInside.{Inside}
 use Rattle.art_slots.specs.Store.{Store, slot_at, used_count, SameRecords}
-use Rattle.art_kinds.proofs.Changes.{put, put-on, put-off, put-live, holds_of, some_such, digit_of, found_in, found_at}
+use Rattle.art_kinds.proofs.Changes.{put, put-on, put-off, put-live, holds_of, some_such}
 use Rattle.art_kinds.proofs.Growing.{at_is, moves, grows, makes-room, has_place, kept_nodes, kept_spares, enough}
 use Rattle.art_kinds.proofs.Rooms.{grown-most, room-more}
 
@@ -137,11 +136,6 @@ enough_for d dl a m n l r e fit few many up =
     let g : grown (floor d) a ≤ p * l = subst (λ z. grown (floor d) a ≤ p * z) (sym e) most in
     enough d dl n l (grown (floor d) a) m g (λ h. (let q = few h in omega arith)) (λ h. (let q = many h in omega arith))
 
--- what follows from a fact of each success
-pub on_ok : {A E P Q : Type 0} (r : Result A E) → OnOk r P → (P → Q) → OnOk r Q
-on_ok (Ok a) h f = f h
-on_ok (Err e) h f = tt
-
 -- an error has no success
 pub not_ok : {A E : Type 0} (P : Type 0) (r : Result A E) → IsErr r → OnOk r P
 not_ok P (Ok a) h = absurd (false≢true h)
@@ -181,25 +175,6 @@ renames_from {was} {mid} {is} {n} {m} same h = record {
   others = λ j p q. h.others j p q ∙ same j;
 }
 
--- no figure falls
-pub falls_nowhere : (v : Nodes) (k : ℕ) → Lowers k v v
-falls_nowhere v k = record { this = omega arith; others = λ j l off. omega arith }
-
--- a node with fewer children than its kind has places for has a place
-pub place_at : {s v : Nodes} → s ≡ v → (w : Inside) {n : ℕ} → number w ≡ n → {K : Kind} → w.kind ≡ K → {c : ℕ}
-    → IsSomeAnd (slot_at (store_of s (digit K)) w.place) (λ x. length x.edges ≡ c) → c < places (digit K) → HasPlace v n
-place_at {s} f w e {K} k {c} h few x is small =
-    let l : length x.edges ≡ c = holds_of (λ x. length x.edges ≡ c) (slot_at (store_of s (digit K)) w.place) x (sym (found_at f w e k) ∙ is) h in
-    subst (λ d. length x.edges < places d) (sym (digit_of w e k)) (omega (arith, l, few))
-
--- what moved from a place of a kind moved from the number
-pub by_number : {was is : ℕ → Option Node} (w : Inside) {n : ℕ} → number w ≡ n → {K : Kind} → w.kind ≡ K → {i m : ℕ} → i ≡ 4 * w.place + digit K
-    → Renames was is i m → Renames was is n m
-by_number {was} {is} w {n} e {K} k {i} {m} q h =
-    let p : 4 * w.place + digit w.kind ≡ n = e in
-    let d : digit w.kind ≡ digit K = ap digit k in
-    subst (λ j. Renames was is j m) (omega (arith, p, d, q)) h
-
 -- a node at a place of a kind, as the kind's store has it
 pub seen_in : {s v : Nodes} → s ≡ v → (K : Kind) (i : ℕ) (R : Node → Type 0) → IsSomeAnd (slot_at (store_of v (digit K)) i) R
     → IsSomeAnd (slot_at (store_of s (digit K)) i) R
@@ -210,22 +185,3 @@ pub numbered : (v : Nodes) (K : Kind) (i : ℕ) (R : Node → Type 0) → IsSome
 numbered v K i R h =
     let l = digit-lt K in
     subst IsSome (sym (at_is v (4 * i + digit K) (digit K) i (omega arith) (omega arith))) (some_such R (slot_at (store_of v (digit K)) i) h)
-
--- so many children, as a contract sees the nodes
-pub counted_in : {s v : Nodes} → s ≡ v → (K : Kind) (i : ℕ) {c d : ℕ} → c ≡ d → IsSomeAnd (slot_at (store_of s (digit K)) i) (λ x. length x.edges ≡ c)
-    → IsSomeAnd (slot_at (store_of v (digit K)) i) (λ x. length x.edges ≡ d)
-counted_in {s} f K i {c} {d} e h =
-    subst (λ (t : Nodes). IsSomeAnd (slot_at (store_of t (digit K)) i) (λ x. length x.edges ≡ d)) f
-    (subst (λ n. IsSomeAnd (slot_at (store_of s (digit K)) i) (λ x. length x.edges ≡ n)) e h)
-
--- a full node has a spare record of the next kind
-pub spare_for : (v : Nodes) (w : Inside) {n : ℕ} → number w ≡ n → {K : Kind} → w.kind ≡ K → digit K < 3 → FitsMore v n
-    → IsSomeAnd (slot_at (store_of v (digit K)) w.place) (λ x. length x.edges ≡ places (digit K)) → 0 < (store_of v (digit K + 1)).spare
-spare_for v w {n} e {K} k l fits h = of_node (slot_at (store_of v (digit K)) w.place) refl h
-  where
-    of_node : (o : Option Node) → slot_at (store_of v (digit K)) w.place ≡ o → IsSomeAnd o (λ x. length x.edges ≡ places (digit K)) → 0 < (store_of v (digit K + 1)).spare
-    of_node None found z = absurd z
-    of_node (Some x) found z =
-        let m : n % 4 ≡ digit K = digit_of w e k in
-        let q : places (n % 4) ≤ length x.edges = subst (λ d. places d ≤ length x.edges) (sym m) (omega (arith, z)) in
-        subst (λ d. 0 < (store_of v (d + 1)).spare) m (fits x (found_in w e k v ∙ found) (omega (arith, m, l)) q)

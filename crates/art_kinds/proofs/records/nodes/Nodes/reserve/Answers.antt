@@ -1,6 +1,7 @@
 use Rattle.std.proofs.Common.{rules, arith}
+use Rattle.std.proofs.lemmas.Result.{on_ok_weaker}
 use Rattle.art_kinds.proofs.Rooms.{figures-room}
-use Rattle.art_kinds.proofs.Moving.{stood, stood_nodes, stood-room, enough_for, on_ok, not_ok, on_err}
+use Rattle.art_kinds.proofs.Moving.{stood, stood_nodes, stood-room, enough_for, not_ok, on_err}
 use Rattle.art_kinds.specs.Nodes.{Nodes}
 use Rattle.art_kinds.proofs.records.nodes.Nodes.reserve.Goals as goal
 
@@ -65,12 +66,12 @@ returns-clause-fits g c =
     c.used-2.ensures.count c.reserve-2.ensures.kind.all
     c.outgrown-2.ensures.few c.outgrown-2.ensures.many c.in_ok-reserve-3.ensures.enough in
     let t : Nodes = record { fours = a; sixteens = b; forty_eights = d; fulls = e } in
-    on_ok c.reserve-4.result c.reserve-4.ensures.enough (λ enough.
+    on_ok_weaker c.reserve-4.result (λ enough.
     (let f3 =
     enough_for 2 (omega arith) d e.spare n c.used-3.result c.outgrown-3.result
     c.used-3.ensures.count c.reserve-3.ensures.kind.all
     c.outgrown-3.ensures.few c.outgrown-3.ensures.many enough in
-    figures-room t n c.in_ok-reserve.ensures.enough f1 f2 f3))
+    figures-room t n c.in_ok-reserve.ensures.enough f1 f2 f3)) c.reserve-4.ensures.enough
 
 pub returns-clause-refused : goal.returns-clause-refused
 returns-clause-refused g c = on_err c.reserve-4.result (omega (arith, c.if-count-eq0.false))
