@@ -29,18 +29,22 @@ pub use Rattle.blart_keys.specs.Walks.{TakesFirst, TakesLast, Walked}
 pub use Rattle.blart_keys.specs.Walks.{Asked, picked, Retains, AsksPair}
 -- what a walk that lends has left, and what the map will be
 pub use Rattle.blart_map.specs.LendingWalk.{lending_left}
-pub use Rattle.blart_map.specs.CountedWalk.{counted_left}
+pub use Rattle.blart_map.specs.CountedWalk.{counted_left, LendsAll}
 pub use Rattle.blart_map.specs.TakeWalk.{take_left, LentFirst, LentLast, NoneLent}
+-- a cursor, which holds no map: what it has left, what it passes, and what it keeps where a pair goes
+pub use Rattle.blart_map.specs.Passed.{leaf_in, Has, Lacks, without_number, leaves_left, FitsIn, PassesFirst, PassesLast, WasFirst, WasLast, StaysLeft}
+-- how many visits it takes at most to open a walk
+pub use Rattle.blart_map.specs.Openings.{longest, longer, opening}
 -- what a walk that takes leaves
 pub use Rattle.blart_map.specs.OnceTaken.{taken_all, once_taken, still_to_take, once_extracted, still_to_extract}
 pub use Rattle.blart_map.specs.ExtractIf.{extract_left, CanExtract, CanExtractBack, Extraction, ExtractsFirstTrue, ExtractsNext, ExtractsNextBack}
 pub use Rattle.blart_map.specs.OnceWritten.{rewritten, all_rewritten, once_written, all_once_written}
 -- what a closure leaves that is called at each value
-pub use Rattle.blart_map.specs.EachWritten.{CalledAtEach, CallableInTurn, with_values, WritesEach, LeavesValue, TakesAtValue, LeavesPair, TakesAtPair, ActsOnValue, ActsOnPair, ActsWhere}
+pub use Rattle.blart_map.specs.EachWritten.{CalledAtEach, CallableInTurn, with_values, WritesEach, WritesLeft, LeavesValue, TakesAtValue, LeavesPair, TakesAtPair, ActsOnValue, ActsOnPair, ActsWhere}
 -- a set as a list of elements, closed in proofs, and merges of two
 unfoldable pub use Rattle.blart_set.specs.Elements.{elements}
-pub use Rattle.blart_set.specs.Elements.{RefusesElement}
-pub use Rattle.blart_set.specs.Merging.{Merge, IsBeginning, Counts, union_rest, symmetric_difference_rest, intersection_rest, difference_rest}
+pub use Rattle.blart_set.specs.Elements.{RefusesElement, UpdatesElement}
+pub use Rattle.blart_set.specs.Merging.{Merge, MergeProgresses, IsBeginning, Counts, union_rest, symmetric_difference_rest, intersection_rest, difference_rest}
 pub use Rattle.blart_keys.specs.Merges.{IsUnion, IsSymmetricDifference, intersection, difference}
 -- a closure asked of an element
 pub use Rattle.blart_set.specs.Asking.{AsksElement, CallableOnEachElement}

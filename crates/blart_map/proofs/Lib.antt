@@ -5,4 +5,5 @@ pub mod Passed
 pub mod Placed
 pub mod Related
 pub mod Taken
+pub mod Unrouted
 pub mod Written

@@ -10,6 +10,7 @@ pub mod Lent
 pub mod Modified
 pub mod OccupiedEntry
 pub mod OccupiedLends
+pub mod Openings
 pub mod Passed
 pub mod Places
 pub mod PrefixEntry

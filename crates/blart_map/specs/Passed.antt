@@ -1,8 +1,9 @@
 -- What a cursor over a map has passed, and what it keeps where a pair goes.
 use Rattle.std.specs.Prelude.{◌≡◌, ℕ, List, [], ◌∷◌, ◌++◌, Some}
-use Rattle.art_tree.specs.Leaves.{Numbered, leaf_in, Lacks}
+use Rattle.art_tree.specs.Leaves.{Numbered}
 use Rattle.art_walk.specs.declared.cursor.Cursor.{Cursor}
-use Rattle.art_walk.specs.Cursor.{leaves_left, FitsIn}
+pub use Rattle.art_tree.specs.Leaves.{leaf_in, Has, Lacks, without_number}
+pub use Rattle.art_walk.specs.Cursor.{leaves_left, FitsIn, PassesFirst, PassesLast}
 
 module _ {K V : Type 0} (S : List (Numbered K V)) where
   -- the pair of this number was the first that the cursor had left, and is left no more

@@ -45,6 +45,7 @@ pub fn drive<K: AsBytes + Drop, V: Drop, const PREFIX_LEN: usize>(
     calls: Vec<Call<K, V>>,
 ) -> Result<Vec<Reply<K, V>>, AllocError>
     ensures replies { Driven K.bytes (pairs map.old) calls.items result (pairs map.new) }
+    ensures err { OnErr result (map.new ≡ map.old) }
     ensures refused { OnErr result (calls.items ≢ []) }
 {
     let mut replies = Vec::with_capacity(*calls.allocator(), calls.len())?;

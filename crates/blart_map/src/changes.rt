@@ -1,10 +1,10 @@
 //! Removals.
-ghost use Rattle.std.specs.Prelude.{◌≡◌, ◌+◌, ℕ, List, [], length, option_map, is_some, IfSome, None, true, false, if◌then◌else◌};
+ghost use Rattle.std.specs.Prelude.{◌≡◌, ◌+◌, ◌&&◌, ℕ, List, [], length, option_map, is_some, IfSome, None, true, false, if◌then◌else◌};
 ghost use Rattle.blart_keys.specs.Bytes.{begins};
 ghost use Rattle.blart_keys.specs.Content.{at, under, without};
 ghost use Rattle.blart_keys.specs.Outside.{outside};
 ghost use Rattle.blart_keys.specs.Steps.{bytes};
-ghost use Rattle.blart_keys.specs.Stored.{pair_at, pair_at_front, value_at, Updates, TakesPair, HasNothing};
+ghost use Rattle.blart_keys.specs.Stored.{pair_at, pair_at_front, value_at, has, Updates, TakesPair, HasNothing};
 ghost use Rattle.blart_keys.specs.Walks.{TakesFirst, TakesLast};
 ghost use Rattle.blart_map.specs.Content.{pairs};
 
@@ -17,6 +17,9 @@ impl<K: AsBytes + Drop, V: Drop, const PREFIX_LEN: usize> TreeMap<K, V, PREFIX_L
         ensures stored { result ≡ pair_at K.bytes (pairs self.old) (Q.bytes query.now) }
         ensures updates { Updates K.bytes (pairs self.old) (pairs self.new)
             (Q.bytes query.now) None }
+        ensures routes { (r : List ℕ) → pair_at_front K.bytes (pairs self.new) r
+            ≡ (if begins (Q.bytes query.now) r && has K.bytes (pairs self.old) (Q.bytes query.now)
+            then None else pair_at_front K.bytes (pairs self.old) r) }
         ensures len { length (pairs self.new) + (if is_some result then 1 else 0)
             ≡ length (pairs self.old) }
         ensures found { IfSome result (λ pair. K.bytes pair.0 ≡ Q.bytes query.now) }
@@ -39,6 +42,9 @@ impl<K: AsBytes + Drop, V: Drop, const PREFIX_LEN: usize> TreeMap<K, V, PREFIX_L
         ensures stored { result ≡ value_at K.bytes (pairs self.old) (Q.bytes query.now) }
         ensures updates { Updates K.bytes (pairs self.old) (pairs self.new)
             (Q.bytes query.now) None }
+        ensures routes { (r : List ℕ) → pair_at_front K.bytes (pairs self.new) r
+            ≡ (if begins (Q.bytes query.now) r && has K.bytes (pairs self.old) (Q.bytes query.now)
+            then None else pair_at_front K.bytes (pairs self.old) r) }
         ensures len { length (pairs self.new) + (if is_some result then 1 else 0)
             ≡ length (pairs self.old) }
         ensures removed { result

@@ -20,13 +20,6 @@ use Rattle.blart_set.specs.Clones.{KeepsBytes, AreElementClones}
 abbrev pub now : {A : Type 0} → Bor A → A
 now x = x.now
 
--- one more on either side
-pub zip_more : {A B : Type 0} (R : A → B → Type 0) (xs : List A) (ys : List B) (x : A) (y : B) → AllZip R xs ys → R x y → AllZip R (xs ++ x ∷ []) (ys ++ y ∷ [])
-zip_more R [] [] x y h r = (r, tt)
-zip_more R [] (w ∷ ys) x y h r = absurd h
-zip_more R (z ∷ xs) [] x y h r = absurd h
-zip_more R (z ∷ xs) (w ∷ ys) x y h r = (h.0, zip_more R xs ys x y h.1 r)
-
 -- an iterator whose state shows what is left gives that
 pub all_drained : {S A : Type 0} (rest : S → List A) (s : S) (xs : List (Bor A)) → Drains (YieldsFirstRef rest) s xs → map (λ x. x.now) xs ≡ rest s
 all_drained rest s [] d = sym (ap rest d.1.1 ∙ d.1.2.0)

@@ -1,6 +1,8 @@
 -- Laws of merges, and of byte order, that a caller cites.
-use Rattle.std.proofs.Common.{◌≡◌, ℕ, suc, ◌<◌, ◌+◌, Bool, true, false, not, ◌||◌, cond, inl, inr, List, [], ◌∷◌, length, arith, refl, sym, ap, ◌∙◌, subst, filter, Contains, bytes_eq, Ordering, Less, All, IsTrue, ◌↔◌, ◌==◌}
+use Rattle.std.proofs.Common.{◌≡◌, ℕ, suc, ◌<◌, ◌+◌, Bool, true, false, not, ◌||◌, inl, inr, List, [], ◌∷◌, length, arith, refl, sym, ap, ◌∙◌, subst, filter, Contains, bytes_eq, Ordering, Less, All, IsTrue, ◌↔◌, ◌==◌}
 use Rattle.std.proofs.lemmas.Bool.{false≢true, cases_Bool, eqb-true, not-true, not_from_false}
+use Rattle.std.specs.Cmp.{both_ways}
+use Rattle.std.proofs.lemmas.List.Filters.{length-filter_both}
 use Rattle.std.proofs.lemmas.List.Elements.{All-nil, All-cons, All-head, All-tail}
 use Rattle.blart_keys.specs.Bytes.{less}
 use Rattle.blart_keys.specs.Content.{Ascends, stores}
@@ -14,18 +16,9 @@ use Rattle.blart_set.proofs.Orders.{less_cmp}
 -- which elements a union has, and that merges are one list
 pub use Rattle.blart_keys.proofs.MergeLemmas.{union_parts, union_unique, symmetric_unique}
 
--- a list is the items that pass and the others
-len_parts : {X : Type 0} (p : X → Bool) (S : List X) → length S ≡ length (filter p S) + length (filter (λ x. not (p x)) S)
-len_parts p [] = refl
-len_parts {X} p (x ∷ S) = go (len_parts p S) (p x)
-  where
-    go : length S ≡ length (filter p S) + length (filter (λ x. not (p x)) S) → (b : Bool) → suc (length S) ≡ length (cond b (x ∷ filter p S) (filter p S)) + length (cond (not b) (x ∷ filter (λ x. not (p x)) S) (filter (λ x. not (p x)) S))
-    go e true = omega (arith, e)
-    go e false = omega (arith, e)
-
 -- what passes is no more than all
 pub filter_fits : {X : Type 0} (p : X → Bool) (S T : List X) → S ≡ T → (n : ℕ) → length T < n → length (filter p S) < n
-filter_fits p S T e n h = let same = ap (λ l. length l) e in let parts = len_parts p S in omega (arith, same, parts, h)
+filter_fits p S T e n h = let same = ap (λ l. length l) e in let parts = length-filter_both p (λ x. not (p x)) (λ x. refl) S in omega (arith, same, parts, h)
 
 -- nothing fails a test exactly where each item passes it
 each_passes : {X : Type 0} (p : X → Bool) (S : List X) → (length (filter (λ x. not (p x)) S) == 0) ≡ true → All (λ x. p x ≡ true) S
@@ -38,12 +31,6 @@ each_passes p (x ∷ S) h = elim (cases_Bool (p x)) [
 none_fails : {X : Type 0} (p : X → Bool) (S : List X) → All (λ x. p x ≡ true) S → (length (filter (λ x. not (p x)) S) == 0) ≡ true
 none_fails p [] h = refl
 none_fails p (x ∷ S) h = rw (All-head (λ x. p x ≡ true) x S h) (none_fails p S (All-tail (λ x. p x ≡ true) x S h))
-
--- two tests that find the same
-same_test : (a b : Bool) → (a ≡ true → b ≡ true) → (b ≡ true → a ≡ true) → a ≡ b
-same_test true b f g = sym (f refl)
-same_test false true f g = g refl
-same_test false false f g = refl
 
 module _ {X : Type 0} (bytes : X → List ℕ) where
   stored : (S : List X) (x : X) → Contains S x → stores bytes S (bytes x) ≡ true
@@ -75,15 +62,15 @@ module _ {X : Type 0} (bytes : X → List ℕ) where
     -- it has as many elements as the difference, the intersection and the other's difference
     pub union_count : Ascends bytes A → Ascends bytes B → length U ≡ length (difference bytes A B) + (length (intersection bytes A B) + length (difference bytes B A))
     union_count a b =
-        let whole = len_parts (λ x. stores bytes A (bytes x)) U in
+        let whole = length-filter_both (λ x. stores bytes A (bytes x)) (λ x. not (stores bytes A (bytes x))) (λ x. refl) U in
         let left = ap (λ (l : List X). length l) (union_left a) in
         let right = ap (λ (l : List X). length l) (union_right b) in
-        let parts = len_parts (λ x. stores bytes B (bytes x)) A in
+        let parts = length-filter_both (λ x. stores bytes B (bytes x)) (λ x. not (stores bytes B (bytes x))) (λ x. refl) A in
         omega (arith, whole, left, right, parts)
 
     -- some element has the bytes where one of either set has
     pub union_stores : (q : List ℕ) → stores bytes U q ≡ (stores bytes A q || stores bytes B q)
-    union_stores q = same_test (stores bytes U q) (stores bytes A q || stores bytes B q) there back
+    union_stores q = both_ways (stores bytes U q) (stores bytes A q || stores bytes B q) there back
       where
         or_true : (a b : Bool) → b ≡ true → (a || b) ≡ true
         or_true true b h = refl
@@ -130,7 +117,7 @@ module _ {X : Type 0} (bytes : X → List ℕ) where
 
     pub symmetric_count : Ascends bytes A → Ascends bytes B → length U ≡ length (difference bytes A B) + length (difference bytes B A)
     symmetric_count a b =
-        let whole = len_parts (λ x. stores bytes A (bytes x)) U in
+        let whole = length-filter_both (λ x. stores bytes A (bytes x)) (λ x. not (stores bytes A (bytes x))) (λ x. refl) U in
         let left = ap (λ (l : List X). length l) (symmetric_left a) in
         let right = ap (λ (l : List X). length l) (symmetric_right b) in
         omega (arith, whole, left, right)

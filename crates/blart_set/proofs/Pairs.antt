@@ -1,5 +1,5 @@
 -- What the pairs of a map of units say of the list of its keys.
-use Rattle.std.proofs.Common.{◌≡◌, ℕ, false, not, List, [], ◌∷◌, map, refl, sym, ap, ◌∙◌, subst, Option, Some, None, option_map, bytes_eq}
+use Rattle.std.proofs.Common.{◌≡◌, ℕ, true, false, not, List, [], ◌∷◌, map, refl, sym, ap, ◌∙◌, subst, Option, Some, None, option_map, bytes_eq}
 use Rattle.std.specs.Option.{is_some, is_none}
 use Rattle.std.specs.Result.{result_map_both}
 use Rattle.std.proofs.lemmas.List.{map-append}
@@ -10,13 +10,13 @@ use Rattle.blart_keys.specs.Bounds.{CanRange, is_from_start, is_up_to_end}
 use Rattle.blart_keys.specs.Steps.{Puts, Inserts, PutsOver}
 use Rattle.blart_keys.specs.declared.calls.TryInsertError.{TryInsertError}
 use Rattle.blart_keys.specs.declared.calls.TryInsertError.TheVariants.{Prefix, Memory}
-use Rattle.blart_set.specs.Elements.{RefusesElement}
-use Rattle.blart_keys.proofs.StoredLemmas.{some-at}
+use Rattle.blart_set.specs.Elements.{RefusesElement, UpdatesElement}
+use Rattle.blart_keys.proofs.StoredLemmas.{some-at, stores_is}
 use Rattle.blart_keys.specs.Bytes.{begins, related, conflicts}
 use Rattle.blart_keys.specs.Content.{at, conflict, front_of, stores, subtree, without, under, between, IsContent, IsPut, IsOver}
 use Rattle.blart_keys.specs.Steps.{bytes}
 use Rattle.blart_keys.specs.Bulk.{PutsAll}
-use Rattle.blart_keys.specs.Stored.{pair_at, kept_key, kept_pair, kept_item, kept}
+use Rattle.blart_keys.specs.Stored.{pair_at, kept_key, kept_pair, kept_item, kept, Updates}
 use Rattle.blart_keys.specs.Walks.{TakesFirst, TakesLast}
 use Rattle.blart_keys.proofs.Mapped.{find-map, list_any-map, filter-map, content_map, put_map, over_map}
 
@@ -73,6 +73,18 @@ module _ {K V : Type 0} where
       is_some-value : (r : Option (K × V)) → is_some (option_map (λ p. p.1) r) ≡ is_some r
       is_some-value None = refl
       is_some-value (Some p) = refl
+
+  module _ (kb : K → List ℕ) (S S' : List (K × V)) (q : List ℕ) where
+    -- which bytes are there once what is at some changed
+    pub updates-keys : (w : Option (K × V)) → Updates kb S S' q w → UpdatesElement kb (keys kb S) (keys kb S') q (is_some w)
+    updates-keys w u = (
+      stores-keys kb S' q ∙ stores_is kb S' q ∙ ap is_some u.0,
+      λ r off. stores-keys kb S' r ∙ stores_is kb S' r ∙ ap is_some (u.1 r off) ∙ sym (stores_is kb S r) ∙ sym (stores-keys kb S r),
+    )
+
+    pub updates-told : {E : Type 0} (x : K × V) (r : Result (Option V) E) → OnOk r (Updates kb S S' q (Some x)) → OnOk (told r) (UpdatesElement kb (keys kb S) (keys kb S') q true)
+    updates-told x (Ok o) u = updates-keys (Some x) u
+    updates-told x (Err e) u = tt
 
   module _ (kb : K → List ℕ) (S S' : List (K × V)) (x : K × V) where
     -- what is stored of an element

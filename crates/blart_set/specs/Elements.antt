@@ -1,5 +1,5 @@
 -- What a set is seen as: its elements in byte order, each under its leaf's number.
-use Rattle.std.specs.Prelude.{◌≡◌, ℕ, true, false, List, map}
+use Rattle.std.specs.Prelude.{◌≡◌, ◌≢◌, ℕ, Bool, true, false, List, map}
 use Rattle.blart_keys.specs.declared.calls.TryInsertError.{TryInsertError}
 use Rattle.blart_keys.specs.declared.calls.TryInsertError.TheVariants.{Prefix, Memory}
 use Rattle.blart_keys.specs.Content.{conflict, stores}
@@ -13,3 +13,7 @@ elements leaves = map (λ p. p.0) (pairs leaves)
 abbrev pub RefusesElement : {K : Type 0} → (K → List ℕ) → List K → List ℕ → TryInsertError → Type 0
 RefusesElement kb S q (Prefix e) = conflict kb S q ≡ true
 RefusesElement kb S q (Memory e) = (conflict kb S q ≡ false) × (stores kb S q ≡ false)
+
+-- S' has the bytes q where `there` says so, and of all others what S has
+abbrev pub UpdatesElement : {K : Type 0} → (K → List ℕ) → List K → List K → List ℕ → Bool → Type 0
+UpdatesElement kb S S' q there = (stores kb S' q ≡ there) × ((r : List ℕ) → r ≢ q → stores kb S' r ≡ stores kb S r)

@@ -4,7 +4,7 @@ ghost use Rattle.blart_keys.specs.Bytes.{begins};
 ghost use Rattle.blart_keys.specs.Content.{at, stores, under, without};
 ghost use Rattle.blart_keys.specs.Outside.{outside};
 ghost use Rattle.blart_keys.specs.Walks.{TakesFirst, TakesLast};
-ghost use Rattle.blart_set.specs.Elements.{elements};
+ghost use Rattle.blart_set.specs.Elements.{elements, UpdatesElement};
 
 use crate::set::TreeSet;
 use blart_keys::AsBytes;
@@ -22,6 +22,8 @@ impl<K: AsBytes + Drop, const PREFIX_LEN: usize> TreeSet<K, PREFIX_LEN> {
         ensures value { result ≡ stores K.bytes (elements self.old) (Q.bytes query.now) }
         ensures rest { elements self.new
             ≡ without K.bytes (elements self.old) (Q.bytes query.now) }
+        ensures updates { UpdatesElement K.bytes (elements self.old) (elements self.new)
+            (Q.bytes query.now) false }
         ensures len { length (elements self.new) + (if result then 1 else 0)
             ≡ length (elements self.old) }
     {
@@ -33,6 +35,8 @@ impl<K: AsBytes + Drop, const PREFIX_LEN: usize> TreeSet<K, PREFIX_LEN> {
         ensures value { result ≡ at K.bytes (elements self.old) (Q.bytes query.now) }
         ensures rest { elements self.new
             ≡ without K.bytes (elements self.old) (Q.bytes query.now) }
+        ensures updates { UpdatesElement K.bytes (elements self.old) (elements self.new)
+            (Q.bytes query.now) false }
         ensures len { length (elements self.new) + (if is_some result then 1 else 0)
             ≡ length (elements self.old) }
     {

@@ -3,7 +3,7 @@ ghost use Rattle.std.specs.Prelude.{◌≡◌, ◌+◌, [], true, false, not, le
 ghost use Rattle.blart_keys.specs.Content.{at, conflict, stores, subtree, IsPut, IsOver};
 ghost use Rattle.blart_keys.specs.Stored.{kept_item, overlaps};
 ghost use Rattle.blart_map.specs.Content.{pairs};
-ghost use Rattle.blart_set.specs.Elements.{elements, RefusesElement};
+ghost use Rattle.blart_set.specs.Elements.{elements, RefusesElement, UpdatesElement};
 ghost use Rattle.std.specs.Option.{is_none};
 ghost use Rattle.std.specs.Result.{result_map_both};
 
@@ -30,6 +30,8 @@ impl<K: AsBytes + Drop, const PREFIX_LEN: usize> TreeSet<K, PREFIX_LEN> {
         ensures put { OnOk result (IsPut K.bytes (elements self.old)
             (kept_item (at K.bytes (elements self.old) (K.bytes element)) element)
             (elements self.new)) }
+        ensures updates { OnOk result (UpdatesElement K.bytes (elements self.old)
+            (elements self.new) (K.bytes element) true) }
         ensures free { OnOk result
             (conflict K.bytes (elements self.old) (K.bytes element) ≡ false) }
         ensures len { IfOk result (λ new. length (elements self.new)
@@ -78,6 +80,8 @@ impl<K: NoPrefixesBytes + Drop, const PREFIX_LEN: usize> TreeSet<K, PREFIX_LEN> 
         ensures put { OnOk result (IsPut K.bytes (elements self.old)
             (kept_item (at K.bytes (elements self.old) (K.bytes element)) element)
             (elements self.new)) }
+        ensures updates { OnOk result (UpdatesElement K.bytes (elements self.old)
+            (elements self.new) (K.bytes element) true) }
         ensures len { IfOk result (λ new. length (elements self.new)
             ≡ length (elements self.old) + (if new then 1 else 0)) }
         ensures err { OnErr result (self.new ≡ self.old) }
@@ -99,6 +103,8 @@ impl<K: NoPrefixesBytes + Drop, const PREFIX_LEN: usize> TreeSet<K, PREFIX_LEN> 
         ensures old { IfOk result
             (λ old. old ≡ at K.bytes (elements self.old) (K.bytes element)) }
         ensures put { OnOk result (IsPut K.bytes (elements self.old) element (elements self.new)) }
+        ensures updates { OnOk result (UpdatesElement K.bytes (elements self.old)
+            (elements self.new) (K.bytes element) true) }
         ensures len { IfOk result (λ old. length (elements self.new)
             ≡ length (elements self.old) + (if is_some old then 0 else 1)) }
         ensures err { OnErr result (self.new ≡ self.old) }

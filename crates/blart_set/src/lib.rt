@@ -27,4 +27,4 @@ pub use merges::symmetric_difference::SymmetricDifference;
 pub use merges::union::Union;
 pub use reserved::Reserved;
 pub use set::TreeSet;
-pub use walks::{IntoIter, Iter, Prefix, Range};
+pub use walks::{BoundedKeys, IntoIter, Iter, Prefix, Range};

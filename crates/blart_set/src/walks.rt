@@ -8,7 +8,7 @@ ghost use Rattle.blart_set.specs.Elements.{elements};
 
 use crate::set::TreeSet;
 use blart_keys::AsBytes;
-use blart_map::{IntoKeys, Keys};
+use blart_map::{BelowFront, BoundedIter, InRange, IntoKeys, Keys};
 use std::iter::{DoubleEndedIterator, FusedIterator, IntoIterator, Iterator};
 use std::marker::Model;
 use std::ops::Bound;
@@ -42,48 +42,7 @@ pub type IntoIter<K, const PREFIX_LEN: usize> = IntoKeys<K, (), PREFIX_LEN>;
 /// assert_eq!(elements.next_back(), Some(&3));
 /// assert_eq!(elements.next(), None);
 /// ```
-#[derive(Drop)]
-pub struct Range<'a, K, const PREFIX_LEN: usize> {
-    pairs: blart_map::Range<'a, K, (), PREFIX_LEN>,
-}
-
-impl<'a, K, const PREFIX_LEN: usize> Model for Range<'a, K, PREFIX_LEN> {
-    ghost use Rattle.std.specs.Prelude.{List, map};
-
-    ghost Value = { List K };
-
-    ghost view = { λ it. map (λ p. p.0) it.pairs };
-}
-
-impl<'a, K, const PREFIX_LEN: usize> Iterator for Range<'a, K, PREFIX_LEN> {
-    type Item = &'a K;
-
-    ghost next_gives = { YieldsFirstRef (λ rest. rest) };
-
-    ghost remaining = { item_count (λ rest. rest) };
-
-    /// The first element that is left.
-    fn next(&mut self) -> Option<&'a K> {
-        match self.pairs.next() {
-            Some(pair) => Some(pair.0),
-            None => None,
-        }
-    }
-}
-
-impl<'a, K, const PREFIX_LEN: usize> DoubleEndedIterator for Range<'a, K, PREFIX_LEN> {
-    ghost next_back_gives = { YieldsLastRef (λ rest. rest) };
-
-    /// The last element that is left.
-    fn next_back(&mut self) -> Option<&'a K> {
-        match self.pairs.next_back() {
-            Some(pair) => Some(pair.0),
-            None => None,
-        }
-    }
-}
-
-impl<'a, K, const PREFIX_LEN: usize> FusedIterator for Range<'a, K, PREFIX_LEN> {}
+pub type Range<'a, K, const PREFIX_LEN: usize> = BoundedKeys<'a, K, InRange, PREFIX_LEN>;
 
 /// The elements whose bytes begin with some bytes, from both ends, ascending.
 ///
@@ -93,12 +52,15 @@ impl<'a, K, const PREFIX_LEN: usize> FusedIterator for Range<'a, K, PREFIX_LEN> 
 /// assert_eq!(elements.next(), Some(&[3, 4]));
 /// assert_eq!(elements.next(), None);
 /// ```
+pub type Prefix<'a, K, const PREFIX_LEN: usize> = BoundedKeys<'a, K, BelowFront, PREFIX_LEN>;
+
+/// Some elements that stand one after the other, from both ends, ascending by their bytes.
 #[derive(Drop)]
-pub struct Prefix<'a, K, const PREFIX_LEN: usize> {
-    pairs: blart_map::Prefix<'a, K, (), PREFIX_LEN>,
+pub struct BoundedKeys<'a, K, M, const PREFIX_LEN: usize> {
+    pairs: BoundedIter<'a, K, (), M, PREFIX_LEN>,
 }
 
-impl<'a, K, const PREFIX_LEN: usize> Model for Prefix<'a, K, PREFIX_LEN> {
+impl<'a, K, M, const PREFIX_LEN: usize> Model for BoundedKeys<'a, K, M, PREFIX_LEN> {
     ghost use Rattle.std.specs.Prelude.{List, map};
 
     ghost Value = { List K };
@@ -106,7 +68,7 @@ impl<'a, K, const PREFIX_LEN: usize> Model for Prefix<'a, K, PREFIX_LEN> {
     ghost view = { λ it. map (λ p. p.0) it.pairs };
 }
 
-impl<'a, K, const PREFIX_LEN: usize> Iterator for Prefix<'a, K, PREFIX_LEN> {
+impl<'a, K, M: Drop, const PREFIX_LEN: usize> Iterator for BoundedKeys<'a, K, M, PREFIX_LEN> {
     type Item = &'a K;
 
     ghost next_gives = { YieldsFirstRef (λ rest. rest) };
@@ -122,7 +84,8 @@ impl<'a, K, const PREFIX_LEN: usize> Iterator for Prefix<'a, K, PREFIX_LEN> {
     }
 }
 
-impl<'a, K, const PREFIX_LEN: usize> DoubleEndedIterator for Prefix<'a, K, PREFIX_LEN> {
+impl<'a, K, M: Drop, const PREFIX_LEN: usize> DoubleEndedIterator
+    for BoundedKeys<'a, K, M, PREFIX_LEN> {
     ghost next_back_gives = { YieldsLastRef (λ rest. rest) };
 
     /// The last element that is left.
@@ -134,7 +97,7 @@ impl<'a, K, const PREFIX_LEN: usize> DoubleEndedIterator for Prefix<'a, K, PREFI
     }
 }
 
-impl<'a, K, const PREFIX_LEN: usize> FusedIterator for Prefix<'a, K, PREFIX_LEN> {}
+impl<'a, K, M: Drop, const PREFIX_LEN: usize> FusedIterator for BoundedKeys<'a, K, M, PREFIX_LEN> {}
 
 #[tactic(auto, unfolding(crate::specs::Elements::elements))]
 impl<K: AsBytes, const PREFIX_LEN: usize> TreeSet<K, PREFIX_LEN> {
@@ -165,7 +128,7 @@ impl<K: AsBytes, const PREFIX_LEN: usize> TreeSet<K, PREFIX_LEN> {
             (bound_bytes Q.bytes start.entry) (bound_bytes Q.bytes end.entry) }
         ensures fits { CanCount result }
     {
-        Range {
+        BoundedKeys {
             pairs: self.map.range(start, end),
         }
     }
@@ -183,7 +146,7 @@ impl<K: AsBytes, const PREFIX_LEN: usize> TreeSet<K, PREFIX_LEN> {
         ensures value { result ≡ under K.bytes (elements self.now) front.now }
         ensures fits { CanCount result }
     {
-        Prefix {
+        BoundedKeys {
             pairs: self.map.prefix(front),
         }
     }

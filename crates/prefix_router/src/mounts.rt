@@ -1,5 +1,5 @@
 //! The table, on the public calls of the map.
-ghost use Rattle.std.specs.Prelude.{◌≡◌, ◌≤◌, ◌+◌, ℕ, List, [], true, false, length, OnOk, IfOk, OnErr, IfErr, None, Some, if◌then◌else◌};
+ghost use Rattle.std.specs.Prelude.{◌≡◌, ◌≤◌, ◌+◌, ◌&&◌, ℕ, List, [], true, false, length, is_some, OnOk, IfOk, OnErr, IfErr, None, Some, if◌then◌else◌};
 ghost use Rattle.blart.specs.Words.{pairs, begins, pair_at_front, value_at, has, kept, overlaps, shown, bytes, under, vec_bytes, IsContent, CanCount, Updates, Overwrites, Refuses};
 
 use blart::map::{DEFAULT_PREFIX_LEN, Prefix, Visits};
@@ -103,6 +103,8 @@ impl<V: Drop> Mounts<V> {
         ensures routes { OnOk result ((r : List ℕ) → pair_at_front vec_bytes (pairs self.new) r
             ≡ (if begins path.items r then Some (kept vec_bytes (pairs self.old) (path, target))
             else pair_at_front vec_bytes (pairs self.old) r)) }
+        ensures len { IfOk result (λ old. length (pairs self.new)
+            ≡ length (pairs self.old) + (if is_some old then 0 else 1)) }
         ensures free { OnOk result (overlaps vec_bytes (pairs self.old) path.items ≡ false) }
         ensures why { IfErr result (Refuses vec_bytes (pairs self.old) path.items) }
         ensures refused { OnErr result (self.new ≡ self.old) }
@@ -129,6 +131,11 @@ impl<V: Drop> Mounts<V> {
     pub fn unmount(&mut self, path: &[u8]) -> Option<V>
         ensures old { result ≡ value_at vec_bytes (pairs self.old) path.now }
         ensures unmounted { Updates vec_bytes (pairs self.old) (pairs self.new) path.now None }
+        ensures routes { (r : List ℕ) → pair_at_front vec_bytes (pairs self.new) r
+            ≡ (if begins path.now r && has vec_bytes (pairs self.old) path.now then None
+            else pair_at_front vec_bytes (pairs self.old) r) }
+        ensures len { length (pairs self.new) + (if is_some result then 1 else 0)
+            ≡ length (pairs self.old) }
     {
         self.map.remove(&path)
     }

@@ -1,6 +1,7 @@
 -- Values that a closure writes one after the other.
-use Rattle.std.proofs.Common.{◌≡◌, ℕ, suc, eqb, length, true, false, cond, List, [], ◌∷◌, Option, Some, None, option_map, bytes_eq, map, refl, sym, ap, ◌∙◌, subst}
+use Rattle.std.proofs.Common.{◌≡◌, ℕ, eqb, length, true, false, cond, List, [], ◌∷◌, Option, Some, None, option_map, bytes_eq, map, refl, sym, ap, ◌∙◌, subst}
 use Rattle.std.proofs.lemmas.Bool.{ne_eqb, eq-eqb}
+use Rattle.std.proofs.lemmas.List.{length-map}
 use Rattle.std.specs.Borrow.{Bor, MutBor}
 use denote.Param.Members.{Mut, Called}
 use Rattle.blart_keys.specs.Content.{at}
@@ -44,11 +45,6 @@ module _ {K V : Type 0} where
   keys_written (w ∷ values) [] ps = refl
   keys_written (w ∷ values) (p ∷ left) ps = keys_written values left (with_value ps p.0 w) ∙ keys_with ps p.0 w
 
--- as many items as images
-images : {X Y : Type 0} (f : X → Y) (xs : List X) → length (map f xs) ≡ length xs
-images f [] = refl
-images f (x ∷ xs) = ap suc (images f xs)
-
 module _ {F K V : Type 0} (R : F → K × V → V → F → Type 0) where
   -- the keys stay
   pub same_keys : (left old new : List (Numbered K V)) (f : F) → WritesLeft R left old f new → map (λ p. p.0) (pairs new) ≡ map (λ p. p.0) (pairs old)
@@ -57,7 +53,7 @@ module _ {F K V : Type 0} (R : F → K × V → V → F → Type 0) where
 
   -- and there are as many pairs
   pub same_length : (left old new : List (Numbered K V)) (f : F) → WritesLeft R left old f new → length (pairs new) ≡ length (pairs old)
-  same_length left old new f r = sym (images (λ p. p.0) (pairs new)) ∙ ap length (same_keys left old new f r) ∙ images (λ p. p.0) (pairs old)
+  same_length left old new f r = sym (length-map (pairs new) (λ p. p.0)) ∙ ap length (same_keys left old new f r) ∙ length-map (pairs old) (λ p. p.0)
 
   -- a walk fits the list as before
   pub walk_fits_after : (c : Cursor) (lent : Option ℕ) (left old new : List (Numbered K V)) (f : F) → WritesLeft R left old f new → walk_fits c lent (numbers old) ≡ true → walk_fits c lent (numbers new) ≡ true

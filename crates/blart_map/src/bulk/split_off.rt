@@ -49,6 +49,9 @@ impl<K: AsBytes + Drop, V: Drop, const PREFIX_LEN: usize> TreeMap<K, V, PREFIX_L
         ensures refused { OnErr result
             (between (bytes K.bytes) (pairs self.old) (Included (Q.bytes query.now)) Unbounded
             ≢ []) }
+        ensures below_refused { OnErr result
+            (between (bytes K.bytes) (pairs self.old) Unbounded (Excluded (Q.bytes query.now))
+            ≢ []) }
     {
         self.law();
         let mut tree = Tree::new(self.alloc);
@@ -111,6 +114,7 @@ fn part<K: AsBytes + Drop, V: Drop, const P: usize>(
     ensures moved { OnOk result (length (pairs_of to.new.pairs) ≡ count) }
     ensures err { OnErr result (from.new.pairs ≡ from.old.pairs) }
     ensures refused { OnErr result (0 < count) }
+    ensures low_refused { OnErr result (count < length from.old.pairs) }
 {
     let low = from.len() - count;
     if low / 3 < count && count / 3 < low {

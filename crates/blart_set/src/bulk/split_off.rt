@@ -31,6 +31,8 @@ impl<K: AsBytes + Drop, const PREFIX_LEN: usize> TreeSet<K, PREFIX_LEN> {
         ensures err { OnErr result (self.new ≡ self.old) }
         ensures refused { OnErr result
             (between K.bytes (elements self.old) (Included (Q.bytes query.now)) Unbounded ≢ []) }
+        ensures below_refused { OnErr result
+            (between K.bytes (elements self.old) Unbounded (Excluded (Q.bytes query.now)) ≢ []) }
     {
         match self.map.split_off(query) {
             Ok(map) => Ok(TreeSet {

@@ -1,6 +1,6 @@
 //! A site of five routes.
-ghost use Rattle.std.specs.Prelude.{◌≡◌, ℕ, List, [], ◌∷◌, IfOk, None, Some, if◌then◌else◌};
-ghost use Rattle.blart.specs.Words.{pairs, begins, value_at_front, vec_bytes};
+ghost use Rattle.std.specs.Prelude.{◌≡◌, ◌&&◌, ℕ, List, [], ◌∷◌, IfOk, None, Some, if◌then◌else◌};
+ghost use Rattle.blart.specs.Words.{pairs, begins, has, value_at_front, vec_bytes};
 
 use blart::TryInsertError;
 use prefix_router::Mounts;
@@ -79,4 +79,13 @@ pub fn asked(alloc: Global) -> Result<Option<Handler>, TryInsertError>
     };
     drop(site);
     Ok(handler)
+}
+
+/// Takes a handler down: what went to it goes nowhere, and all else where it went.
+pub fn take_down(site: &mut Mounts<Handler>, path: &[u8])
+    ensures { (r : List ℕ) → value_at_front vec_bytes (pairs site.new) r
+        ≡ (if begins path.now r && has vec_bytes (pairs site.old) path.now then None
+        else value_at_front vec_bytes (pairs site.old) r) }
+{
+    site.unmount(path);
 }

@@ -87,3 +87,14 @@ pub fn grants_all<K: OrderedBytes, const P: usize>(
 {
     asked.is_subset(granted)
 }
+
+/// Whether an element is there once it was put.
+pub fn is_there<K: NoPrefixesBytes + Copy, const P: usize>(
+    set: &mut TreeSet<K, P>,
+    element: K,
+) -> Result<bool, AllocError>
+    ensures { IfOk result (λ there. there ≡ true) }
+{
+    set.insert(element)?;
+    Ok(set.contains(&element))
+}

@@ -1,14 +1,10 @@
 use Rattle.std.proofs.Common.{◌≡◌, suc, ◌+◌, ◌≤◌, List, [], ◌∷◌, ◌++◌, arith, length, refl, ap, sym, ◌∙◌, subst, append_assoc, append-nil, vec_len, vec_capacity}
+use Rattle.std.proofs.lemmas.List.{nil_from_length}
 use Rattle.std.specs.Vec.Iter.{into_iter_items, into_iter_len}
 use Rattle.blart_keys.specs.Steps.{Run}
 use Rattle.blart_keys.proofs.StepLemmas.{run_more}
 use Rattle.blart_map.specs.Content.{pairs}
 use Rattle.blart_map.proofs.calls.drive.Goals as goal
-
--- a list of no length is empty
-no_items : {X : Type 0} (xs : List X) → length xs ≡ 0 → xs ≡ []
-no_items [] e = refl
-no_items (x ∷ xs) e = absurd (omega arith)
 
 pub calls-init : goal.calls-init
 calls-init g c =
@@ -50,6 +46,6 @@ pub returns-clause-replies : goal.returns-clause-replies
 returns-clause-replies g c =
     let i = c.calls.invariant in
     let kb = g.K.AsBytes.bytes in
-    let none = no_items (into_iter_items c.calls.call-iterator) (sym i.counted ∙ c.in-None.ensures.steps.0) in
+    let none = nil_from_length (into_iter_items c.calls.call-iterator) (sym i.counted ∙ c.in-None.ensures.steps.0) in
     let whole = i.whole ∙ ap (λ l. i.done ++ l) none ∙ append-nil i.done in
     subst (λ calls. Run kb (pairs c.args.map.now) calls c.calls.replies.items (pairs c.calls.map)) (sym whole) i.run

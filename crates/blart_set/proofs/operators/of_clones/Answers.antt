@@ -1,10 +1,11 @@
 use Rattle.std.proofs.Common.{◌∷◌, [], ◌++◌, map, sym, subst}
 use Rattle.std.proofs.lemmas.List.{map-append}
+use Rattle.std.proofs.lemmas.List.Elements.{AllZip-push}
 use Rattle.std.specs.Iterator.{Yields}
 use Rattle.std.specs.List.{AllZip}
 use Rattle.std.proofs.iter.Next as it
 use Rattle.blart_map.proofs.Moved.BulkPuts.{first_came, on_ok}
-use Rattle.blart_set.proofs.Cloned.{now, zip_more, cloned_some, on_err}
+use Rattle.blart_set.proofs.Cloned.{now, cloned_some, on_err}
 use Rattle.blart_set.proofs.operators.of_clones.Goals as goal
 
 pub returns-in_err-clone-clause-refused : goal.returns-in_err-clone-clause-refused
@@ -24,7 +25,7 @@ loop-item-preserved g c =
     let i = c.loop-item.invariant in
     let on = it.on c.in-Some.item c.in-Some.is c.next.ensures.goes i.1 in
     let clone = c.in_ok-clone.field-0 in
-    let zipped = zip_more g.K.Clone.is_clone (map now c.loop-item.yielded) c.loop-item.clones.items c.in-Some.item.now clone i.2 c.in_ok-clone.ensures.cases in (
+    let zipped = AllZip-push g.K.Clone.is_clone (map now c.loop-item.yielded) c.loop-item.clones.items c.in-Some.item.now clone i.2 c.in_ok-clone.ensures.cases in (
       on.0,
       on.1,
       subst (λ l. AllZip g.K.Clone.is_clone (map now (c.loop-item.yielded ++ c.in-Some.item ∷ [])) l) (sym c.in_ok-push.ensures.items) (subst (λ l. AllZip g.K.Clone.is_clone l (c.loop-item.clones.items ++ clone ∷ [])) (sym (map-append now c.loop-item.yielded (c.in-Some.item ∷ []))) zipped),

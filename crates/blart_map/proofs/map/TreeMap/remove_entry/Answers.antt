@@ -1,9 +1,11 @@
-use Rattle.std.proofs.Common.{◌≡◌, bytes_eq, sym, refl, ap, ◌∙◌, subst, ℕ, List, Option, Some, IfSome, None, ◌+◌, length, is_some, if◌then◌else◌}
-use Rattle.blart_keys.specs.Stored.{pair_at, Updates, has}
+use Rattle.std.proofs.Common.{◌≡◌, bytes_eq, sym, refl, ap, ◌∙◌, subst, ℕ, List, Option, Some, IfSome, None, ◌+◌, ◌&&◌, length, is_some, if◌then◌else◌}
+use Rattle.blart_keys.specs.Bytes.{begins}
+use Rattle.blart_keys.specs.Stored.{pair_at, pair_at_front, Updates, has}
 use Rattle.blart_keys.proofs.StoredLemmas.{updates_without, len_without, pair_at-bytes}
 use Rattle.art_walk.specs.Pairs.{pairs_of}
 use Rattle.blart_map.specs.Content.{pairs}
 use Rattle.blart_map.proofs.Numbers.{whole_pairs, found_pairs, without_pairs}
+use Rattle.blart_map.proofs.Unrouted.{routes_without}
 use Rattle.blart_map.proofs.map.TreeMap.remove_entry.Goals as goal
 
 pub returns-clause-removed : goal.returns-clause-removed
@@ -31,6 +33,15 @@ returns-clause-updates g c =
     let S = pairs_of c.args.self.now in
     let q = g.Q.AsBytes.bytes c.args.query.now in
     subst (λ T. Updates kb S T q None) (sym (returns-clause-rest g c)) (updates_without kb S q)
+
+pub returns-clause-routes : goal.returns-clause-routes
+unfolding pairs
+returns-clause-routes g c = λ r.
+    let kb = g.K.AsBytes.bytes in
+    let S = pairs_of c.args.self.now in
+    let q = g.Q.AsBytes.bytes c.args.query.now in
+    let content = whole_pairs kb c.self.inside.tree.pairs S (ap pairs_of c.self.view_is) c.law.ensures.content in
+    subst (λ T. pair_at_front kb T r ≡ (if begins q r && has kb S q then None else pair_at_front kb S r)) (sym (returns-clause-rest g c)) (routes_without kb S content q r)
 
 pub returns-clause-len : goal.returns-clause-len
 unfolding pairs

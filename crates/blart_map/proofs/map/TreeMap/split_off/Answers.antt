@@ -4,7 +4,7 @@ use Rattle.blart_keys.specs.Steps.{bytes}
 use Rattle.blart_keys.specs.Stored.{pair_at}
 use Rattle.art_walk.specs.Pairs.{pairs_of}
 use Rattle.blart_map.specs.Content.{pairs}
-use Rattle.blart_map.proofs.Moved.Parting.{parted, from_short, kept_at, given_at}
+use Rattle.blart_map.proofs.Moved.Parting.{parted, part_lengths, from_short, kept_at, given_at}
 use Rattle.blart_map.proofs.map.TreeMap.split_off.Goals as goal
 
 pub part-requires : goal.part-requires
@@ -48,3 +48,11 @@ pub returns-in-Err-clause-refused : goal.returns-in-Err-clause-refused
 unfolding pairs
 returns-in-Err-clause-refused g c =
     λ empty. omega (arith, c.in-Err.ensures.refused, c.count_from-count.ensures, ap (λ (l : List _). length l) empty)
+
+pub returns-in-Err-clause-below_refused : goal.returns-in-Err-clause-below_refused
+unfolding pairs
+returns-in-Err-clause-below_refused g c =
+    let kb = g.K.AsBytes.bytes in
+    let whole = part_lengths (bytes kb) (g.Q.AsBytes.bytes c.args.query.now) (pairs c.args.self.now) c.law.ensures.content in
+    let same : length c.args.self.now ≡ length c.self.inside.tree.pairs = ap (λ (l : List _). length l) (sym c.self.view_is) in
+    λ empty. omega (arith, c.in-Err.ensures.low_refused, c.count_from-count.ensures, whole, length-map c.args.self.now (λ p. p.1), same, ap (λ (l : List _). length l) empty)

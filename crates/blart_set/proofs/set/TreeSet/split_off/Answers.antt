@@ -34,3 +34,10 @@ returns-clause-refused g c = rw (← c.self.view_is) (elim c.match-split_off.bra
   | in-Ok w ↦ rw w.result-is tt
   | in-Err w ↦ rw w.result-is (some_between-keys g.K.AsBytes.bytes (pairs c.self.inside.map) (Included (g.Q.AsBytes.bytes c.args.query.now)) Unbounded w.in-Err.ensures.refused)
 ])
+
+pub returns-clause-below_refused : goal.returns-clause-below_refused
+unfolding elements
+returns-clause-below_refused g c = rw (← c.self.view_is) (elim c.match-split_off.branch [
+  | in-Ok w ↦ rw w.result-is tt
+  | in-Err w ↦ rw w.result-is (some_between-keys g.K.AsBytes.bytes (pairs c.self.inside.map) Unbounded (Excluded (g.Q.AsBytes.bytes c.args.query.now)) w.in-Err.ensures.below_refused)
+])
