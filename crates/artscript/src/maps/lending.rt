@@ -8,7 +8,7 @@ use crate::words::{
     Answered, Lending, MapName, ScriptKey, Text, Unanswered, Words, raise, raised, show_item,
     show_lending,
 };
-use blart_map::{IterMut, LendingWalk, ValuesMut};
+use blart_map::{IterMut, PrefixMut, RangeMut, SubtreeIterMut, ValuesMut};
 use std::ops::Bound;
 
 impl<K: ScriptKey, const PREFIX_LEN: usize> Maps<K, u64, PREFIX_LEN> {
@@ -95,8 +95,27 @@ impl<K: ScriptKey, const PREFIX_LEN: usize> Lending for IterMut<'_, K, u64, PREF
     }
 }
 
-impl<K: ScriptKey, M: Drop, const PREFIX_LEN: usize> Lending
-    for LendingWalk<'_, K, u64, M, PREFIX_LEN> {
+impl<K: ScriptKey, const PREFIX_LEN: usize> Lending for RangeMut<'_, K, u64, PREFIX_LEN> {
+    fn front(&mut self, add: u64, part: &[u8], text: &mut Text) -> Result<bool, Unanswered> {
+        show_raised!(self, next, add, part, text)
+    }
+
+    fn back(&mut self, add: u64, part: &[u8], text: &mut Text) -> Result<bool, Unanswered> {
+        show_raised!(self, next_back, add, part, text)
+    }
+}
+
+impl<K: ScriptKey, const PREFIX_LEN: usize> Lending for PrefixMut<'_, K, u64, PREFIX_LEN> {
+    fn front(&mut self, add: u64, part: &[u8], text: &mut Text) -> Result<bool, Unanswered> {
+        show_raised!(self, next, add, part, text)
+    }
+
+    fn back(&mut self, add: u64, part: &[u8], text: &mut Text) -> Result<bool, Unanswered> {
+        show_raised!(self, next_back, add, part, text)
+    }
+}
+
+impl<K: ScriptKey, const PREFIX_LEN: usize> Lending for SubtreeIterMut<'_, K, u64, PREFIX_LEN> {
     fn front(&mut self, add: u64, part: &[u8], text: &mut Text) -> Result<bool, Unanswered> {
         show_raised!(self, next, add, part, text)
     }
