@@ -1,7 +1,7 @@
 //! The leaf records, in rows in the order of their keys.
 ghost use Rattle.std.specs.Prelude.{◌≡◌, ◌≢◌, ℕ, ◌+◌, ◌-◌, ◌*◌, ◌<◌, ◌≤◌, ◌++◌, List, [], ◌∷◌, length, map, option_map, take, drop, Option, Some, None, IsSome, IfSome, IfNone, OnOk, IfOk, OnErr};
 ghost use Rattle.art_rows.specs.Numbers.{leaf_in, Has, AreDistinct, first_number, last_number, number_after, number_before, with_pair_after, without_number, with_number, with_pair};
-ghost use Rattle.art_rows.specs.Rows.{position_at, nth, IsSpot, row_end, lengths, RunsBefore, StandsAfter};
+ghost use Rattle.art_rows.specs.Rows.{position_at, nth, IsSpot, row_end, lengths, RunsAfter, RunsBefore, StandsAfter};
 ghost use Rattle.art_rows.specs.RowRoom.{row_room};
 ghost use Rattle.art_rows.specs.Blocks.{row_of, HasWay, IsCrowded, IsAfter, IsShut, GoesBeyond};
 ghost use Rattle.art_rows.specs.declared.row.Position.{Position};
@@ -14,6 +14,7 @@ mod placing;
 
 use crate::chain::Chain;
 use crate::following::Following;
+use crate::owned_run::OwnedRun;
 use crate::row::{Position, ROW, Row};
 use crate::run::Run;
 use art_slots::{LeafId, Table, Visits};
@@ -387,6 +388,39 @@ impl<K, V> Leaves<K, V> {
             }
             None => None,
         }
+    }
+
+    /// The leaf after this one; `run` is a run of numbers after this one in its row, and then such a run after that one: where it is not empty, no row is read. It borrows no row, so between two steps values may be written.
+    #[inline(always)]
+    pub fn next_ahead(&self, id: LeafId, run: &mut OwnedRun) -> Option<LeafId>
+        requires has { Has self.now.pairs id }
+        requires runs { RunsAfter self.now.pairs id run.old }
+        ensures next { result ≡ number_after self.now.pairs id }
+        ensures runs { IfSome result (λ n. RunsAfter self.now.pairs n run.new) }
+    {
+        self.law();
+        if let Some(next) = run.split_off_first() {
+            return Some(next);
+        }
+        self.copy_run(id, run)
+    }
+
+    // The leaf after this one; `run` becomes the numbers after that one in its row.
+    #[cold]
+    #[inline(never)]
+    fn copy_run(&self, id: LeafId, run: &mut OwnedRun) -> Option<LeafId>
+        requires { Has self.now.pairs id }
+        ensures next { result ≡ number_after self.now.pairs id }
+        ensures runs { IfSome result (λ n. RunsAfter self.now.pairs n run.new) }
+    {
+        let rows = &self.rows;
+        let Some(position) = self.forward(self.position_of(id)) else {
+            return None;
+        };
+        let row = rows.read(position.row);
+        let next = row.run().at(position.place);
+        *run = row.owned_after(position.place);
+        Some(next)
     }
 
     /// The leaf before this one; `run` is a run of numbers before this one in its row, and then such a run before that one: where it is not empty, no row is read.

@@ -3,6 +3,7 @@ ghost use Rattle.std.specs.Prelude.{◌≡◌, ℕ, ◌+◌, ◌-◌, ◌*◌, �
 ghost use Rattle.art_rows.specs.Rows.{among, place_in, nth, nowhere};
 ghost use Rattle.art_rows.specs.Blocks.{times, row_of};
 
+use crate::owned_run::OwnedRun;
 use crate::run::Run;
 use art_slots::LeafId;
 use std::marker::Model;
@@ -27,7 +28,7 @@ impl Position {
 }
 
 /// The cells of a block in order.
-const CELLS: [u8; 64] = [
+pub(crate) const CELLS: [u8; 64] = [
     0, 1, 2, 3, 4, 5, 6, 7, 8, 9, 10, 11, 12, 13, 14, 15, 16, 17, 18, 19, 20, 21, 22, 23, 24, 25,
     26, 27, 28, 29, 30, 31, 32, 33, 34, 35, 36, 37, 38, 39, 40, 41, 42, 43, 44, 45, 46, 47, 48, 49,
     50, 51, 52, 53, 54, 55, 56, 57, 58, 59, 60, 61, 62, 63,
@@ -101,6 +102,14 @@ impl Row {
         ensures { result ≡ self.now }
     {
         Run::new(ROW * self.block, &self.cells[..self.count])
+    }
+
+    /// The numbers after a place, copied.
+    pub(crate) fn owned_after(&self, place: usize) -> OwnedRun
+        requires { place < length self.now }
+        ensures { result ≡ drop (place + 1) self.now }
+    {
+        OwnedRun::new(ROW * self.block, self.cells, place + 1, self.count)
     }
 
     /// Puts another number of the block at a place, and answers it.

@@ -6,7 +6,7 @@ pub use Rattle.art_rows.specs.Numbers.{leaf_in, Has, first_number, last_number, 
 pub use Rattle.art_rows.specs.Leaves.{Leaves, with_value, room, end_room}
 -- a position that says nothing, and what stands beside a leaf in its row
 pub use Rattle.art_rows.specs.declared.following.Following.{Following}
-pub use Rattle.art_rows.specs.Rows.{nowhere, RunsBefore, StandsAfter}
+pub use Rattle.art_rows.specs.Rows.{nowhere, nth, place_in, RunsAfter, RunsBefore, StandsAfter}
 
 -- a leaf's number, and its key and value
 abbrev pub Numbered : Type 0 → Type 0 → Type 0

@@ -8,7 +8,7 @@ mod lists;
 mod tests;
 mod tree;
 
-pub use art_rows::{Following, Leaves, Position, Run};
+pub use art_rows::{Following, Leaves, OwnedRun, Position, Run};
 pub use art_slots::{LeafId, Visits};
 pub use tree::build::Frame;
 pub use tree::point::{Place, Point};

@@ -8,4 +8,5 @@ pub mod Asking
 pub mod Lending
 pub mod PairEnds
 pub mod Runs
+pub mod Along
 pub mod Callable

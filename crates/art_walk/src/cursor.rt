@@ -1,9 +1,10 @@
 //! A first and a last leaf that are still to come.
-ghost use Rattle.std.specs.Prelude.{◌≡◌, ◌≢◌, option_map, IfSome, Some, None};
-ghost use Rattle.art_tree.specs.Leaves.{Has, number_after, number_before};
+ghost use Rattle.std.specs.Prelude.{◌≡◌, ◌≢◌, ℕ, List, true, option_map, IfSome, Some, None};
+ghost use Rattle.art_tree.specs.Leaves.{Has, number_after, number_before, RunsAfter};
 ghost use Rattle.art_walk.specs.Cursor.{nothing_left, left_between, leaves_left, FitsIn, PassesFirst, PassesLast};
+ghost use Rattle.art_walk.specs.Lent.{numbers, run_fits};
 
-use art_tree::{LeafId, Leaves, Position, Tree};
+use art_tree::{LeafId, Leaves, OwnedRun, Position, Tree};
 use blart_keys::AsBytes;
 
 // The ends without the first leaf; `seen` is where that may stand, and then where the leaf after it does. Nothing is looked for after the last.
@@ -26,6 +27,28 @@ fn without_first<K, V>(
     Some((next, last))
 }
 
+// The ends without the first leaf; `run` are numbers that follow that, and then numbers that follow the one that is the first. Nothing is looked for after the last.
+#[inline(always)]
+fn without_first_of_run<K, V>(
+    leaves: &Leaves<K, V>,
+    first: LeafId,
+    last: LeafId,
+    run: &mut OwnedRun,
+) -> Option<(LeafId, LeafId)>
+    requires has { Has leaves.now.pairs first }
+    requires runs { RunsAfter leaves.now.pairs first run.old }
+    ensures one { first ≡ last → result ≡ None }
+    ensures more { first ≢ last → result
+        ≡ option_map (λ id. (id, last)) (number_after leaves.now.pairs first) }
+    ensures runs { IfSome result (λ ends. RunsAfter leaves.now.pairs ends.0 run.new) }
+{
+    if first == last {
+        return None;
+    }
+    let next = leaves.next_ahead(first, run)?;
+    Some((next, last))
+}
+
 // The ends without the last leaf; `seen` is where that may stand, and then where the leaf before it does. Nothing is looked for before the first.
 #[inline(always)]
 fn without_last<K, V>(
@@ -38,6 +61,7 @@ fn without_last<K, V>(
     ensures one { first ≡ last → result ≡ None }
     ensures more { first ≢ last → result
         ≡ option_map (λ id. (first, id)) (number_before leaves.now.pairs last) }
+    ensures stays { IfSome result (λ ends. ends.0 ≡ first) }
 {
     if last == first {
         return None;
@@ -120,6 +144,28 @@ impl Cursor {
         Some(first)
     }
 
+    /// Passes the first leaf that is left, and gives its number. `run` are numbers that follow it, and then such numbers that follow the next: where there are some, nothing is read. It is good for a tree whose numbers stay while the cursor is moved.
+    #[inline(always)]
+    pub fn step_along<K: AsBytes, V, const PREFIX_LEN: usize>(
+        &mut self,
+        tree: &Tree<K, V, PREFIX_LEN>,
+        run: &mut OwnedRun,
+    ) -> Option<LeafId>
+        requires fits { FitsIn self.old tree.now.pairs }
+        requires run { run_fits self.old run.old (numbers tree.now.pairs) ≡ true }
+        ensures fits { FitsIn self.new tree.now.pairs }
+        ensures passes { PassesFirst (leaves_left self.old tree.now.pairs) result
+            (leaves_left self.new tree.now.pairs) }
+        ensures there { IfSome result (λ id. Has tree.now.pairs id) }
+        ensures run { run_fits self.new run.new (numbers tree.now.pairs) ≡ true }
+    {
+        tree.law();
+        let (first, last) = self.ends?;
+        let ends = without_first_of_run(tree.leaves(), first, last, run);
+        self.ends = ends;
+        Some(first)
+    }
+
     /// Passes the last leaf that is left, and gives its number. It reads no leaf.
     #[inline(always)]
     pub fn step_back<K: AsBytes, V, const PREFIX_LEN: usize>(
@@ -131,6 +177,8 @@ impl Cursor {
         ensures passes { PassesLast (leaves_left self.old tree.now.pairs) result
             (leaves_left self.new tree.now.pairs) }
         ensures there { IfSome result (λ id. Has tree.now.pairs id) }
+        ensures run { (run : List ℕ) → run_fits self.old run (numbers tree.now.pairs) ≡ true
+            → run_fits self.new run (numbers tree.now.pairs) ≡ true }
     {
         tree.law();
         let (first, last) = self.ends?;

@@ -5,6 +5,7 @@ ghost use Rattle.art_walk.specs.Pairs.{pairs_of};
 ghost use Rattle.blart_map.specs.EachWritten.{CallableInTurn, WritesLeft, LeavesValue, TakesAtValue, LeavesPair, TakesAtPair};
 
 use crate::map::TreeMap;
+use art_tree::OwnedRun;
 use art_walk::Cursor;
 use blart_keys::AsBytes;
 
@@ -19,7 +20,8 @@ impl<K: AsBytes, V, const PREFIX_LEN: usize> TreeMap<K, V, PREFIX_LEN> {
         ensures distinct { AreDistinct self.old }
     {
         self.numbers_law();
-        'leaves: while let Some(id) = self.step(&mut cursor) {
+        let mut run = OwnedRun::empty();
+        'leaves: while let Some(id) = self.step_along(&mut cursor, &mut run) {
             let (_, value) = self.leaf_mut(id);
             f(value);
         }
@@ -35,7 +37,8 @@ impl<K: AsBytes, V, const PREFIX_LEN: usize> TreeMap<K, V, PREFIX_LEN> {
         ensures distinct { AreDistinct self.old }
     {
         self.numbers_law();
-        'leaves: while let Some(id) = self.step(&mut cursor) {
+        let mut run = OwnedRun::empty();
+        'leaves: while let Some(id) = self.step_along(&mut cursor, &mut run) {
             let (key, value) = self.leaf_mut(id);
             f(key, value);
         }

@@ -2,13 +2,13 @@
 ghost use Rattle.std.specs.Prelude.{◌≡◌, List, [], Bool, true, length, map, filter, is_some, Some, None, MatchOption, IfNone, ⊤};
 ghost use Rattle.std.specs.Borrow.{sem};
 ghost use Rattle.art_tree.specs.Leaves.{leaf_in};
-ghost use Rattle.art_walk.specs.Lent.{walk_fits, numbers};
+ghost use Rattle.art_walk.specs.Lent.{walk_fits, numbers, run_fits};
 ghost use Rattle.art_walk.specs.Pairs.{pairs_of};
 ghost use Rattle.blart_map.specs.Content.{pairs, Numbered};
 ghost use Rattle.blart_map.specs.EachWritten.{CallableInTurn, WritesLeft, LeavesPair, TakesAtPair, ActsOnPair, ActsWhere};
 
 use crate::map::TreeMap;
-use art_tree::LeafId;
+use art_tree::{LeafId, OwnedRun};
 use art_walk::{BelowFront, Cursor, InRange, InSubtree};
 use blart_keys::AsBytes;
 
@@ -71,9 +71,12 @@ pub type SubtreeIterMut<'a, K, V, const PREFIX_LEN: usize> = LendingWalk<
 pub struct LendingWalk<'a, K: AsBytes, V, M, const PREFIX_LEN: usize> {
     map: &'a mut TreeMap<K, V, PREFIX_LEN>,
     cursor: Cursor,
+    // numbers that follow the first leaf that is left
+    ahead: OwnedRun,
     lent: Option<LeafId>,
     kind: M,
     ghost fits: { walk_fits cursor lent (numbers map.now) ≡ true },
+    ghost follows: { run_fits cursor ahead (numbers map.now) ≡ true },
 }
 
 impl<'a, K: AsBytes, V, M, const PREFIX_LEN: usize> LendingWalk<'a, K, V, M, PREFIX_LEN> {
@@ -90,6 +93,7 @@ impl<'a, K: AsBytes, V, M, const PREFIX_LEN: usize> LendingWalk<'a, K, V, M, PRE
         LendingWalk {
             map,
             cursor,
+            ahead: OwnedRun::empty(),
             lent: None,
             kind,
         }
@@ -101,7 +105,7 @@ impl<'a, K: AsBytes, V, M, const PREFIX_LEN: usize> LendingWalk<'a, K, V, M, PRE
         ensures* writes_back { sem 𝓛 (lends_first K.row V.row M.row PREFIX_LEN.row K.AsBytes self.entry result) }
         ensures end { IfNone result (lending_left self.old ≡ []) }
     {
-        let id = self.map.step(&mut self.cursor)?;
+        let id = self.map.step_along(&mut self.cursor, &mut self.ahead)?;
         self.lent = Some(id);
         Some(self.map.value_mut(id))
     }

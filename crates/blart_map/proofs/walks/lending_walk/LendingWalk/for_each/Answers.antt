@@ -1,13 +1,13 @@
 use Rattle.blart_map.specs.EachWritten.{LeavesPair}
 use Rattle.blart_map.specs.LendingWalk.{lending_left}
-use Rattle.blart_map.proofs.Written.EachWritten.{same_keys, same_length, walk_fits_after, writes_all, acts_on_pair}
+use Rattle.blart_map.proofs.Written.EachWritten.{same_keys, same_length, walk_fits_after, run_fits_after, writes_all, acts_on_pair}
 use Rattle.blart_map.proofs.Written.WrittenWhere.{writes_where, acts_within}
 use Rattle.blart_map.proofs.walks.lending_walk.LendingWalk.for_each.Goals as goal
 
 pub invariant_of-self : goal.invariant_of-self
 invariant_of-self g c =
     let s = c.args.self in
-    record { fits = walk_fits_after (LeavesPair g.F.FnMut) s.cursor s.lent (lending_left s) s.map.now c.write_pairs.new.self c.args.f c.write_pairs.ensures.writes s.fits }
+    record { fits = walk_fits_after (LeavesPair g.F.FnMut) s.cursor s.lent (lending_left s) s.map.now c.write_pairs.new.self c.args.f c.write_pairs.ensures.writes s.fits; follows = run_fits_after (LeavesPair g.F.FnMut) s.cursor s.ahead (lending_left s) s.map.now c.write_pairs.new.self c.args.f c.write_pairs.ensures.writes s.follows }
 
 pub returns : goal.returns
 returns g c =
