@@ -24,5 +24,5 @@ module _ {K V M : Type 0} {p : ℕ} {g : Ghosts K} (s : CountedWalk K V M p g) w
         subst (λ (d : List (Numbered K V)). (f : count_fits s.cursor s.lent s.left (numbers d) ≡ true) (h : run_fits s.cursor s.ahead (numbers d) ≡ true)
         → (let x : CountedWalk K V M p g = record { map = record s.map { now = d }; cursor = s.cursor; ahead = s.ahead; lent = s.lent; left = s.left; kind = s.kind; fits = f; follows = h } in x) ≡ counted_with s w) (sym e)
         (λ f h.
-            ap (λ q. record (record (counted_with s w) { follows = h }) { fits = q }) (Bool-set _ true f (counted_with s w).fits)
-            ∙ ap (λ q. record (counted_with s w) { follows = q }) (Bool-set _ true h (counted_with s w).follows))
+        ap (λ q. record (record (counted_with s w) { follows = h }) { fits = q }) (Bool-set _ true f (counted_with s w).fits)
+        ∙ ap (λ q. record (counted_with s w) { follows = q }) (Bool-set _ true h (counted_with s w).follows))

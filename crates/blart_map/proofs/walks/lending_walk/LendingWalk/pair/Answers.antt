@@ -9,8 +9,7 @@ leaf_mut-requires g c = let s = c.args.self.now in (lit< tt, has_lent s.cursor s
 
 pub invariant_of-self-lent : goal.invariant_of-self-lent
 invariant_of-self-lent g c w =
-    let s = c.args.self.now in
-    (
+    let s = c.args.self.now in (
       ap (λ o. walk_fits s.cursor s.lent (numbers (written_last o s.map.now w))) (sym c.unwrap-id.ensures) ∙ fits_written s.cursor s.lent s.map.now w s.fits,
       (ap (λ o. run_fits s.cursor s.ahead (numbers (written_last o s.map.now w))) (sym c.unwrap-id.ensures) ∙ run_written s.cursor s.ahead s.lent s.map.now w s.follows, tt),
     )
