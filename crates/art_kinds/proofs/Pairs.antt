@@ -37,13 +37,6 @@ drop-paired (x ∷ bs) [] i b c l m = absurd (omega arith)
 drop-paired (x ∷ bs) (y ∷ cs) zero b c l m = refl
 drop-paired (x ∷ bs) (y ∷ cs) (suc i) b c l m = drop-paired bs cs i b c (omega arith) (omega arith)
 
--- past the last none is left
-pub drop-past : (es : List Edge) (i : ℕ) → length es ≤ i → drop i es ≡ []
-drop-past [] zero l = refl
-drop-past [] (suc i) l = refl
-drop-past (x ∷ es) zero l = absurd (omega arith)
-drop-past (x ∷ es) (suc i) l = drop-past es i (omega arith)
-
 -- the last edge found so far
 pub laid-later : (x : Option Edge) (e : Edge) (f : Option Edge) → laid (Some (later x e)) f ≡ laid x (Some e)
 laid-later None e f = refl

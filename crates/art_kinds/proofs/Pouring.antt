@@ -81,14 +81,6 @@ empty_index c = record {
   counted = none_of 256 (replicate 48 c);
 }
 
--- an edge in the front
-pub get-take : (es : List Edge) (n i : ℕ) (d : Edge) → i < n → get_or (take n es) i d ≡ get_or es i d
-get-take es zero i d l = absurd (omega arith)
-get-take [] (suc n) zero d l = refl
-get-take [] (suc n) (suc i) d l = refl
-get-take (x ∷ es) (suc n) zero d l = refl
-get-take (x ∷ es) (suc n) (suc i) d l = get-take es n i d (omega arith)
-
 -- the first edge stands at its byte
 at_first : (x : Edge) (xs : List Edge) → child_at (x ∷ xs) x.byte ≡ Some x.to
 at_first x xs = let e : eqb x.byte x.byte ≡ true = eq-eqb x.byte x.byte refl in rw e refl
