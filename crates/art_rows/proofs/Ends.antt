@@ -3,19 +3,17 @@ use Rattle.std.proofs.Common.{◌≡◌, ◌≢◌, ℕ, ◌-◌, List, [], ◌�
 use Rattle.std.proofs.lemmas.Bool.{ne_eqb, eq-eqb}
 use Rattle.art_rows.specs.Numbers.{Numbered, leaf_in, Has, AreDistinct, last_number, without_number}
 use Rattle.art_rows.specs.Rows.{nth, place_in}
-use Rattle.art_rows.proofs.NumbersLemmas.{has_other, Has-last}
-use Rattle.art_rows.proofs.RowsLemmas.{last_number-nth, place_in-nth}
+use Rattle.art_rows.proofs.NumbersLemmas.{has_other, Has-last, Has-first, no_first, no_last}
+use Rattle.art_rows.proofs.RowsLemmas.{last_number-nth, place_in-nth, first_number-nth}
 
 module _ {X : Type 0} where
   -- ---- the first
 
   pub first_none : (ps : List (Numbered X)) → nth (map (λ p. p.0) ps) 0 ≡ None → ps ≡ []
-  first_none [] e = refl
-  first_none (p ∷ ps) e = absurd cc
+  first_none ps e = no_first ps (first_number-nth ps ∙ e)
 
   pub first_has : (ps : List (Numbered X)) (id : ℕ) → nth (map (λ p. p.0) ps) 0 ≡ Some id → Has ps id
-  first_has [] id e = absurd cc
-  first_has (p ∷ ps) id e = let h : p.0 ≡ id = cc in rw (eq-eqb p.0 id h) refl
+  first_has ps id e = Has-first ps id (first_number-nth ps ∙ e)
 
   pub first_place : (ps : List (Numbered X)) (id : ℕ) → nth (map (λ p. p.0) ps) 0 ≡ Some id → place_in (map (λ p. p.0) ps) id ≡ 0
   first_place [] id e = absurd cc
@@ -33,11 +31,6 @@ module _ {X : Type 0} where
 
   pub last_none : (ps : List (Numbered X)) → nth (map (λ p. p.0) ps) (length ps - 1) ≡ None → ps ≡ []
   last_none ps e = no_last ps (last_number-nth ps ∙ e)
-    where
-      no_last : (ps : List (Numbered X)) → last_number ps ≡ None → ps ≡ []
-      no_last [] e = refl
-      no_last (p ∷ []) e = absurd cc
-      no_last (p ∷ q ∷ ps) e = absurd (let n : q ∷ ps ≡ [] = no_last (q ∷ ps) e in cc)
 
   pub last_place : (ps : List (Numbered X)) (id : ℕ) → AreDistinct ps → nth (map (λ p. p.0) ps) (length ps - 1) ≡ Some id → place_in (map (λ p. p.0) ps) id ≡ length ps - 1
   last_place ps id d e = place_in-nth ps (length ps - 1) id d e
