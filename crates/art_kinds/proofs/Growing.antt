@@ -1,5 +1,5 @@
 -- A node comes into a kind, leaves it, or moves to the next one.
-use Rattle.std.proofs.Common.{◌≡◌, ◌≢◌, ℕ, zero, suc, ◌+◌, ◌-◌, ◌*◌, ◌/◌, ◌%◌, ◌<◌, ◌≤◌, length, Some, None, refl, sym, ap, subst, ◌∙◌, inl, inr, arith}
+use Rattle.std.proofs.Common.{◌≡◌, ◌≢◌, ℕ, zero, suc, ◌+◌, ◌-◌, ◌*◌, ◌/◌, ◌%◌, ◌<◌, ◌≤◌, length, Some, None, refl, sym, ap, subst, ◌∙◌, inl, inr, arith, le_trans}
 use Rattle.std.proofs.Math.Nat.{mul-le-mul_left}
 use Rattle.std.proofs.lemmas.Bool.{cases_eq}
 use Rattle.std.proofs.lemmas.Bool.Decides.{leb_tells}
@@ -35,10 +35,7 @@ figure-up : (s t : Nodes) (j : ℕ) → (store_of s (suc j)).spare ≤ (store_of
 figure-up s t j e g =
     let a : serves (store_of s (suc j)).spare (takes j) (grown (floor j) (store_of s j)) ≤ serves (store_of s (suc j)).spare (takes j) (grown (floor j) (store_of t j)) = serves-less (store_of s (suc j)).spare (takes j) (grown (floor j) (store_of s j)) (grown (floor j) (store_of t j)) g in
     let b : serves (store_of s (suc j)).spare (takes j) (grown (floor j) (store_of t j)) ≤ serves (store_of t (suc j)).spare (takes j) (grown (floor j) (store_of t j)) = serves-more (store_of s (suc j)).spare (store_of t (suc j)).spare (takes j) (grown (floor j) (store_of t j)) e in
-    trans_le (figure s (suc j)) (serves (store_of s (suc j)).spare (takes j) (grown (floor j) (store_of t j))) (figure t (suc j)) a b
-  where
-    trans_le : (x y z : ℕ) → x ≤ y → y ≤ z → x ≤ z
-    trans_le x y z p q = omega arith
+    le_trans a b
 
 -- a node moves from one kind to another: it has another number, and the others stand
 pub moves : (s t : Nodes) (d e i j : ℕ) (x : Node) → ((k : ℕ) → k < 4 → k ≢ d → k ≢ e → store_of t k ≡ store_of s k) → slot_at (store_of s d) i ≡ Some x → slot_at (store_of t d) i ≡ None → ((k : ℕ) → k ≢ i → slot_at (store_of t d) k ≡ slot_at (store_of s d) k) → slot_at (store_of s e) j ≡ None → slot_at (store_of t e) j ≡ Some x → ((k : ℕ) → k ≢ j → slot_at (store_of t e) k ≡ slot_at (store_of s e) k) → (n m : ℕ) → n % 4 ≡ d → n / 4 ≡ i → m % 4 ≡ e → m / 4 ≡ j → Renames (at s) (at t) n m

@@ -1,9 +1,10 @@
 -- The edges of a table.
-use Rattle.std.proofs.Common.{◌≡◌, ◌≢◌, ℕ, zero, suc, ◌+◌, ◌-◌, ◌<◌, ◌≤◌, List, [], ◌∷◌, length, get_or, set, Option, Some, None, IsSome, is_some, count_by, refl, arith, cond, eqb, true, false, true≢false, inl, inr, sym, ap, ◌∙◌, subst, eq-eqb, zero-add}
+use Rattle.std.proofs.Common.{◌≡◌, ◌≢◌, ℕ, zero, suc, ◌+◌, ◌-◌, ◌<◌, ◌≤◌, List, [], ◌∷◌, length, get_or, set, Option, Some, None, IsSome, is_some, count_by, refl, arith, eqb, true, false, true≢false, inl, inr, sym, ap, ◌∙◌, subst, eq-eqb, zero-add}
 use Rattle.std.proofs.lemmas.Bool.{ne_eqb}
 use Rattle.std.proofs.lemmas.Bool.Decides.{leb_tells}
 use Rattle.std.proofs.lemmas.List.{get_or-set_same, get_or-set_other, get_or_past}
-use Rattle.std.proofs.lemmas.List.Sums.{sum_by-set, sum_by-cons, count_by-le-length}
+use Rattle.std.proofs.lemmas.List.Sums.{sum_by-cons, count_by-le-length}
+use Rattle.art_slots.proofs.StoreSlots.{one, count-set}
 use Rattle.art_kinds.specs.Edges.{child_at, AscendsAbove, Ascends, AddsChild, DropsChild, RedirectsChild, IsFrom, IsNext, IsPrevious, IsEnd, Filled, edges_from, edges_of}
 use Rattle.art_kinds.specs.declared.records.ids.Child.{Child}
 use Rattle.art_kinds.specs.declared.records.ids.Edge.{Edge}
@@ -40,19 +41,11 @@ edges-Ascends [] k = tt
 edges-Ascends (None ∷ t) k = edges-Ascends t (k + 1)
 edges-Ascends (Some c ∷ t) k = edges-AscendsAbove t (k + 1) k (omega arith)
 
--- 1 for something, 0 for nothing
-abbrev pub one : Option Child → ℕ
-one o = cond (is_some o) 1 0
-
 -- there are as many edges as children in the table
 pub length-edges : (t : List (Option Child)) (k : ℕ) → length (edges_from t k) ≡ count_by is_some t
 length-edges [] k = refl
 length-edges (None ∷ t) k = let ih : length (edges_from t (k + 1)) ≡ count_by is_some t = length-edges t (k + 1) in omega (arith, ih, sum_by-cons one None t)
 length-edges (Some c ∷ t) k = let ih : length (edges_from t (k + 1)) ≡ count_by is_some t = length-edges t (k + 1) in omega (arith, ih, sum_by-cons one (Some c) t)
-
--- how a write of one place changes the count
-pub count-set : (t : List (Option Child)) (i : ℕ) (o : Option Child) → i < length t → count_by is_some (set t i o) + one (get_or t i None) ≡ count_by is_some t + one o
-count-set t i o l = sum_by-set one t i o None l
 
 -- something counts as one
 one-some : (o : Option Child) → IsSome o → one o ≡ 1
@@ -143,7 +136,7 @@ next-of-from es b None h = λ c l. h c (omega arith)
 next-of-from es b (Some e) h = (let l : b + 1 ≤ e.byte = h.0 in omega arith, h.1, λ c lo hi. h.2 c (omega arith) hi)
 
 -- an edge stands somewhere, where there is one
-first_there : (x : Edge) (es : List Edge) → child_at (x ∷ es) x.byte ≡ Some x.to
+pub first_there : (x : Edge) (es : List Edge) → child_at (x ∷ es) x.byte ≡ Some x.to
 first_there x es = let t : eqb x.byte x.byte ≡ true = eq-eqb x.byte x.byte refl in rw t refl
 
 pub not-empty : (es : List Edge) → 0 < length es → ((c : ℕ) → child_at es c ≡ None) → ⊥

@@ -1,6 +1,6 @@
 -- The slots of a store: what a change of one leaves of the records and of the chain of spares.
 use Rattle.std.proofs.Common.{◌≡◌, ◌≢◌, ◌⊎◌, ℕ, zero, suc, ◌+◌, ◌-◌, ◌^◌, ◌<◌, ◌≤◌, max, List, [], ◌∷◌, map, length, get_or, set, Option, Some, None, is_some, IsSome, count_by, cond, refl, sym, ap, subst, ◌∙◌, inl, inr, arith, true≢false}
-use Rattle.std.proofs.lemmas.List.{map-set, length-map, get_or-set_same, get_or-set_other}
+use Rattle.std.proofs.lemmas.List.{map-set, length-map, get_or-set_same, get_or-set_other, get_or_past}
 use Rattle.std.proofs.lemmas.Bool.{cases_eq, cases_lt, cond_below, cond_above}
 use Rattle.std.proofs.lemmas.List.Sums.{sum_by-set, sum_by-cons}
 use Rattle.art_slots.specs.Chain.{used_of, AreLinked, HasSpares, room_of}
@@ -35,16 +35,8 @@ module _ {X : Type 0} where
 
   -- lists with the same at each place count alike
   pub count-same : (xs ys : List (Option X)) → ((j : ℕ) → get_or ys j None ≡ get_or xs j None) → count_by is_some ys ≡ count_by is_some xs
-  count-same [] ys h = count-none ys (λ j. h j ∙ get_or-none j)
-    where
-      get_or-none : (j : ℕ) → get_or {A = Option X} [] j None ≡ None
-      get_or-none zero = refl
-      get_or-none (suc j) = refl
-  count-same (x ∷ xs) [] h = sym (count-none (x ∷ xs) (λ j. sym (h j) ∙ get_or-none j))
-    where
-      get_or-none : (j : ℕ) → get_or {A = Option X} [] j None ≡ None
-      get_or-none zero = refl
-      get_or-none (suc j) = refl
+  count-same [] ys h = count-none ys (λ j. h j ∙ get_or_past {X = Option X} [] j None (omega arith))
+  count-same (x ∷ xs) [] h = sym (count-none (x ∷ xs) (λ j. sym (h j) ∙ get_or_past {X = Option X} [] j None (omega arith)))
   count-same (x ∷ xs) (y ∷ ys) h =
       let e : one y ≡ one x = ap one (h 0) in
       let ih : count_by is_some ys ≡ count_by is_some xs = count-same xs ys (λ j. h (suc j)) in
