@@ -7,6 +7,7 @@ pub use Rattle.art_rows.proofs.NumbersLemmas.{split, leaf_in-split, number_after
 pub use Rattle.art_rows.proofs.NumbersLemmas.{leaf_in-placed_now, others-with_pair_after}
 -- an item less
 pub use Rattle.art_rows.proofs.NumbersLemmas.{length-without_number, AreDistinct-without_number, others-without_number, leaf_in-without_now}
+pub use Rattle.art_rows.proofs.Ends.{first_off, last_off}
 -- another item under a number
 pub use Rattle.art_rows.proofs.NumbersLemmas.{leaf_in-with_now, others-with_pair}
 -- lists of the same numbers

@@ -80,18 +80,19 @@ module _ {X : Type 0} where
       let m : eqb p.0 n ≡ false = eqb_other p.0 n (λ t. has_other ps n p.0 h d.0 (sym t)) in
       rw m (ap suc (place_in-nth ps k n d.1 e))
 
+  -- the first number, by its place
+  pub first_number-nth : (ps : List (Numbered X)) → first_number ps ≡ nth (map (λ p. p.0) ps) 0
+  first_number-nth [] = refl
+  first_number-nth (p ∷ ps) = refl
+
   -- the number after one, by its place
   pub number_after-nth : (ps : List (Numbered X)) (i : ℕ) → Has ps i → number_after ps i ≡ nth (map (λ p. p.0) ps) (place_in (map (λ p. p.0) ps) i + 1)
   number_after-nth [] i h = (let f : false ≡ true = h in absurd cc)
   number_after-nth (p ∷ ps) i h = elim (eqb_tells p.0 i) [
-    | inl t ↦ rw t.0 (first ps)
+    | inl t ↦ rw t.0 (first_number-nth ps)
     | inr t ↦ rw t.0 (number_after-nth ps i (rw t.0 at h) ∙ step (p.0) (map (λ p. p.0) ps) (place_in (map (λ p. p.0) ps) i))
   ]
     where
-      first : (ps : List (Numbered X)) → first_number ps ≡ nth (map (λ p. p.0) ps) 0
-      first [] = refl
-      first (p ∷ ps) = refl
-
       step : (n : ℕ) (ns : List ℕ) (k : ℕ) → nth ns (k + 1) ≡ nth (n ∷ ns) (suc k + 1)
       step n ns k = (let e : suc k + 1 ≡ suc (k + 1) = omega arith in sym (ap (nth (n ∷ ns)) e))
 
@@ -122,11 +123,7 @@ module _ {X : Type 0} where
     | inr t ↦ (let f : suc (place_in (map (λ p. p.0) ps) i) ≡ 0 = rw t.0 at e in absurd (omega arith))
   ]
 
-  -- the first and the last number, by their places
-  pub first_number-nth : (ps : List (Numbered X)) → first_number ps ≡ nth (map (λ p. p.0) ps) 0
-  first_number-nth [] = refl
-  first_number-nth (p ∷ ps) = refl
-
+  -- the last number, by its place
   pub last_number-nth : (ps : List (Numbered X)) → last_number ps ≡ nth (map (λ p. p.0) ps) (length ps - 1)
   last_number-nth [] = refl
   last_number-nth (p ∷ []) = refl
