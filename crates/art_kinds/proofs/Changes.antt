@@ -11,8 +11,8 @@ use Rattle.art_kinds.specs.declared.records.ids.Child.{Child}
 use Rattle.art_kinds.specs.declared.records.ids.Kind.{Kind}
 use Rattle.art_kinds.specs.declared.records.ids.Kind.TheVariants.{Four, Sixteen, FortyEight, Full}
 use Rattle.art_kinds.specs.declared.records.ids.NodeId.TheInside.{Inside}
-use Rattle.art_slots.proofs.StoreSlots.{one, with-now, with-others, with-count}
-use Rattle.art_kinds.proofs.Rooms.{sum-least, grown-change, serves-grown, serves-less}
+use Rattle.art_slots.proofs.StoreSlots.{one, with-now, with-others, with-count, sum-least}
+use Rattle.art_kinds.proofs.Rooms.{grown-change, serves-grown, serves-less}
 use Rattle.art_kinds.proofs.Growing.{freed-spares}
 
 -- what holds of something holds of its value
