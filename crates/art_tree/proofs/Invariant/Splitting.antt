@@ -1,5 +1,5 @@
 -- One key more, on an edge that is split for it.
-use Rattle.std.proofs.Common.{◌≡◌, ◌≢◌, ℕ, ◌+◌, ◌<◌, ◌≤◌, List, [], ◌∷◌, ◌++◌, length, take, drop, refl, ap, arith, sym, subst, Option, Some, None, IsSome, ◌∙◌, ◌⊎◌, inl, inr, cond, eqb, eq-eqb}
+use Rattle.std.proofs.Common.{◌≡◌, ◌≢◌, ℕ, ◌+◌, ◌<◌, ◌≤◌, List, [], ◌∷◌, ◌++◌, length, take, drop, refl, ap, arith, sym, subst, Option, Some, None, IsSome, ◌∙◌, ◌⊎◌, inl, inr, cond, eqb, eq-eqb, length-append}
 use Rattle.std.proofs.lemmas.Bool.{cases_lt, ne_eqb}
 use Rattle.std.proofs.lemmas.Bool.Decides.{eqb_tells}
 use Rattle.art_tree.specs.Begins.{Bytes, Begins, next_byte}
@@ -13,7 +13,7 @@ use Rattle.art_tree.specs.Invariant.Shape.{Shape, Keeps, kept_prefix, Covers, Co
 use Rattle.art_kinds.specs.declared.records.ids.Edge.{Edge}
 use Rattle.art_kinds.specs.declared.records.ids.Child.{Child}
 use Rattle.art_kinds.specs.declared.records.ids.Child.TheVariants.{Leaf, Inner}
-use Rattle.art_tree.proofs.BeginsLemmas.{Begins-length, Begins-more, Begins-trans, Begins-itself, Begins-next, edge_some, Begins-linear, length-edge, Begins-past, next_byte-front, Begins-equal, Begins-edge_front, Begins-cases, common_same, common_at, common_comm, Bytes-cases}
+use Rattle.art_tree.proofs.BeginsLemmas.{Begins-length, Begins-more, Begins-trans, Begins-itself, Begins-next, edge_some, Begins-linear, Begins-past, next_byte-front, Begins-equal, Begins-edge_front, Begins-cases, common_same, common_at, common_comm, Bytes-cases}
 use Rattle.blart_keys.proofs.Options.{is_some, some_of}
 use Rattle.art_tree.proofs.Invariant.EdgesAbove.{Turns, turned_node, turns_after, leads_made}
 use Rattle.art_tree.proofs.Invariant.OneEdge.{one_above}
@@ -95,19 +95,19 @@ module _ {P : ℕ} (keys keys' : ℕ → Option Bytes) (nodes nodes' : ℕ → O
       let g : Bytes = f ++ b ∷ [] in
       elim (cases_lt (length g0) (length g)) [
         | inl lt ↦
-            let le : length g ≡ length f + 1 = length-edge f b in
+            let le : length g ≡ length f + 1 = length-append f (b ∷ []) in
             let ft : Begins f t = Begins-edge_front f t b gt in
             not_past_above m live ft g0 c0 covers0 (Begins-linear g0 f t g0_t ft (omega arith)) past
         | inr ge ↦
             elim splits.above [
               | inl a ↦
                   let z : length g0 ≡ 0 = ap length a.0 in
-                  let le : length g ≡ length f + 1 = length-edge f b in
+                  let le : length g ≡ length f + 1 = length-append f (b ∷ []) in
                   absurd (omega arith)
               | inr a ↦
                   let f0 : Bytes = s.front_of a.0 in
                   let e : g0 ≡ f0 ++ a.1 ∷ [] = a.3 in
-                  let le0 : length g0 ≡ length f0 + 1 = ap length e ∙ length-edge f0 a.1 in
+                  let le0 : length g0 ≡ length f0 + 1 = ap length e ∙ length-append f0 (a.1 ∷ []) in
                   let f0t : Begins f0 t = Begins-edge_front f0 t a.1 (rw (← e) g0_t) in
                   elim (cases_lt (length g) (length g0)) [
                     | inl lt ↦ not_past_above a.0 a.2 f0t g c cov (Begins-linear g f0 t gt f0t (omega arith)) far
@@ -255,7 +255,7 @@ module _ {P : ℕ} (keys keys' : ℕ → Option Bytes) (nodes nodes' : ℕ → O
         elim (kept_cases keys keys' i k gains j l e) [
           | inl o ↦
               let a : length (t ++ next_byte t d.nearest_key ∷ []) ≤ length l = Begins-length _ l (under_g0 j l o (Begins-trans g0 t l g0_t b)) in
-              let le : length (t ++ next_byte t d.nearest_key ∷ []) ≡ length t + 1 = length-edge t (next_byte t d.nearest_key) in
+              let le : length (t ++ next_byte t d.nearest_key ∷ []) ≡ length t + 1 = length-append t (next_byte t d.nearest_key ∷ []) in
               omega arith
           | inr o ↦ rw o.1 d.longer
         ];
@@ -379,7 +379,7 @@ module _ {P : ℕ} (keys keys' : ℕ → Option Bytes) (nodes nodes' : ℕ → O
       elim splits.above [
         | inl a ↦ rw a.2 (subst (λ (g : Bytes). CoversNode keys' nodes' fronts_after g n) a.0 new_node)
         | inr a ↦
-            let le : length g0 ≡ length (s.front_of a.0) + 1 = ap length a.3 ∙ length-edge (s.front_of a.0) a.1 in
+            let le : length g0 ≡ length (s.front_of a.0) + 1 = ap length a.3 ∙ length-append (s.front_of a.0) (a.1 ∷ []) in
             rw a.4 (top_kept root refl (omega arith))
       ]
 
