@@ -13,12 +13,13 @@ use Rattle.art_tree.specs.Invariant.Shape.{Shape, Keeps, kept_prefix, Covers, Co
 use Rattle.art_kinds.specs.declared.records.ids.Edge.{Edge}
 use Rattle.art_kinds.specs.declared.records.ids.Child.{Child}
 use Rattle.art_kinds.specs.declared.records.ids.Child.TheVariants.{Leaf, Inner}
-use Rattle.art_tree.proofs.BeginsLemmas.{Begins-length, Begins-more, Begins-trans, Begins-itself, Begins-next, edge_some, Begins-linear, Begins-past, next_byte-front, Begins-equal, Begins-edge_front, Begins-cases, common_same, common_at, common_comm, Bytes-cases}
+use Rattle.art_tree.proofs.BeginsLemmas.{Begins-length, Begins-more, Begins-trans, Begins-itself, Begins-next, edge_some, Begins-linear, Begins-past, Begins-equal, Begins-edge_front, Begins-cases, common_same, common_at, Bytes-cases}
 use Rattle.blart_keys.proofs.Options.{is_some, some_of}
 use Rattle.art_tree.proofs.Invariant.EdgesAbove.{Turns, turned_node, turns_after, leads_made}
 use Rattle.art_tree.proofs.Invariant.OneEdge.{one_above}
 use Rattle.art_tree.proofs.Invariant.Prefixes.{keeps_as, cut_node, cut_was, cut_free, cut_leads, turned_prefix}
-use Rattle.art_tree.proofs.Invariant.Growing.{covers_above, Departs, Gains, kept, kept_cases, within, Parts-within, Parts-two, Parts-kept}
+use Rattle.art_tree.proofs.Invariant.Growing.{covers_above, Departs, Gains, kept, kept_cases, within, Parts-kept, joined_more, edge_toward}
+use Rattle.art_tree.proofs.Invariant.Subtrees.{above_leaf, above_node}
 
 -- the child stands for a front longer than t
 abbrev pub Past : (ℕ → Bytes) → Bytes → Child → Type 0
@@ -69,15 +70,9 @@ module _ {P : ℕ} (keys keys' : ℕ → Option Bytes) (nodes nodes' : ℕ → O
 
   -- a child above a node whose front begins t is not past t
   not_past_above : (m : ℕ) → IsSome (nodes m) → Begins (s.front_of m) t → (g : Bytes) (c : Child) → Covers keys nodes s.front_of g c → Begins g (s.front_of m) → Past s.front_of t c → ⊥
-  not_past_above m live mt g (Leaf j) cov gm far =
-      let x = some_of (nodes m) live in
-      let p = (s.node m x.0 x.1).parts in
-      Parts-two keys (s.front_of m) p j (cov.only p.i p.k p.k_is (Begins-trans g (s.front_of m) p.k gm p.k_front)) (cov.only p.j p.l p.l_is (Begins-trans g (s.front_of m) p.l gm p.l_front))
+  not_past_above m live mt g (Leaf j) cov gm far = above_leaf keys nodes root s m live g j cov gm
   not_past_above m live mt g (Inner m') cov gm far =
-      let x = some_of (nodes m) live in
-      let p = (s.node m x.0 x.1).parts in
-      let w : Begins (s.front_of m') (s.front_of m) = Parts-within keys (s.front_of m) (s.front_of m') p (cov.only p.i p.k p.k_is (Begins-trans g (s.front_of m) p.k gm p.k_front)) (cov.only p.j p.l p.l_is (Begins-trans g (s.front_of m) p.l gm p.l_front)) in
-      let a : length (s.front_of m') ≤ length (s.front_of m) = Begins-length (s.front_of m') (s.front_of m) w in
+      let a : length (s.front_of m') ≤ length (s.front_of m) = Begins-length (s.front_of m') (s.front_of m) (above_node keys nodes root s m live g m' cov gm) in
       let b : length (s.front_of m) ≤ length t = Begins-length (s.front_of m) t mt in
       let f : length t < length (s.front_of m') = far in
       omega arith
@@ -309,13 +304,7 @@ module _ {P : ℕ} (keys keys' : ℕ → Option Bytes) (nodes nodes' : ℕ → O
               | inl o ↦ f.edge j l o b
               | inr o ↦
                   let gk : Begins g k = rw (← o.1) b in
-                  let h : length g < length t = shorter m x is gk in
-                  let gt : Begins g t = Begins-linear g t k gk d.front (omega arith) in
-                  let a : next_byte g t ≡ next_byte g k = next_byte-front g t k d.front h in
-                  let c : next_byte g t ≡ next_byte g d.nearest_key = next_byte-front g t d.nearest_key d.nearest_front h in
-                  let z : IsSome (child_at x.edges (next_byte g d.nearest_key)) = f.edge d.nearest d.nearest_key d.nearest_is (Begins-trans g t d.nearest_key gt d.nearest_front) in
-                  let P : ℕ → Type 0 = λ b. IsSome (child_at x.edges b) in
-                  rw o.1 (subst P (sym c ∙ a) z)
+                  rw o.1 (edge_toward keys t k d g x.edges gk (shorter m x is gk) f.edge)
             ]) in
             elim (Bytes-cases (g ++ next_byte g l ∷ []) g0) [
               | inl at ↦ is_some (child_at x'.edges (next_byte g l)) (Inner n) (r.now (next_byte g l) at)
@@ -451,19 +440,7 @@ module _ {P : ℕ} (keys keys' : ℕ → Option Bytes) (nodes nodes' : ℕ → O
     front_of = fronts_after;
     top = top_fits;
     node = node_fits;
-    joined = λ a b x y ax by apart.
-        elim (kept_cases keys keys' i k gains a x ax) [
-          | inl o ↦
-              elim (kept_cases keys keys' i k gains b y by) [
-                | inl p ↦ old_joined a b x y o p apart
-                | inr p ↦ let r = joined_new a x o in (r.0, r.1, r.2 ∙ common_comm k x ∙ ap (common x) (sym p.1))
-              ]
-          | inr o ↦
-              elim (kept_cases keys keys' i k gains b y by) [
-                | inl p ↦ let r = joined_new b y p in (r.0, r.1, r.2 ∙ ap (λ (z : Bytes). common z y) (sym o.1))
-                | inr p ↦ absurd (apart (o.0 ∙ sym p.0))
-              ]
-        ];
+    joined = joined_more keys keys' i k gains nodes' fronts_after old_joined joined_new;
     apart = λ a b la lb e.
         elim (eqb_tells a n) [
           | inl p ↦
