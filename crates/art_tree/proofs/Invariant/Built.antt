@@ -78,10 +78,7 @@ take_shared n k q l = take_front_of n (common k q) k (common-left k q) l ∙ sym
 
 -- and at each place before that one byte
 pub get_shared : (n : ℕ) (k q : Bytes) → n < length (common k q) → get_or k n 0 ≡ get_or q n 0
-get_shared n k q l = sym (next_byte-at n k) ∙ ap (λ (t : Bytes). get_or t n 0) (take_shared (n + 1) k q (omega arith)) ∙ next_byte-at n q
-  where
-    next_byte-at : (n : ℕ) (k : Bytes) → get_or (take (n + 1) k) n 0 ≡ get_or k n 0
-    next_byte-at n k = get_or-take (n + 1) k n 0 (omega arith)
+get_shared n k q l = sym (get_or-take (n + 1) k n 0 (omega arith)) ∙ ap (λ (t : Bytes). get_or t n 0) (take_shared (n + 1) k q (omega arith)) ∙ get_or-take (n + 1) q n 0 (omega arith)
 
 -- ---- one more loose edge
 

@@ -418,14 +418,11 @@ module _ {P : ℕ} {keys : ℕ → Option Bytes} {nodes : ℕ → Option Node} {
           let k : x.prefix ≡ take P (drop start own_front) = kept_is in
           let e' : count ≡ length (common (take P (drop start own_front)) (drop start q)) = subst (λ (z : Bytes). count ≡ length (common z (drop start q))) k e in
           let low : length (common (take P (drop start own_front)) (drop start q)) ≤ length (take P (drop start own_front)) = common-in_left (take P (drop start own_front)) (drop start q) in
-          let long : length (drop start own_front) ≤ length (take P (drop start own_front)) = (let m : length (drop start own_front) + start ≡ length own_front = dropped start own_front start_within in omega arith) in
+          let long : length (drop start own_front) ≤ length (take P (drop start own_front)) = omega (arith, length-drop start own_front, start_within) in
           let t : take P (drop start own_front) ≡ drop start own_front = Begins-equal (take P (drop start own_front)) (drop start own_front) (Begins-take P (drop start own_front)) long in
           let c : length (common (take P (drop start own_front)) (drop start q)) ≡ length (common (drop start own_front) (drop start q)) = ap (λ (z : Bytes). length (common z (drop start q))) t in
           let s : length (common own_front q) ≡ start + length (common (drop start own_front) (drop start q)) = shared_after in
           record { is = omega arith; next = λ a b. absurd (omega arith) }
-        where
-          dropped : (n : ℕ) (a : Bytes) → n ≤ length a → length (drop n a) + n ≡ length a
-          dropped n a l = omega (arith, length-drop n a)
 
   -- ---- the place beside a child
 
