@@ -1,5 +1,5 @@
 -- A pair that a cursor has passed is no longer left.
-use Rattle.std.proofs.Common.{◌≡◌, ℕ, ◌+◌, ◌<◌, suc, List, [], ◌∷◌, ◌++◌, length, Option, Some, None, inl, refl, sym, ap, ◌∙◌, subst, arith, length-append}
+use Rattle.std.proofs.Common.{◌≡◌, ℕ, ◌+◌, ◌<◌, List, [], ◌∷◌, ◌++◌, length, Option, Some, None, inl, refl, sym, ap, ◌∙◌, subst, arith, length-append}
 use Rattle.blart_keys.proofs.RankLemmas.{Member, Member-append_left, Member-append_right}
 use Rattle.art_tree.specs.Leaves.{Numbered, leaf_in, AreDistinct, Lacks}
 use Rattle.art_tree.proofs.CallerLemmas.{leaf_in-member}
