@@ -18,6 +18,10 @@ length-paired [] cs l = refl
 length-paired (b ∷ bs) [] l = absurd (omega arith)
 length-paired (b ∷ bs) (c ∷ cs) l = ap suc (length-paired bs cs (omega arith))
 
+-- as many edges, where there are as many bytes and children
+pub same-paired : (bs : List ℕ) (cs : List Child) (bs' : List ℕ) (cs' : List Child) → length bs' ≡ length bs → length cs' ≡ length cs → length cs ≡ length bs → length (paired bs' cs') ≡ length (paired bs cs)
+same-paired bs cs bs' cs' a b l = omega (arith, length-paired bs cs l, length-paired bs' cs' (b ∙ l ∙ sym a))
+
 pub take-paired : (n : ℕ) (bs : List ℕ) (cs : List Child) → paired (take n bs) (take n cs) ≡ take n (paired bs cs)
 take-paired zero bs cs = refl
 take-paired (suc n) [] cs = refl
