@@ -11,8 +11,8 @@ use Rattle.art_kinds.specs.declared.records.ids.Child.{Child}
 use Rattle.art_kinds.specs.declared.records.ids.Kind.{Kind}
 use Rattle.art_kinds.specs.declared.records.ids.Kind.TheVariants.{Four, Sixteen, FortyEight, Full}
 use Rattle.art_kinds.specs.declared.records.ids.NodeId.TheInside.{Inside}
-use Rattle.art_slots.proofs.StoreSlots.{one, with-now, with-others, with-count}
-use Rattle.art_kinds.proofs.Rooms.{sum-least, grown-change, serves-grown, serves-less}
+use Rattle.art_slots.proofs.StoreSlots.{one, with-now, with-others, with-count, sum-least}
+use Rattle.art_kinds.proofs.Rooms.{grown-change, serves-grown, serves-less}
 use Rattle.art_kinds.proofs.Growing.{freed-spares}
 
 -- what holds of something holds of its value
@@ -332,6 +332,26 @@ module _ {s v : Nodes} (f : s ≡ v) (w : Inside) {n : ℕ} (e : number w ≡ n)
           let r : SameSpares s (put s K a) = c h.was h.is h.was_is is_on q in
           subst (λ (u : Nodes). SameSpares u (put s K a)) f r
 
+    -- ---- what a call does to all
+
+    pub freed_all : Loses (store_of s (digit K)) a w.place → Frees (at v) (at (put s K a)) n × (live (put s K a) + 1 ≡ live v) × MoreSpares v (put s K a)
+    freed_all h = (frees h, live-less h, frees-spares h)
+
+    pub added_all : {b : ℕ} {to : Child} → IsSomeAnd (at v n) (λ x. child_at x.edges b ≡ None) → Changes (Rewires (λ p q. AddsChild p q b to)) (store_of s (digit K)) a w.place
+        → AddsEdgeTo (at v) (at (put s K a)) n b to × Lowers (n % 4 + 1) v (put s K a) × (live (put s K a) ≡ live v)
+    added_all absent h = (adds absent h, lowers h h.so.edges.longer, live-same h)
+
+    pub dropped_all : {b : ℕ} → Changes (Rewires (λ p q. DropsChild p q b)) (store_of s (digit K)) a w.place → DropsEdge (at v) (at (put s K a)) n b × MoreSpares v (put s K a) × (live (put s K a) ≡ live v)
+    dropped_all h = (drops h, more h h.so.edges.shorter, live-same h)
+
+    pub redirected_all : {b : ℕ} {to : Child} → Changes (Rewires (λ p q. RedirectsChild p q b to)) (store_of s (digit K)) a w.place
+        → Redirects (at v) (at (put s K a)) n b to × SameSpares v (put s K a) × (live (put s K a) ≡ live v)
+    redirected_all h = (redirects h, stands h h.so.edges.same_length, live-same h)
+
+    pub reprefixed_all : {prefix : List ℕ} → Changes (λ x y. y ≡ record x { prefix = prefix }) (store_of s (digit K)) a w.place
+        → Reprefixes (at v) (at (put s K a)) n prefix × SameSpares v (put s K a) × (live (put s K a) ≡ live v)
+    reprefixed_all h = (reprefixes h, stands h (ap (λ (x : Node). length x.edges) h.so), live-same h)
+
 -- for how many children a kind has places, where these have a limit
 abbrev pub limit : Kind → Option ℕ
 limit Four = Some 4
@@ -369,3 +389,8 @@ small_live {P} {l} {a} v i h =
 -- the same, by what holds of the node
 pub small_in : {P : ℕ} {l : Option ℕ} {a : Store Node} → IsOneKind P l a → (i : ℕ) (R : Node → Type 0) → IsSomeAnd (slot_at a i) R → P < 2 ^ 62
 small_in {P} {l} {a} v i R h = small_live v i (some_such R (slot_at a i) h)
+
+-- and it is in the store of its kind
+pub found_small : {s v : Nodes} (f : s ≡ v) (w : Inside) {n : ℕ} (e : number w ≡ n) {K : Kind} (k : w.kind ≡ K) {P : ℕ} {l : Option ℕ} → IsOneKind P l (store_of s (digit K)) → (R : Node → Type 0) → IsSomeAnd (at v n) R
+    → (P < 2 ^ 62) × IsSomeAnd (slot_at (store_of s (digit K)) w.place) R
+found_small f w e k v R h = let there = holds_at f w e k (λ (o : Option Node). IsSomeAnd o R) h in (small_in v w.place R there, there)

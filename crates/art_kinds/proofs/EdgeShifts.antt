@@ -1,5 +1,5 @@
 -- Edges in the order of their bytes: one more among them, or one less.
-use Rattle.std.proofs.Common.{◌≡◌, ◌≢◌, ℕ, zero, suc, ◌+◌, ◌-◌, ◌<◌, ◌≤◌, List, [], ◌∷◌, ◌++◌, length, take, drop, set, get_or, Option, Some, None, IsSome, refl, arith, cond, eqb, true, false, sym, ap, subst, eq-eqb, ◌∙◌, inl, inr}
+use Rattle.std.proofs.Common.{◌≡◌, ◌≢◌, ℕ, zero, suc, ◌+◌, ◌-◌, ◌<◌, ◌≤◌, List, [], ◌∷◌, ◌++◌, length, take, drop, set, Option, Some, None, IsSome, refl, arith, cond, eqb, true, false, sym, ap, subst, eq-eqb, ◌∙◌, inl, inr}
 use Rattle.std.proofs.Math.Seq.{paste, take-set-lt}
 use Rattle.std.proofs.lemmas.List.{take-take, drop-take, length-drop}
 use Rattle.std.proofs.lemmas.List.Edits.{take-paste}
@@ -245,24 +245,3 @@ same_edges (x ∷ es) (y ∷ fs) a d h =
             | inr q ↦ (let l : y.byte < suc x.byte = q.1 in let off : x.byte ≢ y.byte = p.1 in let n : child_at (x ∷ es) y.byte ≡ None = AscendsAbove-absent y.byte y.byte (x ∷ es) (omega arith, a) (omega arith) in let z : Some y.to ≡ None = cc in absurd cc)
           ]
     ]
-
--- within a list the default does not matter
-pub get_or-any : {X : Type 0} → (es : List X) (i : ℕ) (d e : X) → i < length es → get_or es i d ≡ get_or es i e
-get_or-any [] i d e l = absurd (omega arith)
-get_or-any (x ∷ es) zero d e l = refl
-get_or-any (x ∷ es) (suc i) d e l = get_or-any es i d e (omega arith)
-
--- ---- how many edges there can be
-
--- ascending bytes are at most 256
-abbrev pub AllBytes : List Edge → Type 0
-AllBytes [] = Unit {0}
-AllBytes (x ∷ es) = (x.byte < 256) × AllBytes es
-
--- bytes that rise above another leave that many places
-AscendsAbove-short : (k : ℕ) (es : List Edge) → k < 256 → AscendsAbove k es → AllBytes es → k + length es < 256
-AscendsAbove-short k [] l a h = omega arith
-AscendsAbove-short k (x ∷ es) l a h =
-    let c : k < x.byte = a.0 in
-    let ih : x.byte + length es < 256 = AscendsAbove-short x.byte es h.0 a.1 h.1 in
-    omega arith

@@ -1,10 +1,9 @@
 -- A node comes into a kind, leaves it, or moves to the next one.
-use Rattle.std.proofs.Common.{◌≡◌, ◌≢◌, ℕ, zero, suc, ◌+◌, ◌-◌, ◌*◌, ◌/◌, ◌%◌, ◌<◌, ◌≤◌, List, [], ◌∷◌, length, Some, None, refl, sym, ap, subst, ◌∙◌, inl, inr, arith}
+use Rattle.std.proofs.Common.{◌≡◌, ◌≢◌, ℕ, zero, suc, ◌+◌, ◌-◌, ◌*◌, ◌/◌, ◌%◌, ◌<◌, ◌≤◌, length, Some, None, refl, sym, ap, subst, ◌∙◌, inl, inr, arith, le_trans}
 use Rattle.std.proofs.Math.Nat.{mul-le-mul_left}
 use Rattle.std.proofs.lemmas.Bool.{cases_eq}
 use Rattle.std.proofs.lemmas.Bool.Decides.{leb_tells}
-use Rattle.art_kinds.specs.Nodes.{Node, Nodes, store_of, at, over, grown, floor, places, takes, figure, serves, HasPlace, FitsMore, Lowers, MoreSpares, Makes, Renames, room}
-use Rattle.art_kinds.specs.declared.records.ids.Edge.{Edge}
+use Rattle.art_kinds.specs.Nodes.{Node, Nodes, store_of, at, over, grown, floor, places, takes, figure, serves, HasPlace, FitsMore, Lowers, MoreSpares, Renames, room}
 use Rattle.art_slots.specs.Store.{Store, slot_at}
 use Rattle.art_kinds.specs.OneKinds.{Grows}
 use Rattle.art_kinds.proofs.Rooms.{grown-change, grown-same, grown-least, serves-one-4, serves-one-13, serves-one-33, room-figures, serves-grown, serves-less, serves-4, serves-13, serves-33, room-falls}
@@ -36,10 +35,7 @@ figure-up : (s t : Nodes) (j : ℕ) → (store_of s (suc j)).spare ≤ (store_of
 figure-up s t j e g =
     let a : serves (store_of s (suc j)).spare (takes j) (grown (floor j) (store_of s j)) ≤ serves (store_of s (suc j)).spare (takes j) (grown (floor j) (store_of t j)) = serves-less (store_of s (suc j)).spare (takes j) (grown (floor j) (store_of s j)) (grown (floor j) (store_of t j)) g in
     let b : serves (store_of s (suc j)).spare (takes j) (grown (floor j) (store_of t j)) ≤ serves (store_of t (suc j)).spare (takes j) (grown (floor j) (store_of t j)) = serves-more (store_of s (suc j)).spare (store_of t (suc j)).spare (takes j) (grown (floor j) (store_of t j)) e in
-    trans_le (figure s (suc j)) (serves (store_of s (suc j)).spare (takes j) (grown (floor j) (store_of t j))) (figure t (suc j)) a b
-  where
-    trans_le : (x y z : ℕ) → x ≤ y → y ≤ z → x ≤ z
-    trans_le x y z p q = omega arith
+    le_trans a b
 
 -- a node moves from one kind to another: it has another number, and the others stand
 pub moves : (s t : Nodes) (d e i j : ℕ) (x : Node) → ((k : ℕ) → k < 4 → k ≢ d → k ≢ e → store_of t k ≡ store_of s k) → slot_at (store_of s d) i ≡ Some x → slot_at (store_of t d) i ≡ None → ((k : ℕ) → k ≢ i → slot_at (store_of t d) k ≡ slot_at (store_of s d) k) → slot_at (store_of s e) j ≡ None → slot_at (store_of t e) j ≡ Some x → ((k : ℕ) → k ≢ j → slot_at (store_of t e) k ≡ slot_at (store_of s e) k) → (n m : ℕ) → n % 4 ≡ d → n / 4 ≡ i → m % 4 ≡ e → m / 4 ≡ j → Renames (at s) (at t) n m
@@ -134,22 +130,6 @@ module _ (s t : Nodes) (i : ℕ) (x : Node) (same : (k : ℕ) → k < 4 → k �
   -- room falls by one at most
   pub makes-room : room s ≤ room t + 1
   makes-room = room-falls s t made_figures
-
--- the node that was made
-pub makes : (s t : Nodes) (i : ℕ) (same : (k : ℕ) → k < 4 → k ≢ 0 → store_of t k ≡ store_of s k) (fresh : slot_at s.fours i ≡ None) (others : (k : ℕ) → k ≢ i → slot_at t.fours k ≡ slot_at s.fours k) (depth : ℕ) (prefix : List ℕ) (low high : Edge) → slot_at t.fours i ≡ Some (record { depth = depth; prefix = prefix; edges = low ∷ high ∷ [] }) → Makes (at s) (at t) (4 * i + 0) depth prefix low high
-makes s t i same fresh others depth prefix low high is =
-    let q : (4 * i + 0) % 4 ≡ 0 = omega arith in
-    let r : (4 * i + 0) / 4 ≡ i = omega arith in
-    record {
-      fresh = at_is s (4 * i + 0) 0 i q r ∙ fresh;
-      is = at_is t (4 * i + 0) 0 i q r ∙ is;
-      others = λ m off. elim (cases_eq (m % 4) 0) [
-        | inl p ↦ (
-            let far : m / 4 ≢ i = λ z. off (omega arith) in
-            at_is t m 0 (m / 4) p refl ∙ others (m / 4) far ∙ sym (at_is s m 0 (m / 4) p refl))
-        | inr p ↦ ap (λ (u : Store Node). slot_at u (m / 4)) (same (m % 4) (omega arith) p)
-      ];
-    }
 
 -- a node is freed
 module _ (s t : Nodes) (d i : ℕ) (l : d < 4) (same : (k : ℕ) → k < 4 → k ≢ d → store_of t k ≡ store_of s k) (gone : slot_at (store_of t d) i ≡ None) (others : (k : ℕ) → k ≢ i → slot_at (store_of t d) k ≡ slot_at (store_of s d) k) (more : (store_of t d).spare ≡ (store_of s d).spare + 1) where

@@ -18,6 +18,10 @@ length-paired [] cs l = refl
 length-paired (b ∷ bs) [] l = absurd (omega arith)
 length-paired (b ∷ bs) (c ∷ cs) l = ap suc (length-paired bs cs (omega arith))
 
+-- as many edges, where there are as many bytes and children
+pub same-paired : (bs : List ℕ) (cs : List Child) (bs' : List ℕ) (cs' : List Child) → length bs' ≡ length bs → length cs' ≡ length cs → length cs ≡ length bs → length (paired bs' cs') ≡ length (paired bs cs)
+same-paired bs cs bs' cs' a b l = omega (arith, length-paired bs cs l, length-paired bs' cs' (b ∙ l ∙ sym a))
+
 pub take-paired : (n : ℕ) (bs : List ℕ) (cs : List Child) → paired (take n bs) (take n cs) ≡ take n (paired bs cs)
 take-paired zero bs cs = refl
 take-paired (suc n) [] cs = refl
@@ -36,13 +40,6 @@ drop-paired [] cs i b c l m = absurd (omega arith)
 drop-paired (x ∷ bs) [] i b c l m = absurd (omega arith)
 drop-paired (x ∷ bs) (y ∷ cs) zero b c l m = refl
 drop-paired (x ∷ bs) (y ∷ cs) (suc i) b c l m = drop-paired bs cs i b c (omega arith) (omega arith)
-
--- past the last none is left
-pub drop-past : (es : List Edge) (i : ℕ) → length es ≤ i → drop i es ≡ []
-drop-past [] zero l = refl
-drop-past [] (suc i) l = refl
-drop-past (x ∷ es) zero l = absurd (omega arith)
-drop-past (x ∷ es) (suc i) l = drop-past es i (omega arith)
 
 -- the last edge found so far
 pub laid-later : (x : Option Edge) (e : Edge) (f : Option Edge) → laid (Some (later x e)) f ≡ laid x (Some e)

@@ -2,12 +2,11 @@
 use Rattle.std.proofs.Common.{◌≡◌, ◌≢◌, ℕ, zero, suc, ◌+◌, ◌-◌, ◌<◌, ◌≤◌, List, [], ◌∷◌, length, get_or, set, Option, Some, None, IsSome, is_some, count_by, refl, arith, eqb, true, false, ◌⊎◌, inl, inr, sym, ap, ◌∙◌, subst, length-set}
 use Rattle.std.proofs.lemmas.Bool.{ne_eqb, lt-ltb, le-ltb}
 use Rattle.std.proofs.lemmas.Bool.Decides.{eqb_tells, leb_tells}
-use Rattle.std.proofs.lemmas.List.{get_or-set_same, get_or-set_other}
+use Rattle.std.proofs.lemmas.List.{get_or-set_same, get_or-set_other, get_or_default, ext_get_or}
 use Rattle.std.specs.Prelude.{ltb}
 use Rattle.art_kinds.specs.Edges.{child_at, AddsChild, DropsChild, RedirectsChild, Filled, IsIndex, edges_of, table, child_under, moved}
 use Rattle.art_kinds.specs.declared.records.ids.Child.{Child}
 use Rattle.art_kinds.specs.declared.records.ids.Child.TheVariants.{Leaf}
-use Rattle.art_kinds.proofs.EdgeShifts.{get_or-any}
 use Rattle.art_kinds.proofs.Tables.{child_at-edges, length-edges, table_adds, table_drops, table_redirects, filled-adds, filled-drops, filled-same}
 
 pub at-table : (index : List ℕ) (children : List Child) (b : ℕ) → get_or (table index children) b None ≡ child_under children (get_or index b 48)
@@ -19,16 +18,6 @@ at-table (x ∷ index) children (suc b) = at-table index children b
 pub length-table : (index : List ℕ) (children : List Child) → length (table index children) ≡ length index
 length-table [] children = refl
 length-table (x ∷ index) children = ap suc (length-table index children)
-
--- tables with the same entries are one
-same_tables : (t u : List (Option Child)) → length t ≡ length u → ((j : ℕ) → get_or t j None ≡ get_or u j None) → t ≡ u
-same_tables [] [] l h = refl
-same_tables [] (p ∷ u) l h = absurd (omega arith)
-same_tables (o ∷ t) [] l h = absurd (omega arith)
-same_tables (o ∷ t) (p ∷ u) l h =
-    let e : o ≡ p = h 0 in
-    let f : t ≡ u = same_tables t u (omega arith) (λ j. h (suc j)) in
-    cc
 
 pub under-none : (children : List Child) (s : ℕ) → 48 ≤ s → child_under children s ≡ None
 under-none children s l = let t : ltb s 48 ≡ false = le-ltb s 48 l in rw t refl
@@ -48,7 +37,7 @@ written : (index : List ℕ) (children : List Child) (index' : List ℕ) (childr
 written index children index' children' b o l same here there =
     let t = table index children in
     let n : length t ≡ length index = length-table index children in
-    same_tables (table index' children') (set t b o) (length-table index' children' ∙ same ∙ sym n ∙ sym (length-set t b o)) (λ j. elim (eqb_tells j b) [
+    ext_get_or None (table index' children') (set t b o) (length-table index' children' ∙ same ∙ sym n ∙ sym (length-set t b o)) (λ j _. elim (eqb_tells j b) [
       | inl p ↦ ap (λ z. get_or (table index' children') z None) p.1 ∙ at-table index' children' b ∙ here ∙ sym (ap (λ z. get_or (set t b o) z None) p.1 ∙ get_or-set_same t b o None (omega arith))
       | inr p ↦ at-table index' children' j ∙ there j p.1 ∙ sym (at-table index children j) ∙ sym (get_or-set_other t b j o None p.1)
     ])
@@ -154,7 +143,7 @@ module _ (n : ℕ) (index : List ℕ) (children : List Child) (i : IsIndex n ind
     place_lt = present b some
 
     pub place_is : get_or index b 48 ≡ get_or index b 0
-    place_is = let w : length index ≡ 256 = i.wide in get_or-any index b 48 0 (omega arith)
+    place_is = let w : length index ≡ 256 = i.wide in get_or_default index b 48 0 (omega arith)
 
     led : child_under (set children at to) (get_or index b 48) ≡ Some to
     led =
@@ -299,7 +288,7 @@ module _ (n : ℕ) (index : List ℕ) (children : List Child) (i : IsIndex n ind
         let l : length children ≡ 48 = i.long in
         let w : n ≤ 48 = i.within in
         let k : 0 < n = some_left in
-        get_or-any children (n - 1) d (Leaf 0) (omega arith)
+        get_or_default children (n - 1) d (Leaf 0) (omega arith)
 
     is48 : (c : ℕ) → get_or index' c 48 ≡ moved (n - 1) (get_or index b 48) (get_or (set index b 48) c 48)
     is48 c = is c ∙ ap (λ z. moved (n - 1) z (get_or (set index b 48) c 48)) (sym gone_is)

@@ -1,5 +1,5 @@
 -- The edges of one node put into another, one by one.
-use Rattle.std.proofs.Common.{◌≡◌, ◌≢◌, ℕ, zero, suc, ◌+◌, ◌<◌, ◌≤◌, List, [], ◌∷◌, length, get_or, take, replicate, Option, Some, None, IsSome, is_some, count_by, cond, eqb, false, refl, arith, sym, ap, subst, ◌∙◌, inl, inr, eq-eqb, true}
+use Rattle.std.proofs.Common.{◌≡◌, ◌≢◌, ℕ, zero, suc, ◌+◌, ◌<◌, ◌≤◌, List, [], ◌∷◌, length, get_or, take, replicate, Option, Some, None, IsSome, is_some, count_by, cond, eqb, false, refl, arith, sym, ap, subst, ◌∙◌, inl, inr}
 use Rattle.std.proofs.lemmas.Bool.{ne_eqb, cases_eq}
 use Rattle.std.proofs.lemmas.Bool.Decides.{eqb_tells, leb_tells}
 use Rattle.std.proofs.lemmas.List.{length-replicate}
@@ -9,7 +9,8 @@ use Rattle.art_kinds.specs.declared.records.ids.Child.{Child}
 use Rattle.art_kinds.specs.declared.records.ids.Edge.{Edge}
 use Rattle.art_kinds.proofs.EdgeShifts.{same_edges, AscendsAbove-Ascends, AscendsAbove-absent}
 use Rattle.art_kinds.proofs.EdgeNexts.{last-greatest}
-use Rattle.art_kinds.proofs.Tables.{one}
+use Rattle.art_slots.proofs.StoreSlots.{one}
+use Rattle.art_kinds.proofs.Tables.{first_there}
 
 AscendsAbove-take : (k : ℕ) (es : List Edge) (n : ℕ) → AscendsAbove k es → AscendsAbove k (take n es)
 AscendsAbove-take k [] zero a = tt
@@ -81,18 +82,6 @@ empty_index c = record {
   counted = none_of 256 (replicate 48 c);
 }
 
--- an edge in the front
-pub get-take : (es : List Edge) (n i : ℕ) (d : Edge) → i < n → get_or (take n es) i d ≡ get_or es i d
-get-take es zero i d l = absurd (omega arith)
-get-take [] (suc n) zero d l = refl
-get-take [] (suc n) (suc i) d l = refl
-get-take (x ∷ es) (suc n) zero d l = refl
-get-take (x ∷ es) (suc n) (suc i) d l = get-take es n i d (omega arith)
-
--- the first edge stands at its byte
-at_first : (x : Edge) (xs : List Edge) → child_at (x ∷ xs) x.byte ≡ Some x.to
-at_first x xs = let e : eqb x.byte x.byte ≡ true = eq-eqb x.byte x.byte refl in rw e refl
-
 -- no edge stands below the first
 first_least : (x : Edge) (xs : List Edge) (c : ℕ) (to : Child) → Ascends (x ∷ xs) → child_at (x ∷ xs) c ≡ Some to → x.byte ≤ c
 first_least x xs c to a h = elim (leb_tells (suc c) x.byte) [
@@ -111,11 +100,11 @@ fewer_before b (x ∷ xs) [] a d h n s = let f : IsSome {T = Child} None = s in 
 fewer_before b [] (y ∷ es) a d h n s = omega arith
 fewer_before b (x ∷ xs) (y ∷ es) a d h n s =
     let lt : x.byte < b = elim (leb_tells b x.byte) [
-      | inl p ↦ (let z : Some x.to ≡ None = sym (at_first x xs) ∙ n x.byte p.1 in absurd cc)
+      | inl p ↦ (let z : Some x.to ≡ None = sym (first_there x xs) ∙ n x.byte p.1 in absurd cc)
       | inr p ↦ p.1
     ] in
-    let le : y.byte ≤ x.byte = first_least y es x.byte x.to d (sym (h x.byte lt) ∙ at_first x xs) in
-    let ge : x.byte ≤ y.byte = first_least x xs y.byte y.to a (h y.byte (omega arith) ∙ at_first y es) in
+    let le : y.byte ≤ x.byte = first_least y es x.byte x.to d (sym (h x.byte lt) ∙ first_there x xs) in
+    let ge : x.byte ≤ y.byte = first_least x xs y.byte y.to a (h y.byte (omega arith) ∙ first_there y es) in
     let e : x.byte ≡ y.byte = omega arith in
     let off : eqb y.byte b ≡ false = ne_eqb y.byte b (λ z. omega (arith, z, lt, e)) in
     let t : IsSome (child_at es b) = rw off at s in

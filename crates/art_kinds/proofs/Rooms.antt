@@ -1,70 +1,11 @@
 -- How much room the spare records give.
-use Rattle.std.proofs.Common.{◌≡◌, ◌≢◌, ℕ, zero, suc, ◌+◌, ◌*◌, ◌<◌, ◌≤◌, List, [], ◌∷◌, length, get_or, Option, Some, None, is_some, count_by, sum_by, refl, sym, ap, subst, ◌∙◌, inl, inr, arith}
+use Rattle.std.proofs.Common.{◌≡◌, ◌≢◌, ℕ, suc, ◌+◌, ◌*◌, ◌<◌, ◌≤◌, List, [], ◌∷◌, length, get_or, Option, Some, None, is_some, count_by, sum_by, refl, sym, subst, ◌∙◌, inl, inr, arith}
 use Rattle.std.specs.Prelude.{min}
 use Rattle.std.proofs.lemmas.Bool.{cases_eq}
 use Rattle.std.proofs.lemmas.List.Sums.{sum_by-cons}
 use Rattle.art_slots.specs.Store.{Store, slot_at, used_count}
 use Rattle.art_kinds.specs.Nodes.{Node, Nodes, over, grown, serves, figure, room, Lowers, SameSpares, MoreSpares}
-use Rattle.art_slots.proofs.StoreSlots.{one}
-
-module _ {X : Type 0} (f : Option X → ℕ) (zeros : f None ≡ 0) where
-  -- in no list there is nothing
-  get-nil : (j : ℕ) → get_or {A = Option X} [] j None ≡ None
-  get-nil zero = refl
-  get-nil (suc j) = refl
-
-  -- lists with the same at each place have the same sum
-  pub sum-same : (xs ys : List (Option X)) → ((j : ℕ) → get_or ys j None ≡ get_or xs j None) → sum_by f ys ≡ sum_by f xs
-  sum-same [] [] h = refl
-  sum-same [] (y ∷ ys) h =
-      let e : y ≡ None = h 0 in
-      let v : f y ≡ 0 = ap f e ∙ zeros in
-      let ih : sum_by f ys ≡ sum_by f [] = sum-same [] ys (λ j. h (suc j) ∙ sym (get-nil j)) in
-      omega (arith, ih, v, sum_by-cons f y ys)
-  sum-same (x ∷ xs) [] h =
-      let e : None ≡ x = h 0 in
-      let v : f x ≡ 0 = ap f (sym e) ∙ zeros in
-      let ih : sum_by f [] ≡ sum_by f xs = sum-same xs [] (λ j. get-nil j ∙ h (suc j)) in
-      omega (arith, ih, v, sum_by-cons f x xs)
-  sum-same (x ∷ xs) (y ∷ ys) h =
-      let e : f y ≡ f x = ap f (h 0) in
-      let ih : sum_by f ys ≡ sum_by f xs = sum-same xs ys (λ j. h (suc j)) in
-      omega (arith, sum_by-cons f x xs, sum_by-cons f y ys)
-
-  -- what a change at one place does to the sum
-  pub sum-change : (xs ys : List (Option X)) (i : ℕ) → ((j : ℕ) → j ≢ i → get_or ys j None ≡ get_or xs j None) → sum_by f ys + f (get_or xs i None) ≡ sum_by f xs + f (get_or ys i None)
-  sum-change [] [] i h = refl
-  sum-change [] (y ∷ ys) zero h =
-      let ih : sum_by f ys ≡ sum_by f [] = sum-same [] ys (λ j. h (suc j) (λ e. omega (arith, e)) ∙ sym (get-nil j)) in
-      omega (arith, ih, zeros, sum_by-cons f y ys)
-  sum-change [] (y ∷ ys) (suc i) h =
-      let e : y ≡ None = h 0 (λ e. omega (arith, e)) in
-      let v : f y ≡ 0 = ap f e ∙ zeros in
-      let n : f (get_or {A = Option X} [] i None) ≡ 0 = ap f (get-nil i) ∙ zeros in
-      let ih : sum_by f ys + f (get_or {A = Option X} [] i None) ≡ sum_by f [] + f (get_or ys i None) = sum-change [] ys i (λ j off. h (suc j) (λ e. off (omega (arith, e))) ∙ sym (get-nil j)) in
-      omega (arith, ih, v, n, zeros, sum_by-cons f y ys)
-  sum-change (x ∷ xs) [] zero h =
-      let ih : sum_by f [] ≡ sum_by f xs = sum-same xs [] (λ j. get-nil j ∙ h (suc j) (λ e. omega (arith, e))) in
-      omega (arith, ih, zeros, sum_by-cons f x xs)
-  sum-change (x ∷ xs) [] (suc i) h =
-      let e : None ≡ x = h 0 (λ e. omega (arith, e)) in
-      let v : f x ≡ 0 = ap f (sym e) ∙ zeros in
-      let n : f (get_or {A = Option X} [] i None) ≡ 0 = ap f (get-nil i) ∙ zeros in
-      let ih : sum_by f [] + f (get_or xs i None) ≡ sum_by f xs + f (get_or {A = Option X} [] i None) = sum-change xs [] i (λ j off. get-nil j ∙ h (suc j) (λ e. off (omega (arith, e)))) in
-      omega (arith, ih, v, n, zeros, sum_by-cons f x xs)
-  sum-change (x ∷ xs) (y ∷ ys) zero h =
-      let ih : sum_by f ys ≡ sum_by f xs = sum-same xs ys (λ j. h (suc j) (λ e. omega (arith, e))) in
-      omega (arith, sum_by-cons f x xs, sum_by-cons f y ys)
-  sum-change (x ∷ xs) (y ∷ ys) (suc i) h =
-      let e : f y ≡ f x = ap f (h 0 (λ e. omega (arith, e))) in
-      let ih : sum_by f ys + f (get_or xs i None) ≡ sum_by f xs + f (get_or ys i None) = sum-change xs ys i (λ j off. h (suc j) (λ e. off (omega (arith, e)))) in
-      omega (arith, ih, sum_by-cons f x xs, sum_by-cons f y ys)
-
-  -- the sum is no less than what one place has
-  pub sum-least : (xs : List (Option X)) (i : ℕ) → f (get_or xs i None) ≤ sum_by f xs
-  sum-least [] i = let n : f (get_or {A = Option X} [] i None) ≡ 0 = ap f (get-nil i) ∙ zeros in omega arith
-  sum-least (x ∷ xs) zero = omega (arith, sum_by-cons f x xs)
-  sum-least (x ∷ xs) (suc i) = let ih = sum-least xs i in omega (arith, ih, sum_by-cons f x xs)
+use Rattle.art_slots.proofs.StoreSlots.{one, sum-same, sum-change, sum-least}
 
 -- what a change of one record does to the edges above a floor
 pub grown-change : (f : ℕ) (s t : Store Node) (i : ℕ) → ((j : ℕ) → j ≢ i → slot_at t j ≡ slot_at s j) → grown f t + over f (slot_at s i) ≡ grown f s + over f (slot_at t i)

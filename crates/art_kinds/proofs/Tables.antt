@@ -1,9 +1,10 @@
 -- The edges of a table.
-use Rattle.std.proofs.Common.{◌≡◌, ◌≢◌, ℕ, zero, suc, ◌+◌, ◌-◌, ◌<◌, ◌≤◌, List, [], ◌∷◌, length, get_or, set, Option, Some, None, IsSome, is_some, count_by, refl, arith, cond, eqb, true, false, true≢false, inl, inr, sym, ap, ◌∙◌, subst, eq-eqb, zero-add}
+use Rattle.std.proofs.Common.{◌≡◌, ◌≢◌, ℕ, zero, suc, ◌+◌, ◌-◌, ◌<◌, ◌≤◌, List, [], ◌∷◌, length, get_or, set, Option, Some, None, IsSome, is_some, count_by, refl, arith, eqb, true, false, true≢false, inl, inr, sym, ap, ◌∙◌, subst, eq-eqb, zero-add}
 use Rattle.std.proofs.lemmas.Bool.{ne_eqb}
 use Rattle.std.proofs.lemmas.Bool.Decides.{leb_tells}
-use Rattle.std.proofs.lemmas.List.{get_or-set_same, get_or-set_other}
-use Rattle.std.proofs.lemmas.List.Sums.{sum_by-set, sum_by-cons}
+use Rattle.std.proofs.lemmas.List.{get_or-set_same, get_or-set_other, get_or_past}
+use Rattle.std.proofs.lemmas.List.Sums.{sum_by-cons, count_by-le-length}
+use Rattle.art_slots.proofs.StoreSlots.{one, count-set}
 use Rattle.art_kinds.specs.Edges.{child_at, AscendsAbove, Ascends, AddsChild, DropsChild, RedirectsChild, IsFrom, IsNext, IsPrevious, IsEnd, Filled, edges_from, edges_of}
 use Rattle.art_kinds.specs.declared.records.ids.Child.{Child}
 use Rattle.art_kinds.specs.declared.records.ids.Edge.{Edge}
@@ -40,19 +41,11 @@ edges-Ascends [] k = tt
 edges-Ascends (None ∷ t) k = edges-Ascends t (k + 1)
 edges-Ascends (Some c ∷ t) k = edges-AscendsAbove t (k + 1) k (omega arith)
 
--- 1 for something, 0 for nothing
-abbrev pub one : Option Child → ℕ
-one o = cond (is_some o) 1 0
-
 -- there are as many edges as children in the table
 pub length-edges : (t : List (Option Child)) (k : ℕ) → length (edges_from t k) ≡ count_by is_some t
 length-edges [] k = refl
 length-edges (None ∷ t) k = let ih : length (edges_from t (k + 1)) ≡ count_by is_some t = length-edges t (k + 1) in omega (arith, ih, sum_by-cons one None t)
 length-edges (Some c ∷ t) k = let ih : length (edges_from t (k + 1)) ≡ count_by is_some t = length-edges t (k + 1) in omega (arith, ih, sum_by-cons one (Some c) t)
-
--- how a write of one place changes the count
-pub count-set : (t : List (Option Child)) (i : ℕ) (o : Option Child) → i < length t → count_by is_some (set t i o) + one (get_or t i None) ≡ count_by is_some t + one o
-count-set t i o l = sum_by-set one t i o None l
 
 -- something counts as one
 one-some : (o : Option Child) → IsSome o → one o ≡ 1
@@ -120,13 +113,6 @@ filled-drops t u n b same f a =
     let l : length (edges_of u) + 1 ≡ length (edges_of t) = a.shorter in
     (omega (arith, length-edges t 0, length-edges u 0), record { wide = omega arith; counted = omega (arith, length-edges t 0, length-edges u 0) })
 
--- past the table's end there is nothing
-get-past : (t : List (Option Child)) (c : ℕ) → length t ≤ c → get_or t c None ≡ None
-get-past [] zero l = refl
-get-past [] (suc c) l = refl
-get-past (o ∷ t) zero l = absurd (omega arith)
-get-past (o ∷ t) (suc c) l = get-past t c (omega arith)
-
 -- a child found after bytes without one
 pub from-some : (t : List (Option Child)) (b i : ℕ) (to : Child) → b ≤ i → get_or t i None ≡ Some to → ((c : ℕ) → b ≤ c → c < i → get_or t c None ≡ None) → IsFrom (edges_of t) b (Some (record { byte = i; to = to }))
 from-some t b i to l is none = (l, child_at-edges t i ∙ is, λ c lo hi. child_at-edges t c ∙ none c lo hi)
@@ -135,7 +121,7 @@ pub from-none : (t : List (Option Child)) (b : ℕ) → ((c : ℕ) → b ≤ c �
 from-none t b none c lo =
     elim (leb_tells (suc c) (length t)) [
       | inl p ↦ child_at-edges t c ∙ none c lo p.1
-      | inr p ↦ (let q : length t < suc c = p.1 in child_at-edges t c ∙ get-past t c (omega arith))
+      | inr p ↦ (let q : length t < suc c = p.1 in child_at-edges t c ∙ get_or_past t c None (omega arith))
     ]
 
 pub below-some : (t : List (Option Child)) (b i : ℕ) (to : Child) → i < b → get_or t i None ≡ Some to → ((c : ℕ) → i < c → c < b → get_or t c None ≡ None) → IsPrevious (edges_of t) b (Some (record { byte = i; to = to }))
@@ -150,7 +136,7 @@ next-of-from es b None h = λ c l. h c (omega arith)
 next-of-from es b (Some e) h = (let l : b + 1 ≤ e.byte = h.0 in omega arith, h.1, λ c lo hi. h.2 c (omega arith) hi)
 
 -- an edge stands somewhere, where there is one
-first_there : (x : Edge) (es : List Edge) → child_at (x ∷ es) x.byte ≡ Some x.to
+pub first_there : (x : Edge) (es : List Edge) → child_at (x ∷ es) x.byte ≡ Some x.to
 first_there x es = let t : eqb x.byte x.byte ≡ true = eq-eqb x.byte x.byte refl in rw t refl
 
 pub not-empty : (es : List Edge) → 0 < length es → ((c : ℕ) → child_at es c ≡ None) → ⊥
@@ -159,7 +145,7 @@ not-empty (x ∷ es) l h = let e : Some x.to ≡ None = sym (first_there x es) �
 
 -- no edge stands at what is no byte
 pub edges-bytes : (t : List (Option Child)) → length t ≡ 256 → (c : ℕ) → 256 ≤ c → child_at (edges_of t) c ≡ None
-edges-bytes t w c l = child_at-edges t c ∙ get-past t c (omega arith)
+edges-bytes t w c l = child_at-edges t c ∙ get_or_past t c None (omega arith)
 
 -- the edge below 256 is the greatest
 pub greatest-of-below : (es : List Edge) (e : Edge) → ((c : ℕ) → 256 ≤ c → child_at es c ≡ None) → IsPrevious es 256 (Some e) → IsEnd false es e
@@ -174,14 +160,8 @@ greatest-of-below es e w h = record {
 pub none-below : (es : List Edge) → ((c : ℕ) → 256 ≤ c → child_at es c ≡ None) → IsPrevious es 256 None → (c : ℕ) → child_at es c ≡ None
 none-below es w h c = elim (leb_tells 256 c) [ inl p ↦ w c p.1 | inr p ↦ h c p.1 ]
 
--- a table has no more children than places
-count-le : (t : List (Option Child)) → count_by is_some t ≤ length t
-count-le [] = omega arith
-count-le (None ∷ t) = omega (arith, count-le t, sum_by-cons one None t)
-count-le (Some c ∷ t) = omega (arith, count-le t, sum_by-cons one (Some c) t)
-
 pub filled-few : (n : ℕ) (t : List (Option Child)) → Filled n t → n ≤ 256
-filled-few n t f = let w = f.wide in let c = f.counted in omega (arith, count-le t)
+filled-few n t f = let w = f.wide in let c = f.counted in omega (arith, count_by-le-length is_some t)
 
 pub filled-same : (t u : List (Option Child)) (n b : ℕ) (to : Child) → length u ≡ length t → Filled n t → RedirectsChild (edges_of t) (edges_of u) b to → Filled n u
 filled-same t u n b to same f a =

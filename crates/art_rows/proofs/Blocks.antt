@@ -18,14 +18,6 @@ times-other m ns n t = sum_by-cons (λ k. cond (eqb k n) 1 0) m ns ∙ rw t (ome
 times-append : (xs ys : List ℕ) (n : ℕ) → times (xs ++ ys) n ≡ times xs n + times ys n
 times-append xs ys n = sum_by-append (λ k. cond (eqb k n) 1 0) xs ys
 
--- what stands in a list stands there once at least
-pub times-among : (ns : List ℕ) (n : ℕ) → among ns n ≡ true → 0 < times ns n
-times-among [] n h = absurd cc
-times-among (m ∷ ns) n h = elim (eqb_tells m n) [
-  | inl t ↦ (let e = times-same m ns n t.0 in omega arith)
-  | inr t ↦ (let e = times-other m ns n t.0 in let i = times-among ns n (rw t.0 at h) in omega arith)
-]
-
 -- what stands nowhere is not in the list
 pub among-times : (ns : List ℕ) (n : ℕ) → times ns n ≡ 0 → among ns n ≡ false
 among-times [] n e = refl

@@ -1,43 +1,40 @@
 -- The first and the last of a list of numbered pairs, taken out.
 use Rattle.std.proofs.Common.{◌≡◌, ◌≢◌, ℕ, ◌-◌, List, [], ◌∷◌, ◌++◌, length, map, Some, None, sym, ap, ◌∙◌, refl}
 use Rattle.std.proofs.lemmas.Bool.{ne_eqb, eq-eqb}
-use Rattle.art_rows.specs.Numbers.{Numbered, leaf_in, Has, AreDistinct, last_number, without_number}
+use Rattle.art_rows.specs.Numbers.{Numbered, leaf_in, Has, AreDistinct, last_number, without_number, first_number}
 use Rattle.art_rows.specs.Rows.{nth, place_in}
-use Rattle.art_rows.proofs.NumbersLemmas.{has_other, Has-last}
-use Rattle.art_rows.proofs.RowsLemmas.{last_number-nth, place_in-nth}
+use Rattle.art_rows.proofs.NumbersLemmas.{has_other, Has-last, Has-first, no_first, no_last}
+use Rattle.art_rows.proofs.RowsLemmas.{last_number-nth, place_in-nth, first_number-nth}
 
 module _ {X : Type 0} where
   -- ---- the first
 
   pub first_none : (ps : List (Numbered X)) → nth (map (λ p. p.0) ps) 0 ≡ None → ps ≡ []
-  first_none [] e = refl
-  first_none (p ∷ ps) e = absurd cc
+  first_none ps e = no_first ps (first_number-nth ps ∙ e)
 
   pub first_has : (ps : List (Numbered X)) (id : ℕ) → nth (map (λ p. p.0) ps) 0 ≡ Some id → Has ps id
-  first_has [] id e = absurd cc
-  first_has (p ∷ ps) id e = let h : p.0 ≡ id = cc in rw (eq-eqb p.0 id h) refl
+  first_has ps id e = Has-first ps id (first_number-nth ps ∙ e)
 
   pub first_place : (ps : List (Numbered X)) (id : ℕ) → nth (map (λ p. p.0) ps) 0 ≡ Some id → place_in (map (λ p. p.0) ps) id ≡ 0
   first_place [] id e = absurd cc
   first_place (p ∷ ps) id e = let h : p.0 ≡ id = cc in rw (eq-eqb p.0 id h) refl
 
-  pub first_taken : (ps : List (Numbered X)) (id : ℕ) (x : X) → nth (map (λ p. p.0) ps) 0 ≡ Some id → leaf_in ps id ≡ Some x → ps ≡ (id, x) ∷ without_number ps id
-  first_taken [] id x e l = absurd cc
-  first_taken (p ∷ ps) id x e l =
+  -- the pairs are the first, and those without it
+  pub first_off : (ps : List (Numbered X)) (id : ℕ) (x : X) → first_number ps ≡ Some id → leaf_in ps id ≡ Some x → ps ≡ (id, x) ∷ without_number ps id
+  first_off [] id x e l = absurd cc
+  first_off (p ∷ ps) id x e l =
       let h : p.0 ≡ id = cc in
       let q : Some p.1 ≡ Some x = rw (eq-eqb p.0 id h) at l in
       let y : p.1 ≡ x = cc in
       rw (eq-eqb p.0 id h) (ap (λ n. (n, p.1) ∷ ps) h ∙ ap (λ z. (id, z) ∷ ps) y)
 
+  pub first_taken : (ps : List (Numbered X)) (id : ℕ) (x : X) → nth (map (λ p. p.0) ps) 0 ≡ Some id → leaf_in ps id ≡ Some x → ps ≡ (id, x) ∷ without_number ps id
+  first_taken ps id x e l = first_off ps id x (first_number-nth ps ∙ e) l
+
   -- ---- the last
 
   pub last_none : (ps : List (Numbered X)) → nth (map (λ p. p.0) ps) (length ps - 1) ≡ None → ps ≡ []
   last_none ps e = no_last ps (last_number-nth ps ∙ e)
-    where
-      no_last : (ps : List (Numbered X)) → last_number ps ≡ None → ps ≡ []
-      no_last [] e = refl
-      no_last (p ∷ []) e = absurd cc
-      no_last (p ∷ q ∷ ps) e = absurd (let n : q ∷ ps ≡ [] = no_last (q ∷ ps) e in cc)
 
   pub last_place : (ps : List (Numbered X)) (id : ℕ) → AreDistinct ps → nth (map (λ p. p.0) ps) (length ps - 1) ≡ Some id → place_in (map (λ p. p.0) ps) id ≡ length ps - 1
   last_place ps id d e = place_in-nth ps (length ps - 1) id d e
@@ -45,16 +42,17 @@ module _ {X : Type 0} where
   pub last_has : (ps : List (Numbered X)) (id : ℕ) → nth (map (λ p. p.0) ps) (length ps - 1) ≡ Some id → Has ps id
   last_has ps id e = Has-last ps id (last_number-nth ps ∙ e)
 
-  taken_off : (ps : List (Numbered X)) (id : ℕ) (x : X) → AreDistinct ps → last_number ps ≡ Some id → leaf_in ps id ≡ Some x → ps ≡ without_number ps id ++ (id, x) ∷ []
-  taken_off [] id x d e l = absurd cc
-  taken_off (p ∷ []) id x d e l =
+  -- the pairs are those without the last, and the last
+  pub last_off : (ps : List (Numbered X)) (id : ℕ) (x : X) → AreDistinct ps → last_number ps ≡ Some id → leaf_in ps id ≡ Some x → ps ≡ without_number ps id ++ (id, x) ∷ []
+  last_off [] id x d e l = absurd cc
+  last_off (p ∷ []) id x d e l =
       let h : p.0 ≡ id = cc in
       let q : Some p.1 ≡ Some x = rw (eq-eqb p.0 id h) at l in
       let y : p.1 ≡ x = cc in
       rw (eq-eqb p.0 id h) (ap (λ n. (n, p.1) ∷ []) h ∙ ap (λ z. (id, z) ∷ []) y)
-  taken_off (p ∷ q ∷ ps) id x d e l =
+  last_off (p ∷ q ∷ ps) id x d e l =
       let other : p.0 ≢ id = λ s. has_other (q ∷ ps) id p.0 (Has-last (q ∷ ps) id e) d.0 (sym s) in
-      rw (ne_eqb p.0 id other) (ap (λ r. p ∷ r) (taken_off (q ∷ ps) id x d.1 e (rw (ne_eqb p.0 id other) at l)))
+      rw (ne_eqb p.0 id other) (ap (λ r. p ∷ r) (last_off (q ∷ ps) id x d.1 e (rw (ne_eqb p.0 id other) at l)))
 
   pub last_taken : (ps : List (Numbered X)) (id : ℕ) (x : X) → AreDistinct ps → nth (map (λ p. p.0) ps) (length ps - 1) ≡ Some id → leaf_in ps id ≡ Some x → ps ≡ without_number ps id ++ (id, x) ∷ []
-  last_taken ps id x d e l = taken_off ps id x d (last_number-nth ps ∙ e) l
+  last_taken ps id x d e l = last_off ps id x d (last_number-nth ps ∙ e) l

@@ -11,9 +11,9 @@ use Rattle.art_slots.specs.Store.{Store, slot_at, used_count}
 use Rattle.art_rows.specs.declared.leaves.Leaf.{Leaf}
 use Rattle.art_rows.specs.declared.leaves.Leaves.TheInside.{Inside}
 use Rattle.art_rows.specs.declared.row.Position.{Position}
-use Rattle.art_rows.proofs.NumbersLemmas.{eqb_same, eqb_other, has_other, split, leaf_in-split}
+use Rattle.art_rows.proofs.NumbersLemmas.{eqb_same, eqb_other, has_other, split, leaf_in-split, no_last}
 use Rattle.art_rows.proofs.RowChanges.{own-in}
-use Rattle.art_rows.proofs.RowsLemmas.{among-numbers, number_after-nth, number_before-first, number_before-nth, before_cases, nth-within, place_in-within, place_in-nth, position-split, position-here, found, standing, standing-row, standing-number, standing-within, standing-after, standing-earlier, standing-first, standing-not_first, standing-row_end, end_of, position-none, position-last, none-last, filled-row}
+use Rattle.art_rows.proofs.RowsLemmas.{among-numbers, number_after-nth, number_before-first, number_before-nth, before_cases, nth-within, place_in-within, place_in-nth, position-split, position-here, found, standing, standing-row, standing-number, standing-within, standing-after, standing-earlier, standing-first, standing-not_first, standing-row_end, end_of, position-none, position-last, filled-row}
 
 -- what follows of what there is
 pub if_some : {A : Type 0} (o : Option A) (P Q : A → Type 0) → ((x : A) → P x → Q x) → IfSome o P → IfSome o Q
@@ -262,4 +262,4 @@ module _ {K V : Type 0} {leaves : ℕ → Option (Leaf K V)} {rows : List (Numbe
 
   -- with no last row there is none
   pub last_none : last_number rows ≡ None → position_at rows (length ps - 1) ≡ None
-  last_none e = ap (λ rs. position_at rs (length ps - 1)) (none-last rows e)
+  last_none e = ap (λ rs. position_at rs (length ps - 1)) (no_last rows e)

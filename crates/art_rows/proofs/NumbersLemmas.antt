@@ -567,6 +567,17 @@ module _ {X : Type 0} where
   pub Has-last : (ps : List (Numbered X)) (j : ℕ) → last_number ps ≡ Some j → Has ps j
   Has-last ps j e = has_at (last_number ps) ps j (is_at-last ps j) e
 
+  -- a list with no first number is empty
+  pub no_first : (ps : List (Numbered X)) → first_number ps ≡ None → ps ≡ []
+  no_first [] e = refl
+  no_first (p ∷ ps) e = absurd cc
+
+  -- so is one with no last number
+  pub no_last : (ps : List (Numbered X)) → last_number ps ≡ None → ps ≡ []
+  no_last [] e = refl
+  no_last (p ∷ []) e = absurd cc
+  no_last (p ∷ q ∷ ps) e = absurd (let h : q ∷ ps ≡ [] = no_last (q ∷ ps) e in cc)
+
   -- the list has the number after a place
   pub Has-next_number : (o : Option ℕ) (ps : List (Numbered X)) (j : ℕ) → next_number o ps ≡ Some j → Has ps j
   Has-next_number o ps j e = has_at (next_number o ps) ps j (is_at-next_number o ps j) e

@@ -8,8 +8,8 @@ use Rattle.art_rows.specs.Numbers.{Numbered, leaf_in, Has, with_pair_after, with
 use Rattle.art_rows.specs.Rows.{among, place_in, nth, numbers, position_at, AreFilled, IsSpot, row_end}
 use Rattle.art_rows.specs.Blocks.{row_of, AreOwn}
 use Rattle.art_rows.specs.declared.row.Position.{Position}
-use Rattle.art_rows.proofs.NumbersLemmas.{eqb_other, Has-tail, with_pair-split, without_number-split, same_distinct, numbers-with_pair, AreDistinct-without_number, distinct_parts, leaf_in-split, AreDistinct-with_pair_after, Lacks-from_leaf_in}
-use Rattle.art_rows.proofs.RowsLemmas.{among-append, numbers-append, AreFilled-parts, AreFilled-append, Standing, standing, position-first, standing-numbers, standing-lacks}
+use Rattle.art_rows.proofs.NumbersLemmas.{Has-tail, with_pair-split, without_number-split, same_distinct, numbers-with_pair, AreDistinct-without_number, distinct_parts, leaf_in-split, AreDistinct-with_pair_after, Lacks-from_leaf_in}
+use Rattle.art_rows.proofs.RowsLemmas.{numbers-append, AreFilled-parts, AreFilled-append, Standing, standing, position-first, standing-numbers, standing-lacks}
 
 -- ---- rows with numbers of their own
 
@@ -46,12 +46,6 @@ module _ {X : Type 0} (xs ys zs : List X) (j : ℕ) (le : j ≤ length ys) where
 
   pub drop-middle : drop (length xs + j) (xs ++ (ys ++ zs)) ≡ drop j ys ++ zs
   drop-middle = drop-append-add xs (ys ++ zs) j ∙ drop-append-le j ys zs le
-
--- a number out of the list, at its place
-pub among-out : (ns : List ℕ) (k n i : ℕ) → nth ns k ≡ Some n → n ≢ i → among (take k ns ++ drop (k + 1) ns) i ≡ among ns i
-among-out [] k n i e ne = absurd cc
-among-out (m ∷ ns) zero n i e ne = (let f : m ≡ n = cc in let g : eqb m i ≡ false = rw f (eqb_other n i ne) in rw g refl)
-among-out (m ∷ ns) (suc k) n i e ne = (let a : suc k + 1 ≡ suc (k + 1) = omega arith in rw a (ap (λ b. cond (eqb m i) true b) (among-out ns k n i e ne)))
 
 -- a number put in at a place
 pub among-put : (ns : List ℕ) (k n i : ℕ) → among (take k ns ++ n ∷ drop k ns) i ≡ cond (eqb n i) true (among ns i)
@@ -149,14 +143,6 @@ pub record PutsIn (rows new : List (Numbered (List ℕ))) (k n : ℕ) : Type 0 w
   pub apart : AreDistinct new
   pub own : AreOwn new
 
--- a list with a part that has not a number
-pub among-parts : (xs ys : List ℕ) (i : ℕ) → among (xs ++ ys) i ≡ false → (among xs i ≡ false) × (among ys i ≡ false)
-among-parts xs ys i e = go (among xs i) refl (sym (among-append xs ys i) ∙ e)
-  where
-    go : (b : Bool) → among xs i ≡ b → cond b true (among ys i) ≡ false → (among xs i ≡ false) × (among ys i ≡ false)
-    go true a f = absurd cc
-    go false a f = (a, f)
-
 module _ (rows : List (Numbered (List ℕ))) (k : ℕ) (p : Position) (s : IsSpot rows p k) (d : AreDistinct rows) where
   pub spot-lacks : Lacks s.before p.row × Lacks s.after p.row
   spot-lacks = distinct_parts s.before s.after (p.row, s.ids) (subst AreDistinct s.is d)
@@ -232,12 +218,6 @@ module _ (r n : ℕ) where
         apart = AreDistinct-with_pair_after b (r, n ∷ []) rows d (Lacks-from_leaf_in rows r fresh);
         own = own-placed_row b rows own o;
       })
-
-module _ {X : Type 0} where
-  -- a number that no pair has is not among the numbers
-  pub among-lacking : (ps : List (Numbered X)) (i : ℕ) → Lacks ps i → among (map (λ p. p.0) ps) i ≡ false
-  among-lacking [] i l = refl
-  among-lacking (p ∷ ps) i l = rw (eqb_other p.0 i l.0) (among-lacking ps i l.1)
 
 -- ---- spots
 

@@ -1,5 +1,6 @@
 -- What holds of rows of numbers.
-use Rattle.std.proofs.Common.{◌≡◌, ℕ, zero, suc, ◌+◌, ◌-◌, ◌<◌, ◌≤◌, List, [], ◌∷◌, ◌++◌, length, map, refl, sym, ap, subst, ◌∙◌, append_assoc, Option, Some, None, IsSome, Bool, true, false, cond, eqb, ltb, inl, inr, ◌⊎◌, arith}
+use Rattle.std.proofs.Common.{◌≡◌, ℕ, zero, suc, ◌+◌, ◌-◌, ◌<◌, ◌≤◌, List, [], ◌∷◌, ◌++◌, length, map, refl, sym, ap, subst, ◌∙◌, append_assoc, Option, Some, None, IsSome, true, false, cond, eqb, ltb, inl, inr, ◌⊎◌, arith}
+use Rattle.std.proofs.lemmas.Bool.{cases_Bool}
 use Rattle.std.specs.Prelude.{option_map}
 use Rattle.std.specs.Option.{option_or}
 use Rattle.std.proofs.lemmas.Bool.Decides.{eqb_tells, nat_tests}
@@ -7,12 +8,7 @@ use Rattle.std.proofs.lemmas.List.{length-append}
 use Rattle.art_rows.specs.Numbers.{Numbered, leaf_in, Has, first_number, last_number, number_after, number_before, number_before_from, Lacks, AreDistinct}
 use Rattle.art_rows.specs.Rows.{among, place_in, nth, numbers, row_with, position_at, AreFilled, start_of}
 use Rattle.art_rows.specs.declared.row.Position.{Position}
-use Rattle.art_rows.proofs.NumbersLemmas.{eqb_same, eqb_other, has_other, Has-last, leaf_in-append, last_number-cons, AreDistinct-parts, distinct_parts, leaf_in-split, number_after-split, number_before-split}
-
--- a test holds or fails
-pub is_or_not : (b : Bool) → (b ≡ true) ⊎ (b ≡ false)
-is_or_not true = inl refl
-is_or_not false = inr refl
+use Rattle.art_rows.proofs.NumbersLemmas.{eqb_same, eqb_other, has_other, Has-last, leaf_in-append, AreDistinct-parts, distinct_parts, leaf_in-split, number_after-split, number_before-split, no_last}
 
 -- ---- lists of numbers
 
@@ -84,18 +80,19 @@ module _ {X : Type 0} where
       let m : eqb p.0 n ≡ false = eqb_other p.0 n (λ t. has_other ps n p.0 h d.0 (sym t)) in
       rw m (ap suc (place_in-nth ps k n d.1 e))
 
+  -- the first number, by its place
+  pub first_number-nth : (ps : List (Numbered X)) → first_number ps ≡ nth (map (λ p. p.0) ps) 0
+  first_number-nth [] = refl
+  first_number-nth (p ∷ ps) = refl
+
   -- the number after one, by its place
   pub number_after-nth : (ps : List (Numbered X)) (i : ℕ) → Has ps i → number_after ps i ≡ nth (map (λ p. p.0) ps) (place_in (map (λ p. p.0) ps) i + 1)
   number_after-nth [] i h = (let f : false ≡ true = h in absurd cc)
   number_after-nth (p ∷ ps) i h = elim (eqb_tells p.0 i) [
-    | inl t ↦ rw t.0 (first ps)
+    | inl t ↦ rw t.0 (first_number-nth ps)
     | inr t ↦ rw t.0 (number_after-nth ps i (rw t.0 at h) ∙ step (p.0) (map (λ p. p.0) ps) (place_in (map (λ p. p.0) ps) i))
   ]
     where
-      first : (ps : List (Numbered X)) → first_number ps ≡ nth (map (λ p. p.0) ps) 0
-      first [] = refl
-      first (p ∷ ps) = refl
-
       step : (n : ℕ) (ns : List ℕ) (k : ℕ) → nth ns (k + 1) ≡ nth (n ∷ ns) (suc k + 1)
       step n ns k = (let e : suc k + 1 ≡ suc (k + 1) = omega arith in sym (ap (nth (n ∷ ns)) e))
 
@@ -126,11 +123,7 @@ module _ {X : Type 0} where
     | inr t ↦ (let f : suc (place_in (map (λ p. p.0) ps) i) ≡ 0 = rw t.0 at e in absurd (omega arith))
   ]
 
-  -- the first and the last number, by their places
-  pub first_number-nth : (ps : List (Numbered X)) → first_number ps ≡ nth (map (λ p. p.0) ps) 0
-  first_number-nth [] = refl
-  first_number-nth (p ∷ ps) = refl
-
+  -- the last number, by its place
   pub last_number-nth : (ps : List (Numbered X)) → last_number ps ≡ nth (map (λ p. p.0) ps) (length ps - 1)
   last_number-nth [] = refl
   last_number-nth (p ∷ []) = refl
@@ -186,7 +179,7 @@ found_later r rs i d t s =
 
 pub found : (rows : List (Numbered (List ℕ))) (i : ℕ) → AreDistinct rows → among (numbers rows) i ≡ true → Found rows i
 found [] i d h = (let f : false ≡ true = h in absurd cc)
-found (r ∷ rs) i d h = elim (is_or_not (among r.1 i)) [
+found (r ∷ rs) i d h = elim (cases_Bool (among r.1 i)) [
   | inl t ↦ found_here r rs i t
   | inr t ↦ found_later r rs i d.0 t (found rs i d.1 (rw t at (sym (among-append r.1 (numbers rs) i) ∙ h)))
 ]
@@ -202,7 +195,7 @@ pub record Standing (rows : List (Numbered (List ℕ))) (k : ℕ) (p : Position)
 
 pub standing : (rows : List (Numbered (List ℕ))) (k : ℕ) (p : Position) → position_at rows k ≡ Some p → Standing rows k p
 standing [] k p e = absurd cc
-standing (r ∷ rs) k p e = elim (is_or_not (ltb k (length r.1))) [
+standing (r ∷ rs) k p e = elim (cases_Bool (ltb k (length r.1))) [
   | inl t ↦
       let q : Position = record { row = r.0; place = k } in
       let f : Some q ≡ Some p = rw t at e in
@@ -241,7 +234,7 @@ position-first (r ∷ rs) f = (let w = f.0 in let l : ltb 0 (length r.1) ≡ tru
 -- no position, no number
 pub position-none : (rows : List (Numbered (List ℕ))) (k : ℕ) → position_at rows k ≡ None → nth (numbers rows) k ≡ None
 position-none [] k e = refl
-position-none (r ∷ rs) k e = elim (is_or_not (ltb k (length r.1))) [
+position-none (r ∷ rs) k e = elim (cases_Bool (ltb k (length r.1))) [
   | inl t ↦ (let q : Position = record { row = r.0; place = k } in let f : Some q ≡ None = rw t at e in absurd cc)
   | inr t ↦
       let w : length r.1 ≤ k = grind (arith, nat_tests) in
@@ -316,7 +309,7 @@ pub position-in : (before rest : List (Numbered (List ℕ))) (j : ℕ) → j < l
 position-in [] rest j h = absurd (omega arith)
 position-in (r ∷ rs) rest j h =
     let n : length (r.1 ++ numbers rs) ≡ length r.1 + length (numbers rs) = length-append r.1 (numbers rs) in
-    elim (is_or_not (ltb j (length r.1))) [
+    elim (cases_Bool (ltb j (length r.1))) [
       | inl t ↦ rw t refl
       | inr t ↦ (let w : length r.1 ≤ j = grind (arith, nat_tests) in rw t (position-in rs rest (j - length r.1) (omega arith)))
     ]
@@ -325,15 +318,6 @@ position-in (r ∷ rs) rest j h =
 pub filled-some : (rows : List (Numbered (List ℕ))) (r : ℕ) → AreFilled rows → last_number rows ≡ Some r → 0 < length (numbers rows)
 filled-some [] r f e = absurd cc
 filled-some (q ∷ rs) r f e = (let n : length (q.1 ++ numbers rs) ≡ length q.1 + length (numbers rs) = length-append q.1 (numbers rs) in let w = f.0 in omega arith)
-
--- with no last row there are none
-pub none-last : {X : Type 0} (ps : List (Numbered X)) → last_number ps ≡ None → ps ≡ []
-none-last [] e = refl
-none-last (p ∷ ps) e = (let f : option_or (last_number ps) (Some p.0) ≡ None = sym (last_number-cons p ps) ∙ e in go (last_number ps) f)
-  where
-    go : (o : Option ℕ) → option_or o (Some p.0) ≡ None → p ∷ ps ≡ []
-    go None f = absurd cc
-    go (Some i) f = absurd cc
 
 -- no row has two places
 leaf_in-front : {X : Type 0} (xs ys : List (Numbered X)) (i : ℕ) (x : X) → Has xs i → leaf_in (xs ++ ys) i ≡ Some x → leaf_in xs i ≡ Some x
@@ -358,7 +342,7 @@ module _ (rows : List (Numbered (List ℕ))) (k : ℕ) (p : Position) (s : Stand
     -- a first place with no row before it is the first of all
     pub standing-first : p.place ≡ 0 → number_before rows p.row ≡ None → k ≡ 0
     standing-first z e =
-        let b : s.before ≡ [] = none-last s.before (sym (standing-row_before d) ∙ e) in
+        let b : s.before ≡ [] = no_last s.before (sym (standing-row_before d) ∙ e) in
         let n : length (numbers s.before) ≡ 0 = ap (λ l. length (numbers l)) b in
         let i = s.index in
         omega arith

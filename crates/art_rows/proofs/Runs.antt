@@ -1,6 +1,6 @@
 -- What holds of the runs of numbers after a number and before it.
 use Rattle.std.proofs.Common.{◌≡◌, ℕ, zero, suc, ◌+◌, ◌-◌, ◌<◌, ◌≤◌, List, [], ◌∷◌, ◌++◌, length, map, take, drop, refl, sym, ap, subst, ◌∙◌, Option, Some, None, arith}
-use Rattle.std.proofs.lemmas.List.{length-take-le, length-drop}
+use Rattle.std.proofs.lemmas.List.{length-take-le, length-drop, length_push}
 use Rattle.std.specs.Prelude.{option_map}
 use Rattle.art_rows.specs.Numbers.{Numbered, leaf_in, Has, number_after, number_before, AreDistinct}
 use Rattle.art_rows.specs.Rows.{place_in, nth, numbers, position_at, RunsAfter, RunsBefore, StandsAfter, start_of}
@@ -60,7 +60,7 @@ module _ {X : Type 0} (ps : List (Numbered X)) (distinct : AreDistinct ps) (i n 
   before_step r =
       let ns : List ℕ = map (λ p. p.0) ps in
       let k : ℕ = place_in ns i in
-      let l : length (rest ++ n ∷ []) ≡ length rest + 1 = length_more rest in
+      let l : length (rest ++ n ∷ []) ≡ length rest + 1 = length_push rest n in
       let w : length (rest ++ n ∷ []) ≤ k = r.0 in
       let z : k ≡ suc (k - 1) = omega arith in
       let a : k + (length rest + 0) - length (rest ++ n ∷ []) ≡ k - 1 = omega arith in
@@ -75,10 +75,6 @@ module _ {X : Type 0} (ps : List (Numbered X)) (distinct : AreDistinct ps) (i n 
               ap (nth ns) d ∙ r.1 j m (nth-append_left rest (n ∷ []) j g ∙ e),
         ),
       )
-    where
-      length_more : (xs : List ℕ) → length (xs ++ n ∷ []) ≡ length xs + 1
-      length_more [] = refl
-      length_more (x ∷ xs) = (let e = length_more xs in omega arith)
 
 module _ {K V : Type 0} {leaves : ℕ → Option (Leaf K V)} {rows : List (Numbered (List ℕ))} {count : ℕ} {ps : List (Numbered (K × V))} (f : Files leaves rows count ps) (k : ℕ) (p : Position) (at : position_at rows k ≡ Some p) (ids : List ℕ) (is : leaf_in rows p.row ≡ Some ids) (n : ℕ) (there : nth ids p.place ≡ Some n) where
   index_is : place_in (map (λ q. q.0) ps) n ≡ k

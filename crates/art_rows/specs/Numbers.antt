@@ -1,12 +1,12 @@
--- What a contract sees of the leaves: the pairs in order, each under its number, and the spare records.
+-- What a contract sees of a chain: the items in order, each under its number, and the room for more. And the words on such lists, which those on leaves and rows are said in.
 use Rattle.std.specs.Prelude.{◌≡◌, ◌≢◌, ℕ, List, [], ◌∷◌, Option, Some, None, IsSome, refl, if◌then◌else◌, eqb}
 use Rattle.std.specs.Coded.{Coded, code_by, coded×, coded_ℕ, coded_list}
 
--- a leaf's number, and its key and value
+-- a number, and what is under it
 abbrev pub Numbered : Type 0 → Type 0
 Numbered X = ℕ × X
 
--- the pairs in the order of the links, how many spare records there are, for how many more there is memory, a number above those of all records, and that of the next one that is made
+-- the items in the order of the links, each under its number; how many more find a place; for how many places there is memory; a number above those of all; and the number of the next place
 pub record Numbers (X : Type 0) : Type 0 where
   pub pairs : List (Numbered X)
   pub spare : ℕ
@@ -24,12 +24,12 @@ numbers_code {X} x =
     (λ _. refl)
 
 module _ {X : Type 0} where
-  -- the key and the value under a number
+  -- what is under a number
   abbrev pub leaf_in : List (Numbered X) → ℕ → Option X
   leaf_in [] i = None
   leaf_in (p ∷ ps) i = if eqb p.0 i then Some p.1 else leaf_in ps i
 
-  -- a leaf has the number
+  -- something is under the number
   abbrev pub Has : List (Numbered X) → ℕ → Type 0
   Has ps i = IsSome (leaf_in ps i)
 
@@ -74,7 +74,7 @@ module _ {X : Type 0} where
   without_number [] i = []
   without_number (p ∷ ps) i = if eqb p.0 i then ps else p ∷ without_number ps i
 
-  -- the pairs, with another key and value under a number
+  -- the pairs, with something else under a number
   abbrev pub with_pair : List (Numbered X) → ℕ → X → List (Numbered X)
   with_pair [] i x = []
   with_pair (p ∷ ps) i x = if eqb p.0 i then (p.0, x) ∷ ps else p ∷ with_pair ps i x

@@ -59,11 +59,6 @@ row_end (Some r) (q ∷ qs) = length q.1 + (if eqb q.0 r then 0 else row_end (So
 abbrev pub lengths : List (Numbered (List ℕ)) → List ℕ
 lengths rows = map (λ r. length r.1) rows
 
--- how many numbers stand before those of a row
-abbrev pub row_start : List (Numbered (List ℕ)) → ℕ → ℕ
-row_start [] r = 0
-row_start (q ∷ qs) r = if eqb q.0 r then 0 else length q.1 + row_start qs r
-
 -- the start of a row
 abbrev pub start_of : ℕ → Position
 start_of r = record { row = r; place = 0 }

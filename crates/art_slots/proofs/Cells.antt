@@ -1,12 +1,12 @@
 -- The cells of a table: what a write of one leaves of the records.
-use Rattle.std.proofs.Common.{◌≡◌, ◌≢◌, ℕ, zero, suc, ◌+◌, ◌<◌, List, [], ◌∷◌, ◌++◌, map, length, get_or, set, Option, Some, None, is_some, IsSome, count_by, refl, sym, ap, subst, ◌∙◌, arith, true≢false}
+use Rattle.std.proofs.Common.{◌≡◌, ◌≢◌, ℕ, ◌+◌, ◌<◌, List, [], ◌∷◌, map, length, get_or, set, Option, Some, None, is_some, IsSome, count_by, refl, sym, ap, subst, ◌∙◌, arith, true≢false}
 use Rattle.std.specs.List.{AllZip}
-use Rattle.std.proofs.lemmas.List.{map-set, length-map, get_or-map, get_or-set_same, get_or-set_other, length-append}
+use Rattle.std.proofs.lemmas.List.{map-set, length-map, get_or-map, get_or-set_same, get_or-set_other}
 use Rattle.slab.specs.Slab.{IsSlotClone}
-use Rattle.art_slots.specs.Table.{held, IsCopy, AddsEmpty}
+use Rattle.art_slots.specs.Table.{held, IsCopy}
 use Rattle.art_slots.specs.declared.table.Cell.{Cell}
 use Rattle.art_slots.specs.declared.table.Cell.TheVariants.{Full, Empty}
-use Rattle.art_slots.proofs.StoreSlots.{one, within, count-set, count-same}
+use Rattle.art_slots.proofs.StoreSlots.{one, within, count-set}
 
 module _ {T : Type 0} where
   -- a number with a record is that of a cell
@@ -37,22 +37,6 @@ module _ {T : Type 0} where
     -- how many records there are then
     pub count-cell : count_by is_some (map held (set xs i new)) + one (get_or (map held xs) i None) ≡ count_by is_some (map held xs) + one (held new)
     count-cell = rw (map-set held xs i new) (count-set (map held xs) i (held new) (omega (arith, length-map xs (held {T = T}))))
-
-  -- an empty cell at the end holds nothing
-  one_empty : (xs : List (Cell T)) (j : ℕ) → get_or (map held (xs ++ Empty ∷ [])) j None ≡ get_or (map held xs) j None
-  one_empty [] zero = refl
-  one_empty [] (suc zero) = refl
-  one_empty [] (suc (suc j)) = refl
-  one_empty (x ∷ xs) zero = refl
-  one_empty (x ∷ xs) (suc j) = one_empty xs j
-
-  -- a cell more, with no record
-  pub adds_one : (old now : List (Cell T)) (n : ℕ) → AddsEmpty old now n → AddsEmpty old (now ++ Empty ∷ []) (n + 1)
-  adds_one old now n a = record {
-    same = λ j. one_empty now j ∙ a.same j;
-    used = count-same (map held now) (map held (now ++ Empty ∷ [])) (one_empty now) ∙ a.used;
-    more = (let m = a.more in let k = length-append now (Empty ∷ []) in omega arith);
-  }
 
 module _ {T : Type 0} (is_clone : T → T → Type 0) where
   -- the record in a copy of a cell is a clone

@@ -1,6 +1,6 @@
 -- The slots of a store: what a change of one leaves of the records and of the chain of spares.
-use Rattle.std.proofs.Common.{◌≡◌, ◌≢◌, ◌⊎◌, ℕ, zero, suc, ◌+◌, ◌-◌, ◌^◌, ◌<◌, ◌≤◌, max, List, [], ◌∷◌, map, length, get_or, set, Option, Some, None, is_some, IsSome, count_by, cond, refl, sym, ap, subst, ◌∙◌, inl, inr, arith, true≢false}
-use Rattle.std.proofs.lemmas.List.{map-set, length-map, get_or-set_same, get_or-set_other}
+use Rattle.std.proofs.Common.{◌≡◌, ◌≢◌, ◌⊎◌, ℕ, zero, suc, ◌+◌, ◌-◌, ◌^◌, ◌<◌, ◌≤◌, max, List, [], ◌∷◌, map, length, get_or, set, Option, Some, None, is_some, IsSome, count_by, cond, refl, sym, ap, subst, ◌∙◌, inl, inr, arith, true≢false, drop, sum_by}
+use Rattle.std.proofs.lemmas.List.{map-set, length-map, get_or-set_same, get_or-set_other, get_or_past}
 use Rattle.std.proofs.lemmas.Bool.{cases_eq, cases_lt, cond_below, cond_above}
 use Rattle.std.proofs.lemmas.List.Sums.{sum_by-set, sum_by-cons}
 use Rattle.art_slots.specs.Chain.{used_of, AreLinked, HasSpares, room_of}
@@ -11,6 +11,52 @@ use Rattle.art_slots.specs.declared.slots.Slot.TheVariants.{Used, Spare}
 -- 1 for something, 0 for nothing
 abbrev pub one : {X : Type 0} → Option X → ℕ
 one o = cond (is_some o) 1 0
+
+module _ {X : Type 0} (f : Option X → ℕ) (zeros : f None ≡ 0) where
+  -- lists with the same at each place have the same sum
+  pub sum-same : (xs ys : List (Option X)) → ((j : ℕ) → get_or ys j None ≡ get_or xs j None) → sum_by f ys ≡ sum_by f xs
+  sum-same [] [] h = refl
+  sum-same [] (y ∷ ys) h =
+      let e : y ≡ None = h 0 in
+      let v : f y ≡ 0 = ap f e ∙ zeros in
+      let ih : sum_by f ys ≡ sum_by f [] = sum-same [] ys (λ j. h (suc j) ∙ sym (get_or_past {X = Option X} [] j None (omega arith))) in
+      omega (arith, ih, v, sum_by-cons f y ys)
+  sum-same (x ∷ xs) [] h =
+      let e : None ≡ x = h 0 in
+      let v : f x ≡ 0 = ap f (sym e) ∙ zeros in
+      let ih : sum_by f [] ≡ sum_by f xs = sum-same xs [] (λ j. get_or_past {X = Option X} [] j None (omega arith) ∙ h (suc j)) in
+      omega (arith, ih, v, sum_by-cons f x xs)
+  sum-same (x ∷ xs) (y ∷ ys) h =
+      let e : f y ≡ f x = ap f (h 0) in
+      let ih : sum_by f ys ≡ sum_by f xs = sum-same xs ys (λ j. h (suc j)) in
+      omega (arith, sum_by-cons f x xs, sum_by-cons f y ys)
+
+  -- the sum is that of the first and the rest
+  sum-first : (xs : List (Option X)) → sum_by f xs ≡ f (get_or xs 0 None) + sum_by f (drop 1 xs)
+  sum-first [] = omega (arith, zeros)
+  sum-first (x ∷ xs) = sum_by-cons f x xs
+
+  -- a place of the rest is the next one of all
+  rest-at : (xs : List (Option X)) (j : ℕ) → get_or (drop 1 xs) j None ≡ get_or xs (suc j) None
+  rest-at [] j = get_or_past {X = Option X} [] j None (omega arith)
+  rest-at (x ∷ xs) j = refl
+
+  -- what a change at one place does to the sum
+  pub sum-change : (xs ys : List (Option X)) (i : ℕ) → ((j : ℕ) → j ≢ i → get_or ys j None ≡ get_or xs j None) → sum_by f ys + f (get_or xs i None) ≡ sum_by f xs + f (get_or ys i None)
+  sum-change xs ys zero h =
+      let rest : sum_by f (drop 1 ys) ≡ sum_by f (drop 1 xs) = sum-same (drop 1 xs) (drop 1 ys) (λ j. rest-at ys j ∙ h (suc j) (λ e. omega (arith, e)) ∙ sym (rest-at xs j)) in
+      omega (arith, rest, sum-first xs, sum-first ys)
+  sum-change xs ys (suc i) h =
+      let first : f (get_or ys 0 None) ≡ f (get_or xs 0 None) = ap f (h 0 (λ e. omega (arith, e))) in
+      let ih : sum_by f (drop 1 ys) + f (get_or (drop 1 xs) i None) ≡ sum_by f (drop 1 xs) + f (get_or (drop 1 ys) i None) =
+      sum-change (drop 1 xs) (drop 1 ys) i (λ j off. rest-at ys j ∙ h (suc j) (λ e. off (omega (arith, e))) ∙ sym (rest-at xs j)) in
+      omega (arith, first, ih, ap f (rest-at xs i), ap f (rest-at ys i), sum-first xs, sum-first ys)
+
+  -- the sum is no less than what one place has
+  pub sum-least : (xs : List (Option X)) (i : ℕ) → f (get_or xs i None) ≤ sum_by f xs
+  sum-least [] i = let n : f (get_or {A = Option X} [] i None) ≡ 0 = ap f (get_or_past {X = Option X} [] i None (omega arith)) ∙ zeros in omega arith
+  sum-least (x ∷ xs) zero = omega (arith, sum_by-cons f x xs)
+  sum-least (x ∷ xs) (suc i) = let ih = sum-least xs i in omega (arith, ih, sum_by-cons f x xs)
 
 module _ {X : Type 0} where
   -- a place that has something is in the list
@@ -24,44 +70,15 @@ module _ {X : Type 0} where
   pub count-set : (xs : List (Option X)) (i : ℕ) (o : Option X) → i < length xs → count_by is_some (set xs i o) + one (get_or xs i None) ≡ count_by is_some xs + one o
   count-set xs i o l = sum_by-set one xs i o None l
 
-  -- a list with nothing at each place counts none
-  count-none : (xs : List (Option X)) → ((j : ℕ) → get_or xs j None ≡ None) → count_by is_some xs ≡ 0
-  count-none [] h = refl
-  count-none (x ∷ xs) h =
-      let e : x ≡ None = h 0 in
-      let ih : count_by is_some xs ≡ 0 = count-none xs (λ j. h (suc j)) in
-      let f : one x ≡ 0 = ap one e in
-      omega (arith, sum_by-cons one x xs)
-
   -- lists with the same at each place count alike
   pub count-same : (xs ys : List (Option X)) → ((j : ℕ) → get_or ys j None ≡ get_or xs j None) → count_by is_some ys ≡ count_by is_some xs
-  count-same [] ys h = count-none ys (λ j. h j ∙ get_or-none j)
-    where
-      get_or-none : (j : ℕ) → get_or {A = Option X} [] j None ≡ None
-      get_or-none zero = refl
-      get_or-none (suc j) = refl
-  count-same (x ∷ xs) [] h = sym (count-none (x ∷ xs) (λ j. sym (h j) ∙ get_or-none j))
-    where
-      get_or-none : (j : ℕ) → get_or {A = Option X} [] j None ≡ None
-      get_or-none zero = refl
-      get_or-none (suc j) = refl
-  count-same (x ∷ xs) (y ∷ ys) h =
-      let e : one y ≡ one x = ap one (h 0) in
-      let ih : count_by is_some ys ≡ count_by is_some xs = count-same xs ys (λ j. h (suc j)) in
-      omega (arith, sum_by-cons one x xs, sum_by-cons one y ys)
+  count-same xs ys h = sum-same one refl xs ys h
 
   -- lists with the same at each place but one, which had nothing, count one more
   pub count-more : (xs ys : List (Option X)) (i : ℕ) (x : X) → get_or xs i None ≡ None → get_or ys i None ≡ Some x → ((j : ℕ) → j ≢ i → get_or ys j None ≡ get_or xs j None) → count_by is_some ys ≡ count_by is_some xs + 1
   count-more xs ys i x none now others =
-      let l : i < length ys = within ys i x now in
-      let u : count_by is_some (set ys i None) + one (get_or ys i None) ≡ count_by is_some ys + 0 = count-set ys i None l in
-      let v : one (get_or ys i None) ≡ 1 = ap one now in
-      let w : count_by is_some (set ys i None) ≡ count_by is_some xs = count-same xs (set ys i None) (λ j. by_place j (cases_eq j i)) in
-      omega arith
-    where
-      by_place : (j : ℕ) → (j ≡ i) ⊎ (j ≢ i) → get_or (set ys i None) j None ≡ get_or xs j None
-      by_place j (inl e) = ap (λ z. get_or (set ys i None) z None) e ∙ get_or-set_same ys i None None (within ys i x now) ∙ sym none ∙ ap (λ z. get_or xs z None) (sym e)
-      by_place j (inr h) = get_or-set_other ys i j None None h ∙ others j h
+      let c : count_by is_some ys + one (get_or xs i None) ≡ count_by is_some xs + one (get_or ys i None) = sum-change one refl xs ys i others in
+      omega (arith, c, ap one none, ap one now)
 
 -- room where the capacity is small
 pub room-small : (n c : ℕ) → c < 2 ^ 61 → c - n ≡ room_of n c

@@ -93,15 +93,11 @@ Begins-linear (x ∷ f) [] k a b l = omega arith
 Begins-linear (x ∷ f) (y ∷ g) [] a b l = absurd a
 Begins-linear (x ∷ f) (y ∷ g) (z ∷ k) a b l = (a.0 ∙ sym b.0, Begins-linear f g k a.1 b.1 (omega arith))
 
--- an edge is one byte longer
-pub length-edge : (g : Bytes) (b : ℕ) → length (g ++ b ∷ []) ≡ length g + 1
-length-edge g b = omega (arith, length-append g (b ∷ []))
-
 -- a front that goes past t goes on by the key's next byte
 pub Begins-past : (t g k : Bytes) → Begins t k → Begins g k → length t < length g → Begins (t ++ next_byte t k ∷ []) g
 Begins-past t g k a b l =
     let h : length g ≤ length k = Begins-length g k b in
-    Begins-linear (t ++ next_byte t k ∷ []) g k (Begins-more t k a (omega arith)) b (omega (arith, length-edge t (next_byte t k)))
+    Begins-linear (t ++ next_byte t k ∷ []) g k (Begins-more t k a (omega arith)) b (omega (arith, length-append t (next_byte t k ∷ [])))
 
 -- the next byte is read alike in a longer front
 pub next_byte-front : (t g k : Bytes) → Begins g k → length t < length g → next_byte t g ≡ next_byte t k
@@ -214,15 +210,4 @@ common_length f a b ha hb = Begins-length f (common a b) (common-greatest f a b 
 
 -- an edge has one byte at least
 pub edge_some : (f : Bytes) (b : ℕ) → f ++ b ∷ [] ≡ [] → ⊥
-edge_some f b e = let l : length (f ++ b ∷ []) ≡ 0 = ap length e in let k : length (f ++ b ∷ []) ≡ length f + 1 = length-edge f b in omega arith
-
--- an edge is of one front and one byte
-pub edge_same : (f g : Bytes) (b c : ℕ) → f ++ b ∷ [] ≡ g ++ c ∷ [] → (f ≡ g) × (b ≡ c)
-edge_same [] [] b c e = let z : b ≡ c = cc in (refl, z)
-edge_same [] (y ∷ g) b c e = let l : 1 ≡ suc (length (g ++ c ∷ [])) = ap length e in let k : length (g ++ c ∷ []) ≡ length g + 1 = length-edge g c in absurd (omega arith)
-edge_same (x ∷ f) [] b c e = let l : suc (length (f ++ b ∷ [])) ≡ 1 = ap length e in let k : length (f ++ b ∷ []) ≡ length f + 1 = length-edge f b in absurd (omega arith)
-edge_same (x ∷ f) (y ∷ g) b c e =
-    let h : f ++ b ∷ [] ≡ g ++ c ∷ [] = cc in
-    let z : x ≡ y = cc in
-    let r = edge_same f g b c h in
-    ((λ i. z i ∷ r.0 i), r.1)
+edge_some f b e = let l : length (f ++ b ∷ []) ≡ 0 = ap length e in let k : length (f ++ b ∷ []) ≡ length f + 1 = length-append f (b ∷ []) in omega arith

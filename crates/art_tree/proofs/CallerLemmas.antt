@@ -12,13 +12,13 @@ use Rattle.art_tree.specs.declared.tree.point.Place.{Place}
 use Rattle.art_tree.proofs.BeginsLemmas.{Begins-linear, Begins-more, Begins-past, Begins-trans, related_cases, related-from_front}
 use Rattle.art_tree.proofs.Pairs.KeyChanges.{departs_at}
 -- which numbers there are, and what they name
-pub use Rattle.art_rows.proofs.CallerLemmas.{has_not_lacks, has_other, Has-tail, Has-last, Lacks-parts, Lacks-from_leaf_in, distinct_parts, AreDistinct-parts, last_number-append}
+pub use Rattle.art_rows.proofs.CallerLemmas.{has_not_lacks, has_other, Has-tail, Has-first, Has-last, no_first, no_last, Lacks-parts, Lacks-from_leaf_in, distinct_parts, AreDistinct-parts, last_number-append}
 pub use Rattle.art_tree.proofs.Pairs.Numbers.{leaf_in-member, Member-from_leaf_in}
 -- the list split at a number
 pub use Rattle.art_rows.proofs.CallerLemmas.{split, leaf_in-split, number_after-split, number_before-split, without_number-split, with_pair-split}
 pub use Rattle.art_tree.proofs.Pairs.Numbers.{with_value-split}
 -- a pair less, or with another key or value
-pub use Rattle.art_rows.proofs.CallerLemmas.{length-without_number, AreDistinct-without_number, same_first, same_last, leaf_in-with_now, others-with_pair}
+pub use Rattle.art_rows.proofs.CallerLemmas.{first_off, last_off, length-without_number, AreDistinct-without_number, same_first, same_last, leaf_in-with_now, others-with_pair}
 pub use Rattle.art_tree.proofs.Pairs.Numbers.{AreDistinct-with_value, numbers-with_value}
 -- the pairs that pass a test, where one goes, and lists of which both ends are known
 pub use Rattle.art_tree.proofs.Pairs.Filtering.{AreDistinct-filter, filter-without, dropped_without, filter_every, HasTwoPairs, two_ends, only_one}

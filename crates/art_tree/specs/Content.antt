@@ -5,12 +5,12 @@ use Rattle.art_tree.specs.Leaves.{Numbered}
 use Rattle.art_tree.specs.declared.tree.point.Point.{Point}
 use Rattle.art_tree.specs.declared.tree.point.Point.TheVariants.{Empty, Exact, Related, Free}
 
--- for how many placements the spare records of leaves and rows are enough, and those of inner nodes
+-- for how many placements there surely is a row of leaves, and for how many the spare inner nodes are enough
 pub record Spares : Type 0 where
   pub leaves : ℕ
   pub nodes : ℕ
 
--- the pairs in byte order, each under its leaf's number, and the room of the spare records
+-- the pairs in byte order, each under its leaf's number, and the room for pairs to come
 pub record Content (K V : Type 0) : Type 0 where
   pub pairs : List (Numbered K V)
   pub spares : Spares
@@ -29,7 +29,7 @@ module _ {K V : Type 0} where
   abbrev pub room : Content K V → ℕ
   room t = min t.spares.leaves t.spares.nodes
 
-  -- there are the records that a placement at this point takes
+  -- there is the room that a placement at this point takes
   abbrev pub Fits : Content K V → Point → Type 0
   Fits t Empty = 0 < t.spares.leaves
   Fits t (Exact id) = Unit {0}

@@ -1,4 +1,4 @@
-//! An adaptive radix tree over byte keys. Its records lie in slabs under numbers, and the numbers of its leaves stand in rows in byte order.
+//! An adaptive radix tree over byte keys. Its inner nodes lie in slabs and its leaves in the cells of a table, each under a number, and the numbers of the leaves stand in rows in byte order.
 //!
 //! A contract sees a [`Tree`] as the list of its pairs in byte order, each under the number of its leaf, and the room for pairs to come.
 #![tactic(auto)]

@@ -1,5 +1,5 @@
 -- A closure that is asked of the pair that a cursor has passed, which stays as the closure left it or is removed.
-use Rattle.std.proofs.Common.{◌≡◌, ℕ, ◌≤◌, Bool, true, false, List, [], ◌∷◌, ◌++◌, Some, refl, sym, ap, ◌∙◌, subst, arith, append_assoc}
+use Rattle.std.proofs.Common.{◌≡◌, ℕ, Bool, true, false, List, [], ◌∷◌, ◌++◌, Some, refl, sym, ap, ◌∙◌, subst, append_assoc}
 use Rattle.std.proofs.lemmas.List.{map-append}
 use Rattle.std.specs.Borrow.{Bor, MutBor}
 use denote.Param.Members.{Mut, Called}
@@ -106,6 +106,3 @@ module _ {K V F : Type 0} (R : F → K × V → Bool → K × V → F → Type 0
           let a' = subst (λ (l : List (Numbered K V)). RetainsBy R (pairs_of l) f' rest h) same a in
           step_then rest h (retains_gone R y (y.0, w) (pairs_of left') rest f f' h b asks a' t);
     }
-
-pub le_eq : (a b : ℕ) → a ≡ b → a ≤ b
-le_eq a b e = omega arith

@@ -7,7 +7,8 @@ use Rattle.std.specs.Map.Calls.{CallableOnEachPair, CalledAtPair, SomeCallAtPair
 use denote.Param.Members.{Mut}
 use denote.Param.Always.{always_mut, mut_next}
 
-middle : {X : Type 0} (P : X → Type 0) (before after : List X) (x : X) → All P (before ++ x ∷ after) → P x
+-- what holds of all holds of the one in between
+pub middle : {X : Type 0} (P : X → Type 0) (before after : List X) (x : X) → All P (before ++ x ∷ after) → P x
 middle P [] after x h = All-head P x after h
 middle P (y ∷ before) after x h = middle P before after x (All-tail P y (before ++ x ∷ after) h)
 

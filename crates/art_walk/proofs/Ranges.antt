@@ -13,10 +13,10 @@ use Rattle.blart_keys.proofs.ContentLemmas.{Before, Ranked-from_content, under_i
 use Rattle.blart_keys.proofs.PartsOfContents.{end_down, start_up, between_is_part, between_from, between_up, subtree_is_part}
 use Rattle.art_tree.specs.Leaves.{Numbered, leaf_in, first_number, last_number, AreDistinct, bytes}
 use Rattle.art_tree.specs.Seeks.{number_within, ends}
-use Rattle.art_tree.proofs.CallerLemmas.{leaf_in-member, last_number-append, are_ends}
+use Rattle.art_tree.proofs.CallerLemmas.{leaf_in-member, last_number-append, are_ends, no_first, no_last}
 use Rattle.art_walk.specs.Cursor.{span_of, IsSpan}
 use Rattle.art_walk.proofs.Spans.{Cut, EndsWith, ends_with, cut_span, cut_is_span}
-use Rattle.art_walk.proofs.Steps.{BeginsWith, begins_with, some_inj, no_last}
+use Rattle.art_walk.proofs.Steps.{BeginsWith, begins_with, some_inj}
 
 module _ {K V : Type 0} where
   -- pairs that stand in one row are cut out at their ends
@@ -63,11 +63,7 @@ module _ {K V : Type 0} (key_bytes : K → List ℕ) (ps : List (Numbered K V)) 
 
     -- where no pair is from the start, none is within
     pub none_from : None ≡ number_within (bytes key_bytes) ps lo true → within ≡ []
-    none_from e = sym (between_from (bytes key_bytes) ps lo hi) ∙ ap (filter (λ x. is_up_to_end hi (bytes key_bytes x))) (no_first from e)
-      where
-        no_first : (l : List (Numbered K V)) → None ≡ first_number l → l ≡ []
-        no_first [] e = refl
-        no_first (p ∷ l) e = absurd cc
+    none_from e = sym (between_from (bytes key_bytes) ps lo hi) ∙ ap (filter (λ x. is_up_to_end hi (bytes key_bytes x))) (no_first from (sym e))
 
     -- where no pair is up to the end, none is within
     pub none_up : None ≡ number_within (bytes key_bytes) ps hi false → within ≡ []

@@ -225,10 +225,3 @@ module _ {K V : Type 0} where
   -- the whole list is cut nowhere
   pub all_cut : (ps : List (Numbered K V)) (first last : ℕ) → Some first ≡ first_number ps → Some last ≡ last_number ps → Cut ps first last ps
   all_cut ps first last f l = record { before = []; after = []; is = sym (append-nil ps); first_is = sym f; last_is = sym l }
-
-  -- a list with no last number is empty
-  pub no_last : (ps : List (Numbered K V)) → last_number ps ≡ None → ps ≡ []
-  no_last [] e = refl
-  no_last (p ∷ []) e = absurd cc
-  no_last (p ∷ q ∷ ps) e = absurd (let h : q ∷ ps ≡ [] = no_last (q ∷ ps) e in cc)
-  -- ---- a pair taken is a number passed

@@ -1,13 +1,14 @@
 -- Items that are put in another order, in which those with the same bytes stand as they did: what is stored is the same.
 use Rattle.std.proofs.Common.{◌≡◌, ◌≢◌, ℕ, Bool, true, false, not, ◌&&◌, inl, inr, List, [], ◌∷◌, refl, sym, ap, ◌∙◌, subst, Option, Some, None, filter, bytes_eq, if◌then◌else◌}
 use Rattle.std.proofs.lemmas.Bool.{false≢true, cases_Bool, cond-true, cond-false}
+use Rattle.std.proofs.lemmas.List.Elements.{filter_agree}
 use Rattle.std.specs.Prelude.{IfSome, Contains}
 use Rattle.std.specs.Cmp.Lexicographic.{bytes_decides}
 use Rattle.std.specs.List.Sorted.{IsStableBy, ties}
 use Rattle.blart_keys.specs.Bytes.{related, less}
 use Rattle.blart_keys.specs.Bulk.{PutsAll}
 use Rattle.blart_keys.specs.Steps.{bytes as bytes_of}
-use Rattle.blart_keys.specs.Stored.{kept_pair, kept_item}
+use Rattle.blart_keys.specs.Stored.{kept_pair}
 use Rattle.blart_keys.specs.Content.{IsContent, at, conflict, IsPut}
 use Rattle.blart_keys.proofs.RankLemmas.{Member, Contains-from_Member, Member-from_Contains, filter_member}
 use Rattle.blart_keys.proofs.PartLemmas.{less-irrefl, less_or}
@@ -134,11 +135,6 @@ module _ {X : Type 0} (bytes : X → List ℕ) where
       neither true b h = refl
       neither false b h = ap not h
 
-  -- tests that answer alike keep the same
-  filter_alike : (p r : X → Bool) → ((x : X) → p x ≡ r x) → (xs : List X) → filter p xs ≡ filter r xs
-  filter_alike p r h [] = refl
-  filter_alike p r h (x ∷ xs) = simp (h x, filter_alike p r h xs)
-
   -- after a stable sort by bytes items with the same bytes stand as before
   pub same_from_stable : (xs ys : List X) → IsStableBy below xs ys → (q : List ℕ) → filter (λ x. bytes_eq (bytes x) q) ys ≡ filter (λ x. bytes_eq (bytes x) q) xs
   same_from_stable xs ys h q = go (filter has ys) (filter has xs) refl refl
@@ -149,7 +145,7 @@ module _ {X : Type 0} (bytes : X → List ℕ) where
       like : (x : X) → has x ≡ true → filter has ys ≡ filter has xs
       like x t =
           let alike : (y : X) → ties below x y ≡ has y = (λ y. tied x y ∙ ap (bytes_eq (bytes y)) ((bytes_decides (bytes x) q).0 t)) in
-          sym (filter_alike (ties below x) has alike ys) ∙ h x ∙ filter_alike (ties below x) has alike xs
+          sym (filter_agree (ties below x) has alike ys) ∙ h x ∙ filter_agree (ties below x) has alike xs
 
       go : (us vs : List X) → filter has ys ≡ us → filter has xs ≡ vs → filter has ys ≡ filter has xs
       go [] [] e f = e ∙ sym f

@@ -1,5 +1,5 @@
 -- The fronts of a content are where two of its items part.
-use Rattle.std.proofs.Common.{◌≡◌, ℕ, ◌<◌, ◌≤◌, true, ◌⊎◌, inl, inr, List, [], ◌∷◌, ◌++◌, refl, sym, ap, ◌∙◌, subst, arith}
+use Rattle.std.proofs.Common.{◌≡◌, ℕ, ◌<◌, true, inl, inr, List, [], ◌∷◌, ◌++◌, refl, sym, ap, ◌∙◌, subst, eq-or-lt_of_le}
 use Rattle.std.specs.Ordering.{eq_by_cmp, is_eq}
 use Rattle.std.specs.Cmp.{Equal-is, tied_itself}
 use Rattle.std.specs.Cmp.Lexicographic.{nat_list_cmp_total}
@@ -37,13 +37,10 @@ module _ {X : Type 0} (bytes : X → List ℕ) where
       inl (common_at_branch f (bytes z) (bytes w) (record { low = low; high = high; below = l; first = u; second = subst (λ a. begins (f ++ high ∷ []) (bytes a) ≡ true) (sym e) v }))
   from_head f low high y l v z (w ∷ S) r u (inr m) =
       let g = goes_on_between f (bytes z) (bytes w) (bytes y) low high r.0.0 (less-from_PartsBelow _ _ (each_member (Before bytes w) S y r.1.0 m)) u v in
-      elim (le_cases low g.next g.least) [
+      elim (eq-or-lt_of_le g.least) [
         | inl e ↦ inr (from_head f low high y l v w S r.1 (subst (λ n. begins (f ++ n ∷ []) (bytes w) ≡ true) (sym e) g.goes) m)
         | inr k ↦ inl (common_at_branch f (bytes z) (bytes w) (record { low = low; high = g.next; below = k; first = u; second = g.goes }))
       ]
-    where
-      le_cases : (a b : ℕ) → a ≤ b → (a ≡ b) ⊎ (a < b)
-      le_cases a b h = grind arith
 
   skip : (z : X) (S : List X) (f : List ℕ) → Member f (commons bytes S) → Member f (commons bytes (z ∷ S))
   skip z [] f m = absurd m

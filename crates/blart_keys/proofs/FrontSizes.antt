@@ -3,7 +3,7 @@ use Rattle.std.proofs.Common.{◌≡◌, ℕ, suc, ◌+◌, ◌-◌, ◌≤◌, 
 use Rattle.std.proofs.lemmas.Bool.{false≢true, cond-true, cond-false, false_from_ne_true, and_parts, and_from}
 use Rattle.std.specs.List.{cons_option}
 use Rattle.std.specs.Ordering.{eq_by_cmp, is_eq}
-use Rattle.std.specs.Cmp.{IsTotalOrder, Equal-is, tied_itself, nat_cmp_total}
+use Rattle.std.specs.Cmp.{IsTotalOrder, Equal-is, tied_itself, nat_cmp_total, both_ways}
 use Rattle.std.specs.Cmp.Lexicographic.{nat_list_cmp_total}
 use Rattle.std.proofs.lemmas.Map.Lookups.{exact_bytes, exact_unsigned}
 use Rattle.std.specs.FinSet as set
@@ -32,14 +32,9 @@ module _ {K : Type 0} {R : K → K → Ordering} (o : IsTotalOrder R) (exact : I
 
   -- lists with the same members make one set
   pub same_members : (ks js : List K) → ((k : K) → Member k ks → Member k js) → ((k : K) → Member k js → Member k ks) → set.from_list {R = R} ks ≡ set.from_list js
-  same_members ks js f g = set.same_set o exact (set.from_list ks) (set.from_list js) (λ k. both (set.contains (set.from_list {R = R} ks) k) (set.contains (set.from_list {R = R} js) k)
+  same_members ks js f g = set.same_set o exact (set.from_list ks) (set.from_list js) (λ k. both_ways (set.contains (set.from_list {R = R} ks) k) (set.contains (set.from_list {R = R} js) k)
       (λ h. set_has_member js k (f k (member_of_set ks k h)))
       (λ h. set_has_member ks k (g k (member_of_set js k h))))
-    where
-      both : (a b : Bool) → (a ≡ true → b ≡ true) → (b ≡ true → a ≡ true) → a ≡ b
-      both true b f g = sym (f refl)
-      both false true f g = g refl
-      both false false f g = refl
 
   -- the size of a set is the length of any list with just its members, each once
   pub len_of_distinct : (ks : List K) → Distinct ks → set.len (set.from_list {R = R} ks) ≡ length ks

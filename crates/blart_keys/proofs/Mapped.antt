@@ -53,7 +53,7 @@ module _ {X Y : Type 0} (f : X → Y) where
   all_map P (x ∷ xs) h = (h.0, all_map P xs h.1)
 
   -- images are ranked as their items are
-  ranked_map : (R : Y → Y → Type 0) (xs : List X) → Ranked (λ x y. R (f x) (f y)) xs → Ranked R (map f xs)
+  pub ranked_map : (R : Y → Y → Type 0) (xs : List X) → Ranked (λ x y. R (f x) (f y)) xs → Ranked R (map f xs)
   ranked_map R [] h = tt
   ranked_map R (x ∷ xs) h = (all_map (R (f x)) xs h.0, ranked_map R xs h.1)
 

@@ -1,6 +1,7 @@
 -- What is found where all that begins with some bytes is gone.
-use Rattle.std.proofs.Common.{◌≡◌, ℕ, ◌+◌, arith, cond, Bool, true, false, not, inl, inr, List, [], ◌∷◌, length, filter, find, refl, sym, ap, ◌∙◌, Some, None, bytes_eq}
+use Rattle.std.proofs.Common.{◌≡◌, ℕ, ◌+◌, cond, Bool, true, false, not, inl, inr, List, [], ◌∷◌, length, filter, find, refl, sym, ap, ◌∙◌, Some, None, bytes_eq}
 use Rattle.std.proofs.lemmas.Bool.{false≢true, cases_Bool, cond-true, cond-false, false_from_ne_true}
+use Rattle.std.proofs.lemmas.List.Filters.{length-filter_both}
 use Rattle.std.specs.Cmp.Lexicographic.{bytes_decides}
 use Rattle.blart_keys.specs.Bytes.{begins}
 use Rattle.blart_keys.specs.Content.{at, front_of, under}
@@ -11,16 +12,6 @@ use Rattle.blart_keys.proofs.ByteLemmas.{begins-trans}
 use Rattle.blart_keys.proofs.RankLemmas.{find_none, filter_member}
 
 module _ {X : Type 0} (t : X → Bool) where
-  -- each item passes a test or fails it
-  length_halves : (xs : List X) → length (filter t xs) + length (filter (λ x. not (t x)) xs) ≡ length xs
-  length_halves [] = refl
-  length_halves (x ∷ xs) =
-      let ih : length (filter t xs) + length (filter (λ x. not (t x)) xs) ≡ length xs = length_halves xs in
-      elim (cases_Bool (t x)) [
-        | inl y ↦ rw y (omega arith)
-        | inr n ↦ rw n (omega arith)
-      ]
-
   -- where none passes a test, all fail it
   all_fail : (xs : List X) → filter t xs ≡ [] → filter (λ x. not (t x)) xs ≡ xs
   all_fail [] e = refl
@@ -42,7 +33,7 @@ module _ {X : Type 0} (t : X → Bool) where
 module _ {X : Type 0} (bytes : X → List ℕ) (S : List X) (p : List ℕ) where
   -- what goes and what is left are all
   pub length_outside : length (under bytes S p) + length (outside bytes S p) ≡ length S
-  length_outside = length_halves (λ x. begins p (bytes x)) S
+  length_outside = length-filter_both (λ x. begins p (bytes x)) (λ x. not (begins p (bytes x))) (λ x. refl) S
 
   -- where nothing begins with the bytes all is left
   pub outside_all : under bytes S p ≡ [] → outside bytes S p ≡ S

@@ -1,5 +1,6 @@
 -- Which parts of a content stand in one row.
 use Rattle.std.proofs.Common.{◌≡◌, ℕ, Bool, true, false, ◌&&◌, inl, inr, List, filter, refl, sym, ◌∙◌}
+use Rattle.std.proofs.Math.Bool.{and_comm}
 use Rattle.std.proofs.lemmas.Bool.{false≢true, or_cases, or_left, or_right, and_parts, and_from, not-true, not_from_false, false_from_ne_true}
 use Rattle.std.specs.declared.ops.Bound.{Bound}
 use Rattle.std.specs.declared.ops.Bound.TheVariants.{Included, Excluded, Unbounded}
@@ -9,7 +10,7 @@ use Rattle.blart_keys.specs.Content.{IsContent, between}
 use Rattle.blart_keys.proofs.ByteLemmas.{begins-trans, fronts_related}
 use Rattle.blart_keys.proofs.PartLemmas.{less-trans, less-from_PartsBelow, PartsBelow-trans, related-from_PartsBelow, begins_between}
 use Rattle.blart_keys.proofs.RankLemmas.{filter_is_part, filter_twice, IsPart}
-use Rattle.blart_keys.proofs.ContentLemmas.{Before, Ranked-from_content}
+use Rattle.blart_keys.proofs.ContentLemmas.{Before, Ranked-from_content, related_back}
 
 -- ---- rows
 
@@ -47,17 +48,11 @@ module _ {X : Type 0} (bytes : X → List ℕ) where
   pub between_up : (S : List X) (lo hi : Bound (List ℕ)) → filter (λ x. is_from_start lo (bytes x)) (between bytes S Unbounded hi) ≡ between bytes S lo hi
   between_up S lo hi =
       filter_twice (λ x. is_up_to_end hi (bytes x)) (λ x. is_from_start lo (bytes x)) (λ x. is_from_start lo (bytes x) && is_up_to_end hi (bytes x))
-      (λ x. turned (is_from_start lo (bytes x)) (is_up_to_end hi (bytes x))) S
-    where
-      turned : (a b : Bool) → (a && b) ≡ (b && a)
-      turned true true = refl
-      turned true false = refl
-      turned false true = refl
-      turned false false = refl
+      (λ x. and_comm (is_from_start lo (bytes x)) (is_up_to_end hi (bytes x))) S
 
   related_convex : (q : List ℕ) (x y z : X) → Before bytes x y → Before bytes y z → related (bytes x) q ≡ true → related (bytes z) q ≡ true → related (bytes y) q ≡ true
   related_convex q x y z h k s t =
-      or_right (begins (bytes y) q) (begins q (bytes y)) (begins_between q (bytes x) (bytes y) (bytes z) hl kl (starts x z s t (apart hz)) (starts z x t s (λ r. apart hz (swap (bytes x) (bytes z) r))))
+      or_right (begins (bytes y) q) (begins q (bytes y)) (begins_between q (bytes x) (bytes y) (bytes z) hl kl (starts x z s t (apart hz)) (starts z x t s (λ r. apart hz (related_back (bytes z) (bytes x) r))))
     where
       hl : less (bytes x) (bytes y) ≡ true
       hl = less-from_PartsBelow _ _ h
@@ -70,9 +65,6 @@ module _ {X : Type 0} (bytes : X → List ℕ) where
 
       apart : {b : Bool} → b ≡ false → b ≡ true → ⊥
       apart f t = false≢true (sym f ∙ t)
-
-      swap : (a b : List ℕ) → related b a ≡ true → related a b ≡ true
-      swap a b r = elim (or_cases (begins b a) (begins a b) r) [ inl m ↦ or_right (begins a b) (begins b a) m | inr m ↦ or_left (begins a b) (begins b a) m ]
 
       starts : (u w : X) → related (bytes u) q ≡ true → related (bytes w) q ≡ true → (related (bytes u) (bytes w) ≡ true → ⊥) → begins q (bytes u) ≡ true
       starts u w r r' never = elim (or_cases (begins (bytes u) q) (begins q (bytes u)) r) [

@@ -1,5 +1,5 @@
 -- What the words on stored pairs say after a call.
-use Rattle.std.proofs.Common.{◌≡◌, ◌≢◌, slice_get, zero, Contains, find, filter, append-nil, ℕ, suc, ◌+◌, Bool, true, false, not, ◌||◌, ◌⊎◌, inl, inr, List, [], ◌∷◌, ◌++◌, length, map, refl, sym, ap, ◌∙◌, subst, subst₂, arith, Option, Some, None, Result, Ok, Err, IfOk, IfErr, OnOk, OnErr, option_map, is_some, bytes_eq, cond, if◌then◌else◌}
+use Rattle.std.proofs.Common.{◌≡◌, ◌≢◌, slice_get, zero, Contains, find, filter, append-nil, ℕ, suc, ◌+◌, Bool, true, false, not, ◌&&◌, ◌||◌, ◌⊎◌, inl, inr, List, [], ◌∷◌, ◌++◌, length, map, refl, sym, ap, ◌∙◌, subst, subst₂, arith, Option, Some, None, Result, Ok, Err, IfOk, IfErr, OnOk, OnErr, option_map, is_some, bytes_eq, cond, if◌then◌else◌}
 use Rattle.std.proofs.lemmas.Bool.{false≢true, cases_Bool, cond-true, cond-false, not-true, false_from_ne_true}
 use Rattle.std.specs.Cmp.Lexicographic.{bytes_decides}
 use Rattle.blart_keys.specs.Bytes.{begins, related}
@@ -18,9 +18,9 @@ use Rattle.blart_keys.proofs.Mapped.{find-map}
 use Rattle.blart_keys.proofs.PutLemmas.{at_put, without_absent, without_content, without_cut}
 
 -- an option whose value is changed is there as before
-some_map : {X Y : Type 0} (f : X → Y) (o : Option X) → is_some (option_map f o) ≡ is_some o
-some_map f None = refl
-some_map f (Some x) = refl
+pub is_some-map : {X Y : Type 0} (f : X → Y) (o : Option X) → is_some (option_map f o) ≡ is_some o
+is_some-map f None = refl
+is_some-map f (Some x) = refl
 
 -- what stands at a place is a member
 slice_get-member : {X : Type 0} (S : List X) (i : ℕ) (x : X) → slice_get S i ≡ Some x → Member x S
@@ -40,11 +40,7 @@ module _ {X : Type 0} (bytes : X → List ℕ) where
 
   -- bytes that go are not there
   pub at-without_same : (S : List X) (q : List ℕ) → at bytes (without bytes S q) q ≡ None
-  at-without_same S q = find_none (λ x. bytes_eq (bytes x) q) (without bytes S q) (λ y m. not_true _ (filter_member (λ x. not (bytes_eq (bytes x) q)) S y m).1)
-    where
-      not_true : (b : Bool) → not b ≡ true → b ≡ false
-      not_true true h = absurd (false≢true h)
-      not_true false h = refl
+  at-without_same S q = find_none (λ x. bytes_eq (bytes x) q) (without bytes S q) (λ y m. not-true _ (filter_member (λ x. not (bytes_eq (bytes x) q)) S y m).1)
 
   -- and at other bytes is what was there
   pub at-without_other : (S : List X) (q r : List ℕ) → r ≢ q → at bytes (without bytes S q) r ≡ at bytes S r
@@ -345,7 +341,7 @@ module _ {K V : Type 0} (kb : K → List ℕ) where
 
   -- the same where the answer is the old value
   len_of_value : (S S' : List (K × V)) (x y : K × V) (same : kb y.0 ≡ kb x.0) (old : Option V) → IsContent (bytes kb) S → IsPut (bytes kb) S y S' → old ≡ value_at kb S (kb x.0) → length S' ≡ length S + (if is_some old then 0 else 1)
-  len_of_value S S' x y same old content put e = len_stored S S' x y same put content ∙ ap (λ b. length S + (if b then 0 else 1)) (sym (some_map (λ (p : K × V). p.1) (pair_at kb S (kb x.0))) ∙ ap (λ o. is_some o) (sym e))
+  len_of_value S S' x y same old content put e = len_stored S S' x y same put content ∙ ap (λ b. length S + (if b then 0 else 1)) (sym (is_some-map (λ (p : K × V). p.1) (pair_at kb S (kb x.0))) ∙ ap (λ o. is_some o) (sym e))
 
   pub puts_value_len : (S : List (K × V)) (x y : K × V) (same : kb y.0 ≡ kb x.0) (S' : List (K × V)) (r : Result (Option V) TryInsertError) → IsContent (bytes kb) S → Puts kb (option_map (λ pair. pair.1)) S x y r S' → IfOk r (λ old. length S' ≡ length S + (if is_some old then 0 else 1))
   puts_value_len S x y same S' (Ok a) content puts = len_of_value S S' x y same a content puts.1 (puts_old (option_map (λ pair. pair.1)) S x y same S' (Ok a) puts)
@@ -429,3 +425,49 @@ before_agrees {K} {V} kb S q content there = by (pair_at kb S q) refl
     by : (o : Option (K × V)) → pair_at kb S q ≡ o → pair_at_front kb S q ≡ pair_at kb S q
     by None e = absurd (false≢true (ap (λ o. is_some o) (sym e) ∙ there))
     by (Some x) e = pair_at_front-at kb S content q x e ∙ sym e
+
+-- ---- where a query goes once a pair is gone
+
+module _ {K V : Type 0} (kb : K → List ℕ) (S : List (K × V)) (content : IsContent (bytes kb) S) (q r : List ℕ) where
+  -- what is left was there, and has other bytes
+  left : (y : K × V) → Member y (without (bytes kb) S q) → Member y S × (kb y.0 ≢ q)
+  left y m =
+      let f = filter_member (λ (x : K × V). not (bytes_eq (kb x.0) q)) S y m in
+      (f.0, λ e. false≢true (sym (ap not ((bytes_decides (kb y.0) q).1 e)) ∙ f.1))
+
+  -- where what begins the query stays, it goes where it went
+  stays : ((y : K × V) → Member y S → begins (kb y.0) r ≡ true → kb y.0 ≢ q) → pair_at_front kb (without (bytes kb) S q) r ≡ pair_at_front kb S r
+  unfolding pair_at_front
+  stays apart = found (front_of (bytes kb) S r) refl
+    where
+      kept : (y : K × V) → Member y S → kb y.0 ≢ q → Member y (without (bytes kb) S q)
+      kept y m off = member_filter (λ (x : K × V). not (bytes_eq (kb x.0) q)) S y m (ap not (false_from_ne_true _ (λ t. off ((bytes_decides (kb y.0) q).0 t))))
+
+      found : (o : Option (K × V)) → front_of (bytes kb) S r ≡ o → front_of (bytes kb) (without (bytes kb) S q) r ≡ front_of (bytes kb) S r
+      found (Some y) e =
+          let f = front_of_Some (bytes kb) S r y e in
+          front_of_member (bytes kb) (without (bytes kb) S q) (without_content (bytes kb) S q content) r y (kept y f.0 (apart y f.0 f.1)) f.1 ∙ sym e
+      found None e = find_none (λ (y : K × V). begins (kb y.0) r) (without (bytes kb) S q) (λ y m. front_of_None (bytes kb) S r y e (left y m).0) ∙ sym e
+
+  -- and where the one goes that begins it, nothing does
+  goes : (z : K × V) → pair_at kb S q ≡ Some z → begins q r ≡ true → pair_at_front kb (without (bytes kb) S q) r ≡ None
+  unfolding pair_at pair_at_front
+  goes z e b = find_none (λ (y : K × V). begins (kb y.0) r) (without (bytes kb) S q) (λ y m. false_from_ne_true _ (λ t. (
+      let l = left y m in
+      let s = at_Some (bytes kb) S q z e in
+      let one : front_of (bytes kb) S r ≡ Some y = front_of_member (bytes kb) S content r y l.0 t in
+      let other : front_of (bytes kb) S r ≡ Some z = front_of_member (bytes kb) S content r z s.0 (ap (λ k. begins k r) s.1 ∙ b) in
+      let same : y ≡ z = cc in
+      l.1 (ap (λ (p : K × V). kb p.0) same ∙ s.1))))
+
+  pub routes_without : pair_at_front kb (without (bytes kb) S q) r ≡ (if begins q r && has kb S q then None else pair_at_front kb S r)
+  unfolding pair_at
+  routes_without = by (cases_Bool (begins q r))
+    where
+      there : (o : Option (K × V)) → pair_at kb S q ≡ o → begins q r ≡ true → pair_at_front kb (without (bytes kb) S q) r ≡ (if begins q r && has kb S q then None else pair_at_front kb S r)
+      there None e b = rw (b, e) (stays (λ y m t. at_None (bytes kb) S q y e m))
+      there (Some z) e b = rw (b, e) (goes z e b)
+
+      by : (begins q r ≡ true) ⊎ (begins q r ≡ false) → pair_at_front kb (without (bytes kb) S q) r ≡ (if begins q r && has kb S q then None else pair_at_front kb S r)
+      by (inl b) = there (pair_at kb S q) refl b
+      by (inr b) = rw b (stays (λ y m t e. false≢true (sym b ∙ ap (λ k. begins k r) (sym e) ∙ t)))

@@ -1,7 +1,7 @@
--- What a walk from both ends gave, and what `retain` leaves.
-use Rattle.std.proofs.Common.{◌≡◌, Bool, true, false, List, [], ◌∷◌, ◌++◌, refl, ap, sym, ◌∙◌, subst, Some, reverse, append_assoc, append-nil}
+-- What a walk from both ends gave.
+use Rattle.std.proofs.Common.{◌≡◌, List, [], ◌∷◌, ◌++◌, ap, sym, ◌∙◌, Some, reverse, append_assoc, append-nil}
 use Rattle.std.proofs.lemmas.List.{reverse-append}
-use Rattle.blart_keys.specs.Walks.{TakesFirst, TakesLast, Walked, picked, Retains}
+use Rattle.blart_keys.specs.Walks.{TakesFirst, TakesLast, Walked}
 
 module _ {X : Type 0} (whole fronts backs : List X) where
   -- one more at the front
@@ -21,30 +21,3 @@ module _ {X : Type 0} (whole fronts backs : List X) where
 -- nothing came so far
 pub walked_start : {X : Type 0} (whole : List X) → Walked whole [] [] whole
 walked_start whole = sym (append-nil whole)
-
--- `retain`, item by item
-module _ {F X : Type 0} (R : F → X → Bool → X → F → Type 0) where
-  -- no item is left to be asked
-  pub retains_none : (f : F) → Retains R [] f []
-  retains_none f = record { answers = []; left = []; after = f; asked = refl; kept = refl }
-
-  module _ (x y : X) (items rest : List X) (f f' : F) (b : Bool) (asks : R f x b y f') (r : Retains R items f' rest) where
-    -- one more is asked, and stays
-    pub retains_kept : b ≡ true → Retains R (x ∷ items) f (y ∷ rest)
-    retains_kept e = record {
-      answers = b ∷ r.answers;
-      left = y ∷ r.left;
-      after = r.after;
-      asked = (f', asks, r.asked);
-      kept = subst (λ c. y ∷ rest ≡ picked (c ∷ r.answers) (y ∷ r.left)) (sym e) (ap (λ l. y ∷ l) r.kept);
-    }
-
-    -- one more is asked, and goes
-    pub retains_gone : b ≡ false → Retains R (x ∷ items) f rest
-    retains_gone e = record {
-      answers = b ∷ r.answers;
-      left = y ∷ r.left;
-      after = r.after;
-      asked = (f', asks, r.asked);
-      kept = subst (λ c. rest ≡ picked (c ∷ r.answers) (y ∷ r.left)) (sym e) r.kept;
-    }

@@ -5,5 +5,4 @@ pub mod Passed
 pub mod Placed
 pub mod Related
 pub mod Taken
-pub mod Unrouted
 pub mod Written

@@ -5,12 +5,11 @@ use Rattle.std.proofs.lemmas.List.{map-append}
 use Rattle.blart_keys.specs.Content.{IsContent, at, without}
 use Rattle.blart_keys.specs.Steps.{bytes as pair_bytes}
 use Rattle.blart_keys.proofs.RankLemmas.{find_found}
-use Rattle.std.specs.Option.{is_some}
 use Rattle.blart_keys.proofs.ContentLemmas.{at_Some}
 use Rattle.blart_keys.proofs.PutLemmas.{without_cut}
 use Rattle.art_tree.specs.Leaves.{Numbered, leaf_in, Has, AreDistinct, Lacks, with_pair, without_number, bytes}
 use Rattle.art_tree.proofs.CallerLemmas.{with_pair-split, leaf_in-member}
-use Rattle.blart_keys.proofs.Options.{is_some as has_value, mapped_some}
+use Rattle.blart_keys.proofs.Options.{is_some as has_value, mapped_some, mapped_none}
 use Rattle.art_walk.specs.Pairs.{pairs_of}
 -- a pair under its number, and the last one
 pub use Rattle.art_walk.proofs.PairEnds.{Cut, cut_at, cut_pairs, left_pairs, last_pair}
@@ -70,11 +69,7 @@ module _ {K V : Type 0} where
 
     -- where nothing is found nothing is among the pairs
     pub found_none : None ≡ option_map (λ (p : Numbered K V). p.0) (find (λ (p : Numbered K V). test p.1) ps) → None ≡ find test (pairs_of ps)
-    found_none e = sym (find-map (λ (p : Numbered K V). p.1) test ps ∙ ap (option_map (λ (p : Numbered K V). p.1)) (unmapped (find (λ (p : Numbered K V). test p.1) ps) e))
-      where
-        unmapped : (o : Option (Numbered K V)) → None ≡ option_map (λ (p : Numbered K V). p.0) o → o ≡ None
-        unmapped None e = refl
-        unmapped (Some p) e = absurd cc
+    found_none e = sym (find-map (λ (p : Numbered K V). p.1) test ps ∙ ap (option_map (λ (p : Numbered K V). p.1)) (mapped_none (λ (p : Numbered K V). p.0) (find (λ (p : Numbered K V). test p.1) ps) (sym e)))
 
 -- the last item of a list
 pub slice_get-last : {X : Type 0} (xs : List X) (x : X) → slice_get (xs ++ x ∷ []) (length (xs ++ x ∷ []) - 1) ≡ Some x
@@ -83,11 +78,6 @@ slice_get-last (y ∷ xs) x =
     let l : length (xs ++ x ∷ []) ≡ length xs + 1 = length-append xs (x ∷ []) in
     let n : suc (length (xs ++ x ∷ []) - 1) ≡ length (y ∷ xs ++ x ∷ []) - 1 = omega arith in
     ap (λ k. slice_get (y ∷ xs ++ x ∷ []) k) (sym n) ∙ slice_get-last xs x
-
--- an option mapped has a value where the option has
-pub is_some-map : {A B : Type 0} (f : A → B) (o : Option A) → is_some (option_map f o) ≡ is_some o
-is_some-map f None = refl
-is_some-map f (Some x) = refl
 
 -- the pairs with other bytes are the same with numbers and without
 pub without_pairs : {K V : Type 0} (key_bytes : K → List ℕ) (q : List ℕ) (ps : List (Numbered K V)) → pairs_of (without (bytes key_bytes) ps q) ≡ without (pair_bytes key_bytes) (pairs_of ps) q

@@ -1,16 +1,12 @@
 -- A closure that may be called at each element of a list, in turn.
-use Rattle.std.proofs.Common.{◌≡◌, ◌∙◌, List, [], ◌∷◌, ◌++◌, Bool, refl, sym, ap, subst}
+use Rattle.std.proofs.Common.{◌≡◌, ◌∙◌, List, [], ◌∷◌, Bool, refl, sym, ap, subst}
 use Rattle.std.specs.Fn.{CalledAt, TakesAt}
-use Rattle.std.proofs.lemmas.List.Elements.{All-head, All-tail}
 use Rattle.std.specs.List.{All, FoldsTo}
 use denote.Ref.{Bor}
 use denote.Param.Members.{Mut}
 use denote.Param.Always.{always_mut, mut_next}
 use Rattle.blart_set.specs.Asking.{CallableOnEachElement, SomeCallAtElement}
-
-middle : {X : Type 0} (P : X → Type 0) (before after : List X) (x : X) → All P (before ++ x ∷ after) → P x
-middle P [] after x h = All-head P x after h
-middle P (y ∷ before) after x h = middle P before after x (All-tail P y (before ++ x ∷ after) h)
+use Rattle.art_walk.proofs.Callable.{middle}
 
 module _ {F K : Type 0} (g : Mut F (Bor K × Unit {0}) Bool) where
   module _ (f : F) (x : K) (xs rest : List K) (first : xs ≡ x ∷ rest) (can : CallableOnEachElement g f xs) where

@@ -91,6 +91,3 @@ le_step a b t e l = omega arith
 
 pub lt_step : (a b t : ℕ) → suc a ≡ b → b ≤ t → a < t
 lt_step a b t e l = omega arith
-
-pub le_eq : (a b : ℕ) → a ≡ b → a ≤ b
-le_eq a b e = omega arith

@@ -10,20 +10,12 @@ use Rattle.blart_keys.specs.Steps.{bytes}
 use Rattle.blart_keys.proofs.RankLemmas.{Contains-from_Member, Member-from_Contains, Ranked, Ranked-from_AllPairs, AllPairs-from_Ranked}
 use Rattle.blart_keys.proofs.ContentLemmas.{Before, Ranked-from_content, content_from_Ranked}
 use Rattle.blart_keys.proofs.MergeLemmas.{Lower}
-use Rattle.blart_keys.proofs.Mapped.{Member-map, Member-from_map, list_any-map}
+use Rattle.blart_keys.proofs.Mapped.{Member-map, Member-from_map, list_any-map, ranked_map}
 use Rattle.blart_map.specs.Bulk.{AreClones}
 use Rattle.blart_set.specs.Clones.{KeepsBytes, AreElementClones}
 use Rattle.blart_set.proofs.Pairs.{keys, between-keys}
 
 module _ {X Y : Type 0} (f : X → Y) where
-  images_all : (P : Y → Type 0) (xs : List X) → AllByRecursion (λ x. P (f x)) xs → AllByRecursion P (map f xs)
-  images_all P [] h = tt
-  images_all P (x ∷ xs) h = (h.0, images_all P xs h.1)
-
-  images_ranked : (R : Y → Y → Type 0) (xs : List X) → Ranked (λ x y. R (f x) (f y)) xs → Ranked R (map f xs)
-  images_ranked R [] h = tt
-  images_ranked R (x ∷ xs) h = (images_all (R (f x)) xs h.0, images_ranked R xs h.1)
-
   items_all : (P : Y → Type 0) (xs : List X) → AllByRecursion P (map f xs) → AllByRecursion (λ x. P (f x)) xs
   items_all P [] h = tt
   items_all P (x ∷ xs) h = (h.0, items_all P xs h.1)
@@ -45,7 +37,7 @@ module _ {X Y : Type 0} (f : X → Y) where
     -- the images of a union are a union
     pub union_images : (A B U : List X) → IsUnion (λ x. bytes (f x)) A B U → IsUnion bytes (map f A) (map f B) (map f U)
     union_images A B U u = record {
-      ascends = AllPairs-from_Ranked (Lower bytes) (map f U) (images_ranked (Lower bytes) U (Ranked-from_AllPairs (Lower (λ x. bytes (f x))) U u.ascends));
+      ascends = AllPairs-from_Ranked (Lower bytes) (map f U) (ranked_map f (Lower bytes) U (Ranked-from_AllPairs (Lower (λ x. bytes (f x))) U u.ascends));
       elements = λ y. (
         λ m. (
             let r = Member-from_map f y U (Member-from_Contains y (map f U) m) in

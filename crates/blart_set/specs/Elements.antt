@@ -14,6 +14,6 @@ abbrev pub RefusesElement : {K : Type 0} → (K → List ℕ) → List K → Lis
 RefusesElement kb S q (Prefix e) = conflict kb S q ≡ true
 RefusesElement kb S q (Memory e) = (conflict kb S q ≡ false) × (stores kb S q ≡ false)
 
--- S' has the bytes q where `there` says so, and of all others what S has
+-- S' has the bytes q where `there` says so, and of all other bytes those that S has
 abbrev pub UpdatesElement : {K : Type 0} → (K → List ℕ) → List K → List K → List ℕ → Bool → Type 0
 UpdatesElement kb S S' q there = (stores kb S' q ≡ there) × ((r : List ℕ) → r ≢ q → stores kb S' r ≡ stores kb S r)

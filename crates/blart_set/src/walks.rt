@@ -55,6 +55,8 @@ pub type Range<'a, K, const PREFIX_LEN: usize> = BoundedKeys<'a, K, InRange, PRE
 pub type Prefix<'a, K, const PREFIX_LEN: usize> = BoundedKeys<'a, K, BelowFront, PREFIX_LEN>;
 
 /// Some elements that stand one after the other, from both ends, ascending by their bytes.
+///
+/// The example of [`Range`] shows it.
 #[derive(Drop)]
 pub struct BoundedKeys<'a, K, M, const PREFIX_LEN: usize> {
     pairs: BoundedIter<'a, K, (), M, PREFIX_LEN>,

@@ -1,5 +1,5 @@
 -- A leaf joins the tree at a node, or at an edge.
-use Rattle.std.proofs.Common.{◌≡◌, ℕ, ◌+◌, ◌%◌, ◌<◌, ◌≤◌, List, [], ◌∷◌, ◌++◌, length, take, slice_range, get_or, refl, ap, arith, sym, subst, Option, Some, None, ◌∙◌, eqb, eq-eqb, true, false, inl, inr}
+use Rattle.std.proofs.Common.{◌≡◌, ℕ, ◌+◌, ◌%◌, ◌<◌, ◌≤◌, List, [], ◌∷◌, ◌++◌, length, take, slice_range, get_or, refl, ap, arith, sym, subst, Option, Some, None, ◌∙◌, eqb, eq-eqb, true, false, inl, inr, length-append}
 use Rattle.std.specs.Option.{IsSomeAnd}
 use Rattle.std.proofs.lemmas.Bool.{cases_eq, cases_lt, false_from_ne_true}
 use Rattle.std.proofs.lemmas.Bool.Decides.{eqb_tells}
@@ -17,7 +17,7 @@ use Rattle.art_tree.specs.Calls.Spots.{PastLength, EdgeFits}
 use Rattle.art_kinds.specs.declared.records.ids.Child.{Child}
 use Rattle.art_kinds.specs.declared.records.ids.Child.TheVariants.{Leaf, Inner}
 use Rattle.art_kinds.specs.declared.records.ids.Edge.{Edge}
-use Rattle.art_tree.proofs.BeginsLemmas.{Begins-length, Begins-linear, Begins-more, Begins-past, Begins-take, Begins-trans, length-edge, related_cases}
+use Rattle.art_tree.proofs.BeginsLemmas.{Begins-length, Begins-linear, Begins-more, Begins-past, Begins-take, Begins-trans, related_cases}
 use Rattle.art_tree.proofs.Invariant.Growing.{Departs, Gains, covers_above, no_edge}
 use Rattle.art_tree.proofs.Pairs.KeyChanges.{departs_at, next_at}
 use Rattle.art_tree.proofs.Invariant.EdgesAbove.{leads_made}
@@ -104,7 +104,7 @@ module _ (keys : ℕ → Option Bytes) (leaf depth : ℕ) (q : Bytes) (good : Le
         go None l w = tt
         go (Some e) l w =
             let d : l.0.depth ≡ length (s.front_of e.0) = (s.node e.0 l.0 l.1).depth in
-            let k : length (s.front_of e.0 ++ e.1 ∷ []) ≡ length (s.front_of e.0) + 1 = length-edge (s.front_of e.0) e.1 in
+            let k : length (s.front_of e.0 ++ e.1 ∷ []) ≡ length (s.front_of e.0) + 1 = length-append (s.front_of e.0) (e.1 ∷ []) in
             (l.0, l.1, omega arith)
 
     -- and what stands below the edge begins within the depth
@@ -133,7 +133,7 @@ module _ (keys : ℕ → Option Bytes) (leaf depth : ℕ) (q : Bytes) (good : Le
       cut_child =
           let far : depth < length m = nearest_long keys leaf depth q good m m_is in
           let k : length (take depth m) ≡ depth = length-take-le depth m (omega arith) in
-          let d : length (take depth m ++ get_or m depth 0 ∷ []) ≡ length (take depth m) + 1 = length-edge (take depth m) (get_or m depth 0) in
+          let d : length (take depth m ++ get_or m depth 0 ∷ []) ≡ length (take depth m) + 1 = length-append (take depth m) (get_or m depth 0 ∷ []) in
           cuts_after P nodes cut s.front_of c m (take depth m ++ get_or m depth 0 ∷ []) (depth + 1) (omega arith)
           (λ n x e is.
           let v : CoversNode keys nodes s.front_of (edge_front s.front_of above) n = covers_above keys nodes root s above (Inner n) (subst (λ (c : Child). LeadsTo nodes root above c) e fits.leads) in

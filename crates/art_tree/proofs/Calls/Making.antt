@@ -8,6 +8,7 @@ use Rattle.art_kinds.specs.Edges.{child_at, AscendsAbove, Ascends, AddsChild}
 use Rattle.art_kinds.specs.Nodes.{Node, Renames, AddsEdgeTo}
 use Rattle.art_kinds.specs.declared.records.ids.Edge.{Edge}
 use Rattle.art_kinds.proofs.EdgeShifts.{same_edges}
+use Rattle.art_kinds.proofs.CallerLemmas.{AscendsAbove-Ascends}
 use Rattle.art_tree.specs.Calls.Building.{edges_of, last_depth, MakesNode, AddsLast}
 use Rattle.art_tree.specs.declared.tree.build.LooseEdge.{LooseEdge}
 
@@ -36,11 +37,6 @@ last_depth-read es e is =
 
 -- ---- one edge more, the last
 
--- bytes that rise above another rise
-rises : (b : ℕ) (es : List Edge) → AscendsAbove b es → Ascends es
-rises b [] a = tt
-rises b (x ∷ es) a = a.1
-
 -- the byte of the last is greater
 below_last : (b : ℕ) (es : List Edge) (e : Edge) → AscendsAbove b (es ++ e ∷ []) → b < e.byte
 below_last b [] e a = a.0
@@ -52,7 +48,7 @@ absent_before [] e a = refl
 absent_before (x ∷ es) e a =
     let l : x.byte < e.byte = below_last x.byte es e a in
     let off : eqb x.byte e.byte ≡ false = ne_eqb x.byte e.byte (λ z. omega (arith, z)) in
-    rw off (absent_before es e (rises x.byte (es ++ e ∷ []) a))
+    rw off (absent_before es e (AscendsAbove-Ascends x.byte (es ++ e ∷ []) a))
 
 -- and its child stands there then
 child_at-last : (es : List Edge) (e : Edge) → child_at es e.byte ≡ None → child_at (es ++ e ∷ []) e.byte ≡ Some e.to

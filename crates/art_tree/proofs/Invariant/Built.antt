@@ -1,9 +1,9 @@
 -- The tree that is made of its leaves in order, from the parts that are made on the way.
-use Rattle.std.proofs.Common.{◌≡◌, ◌≢◌, ℕ, zero, suc, ◌+◌, ◌<◌, ◌≤◌, ◌⊎◌, List, [], ◌∷◌, ◌++◌, length, take, get_or, Contains, refl, sym, ap, ◌∙◌, subst, arith, Option, Some, None, IsSome, inl, inr, true}
+use Rattle.std.proofs.Common.{◌≡◌, ◌≢◌, ℕ, zero, suc, ◌+◌, ◌<◌, ◌≤◌, ◌⊎◌, List, [], ◌∷◌, ◌++◌, length, take, get_or, Contains, refl, sym, ap, ◌∙◌, subst, arith, Option, Some, None, IsSome, inl, inr, true, length-append}
 use Rattle.std.proofs.lemmas.Bool.{cases_lt}
 use Rattle.std.proofs.lemmas.Bool.Decides.{eqb_tells}
 use Rattle.std.proofs.lemmas.List.{get_or-take, take_more}
-use Rattle.std.proofs.lemmas.List.Elements.{Contains-append_left, Contains-append_right, Contains-append_cases}
+use Rattle.std.proofs.lemmas.List.Elements.{Contains-append_left, Contains-append_cases, Contains-push}
 use Rattle.blart_keys.specs.Bytes.{common, less}
 use Rattle.blart_keys.proofs.Options.{some_of, not_some}
 use Rattle.blart_keys.proofs.RankLemmas.{Contains-from_Member, Member-from_Contains}
@@ -14,7 +14,7 @@ use Rattle.art_tree.specs.Begins.{Bytes, Begins, next_byte}
 use Rattle.art_tree.specs.Calls.Building.{AreMade, IsPart, IsLoose, StandsFor, KeepsAfter, Rise, RiseAbove, loose_front}
 use Rattle.art_tree.specs.Invariant.Shape.{Shape, Covers, Keeps}
 use Rattle.art_tree.specs.declared.tree.build.LooseEdge.{LooseEdge}
-use Rattle.art_tree.proofs.BeginsLemmas.{Begins-length, Begins-more, Begins-next, Begins-itself, Begins-take, common-left, common-right, common_at, length-edge, take_front}
+use Rattle.art_tree.proofs.BeginsLemmas.{Begins-length, Begins-more, Begins-next, Begins-itself, Begins-take, common-left, common-right, common_at, take_front}
 
 module _ (P : ℕ) (keys : ℕ → Option Bytes) (nodes : ℕ → Option Node) (front_of : ℕ → Bytes) (made : AreMade P keys nodes front_of) where
   module _ (i j : ℕ) (k l : Bytes) (k_is : keys i ≡ Some k) (l_is : keys j ≡ Some l) (off : i ≢ j) where
@@ -40,7 +40,7 @@ module _ (P : ℕ) (keys : ℕ → Option Bytes) (nodes : ℕ → Option Node) (
           | inl e ↦
               let d = some_of _ (fits.edge i k k_is fk) in
               let fb : Begins (f ++ next_byte f k ∷ []) l = subst (λ (b : ℕ). Begins (f ++ b ∷ []) l) e.1 (Begins-more f l fl l_long) in
-              joined_below m (f ++ next_byte f k ∷ []) d.0 (omega (arith, length-edge f (next_byte f k))) (fits.below (next_byte f k) d.0 d.1) (Begins-more f k fk k_long) fb
+              joined_below m (f ++ next_byte f k ∷ []) d.0 (omega (arith, length-append f (next_byte f k ∷ []))) (fits.below (next_byte f k) d.0 d.1) (Begins-more f k fk k_long) fb
           | inr e ↦ (n, cov.live, sym (common_at f k l fk k_long fl (λ b. e.1 (Begins-next f l (next_byte f k) b))))
         ]
 
@@ -78,10 +78,7 @@ take_shared n k q l = take_front_of n (common k q) k (common-left k q) l ∙ sym
 
 -- and at each place before that one byte
 pub get_shared : (n : ℕ) (k q : Bytes) → n < length (common k q) → get_or k n 0 ≡ get_or q n 0
-get_shared n k q l = sym (next_byte-at n k) ∙ ap (λ (t : Bytes). get_or t n 0) (take_shared (n + 1) k q (omega arith)) ∙ next_byte-at n q
-  where
-    next_byte-at : (n : ℕ) (k : Bytes) → get_or (take (n + 1) k) n 0 ≡ get_or k n 0
-    next_byte-at n k = get_or-take (n + 1) k n 0 (omega arith)
+get_shared n k q l = sym (get_or-take (n + 1) k n 0 (omega arith)) ∙ ap (λ (t : Bytes). get_or t n 0) (take_shared (n + 1) k q (omega arith)) ∙ get_or-take (n + 1) q n 0 (omega arith)
 
 -- ---- one more loose edge
 
@@ -182,12 +179,6 @@ module _ {P : ℕ} (keys : ℕ → Option Bytes) (nodes : ℕ → Option Node) (
       | inr n ↦ elim (Member-from_Contains e (left ∷ []) n) [ inl s ↦ subst Q s new | inr z ↦ absurd z ]
     ]
 
-    has_left : Contains (es ++ left ∷ []) left
-    has_left = Contains-append_right es (left ∷ []) left (Contains-from_Member left (left ∷ []) (inl refl))
-
-    has_old : (e : LooseEdge) → Contains es e → Contains (es ++ left ∷ []) e
-    has_old e m = Contains-append_left es (left ∷ []) e m
-
     old_rise : (e : LooseEdge) → Contains es e → (e.depth < c) ⊎ ((e.depth ≡ c) × (e.edge.byte < get_or k c 0))
     old_rise e m =
         let d : e.depth < c + 1 = part.deeper e m in
@@ -198,8 +189,8 @@ module _ {P : ℕ} (keys : ℕ → Option Bytes) (nodes : ℕ → Option Node) (
 
     -- what stood below the child or a loose edge stands below a loose edge
     goes : (l : Bytes) → (Begins (take (c + 1) k) l ⊎ ((e : LooseEdge) × Contains es e × Begins (loose_front k e) l)) → (e : LooseEdge) × Contains (es ++ left ∷ []) e × Begins (loose_front q e) l
-    goes l (inl b) = (left, has_left, subst (λ (g : Bytes). Begins g l) left_front b)
-    goes l (inr t) = (t.0, has_old t.0 t.1, subst (λ (g : Bytes). Begins g l) (old_front t.0 t.1) t.2)
+    goes l (inl b) = (left, Contains-push es left, subst (λ (g : Bytes). Begins g l) left_front b)
+    goes l (inr t) = (t.0, Contains-append_left es (left ∷ []) t.0 t.1, subst (λ (g : Bytes). Begins g l) (old_front t.0 t.1) t.2)
 
     -- at the next key the child of the last is loose
     pub part_next : ((j : ℕ) (l : Bytes) → keys j ≡ Some l → less k l ≡ true → (j ≡ i) ⊎ (less q l ≡ true)) → IsPart P keys nodes q (es ++ left ∷ []) (length q) (Leaf i)

@@ -1,8 +1,8 @@
 -- A node made of loose edges, and of what stands below the first bytes of the last key.
-use Rattle.std.proofs.Common.{◌≡◌, ◌≢◌, ℕ, max, ◌+◌, ◌<◌, ◌≤◌, List, [], ◌∷◌, ◌++◌, length, take, drop, get_or, slice_range, refl, ap, arith, sym, subst, Option, Some, None, IsSome, ◌∙◌, ◌⊎◌, inl, inr, true, cond, eqb, eq-eqb, Contains}
+use Rattle.std.proofs.Common.{◌≡◌, ◌≢◌, ℕ, max, ◌+◌, ◌<◌, ◌≤◌, List, [], ◌∷◌, ◌++◌, length, take, drop, get_or, slice_range, refl, ap, arith, sym, subst, Option, Some, None, IsSome, ◌∙◌, ◌⊎◌, inl, inr, true, cond, eqb, eq-eqb, Contains, length-append}
 use Rattle.std.proofs.lemmas.Bool.Decides.{eqb_tells}
-use Rattle.std.proofs.lemmas.List.{length-take-le, length-drop, take-append-drop}
-use Rattle.std.proofs.Math.Seq.{take-add, take-length, drop-cons}
+use Rattle.std.proofs.lemmas.List.{length-take-le, length-drop, take-append-drop, take_more}
+use Rattle.std.proofs.Math.Seq.{take-length}
 use Rattle.blart_keys.specs.Bytes.{less}
 use Rattle.blart_keys.proofs.Options.{some_of, is_some}
 use Rattle.blart_keys.proofs.RankLemmas.{Member, Contains-from_Member, Member-from_Contains, Member-append_left, Member-append_right, Member-append_cases}
@@ -15,12 +15,8 @@ use Rattle.art_kinds.specs.declared.records.ids.Child.TheVariants.{Leaf, Inner}
 use Rattle.art_kinds.specs.declared.records.ids.Edge.{Edge}
 use Rattle.art_tree.specs.declared.tree.build.LooseEdge.{LooseEdge}
 use Rattle.art_tree.specs.Calls.Building.{last_depth, start_after, loose_front, RiseAbove, Rise, edges_of, MakesNode, KeepsAfter, StandsFor, AreMade, IsLoose, IsPart, IsTurn}
-use Rattle.art_tree.proofs.BeginsLemmas.{Begins-take, Begins-trans, Begins-linear, Begins-length, Begins-next, Begins-edge_front, Begins-itself, length-edge}
+use Rattle.art_tree.proofs.BeginsLemmas.{Begins-take, Begins-trans, Begins-linear, Begins-length, Begins-next, Begins-edge_front, Begins-itself}
 use Rattle.art_tree.proofs.Invariant.Prefixes.{cut_front}
-
--- one byte more of a key
-pub take_edge : (k : Bytes) (d : ℕ) → d < length k → take (d + 1) k ≡ take d k ++ get_or k d 0 ∷ []
-take_edge k d lt = take-add d 1 k ∙ ap (λ (z : Bytes). take d k ++ take 1 z) (drop-cons k d 0 lt)
 
 -- fewer bytes of a key begin more of them
 pub take_less : (k : Bytes) (m n : ℕ) → m ≤ n → n ≤ length k → Begins (take m k) (take n k)
@@ -38,7 +34,7 @@ pub leaves_key : (k l : Bytes) (e : LooseEdge) (m : ℕ) → e.depth < m → m �
 leaves_key k l e m lt within before below along =
     let a : next_byte (take e.depth k) l ≡ e.edge.byte = Begins-next (take e.depth k) l e.edge.byte below in
     let far : Begins (take (e.depth + 1) k) l = begins_less k l (e.depth + 1) m (omega arith) within along in
-    let b : next_byte (take e.depth k) l ≡ get_or k e.depth 0 = Begins-next (take e.depth k) l (get_or k e.depth 0) (subst (λ (z : Bytes). Begins z l) (take_edge k e.depth (omega arith)) far) in
+    let b : next_byte (take e.depth k) l ≡ get_or k e.depth 0 = Begins-next (take e.depth k) l (get_or k e.depth 0) (subst (λ (z : Bytes). Begins z l) (take_more k e.depth 0 (omega arith)) far) in
     omega arith
 
 module _ {P : ℕ} (keys : ℕ → Option Bytes) (nodes : ℕ → Option Node) (k : Bytes) where
@@ -236,7 +232,7 @@ module _ {P : ℕ} (keys : ℕ → Option Bytes) (nodes nodes' : ℕ → Option 
   beyond l e m b = subst (λ z. Begins z l) (group_front e m) b
 
   goes : (l : Bytes) → Begins (take (d + 1) k) l → Begins (take d k ++ own.byte ∷ []) l
-  goes l b = subst (λ (z : ℕ). Begins (take d k ++ z ∷ []) l) (sym own_byte) (subst (λ (z : Bytes). Begins z l) (take_edge k d deep) b)
+  goes l b = subst (λ (z : ℕ). Begins (take d k ++ z ∷ []) l) (sym own_byte) (subst (λ (z : Bytes). Begins z l) (take_more k d 0 deep) b)
 
   -- a key that goes along with the last one for m bytes is below the child, or a loose edge of the node
   key_cases : (m : ℕ) → start ≤ m → m ≤ d → (j : ℕ) (l : Bytes) → keys j ≡ Some l → Begins (take m k) l → Begins (take (d + 1) k) l ⊎ ((e : LooseEdge) × Member e g × Begins (take d k ++ e.edge.byte ∷ []) l)
@@ -276,7 +272,7 @@ module _ {P : ℕ} (keys : ℕ → Option Bytes) (nodes nodes' : ℕ → Option 
           | inl s ↦
               let byte : get_or k d 0 ≡ b = sym own_byte ∙ ap (λ (x : Edge). x.byte) s ∙ e.2 in
               let to : c ≡ z = sym own_to ∙ ap (λ (x : Edge). x.to) s ∙ e.3 in
-              let a : StandsFor P keys nodes p.front_of (take d k ++ get_or k d 0 ∷ []) c = subst (λ q. StandsFor P keys nodes p.front_of q c) (take_edge k d deep) p.child in
+              let a : StandsFor P keys nodes p.front_of (take d k ++ get_or k d 0 ∷ []) c = subst (λ q. StandsFor P keys nodes p.front_of q c) (take_more k d 0 deep) p.child in
               subst (λ (q : Child). StandsFor P keys nodes p.front_of (take d k ++ b ∷ []) q) to (subst (λ (q : ℕ). StandsFor P keys nodes p.front_of (take d k ++ q ∷ []) c) byte a)
           | inr z ↦ absurd z
         ]
@@ -288,7 +284,7 @@ module _ {P : ℕ} (keys : ℕ → Option Bytes) (nodes nodes' : ℕ → Option 
 
   -- it is longer than the node's front
   longer_here : (l : Bytes) (b : ℕ) → Begins (take d k ++ b ∷ []) l → d < length l
-  longer_here l b h = omega (arith, Begins-length (take d k ++ b ∷ []) l h, length-edge (take d k) b, length_front)
+  longer_here l b h = omega (arith, Begins-length (take d k ++ b ∷ []) l h, length-append (take d k) (b ∷ []), length_front)
 
   edge_here : (l : Bytes) (b : ℕ) (e : Edge) → Member e (edges_of g ++ own ∷ []) → e.byte ≡ b → Begins (take d k ++ b ∷ []) l → IsSome (child_at (edges_of g ++ own ∷ []) (next_byte (take d k) l))
   edge_here l b e m q h = subst (λ (z : ℕ). IsSome (child_at (edges_of g ++ own ∷ []) z)) (q ∙ sym (next_here l b h)) (has_edge (edges_of g ++ own ∷ []) e m)

@@ -1,10 +1,10 @@
 -- How many nodes there are, and how many edges a node has.
-use Rattle.std.proofs.Common.{◌≡◌, ◌≢◌, ℕ, zero, suc, ◌+◌, ◌*◌, ◌/◌, ◌%◌, ◌<◌, ◌≤◌, Bool, true, false, List, [], ◌∷◌, ◌++◌, length, map, refl, ap, arith, sym, subst, Option, Some, None, IsSome, is_some, count_by, cond, get_or, ◌∙◌, inl, inr, eq-eqb, nat_cmp, filter_map, slice_get}
+use Rattle.std.proofs.Common.{◌≡◌, ◌≢◌, ℕ, zero, suc, ◌+◌, ◌*◌, ◌/◌, ◌%◌, ◌<◌, ◌≤◌, true, false, List, [], ◌∷◌, ◌++◌, length, map, refl, ap, arith, sym, subst, Option, Some, None, IsSome, is_some, count_by, cond, get_or, ◌∙◌, inl, inr, eq-eqb, nat_cmp, filter_map, slice_get}
 use Rattle.std.proofs.lemmas.Bool.{cases_eq, cases_order, false_from_ne_true, cond-false}
 use Rattle.std.proofs.lemmas.Bool.Decides.{eqb_tells}
 use Rattle.std.proofs.lemmas.List.{length-append, length-map}
 use Rattle.std.proofs.lemmas.List.Sums.{sum_by-cons}
-use Rattle.std.specs.Cmp.{nat_cmp_total}
+use Rattle.std.specs.Cmp.{nat_cmp_total, both_ways}
 use Rattle.std.specs.Cmp.Lexicographic.{nat_list_cmp_total}
 use Rattle.std.proofs.lemmas.Map.Lookups.{exact_bytes, exact_unsigned}
 use Rattle.std.specs.FinSet as set
@@ -155,11 +155,6 @@ distinct_bytes : (es : List Edge) → Ascends es → Distinct nat_cmp_total exac
 distinct_bytes [] a = tt
 distinct_bytes (e ∷ es) a = ((λ m. let l : e.byte < e.byte = above_all es e.byte e.byte a m in omega arith), distinct_bytes es (ascends_rest e es a))
 
-same_bool : (a b : Bool) → (a ≡ true → b ≡ true) → (b ≡ true → a ≡ true) → a ≡ b
-same_bool true b f g = sym (f refl)
-same_bool false true f g = g refl
-same_bool false false f g = refl
-
 -- ---- nodes and fronts
 
 module _ {P : ℕ} {K V : Type 0} (key_bytes : K → Bytes) (pairs : List (Numbered K V)) (content : IsContent (bytes key_bytes) pairs) (distinct : AreDistinct pairs) (nodes : ℕ → Option Node) (root : Option Child) (s : Shape P (keys_in key_bytes pairs) nodes root) where
@@ -222,7 +217,7 @@ module _ {P : ℕ} {K V : Type 0} (key_bytes : K → Bytes) (pairs : List (Numbe
 
   -- the bytes of a node's edges are the parts at its front
   parts_are : (n : ℕ) (x : Node) → nodes n ≡ Some x → parts (bytes key_bytes) pairs (s.front_of n) ≡ set.from_list (map (λ (e : Edge). e.byte) x.edges)
-  parts_are n x is = set.same_set nat_cmp_total exact_unsigned (parts (bytes key_bytes) pairs f) (set.from_list (map (λ (e : Edge). e.byte) x.edges)) (λ b. same_bool (set.contains (parts (bytes key_bytes) pairs f) b) (set.contains (set.from_list {R = nat_cmp} (map (λ (e : Edge). e.byte) x.edges)) b) (there b) (back b))
+  parts_are n x is = set.same_set nat_cmp_total exact_unsigned (parts (bytes key_bytes) pairs f) (set.from_list (map (λ (e : Edge). e.byte) x.edges)) (λ b. both_ways (set.contains (parts (bytes key_bytes) pairs f) b) (set.contains (set.from_list {R = nat_cmp} (map (λ (e : Edge). e.byte) x.edges)) b) (there b) (back b))
     where
       f : Bytes
       f = s.front_of n

@@ -1,5 +1,6 @@
 -- The edge above a child, where the store changes.
 use Rattle.std.proofs.Common.{◌≡◌, ◌≢◌, ℕ, List, [], ◌∷◌, ◌++◌, refl, ap, sym, subst, inl, inr, Option, Some, None, ◌∙◌}
+use Rattle.std.proofs.lemmas.List.{same_from_push}
 use Rattle.std.proofs.lemmas.Bool.Decides.{eqb_tells}
 use Rattle.art_tree.specs.Invariant.EdgesAbove.{LeadsTo, TurnsTo, AscendsAt, edge_front}
 use Rattle.art_tree.specs.Begins.{Bytes}
@@ -9,7 +10,7 @@ use Rattle.art_tree.specs.Invariant.Shape.{Shape}
 use Rattle.art_kinds.specs.declared.records.ids.Child.{Child}
 use Rattle.art_kinds.specs.declared.records.ids.Child.TheVariants.{Inner}
 use Rattle.art_kinds.specs.declared.records.ids.Edge.{Edge}
-use Rattle.art_tree.proofs.BeginsLemmas.{edge_same, edge_some}
+use Rattle.art_tree.proofs.BeginsLemmas.{edge_some}
 use Rattle.art_tree.proofs.Invariant.OneEdge.{not_itself, kept_mid}
 
 -- where the edge's node stands
@@ -73,12 +74,12 @@ turned_node front_of old new root root' c to Live apart (Some (p, b)) leads live
               depth = red.depth ∙ ap (λ (x : Node). x.depth) same;
               ascends = λ a. red.ascends;
               rest = λ d h. red.rest d (λ z. h (λ j. front j ++ z j ∷ [])) ∙ ap (λ (x : Node). child_at x.edges d) same;
-              was = λ d h. (let z = edge_same (front_of m) (front_of p) d b h in ap (child_at x.edges) z.1 ∙ ap (λ (x : Node). child_at x.edges b) (sym x_is) ∙ leads.2);
-              now = λ d h. (let z = edge_same (front_of m) (front_of p) d b h in ap (child_at red.is.edges) z.1 ∙ red.now);
+              was = λ d h. (let z = same_from_push (front_of m) (front_of p) d b h in ap (child_at x.edges) z.1 ∙ ap (λ (x : Node). child_at x.edges b) (sym x_is) ∙ leads.2);
+              now = λ d h. (let z = same_from_push (front_of m) (front_of p) d b h in ap (child_at red.is.edges) z.1 ∙ red.now);
             },
           )
       | inr e ↦
-          let off : (d : ℕ) → front_of m ++ d ∷ [] ≡ front_of p ++ b ∷ [] → ⊥ = λ d h. e.1 (apart m p live (lives (p, b) refl) (edge_same (front_of m) (front_of p) d b h).0) in (
+          let off : (d : ℕ) → front_of m ++ d ∷ [] ≡ front_of p ++ b ∷ [] → ⊥ = λ d h. e.1 (apart m p live (lives (p, b) refl) (same_from_push (front_of m) (front_of p) d b h).0) in (
             x,
             red.others m e.1 ∙ is,
             record {

@@ -1,5 +1,5 @@
 -- One key more: what stands where it leaves the tree.
-use Rattle.std.proofs.Common.{◌≡◌, ◌≢◌, ℕ, ◌<◌, [], ◌∷◌, ◌++◌, length, refl, ap, arith, sym, subst, Option, Some, None, IsSome, ◌∙◌, ◌⊎◌, inl, inr, true, false}
+use Rattle.std.proofs.Common.{◌≡◌, ◌≢◌, ℕ, ◌<◌, [], ◌∷◌, ◌++◌, length, refl, ap, arith, sym, subst, Option, Some, None, IsSome, ◌∙◌, ◌⊎◌, inl, inr, true, false, List}
 use Rattle.std.proofs.lemmas.Bool.{cases_lt}
 use Rattle.std.proofs.lemmas.Bool.Decides.{eqb_tells}
 use Rattle.art_tree.specs.Begins.{Bytes, Begins, next_byte}
@@ -11,6 +11,7 @@ use Rattle.art_tree.specs.Invariant.Shape.{Shape, Covers, CoversLeaf, CoversNode
 pub use Rattle.art_tree.specs.Calls.Placing.{Gains}
 use Rattle.art_kinds.specs.declared.records.ids.Child.{Child}
 use Rattle.art_kinds.specs.declared.records.ids.Child.TheVariants.{Leaf, Inner}
+use Rattle.art_kinds.specs.declared.records.ids.Edge.{Edge}
 use Rattle.blart_keys.proofs.Options.{some_of}
 use Rattle.art_tree.proofs.Invariant.Prefixes.{keeps_changed, live_after, live_before}
 use Rattle.art_tree.proofs.BeginsLemmas.{Begins-more, Begins-trans, Begins-linear, Begins-past, next_byte-front, Begins-equal, Begins-cases, common_same, common_at, common_comm}
@@ -44,6 +45,34 @@ module _ (old new : ℕ → Option Bytes) (i : ℕ) (k : Bytes) (gains : Gains o
             inr (s.1, same)
         | inr s ↦ inl (sym (gains.others j s.1) ∙ e)
       ]
+
+  -- two keys part at a front, where two old ones do, and the new one does with each of them
+  pub joined_more : (nodes : ℕ → Option Node) (fronts : ℕ → Bytes)
+      → ((a b : ℕ) (x y : Bytes) → old a ≡ Some x → old b ≡ Some y → a ≢ b → (m : ℕ) × IsSome (nodes m) × (fronts m ≡ common x y))
+      → ((j : ℕ) (l : Bytes) → old j ≡ Some l → (m : ℕ) × IsSome (nodes m) × (fronts m ≡ common k l))
+      → (a b : ℕ) (x y : Bytes) → new a ≡ Some x → new b ≡ Some y → a ≢ b → (m : ℕ) × IsSome (nodes m) × (fronts m ≡ common x y)
+  joined_more nodes fronts joined_old joined_new a b x y ax by apart =
+      elim (kept_cases a x ax) [
+        | inl o ↦
+            elim (kept_cases b y by) [
+              | inl p ↦ joined_old a b x y o p apart
+              | inr p ↦ let r = joined_new a x o in (r.0, r.1, r.2 ∙ common_comm k x ∙ ap (common x) (sym p.1))
+            ]
+        | inr o ↦
+            elim (kept_cases b y by) [
+              | inl p ↦ let r = joined_new b y p in (r.0, r.1, r.2 ∙ ap (λ (z : Bytes). common z y) (sym o.1))
+              | inr p ↦ absurd (apart (o.0 ∙ sym p.0))
+            ]
+      ]
+
+module _ (keys : ℕ → Option Bytes) (t k : Bytes) (d : Departs keys t k) where
+  -- a front of k that ends before t has an edge toward k, as it has one toward the nearest key
+  pub edge_toward : (g : Bytes) (edges : List Edge) → Begins g k → length g < length t → ((j : ℕ) (l : Bytes) → keys j ≡ Some l → Begins g l → IsSome (child_at edges (next_byte g l))) → IsSome (child_at edges (next_byte g k))
+  edge_toward g edges gk h edge =
+      let gt : Begins g t = Begins-linear g t k gk d.front (omega arith) in
+      let a : next_byte g t ≡ next_byte g k = next_byte-front g t k d.front h in
+      let c : next_byte g t ≡ next_byte g d.nearest_key = next_byte-front g t d.nearest_key d.nearest_front h in
+      subst (λ (b : ℕ). IsSome (child_at edges b)) (sym c ∙ a) (edge d.nearest d.nearest_key d.nearest_is (Begins-trans g t d.nearest_key gt d.nearest_front))
 
 module _ (keys : ℕ → Option Bytes) (nodes : ℕ → Option Node) (front_of : ℕ → Bytes) (t k : Bytes) (d : Departs keys t k) where
   -- a front of two keys that begins k ends where k departs, or before
@@ -175,13 +204,7 @@ module _ {P : ℕ} (keys keys' : ℕ → Option Bytes) (nodes nodes' : ℕ → O
               | inl o ↦ f.edge j l o b
               | inr o ↦
                   let gk : Begins g k = rw (← o.1) b in
-                  let h : length g < length t = shorter_front m x is other gk in
-                  let gt : Begins g t = Begins-linear g t k gk d.front (omega arith) in
-                  let a : next_byte g t ≡ next_byte g k = next_byte-front g t k d.front h in
-                  let c : next_byte g t ≡ next_byte g d.nearest_key = next_byte-front g t d.nearest_key d.nearest_front h in
-                  let y : IsSome (child_at x.edges (next_byte g d.nearest_key)) = f.edge d.nearest d.nearest_key d.nearest_is (Begins-trans g t d.nearest_key gt d.nearest_front) in
-                  let P : ℕ → Type 0 = λ b. IsSome (child_at x.edges b) in
-                  rw o.1 (subst P (sym c ∙ a) y)
+                  rw o.1 (edge_toward keys t k d g x.edges gk (shorter_front m x is other gk) f.edge)
             ];
         parts = Parts-kept keys keys' i k gains g f.parts;
         ascends = f.ascends;
@@ -273,19 +296,7 @@ module _ {P : ℕ} (keys keys' : ℕ → Option Bytes) (nodes nodes' : ℕ → O
     front_of = s.front_of;
     top = top_fits root refl;
     node = node_fits;
-    joined = λ a b x y ax by apart.
-        elim (kept_cases keys keys' i k gains a x ax) [
-          | inl o ↦
-              elim (kept_cases keys keys' i k gains b y by) [
-                | inl p ↦ let r = s.joined a b x y o p apart in (r.0, live_kept r.0 r.1, r.2)
-                | inr p ↦ let r = joined_new a x o in (r.0, r.1, r.2 ∙ common_comm k x ∙ ap (common x) (sym p.1))
-              ]
-          | inr o ↦
-              elim (kept_cases keys keys' i k gains b y by) [
-                | inl p ↦ let r = joined_new b y p in (r.0, r.1, r.2 ∙ ap (λ (z : Bytes). common z y) (sym o.1))
-                | inr p ↦ absurd (apart (o.0 ∙ sym p.0))
-              ]
-        ];
+    joined = joined_more keys keys' i k gains nodes' s.front_of (λ a b x y ax by apart. let r = s.joined a b x y ax by apart in (r.0, live_kept r.0 r.1, r.2)) joined_new;
     apart = λ a b la lb e. s.apart a b (live_was a la) (live_was b lb) e;
     keeps = keeps_changed nodes nodes' root n adds.was adds.is adds.was_is adds.is_is adds.others adds.prefix old_edge P s.front_of s.keeps;
   }

@@ -1,5 +1,5 @@
 -- One key less: a leaf goes from its node.
-use Rattle.std.proofs.Common.{◌≡◌, ◌≢◌, ℕ, ◌+◌, ◌<◌, ◌≤◌, List, [], ◌∷◌, ◌++◌, length, take, drop, refl, ap, arith, sym, subst, Option, Some, None, IsSome, ◌∙◌, ◌⊎◌, inl, inr, eq-eqb}
+use Rattle.std.proofs.Common.{◌≡◌, ◌≢◌, ℕ, ◌+◌, ◌<◌, ◌≤◌, List, [], ◌∷◌, ◌++◌, length, take, drop, refl, ap, arith, sym, subst, Option, Some, None, IsSome, ◌∙◌, ◌⊎◌, inl, inr, eq-eqb, length-append}
 use Rattle.std.proofs.lemmas.Bool.{cases_lt, ne_eqb}
 use Rattle.std.proofs.lemmas.Bool.Decides.{eqb_tells}
 use Rattle.art_tree.specs.Begins.{Bytes, Begins, next_byte}
@@ -12,12 +12,13 @@ use Rattle.art_tree.specs.Invariant.Shape.{Shape, Keeps, kept_prefix, Covers, Co
 use Rattle.art_kinds.specs.declared.records.ids.Edge.{Edge}
 use Rattle.art_kinds.specs.declared.records.ids.Child.{Child}
 use Rattle.art_kinds.specs.declared.records.ids.Child.TheVariants.{Leaf, Inner}
-use Rattle.art_tree.proofs.BeginsLemmas.{Begins-length, Begins-more, Begins-trans, Begins-next, Begins-linear, length-edge, Begins-equal, Begins-edge_front, Bytes-cases, common-left, common-greatest, common_comm}
-use Rattle.art_tree.proofs.Invariant.Growing.{Parts-within, Parts-two, covers_above}
+use Rattle.art_tree.proofs.BeginsLemmas.{Begins-length, Begins-more, Begins-trans, Begins-next, Begins-linear, Begins-equal, Begins-edge_front, Bytes-cases, common-left, common-greatest, common_comm}
+use Rattle.art_tree.proofs.Invariant.Growing.{Parts-two, covers_above}
 use Rattle.art_tree.proofs.Invariant.EdgesAbove.{Turns, turned_node, turns_after}
 use Rattle.art_tree.proofs.Invariant.OneEdge.{one_above}
 use Rattle.art_tree.proofs.Invariant.Prefixes.{keeps_changed, live_after, live_before, cut_node, cut_was, cut_leads, turned_prefix}
 use Rattle.art_tree.proofs.Invariant.Splitting.{Recut}
+use Rattle.art_tree.proofs.Invariant.Subtrees.{above_leaf, above_node}
 use Rattle.blart_keys.proofs.Options.{is_some, some_of, not_some, same_some}
 
 -- the node p is gone, which had an edge to a leaf at b and the child c1, and the edge to it leads to c1 now
@@ -60,18 +61,6 @@ module _ {P : ℕ} (keys keys' : ℕ → Option Bytes) (nodes : ℕ → Option N
       let h : leaf_i.key ≡ k = cc in
       rw (← h) leaf_i.front
 
-  above_leaf : (m : ℕ) → IsSome (nodes m) → (g : Bytes) (j : ℕ) → CoversLeaf keys g j → Begins g (s.front_of m) → ⊥
-  above_leaf m live g j cov gm =
-      let x = some_of (nodes m) live in
-      let q = (s.node m x.0 x.1).parts in
-      Parts-two keys (s.front_of m) q j (cov.only q.i q.k q.k_is (Begins-trans g (s.front_of m) q.k gm q.k_front)) (cov.only q.j q.l q.l_is (Begins-trans g (s.front_of m) q.l gm q.l_front))
-
-  above_node : (m : ℕ) → IsSome (nodes m) → (g : Bytes) (m' : ℕ) → CoversNode keys nodes s.front_of g m' → Begins g (s.front_of m) → Begins (s.front_of m') (s.front_of m)
-  above_node m live g m' cov gm =
-      let x = some_of (nodes m) live in
-      let q = (s.node m x.0 x.1).parts in
-      Parts-within keys (s.front_of m) (s.front_of m') q (cov.only q.i q.k q.k_is (Begins-trans g (s.front_of m) q.k gm q.k_front)) (cov.only q.j q.l q.l_is (Begins-trans g (s.front_of m) q.l gm q.l_front))
-
   -- the leaf i hangs on one edge
   one_leaf : (m : ℕ) → IsSome (nodes m) → (c : ℕ) → CoversLeaf keys (s.front_of m ++ c ∷ []) i → m ≡ p
   one_leaf m live c cov =
@@ -82,13 +71,13 @@ module _ {P : ℕ} (keys keys' : ℕ → Option Bytes) (nodes : ℕ → Option N
       let gk : Begins (f ++ c ∷ []) k = rw (← h) cov.front in
       let fk : Begins f k = Begins-edge_front f k c gk in
       let tk : Begins t k = Begins-edge_front t k b k_front in
-      let l1 : length (f ++ c ∷ []) ≡ length f + 1 = length-edge f c in
-      let l2 : length (t ++ b ∷ []) ≡ length t + 1 = length-edge t b in
+      let l1 : length (f ++ c ∷ []) ≡ length f + 1 = length-append f (c ∷ []) in
+      let l2 : length (t ++ b ∷ []) ≡ length t + 1 = length-append t (b ∷ []) in
       elim (cases_lt (length f) (length t)) [
-        | inl lt ↦ absurd (above_leaf p live_p (f ++ c ∷ []) i cov (Begins-linear (f ++ c ∷ []) t k gk tk (omega arith)))
+        | inl lt ↦ absurd (above_leaf keys nodes root s p live_p (f ++ c ∷ []) i cov (Begins-linear (f ++ c ∷ []) t k gk tk (omega arith)))
         | inr ge ↦
             elim (cases_lt (length t) (length f)) [
-              | inl gt ↦ absurd (above_leaf m live (t ++ b ∷ []) i leaf_i (Begins-linear (t ++ b ∷ []) f k k_front fk (omega arith)))
+              | inl gt ↦ absurd (above_leaf keys nodes root s m live (t ++ b ∷ []) i leaf_i (Begins-linear (t ++ b ∷ []) f k k_front fk (omega arith)))
               | inr le ↦ s.apart m p live live_p (Begins-equal f t (Begins-linear f t k fk tk le) ge)
             ]
       ]
@@ -151,22 +140,22 @@ module _ {P : ℕ} (keys keys' : ℕ → Option Bytes) (nodes : ℕ → Option N
         let g0t : Begins g0 t = covers0.front in
         let a1 : length g ≤ length t = Begins-length g t gt in
         let a2 : length g0 ≤ length t = Begins-length g0 t g0t in
-        let l1 : length g ≡ length f + 1 = length-edge f c in
+        let l1 : length g ≡ length f + 1 = length-append f (c ∷ []) in
         let ft : Begins f t = Begins-edge_front f t c gt in
         elim (cases_lt (length g0) (length g)) [
           | inl lt ↦
-              let z : length t ≤ length f = Begins-length t f (above_node m live g0 p covers0 (Begins-linear g0 f t g0t ft (omega arith))) in
+              let z : length t ≤ length f = Begins-length t f (above_node keys nodes root s m live g0 p covers0 (Begins-linear g0 f t g0t ft (omega arith))) in
               absurd (omega arith)
           | inr le ↦
               elim merges.above [
                 | inl a ↦ let z : length g0 ≡ 0 = ap length a.0 in absurd (omega arith)
                 | inr a ↦
                     let f0 : Bytes = s.front_of a.0 in
-                    let l2 : length g0 ≡ length f0 + 1 = ap length a.3 ∙ length-edge f0 a.1 in
+                    let l2 : length g0 ≡ length f0 + 1 = ap length a.3 ∙ length-append f0 (a.1 ∷ []) in
                     let f0t : Begins f0 t = Begins-edge_front f0 t a.1 (rw (← a.3) g0t) in
                     elim (cases_lt (length g) (length g0)) [
                       | inl lt ↦
-                          let z : length t ≤ length f0 = Begins-length t f0 (above_node a.0 a.2 g p cov (Begins-linear g f0 t gt f0t (omega arith))) in
+                          let z : length t ≤ length f0 = Begins-length t f0 (above_node keys nodes root s a.0 a.2 g p cov (Begins-linear g f0 t gt f0t (omega arith))) in
                           absurd (omega arith)
                       | inr same ↦ Begins-equal g g0 (Begins-linear g g0 t gt g0t le) same
                     ]
@@ -220,7 +209,7 @@ module _ {P : ℕ} (keys keys' : ℕ → Option Bytes) (nodes : ℕ → Option N
         let off : m ≢ p = λ e. (
         let a : length (t ++ b1 ∷ []) ≤ length (s.front_of m) = Begins-length _ _ c.front in
         let z : length (s.front_of m) ≡ length t = ap (λ m. length (s.front_of m)) e in
-        let l : length (t ++ b1 ∷ []) ≡ length t + 1 = length-edge t b1 in
+        let l : length (t ++ b1 ∷ []) ≡ length t + 1 = length-append t (b1 ∷ []) in
         omega arith) in
         record {
           live = live_kept m off c.live;
@@ -281,7 +270,7 @@ module _ {P : ℕ} (keys keys' : ℕ → Option Bytes) (nodes : ℕ → Option N
         let ty : Begins t y = rw (z, common_comm x y) (common-left y x) in
         let h : Begins (t ++ b1 ∷ []) (common x y) = common-greatest (t ++ b1 ∷ []) x y (left_p a x ax tx) (left_p c y cy ty) in
         let l1 : length (t ++ b1 ∷ []) ≤ length (common x y) = Begins-length _ _ h in
-        let l2 : length (t ++ b1 ∷ []) ≡ length t + 1 = length-edge t b1 in
+        let l2 : length (t ++ b1 ∷ []) ≡ length t + 1 = length-append t (b1 ∷ []) in
         let l3 : length t ≡ length (common x y) = ap length z in
         omega arith) in
         (r.0, live_kept r.0 off r.1, r.2)
@@ -295,13 +284,13 @@ module _ {P : ℕ} (keys keys' : ℕ → Option Bytes) (nodes : ℕ → Option N
         absurd cc
     top_kept (Some (Leaf j)) e m c live at =
         let h : CoversLeaf keys [] j = subst (λ (r : Option Child). RootFits keys nodes s.front_of r) e s.top in
-        absurd (above_leaf p live_p [] j h tt)
+        absurd (above_leaf keys nodes root s p live_p [] j h tt)
     top_kept (Some (Inner n)) e m c live at =
         let h : CoversNode keys nodes s.front_of [] n = subst (λ (r : Option Child). RootFits keys nodes s.front_of r) e s.top in
         let off : n ≢ p = λ z. (
         let cov : CoversNode keys nodes s.front_of [] p = subst (λ (n : ℕ). CoversNode keys nodes s.front_of [] n) z h in
-        let l1 : length t ≤ length (s.front_of m) = Begins-length t (s.front_of m) (above_node m live [] p cov tt) in
-        let l2 : length g0 ≡ length (s.front_of m) + 1 = ap length at ∙ length-edge (s.front_of m) c in
+        let l1 : length t ≤ length (s.front_of m) = Begins-length t (s.front_of m) (above_node keys nodes root s m live [] p cov tt) in
+        let l2 : length g0 ≡ length (s.front_of m) + 1 = ap length at ∙ length-append (s.front_of m) (c ∷ []) in
         let l3 : length g0 ≤ length t = Begins-length g0 t covers0.front in
         omega arith) in
         node_kept [] n off h
@@ -477,7 +466,7 @@ module _ {P : ℕ} (keys keys' : ℕ → Option Bytes) (nodes : ℕ → Option N
         let a : keys i ≡ None = h i in
         let f : keys i ≡ Some k = loses.was in
         absurd cc
-    top_stays (Some (Leaf j)) e = absurd (above_leaf p live_p [] j (subst (λ (r : Option Child). RootFits keys nodes s.front_of r) e s.top) tt)
+    top_stays (Some (Leaf j)) e = absurd (above_leaf keys nodes root s p live_p [] j (subst (λ (r : Option Child). RootFits keys nodes s.front_of r) e s.top) tt)
     top_stays (Some (Inner n)) e = node_stays [] n (subst (λ (r : Option Child). RootFits keys nodes s.front_of r) e s.top)
 
     -- the tree where a node with three edges or more lost one, to a leaf

@@ -1,5 +1,5 @@
 -- One edge leads to each node.
-use Rattle.std.proofs.Common.{◌≡◌, ◌≢◌, ℕ, ◌+◌, ◌≤◌, [], ◌∷◌, ◌++◌, length, refl, ap, arith, sym, subst, Option, Some, None, ◌∙◌, inl, inr, cond, eqb, eq-eqb, true, false}
+use Rattle.std.proofs.Common.{◌≡◌, ◌≢◌, ℕ, ◌+◌, ◌≤◌, [], ◌∷◌, ◌++◌, length, refl, ap, arith, sym, subst, Option, Some, None, ◌∙◌, inl, inr, cond, eqb, eq-eqb, true, false, length-append}
 use Rattle.std.proofs.lemmas.Bool.{cases_lt, ne_eqb}
 use Rattle.std.proofs.lemmas.Bool.Decides.{eqb_tells}
 use Rattle.art_tree.specs.Begins.{Bytes, Begins, next_byte}
@@ -10,7 +10,7 @@ use Rattle.art_kinds.specs.Edges.{child_at}
 use Rattle.art_tree.specs.Invariant.Shape.{Shape, CoversNode, RootFits}
 use Rattle.art_kinds.specs.declared.records.ids.Child.{Child}
 use Rattle.art_kinds.specs.declared.records.ids.Child.TheVariants.{Leaf, Inner}
-use Rattle.art_tree.proofs.BeginsLemmas.{Begins-length, Begins-trans, Begins-next, Begins-linear, Begins-equal, length-edge, Begins-edge_front}
+use Rattle.art_tree.proofs.BeginsLemmas.{Begins-length, Begins-trans, Begins-next, Begins-linear, Begins-equal, Begins-edge_front}
 use Rattle.blart_keys.proofs.Options.{is_some}
 use Rattle.art_tree.proofs.Invariant.Moving.{new_number, renamed, SameNode, Moves, shape_moved, front_of_moved}
 
@@ -32,7 +32,7 @@ module _ {P : ℕ} (keys : ℕ → Option Bytes) (nodes : ℕ → Option Node) (
   not_itself q c n x is e h =
       let f : Begins (s.front_of q ++ c ∷ []) (s.front_of n) = (covers q c n x is e).front in
       let l : length (s.front_of q ++ c ∷ []) ≤ length (s.front_of n) = Begins-length (s.front_of q ++ c ∷ []) (s.front_of n) f in
-      let d : length (s.front_of q ++ c ∷ []) ≡ length (s.front_of q) + 1 = length-edge (s.front_of q) c in
+      let d : length (s.front_of q ++ c ∷ []) ≡ length (s.front_of q) + 1 = length-append (s.front_of q) (c ∷ []) in
       let k : length (s.front_of q) ≡ length (s.front_of n) = ap (λ z. length (s.front_of z)) h in
       absurd (omega arith)
 
@@ -43,8 +43,8 @@ module _ {P : ℕ} (keys : ℕ → Option Bytes) (nodes : ℕ → Option Node) (
       let fq = s.front_of q in
       let a = covers p b n y py eb in
       let d = covers q c n x qx ec in
-      let lp : length (fp ++ b ∷ []) ≡ length fp + 1 = length-edge fp b in
-      let lq : length (fq ++ c ∷ []) ≡ length fq + 1 = length-edge fq c in
+      let lp : length (fp ++ b ∷ []) ≡ length fp + 1 = length-append fp (b ∷ []) in
+      let lq : length (fq ++ c ∷ []) ≡ length fq + 1 = length-append fq (c ∷ []) in
       elim (cases_lt (length fp) (length fq)) [
         | inl lt ↦ absurd (over (fp ++ b ∷ []) n q c x qx a d (omega arith))
         | inr le ↦

@@ -1,5 +1,5 @@
 -- The bytes of their compressed prefixes that nodes keep.
-use Rattle.std.proofs.Common.{◌≡◌, ◌≢◌, ℕ, ◌+◌, ◌-◌, ◌<◌, ◌≤◌, min, List, subst, take, drop, length, slice_range, slice_get, get_or, ap, refl, sym, Option, Some, None, IsSome, ◌∙◌, inl, inr, ◌++◌, [], ◌∷◌, arith}
+use Rattle.std.proofs.Common.{◌≡◌, ◌≢◌, ℕ, ◌+◌, ◌-◌, ◌<◌, ◌≤◌, min, List, subst, take, drop, length, slice_range, slice_get, get_or, ap, refl, sym, Option, Some, None, IsSome, ◌∙◌, inl, inr, ◌++◌, [], ◌∷◌, arith, length-append}
 use Rattle.std.proofs.lemmas.Bool.Decides.{eqb_tells}
 use Rattle.std.proofs.Math.Nat.{min-le_left}
 use Rattle.std.proofs.lemmas.List.{drop-take, drop-drop, take_all, length-take, length-drop, get_or-take, get_or-drop}
@@ -13,7 +13,7 @@ use Rattle.art_tree.specs.Invariant.Shape.{Shape, Keeps, kept_prefix}
 use Rattle.art_kinds.specs.declared.records.ids.Child.{Child}
 use Rattle.art_kinds.specs.declared.records.ids.Child.TheVariants.{Leaf, Inner}
 use Rattle.blart_keys.proofs.Options.{is_some, same_some}
-use Rattle.art_tree.proofs.BeginsLemmas.{length-edge, take_front}
+use Rattle.art_tree.proofs.BeginsLemmas.{take_front}
 
 module _ (old new : ℕ → Option Node) (n : ℕ) (was is : Node) (was_is : old n ≡ Some was) (is_is : new n ≡ Some is) (others : (j : ℕ) → j ≢ n → new j ≡ old j) where
   -- where one node became another, the same numbers have nodes
@@ -92,7 +92,7 @@ pub start_is : {P : ℕ} → (keys : ℕ → Option Bytes) (nodes : ℕ → Opti
 start_is keys nodes root s None start r = r
 start_is keys nodes root s (Some e) start r =
     let d : r.0.depth ≡ length (s.front_of e.0) = (s.node e.0 r.0 r.1).depth in
-    let k : length (s.front_of e.0 ++ e.1 ∷ []) ≡ length (s.front_of e.0) + 1 = length-edge (s.front_of e.0) e.1 in
+    let k : length (s.front_of e.0 ++ e.1 ∷ []) ≡ length (s.front_of e.0) + 1 = length-append (s.front_of e.0) (e.1 ∷ []) in
     let h : start ≡ r.0.depth + 1 = r.2 in
     omega arith
 

@@ -1,5 +1,5 @@
 -- All keys below an edge go but one, whose leaf takes the place of what stood there.
-use Rattle.std.proofs.Common.{◌≡◌, ◌≢◌, ℕ, ◌+◌, ◌≤◌, [], ◌∷◌, ◌++◌, length, refl, ap, arith, sym, subst, Option, Some, None, IsSome, ◌∙◌, inl, inr}
+use Rattle.std.proofs.Common.{◌≡◌, ◌≢◌, ℕ, ◌+◌, ◌≤◌, [], ◌∷◌, ◌++◌, length, refl, ap, arith, sym, subst, Option, Some, None, IsSome, ◌∙◌, inl, inr, length-append}
 use Rattle.std.proofs.lemmas.Bool.{cases_lt}
 use Rattle.art_tree.specs.Begins.{Bytes, Begins, next_byte}
 use Rattle.blart_keys.specs.Bytes.{common}
@@ -9,7 +9,7 @@ use Rattle.art_kinds.specs.Edges.{child_at}
 use Rattle.art_tree.specs.Invariant.Shape.{Shape, Keeps, Covers, CoversLeaf, NodeFits, RootFits, Parts}
 use Rattle.art_kinds.specs.declared.records.ids.Child.{Child}
 use Rattle.art_kinds.specs.declared.records.ids.Child.TheVariants.{Leaf, Inner}
-use Rattle.art_tree.proofs.BeginsLemmas.{Begins-length, Begins-trans, Begins-linear, Begins-equal, Begins-edge_front, Begins-cases, Bytes-cases, length-edge, next_byte-front, common-left, common-right}
+use Rattle.art_tree.proofs.BeginsLemmas.{Begins-length, Begins-trans, Begins-linear, Begins-equal, Begins-edge_front, Begins-cases, Bytes-cases, next_byte-front, common-left, common-right}
 use Rattle.art_tree.specs.Calls.Pruning.{Prunes, FreesSubtree}
 use Rattle.art_tree.proofs.Invariant.Subtrees.{above_leaf, above_node}
 use Rattle.art_tree.proofs.Invariant.Prefixes.{turned_prefix}
@@ -43,7 +43,7 @@ module _ {P : ℕ} (keys keys' : ℕ → Option Bytes) (nodes nodes' : ℕ → O
   g = s.front_of p ++ b ∷ []
 
   g_length : length g ≡ length (s.front_of p) + 1
-  g_length = length-edge (s.front_of p) b
+  g_length = length-append (s.front_of p) (b ∷ [])
 
   -- a key was there, and under the same number where it is not the one that is left
   was_key : (j : ℕ) (l : Bytes) → keys' j ≡ Some l → (n : ℕ) × (keys n ≡ Some l) × ((Begins g l → ⊥) → n ≡ j)
@@ -76,7 +76,7 @@ module _ {P : ℕ} (keys keys' : ℕ → Option Bytes) (nodes nodes' : ℕ → O
   other_edge : (m d : ℕ) → (Begins g (s.front_of m) → ⊥) → s.front_of m ++ d ∷ [] ≢ g → (l : Bytes) → Begins (s.front_of m ++ d ∷ []) l → Begins g l → Begins (s.front_of m ++ d ∷ []) (s.front_of p)
   other_edge m d off other l fl gl =
       let f : Bytes = s.front_of m ++ d ∷ [] in
-      let l1 : length f ≡ length (s.front_of m) + 1 = length-edge (s.front_of m) d in
+      let l1 : length f ≡ length (s.front_of m) + 1 = length-append (s.front_of m) (d ∷ []) in
       let l2 : length g ≡ length (s.front_of p) + 1 = g_length in
       elim (cases_lt (length f) (length g)) [
         | inl lt ↦ Begins-linear f (s.front_of p) l fl (Begins-edge_front (s.front_of p) l b gl) (omega arith)
@@ -220,7 +220,7 @@ module _ {P : ℕ} (keys : ℕ → Option Bytes) (nodes mid : ℕ → Option Nod
   off_below : Begins (s.front_of p ++ b ∷ []) (s.front_of p) → ⊥
   off_below h =
       let l1 : length (s.front_of p ++ b ∷ []) ≤ length (s.front_of p) = Begins-length _ _ h in
-      let l2 : length (s.front_of p ++ b ∷ []) ≡ length (s.front_of p) + 1 = length-edge (s.front_of p) b in
+      let l2 : length (s.front_of p ++ b ∷ []) ≡ length (s.front_of p) + 1 = length-append (s.front_of p) (b ∷ []) in
       omega arith
 
   -- the edge stands where what hung below it is gone

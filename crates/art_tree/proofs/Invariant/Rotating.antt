@@ -86,7 +86,6 @@ module _ (goes : ℕ → Bool) (before nodes nodes' : ℕ → Option Node) (head
       kept = λ j f. frees.others j (off_head j f) ∙ s.kept j f;
       live = still x0 next_other (s.down head b0 x0 s.own to_next).0;
       own = (s.down head b0 x0 s.own to_next).1;
-      stale = ap (λ t. cond t false (s.fresh x0)) (eq-eqb x0 x0 refl);
       some = λ m y is g. s.some m y (stood m y is) g;
       down = λ m b x g l.
           let k : LeadsIn nodes m b x = (l.0, stood m l.0 l.1, l.2) in
@@ -425,7 +424,6 @@ module _ (goes : ℕ → Bool) (before nodes nodes' : ℕ → Option Node) (head
       kept = λ j f. (let far : j ≢ c = λ e. false≢true (sym f ∙ ap goes e ∙ child_down.1) in raises.others j far ∙ turns.others j (off_head j f) ∙ s.kept j f);
       live = live_on c child_down.0;
       own = child_down.1;
-      stale = ap (λ t. cond t false (s.fresh c)) (eq-eqb c c refl);
       some = λ m y is g. (let w = turned m y is in let a : 0 < length w.0.edges = s.some m w.0 w.1 g in let e : length y.edges ≡ length w.0.edges = w.3 in omega arith);
       down = down_now;
       once = once_now;

@@ -1,5 +1,5 @@
 -- One key more, on an edge that is split for it.
-use Rattle.std.proofs.Common.{◌≡◌, ◌≢◌, ℕ, ◌+◌, ◌<◌, ◌≤◌, List, [], ◌∷◌, ◌++◌, length, take, drop, refl, ap, arith, sym, subst, Option, Some, None, IsSome, ◌∙◌, ◌⊎◌, inl, inr, cond, eqb, eq-eqb}
+use Rattle.std.proofs.Common.{◌≡◌, ◌≢◌, ℕ, ◌+◌, ◌<◌, ◌≤◌, List, [], ◌∷◌, ◌++◌, length, take, drop, refl, ap, arith, sym, subst, Option, Some, None, IsSome, ◌∙◌, ◌⊎◌, inl, inr, cond, eqb, eq-eqb, length-append}
 use Rattle.std.proofs.lemmas.Bool.{cases_lt, ne_eqb}
 use Rattle.std.proofs.lemmas.Bool.Decides.{eqb_tells}
 use Rattle.art_tree.specs.Begins.{Bytes, Begins, next_byte}
@@ -13,12 +13,13 @@ use Rattle.art_tree.specs.Invariant.Shape.{Shape, Keeps, kept_prefix, Covers, Co
 use Rattle.art_kinds.specs.declared.records.ids.Edge.{Edge}
 use Rattle.art_kinds.specs.declared.records.ids.Child.{Child}
 use Rattle.art_kinds.specs.declared.records.ids.Child.TheVariants.{Leaf, Inner}
-use Rattle.art_tree.proofs.BeginsLemmas.{Begins-length, Begins-more, Begins-trans, Begins-itself, Begins-next, edge_some, Begins-linear, length-edge, Begins-past, next_byte-front, Begins-equal, Begins-edge_front, Begins-cases, common_same, common_at, common_comm, Bytes-cases}
+use Rattle.art_tree.proofs.BeginsLemmas.{Begins-length, Begins-more, Begins-trans, Begins-itself, Begins-next, edge_some, Begins-linear, Begins-past, Begins-equal, Begins-edge_front, Begins-cases, common_same, common_at, Bytes-cases}
 use Rattle.blart_keys.proofs.Options.{is_some, some_of}
 use Rattle.art_tree.proofs.Invariant.EdgesAbove.{Turns, turned_node, turns_after, leads_made}
 use Rattle.art_tree.proofs.Invariant.OneEdge.{one_above}
 use Rattle.art_tree.proofs.Invariant.Prefixes.{keeps_as, cut_node, cut_was, cut_free, cut_leads, turned_prefix}
-use Rattle.art_tree.proofs.Invariant.Growing.{covers_above, Departs, Gains, kept, kept_cases, within, Parts-within, Parts-two, Parts-kept}
+use Rattle.art_tree.proofs.Invariant.Growing.{covers_above, Departs, Gains, kept, kept_cases, within, Parts-kept, joined_more, edge_toward}
+use Rattle.art_tree.proofs.Invariant.Subtrees.{above_leaf, above_node}
 
 -- the child stands for a front longer than t
 abbrev pub Past : (ℕ → Bytes) → Bytes → Child → Type 0
@@ -69,15 +70,9 @@ module _ {P : ℕ} (keys keys' : ℕ → Option Bytes) (nodes nodes' : ℕ → O
 
   -- a child above a node whose front begins t is not past t
   not_past_above : (m : ℕ) → IsSome (nodes m) → Begins (s.front_of m) t → (g : Bytes) (c : Child) → Covers keys nodes s.front_of g c → Begins g (s.front_of m) → Past s.front_of t c → ⊥
-  not_past_above m live mt g (Leaf j) cov gm far =
-      let x = some_of (nodes m) live in
-      let p = (s.node m x.0 x.1).parts in
-      Parts-two keys (s.front_of m) p j (cov.only p.i p.k p.k_is (Begins-trans g (s.front_of m) p.k gm p.k_front)) (cov.only p.j p.l p.l_is (Begins-trans g (s.front_of m) p.l gm p.l_front))
+  not_past_above m live mt g (Leaf j) cov gm far = above_leaf keys nodes root s m live g j cov gm
   not_past_above m live mt g (Inner m') cov gm far =
-      let x = some_of (nodes m) live in
-      let p = (s.node m x.0 x.1).parts in
-      let w : Begins (s.front_of m') (s.front_of m) = Parts-within keys (s.front_of m) (s.front_of m') p (cov.only p.i p.k p.k_is (Begins-trans g (s.front_of m) p.k gm p.k_front)) (cov.only p.j p.l p.l_is (Begins-trans g (s.front_of m) p.l gm p.l_front)) in
-      let a : length (s.front_of m') ≤ length (s.front_of m) = Begins-length (s.front_of m') (s.front_of m) w in
+      let a : length (s.front_of m') ≤ length (s.front_of m) = Begins-length (s.front_of m') (s.front_of m) (above_node keys nodes root s m live g m' cov gm) in
       let b : length (s.front_of m) ≤ length t = Begins-length (s.front_of m) t mt in
       let f : length t < length (s.front_of m') = far in
       omega arith
@@ -95,19 +90,19 @@ module _ {P : ℕ} (keys keys' : ℕ → Option Bytes) (nodes nodes' : ℕ → O
       let g : Bytes = f ++ b ∷ [] in
       elim (cases_lt (length g0) (length g)) [
         | inl lt ↦
-            let le : length g ≡ length f + 1 = length-edge f b in
+            let le : length g ≡ length f + 1 = length-append f (b ∷ []) in
             let ft : Begins f t = Begins-edge_front f t b gt in
             not_past_above m live ft g0 c0 covers0 (Begins-linear g0 f t g0_t ft (omega arith)) past
         | inr ge ↦
             elim splits.above [
               | inl a ↦
                   let z : length g0 ≡ 0 = ap length a.0 in
-                  let le : length g ≡ length f + 1 = length-edge f b in
+                  let le : length g ≡ length f + 1 = length-append f (b ∷ []) in
                   absurd (omega arith)
               | inr a ↦
                   let f0 : Bytes = s.front_of a.0 in
                   let e : g0 ≡ f0 ++ a.1 ∷ [] = a.3 in
-                  let le0 : length g0 ≡ length f0 + 1 = ap length e ∙ length-edge f0 a.1 in
+                  let le0 : length g0 ≡ length f0 + 1 = ap length e ∙ length-append f0 (a.1 ∷ []) in
                   let f0t : Begins f0 t = Begins-edge_front f0 t a.1 (rw (← e) g0_t) in
                   elim (cases_lt (length g) (length g0)) [
                     | inl lt ↦ not_past_above a.0 a.2 f0t g c cov (Begins-linear g f0 t gt f0t (omega arith)) far
@@ -255,7 +250,7 @@ module _ {P : ℕ} (keys keys' : ℕ → Option Bytes) (nodes nodes' : ℕ → O
         elim (kept_cases keys keys' i k gains j l e) [
           | inl o ↦
               let a : length (t ++ next_byte t d.nearest_key ∷ []) ≤ length l = Begins-length _ l (under_g0 j l o (Begins-trans g0 t l g0_t b)) in
-              let le : length (t ++ next_byte t d.nearest_key ∷ []) ≡ length t + 1 = length-edge t (next_byte t d.nearest_key) in
+              let le : length (t ++ next_byte t d.nearest_key ∷ []) ≡ length t + 1 = length-append t (next_byte t d.nearest_key ∷ []) in
               omega arith
           | inr o ↦ rw o.1 d.longer
         ];
@@ -309,13 +304,7 @@ module _ {P : ℕ} (keys keys' : ℕ → Option Bytes) (nodes nodes' : ℕ → O
               | inl o ↦ f.edge j l o b
               | inr o ↦
                   let gk : Begins g k = rw (← o.1) b in
-                  let h : length g < length t = shorter m x is gk in
-                  let gt : Begins g t = Begins-linear g t k gk d.front (omega arith) in
-                  let a : next_byte g t ≡ next_byte g k = next_byte-front g t k d.front h in
-                  let c : next_byte g t ≡ next_byte g d.nearest_key = next_byte-front g t d.nearest_key d.nearest_front h in
-                  let z : IsSome (child_at x.edges (next_byte g d.nearest_key)) = f.edge d.nearest d.nearest_key d.nearest_is (Begins-trans g t d.nearest_key gt d.nearest_front) in
-                  let P : ℕ → Type 0 = λ b. IsSome (child_at x.edges b) in
-                  rw o.1 (subst P (sym c ∙ a) z)
+                  rw o.1 (edge_toward keys t k d g x.edges gk (shorter m x is gk) f.edge)
             ]) in
             elim (Bytes-cases (g ++ next_byte g l ∷ []) g0) [
               | inl at ↦ is_some (child_at x'.edges (next_byte g l)) (Inner n) (r.now (next_byte g l) at)
@@ -379,7 +368,7 @@ module _ {P : ℕ} (keys keys' : ℕ → Option Bytes) (nodes nodes' : ℕ → O
       elim splits.above [
         | inl a ↦ rw a.2 (subst (λ (g : Bytes). CoversNode keys' nodes' fronts_after g n) a.0 new_node)
         | inr a ↦
-            let le : length g0 ≡ length (s.front_of a.0) + 1 = ap length a.3 ∙ length-edge (s.front_of a.0) a.1 in
+            let le : length g0 ≡ length (s.front_of a.0) + 1 = ap length a.3 ∙ length-append (s.front_of a.0) (a.1 ∷ []) in
             rw a.4 (top_kept root refl (omega arith))
       ]
 
@@ -451,19 +440,7 @@ module _ {P : ℕ} (keys keys' : ℕ → Option Bytes) (nodes nodes' : ℕ → O
     front_of = fronts_after;
     top = top_fits;
     node = node_fits;
-    joined = λ a b x y ax by apart.
-        elim (kept_cases keys keys' i k gains a x ax) [
-          | inl o ↦
-              elim (kept_cases keys keys' i k gains b y by) [
-                | inl p ↦ old_joined a b x y o p apart
-                | inr p ↦ let r = joined_new a x o in (r.0, r.1, r.2 ∙ common_comm k x ∙ ap (common x) (sym p.1))
-              ]
-          | inr o ↦
-              elim (kept_cases keys keys' i k gains b y by) [
-                | inl p ↦ let r = joined_new b y p in (r.0, r.1, r.2 ∙ ap (λ (z : Bytes). common z y) (sym o.1))
-                | inr p ↦ absurd (apart (o.0 ∙ sym p.0))
-              ]
-        ];
+    joined = joined_more keys keys' i k gains nodes' fronts_after old_joined joined_new;
     apart = λ a b la lb e.
         elim (eqb_tells a n) [
           | inl p ↦

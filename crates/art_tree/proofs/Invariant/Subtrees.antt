@@ -1,25 +1,21 @@
 -- The nodes whose fronts begin with that of an edge hang below the node that the edge leads to.
-use Rattle.std.proofs.Common.{◌≡◌, ◌≢◌, ℕ, zero, suc, ◌+◌, ◌<◌, ◌≤◌, List, [], ◌∷◌, ◌++◌, length, Bool, true, false, not, ◌&&◌, refl, ap, arith, sym, subst, Option, Some, None, IsSome, ◌∙◌, inl, inr, eqb, eq-eqb}
-use Rattle.std.proofs.lemmas.Bool.{false≢true, false_from_ne_true, cases_lt}
+use Rattle.std.proofs.Common.{◌≡◌, ◌≢◌, ℕ, zero, suc, ◌+◌, ◌<◌, ◌≤◌, [], ◌∷◌, ◌++◌, length, Bool, true, false, not, ◌&&◌, refl, ap, arith, sym, subst, Option, Some, None, IsSome, ◌∙◌, inl, inr, eqb, length-append}
+use Rattle.std.proofs.lemmas.Bool.{false_from_ne_true, cases_lt}
 use Rattle.std.proofs.lemmas.Bool.Decides.{eqb_tells}
 use Rattle.blart_keys.specs.Bytes.{begins}
 use Rattle.art_tree.specs.Begins.{Bytes, Begins, next_byte}
 use Rattle.art_kinds.specs.Nodes.{Node}
 use Rattle.art_kinds.specs.Edges.{child_at}
-use Rattle.art_kinds.specs.declared.records.ids.Edge.{Edge}
 use Rattle.art_kinds.specs.declared.records.ids.Child.{Child}
 use Rattle.art_kinds.specs.declared.records.ids.Child.TheVariants.{Leaf, Inner}
 use Rattle.art_tree.specs.Invariant.EdgesAbove.{LeadsTo, edge_front}
 use Rattle.art_tree.specs.Invariant.Shape.{Shape, CoversLeaf, CoversNode}
-use Rattle.art_tree.proofs.BeginsLemmas.{Begins-from_begins, begins-from_Begins, Begins-length, Begins-trans, Begins-equal, Begins-edge_front, Begins-more, length-edge, next_byte-front}
+use Rattle.art_tree.proofs.BeginsLemmas.{Begins-from_begins, begins-from_Begins, Begins-length, Begins-trans, Begins-equal, Begins-edge_front, Begins-more, next_byte-front}
 use Rattle.art_tree.proofs.Invariant.Growing.{covers_above, Parts-within, Parts-two}
 use Rattle.art_tree.proofs.Invariant.OneEdge.{one_edge}
 use Rattle.art_tree.specs.Calls.Pruning.{Loose, LeadsIn, FreesSubtree}
+use Rattle.art_tree.proofs.Ways.WaysDown.{edges_some}
 use Rattle.blart_keys.proofs.Options.{is_some, some_of, none_of}
-
-some_edges : (edges : List Edge) (b : ℕ) → IsSome (child_at edges b) → 0 < length edges
-some_edges [] b h = absurd (false≢true h)
-some_edges (e ∷ edges) b h = omega arith
 
 module _ {P : ℕ} (keys : ℕ → Option Bytes) (nodes : ℕ → Option Node) (root : Option Child) (s : Shape P keys nodes root) where
   -- no node stands at or after the front of a leaf
@@ -53,7 +49,7 @@ module _ {P : ℕ} (keys : ℕ → Option Bytes) (nodes : ℕ → Option Node) (
   longer : (m b x : ℕ) → LeadsIn nodes m b x → length (f m) < length (f x)
   longer m b x l =
       let a : length (f m ++ b ∷ []) ≤ length (f x) = Begins-length _ _ (below m b x l).front in
-      let e : length (f m ++ b ∷ []) ≡ length (f m) + 1 = length-edge (f m) b in
+      let e : length (f m ++ b ∷ []) ≡ length (f m) + 1 = length-append (f m) (b ∷ []) in
       omega arith
 
   goes_on : (m b x : ℕ) → goes m ≡ true → LeadsIn nodes m b x → goes x ≡ true
@@ -102,10 +98,9 @@ module _ {P : ℕ} (keys : ℕ → Option Bytes) (nodes : ℕ → Option Node) (
     kept = λ j h. refl;
     live = covers.live;
     own = begins-from_Begins g (f top) covers.front;
-    stale = ap (λ t. goes top && not t) (eq-eqb top top refl) ∙ and_false (goes top);
     some = λ m y is h.
         let q = (s.node m y is).parts in
-        some_edges y.edges (next_byte (f m) q.k) ((s.node m y is).edge q.i q.k q.k_is q.k_front);
+        edges_some y.edges (next_byte (f m) q.k) ((s.node m y is).edge q.i q.k q.k_is q.k_front);
     down = λ m b x h l. ((below m b x l).live, goes_on m b x h l, longer m b x l);
     once = λ m b n d x h k l q. (let e = one_edge keys nodes root s n d m b x q.0 l.0 q.1 l.1 q.2 l.2 in e);
     headless = not_top;
@@ -121,10 +116,6 @@ module _ {P : ℕ} (keys : ℕ → Option Bytes) (nodes : ℕ → Option Node) (
         (fresh_is x (goes_on m b x h l) (λ e. not_top m b h (subst (λ (n : ℕ). LeadsIn nodes m b n) e l)), omega arith);
   }
     where
-      and_false : (t : Bool) → (t && not true) ≡ false
-      and_false true = refl
-      and_false false = refl
-
       fresh_is : (x : ℕ) → goes x ≡ true → x ≢ top → fresh x ≡ true
       fresh_is x h off = elim (eqb_tells x top) [ inl e ↦ absurd (off e.1) | inr e ↦ ap (λ t. goes x && not t) e.0 ∙ ap (λ t. t && true) h ]
 

@@ -1,5 +1,6 @@
 -- Where bytes stand among the keys, and the ends of what is within a bound or below some bytes.
 use Rattle.std.proofs.Common.{◌≡◌, ℕ, ◌<◌, ◌≤◌, Bool, true, false, not, ◌&&◌, List, [], ◌∷◌, filter, length, refl, ap, arith, sym, subst, Option, option_map, Some, None, Err, ◌∙◌, ◌⊎◌, inl, inr}
+use Rattle.std.proofs.Math.Bool.{and-true}
 use Rattle.std.proofs.lemmas.Bool.{false≢true, false_from_ne_true, and_from, and_parts, not-true, not_from_false}
 use Rattle.std.proofs.lemmas.Bool.Decides.{eqb_tells}
 use Rattle.std.specs.declared.ops.Bound.{Bound}
@@ -25,11 +26,11 @@ use Rattle.art_tree.proofs.BeginsLemmas.{common_length, Begins-itself, Begins-ca
 use Rattle.art_tree.proofs.Ways.Ends.{first_less, last_greater}
 use Rattle.art_tree.proofs.Ways.Partings.{no_key, no_key_alone}
 use Rattle.art_tree.proofs.Pairs.Neighbours.{one_less, same_side, FirstFrom, IsLeafAfter, leaf_before_first_from, leaf_after_key}
-use Rattle.art_rows.proofs.CallerLemmas.{Has-first, Has-last}
+use Rattle.art_rows.proofs.CallerLemmas.{Has-first, Has-last, no_last}
 use Rattle.art_tree.proofs.Pairs.Answers.{pair, at_key, first_of_test, last_of_test, first_under, last_under}
 use Rattle.art_tree.proofs.Pairs.Changes.{passing_has}
 use Rattle.art_tree.proofs.Pairs.Keys.{key_of_member, member_of_key}
-use Rattle.blart_keys.proofs.Options.{mapped_some}
+use Rattle.blart_keys.proofs.Options.{mapped_some, mapped_none}
 use Rattle.art_tree.proofs.Invariant.SmallShapes.{unrelated}
 
 -- ---- a front is less
@@ -104,11 +105,7 @@ module _ {K V : Type 0} where
   -- only no pairs have no ends
   pub no_pairs_between : (S : List (Numbered K V)) → ends S ≡ None → S ≡ []
   no_pairs_between [] h = refl
-  no_pairs_between (p ∷ ps) h = absurd (ended p ps (λ z e. (let f : None ≡ Some (p.0, z) = sym h ∙ ap (option_map (λ last. (p.0, last))) e in cc)))
-    where
-      ended : (p : Numbered K V) (ps : List (Numbered K V)) → ((z : ℕ) → last_number (p ∷ ps) ≡ Some z → ⊥) → ⊥
-      ended p [] never = never p.0 refl
-      ended p (q ∷ ps) never = ended q ps never
+  no_pairs_between (p ∷ ps) h = no_last (p ∷ ps) (mapped_none {B = ℕ × ℕ} (λ last. (p.0, last)) (last_number (p ∷ ps)) h)
 
   -- what is sought is a leaf's number
   pub number_within_has : (bytes : Numbered K V → List ℕ) (S : List (Numbered K V)) → AreDistinct S → (b : Bound (List ℕ)) (side : Bool) (i : ℕ) → number_within bytes S b side ≡ Some i → Has S i
@@ -195,11 +192,6 @@ module _ {K V : Type 0} (key_bytes : K → Bytes) (pairs : List (Numbered K V)) 
   last_before q None a test agrees = ap last_number (filter_none (λ x. test (bytes key_bytes x)) pairs (λ y m. (let e = key_of_member key_bytes pairs y distinct m in agrees y.0 (bytes key_bytes y) e ∙ a y.0 (bytes key_bytes y) e)))
   last_before q (Some i) a test agrees = last_of_test key_bytes pairs content distinct test i a.key a.is (agrees i a.key a.is ∙ a.before) (λ j k e t. a.last j k e (sym (agrees j k e) ∙ t))
 
-  -- a test and one that always holds
-  and_true : (b : Bool) → (b && true) ≡ b
-  and_true true = refl
-  and_true false = refl
-
   -- with no bound, the ends of all pairs
   pub number_within_all_start : number_within (bytes key_bytes) pairs Unbounded true ≡ first_number pairs
   number_within_all_start = ap first_number (filter_all (λ x. is_from_start Unbounded (bytes key_bytes x) && is_up_to_end Unbounded (bytes key_bytes x)) pairs (λ y m. refl))
@@ -227,7 +219,7 @@ module _ {K V : Type 0} (key_bytes : K → Bytes) (pairs : List (Numbered K V)) 
 
     -- and its neighbours are the ends of what is within a bound that excludes it
     pub number_within_after : number_within (bytes key_bytes) pairs (Excluded q) true ≡ number_after pairs i
-    number_within_after = first_after_key q (number_after pairs i) (leaf_after_key key_bytes pairs content distinct i q is) (λ k. is_from_start (Excluded q) k && is_up_to_end Unbounded k) (λ j k e. and_true (less q k))
+    number_within_after = first_after_key q (number_after pairs i) (leaf_after_key key_bytes pairs content distinct i q is) (λ k. is_from_start (Excluded q) k && is_up_to_end Unbounded k) (λ j k e. and-true (less q k))
 
     pub number_within_before : number_within (bytes key_bytes) pairs (Excluded q) false ≡ number_before pairs i
     number_within_before = last_before q (number_before pairs i) (leaf_before_key q i is) (λ k. is_from_start Unbounded k && is_up_to_end (Excluded q) k) (λ j k e. refl)
@@ -248,11 +240,11 @@ module _ {K V : Type 0} (key_bytes : K → Bytes) (pairs : List (Numbered K V)) 
 
     -- the leaves beside q are the ends of what is within its bounds
     pub number_within_included : (b : Bool) → number_within (bytes key_bytes) pairs (Included q) b ≡ beside prev pairs b
-    number_within_included true = first_after_key q (next_number prev pairs) (leaf_after_before q none prev st) (λ k. is_from_start (Included q) k && is_up_to_end Unbounded k) (λ j k e. and_true (not (less k q)) ∙ not_less j k e)
+    number_within_included true = first_after_key q (next_number prev pairs) (leaf_after_before q none prev st) (λ k. is_from_start (Included q) k && is_up_to_end Unbounded k) (λ j k e. and-true (not (less k q)) ∙ not_less j k e)
     number_within_included false = last_before q prev st (λ k. is_from_start Unbounded k && is_up_to_end (Included q) k) not_greater
 
     pub number_within_excluded : (b : Bool) → number_within (bytes key_bytes) pairs (Excluded q) b ≡ beside prev pairs b
-    number_within_excluded true = first_after_key q (next_number prev pairs) (leaf_after_before q none prev st) (λ k. is_from_start (Excluded q) k && is_up_to_end Unbounded k) (λ j k e. and_true (less q k))
+    number_within_excluded true = first_after_key q (next_number prev pairs) (leaf_after_before q none prev st) (λ k. is_from_start (Excluded q) k && is_up_to_end Unbounded k) (λ j k e. and-true (less q k))
     number_within_excluded false = last_before q prev st (λ k. is_from_start Unbounded k && is_up_to_end (Excluded q) k) (λ j k e. refl)
 
   -- ---- what begins with some bytes

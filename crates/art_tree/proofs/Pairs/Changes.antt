@@ -7,10 +7,9 @@ use Rattle.blart_keys.specs.Content.{IsContent}
 use Rattle.blart_keys.proofs.RankLemmas.{Member, Ranked, Contains-from_Member, each_member, from_each_member, filter_member}
 use Rattle.blart_keys.proofs.ContentLemmas.{Before, Ranked-from_content, content_from_Ranked}
 use Rattle.art_tree.specs.Begins.{Bytes, Begins}
-use Rattle.art_tree.specs.Leaves.{Numbered, leaf_in, Has, Lacks, AreDistinct, first_number, last_number, without_number, with_pair, with_value, bytes, keys_in}
+use Rattle.art_tree.specs.Leaves.{Numbered, leaf_in, Has, Lacks, AreDistinct, without_number, with_pair, with_value, bytes, keys_in}
 use Rattle.art_tree.specs.Takes.{MayTake}
 use Rattle.art_tree.proofs.BeginsLemmas.{related_cases, related-from_front, related-from_begun}
-use Rattle.art_rows.proofs.CallerLemmas.{has_not_lacks, Has-last}
 use Rattle.art_tree.proofs.Pairs.Numbers.{Member-from_leaf_in, leaf_in-member}
 use Rattle.blart_keys.proofs.Options.{is_some, some_of}
 use Rattle.art_tree.proofs.Pairs.Keys.{member_of_key}
@@ -152,16 +151,3 @@ module _ {K V : Type 0} (key_bytes : K → Bytes) where
   -- the pairs with another value are a content
   pub content_with_value : (ps : List (Numbered K V)) (i : ℕ) (v : V) → IsContent (bytes key_bytes) ps → IsContent (bytes key_bytes) (with_value ps i v)
   content_with_value ps i v c = content_from_Ranked (bytes key_bytes) (with_value ps i v) (ranked_value ps i v (Ranked-from_content (bytes key_bytes) ps c))
-
-  -- ---- which keys a leaf may take
-
-  module _ (ps : List (Numbered K V)) (content : IsContent (bytes key_bytes) ps) (distinct : AreDistinct ps) (i : ℕ) (q : Bytes) where
-    -- a list that begins and ends with one number has one pair
-    one_number : (qs : List (Numbered K V)) → AreDistinct qs → first_number qs ≡ Some i → last_number qs ≡ Some i → (y : Numbered K V) → Member y qs → y.0 ≡ i
-    one_number [] d f l y m = absurd m
-    one_number (p ∷ []) d f l y (inl e) = (let h : Some p.0 ≡ Some i = f in let g : p.0 ≡ i = cc in ap (λ (z : Numbered K V). z.0) (sym e) ∙ g)
-    one_number (p ∷ []) d f l y (inr m) = absurd m
-    one_number (p ∷ r ∷ qs) d f l y m =
-        let h : Some p.0 ≡ Some i = f in
-        let g : p.0 ≡ i = cc in
-        absurd (has_not_lacks (r ∷ qs) i (Has-last (r ∷ qs) i l) (subst (λ (z : ℕ). Lacks (r ∷ qs) z) g d.0))

@@ -1,5 +1,5 @@
 -- What a look-up by bytes answers.
-use Rattle.std.proofs.Common.{◌≡◌, ℕ, List, [], ◌∷◌, Option, option_map, Some, None, true, false, refl, eqb, eq-eqb, subst, sym, ap, not, bytes_eq, ◌∙◌}
+use Rattle.std.proofs.Common.{◌≡◌, ℕ, List, [], ◌∷◌, option_map, Some, None, true, false, refl, eqb, eq-eqb, subst, sym, ap, not, bytes_eq, ◌∙◌}
 use Rattle.std.proofs.lemmas.Bool.{not_from_false}
 use Rattle.std.specs.Cmp.Lexicographic.{pointwise}
 use Rattle.blart_keys.specs.Content.{IsContent, at, front_of, without}
@@ -10,7 +10,7 @@ use Rattle.art_tree.specs.Begins.{Bytes, Begins}
 use Rattle.art_tree.specs.Calls.Descents.{NoFront, IsOnlyFront, IsFrontAlone}
 use Rattle.art_tree.specs.Leaves.{Numbered, AreDistinct, Has, leaf_in, without_number, keys_in, bytes}
 use Rattle.art_tree.proofs.BeginsLemmas.{begins-from_Begins}
-use Rattle.blart_keys.proofs.Options.{is_some, mapped_some}
+use Rattle.blart_keys.proofs.Options.{is_some, mapped_some, mapped_none}
 use Rattle.art_tree.proofs.Pairs.Answers.{at_no_key, front_of_no_key}
 use Rattle.art_tree.proofs.Pairs.Keys.{key_of_pair, pair_of_key}
 use Rattle.art_rows.proofs.CallerLemmas.{split, leaf_in-split, without_number-split}
@@ -49,11 +49,7 @@ module _ {K V : Type 0} (key_bytes : K → Bytes) (S : List (Numbered K V)) wher
 
     -- where none is found all have other bytes
     pub without_none : None ≡ option_map (λ (p : Numbered K V). p.0) (at (bytes key_bytes) S q) → S ≡ without (bytes key_bytes) S q
-    without_none e = sym (filter_all (λ x. not (bytes_eq (bytes key_bytes x) q)) S (λ x m. not_from_false (bytes_eq (bytes key_bytes x) q) (find_missing (λ x. bytes_eq (bytes key_bytes x) q) S x (unmapped (at (bytes key_bytes) S q) e) m)))
-      where
-        unmapped : (o : Option (Numbered K V)) → None ≡ option_map (λ (p : Numbered K V). p.0) o → o ≡ None
-        unmapped None e = refl
-        unmapped (Some p) e = absurd cc
+    without_none e = sym (filter_all (λ x. not (bytes_eq (bytes key_bytes x) q)) S (λ x m. not_from_false (bytes_eq (bytes key_bytes x) q) (find_missing (λ x. bytes_eq (bytes key_bytes x) q) S x (mapped_none (λ (p : Numbered K V). p.0) (at (bytes key_bytes) S q) (sym e)) m)))
 
     module _ (f : ℕ × (K × V)) (alone : IsFrontAlone key_bytes S q (Some f)) where
       -- the one pair that may be found is, or none is

@@ -1,5 +1,5 @@
 -- The pairs that begin with some bytes go, from the first to the last.
-use Rattle.std.proofs.Common.{◌≡◌, ◌≢◌, ℕ, List, [], ◌∷◌, ◌++◌, not, true, Some, None, inl, inr, refl, sym, ap, ◌∙◌, subst, cond, option_map, append_assoc, eq-eqb}
+use Rattle.std.proofs.Common.{◌≡◌, ◌≢◌, ℕ, List, [], ◌∷◌, ◌++◌, not, true, Some, None, inl, inr, refl, sym, ap, ◌∙◌, subst, cond, append_assoc, eq-eqb}
 use Rattle.std.proofs.lemmas.Bool.Decides.{eqb_tells}
 use Rattle.blart_keys.specs.Bytes.{begins}
 use Rattle.blart_keys.specs.Content.{IsContent, under}
@@ -11,26 +11,15 @@ use Rattle.blart_keys.proofs.RankLemmas.{filter_member}
 use Rattle.art_tree.specs.Leaves.{Numbered, leaf_in, Has, AreDistinct, last_number, number_after, without_number, bytes}
 use Rattle.art_tree.specs.Seeks.{ends}
 use Rattle.art_rows.proofs.CallerLemmas.{Has-first, distinct_parts, number_after-split, others-without_number, leaf_in-without_now}
-use Rattle.art_tree.proofs.Pairs.Bounds.{are_ends, ends_are}
+use Rattle.art_tree.proofs.Pairs.Bounds.{are_ends, ends_are, no_pairs_between}
 use Rattle.art_tree.proofs.Pairs.Filtering.{AreDistinct-filter, filter-without, dropped_without, two_ends, only_one}
 use Rattle.art_tree.proofs.Pairs.Numbers.{Member-from_leaf_in, leaf_in-member}
 
 module _ {K V : Type 0} where
-  some_last : (p : Numbered K V) (ps : List (Numbered K V)) → (n : ℕ) × (last_number (p ∷ ps) ≡ Some n)
-  some_last p [] = (p.0, refl)
-  some_last p (q ∷ ps) = some_last q ps
-
-  no_pairs : (ps : List (Numbered K V)) → ends ps ≡ None → ps ≡ []
-  no_pairs [] e = refl
-  no_pairs (p ∷ ps) e =
-      let l = some_last p ps in
-      let f : None ≡ Some (p.0, l.0) = sym e ∙ ap (option_map (λ (last : ℕ). (p.0, last))) l.1 in
-      absurd cc
-
   module _ (key_bytes : K → List ℕ) (ps : List (Numbered K V)) (q : List ℕ) where
     -- where there is none, all stay
     pub none_below : None ≡ ends (under (bytes key_bytes) ps q) → outside (bytes key_bytes) ps q ≡ ps
-    none_below e = outside_all (bytes key_bytes) ps q (no_pairs (under (bytes key_bytes) ps q) (sym e))
+    none_below e = outside_all (bytes key_bytes) ps q (no_pairs_between (under (bytes key_bytes) ps q) (sym e))
 
     module _ (distinct : AreDistinct ps) (first last : ℕ) (is : ends (under (bytes key_bytes) ps q) ≡ Some (first, last)) where
       -- the first of them

@@ -1,5 +1,5 @@
 -- How one key goes over into the next.
-use Rattle.std.proofs.Common.{◌≡◌, ◌≢◌, ℕ, ◌+◌, ◌<◌, List, [], ◌∷◌, ◌++◌, length, take, get_or, refl, ap, arith, sym, subst, Option, Some, None, ◌∙◌, ◌⊎◌, inl, inr, true, false, cond, eqb, eq-eqb}
+use Rattle.std.proofs.Common.{◌≡◌, ◌≢◌, ℕ, ◌+◌, ◌<◌, List, [], ◌∷◌, ◌++◌, length, take, get_or, refl, ap, arith, sym, subst, Option, Some, None, ◌∙◌, ◌⊎◌, inl, inr, true, false, cond, eqb, eq-eqb, length-append}
 use Rattle.std.proofs.lemmas.Bool.{false≢true, ne_eqb}
 use Rattle.std.proofs.lemmas.Bool.Decides.{eqb_tells}
 use Rattle.std.proofs.lemmas.List.{length-take-le}
@@ -12,7 +12,7 @@ use Rattle.art_tree.specs.Begins.{Bytes, Begins, next_byte}
 use Rattle.art_tree.specs.Leaves.{Numbered, AreDistinct, Has, Lacks, bytes, keys_in, number_after, first_number}
 use Rattle.art_tree.specs.Places.{FirstAfter}
 use Rattle.art_tree.specs.Calls.Building.{IsTurn, count_after}
-use Rattle.art_tree.proofs.BeginsLemmas.{Begins-take, Begins-length, Begins-next, Begins-from_begins, begins-from_Begins, common-greatest, length-edge, related-from_front}
+use Rattle.art_tree.proofs.BeginsLemmas.{Begins-take, Begins-length, Begins-next, Begins-from_begins, begins-from_Begins, common-greatest, related-from_front}
 use Rattle.art_tree.proofs.Pairs.Keys.{key_of_member, member_of_key, has_key}
 use Rattle.art_tree.proofs.Pairs.Neighbours.{IsLeafAfter, leaf_after_key}
 
@@ -82,10 +82,10 @@ module _ {K V : Type 0} (key_bytes : K → Bytes) (pairs : List (Numbered K V)) 
       module _ (c : ℕ) (c_is : c ≡ length (common k q)) where
         -- both go on
         pub in_key : c < length k
-        in_key = omega (arith, Begins-length (common k q ++ (branch_at_common k q parted).low ∷ []) k low_edge, length-edge (common k q) (branch_at_common k q parted).low)
+        in_key = omega (arith, Begins-length (common k q ++ (branch_at_common k q parted).low ∷ []) k low_edge, length-append (common k q) ((branch_at_common k q parted).low ∷ []))
 
         pub in_next : c < length q
-        in_next = omega (arith, Begins-length (common k q ++ (branch_at_common k q parted).high ∷ []) q high_edge, length-edge (common k q) (branch_at_common k q parted).high)
+        in_next = omega (arith, Begins-length (common k q ++ (branch_at_common k q parted).high ∷ []) q high_edge, length-append (common k q) ((branch_at_common k q parted).high ∷ []))
 
         -- the next one by a greater byte
         pub rises : get_or k c 0 < get_or q c 0
@@ -135,11 +135,6 @@ first_least {K} {V} key_bytes (p ∷ ps) content distinct i e =
         | inr m ↦ inr (subst (λ (z : Bytes). less (bytes key_bytes p) z ≡ true) x.3 (less-from_PartsBelow (bytes key_bytes p) (bytes key_bytes x.0) (each_member (Before (bytes key_bytes) p) ps x.0 (Ranked-from_content (bytes key_bytes) (p ∷ ps) content).0 m)))
       ]),
     )
-
--- with no first number there are no pairs
-pub no_first : {X : Type 0} → (ps : List (ℕ × X)) → first_number ps ≡ None → ps ≡ []
-no_first [] e = refl
-no_first (p ∷ ps) e = cc
 
 -- ---- how many pairs are still to come
 

@@ -1,5 +1,5 @@
 -- How far down a way can go.
-use Rattle.std.proofs.Common.{sym, subst, ◌≡◌, ℕ, zero, suc, ◌+◌, ◌-◌, ◌/◌, ◌%◌, ◌<◌, ◌≤◌, List, [], ◌∷◌, ◌++◌, length, max, get_or, refl, ap, Option, Some, None, IsSome, true, false, arith}
+use Rattle.std.proofs.Common.{sym, subst, ◌≡◌, ℕ, zero, suc, ◌+◌, ◌-◌, ◌/◌, ◌%◌, ◌<◌, ◌≤◌, List, [], ◌∷◌, ◌++◌, length, max, get_or, refl, ap, Option, Some, None, IsSome, true, false, arith, length-append}
 use Rattle.art_tree.specs.Begins.{Bytes}
 use Rattle.art_kinds.specs.Edges.{child_at}
 use Rattle.art_slots.specs.Store.{slot_at}
@@ -7,7 +7,7 @@ use Rattle.art_kinds.specs.Nodes.{Node, Nodes, store_of, at}
 use Rattle.art_tree.specs.Invariant.Shape.{Shape, Covers}
 use Rattle.art_kinds.specs.declared.records.ids.Child.{Child}
 use Rattle.art_kinds.specs.declared.records.ids.Child.TheVariants.{Leaf, Inner}
-use Rattle.art_tree.proofs.BeginsLemmas.{Begins-length, length-edge}
+use Rattle.art_tree.proofs.BeginsLemmas.{Begins-length}
 
 -- the depth of a node, or 0
 abbrev pub depth_of : Option Node → ℕ
@@ -62,7 +62,7 @@ module _ {P : ℕ} {keys : ℕ → Option Bytes} (nodes : Nodes) {root : Option 
               let d : x.depth ≡ length (s.front_of n) = (s.node n x is).depth in
               let d2 : y.depth ≡ length (s.front_of m) = (s.node m y e).depth in
               let l : length (s.front_of n ++ b ∷ []) ≤ length (s.front_of m) = Begins-length (s.front_of n ++ b ∷ []) (s.front_of m) h.front in
-              let l2 : length (s.front_of n ++ b ∷ []) ≡ length (s.front_of n) + 1 = length-edge (s.front_of n) b in
+              let l2 : length (s.front_of n ++ b ∷ []) ≡ length (s.front_of n) + 1 = length-append (s.front_of n) (b ∷ []) in
               let mine : depth_of (at nodes m) ≡ y.depth = ap depth_of e in
               let o : depth_of (at nodes n) ≡ x.depth = own in
               let w : depth_of (at nodes n) ≤ deepest_in nodes = low in

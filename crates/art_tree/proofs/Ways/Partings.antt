@@ -1,5 +1,5 @@
 -- How a query and the stored key that goes along with it the furthest part.
-use Rattle.std.proofs.Common.{◌≡◌, ◌≢◌, ℕ, ◌+◌, ◌<◌, ◌≤◌, refl, true, false, [], ◌∷◌, ◌++◌, ◌⊎◌, inl, inr, length, take, get_or, ap, sym, subst, ◌∙◌, Option, Some, arith}
+use Rattle.std.proofs.Common.{◌≡◌, ◌≢◌, ℕ, ◌+◌, ◌<◌, ◌≤◌, refl, true, false, [], ◌∷◌, ◌++◌, ◌⊎◌, inl, inr, length, take, get_or, ap, sym, subst, ◌∙◌, Option, Some, arith, length-append}
 use Rattle.std.proofs.lemmas.Bool.{cases_lt, false_from_ne_true, false≢true}
 use Rattle.std.proofs.lemmas.Bool.Decides.{eqb_tells}
 use Rattle.std.proofs.lemmas.List.{length-take-le}
@@ -19,7 +19,7 @@ use Rattle.art_tree.specs.declared.tree.descent.Spot.{Spot}
 use Rattle.art_tree.specs.declared.tree.descent.Spot.TheVariants as spot
 use Rattle.art_kinds.specs.declared.records.ids.Child.{Child}
 use Rattle.art_kinds.specs.declared.records.ids.Child.TheVariants.{Leaf, Inner}
-use Rattle.art_tree.proofs.BeginsLemmas.{Begins-itself, Begins-trans, Begins-linear, Begins-equal, Begins-more, Begins-take, common-in_left, common-in_right, common-left, common-right, common_length, length-edge, related_cases, take_front}
+use Rattle.art_tree.proofs.BeginsLemmas.{Begins-itself, Begins-trans, Begins-linear, Begins-equal, Begins-more, Begins-take, common-in_left, common-in_right, common-left, common-right, common_length, related_cases, take_front}
 use Rattle.art_tree.proofs.Invariant.Growing.{covers_above}
 use Rattle.art_tree.proofs.Invariant.SmallShapes.{unrelated}
 
@@ -124,7 +124,7 @@ module _ {P : ℕ} (keys : ℕ → Option Bytes) (nodes : ℕ → Option Node) (
             let n : length (take d q) ≡ d = length-take-le d q (omega arith) in
             let tq : Begins t q = subst (λ (n : ℕ). Begins (take d q ++ get_or q n 0 ∷ []) q) n (Begins-more (take d q) q (Begins-take d q) (omega arith)) in
             let a : length t ≤ length (common l q) = common_length t l q b tq in
-            let c : length t ≡ length (take d q) + 1 = length-edge (take d q) (get_or q d 0) in
+            let c : length t ≡ length (take d q) + 1 = length-append (take d q) (get_or q d 0 ∷ []) in
             let f : length (common l q) ≤ length (common nearest q) = best j l e in
             omega arith;
       }

@@ -1,5 +1,5 @@
 -- A spot that a leaf at hand shows.
-use Rattle.std.proofs.Common.{◌≡◌, ℕ, ◌+◌, ◌<◌, ◌≤◌, [], ◌∷◌, ◌++◌, length, take, ap, sym, subst, ◌∙◌, Option, Some, None, arith}
+use Rattle.std.proofs.Common.{◌≡◌, ℕ, ◌+◌, ◌<◌, ◌≤◌, [], ◌∷◌, ◌++◌, length, take, ap, sym, subst, ◌∙◌, Option, Some, None, arith, length-append}
 use Rattle.std.proofs.lemmas.List.{length-take-le}
 use Rattle.art_tree.specs.Begins.{Bytes, Begins}
 use Rattle.art_tree.specs.Invariant.EdgesAbove.{LeadsTo, edge_front}
@@ -11,7 +11,7 @@ use Rattle.art_kinds.specs.Nodes.{Node}
 use Rattle.art_kinds.specs.declared.records.ids.Child.{Child}
 use Rattle.art_kinds.specs.declared.records.ids.Child.TheVariants.{Leaf, Inner}
 use Rattle.art_tree.specs.declared.tree.descent.Spot.TheVariants as spot
-use Rattle.art_tree.proofs.BeginsLemmas.{Begins-edge_front, Begins-linear, Begins-take, length-edge, take_front}
+use Rattle.art_tree.proofs.BeginsLemmas.{Begins-edge_front, Begins-linear, Begins-take, take_front}
 use Rattle.art_tree.proofs.Invariant.Growing.{covers_above}
 
 module _ {P : ℕ} (keys : ℕ → Option Bytes) (nodes : ℕ → Option Node) (root : Option Child) (s : Shape P keys nodes root) (leaf depth : ℕ) (nearest : Bytes) (is : keys leaf ≡ Some nearest) (above : Option (ℕ × ℕ)) where
@@ -25,7 +25,7 @@ module _ {P : ℕ} (keys : ℕ → Option Bytes) (nodes : ℕ → Option Node) (
       let d : l.0.depth ≡ length (s.front_of a.0) = (s.node a.0 l.0 l.1).depth in
       let d2 : e.0.depth ≡ l.0.depth = ap (λ (z : Node). z.depth) same in
       let lt : e.0.depth < depth = e.2 in
-      let k : length (s.front_of a.0 ++ a.1 ∷ []) ≡ length (s.front_of a.0) + 1 = length-edge (s.front_of a.0) a.1 in
+      let k : length (s.front_of a.0 ++ a.1 ∷ []) ≡ length (s.front_of a.0) + 1 = length-append (s.front_of a.0) (a.1 ∷ []) in
       omega arith
 
   -- an edge that leads to the nearest leaf and does not begin too deep

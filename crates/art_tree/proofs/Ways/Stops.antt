@@ -1,8 +1,8 @@
 -- The way down by the bytes of a query, and where it ends.
-use Rattle.std.proofs.Common.{◌≡◌, ◌≢◌, ℕ, zero, suc, ◌+◌, ◌-◌, ◌<◌, ◌≤◌, Bool, true, false, refl, [], ◌∷◌, ◌++◌, inl, inr, length, take, drop, get_or, ap, sym, subst, ◌∙◌, Option, Some, None, arith, eqb, eq-eqb, length-drop}
+use Rattle.std.proofs.Common.{◌≡◌, ◌≢◌, ℕ, zero, suc, ◌+◌, ◌<◌, ◌≤◌, Bool, true, false, refl, [], ◌∷◌, ◌++◌, inl, inr, length, take, drop, get_or, ap, sym, subst, ◌∙◌, Option, Some, None, arith, eqb, eq-eqb, length-drop, length-append, get_or-take, get_or-drop}
 use Rattle.std.proofs.lemmas.Bool.{cases_lt, false_from_ne_true}
 use Rattle.std.proofs.lemmas.Bool.Decides.{eqb_tells}
-use Rattle.std.proofs.lemmas.List.{length-take-le}
+use Rattle.std.proofs.lemmas.List.{length-take}
 use Rattle.blart_keys.specs.Bytes.{common, related}
 use Rattle.blart_keys.proofs.Options.{not_some, some_of}
 use Rattle.art_tree.specs.Begins.{Bytes, Begins, next_byte}
@@ -18,7 +18,7 @@ use Rattle.art_kinds.specs.declared.records.ids.Child.{Child}
 use Rattle.art_kinds.specs.declared.records.ids.Child.TheVariants.{Leaf, Inner}
 use Rattle.art_kinds.specs.declared.records.ids.Edge.{Edge}
 use Rattle.std.specs.Prelude.{ltb}
-use Rattle.art_tree.proofs.BeginsLemmas.{Begins-itself, Begins-trans, Begins-linear, Begins-equal, Begins-more, Begins-next, Begins-take, Begins-length, Begins-edge_front, common-greatest, common-in_left, common-in_right, common-left, common-right, common_length, length-edge, related_cases, take_front}
+use Rattle.art_tree.proofs.BeginsLemmas.{Begins-itself, Begins-trans, Begins-linear, Begins-equal, Begins-more, Begins-next, Begins-take, Begins-length, Begins-edge_front, common-greatest, common-in_left, common-in_right, common-left, common-right, common_length, related_cases, take_front}
 use Rattle.art_tree.proofs.Invariant.Growing.{covers_above, some_key}
 use Rattle.art_tree.proofs.Invariant.SmallShapes.{unrelated}
 use Rattle.art_tree.proofs.Ways.Mismatches.{beside_at_node, beside_at_edge}
@@ -35,10 +35,6 @@ front_after [] k b = refl
 front_after (x ∷ g) [] b = absurd b
 front_after (x ∷ g) (y ∷ k) b = let e : x ≡ y = b.0 in let h : g ++ drop (length g) k ≡ k = front_after g k b.1 in cc
 
-length-both : (g a : Bytes) → length (g ++ a) ≡ length g + length a
-length-both [] a = omega arith
-length-both (x ∷ g) a = let h : length (g ++ a) ≡ length g + length a = length-both g a in omega arith
-
 -- the bytes in common are those of the front and those after it
 pub common_from : (g a b : Bytes) → Begins g a → Begins g b → length (common a b) ≡ length g + length (common (drop (length g) a) (drop (length g) b))
 common_from g a b ha hb =
@@ -46,7 +42,7 @@ common_from g a b ha hb =
     let eb : g ++ drop (length g) b ≡ b = front_after g b hb in
     let e : common (g ++ drop (length g) a) (g ++ drop (length g) b) ≡ g ++ common (drop (length g) a) (drop (length g) b) = common_after g (drop (length g) a) (drop (length g) b) in
     let e2 : common a b ≡ g ++ common (drop (length g) a) (drop (length g) b) = cc in
-    ap (λ (z : Bytes). length z) e2 ∙ length-both g (common (drop (length g) a) (drop (length g) b))
+    ap (λ (z : Bytes). length z) e2 ∙ length-append g (common (drop (length g) a) (drop (length g) b))
 
 -- where the first bytes of a list part from another, so does the list
 pub common_first : (n : ℕ) (a b : Bytes) → length (common (take n a) b) < length (take n a) → length (common a b) ≡ length (common (take n a) b)
@@ -63,19 +59,6 @@ common_first (suc n) (x ∷ a) (y ∷ b) l =
       | inr e ↦ rw e.0 refl
     ]
 
--- a byte among the first ones of a list
-pub get_first : (n i : ℕ) (a : Bytes) → i < length (take n a) → get_or (take n a) i 0 ≡ get_or a i 0
-get_first zero i a l = absurd (omega arith)
-get_first (suc n) i [] l = refl
-get_first (suc n) zero (x ∷ a) l = refl
-get_first (suc n) (suc i) (x ∷ a) l = get_first n i a (omega arith)
-
--- a byte after the first ones
-pub get_after : (n i : ℕ) (a : Bytes) → get_or (drop n a) i 0 ≡ get_or a (n + i) 0
-get_after zero i a = let e : 0 + i ≡ i = omega arith in rw e refl
-get_after (suc n) i [] = refl
-get_after (suc n) i (x ∷ a) = let e : suc n + i ≡ suc (n + i) = omega arith in rw e (get_after n i a)
-
 -- ---- a query that leaves a key
 
 module _ (keys : ℕ → Option Bytes) (q : Bytes) where
@@ -88,7 +71,7 @@ module _ (keys : ℕ → Option Bytes) (q : Bytes) where
       let q_is : take depth q ≡ t = ap (λ (z : ℕ). take z q) d ∙ take_front t q tq in
       let k_is : take depth key ≡ t = ap (λ (z : ℕ). take z key) d ∙ take_front t key tk in
       let long : length (t ++ c ∷ []) ≤ length key = Begins-length (t ++ c ∷ []) key hk in
-      let one : length (t ++ c ∷ []) ≡ length t + 1 = length-edge t c in
+      let one : length (t ++ c ∷ []) ≡ length t + 1 = length-append t (c ∷ []) in
       record {
         nearest_key = key;
         nearest_is = is;
@@ -97,15 +80,6 @@ module _ (keys : ℕ → Option Bytes) (q : Bytes) where
         nearest_longer = omega arith;
         alone = λ j l l_is h. none j l l_is (subst (λ (z : ℕ). Begins (t ++ z ∷ []) l) (sym b_is) (subst (λ (z : Bytes). Begins (z ++ get_or q depth 0 ∷ []) l) q_is h));
       }
-
--- the rest of a list is what follows
-pub rest_is : (n : ℕ) (a : Bytes) → take (length a - n) (drop n a) ≡ drop n a
-rest_is n a =
-    let l : length (drop n a) ≤ length (take (length a - n) (drop n a)) = omega (arith, length-drop n a, length-take-le (length (drop n a)) (drop n a) (omega arith), rest_long n a) in
-    Begins-equal (take (length a - n) (drop n a)) (drop n a) (Begins-take (length a - n) (drop n a)) l
-  where
-    rest_long : (n : ℕ) (a : Bytes) → length (take (length a - n) (drop n a)) ≡ length a - n
-    rest_long n a = length-take-le (length a - n) (drop n a) (omega (arith, length-drop n a))
 
 -- ---- a front f of all keys that begin with that of an edge, and a query that parts from it
 
@@ -168,7 +142,7 @@ module _ {P : ℕ} (keys : ℕ → Option Bytes) (nodes : ℕ → Option Node) (
               let its : Begins (common f q ++ next_byte (common f q) q ∷ []) q = Begins-more (common f q) q (common-right f q) lq in
               let w : next_byte (common f q) f ≡ next_byte (common f q) q = sym e ∙ z in
               let both : length (common f q ++ next_byte (common f q) q ∷ []) ≤ length (common f q) = common_length (common f q ++ next_byte (common f q) q ∷ []) f q (subst (λ (b : ℕ). Begins (common f q ++ b ∷ []) f) w mine) its in
-              let d : length (common f q ++ next_byte (common f q) q ∷ []) ≡ length (common f q) + 1 = length-edge (common f q) (next_byte (common f q) q) in
+              let d : length (common f q ++ next_byte (common f q) q ∷ []) ≡ length (common f q) + 1 = length-append (common f q) (next_byte (common f q) q ∷ []) in
               omega arith;
         },
         refl,
@@ -253,7 +227,7 @@ module _ {P : ℕ} {keys : ℕ → Option Bytes} {nodes : ℕ → Option Node} {
       pub on_way : (child : Child) → child_at x.edges (get_or q x.depth 0) ≡ Some child → (next : ℕ) → next ≡ x.depth + 1 → OnWay P keys nodes child next q
       on_way child there next e =
           let d : x.depth ≡ length front = fits.depth in
-          let long : length (front ++ get_or q x.depth 0 ∷ []) ≡ length front + 1 = length-edge front (get_or q x.depth 0) in
+          let long : length (front ++ get_or q x.depth 0 ∷ []) ≡ length front + 1 = length-append front (get_or q x.depth 0 ∷ []) in
           record {
             root = w.root;
             shape = w.shape;
@@ -434,7 +408,7 @@ module _ {P : ℕ} {keys : ℕ → Option Bytes} {nodes : ℕ → Option Node} {
           let s : length (common own_front q) ≡ start + length (common (drop start own_front) (drop start q)) = shared_after in
           record {
             is = omega arith;
-            next = λ a b. ap (λ (z : Bytes). get_or z count 0) k ∙ get_first P count (drop start own_front) l' ∙ get_after start count own_front ∙ ap (λ (z : ℕ). get_or own_front z 0) (sym at);
+            next = λ a b. ap (λ (z : Bytes). get_or z count 0) k ∙ get_or-take P (drop start own_front) count 0 (omega (arith, length-take P (drop start own_front))) ∙ get_or-drop start own_front count 0 ∙ ap (λ (z : ℕ). get_or own_front z 0) (sym at);
           }
 
       -- the stored prefix is the whole, and all of it is shared
@@ -444,14 +418,11 @@ module _ {P : ℕ} {keys : ℕ → Option Bytes} {nodes : ℕ → Option Node} {
           let k : x.prefix ≡ take P (drop start own_front) = kept_is in
           let e' : count ≡ length (common (take P (drop start own_front)) (drop start q)) = subst (λ (z : Bytes). count ≡ length (common z (drop start q))) k e in
           let low : length (common (take P (drop start own_front)) (drop start q)) ≤ length (take P (drop start own_front)) = common-in_left (take P (drop start own_front)) (drop start q) in
-          let long : length (drop start own_front) ≤ length (take P (drop start own_front)) = (let m : length (drop start own_front) + start ≡ length own_front = dropped start own_front start_within in omega arith) in
+          let long : length (drop start own_front) ≤ length (take P (drop start own_front)) = omega (arith, length-drop start own_front, start_within) in
           let t : take P (drop start own_front) ≡ drop start own_front = Begins-equal (take P (drop start own_front)) (drop start own_front) (Begins-take P (drop start own_front)) long in
           let c : length (common (take P (drop start own_front)) (drop start q)) ≡ length (common (drop start own_front) (drop start q)) = ap (λ (z : Bytes). length (common z (drop start q))) t in
           let s : length (common own_front q) ≡ start + length (common (drop start own_front) (drop start q)) = shared_after in
           record { is = omega arith; next = λ a b. absurd (omega arith) }
-        where
-          dropped : (n : ℕ) (a : Bytes) → n ≤ length a → length (drop n a) + n ≡ length a
-          dropped n a l = omega (arith, length-drop n a)
 
   -- ---- the place beside a child
 

@@ -1,5 +1,5 @@
 -- A way down to the node at a front.
-use Rattle.std.proofs.Common.{◌≡◌, ◌≢◌, ℕ, ◌+◌, ◌<◌, ◌≤◌, [], ◌∷◌, ◌++◌, length, get_or, ap, sym, subst, ◌∙◌, Option, Some, None, IsSome, true, arith}
+use Rattle.std.proofs.Common.{◌≡◌, ◌≢◌, ℕ, ◌+◌, ◌<◌, ◌≤◌, [], ◌∷◌, ◌++◌, length, get_or, ap, sym, subst, ◌∙◌, Option, Some, None, IsSome, true, arith, length-append}
 use Rattle.art_tree.specs.Begins.{Bytes, Begins, next_byte}
 use Rattle.art_kinds.specs.Edges.{child_at, IsEnd}
 use Rattle.art_kinds.specs.Nodes.{Node}
@@ -8,7 +8,7 @@ use Rattle.art_tree.specs.Calls.Descents.{IsEndUnder, FindsNone, FindsNode}
 use Rattle.art_kinds.specs.declared.records.ids.Child.{Child}
 use Rattle.art_kinds.specs.declared.records.ids.Child.TheVariants.{Leaf, Inner}
 use Rattle.art_kinds.specs.declared.records.ids.Edge.{Edge}
-use Rattle.art_tree.proofs.BeginsLemmas.{Begins-length, Begins-trans, Begins-linear, Begins-equal, Begins-next, Begins-more, Begins-itself, next_byte-front, length-edge}
+use Rattle.art_tree.proofs.BeginsLemmas.{Begins-length, Begins-trans, Begins-linear, Begins-equal, Begins-next, Begins-more, Begins-itself, next_byte-front}
 use Rattle.art_tree.proofs.Invariant.Growing.{some_key, Parts-two}
 use Rattle.blart_keys.proofs.Options.{some_of, not_some}
 use Rattle.art_tree.proofs.Ways.Ends.{end_step}
@@ -93,7 +93,7 @@ module _ {P : ℕ} {keys : ℕ → Option Bytes} {nodes : ℕ → Option Node} (
           let few : now + 0 ≤ old + length (s.front_of n) = way_here s is h in
           let w = end_step keys nodes root s true (s.front_of n) n x is own e least leaf u in
           let r : new + length (s.front_of n ++ e.byte ∷ []) ≤ now + 1 + length w.key = reads w.key w.is in
-          let z : length (s.front_of n ++ e.byte ∷ []) ≡ length (s.front_of n) + 1 = length-edge (s.front_of n) e.byte in
+          let z : length (s.front_of n ++ e.byte ∷ []) ≡ length (s.front_of n) + 1 = length-append (s.front_of n) (e.byte ∷ []) in
           record {
             number = n;
             node = x;

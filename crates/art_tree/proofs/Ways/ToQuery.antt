@@ -1,5 +1,5 @@
 -- A descent by a query's bytes: where it has come to, and what it then knows.
-use Rattle.std.proofs.Common.{◌≡◌, ◌≢◌, ℕ, ◌+◌, ◌<◌, ◌≤◌, [], ◌∷◌, ◌++◌, length, get_or, ap, arith, sym, subst, Option, Some, None, IsSome, ◌∙◌}
+use Rattle.std.proofs.Common.{◌≡◌, ◌≢◌, ℕ, ◌+◌, ◌<◌, ◌≤◌, [], ◌∷◌, ◌++◌, length, get_or, ap, arith, sym, subst, Option, Some, None, IsSome, ◌∙◌, length-append}
 use Rattle.art_tree.specs.Begins.{Bytes, Begins, next_byte}
 use Rattle.art_kinds.specs.Nodes.{Node}
 use Rattle.art_kinds.specs.Edges.{child_at}
@@ -7,7 +7,7 @@ use Rattle.art_tree.specs.Invariant.Shape.{Shape, CoversNode, NodeFits, RootFits
 use Rattle.art_tree.specs.Calls.Descents.{NoFront, IsOnlyFront}
 use Rattle.art_kinds.specs.declared.records.ids.Child.{Child}
 use Rattle.blart_keys.proofs.Options.{not_some, same_some}
-use Rattle.art_tree.proofs.BeginsLemmas.{Begins-length, Begins-itself, Begins-more, Begins-next, next_byte-front, length-edge}
+use Rattle.art_tree.proofs.BeginsLemmas.{Begins-length, Begins-itself, Begins-more, Begins-next, next_byte-front}
 
 module _ (keys : ℕ → Option Bytes) (q : Bytes) where
   -- each key that begins q begins with the front, which is no longer than q
@@ -74,7 +74,7 @@ module _ {P : ℕ} {keys : ℕ → Option Bytes} (q : Bytes) {nodes : ℕ → Op
       fronts_step len_is below =
           let g : Bytes = s.front_of n in
           let d : x.depth ≡ length g = fits.depth in
-          let l : length (g ++ next_byte g q ∷ []) ≡ length g + 1 = length-edge g (next_byte g q) in
+          let l : length (g ++ next_byte g q ∷ []) ≡ length g + 1 = length-append g (next_byte g q ∷ []) in
           subst (λ (z : ℕ). HoldsFronts keys q (g ++ get_or q z 0 ∷ [])) (sym (len_is ∙ d)) (record { holds = goes_on; short = omega arith })
 
 module _ (keys : ℕ → Option Bytes) (q : Bytes) where

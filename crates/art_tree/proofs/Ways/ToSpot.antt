@@ -1,5 +1,5 @@
 -- A way down by a stored key, to where another key leaves it.
-use Rattle.std.proofs.Common.{◌≡◌, ℕ, ◌+◌, ◌<◌, ◌≤◌, [], ◌∷◌, ◌++◌, length, get_or, take, refl, ap, arith, sym, subst, Option, Some, None, ◌∙◌}
+use Rattle.std.proofs.Common.{◌≡◌, ℕ, ◌+◌, ◌<◌, ◌≤◌, [], ◌∷◌, ◌++◌, length, get_or, take, refl, ap, arith, sym, subst, Option, Some, None, ◌∙◌, length-append}
 use Rattle.std.proofs.lemmas.List.{length-take-le}
 use Rattle.blart_keys.proofs.Options.{not_some}
 use Rattle.art_tree.specs.Begins.{Bytes, Begins, next_byte}
@@ -10,7 +10,7 @@ use Rattle.art_tree.specs.Invariant.EdgesAbove.{LeadsTo, edge_front}
 use Rattle.art_tree.specs.Calls.Spots.{EdgeFits}
 use Rattle.art_kinds.specs.declared.records.ids.Child.{Child}
 use Rattle.art_kinds.specs.declared.records.ids.Child.TheVariants.{Inner}
-use Rattle.art_tree.proofs.BeginsLemmas.{Begins-take, Begins-length, Begins-more, Begins-trans, Begins-linear, length-edge, Begins-equal}
+use Rattle.art_tree.proofs.BeginsLemmas.{Begins-take, Begins-length, Begins-more, Begins-trans, Begins-linear, Begins-equal}
 use Rattle.art_tree.proofs.Ways.WaysDown.{WayDown, way_on}
 
 -- the front is that of the edge above, and the nearest key's first bytes begin with it
@@ -70,7 +70,7 @@ module _ {P : ℕ} {keys : ℕ → Option Bytes} {nodes : ℕ → Option Node} (
           let d : x.depth ≡ length g = fits.depth in
           let b : get_or nearest x.depth 0 ≡ next_byte g nearest = ap (λ d. get_or nearest d 0) d in
           let l : length (take depth nearest) ≡ depth = length-take-le depth nearest within in
-          let e : length (g ++ next_byte g nearest ∷ []) ≡ length g + 1 = length-edge g (next_byte g nearest) in
+          let e : length (g ++ next_byte g nearest ∷ []) ≡ length g + 1 = length-append g (next_byte g nearest ∷ []) in
           (refl, rw b (Begins-linear (g ++ next_byte g nearest ∷ []) (take depth nearest) nearest (Begins-more g nearest front_nearest (omega arith)) (Begins-take depth nearest) (omega arith)))
 
       -- so the way goes on by that edge

@@ -1,5 +1,5 @@
 -- A way down from a child: where it has come to, and what it keeps on the way.
-use Rattle.std.proofs.Common.{◌≡◌, ℕ, ◌+◌, ◌<◌, ◌≤◌, List, [], ◌∷◌, ◌++◌, length, ap, subst, Option, Some, IsSome, true, false, arith}
+use Rattle.std.proofs.Common.{◌≡◌, ℕ, ◌+◌, ◌<◌, ◌≤◌, List, [], ◌∷◌, ◌++◌, length, ap, subst, Option, Some, IsSome, true, false, arith, length-append}
 use Rattle.art_tree.specs.Begins.{Bytes, next_byte}
 use Rattle.art_kinds.specs.Edges.{child_at}
 use Rattle.art_kinds.specs.Nodes.{Node}
@@ -7,7 +7,7 @@ use Rattle.art_tree.specs.Invariant.Shape.{Shape, Covers}
 use Rattle.art_kinds.specs.declared.records.ids.Child.{Child}
 use Rattle.art_kinds.specs.declared.records.ids.Child.TheVariants.{Leaf, Inner}
 use Rattle.art_kinds.specs.declared.records.ids.Edge.{Edge}
-use Rattle.art_tree.proofs.BeginsLemmas.{Begins-length, length-edge}
+use Rattle.art_tree.proofs.BeginsLemmas.{Begins-length}
 
 -- an edge is one of some
 pub edges_some : (es : List Edge) (b : ℕ) → IsSome (child_at es b) → 0 < length es
@@ -59,5 +59,5 @@ module _ {P : ℕ} {keys : ℕ → Option Bytes} {nodes : ℕ → Option Node} {
     pub way_on : {Next : Bytes → Type 0} → (b : ℕ) {c : Child} → child_at x.edges b ≡ Some c → Next (s.front_of n ++ b ∷ []) → {next : ℕ} → next ≡ now + 1 → WayDown keys nodes s.front_of Next g c old next
     way_on b {c} there holds e =
         let few : now + length g ≤ old + length (s.front_of n) = way_here in
-        let d : length (s.front_of n ++ b ∷ []) ≡ length (s.front_of n) + 1 = length-edge (s.front_of n) b in
+        let d : length (s.front_of n ++ b ∷ []) ≡ length (s.front_of n) + 1 = length-append (s.front_of n) (b ∷ []) in
         record { front = s.front_of n ++ b ∷ []; covers = (s.node n x is).below b c there; holds = holds; few = omega arith }

@@ -45,7 +45,6 @@ pub record Loose (goes : ℕ → Bool) (before nodes : ℕ → Option Node) (hea
   pub kept : (j : ℕ) → goes j ≡ false → nodes j ≡ before j
   pub live : IsSome (nodes head)
   pub own : goes head ≡ true
-  pub stale : fresh head ≡ false
   pub some : (m : ℕ) (y : Node) → nodes m ≡ Some y → goes m ≡ true → 0 < length y.edges
   pub down : (m b x : ℕ) → goes m ≡ true → LeadsIn nodes m b x → IsSome (nodes x) × (goes x ≡ true) × (rank m < rank x)
   pub once : (m b n d x : ℕ) → goes m ≡ true → goes n ≡ true → LeadsIn nodes m b x → LeadsIn nodes n d x → (m ≡ n) × (b ≡ d)

@@ -18,9 +18,8 @@ use Rattle.blart_keys.proofs.PutLemmas.{put_at, put_member}
 use Rattle.blart_keys.proofs.Options.{some_of}
 use Rattle.blart_keys.proofs.Mapped.{find-map, put_map, Member-map}
 use Rattle.art_tree.specs.Leaves.{Numbered, leaf_in, AreDistinct, Lacks, last_number, with_value, with_pair_after, bytes}
-use Rattle.art_tree.proofs.CallerLemmas.{Has-last, has_not_lacks, Member-from_leaf_in, with_value-split}
+use Rattle.art_tree.proofs.CallerLemmas.{Has-last, has_not_lacks, Member-from_leaf_in, with_value-split, no_last}
 use Rattle.art_walk.specs.Pairs.{pairs_of}
-use Rattle.art_walk.proofs.Steps.{no_last}
 use Rattle.blart_map.specs.Bulk.{NoneGreater}
 use Rattle.blart_map.proofs.Placed.Inserting.{alone_none}
 

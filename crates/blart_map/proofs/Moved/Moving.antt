@@ -8,7 +8,7 @@ use Rattle.blart_keys.proofs.ContentLemmas.{Before, Ranked-from_content, content
 use Rattle.art_tree.specs.Leaves.{Numbered, leaf_in, first_number, without_number}
 use Rattle.art_walk.specs.Pairs.{pairs_of}
 -- the first pair, and those without it
-pub use Rattle.art_walk.proofs.PairEnds.{first_pair, first_has, no_first}
+pub use Rattle.art_walk.proofs.PairEnds.{first_pair}
 
 -- once the first pair that is left is taken out, all pairs are those that have moved, it, and the rest
 pub first_moved : {K V : Type 0} (bytes : K × V → List ℕ) (all moved : List (K × V)) (ps rest : List (Numbered K V)) (id : ℕ) (x : K × V) → IsContent bytes all → all ≡ moved ++ pairs_of ps → first_number ps ≡ Some id → leaf_in ps id ≡ Some x → rest ≡ without_number ps id → (all ≡ moved ++ x ∷ pairs_of rest) × IsContent bytes (moved ++ x ∷ pairs_of rest)

@@ -2,9 +2,8 @@
 use Rattle.std.proofs.Common.{◌≡◌, ℕ, List, [], ◌∷◌, ◌-◌, length, slice_get, Some, None, refl, sym, ap, ◌∙◌, arith}
 use Rattle.std.proofs.lemmas.Grind.{common_steps}
 use Rattle.art_tree.specs.Leaves.{Numbered, leaf_in, Has, AreDistinct, without_number, first_number, last_number}
-use Rattle.art_tree.proofs.CallerLemmas.{Has-last}
+use Rattle.art_tree.proofs.CallerLemmas.{Has-last, no_last}
 use Rattle.art_walk.specs.Pairs.{pairs_of}
-use Rattle.art_walk.proofs.Steps.{no_last}
 use Rattle.blart_keys.proofs.Options.{some_of, is_some as has_value}
 use Rattle.blart_map.proofs.Numbers.{last_pair, slice_get-last}
 

@@ -16,9 +16,6 @@ use Rattle.art_walk.proofs.Passing.{first_passed, first_named, last_passed, last
 use Rattle.art_walk.proofs.Asking.{written_fits, written_left, removed_fits, removed_left}
 use Rattle.blart_map.specs.ExtractIf.{ExtractsFirstTrue, stands_at}
 
-pub le_eq : (a b : ℕ) → a ≡ b → a ≤ b
-le_eq a b e = omega arith
-
 pub le_step : (a b t : ℕ) → suc a ≡ b → b ≤ t → a ≤ t
 le_step a b t e l = omega arith
 

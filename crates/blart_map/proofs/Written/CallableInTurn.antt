@@ -1,18 +1,15 @@
 -- A closure that may be called at each pair of a list, in turn.
-use Rattle.std.proofs.Common.{◌≡◌, ◌∙◌, List, [], ◌∷◌, ◌++◌, filter, Bool, true, false, cond, refl, sym, ap, subst}
+use Rattle.std.proofs.Common.{◌≡◌, ◌∙◌, List, [], ◌∷◌, filter, Bool, true, false, cond, refl, sym, ap, subst}
 use Rattle.std.specs.Borrow.{Bor, MutBor}
-use Rattle.std.proofs.lemmas.List.Elements.{All-head, All-tail, All-filter, filter_passes}
+use Rattle.std.proofs.lemmas.List.Elements.{All-filter, filter_passes}
 use Rattle.std.specs.List.{All, FoldsTo}
 use denote.Param.Members.{Mut}
 use denote.Param.Always.{always_mut, mut_next}
 use Rattle.art_tree.specs.Leaves.{Numbered}
 use Rattle.art_walk.specs.Pairs.{pairs_of}
+use Rattle.art_walk.proofs.Callable.{middle}
 use Rattle.blart_map.specs.Content.{pairs}
 use Rattle.blart_map.specs.EachWritten.{SomeCallAt, CallableInTurn, LeavesValue, TakesAtValue, LeavesPair, TakesAtPair}
-
-middle : {X : Type 0} (P : X → Type 0) (before after : List X) (x : X) → All P (before ++ x ∷ after) → P x
-middle P [] after x h = All-head P x after h
-middle P (y ∷ before) after x h = middle P before after x (All-tail P y (before ++ x ∷ after) h)
 
 pairs_filter : {K V : Type 0} (t : K × V → Bool) (S : List (Numbered K V)) → pairs_of (filter (λ p. t p.1) S) ≡ filter t (pairs_of S)
 pairs_filter t [] = refl

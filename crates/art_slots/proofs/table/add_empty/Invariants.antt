@@ -1,4 +1,4 @@
-use Rattle.std.proofs.Common.{◌≡◌, ◌+◌, vec_capacity}
+use Rattle.std.proofs.Common.{◌≡◌, vec_capacity}
 use Rattle.art_slots.specs.Table.{AddsEmpty}
 use Rattle.art_slots.proofs.table.add_empty.Given as goal
 

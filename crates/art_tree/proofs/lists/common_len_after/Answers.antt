@@ -1,6 +1,6 @@
 use Rattle.std.proofs.Common.{◌≡◌, ℕ, List, length, take, drop, ◌-◌, subst}
+use Rattle.std.proofs.lemmas.List.{take_rest}
 use Rattle.blart_keys.specs.Bytes.{common}
-use Rattle.art_tree.proofs.Ways.Stops.{rest_is}
 use Rattle.art_tree.proofs.lists.common_len_after.Goals as goal
 
 pub returns : goal.returns
@@ -8,5 +8,5 @@ returns c =
     let a = c.args.a.now in
     let b = c.args.b.now in
     let n = c.args.start in
-    subst (λ (z : List ℕ). c.common_len.result ≡ length (common z (drop n b))) (rest_is n a)
-    (subst (λ (z : List ℕ). c.common_len.result ≡ length (common (take (length a - n) (drop n a)) z)) (rest_is n b) c.common_len.ensures)
+    subst (λ (z : List ℕ). c.common_len.result ≡ length (common z (drop n b))) (take_rest a n)
+    (subst (λ (z : List ℕ). c.common_len.result ≡ length (common (take (length a - n) (drop n a)) z)) (take_rest b n) c.common_len.ensures)

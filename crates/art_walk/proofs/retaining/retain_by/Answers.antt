@@ -1,4 +1,4 @@
-use Rattle.std.proofs.Common.{List, ◌++◌, [], sym, ap, subst, ◌∙◌, suc, length, lit<, refl}
+use Rattle.std.proofs.Common.{List, ◌++◌, [], sym, ap, subst, ◌∙◌, suc, length, lit<, refl, le_of_eq}
 use Rattle.blart_keys.specs.Walks.{AsksPair}
 use Rattle.blart_keys.proofs.Options.{is_some}
 use Rattle.art_tree.specs.Leaves.{Numbered, leaf_in, with_value}
@@ -6,7 +6,7 @@ use Rattle.art_walk.specs.Cursor.{leaves_left}
 use Rattle.art_walk.specs.Pairs.{pairs_of}
 use Rattle.art_walk.specs.Asking.{RetainsBy}
 use Rattle.art_walk.proofs.Passing.{first_passed, first_named}
-use Rattle.art_walk.proofs.Asking.{retaining_end, retaining_kept, retaining_gone, asks_at, written_fits, written_left, written_distinct, written_row, written_named, removed_fits, removed_left, removed_distinct, removed_row, le_eq}
+use Rattle.art_walk.proofs.Asking.{retaining_end, retaining_kept, retaining_gone, asks_at, written_fits, written_left, written_distinct, written_row, written_named, removed_fits, removed_left, removed_distinct, removed_row}
 use Rattle.art_walk.proofs.Callable.{Callable, callable_first, callable_others}
 use Rattle.art_walk.proofs.retaining.retain_by.Goals as goal
 
@@ -38,7 +38,7 @@ pairs-smaller-then-f g c =
     let y : g.row.K.Denot × g.row.V.Denot = (lv.0.now, lv.1.now) in
     let lacks = first_passed ps c.pairs.invariant.2 c.pairs.cursor c.step.new.self c.pairs.invariant.1 c.in-Some.ensures.fits c.in-Some.id y c.leaf_mut-value.ensures.value c.in-Some.ensures.passes in
     let named = first_named ps c.pairs.invariant.2 c.pairs.cursor c.step.new.self c.pairs.invariant.1 c.in-Some.ensures.fits c.in-Some.id y c.leaf_mut-value.ensures.value c.in-Some.ensures.passes in
-    le_eq _ _ (ap suc (ap length (written_left ps c.pairs.invariant.2 c.step.new.self c.in-Some.ensures.fits c.in-Some.id y c.f.new.arg3 lacks)) ∙ sym (ap length named))
+    le_of_eq (ap suc (ap length (written_left ps c.pairs.invariant.2 c.step.new.self c.in-Some.ensures.fits c.in-Some.id y c.f.new.arg3 lacks)) ∙ sym (ap length named))
 
 pub pairs-preserved-then-f : goal.pairs-preserved-then-f
 pairs-preserved-then-f g c =
@@ -85,7 +85,7 @@ pairs-smaller g c =
     let y : g.row.K.Denot × g.row.V.Denot = (lv.0.now, lv.1.now) in
     let lacks = first_passed ps c.pairs.invariant.2 c.pairs.cursor c.step.new.self c.pairs.invariant.1 c.in-Some.ensures.fits c.in-Some.id y c.leaf_mut-value.ensures.value c.in-Some.ensures.passes in
     let named = first_named ps c.pairs.invariant.2 c.pairs.cursor c.step.new.self c.pairs.invariant.1 c.in-Some.ensures.fits c.in-Some.id y c.leaf_mut-value.ensures.value c.in-Some.ensures.passes in
-    le_eq _ _ (ap suc (ap length (removed_left ps c.pairs.invariant.2 c.step.new.self c.in-Some.ensures.fits c.in-Some.id y c.f.new.arg3 lacks c.remove-pair.new.self.pairs c.remove-pair.ensures.rest)) ∙ sym (ap length named))
+    le_of_eq (ap suc (ap length (removed_left ps c.pairs.invariant.2 c.step.new.self c.in-Some.ensures.fits c.in-Some.id y c.f.new.arg3 lacks c.remove-pair.new.self.pairs c.remove-pair.ensures.rest)) ∙ sym (ap length named))
 
 pub pairs-preserved : goal.pairs-preserved
 pairs-preserved g c =

@@ -1,11 +1,12 @@
 use Rattle.std.specs.Prelude.{ltb}
 use Rattle.std.proofs.Common.{◌≡◌, ◌≤◌, ◌∙◌, List, length, get_or, Some, true, false, refl, ap, sym, arith, add-one}
+use Rattle.std.proofs.lemmas.List.{drop_all}
 use Rattle.std.proofs.lemmas.Bool.{lt-ltb, le-ltb}
 use Rattle.art_kinds.specs.Edges.{after, paired}
 use Rattle.art_kinds.specs.declared.records.ids.Child.TheVariants.{Leaf}
 use Rattle.art_kinds.specs.declared.records.ids.Child.{Child}
 use Rattle.art_kinds.specs.declared.records.ids.Edge.{Edge}
-use Rattle.art_kinds.proofs.Pairs.{drop-paired, drop-past, length-paired, edge}
+use Rattle.art_kinds.proofs.Pairs.{drop-paired, length-paired, edge}
 use Rattle.art_kinds.proofs.records.few.after_in.Goals as goal
 
 pub returns-then-byte-bytes : goal.returns-then-byte-bytes
@@ -29,4 +30,4 @@ returns c =
     let p = paired c.args.bytes.now c.args.children.now in
     let l = length-paired c.args.bytes.now c.args.children.now c.requires in
     let past : length p ≤ c.loop-i.i = omega (arith, l, c.loop-i-test.false) in
-    sym (c.loop-i.invariant ∙ ap (λ (z : List Edge). after z c.args.byte) (drop-past p c.loop-i.i past))
+    sym (c.loop-i.invariant ∙ ap (λ (z : List Edge). after z c.args.byte) (drop_all c.loop-i.i p past))

@@ -1,9 +1,10 @@
 use Rattle.std.proofs.Common.{◌≡◌, ◌≤◌, ◌∙◌, List, length, get_or, Some, eqb, true, false, eq-eqb, refl, ap, sym, arith, add-one}
+use Rattle.std.proofs.lemmas.List.{drop_all}
 use Rattle.std.proofs.lemmas.Bool.{ne_eqb}
 use Rattle.art_kinds.specs.Edges.{child_at, paired}
 use Rattle.art_kinds.specs.declared.records.ids.Child.TheVariants.{Leaf}
 use Rattle.art_kinds.specs.declared.records.ids.Edge.{Edge}
-use Rattle.art_kinds.proofs.Pairs.{drop-paired, drop-past, length-paired}
+use Rattle.art_kinds.proofs.Pairs.{drop-paired, length-paired}
 use Rattle.art_kinds.proofs.records.few.find_in.Goals as goal
 
 pub returns-then-bytes-i : goal.returns-then-bytes-i
@@ -27,4 +28,4 @@ returns c =
     let p = paired c.args.bytes.now c.args.children.now in
     let l = length-paired c.args.bytes.now c.args.children.now c.requires in
     let past : length p ≤ c.loop-i.i = omega (arith, l, c.loop-i-test.false) in
-    sym (c.loop-i.invariant ∙ ap (λ (z : List Edge). child_at z c.args.byte) (drop-past p c.loop-i.i past))
+    sym (c.loop-i.invariant ∙ ap (λ (z : List Edge). child_at z c.args.byte) (drop_all c.loop-i.i p past))

@@ -1,14 +1,9 @@
-use Rattle.std.proofs.Common.{◌≡◌, ℕ, zero, suc, List, [], ◌∷◌, ◌++◌, ◌+◌, ◌-◌, ◌<◌, ◌≤◌, length, take, drop, set, refl, ap, sym, append_assoc, ◌∙◌, arith}
+use Rattle.std.proofs.Common.{◌≡◌, ℕ, suc, List, [], ◌∷◌, ◌++◌, ◌+◌, ◌-◌, ◌<◌, ◌≤◌, length, take, drop, set, refl, ap, sym, append_assoc, ◌∙◌, arith}
 use Rattle.std.proofs.Math.Seq.{take-append-add}
-use Rattle.std.proofs.lemmas.List.{take-take, length-take-le, length-set, length-drop}
+use Rattle.std.proofs.lemmas.List.{take-take, length-take-le, length-set, length-drop, take_more_set}
 use Rattle.std.proofs.lemmas.Slice.{take-put_mid}
 use borrow.Rule.Slice.PartMut.{put_mid}
 use Rattle.art_kinds.proofs.records.nodes.append.Goals as goal
-
-take_set : (to : List ℕ) (i b : ℕ) → i < length to → take (suc i) (set to i b) ≡ take i to ++ b ∷ []
-take_set [] i b l = absurd (omega arith)
-take_set (x ∷ to) zero b l = refl
-take_set (x ∷ to) (suc i) b l = ap (λ (t : List ℕ). x ∷ t) (take_set to i b (omega arith))
 
 take_after : (xs ys : List ℕ) (a n : ℕ) → length xs ≡ a → take (a + n) (xs ++ ys) ≡ xs ++ take n ys
 take_after xs ys a n e = ap (λ (k : ℕ). take (k + n) (xs ++ ys)) (sym e) ∙ take-append-add xs ys n
@@ -18,9 +13,8 @@ written : (to ys rest : List ℕ) (used n b k : ℕ) → used < length to → n 
 written to ys rest used n b k lt le e =
     let xs : List ℕ = set to used b in
     let l : length (set to used b) ≡ length to = length-set to used b in
-    let one : used + 1 ≡ suc used = omega arith in
     let m : used + suc (length to - (used + 1)) ≡ length to = omega arith in
-    let front : take (used + 1) (set to used b) ≡ take used to ++ b ∷ [] = ap (λ (i : ℕ). take i (set to used b)) one ∙ take_set to used b lt in
+    let front : take (used + 1) (set to used b) ≡ take used to ++ b ∷ [] = take_more_set to used b lt in
     sym (take-take (used + 1 + n) (used + 1 + length ys) (put_mid (used + 1) k (set to used b) ys) (omega arith))
     ∙ ap (λ (t : List ℕ). take (used + 1 + n) t) (take-put_mid (used + 1) k (set to used b) ys (used + 1 + length ys) refl (omega arith))
     ∙ take_after (take (used + 1) (set to used b)) ys (used + 1) n (length-take-le (used + 1) (set to used b) (omega arith))

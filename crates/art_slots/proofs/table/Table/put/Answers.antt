@@ -1,5 +1,4 @@
-use Rattle.std.proofs.Common.{◌≡◌, ◌+◌, Some, None, get_or, map, length, count_by, is_some, ap, sym, subst, ◌∙◌, arith}
-use Rattle.art_slots.specs.Store.{Store, slot_at}
+use Rattle.std.proofs.Common.{◌≡◌, None, get_or, map, ap, arith}
 use Rattle.art_slots.specs.Table.{held}
 use Rattle.art_slots.specs.declared.table.Cell.TheVariants.{Full}
 use Rattle.art_slots.proofs.StoreSlots.{one}

@@ -1,6 +1,6 @@
-use Rattle.std.proofs.Common.{◌≡◌, ◌+◌, Some, None, get_or, map, count_by, is_some, ap, sym, ◌∙◌, arith}
+use Rattle.std.proofs.Common.{◌≡◌, Some, None, get_or, map, ap, sym, ◌∙◌, arith}
 use Rattle.art_slots.specs.Table.{held}
-use Rattle.art_slots.specs.declared.table.Cell.TheVariants.{Full, Empty}
+use Rattle.art_slots.specs.declared.table.Cell.TheVariants.{Empty}
 use Rattle.art_slots.proofs.StoreSlots.{one}
 use Rattle.art_slots.proofs.Cells.{has_cell, at-held, now-cell, others-cell, count-cell}
 use Rattle.art_slots.proofs.table.Table.take.Goals as goal

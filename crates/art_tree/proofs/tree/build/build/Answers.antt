@@ -6,10 +6,11 @@ use Rattle.art_kinds.specs.declared.records.ids.Child.TheVariants.{Leaf}
 use Rattle.art_tree.specs.declared.tree.build.LooseEdge.{LooseEdge}
 use Rattle.art_tree.specs.Calls.Building.{IsPart, IsTurn, count_after}
 use Rattle.art_tree.proofs.Pairs.Keys.{key_read}
-use Rattle.art_tree.proofs.Pairs.Turns.{no_first, none_begins, turn_last, turn_next, after_has, later, in_key, in_next, rises, first_least, counts_first, counts_down}
+use Rattle.art_tree.proofs.Pairs.Turns.{none_begins, turn_last, turn_next, after_has, later, in_key, in_next, rises, first_least, counts_first, counts_down}
 use Rattle.art_tree.proofs.Invariant.Built.{part_first, part_next, shape_closed}
 use Rattle.art_tree.proofs.Invariant.Soundness.{sound_empty}
 use Rattle.art_tree.proofs.tree.build.build.Goals as goal
+use Rattle.art_rows.proofs.CallerLemmas.{no_first}
 
 pub over-init : goal.over-init
 over-init g c =

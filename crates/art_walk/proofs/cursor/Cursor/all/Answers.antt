@@ -1,5 +1,6 @@
 use Rattle.std.proofs.Common.{sym}
-use Rattle.art_walk.proofs.Steps.{cut_fits, cut_left, nothing_is, all_cut, no_last}
+use Rattle.art_tree.proofs.CallerLemmas.{no_last}
+use Rattle.art_walk.proofs.Steps.{cut_fits, cut_left, nothing_is, all_cut}
 use Rattle.art_walk.proofs.cursor.Cursor.all.Goals as goal
 
 pub returns-in_default-last-clause-left : goal.returns-in_default-last-clause-left

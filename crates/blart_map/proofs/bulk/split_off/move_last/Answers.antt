@@ -4,8 +4,7 @@ use Rattle.blart_keys.specs.Steps.{bytes}
 use Rattle.blart_keys.proofs.Mapped.{content_map}
 use Rattle.art_tree.specs.Content.{room}
 use Rattle.art_walk.specs.Pairs.{pairs_of}
-use Rattle.art_walk.proofs.Steps.{no_last}
-use Rattle.art_tree.proofs.CallerLemmas.{length-without_number, Has-last}
+use Rattle.art_tree.proofs.CallerLemmas.{length-without_number, Has-last, no_last}
 use Rattle.blart_map.proofs.Placed.Inserting.{alone_no_conflict, alone_absent}
 use Rattle.blart_map.proofs.Moved.Moving.{before_unrelated, put_front}
 use Rattle.blart_map.proofs.Numbers.{last_pair}

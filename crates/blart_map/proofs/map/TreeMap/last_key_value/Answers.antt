@@ -1,8 +1,7 @@
 use Rattle.std.proofs.Common.{◌≡◌, ◌∙◌, [], refl, ap, sym, lit<, length, slice_get, ◌-◌}
 use Rattle.art_tree.specs.Leaves.{without_number}
-use Rattle.art_tree.proofs.CallerLemmas.{Has-last}
+use Rattle.art_tree.proofs.CallerLemmas.{Has-last, no_last}
 use Rattle.art_walk.specs.Pairs.{pairs_of}
-use Rattle.art_walk.proofs.Steps.{no_last}
 use Rattle.blart_keys.proofs.StoredLemmas.{stored_at}
 use Rattle.blart_map.specs.Content.{pairs}
 use Rattle.blart_map.proofs.Numbers.{whole_pairs, last_pair, slice_get-last}

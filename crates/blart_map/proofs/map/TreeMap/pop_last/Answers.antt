@@ -1,7 +1,6 @@
 use Rattle.std.proofs.Common.{◌≡◌, ◌∙◌, List, [], length, length-append, ap, sym, lit<}
-use Rattle.art_tree.proofs.CallerLemmas.{Has-last}
+use Rattle.art_tree.proofs.CallerLemmas.{Has-last, no_last}
 use Rattle.art_walk.specs.Pairs.{pairs_of}
-use Rattle.art_walk.proofs.Steps.{no_last}
 use Rattle.blart_keys.proofs.StoredLemmas.{takes_last}
 use Rattle.blart_map.specs.Content.{pairs}
 use Rattle.blart_map.proofs.Numbers.{last_pair, whole_pairs}

@@ -1,9 +1,9 @@
-use Rattle.std.proofs.Common.{Some, sym, refl, ap, suc, length, ◌∙◌}
+use Rattle.std.proofs.Common.{Some, sym, refl, ap, suc, length, ◌∙◌, le_of_eq}
 use Rattle.art_walk.specs.Cursor.{leaves_left}
 use Rattle.art_walk.specs.Lent.{numbers, run_written}
 use Rattle.art_walk.specs.Pairs.{pairs_of}
 use Rattle.art_walk.proofs.Along.{none_follow}
-use Rattle.art_walk.proofs.Asking.{written_fits, written_left, written_distinct, le_eq}
+use Rattle.art_walk.proofs.Asking.{written_fits, written_left, written_distinct}
 use Rattle.art_walk.proofs.Passing.{first_passed, first_named}
 use Rattle.blart_map.specs.EachWritten.{LeavesPair, TakesAtPair}
 use Rattle.blart_map.proofs.Written.CallableInTurn.{callable_first, callable_others}
@@ -28,7 +28,7 @@ leaves-smaller g c =
     let y : g.row.K.Denot × g.row.V.Denot = (lv.0.now, lv.1.now) in
     let lacks = first_passed ps c.leaves.invariant.2 c.leaves.cursor c.step_along.new.cursor c.leaves.invariant.1 c.in-Some.ensures.fits c.in-Some.id y c.leaf_mut-value.ensures.value c.in-Some.ensures.passes in
     let named = first_named ps c.leaves.invariant.2 c.leaves.cursor c.step_along.new.cursor c.leaves.invariant.1 c.in-Some.ensures.fits c.in-Some.id y c.leaf_mut-value.ensures.value c.in-Some.ensures.passes in
-    le_eq _ _ (ap suc (ap length (written_left ps c.leaves.invariant.2 c.step_along.new.cursor c.in-Some.ensures.fits c.in-Some.id y c.f.new.arg3 lacks)) ∙ sym (ap length named))
+    le_of_eq (ap suc (ap length (written_left ps c.leaves.invariant.2 c.step_along.new.cursor c.in-Some.ensures.fits c.in-Some.id y c.f.new.arg3 lacks)) ∙ sym (ap length named))
 
 pub leaves-preserved : goal.leaves-preserved
 leaves-preserved g c =

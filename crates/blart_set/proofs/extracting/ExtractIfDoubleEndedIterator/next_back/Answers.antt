@@ -1,11 +1,11 @@
-use Rattle.std.proofs.Common.{◌∷◌, length, suc, reverse, sym, ap, subst, ◌∙◌, lit<, None, refl}
+use Rattle.std.proofs.Common.{◌∷◌, length, suc, reverse, sym, ap, subst, ◌∙◌, lit<, None, refl, le_of_eq}
 use Rattle.std.specs.Fn.{CalledAt}
 use Rattle.blart_keys.specs.Content.{without}
 use Rattle.art_walk.specs.Cursor.{leaves_left}
 use Rattle.art_walk.proofs.Lending.{from_test, to_test}
 use Rattle.blart_set.specs.Elements.{elements}
 use Rattle.blart_set.proofs.Callable.{callable_first, callable_others}
-use Rattle.blart_set.proofs.Extracted.{called_at, asks_none, asks_true, asks_false, elements_none, same_element, last_is, le_step, lt_step, le_eq, reversed_fewer}
+use Rattle.blart_set.proofs.Extracted.{called_at, asks_none, asks_true, asks_false, elements_none, same_element, last_is, le_step, lt_step, reversed_fewer}
 use Rattle.blart_set.proofs.extracting.ExtractIfDoubleEndedIterator.next_back.Goals as goal
 
 pub step_back-requires : goal.step_back-requires
@@ -67,7 +67,7 @@ pub loop-id-smaller : goal.loop-id-smaller
 loop-id-smaller g c =
     let at = c.loop-id.self in
     let splits = last_is at.set.now c.in-Some.id c.element.result.now c.element.ensures at.cursor c.step_back.new.cursor c.in-Some.ensures.last in
-    le_eq _ _ (reversed_fewer _ _ _ splits)
+    le_of_eq (reversed_fewer _ _ _ splits)
 
 pub loop-id-preserved : goal.loop-id-preserved
 loop-id-preserved g c =

@@ -1,11 +1,11 @@
-use Rattle.std.proofs.Common.{◌∷◌, length, suc, sym, ap, subst, ◌∙◌, lit<, None, refl}
+use Rattle.std.proofs.Common.{◌∷◌, length, suc, sym, ap, subst, ◌∙◌, lit<, None, refl, le_of_eq}
 use Rattle.std.specs.Fn.{CalledAt}
 use Rattle.blart_keys.specs.Content.{without}
 use Rattle.art_walk.specs.Cursor.{leaves_left}
 use Rattle.art_walk.proofs.Lending.{from_test, to_test}
 use Rattle.blart_set.specs.Elements.{elements}
 use Rattle.blart_set.proofs.Callable.{callable_first, callable_others}
-use Rattle.blart_set.proofs.Extracted.{called_at, asks_none, asks_true, asks_false, elements_none, same_element, first_is, le_step, lt_step, le_eq}
+use Rattle.blart_set.proofs.Extracted.{called_at, asks_none, asks_true, asks_false, elements_none, same_element, first_is, le_step, lt_step}
 use Rattle.blart_set.proofs.extracting.ExtractIfIterator.next.Goals as goal
 
 pub step-requires : goal.step-requires
@@ -67,7 +67,7 @@ pub loop-id-smaller : goal.loop-id-smaller
 loop-id-smaller g c =
     let at = c.loop-id.self in
     let splits = first_is at.set.now c.in-Some.id c.element.result.now c.element.ensures at.cursor c.step.new.cursor c.in-Some.ensures.first in
-    le_eq _ _ (sym (ap length splits))
+    le_of_eq (sym (ap length splits))
 
 pub loop-id-preserved : goal.loop-id-preserved
 loop-id-preserved g c =

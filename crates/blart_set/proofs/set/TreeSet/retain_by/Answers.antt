@@ -1,4 +1,4 @@
-use Rattle.std.proofs.Common.{◌∙◌, refl, sym, ap, subst, suc, length, true}
+use Rattle.std.proofs.Common.{◌∙◌, refl, sym, ap, subst, suc, length, true, le_of_eq}
 use Rattle.blart_keys.specs.Content.{IsContent, without}
 use Rattle.blart_keys.proofs.RankLemmas.{filter_all}
 use Rattle.blart_keys.proofs.PutLemmas.{without_content}
@@ -6,7 +6,7 @@ use Rattle.art_walk.specs.Cursor.{leaves_left}
 use Rattle.blart_set.specs.Asking.{AsksElement, CallableOnEachElement}
 use Rattle.blart_set.specs.Elements.{elements}
 use Rattle.blart_set.proofs.Callable.{callable_first, callable_others}
-use Rattle.blart_set.proofs.Extracted.{called_at, same_element, first_is, elements_none, le_eq}
+use Rattle.blart_set.proofs.Extracted.{called_at, same_element, first_is, elements_none}
 use Rattle.blart_set.proofs.Keeping.{Retaining, retaining_start, retaining_end, retaining_kept, retaining_gone}
 use Rattle.blart_set.proofs.set.TreeSet.retain_by.Goals as goal
 
@@ -29,7 +29,7 @@ f-requires g c =
     callable_first g.F.FnMut c.elements.f x (elements (leaves_left c.elements.cursor ps)) (elements (leaves_left new ps)) splits c.elements.invariant.0 c.element.result refl
 
 pub elements-smaller-then-f : goal.elements-smaller-then-f
-elements-smaller-then-f g c = le_eq _ _ (sym (ap length c.in-Some.ensures.first.splits))
+elements-smaller-then-f g c = le_of_eq (sym (ap length c.in-Some.ensures.first.splits))
 
 pub elements-preserved-then-f : goal.elements-preserved-then-f
 elements-preserved-then-f g c =
@@ -48,7 +48,7 @@ pub elements-smaller : goal.elements-smaller
 elements-smaller g c =
     let first = c.in-Some.ensures.first in
     let stays = c.take_element-element.ensures.left c.step.new.cursor c.in-Some.ensures.fits first.passed in
-    le_eq _ _ (ap suc (ap length stays.1) ∙ sym (ap length first.splits))
+    le_of_eq (ap suc (ap length stays.1) ∙ sym (ap length first.splits))
 
 pub elements-preserved : goal.elements-preserved
 elements-preserved g c =

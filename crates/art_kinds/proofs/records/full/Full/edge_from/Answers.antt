@@ -1,6 +1,6 @@
 use Rattle.std.proofs.Common.{◌<◌, ◌≤◌, None, Some, length, sym, ◌∙◌, arith}
+use Rattle.std.proofs.lemmas.List.{get_or_default}
 use Rattle.art_kinds.specs.Edges.{IsFrom, edges_of}
-use Rattle.art_kinds.proofs.EdgeShifts.{get_or-any}
 use Rattle.art_kinds.proofs.Tables.{from-some, from-none}
 use Rattle.art_kinds.proofs.records.full.Full.edge_from.Goals as goal
 
@@ -9,7 +9,7 @@ returns-in-Some c =
     let t = c.self.inside.children in
     let i = c.loop-next.next in
     let l : i < length t = omega (arith, c.loop-next-test.true, c.self.invariant.wide) in
-    let h : IsFrom (edges_of t) c.args.start (Some (record { byte = i; to = c.in-Some.to })) = from-some t c.args.start i c.in-Some.to c.loop-next.auto.next (get_or-any t i None _ l ∙ sym c.child.ensures ∙ c.in-Some.is) c.loop-next.invariant in
+    let h : IsFrom (edges_of t) c.args.start (Some (record { byte = i; to = c.in-Some.to })) = from-some t c.args.start i c.in-Some.to c.loop-next.auto.next (get_or_default t i None _ l ∙ sym c.child.ensures ∙ c.in-Some.is) c.loop-next.invariant in
     rw (← c.self.view_is) h
 
 pub returns : goal.returns

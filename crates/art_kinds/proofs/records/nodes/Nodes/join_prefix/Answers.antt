@@ -1,5 +1,5 @@
-use Rattle.std.proofs.Common.{◌≡◌, ◌∙◌, ℕ, zero, suc, List, [], ◌∷◌, ◌++◌, Some, take, length, replicate, ap, sym, refl, subst}
-use Rattle.std.proofs.lemmas.List.{length-replicate}
+use Rattle.std.proofs.Common.{◌≡◌, ◌∙◌, ℕ, zero, suc, List, [], ◌∷◌, ◌++◌, Some, take, length, replicate, ap, sym, refl, subst, arith}
+use Rattle.std.proofs.lemmas.List.{length-replicate, take-take}
 use Rattle.art_kinds.specs.Nodes.{Node, at, Reprefixes}
 use Rattle.art_kinds.proofs.records.nodes.Nodes.join_prefix.Goals as goal
 
@@ -8,11 +8,6 @@ take_front : (n : ℕ) (xs ys : List ℕ) → take n (take n xs ++ ys) ≡ take 
 take_front zero xs ys = refl
 take_front (suc n) [] ys = refl
 take_front (suc n) (x ∷ xs) ys = ap (λ (t : List ℕ). x ∷ t) (take_front n xs ys)
-
-take_twice : (n : ℕ) (xs : List ℕ) → take n (take n xs) ≡ take n xs
-take_twice zero xs = refl
-take_twice (suc n) [] = refl
-take_twice (suc n) (x ∷ xs) = ap (λ (t : List ℕ). x ∷ t) (take_twice n xs)
 
 pub returns-clause-joined : goal.returns-clause-joined
 returns-clause-joined g c = λ x y x_is y_is.
@@ -34,4 +29,4 @@ returns-clause-joined g c = λ x y x_is y_is.
     ∙ ap (λ (t : List ℕ). take P (t ++ b ∷ c.prefix-rest.result.now)) start
     ∙ ap (λ (t : List ℕ). take P (take P y.prefix ++ b ∷ t)) rest
     ∙ take_front P y.prefix (b ∷ x.prefix) in
-    subst (λ (t : List ℕ). Reprefixes (at c.args.self.now) (at c.set_prefix.new.self) c.args.id t) (ap (λ (t : List ℕ). take P t) all ∙ take_twice P (y.prefix ++ b ∷ x.prefix)) c.set_prefix.ensures.set
+    subst (λ (t : List ℕ). Reprefixes (at c.args.self.now) (at c.set_prefix.new.self) c.args.id t) (ap (λ (t : List ℕ). take P t) all ∙ take-take P P (y.prefix ++ b ∷ x.prefix) (omega arith)) c.set_prefix.ensures.set

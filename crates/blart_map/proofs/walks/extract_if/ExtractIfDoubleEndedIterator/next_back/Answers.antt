@@ -1,11 +1,11 @@
-use Rattle.std.proofs.Common.{◌∙◌, ap, subst, lit<, List, reverse, length, suc, Some, None, refl}
+use Rattle.std.proofs.Common.{◌∙◌, ap, subst, lit<, List, reverse, length, suc, Some, None, refl, le_of_eq}
 use Rattle.art_tree.specs.Leaves.{Numbered, with_value}
 use Rattle.art_walk.specs.Cursor.{leaves_left}
 use Rattle.art_walk.specs.Pairs.{pairs_of}
 use Rattle.art_walk.proofs.Callable.{callable_first, callable_others}
 use Rattle.art_walk.proofs.Lending.{from_test, moved_last}
 use Rattle.blart_map.specs.ExtractIf.{ExtractsFirstTrue, stands_at}
-use Rattle.blart_map.proofs.Taken.Extracting.{le_eq, le_step, lt_step, has_with, is_removed, is_result, distinct_with, back_splits, back_fewer, back_same, back_test, back_same_removed, back_test_removed, called_at, extracts_true, extracts_false}
+use Rattle.blart_map.proofs.Taken.Extracting.{le_step, lt_step, has_with, is_removed, is_result, distinct_with, back_splits, back_fewer, back_same, back_test, back_same_removed, back_test_removed, called_at, extracts_true, extracts_false}
 use Rattle.blart_map.proofs.walks.extract_if.ExtractIfDoubleEndedIterator.next_back.Goals as goal
 
 pub step_back-requires : goal.step_back-requires
@@ -58,7 +58,7 @@ returns-then-pred-clause-goes g c =
 pub loop-id-smaller : goal.loop-id-smaller
 loop-id-smaller g c =
     let at = c.loop-id.self in
-    le_eq _ _ (ap suc (ap length (back_same at.map.now c.loop-id.invariant.2 at.cursor c.step_back.new.cursor at.fits c.in-Some.ensures.fits c.in-Some.id c.leaf_mut-value.result.0.now c.leaf_mut-value.result.1.now c.pred.new.arg3 c.leaf_mut-value.ensures.value c.in-Some.ensures.passes)) ∙ back_fewer at.map.now c.loop-id.invariant.2 at.cursor c.step_back.new.cursor at.fits c.in-Some.ensures.fits c.in-Some.id c.leaf_mut-value.result.0.now c.leaf_mut-value.result.1.now c.pred.new.arg3 c.leaf_mut-value.ensures.value c.in-Some.ensures.passes)
+    le_of_eq (ap suc (ap length (back_same at.map.now c.loop-id.invariant.2 at.cursor c.step_back.new.cursor at.fits c.in-Some.ensures.fits c.in-Some.id c.leaf_mut-value.result.0.now c.leaf_mut-value.result.1.now c.pred.new.arg3 c.leaf_mut-value.ensures.value c.in-Some.ensures.passes)) ∙ back_fewer at.map.now c.loop-id.invariant.2 at.cursor c.step_back.new.cursor at.fits c.in-Some.ensures.fits c.in-Some.id c.leaf_mut-value.result.0.now c.leaf_mut-value.result.1.now c.pred.new.arg3 c.leaf_mut-value.ensures.value c.in-Some.ensures.passes)
 
 pub loop-id-preserved : goal.loop-id-preserved
 loop-id-preserved g c =
