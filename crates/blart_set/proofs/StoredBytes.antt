@@ -37,8 +37,8 @@ module _ {K V : Type 0} (kb : K → List ℕ) where
       by false = refl
 
   pub routed-keys : {A E : Type 0} (S S' : List (K × V)) (x : K × V) (a : Result A E)
-    → OnOk a ((r : List ℕ) → pair_at_front kb S' r ≡ (if begins (kb x.0) r then Some x else spared_item (bytes kb) (kb x.0) (pair_at_front kb S r)))
-    → OnOk a ((r : List ℕ) → front_of kb (keys kb S') r ≡ (if begins (kb x.0) r then Some x.0 else spared_item kb (kb x.0) (front_of kb (keys kb S) r)))
+      → OnOk a ((r : List ℕ) → pair_at_front kb S' r ≡ (if begins (kb x.0) r then Some x else spared_item (bytes kb) (kb x.0) (pair_at_front kb S r)))
+      → OnOk a ((r : List ℕ) → front_of kb (keys kb S') r ≡ (if begins (kb x.0) r then Some x.0 else spared_item kb (kb x.0) (front_of kb (keys kb S) r)))
   unfolding pair_at_front
   routed-keys S S' x (Ok a) routes = λ r.
       front-keys kb S' r ∙ ap (option_map (λ p. p.0)) (routes r) ∙ by (begins (kb x.0) r) (spared_item (bytes kb) (kb x.0) (front_of (bytes kb) S r))
@@ -52,8 +52,8 @@ module _ {K V : Type 0} (kb : K → List ℕ) where
   -- ---- two sets made one, and one made two
 
   pub appended-stores : {A E : Type 0} (S T S' : List (K × V)) (a : Result A E)
-    → OnOk a ((q : List ℕ) → pair_at kb S' q ≡ or_else (pair_at kb T q) (pair_at kb S q))
-    → OnOk a ((q : List ℕ) → stores kb (keys kb S') q ≡ (stores kb (keys kb T) q || stores kb (keys kb S) q))
+      → OnOk a ((q : List ℕ) → pair_at kb S' q ≡ or_else (pair_at kb T q) (pair_at kb S q))
+      → OnOk a ((q : List ℕ) → stores kb (keys kb S') q ≡ (stores kb (keys kb T) q || stores kb (keys kb S) q))
   appended-stores S T S' (Ok a) found = λ q. rw (stored T q, stored S q) (stored S' q ∙ ap (λ o. is_some o) (found q) ∙ either (pair_at kb T q) (pair_at kb S q))
     where
       either : (o p : Option (K × V)) → is_some (or_else o p) ≡ (is_some o || is_some p)

@@ -1,5 +1,5 @@
 -- What a closure that shows a state leaves, called at one value after the other.
-use Rattle.std.proofs.Common.{◌≡◌, Bool, true, false, List, [], ◌∷◌, filter, cond, if◌then◌else◌, ap, ◌∙◌, refl, sym}
+use Rattle.std.proofs.Common.{◌≡◌, Bool, true, false, List, [], ◌∷◌, filter, cond, if◌then◌else◌, ap, ◌∙◌, refl}
 use Rattle.blart_map.specs.EachWritten.{CalledAtEach, with_values, with_values_where, WritesEach, WritesWhere}
 
 -- the pairs with the values that a state and the pair give, where each pair changes the state
