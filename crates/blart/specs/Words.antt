@@ -6,6 +6,8 @@ pub use Rattle.blart_keys.specs.Bytes.{begins, related, less, common}
 -- what a map has at some bytes; the first three stay closed in proofs
 unfoldable pub use Rattle.blart_keys.specs.Stored.{pair_at, pair_at_front, overlaps}
 pub use Rattle.blart_keys.specs.Stored.{value_at, value_at_front, has, kept_key, kept_pair, kept_item, kept, shown, Updates, HasNothing, TakesPair, Overwrites, WritesAt, WritesAtFront, Refuses, CanCount}
+-- where a query goes once a pair took the place of others, and what overlaps once one was put
+pub use Rattle.blart_map.specs.Routed.{spared_item, OverlapsToo}
 -- a map as a list of pairs: without the numbers under which they stand, closed in proofs
 unfoldable pub use Rattle.blart_map.specs.Content.{pairs}
 pub use Rattle.blart_map.specs.Content.{Numbered}
@@ -28,7 +30,7 @@ pub use Rattle.blart_keys.specs.Walks.{TakesFirst, TakesLast, Walked}
 -- what a closure was asked, and which items it kept
 pub use Rattle.blart_keys.specs.Walks.{Asked, picked, Retains, AsksPair}
 -- what a walk that lends has left, and what the map will be
-pub use Rattle.blart_map.specs.LendingWalk.{lending_left}
+pub use Rattle.blart_map.specs.LendingWalk.{lending_left, LendsWhere}
 pub use Rattle.blart_map.specs.CountedWalk.{counted_left, LendsAll}
 pub use Rattle.blart_map.specs.TakeWalk.{take_left, LentFirst, LentLast, NoneLent}
 -- a cursor, which holds no map: what it has left, what it passes, and what it keeps where a pair goes
@@ -40,10 +42,10 @@ pub use Rattle.blart_map.specs.OnceTaken.{taken_all, once_taken, still_to_take, 
 pub use Rattle.blart_map.specs.ExtractIf.{extract_left, CanExtract, CanExtractBack, Extraction, ExtractsFirstTrue, ExtractsNext, ExtractsNextBack}
 pub use Rattle.blart_map.specs.OnceWritten.{rewritten, all_rewritten, once_written, all_once_written}
 -- what a closure leaves that is called at each value
-pub use Rattle.blart_map.specs.EachWritten.{CalledAtEach, CallableInTurn, with_values, WritesEach, WritesLeft, LeavesValue, TakesAtValue, LeavesPair, TakesAtPair, ActsOnValue, ActsOnPair, ActsWhere}
+pub use Rattle.blart_map.specs.EachWritten.{CalledAtEach, CallableInTurn, with_values, with_values_where, WritesEach, WritesWhere, WritesLeft, LeavesValue, TakesAtValue, LeavesPair, TakesAtPair, ActsOnValue, ActsOnPair, ActsWhere}
 -- a set as a list of elements, closed in proofs, and merges of two
 unfoldable pub use Rattle.blart_set.specs.Elements.{elements}
-pub use Rattle.blart_set.specs.Elements.{RefusesElement, UpdatesElement}
+pub use Rattle.blart_set.specs.Elements.{RefusesElement, UpdatesElement, OverwritesElement}
 pub use Rattle.blart_set.specs.Merging.{Merge, MergeProgresses, IsBeginning, Counts, union_rest, symmetric_difference_rest, intersection_rest, difference_rest}
 pub use Rattle.blart_keys.specs.Merges.{IsUnion, IsSymmetricDifference, intersection, difference}
 -- a closure asked of an element

@@ -3,6 +3,9 @@
 pub use Rattle.blart_keys.proofs.StoredLemmas.{stores_is, pair_at-bytes, pair_at_front-begins, pair_at_front-at, before_agrees, pair_at-member, stored_at, nothing_stored}
 -- what a list has at some bytes after a change
 pub use Rattle.blart_keys.proofs.StoredLemmas.{updates_put, len_put, before_put, overwrites_over, before_over, updates_without, len_without, takes_first, takes_last, writes_at, writes_before}
+-- where a query goes once a pair was put over the related ones; what overlaps beside a stored key, and after an update
+pub use Rattle.blart_map.proofs.Overwritten.{routes_over}
+pub use Rattle.blart_map.proofs.Overlapped.{overlaps_near, overlaps_apart, overlaps_put}
 -- what came from both ends of a walk
 pub use Rattle.blart_keys.proofs.WalkLemmas.{walked_start, walked_first, walked_last, walked_end}
 -- a map parted in two, and joined again
@@ -20,4 +23,4 @@ pub use Rattle.blart_map.proofs.Written.CallableInTurn.{callable_on_each_value, 
 -- one step of a walk that extracts, where its closure tells of the pair alone; and the map that it leaves
 pub use Rattle.blart_map.proofs.Taken.OnceExtracted.{extracted, one_out}
 -- the values that a closure leaves which shows a state
-pub use Rattle.blart_map.proofs.Written.WrittenInTurn.{valued_by, valued_by_each}
+pub use Rattle.blart_map.proofs.Written.WrittenInTurn.{valued_by, valued_by_each, valued_where, valued_where_each}

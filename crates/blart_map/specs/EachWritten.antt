@@ -1,5 +1,5 @@
 -- What a walk that lends values leaves, where a closure is called at each of them.
-use Rattle.std.specs.Prelude.{◌≡◌, ℕ, List, [], ◌∷◌, ◌++◌, Bool, true, false}
+use Rattle.std.specs.Prelude.{◌≡◌, ℕ, List, [], ◌∷◌, ◌++◌, Bool, true, false, filter, if◌then◌else◌}
 use Rattle.std.specs.Fn.{Takes}
 use Rattle.std.specs.List.{FoldsTo}
 use denote.Ref.{Bor, MutBor}
@@ -29,6 +29,12 @@ module _ {K V : Type 0} where
   with_values (w ∷ values) (x ∷ xs) = (x.0, w) ∷ with_values values xs
   with_values _ _ = []
 
+  -- these pairs, of which those that pass the test have these values in turn
+  abbrev pub with_values_where : (K × V → Bool) → List V → List (K × V) → List (K × V)
+  with_values_where test values [] = []
+  with_values_where test [] (x ∷ xs) = x ∷ with_values_where test [] xs
+  with_values_where test (w ∷ values) (x ∷ xs) = if test x then (x.0, w) ∷ with_values_where test values xs else x ∷ with_values_where test (w ∷ values) xs
+
   -- the list, once the pairs that are left have these values
   abbrev pub written_with : List V → List (Numbered K V) → List (Numbered K V) → List (Numbered K V)
   written_with (w ∷ values) (p ∷ left) ps = written_with values left (with_value ps p.0 w)
@@ -48,6 +54,13 @@ module _ {F K V : Type 0} (R : F → K × V → V → F → Type 0) where
     pub after : F
     pub called : CalledAtEach R old f values after
     pub written : new ≡ with_values values old
+
+  -- the same where the pairs were left that pass the test: the others stand
+  pub record WritesWhere (test : K × V → Bool) (old : List (K × V)) (f : F) (new : List (K × V)) : Type 0 where
+    pub values : List V
+    pub after : F
+    pub called : CalledAtEach R (filter test old) f values after
+    pub written : new ≡ with_values_where test values old
 
 -- ---- a closure of the value alone
 

@@ -1,5 +1,5 @@
 -- What contracts see of a walk over some pairs of a map that lends their values.
-use Rattle.std.specs.Prelude.{◌≡◌, ℕ, List, [], Option}
+use Rattle.std.specs.Prelude.{◌≡◌, ℕ, List, [], Option, Bool, filter}
 use Rattle.std.specs.Option.{ForSome, ForNone}
 use Rattle.std.specs.Borrow.{Fml, RattleType, Bor, MutBor, Lends, LendsSo}
 use mir.Syntax.{named}
@@ -13,6 +13,10 @@ use Rattle.blart_map.specs.contracts.walks.lending_walk.LendingWalk.{the_row}
 -- the pairs whose values are still to be lent
 abbrev pub lending_left : {K V M : Type 0} {p : ℕ} {g : Ghosts K} → LendingWalk K V M p g → List (Numbered K V)
 lending_left s = leaves_left s.cursor s.map.now
+
+-- S is what the map holds, and of it the pairs that pass the test are still to be lent
+abbrev pub LendsWhere : {K V M : Type 0} {p : ℕ} {g : Ghosts K} → LendingWalk K V M p g → (K × V → Bool) → List (Numbered K V) → Type 0
+LendsWhere s test S = (s.map.now ≡ S) × (lending_left s ≡ filter (λ p. test p.1) S)
 
 -- the walk, once the pair lent last has the value w
 abbrev pub lending_with : {K V M : Type 0} {p : ℕ} {g : Ghosts K} → LendingWalk K V M p g → V → LendingWalk K V M p g

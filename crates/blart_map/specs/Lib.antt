@@ -27,4 +27,5 @@ pub mod OnceWritten
 pub mod OnceTaken
 pub mod EachWritten
 pub mod Reserved
+pub mod Routed
 pub mod Within

@@ -4,6 +4,7 @@ ghost use Rattle.blart_keys.specs.Bytes.{begins};
 ghost use Rattle.blart_keys.specs.Steps.{Puts, Inserts};
 ghost use Rattle.blart_keys.specs.Stored.{kept, pair_at, pair_at_front, value_at, has, overlaps, Updates, Refuses};
 ghost use Rattle.blart_map.specs.Content.{pairs};
+ghost use Rattle.blart_map.specs.Routed.{OverlapsToo};
 
 use crate::map::TreeMap;
 use crate::placing::{exchange_at, put_at, put_lawful};
@@ -37,6 +38,8 @@ impl<K: AsBytes + Drop, V: Drop, const PREFIX_LEN: usize> TreeMap<K, V, PREFIX_L
         ensures routes { OnOk result ((r : List ℕ) → pair_at_front K.bytes (pairs self.new) r
             ≡ (if begins (K.bytes key) r then Some (kept K.bytes (pairs self.old) (key, value))
             else pair_at_front K.bytes (pairs self.old) r)) }
+        ensures overlapped { OnOk result
+            (OverlapsToo K.bytes (pairs self.old) (pairs self.new) (K.bytes key)) }
         ensures err { OnErr result (self.new ≡ self.old) }
         ensures free { OnOk result (overlaps K.bytes (pairs self.old) (K.bytes key) ≡ false) }
         ensures why { IfErr result (Refuses K.bytes (pairs self.old) (K.bytes key)) }
@@ -64,6 +67,8 @@ impl<K: AsBytes + Drop, V: Drop, const PREFIX_LEN: usize> TreeMap<K, V, PREFIX_L
         ensures routes { OnOk result ((r : List ℕ) → pair_at_front K.bytes (pairs self.new) r
             ≡ (if begins (K.bytes key) r then Some (key, value)
             else pair_at_front K.bytes (pairs self.old) r)) }
+        ensures overlapped { OnOk result
+            (OverlapsToo K.bytes (pairs self.old) (pairs self.new) (K.bytes key)) }
         ensures err { OnErr result (self.new ≡ self.old) }
         ensures free { OnOk result (overlaps K.bytes (pairs self.old) (K.bytes key) ≡ false) }
         ensures why { IfErr result (Refuses K.bytes (pairs self.old) (K.bytes key)) }

@@ -1,5 +1,5 @@
 //! An insertion over all related pairs.
-ghost use Rattle.std.specs.Prelude.{◌≡◌, ℕ, List, true, false, OnOk, OnErr, Some};
+ghost use Rattle.std.specs.Prelude.{◌≡◌, ℕ, List, true, false, OnOk, OnErr, Some, if◌then◌else◌};
 ghost use Rattle.blart_keys.specs.Bytes.{begins};
 ghost use Rattle.blart_keys.specs.Content.{IsContent, IsOver};
 ghost use Rattle.blart_keys.specs.Steps.{bytes, PutsOver};
@@ -8,6 +8,7 @@ ghost use Rattle.art_tree.specs.Leaves.{leaf_in, with_pair};
 ghost use Rattle.art_walk.specs.Pairs.{pairs_of};
 ghost use Rattle.blart_map.specs.Content.{pairs};
 ghost use Rattle.blart_map.specs.Spans.{Spans, LeavesOne, thinned};
+ghost use Rattle.blart_map.specs.Routed.{spared_item};
 
 use crate::map::TreeMap;
 use art_tree::{LeafId, Point, Tree};
@@ -32,6 +33,10 @@ impl<K: AsBytes + Drop, V: Drop, const PREFIX_LEN: usize> TreeMap<K, V, PREFIX_L
             (Overwrites K.bytes (pairs self.old) (key, value) (pairs self.new)) }
         ensures fronts { OnOk result ((r : List ℕ) → begins (K.bytes key) r ≡ true
             → pair_at_front K.bytes (pairs self.new) r ≡ Some (key, value)) }
+        ensures routes { OnOk result ((r : List ℕ) → pair_at_front K.bytes (pairs self.new) r
+            ≡ (if begins (K.bytes key) r then Some (key, value)
+            else spared_item (bytes K.bytes) (K.bytes key)
+            (pair_at_front K.bytes (pairs self.old) r))) }
         ensures err { OnErr result (self.new ≡ self.old) }
         ensures free { OnErr result (overlaps K.bytes (pairs self.old) (K.bytes key) ≡ false) }
         ensures absent { OnErr result (has K.bytes (pairs self.old) (K.bytes key) ≡ false) }

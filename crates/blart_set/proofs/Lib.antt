@@ -11,4 +11,5 @@ pub mod Merged
 pub mod Orders
 pub mod Pairs
 pub mod Stepping
+pub mod StoredBytes
 pub mod Tried

@@ -2,6 +2,7 @@
 use Rattle.std.specs.Prelude.{◌≡◌, ◌≢◌, ℕ, Bool, true, false, List, map}
 use Rattle.blart_keys.specs.declared.calls.TryInsertError.{TryInsertError}
 use Rattle.blart_keys.specs.declared.calls.TryInsertError.TheVariants.{Prefix, Memory}
+use Rattle.blart_keys.specs.Bytes.{related}
 use Rattle.blart_keys.specs.Content.{conflict, stores}
 pub use Rattle.blart_map.specs.Content.{Numbered, pairs}
 
@@ -17,3 +18,9 @@ RefusesElement kb S q (Memory e) = (conflict kb S q ≡ false) × (stores kb S q
 -- S' has the bytes q where `there` says so, and of all other bytes those that S has
 abbrev pub UpdatesElement : {K : Type 0} → (K → List ℕ) → List K → List K → List ℕ → Bool → Type 0
 UpdatesElement kb S S' q there = (stores kb S' q ≡ there) × ((r : List ℕ) → r ≢ q → stores kb S' r ≡ stores kb S r)
+
+-- S' has the bytes q, none beside them that are related to q, and of all others those that S has
+pub record OverwritesElement {K : Type 0} (kb : K → List ℕ) (S S' : List K) (q : List ℕ) : Type 0 where
+  pub there : stores kb S' q ≡ true
+  pub gone : (r : List ℕ) → related r q ≡ true → r ≢ q → stores kb S' r ≡ false
+  pub others : (r : List ℕ) → related r q ≡ false → stores kb S' r ≡ stores kb S r

@@ -1,9 +1,11 @@
 //! Insertions.
-ghost use Rattle.std.specs.Prelude.{◌≡◌, ◌+◌, [], true, false, not, length, is_some, OnOk, IfOk, OnErr, IfErr, if◌then◌else◌};
-ghost use Rattle.blart_keys.specs.Content.{at, conflict, stores, subtree, IsPut, IsOver};
+ghost use Rattle.std.specs.Prelude.{◌≡◌, ◌+◌, ℕ, List, [], true, false, not, length, is_some, Some, OnOk, IfOk, OnErr, IfErr, if◌then◌else◌};
+ghost use Rattle.blart_keys.specs.Bytes.{begins};
+ghost use Rattle.blart_keys.specs.Content.{at, conflict, front_of, stores, subtree, IsPut, IsOver};
 ghost use Rattle.blart_keys.specs.Stored.{kept_item, overlaps};
 ghost use Rattle.blart_map.specs.Content.{pairs};
-ghost use Rattle.blart_set.specs.Elements.{elements, RefusesElement, UpdatesElement};
+ghost use Rattle.blart_map.specs.Routed.{spared_item};
+ghost use Rattle.blart_set.specs.Elements.{elements, RefusesElement, UpdatesElement, OverwritesElement};
 ghost use Rattle.std.specs.Option.{is_none};
 ghost use Rattle.std.specs.Result.{result_map_both};
 
@@ -56,6 +58,11 @@ impl<K: AsBytes + Drop, const PREFIX_LEN: usize> TreeSet<K, PREFIX_LEN> {
     pub fn prefix_insert(&mut self, element: K) -> Result<(), AllocError>
         ensures over { OnOk result
             (IsOver K.bytes (elements self.old) element (elements self.new)) }
+        ensures overwrites { OnOk result (OverwritesElement K.bytes (elements self.old)
+            (elements self.new) (K.bytes element)) }
+        ensures routes { OnOk result ((r : List ℕ) → front_of K.bytes (elements self.new) r
+            ≡ (if begins (K.bytes element) r then Some element
+            else spared_item K.bytes (K.bytes element) (front_of K.bytes (elements self.old) r))) }
         ensures err { OnErr result (self.new ≡ self.old) }
         ensures alone { OnErr result
             (subtree K.bytes (elements self.old) (K.bytes element) ≡ []) }

@@ -4,6 +4,7 @@ ghost use Rattle.std.specs.Borrow.{sem};
 ghost use Rattle.blart_keys.specs.Content.{at, conflict, stores, IsPut};
 ghost use Rattle.blart_keys.specs.Stored.{kept_item};
 ghost use Rattle.blart_map.specs.Reserved.{room_leaves};
+ghost use Rattle.blart_set.specs.Elements.{UpdatesElement};
 
 use crate::insertions::told;
 use crate::set::TreeSet;
@@ -116,6 +117,8 @@ impl<'a, K: AsBytes + Drop, const PREFIX_LEN: usize> Reserved<
         ensures put { OnOk result (IsPut K.bytes (held_elements self.old)
             (kept_item (at K.bytes (held_elements self.old) (K.bytes element)) element)
             (held_elements self.new)) }
+        ensures updates { OnOk result (UpdatesElement K.bytes (held_elements self.old)
+            (held_elements self.new) (K.bytes element) true) }
         ensures free { OnOk result
             (conflict K.bytes (held_elements self.old) (K.bytes element) ≡ false) }
         ensures len { IfOk result (λ new. length (held_elements self.new)
@@ -146,6 +149,8 @@ impl<'a, K: NoPrefixesBytes + Drop, const PREFIX_LEN: usize> Reserved<
         ensures put { IsPut K.bytes (held_elements self.old)
             (kept_item (at K.bytes (held_elements self.old) (K.bytes element)) element)
             (held_elements self.new) }
+        ensures updates { UpdatesElement K.bytes (held_elements self.old)
+            (held_elements self.new) (K.bytes element) true }
         ensures len { length (held_elements self.new)
             ≡ length (held_elements self.old) + (if result then 1 else 0) }
     {

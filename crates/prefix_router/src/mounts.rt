@@ -1,6 +1,6 @@
 //! The table, on the public calls of the map.
 ghost use Rattle.std.specs.Prelude.{◌≡◌, ◌≤◌, ◌+◌, ◌&&◌, ℕ, List, [], true, false, length, is_some, OnOk, IfOk, OnErr, IfErr, None, Some, if◌then◌else◌};
-ghost use Rattle.blart.specs.Words.{pairs, begins, pair_at_front, value_at, has, kept, overlaps, shown, bytes, under, vec_bytes, IsContent, CanCount, Updates, Overwrites, Refuses};
+ghost use Rattle.blart.specs.Words.{pairs, begins, pair_at_front, value_at, has, kept, overlaps, shown, bytes, under, vec_bytes, IsContent, CanCount, Updates, Overwrites, Refuses, OverlapsToo, spared_item};
 
 use blart::map::{DEFAULT_PREFIX_LEN, Prefix, Visits};
 use blart::{TreeMap, TryInsertError};
@@ -103,6 +103,8 @@ impl<V: Drop> Mounts<V> {
         ensures routes { OnOk result ((r : List ℕ) → pair_at_front vec_bytes (pairs self.new) r
             ≡ (if begins path.items r then Some (kept vec_bytes (pairs self.old) (path, target))
             else pair_at_front vec_bytes (pairs self.old) r)) }
+        ensures overlapped { OnOk result
+            (OverlapsToo vec_bytes (pairs self.old) (pairs self.new) path.items) }
         ensures len { IfOk result (λ old. length (pairs self.new)
             ≡ length (pairs self.old) + (if is_some old then 0 else 1)) }
         ensures free { OnOk result (overlaps vec_bytes (pairs self.old) path.items ≡ false) }
@@ -118,8 +120,10 @@ impl<V: Drop> Mounts<V> {
     pub fn mount_over(&mut self, path: Vec<u8>, target: V) -> Result<(), AllocError>
         ensures mounted { OnOk result
             (Overwrites vec_bytes (pairs self.old) (path, target) (pairs self.new)) }
-        ensures routes { OnOk result ((r : List ℕ) → begins path.items r ≡ true
-            → pair_at_front vec_bytes (pairs self.new) r ≡ Some (path, target)) }
+        ensures routes { OnOk result ((r : List ℕ) → pair_at_front vec_bytes (pairs self.new) r
+            ≡ (if begins path.items r then Some (path, target)
+            else spared_item (bytes vec_bytes) path.items
+            (pair_at_front vec_bytes (pairs self.old) r))) }
         ensures free { OnErr result (overlaps vec_bytes (pairs self.old) path.items ≡ false) }
         ensures absent { OnErr result (has vec_bytes (pairs self.old) path.items ≡ false) }
         ensures refused { OnErr result (self.new ≡ self.old) }

@@ -5,7 +5,7 @@ ghost use Rattle.art_tree.specs.Leaves.{leaf_in};
 ghost use Rattle.art_walk.specs.Lent.{walk_fits, numbers, run_fits};
 ghost use Rattle.art_walk.specs.Pairs.{pairs_of};
 ghost use Rattle.blart_map.specs.Content.{pairs, Numbered};
-ghost use Rattle.blart_map.specs.EachWritten.{CallableInTurn, WritesLeft, LeavesPair, TakesAtPair, ActsOnPair, ActsWhere};
+ghost use Rattle.blart_map.specs.EachWritten.{CallableInTurn, WritesLeft, WritesWhere, LeavesPair, TakesAtPair, ActsOnPair, ActsWhere};
 
 use crate::map::TreeMap;
 use art_tree::{LeafId, OwnedRun};
@@ -146,12 +146,12 @@ impl<'a, K: AsBytes, V, M, const PREFIX_LEN: usize> LendingWalk<'a, K, V, M, PRE
 }
 
 impl<'a, K: AsBytes, V, M: Drop, const PREFIX_LEN: usize> LendingWalk<'a, K, V, M, PREFIX_LEN> {
-    ghost use Rattle.blart_map.specs.LendingWalk.{lending_left};
+    ghost use Rattle.blart_map.specs.LendingWalk.{lending_left, LendsWhere};
     ghost use Rattle.blart_map.specs.OnceWritten.{once_written};
 
     /// Calls the closure once with the key and the value of each pair that is left, in byte order of the keys. Each value is what the closure leaves, and the keys stay. Takes no memory; each call reads one pair.
     ///
-    /// Where each call leaves the value that a function `h` of the pair gives, and the closure as it was, the pairs become what `h` makes of them: the clause `within` says so of a walk that has lent nothing yet, over the pairs that pass a test, `acts` of any. For every closure `left` says which calls were made, and that each value is what its call left.
+    /// Where each call leaves the value that a function `h` of the pair gives, and the closure as it was, the pairs become what `h` makes of them: the clause `within` says so of a walk that has lent nothing yet, over the pairs that pass a test, `acts` of any. For every closure `each` and `left` say which calls were made, and that each value is what its call left: `each` of a walk that has lent nothing yet.
     ///
     /// ```
     /// map.try_insert("car", 1)?;
@@ -169,6 +169,9 @@ impl<'a, K: AsBytes, V, M: Drop, const PREFIX_LEN: usize> LendingWalk<'a, K, V, 
         ensures keys { map (λ p. p.0) (pairs self.exit.0.now)
             ≡ map (λ p. p.0) (pairs self.entry.map.now) }
         ensures len { length (pairs self.exit.0.now) ≡ length (pairs self.entry.map.now) }
+        ensures each { (S T : List (Numbered K V)) (test : K × V → Bool)
+            → LendsWhere self.entry test S → T ≡ self.exit.0.now
+            → WritesWhere (LeavesPair F.FnMut) test (pairs S) f (pairs T) }
         ensures acts { (h : K × V → K × V) → ActsOnPair F.FnMut f h
             → pairs self.exit.0.now ≡ once_written (λ p. (h p).1) self.entry }
         ensures within { (S T : List (Numbered K V)) (test : Numbered K V → Bool)

@@ -1,7 +1,7 @@
 //! The elements of another set.
-ghost use Rattle.std.specs.Prelude.{◌≡◌, ◌≢◌, ◌++◌, List, [], OnOk, OnErr};
+ghost use Rattle.std.specs.Prelude.{◌≡◌, ◌≢◌, ◌++◌, ◌||◌, ℕ, List, [], OnOk, OnErr};
 ghost use Rattle.blart_keys.specs.Bulk.{IsAppended};
-ghost use Rattle.blart_keys.specs.Content.{IsContent};
+ghost use Rattle.blart_keys.specs.Content.{stores, IsContent};
 ghost use Rattle.blart_set.specs.Elements.{elements};
 
 use crate::set::TreeSet;
@@ -21,6 +21,8 @@ impl<K: NoPrefixesBytes + Drop, const PREFIX_LEN: usize> TreeSet<K, PREFIX_LEN> 
     /// ```
     #[tactic(auto, unfolding(crate::specs::Elements::elements))]
     pub fn append(&mut self, other: &mut Self) -> Result<(), AllocError>
+        ensures stored { OnOk result ((q : List ℕ) → stores K.bytes (elements self.new) q
+            ≡ (stores K.bytes (elements other.old) q || stores K.bytes (elements self.old) q)) }
         ensures appended { OnOk result
             (IsAppended K.bytes (elements self.old) (elements other.old) (elements self.new)) }
         ensures joined { OnOk result ((S : List K) → IsContent K.bytes S

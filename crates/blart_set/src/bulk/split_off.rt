@@ -1,7 +1,8 @@
 //! A set parted in two.
-ghost use Rattle.std.specs.Prelude.{◌≡◌, ◌≢◌, ◌++◌, [], OnOk, IfOk, OnErr};
+ghost use Rattle.std.specs.Prelude.{◌≡◌, ◌≢◌, ◌++◌, ℕ, List, [], false, OnOk, IfOk, OnErr, if◌then◌else◌};
 ghost use Rattle.std.specs.declared.ops.Bound.TheVariants.{Included, Excluded, Unbounded};
-ghost use Rattle.blart_keys.specs.Content.{between};
+ghost use Rattle.blart_keys.specs.Bytes.{less};
+ghost use Rattle.blart_keys.specs.Content.{between, stores};
 ghost use Rattle.blart_set.specs.Elements.{elements};
 
 use crate::set::TreeSet;
@@ -23,6 +24,10 @@ impl<K: AsBytes + Drop, const PREFIX_LEN: usize> TreeSet<K, PREFIX_LEN> {
     /// ```
     #[tactic(auto, unfolding(crate::specs::Elements::elements))]
     pub fn split_off<Q: AsBytes>(&mut self, query: &Q) -> Result<Self, AllocError>
+        ensures kept { OnOk result ((r : List ℕ) → stores K.bytes (elements self.new) r
+            ≡ (if less r (Q.bytes query.now) then stores K.bytes (elements self.old) r else false)) }
+        ensures given { IfOk result (λ rest. (r : List ℕ) → stores K.bytes (elements rest) r
+            ≡ (if less r (Q.bytes query.now) then false else stores K.bytes (elements self.old) r)) }
         ensures whole { IfOk result (λ rest. elements self.old ≡ elements self.new ++ elements rest) }
         ensures below { OnOk result (elements self.new
             ≡ between K.bytes (elements self.old) Unbounded (Excluded (Q.bytes query.now))) }

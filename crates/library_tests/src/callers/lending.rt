@@ -1,6 +1,6 @@
 //! Values of a map that are written in a walk, and pairs that a closure picks.
 ghost use Rattle.std.specs.Prelude.{◌≡◌, ◌+◌, ◌%◌, ◌^◌, ◌<◌, All, ℕ, List, map, min, cond, option_map};
-ghost use Rattle.blart.specs.Words.{pairs, begins, value_at, zkey_bytes};
+ghost use Rattle.blart.specs.Words.{pairs, begins, value_at, zkey_bytes, LeavesPair, WritesWhere};
 
 use blart::{AsBytes, Map, ZKey};
 
@@ -48,4 +48,17 @@ pub fn raise_each<K: AsBytes>(scores: &mut Map<K, u64>)
     ensures { pairs scores.new ≡ map (λ p. (p.0, p.1 + 1)) (pairs scores.old) }
 {
     scores.values_mut().for_each(|value| *value += 1);
+}
+
+/// Calls a closure at each pair below a prefix. What it captures may change from call to call.
+pub fn visit_below<K: AsBytes, F: FnMut(&K, &mut u64) + Drop>(
+    scores: &mut Map<K, u64>,
+    front: &[u8],
+    visit: F,
+)
+    requires { F.IsAlwaysCallable visit }
+    ensures { WritesWhere (LeavesPair F.FnMut) (λ p. begins front.now (K.bytes p.0))
+        (pairs scores.old) visit (pairs scores.new) }
+{
+    scores.prefix_mut(front).for_each(visit);
 }

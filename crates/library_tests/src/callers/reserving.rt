@@ -1,6 +1,6 @@
 //! Maps and sets into which all goes or nothing does, since the room is made beforehand.
-ghost use Rattle.std.specs.Prelude.{◌≡◌, ◌≢◌, ◌∷◌, [], ℕ, List, OnOk, OnErr, Some};
-ghost use Rattle.blart.specs.Words.{pairs, bytes, pair_at, value_at, elements, kept_pair, kept_item, PutsAll};
+ghost use Rattle.std.specs.Prelude.{◌≡◌, ◌≢◌, ◌∷◌, [], true, ℕ, List, OnOk, OnErr, Some};
+ghost use Rattle.blart.specs.Words.{pairs, bytes, pair_at, value_at, elements, stores, kept_pair, kept_item, PutsAll};
 
 use blart::{Map, NoPrefixesBytes, Set};
 use std::alloc::AllocError;
@@ -47,5 +47,17 @@ pub fn add_both<K: NoPrefixesBytes + Drop>(set: &mut Set<K>, a: K, b: K) -> Resu
     let mut room = set.reserve(2)?;
     room.insert(a);
     room.insert(b);
+    Ok(())
+}
+
+/// Adds an element, for which the room is made first.
+pub fn add_one<K: NoPrefixesBytes + Drop>(set: &mut Set<K>, element: K) -> Result<(), AllocError>
+    ensures added { OnOk result (stores K.bytes (elements set.new) (K.bytes element) ≡ true) }
+    ensures others { OnOk result ((q : List ℕ) → q ≢ K.bytes element
+        → stores K.bytes (elements set.new) q ≡ stores K.bytes (elements set.old) q) }
+    ensures refused { OnErr result (set.new ≡ set.old) }
+{
+    let mut room = set.reserve(1)?;
+    room.insert(element);
     Ok(())
 }

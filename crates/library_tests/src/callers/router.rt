@@ -1,10 +1,11 @@
-//! A site of five routes.
-ghost use Rattle.std.specs.Prelude.{◌≡◌, ◌&&◌, ℕ, List, [], ◌∷◌, IfOk, None, Some, if◌then◌else◌};
-ghost use Rattle.blart.specs.Words.{pairs, begins, has, value_at_front, vec_bytes};
+//! A site of five routes, and what a table answers where mounts overlap.
+ghost use Rattle.std.specs.Prelude.{◌≡◌, ◌≢◌, ◌&&◌, ℕ, List, Vec, [], ◌∷◌, true, false, IfOk, OnOk, None, Some, if◌then◌else◌};
+ghost use Rattle.std.specs.Global.{Global};
+ghost use Rattle.blart.specs.Words.{pairs, begins, related, has, overlaps, pair_at_front, value_at_front, vec_bytes};
 
 use blart::TryInsertError;
 use prefix_router::Mounts;
-use std::alloc::Global;
+use std::alloc::{AllocError, Global};
 
 /// What answers a path.
 #[derive(Debug, Clone, Copy, PartialEq, Eq, Drop)]
@@ -88,4 +89,48 @@ pub fn take_down(site: &mut Mounts<Handler>, path: &[u8])
         else value_at_front vec_bytes (pairs site.old) r) }
 {
     site.unmount(path);
+}
+
+/// Mounts a target in the place of all that its path begins or that begin it. What is below goes to it, and all else where it went; but what went to a mount that begins the path goes nowhere.
+pub fn redirect<V: Drop>(site: &mut Mounts<V>, path: Vec<u8>, target: V) -> Result<(), AllocError>
+    ensures below { OnOk result ((r : List ℕ) → begins path.items r ≡ true
+        → value_at_front vec_bytes (pairs site.new) r ≡ Some target) }
+    ensures stands { OnOk result ((r : List ℕ) (mount : Vec ℕ Global × V) → begins path.items r ≡ false
+        → pair_at_front vec_bytes (pairs site.old) r ≡ Some mount → begins mount.0.items path.items ≡ false
+        → pair_at_front vec_bytes (pairs site.new) r ≡ Some mount) }
+    ensures gone { OnOk result ((r : List ℕ) (mount : Vec ℕ Global × V) → begins path.items r ≡ false
+        → pair_at_front vec_bytes (pairs site.old) r ≡ Some mount → begins mount.0.items path.items ≡ true
+        → pair_at_front vec_bytes (pairs site.new) r ≡ None) }
+    ensures nowhere { OnOk result ((r : List ℕ) → begins path.items r ≡ false
+        → pair_at_front vec_bytes (pairs site.old) r ≡ None
+        → pair_at_front vec_bytes (pairs site.new) r ≡ None) }
+{
+    site.mount_over(path, target)
+}
+
+/// Mounts a target. Then no other can be mounted below it, and what is not related is as free as it was.
+pub fn claim<V: Drop>(site: &mut Mounts<V>, path: Vec<u8>, target: V) -> Result<(), TryInsertError>
+    ensures below { OnOk result ((r : List ℕ) → begins path.items r ≡ true → r ≢ path.items
+        → overlaps vec_bytes (pairs site.new) r ≡ true) }
+    ensures others { OnOk result ((r : List ℕ) → related r path.items ≡ false
+        → overlaps vec_bytes (pairs site.new) r ≡ overlaps vec_bytes (pairs site.old) r) }
+{
+    site.mount(path, target)?;
+    Ok(())
+}
+
+/// Whether a mount below one that was just mounted is refused: it is.
+pub fn is_refused_below<V: Drop>(
+    site: &mut Mounts<V>,
+    path: Vec<u8>,
+    target: V,
+    below: Vec<u8>,
+    other: V,
+) -> Result<bool, TryInsertError>
+    requires starts { begins path.items below.items ≡ true }
+    requires differs { below.items ≢ path.items }
+    ensures { IfOk result (λ refused. refused ≡ true) }
+{
+    site.mount(path, target)?;
+    Ok(site.mount(below, other).is_err())
 }

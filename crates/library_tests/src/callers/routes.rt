@@ -75,6 +75,8 @@ impl Table {
         ensures others { (q : List ℕ) → q ≢ front.now → value_at slice_bytes (pairs self.new) q ≡ value_at slice_bytes (pairs self.old) q }
         ensures routes { OnOk result ((path : List ℕ) → begins front.now path ≡ true
             → value_at_front slice_bytes (pairs self.new) path ≡ Some target) }
+        ensures below { OnOk result ((q : List ℕ) → begins front.now q ≡ true → q ≢ front.now
+            → overlaps slice_bytes (pairs self.new) q ≡ true) }
         ensures overlap { IsErrOf result AddError.Overlap ↔ (overlaps slice_bytes (pairs self.old) front.now ≡ true) }
         ensures refused { OnErr result (self.new ≡ self.old) }
     {

@@ -1,6 +1,6 @@
 //! Sets: merges of two, and loops over one.
-ghost use Rattle.std.specs.Prelude.{◌≡◌, ◌↔◌, true, filter, length, ltb, All, IfOk, IsTrue};
-ghost use Rattle.blart.specs.Words.{elements, difference, intersection, IsUnion, KeepsBytes, MakesClones, stores};
+ghost use Rattle.std.specs.Prelude.{◌≡◌, ◌↔◌, ◌||◌, true, false, filter, length, ltb, All, IfOk, IsTrue, if◌then◌else◌};
+ghost use Rattle.blart.specs.Words.{elements, difference, intersection, less, IsUnion, KeepsBytes, MakesClones, stores};
 
 use blart::{AsBytes, NoPrefixesBytes, OrderedBytes, TreeSet};
 use std::alloc::{AllocError, Global};
@@ -97,4 +97,41 @@ pub fn is_there<K: NoPrefixesBytes + Copy, const P: usize>(
 {
     set.insert(element)?;
     Ok(set.contains(&element))
+}
+
+/// Whether an element is there once it stands in the place of all that are related to it.
+pub fn takes_place<K: AsBytes + Copy, const P: usize>(
+    set: &mut TreeSet<K, P>,
+    element: K,
+) -> Result<bool, AllocError>
+    ensures { IfOk result (λ there. there ≡ true) }
+{
+    set.prefix_insert(element)?;
+    Ok(set.contains(&element))
+}
+
+/// Whether some bytes are in a set once another's elements were moved there.
+pub fn has_moved<K: NoPrefixesBytes + Drop, const P: usize>(
+    set: &mut TreeSet<K, P>,
+    other: &mut TreeSet<K, P>,
+    bytes: &[u8],
+) -> Result<bool, AllocError>
+    ensures { IfOk result (λ there. there ≡ (stores K.bytes (elements other.old) bytes.now
+        || stores K.bytes (elements set.old) bytes.now)) }
+{
+    set.append(other)?;
+    Ok(set.contains(&bytes))
+}
+
+/// Whether some bytes are left in a set once all that are not less than a bound were taken.
+pub fn is_left<K: AsBytes + Drop, const P: usize>(
+    set: &mut TreeSet<K, P>,
+    bound: &[u8],
+    bytes: &[u8],
+) -> Result<bool, AllocError>
+    ensures { IfOk result (λ left. left ≡ (if less bytes.now bound.now
+        then stores K.bytes (elements set.old) bytes.now else false)) }
+{
+    drop(set.split_off(&bound)?);
+    Ok(set.contains(&bytes))
 }

@@ -6,6 +6,7 @@ use Rattle.art_walk.specs.Pairs.{pairs_of}
 use Rattle.blart_keys.proofs.StoredLemmas.{overwrites_over, before_over, alone_free, alone_absent}
 use Rattle.blart_map.specs.Content.{pairs}
 use Rattle.blart_map.proofs.Numbers.{whole_pairs}
+use Rattle.blart_map.proofs.Overwritten.{routes_over}
 use Rattle.blart_map.proofs.Placed.Inserting.{opens_else, open_alone, exact_has, exact_takes, placed, exchanged}
 use Rattle.blart_map.proofs.Related.Thinning.{over_of_put, no_subtree_pairs}
 use Rattle.blart_map.proofs.map.TreeMap.prefix_insert.Goals as goal
@@ -32,6 +33,7 @@ returns-in-Exact g c =
       put = over;
       over = overwrites_over kb (pairs_of c.args.self.now) (pairs_of c.swap.new.self.pairs) x (whole_pairs kb ps (pairs_of c.args.self.now) (ap pairs_of c.self.view_is) c.law.ensures.content) over;
       fronts = before_over kb (pairs_of c.args.self.now) (pairs_of c.swap.new.self.pairs) x over;
+      routes = routes_over kb (pairs_of c.args.self.now) (pairs_of c.swap.new.self.pairs) x (whole_pairs kb ps (pairs_of c.args.self.now) (ap pairs_of c.self.view_is) c.law.ensures.content) over;
       err = tt;
       free = tt;
       absent = tt;
@@ -52,6 +54,7 @@ returns-in_err-make_room-in_default g c =
       put = (none, ap pairs_of same);
       over = tt;
       fronts = tt;
+      routes = tt;
       err = same;
       free = alone_free kb (pairs_of ps) q none;
       absent = alone_absent kb (pairs_of ps) q none;
@@ -72,6 +75,7 @@ returns-in_ok-make_room-in_default g c =
       put = over;
       over = overwrites_over kb (pairs_of c.args.self.now) (pairs_of c.place.new.self.pairs) x (whole_pairs kb ps (pairs_of c.args.self.now) (ap pairs_of c.self.view_is) c.law.ensures.content) over;
       fronts = before_over kb (pairs_of c.args.self.now) (pairs_of c.place.new.self.pairs) x over;
+      routes = routes_over kb (pairs_of c.args.self.now) (pairs_of c.place.new.self.pairs) x (whole_pairs kb ps (pairs_of c.args.self.now) (ap pairs_of c.self.view_is) c.law.ensures.content) over;
       err = tt;
       free = tt;
       absent = tt;
@@ -91,3 +95,11 @@ returns-in-Related-clause-fronts g c =
     let kb = g.K.AsBytes.bytes in
     let x : g.row.K.Denot × g.row.V.Denot = (c.args.key, c.args.value) in
     before_over kb (pairs_of c.args.self.now) (pairs_of c.overwrite.new.self) x c.overwrite.ensures.over
+
+pub returns-in-Related-clause-routes : goal.returns-in-Related-clause-routes
+unfolding pairs
+returns-in-Related-clause-routes g c =
+    let kb = g.K.AsBytes.bytes in
+    let ps = c.self.inside.tree.pairs in
+    let x : g.row.K.Denot × g.row.V.Denot = (c.args.key, c.args.value) in
+    routes_over kb (pairs_of c.args.self.now) (pairs_of c.overwrite.new.self) x (whole_pairs kb ps (pairs_of c.args.self.now) (ap pairs_of c.self.view_is) c.law.ensures.content) c.overwrite.ensures.over

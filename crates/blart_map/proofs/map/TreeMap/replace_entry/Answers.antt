@@ -1,7 +1,9 @@
 use Rattle.std.proofs.Common.{refl}
+use Rattle.std.proofs.lemmas.Result.{on_ok_weaker}
 use Rattle.blart_keys.proofs.StoredLemmas.{puts_old, puts_updates, puts_fronts, puts_free, puts_why, puts_len, puts_routes}
 use Rattle.art_walk.specs.Pairs.{pairs_of}
 use Rattle.blart_map.specs.Content.{pairs}
+use Rattle.blart_map.proofs.Overlapped.{overlaps_put}
 use Rattle.blart_map.proofs.map.TreeMap.replace_entry.Goals as goal
 
 pub returns-clause-old : goal.returns-clause-old
@@ -31,3 +33,7 @@ returns-clause-len g c = puts_len g.K.AsBytes.bytes (pairs_of c.args.self.now) (
 pub returns-clause-routes : goal.returns-clause-routes
 unfolding pairs
 returns-clause-routes g c = puts_routes g.K.AsBytes.bytes (λ pair. pair) (pairs_of c.args.self.now) (c.args.key, c.args.value) (c.args.key, c.args.value) refl (pairs_of c.exchange_at.new.tree.pairs) c.exchange_at.result c.law.ensures.content (rw (← c.self.view_is) c.exchange_at.ensures.put)
+
+pub returns-clause-overlapped : goal.returns-clause-overlapped
+unfolding pairs
+returns-clause-overlapped g c = on_ok_weaker c.exchange_at.result (overlaps_put g.K.AsBytes.bytes (pairs_of c.args.self.now) (pairs_of c.exchange_at.new.tree.pairs) (g.K.AsBytes.bytes c.args.key) (c.args.key, c.args.value)) (returns-clause-updates g c)

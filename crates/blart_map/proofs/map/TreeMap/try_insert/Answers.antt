@@ -1,8 +1,10 @@
 use Rattle.std.proofs.Common.{option_map}
+use Rattle.std.proofs.lemmas.Result.{on_ok_weaker}
 use Rattle.blart_keys.specs.Stored.{kept}
 use Rattle.blart_keys.proofs.StoredLemmas.{kept_bytes, puts_old, puts_updates, puts_fronts, puts_free, puts_why, puts_value_len, puts_routes}
 use Rattle.art_walk.specs.Pairs.{pairs_of}
 use Rattle.blart_map.specs.Content.{pairs}
+use Rattle.blart_map.proofs.Overlapped.{overlaps_put}
 use Rattle.blart_map.proofs.map.TreeMap.try_insert.Goals as goal
 
 pub returns-clause-old : goal.returns-clause-old
@@ -60,3 +62,11 @@ returns-clause-routes g c =
     let S = pairs_of c.args.self.now in
     let x : g.row.K.Denot × g.row.V.Denot = (c.args.key, c.args.value) in
     puts_routes kb (option_map (λ pair. pair.1)) S x (kept kb S x) (kept_bytes kb S x) (pairs_of c.put_at.new.tree.pairs) c.put_at.result c.law.ensures.content (rw (← c.self.view_is) c.put_at.ensures.put)
+
+pub returns-clause-overlapped : goal.returns-clause-overlapped
+unfolding pairs
+returns-clause-overlapped g c =
+    let kb = g.K.AsBytes.bytes in
+    let S = pairs_of c.args.self.now in
+    let x : g.row.K.Denot × g.row.V.Denot = (c.args.key, c.args.value) in
+    on_ok_weaker c.put_at.result (overlaps_put kb S (pairs_of c.put_at.new.tree.pairs) (kb c.args.key) (kept kb S x)) (returns-clause-updates g c)

@@ -1,7 +1,7 @@
 use Rattle.blart_map.specs.EachWritten.{LeavesPair}
 use Rattle.blart_map.specs.LendingWalk.{lending_left}
 use Rattle.blart_map.proofs.Written.EachWritten.{same_keys, same_length, walk_fits_after, run_fits_after, writes_all, acts_on_pair}
-use Rattle.blart_map.proofs.Written.WrittenWhere.{writes_where, acts_within}
+use Rattle.blart_map.proofs.Written.WrittenWhere.{writes_where, writes_called, acts_within}
 use Rattle.blart_map.proofs.walks.lending_walk.LendingWalk.for_each.Goals as goal
 
 pub invariant_of-self : goal.invariant_of-self
@@ -20,6 +20,7 @@ returns g c =
       left = r;
       keys = same_keys R (lending_left s) s.map.now new f r;
       len = same_length R (lending_left s) s.map.now new f r;
+      each = λ S T test lends e. writes_called R test f (lending_left s) s.map.now new S T c.write_pairs.ensures.distinct r e lends.0 lends.1;
       acts = λ h acts. writes_all R h f (acts_on_pair g.F.FnMut f h acts) (lending_left s) s.map.now new r;
       within = λ S T test h e same some acts. writes_where R test h f acts.0 (acts_within g.F.FnMut f test h acts) (lending_left s) s.map.now new S T c.write_pairs.ensures.distinct r e same some;
     }
