@@ -55,12 +55,5 @@ fn reply<'a, const PREFIX_LEN: usize>(
     if line.is_empty() || line.starts_with(b"#") {
         return text.push(line);
     }
-    let mut answer = Text::new(text.alloc());
-    let replied = match session.call(drops, line, &mut answer) {
-        Ok(()) => text.push(answer.as_slice()),
-        Err(Unanswered::NoCall) => text.push(b"?"),
-        Err(refused) => Err(refused),
-    };
-    drop(answer);
-    replied
+    session.answer(drops, line, text)
 }

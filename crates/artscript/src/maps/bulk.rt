@@ -2,7 +2,7 @@
 ghost use Rattle.std.specs.Prelude.{◌≡◌};
 
 use crate::maps::calls::Maps;
-use crate::words::{Answered, FixedKey, ScriptKey, Shown, Text, Unanswered, Words, pairs_of};
+use crate::words::{Answered, FixedKey, ScriptKey, Shown, Text, Unanswered, Words, items_of};
 use blart_keys::NoPrefixesBytes;
 use blart_map::TreeMap;
 use std::alloc::AllocError;
@@ -37,20 +37,20 @@ impl<K: ScriptKey + NoPrefixesBytes, const PREFIX_LEN: usize> Maps<K, u64, PREFI
 
     /// Inserts the pairs in turn.
     pub(crate) fn extend(&mut self, words: Words<'_>, text: &mut Text) -> Answered {
-        let items = pairs_of(self.alloc, words)?;
+        let items: Vec<(K, u64)> = items_of(words)?;
         self.first.extend(items.into_iter()).show(text)
     }
 
     /// Puts the map of the pairs in the place of the first.
     pub(crate) fn from_vec(&mut self, words: Words<'_>, text: &mut Text) -> Answered {
-        let items = pairs_of(self.alloc, words)?;
+        let items: Vec<(K, u64)> = items_of(words)?;
         let made = TreeMap::from_vec(self.alloc, items);
         put(&mut self.first, made, text)
     }
 
     /// Puts the map of the pairs in the place of the first.
     pub(crate) fn from_iter(&mut self, words: Words<'_>, text: &mut Text) -> Answered {
-        let items = pairs_of(self.alloc, words)?;
+        let items: Vec<(K, u64)> = items_of(words)?;
         let made = TreeMap::from_iter(self.alloc, items.into_iter());
         put(&mut self.first, made, text)
     }
@@ -59,7 +59,7 @@ impl<K: ScriptKey + NoPrefixesBytes, const PREFIX_LEN: usize> Maps<K, u64, PREFI
 impl<K: FixedKey, const PREFIX_LEN: usize> Maps<K, u64, PREFIX_LEN> {
     /// Inserts copies of the pairs in turn.
     pub(crate) fn extend_copied(&mut self, words: Words<'_>, text: &mut Text) -> Answered {
-        let items: Vec<(K, u64)> = pairs_of(self.alloc, words)?;
+        let items: Vec<(K, u64)> = items_of(words)?;
         let lent = items.iter().map(|pair| (&pair.0, &pair.1));
         let answered = self.first.extend_copied(lent).show(text);
         drop(items);
@@ -68,7 +68,7 @@ impl<K: FixedKey, const PREFIX_LEN: usize> Maps<K, u64, PREFIX_LEN> {
 
     /// Puts the map of the two pairs in the place of the first.
     pub(crate) fn from_array(&mut self, words: Words<'_>, text: &mut Text) -> Answered {
-        let items: Vec<(K, u64)> = pairs_of(self.alloc, words)?;
+        let items: Vec<(K, u64)> = items_of(words)?;
         let answered = self.put_two(items.as_slice(), text);
         drop(items);
         answered

@@ -2,7 +2,7 @@
 use crate::refusals::failure::Failure;
 use crate::refusals::standing::{changed, stands};
 use crate::session::Session;
-use crate::words::{Answered, Text, Unanswered};
+use crate::words::{Answered, Text};
 use std::alloc::Global;
 use std::cell::Cell;
 use std::iter::Iterator;
@@ -74,11 +74,7 @@ pub(crate) fn answer<'a>(
     if line.is_empty() || line.starts_with(b"#") {
         return Ok(());
     }
-    match session.call(drops, call_of(line), text) {
-        Ok(()) => Ok(()),
-        Err(Unanswered::NoCall) => text.push(b"?"),
-        Err(refused) => Err(refused),
-    }
+    session.answer(drops, call_of(line), text)
 }
 
 // The call that the line is, without the word in front that says that it takes no memory.

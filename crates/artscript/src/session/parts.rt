@@ -175,8 +175,25 @@ impl<'a, const PREFIX_LEN: usize> Session<'a, PREFIX_LEN> {
         }
     }
 
-    /// Makes the call that the line is, or begins a part, and adds the answer.
-    pub(crate) fn call(&mut self, drops: &'a Cell<u64>, line: &[u8], text: &mut Text) -> Answered {
+    /// Adds the answer to the line, or a question mark where it is no call.
+    pub(crate) fn answer(
+        &mut self,
+        drops: &'a Cell<u64>,
+        line: &[u8],
+        text: &mut Text,
+    ) -> Answered {
+        let start = text.as_slice().len();
+        match self.call(drops, line, text) {
+            Err(Unanswered::NoCall) => {
+                text.truncate(start);
+                text.push(b"?")
+            }
+            answered => answered,
+        }
+    }
+
+    // Makes the call that the line is, or begins a part, and adds the answer.
+    fn call(&mut self, drops: &'a Cell<u64>, line: &[u8], text: &mut Text) -> Answered {
         let alloc = text.alloc();
         if let Some(part) = Session::begun(alloc, drops, line) {
             drop(mem::replace(self, part));

@@ -2,7 +2,7 @@
 ghost use Rattle.std.specs.Prelude.{◌≡◌};
 
 use crate::sets::calls::Sets;
-use crate::words::{Answered, FixedKey, ScriptKey, Shown, Text, Unanswered, Words, elements_of};
+use crate::words::{Answered, FixedKey, ScriptKey, Shown, Text, Unanswered, Words, items_of};
 use blart_keys::NoPrefixesBytes;
 use blart_set::TreeSet;
 use std::alloc::AllocError;
@@ -37,20 +37,20 @@ impl<K: ScriptKey + NoPrefixesBytes, const PREFIX_LEN: usize> Sets<K, PREFIX_LEN
 
     /// Inserts the elements in turn.
     pub(crate) fn extend(&mut self, words: Words<'_>, text: &mut Text) -> Answered {
-        let items = elements_of(self.alloc, words)?;
+        let items: Vec<K> = items_of(words)?;
         self.first.extend(items.into_iter()).show(text)
     }
 
     /// Puts the set of the elements in the place of the first.
     pub(crate) fn from_vec(&mut self, words: Words<'_>, text: &mut Text) -> Answered {
-        let items = elements_of(self.alloc, words)?;
+        let items: Vec<K> = items_of(words)?;
         let made = TreeSet::from_vec(self.alloc, items);
         put(&mut self.first, made, text)
     }
 
     /// Puts the set of the elements in the place of the first.
     pub(crate) fn from_iter(&mut self, words: Words<'_>, text: &mut Text) -> Answered {
-        let items = elements_of(self.alloc, words)?;
+        let items: Vec<K> = items_of(words)?;
         let made = TreeSet::from_iter(self.alloc, items.into_iter());
         put(&mut self.first, made, text)
     }
@@ -59,7 +59,7 @@ impl<K: ScriptKey + NoPrefixesBytes, const PREFIX_LEN: usize> Sets<K, PREFIX_LEN
 impl<K: FixedKey, const PREFIX_LEN: usize> Sets<K, PREFIX_LEN> {
     /// Inserts copies of the elements in turn.
     pub(crate) fn extend_copied(&mut self, words: Words<'_>, text: &mut Text) -> Answered {
-        let items: Vec<K> = elements_of(self.alloc, words)?;
+        let items: Vec<K> = items_of(words)?;
         let answered = self.first.extend_copied(items.iter()).show(text);
         drop(items);
         answered
@@ -67,7 +67,7 @@ impl<K: FixedKey, const PREFIX_LEN: usize> Sets<K, PREFIX_LEN> {
 
     /// Puts the set of the two elements in the place of the first.
     pub(crate) fn from_array(&mut self, words: Words<'_>, text: &mut Text) -> Answered {
-        let items: Vec<K> = elements_of(self.alloc, words)?;
+        let items: Vec<K> = items_of(words)?;
         let answered = self.put_two(items.as_slice(), text);
         drop(items);
         answered

@@ -128,10 +128,7 @@ pub fn named_call(name: &[u8], number: Option<u64>) -> Result<EntryCall, Unanswe
         Some(number) => call_with(name, number),
         None => bare_call(name),
     };
-    match found {
-        Some(call) => Ok(call),
-        None => Err(Unanswered::NoCall),
-    }
+    found.ok_or(Unanswered::NoCall)
 }
 
 // The call of this name that has no argument.

@@ -22,9 +22,6 @@ impl LineCall {
         } else {
             map_name_of(word).map(LineCall::Map)
         };
-        match call {
-            Some(call) => Ok(call),
-            None => Err(Unanswered::NoCall),
-        }
+        call.ok_or(Unanswered::NoCall)
     }
 }

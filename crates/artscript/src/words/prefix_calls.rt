@@ -129,10 +129,7 @@ fn call_of<'a>(name: PrefixName, number: Option<u64>) -> Result<PrefixCall<'a>, 
         Some(number) => call_with(name, number),
         None => bare_call(name),
     };
-    match found {
-        Some(call) => Ok(call),
-        None => Err(Unanswered::NoCall),
-    }
+    found.ok_or(Unanswered::NoCall)
 }
 
 // The call of prefix entries that has the name of a call of entries.

@@ -30,6 +30,11 @@ impl<'a> Words<'a> {
         }
     }
 
+    /// What the program takes its memory from.
+    pub fn alloc(&self) -> Global {
+        self.alloc
+    }
+
     /// Whether no word is left.
     pub fn is_done(&self) -> bool {
         self.rest.is_none()
@@ -68,6 +73,11 @@ impl<'a> Words<'a> {
         Ok(word)
     }
 
+    /// The words of the next word, which colons part.
+    pub fn parts(&mut self) -> Result<Words<'a>, Unanswered> {
+        Ok(Words::new(self.word()?, b':', self.alloc))
+    }
+
     /// The bytes that the next word stands for.
     pub fn bytes(&mut self) -> Result<Vec<u8>, Unanswered> {
         joined_of(self.alloc, self.word()?)
@@ -103,10 +113,7 @@ impl<'a> Words<'a> {
 
     /// The number that the next word is.
     pub fn number(&mut self) -> Result<u64, Unanswered> {
-        match number_of(self.word()?) {
-            Some(number) => Ok(number),
-            None => Err(Unanswered::NoCall),
-        }
+        number_of(self.word()?).ok_or(Unanswered::NoCall)
     }
 
     /// The number that the last word is, where one is left.
@@ -262,14 +269,24 @@ fn joined_of(alloc: Global, word: &[u8]) -> Result<Vec<u8>, Unanswered>
 
 // Adds the bytes of a part: those of its digits, or one byte as often as is said.
 fn push_part(bytes: &mut Vec<u8>, part: &[u8]) -> Answered {
-    let alloc = *bytes.allocator();
     if part == b"-".as_slice() {
         return Err(Unanswered::NoCall);
     }
-    match part.iter().position(|byte| *byte == b'*') {
-        Some(at) => push_repeated(bytes, &bytes_of(alloc, &part[..at])?, &part[at + 1..]),
-        None => Ok(bytes.extend_from_slice(&bytes_of(alloc, part)?)?),
-    }
+    let (digits, times) = match part.iter().position(|byte| *byte == b'*') {
+        Some(at) => (&part[..at], Some(&part[at + 1..])),
+        None => (part, None),
+    };
+    let read = bytes_of(*bytes.allocator(), digits)?;
+    let pushed = match times {
+        Some(word) => push_repeated(bytes, &read, word),
+        None => push_all(bytes, &read),
+    };
+    drop(read);
+    pushed
+}
+
+fn push_all(bytes: &mut Vec<u8>, more: &[u8]) -> Answered {
+    Ok(bytes.extend_from_slice(more)?)
 }
 
 // Adds the one byte as often as the word says.

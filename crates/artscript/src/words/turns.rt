@@ -1,41 +1,10 @@
 //! Calls that are made in turn.
-use crate::words::answered::{Answered, Unanswered};
+use crate::words::answered::Unanswered;
 use crate::words::keys::ScriptKey;
-use crate::words::lists::push;
+use crate::words::lists::Item;
 use crate::words::named::named;
 use crate::words::reading::Words;
 use blart_keys::Call;
-use std::alloc::Global;
-
-/// The calls that the words are.
-pub fn turns_of<K: ScriptKey>(
-    alloc: Global,
-    words: Words<'_>,
-) -> Result<Vec<Call<K, u64>>, Unanswered> {
-    let mut calls = Vec::new(alloc);
-    match push_calls(&mut calls, alloc, words) {
-        Ok(()) => Ok(calls),
-        Err(refused) => {
-            drop(calls);
-            Err(refused)
-        }
-    }
-}
-
-fn push_calls<K: ScriptKey>(
-    calls: &mut Vec<Call<K, u64>>,
-    alloc: Global,
-    mut words: Words<'_>,
-) -> Answered {
-    for _ in 0..u64::MAX {
-        if words.is_done() {
-            break;
-        }
-        let word = words.word()?;
-        push(calls, call_of(Words::new(word, b':', alloc))?)?;
-    }
-    Ok(())
-}
 
 // The name of a call that is made in turn.
 #[derive(Clone, Copy)]
@@ -62,23 +31,20 @@ const NAMES: [(&str, TurnName); 8] = [
     ("Clear", TurnName::Clear),
 ];
 
+impl<K: ScriptKey> Item for Call<K, u64> {
+    fn read(words: &mut Words<'_>) -> Result<Self, Unanswered> {
+        call_of(words.parts()?)
+    }
+}
+
 // The call that the parts of a word are.
 fn call_of<K: ScriptKey>(mut parts: Words<'_>) -> Result<Call<K, u64>, Unanswered> {
     let Some(name) = named(&NAMES, parts.word()?) else {
         return Err(Unanswered::NoCall);
     };
     match name {
-        TurnName::TryInsert => {
-            let (key, value) = parts.last_pair()?;
-            Ok(Call::TryInsert(key, value))
-        }
-        TurnName::ReplaceEntry => {
-            let (key, value) = parts.last_pair()?;
-            Ok(Call::ReplaceEntry(key, value))
-        }
-        TurnName::PrefixInsert => {
-            let (key, value) = parts.last_pair()?;
-            Ok(Call::PrefixInsert(key, value))
+        TurnName::TryInsert | TurnName::ReplaceEntry | TurnName::PrefixInsert => {
+            Ok(call_with_pair(name, parts.last_pair()?))
         }
         TurnName::RemoveEntry => Ok(Call::RemoveEntry(parts.last_key()?)),
         TurnName::ContainsKey => Ok(Call::ContainsKey(parts.last_key()?)),
@@ -86,6 +52,16 @@ fn call_of<K: ScriptKey>(mut parts: Words<'_>) -> Result<Call<K, u64>, Unanswere
             parts.end()?;
             Ok(bare_call(name))
         }
+    }
+}
+
+// The call of this name that places a pair.
+fn call_with_pair<K>(name: TurnName, pair: (K, u64)) -> Call<K, u64> {
+    let (key, value) = pair;
+    match name {
+        TurnName::TryInsert => Call::TryInsert(key, value),
+        TurnName::ReplaceEntry => Call::ReplaceEntry(key, value),
+        _ => Call::PrefixInsert(key, value),
     }
 }
 

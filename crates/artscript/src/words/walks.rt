@@ -66,15 +66,30 @@ where
     let mut part: &[u8] = b"";
     for letter in letters {
         text.push(part)?;
-        match (*letter, left) {
-            (b'f', _) => walk.next().show(text)?,
-            (b'b', _) => walk.next_back().show(text)?,
-            (_, Left::Told) => walk.size_hint().0.show(text)?,
-            (_, Left::Untold) => return Err(Unanswered::NoCall),
-        }
+        show_step(&mut walk, left, *letter, text)?;
         part = b" ";
     }
     Ok(())
+}
+
+// Adds what the letter gave.
+fn show_step<W: DoubleEndedIterator>(
+    walk: &mut W,
+    left: Left,
+    letter: u8,
+    text: &mut Text,
+) -> Answered
+where
+    W::Item: Shown + Drop,
+    requires front { (s : W) → W.can_next s }
+    requires back { (s : W) → W.can_next_back s }
+{
+    match (letter, left) {
+        (b'f', _) => walk.next().show(text),
+        (b'b', _) => walk.next_back().show(text),
+        (_, Left::Told) => walk.size_hint().0.show(text),
+        (_, Left::Untold) => Err(Unanswered::NoCall),
+    }
 }
 
 /// A walk that lends values, to each of which a number is added as it passes.
