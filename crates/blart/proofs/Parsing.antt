@@ -1,19 +1,15 @@
 -- Words, keys and numbers as the code finds them.
-use Rattle.std.proofs.Common.{◌≡◌, ℕ, ◌+◌, ◌*◌, ◌%◌, ◌<◌, ◌≤◌, List, [], ◌∷◌, length, take, drop, get_or, Bool, true, false, cond, Some, None, Result, Ok, Err, is_some, refl, ap, arith, ltb-true, All, Vec, Global}
+use Rattle.std.proofs.Common.{◌≡◌, ℕ, ◌+◌, ◌%◌, ◌<◌, ◌≤◌, List, [], ◌∷◌, length, take, drop, Bool, true, false, cond, Some, None, Result, Ok, Err, is_some, refl, ap, arith, ltb-true, All, Vec, Global}
 use Rattle.std.specs.Prelude.{◌≢◌, nat_lt, ◌==◌, bytes_eq, codes, IfOk, MatchOption}
 use Rattle.std.specs.Result.{result_ok}
 use Rattle.std.specs.List.{position, position_or_len, list_all}
-use Rattle.std.specs.Char.{digit_value}
-use Rattle.std.specs.Str.Parse.{digits_value}
 use Rattle.std.proofs.lemmas.Bool.Decides.{nat_tests}
 use Rattle.std.proofs.lemmas.List.Splits.{slice_split_first, slice_split_none, length-slice_split}
 use Rattle.std.proofs.lemmas.List.Sums.{fails_before_first, AllPass-from_list_all, list_all-from_AllPass}
-use Rattle.std.proofs.lemmas.Int.Digits.{digits_value_more}
-use Rattle.std.proofs.lemmas.Str.Parse.{digits_value-take-le}
 use Rattle.hex.specs.Hex.{is_hex_digit, decode_of}
 use Rattle.hex.specs.declared.error.FromHexError.{FromHexError}
 use Rattle.hex.proofs.HexLemmas.{decode_of-ok, decode_of-digits}
-use Rattle.blart.specs.Command.{words_of, from_ok, key_of, below_limit}
+use Rattle.blart.specs.Command.{words_of, from_ok, key_of}
 
 -- ---- words
 
