@@ -7,7 +7,7 @@ pub use Rattle.blart_keys.specs.Bytes.{begins, related, less, common}
 unfoldable pub use Rattle.blart_keys.specs.Stored.{pair_at, pair_at_front, overlaps}
 pub use Rattle.blart_keys.specs.Stored.{value_at, value_at_front, has, kept_key, kept_pair, kept_item, kept, shown, Updates, HasNothing, TakesPair, Overwrites, WritesAt, WritesAtFront, Refuses, CanCount}
 -- where a query goes once a pair took the place of others, and what overlaps once one was put
-pub use Rattle.blart_map.specs.Routed.{spared_item, OverlapsToo}
+pub use Rattle.blart_keys.specs.Routed.{spared_item, OverlapsToo}
 -- a map as a list of pairs: without the numbers under which they stand, closed in proofs
 unfoldable pub use Rattle.blart_map.specs.Content.{pairs}
 pub use Rattle.blart_map.specs.Content.{Numbered}

@@ -9,6 +9,8 @@ pub mod FrontSizes
 pub mod StepLemmas
 pub mod Mapped
 pub mod StoredLemmas
+pub mod Overlapped
+pub mod Overwritten
 pub mod OutsideLemmas
 pub mod WalkLemmas
 pub mod MergeLemmas

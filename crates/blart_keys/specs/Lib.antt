@@ -9,6 +9,7 @@ pub mod Entries
 pub mod Bulk
 pub mod Steps
 pub mod Stored
+pub mod Routed
 pub mod Keys
 pub mod KeyBytes
 pub mod KeyLaws

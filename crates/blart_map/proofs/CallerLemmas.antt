@@ -4,8 +4,8 @@ pub use Rattle.blart_keys.proofs.StoredLemmas.{stores_is, pair_at-bytes, pair_at
 -- what a list has at some bytes after a change
 pub use Rattle.blart_keys.proofs.StoredLemmas.{updates_put, len_put, before_put, overwrites_over, before_over, updates_without, len_without, takes_first, takes_last, writes_at, writes_before}
 -- where a query goes once a pair was put over the related ones; what overlaps beside a stored key, and after an update
-pub use Rattle.blart_map.proofs.Overwritten.{routes_over}
-pub use Rattle.blart_map.proofs.Overlapped.{overlaps_near, overlaps_apart, overlaps_put}
+pub use Rattle.blart_keys.proofs.Overwritten.{routes_over}
+pub use Rattle.blart_keys.proofs.Overlapped.{overlaps_near, overlaps_apart, overlaps_put}
 -- what came from both ends of a walk
 pub use Rattle.blart_keys.proofs.WalkLemmas.{walked_start, walked_first, walked_last, walked_end}
 -- a map parted in two, and joined again

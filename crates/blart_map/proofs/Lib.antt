@@ -2,8 +2,6 @@ pub mod CallerLemmas
 pub mod Numbers
 pub mod Moved
 pub mod Passed
-pub mod Overlapped
-pub mod Overwritten
 pub mod Placed
 pub mod Related
 pub mod Taken

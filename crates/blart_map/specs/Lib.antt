@@ -27,5 +27,4 @@ pub mod OnceWritten
 pub mod OnceTaken
 pub mod EachWritten
 pub mod Reserved
-pub mod Routed
 pub mod Within

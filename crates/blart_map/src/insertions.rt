@@ -4,7 +4,7 @@ ghost use Rattle.blart_keys.specs.Bytes.{begins};
 ghost use Rattle.blart_keys.specs.Steps.{Puts, Inserts};
 ghost use Rattle.blart_keys.specs.Stored.{kept, pair_at, pair_at_front, value_at, has, overlaps, Updates, Refuses};
 ghost use Rattle.blart_map.specs.Content.{pairs};
-ghost use Rattle.blart_map.specs.Routed.{OverlapsToo};
+ghost use Rattle.blart_keys.specs.Routed.{OverlapsToo};
 
 use crate::map::TreeMap;
 use crate::placing::{exchange_at, put_at, put_lawful};

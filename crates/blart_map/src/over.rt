@@ -8,7 +8,7 @@ ghost use Rattle.art_tree.specs.Leaves.{leaf_in, with_pair};
 ghost use Rattle.art_walk.specs.Pairs.{pairs_of};
 ghost use Rattle.blart_map.specs.Content.{pairs};
 ghost use Rattle.blart_map.specs.Spans.{Spans, LeavesOne, thinned};
-ghost use Rattle.blart_map.specs.Routed.{spared_item};
+ghost use Rattle.blart_keys.specs.Routed.{spared_item};
 
 use crate::map::TreeMap;
 use art_tree::{LeafId, Point, Tree};

@@ -8,7 +8,7 @@ use Rattle.blart_keys.specs.Steps.{bytes}
 use Rattle.blart_keys.specs.Stored.{pair_at, pair_at_front, has, Overwrites}
 use Rattle.blart_keys.proofs.StoredLemmas.{stores_is}
 use Rattle.blart_map.specs.Bulk.{or_else}
-use Rattle.blart_map.specs.Routed.{spared_item}
+use Rattle.blart_keys.specs.Routed.{spared_item}
 use Rattle.blart_set.specs.Elements.{OverwritesElement}
 use Rattle.blart_set.proofs.Pairs.{keys, stores-keys, front-keys}
 

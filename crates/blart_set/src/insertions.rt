@@ -4,7 +4,7 @@ ghost use Rattle.blart_keys.specs.Bytes.{begins};
 ghost use Rattle.blart_keys.specs.Content.{at, conflict, front_of, stores, subtree, IsPut, IsOver};
 ghost use Rattle.blart_keys.specs.Stored.{kept_item, overlaps};
 ghost use Rattle.blart_map.specs.Content.{pairs};
-ghost use Rattle.blart_map.specs.Routed.{spared_item};
+ghost use Rattle.blart_keys.specs.Routed.{spared_item};
 ghost use Rattle.blart_set.specs.Elements.{elements, RefusesElement, UpdatesElement, OverwritesElement};
 ghost use Rattle.std.specs.Option.{is_none};
 ghost use Rattle.std.specs.Result.{result_map_both};

@@ -8,7 +8,7 @@ use Rattle.blart_keys.specs.Stored.{pair_at_front}
 use Rattle.blart_keys.proofs.ByteLemmas.{begins-trans}
 use Rattle.blart_keys.proofs.RankLemmas.{Member, Contains-from_Member, Member-from_Contains, find_none}
 use Rattle.blart_keys.proofs.ContentLemmas.{same_item, front_of_Some, front_of_None, front_of_member}
-use Rattle.blart_map.specs.Routed.{spared_item}
+use Rattle.blart_keys.specs.Routed.{spared_item}
 
 module _ {X : Type 0} (bytes : X → List ℕ) (S S' : List X) (x : X) (content : IsContent bytes S) (over : IsOver bytes S x S') (r : List ℕ) where
   -- what begins a query that x does not was there, and is not related to x

@@ -1,7 +1,8 @@
 -- What overlaps once a pair was put, or taken, at some bytes.
-use Rattle.std.proofs.Common.{◌≡◌, ◌≢◌, ℕ, Bool, true, false, List, Option, Some, refl, sym, ap, ◌∙◌, is_some, bytes_eq}
+use Rattle.std.proofs.Common.{◌≡◌, ◌≢◌, ℕ, true, false, List, Option, Some, refl, sym, ap, ◌∙◌, is_some, bytes_eq}
 use Rattle.std.proofs.lemmas.Bool.{false≢true, false_from_ne_true}
 use Rattle.std.proofs.Math.Bool.{or_comm}
+use Rattle.std.specs.Cmp.{both_ways}
 use Rattle.std.specs.Cmp.Lexicographic.{bytes_decides}
 use Rattle.blart_keys.specs.Bytes.{begins, related, conflicts}
 use Rattle.blart_keys.specs.Steps.{bytes}
@@ -9,16 +10,7 @@ use Rattle.blart_keys.specs.Stored.{has, overlaps, Updates}
 use Rattle.blart_keys.proofs.RankLemmas.{any_member}
 use Rattle.blart_keys.proofs.ContentLemmas.{stores_found, stores_member, conflict_found}
 use Rattle.blart_keys.proofs.StoredLemmas.{stores_is}
-use Rattle.blart_map.specs.Routed.{OverlapsToo}
-
--- two truths that imply one another are one
-same_truth : (a b : Bool) → (a ≡ true → b ≡ true) → (b ≡ true → a ≡ true) → a ≡ b
-same_truth true b f g = sym (f refl)
-same_truth false b f g = sym (false_from_ne_true b (λ t. false≢true (g t)))
-
--- of two byte lists each is related to the other or neither is
-turned : (a b : List ℕ) → related a b ≡ related b a
-turned a b = or_comm (begins a b) (begins b a)
+use Rattle.blart_keys.specs.Routed.{OverlapsToo}
 
 module _ {K V : Type 0} (kb : K → List ℕ) where
   -- what overlaps some bytes stands at others that are related
@@ -34,7 +26,7 @@ module _ {K V : Type 0} (kb : K → List ℕ) where
   overlaps_near S q r h rel off =
       let f = stores_found (bytes kb) S q (stores_is kb S q ∙ h) in
       let other : bytes_eq q r ≡ false = false_from_ne_true _ (λ t. off (sym ((bytes_decides q r).0 t))) in
-      let meets : conflicts q r ≡ true = rw (turned q r ∙ rel, other) refl in
+      let meets : conflicts q r ≡ true = rw (or_comm (begins q r) (begins r q) ∙ rel, other) refl in
       any_member (λ x. conflicts (kb x.0) r) S f.0 f.1 (ap (λ k. conflicts k r) f.2 ∙ meets)
 
   module _ (S S' : List (K × V)) (q : List ℕ) (w : Option (K × V)) (u : Updates kb S S' q w) (r : List ℕ) where
@@ -43,12 +35,12 @@ module _ {K V : Type 0} (kb : K → List ℕ) where
 
     -- where what overlaps stands, it overlaps as before
     apart : ((p : List ℕ) → related p r ≡ true → p ≢ r → p ≢ q) → overlaps kb S' r ≡ overlaps kb S r
-    apart off = same_truth (overlaps kb S' r) (overlaps kb S r)
-        (λ h. let m = met S' r h in overlaps_near S m.0 r (sym (stands m.0 (off m.0 m.2 m.3)) ∙ m.1) (turned r m.0 ∙ m.2) (λ e. m.3 (sym e)))
-        (λ h. let m = met S r h in overlaps_near S' m.0 r (stands m.0 (off m.0 m.2 m.3) ∙ m.1) (turned r m.0 ∙ m.2) (λ e. m.3 (sym e)))
+    apart off = both_ways (overlaps kb S' r) (overlaps kb S r)
+        (λ h. let m = met S' r h in overlaps_near S m.0 r (sym (stands m.0 (off m.0 m.2 m.3)) ∙ m.1) (or_comm (begins r m.0) (begins m.0 r) ∙ m.2) (λ e. m.3 (sym e)))
+        (λ h. let m = met S r h in overlaps_near S' m.0 r (stands m.0 (off m.0 m.2 m.3) ∙ m.1) (or_comm (begins r m.0) (begins m.0 r) ∙ m.2) (λ e. m.3 (sym e)))
 
     pub overlaps_apart : related r q ≡ false → overlaps kb S' r ≡ overlaps kb S r
-    overlaps_apart off = apart (λ p rel n e. false≢true (sym off ∙ turned r q ∙ ap (λ k. related k r) (sym e) ∙ rel))
+    overlaps_apart off = apart (λ p rel n e. false≢true (sym off ∙ or_comm (begins r q) (begins q r) ∙ ap (λ k. related k r) (sym e) ∙ rel))
 
   pub overlaps_put : (S S' : List (K × V)) (q : List ℕ) (x : K × V) → Updates kb S S' q (Some x) → OverlapsToo kb S S' q
   overlaps_put S S' q x u = record {
