@@ -1,11 +1,14 @@
 -- The numbers of a block.
-use Rattle.std.proofs.Common.{◌≡◌, ◌⊎◌, ℕ, zero, suc, ◌+◌, ◌*◌, ◌<◌, ◌≤◌, List, [], ◌∷◌, ◌++◌, length, take, drop, get_or, refl, ap, ◌∙◌, Some, true, false, cond, eqb, eq-eqb, inl, inr, arith}
+use Rattle.std.proofs.Common.{◌≡◌, ◌⊎◌, ℕ, zero, suc, ◌+◌, ◌-◌, ◌*◌, ◌/◌, ◌%◌, ◌<◌, ◌≤◌, List, [], ◌∷◌, ◌++◌, length, take, drop, get_or, refl, sym, ap, ◌∙◌, Some, true, false, cond, eqb, eq-eqb, inl, inr, arith}
 use Rattle.std.proofs.lemmas.Bool.Decides.{leb_tells, eqb_tells}
-use Rattle.std.proofs.lemmas.List.{take-append-drop, length-map, length-take-le, map-append, take-map, drop-map}
+use Rattle.std.proofs.lemmas.List.{take-append-drop, length-map, length-take-le, take-take, drop-take, map-append, take-map, drop-map}
 use Rattle.std.proofs.lemmas.List.Sums.{sum_by-append, sum_by-cons}
 use Rattle.std.specs.List.{range_with_len}
+use Rattle.std.proofs.Math.Nat.{div-div-eq-div-mul}
+use Rattle.std.proofs.lemmas.Nat.{le_bytes_8}
+use Rattle.std.specs.Int.{w64, to_le_bytes, from_le_bytes}
 use Rattle.art_rows.specs.Rows.{among, nth}
-use Rattle.art_rows.specs.Blocks.{times, row_of, numbers_at, AreWithin, ArePlaces}
+use Rattle.art_rows.specs.Blocks.{times, row_of, numbers_at, low_bytes, AreWithin, ArePlaces}
 use Rattle.art_rows.specs.declared.row.TheConstants.{ROW}
 use Rattle.art_rows.proofs.NumbersLemmas.{eqb_same, eqb_other}
 
@@ -118,6 +121,51 @@ within_more ns n w = (
   λ m h. w m (let a = times-append ns (n ∷ []) m in omega arith),
 )
 
+-- ---- cells as a number
+
+-- the first bytes of more
+low_bytes-take : (k j n : ℕ) → take k (low_bytes (k + j) n) ≡ low_bytes k n
+low_bytes-take zero j n = refl
+low_bytes-take (suc k) j n = (
+    let e : suc k + j ≡ suc (k + j) = omega arith in
+    ap (λ i. take (suc k) (low_bytes i n)) e ∙ ap (λ l. n % 256 ∷ l) (low_bytes-take k j (n / 256)))
+
+pub length-low_bytes : (k n : ℕ) → length (low_bytes k n) ≡ k
+length-low_bytes zero n = refl
+length-low_bytes (suc k) n = ap suc (length-low_bytes k (n / 256))
+
+-- all eight
+low_bytes-all : (n : ℕ) → low_bytes 8 n ≡ to_le_bytes w64 n
+low_bytes-all n = λ i. n % 256 ∷ n / 256 % 256 ∷ two i % 256 ∷ three i % 256 ∷ four i % 256 ∷ five i % 256 ∷ six i % 256 ∷ seven i % 256 ∷ [] where
+  two : n / 256 / 256 ≡ n / 65536
+  two = div-div-eq-div-mul n 256 256
+
+  three : n / 256 / 256 / 256 ≡ n / 16777216
+  three = ap (λ m. m / 256) two ∙ div-div-eq-div-mul n 65536 256
+
+  four : n / 256 / 256 / 256 / 256 ≡ n / 4294967296
+  four = ap (λ m. m / 256) three ∙ div-div-eq-div-mul n 16777216 256
+
+  five : n / 256 / 256 / 256 / 256 / 256 ≡ n / 1099511627776
+  five = ap (λ m. m / 256) four ∙ div-div-eq-div-mul n 4294967296 256
+
+  six : n / 256 / 256 / 256 / 256 / 256 / 256 ≡ n / 281474976710656
+  six = ap (λ m. m / 256) five ∙ div-div-eq-div-mul n 1099511627776 256
+
+  seven : n / 256 / 256 / 256 / 256 / 256 / 256 / 256 ≡ n / 72057594037927936
+  seven = ap (λ m. m / 256) six ∙ div-div-eq-div-mul n 281474976710656 256
+
+small : (cells : List ℕ) (i : ℕ) → AreWithin cells → get_or cells i 0 < 256
+small [] i w = omega arith
+small (c ∷ cells) zero w = omega (arith, (within_cons c cells w).0)
+small (c ∷ cells) (suc i) w = small cells i (within_cons c cells w).1
+
+-- eight cells that were read as a number are its bytes
+pub low_bytes-of : (cells : List ℕ) (k n : ℕ) → length cells ≡ 8 → AreWithin cells → k ≤ 8 → n ≡ from_le_bytes w64 cells → low_bytes k n ≡ take k cells
+low_bytes-of cells k n l w h is =
+    let e : k + (8 - k) ≡ 8 = omega arith in
+    sym (low_bytes-take k (8 - k) n) ∙ ap (λ j. take k (low_bytes j n)) e ∙ ap (take k) (low_bytes-all n ∙ le_bytes_8 cells n l (λ i. small cells i w) is)
+
 -- ---- the numbers of cells
 
 -- so many as there are cells
@@ -157,3 +205,14 @@ numbers-put first c place cells = map-append (λ d. first + d) (take place cells
 -- the cell at a place is taken out
 pub numbers-cut : (first place : ℕ) (cells : List ℕ) → numbers_at first (take place cells ++ drop (place + 1) cells) ≡ take place (numbers_at first cells) ++ drop (place + 1) (numbers_at first cells)
 numbers-cut first place cells = map-append (λ d. first + d) (take place cells) (drop (place + 1) cells) ∙ rw (take-map (λ d. first + d) place cells, drop-map (λ d. first + d) (place + 1) cells) refl
+
+-- cells after a place, of more of which the first so many are in use
+pub numbers-after : (first place count n k : ℕ) (cells : List ℕ) → place + 1 + k ≤ count → k ≤ 8 → k ≤ n → numbers_at first (take k (take 8 (take n (drop (place + 1) cells)))) ≡ take k (drop (place + 1) (numbers_at first (take count cells)))
+numbers-after first place count n k cells l e m =
+    let after : List ℕ = drop (place + 1) cells in
+    let rest : ℕ = count - (place + 1) in
+    let whole : place + 1 + rest ≡ count = omega arith in
+    let used : drop (place + 1) (take count cells) ≡ take rest after = ap (λ c. drop (place + 1) (take c cells)) (sym whole) ∙ drop-take (place + 1) rest cells in
+    ap (numbers_at first) (take-take k 8 (take n after) e ∙ take-take k n after m ∙ sym (take-take k rest after (omega arith)) ∙ ap (take k) (sym used))
+    ∙ sym (take-map (λ c. first + c) k (drop (place + 1) (take count cells)))
+    ∙ ap (take k) (sym (drop-map (λ c. first + c) (place + 1) (take count cells)))

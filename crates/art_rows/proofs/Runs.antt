@@ -24,6 +24,10 @@ nth-take [] (suc k) j n e = absurd cc
 nth-take (m ∷ ns) (suc k) zero n e = e
 nth-take (m ∷ ns) (suc k) (suc j) n e = nth-take ns k j n e
 
+-- the first of a run are one
+pub run_cut : {X : Type 0} (ps : List (Numbered X)) (i k : ℕ) (run : List ℕ) → RunsAfter ps i run → RunsAfter ps i (take k run)
+run_cut ps i k run r j n e = r j n (nth-take run k j n e)
+
 module _ {X : Type 0} (ps : List (Numbered X)) (distinct : AreDistinct ps) (i n : ℕ) (has : Has ps i) (rest : List ℕ) where
   -- the first of a run is the next number, and the others are a run after that
   pub after_step : RunsAfter ps i (n ∷ rest) → (number_after ps i ≡ Some n) × RunsAfter ps n rest

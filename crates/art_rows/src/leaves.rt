@@ -390,9 +390,9 @@ impl<K, V> Leaves<K, V> {
         }
     }
 
-    /// The leaf after this one; `run` is a run of numbers after this one in its row, and then such a run after that one: where it is not empty, no row is read. It borrows no row, so between two steps values may be written.
+    /// The leaf after this one; `run` is a run of numbers after this one in its row, and then such a run after that one: where it is not empty, no row is read. It borrows no row, so between two steps values may be written. `seen` is where this leaf may stand where `run` is empty, and then where the last of `run` does.
     #[inline(always)]
-    pub fn next_ahead(&self, id: LeafId, run: &mut OwnedRun) -> Option<LeafId>
+    pub fn next_ahead(&self, id: LeafId, run: &mut OwnedRun, seen: &mut Position) -> Option<LeafId>
         requires has { Has self.now.pairs id }
         requires runs { RunsAfter self.now.pairs id run.old }
         ensures next { result ≡ number_after self.now.pairs id }
@@ -402,25 +402,17 @@ impl<K, V> Leaves<K, V> {
         if let Some(next) = run.split_off_first() {
             return Some(next);
         }
-        self.copy_run(id, run)
-    }
-
-    // The leaf after this one; `run` becomes the numbers after that one in its row.
-    #[cold]
-    #[inline(never)]
-    fn copy_run(&self, id: LeafId, run: &mut OwnedRun) -> Option<LeafId>
-        requires { Has self.now.pairs id }
-        ensures next { result ≡ number_after self.now.pairs id }
-        ensures runs { IfSome result (λ n. RunsAfter self.now.pairs n run.new) }
-    {
         let rows = &self.rows;
-        let Some(position) = self.forward(self.position_of(id)) else {
+        let Some(position) = self.forward(self.position_near(id, *seen)) else {
             return None;
         };
         let row = rows.read(position.row);
-        let next = row.run().at(position.place);
         *run = row.owned_after(position.place);
-        Some(next)
+        *seen = Position {
+            row: position.row,
+            place: position.place + run.len(),
+        };
+        Some(row.run().at(position.place))
     }
 
     /// The leaf before this one; `run` is a run of numbers before this one in its row, and then such a run before that one: where it is not empty, no row is read.

@@ -104,12 +104,17 @@ impl Row {
         Run::new(ROW * self.block, &self.cells[..self.count])
     }
 
-    /// The numbers after a place, copied.
+    /// The next numbers after a place, copied: eight where there are as many, and none where less than eight cells of the row come after the place.
     pub(crate) fn owned_after(&self, place: usize) -> OwnedRun
         requires { place < length self.now }
-        ensures { result ≡ drop (place + 1) self.now }
+        ensures run { result ≡ take (length result) (drop (place + 1) self.now) }
+        ensures last { place + length result < ROW }
     {
-        OwnedRun::new(ROW * self.block, self.cells, place + 1, self.count)
+        let rest = self.len() - place - 1;
+        match self.cells[place + 1..].first_chunk::<8>() {
+            Some(cells) => OwnedRun::new(ROW * self.block, *cells, rest.min(8)),
+            None => OwnedRun::empty(),
+        }
     }
 
     /// Puts another number of the block at a place, and answers it.

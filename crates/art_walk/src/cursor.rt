@@ -27,13 +27,14 @@ fn without_first<K, V>(
     Some((next, last))
 }
 
-// The ends without the first leaf; `run` are numbers that follow that, and then numbers that follow the one that is the first. Nothing is looked for after the last.
+// The same; `run` are numbers that follow the first leaf, and then numbers that follow the one that is the first. Where there are some, the leaf may not stand where it was seen.
 #[inline(always)]
 fn without_first_of_run<K, V>(
     leaves: &Leaves<K, V>,
     first: LeafId,
     last: LeafId,
     run: &mut OwnedRun,
+    seen: &mut Position,
 ) -> Option<(LeafId, LeafId)>
     requires has { Has leaves.now.pairs first }
     requires runs { RunsAfter leaves.now.pairs first run.old }
@@ -45,7 +46,7 @@ fn without_first_of_run<K, V>(
     if first == last {
         return None;
     }
-    let next = leaves.next_ahead(first, run)?;
+    let next = leaves.next_ahead(first, run, seen)?;
     Some((next, last))
 }
 
@@ -161,7 +162,7 @@ impl Cursor {
     {
         tree.law();
         let (first, last) = self.ends?;
-        let ends = without_first_of_run(tree.leaves(), first, last, run);
+        let ends = without_first_of_run(tree.leaves(), first, last, run, &mut self.first_at);
         self.ends = ends;
         Some(first)
     }
