@@ -402,8 +402,13 @@ impl<K, V> Leaves<K, V> {
         if let Some(next) = run.split_off_first() {
             return Some(next);
         }
+        if let Some((next, ahead)) = self.ahead_in_row(id, *seen) {
+            seen.place += 1 + ahead.len();
+            *run = ahead;
+            return Some(next);
+        }
         let rows = &self.rows;
-        let Some(position) = self.forward(self.position_near(id, *seen)) else {
+        let Some(position) = self.forward(self.position_of(id)) else {
             return None;
         };
         let row = rows.read(position.row);
@@ -413,6 +418,19 @@ impl<K, V> Leaves<K, V> {
             place: position.place + run.len(),
         };
         Some(row.run().at(position.place))
+    }
+
+    // The leaf after this one, and numbers after that, where this one stands as it was seen, and is not the last of its row.
+    #[inline(always)]
+    fn ahead_in_row(&self, id: LeafId, seen: Position) -> Option<(LeafId, OwnedRun)>
+        requires { Has self.now.pairs id }
+        ensures next { IfSome result (λ r. number_after self.now.pairs id ≡ Some r.0) }
+        ensures runs { IfSome result (λ r. RunsAfter self.now.pairs r.0 r.1) }
+        ensures last { IfSome result (λ r. seen.place + 1 + length r.1 < ROW) }
+    {
+        let row = self.rows.get(seen.row)?;
+        let next = row.run().after(seen.place, id)?;
+        Some((next, row.owned_after(seen.place + 1)))
     }
 
     /// The leaf before this one; `run` is a run of numbers before this one in its row, and then such a run before that one: where it is not empty, no row is read.

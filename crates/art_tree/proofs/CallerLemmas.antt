@@ -24,7 +24,6 @@ pub use Rattle.art_tree.proofs.Pairs.Numbers.{AreDistinct-with_value, numbers-wi
 pub use Rattle.art_tree.proofs.Pairs.Filtering.{AreDistinct-filter, filter-without, dropped_without, filter_every, HasTwoPairs, two_ends, only_one}
 -- the keys of the pairs
 pub use Rattle.art_tree.proofs.Pairs.Keys.{key_of_member, member_of_key}
--- a key that is related to one alone
 -- the ends of what is within a bound, or below some bytes
 pub use Rattle.art_tree.proofs.Pairs.Bounds.{are_ends, no_pairs_between, number_within_has}
 

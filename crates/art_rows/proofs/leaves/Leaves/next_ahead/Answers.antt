@@ -15,36 +15,36 @@ returns-in-Some-clause-runs g c = (after_step c.args.self.now.pairs c.law.ensure
 pub returns-in_default-forward-clause-next : goal.returns-in_default-forward-clause-next
 returns-in_default-forward-clause-next g c =
     let f = seen c.self.inside c.self.view_is c.self.invariant in
-    let at = ap (λ t. position_at t.rows (index_of c.args.self.now.pairs c.args.id + 1)) c.self.view_is ∙ sym (c.forward.ensures _ c.position_near.ensures) in
+    let at = ap (λ t. position_at t.rows (index_of c.args.self.now.pairs c.args.id + 1)) c.self.view_is ∙ sym (c.forward.ensures _ c.position_of.ensures) in
     sym (number_after-nth _ c.args.id c.requires.has ∙ none_there f _ (at ∙ c.in_default-forward.is))
 
 pub read-row-requires : goal.read-row-requires
 read-row-requires g c =
-    let at = ap (λ t. position_at t.rows (index_of c.args.self.now.pairs c.args.id + 1)) c.self.view_is ∙ sym (c.forward.ensures _ c.position_near.ensures) ∙ c.in-Some-forward.is in
+    let at = ap (λ t. position_at t.rows (index_of c.args.self.now.pairs c.args.id + 1)) c.self.view_is ∙ sym (c.forward.ensures _ c.position_of.ensures) ∙ c.in-Some-forward.is in
     has_row_at (seen c.self.inside c.self.view_is c.self.invariant) _ c.in-Some-forward.position at
 
 pub owned_after-requires : goal.owned_after-requires
 owned_after-requires g c =
-    let at = ap (λ t. position_at t.rows (index_of c.args.self.now.pairs c.args.id + 1)) c.self.view_is ∙ sym (c.forward.ensures _ c.position_near.ensures) ∙ c.in-Some-forward.is in
+    let at = ap (λ t. position_at t.rows (index_of c.args.self.now.pairs c.args.id + 1)) c.self.view_is ∙ sym (c.forward.ensures _ c.position_of.ensures) ∙ c.in-Some-forward.is in
     place_at (seen c.self.inside c.self.view_is c.self.invariant) _ c.in-Some-forward.position at _ c.read-row.ensures
 
 pub overflow_add-seen : goal.overflow_add-seen
-overflow_add-seen g c = omega (arith, c.owned_after.ensures.last, c.len.ensures)
+overflow_add-seen g c = omega (arith, c.in-Some-ahead_in_row.ensures, c.len.ensures)
 
 pub at-requires : goal.at-requires
 at-requires g c =
-    let at = ap (λ t. position_at t.rows (index_of c.args.self.now.pairs c.args.id + 1)) c.self.view_is ∙ sym (c.forward.ensures _ c.position_near.ensures) ∙ c.in-Some-forward.is in
+    let at = ap (λ t. position_at t.rows (index_of c.args.self.now.pairs c.args.id + 1)) c.self.view_is ∙ sym (c.forward.ensures _ c.position_of.ensures) ∙ c.in-Some-forward.is in
     rw c.run.ensures (place_at (seen c.self.inside c.self.view_is c.self.invariant) _ c.in-Some-forward.position at _ c.read-row.ensures)
 
 pub returns-clause-next : goal.returns-clause-next
 returns-clause-next g c =
-    let at = ap (λ t. position_at t.rows (index_of c.args.self.now.pairs c.args.id + 1)) c.self.view_is ∙ sym (c.forward.ensures _ c.position_near.ensures) ∙ c.in-Some-forward.is in
+    let at = ap (λ t. position_at t.rows (index_of c.args.self.now.pairs c.args.id + 1)) c.self.view_is ∙ sym (c.forward.ensures _ c.position_of.ensures) ∙ c.in-Some-forward.is in
     let there = rw c.run.ensures at c.at.ensures in
     sym (next_there (seen c.self.inside c.self.view_is c.self.invariant) _ c.in-Some-forward.position at _ c.read-row.ensures c.at.result there c.args.id c.requires.has refl)
 
 pub returns-clause-runs : goal.returns-clause-runs
 returns-clause-runs g c =
-    let at = ap (λ t. position_at t.rows (index_of c.args.self.now.pairs c.args.id + 1)) c.self.view_is ∙ sym (c.forward.ensures _ c.position_near.ensures) ∙ c.in-Some-forward.is in
+    let at = ap (λ t. position_at t.rows (index_of c.args.self.now.pairs c.args.id + 1)) c.self.view_is ∙ sym (c.forward.ensures _ c.position_of.ensures) ∙ c.in-Some-forward.is in
     let there = rw c.run.ensures at c.at.ensures in
     let whole = after_in_row (seen c.self.inside c.self.view_is c.self.invariant) _ c.in-Some-forward.position at _ c.read-row.ensures c.at.result there in
     subst (RunsAfter c.args.self.now.pairs c.at.result) (sym c.owned_after.ensures.run) (run_cut c.args.self.now.pairs c.at.result (length c.owned_after.result) (drop (c.in-Some-forward.position.place + 1) c.read-row.result.now) whole)
