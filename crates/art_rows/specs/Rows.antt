@@ -67,6 +67,10 @@ start_of r = record { row = r; place = 0 }
 abbrev pub nowhere : Position
 nowhere = record { row = 0; place = 0 }
 
+-- what follows where nothing was looked up
+abbrev pub nothing_follows : Following
+nothing_follows = record { run = []; row = None }
+
 module _ {X : Type 0} where
   -- the numbers of a run stand directly after that of i, in this order
   abbrev pub RunsAfter : List (Numbered X) → ℕ → List ℕ → Type 0

@@ -1,5 +1,5 @@
 //! What follows a leaf in the rows.
-ghost use Rattle.std.specs.Prelude.{◌≡◌, [], None};
+ghost use Rattle.std.specs.Prelude.{◌≡◌};
 
 use crate::run::Run;
 
@@ -11,10 +11,11 @@ pub struct Following<'a> {
 }
 
 impl<'a> Following<'a> {
+    ghost use Rattle.art_rows.specs.Rows.{nothing_follows};
+
     /// Nothing was looked up.
     pub fn unknown() -> Self
-        ensures run { result.run ≡ [] }
-        ensures row { result.row ≡ None }
+        ensures { result ≡ nothing_follows }
     {
         Following {
             run: Run::empty(),

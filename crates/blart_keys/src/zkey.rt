@@ -80,9 +80,11 @@ impl ZKey {
 }
 
 impl AsBytes for ZKey {
-    ghost bytes = { λ k. k.bytes.items };
+    ghost use Rattle.blart_keys.specs.KeyBytes.{zkey_bytes};
 
-    ghost IsValue = { λ k. record { zero : EndsInZero k.bytes.items; small : AreBytes k.bytes.items } };
+    ghost bytes = { zkey_bytes };
+
+    ghost IsValue = { λ k. record { zero : EndsInZero (zkey_bytes k); small : AreBytes (zkey_bytes k) } };
 
     fn as_bytes(&self) -> &[u8] {
         self.bytes.as_slice()
