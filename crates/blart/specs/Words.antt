@@ -21,25 +21,29 @@ pub use Rattle.blart_keys.specs.Fronts.{fronts}
 -- many pairs at once
 pub use Rattle.blart_keys.specs.Bulk.{PutsAll, IsAppended}
 pub use Rattle.blart_map.specs.Bulk.{TakesItems, IsPairClone, AreClones, or_else}
--- a map and a set with room made beforehand: what will be there, and how much room is left
-pub use Rattle.blart_map.specs.Reserved.{held, room_left}
+-- an entry: the reference to its map, the stored pair and value, and the key
+pub use Rattle.blart_map.specs.Entry.{entry_ref, entry_pair, entry_value, entry_key, vacant_key}
+pub use Rattle.blart_map.specs.InnerEntry.{inner_ref, inner_key}
+pub use Rattle.blart_map.specs.PrefixEntry.{prefix_ref}
+-- a map and a set with room made beforehand: which it is, what will be there, and how much room is left
+pub use Rattle.blart_map.specs.Reserved.{reserved_map, held, room_left}
 pub use Rattle.blart_map.specs.Within.{as_tried, added, added_ok}
-pub use Rattle.blart_set.specs.Reserved.{held_elements, elements_left, added_new, added_new_ok}
+pub use Rattle.blart_set.specs.Reserved.{reserved_set, held_elements, elements_left, added_new, added_new_ok}
 -- what came from a walk
 pub use Rattle.blart_keys.specs.Walks.{TakesFirst, TakesLast, Walked}
 -- what a closure was asked, and which items it kept
 pub use Rattle.blart_keys.specs.Walks.{Asked, picked, Retains, AsksPair}
--- what a walk that lends has left, and what the map will be
-pub use Rattle.blart_map.specs.LendingWalk.{lending_left, LendsWhere}
-pub use Rattle.blart_map.specs.CountedWalk.{counted_left, LendsAll}
-pub use Rattle.blart_map.specs.TakeWalk.{take_left, LentFirst, LentLast, NoneLent}
+-- a walk that lends: the reference to its map, the pair that it lent last, what it has left, and what the map will be
+pub use Rattle.blart_map.specs.LendingWalk.{lending_map, lending_last, lending_left, LendsWhere}
+pub use Rattle.blart_map.specs.CountedWalk.{counted_map, counted_last, counted_left, LendsAll}
+pub use Rattle.blart_map.specs.TakeWalk.{take_map, take_undecided, take_left, LentFirst, LentLast, NoneLent}
 -- a cursor, which holds no map: what it has left, what it passes, and what it keeps where a pair goes
 pub use Rattle.blart_map.specs.Passed.{leaf_in, Has, Lacks, without_number, leaves_left, FitsIn, PassesFirst, PassesLast, WasFirst, WasLast, StaysLeft}
 -- how many visits it takes at most to open a walk
 pub use Rattle.blart_map.specs.Openings.{longest, longer, opening}
 -- what a walk that takes leaves
 pub use Rattle.blart_map.specs.OnceTaken.{taken_all, once_taken, still_to_take, once_extracted, still_to_extract}
-pub use Rattle.blart_map.specs.ExtractIf.{extract_left, CanExtract, CanExtractBack, Extraction, ExtractsFirstTrue, ExtractsNext, ExtractsNextBack}
+pub use Rattle.blart_map.specs.ExtractIf.{extract_map, extract_pred, extract_left, CanExtract, CanExtractBack, Extraction, ExtractsFirstTrue, ExtractsNext, ExtractsNextBack}
 pub use Rattle.blart_map.specs.OnceWritten.{rewritten, all_rewritten, once_written, all_once_written}
 -- what a closure leaves that is called at each value
 pub use Rattle.blart_map.specs.EachWritten.{CalledAtEach, CallableInTurn, with_values, with_values_where, WritesEach, WritesWhere, WritesLeft, LeavesValue, TakesAtValue, LeavesPair, TakesAtPair, ActsOnValue, ActsOnPair, ActsWhere}

@@ -11,6 +11,14 @@ use Rattle.blart_map.specs.declared.walks.counted_walk.CountedWalk.{CountedWalk}
 use Rattle.blart_map.specs.contracts.walks.counted_walk.CountedWalk.{the_row}
 use Rattle.art_walk.specs.contracts.openings.WithKeys as with_keys
 
+-- the reference to the map
+abbrev pub counted_map : {K V M : Type 0} {p : ℕ} {g : Ghosts K} → CountedWalk K V M p g → MutBor (List (Numbered K V))
+counted_map s = s.map
+
+-- the number of the pair that was lent last, if one was
+abbrev pub counted_last : {K V M : Type 0} {p : ℕ} {g : Ghosts K} → CountedWalk K V M p g → Option ℕ
+counted_last s = s.lent
+
 -- the pairs whose values are still to be lent
 abbrev pub counted_left : {K V M : Type 0} {p : ℕ} {g : Ghosts K} → CountedWalk K V M p g → List (Numbered K V)
 counted_left s = leaves_left s.cursor s.map.now

@@ -12,6 +12,7 @@ use Rattle.art_tree.specs.Leaves.{leaf_in, keys_in, with_value}
 use Rattle.blart_map.specs.Content.{Numbered, pairs}
 use Rattle.blart_map.specs.declared.entry.Entry.{Entry}
 use Rattle.blart_map.specs.declared.occupied.OccupiedEntry.{OccupiedEntry}
+use Rattle.blart_map.specs.declared.vacant.VacantEntry.{VacantEntry}
 
 module _ {K V T : Type 0} {P : ℕ} {g : Ghosts K} where
   -- the reference to the map
@@ -41,6 +42,10 @@ module _ {K V T : Type 0} {P : ℕ} {g : Ghosts K} where
   abbrev pub entry_key : Entry K V P T g → Option K
   entry_key (Occupied o) = option_map (λ p. p.0) (leaf_in o.map.now o.id)
   entry_key (Vacant e) = Some e.key
+
+  -- the key that was handed in, of a vacant entry
+  abbrev pub vacant_key : VacantEntry K V P T g → K
+  vacant_key e = e.key
 
   -- occupied or vacant
   abbrev pub entry_kind : Entry K V P T g → Kind

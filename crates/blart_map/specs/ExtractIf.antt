@@ -20,6 +20,14 @@ pub record Extraction (K V F : Type 0) : Type 0 where
 abbrev pub stands_at : {K V F : Type 0} → List (Numbered K V) → F → List (Numbered K V) → Extraction K V F
 stands_at map closure left = record { map = map; closure = closure; left = left }
 
+-- the reference to the map
+abbrev pub extract_map : {K V F : Type 0} {p : ℕ} {g : Ghosts K} → ExtractIf K V F p g → MutBor (List (Numbered K V))
+extract_map s = s.map
+
+-- the closure, as the calls so far have left it
+abbrev pub extract_pred : {K V F : Type 0} {p : ℕ} {g : Ghosts K} → ExtractIf K V F p g → F
+extract_pred s = s.pred
+
 -- the pairs that the closure may still be asked about
 abbrev pub extract_left : {K V F : Type 0} {p : ℕ} {g : Ghosts K} → ExtractIf K V F p g → List (Numbered K V)
 extract_left s = leaves_left s.cursor s.map.now

@@ -1,10 +1,11 @@
 -- What the contracts of an inner entry cite.
 use Rattle.std.specs.Prelude.{◌≡◌, ℕ, List, [], ◌∷◌, length, Option, Some, None, IfSome}
+use Rattle.std.specs.Borrow.{MutBor}
 use Rattle.blart_keys.specs.declared.AsBytes.{Ghosts}
 use Rattle.blart_keys.specs.Content.{subtree, IsOver}
 use Rattle.blart_keys.specs.Steps.{bytes as pair_bytes}
 use Rattle.blart_keys.specs.Stored.{value_at, Overwrites, Updates}
-use Rattle.art_tree.specs.Leaves.{Numbered, with_pair}
+use Rattle.art_tree.specs.Leaves.{Numbered, with_pair, with_value}
 use Rattle.blart_map.specs.Content.{pairs}
 use Rattle.blart_map.specs.Spans.{thinned}
 use Rattle.blart_map.specs.Entry.{Occupied, entry_pair, entry_bytes}
@@ -18,6 +19,14 @@ only (x ∷ []) = Some x
 only (x ∷ y ∷ xs) = None
 
 module _ {K V T : Type 0} {P : ℕ} {g : Ghosts K} where
+  -- the reference to the map
+  abbrev pub inner_ref : InnerOccupiedEntry K V P T g → MutBor (List (Numbered K V))
+  inner_ref e = e.map
+
+  -- the key that was handed in
+  abbrev pub inner_key : InnerOccupiedEntry K V P T g → K
+  inner_key e = e.key
+
   -- the pairs to which the key is related
   abbrev pub related_pairs : InnerOccupiedEntry K V P T g → List (K × V)
   related_pairs e = subtree (pair_bytes g.bytes) (pairs e.map.now) (g.bytes e.key)
@@ -33,6 +42,10 @@ module _ {K V T : Type 0} {P : ℕ} {g : Ghosts K} where
     pub same_key : d.key ≡ e.key
     pub same_first : d.first ≡ e.first
     pub same_last : d.last ≡ e.last
+
+  -- the pairs, once the first to which the key is related has the value w
+  abbrev pub inner_with : InnerOccupiedEntry K V P T g → V → List (Numbered K V)
+  inner_with e w = with_value e.map.now e.first w
 
   -- if there is only one of them, it has the value w, all else is as it was
   abbrev pub IsOnlyWritten : InnerOccupiedEntry K V P T g → V → List (Numbered K V) → Type 0

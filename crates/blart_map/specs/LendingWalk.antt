@@ -10,6 +10,14 @@ use Rattle.art_walk.specs.Lent.{LentFirst, LentLast, NoneLent, written_last, fit
 use Rattle.blart_map.specs.declared.walks.lending_walk.LendingWalk.{LendingWalk}
 use Rattle.blart_map.specs.contracts.walks.lending_walk.LendingWalk.{the_row}
 
+-- the reference to the map
+abbrev pub lending_map : {K V M : Type 0} {p : ℕ} {g : Ghosts K} → LendingWalk K V M p g → MutBor (List (Numbered K V))
+lending_map s = s.map
+
+-- the number of the pair that was lent last, if one was
+abbrev pub lending_last : {K V M : Type 0} {p : ℕ} {g : Ghosts K} → LendingWalk K V M p g → Option ℕ
+lending_last s = s.lent
+
 -- the pairs whose values are still to be lent
 abbrev pub lending_left : {K V M : Type 0} {p : ℕ} {g : Ghosts K} → LendingWalk K V M p g → List (Numbered K V)
 lending_left s = leaves_left s.cursor s.map.now

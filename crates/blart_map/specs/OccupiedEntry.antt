@@ -16,6 +16,10 @@ module _ {K V : Type 0} where
   ]
 
 module _ {K V T : Type 0} {P : ℕ} {g : Ghosts K} where
+  -- the number of the entry's pair
+  abbrev pub entry_leaf : OccupiedEntry K V P T g → ℕ
+  entry_leaf o = o.id
+
   -- the entry, once w is its value
   abbrev pub with_entry_value : OccupiedEntry K V P T g → V → OccupiedEntry K V P T g
   with_entry_value o w = record {

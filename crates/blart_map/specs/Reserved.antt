@@ -7,6 +7,14 @@ use Rattle.blart_map.specs.contracts.map.TreeMap as tree_map
 use Rattle.blart_map.specs.declared.reserved.Room.{Room}
 use Rattle.blart_map.specs.declared.reserved.Reserved.{Reserved}
 
+-- the reference to what was lent to the guard
+abbrev pub reserved_map : {M R : Type 0} → Reserved M R → MutBor M
+reserved_map s = s.map
+
+-- what the guard holds meanwhile
+abbrev pub reserved_room : {M R : Type 0} → Reserved M R → R
+reserved_room s = s.room
+
 module _ {K V : Type 0} {P : ℕ} {g : Ghosts K} where
   -- the pairs, each under its leaf's number
   abbrev pub room_leaves : Room K V P g → List (Numbered K V)
@@ -16,11 +24,15 @@ module _ {K V : Type 0} {P : ℕ} {g : Ghosts K} where
   abbrev pub room_pairs : Room K V P g → List (K × V)
   room_pairs r = pairs (room_leaves r)
 
+  -- for how many pairs there is room
+  abbrev pub room_count : Room K V P g → ℕ
+  room_count r = r.left
+
   -- the pairs that the map has once the guard is gone
   abbrev pub held : {M : Type 0} → Reserved M (Room K V P g) → List (K × V)
   held s = room_pairs s.room
 
-  -- for how many pairs there is room
+  -- the same of the guard: for how many pairs there is room
   abbrev pub room_left : {M : Type 0} → Reserved M (Room K V P g) → ℕ
   room_left s = s.room.left
 

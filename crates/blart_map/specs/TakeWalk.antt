@@ -12,6 +12,14 @@ pub use Rattle.art_walk.specs.Lent.{LentFirst, LentLast, NoneLent}
 use Rattle.blart_map.specs.declared.walks.take_walk.TakeWalk.{TakeWalk}
 use Rattle.blart_map.specs.contracts.walks.take_walk.TakeWalk.{the_row}
 
+-- the reference to the map
+abbrev pub take_map : {K V : Type 0} {p : ℕ} {g : Ghosts K} → TakeWalk K V p g → MutBor (List (Numbered K V))
+take_map s = s.map
+
+-- the number of the pair that is lent, and neither kept nor taken so far, if one is
+abbrev pub take_undecided : {K V : Type 0} {p : ℕ} {g : Ghosts K} → TakeWalk K V p g → Option ℕ
+take_undecided s = s.lent
+
 -- the pairs that are still to be lent
 abbrev pub take_left : {K V : Type 0} {p : ℕ} {g : Ghosts K} → TakeWalk K V p g → List (Numbered K V)
 take_left s = leaves_left s.cursor s.map.now

@@ -36,8 +36,9 @@ impl<K: AsBytes, V, const PREFIX_LEN: usize> TreeMap<K, V, PREFIX_LEN> {
             (rests_if_none K.row V.row PREFIX_LEN.row K.AsBytes self.entry result) }
         ensures found { is_some result
             ≡ is_some (pair_at_front K.bytes (pairs self.old) (Q.bytes query.now)) }
-        ensures same_map { IfSome result (λ o. o.map.ghost_name ≡ self.entry.ghost_name) }
-        ensures unchanged { IfSome result (λ o. o.map.now ≡ self.old) }
+        ensures same_map { IfSome result
+            (λ o. (entry_ref (Occupied o)).ghost_name ≡ self.entry.ghost_name) }
+        ensures unchanged { IfSome result (λ o. (entry_ref (Occupied o)).now ≡ self.old) }
         ensures pair { IfSome result (λ o. entry_pair (Occupied o)
             ≡ pair_at_front K.bytes (pairs self.old) (Q.bytes query.now)) }
     {
@@ -68,8 +69,9 @@ impl<K: AsBytes, V, const PREFIX_LEN: usize> TreeMap<K, V, PREFIX_LEN> {
         ensures* stands { sem 𝓛
             (rests_if_none K.row V.row PREFIX_LEN.row K.AsBytes self.entry result) }
         ensures found { is_some result ≡ is_some (slice_get (pairs self.old) 0) }
-        ensures same_map { IfSome result (λ o. o.map.ghost_name ≡ self.entry.ghost_name) }
-        ensures unchanged { IfSome result (λ o. o.map.now ≡ self.old) }
+        ensures same_map { IfSome result
+            (λ o. (entry_ref (Occupied o)).ghost_name ≡ self.entry.ghost_name) }
+        ensures unchanged { IfSome result (λ o. (entry_ref (Occupied o)).now ≡ self.old) }
         ensures pair { IfSome result (λ o. entry_pair (Occupied o)
             ≡ slice_get (pairs self.old) 0) }
     {
@@ -100,8 +102,9 @@ impl<K: AsBytes, V, const PREFIX_LEN: usize> TreeMap<K, V, PREFIX_LEN> {
             (rests_if_none K.row V.row PREFIX_LEN.row K.AsBytes self.entry result) }
         ensures found { is_some result
             ≡ is_some (slice_get (pairs self.old) (length (pairs self.old) - 1)) }
-        ensures same_map { IfSome result (λ o. o.map.ghost_name ≡ self.entry.ghost_name) }
-        ensures unchanged { IfSome result (λ o. o.map.now ≡ self.old) }
+        ensures same_map { IfSome result
+            (λ o. (entry_ref (Occupied o)).ghost_name ≡ self.entry.ghost_name) }
+        ensures unchanged { IfSome result (λ o. (entry_ref (Occupied o)).now ≡ self.old) }
         ensures pair { IfSome result (λ o. entry_pair (Occupied o)
             ≡ slice_get (pairs self.old) (length (pairs self.old) - 1)) }
     {

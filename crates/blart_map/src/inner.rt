@@ -5,7 +5,7 @@ ghost use Rattle.std.specs.Borrow.{sem};
 ghost use Rattle.blart_keys.specs.Bytes.{related};
 ghost use Rattle.blart_keys.specs.Content.{subtree};
 ghost use Rattle.blart_keys.specs.Stored.{shown, CanCount};
-ghost use Rattle.art_tree.specs.Leaves.{with_value, bytes};
+ghost use Rattle.art_tree.specs.Leaves.{bytes};
 ghost use Rattle.blart_map.specs.Content.{pairs};
 ghost use Rattle.blart_map.specs.Spans.{spans};
 
@@ -49,12 +49,12 @@ impl<'a, K: AsBytes, V, const PREFIX_LEN: usize, T: 'a> InnerOccupiedEntry<
     PREFIX_LEN,
     T,
 > {
-    ghost use Rattle.blart_map.specs.InnerEntry.{related_pairs, inner_pair, IsOnlyWritten};
+    ghost use Rattle.blart_map.specs.InnerEntry.{inner_key, related_pairs, inner_pair, inner_with, IsOnlyWritten};
     ghost use Rattle.blart_map.specs.InnerLends.{inner_value_lends};
 
     /// The key that was handed in.
     pub fn key(&self) -> &K
-        ensures { result.now ≡ self.now.key }
+        ensures { result.now ≡ inner_key self.now }
     {
         &self.key
     }
@@ -98,7 +98,7 @@ impl<'a, K: AsBytes, V, const PREFIX_LEN: usize, T: 'a> InnerOccupiedEntry<
         ensures value { option_copied_mut result
             ≡ option_map (λ pair. pair.1) (inner_pair self.old) }
         ensures written { (w : V) → IsOnlyWritten self.old w
-            (with_value self.old.map.now self.old.first w) }
+            (inner_with self.old w) }
     {
         self.map.numbers_law();
         let id = self.first;
@@ -126,10 +126,10 @@ impl<'a, K: AsBytes + Drop, V, const PREFIX_LEN: usize> InnerOccupiedEntry<
     PREFIX_LEN,
     TreeMap<K, V, PREFIX_LEN>,
 > {
-    ghost use Rattle.blart_map.specs.Entry.{Occupied, entry_pair};
-    ghost use Rattle.blart_map.specs.InnerEntry.{inner_pair};
+    ghost use Rattle.blart_map.specs.Entry.{Occupied, entry_ref, entry_pair};
+    ghost use Rattle.blart_map.specs.InnerEntry.{inner_ref, inner_key, inner_pair};
     ghost use Rattle.blart_map.specs.InnerLends.{inner_rests};
-    ghost use Rattle.blart_map.specs.LendingWalk.{lending_left};
+    ghost use Rattle.blart_map.specs.LendingWalk.{lending_map, lending_last, lending_left};
     ghost use Rattle.blart_map.specs.OnceWritten.{rewritten, once_written};
 
     /// The entry of the only related pair, in place of this one; `None` where there are more, and the map stands.
@@ -140,8 +140,10 @@ impl<'a, K: AsBytes + Drop, V, const PREFIX_LEN: usize> InnerOccupiedEntry<
         ensures* stands { sem 𝓛
             (inner_rests K.row V.row PREFIX_LEN.row K.AsBytes self.entry result) }
         ensures found { is_some result ≡ is_some (inner_pair self.entry) }
-        ensures same_map { IfSome result (λ o. o.map.ghost_name ≡ self.entry.map.ghost_name) }
-        ensures unchanged { IfSome result (λ o. o.map.now ≡ self.entry.map.now) }
+        ensures same_map { IfSome result
+            (λ o. (entry_ref (Occupied o)).ghost_name ≡ (inner_ref self.entry).ghost_name) }
+        ensures unchanged { IfSome result
+            (λ o. (entry_ref (Occupied o)).now ≡ (inner_ref self.entry).now) }
         ensures pair { IfSome result (λ o. entry_pair (Occupied o) ≡ inner_pair self.entry) }
     {
         let InnerOccupiedEntry {
@@ -165,14 +167,14 @@ impl<'a, K: AsBytes + Drop, V, const PREFIX_LEN: usize> InnerOccupiedEntry<
     /// }
     /// ```
     pub fn iter_mut(self) -> SubtreeIterMut<'a, K, V, PREFIX_LEN>
-        ensures same_map { result.map.ghost_name ≡ self.entry.map.ghost_name }
-        ensures unchanged { result.map.now ≡ self.entry.map.now }
+        ensures same_map { (lending_map result).ghost_name ≡ (inner_ref self.entry).ghost_name }
+        ensures unchanged { (lending_map result).now ≡ (inner_ref self.entry).now }
         ensures all { (f : K × V → V) → once_written f result
-            ≡ rewritten (λ pair. related (K.bytes pair.0) (K.bytes self.entry.key)) f
-            (pairs self.entry.map.now) }
+            ≡ rewritten (λ pair. related (K.bytes pair.0) (K.bytes (inner_key self.entry))) f
+            (pairs (inner_ref self.entry).now) }
         ensures left { lending_left result
-            ≡ subtree (bytes K.bytes) self.entry.map.now (K.bytes self.entry.key) }
-        ensures none_lent { result.lent ≡ None }
+            ≡ subtree (bytes K.bytes) (inner_ref self.entry).now (K.bytes (inner_key self.entry)) }
+        ensures none_lent { lending_last result ≡ None }
     {
         let InnerOccupiedEntry {
             map,

@@ -105,7 +105,8 @@ impl<'a, K: AsBytes, V, const PREFIX_LEN: usize> OccupiedEntry<
     PREFIX_LEN,
     TreeMap<K, V, PREFIX_LEN>,
 > {
-    ghost use Rattle.blart_map.specs.Entry.{Occupied, entry_value, SetsValue};
+    ghost use Rattle.blart_map.specs.Entry.{Occupied, entry_ref, entry_value, SetsValue};
+    ghost use Rattle.blart_map.specs.OccupiedEntry.{entry_leaf};
     ghost use Rattle.blart_map.specs.EntryLends.{entry_rests};
     ghost use Rattle.blart_map.specs.LentLeaves.{lends_leaf};
     ghost use Rattle.art_tree.specs.Leaves.{with_value};
@@ -113,10 +114,11 @@ impl<'a, K: AsBytes, V, const PREFIX_LEN: usize> OccupiedEntry<
     /// The value, to be written for as long as the map was lent.
     pub fn into_mut(self) -> &'a mut V
         ensures* writes_back { sem 𝓛
-            (lends_leaf K.row V.row PREFIX_LEN.row K.AsBytes self.entry.map self.entry.id result) }
+            (lends_leaf K.row V.row PREFIX_LEN.row K.AsBytes
+            (entry_ref (Occupied self.entry)) (entry_leaf self.entry) result) }
         ensures value { entry_value (Occupied self.entry) ≡ Some result.now }
         ensures written { (w : V) → SetsValue (Occupied self.entry) w
-            (with_value self.entry.map.now self.entry.id w) }
+            (with_value (entry_ref (Occupied self.entry)).now (entry_leaf self.entry) w) }
     {
         let map = self.map;
         map.numbers_law();

@@ -60,7 +60,9 @@ pub trait PutBack<M>: Drop {
 
 impl<K: AsBytes + Drop, V: Drop, const PREFIX_LEN: usize> PutBack<TreeMap<K, V, PREFIX_LEN>>
     for Room<K, V, PREFIX_LEN> {
-    ghost filled = { λ r. r.tree.pairs };
+    ghost use Rattle.blart_map.specs.Reserved.{room_leaves};
+
+    ghost filled = { λ r. room_leaves r };
 
     fn put_back(self, map: &mut TreeMap<K, V, PREFIX_LEN>) {
         let Room { tree, left: _ } = self;
@@ -69,8 +71,10 @@ impl<K: AsBytes + Drop, V: Drop, const PREFIX_LEN: usize> PutBack<TreeMap<K, V, 
 }
 
 impl<'a, M, R: PutBack<M>> Drop for Reserved<'a, M, R> {
+    ghost use Rattle.blart_map.specs.Reserved.{reserved_room};
+
     fn drop(self)
-        ensures { self.exit.0.now ≡ R.filled self.entry.room }
+        ensures { self.exit.0.now ≡ R.filled (reserved_room self.entry) }
     {
         let Reserved { map, room } = self;
         room.put_back(map);
@@ -79,7 +83,7 @@ impl<'a, M, R: PutBack<M>> Drop for Reserved<'a, M, R> {
 
 impl<K: AsBytes + Drop, V: Drop, const PREFIX_LEN: usize> TreeMap<K, V, PREFIX_LEN> {
     ghost use Rattle.blart_map.specs.Content.{pairs};
-    ghost use Rattle.blart_map.specs.Reserved.{held, room_left, rests_if_full};
+    ghost use Rattle.blart_map.specs.Reserved.{reserved_map, held, room_leaves, room_count, room_left, rests_if_full};
 
     /// Makes room for so many pairs, and lends the map to be filled; or is refused, and leaves the map as it was. For no pairs it takes no memory.
     ///
@@ -96,7 +100,8 @@ impl<K: AsBytes + Drop, V: Drop, const PREFIX_LEN: usize> TreeMap<K, V, PREFIX_L
     ) -> Result<Reserved<'_, Self, Room<K, V, PREFIX_LEN>>, AllocError>
         ensures* stands { sem 𝓛
             (rests_if_full K.row V.row PREFIX_LEN.row K.AsBytes self.entry result) }
-        ensures same_map { IfOk result (λ r. r.map.ghost_name ≡ self.entry.ghost_name) }
+        ensures same_map { IfOk result
+            (λ r. (reserved_map r).ghost_name ≡ self.entry.ghost_name) }
         ensures unchanged { IfOk result (λ r. held r ≡ pairs self.old) }
         ensures left { IfOk result (λ r. room_left r ≡ count) }
         ensures refused { OnErr result (0 < count) }
@@ -109,8 +114,8 @@ impl<K: AsBytes + Drop, V: Drop, const PREFIX_LEN: usize> TreeMap<K, V, PREFIX_L
 
     /// Makes room for so many pairs, and takes the pairs out with it; or is refused, and leaves the map as it was. The map is empty until the room is given back.
     pub fn take_room(&mut self, count: usize) -> Result<Room<K, V, PREFIX_LEN>, AllocError>
-        ensures same { IfOk result (λ r. r.tree.pairs ≡ self.old) }
-        ensures left { IfOk result (λ r. r.left ≡ count) }
+        ensures same { IfOk result (λ r. room_leaves r ≡ self.old) }
+        ensures left { IfOk result (λ r. room_count r ≡ count) }
         ensures err { OnErr result (self.new ≡ self.old) }
         ensures refused { OnErr result (0 < count) }
     {
@@ -121,7 +126,7 @@ impl<K: AsBytes + Drop, V: Drop, const PREFIX_LEN: usize> TreeMap<K, V, PREFIX_L
 }
 
 impl<K: AsBytes, V, const PREFIX_LEN: usize> Room<K, V, PREFIX_LEN> {
-    ghost use Rattle.blart_map.specs.Reserved.{room_pairs};
+    ghost use Rattle.blart_map.specs.Reserved.{room_count, room_pairs};
 
     /// Answers nothing. Its contract says what holds of the pairs of every room.
     #[tactic(auto, unfolding(crate::specs::Content::pairs))]
@@ -133,23 +138,23 @@ impl<K: AsBytes, V, const PREFIX_LEN: usize> Room<K, V, PREFIX_LEN> {
 
     /// For how many pairs there is room.
     pub fn left(&self) -> usize
-        ensures { result ≡ self.now.left }
+        ensures { result ≡ room_count self.now }
     {
         self.left
     }
 }
 
 impl<K: AsBytes + Drop, V: Drop, const PREFIX_LEN: usize> Room<K, V, PREFIX_LEN> {
-    ghost use Rattle.blart_map.specs.Reserved.{room_pairs};
+    ghost use Rattle.blart_map.specs.Reserved.{room_count, room_pairs};
 
     /// Puts the pair, as [`Reserved::try_insert`] does.
     #[tactic(auto, unfolding(crate::specs::Content::pairs))]
     pub fn try_insert(&mut self, key: K, value: V) -> Result<Option<V>, InsertPrefixError>
-        requires { 0 < self.old.left }
+        requires { 0 < room_count self.old }
         ensures put { Puts K.bytes (option_map (λ pair. pair.1)) (room_pairs self.old) (key, value)
             (kept K.bytes (room_pairs self.old) (key, value)) (as_tried result)
             (room_pairs self.new) }
-        ensures left { self.new.left + added_ok result ≡ self.old.left }
+        ensures left { room_count self.new + added_ok result ≡ room_count self.old }
     {
         // The count goes down first, so that at no time it tells of more room than there is.
         self.left -= 1;
@@ -162,16 +167,16 @@ impl<K: AsBytes + Drop, V: Drop, const PREFIX_LEN: usize> Room<K, V, PREFIX_LEN>
 }
 
 impl<K: NoPrefixesBytes + Drop, V: Drop, const PREFIX_LEN: usize> Room<K, V, PREFIX_LEN> {
-    ghost use Rattle.blart_map.specs.Reserved.{room_pairs};
+    ghost use Rattle.blart_map.specs.Reserved.{room_count, room_pairs};
 
     /// Puts the pair, as [`Reserved::insert`] does.
     #[tactic(auto, unfolding(crate::specs::Content::pairs))]
     pub fn insert(&mut self, key: K, value: V) -> Option<V>
-        requires { 0 < self.old.left }
+        requires { 0 < room_count self.old }
         ensures old { result ≡ value_at K.bytes (room_pairs self.old) (K.bytes key) }
         ensures put { IsPut (bytes K.bytes) (room_pairs self.old)
             (kept K.bytes (room_pairs self.old) (key, value)) (room_pairs self.new) }
-        ensures left { self.new.left + added result ≡ self.old.left }
+        ensures left { room_count self.new + added result ≡ room_count self.old }
     {
         self.left -= 1;
         let old = put_lawful_within(&mut self.tree, key, value);
@@ -187,7 +192,7 @@ impl<'a, K: AsBytes + Drop, V: Drop, const PREFIX_LEN: usize> Reserved<
     TreeMap<K, V, PREFIX_LEN>,
     Room<K, V, PREFIX_LEN>,
 > {
-    ghost use Rattle.blart_map.specs.Reserved.{held, room_left};
+    ghost use Rattle.blart_map.specs.Reserved.{reserved_map, held, room_left};
 
     /// For how many pairs there is room.
     pub fn left(&self) -> usize
@@ -199,7 +204,8 @@ impl<'a, K: AsBytes + Drop, V: Drop, const PREFIX_LEN: usize> Reserved<
     /// Puts the pair as [`TreeMap::try_insert`] does, where there is room for one: it takes no memory, and is refused only for a conflict.
     pub fn try_insert(&mut self, key: K, value: V) -> Result<Option<V>, InsertPrefixError>
         requires { 0 < room_left self.old }
-        ensures same_map { self.new.map.ghost_name ≡ self.old.map.ghost_name }
+        ensures same_map { (reserved_map self.new).ghost_name
+            ≡ (reserved_map self.old).ghost_name }
         ensures least { room_left self.old ≤ room_left self.new + 1 }
         ensures left { room_left self.new + added_ok result ≡ room_left self.old }
         ensures old { IfOk result
@@ -227,12 +233,13 @@ impl<'a, K: NoPrefixesBytes + Drop, V: Drop, const PREFIX_LEN: usize> Reserved<
     TreeMap<K, V, PREFIX_LEN>,
     Room<K, V, PREFIX_LEN>,
 > {
-    ghost use Rattle.blart_map.specs.Reserved.{held, room_left};
+    ghost use Rattle.blart_map.specs.Reserved.{reserved_map, held, room_left};
 
     /// Puts the pair as [`TreeMap::insert`] does, where there is room for one: it takes no memory, and is never refused.
     pub fn insert(&mut self, key: K, value: V) -> Option<V>
         requires { 0 < room_left self.old }
-        ensures same_map { self.new.map.ghost_name ≡ self.old.map.ghost_name }
+        ensures same_map { (reserved_map self.new).ghost_name
+            ≡ (reserved_map self.old).ghost_name }
         ensures least { room_left self.old ≤ room_left self.new + 1 }
         ensures left { room_left self.new + added result ≡ room_left self.old }
         ensures old { result ≡ value_at K.bytes (held self.old) (K.bytes key) }

@@ -30,17 +30,19 @@ pub struct VacantEntry<'a, K: AsBytes, V, const PREFIX_LEN: usize, T: 'a> {
 }
 
 impl<'a, K: AsBytes, V, const PREFIX_LEN: usize, T: 'a> VacantEntry<'a, K, V, PREFIX_LEN, T> {
+    ghost use Rattle.blart_map.specs.Entry.{Vacant, entry_ref, vacant_key};
+
     /// The key.
     pub fn key(&self) -> &K
-        ensures { result.now ≡ self.now.key }
+        ensures { result.now ≡ vacant_key self.now }
     {
         &self.key
     }
 
     /// Gives the key back. The map stands.
     pub fn into_key(self) -> K
-        ensures key { result ≡ self.entry.key }
-        ensures unchanged { self.exit.0.now ≡ self.entry.map.now }
+        ensures key { result ≡ vacant_key self.entry }
+        ensures unchanged { self.exit.0.now ≡ (entry_ref (Vacant self.entry)).now }
     {
         self.key
     }
@@ -53,8 +55,7 @@ impl<'a, K: AsBytes + Drop, V: Drop, const PREFIX_LEN: usize> VacantEntry<
     PREFIX_LEN,
     TreeMap<K, V, PREFIX_LEN>,
 > {
-    ghost use Rattle.blart_map.specs.Content.{pairs};
-    ghost use Rattle.blart_map.specs.Entry.{Vacant, IsSetEntry, IsUndone};
+    ghost use Rattle.blart_map.specs.Entry.{Vacant, entry_pairs, IsSetEntry, IsUndone};
     ghost use Rattle.blart_map.specs.EntryLends.{entry_lends_ok, entry_rests};
 
     /// Places the key with the value, which is lent to be written. Where memory is refused the key and the value are dropped.
@@ -76,7 +77,7 @@ impl<'a, K: AsBytes + Drop, V: Drop, const PREFIX_LEN: usize> VacantEntry<
         ensures* stands { sem 𝓛
             (entry_rests K.row V.row PREFIX_LEN.row K.AsBytes (Vacant self.entry) result) }
         ensures set { IfOk result (IsSetEntry (Vacant self.entry) value) }
-        ensures undone { IfOk result (λ o. IsUndone o (pairs self.entry.map.now)) }
+        ensures undone { IfOk result (λ o. IsUndone o (entry_pairs (Vacant self.entry))) }
     {
         let VacantEntry { map, key, .. } = self;
         let leaf = map.place_new(key, value)?;

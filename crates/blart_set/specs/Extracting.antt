@@ -1,6 +1,6 @@
 -- What the contracts of a set's walk that extracts cite.
 use Rattle.std.specs.Prelude.{◌≡◌, ℕ, List, Option, Some, None, Bool, reverse}
-use Rattle.std.specs.Borrow.{Bor}
+use Rattle.std.specs.Borrow.{Bor, MutBor}
 use denote.Param.Members.{Mut}
 use Rattle.blart_keys.specs.declared.AsBytes.{Ghosts}
 use Rattle.blart_keys.specs.Content.{without}
@@ -8,7 +8,15 @@ use Rattle.blart_keys.specs.Walks.{ExtractsFirst}
 use Rattle.art_walk.specs.Cursor.{leaves_left}
 use Rattle.blart_set.specs.declared.extracting.ExtractIf.{ExtractIf}
 use Rattle.blart_set.specs.Asking.{AsksElement, CallableOnEachElement}
-use Rattle.blart_set.specs.Elements.{elements}
+use Rattle.blart_set.specs.Elements.{Numbered, elements}
+
+-- the reference to the set
+abbrev pub extract_set : {K F : Type 0} {p : ℕ} {k : Ghosts K} → ExtractIf K F p k → MutBor (List (Numbered K (Unit {0})))
+extract_set s = s.set
+
+-- the closure, as the calls so far have left it
+abbrev pub extract_pred : {K F : Type 0} {p : ℕ} {k : Ghosts K} → ExtractIf K F p k → F
+extract_pred s = s.pred
 
 -- the elements that the closure may still be asked about
 abbrev pub extract_left : {K F : Type 0} {p : ℕ} {k : Ghosts K} → ExtractIf K F p k → List K

@@ -2,11 +2,19 @@
 use Rattle.std.specs.Prelude.{◌≡◌, ℕ, List, Bool, true, false, Result, Ok, Err}
 use Rattle.std.specs.Borrow.{Fml, RattleType, MutBor, RestsIfErr}
 use Rattle.blart_keys.specs.declared.AsBytes.{Ghosts}
-use Rattle.blart_map.specs.Reserved.{room_leaves}
+use Rattle.blart_map.specs.Reserved.{room_leaves, room_count}
 use Rattle.blart_map.specs.declared.reserved.Room.{Room}
 use Rattle.blart_set.specs.Elements.{Numbered, elements}
 use Rattle.blart_set.specs.contracts.set.TreeSet as tree_set
 use Rattle.blart_set.specs.declared.reserved.Reserved.{Reserved}
+
+-- the reference to what was lent to the guard
+abbrev pub reserved_set : {S R : Type 0} → Reserved S R → MutBor S
+reserved_set s = s.set
+
+-- what the guard holds meanwhile
+abbrev pub reserved_room : {S R : Type 0} → Reserved S R → R
+reserved_room s = s.room
 
 module _ {K : Type 0} {P : ℕ} {g : Ghosts K} where
   -- the elements that the set has once the guard is gone
@@ -15,7 +23,7 @@ module _ {K : Type 0} {P : ℕ} {g : Ghosts K} where
 
   -- for how many elements there is room
   abbrev pub elements_left : {S : Type 0} → Reserved S (Room K (Unit {0}) P g) → ℕ
-  elements_left s = s.room.left
+  elements_left s = room_count s.room
 
 -- how many elements an insertion added that answers whether the bytes were new
 abbrev pub added_new : Bool → ℕ

@@ -35,7 +35,7 @@ pub struct ExtractIf<'a, K: AsBytes, F, const PREFIX_LEN: usize> {
 
 #[tactic(auto, unfolding(crate::specs::Elements::elements))]
 impl<K: AsBytes, const PREFIX_LEN: usize> TreeSet<K, PREFIX_LEN> {
-    ghost use Rattle.blart_set.specs.Extracting.{extract_left};
+    ghost use Rattle.blart_set.specs.Extracting.{extract_set, extract_pred, extract_left};
 
     /// A walk that takes out the elements within both bounds at which the closure answers `true`, from both ends. The bounds are in order where the set has elements, as for [`TreeSet::range`]. Takes no memory.
     ///
@@ -54,11 +54,11 @@ impl<K: AsBytes, const PREFIX_LEN: usize> TreeSet<K, PREFIX_LEN> {
     ) -> ExtractIf<'_, K, F, PREFIX_LEN>
         requires { CanRange (elements self.old) (bound_bytes Q.bytes start)
             (bound_bytes Q.bytes end) }
-        ensures same_set { result.set.ghost_name ≡ self.entry.ghost_name }
-        ensures unchanged { result.set.now ≡ self.old }
+        ensures same_set { (extract_set result).ghost_name ≡ self.entry.ghost_name }
+        ensures unchanged { (extract_set result).now ≡ self.old }
         ensures left { extract_left result ≡ between K.bytes (elements self.old)
             (bound_bytes Q.bytes start.entry) (bound_bytes Q.bytes end.entry) }
-        ensures same_pred { result.pred ≡ pred }
+        ensures same_pred { extract_pred result ≡ pred }
     {
         let cursor = self.cursor(start, end);
         ExtractIf {

@@ -3,7 +3,7 @@ ghost use Rattle.std.specs.Prelude.{◌≡◌, ◌+◌, ◌<◌, ◌≤◌, true
 ghost use Rattle.std.specs.Borrow.{sem};
 ghost use Rattle.blart_keys.specs.Content.{at, conflict, stores, IsPut};
 ghost use Rattle.blart_keys.specs.Stored.{kept_item};
-ghost use Rattle.blart_map.specs.Reserved.{room_leaves};
+ghost use Rattle.blart_map.specs.Reserved.{room_leaves, room_count};
 ghost use Rattle.blart_set.specs.Elements.{UpdatesElement};
 
 use crate::insertions::told;
@@ -43,8 +43,10 @@ impl<K: AsBytes + Drop, const PREFIX_LEN: usize> PutBack<TreeSet<K, PREFIX_LEN>>
 }
 
 impl<'a, S, R: PutBack<S>> Drop for Reserved<'a, S, R> {
+    ghost use Rattle.blart_set.specs.Reserved.{reserved_room};
+
     fn drop(self)
-        ensures { self.exit.0.now ≡ R.filled self.entry.room }
+        ensures { self.exit.0.now ≡ R.filled (reserved_room self.entry) }
     {
         let Reserved { set, room } = self;
         room.put_back(set);
@@ -53,7 +55,7 @@ impl<'a, S, R: PutBack<S>> Drop for Reserved<'a, S, R> {
 
 impl<K: AsBytes + Drop, const PREFIX_LEN: usize> TreeSet<K, PREFIX_LEN> {
     ghost use Rattle.blart_set.specs.Elements.{elements};
-    ghost use Rattle.blart_set.specs.Reserved.{held_elements, elements_left, rests_if_full};
+    ghost use Rattle.blart_set.specs.Reserved.{reserved_set, held_elements, elements_left, rests_if_full};
 
     /// Makes room for so many elements, and lends the set to be filled; or is refused, and leaves the set as it was. For no elements it takes no memory.
     ///
@@ -70,7 +72,8 @@ impl<K: AsBytes + Drop, const PREFIX_LEN: usize> TreeSet<K, PREFIX_LEN> {
     ) -> Result<Reserved<'_, Self, Room<K, (), PREFIX_LEN>>, AllocError>
         ensures* stands { sem 𝓛
             (rests_if_full K.row PREFIX_LEN.row K.AsBytes self.entry result) }
-        ensures same_set { IfOk result (λ r. r.set.ghost_name ≡ self.entry.ghost_name) }
+        ensures same_set { IfOk result
+            (λ r. (reserved_set r).ghost_name ≡ self.entry.ghost_name) }
         ensures unchanged { IfOk result (λ r. held_elements r ≡ elements self.old) }
         ensures left { IfOk result (λ r. elements_left r ≡ count) }
         ensures refused { OnErr result (0 < count) }
@@ -84,7 +87,7 @@ impl<K: AsBytes + Drop, const PREFIX_LEN: usize> TreeSet<K, PREFIX_LEN> {
     // Makes room for so many elements, and takes the elements out with it.
     fn take_room(&mut self, count: usize) -> Result<Room<K, (), PREFIX_LEN>, AllocError>
         ensures same { IfOk result (λ r. room_leaves r ≡ self.old) }
-        ensures left { IfOk result (λ r. r.left ≡ count) }
+        ensures left { IfOk result (λ r. room_count r ≡ count) }
         ensures err { OnErr result (self.new ≡ self.old) }
         ensures refused { OnErr result (0 < count) }
     {
@@ -97,7 +100,7 @@ impl<'a, K: AsBytes + Drop, const PREFIX_LEN: usize> Reserved<
     TreeSet<K, PREFIX_LEN>,
     Room<K, (), PREFIX_LEN>,
 > {
-    ghost use Rattle.blart_set.specs.Reserved.{held_elements, elements_left, added_new_ok};
+    ghost use Rattle.blart_set.specs.Reserved.{reserved_set, held_elements, elements_left, added_new_ok};
 
     /// For how many elements there is room.
     pub fn left(&self) -> usize
@@ -109,7 +112,8 @@ impl<'a, K: AsBytes + Drop, const PREFIX_LEN: usize> Reserved<
     /// Adds the element as [`TreeSet::try_insert`] does, where there is room for one: it takes no memory, and is refused only for a conflict.
     pub fn try_insert(&mut self, element: K) -> Result<bool, InsertPrefixError>
         requires { 0 < elements_left self.old }
-        ensures same_set { self.new.set.ghost_name ≡ self.old.set.ghost_name }
+        ensures same_set { (reserved_set self.new).ghost_name
+            ≡ (reserved_set self.old).ghost_name }
         ensures least { elements_left self.old ≤ elements_left self.new + 1 }
         ensures left { elements_left self.new + added_new_ok result ≡ elements_left self.old }
         ensures new { IfOk result
@@ -137,12 +141,13 @@ impl<'a, K: NoPrefixesBytes + Drop, const PREFIX_LEN: usize> Reserved<
     TreeSet<K, PREFIX_LEN>,
     Room<K, (), PREFIX_LEN>,
 > {
-    ghost use Rattle.blart_set.specs.Reserved.{held_elements, elements_left, added_new};
+    ghost use Rattle.blart_set.specs.Reserved.{reserved_set, held_elements, elements_left, added_new};
 
     /// Adds the element as [`TreeSet::insert`] does, where there is room for one: it takes no memory, and is never refused.
     pub fn insert(&mut self, element: K) -> bool
         requires { 0 < elements_left self.old }
-        ensures same_set { self.new.set.ghost_name ≡ self.old.set.ghost_name }
+        ensures same_set { (reserved_set self.new).ghost_name
+            ≡ (reserved_set self.old).ghost_name }
         ensures least { elements_left self.old ≤ elements_left self.new + 1 }
         ensures left { elements_left self.new + added_new result ≡ elements_left self.old }
         ensures new { result ≡ not (stores K.bytes (held_elements self.old) (K.bytes element)) }

@@ -1,6 +1,7 @@
 //! Pairs that a closure picks, and pairs that are lent to be kept or taken.
 ghost use Rattle.std.specs.Prelude.{◌≡◌, true, false, is_some};
 ghost use Rattle.blart_map.specs.Content.{pairs};
+ghost use Rattle.blart_map.specs.TakeWalk.{take_undecided};
 ghost use Rattle.blart_keys.specs.Bounds.{bound_bytes, CanRange};
 ghost use Rattle.blart_keys.specs.KeyBytes.{vec_bytes};
 
@@ -91,7 +92,7 @@ fn decide<K: ScriptKey, const P: usize>(
     letter: u8,
     text: &mut Text,
 ) -> Answered
-    requires { is_some walk.old.lent ≡ true }
+    requires { is_some (take_undecided walk.old) ≡ true }
 {
     match letter {
         b'k' => {
@@ -109,7 +110,7 @@ fn lend<K: ScriptKey, const P: usize>(
     letter: u8,
     text: &mut Text,
 ) -> Answered
-    requires { is_some walk.old.lent ≡ false }
+    requires { is_some (take_undecided walk.old) ≡ false }
 {
     let lent = match letter {
         b'f' => walk.lend().copied(),

@@ -61,7 +61,7 @@ pub struct CountedWalk<'a, K: AsBytes, V, M, const PREFIX_LEN: usize> {
 }
 
 impl<'a, K: AsBytes, V, const PREFIX_LEN: usize> CountedWalk<'a, K, V, WithKeys, PREFIX_LEN> {
-    ghost use Rattle.blart_map.specs.CountedWalk.{counted_left, LendsAll, lends_pair, counted_with};
+    ghost use Rattle.blart_map.specs.CountedWalk.{counted_map, counted_last, counted_left, LendsAll, lends_pair, counted_with};
     ghost use Rattle.blart_map.specs.OnceWritten.{all_once_written};
 
     /// Calls the closure once with the key and the value of each pair that is left, in byte order of the keys. Each value is what the closure leaves, and the keys stay. Takes no memory; each call reads one pair.
@@ -79,10 +79,11 @@ impl<'a, K: AsBytes, V, const PREFIX_LEN: usize> CountedWalk<'a, K, V, WithKeys,
         requires { CallableInTurn (LeavesPair F.FnMut) (TakesAtPair F.FnMut) f
             (pairs_of (counted_left self)) }
         ensures left { WritesLeft (LeavesPair F.FnMut) (counted_left self.entry)
-            self.entry.map.now f self.exit.0.now }
+            (counted_map self.entry).now f self.exit.0.now }
         ensures keys { map (λ p. p.0) (pairs self.exit.0.now)
-            ≡ map (λ p. p.0) (pairs self.entry.map.now) }
-        ensures len { length (pairs self.exit.0.now) ≡ length (pairs self.entry.map.now) }
+            ≡ map (λ p. p.0) (pairs (counted_map self.entry).now) }
+        ensures len { length (pairs self.exit.0.now)
+            ≡ length (pairs (counted_map self.entry).now) }
         ensures each { (S T : List (Numbered K V)) → LendsAll self.entry S
             → T ≡ self.exit.0.now → WritesEach (LeavesPair F.FnMut) (pairs S) f (pairs T) }
         ensures acts { (h : K × V → K × V) → ActsOnPair F.FnMut f h
@@ -99,9 +100,9 @@ impl<'a, K: AsBytes, V, const PREFIX_LEN: usize> CountedWalk<'a, K, V, WithKeys,
 
     /// The key of the value that was lent last. One was lent. One visit, not counted.
     pub fn key(&self) -> &K
-        requires { is_some self.now.lent ≡ true }
-        ensures { MatchOption self.now.lent ⊤
-            (λ id. (v : V) × (leaf_in self.now.map.now id ≡ Some (result.now, v))) }
+        requires { is_some (counted_last self.now) ≡ true }
+        ensures { MatchOption (counted_last self.now) ⊤
+            (λ id. (v : V) × (leaf_in (counted_map self.now).now id ≡ Some (result.now, v))) }
     {
         let id = self.lent.unwrap();
         self.map.leaf(id).0
@@ -109,10 +110,10 @@ impl<'a, K: AsBytes, V, const PREFIX_LEN: usize> CountedWalk<'a, K, V, WithKeys,
 
     /// The key and the value that was lent last, to be written again. One was lent.
     pub fn pair(&mut self) -> (&K, &mut V)
-        requires { is_some self.old.lent ≡ true }
+        requires { is_some (counted_last self.old) ≡ true }
         ensures* writes_back { sem 𝓛 (lends_pair K.row V.row PREFIX_LEN.row K.AsBytes self.entry result) }
-        ensures value { MatchOption self.old.lent ⊤
-            (λ id. leaf_in self.old.map.now id ≡ Some (result.0.now, result.1.now)) }
+        ensures value { MatchOption (counted_last self.old) ⊤
+            (λ id. leaf_in (counted_map self.old).now id ≡ Some (result.0.now, result.1.now)) }
         ensures same_left { (w : V) → counted_left (counted_with self.old w) ≡ counted_left self.old }
     {
         self.map.numbers_law();
@@ -122,7 +123,7 @@ impl<'a, K: AsBytes, V, const PREFIX_LEN: usize> CountedWalk<'a, K, V, WithKeys,
 }
 
 impl<'a, K: AsBytes, V, const PREFIX_LEN: usize> CountedWalk<'a, K, V, ValuesAlone, PREFIX_LEN> {
-    ghost use Rattle.blart_map.specs.CountedWalk.{counted_left, LendsAll};
+    ghost use Rattle.blart_map.specs.CountedWalk.{counted_map, counted_left, LendsAll};
     ghost use Rattle.blart_map.specs.OnceWritten.{all_once_written};
 
     /// Calls the closure once with each value that is left, in byte order of their keys. Each value is what the closure leaves, and the keys stay. Takes no memory; each call reads one pair.
@@ -140,10 +141,11 @@ impl<'a, K: AsBytes, V, const PREFIX_LEN: usize> CountedWalk<'a, K, V, ValuesAlo
         requires { CallableInTurn (LeavesValue F.FnMut) (TakesAtValue F.FnMut) f
             (pairs_of (counted_left self)) }
         ensures left { WritesLeft (LeavesValue F.FnMut) (counted_left self.entry)
-            self.entry.map.now f self.exit.0.now }
+            (counted_map self.entry).now f self.exit.0.now }
         ensures keys { map (λ p. p.0) (pairs self.exit.0.now)
-            ≡ map (λ p. p.0) (pairs self.entry.map.now) }
-        ensures len { length (pairs self.exit.0.now) ≡ length (pairs self.entry.map.now) }
+            ≡ map (λ p. p.0) (pairs (counted_map self.entry).now) }
+        ensures len { length (pairs self.exit.0.now)
+            ≡ length (pairs (counted_map self.entry).now) }
         ensures each { (S T : List (Numbered K V)) → LendsAll self.entry S
             → T ≡ self.exit.0.now → WritesEach (LeavesValue F.FnMut) (pairs S) f (pairs T) }
         ensures acts { (h : K × V → K × V) → ActsOnValue F.FnMut f h

@@ -32,7 +32,7 @@ pub struct ExtractIf<'a, K: AsBytes, V, F, const PREFIX_LEN: usize> {
 }
 
 impl<K: AsBytes, V, const PREFIX_LEN: usize> TreeMap<K, V, PREFIX_LEN> {
-    ghost use Rattle.blart_map.specs.ExtractIf.{extract_left};
+    ghost use Rattle.blart_map.specs.ExtractIf.{extract_map, extract_pred, extract_left};
     ghost use Rattle.blart_map.specs.OnceTaken.{once_extracted, still_to_extract};
 
     /// A walk that takes out the pairs within both bounds at which the closure answers `true`, from both ends. The bounds are in order where the map has pairs, as for [`TreeMap::range`]. Takes no memory; it reads each pair that it asks about, and each that it takes out costs a removal.
@@ -52,8 +52,8 @@ impl<K: AsBytes, V, const PREFIX_LEN: usize> TreeMap<K, V, PREFIX_LEN> {
     ) -> ExtractIf<'_, K, V, F, PREFIX_LEN>
         requires { CanRange (pairs self.old) (bound_bytes Q.bytes start)
             (bound_bytes Q.bytes end) }
-        ensures same_map { result.map.ghost_name ≡ self.entry.ghost_name }
-        ensures unchanged { result.map.now ≡ self.old }
+        ensures same_map { (extract_map result).ghost_name ≡ self.entry.ghost_name }
+        ensures unchanged { (extract_map result).now ≡ self.old }
         ensures all { (test : K × V → Bool) → once_extracted test result
             ≡ filter (λ pair. not (is_from_start (bound_bytes Q.bytes start.entry) (K.bytes pair.0)
             && is_up_to_end (bound_bytes Q.bytes end.entry) (K.bytes pair.0)
@@ -64,7 +64,7 @@ impl<K: AsBytes, V, const PREFIX_LEN: usize> TreeMap<K, V, PREFIX_LEN> {
             && test pair) (pairs self.old) }
         ensures left { extract_left result ≡ between (bytes K.bytes) self.old
             (bound_bytes Q.bytes start.entry) (bound_bytes Q.bytes end.entry) }
-        ensures same_pred { result.pred ≡ pred }
+        ensures same_pred { extract_pred result ≡ pred }
     {
         self.numbers_law();
         let cursor = Cursor::range(

@@ -17,11 +17,11 @@ use blart_keys::AsBytes;
 use std::ops::Bound;
 
 impl<K: AsBytes, V, const PREFIX_LEN: usize> TreeMap<K, V, PREFIX_LEN> {
-    ghost use Rattle.blart_map.specs.CountedWalk.{counted_left};
-    ghost use Rattle.blart_map.specs.LendingWalk.{lending_left};
+    ghost use Rattle.blart_map.specs.CountedWalk.{counted_map, counted_last, counted_left};
+    ghost use Rattle.blart_map.specs.LendingWalk.{lending_map, lending_last, lending_left};
     ghost use Rattle.blart_map.specs.OnceWritten.{rewritten, all_rewritten, once_written, all_once_written};
     ghost use Rattle.blart_map.specs.OnceTaken.{once_taken, still_to_take};
-    ghost use Rattle.blart_map.specs.TakeWalk.{take_left};
+    ghost use Rattle.blart_map.specs.TakeWalk.{take_map, take_undecided, take_left};
 
     /// A walk that lends each value to be written, with its key, in byte order of the keys, from both ends. Takes no memory; each step reads one pair.
     ///
@@ -33,11 +33,11 @@ impl<K: AsBytes, V, const PREFIX_LEN: usize> TreeMap<K, V, PREFIX_LEN> {
     /// }
     /// ```
     pub fn iter_mut(&mut self) -> IterMut<'_, K, V, PREFIX_LEN>
-        ensures same_map { result.map.ghost_name ≡ self.entry.ghost_name }
-        ensures unchanged { result.map.now ≡ self.old }
+        ensures same_map { (counted_map result).ghost_name ≡ self.entry.ghost_name }
+        ensures unchanged { (counted_map result).now ≡ self.old }
         ensures all { (f : K × V → V) → all_once_written f result ≡ all_rewritten f (pairs self.old) }
         ensures left { counted_left result ≡ self.old }
-        ensures none_lent { result.lent ≡ None }
+        ensures none_lent { counted_last result ≡ None }
     {
         self.numbers_law();
         CountedWalk::all(self, WithKeys)
@@ -52,11 +52,11 @@ impl<K: AsBytes, V, const PREFIX_LEN: usize> TreeMap<K, V, PREFIX_LEN> {
     /// }
     /// ```
     pub fn values_mut(&mut self) -> ValuesMut<'_, K, V, PREFIX_LEN>
-        ensures same_map { result.map.ghost_name ≡ self.entry.ghost_name }
-        ensures unchanged { result.map.now ≡ self.old }
+        ensures same_map { (counted_map result).ghost_name ≡ self.entry.ghost_name }
+        ensures unchanged { (counted_map result).now ≡ self.old }
         ensures all { (f : K × V → V) → all_once_written f result ≡ all_rewritten f (pairs self.old) }
         ensures left { counted_left result ≡ self.old }
-        ensures none_lent { result.lent ≡ None }
+        ensures none_lent { counted_last result ≡ None }
     {
         self.numbers_law();
         CountedWalk::all(self, ValuesAlone)
@@ -72,12 +72,12 @@ impl<K: AsBytes, V, const PREFIX_LEN: usize> TreeMap<K, V, PREFIX_LEN> {
     /// ```
     #[tactic(auto, using(crate::proofs::Passed::Opening::opens))]
     pub fn prefix_mut(&mut self, front: &[u8]) -> PrefixMut<'_, K, V, PREFIX_LEN>
-        ensures same_map { result.map.ghost_name ≡ self.entry.ghost_name }
-        ensures unchanged { result.map.now ≡ self.old }
+        ensures same_map { (lending_map result).ghost_name ≡ self.entry.ghost_name }
+        ensures unchanged { (lending_map result).now ≡ self.old }
         ensures all { (f : K × V → V) → once_written f result
             ≡ rewritten (λ pair. begins front.now (K.bytes pair.0)) f (pairs self.old) }
         ensures left { lending_left result ≡ under (bytes K.bytes) self.old front.now }
-        ensures none_lent { result.lent ≡ None }
+        ensures none_lent { lending_last result ≡ None }
     {
         self.numbers_law();
         let cursor = Cursor::prefix(&self.tree, front, &mut Visits::new());
@@ -101,14 +101,14 @@ impl<K: AsBytes, V, const PREFIX_LEN: usize> TreeMap<K, V, PREFIX_LEN> {
     ) -> RangeMut<'_, K, V, PREFIX_LEN>
         requires { CanRange (pairs self.old) (bound_bytes Q.bytes start)
             (bound_bytes Q.bytes end) }
-        ensures same_map { result.map.ghost_name ≡ self.entry.ghost_name }
-        ensures unchanged { result.map.now ≡ self.old }
+        ensures same_map { (lending_map result).ghost_name ≡ self.entry.ghost_name }
+        ensures unchanged { (lending_map result).now ≡ self.old }
         ensures all { (f : K × V → V) → once_written f result
             ≡ rewritten (λ pair. is_from_start (bound_bytes Q.bytes start.entry) (K.bytes pair.0)
             && is_up_to_end (bound_bytes Q.bytes end.entry) (K.bytes pair.0)) f (pairs self.old) }
         ensures left { lending_left result ≡ between (bytes K.bytes) self.old
             (bound_bytes Q.bytes start.entry) (bound_bytes Q.bytes end.entry) }
-        ensures none_lent { result.lent ≡ None }
+        ensures none_lent { lending_last result ≡ None }
     {
         self.numbers_law();
         let cursor = Cursor::range(
@@ -140,8 +140,8 @@ impl<K: AsBytes, V, const PREFIX_LEN: usize> TreeMap<K, V, PREFIX_LEN> {
     ) -> TakeWalk<'_, K, V, PREFIX_LEN>
         requires { CanRange (pairs self.old) (bound_bytes Q.bytes start)
             (bound_bytes Q.bytes end) }
-        ensures same_map { result.map.ghost_name ≡ self.entry.ghost_name }
-        ensures unchanged { result.map.now ≡ self.old }
+        ensures same_map { (take_map result).ghost_name ≡ self.entry.ghost_name }
+        ensures unchanged { (take_map result).now ≡ self.old }
         ensures all { (test : K × V → Bool) → once_taken test result
             ≡ filter (λ pair. not (is_from_start (bound_bytes Q.bytes start.entry) (K.bytes pair.0)
             && is_up_to_end (bound_bytes Q.bytes end.entry) (K.bytes pair.0)
@@ -152,7 +152,7 @@ impl<K: AsBytes, V, const PREFIX_LEN: usize> TreeMap<K, V, PREFIX_LEN> {
             && test pair) (pairs self.old) }
         ensures left { take_left result ≡ between (bytes K.bytes) self.old
             (bound_bytes Q.bytes start.entry) (bound_bytes Q.bytes end.entry) }
-        ensures decided { result.lent ≡ None }
+        ensures decided { take_undecided result ≡ None }
     {
         self.numbers_law();
         let cursor = Cursor::range(

@@ -80,7 +80,7 @@ pub struct LendingWalk<'a, K: AsBytes, V, M, const PREFIX_LEN: usize> {
 }
 
 impl<'a, K: AsBytes, V, M, const PREFIX_LEN: usize> LendingWalk<'a, K, V, M, PREFIX_LEN> {
-    ghost use Rattle.blart_map.specs.LendingWalk.{lending_left, lends_first, lends_last, lends_pair, lending_with};
+    ghost use Rattle.blart_map.specs.LendingWalk.{lending_map, lending_last, lending_left, lends_first, lends_last, lends_pair, lending_with};
 
     // What the cursor has left of the map.
     pub(crate) fn of(map: &'a mut TreeMap<K, V, PREFIX_LEN>, cursor: Cursor, kind: M) -> Self
@@ -123,9 +123,9 @@ impl<'a, K: AsBytes, V, M, const PREFIX_LEN: usize> LendingWalk<'a, K, V, M, PRE
 
     /// The key of the value that was lent last. One was lent. One visit, not counted.
     pub fn key(&self) -> &K
-        requires { is_some self.now.lent ≡ true }
-        ensures { MatchOption self.now.lent ⊤
-            (λ id. (v : V) × (leaf_in self.now.map.now id ≡ Some (result.now, v))) }
+        requires { is_some (lending_last self.now) ≡ true }
+        ensures { MatchOption (lending_last self.now) ⊤
+            (λ id. (v : V) × (leaf_in (lending_map self.now).now id ≡ Some (result.now, v))) }
     {
         let id = self.lent.unwrap();
         self.map.leaf(id).0
@@ -133,10 +133,10 @@ impl<'a, K: AsBytes, V, M, const PREFIX_LEN: usize> LendingWalk<'a, K, V, M, PRE
 
     /// The key and the value that was lent last, to be written again. One was lent.
     pub fn pair(&mut self) -> (&K, &mut V)
-        requires { is_some self.old.lent ≡ true }
+        requires { is_some (lending_last self.old) ≡ true }
         ensures* writes_back { sem 𝓛 (lends_pair K.row V.row M.row PREFIX_LEN.row K.AsBytes self.entry result) }
-        ensures value { MatchOption self.old.lent ⊤
-            (λ id. leaf_in self.old.map.now id ≡ Some (result.0.now, result.1.now)) }
+        ensures value { MatchOption (lending_last self.old) ⊤
+            (λ id. leaf_in (lending_map self.old).now id ≡ Some (result.0.now, result.1.now)) }
         ensures same_left { (w : V) → lending_left (lending_with self.old w) ≡ lending_left self.old }
     {
         self.map.numbers_law();
@@ -146,7 +146,7 @@ impl<'a, K: AsBytes, V, M, const PREFIX_LEN: usize> LendingWalk<'a, K, V, M, PRE
 }
 
 impl<'a, K: AsBytes, V, M: Drop, const PREFIX_LEN: usize> LendingWalk<'a, K, V, M, PREFIX_LEN> {
-    ghost use Rattle.blart_map.specs.LendingWalk.{lending_left, LendsWhere};
+    ghost use Rattle.blart_map.specs.LendingWalk.{lending_map, lending_left, LendsWhere};
     ghost use Rattle.blart_map.specs.OnceWritten.{once_written};
 
     /// Calls the closure once with the key and the value of each pair that is left, in byte order of the keys. Each value is what the closure leaves, and the keys stay. Takes no memory; each call reads one pair.
@@ -165,17 +165,18 @@ impl<'a, K: AsBytes, V, M: Drop, const PREFIX_LEN: usize> LendingWalk<'a, K, V, 
         requires { CallableInTurn (LeavesPair F.FnMut) (TakesAtPair F.FnMut) f
             (pairs_of (lending_left self)) }
         ensures left { WritesLeft (LeavesPair F.FnMut) (lending_left self.entry)
-            self.entry.map.now f self.exit.0.now }
+            (lending_map self.entry).now f self.exit.0.now }
         ensures keys { map (λ p. p.0) (pairs self.exit.0.now)
-            ≡ map (λ p. p.0) (pairs self.entry.map.now) }
-        ensures len { length (pairs self.exit.0.now) ≡ length (pairs self.entry.map.now) }
+            ≡ map (λ p. p.0) (pairs (lending_map self.entry).now) }
+        ensures len { length (pairs self.exit.0.now)
+            ≡ length (pairs (lending_map self.entry).now) }
         ensures each { (S T : List (Numbered K V)) (test : K × V → Bool)
             → LendsWhere self.entry test S → T ≡ self.exit.0.now
             → WritesWhere (LeavesPair F.FnMut) test (pairs S) f (pairs T) }
         ensures acts { (h : K × V → K × V) → ActsOnPair F.FnMut f h
             → pairs self.exit.0.now ≡ once_written (λ p. (h p).1) self.entry }
         ensures within { (S T : List (Numbered K V)) (test : Numbered K V → Bool)
-            (h : K × V → K × V) → T ≡ self.exit.0.now → self.entry.map.now ≡ S
+            (h : K × V → K × V) → T ≡ self.exit.0.now → (lending_map self.entry).now ≡ S
             → lending_left self.entry ≡ filter test S → ActsWhere F.FnMut f test h
             → pairs T ≡ map h (pairs S) }
     {

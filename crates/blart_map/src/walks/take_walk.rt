@@ -31,7 +31,7 @@ pub struct TakeWalk<'a, K: AsBytes, V, const PREFIX_LEN: usize> {
 }
 
 impl<'a, K: AsBytes, V, const PREFIX_LEN: usize> TakeWalk<'a, K, V, PREFIX_LEN> {
-    ghost use Rattle.blart_map.specs.TakeWalk.{take_left, lends_first, lends_last, lends_pair, take_with};
+    ghost use Rattle.blart_map.specs.TakeWalk.{take_map, take_undecided, take_left, lends_first, lends_last, lends_pair, take_with};
 
     // What the cursor has left of the map.
     pub(crate) fn of(map: &'a mut TreeMap<K, V, PREFIX_LEN>, cursor: Cursor) -> Self
@@ -50,14 +50,14 @@ impl<'a, K: AsBytes, V, const PREFIX_LEN: usize> TakeWalk<'a, K, V, PREFIX_LEN> 
 
     /// Whether a pair is lent, and neither kept nor taken so far.
     pub fn undecided(&self) -> bool
-        ensures { result ≡ is_some self.now.lent }
+        ensures { result ≡ is_some (take_undecided self.now) }
     {
         self.lent.is_some()
     }
 
     /// Lends the first pair that is left, and gives its value. None is undecided.
     pub fn lend(&mut self) -> Option<&mut V>
-        requires { is_some self.old.lent ≡ false }
+        requires { is_some (take_undecided self.old) ≡ false }
         ensures* writes_back { sem 𝓛 (lends_first K.row V.row PREFIX_LEN.row K.AsBytes self.entry result) }
         ensures end { IfNone result (take_left self.old ≡ []) }
     {
@@ -68,7 +68,7 @@ impl<'a, K: AsBytes, V, const PREFIX_LEN: usize> TakeWalk<'a, K, V, PREFIX_LEN> 
 
     /// Lends the last pair that is left, and gives its value. None is undecided.
     pub fn lend_back(&mut self) -> Option<&mut V>
-        requires { is_some self.old.lent ≡ false }
+        requires { is_some (take_undecided self.old) ≡ false }
         ensures* writes_back { sem 𝓛 (lends_last K.row V.row PREFIX_LEN.row K.AsBytes self.entry result) }
         ensures end { IfNone result (take_left self.old ≡ []) }
     {
@@ -79,9 +79,9 @@ impl<'a, K: AsBytes, V, const PREFIX_LEN: usize> TakeWalk<'a, K, V, PREFIX_LEN> 
 
     /// The key of the lent pair. One is undecided. One visit, not counted.
     pub fn key(&self) -> &K
-        requires { is_some self.now.lent ≡ true }
-        ensures { MatchOption self.now.lent ⊤
-            (λ id. (v : V) × (leaf_in self.now.map.now id ≡ Some (result.now, v))) }
+        requires { is_some (take_undecided self.now) ≡ true }
+        ensures { MatchOption (take_undecided self.now) ⊤
+            (λ id. (v : V) × (leaf_in (take_map self.now).now id ≡ Some (result.now, v))) }
     {
         let id = self.lent.unwrap();
         self.map.leaf(id).0
@@ -89,10 +89,10 @@ impl<'a, K: AsBytes, V, const PREFIX_LEN: usize> TakeWalk<'a, K, V, PREFIX_LEN> 
 
     /// The lent pair, its value to be written. One is undecided.
     pub fn pair(&mut self) -> (&K, &mut V)
-        requires { is_some self.old.lent ≡ true }
+        requires { is_some (take_undecided self.old) ≡ true }
         ensures* writes_back { sem 𝓛 (lends_pair K.row V.row PREFIX_LEN.row K.AsBytes self.entry result) }
-        ensures value { MatchOption self.old.lent ⊤
-            (λ id. leaf_in self.old.map.now id ≡ Some (result.0.now, result.1.now)) }
+        ensures value { MatchOption (take_undecided self.old) ⊤
+            (λ id. leaf_in (take_map self.old).now id ≡ Some (result.0.now, result.1.now)) }
         ensures same_left { (w : V) → take_left (take_with self.old w) ≡ take_left self.old }
     {
         self.map.numbers_law();
@@ -102,28 +102,28 @@ impl<'a, K: AsBytes, V, const PREFIX_LEN: usize> TakeWalk<'a, K, V, PREFIX_LEN> 
 
     /// Leaves the lent pair in the map, its value as written. One is undecided.
     pub fn keep(&mut self)
-        requires { is_some self.old.lent ≡ true }
-        ensures same_map { self.new.map.ghost_name ≡ self.old.map.ghost_name }
-        ensures unchanged { self.new.map.now ≡ self.old.map.now }
+        requires { is_some (take_undecided self.old) ≡ true }
+        ensures same_map { (take_map self.new).ghost_name ≡ (take_map self.old).ghost_name }
+        ensures unchanged { (take_map self.new).now ≡ (take_map self.old).now }
         ensures same_left { take_left self.new ≡ take_left self.old }
-        ensures decided { self.new.lent ≡ None }
+        ensures decided { take_undecided self.new ≡ None }
     {
         self.lent = None;
     }
 }
 
 impl<'a, K: AsBytes + Drop, V: Drop, const PREFIX_LEN: usize> TakeWalk<'a, K, V, PREFIX_LEN> {
-    ghost use Rattle.blart_map.specs.TakeWalk.{take_left};
+    ghost use Rattle.blart_map.specs.TakeWalk.{take_map, take_undecided, take_left};
 
     /// Takes the lent pair out of the map, and gives it, its value as written. One is undecided. Takes no memory.
     pub fn take(&mut self) -> (K, V)
-        requires { is_some self.old.lent ≡ true }
-        ensures same_map { self.new.map.ghost_name ≡ self.old.map.ghost_name }
-        ensures taken { MatchOption self.old.lent ⊤
-            (λ id. (leaf_in self.old.map.now id ≡ Some result)
-            × (self.new.map.now ≡ without_number self.old.map.now id)) }
+        requires { is_some (take_undecided self.old) ≡ true }
+        ensures same_map { (take_map self.new).ghost_name ≡ (take_map self.old).ghost_name }
+        ensures taken { MatchOption (take_undecided self.old) ⊤
+            (λ id. (leaf_in (take_map self.old).now id ≡ Some result)
+            × ((take_map self.new).now ≡ without_number (take_map self.old).now id)) }
         ensures same_left { take_left self.new ≡ take_left self.old }
-        ensures decided { self.new.lent ≡ None }
+        ensures decided { take_undecided self.new ≡ None }
     {
         self.map.numbers_law();
         let id = self.lent.take().unwrap();
