@@ -19,3 +19,15 @@ impl From<Unanswered> for Failure {
         Failure::Memory
     }
 }
+
+impl Failure {
+    /// What is said of it.
+    pub(crate) fn text(&self) -> &[u8] {
+        match self {
+            Failure::Read => b"read failed",
+            Failure::Write => b"write failed",
+            Failure::Memory => b"out of memory",
+            Failure::Differs(text) => text.as_slice(),
+        }
+    }
+}

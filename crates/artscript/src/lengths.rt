@@ -8,47 +8,82 @@ use std::iter::Iterator;
 /// The answers to the script, which are the same over maps of six lengths.
 pub(crate) fn answers_at_each_length(alloc: Global, script: &[u8]) -> Result<Text, Failure> {
     let expected = answers::<0>(alloc, script)?;
-    compare::<1>(alloc, script, &expected)?;
-    compare::<2>(alloc, script, &expected)?;
-    compare::<8>(alloc, script, &expected)?;
-    compare::<16>(alloc, script, &expected)?;
-    compare::<64>(alloc, script, &expected)?;
-    Ok(expected)
+    match compare_all(alloc, script, expected.as_slice()) {
+        Ok(()) => Ok(expected),
+        Err(failure) => {
+            drop(expected);
+            Err(failure)
+        }
+    }
+}
+
+// That the script has the expected answers at the other lengths too.
+fn compare_all(alloc: Global, script: &[u8], expected: &[u8]) -> Result<(), Failure> {
+    compare::<1>(alloc, script, expected)?;
+    compare::<2>(alloc, script, expected)?;
+    compare::<8>(alloc, script, expected)?;
+    compare::<16>(alloc, script, expected)?;
+    compare::<64>(alloc, script, expected)
 }
 
 // That the script has the expected answers at this length too.
 fn compare<const PREFIX_LEN: usize>(
     alloc: Global,
     script: &[u8],
-    expected: &Text,
+    expected: &[u8],
 ) -> Result<(), Failure> {
     let got = answers::<PREFIX_LEN>(alloc, script)?;
-    if got.as_slice() == expected.as_slice() {
+    if got.as_slice() == expected {
         return Ok(());
     }
     let mut text = Text::new(alloc);
-    text.push(b"at PREFIX_LEN 0 and ")?;
-    PREFIX_LEN.show(&mut text)?;
-    show_difference(script, expected, &got, &mut text)?;
-    Err(Failure::Differs(text))
-}
-
-// Adds the first line of the script whose answers differ, and these.
-fn show_difference(script: &[u8], expected: &Text, got: &Text, text: &mut Text) -> Answered {
-    let lines = script.split(|byte| *byte == b'\n');
-    let first = expected.as_slice().split(|byte| *byte == b'\n');
-    let second = got.as_slice().split(|byte| *byte == b'\n');
-    let mut number: u64 = 0;
-    for ((line, one), other) in lines.zip(first).zip(second) {
-        number = number.saturating_add(1);
-        if one != other {
-            text.push(b" line ")?;
-            number.show(text)?;
-            for part in [b": ".as_slice(), line, b" answers ", one, b" and ", other] {
-                text.push(part)?;
-            }
-            break;
+    let shown = show_difference(PREFIX_LEN, script, expected, got.as_slice(), &mut text);
+    drop(got);
+    match shown {
+        Ok(()) => Err(Failure::Differs(text)),
+        Err(refused) => {
+            drop(text);
+            Err(Failure::from(refused))
         }
     }
-    Ok(())
+}
+
+// Adds the length and the first line of the script whose answers differ, and these.
+fn show_difference(
+    length: usize,
+    script: &[u8],
+    expected: &[u8],
+    got: &[u8],
+    text: &mut Text,
+) -> Answered {
+    let number = same_lines(expected, got);
+    text.push(b"at PREFIX_LEN 0 and ")?;
+    length.show(text)?;
+    text.push(b" line ")?;
+    number.saturating_add(1).show(text)?;
+    text.push(b": ")?;
+    text.push(line_at(script, number))?;
+    text.push(b" answers ")?;
+    text.push(line_at(expected, number))?;
+    text.push(b" and ")?;
+    text.push(line_at(got, number))
+}
+
+// How many lines stand before the first byte that differs.
+fn same_lines(expected: &[u8], got: &[u8]) -> usize {
+    let mut number: usize = 0;
+    for (one, other) in expected.iter().zip(got.iter()) {
+        if *one != *other {
+            break;
+        }
+        if *one == b'\n' {
+            number = number.saturating_add(1);
+        }
+    }
+    number
+}
+
+// The line after so many others, or no bytes where there is none.
+fn line_at(text: &[u8], number: usize) -> &[u8] {
+    text.split(|byte| *byte == b'\n').nth(number).unwrap_or(b"")
 }

@@ -21,7 +21,7 @@ fn main(rt: HostRuntime) -> ExitCode {
     match run(&rt) {
         Ok(()) => ExitCode::SUCCESS,
         Err(failure) => {
-            let _ = report(&rt, failure);
+            let _ = report(&rt, &failure);
             ExitCode::FAILURE
         }
     }
@@ -42,14 +42,9 @@ fn run(rt: &HostRuntime) -> Result<(), Failure> {
 }
 
 // Writes on standard error why there are no answers.
-fn report(rt: &HostRuntime, failure: Failure) -> std::io::Result<()> {
+fn report(rt: &HostRuntime, failure: &Failure) -> std::io::Result<()> {
     let mut errors = rt.stderr();
     errors.write_all(b"artscript: ")?;
-    match failure {
-        Failure::Read => errors.write_all(b"read failed")?,
-        Failure::Write => errors.write_all(b"write failed")?,
-        Failure::Memory => errors.write_all(b"out of memory")?,
-        Failure::Differs(text) => errors.write_all(text.as_slice())?,
-    }
+    errors.write_all(failure.text())?;
     errors.write_all(b"\n")
 }

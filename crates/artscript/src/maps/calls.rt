@@ -93,23 +93,28 @@ impl<K: ScriptKey, const PREFIX_LEN: usize> Maps<K, u64, PREFIX_LEN> {
     /// Makes the call of this name with these words after it, and adds its answer.
     pub(crate) fn call(&mut self, name: MapName, words: Words<'_>, text: &mut Text) -> Answered {
         match name {
-            MapName::TryInsert | MapName::ReplaceEntry => self.place(name, words, text),
-            MapName::PrefixInsert => self.place(name, words, text),
-            MapName::GetMut | MapName::PrefixGetMut => self.write(name, words, text),
-            MapName::PrefixGetKeyValueMut => self.write(name, words, text),
+            MapName::TryInsert | MapName::ReplaceEntry | MapName::PrefixInsert => {
+                self.place(name, words, text)
+            }
+            MapName::GetMut | MapName::PrefixGetMut | MapName::PrefixGetKeyValueMut => {
+                self.write(name, words, text)
+            }
             MapName::Drive => self.drive(words, text),
             MapName::Retain => self.retain(words, text),
-            MapName::ExtractIf | MapName::TakeWalk => self.within(name, words, text),
-            MapName::Range | MapName::RangeCounted => self.within(name, words, text),
-            MapName::RangeMut => self.within(name, words, text),
-            MapName::Prefix | MapName::PrefixCounted => self.below(name, words, text),
-            MapName::PrefixMut => self.below(name, words, text),
+            MapName::ExtractIf
+            | MapName::TakeWalk
+            | MapName::Range
+            | MapName::RangeCounted
+            | MapName::RangeMut => self.within(name, words, text),
+            MapName::Prefix | MapName::PrefixCounted | MapName::PrefixMut => {
+                self.below(name, words, text)
+            }
             MapName::IterMut | MapName::ValuesMut => self.lend_all(name, words, text),
             MapName::Equal
             | MapName::PartialCmp
             | MapName::Cmp
             | MapName::SameHash
-            | MapName::DebugText => { self.compare(name, words, text) }
+            | MapName::DebugText => self.compare(name, words, text),
             _ => self.call_of_any(name, words, text),
         }
     }

@@ -15,13 +15,20 @@ impl<K: ScriptKey, V: Shown + Drop, const PREFIX_LEN: usize> Maps<K, V, PREFIX_L
         match name {
             MapName::BoundsInOrder => show_order(words, text),
             MapName::Iter | MapName::Keys | MapName::Values => self.walk(name, words, text),
-            MapName::Len | MapName::InnerNodes | MapName::IsEmpty => self.tell(name, words, text),
-            MapName::FirstKeyValue | MapName::LastKeyValue => self.tell(name, words, text),
-            MapName::Get | MapName::PrefixGet | MapName::Index => self.find(name, words, text),
-            MapName::ContainsKey | MapName::Conflicts => self.find(name, words, text),
-            MapName::GetKeyValue | MapName::PrefixGetKeyValue => self.find(name, words, text),
-            MapName::GetKeyValueCounted => self.find(name, words, text),
-            MapName::PrefixGetKeyValueCounted => self.find(name, words, text),
+            MapName::Len
+            | MapName::InnerNodes
+            | MapName::IsEmpty
+            | MapName::FirstKeyValue
+            | MapName::LastKeyValue => self.tell(name, words, text),
+            MapName::Get
+            | MapName::PrefixGet
+            | MapName::Index
+            | MapName::ContainsKey
+            | MapName::Conflicts
+            | MapName::GetKeyValue
+            | MapName::PrefixGetKeyValue
+            | MapName::GetKeyValueCounted
+            | MapName::PrefixGetKeyValueCounted => self.find(name, words, text),
             _ => Err(Unanswered::NoCall),
         }
     }

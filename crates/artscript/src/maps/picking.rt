@@ -17,12 +17,8 @@ impl<K: ScriptKey, const PREFIX_LEN: usize> Maps<K, u64, PREFIX_LEN> {
     pub(crate) fn retain(&mut self, mut words: Words<'_>, text: &mut Text) -> Answered {
         let pick = ValuePick::read(&mut words)?;
         words.end()?;
-        let mut asked: u64 = 0;
-        self.first.retain(|_, value| {
-            asked = asked.wrapping_add(1);
-            pick.picks(value)
-        });
-        asked.show(text)
+        self.first.retain(|_, value| pick.picks(value));
+        pick.asked().show(text)
     }
 
     /// Takes out the pairs that are picked, and adds them and how often the closure was asked.
@@ -38,14 +34,12 @@ impl<K: ScriptKey, const PREFIX_LEN: usize> Maps<K, u64, PREFIX_LEN> {
     {
         let pick = ValuePick::read(&mut words)?;
         let letters = words.last_moves()?;
-        let mut asked: u64 = 0;
-        let walk = self.first.extract_if(start, end, |_, value| {
-            asked = asked.wrapping_add(1);
-            pick.picks(value)
-        });
+        let walk = self
+            .first
+            .extract_if(start, end, |_, value| pick.picks(value));
         show_walk(walk, Left::Untold, letters, text)?;
         text.push(b" ")?;
-        asked.show(text)
+        pick.asked().show(text)
     }
 
     /// Lends the pairs within two bounds, to be kept or taken, and adds what each letter gave.

@@ -17,15 +17,29 @@ pub(crate) fn stands(
     line: &[u8],
 ) -> Result<bool, Unanswered> {
     let mut found = Text::new(alloc);
-    session.list(&mut found)?;
-    let before = listing_after(alloc, script, number, b"")?;
-    if found.as_slice() == before.as_slice() {
+    let stands = match session.list(&mut found) {
+        Ok(()) => is_made(alloc, found.as_slice(), script, number, line),
+        Err(refused) => Err(refused),
+    };
+    drop(found);
+    stands
+}
+
+// Whether the listing is that of the lines before this one, or of a front of its items too where it keeps one.
+fn is_made(
+    alloc: Global,
+    found: &[u8],
+    script: &[u8],
+    number: usize,
+    line: &[u8],
+) -> Result<bool, Unanswered> {
+    if is_listing(alloc, found, script, number, b"")? {
         return Ok(true);
     }
     if !keeps_a_front(line) {
         return Ok(false);
     }
-    has_a_front(alloc, &found, script, number, line)
+    has_a_front(alloc, found, script, number, line)
 }
 
 // Whether the call of the line keeps the items before the refused one.
@@ -36,20 +50,33 @@ fn keeps_a_front(line: &[u8]) -> bool {
 // Whether the listing is that of the lines before this one and of a front of its items.
 fn has_a_front(
     alloc: Global,
-    found: &Text,
+    found: &[u8],
     script: &[u8],
     number: usize,
     line: &[u8],
 ) -> Result<bool, Unanswered> {
     for (at, byte) in line.iter().enumerate() {
         if *byte == b' ' {
-            let made = listing_after(alloc, script, number, &line[..at])?;
-            if found.as_slice() == made.as_slice() {
+            if is_listing(alloc, found, script, number, &line[..at])? {
                 return Ok(true);
             }
         }
     }
     Ok(false)
+}
+
+// Whether the listing is that of a session of the first lines of the script and one more.
+fn is_listing(
+    alloc: Global,
+    found: &[u8],
+    script: &[u8],
+    count: usize,
+    last: &[u8],
+) -> Result<bool, Unanswered> {
+    let made = listing_after(alloc, script, count, last)?;
+    let is_same = made.as_slice() == found;
+    drop(made);
+    Ok(is_same)
 }
 
 // The listing of a session of the first lines of the script and one more.
@@ -94,9 +121,18 @@ pub(crate) fn changed(
     line: &[u8],
 ) -> Result<Text, Unanswered> {
     let mut text = Text::new(alloc);
+    match show_changed(session, line, &mut text) {
+        Ok(()) => Ok(text),
+        Err(refused) => {
+            drop(text);
+            Err(refused)
+        }
+    }
+}
+
+fn show_changed(session: &Session<'_, PREFIX_LEN>, line: &[u8], text: &mut Text) -> Answered {
     text.push(b"refused, and not as before: ")?;
     text.push(line)?;
     text.push(b"\n")?;
-    session.list(&mut text)?;
-    Ok(text)
+    session.list(text)
 }

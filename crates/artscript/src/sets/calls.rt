@@ -34,16 +34,18 @@ impl<K: ScriptKey, const PREFIX_LEN: usize> Sets<K, PREFIX_LEN> {
         match name {
             SetName::New | SetName::Clear | SetName::Swap => self.renew(name, words, text),
             SetName::PopFirst | SetName::PopLast => self.pop(name, words, text),
-            SetName::Remove | SetName::Take | SetName::RemovePrefix => {
+            SetName::Remove | SetName::Take | SetName::RemovePrefix | SetName::SplitOff => {
                 self.remove(name, words, text)
             }
             SetName::TryInsert | SetName::PrefixInsert => self.place(name, words, text),
             SetName::Retain => self.retain(words, text),
             SetName::ExtractIf | SetName::Range => self.within(name, words, text),
             SetName::IntoIter => self.into_elements(words, text),
-            SetName::SplitOff => self.remove(name, words, text),
-            SetName::Equal | SetName::PartialCmp | SetName::Cmp => self.compare(name, words, text),
-            SetName::SameHash | SetName::DebugText => self.compare(name, words, text),
+            SetName::Equal
+            | SetName::PartialCmp
+            | SetName::Cmp
+            | SetName::SameHash
+            | SetName::DebugText => self.compare(name, words, text),
             _ => self.look_up(name, words, text),
         }
     }
@@ -104,8 +106,9 @@ impl<K: FixedKey, const PREFIX_LEN: usize> Sets<K, PREFIX_LEN> {
             SetName::MakeClone => self.make_clone(words, text),
             SetName::ExtendCopied => self.extend_copied(words, text),
             SetName::FromArray => self.from_array(words, text),
-            SetName::Or | SetName::And | SetName::Xor => self.operate(name, words, text),
-            SetName::Sub => self.operate(name, words, text),
+            SetName::Or | SetName::And | SetName::Xor | SetName::Sub => {
+                self.operate(name, words, text)
+            }
             _ => self.call_of_apart(name, words, text),
         }
     }

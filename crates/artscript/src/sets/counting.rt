@@ -21,6 +21,16 @@ impl<K: ScriptKey, const PREFIX_LEN: usize> Sets<K, PREFIX_LEN> {
         count.get().show(text)
     }
 
+    // Adds the bytes of both sets to those of others.
+    fn add_to<'a>(
+        &'a self,
+        sets: &mut Sets<Compared<'a>, PREFIX_LEN>,
+        count: &'a Cell<u64>,
+    ) -> Answered {
+        add_all(&mut sets.first, &self.first, count)?;
+        add_all(&mut sets.second, &self.second, count)
+    }
+
     // Adds the bytes of both sets to those of others, makes the call of these, and adds its answer.
     fn call_in<'a>(
         &'a self,
@@ -30,13 +40,8 @@ impl<K: ScriptKey, const PREFIX_LEN: usize> Sets<K, PREFIX_LEN> {
         words: Words<'_>,
         text: &mut Text,
     ) -> Answered {
-        add_all(&mut sets.first, &self.first, count)?;
-        add_all(&mut sets.second, &self.second, count)?;
-        match name {
-            SetName::IsDisjointCounted | SetName::IsSubsetCounted | SetName::IsSupersetCounted =>
-                sets.relate(name, words, text),
-            _ => sets.merge(name, words, text),
-        }
+        self.add_to(sets, count)?;
+        sets.call_of_both(name, words, text)
     }
 }
 

@@ -7,22 +7,28 @@ impl<K: ScriptKey, const PREFIX_LEN: usize> Sets<K, PREFIX_LEN> {
     /// Makes the call of this name, which leaves the sets as they are, and adds its answer.
     pub(crate) fn look_up(&self, name: SetName, words: Words<'_>, text: &mut Text) -> Answered {
         match name {
-            SetName::Len | SetName::IsEmpty => self.tell(name, words, text),
-            SetName::First | SetName::Last => self.tell(name, words, text),
-            SetName::Contains | SetName::Conflicts => self.find(name, words, text),
-            SetName::Get | SetName::PrefixGet => self.find(name, words, text),
+            SetName::Len | SetName::IsEmpty | SetName::First | SetName::Last => {
+                self.tell(name, words, text)
+            }
+            SetName::Contains | SetName::Conflicts | SetName::Get | SetName::PrefixGet => {
+                self.find(name, words, text)
+            }
             SetName::Iter => self.iter(words, text),
             SetName::Prefix => self.prefix(words, text),
-            SetName::IsDisjoint | SetName::IsSubset => self.relate(name, words, text),
-            SetName::IsSuperset => self.relate(name, words, text),
-            SetName::Union | SetName::Intersection => self.merge(name, words, text),
-            SetName::Difference => self.merge(name, words, text),
-            SetName::SymmetricDifference => self.merge(name, words, text),
-            SetName::UnionCounted | SetName::IntersectionCounted => self.count(name, words, text),
-            SetName::DifferenceCounted => self.count(name, words, text),
-            SetName::SymmetricDifferenceCounted => self.count(name, words, text),
-            SetName::IsDisjointCounted | SetName::IsSubsetCounted => self.count(name, words, text),
-            SetName::IsSupersetCounted => self.count(name, words, text),
+            SetName::IsDisjoint
+            | SetName::IsSubset
+            | SetName::IsSuperset
+            | SetName::Union
+            | SetName::Intersection
+            | SetName::Difference
+            | SetName::SymmetricDifference => self.call_of_both(name, words, text),
+            SetName::UnionCounted
+            | SetName::IntersectionCounted
+            | SetName::DifferenceCounted
+            | SetName::SymmetricDifferenceCounted
+            | SetName::IsDisjointCounted
+            | SetName::IsSubsetCounted
+            | SetName::IsSupersetCounted => self.count(name, words, text),
             _ => Err(Unanswered::NoCall),
         }
     }
@@ -53,8 +59,26 @@ impl<K: ScriptKey, const PREFIX_LEN: usize> Sets<K, PREFIX_LEN> {
 }
 
 impl<K: OrderedBytes + Shown + Drop, const PREFIX_LEN: usize> Sets<K, PREFIX_LEN> {
-    /// Makes the test of this name of both sets, and adds its answer.
-    pub(crate) fn relate(&self, name: SetName, words: Words<'_>, text: &mut Text) -> Answered {
+    /// Makes the call of this name of both sets, and adds its answer.
+    pub(crate) fn call_of_both(
+        &self,
+        name: SetName,
+        words: Words<'_>,
+        text: &mut Text,
+    ) -> Answered {
+        match name {
+            SetName::IsDisjoint
+            | SetName::IsDisjointCounted
+            | SetName::IsSubset
+            | SetName::IsSubsetCounted
+            | SetName::IsSuperset
+            | SetName::IsSupersetCounted => self.relate(name, words, text),
+            _ => self.merge(name, words, text),
+        }
+    }
+
+    // Makes the test of this name of both sets, and adds its answer.
+    fn relate(&self, name: SetName, words: Words<'_>, text: &mut Text) -> Answered {
         words.end()?;
         let holds = match name {
             SetName::IsDisjoint | SetName::IsDisjointCounted => {

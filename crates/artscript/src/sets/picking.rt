@@ -15,12 +15,8 @@ impl<K: ScriptKey, const PREFIX_LEN: usize> Sets<K, PREFIX_LEN> {
     pub(crate) fn retain(&mut self, mut words: Words<'_>, text: &mut Text) -> Answered {
         let pick = BytesPick::read(&mut words)?;
         words.end()?;
-        let mut asked: u64 = 0;
-        self.first.retain(|element| {
-            asked = asked.wrapping_add(1);
-            pick.picks(element.as_bytes())
-        });
-        asked.show(text)
+        self.first.retain(|element| pick.picks(element.as_bytes()));
+        pick.asked().show(text)
     }
 
     /// Takes out the elements that are picked, and adds them and how often the closure was asked.
@@ -36,13 +32,11 @@ impl<K: ScriptKey, const PREFIX_LEN: usize> Sets<K, PREFIX_LEN> {
     {
         let pick = BytesPick::read(&mut words)?;
         let letters = words.last_moves()?;
-        let mut asked: u64 = 0;
-        let walk = self.first.extract_if(start, end, |element| {
-            asked = asked.wrapping_add(1);
-            pick.picks(element.as_bytes())
-        });
+        let walk = self
+            .first
+            .extract_if(start, end, |element| pick.picks(element.as_bytes()));
         show_walk(walk, Left::Untold, letters, text)?;
         text.push(b" ")?;
-        asked.show(text)
+        pick.asked().show(text)
     }
 }

@@ -107,15 +107,23 @@ const NAMES: [(&str, EntryName); 19] = [
 
 impl EntryLine {
     /// What the words that are left say.
-    pub fn read(mut words: Words<'_>) -> Result<EntryLine, Unanswered> {
-        let mut name = words.word()?;
-        let mut add = None;
-        if name == b"and_modify".as_slice() {
-            add = Some(words.number()?);
-            name = words.word()?;
+    pub fn read(words: Words<'_>) -> Result<EntryLine, Unanswered> {
+        let mut rest = words;
+        if rest.word()? != b"and_modify".as_slice() {
+            let call = EntryCall::read(words)?;
+            return Ok(EntryLine { add: None, call });
         }
-        let call = named_call(name, words.last_number()?)?;
+        let add = Some(rest.number()?);
+        let call = EntryCall::read(rest)?;
         Ok(EntryLine { add, call })
+    }
+}
+
+impl EntryCall {
+    /// The call that the words which are left are.
+    pub fn read(mut words: Words<'_>) -> Result<EntryCall, Unanswered> {
+        let name = words.word()?;
+        named_call(name, words.last_number()?)
     }
 }
 

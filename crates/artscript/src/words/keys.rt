@@ -5,7 +5,7 @@ ghost use Rattle.std.specs.Int.{to_be_bytes, w32};
 use crate::words::answered::Unanswered;
 use crate::words::text::Shown;
 use blart_keys::{AsBytes, I32Key, NoPrefixesBytes, OrderedBytes, U64Key, ZKey, ZKeyError};
-use std::alloc::AllocError;
+use std::alloc::{AllocError, Global};
 use std::fmt::Debug;
 use std::hash::Hash;
 
@@ -35,10 +35,8 @@ impl ScriptKey for Vec<u8> {
 
 impl ScriptKey for u8 {
     fn from_vec(bytes: Vec<u8>) -> Result<Self, Unanswered> {
-        match bytes.as_slice() {
-            [byte] => Ok(*byte),
-            _ => Err(Unanswered::NoCall),
-        }
+        let [byte]: [u8; 1] = array_of(bytes)?;
+        Ok(byte)
     }
 }
 
@@ -46,10 +44,7 @@ impl FixedKey for u8 {}
 
 impl ScriptKey for [u8; 3] {
     fn from_vec(bytes: Vec<u8>) -> Result<Self, Unanswered> {
-        match bytes.as_slice() {
-            [first, second, third] => Ok([*first, *second, *third]),
-            _ => Err(Unanswered::NoCall),
-        }
+        array_of(bytes)
     }
 }
 
@@ -57,10 +52,7 @@ impl FixedKey for [u8; 3] {}
 
 impl ScriptKey for I32Key {
     fn from_vec(bytes: Vec<u8>) -> Result<Self, Unanswered> {
-        match bytes.as_slice() {
-            [a, b, c, d] => Ok(number_of_bits(u32::from_be_bytes([*a, *b, *c, *d]))),
-            _ => Err(Unanswered::NoCall),
-        }
+        Ok(number_of_bits(u32::from_be_bytes(array_of(bytes)?)))
     }
 }
 
@@ -82,13 +74,35 @@ impl FixedKey for U64Key {}
 
 impl ScriptKey for ZKey {
     fn from_vec(bytes: Vec<u8>) -> Result<Self, Unanswered> {
-        let [front @ .., 0] = bytes.as_slice() else {
-            return Err(Unanswered::NoCall);
-        };
-        match ZKey::from_bytes(*bytes.allocator(), front) {
-            Ok(key) => Ok(key),
-            Err(ZKeyError::InnerZero) => Err(Unanswered::NoCall),
-            Err(ZKeyError::Memory) => Err(Unanswered::Memory(AllocError)),
+        let made = zkey_of(*bytes.allocator(), &bytes);
+        drop(bytes);
+        made
+    }
+}
+
+// The key of these bytes, of which the last is zero and no other is.
+fn zkey_of(alloc: Global, bytes: &[u8]) -> Result<ZKey, Unanswered>
+    ensures { IfOk result (λ key. ⟦<ZKey as AsBytes>⟧.bytes key ≡ bytes.now) }
+{
+    let [front @ .., 0] = bytes else {
+        return Err(Unanswered::NoCall);
+    };
+    match ZKey::from_bytes(alloc, front) {
+        Ok(key) => Ok(key),
+        Err(ZKeyError::InnerZero) => Err(Unanswered::NoCall),
+        Err(ZKeyError::Memory) => Err(Unanswered::Memory(AllocError)),
+    }
+}
+
+/// The bytes, where there are so many.
+pub(crate) fn array_of<const N: usize>(bytes: Vec<u8>) -> Result<[u8; N], Unanswered>
+    ensures { IfOk result (λ array. array ≡ bytes.items) }
+{
+    match <[u8; N]>::try_from(bytes) {
+        Ok(array) => Ok(array),
+        Err(bytes) => {
+            drop(bytes);
+            Err(Unanswered::NoCall)
         }
     }
 }

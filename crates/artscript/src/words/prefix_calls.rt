@@ -114,9 +114,8 @@ impl<'a> PrefixCall<'a> {
 }
 
 // The call of the entry's kind that the words which are left say.
-fn kind_call<'a>(mut words: Words<'_>) -> Result<PrefixCall<'a>, Unanswered> {
-    let name = words.word()?;
-    match named_call(name, words.last_number()?)? {
+fn kind_call<'a>(words: Words<'_>) -> Result<PrefixCall<'a>, Unanswered> {
+    match EntryCall::read(words)? {
         EntryCall::Value(call) => Ok(PrefixCall::KindValue(call)),
         EntryCall::Place(call) => Ok(PrefixCall::KindPlace(call)),
         _ => Err(Unanswered::NoCall),

@@ -90,12 +90,11 @@ impl<'a> Words<'a> {
 
     /// The key that a word stands for, with the tag after `#` where there is one.
     pub fn key_of<K: ScriptKey>(&self, word: &[u8]) -> Result<K, Unanswered> {
-        match word.iter().position(|byte| *byte == b'#') {
-            Some(at) => match number_of(&word[at + 1..]) {
-                Some(tag) => K::from_vec(joined_of(self.alloc, &word[..at])?)?.with_tag(tag),
-                None => Err(Unanswered::NoCall),
-            },
-            None => K::from_vec(joined_of(self.alloc, word)?),
+        let mut parts = Words::new(word, b'#', self.alloc);
+        let digits = parts.word()?;
+        match parts.last_number()? {
+            Some(tag) => K::from_vec(joined_of(self.alloc, digits)?)?.with_tag(tag),
+            None => K::from_vec(joined_of(self.alloc, digits)?),
         }
     }
 
@@ -114,6 +113,14 @@ impl<'a> Words<'a> {
     /// The number that the next word is.
     pub fn number(&mut self) -> Result<u64, Unanswered> {
         number_of(self.word()?).ok_or(Unanswered::NoCall)
+    }
+
+    /// The number that the next word is, by which others are divided.
+    pub fn modulus(&mut self) -> Result<u64, Unanswered> {
+        match self.number()? {
+            0 => Err(Unanswered::NoCall),
+            number => Ok(number),
+        }
     }
 
     /// The number that the last word is, where one is left.

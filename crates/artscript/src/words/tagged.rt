@@ -5,7 +5,7 @@ ghost use Rattle.std.proofs.lemmas.Slice.Eq.{bytes_eq-Decides};
 ghost use Rattle.blart_keys.specs.KeyLaws.{begins_same_length};
 
 use crate::words::answered::{Answered, Unanswered};
-use crate::words::keys::{FixedKey, ScriptKey};
+use crate::words::keys::{FixedKey, ScriptKey, array_of};
 use crate::words::text::{Shown, Text, show_bytes};
 use blart_keys::{AsBytes, NoPrefixesBytes, OrderedBytes};
 
@@ -52,13 +52,8 @@ impl Shown for Tagged {
 
 impl ScriptKey for Tagged {
     fn from_vec(bytes: Vec<u8>) -> Result<Self, Unanswered> {
-        match bytes.as_slice() {
-            [first, second, third] => Ok(Tagged {
-                bytes: [*first, *second, *third],
-                tag: 0,
-            }),
-            _ => Err(Unanswered::NoCall),
-        }
+        let bytes = array_of(bytes)?;
+        Ok(Tagged { bytes, tag: 0 })
     }
 
     fn with_tag(self, tag: u64) -> Result<Self, Unanswered> {
