@@ -427,6 +427,7 @@ impl<K, V> Leaves<K, V> {
         ensures next { IfSome result (λ r. number_after self.now.pairs id ≡ Some r.0) }
         ensures runs { IfSome result (λ r. RunsAfter self.now.pairs r.0 r.1) }
         ensures last { IfSome result (λ r. seen.place + 1 + length r.1 < ROW) }
+        ensures there { IfSome (leaf_in self.now.rows seen.row) (λ ids. nth ids seen.place ≡ Some id → seen.place + 1 < length ids → IsSome result) }
     {
         let row = self.rows.get(seen.row)?;
         let next = row.run().after(seen.place, id)?;

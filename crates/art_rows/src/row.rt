@@ -1,5 +1,5 @@
 //! A row of numbers.
-ghost use Rattle.std.specs.Prelude.{◌≡◌, ℕ, ◌+◌, ◌-◌, ◌*◌, ◌^◌, ◌<◌, ◌≤◌, [], ◌∷◌, ◌++◌, length, take, drop, Some, true, false, IfSome, slice_index_or};
+ghost use Rattle.std.specs.Prelude.{◌≡◌, ℕ, ◌+◌, ◌-◌, ◌*◌, ◌^◌, ◌<◌, ◌≤◌, min, [], ◌∷◌, ◌++◌, length, take, drop, Some, true, false, IfSome, slice_index_or};
 ghost use Rattle.art_rows.specs.Rows.{among, place_in, nth, nowhere};
 ghost use Rattle.art_rows.specs.Blocks.{times, row_of};
 
@@ -109,6 +109,7 @@ impl Row {
         requires { place < length self.now }
         ensures run { result ≡ take (length result) (drop (place + 1) self.now) }
         ensures last { place + length result < ROW }
+        ensures count { place + 8 < ROW → length result ≡ min 8 (length self.now - (place + 1)) }
     {
         let rest = self.len() - place - 1;
         match self.cells[place + 1..].first_chunk::<8>() {

@@ -1,5 +1,5 @@
 //! Numbers of a block, side by side.
-ghost use Rattle.std.specs.Prelude.{◌≡◌, ◌+◌, ◌-◌, ◌*◌, ◌^◌, ◌<◌, ◌≤◌, [], ◌∷◌, ◌++◌, length, take, drop, Some, true, IfSome};
+ghost use Rattle.std.specs.Prelude.{◌≡◌, ◌+◌, ◌-◌, ◌*◌, ◌^◌, ◌<◌, ◌≤◌, [], ◌∷◌, ◌++◌, length, take, drop, Some, true, IfSome, IsSome};
 ghost use Rattle.std.specs.Option.{MatchOption};
 ghost use Rattle.art_rows.specs.Rows.{place_in, nth};
 ghost use Rattle.art_rows.specs.Blocks.{numbers_at, AreWithin};
@@ -77,7 +77,8 @@ impl<'a> Run<'a> {
 
     /// The number after another, where that stands at a place and is not the last.
     pub(crate) fn after(&self, place: usize, number: LeafId) -> Option<LeafId>
-        ensures { IfSome result (λ n. (nth self.now place ≡ Some number) × (nth self.now (place + 1) ≡ Some n)) }
+        ensures some { IfSome result (λ n. (nth self.now place ≡ Some number) × (nth self.now (place + 1) ≡ Some n)) }
+        ensures there { nth self.now place ≡ Some number → place + 1 < length self.now → IsSome result }
     {
         if place < self.len() && place + 1 < self.len() && self.at(place) == number {
             Some(self.at(place + 1))
