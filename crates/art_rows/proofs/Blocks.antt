@@ -1,14 +1,14 @@
 -- The numbers of a block.
-use Rattle.std.proofs.Common.{◌≡◌, ◌⊎◌, ℕ, zero, suc, ◌+◌, ◌-◌, ◌*◌, ◌/◌, ◌%◌, ◌<◌, ◌≤◌, List, [], ◌∷◌, ◌++◌, length, take, drop, get_or, refl, sym, ap, ◌∙◌, Some, true, false, cond, eqb, eq-eqb, inl, inr, arith}
+use Rattle.std.proofs.Common.{◌≡◌, ◌≢◌, ◌⊎◌, ℕ, zero, suc, ◌+◌, ◌-◌, ◌*◌, ◌/◌, ◌%◌, ◌^◌, ◌<◌, ◌≤◌, List, [], ◌∷◌, ◌++◌, length, take, drop, get_or, refl, sym, ap, subst, ◌∙◌, Some, true, false, cond, eqb, eq-eqb, inl, inr, arith}
 use Rattle.std.proofs.lemmas.Bool.Decides.{leb_tells, eqb_tells}
 use Rattle.std.proofs.lemmas.List.{take-append-drop, length-map, length-take-le, take-take, drop-take, map-append, take-map, drop-map}
 use Rattle.std.proofs.lemmas.List.Sums.{sum_by-append, sum_by-cons}
 use Rattle.std.specs.List.{range_with_len}
-use Rattle.std.proofs.Math.Nat.{div-div-eq-div-mul}
+use Rattle.std.proofs.Math.Nat.{pow-succ', div-div-eq-div-mul}
 use Rattle.std.proofs.lemmas.Nat.{le_bytes_8}
-use Rattle.std.specs.Int.{w64, to_le_bytes, from_le_bytes}
+use Rattle.std.specs.Int.{w64, byte_at, bytes_low_first, from_le_bytes}
 use Rattle.art_rows.specs.Rows.{among, nth}
-use Rattle.art_rows.specs.Blocks.{times, row_of, numbers_at, low_bytes, AreWithin, ArePlaces}
+use Rattle.art_rows.specs.Blocks.{times, row_of, numbers_at, AreWithin, ArePlaces}
 use Rattle.art_rows.specs.declared.row.TheConstants.{ROW}
 use Rattle.art_rows.proofs.NumbersLemmas.{eqb_same, eqb_other}
 
@@ -123,37 +123,29 @@ within_more ns n w = (
 
 -- ---- cells as a number
 
+-- each byte after the lowest is one of the number without that
+byte_at-suc : (i n : ℕ) → byte_at (suc i) n ≡ byte_at i (n / 256)
+byte_at-suc zero n = refl
+byte_at-suc (suc i) n = ap (λ m. n / m % 256) (pow-succ' 256 (suc i)) ∙ ap (λ m. m % 256) (sym (div-div-eq-div-mul n 256 (256 ^ suc i)))
+
+bytes-suc : (i k n : ℕ) → bytes_low_first (suc i) k n ≡ bytes_low_first i k (n / 256)
+bytes-suc i zero n = refl
+bytes-suc i (suc k) n = λ j. byte_at-suc i n j ∷ bytes-suc (suc i) k n j
+
+-- the lowest byte, and those of the number without it
+pub bytes-first : (k n : ℕ) → k ≢ 0 → bytes_low_first 0 k n ≡ n % 256 ∷ bytes_low_first 0 (k - 1) (n / 256)
+bytes-first zero n l = absurd (l refl)
+bytes-first (suc k) n l = (let e : suc k - 1 ≡ k = omega arith in rw e (ap (λ bs. n % 256 ∷ bs) (bytes-suc 0 k n)))
+
 -- the first bytes of more
-low_bytes-take : (k j n : ℕ) → take k (low_bytes (k + j) n) ≡ low_bytes k n
-low_bytes-take zero j n = refl
-low_bytes-take (suc k) j n = (
-    let e : suc k + j ≡ suc (k + j) = omega arith in
-    ap (λ i. take (suc k) (low_bytes i n)) e ∙ ap (λ l. n % 256 ∷ l) (low_bytes-take k j (n / 256)))
+bytes-take : (i j k n : ℕ) → k ≤ j → take k (bytes_low_first i j n) ≡ bytes_low_first i k n
+bytes-take i j zero n h = refl
+bytes-take i zero (suc k) n h = absurd (omega arith)
+bytes-take i (suc j) (suc k) n h = ap (λ bs. byte_at i n ∷ bs) (bytes-take (suc i) j k n (omega arith))
 
-pub length-low_bytes : (k n : ℕ) → length (low_bytes k n) ≡ k
-length-low_bytes zero n = refl
-length-low_bytes (suc k) n = ap suc (length-low_bytes k (n / 256))
-
--- all eight
-low_bytes-all : (n : ℕ) → low_bytes 8 n ≡ to_le_bytes w64 n
-low_bytes-all n = λ i. n % 256 ∷ n / 256 % 256 ∷ two i % 256 ∷ three i % 256 ∷ four i % 256 ∷ five i % 256 ∷ six i % 256 ∷ seven i % 256 ∷ [] where
-  two : n / 256 / 256 ≡ n / 65536
-  two = div-div-eq-div-mul n 256 256
-
-  three : n / 256 / 256 / 256 ≡ n / 16777216
-  three = ap (λ m. m / 256) two ∙ div-div-eq-div-mul n 65536 256
-
-  four : n / 256 / 256 / 256 / 256 ≡ n / 4294967296
-  four = ap (λ m. m / 256) three ∙ div-div-eq-div-mul n 16777216 256
-
-  five : n / 256 / 256 / 256 / 256 / 256 ≡ n / 1099511627776
-  five = ap (λ m. m / 256) four ∙ div-div-eq-div-mul n 4294967296 256
-
-  six : n / 256 / 256 / 256 / 256 / 256 / 256 ≡ n / 281474976710656
-  six = ap (λ m. m / 256) five ∙ div-div-eq-div-mul n 1099511627776 256
-
-  seven : n / 256 / 256 / 256 / 256 / 256 / 256 / 256 ≡ n / 72057594037927936
-  seven = ap (λ m. m / 256) six ∙ div-div-eq-div-mul n 281474976710656 256
+pub length-bytes : (i k n : ℕ) → length (bytes_low_first i k n) ≡ k
+length-bytes i zero n = refl
+length-bytes i (suc k) n = ap suc (length-bytes (suc i) k n)
 
 small : (cells : List ℕ) (i : ℕ) → AreWithin cells → get_or cells i 0 < 256
 small [] i w = omega arith
@@ -161,10 +153,12 @@ small (c ∷ cells) zero w = omega (arith, (within_cons c cells w).0)
 small (c ∷ cells) (suc i) w = small cells i (within_cons c cells w).1
 
 -- eight cells that were read as a number are its bytes
-pub low_bytes-of : (cells : List ℕ) (k n : ℕ) → length cells ≡ 8 → AreWithin cells → k ≤ 8 → n ≡ from_le_bytes w64 cells → low_bytes k n ≡ take k cells
-low_bytes-of cells k n l w h is =
-    let e : k + (8 - k) ≡ 8 = omega arith in
-    sym (low_bytes-take k (8 - k) n) ∙ ap (λ j. take k (low_bytes j n)) e ∙ ap (take k) (low_bytes-all n ∙ le_bytes_8 cells n l (λ i. small cells i w) is)
+pub bytes-of : (cells : List ℕ) (k n : ℕ) → length cells ≡ 8 → AreWithin cells → k ≤ 8 → n ≡ from_le_bytes w64 cells → bytes_low_first 0 k n ≡ take k cells
+bytes-of cells k n l w h is = sym (bytes-take 0 8 k n h) ∙ ap (take k) (le_bytes_8 cells n l (λ i. small cells i w) is)
+
+-- the lowest byte of those that are cells of a block is one, and so are the others
+pub within-first : (k n : ℕ) → k ≢ 0 → AreWithin (bytes_low_first 0 k n) → (n % 256 < ROW) × AreWithin (bytes_low_first 0 (k - 1) (n / 256))
+within-first k n l w = within_cons (n % 256) (bytes_low_first 0 (k - 1) (n / 256)) (subst AreWithin (bytes-first k n l) w)
 
 -- ---- the numbers of cells
 

@@ -1,5 +1,5 @@
 -- The numbers of a block: a leaf's number tells the block, and with it the row, that it is of.
-use Rattle.std.specs.Prelude.{◌≡◌, ◌≢◌, ◌⊎◌, ℕ, zero, suc, ◌+◌, ◌-◌, ◌/◌, ◌%◌, ◌<◌, ◌≤◌, List, [], ◌∷◌, length, map, count_by, eqb, true, Option, Some, None, IfSome}
+use Rattle.std.specs.Prelude.{◌≡◌, ◌≢◌, ◌⊎◌, ℕ, ◌+◌, ◌-◌, ◌/◌, ◌<◌, ◌≤◌, List, [], ◌∷◌, length, map, count_by, eqb, true, Option, Some, None, IfSome}
 use Rattle.art_rows.specs.Numbers.{Numbered, leaf_in, number_after, with_pair_after, with_pair}
 use Rattle.art_rows.specs.Rows.{among, place_in, nth}
 use Rattle.art_rows.specs.declared.row.Position.{Position}
@@ -16,11 +16,6 @@ row_of n = n / ROW
 -- the numbers of some cells of a block whose first number is this one
 abbrev pub numbers_at : ℕ → List ℕ → List ℕ
 numbers_at first cells = map (λ c. first + c) cells
-
--- the lowest bytes of a number, the lowest first
-abbrev pub low_bytes : ℕ → ℕ → List ℕ
-low_bytes zero n = []
-low_bytes (suc k) n = n % 256 ∷ low_bytes k (n / 256)
 
 -- each is a cell of a block
 abbrev pub AreWithin : List ℕ → Type 0

@@ -24,12 +24,13 @@ impl Model for OwnedRun {
 
     ghost coded = { coded_list coded_ℕ };
 
-    ghost use Rattle.art_rows.specs.Blocks.{numbers_at, low_bytes, AreWithin};
+    ghost use Rattle.std.specs.Int.{bytes_low_first};
+    ghost use Rattle.art_rows.specs.Blocks.{numbers_at, AreWithin};
     ghost use Rattle.art_rows.specs.declared.row.TheConstants.{ROW};
 
-    ghost view = { λ r. numbers_at r.first (low_bytes r.count r.cells) };
+    ghost view = { λ r. numbers_at r.first (bytes_low_first 0 r.count r.cells) };
 
-    ghost invariant = { λ r. (r.first + ROW ≤ 2 ^ 61) × AreWithin (low_bytes r.count r.cells) };
+    ghost invariant = { λ r. (r.first + ROW ≤ 2 ^ 61) × AreWithin (bytes_low_first 0 r.count r.cells) };
 }
 
 impl OwnedRun {
