@@ -1,5 +1,5 @@
 //! The leaf records, in rows in the order of their keys.
-ghost use Rattle.std.specs.Prelude.{◌≡◌, ◌≢◌, ℕ, ◌+◌, ◌-◌, ◌*◌, ◌<◌, ◌≤◌, ◌++◌, List, [], ◌∷◌, length, map, option_map, take, drop, Option, Some, None, IsSome, IfSome, IfNone, OnOk, IfOk, OnErr};
+ghost use Rattle.std.specs.Prelude.{◌≡◌, ◌≢◌, ℕ, ◌+◌, ◌-◌, ◌*◌, ◌<◌, ◌≤◌, ◌++◌, List, [], ◌∷◌, length, map, option_map, min, take, drop, Option, Some, None, IsSome, IfSome, IfNone, OnOk, IfOk, OnErr};
 ghost use Rattle.art_rows.specs.Numbers.{leaf_in, Has, AreDistinct, first_number, last_number, number_after, number_before, with_pair_after, without_number, with_number, with_pair};
 ghost use Rattle.art_rows.specs.Rows.{position_at, nth, IsSpot, row_end, lengths, RunsAfter, RunsBefore, StandsAfter};
 ghost use Rattle.art_rows.specs.RowRoom.{row_room};
@@ -146,6 +146,7 @@ impl<K, V> Leaves<K, V> {
         requires { Has self.now.pairs id }
         ensures after { IfSome result (λ n. number_after self.now.pairs id ≡ Some n) }
         ensures within { IfSome result (λ _. seen.place < ROW) }
+        ensures there { IfSome (leaf_in self.now.rows seen.row) (λ ids. nth ids seen.place ≡ Some id → seen.place + 1 < length ids → IsSome result) }
     {
         let row = self.rows.get(seen.row)?;
         let _len = row.len();
@@ -157,6 +158,7 @@ impl<K, V> Leaves<K, V> {
         requires { Has self.now.pairs id }
         ensures before { IfSome result (λ n. number_before self.now.pairs id ≡ Some n) }
         ensures within { IfSome result (λ _. 0 < seen.place) }
+        ensures there { IfSome (leaf_in self.now.rows seen.row) (λ ids. nth ids seen.place ≡ Some id → 0 < seen.place → IsSome result) }
     {
         let row = self.rows.get(seen.row)?;
         row.run().before(seen.place, id)
@@ -427,6 +429,7 @@ impl<K, V> Leaves<K, V> {
         ensures next { IfSome result (λ r. number_after self.now.pairs id ≡ Some r.0) }
         ensures runs { IfSome result (λ r. RunsAfter self.now.pairs r.0 r.1) }
         ensures last { IfSome result (λ r. seen.place + 1 + length r.1 < ROW) }
+        ensures count { IfSome (leaf_in self.now.rows seen.row) (λ ids. seen.place + 9 < ROW → IfSome result (λ r. length r.1 ≡ min 8 (length ids - (seen.place + 2)))) }
         ensures there { IfSome (leaf_in self.now.rows seen.row) (λ ids. nth ids seen.place ≡ Some id → seen.place + 1 < length ids → IsSome result) }
     {
         let row = self.rows.get(seen.row)?;

@@ -70,7 +70,8 @@ impl<'a> Run<'a> {
 
     /// Whether a number stands at a place.
     pub(crate) fn has_at(&self, place: usize, number: LeafId) -> bool
-        ensures { result ≡ true → nth self.now place ≡ Some number }
+        ensures here { result ≡ true → nth self.now place ≡ Some number }
+        ensures there { nth self.now place ≡ Some number → result ≡ true }
     {
         place < self.len() && self.at(place) == number
     }
@@ -89,7 +90,8 @@ impl<'a> Run<'a> {
 
     /// The number before another, where that stands at a place and is not the first.
     pub(crate) fn before(&self, place: usize, number: LeafId) -> Option<LeafId>
-        ensures { IfSome result (λ n. (0 < place) × (nth self.now place ≡ Some number) × (nth self.now (place - 1) ≡ Some n)) }
+        ensures some { IfSome result (λ n. (0 < place) × (nth self.now place ≡ Some number) × (nth self.now (place - 1) ≡ Some n)) }
+        ensures there { nth self.now place ≡ Some number → 0 < place → IsSome result }
     {
         if 0 < place && place < self.len() && self.at(place) == number {
             Some(self.at(place - 1))

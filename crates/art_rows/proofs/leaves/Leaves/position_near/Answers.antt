@@ -10,4 +10,4 @@ pub returns-in-Some : goal.returns-in-Some
 returns-in-Some g c =
     let f = seen c.self.inside c.self.view_is c.self.invariant in
     let there : leaf_in c.self.inside.rows.pairs c.args.seen.row ≡ Some c.in-Some.row.now = sym c.get.ensures ∙ ap (option_map (λ r. r.now)) c.in-Some.is in
-    sym (ap (λ t. position_at t.rows (index_of c.args.self.now.pairs c.args.id)) c.self.view_is) ∙ stands_there f c.args.id c.args.seen c.in-Some.row.now there (rw c.run.ensures at (c.has_at.ensures c.if-has_at.true))
+    sym (ap (λ t. position_at t.rows (index_of c.args.self.now.pairs c.args.id)) c.self.view_is) ∙ stands_there f c.args.id c.args.seen c.in-Some.row.now there (rw c.run.ensures at (c.has_at.ensures.here c.if-has_at.true))

@@ -12,7 +12,7 @@ overflow_sub-last g c =
 
 pub returns-then-has_at : goal.returns-then-has_at
 returns-then-has_at g c =
-    rw (← ap (λ t. t.rows) c.self.view_is) (stands_there (seen c.self.inside c.self.view_is c.self.invariant) c.args.id _ _ c.read-ids.ensures (rw c.run-run.ensures at (c.has_at.ensures c.if-has_at.true)))
+    rw (← ap (λ t. t.rows) c.self.view_is) (stands_there (seen c.self.inside c.self.view_is c.self.invariant) c.args.id _ _ c.read-ids.ensures (rw c.run-run.ensures at (c.has_at.ensures.here c.if-has_at.true)))
 
 pub returns : goal.returns
 returns g c =
