@@ -7,5 +7,3 @@ pub(crate) mod indexed;
 mod inner;
 mod link;
 pub(crate) mod nodes;
-#[cfg(test)]
-mod tests;

@@ -4,8 +4,6 @@
 #![tactic(auto)]
 
 mod lists;
-#[cfg(test)]
-mod tests;
 mod tree;
 
 pub use art_rows::{Following, Leaves, OwnedRun, Position, Run};

@@ -1,7 +1,5 @@
-//! Tests of what no script can say, the examples of the documents, runs of the program, refused requests for memory, and functions as users write them.
+//! Tests of what no script can say, and the examples of the documents.
 #![tactic(auto)]
 
-#[cfg(test)]
-mod callers;
 #[cfg(test)]
 mod tests;

@@ -2,5 +2,3 @@
 
 mod code;
 mod examples;
-mod program;
-mod refused;

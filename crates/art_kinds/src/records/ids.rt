@@ -1,4 +1,7 @@
 //! The numbers of records, and what stands below an edge.
+ghost use Rattle.std.specs.Prelude.{◌≡◌, ◌%◌};
+ghost use Rattle.art_kinds.specs.Numbers.{kind_of};
+
 use art_slots::LeafId;
 use std::marker::Model;
 
@@ -37,6 +40,15 @@ impl Model for NodeId {
     ghost inverse = { λ n. of_number n };
 
     ghost inverse_ok = { λ a h. of-number a };
+}
+
+impl NodeId {
+    /// The kind of the node's record.
+    pub fn kind(self) -> Kind
+        ensures { result ≡ kind_of (self % 4) }
+    {
+        self.kind
+    }
 }
 
 /// What stands below an edge.

@@ -1,4 +1,4 @@
-//! What no script can say: how often keys are asked, what a hasher is fed, when keys are dropped, closures, and calls that no line makes.
+//! What no script can say: how often keys are asked, what a hasher is fed, when keys are dropped, what inner nodes hold, closures, and calls that no line makes.
 
 mod asked;
 mod calls;
@@ -6,6 +6,8 @@ mod closures;
 mod dropped;
 mod hashed;
 mod key_types;
+mod kinds;
+mod records;
 mod reserved;
 mod shapes;
 mod tagged;

@@ -1,0 +1,4 @@
+//! Tests by what fails.
+
+mod program;
+mod refused;

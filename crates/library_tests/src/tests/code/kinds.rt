@@ -1,0 +1,161 @@
+//! A node filled from 2 children to 256 and emptied again: its kind, what it keeps, and its edges in order after each step, and that there is no other node.
+ghost use Rattle.std.specs.Prelude.{◌<◌};
+
+use art_kinds::{Child, Edge, Kind, NodeId, NodeRef, Nodes};
+use art_slots::{LeafId, Visits};
+use std::process::Abort;
+
+// The number of the leaf below each byte that has one.
+type Table = [Option<usize>; 256];
+
+// The byte of a step: each once, in no order.
+fn byte_of(step: u8) -> u8 {
+    step.wrapping_mul(37).wrapping_add(100)
+}
+
+// The number of the leaf below a byte.
+fn number_below(byte: u8) -> usize
+    ensures small { result < 1000 }
+{
+    usize::from(byte) * 3 + 7
+}
+
+// The leaf below a byte.
+fn leaf_below(byte: u8) -> Child {
+    Child::Leaf(LeafId::new(number_below(byte)))
+}
+
+// The number of a leaf.
+fn number_of(rt: &impl Abort, child: Child) -> usize {
+    match child {
+        Child::Leaf(id) => id.number(),
+        Child::Inner(_) => panic!(rt; "the edge leads to a node"),
+    }
+}
+
+// The edges are those of the table: each is found, and they follow one another.
+fn assert_edges(rt: &impl Abort, node: &NodeRef<'_, 2>, table: &Table) {
+    let mut least: Option<u8> = None;
+    for byte in 0..=255 {
+        let found = node.find(byte);
+        match table[usize::from(byte)] {
+            None => assert!(rt; found.is_none()),
+            Some(number) => {
+                let child = found.expect(rt, "an edge");
+                assert!(rt; number_of(rt, child) == number);
+                if let Some(before) = least {
+                    let next = node.edge_after(before).expect(rt, "an edge");
+                    assert!(rt; next.byte == byte);
+                    assert!(rt; number_of(rt, next.to) == number);
+                }
+                least = Some(byte);
+            }
+        }
+    }
+}
+
+// The node has so many children, those of the table, and is of the least kind with room for them. Its front and its prefix stand, and it is the only node.
+fn assert_node(rt: &impl Abort, nodes: &Nodes<2>, id: NodeId, count: usize, table: &Table) {
+    let kind = match count {
+        0..=4 => Kind::Four,
+        5..=16 => Kind::Sixteen,
+        17..=48 => Kind::FortyEight,
+        _ => Kind::Full,
+    };
+    assert!(rt; id.kind() == kind);
+    assert!(rt; nodes.live() == 1);
+    assert!(rt; nodes.has(id));
+    let node = nodes.read(id, &mut Visits::new());
+    assert!(rt; node.depth() == 9);
+    assert!(rt; node.prefix() == [5, 6].as_slice());
+    assert!(rt; node.count() == count);
+    assert_edges(rt, &node, table);
+}
+
+// A node with the children of the first two steps.
+fn start(rt: &impl Abort, nodes: &mut Nodes<2>) -> NodeId {
+    let (low, high) = (byte_of(0), byte_of(1));
+    nodes.reserve(1).expect(rt, "memory");
+    assert!(rt; low < high);
+    let low = Edge {
+        byte: low,
+        to: leaf_below(low),
+    };
+    let high = Edge {
+        byte: high,
+        to: leaf_below(high),
+    };
+    nodes.new_node(9, &[5, 6, 7], low, high)
+}
+
+// Adds the child of a byte that has none.
+#[tactic(auto, using(art_kinds::proofs::Growing::fits_more))]
+fn add(rt: &impl Abort, nodes: &mut Nodes<2>, id: NodeId, byte: u8) -> NodeId {
+    nodes.reserve(1).expect(rt, "memory");
+    assert!(rt; nodes.has(id));
+    let id = nodes.widen(id);
+    assert!(rt; nodes.has(id));
+    let found = nodes.read(id, &mut Visits::new()).find(byte);
+    assert!(rt; found.is_none());
+    nodes.add_edge(id, byte, leaf_below(byte));
+    id
+}
+
+// Removes the child of a byte.
+fn remove(rt: &impl Abort, nodes: &mut Nodes<2>, id: NodeId, byte: u8) -> NodeId {
+    assert!(rt; nodes.has(id));
+    let found = nodes.read(id, &mut Visits::new()).find(byte);
+    assert!(rt; found.is_some());
+    nodes.remove_edge(id, byte);
+    assert!(rt; nodes.has(id));
+    nodes.narrow(id)
+}
+
+// Adds a child at each byte but the first two.
+fn fill(rt: &impl Abort, nodes: &mut Nodes<2>, start: NodeId, table: &mut Table) -> NodeId {
+    let mut id = start;
+    for step in 2..=255 {
+        let byte = byte_of(step);
+        id = add(rt, nodes, id, byte);
+        table[usize::from(byte)] = Some(number_below(byte));
+        assert_node(rt, nodes, id, usize::from(step) + 1, table);
+    }
+    id
+}
+
+// Removes the children in the order in which they came, all but the last two.
+fn empty(rt: &impl Abort, nodes: &mut Nodes<2>, full: NodeId, table: &mut Table) -> NodeId {
+    let mut id = full;
+    for step in 0..=253 {
+        let byte = byte_of(step);
+        id = remove(rt, nodes, id, byte);
+        table[usize::from(byte)] = None;
+        assert_node(rt, nodes, id, 255 - usize::from(step), table);
+    }
+    id
+}
+
+// A node is made, filled, emptied and removed.
+fn turn(rt: &impl Abort, nodes: &mut Nodes<2>) {
+    let mut table: Table = [None; 256];
+    for step in 0..2 {
+        let byte = byte_of(step);
+        table[usize::from(byte)] = Some(number_below(byte));
+    }
+    let id = start(rt, nodes);
+    assert_node(rt, nodes, id, 2, &table);
+    let id = fill(rt, nodes, id, &mut table);
+    let id = empty(rt, nodes, id, &mut table);
+    assert!(rt; nodes.has(id));
+    nodes.free(id);
+    assert!(rt; nodes.live() == 0);
+}
+
+#[test]
+fn a_node_through_all_kinds(rt: HostRuntime) {
+    let mut nodes = Nodes::new(rt.alloc());
+    turn(&rt, &mut nodes);
+    // The second takes the records that the first left.
+    turn(&rt, &mut nodes);
+    drop(nodes);
+}
