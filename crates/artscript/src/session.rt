@@ -5,8 +5,8 @@ mod counted;
 mod mounts;
 mod parts;
 
+use crate::words::{Answered, Text, Unanswered};
 pub(crate) use parts::Session;
-use script_words::{Answered, Text, Unanswered};
 use std::alloc::Global;
 use std::cell::Cell;
 use std::iter::Iterator;

@@ -1,22 +1,40 @@
 //! Functions over maps, sets and routers as users write them, each with a contract that says its
 //! effect.
 //!
-//! They are proved from the contracts of `blart`, `blart_set` and `prefix_router` alone. No test calls them.
+//! They are proved from the contracts of `blart`, `blart_set` and `prefix_router` alone. One test calls some, so that all of them stand in a crate of tests, which is proved once.
 #![tactic(auto)]
 
-pub mod counts;
-pub mod entries;
-pub mod lending;
-pub mod moves;
-pub mod owning;
-pub mod parts;
-pub mod picking;
-pub mod prefix_entries;
-pub mod queues;
-pub mod reserving;
-pub mod router;
-pub mod routes;
-pub mod sets;
-pub mod settings;
-pub mod sums;
-pub mod walks;
+#[cfg(test)]
+mod counts;
+#[cfg(test)]
+mod entries;
+#[cfg(test)]
+mod lending;
+#[cfg(test)]
+mod moves;
+#[cfg(test)]
+mod owning;
+#[cfg(test)]
+mod parts;
+#[cfg(test)]
+mod picking;
+#[cfg(test)]
+mod prefix_entries;
+#[cfg(test)]
+mod queues;
+#[cfg(test)]
+mod reserving;
+#[cfg(test)]
+mod router;
+#[cfg(test)]
+mod routes;
+#[cfg(test)]
+mod sets;
+#[cfg(test)]
+mod settings;
+#[cfg(test)]
+mod sums;
+#[cfg(test)]
+mod tests;
+#[cfg(test)]
+mod walks;

@@ -1,0 +1,51 @@
+//! What calls do with values and keys.
+use crate::words::keys::ScriptKey;
+use std::alloc::AllocError;
+use std::hash::{DefaultHasher, Hash, Hasher};
+use std::mem;
+
+/// Writes the value to the place, and gives what was there.
+pub fn written(place: Option<&mut u64>, value: u64) -> Option<u64> {
+    match place {
+        Some(place) => Some(mem::replace(place, value)),
+        None => None,
+    }
+}
+
+/// Adds to the value, and gives it as it was.
+pub fn raise(value: &mut u64, add: u64) -> u64 {
+    mem::replace(value, value.wrapping_add(add))
+}
+
+/// Adds to the value that is lent, if one is, and gives it as it was.
+pub fn raised(lent: Option<&mut u64>, add: u64) -> Option<u64> {
+    match lent {
+        Some(value) => Some(raise(value, add)),
+        None => None,
+    }
+}
+
+/// The value that is lent.
+pub fn value_of(answer: Result<&mut u64, AllocError>) -> Result<u64, AllocError> {
+    match answer {
+        Ok(value) => Ok(*value),
+        Err(refused) => Err(refused),
+    }
+}
+
+/// The number of the key's bytes.
+pub fn length_of<K: ScriptKey>(key: &K) -> u64 {
+    key.as_bytes().len() as u64
+}
+
+/// Whether a hasher makes the same of two values.
+pub fn have_one_digest<T: Hash>(left: &T, right: &T) -> bool {
+    digest_of(left) == digest_of(right)
+}
+
+// What a hasher makes of a value.
+fn digest_of<T: Hash>(value: &T) -> u64 {
+    let mut state = DefaultHasher::new();
+    value.hash(&mut state);
+    state.finish()
+}
