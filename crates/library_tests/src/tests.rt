@@ -2,3 +2,5 @@
 
 mod code;
 mod examples;
+mod program;
+mod refused;

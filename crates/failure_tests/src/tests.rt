@@ -1,4 +1,0 @@
-//! Tests by what fails.
-
-mod program;
-mod refused;
