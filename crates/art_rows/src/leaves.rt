@@ -106,13 +106,6 @@ impl<K, V> Leaves<K, V> {
         self.records.used()
     }
 
-    /// How many rows are spare.
-    pub fn spare_rows(&self) -> usize
-        ensures { result ≡ self.now.spare_rows }
-    {
-        self.rows.spare()
-    }
-
     // The place of a leaf. The last of its row is looked at first: where pairs come in ascending order, each comes after that one, and no row is searched.
     pub(crate) fn position_of(&self, id: LeafId) -> Position
         requires { Has self.now.pairs id }

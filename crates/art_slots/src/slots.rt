@@ -94,13 +94,6 @@ impl<T> Slots<T> {
         }
     }
 
-    /// A number that no slot has, nor a greater one.
-    pub fn top(&self) -> usize
-        ensures { result ≡ self.now.top }
-    {
-        self.top
-    }
-
     /// The number of the next new slot.
     pub fn next(&self) -> usize
         ensures { result ≡ self.now.next }

@@ -17,11 +17,15 @@ impl LineCall {
     /// The call that the next word names, or the next two.
     pub fn read(words: &mut Words<'_>) -> Result<LineCall, Unanswered> {
         let word = words.word()?;
-        let call = if word == b"set".as_slice() {
-            set_name_of(words.word()?).map(LineCall::Set)
-        } else {
-            map_name_of(word).map(LineCall::Map)
-        };
-        call.ok_or(Unanswered::NoCall)
+        if word == b"set".as_slice() {
+            return match set_name_of(words.word()?) {
+                Some(name) => Ok(LineCall::Set(name)),
+                None => Err(Unanswered::NoCall),
+            };
+        }
+        match map_name_of(word) {
+            Some(name) => Ok(LineCall::Map(name)),
+            None => Err(Unanswered::NoCall),
+        }
     }
 }
