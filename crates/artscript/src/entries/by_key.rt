@@ -2,9 +2,10 @@
 //!
 //! The size of an entry whose key type is a parameter is not known, so each of the two key types has functions of its own.
 use crate::words::{
-    Answered, EntryCall, EntryLine, OccupiedCall, PlaceCall, ScriptKey, Shown, Text, Unanswered,
-    VacantCall, ValueCall, Words, length_of, value_of,
+    Answered, EntryCall, EntryLine, OccupiedCall, PlaceCall, Shown, Text, Unanswered, VacantCall,
+    ValueCall, Words, length_of, value_of,
 };
+use blart_keys::AsBytes;
 use blart_map::{Entry, InsertPrefixError, TreeMap};
 use std::alloc::AllocError;
 use std::mem;
@@ -14,7 +15,7 @@ pub(crate) type MapOf<K, const P: usize> = TreeMap<K, u64, P>;
 type EntryOf<'a, K, const P: usize> = Entry<'a, K, u64, P, MapOf<K, P>>;
 
 // Whether an entry of this kind has the call.
-fn has_call<K: ScriptKey, const P: usize>(entry: &EntryOf<'_, K, P>, call: EntryCall) -> bool {
+fn has_call<K: AsBytes, const P: usize>(entry: &EntryOf<'_, K, P>, call: EntryCall) -> bool {
     match call {
         EntryCall::Occupied(_) => matches!(entry, Entry::Occupied(_)),
         EntryCall::Vacant(_) => matches!(entry, Entry::Vacant(_)),
@@ -23,7 +24,7 @@ fn has_call<K: ScriptKey, const P: usize>(entry: &EntryOf<'_, K, P>, call: Entry
 }
 
 // The word of the entry's kind, and a space.
-fn kind_of<K: ScriptKey, const P: usize>(entry: &EntryOf<'_, K, P>) -> &'static [u8] {
+fn kind_of<K: AsBytes, const P: usize>(entry: &EntryOf<'_, K, P>) -> &'static [u8] {
     match entry {
         Entry::Occupied(_) => b"Occupied ",
         Entry::Vacant(_) => b"Vacant ",

@@ -1,10 +1,11 @@
 //! What the entries of the first pair and of the last answer.
-use crate::words::{Answered, EndCall, OccupiedCall, ScriptKey, Shown, Text, Words};
+use crate::words::{Answered, EndCall, OccupiedCall, Shown, Text, Words};
+use blart_keys::AsBytes;
 use blart_map::TreeMap;
 use std::mem;
 
 /// Makes the call of the entry of the first pair, or of the last, and adds its answer.
-pub fn enter_end<K: ScriptKey, const P: usize>(
+pub fn enter_end<K: AsBytes + Shown + Drop, const P: usize>(
     map: &mut TreeMap<K, u64, P>,
     is_first: bool,
     words: Words<'_>,

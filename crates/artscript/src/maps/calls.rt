@@ -3,20 +3,21 @@ ghost use Rattle.std.specs.Prelude.{◌≡◌, []};
 ghost use Rattle.blart_map.specs.Content.{pairs};
 
 use crate::words::{Answered, MapName, ScriptKey, Shown, Text, Words, written};
+use blart_keys::AsBytes;
 use blart_map::TreeMap;
 use std::alloc::Global;
 use std::mem;
 
 /// The two maps. Each call is one of the first.
 #[derive(Drop)]
-pub struct Maps<K: ScriptKey, V, const PREFIX_LEN: usize> {
+pub struct Maps<K: AsBytes + Drop, V, const PREFIX_LEN: usize> {
     /// The map that calls are of.
     pub first: TreeMap<K, V, PREFIX_LEN>,
     pub(crate) second: TreeMap<K, V, PREFIX_LEN>,
     pub(crate) alloc: Global,
 }
 
-impl<K: ScriptKey, V, const PREFIX_LEN: usize> Maps<K, V, PREFIX_LEN> {
+impl<K: AsBytes + Drop, V, const PREFIX_LEN: usize> Maps<K, V, PREFIX_LEN> {
     /// Two maps with no pairs.
     pub fn new(alloc: Global) -> Self
         ensures first { pairs result.first ≡ [] }
@@ -30,7 +31,7 @@ impl<K: ScriptKey, V, const PREFIX_LEN: usize> Maps<K, V, PREFIX_LEN> {
     }
 }
 
-impl<K: ScriptKey, V: Shown + Drop, const PREFIX_LEN: usize> Maps<K, V, PREFIX_LEN> {
+impl<K: AsBytes + Shown + Drop, V: Shown + Drop, const PREFIX_LEN: usize> Maps<K, V, PREFIX_LEN> {
     /// Makes the call of this name, which is one of maps with values of any type, and adds its answer.
     pub(crate) fn call_of_any(
         &mut self,
@@ -128,7 +129,9 @@ impl<K: ScriptKey, const PREFIX_LEN: usize> Maps<K, u64, PREFIX_LEN> {
             _ => self.first.prefix_insert(key, value).show(text),
         }
     }
+}
 
+impl<K: AsBytes + Shown + Drop, const PREFIX_LEN: usize> Maps<K, u64, PREFIX_LEN> {
     // The calls that lend a value to be written.
     fn write(&mut self, name: MapName, mut words: Words<'_>, text: &mut Text) -> Answered {
         let (query, value): (Vec<u8>, u64) = words.last_pair()?;

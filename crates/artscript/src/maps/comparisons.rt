@@ -1,10 +1,13 @@
 //! How the first map and the second compare, and what the first is as text.
 use crate::maps::calls::Maps;
 use crate::words::{
-    Answered, MapName, ScriptKey, Shown, Text, Unanswered, Words, have_one_digest, show_debug,
+    Answered, MapName, Shown, Text, Unanswered, Words, have_one_digest, show_debug,
 };
+use blart_keys::OrderedBytes;
+use std::fmt::Debug;
+use std::hash::Hash;
 
-impl<K: ScriptKey, const PREFIX_LEN: usize> Maps<K, u64, PREFIX_LEN> {
+impl<K: OrderedBytes + Hash + Debug + Drop, const PREFIX_LEN: usize> Maps<K, u64, PREFIX_LEN> {
     /// Makes the call of this name, which compares the maps, and adds its answer.
     pub(crate) fn compare(&self, name: MapName, words: Words<'_>, text: &mut Text) -> Answered {
         words.end()?;

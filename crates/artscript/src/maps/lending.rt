@@ -5,13 +5,14 @@ ghost use Rattle.blart_map.specs.Content.{pairs};
 
 use crate::maps::calls::Maps;
 use crate::words::{
-    Answered, Lending, MapName, ScriptKey, Text, Unanswered, Words, raise, raised, show_item,
+    Answered, Lending, MapName, Shown, Text, Unanswered, Words, raise, raised, show_item,
     show_lending,
 };
+use blart_keys::AsBytes;
 use blart_map::{IterMut, PrefixMut, RangeMut, SubtreeIterMut, ValuesMut};
 use std::ops::Bound;
 
-impl<K: ScriptKey, const PREFIX_LEN: usize> Maps<K, u64, PREFIX_LEN> {
+impl<K: AsBytes + Shown + Drop, const PREFIX_LEN: usize> Maps<K, u64, PREFIX_LEN> {
     /// Adds to each value, and adds the pairs or the values.
     pub(crate) fn lend_all(
         &mut self,
@@ -56,7 +57,8 @@ impl<K: ScriptKey, const PREFIX_LEN: usize> Maps<K, u64, PREFIX_LEN> {
     }
 }
 
-impl<K: ScriptKey, const PREFIX_LEN: usize> Lending for ValuesMut<'_, K, u64, PREFIX_LEN> {
+impl<K: AsBytes + Shown + Drop, const PREFIX_LEN: usize> Lending
+    for ValuesMut<'_, K, u64, PREFIX_LEN> {
     fn front(&mut self, add: u64, part: &[u8], text: &mut Text) -> Result<bool, Unanswered> {
         show_item(raised(self.next(), add), part, text)
     }
@@ -81,7 +83,8 @@ macro_rules! show_raised {
     }};
 }
 
-impl<K: ScriptKey, const PREFIX_LEN: usize> Lending for IterMut<'_, K, u64, PREFIX_LEN> {
+impl<K: AsBytes + Shown + Drop, const PREFIX_LEN: usize> Lending
+    for IterMut<'_, K, u64, PREFIX_LEN> {
     fn front(&mut self, add: u64, part: &[u8], text: &mut Text) -> Result<bool, Unanswered> {
         show_raised!(self, next, add, part, text)
     }
@@ -95,7 +98,8 @@ impl<K: ScriptKey, const PREFIX_LEN: usize> Lending for IterMut<'_, K, u64, PREF
     }
 }
 
-impl<K: ScriptKey, const PREFIX_LEN: usize> Lending for RangeMut<'_, K, u64, PREFIX_LEN> {
+impl<K: AsBytes + Shown + Drop, const PREFIX_LEN: usize> Lending
+    for RangeMut<'_, K, u64, PREFIX_LEN> {
     fn front(&mut self, add: u64, part: &[u8], text: &mut Text) -> Result<bool, Unanswered> {
         show_raised!(self, next, add, part, text)
     }
@@ -105,7 +109,8 @@ impl<K: ScriptKey, const PREFIX_LEN: usize> Lending for RangeMut<'_, K, u64, PRE
     }
 }
 
-impl<K: ScriptKey, const PREFIX_LEN: usize> Lending for PrefixMut<'_, K, u64, PREFIX_LEN> {
+impl<K: AsBytes + Shown + Drop, const PREFIX_LEN: usize> Lending
+    for PrefixMut<'_, K, u64, PREFIX_LEN> {
     fn front(&mut self, add: u64, part: &[u8], text: &mut Text) -> Result<bool, Unanswered> {
         show_raised!(self, next, add, part, text)
     }
@@ -115,7 +120,8 @@ impl<K: ScriptKey, const PREFIX_LEN: usize> Lending for PrefixMut<'_, K, u64, PR
     }
 }
 
-impl<K: ScriptKey, const PREFIX_LEN: usize> Lending for SubtreeIterMut<'_, K, u64, PREFIX_LEN> {
+impl<K: AsBytes + Shown + Drop, const PREFIX_LEN: usize> Lending
+    for SubtreeIterMut<'_, K, u64, PREFIX_LEN> {
     fn front(&mut self, add: u64, part: &[u8], text: &mut Text) -> Result<bool, Unanswered> {
         show_raised!(self, next, add, part, text)
     }

@@ -1,9 +1,10 @@
 //! All that both maps have.
 use crate::maps::calls::Maps;
-use crate::words::{Answered, ScriptKey, Shown, Text, show_items};
+use crate::words::{Answered, Shown, Text, show_items};
+use blart_keys::AsBytes;
 use blart_map::TreeMap;
 
-impl<K: ScriptKey, V: Shown + Drop, const PREFIX_LEN: usize> Maps<K, V, PREFIX_LEN> {
+impl<K: AsBytes + Shown + Drop, V: Shown + Drop, const PREFIX_LEN: usize> Maps<K, V, PREFIX_LEN> {
     /// Adds the pairs of both maps, how many they are and how many inner nodes there are.
     pub fn list(&self, text: &mut Text) -> Answered {
         list_map(&self.first, text)?;
@@ -12,7 +13,7 @@ impl<K: ScriptKey, V: Shown + Drop, const PREFIX_LEN: usize> Maps<K, V, PREFIX_L
 }
 
 // Adds the map on a line of its own: how many pairs and inner nodes it has, and the pairs.
-fn list_map<K: ScriptKey, V: Shown + Drop, const P: usize>(
+fn list_map<K: AsBytes + Shown + Drop, V: Shown + Drop, const P: usize>(
     map: &TreeMap<K, V, P>,
     text: &mut Text,
 ) -> Answered {

@@ -5,11 +5,12 @@ ghost use Rattle.blart_map.specs.Content.{pairs};
 
 use crate::maps::calls::Maps;
 use crate::maps::within::show_order;
-use crate::words::{Answered, Left, MapName, ScriptKey, Shown, Text, Unanswered, Words, show_walk};
+use crate::words::{Answered, Left, MapName, Shown, Text, Unanswered, Words, show_walk};
+use blart_keys::AsBytes;
 use blart_map::Visits;
 use std::ops::Bound;
 
-impl<K: ScriptKey, V: Shown + Drop, const PREFIX_LEN: usize> Maps<K, V, PREFIX_LEN> {
+impl<K: AsBytes + Shown + Drop, V: Shown + Drop, const PREFIX_LEN: usize> Maps<K, V, PREFIX_LEN> {
     /// Makes the call of this name, which leaves the maps as they are, and adds its answer.
     pub(crate) fn look_up(&self, name: MapName, words: Words<'_>, text: &mut Text) -> Answered {
         match name {

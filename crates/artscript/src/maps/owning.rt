@@ -1,11 +1,12 @@
 //! Walks that take the map apart.
 use crate::maps::calls::Maps;
-use crate::words::{Answered, Left, MapName, ScriptKey, Shown, Text, Words, show_walk};
+use crate::words::{Answered, Left, MapName, Shown, Text, Words, show_walk};
+use blart_keys::AsBytes;
 use blart_map::TreeMap;
 use std::iter::IntoIterator;
 use std::mem;
 
-impl<K: ScriptKey, V: Shown + Drop, const PREFIX_LEN: usize> Maps<K, V, PREFIX_LEN> {
+impl<K: AsBytes + Shown + Drop, V: Shown + Drop, const PREFIX_LEN: usize> Maps<K, V, PREFIX_LEN> {
     /// Makes the call of this name, which takes the map apart, and adds its answer.
     pub(crate) fn own(&mut self, name: MapName, mut words: Words<'_>, text: &mut Text) -> Answered {
         let letters = words.last_steps()?;

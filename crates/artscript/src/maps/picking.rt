@@ -6,13 +6,14 @@ ghost use Rattle.blart_keys.specs.Bounds.{bound_bytes, CanRange};
 ghost use Rattle.blart_keys.specs.KeyBytes.{vec_bytes};
 
 use crate::maps::calls::Maps;
-use crate::words::{Answered, Left, ScriptKey, Shown, Text, ValuePick, Words, show_walk};
+use crate::words::{Answered, Left, Shown, Text, ValuePick, Words, show_walk};
+use blart_keys::AsBytes;
 use blart_map::TakeWalk;
 use std::alloc::AllocError;
 use std::iter::{DoubleEndedIterator, Iterator};
 use std::ops::Bound;
 
-impl<K: ScriptKey, const PREFIX_LEN: usize> Maps<K, u64, PREFIX_LEN> {
+impl<K: AsBytes + Shown + Drop, const PREFIX_LEN: usize> Maps<K, u64, PREFIX_LEN> {
     /// Keeps the pairs that are picked, and adds how often the closure was asked.
     pub(crate) fn retain(&mut self, mut words: Words<'_>, text: &mut Text) -> Answered {
         let pick = ValuePick::read(&mut words)?;
@@ -60,7 +61,7 @@ impl<K: ScriptKey, const PREFIX_LEN: usize> Maps<K, u64, PREFIX_LEN> {
 }
 
 // Adds what each letter gave, parted by spaces.
-fn take_steps<K: ScriptKey, const P: usize>(
+fn take_steps<K: AsBytes + Shown + Drop, const P: usize>(
     walk: &mut TakeWalk<'_, K, u64, P>,
     letters: &[u8],
     text: &mut Text,
@@ -81,7 +82,7 @@ fn take_steps<K: ScriptKey, const P: usize>(
 }
 
 // Keeps or takes the pair that is lent.
-fn decide<K: ScriptKey, const P: usize>(
+fn decide<K: AsBytes + Shown + Drop, const P: usize>(
     walk: &mut TakeWalk<'_, K, u64, P>,
     letter: u8,
     text: &mut Text,
@@ -99,7 +100,7 @@ fn decide<K: ScriptKey, const P: usize>(
 }
 
 // Lends the pair at one end.
-fn lend<K: ScriptKey, const P: usize>(
+fn lend<K: AsBytes + Shown + Drop, const P: usize>(
     walk: &mut TakeWalk<'_, K, u64, P>,
     letter: u8,
     text: &mut Text,

@@ -1,10 +1,11 @@
 //! The calls of the pairs within two bounds, or below some bytes.
 use crate::maps::calls::Maps;
-use crate::words::{Answered, MapName, ScriptKey, Shown, Text, Unanswered, Words};
+use crate::words::{Answered, MapName, Shown, Text, Unanswered, Words};
+use blart_keys::AsBytes;
 use blart_map::bounds_in_order;
 use std::ops::Bound;
 
-impl<K: ScriptKey, const PREFIX_LEN: usize> Maps<K, u64, PREFIX_LEN> {
+impl<K: AsBytes + Shown + Drop, const PREFIX_LEN: usize> Maps<K, u64, PREFIX_LEN> {
     /// Makes the call of this name, which is of the pairs within two bounds, and adds its answer.
     pub(crate) fn within(
         &mut self,

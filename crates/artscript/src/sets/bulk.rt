@@ -3,13 +3,13 @@ ghost use Rattle.std.specs.Prelude.{◌≡◌};
 
 use crate::sets::calls::Sets;
 use crate::words::{Answered, FixedKey, ScriptKey, Shown, Text, Unanswered, Words, items_of};
-use blart_keys::NoPrefixesBytes;
+use blart_keys::{AsBytes, NoPrefixesBytes};
 use blart_set::TreeSet;
 use std::alloc::AllocError;
 use std::iter::{IntoIterator, Iterator};
 use std::mem;
 
-impl<K: ScriptKey, const PREFIX_LEN: usize> Sets<K, PREFIX_LEN> {
+impl<K: AsBytes + Drop, const PREFIX_LEN: usize> Sets<K, PREFIX_LEN> {
     /// Gives the elements from the bytes on to the second set, in the place of its own.
     pub(crate) fn split_off(&mut self, query: &Vec<u8>, text: &mut Text) -> Answered {
         let rest = self.first.split_off(query);
@@ -17,7 +17,7 @@ impl<K: ScriptKey, const PREFIX_LEN: usize> Sets<K, PREFIX_LEN> {
     }
 }
 
-impl<K: ScriptKey + Clone, const PREFIX_LEN: usize> Sets<K, PREFIX_LEN> {
+impl<K: AsBytes + Drop + Clone, const PREFIX_LEN: usize> Sets<K, PREFIX_LEN> {
     /// Puts a clone of the first set in the place of the second.
     pub(crate) fn make_clone(&mut self, words: Words<'_>, text: &mut Text) -> Answered
         requires { (k j : K) → K.is_clone k j → K.bytes j ≡ K.bytes k }
@@ -85,7 +85,7 @@ impl<K: FixedKey, const PREFIX_LEN: usize> Sets<K, PREFIX_LEN> {
 }
 
 // Puts the set, if it was made, in the place of another, and adds whether it was.
-fn put<K: ScriptKey, const P: usize>(
+fn put<K: AsBytes + Drop, const P: usize>(
     place: &mut TreeSet<K, P>,
     made: Result<TreeSet<K, P>, AllocError>,
     text: &mut Text,

@@ -16,7 +16,7 @@ pub struct Sets<K: AsBytes + Drop, const PREFIX_LEN: usize> {
     pub(crate) alloc: Global,
 }
 
-impl<K: ScriptKey, const PREFIX_LEN: usize> Sets<K, PREFIX_LEN> {
+impl<K: AsBytes + Shown + Drop, const PREFIX_LEN: usize> Sets<K, PREFIX_LEN> {
     /// Two sets with no elements.
     pub fn new(alloc: Global) -> Self
         ensures first { elements result.first ≡ [] }
@@ -26,27 +26,6 @@ impl<K: ScriptKey, const PREFIX_LEN: usize> Sets<K, PREFIX_LEN> {
             first: TreeSet::with_prefix_len(alloc),
             second: TreeSet::with_prefix_len(alloc),
             alloc,
-        }
-    }
-
-    /// Makes the call of this name with these words after it, and adds its answer.
-    pub(crate) fn call(&mut self, name: SetName, words: Words<'_>, text: &mut Text) -> Answered {
-        match name {
-            SetName::New | SetName::Clear | SetName::Swap => self.renew(name, words, text),
-            SetName::PopFirst | SetName::PopLast => self.pop(name, words, text),
-            SetName::Remove | SetName::Take | SetName::RemovePrefix | SetName::SplitOff => {
-                self.remove(name, words, text)
-            }
-            SetName::TryInsert | SetName::PrefixInsert => self.place(name, words, text),
-            SetName::Retain => self.retain(words, text),
-            SetName::ExtractIf | SetName::Range => self.within(name, words, text),
-            SetName::IntoIter => self.into_elements(words, text),
-            SetName::Equal
-            | SetName::PartialCmp
-            | SetName::Cmp
-            | SetName::SameHash
-            | SetName::DebugText => self.compare(name, words, text),
-            _ => self.look_up(name, words, text),
         }
     }
 
@@ -85,6 +64,29 @@ impl<K: ScriptKey, const PREFIX_LEN: usize> Sets<K, PREFIX_LEN> {
         };
         drop(query);
         answered
+    }
+}
+
+impl<K: ScriptKey, const PREFIX_LEN: usize> Sets<K, PREFIX_LEN> {
+    /// Makes the call of this name with these words after it, and adds its answer.
+    pub(crate) fn call(&mut self, name: SetName, words: Words<'_>, text: &mut Text) -> Answered {
+        match name {
+            SetName::New | SetName::Clear | SetName::Swap => self.renew(name, words, text),
+            SetName::PopFirst | SetName::PopLast => self.pop(name, words, text),
+            SetName::Remove | SetName::Take | SetName::RemovePrefix | SetName::SplitOff => {
+                self.remove(name, words, text)
+            }
+            SetName::TryInsert | SetName::PrefixInsert => self.place(name, words, text),
+            SetName::Retain => self.retain(words, text),
+            SetName::ExtractIf | SetName::Range => self.within(name, words, text),
+            SetName::IntoIter => self.into_elements(words, text),
+            SetName::Equal
+            | SetName::PartialCmp
+            | SetName::Cmp
+            | SetName::SameHash
+            | SetName::DebugText => self.compare(name, words, text),
+            _ => self.look_up(name, words, text),
+        }
     }
 
     // The calls that place an element.

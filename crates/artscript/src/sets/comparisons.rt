@@ -1,10 +1,13 @@
 //! How the first set and the second compare, and what the first is as text.
 use crate::sets::calls::Sets;
 use crate::words::{
-    Answered, ScriptKey, SetName, Shown, Text, Unanswered, Words, have_one_digest, show_debug,
+    Answered, SetName, Shown, Text, Unanswered, Words, have_one_digest, show_debug,
 };
+use blart_keys::OrderedBytes;
+use std::fmt::Debug;
+use std::hash::Hash;
 
-impl<K: ScriptKey, const PREFIX_LEN: usize> Sets<K, PREFIX_LEN> {
+impl<K: OrderedBytes + Hash + Debug + Drop, const PREFIX_LEN: usize> Sets<K, PREFIX_LEN> {
     /// Makes the call of this name, which compares the sets, and adds its answer.
     pub(crate) fn compare(&self, name: SetName, words: Words<'_>, text: &mut Text) -> Answered {
         words.end()?;

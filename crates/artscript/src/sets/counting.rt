@@ -1,11 +1,12 @@
 //! How often merges and tests of both sets compare elements.
 use crate::sets::calls::Sets;
-use crate::words::{Answered, Compared, ScriptKey, SetName, Shown, Text, Unanswered, Words};
+use crate::words::{Answered, Compared, SetName, Shown, Text, Unanswered, Words};
+use blart_keys::AsBytes;
 use blart_set::{TreeSet, TryInsertError};
 use std::cell::Cell;
 use std::iter::Iterator;
 
-impl<K: ScriptKey, const PREFIX_LEN: usize> Sets<K, PREFIX_LEN> {
+impl<K: AsBytes + Drop, const PREFIX_LEN: usize> Sets<K, PREFIX_LEN> {
     /// Makes the call of this name over sets of the same bytes, and adds its answer and how often it compared elements.
     pub(crate) fn count(&self, name: SetName, words: Words<'_>, text: &mut Text) -> Answered {
         let count = Cell::new(0u64);
@@ -46,7 +47,7 @@ impl<K: ScriptKey, const PREFIX_LEN: usize> Sets<K, PREFIX_LEN> {
 }
 
 // Adds the bytes of the elements, which count how often they are compared.
-fn add_all<'a, K: ScriptKey, const P: usize>(
+fn add_all<'a, K: AsBytes + Drop, const P: usize>(
     copy: &mut TreeSet<Compared<'a>, P>,
     set: &'a TreeSet<K, P>,
     count: &'a Cell<u64>,

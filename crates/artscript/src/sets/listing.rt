@@ -1,9 +1,10 @@
 //! All that both sets have.
 use crate::sets::calls::Sets;
-use crate::words::{Answered, ScriptKey, Shown, Text, show_items};
+use crate::words::{Answered, Shown, Text, show_items};
+use blart_keys::AsBytes;
 use blart_set::TreeSet;
 
-impl<K: ScriptKey, const PREFIX_LEN: usize> Sets<K, PREFIX_LEN> {
+impl<K: AsBytes + Shown + Drop, const PREFIX_LEN: usize> Sets<K, PREFIX_LEN> {
     /// Adds the elements of both sets, and how many they are.
     pub fn list(&self, text: &mut Text) -> Answered {
         list_set(&self.first, text)?;
@@ -12,7 +13,10 @@ impl<K: ScriptKey, const PREFIX_LEN: usize> Sets<K, PREFIX_LEN> {
 }
 
 // Adds the set on a line of its own.
-fn list_set<K: ScriptKey, const P: usize>(set: &TreeSet<K, P>, text: &mut Text) -> Answered {
+fn list_set<K: AsBytes + Shown + Drop, const P: usize>(
+    set: &TreeSet<K, P>,
+    text: &mut Text,
+) -> Answered {
     set.len().show(text)?;
     show_items(set.iter(), text)?;
     text.push(b"\n")

@@ -1,9 +1,9 @@
 //! The calls that leave the sets as they are.
 use crate::sets::calls::Sets;
-use crate::words::{Answered, ScriptKey, SetName, Shown, Text, Unanswered, Words};
+use crate::words::{Answered, SetName, Shown, Text, Unanswered, Words};
 use blart_keys::OrderedBytes;
 
-impl<K: ScriptKey, const PREFIX_LEN: usize> Sets<K, PREFIX_LEN> {
+impl<K: OrderedBytes + Shown + Drop, const PREFIX_LEN: usize> Sets<K, PREFIX_LEN> {
     /// Makes the call of this name, which leaves the sets as they are, and adds its answer.
     pub(crate) fn look_up(&self, name: SetName, words: Words<'_>, text: &mut Text) -> Answered {
         match name {

@@ -2,7 +2,8 @@
 ghost use Rattle.std.specs.Prelude.{◌≡◌};
 
 use crate::sets::calls::Sets;
-use crate::words::{Answered, FixedKey, ScriptKey, SetName, Shown, Text, Words, show_items};
+use crate::words::{Answered, FixedKey, SetName, Shown, Text, Words, show_items};
+use blart_keys::AsBytes;
 use blart_set::TreeSet;
 use std::alloc::AllocError;
 
@@ -24,7 +25,7 @@ impl<K: FixedKey, const PREFIX_LEN: usize> Sets<K, PREFIX_LEN> {
     }
 }
 
-impl<K: ScriptKey, const PREFIX_LEN: usize> Shown for TreeSet<K, PREFIX_LEN> {
+impl<K: AsBytes + Shown + Drop, const PREFIX_LEN: usize> Shown for TreeSet<K, PREFIX_LEN> {
     fn show(&self, text: &mut Text) -> Answered {
         show_items(self.iter(), text)
     }

@@ -5,12 +5,13 @@ ghost use Rattle.blart_keys.specs.KeyBytes.{vec_bytes};
 ghost use Rattle.blart_set.specs.Elements.{elements};
 
 use crate::sets::calls::Sets;
-use crate::words::{Answered, BytesPick, Left, ScriptKey, Shown, Text, Words, show_walk};
+use crate::words::{Answered, BytesPick, Left, Shown, Text, Words, show_walk};
+use blart_keys::AsBytes;
 use std::alloc::AllocError;
 use std::iter::{DoubleEndedIterator, Iterator};
 use std::ops::Bound;
 
-impl<K: ScriptKey, const PREFIX_LEN: usize> Sets<K, PREFIX_LEN> {
+impl<K: AsBytes + Shown + Drop, const PREFIX_LEN: usize> Sets<K, PREFIX_LEN> {
     /// Keeps the elements that are picked, and adds how often the closure was asked.
     pub(crate) fn retain(&mut self, mut words: Words<'_>, text: &mut Text) -> Answered {
         let pick = BytesPick::read(&mut words)?;

@@ -5,15 +5,15 @@ ghost use Rattle.blart_set.specs.Elements.{elements};
 
 use crate::sets::calls::Sets;
 use crate::words::{
-    Answered, Left, ScriptKey, SetName, Shown, Text, Unanswered, Words, show_items, show_walk,
+    Answered, Left, SetName, Shown, Text, Unanswered, Words, show_items, show_walk,
 };
-use blart_keys::OrderedBytes;
+use blart_keys::{AsBytes, OrderedBytes};
 use blart_set::{TreeSet, bounds_in_order};
 use std::iter::IntoIterator;
 use std::mem;
 use std::ops::Bound;
 
-impl<K: ScriptKey, const PREFIX_LEN: usize> Sets<K, PREFIX_LEN> {
+impl<K: AsBytes + Shown + Drop, const PREFIX_LEN: usize> Sets<K, PREFIX_LEN> {
     /// Walks over all elements.
     pub(crate) fn iter(&self, mut words: Words<'_>, text: &mut Text) -> Answered {
         let letters = words.last_steps()?;

@@ -1,5 +1,5 @@
 //! What calls do with values and keys.
-use crate::words::keys::ScriptKey;
+use blart_keys::AsBytes;
 use std::alloc::AllocError;
 use std::hash::{DefaultHasher, Hash, Hasher};
 use std::mem;
@@ -34,7 +34,7 @@ pub fn value_of(answer: Result<&mut u64, AllocError>) -> Result<u64, AllocError>
 }
 
 /// The number of the key's bytes.
-pub fn length_of<K: ScriptKey>(key: &K) -> u64 {
+pub fn length_of<K: AsBytes>(key: &K) -> u64 {
     key.as_bytes().len() as u64
 }
 
