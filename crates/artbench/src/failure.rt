@@ -1,21 +1,29 @@
 //! Why a run has no results.
 use std::alloc::{AllocError, AllocFailed};
 use std::io;
-use thiserror::Error;
 
 /// Why a run has no results.
-#[derive(Debug, Clone, Copy, Error)]
+#[derive(Clone, Copy)]
 pub(crate) enum Failure {
-    #[error("usage: artbench KEYS random|urls|dense|short|random8|random16|dense8|all [pairs|bulk|sets|mounts|all|keys]")]
     Usage,
-    #[error("out of memory")]
     Memory,
-    #[error("a key that was made is related to another")]
     Related,
-    #[error("the maps gave different sums")]
     Differs,
-    #[error("reading or writing failed")]
     Io,
+}
+
+impl Failure {
+    /// What is told of it.
+    pub(crate) fn message(self) -> &'static str {
+        match self {
+            Failure::Usage =>
+                "usage: artbench KEYS random|urls|dense|short|random8|random16|dense8|all [pairs|bulk|sets|mounts|all|keys]",
+            Failure::Memory => "out of memory",
+            Failure::Related => "a key that was made is related to another",
+            Failure::Differs => "the maps gave different sums",
+            Failure::Io => "reading or writing failed",
+        }
+    }
 }
 
 impl From<AllocError> for Failure {

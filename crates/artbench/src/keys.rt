@@ -21,9 +21,7 @@ pub(crate) trait Key: Made + Clone {
 
 impl Made for Vec<u8> {
     fn made(alloc: Global, bytes: &[u8]) -> Result<Self, Failure> {
-        let mut key = Vec::new(alloc);
-        key.extend_from_slice(bytes)?;
-        Ok(key)
+        Ok(Vec::from_slice(alloc, bytes)?)
     }
 }
 
@@ -66,8 +64,7 @@ impl Made for ZKey {
         let mut written = Vec::new(alloc);
         for byte in bytes {
             if *byte <= 1 {
-                written.push(1)?;
-                written.push(*byte + 1)?;
+                written.extend_from_slice(&[1, *byte + 1])?;
             } else {
                 written.push(*byte)?;
             }
@@ -77,13 +74,5 @@ impl Made for ZKey {
             Err(ZKeyError::Memory) => Err(Failure::Memory),
             Err(ZKeyError::InnerZero) => Err(Failure::Related),
         }
-    }
-}
-
-/// The first byte of a key, or 256 if it has none.
-pub(crate) fn first_byte(key: &impl AsBytes) -> u64 {
-    match key.as_bytes().first() {
-        Some(byte) => u64::from(*byte),
-        None => 256,
     }
 }

@@ -10,11 +10,12 @@ mod joins;
 mod keys;
 mod maps;
 mod mount_rows;
-mod parts;
+mod readings;
 mod resolvers;
 mod set_rows;
 mod sets;
 mod sheet;
+mod stores;
 mod tables;
 mod wishes;
 mod workload;
@@ -23,18 +24,19 @@ use crate::contest::contest;
 use crate::failure::Failure;
 use crate::keys::{Key, Made};
 use crate::sheet::Sheet;
-use crate::tables::{write_keys, write_sums, write_times};
+use crate::tables::{write_keys, write_sheet};
 use crate::wishes::{Group, Wishes};
 use crate::workload::{Kind, Workload};
 use blart::{NoPrefixesBytes, ZKey};
 use std::env;
+use std::iter::FromIterator;
 use std::process::ExitCode;
 
 fn main(rt: HostRuntime) -> ExitCode {
     match run(&rt) {
         Ok(()) => ExitCode::SUCCESS,
         Err(failure) => {
-            let _ = eprintln!(rt; "artbench: {failure}");
+            let _ = eprintln!(rt; "artbench: {}", failure.message());
             ExitCode::FAILURE
         }
     }
@@ -42,13 +44,21 @@ fn main(rt: HostRuntime) -> ExitCode {
 
 // Runs what the arguments ask for.
 fn run(rt: &HostRuntime) -> Result<(), Failure> {
-    let wishes = Wishes::read(env::args(rt)?)?;
+    let wishes = read(rt)?;
     for kind in Kind::ALL {
         if wishes.kind.is_none() || wishes.kind == Some(kind) {
             run_kind(rt, kind, wishes)?;
         }
     }
     Ok(())
+}
+
+// Reads the arguments.
+fn read(rt: &HostRuntime) -> Result<Wishes, Failure> {
+    let args = Vec::from_iter(rt.alloc(), env::args(rt)?)?;
+    let wishes = Wishes::read(&args);
+    drop(args);
+    wishes
 }
 
 // Writes the keys of a kind, or times both maps on them.
@@ -74,37 +84,26 @@ fn write_keys_of(rt: &HostRuntime, kind: Kind, count: usize) -> Result<(), Failu
 // Times both maps on keys of a kind, each of the kind's type, and writes what they gave.
 fn write_times_of(rt: &HostRuntime, kind: Kind, wishes: Wishes) -> Result<(), Failure> {
     let mut sheet = Sheet::new(rt.alloc());
-    let written = match kind {
-        Kind::Random8 | Kind::Dense8 => write_rows::<[u8; 8], [u8; 8]>(
-            rt, kind, wishes, &mut sheet,
-        ),
-        Kind::Random16 => write_rows::<[u8; 16], [u8; 16]>(rt, kind, wishes, &mut sheet),
-        _ => write_rows::<Vec<u8>, ZKey>(rt, kind, wishes, &mut sheet),
-    };
+    match kind {
+        Kind::Random8 | Kind::Dense8 => time::<[u8; 8], [u8; 8]>(rt, kind, wishes, &mut sheet),
+        Kind::Random16 => time::<[u8; 16], [u8; 16]>(rt, kind, wishes, &mut sheet),
+        _ => time::<Vec<u8>, ZKey>(rt, kind, wishes, &mut sheet),
+    }
+    let written = write_sheet(rt, kind.name(), wishes.keys, &sheet);
     drop(sheet);
     written
 }
 
 // Times both maps on keys of a type; on those of a second type where no key may begin another.
-fn write_rows<K: Key, F: Made + NoPrefixesBytes>(
+fn time<K: Key, F: Made + NoPrefixesBytes>(
     rt: &HostRuntime,
     kind: Kind,
     wishes: Wishes,
     sheet: &mut Sheet,
-) -> Result<(), Failure> {
+) {
     let mut workload: Workload<K> = Workload::new(rt.alloc(), kind);
-    let timed = match workload.fill(wishes.keys) {
-        Ok(()) => contest::<K, F, HostRuntime>(rt, &workload, wishes, sheet),
-        Err(failure) => Err(failure),
-    };
+    let filled = workload.fill(wishes.keys);
+    sheet.check(filled);
+    contest::<K, F>(rt, &workload, wishes, sheet);
     drop(workload);
-    timed?;
-    let name = kind.name();
-    println!(rt; "{name} {}", wishes.keys)?;
-    write_sums(rt, &sheet.rows)?;
-    eprintln!(rt;
-        "{name}, {} keys: nanoseconds, and the ratio to BTreeMap",
-        wishes.keys
-    )?;
-    write_times(rt, &sheet.rows)
 }

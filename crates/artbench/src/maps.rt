@@ -1,10 +1,12 @@
 //! The two maps, under the same calls.
 use crate::failure::Failure;
-use crate::keys::{Key, first_byte};
+use crate::keys::{Key, Made};
+use crate::readings::{Lengths, Reading};
+use crate::stores::Store;
 use crate::workload::Front;
 use blart::map::{DEFAULT_PREFIX_LEN, Reserved, Room};
 use blart::{AsBytes, Map, TryInsertError};
-use std::alloc::Global;
+use std::alloc::{AllocError, Global};
 use std::collections::BTreeMap;
 use std::ops::Bound;
 
@@ -18,36 +20,42 @@ type OurRoom<'a, K> = Reserved<'a, Ours<K>, Room<K, u64, { DEFAULT_PREFIX_LEN }>
 pub(crate) type Theirs<K> = BTreeMap<K, u64>;
 
 /// A map, as far as it is timed. Each call gives a sum over what it found.
-pub(crate) trait Contestant: Sized + Drop {
-    /// What its keys are.
-    type Key: Key;
-
-    /// A map with no pairs.
-    fn empty(alloc: Global) -> Self;
-
-    /// Stores each key with its place.
-    fn store(&mut self, keys: Vec<Self::Key>) -> Result<u64, Failure>;
-
-    /// The same, once there is room for all, where the map can make it.
+pub(crate) trait Contestant: Store + PartialEq {
+    /// Stores each key with its place, once there is room for all, where the map can make it.
     fn store_reserved(&mut self, keys: Vec<Self::Key>) -> Result<u64, Failure>;
 
     /// Looks each key up.
     fn look_up(&self, keys: &[Self::Key]) -> u64;
 
-    /// Walks over all pairs, and reads the values and how long the keys are.
-    fn iterate(&self) -> u64;
-
-    /// Walks over all pairs, and reads a byte of each key.
-    fn read_keys(&self) -> u64;
+    /// Walks over all pairs.
+    fn walk<R: Reading>(&self) -> u64;
 
     /// Adds one to each value.
     fn raise(&mut self) -> u64;
 
+    /// Walks over at most 100 pairs from a key on.
+    fn walk_from<'a>(&'a self, start: &'a Self::Key) -> u64;
+
     /// From each start on, walks over at most 100 pairs.
-    fn range(&self, starts: &[Self::Key]) -> u64;
+    final fn range(&self, starts: &[Self::Key]) -> u64 {
+        let mut sum = 0u64;
+        for start in starts.iter().take(10_000) {
+            sum = sum.wrapping_add(self.walk_from(start));
+        }
+        sum
+    }
+
+    /// Walks over what begins with a front.
+    fn walk_front<'a>(&'a self, front: &'a Front<Self::Key>) -> u64;
 
     /// Walks over what begins with each of the fronts.
-    fn prefix(&self, fronts: &[Front<Self::Key>]) -> u64;
+    final fn prefix(&self, fronts: &[Front<Self::Key>]) -> u64 {
+        let mut sum = 0u64;
+        for front in fronts {
+            sum = sum.wrapping_add(self.walk_front(front));
+        }
+        sum
+    }
 
     /// Removes each key.
     fn remove(&mut self, keys: &[Self::Key]) -> u64;
@@ -57,10 +65,20 @@ pub(crate) trait Contestant: Sized + Drop {
 
     /// Takes the map apart.
     fn take_apart(self) -> u64;
+
+    /// Keeps the pairs before a key, and gives the rest.
+    fn part(&mut self, from: &Self::Key) -> Result<Self, AllocError>;
 }
 
-// Stores each key with its place, where there is room.
-fn fill<K: Key>(room: &mut OurRoom<'_, K>, keys: Vec<K>) -> Result<(), Failure> {
+/// A map that is copied too.
+pub(crate) trait Copied: Contestant {
+    /// A map of the same pairs.
+    fn copy(&self) -> Result<Self, AllocError>;
+}
+
+// Stores each key with its place, where there is room, and gives how many keys were new.
+fn fill<K: Made>(room: &mut OurRoom<'_, K>, keys: Vec<K>) -> Result<u64, Failure> {
+    let count = room.left();
     let mut place = 0u64;
     for key in keys {
         if room.left() == 0 {
@@ -71,36 +89,35 @@ fn fill<K: Key>(room: &mut OurRoom<'_, K>, keys: Vec<K>) -> Result<(), Failure> 
         }
         place = place.wrapping_add(1);
     }
-    Ok(())
+    Ok(count.saturating_sub(room.left()) as u64)
 }
 
-impl<K: Key> Contestant for Ours<K> {
+impl<K: Made> Store for Ours<K> {
     type Key = K;
 
     fn empty(alloc: Global) -> Self {
         Map::new(alloc)
     }
 
-    fn store(&mut self, keys: Vec<K>) -> Result<u64, Failure> {
-        let mut place = 0u64;
-        for key in keys {
-            match self.try_insert(key, place) {
-                Ok(_) => place = place.wrapping_add(1),
-                Err(TryInsertError::Memory(_)) => return Err(Failure::Memory),
-                Err(TryInsertError::Prefix(_)) => return Err(Failure::Related),
-            }
+    fn put(&mut self, key: K, value: u64) -> Result<bool, Failure> {
+        match self.try_insert(key, value) {
+            Ok(old) => Ok(old.is_none()),
+            Err(TryInsertError::Memory(_)) => Err(Failure::Memory),
+            Err(TryInsertError::Prefix(_)) => Err(Failure::Related),
         }
-        Ok(self.len() as u64)
     }
+}
 
+impl<K: Made> Contestant for Ours<K> {
     fn store_reserved(&mut self, keys: Vec<K>) -> Result<u64, Failure> {
-        let Ok(mut room) = self.reserve(keys.len()) else {
-            return Err(Failure::Memory);
-        };
-        let stored = fill(&mut room, keys);
-        drop(room);
-        stored?;
-        Ok(self.len() as u64)
+        match self.reserve(keys.len()) {
+            Ok(mut room) => {
+                let stored = fill(&mut room, keys);
+                drop(room);
+                stored
+            }
+            Err(_) => Err(Failure::Memory),
+        }
     }
 
     fn look_up(&self, keys: &[K]) -> u64 {
@@ -113,20 +130,10 @@ impl<K: Key> Contestant for Ours<K> {
         sum
     }
 
-    fn iterate(&self) -> u64 {
+    fn walk<R: Reading>(&self) -> u64 {
         let mut sum = 0u64;
         for (key, value) in self.iter() {
-            sum = sum
-                .wrapping_add(*value)
-                .wrapping_add(key.as_bytes().len() as u64);
-        }
-        sum
-    }
-
-    fn read_keys(&self) -> u64 {
-        let mut sum = 0u64;
-        for (key, value) in self.iter() {
-            sum = sum.wrapping_add(*value).wrapping_add(first_byte(key));
+            sum = R::added(sum, key.as_bytes(), *value);
         }
         sum
     }
@@ -141,20 +148,19 @@ impl<K: Key> Contestant for Ours<K> {
         self.len() as u64
     }
 
-    fn range(&self, starts: &[K]) -> u64 {
+    fn walk_from<'a>(&'a self, start: &'a K) -> u64 {
+        let end: Bound<&'a K> = Bound::Unbounded;
         let mut sum = 0u64;
-        for start in starts.iter().take(10_000) {
-            sum = sum.wrapping_add(sum_from(self, start));
+        for (_, value) in self.range(Bound::Included(start), end).take(100) {
+            sum = sum.wrapping_add(*value);
         }
         sum
     }
 
-    fn prefix(&self, fronts: &[Front<K>]) -> u64 {
+    fn walk_front<'a>(&'a self, front: &'a Front<K>) -> u64 {
         let mut sum = 0u64;
-        for front in fronts {
-            for (_, value) in self.prefix(front.bytes.as_slice()) {
-                sum = sum.wrapping_add(*value);
-            }
+        for (_, value) in self.prefix(front.bytes()) {
+            sum = sum.wrapping_add(*value);
         }
         sum
     }
@@ -177,42 +183,38 @@ impl<K: Key> Contestant for Ours<K> {
     fn take_apart(self) -> u64 {
         let mut sum = 0u64;
         for (key, value) in self {
-            sum = sum
-                .wrapping_add(value)
-                .wrapping_add(key.as_bytes().len() as u64);
+            sum = Lengths::added(sum, key.as_bytes(), value);
         }
         sum
     }
-}
 
-// A sum over at most 100 pairs, of which the first is that of a stored key.
-fn sum_from<'a, K: Key>(map: &'a Ours<K>, start: &'a K) -> u64 {
-    let end: Bound<&'a K> = Bound::Unbounded;
-    let mut sum = 0u64;
-    for (_, value) in map.range(Bound::Included(start), end).take(100) {
-        sum = sum.wrapping_add(*value);
+    fn part(&mut self, from: &K) -> Result<Self, AllocError> {
+        self.split_off(from)
     }
-    sum
 }
 
-impl<K: Key> Contestant for Theirs<K> {
+impl<K: Key> Copied for Ours<K> {
+    fn copy(&self) -> Result<Self, AllocError> {
+        self.clone()
+    }
+}
+
+impl<K: Made> Store for Theirs<K> {
     type Key = K;
 
     fn empty(alloc: Global) -> Self {
         BTreeMap::new(alloc)
     }
 
-    fn store(&mut self, keys: Vec<K>) -> Result<u64, Failure> {
-        let mut place = 0u64;
-        for key in keys {
-            if self.insert(key, place).is_err() {
-                return Err(Failure::Memory);
-            }
-            place = place.wrapping_add(1);
+    fn put(&mut self, key: K, value: u64) -> Result<bool, Failure> {
+        match self.insert(key, value) {
+            Ok(old) => Ok(old.is_none()),
+            Err(_) => Err(Failure::Memory),
         }
-        Ok(self.len() as u64)
     }
+}
 
+impl<K: Made> Contestant for Theirs<K> {
     fn store_reserved(&mut self, keys: Vec<K>) -> Result<u64, Failure> {
         self.store(keys)
     }
@@ -227,53 +229,39 @@ impl<K: Key> Contestant for Theirs<K> {
         sum
     }
 
-    fn iterate(&self) -> u64 {
+    fn walk<R: Reading>(&self) -> u64 {
         let mut sum = 0u64;
         for (key, value) in self.iter() {
-            sum = sum
-                .wrapping_add(*value)
-                .wrapping_add(key.as_bytes().len() as u64);
-        }
-        sum
-    }
-
-    fn read_keys(&self) -> u64 {
-        let mut sum = 0u64;
-        for (key, value) in self.iter() {
-            sum = sum.wrapping_add(*value).wrapping_add(first_byte(key));
+            sum = R::added(sum, key.as_bytes(), *value);
         }
         sum
     }
 
     fn raise(&mut self) -> u64 {
-        for (_, value) in self.iter_mut() {
+        for value in self.values_mut() {
             *value = value.wrapping_add(1);
         }
         self.len() as u64
     }
 
-    fn range(&self, starts: &[K]) -> u64 {
+    fn walk_from<'a>(&'a self, start: &'a K) -> u64 {
         let mut sum = 0u64;
-        for start in starts.iter().take(10_000) {
-            for (_, value) in self
-                .range((Bound::Included(start), Bound::Unbounded))
-                .take(100)
-            {
-                sum = sum.wrapping_add(*value);
-            }
+        for (_, value) in self
+            .range((Bound::Included(start), Bound::Unbounded))
+            .take(100)
+        {
+            sum = sum.wrapping_add(*value);
         }
         sum
     }
 
-    fn prefix(&self, fronts: &[Front<K>]) -> u64 {
+    fn walk_front<'a>(&'a self, front: &'a Front<K>) -> u64 {
         let mut sum = 0u64;
-        for front in fronts {
-            for (key, value) in self.range((Bound::Included(&front.least), Bound::Unbounded)) {
-                if !key.as_bytes().starts_with(front.bytes.as_slice()) {
-                    break;
-                }
-                sum = sum.wrapping_add(*value);
+        for (key, value) in self.range((Bound::Included(&front.least), Bound::Unbounded)) {
+            if !key.as_bytes().starts_with(front.bytes()) {
+                break;
             }
+            sum = sum.wrapping_add(*value);
         }
         sum
     }
@@ -296,10 +284,18 @@ impl<K: Key> Contestant for Theirs<K> {
     fn take_apart(self) -> u64 {
         let mut sum = 0u64;
         for (key, value) in self {
-            sum = sum
-                .wrapping_add(value)
-                .wrapping_add(key.as_bytes().len() as u64);
+            sum = Lengths::added(sum, key.as_bytes(), value);
         }
         sum
+    }
+
+    fn part(&mut self, from: &K) -> Result<Self, AllocError> {
+        self.split_off(from)
+    }
+}
+
+impl<K: Key> Copied for Theirs<K> {
+    fn copy(&self) -> Result<Self, AllocError> {
+        self.clone()
     }
 }

@@ -1,42 +1,42 @@
 //! Times calls of sets.
-use crate::failure::Failure;
-use crate::keys::Key;
-use crate::sets::SetContestant;
+use crate::sets::{Merge, SetContestant};
 use crate::sheet::Sheet;
 use crate::workload::Workload;
-use std::rt::Clock;
+use blart::AsBytes;
 
 /// Times the walks over two sets. Of each six keys one has four and the other three, of which they share two.
-pub(crate) fn time_sets<S: SetContestant, R: Clock + AllocGlobal>(
-    rt: &R,
-    workload: &Workload<impl Key>,
+pub(crate) fn time_sets<S: SetContestant, K: AsBytes>(
+    rt: &HostRuntime,
+    workload: &Workload<K>,
     sheet: &mut Sheet,
-) -> Result<(), Failure> {
+) {
     let mut one = S::empty(rt.alloc());
     let mut other = S::empty(rt.alloc());
-    let timed = time_both(rt, &mut one, &mut other, workload, sheet);
+    let left = store_every(rt, &mut one, workload, 3, sheet);
+    let right = store_every(rt, &mut other, workload, 2, sheet);
+    time_merges(rt, &one, &other, left.saturating_add(right), sheet);
     drop(one);
     drop(other);
-    timed
 }
 
-// Times the walks over two empty sets, which get their keys first.
-fn time_both<S: SetContestant>(
-    rt: &impl Clock,
-    one: &mut S,
-    other: &mut S,
-    workload: &Workload<impl Key>,
+// Stores the keys whose place is no multiple of a number in an empty set.
+fn store_every<S: SetContestant, K: AsBytes>(
+    rt: &HostRuntime,
+    set: &mut S,
+    workload: &Workload<K>,
+    number: usize,
     sheet: &mut Sheet,
-) -> Result<(), Failure> {
-    let left = one.store(workload.every(3)?)?;
-    let right = other.store(workload.every(2)?)?;
-    time_merges(rt, one, other, left.saturating_add(right), sheet);
-    Ok(())
+) -> u64 {
+    let mut keys = Vec::new(rt.alloc());
+    let pushed = workload.every(number, &mut keys);
+    sheet.check(pushed);
+    let stored = set.store(keys);
+    sheet.checked(stored)
 }
 
 // Times the four merges of two sets that have so many elements.
 fn time_merges<S: SetContestant>(
-    rt: &impl Clock,
+    rt: &HostRuntime,
     one: &S,
     other: &S,
     count: u64,
@@ -44,15 +44,15 @@ fn time_merges<S: SetContestant>(
 ) {
     let count = count as usize;
     sheet.start(rt);
-    let sum = one.union_sum(other);
+    let sum = one.merge_sum(other, Merge::Union);
     sheet.stop(rt, "union", count, sum);
     sheet.start(rt);
-    let sum = one.intersection_sum(other);
+    let sum = one.merge_sum(other, Merge::Intersection);
     sheet.stop(rt, "intersection", count, sum);
     sheet.start(rt);
-    let sum = one.difference_sum(other);
+    let sum = one.merge_sum(other, Merge::Difference);
     sheet.stop(rt, "difference", count, sum);
     sheet.start(rt);
-    let sum = one.symmetric_difference_sum(other);
+    let sum = one.merge_sum(other, Merge::SymmetricDifference);
     sheet.stop(rt, "symmetric_difference", count, sum);
 }

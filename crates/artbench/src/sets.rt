@@ -2,6 +2,7 @@
 ghost use Rattle.std.specs.Iterator.{IsFinite};
 
 use crate::failure::Failure;
+use crate::stores::Store;
 use blart::map::DEFAULT_PREFIX_LEN;
 use blart::{TreeSet, TryInsertError};
 use std::alloc::Global;
@@ -14,88 +15,74 @@ pub(crate) type OurSet = TreeSet<Vec<u8>, DEFAULT_PREFIX_LEN>;
 /// The library's set.
 pub(crate) type TheirSet = BTreeSet<Vec<u8>>;
 
-/// A set of lists of bytes, as far as it is timed. Each call gives a sum over what it found.
-pub(crate) trait SetContestant: Sized + Drop {
-    /// A set with no elements.
-    fn empty(alloc: Global) -> Self;
-
-    /// Stores each key.
-    fn store(&mut self, keys: Vec<Vec<u8>>) -> Result<u64, Failure>;
-
-    /// Walks over what either set has.
-    fn union_sum(&self, other: &Self) -> u64;
-
-    /// Walks over what both sets have.
-    fn intersection_sum(&self, other: &Self) -> u64;
-
-    /// Walks over what this set alone has.
-    fn difference_sum(&self, other: &Self) -> u64;
-
-    /// Walks over what one set alone has.
-    fn symmetric_difference_sum(&self, other: &Self) -> u64;
+/// A walk over two sets.
+pub(crate) enum Merge {
+    /// What either set has.
+    Union,
+    /// What both sets have.
+    Intersection,
+    /// What the first set alone has.
+    Difference,
+    /// What one set alone has.
+    SymmetricDifference,
 }
 
-impl SetContestant for OurSet {
+/// A set of lists of bytes, as far as it is timed. Each call gives a sum over what it found.
+pub(crate) trait SetContestant: Store<Key = Vec<u8>> {
+    /// Walks over what both sets give together.
+    fn merge_sum(&self, other: &Self, merge: Merge) -> u64;
+}
+
+impl Store for OurSet {
+    type Key = Vec<u8>;
+
     fn empty(alloc: Global) -> Self {
         TreeSet::new(alloc)
     }
 
-    fn store(&mut self, keys: Vec<Vec<u8>>) -> Result<u64, Failure> {
-        for key in keys {
-            match self.try_insert(key) {
-                Ok(_) => {}
-                Err(TryInsertError::Memory(_)) => return Err(Failure::Memory),
-                Err(TryInsertError::Prefix(_)) => return Err(Failure::Related),
-            }
+    fn put(&mut self, key: Vec<u8>, _: u64) -> Result<bool, Failure> {
+        match self.try_insert(key) {
+            Ok(is_new) => Ok(is_new),
+            Err(TryInsertError::Memory(_)) => Err(Failure::Memory),
+            Err(TryInsertError::Prefix(_)) => Err(Failure::Related),
         }
-        Ok(self.len() as u64)
-    }
-
-    fn union_sum(&self, other: &Self) -> u64 {
-        sum_of(self.union(other))
-    }
-
-    fn intersection_sum(&self, other: &Self) -> u64 {
-        sum_of(self.intersection(other))
-    }
-
-    fn difference_sum(&self, other: &Self) -> u64 {
-        sum_of(self.difference(other))
-    }
-
-    fn symmetric_difference_sum(&self, other: &Self) -> u64 {
-        sum_of(self.symmetric_difference(other))
     }
 }
 
-impl SetContestant for TheirSet {
+impl SetContestant for OurSet {
+    fn merge_sum(&self, other: &Self, merge: Merge) -> u64 {
+        match merge {
+            Merge::Union => sum_of(self.union(other)),
+            Merge::Intersection => sum_of(self.intersection(other)),
+            Merge::Difference => sum_of(self.difference(other)),
+            Merge::SymmetricDifference => sum_of(self.symmetric_difference(other)),
+        }
+    }
+}
+
+impl Store for TheirSet {
+    type Key = Vec<u8>;
+
     fn empty(alloc: Global) -> Self {
         BTreeSet::new(alloc)
     }
 
-    fn store(&mut self, keys: Vec<Vec<u8>>) -> Result<u64, Failure> {
-        for key in keys {
-            if self.insert(key).is_err() {
-                return Err(Failure::Memory);
-            }
+    fn put(&mut self, key: Vec<u8>, _: u64) -> Result<bool, Failure> {
+        match self.insert(key) {
+            Ok(is_new) => Ok(is_new),
+            Err(_) => Err(Failure::Memory),
         }
-        Ok(self.len() as u64)
     }
+}
 
-    fn union_sum(&self, other: &Self) -> u64 {
-        sum_of(self.union(other))
-    }
-
-    fn intersection_sum(&self, other: &Self) -> u64 {
-        sum_of(self.intersection(other))
-    }
-
-    fn difference_sum(&self, other: &Self) -> u64 {
-        sum_of(self.difference(other))
-    }
-
-    fn symmetric_difference_sum(&self, other: &Self) -> u64 {
-        sum_of(self.symmetric_difference(other))
+impl SetContestant for TheirSet {
+    fn merge_sum(&self, other: &Self, merge: Merge) -> u64 {
+        match merge {
+            Merge::Union => sum_of(self.union(other)),
+            Merge::Intersection => sum_of(self.intersection(other)),
+            Merge::Difference => sum_of(self.difference(other)),
+            Merge::SymmetricDifference => sum_of(self.symmetric_difference(other)),
+        }
     }
 }
 

@@ -1,7 +1,6 @@
 //! What both maps were timed at, call by call.
 use crate::failure::Failure;
 use std::alloc::Global;
-use std::rt::Clock;
 use std::time::Instant;
 
 /// What one call was timed at.
@@ -61,12 +60,12 @@ impl Sheet {
     }
 
     /// Notes that a call begins.
-    pub(crate) fn start(&mut self, rt: &impl Clock) {
+    pub(crate) fn start(&mut self, rt: &HostRuntime) {
         self.started = Instant::now(rt).ok();
     }
 
     /// Notes that the call has ended.
-    pub(crate) fn end(&mut self, rt: &impl Clock) {
+    pub(crate) fn end(&mut self, rt: &HostRuntime) {
         match self.elapsed(rt) {
             Ok(nanos) => self.nanos = nanos,
             Err(failure) => self.fail(failure),
@@ -74,7 +73,7 @@ impl Sheet {
     }
 
     // How many nanoseconds have gone by since the call began.
-    fn elapsed(&self, rt: &impl Clock) -> Result<u64, Failure> {
+    fn elapsed(&self, rt: &HostRuntime) -> Result<u64, Failure> {
         let Some(start) = self.started else {
             return Err(Failure::Io);
         };
@@ -88,7 +87,7 @@ impl Sheet {
     }
 
     /// Notes a call that has just ended, and what it gave.
-    pub(crate) fn stop(&mut self, rt: &impl Clock, call: &'static str, count: usize, sum: u64) {
+    pub(crate) fn stop(&mut self, rt: &HostRuntime, call: &'static str, count: usize, sum: u64) {
         self.end(rt);
         self.note(call, count, sum);
     }
@@ -119,8 +118,26 @@ impl Sheet {
         }
     }
 
-    // Notes why the run has no results, if it had any so far.
-    fn fail(&mut self, failure: Failure) {
+    /// What a call gave that may fail, or 0 where it did.
+    pub(crate) fn checked(&mut self, given: Result<u64, Failure>) -> u64 {
+        match given {
+            Ok(sum) => sum,
+            Err(failure) => {
+                self.fail(failure);
+                0
+            }
+        }
+    }
+
+    /// Notes whether a call has failed.
+    pub(crate) fn check(&mut self, done: Result<(), Failure>) {
+        if let Err(failure) = done {
+            self.fail(failure);
+        }
+    }
+
+    /// Notes why the run has no results, if it had any so far.
+    pub(crate) fn fail(&mut self, failure: Failure) {
         self.failure = self.failure.or(Some(failure));
     }
 

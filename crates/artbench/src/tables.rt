@@ -1,13 +1,10 @@
 //! The results as tables.
 use crate::failure::Failure;
-use crate::sheet::Row;
+use crate::sheet::{Row, Sheet};
 use crate::workload::Workload;
 
 /// Writes the keys of a kind on standard output, each in a line of hexadecimal digits: those that are stored, those that are looked up and found, and those that are missing.
-pub(crate) fn write_keys(
-    rt: &(impl Print + AllocGlobal),
-    workload: &Workload<Vec<u8>>,
-) -> Result<(), Failure> {
+pub(crate) fn write_keys(rt: &HostRuntime, workload: &Workload<Vec<u8>>) -> Result<(), Failure> {
     println!(rt; "{} {}", workload.kind.name(), workload.keys.len())?;
     write_lines(rt, &workload.keys)?;
     write_lines(rt, &workload.hits)?;
@@ -15,34 +12,52 @@ pub(crate) fn write_keys(
 }
 
 // Writes each key in a line.
-fn write_lines(rt: &(impl Print + AllocGlobal), keys: &[Vec<u8>]) -> Result<(), Failure> {
+fn write_lines(rt: &HostRuntime, keys: &[Vec<u8>]) -> Result<(), Failure> {
     for key in keys {
         println!(rt; "{}", hex::encode(rt.alloc(), key.as_slice())?)?;
     }
     Ok(())
 }
 
-/// Writes on standard output what the calls gave, which is the same on each run.
-pub(crate) fn write_sums(rt: &impl Print, rows: &[Row]) -> Result<(), Failure> {
+/// Writes the rows for so many keys of a kind: what the calls gave on standard output, and the times on standard error.
+pub(crate) fn write_sheet(
+    rt: &HostRuntime,
+    name: &str,
+    keys: usize,
+    sheet: &Sheet,
+) -> Result<(), Failure> {
+    sheet.ended()?;
+    println!(rt; "{name} {keys}")?;
+    write_sums(rt, &sheet.rows)?;
+    eprintln!(rt; "{name}, {keys} keys: nanoseconds, and the ratio to BTreeMap")?;
+    write_times(rt, &sheet.rows)
+}
+
+// Writes what the calls gave, which is the same on each run.
+fn write_sums(rt: &HostRuntime, rows: &[Row]) -> Result<(), Failure> {
     for row in rows {
         println!(rt; "{} {} {}", row.call, row.count, row.sum)?;
     }
     Ok(())
 }
 
-/// Writes on standard error the nanoseconds a key or pair, and the ratio: below 1 the map is faster.
-pub(crate) fn write_times(rt: &impl Eprint, rows: &[Row]) -> Result<(), Failure> {
+// Writes the times of each row.
+fn write_times(rt: &HostRuntime, rows: &[Row]) -> Result<(), Failure> {
     for row in rows {
-        let count = (row.count as u64).max(1);
-        let hundredths = row.ours.saturating_mul(100) / row.theirs.max(1);
-        eprintln!(rt;
-            "{:>20} {:>8} {:>8} {:>5}.{:02}",
-            row.call,
-            row.ours / count,
-            row.theirs / count,
-            hundredths / 100,
-            hundredths % 100
-        )?;
+        write_time(rt, row)?;
     }
+    Ok(())
+}
+
+// Writes the nanoseconds a key or pair, and the ratio: below 1 the map is faster.
+fn write_time(rt: &HostRuntime, row: &Row) -> Result<(), Failure> {
+    let count = (row.count as u64).max(1);
+    let (ours, theirs) = (row.ours / count, row.theirs / count);
+    let hundredths = row.ours.saturating_mul(100) / row.theirs.max(1);
+    let (whole, rest) = (hundredths / 100, hundredths % 100);
+    eprintln!(rt;
+        "{:>20} {ours:>8} {theirs:>8} {whole:>5}.{rest:02}",
+        row.call
+    )?;
     Ok(())
 }

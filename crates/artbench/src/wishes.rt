@@ -1,7 +1,6 @@
 //! What the arguments ask for.
 use crate::failure::Failure;
 use crate::workload::Kind;
-use std::env::Args;
 
 /// Calls that are timed together.
 #[derive(Clone, Copy, PartialEq, Eq)]
@@ -50,20 +49,12 @@ pub(crate) struct Wishes {
 
 impl Wishes {
     /// What the arguments say, the first of which is the program's name.
-    pub(crate) fn read(mut args: Args) -> Result<Self, Failure> {
-        let _program = args.next();
-        let (keys, kind, rows, more) = (args.next(), args.next(), args.next(), args.next());
-        let wishes = match (&keys, &kind, &rows, &more) {
-            (Some(keys), Some(kind), None, None) => wishes_of(keys, kind, "all"),
-            (Some(keys), Some(kind), Some(rows), None) => wishes_of(keys, kind, rows),
+    pub(crate) fn read(args: &[String]) -> Result<Self, Failure> {
+        match args {
+            [_, keys, kind] => wishes_of(keys, kind, "all"),
+            [_, keys, kind, rows] => wishes_of(keys, kind, rows),
             _ => Err(Failure::Usage),
-        };
-        drop(args);
-        drop(keys);
-        drop(kind);
-        drop(rows);
-        drop(more);
-        wishes
+        }
     }
 
     /// Whether calls of a group are to be timed.

@@ -93,9 +93,17 @@ impl Kind {
 /// Bytes that begin stored keys.
 #[derive(Drop)]
 pub(crate) struct Front<K> {
-    pub(crate) bytes: Vec<u8>,
-    /// No key that they begin is less.
+    /// They are the first of this key, and no key that they begin is less.
     pub(crate) least: K,
+    len: usize,
+}
+
+impl<K: AsBytes> Front<K> {
+    /// The bytes.
+    pub(crate) fn bytes(&self) -> &[u8] {
+        let bytes = self.least.as_bytes();
+        bytes.split_at(self.len.min(bytes.len())).0
+    }
 }
 
 /// The keys of a run.
@@ -141,10 +149,7 @@ impl<K: Key> Workload<K> {
             &mut rng,
         )?;
         self.keys.shuffle(&mut rng);
-        self.sorted.extend_from_slice(&self.keys)?;
-        self.sorted.sort()?;
-        self.hits.extend_from_slice(&self.keys)?;
-        self.hits.shuffle(&mut rng);
+        push_orders(&self.keys, &mut self.sorted, &mut self.hits, &mut rng)?;
         push_keys(
             &mut self.misses,
             self.alloc,
@@ -155,40 +160,30 @@ impl<K: Key> Workload<K> {
         )?;
         push_fronts(&mut self.fronts, self.alloc, self.kind, &self.hits)
     }
+}
 
-    /// The bytes of the keys whose place is no multiple of a number.
-    pub(crate) fn every(&self, number: usize) -> Result<Vec<Vec<u8>>, Failure> {
-        let mut lists = Vec::new(self.alloc);
+impl<K: AsBytes> Workload<K> {
+    /// Adds the bytes of the keys whose place is no multiple of a number.
+    pub(crate) fn every(&self, number: usize, lists: &mut Vec<Vec<u8>>) -> Result<(), Failure> {
         for (place, key) in self.keys.iter().enumerate() {
             if place % number.max(1) != 0 {
-                push_list(&mut lists, self.alloc, key, b"")?;
+                push_list(lists, self.alloc, key, b"")?;
             }
         }
-        Ok(lists)
+        Ok(())
     }
 
-    /// The bytes of the first tenth of the keys, in order.
-    pub(crate) fn mounts(&self) -> Result<Vec<Vec<u8>>, Failure> {
-        let mut lists = Vec::new(self.alloc);
-        for key in self.keys.iter().take(self.keys.len() / 10) {
-            push_list(&mut lists, self.alloc, key, b"")?;
-        }
-        lists.sort()?;
-        Ok(lists)
-    }
-
-    /// As many paths as there are keys: by turns one below a mount, and one that is like it.
-    pub(crate) fn paths(&self) -> Result<Vec<Vec<u8>>, Failure> {
+    /// Adds as many paths as there are keys: by turns one below a mount, and one that is like it.
+    pub(crate) fn paths(&self, lists: &mut Vec<Vec<u8>>) -> Result<(), Failure> {
         let mounts = (self.keys.len() / 10).max(1);
-        let mut lists = Vec::new(self.alloc);
         for (place, other) in self.misses.iter().enumerate() {
             let key = match self.keys.get(place.wrapping_mul(7) % mounts) {
                 Some(mount) if place % 2 == 0 => mount,
                 _ => other,
             };
-            push_list(&mut lists, self.alloc, key, b"/index")?;
+            push_list(lists, self.alloc, key, b"/index")?;
         }
-        Ok(lists)
+        Ok(())
     }
 }
 
@@ -222,6 +217,20 @@ fn push_keys<K: Key>(
     Ok(())
 }
 
+// Adds some keys in order, and in a random order.
+fn push_orders<K: Key>(
+    keys: &[K],
+    sorted: &mut Vec<K>,
+    shuffled: &mut Vec<K>,
+    rng: &mut Xoshiro256PlusPlus,
+) -> Result<(), AllocError> {
+    sorted.extend_from_slice(keys)?;
+    sorted.sort()?;
+    shuffled.extend_from_slice(keys)?;
+    shuffled.shuffle(rng);
+    Ok(())
+}
+
 // Adds what begins the first 10,000 of the keys.
 fn push_fronts<K: Key>(
     fronts: &mut Vec<Front<K>>,
@@ -231,41 +240,35 @@ fn push_fronts<K: Key>(
 ) -> Result<(), Failure> {
     for key in keys.iter().take(10_000) {
         let bytes = key.as_bytes();
-        let (front, _) = bytes.split_at(kind.front(bytes.len()).min(bytes.len()));
-        let least = K::made(alloc, front)?;
-        fronts.push(Front {
-            bytes: Vec::made(alloc, front)?,
-            least,
-        })?;
+        let len = kind.front(bytes.len()).min(bytes.len());
+        let least = K::made(alloc, bytes.split_at(len).0)?;
+        fronts.push(Front { least, len })?;
     }
     Ok(())
 }
 
 const HOSTS: [&str; 7] = [
-    "example.com",
-    "news.site.org",
-    "shop.store.net",
-    "api.cloud.io",
-    "cdn.static.io",
-    "blog.writer.me",
-    "wiki.pedia.org",
+    "https://www.example.com/",
+    "https://www.news.site.org/",
+    "https://www.shop.store.net/",
+    "https://www.api.cloud.io/",
+    "https://www.cdn.static.io/",
+    "https://www.blog.writer.me/",
+    "https://www.wiki.pedia.org/",
 ];
 
 const WORDS: [&str; 18] = [
-    "about", "article", "user", "item", "product", "image", "page", "index", "archive", "tag",
-    "search", "comment", "list", "view", "edit", "data", "static", "assets",
+    "about/", "article/", "user/", "item/", "product/", "image/", "page/", "index/", "archive/",
+    "tag/", "search/", "comment/", "list/", "view/", "edit/", "data/", "static/", "assets/",
 ];
 
 // Adds an address: a host, one to four words, a number and a zero byte. One that is missing has a letter in the number's place.
 fn write_url(key: &mut Vec<u8>, random: u64, missing: bool) -> Result<(), AllocError> {
-    key.extend_from_slice(b"https://www.")?;
     write_word(key, &HOSTS, random)?;
     let words = 1 + (random >> 8) % 4;
     for place in 0..words {
-        key.push(b'/')?;
         write_word(key, &WORDS, random >> (16 + 5 * place))?;
     }
-    key.push(b'/')?;
     if missing {
         key.push(b'x')?;
     }
