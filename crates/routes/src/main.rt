@@ -3,8 +3,7 @@
 
 use anyhow::Context;
 use prefix_router::Mounts;
-use std::io::{BufRead, BufReader};
-use std::iter::{IntoIterator, Iterator};
+use std::iter::Iterator;
 use std::{env, fs};
 
 type Table = Mounts<String>;
@@ -27,10 +26,7 @@ fn run(rt: &HostRuntime, text: &str, table: &mut Table) -> anyhow::Result<()> {
 
 // The file that is named.
 fn path_of(rt: &HostRuntime) -> anyhow::Result<String> {
-    match env::args(rt)?.into_iter().nth(1) {
-        Some(path) => Ok(path),
-        None => Err(anyhow::anyhow!("usage: routes FILE")),
-    }
+    env::args(rt)?.nth(1).context("usage: routes FILE")
 }
 
 // Mounts what a text says, one mount a line.
@@ -51,7 +47,7 @@ fn mount(rt: &impl AllocGlobal, table: &mut Table, line: &str) -> anyhow::Result
 
 // Answers each line of standard input.
 fn answer(rt: &HostRuntime, table: &Table) -> anyhow::Result<()> {
-    for line in BufReader::new(rt.alloc(), rt.reader())?.lines(rt.alloc()) {
+    for line in rt.lines(rt.alloc()) {
         route(rt, table, &line?)?;
     }
     Ok(())
