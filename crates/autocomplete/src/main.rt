@@ -3,8 +3,7 @@
 
 use anyhow::Context;
 use blart::{Set, TreeSet, ZKey};
-use std::io::{BufRead, BufReader};
-use std::iter::{IntoIterator, Iterator};
+use std::iter::Iterator;
 use std::{env, fs};
 
 // How many words an answer has at most.
@@ -22,16 +21,15 @@ fn main(rt: HostRuntime) -> anyhow::Result<()> {
 // Takes the words of a text, and answers by them.
 fn run(rt: &HostRuntime, text: &str, words: &mut Set<ZKey>) -> anyhow::Result<()> {
     take_words(rt, text, words)?;
-    println!(rt; "{} words", words.len())?;
-    answer(rt, words)
+    print!(rt; "{} words\n> ", words.len())?;
+    answer(rt, words)?;
+    println!(rt; "")?;
+    Ok(())
 }
 
 // The file that is named.
 fn path_of(rt: &HostRuntime) -> anyhow::Result<String> {
-    match env::args(rt)?.into_iter().nth(1) {
-        Some(path) => Ok(path),
-        None => Err(anyhow::anyhow!("usage: autocomplete FILE")),
-    }
+    env::args(rt)?.nth(1).context("usage: autocomplete FILE")
 }
 
 // Takes the words of a text, one a line.
@@ -42,21 +40,19 @@ fn take_words(rt: &impl AllocGlobal, text: &str, words: &mut Set<ZKey>) -> anyho
     Ok(())
 }
 
-// Answers each line of standard input after a prompt.
+// Answers each line of standard input.
 fn answer(rt: &HostRuntime, words: &Set<ZKey>) -> anyhow::Result<()> {
-    print!(rt; "> ")?;
-    for line in BufReader::new(rt.alloc(), rt.reader())?.lines(rt.alloc()) {
+    for line in rt.lines(rt.alloc()) {
         complete(rt, words, &line?)?;
-        print!(rt; "> ")?;
     }
-    println!(rt; "")?;
     Ok(())
 }
 
-// Prints the first words that begin with these letters.
+// Prints the first words that begin with these letters, and the next prompt.
 fn complete(rt: &impl Print, words: &Set<ZKey>, letters: &str) -> anyhow::Result<()> {
     for word in words.prefix(letters.as_bytes()).take(MOST) {
         println!(rt; "{}", std::str::from_utf8(word.to_bytes())?)?;
     }
+    print!(rt; "> ")?;
     Ok(())
 }
