@@ -238,7 +238,7 @@ impl<K: Made> Contestant for Theirs<K> {
     }
 
     fn raise(&mut self) -> u64 {
-        for value in self.values_mut() {
+        for (_, value) in self.iter_mut() {
             *value = value.wrapping_add(1);
         }
         self.len() as u64
