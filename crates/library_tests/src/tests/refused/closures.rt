@@ -67,13 +67,14 @@ fn assert_runs(
     } else {
         puts(map, way, key, &mut ran)
     };
-    assert!(rt; ran == (put && !was_there));
-    if put {
-        assert!(rt; map.get(&key) == Some(&7));
-    } else {
+    if !put {
         say_refused(rt);
-        assert!(rt; map.get(&key).is_none());
     }
+    let is_right = match map.get(&key) {
+        Some(value) => put && *value == 7,
+        None => !put,
+    };
+    assert!(rt; is_right && ran == (put && !was_there));
     assert!(rt; map.len() == before.wrapping_add(ran as usize));
     put
 }

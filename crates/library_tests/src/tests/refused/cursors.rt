@@ -21,11 +21,13 @@ fn fill(rt: &(impl Abort + Print), map: &mut Map) {
 fn step_and_take(rt: &impl Abort, map: &mut Map) {
     let mut cursor = map.cursor(Bound::Included(&4u8), Bound::Unbounded);
     let first = map.step(&mut cursor).expect(rt, "a pair");
-    assert!(rt; map.take_leaf(first) == (4, 40));
+    let taken = map.take_leaf(first);
     let last = map.step_back(&mut cursor).expect(rt, "a pair");
-    assert!(rt; map.leaf(last) == (&8, &80));
+    let (key, value) = map.leaf(last);
+    let read = (*key, *value);
     let between = map.step(&mut cursor).expect(rt, "a pair");
-    assert!(rt; map.take_leaf(between) == (5, 50));
+    let taken_then = map.take_leaf(between);
+    assert!(rt; taken == (4, 40) && read == (8, 80) && taken_then == (5, 50));
     assert!(rt; map.step(&mut cursor).is_none());
 }
 
@@ -34,7 +36,7 @@ fn cursors(rt: HostRuntime) {
     let mut map = Map::with_prefix_len(rt.alloc());
     fill(&rt, &mut map);
     step_and_take(&rt, &mut map);
-    assert!(rt; map.len() == 2);
-    assert!(rt; map.inner_nodes() == 1);
+    let (len, nodes) = (map.len(), map.inner_nodes());
     drop(map);
+    assert!(rt; len == 2 && nodes == 1);
 }

@@ -19,14 +19,14 @@ fn assert_driven(rt: &(impl Abort + Print), map: &TreeMap<[u8; 2], usize, 2>, re
     let mut replies = replies.into_iter();
     let first = is_put(rt, replies.next());
     let second = is_put(rt, replies.next());
+    let is_there = matches!(replies.next(), Some(Reply::ContainsKey(true)));
+    let is_end = replies.next().is_none();
+    drop(replies);
     if !first || !second {
         say_refused(rt);
     }
-    assert!(rt; map.contains_key(&[1u8, 7]) == first);
-    assert!(rt; map.contains_key(&[2u8, 2]) == second);
-    assert!(rt; matches!(replies.next(), Some(Reply::ContainsKey(true))) == second);
-    assert!(rt; replies.next().is_none());
-    drop(replies);
+    assert!(rt; is_there == second && is_end);
+    assert!(rt; map.contains_key(&[1u8, 7]) == first && map.contains_key(&[2u8, 2]) == second);
 }
 
 // Two insertions and a look-up.

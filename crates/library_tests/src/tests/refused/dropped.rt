@@ -60,14 +60,13 @@ fn values(rt: HostRuntime) {
     for way in WAYS {
         let drops = Cell::new(0usize);
         let mut map = Values::with_prefix_len(rt.alloc());
-        if puts(&mut map, way, [1, 7], &drops) {
-            assert!(rt; drops.get() == 0);
-        } else {
-            say_refused(&rt);
-            assert!(rt; drops.get() == 1);
-        }
+        let put = puts(&mut map, way, [1, 7], &drops);
+        let before = drops.get();
         drop(map);
-        assert!(rt; drops.get() == 1);
+        if !put {
+            say_refused(&rt);
+        }
+        assert!(rt; before == !put as usize && drops.get() == 1);
     }
 }
 
@@ -89,21 +88,22 @@ fn parts(rt: HostRuntime) {
     let drops = Cell::new(0usize);
     let mut map = three_values(&rt, &drops);
     let before = drops.get();
-    match map.split_off(&[2u8, 1]) {
+    let after = match map.split_off(&[2u8, 1]) {
         Ok(mut rest) => {
             if map.append(&mut rest).is_err() {
                 say_refused(&rt);
             }
-            assert!(rt; drops.get() == before);
+            let after = drops.get();
             drop(rest);
+            after
         }
         Err(_) => {
             say_refused(&rt);
-            assert!(rt; drops.get() == before);
+            drops.get()
         }
-    }
+    };
     drop(map);
-    assert!(rt; drops.get() == before.wrapping_add(3));
+    assert!(rt; after == before && drops.get() == before.wrapping_add(3));
 }
 
 // What a refused `extend` or `from_iter` was given is dropped once in all.
@@ -117,11 +117,12 @@ fn given(rt: HostRuntime) {
         say_refused(&rt);
     }
     let dropped = drops.get().wrapping_sub(before);
-    assert!(rt; dropped.wrapping_add(map.len()) == 3);
+    let held = map.len();
     let made: Result<Values<'_>, _> = TreeMap::from_iter(rt.alloc(), map.into_iter());
     if made.is_err() {
         say_refused(&rt);
     }
     drop(made);
+    assert!(rt; dropped.wrapping_add(held) == 3);
     assert!(rt; drops.get() == before.wrapping_add(3));
 }

@@ -2,7 +2,6 @@
 use super::say_refused;
 use blart_map::TreeMap;
 use blart_set::TreeSet;
-use std::cell::Cell;
 use std::iter::Iterator;
 use std::process::Abort;
 
@@ -16,98 +15,82 @@ const KEYS: [u8; 18] = [
     1, 2, 3, 4, 5, 6, 7, 8, 9, 10, 11, 12, 13, 14, 15, 16, 17, 18,
 ];
 
-// One more was given.
-fn raise(given: &Cell<u8>) {
-    given.set(given.get().wrapping_add(1));
+// Puts the keys 1 to 60. Answers whether there was memory for all, and how many were not given.
+fn extend(map: &mut Map) -> (bool, usize) {
+    let mut keys = 1..61u8;
+    let is_all = map.extend((&mut keys).zip(1..61u8)).is_ok();
+    (is_all, keys.len())
 }
 
-// Puts the keys 1 to 60. Answers whether there was memory for all.
-fn extend(map: &mut Map, given: &Cell<u8>) -> bool {
-    let items = (1..61u8).map(|key| {
-        raise(given);
-        (key, key)
-    });
-    map.extend(items).is_ok()
+fn extend_copied(map: &mut Map) -> (bool, usize) {
+    let mut keys = KEYS.iter();
+    let is_all = map.extend_copied((&mut keys).zip(KEYS.iter())).is_ok();
+    (is_all, keys.len())
 }
 
-fn extend_copied(map: &mut Map, given: &Cell<u8>) -> bool {
-    let items = KEYS.iter().map(|key| {
-        raise(given);
-        (key, key)
-    });
-    map.extend_copied(items).is_ok()
+fn extend_set(set: &mut Set) -> (bool, usize) {
+    let mut keys = 1..19u8;
+    let is_all = set.extend(&mut keys).is_ok();
+    (is_all, keys.len())
 }
 
-fn extend_set(set: &mut Set, given: &Cell<u8>) -> bool {
-    let items = (1..19u8).map(|key| {
-        raise(given);
-        key
-    });
-    set.extend(items).is_ok()
-}
-
-fn extend_set_copied(set: &mut Set, given: &Cell<u8>) -> bool {
-    let items = KEYS.iter().map(|key| {
-        raise(given);
-        key
-    });
-    set.extend_copied(items).is_ok()
+fn extend_set_copied(set: &mut Set) -> (bool, usize) {
+    let mut keys = KEYS.iter();
+    let is_all = set.extend_copied(&mut keys).is_ok();
+    (is_all, keys.len())
 }
 
 // How many keys must be there: all of them, or those that were given before the one that was refused.
-fn count_of(rt: &(impl Abort + Print), is_all: bool, all: u8, given: u8) -> u8 {
+fn count_of(rt: &(impl Abort + Print), (is_all, left): (bool, usize), all: usize) -> usize {
     if is_all {
-        assert!(rt; given == all);
+        assert!(rt; left == 0);
         return all;
     }
     say_refused(rt);
-    assert!(rt; 0 < given && given <= all);
-    given.wrapping_sub(1)
+    assert!(rt; left < all);
+    all.wrapping_sub(left).wrapping_sub(1)
 }
 
-// There are so many keys, from 1 on.
-fn assert_front(rt: &impl Abort, map: &Map, count: u8) {
-    assert!(rt; map.len() == count as usize);
+// The last key, if it is its own value.
+fn last_of(map: &Map) -> Option<u8> {
     match map.last_key_value() {
-        Some((key, value)) => assert!(rt; *key == count && *value == count),
-        None => assert!(rt; count == 0),
+        Some((key, value)) if *key == *value => Some(*key),
+        _ => None,
     }
 }
 
-fn assert_set_front(rt: &impl Abort, set: &Set, count: u8) {
-    assert!(rt; set.len() == count as usize);
-    match set.last() {
-        Some(last) => assert!(rt; *last == count),
-        None => assert!(rt; count == 0),
-    }
+// There are so many keys, of which this is the last: they are from 1 on.
+fn assert_front(rt: &impl Abort, len: usize, last: Option<u8>, count: usize) {
+    assert!(rt; len == count);
+    assert!(rt; usize::from(last.unwrap_or(0)) == count);
 }
 
 #[test]
 fn pairs(rt: HostRuntime) {
     for is_copied in [false, true] {
-        let given = Cell::new(0u8);
         let mut map = Map::with_prefix_len(rt.alloc());
-        let (is_all, all) = if is_copied {
-            (extend_copied(&mut map, &given), 18)
+        let (ran, all) = if is_copied {
+            (extend_copied(&mut map), 18)
         } else {
-            (extend(&mut map, &given), 60)
+            (extend(&mut map), 60)
         };
-        assert_front(&rt, &map, count_of(&rt, is_all, all, given.get()));
+        let (len, last) = (map.len(), last_of(&map));
         drop(map);
+        assert_front(&rt, len, last, count_of(&rt, ran, all));
     }
 }
 
 #[test]
 fn elements(rt: HostRuntime) {
     for is_copied in [false, true] {
-        let given = Cell::new(0u8);
         let mut set = Set::with_prefix_len(rt.alloc());
-        let is_all = if is_copied {
-            extend_set_copied(&mut set, &given)
+        let ran = if is_copied {
+            extend_set_copied(&mut set)
         } else {
-            extend_set(&mut set, &given)
+            extend_set(&mut set)
         };
-        assert_set_front(&rt, &set, count_of(&rt, is_all, 18, given.get()));
+        let (len, last) = (set.len(), set.last().copied());
         drop(set);
+        assert_front(&rt, len, last, count_of(&rt, ran, 18));
     }
 }

@@ -10,8 +10,9 @@ fn zero_ended_keys(rt: HostRuntime) {
         assert!(rt; matches!(inner_zero, Err(ZKeyError::InnerZero)));
         match ZKey::from_bytes(rt.alloc(), text) {
             Ok(key) => {
-                assert!(rt; key.to_bytes() == text);
-                assert!(rt; key.as_bytes().last() == Some(&0));
+                let is_right = key.to_bytes() == text && key.as_bytes().last() == Some(&0);
+                drop(key);
+                assert!(rt; is_right);
             }
             Err(refused) => {
                 say_refused(&rt);

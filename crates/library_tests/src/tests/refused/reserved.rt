@@ -23,6 +23,7 @@ fn fill(rt: &(impl Abort + Print), map: &mut Map) -> usize {
         say_refused(rt);
         return 0;
     };
+    let mut is_well = true;
     for (is_tried, place, old, left) in CALLS {
         let key = KEYS[place % KEYS.len()];
         assert!(rt; room.left() > 0);
@@ -31,10 +32,10 @@ fn fill(rt: &(impl Abort + Print), map: &mut Map) -> usize {
         } else {
             Ok(room.insert(key, place))
         };
-        assert!(rt; got == Ok(old));
-        assert!(rt; room.left() == left);
+        is_well = is_well && got == Ok(old) && room.left() == left;
     }
     drop(room);
+    assert!(rt; is_well);
     5
 }
 
@@ -46,7 +47,7 @@ fn fill_beside(rt: &(impl Abort + Print), map: &mut Map) {
     }
     let count = fill(rt, map);
     assert!(rt; map.len() == count.wrapping_add(1));
-    assert!(rt; map.get(&[4u8, 4]) == Some(&7));
+    assert!(rt; matches!(map.get(&[4u8, 4]), Some(7)));
 }
 
 #[test]
@@ -62,12 +63,13 @@ fn fill_set(rt: &(impl Abort + Print), set: &mut TreeSet<u8, 2>) -> usize {
         say_refused(rt);
         return 0;
     };
-    assert!(rt; room.insert(3));
-    assert!(rt; !room.insert(3));
-    assert!(rt; matches!(room.try_insert(3), Ok(false)));
-    assert!(rt; room.insert(1));
-    assert!(rt; room.left() == 0);
+    let (is_new, is_new_again) = (room.insert(3), room.insert(3));
+    let is_stored = matches!(room.try_insert(3), Ok(false));
+    let is_other_new = room.insert(1);
+    let left = room.left();
     drop(room);
+    assert!(rt; is_new && !is_new_again && is_stored);
+    assert!(rt; is_other_new && left == 0);
     2
 }
 
@@ -75,6 +77,7 @@ fn fill_set(rt: &(impl Abort + Print), set: &mut TreeSet<u8, 2>) -> usize {
 fn a_set_with_room_refuses_nothing(rt: HostRuntime) {
     let mut set = TreeSet::with_prefix_len(rt.alloc());
     let count = fill_set(&rt, &mut set);
-    assert!(rt; set.len() == count);
+    let len = set.len();
     drop(set);
+    assert!(rt; len == count);
 }

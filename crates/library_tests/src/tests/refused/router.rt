@@ -21,10 +21,11 @@ fn path(rt: &(impl Abort + AllocGlobal + Print), bytes: &[u8]) -> Vec<u8> {
 fn assert_mounted(rt: &impl Abort, mounts: &Mounts<usize>, count: usize) {
     assert!(rt; mounts.len() == count);
     for place in 0..PATHS.len() {
-        match mounts.resolve(PATHS[place].as_slice()) {
-            Some((_, target)) => assert!(rt; *target == place && place < count),
-            None => assert!(rt; place >= count),
-        }
+        let is_right = match mounts.resolve(PATHS[place].as_slice()) {
+            Some((_, target)) => *target == place && place < count,
+            None => place >= count,
+        };
+        assert!(rt; is_right);
     }
 }
 
@@ -71,7 +72,8 @@ fn mounts(rt: HostRuntime) {
 #[test]
 fn mounts_over(rt: HostRuntime) {
     let mut mounts = all_mounted(&rt, true);
-    assert!(rt; mounts.mount_over(path(&rt, b"/ap"), 7).is_ok());
-    assert!(rt; mounts.len() == 2);
+    let is_put = mounts.mount_over(path(&rt, b"/ap"), 7).is_ok();
+    let len = mounts.len();
     drop(mounts);
+    assert!(rt; is_put && len == 2);
 }
