@@ -20,8 +20,8 @@ fn maps_in_loops(rt: HostRuntime) {
     for (_, value) in &map {
         digits = digits.wrapping_mul(10).wrapping_add(*value);
     }
-    assert!(rt; digits == 102);
-    assert!(rt; digits_of(map.into_iter()) == 102);
+    let digits_then = digits_of(map.into_iter());
+    assert!(rt; digits == 102 && digits_then == 102);
 }
 
 // A pair under the key of no bytes, placed and taken back by its entry.
@@ -32,7 +32,8 @@ fn place_and_remove(rt: &impl Abort, map: &mut TreeMap<[u8; 0], usize, 16>) -> u
 #[test]
 fn the_only_key_of_its_type(rt: HostRuntime) {
     let mut map = TreeMap::<[u8; 0], usize, 16>::new(rt.alloc());
-    assert!(rt; place_and_remove(&rt, &mut map) == 0);
-    assert!(rt; map.is_empty());
+    let removed = place_and_remove(&rt, &mut map);
+    let is_empty = map.is_empty();
     drop(map);
+    assert!(rt; removed == 0 && is_empty);
 }

@@ -1,36 +1,35 @@
 //! Closures that count and write, and values that are lent.
 use super::{assert_values, map_of, put, raise};
-use blart_keys::I32Key;
 use blart_map::{TreeMap, bounds_in_order};
 use std::iter::{DoubleEndedIterator, Iterator};
 use std::ops::Bound;
 use std::process::Abort;
 
-// One step from each end; the closure adds 1 to the value, and picks each second pair that it is asked about. Answers how often it was asked.
-fn extract_by_count<const P: usize>(rt: &impl Abort, map: &mut TreeMap<u8, usize, P>) -> usize {
+// One step from each end; the closure adds 1 to the value, and picks each second pair that it is asked about. It is asked four times.
+fn extract_by_count<const P: usize>(rt: &impl Abort, map: &mut TreeMap<u8, usize, P>) {
     let mut asked = 0usize;
     let mut walk = map.extract_if(Bound::<&u8>::Unbounded, Bound::Unbounded, |_, value| {
         *value = value.wrapping_add(1);
         asked = asked.wrapping_add(1);
         asked % 2 == 0
     });
-    assert!(rt; walk.next() == Some((2, 2)));
-    assert!(rt; walk.next_back() == Some((5, 5)));
+    let (first, last) = (walk.next(), walk.next_back());
     drop(walk);
-    asked
+    assert!(rt; asked == 4);
+    assert!(rt; matches!(first, Some((2, 2))) && matches!(last, Some((5, 5))));
 }
 
 // The keys 1 to 6, each with its place as value: a kept value stays as the closure left it, and pairs that are not reached stay as they were.
 fn asks_once<const P: usize>(rt: &(impl Abort + AllocGlobal)) {
     let mut map: TreeMap<u8, usize, P> = map_of(rt, &[1, 2, 3, 4, 5, 6]);
-    assert!(rt; extract_by_count(rt, &mut map) == 4);
+    extract_by_count(rt, &mut map);
     assert_values(rt, &map, &[1, 2, 3, 6]);
     drop(map);
 }
 
 // Picks the even values, and doubles the others. Answers the sum of the values that came out, and how many did.
-fn extract_doubling<const P: usize>(map: &mut TreeMap<I32Key, usize, P>) -> (usize, usize) {
-    let walk = map.extract_if(Bound::<&I32Key>::Unbounded, Bound::Unbounded, |_, value| {
+fn extract_doubling<const P: usize>(map: &mut TreeMap<u8, usize, P>) -> (usize, usize) {
+    let walk = map.extract_if(Bound::<&u8>::Unbounded, Bound::Unbounded, |_, value| {
         let is_picked = *value % 2 == 0;
         if !is_picked {
             *value = value.wrapping_mul(2);
@@ -47,10 +46,7 @@ fn extract_doubling<const P: usize>(map: &mut TreeMap<I32Key, usize, P>) -> (usi
 
 // The numbers below 10, each with itself as value.
 fn doubles<const P: usize>(rt: &(impl Abort + AllocGlobal)) {
-    let mut map = TreeMap::<I32Key, usize, P>::with_prefix_len(rt.alloc());
-    for number in 0..10usize {
-        put(rt, &mut map, I32Key::new(number as i32), number);
-    }
+    let mut map: TreeMap<u8, usize, P> = map_of(rt, &[0, 1, 2, 3, 4, 5, 6, 7, 8, 9]);
     assert!(rt; extract_doubling(&mut map) == (20, 5));
     assert_values(rt, &map, &[2, 6, 10, 14, 18]);
     drop(map);
@@ -63,11 +59,13 @@ fn raise_between<const P: usize>(rt: &impl Abort, map: &mut Names<P>) {
     let (low, high) = ("B", "Cheryl");
     assert!(rt; bounds_in_order(Bound::Included(&low), Bound::Included(&high)));
     let mut walk = map.range_mut(Bound::Included(&low), Bound::Included(&high));
+    let mut was_zero = true;
     for _ in 0..3 {
-        assert!(rt; raise(walk.next(), 100) == Some(0));
+        was_zero = matches!(raise(walk.next(), 100), Some(0)) && was_zero;
     }
-    assert!(rt; walk.next().is_none());
+    let is_end = walk.next().is_none();
     drop(walk);
+    assert!(rt; was_zero && is_end);
 }
 
 // Doubles the values of the two names that begin with C.

@@ -46,16 +46,13 @@ fn key_of(drops: &Cell<usize>) -> Marked<'_> {
 
 // On stored bytes the key handed in is dropped by the call. A replacement gives the stored one to its caller.
 fn insert_again<'a>(rt: &impl Abort, map: &mut TreeMap<Marked<'a>, u8, 2>, drops: &'a Cell<usize>) {
-    assert!(rt; map.insert(key_of(drops), 1).is_ok());
-    assert!(rt; drops.get() == 0);
-    assert!(rt; map.insert(key_of(drops), 2).is_ok());
-    assert!(rt; drops.get() == 1);
-    assert!(rt; map.try_insert(key_of(drops), 3).is_ok());
-    assert!(rt; drops.get() == 2);
+    assert!(rt; map.insert(key_of(drops), 1).is_ok() && drops.get() == 0);
+    assert!(rt; map.insert(key_of(drops), 2).is_ok() && drops.get() == 1);
+    assert!(rt; map.try_insert(key_of(drops), 3).is_ok() && drops.get() == 2);
     let old = map.replace_entry(key_of(drops), 4);
-    assert!(rt; drops.get() == 2);
+    let before = drops.get();
     drop(old);
-    assert!(rt; drops.get() == 3);
+    assert!(rt; before == 2 && drops.get() == 3);
 }
 
 #[test]
@@ -63,7 +60,8 @@ fn keys_for_stored_bytes(rt: HostRuntime) {
     let drops = Cell::new(0usize);
     let mut map = TreeMap::with_prefix_len(rt.alloc());
     insert_again(&rt, &mut map, &drops);
-    assert!(rt; map.remove_prefix(&[7]) == 1);
-    assert!(rt; drops.get() == 4);
+    let removed = map.remove_prefix(&[7]);
+    let before = drops.get();
     drop(map);
+    assert!(rt; removed == 1 && before == 4);
 }

@@ -20,10 +20,12 @@ fn maps(rt: HostRuntime) {
         state.write_u8(key);
         state.write_usize(value);
     }
-    assert!(rt; digest_of(&map) == state.finish());
+    let digest = digest_of(&map);
     map.clear();
-    assert!(rt; digest_of(&map) == digest_of(&0usize));
+    let digest_of_none = digest_of(&map);
     drop(map);
+    assert!(rt; digest == state.finish());
+    assert!(rt; digest_of_none == digest_of(&0usize));
 }
 
 // Of sets the length, and then each element.
@@ -35,6 +37,7 @@ fn sets(rt: HostRuntime) {
     for element in [1, 2, 3] {
         state.write_u8(element);
     }
-    assert!(rt; digest_of(&set) == state.finish());
+    let digest = digest_of(&set);
     drop(set);
+    assert!(rt; digest == state.finish());
 }

@@ -83,7 +83,10 @@ fn zkey(rt: &(impl Abort + AllocGlobal), bytes: &[u8]) -> ZKey {
 
 // The key of these bytes gives them back, without the zero.
 fn assert_gives_back(rt: &(impl Abort + AllocGlobal), bytes: &[u8]) {
-    assert!(rt; *zkey(rt, bytes).to_bytes() == *bytes);
+    let key = zkey(rt, bytes);
+    let is_same = *key.to_bytes() == *bytes;
+    drop(key);
+    assert!(rt; is_same);
 }
 
 #[test]
@@ -92,7 +95,10 @@ fn zkeys(rt: HostRuntime) {
     assert_owners(&rt, (zkey(&rt, b"ab"), ab), (zkey(&rt, b"abc"), abc));
     assert_gives_back(&rt, b"ab");
     assert_gives_back(&rt, b"abc");
-    assert!(rt; *zkey(&rt, b"").as_bytes() == *b"\0".as_slice());
+    let empty = zkey(&rt, b"");
+    let is_zero = *empty.as_bytes() == *b"\0".as_slice();
+    drop(empty);
+    assert!(rt; is_zero);
     for bytes in [[1, 0, 2], [0, 1, 2], [1, 2, 0]] {
         let made = ZKey::from_bytes(rt.alloc(), &bytes);
         assert!(rt; made.err() == Some(ZKeyError::InnerZero));
@@ -101,7 +107,9 @@ fn zkeys(rt: HostRuntime) {
 
 fn assert_debug<T: Debug>(rt: &(impl Abort + AllocGlobal), value: &T, want: &str) {
     let text = format!(in rt.alloc(); "{value:?}").expect(rt, "memory");
-    assert!(rt; text.as_str() == want);
+    let is_wanted = text.as_str() == want;
+    drop(text);
+    assert!(rt; is_wanted);
 }
 
 #[test]
@@ -118,7 +126,9 @@ fn texts_by_debug(rt: HostRuntime) {
 
 fn assert_display<T: Display>(rt: &(impl Abort + AllocGlobal), value: &T, want: &str) {
     let text = format!(in rt.alloc(); "{value}").expect(rt, "memory");
-    assert!(rt; text.as_str() == want);
+    let is_wanted = text.as_str() == want;
+    drop(text);
+    assert!(rt; is_wanted);
 }
 
 #[test]

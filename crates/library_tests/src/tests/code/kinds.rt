@@ -1,6 +1,7 @@
 //! A node filled from 2 children to 256 and emptied again: its kind, what it keeps, and its edges in order after each step, and that there is no other node.
 ghost use Rattle.std.specs.Prelude.{◌<◌};
 
+use super::number_of;
 use art_kinds::{Child, Edge, Kind, NodeId, NodeRef, Nodes};
 use art_slots::{LeafId, Visits};
 use std::process::Abort;
@@ -23,14 +24,6 @@ fn number_below(byte: u8) -> usize
 // The leaf below a byte.
 fn leaf_below(byte: u8) -> Child {
     Child::Leaf(LeafId::new(number_below(byte)))
-}
-
-// The number of a leaf.
-fn number_of(rt: &impl Abort, child: Child) -> usize {
-    match child {
-        Child::Leaf(id) => id.number(),
-        Child::Inner(_) => panic!(rt; "the edge leads to a node"),
-    }
 }
 
 // The edges are those of the table: each is found, and they follow one another.
@@ -62,13 +55,11 @@ fn assert_node(rt: &impl Abort, nodes: &Nodes<2>, id: NodeId, count: usize, tabl
         17..=48 => Kind::FortyEight,
         _ => Kind::Full,
     };
-    assert!(rt; id.kind() == kind);
-    assert!(rt; nodes.live() == 1);
+    assert!(rt; id.kind() == kind && nodes.live() == 1);
     assert!(rt; nodes.has(id));
     let node = nodes.read(id, &mut Visits::new());
-    assert!(rt; node.depth() == 9);
+    assert!(rt; node.depth() == 9 && node.count() == count);
     assert!(rt; node.prefix() == [5, 6].as_slice());
-    assert!(rt; node.count() == count);
     assert_edges(rt, &node, table);
 }
 

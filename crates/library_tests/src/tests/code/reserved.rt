@@ -5,18 +5,21 @@ use std::process::Abort;
 
 // Fills a map of words, of which one conflicts.
 fn fill_words(rt: &(impl Abort + AllocGlobal), map: &mut TreeMap<Vec<u8>, usize, 2>) {
+    let (car, cars) = (vector(rt, b"car"), vector(rt, b"cars"));
     let mut room = map.reserve(2).expect(rt, "memory");
-    assert!(rt; matches!(room.try_insert(vector(rt, b"car"), 1), Ok(None)));
-    assert!(rt; room.left() == 1);
-    assert!(rt; room.try_insert(vector(rt, b"cars"), 2).is_err());
-    assert!(rt; room.left() == 1);
+    let is_new = matches!(room.try_insert(car, 1), Ok(None));
+    let left = room.left();
+    let is_refused = room.try_insert(cars, 2).is_err();
+    let left_then = room.left();
     drop(room);
+    assert!(rt; is_new && left == 1 && is_refused && left_then == 1);
 }
 
 #[test]
 fn a_conflict_leaves_the_room(rt: HostRuntime) {
     let mut map = TreeMap::with_prefix_len(rt.alloc());
     fill_words(&rt, &mut map);
-    assert!(rt; map.len() == 1);
+    let len = map.len();
     drop(map);
+    assert!(rt; len == 1);
 }

@@ -13,6 +13,14 @@ fn zeros(rt: &(impl Abort + AllocGlobal), count: usize, last: u8) -> Vec<u8> {
     key
 }
 
+// The value of a pair, or a number that is no value where there is none.
+fn value_of(pair: Option<(&Vec<u8>, &usize)>) -> usize {
+    match pair {
+        Some((_, value)) => *value,
+        None => 1000,
+    }
+}
+
 // The map has so many pairs and inner nodes, and its ends are the keys of these numbers.
 fn assert_size<const P: usize>(
     rt: &impl Abort,
@@ -21,10 +29,10 @@ fn assert_size<const P: usize>(
     nodes: usize,
     ends: (usize, usize),
 ) {
-    assert!(rt; map.len() == len);
-    assert!(rt; map.inner_nodes() == nodes);
-    assert!(rt; matches!(map.first_key_value(), Some((_, first)) if *first == ends.0));
-    assert!(rt; matches!(map.last_key_value(), Some((_, last)) if *last == ends.1));
+    let first = value_of(map.first_key_value());
+    let last = value_of(map.last_key_value());
+    assert!(rt; map.len() == len && map.inner_nodes() == nodes);
+    assert!(rt; first == ends.0 && last == ends.1);
 }
 
 // For each number below 1,000 a key of so many zeros and then 1, so that each inner node has one below it.
@@ -41,13 +49,19 @@ fn chain<const P: usize>(rt: &(impl Abort + AllocGlobal)) -> Map<P> {
 fn assert_below<const P: usize>(rt: &impl Abort, map: &Map<P>) {
     let front = [0u8; 500];
     let mut walk = map.prefix(&front);
+    let mut is_right = true;
     for step in 0..500usize {
         let want = 999usize.wrapping_sub(step);
-        assert!(rt;
-            matches!(walk.next(), Some((key, number)) if key.len() == want.wrapping_add(1) && *number == want)
-        );
+        is_right = match walk.next() {
+            Some((key, number)) => {
+                is_right && key.len() == want.wrapping_add(1) && *number == want
+            }
+            None => false,
+        };
     }
-    assert!(rt; walk.next_back().is_none());
+    let is_end = walk.next_back().is_none();
+    drop(walk);
+    assert!(rt; is_right && is_end);
 }
 
 // The chain is thinned, and a zero takes the place of all that it begins.

@@ -42,11 +42,11 @@ fn of_tag(tag: u8) -> Tagged {
 
 // The map has one pair, with this tag and this value.
 fn assert_only(rt: &impl Abort, map: &Tags, tag: u8, value: u8) {
-    assert!(rt; map.len() == 1);
-    match map.first_key_value() {
-        Some((key, stored)) => assert!(rt; key.tag == tag && *stored == value),
-        None => panic!(rt; "there is a pair"),
-    }
+    let is_first = match map.first_key_value() {
+        Some((key, stored)) => key.tag == tag && *stored == value,
+        None => false,
+    };
+    assert!(rt; is_first && map.len() == 1);
 }
 
 // The key of an entry at stored bytes is the stored key, and an entry keeps it.
@@ -54,9 +54,10 @@ fn assert_only(rt: &impl Abort, map: &Tags, tag: u8, value: u8) {
 fn by_entries(rt: HostRuntime) {
     let mut map = Tags::with_prefix_len(rt.alloc());
     super::put(&rt, &mut map, of_tag(1), 10);
-    assert!(rt; map.entry(of_tag(2)).key().tag == 1);
-    assert!(rt; map.prefix_entry(of_tag(3)).key().tag == 1);
-    assert!(rt; map.prefix_entry(of_tag(4)).insert_entry(20).is_ok());
+    let of_entry = map.entry(of_tag(2)).key().tag;
+    let of_prefix_entry = map.prefix_entry(of_tag(3)).key().tag;
+    let is_put = map.prefix_entry(of_tag(4)).insert_entry(20).is_ok();
     assert_only(&rt, &map, 1, 20);
     drop(map);
+    assert!(rt; of_entry == 1 && of_prefix_entry == 1 && is_put);
 }
