@@ -118,11 +118,14 @@ fn assert_outcome(
     written: &[u8],
 ) {
     let got = run_over(rt, text, ends);
-    let marks = (ended == Err(RunError::Read), ended == Err(RunError::Write));
-    assert!(rt; got.result == ended);
-    assert!(rt; got.marks == marks);
-    assert!(rt; *got.written.as_slice() == *written);
+    let marks = (
+        matches!(ended, Err(RunError::Read)),
+        matches!(ended, Err(RunError::Write)),
+    );
+    let is_ended = got.result == ended && got.marks == marks;
+    let is_written = *got.written.as_slice() == *written;
     drop(got);
+    assert!(rt; is_ended && is_written);
 }
 
 // Adds some bytes to a text, so many times.
@@ -178,8 +181,8 @@ fn texts_of_errors(rt: HostRuntime) {
         (RunError::Memory, "out of memory", "artmap: out of memory"),
     ] {
         let own = error.to_string(rt.alloc()).expect(&rt, "memory");
-        assert!(rt; own.as_str() == text);
+        let is_own = own.as_str() == text;
         drop(own);
-        assert!(rt; fault_line(error) == line);
+        assert!(rt; is_own && fault_line(error) == line);
     }
 }
