@@ -28,7 +28,7 @@ fn set_of<K: NoPrefixesBytes + Copy, const N: usize>(
 }
 
 // Why an example ended before its last line.
-#[derive(Debug, Drop)]
+#[derive(Clone, Copy)]
 enum Fail {
     Memory,
     Conflict,
@@ -52,5 +52,12 @@ impl From<TryInsertError> for Fail {
             TryInsertError::Prefix(_) => Fail::Conflict,
             TryInsertError::Memory(_) => Fail::Memory,
         }
+    }
+}
+
+// The examples came to their last lines.
+fn assert_ended(rt: &impl Abort, ran: &[Result<(), Fail>]) {
+    for result in ran {
+        assert!(rt; result.is_ok());
     }
 }

@@ -1,18 +1,18 @@
 //! Calls as values, and refused insertions.
-use super::Map;
+use super::{Fail, Map, assert_ended};
 use blart_map::{Call, InsertPrefixError, Reply, TreeMap, TryInsertError, drive};
 use std::alloc::{AllocError, Global};
 use std::process::Abort;
 
 // The example of `blart_keys::InsertPrefixError`.
-fn insert_prefix_error(rt: &impl Abort, map: &mut Map<'_>) -> Result<(), TryInsertError> {
+fn insert_prefix_error(rt: &impl Abort, map: &mut Map<'_>) -> Result<(), Fail> {
     map.try_insert("cat", 1)?;
     assert!(rt; map.try_entry("ca").err() == Some(InsertPrefixError));
     Ok(())
 }
 
 // The example of `blart_keys::TryInsertError`.
-fn try_insert_error(rt: &impl Abort, map: &mut Map<'_>) -> Result<(), TryInsertError> {
+fn try_insert_error(rt: &impl Abort, map: &mut Map<'_>) -> Result<(), Fail> {
     map.try_insert("cat", 1)?;
     let refused = map.try_insert("ca", 2);
     assert!(rt; matches!(refused, Err(TryInsertError::Prefix(_))));
@@ -43,8 +43,11 @@ fn call(rt: &impl Abort, alloc: Global) -> Result<(), AllocError> {
 #[test]
 fn as_shown(rt: HostRuntime) {
     let mut map = Map::new(rt.alloc());
-    insert_prefix_error(&rt, &mut map).expect(&rt, "memory");
-    try_insert_error(&rt, &mut map).expect(&rt, "memory");
+    let ran = [
+        insert_prefix_error(&rt, &mut map),
+        try_insert_error(&rt, &mut map),
+    ];
     drop(map);
+    assert_ended(&rt, &ran);
     call(&rt, rt.alloc()).expect(&rt, "memory");
 }

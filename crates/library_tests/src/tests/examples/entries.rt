@@ -1,5 +1,5 @@
 //! Entries of a map.
-use super::{Fail, Map};
+use super::{Fail, Map, assert_ended};
 use blart_map::Entry;
 use std::process::Abort;
 
@@ -34,8 +34,11 @@ fn vacant_entry(rt: &impl Abort, map: &mut Map<'_>) -> Result<(), Fail> {
 #[test]
 fn as_shown(rt: HostRuntime) {
     let mut map = Map::new(rt.alloc());
-    entry(&rt, &mut map).expect(&rt, "memory");
-    occupied_entry(&rt, &mut map).expect(&rt, "memory");
-    vacant_entry(&rt, &mut map).expect(&rt, "memory");
+    let ran = [
+        entry(&rt, &mut map),
+        occupied_entry(&rt, &mut map),
+        vacant_entry(&rt, &mut map),
+    ];
     drop(map);
+    assert_ended(&rt, &ran);
 }

@@ -82,6 +82,7 @@ fn no_prefixes_bytes(
 #[test]
 fn no_prefixes_bytes_as_shown(rt: HostRuntime) {
     let mut map = TreeMap::new(rt.alloc());
-    no_prefixes_bytes(&rt, &mut map).expect(&rt, "memory");
+    let ran = no_prefixes_bytes(&rt, &mut map);
     drop(map);
+    ran.expect(&rt, "memory");
 }

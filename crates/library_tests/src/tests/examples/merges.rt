@@ -16,6 +16,7 @@ fn union(rt: &impl Abort, left: &Set, right: &Set) {
     assert!(rt; merged.next() == Some(&2));
     assert!(rt; merged.next() == Some(&3));
     assert!(rt; merged.next() == None);
+    drop(merged);
 }
 
 // The example of `blart_set::Intersection`.
@@ -24,6 +25,7 @@ fn intersection(rt: &impl Abort, left: &Set, right: &Set) {
     let mut merged = left.intersection(&right);
     assert!(rt; merged.next() == Some(&2));
     assert!(rt; merged.next() == None);
+    drop(merged);
 }
 
 // The example of `blart_set::Difference`.
@@ -32,6 +34,7 @@ fn difference(rt: &impl Abort, left: &Set, right: &Set) {
     let mut merged = left.difference(&right);
     assert!(rt; merged.next() == Some(&1));
     assert!(rt; merged.next() == None);
+    drop(merged);
 }
 
 // The example of `blart_set::SymmetricDifference`.
@@ -41,6 +44,7 @@ fn symmetric_difference(rt: &impl Abort, left: &Set, right: &Set) {
     assert!(rt; merged.next() == Some(&1));
     assert!(rt; merged.next() == Some(&3));
     assert!(rt; merged.next() == None);
+    drop(merged);
 }
 
 #[test]

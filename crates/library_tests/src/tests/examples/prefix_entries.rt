@@ -1,7 +1,6 @@
 //! Prefix entries.
-use super::{Fail, Map};
+use super::{Fail, Map, assert_ended};
 use blart_map::{PrefixEntry, PrefixKind, TreeMap};
-use std::alloc::AllocError;
 use std::process::Abort;
 
 // A map of words.
@@ -30,7 +29,7 @@ fn prefix_entry(rt: &impl Abort, map: &mut Map<'_>) -> Result<(), Fail> {
 }
 
 // The example of `blart_map::PrefixKind`.
-fn prefix_kind(rt: &impl Abort, map: &mut Map<'_>) -> Result<(), AllocError> {
+fn prefix_kind(rt: &impl Abort, map: &mut Map<'_>) -> Result<(), Fail> {
     match map.prefix_entry("cat").kind() {
         PrefixKind::Leaf(entry) => *entry.into_mut() = 1,
         PrefixKind::Inner(entry) => *entry.insert(0) = 2,
@@ -67,7 +66,7 @@ fn as_shown(rt: HostRuntime) {
     inner_occupied_entry(&rt, words(&rt, &["car", "cat"]));
     prefix_occupied(&rt, words(&rt, &["car"]));
     let mut map = Map::new(rt.alloc());
-    prefix_kind(&rt, &mut map).expect(&rt, "memory");
-    prefix_entry(&rt, &mut map).expect(&rt, "memory");
+    let ran = [prefix_kind(&rt, &mut map), prefix_entry(&rt, &mut map)];
     drop(map);
+    assert_ended(&rt, &ran);
 }

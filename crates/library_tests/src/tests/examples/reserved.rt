@@ -29,9 +29,10 @@ fn of_set(rt: &impl Abort, set: &mut TreeSet<u8, 16>) -> Result<(), AllocError> 
 #[test]
 fn as_shown(rt: HostRuntime) {
     let mut map = TreeMap::new(rt.alloc());
-    of_map(&rt, &mut map).expect(&rt, "memory");
+    let of_map = of_map(&rt, &mut map);
     drop(map);
     let mut set = TreeSet::new(rt.alloc());
-    of_set(&rt, &mut set).expect(&rt, "memory");
+    let of_set = of_set(&rt, &mut set);
     drop(set);
+    assert!(rt; of_map.is_ok() && of_set.is_ok());
 }

@@ -22,6 +22,7 @@ fn iter(rt: &impl Abort, set: &TreeSet<u8, 16>) {
     let mut elements = set.iter();
     assert!(rt; elements.len() == 2);
     assert!(rt; elements.next_back() == Some(&2));
+    drop(elements);
 }
 
 // The example of `blart_set::Range`.
@@ -31,6 +32,7 @@ fn range(rt: &impl Abort, set: &TreeSet<u8, 16>) {
     assert!(rt; elements.next() == Some(&2));
     assert!(rt; elements.next_back() == Some(&3));
     assert!(rt; elements.next() == None);
+    drop(elements);
 }
 
 // The example of `blart_set::Prefix`.
@@ -39,6 +41,7 @@ fn prefix(rt: &impl Abort, set: &TreeSet<[u8; 2], 16>) {
     let mut elements = set.prefix(&[3]);
     assert!(rt; elements.next() == Some(&[3, 4]));
     assert!(rt; elements.next() == None);
+    drop(elements);
 }
 
 // The example of `blart_set::IntoIter`.
@@ -63,8 +66,9 @@ fn extract_if(rt: &impl Abort, set: &mut TreeSet<u8, 16>) {
 #[test]
 fn a_set_as_shown(rt: HostRuntime) {
     let mut set = TreeSet::new(rt.alloc());
-    tree_set(&rt, &mut set).expect(&rt, "memory");
+    let ran = tree_set(&rt, &mut set);
     drop(set);
+    ran.expect(&rt, "memory");
 }
 
 #[test]
