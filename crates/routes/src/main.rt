@@ -3,6 +3,7 @@
 
 use anyhow::Context;
 use prefix_router::Mounts;
+use std::io::{BufRead, BufReader};
 use std::iter::Iterator;
 use std::{env, fs};
 
@@ -47,7 +48,7 @@ fn mount(rt: &impl AllocGlobal, table: &mut Table, line: &str) -> anyhow::Result
 
 // Answers each line of standard input.
 fn answer(rt: &HostRuntime, table: &Table) -> anyhow::Result<()> {
-    for line in rt.lines(rt.alloc()) {
+    for line in BufReader::new(rt.alloc(), rt.reader())?.lines(rt.alloc()) {
         route(rt, table, &line?)?;
     }
     Ok(())
