@@ -1,7 +1,7 @@
 //! The same script over maps of several lengths of kept prefixes.
 use crate::failure::Failure;
 use crate::session::answers;
-use crate::words::{Answered, Shown, Text};
+use crate::words::{Shown, Text};
 use std::alloc::Global;
 use std::iter::Iterator;
 
@@ -37,36 +37,24 @@ fn compare<const PREFIX_LEN: usize>(
         return Ok(());
     }
     let mut text = Text::new(alloc);
-    let shown = show_difference(PREFIX_LEN, script, expected, got.as_slice(), &mut text);
+    show_difference(PREFIX_LEN, script, expected, got.as_slice(), &mut text);
     drop(got);
-    match shown {
-        Ok(()) => Err(Failure::Differs(text)),
-        Err(refused) => {
-            drop(text);
-            Err(Failure::from(refused))
-        }
-    }
+    Err(Failure::Differs(text))
 }
 
 // Adds the length and the first line of the script whose answers differ, and these.
-fn show_difference(
-    length: usize,
-    script: &[u8],
-    expected: &[u8],
-    got: &[u8],
-    text: &mut Text,
-) -> Answered {
+fn show_difference(length: usize, script: &[u8], expected: &[u8], got: &[u8], text: &mut Text) {
     let number = same_lines(expected, got);
-    text.push(b"at PREFIX_LEN 0 and ")?;
-    length.show(text)?;
-    text.push(b" line ")?;
-    number.saturating_add(1).show(text)?;
-    text.push(b": ")?;
-    text.push(line_at(script, number))?;
-    text.push(b" answers ")?;
-    text.push(line_at(expected, number))?;
-    text.push(b" and ")?;
-    text.push(line_at(got, number))
+    text.push(b"at PREFIX_LEN 0 and ");
+    length.show(text);
+    text.push(b" line ");
+    number.saturating_add(1).show(text);
+    text.push(b": ");
+    text.push(line_at(script, number));
+    text.push(b" answers ");
+    text.push(line_at(expected, number));
+    text.push(b" and ");
+    text.push(line_at(got, number));
 }
 
 // How many lines stand before the first byte that differs.

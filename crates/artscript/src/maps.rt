@@ -7,7 +7,6 @@ mod comparisons;
 mod drives;
 mod inserts;
 mod lending;
-mod listing;
 mod look_ups;
 mod owning;
 mod picking;

@@ -3,9 +3,9 @@
 //! [`answers`] answers a whole script. A [`Session`] has the maps and the sets that calls are of, and answers line after line.
 mod counted;
 mod mounts;
-mod parts;
+pub(crate) mod parts;
 
-use crate::words::{Answered, Text, Unanswered};
+use crate::words::{Text, Unanswered};
 pub(crate) use parts::Session;
 use std::alloc::Global;
 use std::cell::Cell;
@@ -19,11 +19,14 @@ pub(crate) fn answers<const PREFIX_LEN: usize>(
     let drops = Cell::new(0u64);
     let mut session = Session::<PREFIX_LEN>::new(alloc);
     let mut text = Text::new(alloc);
-    let answered = reply_all(&mut session, &drops, script, &mut text);
+    reply_all(&mut session, &drops, script, &mut text);
     drop(session);
-    match answered {
+    match text.is_whole() {
         Ok(()) => Ok(text),
-        Err(refused) => Err(refused),
+        Err(refused) => {
+            drop(text);
+            Err(refused)
+        }
     }
 }
 
@@ -33,16 +36,15 @@ fn reply_all<'a, const PREFIX_LEN: usize>(
     drops: &'a Cell<u64>,
     script: &[u8],
     text: &mut Text,
-) -> Answered {
+) {
     if script.is_empty() {
-        return Ok(());
+        return;
     }
     let lines = script.strip_suffix(b"\n").unwrap_or(script);
     for line in lines.split(|byte| *byte == b'\n') {
-        reply(session, drops, line, text)?;
-        text.push(b"\n")?;
+        reply(session, drops, line, text);
+        text.push(b"\n");
     }
-    Ok(())
 }
 
 // Adds what stands for the line: itself, its answer or a question mark.
@@ -51,9 +53,9 @@ fn reply<'a, const PREFIX_LEN: usize>(
     drops: &'a Cell<u64>,
     line: &[u8],
     text: &mut Text,
-) -> Answered {
+) {
     if line.is_empty() || line.starts_with(b"#") {
         return text.push(line);
     }
-    session.answer(drops, line, text)
+    session.answer(drops, line, text);
 }

@@ -5,7 +5,6 @@ mod bulk;
 mod calls;
 mod comparisons;
 mod counting;
-mod listing;
 mod look_ups;
 mod operators;
 mod picking;

@@ -36,4 +36,4 @@ pub use set_names::SetName;
 pub use tagged::Tagged;
 pub use text::{Shown, Text, show_bytes, show_debug};
 pub use values::{have_one_digest, length_of, raise, raised, value_of, written};
-pub use walks::{Left, Lending, show_item, show_items, show_lending, show_walk};
+pub use walks::{Lending, show_item, show_items, show_lending, show_walk};

@@ -5,6 +5,5 @@
 
 mod mounts;
 
-pub use blart::map::{Prefix, Visits};
-pub use blart::{InsertPrefixError, TryInsertError};
+pub use blart_map::{InsertPrefixError, Prefix, TryInsertError, Visits};
 pub use mounts::Mounts;

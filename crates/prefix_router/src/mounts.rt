@@ -1,9 +1,14 @@
 //! The table, on the public calls of the map.
 ghost use Rattle.std.specs.Prelude.{◌≡◌, ◌≤◌, ◌+◌, ◌&&◌, ℕ, List, [], true, false, length, is_some, OnOk, IfOk, OnErr, IfErr, None, Some, if◌then◌else◌};
-ghost use Rattle.blart.specs.Words.{pairs, begins, pair_at_front, value_at, has, kept, overlaps, shown, bytes, under, vec_bytes, IsContent, CanCount, Updates, Overwrites, Refuses, OverlapsToo, spared_item};
+ghost use Rattle.blart_keys.specs.Bytes.{begins};
+ghost use Rattle.blart_keys.specs.Content.{under, IsContent};
+ghost use Rattle.blart_keys.specs.KeyBytes.{vec_bytes};
+ghost use Rattle.blart_keys.specs.Routed.{spared_item, OverlapsToo};
+ghost use Rattle.blart_keys.specs.Steps.{bytes};
+ghost use Rattle.blart_keys.specs.Stored.{pair_at_front, value_at, has, kept, overlaps, shown, CanCount, Updates, Overwrites, Refuses};
+ghost use Rattle.blart_map.specs.Content.{pairs};
 
-use blart::map::{DEFAULT_PREFIX_LEN, Prefix, Visits};
-use blart::{TreeMap, TryInsertError};
+use blart_map::{DEFAULT_PREFIX_LEN, Prefix, TreeMap, TryInsertError, Visits};
 use std::alloc::{AllocError, Global};
 use std::marker::Model;
 
@@ -25,7 +30,7 @@ pub struct Mounts<V> {
 impl<V> Model for Mounts<V> {
     ghost use Rattle.std.specs.Prelude.{ℕ, List, Vec};
     ghost use Rattle.std.specs.Global.{Global};
-    ghost use Rattle.blart.specs.Words.{Numbered};
+    ghost use Rattle.blart_map.specs.Content.{Numbered};
 
     ghost Value = { List (Numbered (Vec ℕ Global) V) };
 
@@ -34,7 +39,7 @@ impl<V> Model for Mounts<V> {
 
 impl<V> Mounts<V> {
     /// A table with no mounts. Takes no memory.
-    #[tactic(auto, unfolding(blart::specs::Words::pair_at_front))]
+    #[tactic(auto, unfolding(blart_keys::specs::Stored::pair_at_front))]
     pub fn new(alloc: Global) -> Self
         ensures empty { pairs result ≡ [] }
         ensures routes { (r : List ℕ) → pair_at_front vec_bytes (pairs result) r ≡ None }

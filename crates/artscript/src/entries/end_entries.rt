@@ -11,7 +11,17 @@ pub fn enter_end<K: AsBytes + Shown + Drop, const P: usize>(
     words: Words<'_>,
     text: &mut Text,
 ) -> Answered {
-    let call = EndCall::read(words)?;
+    show_end(map, is_first, EndCall::read(words)?, text);
+    Ok(())
+}
+
+// Adds what the call answers of the entry at an end, if there is a pair.
+fn show_end<K: AsBytes + Shown + Drop, const P: usize>(
+    map: &mut TreeMap<K, u64, P>,
+    is_first: bool,
+    call: EndCall,
+    text: &mut Text,
+) {
     let found = if is_first {
         map.first_entry()
     } else {
@@ -31,5 +41,5 @@ pub fn enter_end<K: AsBytes + Shown + Drop, const P: usize>(
             return Some(entry.remove_entry()).show(text);
         }
     };
-    Some(value).show(text)
+    Some(value).show(text);
 }

@@ -3,8 +3,8 @@
 //! An entry is made and used in one function, which ends its loan of the map.
 use crate::entries::by_key::MapOf;
 use crate::words::{
-    Answered, InnerCall, Left, OccupiedCall, PlaceCall, PrefixCall, RelatedCall, SetCall, Shown,
-    Text, Unanswered, VacantCall, ValueCall, Words, length_of, show_lending, show_walk, value_of,
+    Answered, InnerCall, OccupiedCall, PlaceCall, PrefixCall, RelatedCall, SetCall, Shown, Text,
+    Unanswered, VacantCall, ValueCall, Words, length_of, show_lending, show_walk, value_of,
     written,
 };
 use blart_map::{PrefixEntry, PrefixKind, PrefixOccupied, TreeMap};
@@ -36,6 +36,7 @@ pub fn enter_related<const P: usize>(
         PrefixCall::Inner(call) => show_inner(map, key, call, text),
         PrefixCall::Vacant(call) => show_vacant(map, key, call, text),
     }
+    Ok(())
 }
 
 // The word of the entry's kind, and a space.
@@ -48,9 +49,9 @@ fn kind_of<const P: usize>(entry: &PrefixEntry<'_, Vec<u8>, u64, P, BytesMap<P>>
 }
 
 // Adds the word of an entry's kind, and the value.
-fn show_after<T: Shown>(kind: &[u8], value: &T, text: &mut Text) -> Answered {
-    text.push(kind)?;
-    value.show(text)
+fn show_after<T: Shown>(kind: &[u8], value: &T, text: &mut Text) {
+    text.push(kind);
+    value.show(text);
 }
 
 // Adds the pair of an entry, or that there was no memory.
@@ -67,21 +68,15 @@ macro_rules! show_placed {
 }
 
 // Adds the entry's key, or the key of its pair, where it has one.
-fn show_key<const P: usize>(
-    map: &mut BytesMap<P>,
-    key: Vec<u8>,
-    is_found: bool,
-    text: &mut Text,
-) -> Answered {
+fn show_key<const P: usize>(map: &mut BytesMap<P>, key: Vec<u8>, is_found: bool, text: &mut Text) {
     let entry = map.prefix_entry(key);
     let kind = kind_of(&entry);
-    let answered = if is_found {
-        show_after(kind, &entry.get_key(), text)
+    if is_found {
+        show_after(kind, &entry.get_key(), text);
     } else {
-        show_after(kind, entry.key(), text)
-    };
+        show_after(kind, entry.key(), text);
+    }
     drop(entry);
-    answered
 }
 
 // Adds the value that the call lends.
@@ -90,7 +85,7 @@ fn show_value<const P: usize>(
     key: Vec<u8>,
     call: ValueCall,
     text: &mut Text,
-) -> Answered {
+) {
     let entry = map.prefix_entry(key);
     let kind = kind_of(&entry);
     let lent = match call {
@@ -108,7 +103,7 @@ fn show_place<const P: usize>(
     key: Vec<u8>,
     call: PlaceCall,
     text: &mut Text,
-) -> Answered {
+) {
     let entry = map.prefix_entry(key);
     let kind = kind_of(&entry);
     let answer = match call {
@@ -127,7 +122,7 @@ fn show_kind_value<const P: usize>(
     key: Vec<u8>,
     call: ValueCall,
     text: &mut Text,
-) -> Answered {
+) {
     let entry = map.prefix_entry(key);
     let kind = kind_of(&entry);
     let entry = entry.kind();
@@ -146,13 +141,13 @@ fn show_kind_place<const P: usize>(
     key: Vec<u8>,
     call: PlaceCall,
     text: &mut Text,
-) -> Answered {
+) {
     let entry = map.prefix_entry(key);
     let kind = kind_of(&entry);
     let answer = match call {
         PlaceCall::OrInsertEntry(value) => entry.kind().or_insert_entry(value),
         PlaceCall::InsertEntry(value) => entry.kind().insert_entry(value),
-        _ => return Err(Unanswered::NoCall),
+        _ => return text.stop(Unanswered::NoCall),
     };
     show_placed!(kind, answer, text)
 }
@@ -163,10 +158,10 @@ fn show_related<const P: usize>(
     key: Vec<u8>,
     call: RelatedCall,
     text: &mut Text,
-) -> Answered {
+) {
     let mut entry = map.prefix_entry(key);
     let kind = kind_of(&entry);
-    let answered = match &mut entry {
+    match &mut entry {
         PrefixEntry::Occupied(related) => match call {
             RelatedCall::Key => show_after(kind, related.key(), text),
             RelatedCall::Get => show_after(kind, &related.get(), text),
@@ -177,10 +172,9 @@ fn show_related<const P: usize>(
                 text,
             ),
         },
-        PrefixEntry::Vacant(_) => Err(Unanswered::NoCall),
-    };
+        PrefixEntry::Vacant(_) => text.stop(Unanswered::NoCall),
+    }
     drop(entry);
-    answered
 }
 
 // Puts a pair in the place of the related ones, and adds what the call answers.
@@ -189,8 +183,11 @@ fn set_related<const P: usize>(
     key: Vec<u8>,
     call: SetCall,
     text: &mut Text,
-) -> Answered {
-    let kind = kind_of(&map.prefix_entry(key.clone()?));
+) {
+    let Ok(copy) = key.clone() else {
+        return text.stop(Unanswered::Memory(AllocError));
+    };
+    let kind = kind_of(&map.prefix_entry(copy));
     match map.prefix_entry(key) {
         PrefixEntry::Occupied(related) => match call {
             SetCall::Insert(value) => show_after(kind, &*related.insert(value), text),
@@ -199,7 +196,7 @@ fn set_related<const P: usize>(
                 show_after(kind, &(place.key(), place.get()), text)
             }
         },
-        PrefixEntry::Vacant(_) => Err(Unanswered::NoCall),
+        PrefixEntry::Vacant(_) => text.stop(Unanswered::NoCall),
     }
 }
 
@@ -209,11 +206,11 @@ fn show_leaf<const P: usize>(
     key: Vec<u8>,
     call: OccupiedCall,
     text: &mut Text,
-) -> Answered {
+) {
     let entry = map.prefix_entry(key);
     let kind = kind_of(&entry);
     if !matches!(entry, PrefixEntry::Occupied(PrefixOccupied::Leaf(_))) {
-        return Err(Unanswered::NoCall);
+        return text.stop(Unanswered::NoCall);
     }
     match entry.or_insert_entry(0) {
         Ok(mut place) => {
@@ -227,7 +224,7 @@ fn show_leaf<const P: usize>(
             };
             show_after(kind, &value, text)
         }
-        Err(refused) => Err(Unanswered::Memory(refused)),
+        Err(refused) => text.stop(Unanswered::Memory(refused)),
     }
 }
 
@@ -237,11 +234,11 @@ fn show_inner<const P: usize>(
     key: Vec<u8>,
     call: InnerCall<'_>,
     text: &mut Text,
-) -> Answered {
+) {
     let entry = map.prefix_entry(key);
     let kind = kind_of(&entry);
     let PrefixKind::Inner(mut inner) = entry.kind() else {
-        return Err(Unanswered::NoCall);
+        return text.stop(Unanswered::NoCall);
     };
     match call {
         InnerCall::Key => show_after(kind, inner.key(), text),
@@ -261,12 +258,12 @@ fn show_inner<const P: usize>(
             None => show_after(kind, &None::<()>, text),
         },
         InnerCall::Iter(letters) => {
-            text.push(kind)?;
-            show_walk(inner.iter(), Left::Untold, letters, text)
+            text.push(kind);
+            show_walk(inner.iter(), letters, text);
         }
         InnerCall::IterMut(add, letters) => {
-            text.push(kind)?;
-            show_lending(inner.iter_mut(), add, letters, text)
+            text.push(kind);
+            show_lending(inner.iter_mut(), add, letters, text);
         }
     }
 }
@@ -277,7 +274,7 @@ fn show_vacant<const P: usize>(
     key: Vec<u8>,
     call: VacantCall,
     text: &mut Text,
-) -> Answered {
+) {
     let entry = map.prefix_entry(key);
     let kind = kind_of(&entry);
     match entry.kind() {
@@ -286,6 +283,6 @@ fn show_vacant<const P: usize>(
             VacantCall::Insert(value) => show_after(kind, &value_of(entry.insert(value)), text),
             VacantCall::InsertEntry(value) => show_placed!(kind, entry.insert_entry(value), text),
         },
-        _ => Err(Unanswered::NoCall),
+        _ => text.stop(Unanswered::NoCall),
     }
 }

@@ -11,9 +11,9 @@ use std::mem;
 
 impl<K: AsBytes + Drop, V: Drop, const PREFIX_LEN: usize> Maps<K, V, PREFIX_LEN> {
     /// Gives the pairs from the bytes on to the second map, in the place of its own.
-    pub(crate) fn split_off(&mut self, query: &Vec<u8>, text: &mut Text) -> Answered {
+    pub(crate) fn split_off(&mut self, query: &Vec<u8>, text: &mut Text) {
         let rest = self.first.split_off(query);
-        put(&mut self.second, rest, text)
+        put(&mut self.second, rest, text);
     }
 }
 
@@ -24,7 +24,8 @@ impl<K: AsBytes + Drop + Clone, const PREFIX_LEN: usize> Maps<K, u64, PREFIX_LEN
     {
         words.end()?;
         let copy = self.first.clone();
-        put(&mut self.second, copy, text)
+        put(&mut self.second, copy, text);
+        Ok(())
     }
 }
 
@@ -32,27 +33,31 @@ impl<K: ScriptKey + NoPrefixesBytes, const PREFIX_LEN: usize> Maps<K, u64, PREFI
     /// Moves the pairs of the second map to the first.
     pub(crate) fn append(&mut self, words: Words<'_>, text: &mut Text) -> Answered {
         words.end()?;
-        self.first.append(&mut self.second).show(text)
+        self.first.append(&mut self.second).show(text);
+        Ok(())
     }
 
     /// Inserts the pairs in turn.
     pub(crate) fn extend(&mut self, words: Words<'_>, text: &mut Text) -> Answered {
         let items: Vec<(K, u64)> = items_of(words)?;
-        self.first.extend(items.into_iter()).show(text)
+        self.first.extend(items.into_iter()).show(text);
+        Ok(())
     }
 
     /// Puts the map of the pairs in the place of the first.
     pub(crate) fn from_vec(&mut self, words: Words<'_>, text: &mut Text) -> Answered {
         let items: Vec<(K, u64)> = items_of(words)?;
         let made = TreeMap::from_vec(self.alloc, items);
-        put(&mut self.first, made, text)
+        put(&mut self.first, made, text);
+        Ok(())
     }
 
     /// Puts the map of the pairs in the place of the first.
     pub(crate) fn from_iter(&mut self, words: Words<'_>, text: &mut Text) -> Answered {
         let items: Vec<(K, u64)> = items_of(words)?;
         let made = TreeMap::from_iter(self.alloc, items.into_iter());
-        put(&mut self.first, made, text)
+        put(&mut self.first, made, text);
+        Ok(())
     }
 }
 
@@ -61,26 +66,26 @@ impl<K: FixedKey, const PREFIX_LEN: usize> Maps<K, u64, PREFIX_LEN> {
     pub(crate) fn extend_copied(&mut self, words: Words<'_>, text: &mut Text) -> Answered {
         let items: Vec<(K, u64)> = items_of(words)?;
         let lent = items.iter().map(|pair| (&pair.0, &pair.1));
-        let answered = self.first.extend_copied(lent).show(text);
+        self.first.extend_copied(lent).show(text);
         drop(items);
-        answered
+        Ok(())
     }
 
     /// Puts the map of the two pairs in the place of the first.
     pub(crate) fn from_array(&mut self, words: Words<'_>, text: &mut Text) -> Answered {
         let items: Vec<(K, u64)> = items_of(words)?;
-        let answered = self.put_two(items.as_slice(), text);
+        self.put_two(items.as_slice(), text);
         drop(items);
-        answered
+        Ok(())
     }
 
-    fn put_two(&mut self, items: &[(K, u64)], text: &mut Text) -> Answered {
+    fn put_two(&mut self, items: &[(K, u64)], text: &mut Text) {
         match items {
             [one, other] => {
                 let made = TreeMap::from_array(self.alloc, [*one, *other]);
-                put(&mut self.first, made, text)
+                put(&mut self.first, made, text);
             }
-            _ => Err(Unanswered::NoCall),
+            _ => text.stop(Unanswered::NoCall),
         }
     }
 }
@@ -90,7 +95,7 @@ fn put<K: AsBytes + Drop, V: Drop, const P: usize>(
     place: &mut TreeMap<K, V, P>,
     made: Result<TreeMap<K, V, P>, AllocError>,
     text: &mut Text,
-) -> Answered {
+) {
     match made {
         Ok(map) => {
             drop(mem::replace(place, map));

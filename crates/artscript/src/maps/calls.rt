@@ -63,7 +63,8 @@ impl<K: AsBytes + Shown + Drop, V: Shown + Drop, const PREFIX_LEN: usize> Maps<K
             MapName::Clear => self.first.clear(),
             _ => mem::swap(&mut self.first, &mut self.second),
         }
-        ().show(text)
+        ().show(text);
+        Ok(())
     }
 
     // The calls that take the pair at one end.
@@ -73,20 +74,21 @@ impl<K: AsBytes + Shown + Drop, V: Shown + Drop, const PREFIX_LEN: usize> Maps<K
             MapName::PopFirst => self.first.pop_first(),
             _ => self.first.pop_last(),
         };
-        popped.show(text)
+        popped.show(text);
+        Ok(())
     }
 
     // The calls that take the pair of some bytes, those below them, or those from them on.
     fn remove(&mut self, name: MapName, mut words: Words<'_>, text: &mut Text) -> Answered {
         let query = words.last_bytes()?;
-        let answered = match name {
+        match name {
             MapName::Remove => self.first.remove(&query).show(text),
             MapName::RemovePrefix => self.first.remove_prefix(&query).show(text),
             MapName::RemoveEntry => self.first.remove_entry(&query).show(text),
             _ => self.split_off(&query, text),
-        };
+        }
         drop(query);
-        answered
+        Ok(())
     }
 }
 
@@ -128,6 +130,7 @@ impl<K: ScriptKey, const PREFIX_LEN: usize> Maps<K, u64, PREFIX_LEN> {
             MapName::ReplaceEntry => self.first.replace_entry(key, value).show(text),
             _ => self.first.prefix_insert(key, value).show(text),
         }
+        Ok(())
     }
 }
 
@@ -135,16 +138,16 @@ impl<K: AsBytes + Shown + Drop, const PREFIX_LEN: usize> Maps<K, u64, PREFIX_LEN
     // The calls that lend a value to be written.
     fn write(&mut self, name: MapName, mut words: Words<'_>, text: &mut Text) -> Answered {
         let (query, value): (Vec<u8>, u64) = words.last_pair()?;
-        let answered = match name {
+        match name {
             MapName::GetMut => written(self.first.get_mut(&query), value).show(text),
             MapName::PrefixGetMut => written(self.first.prefix_get_mut(&query), value).show(text),
             _ => self.write_pair(&query, value, text),
-        };
+        }
         drop(query);
-        answered
+        Ok(())
     }
 
-    fn write_pair(&mut self, query: &Vec<u8>, value: u64, text: &mut Text) -> Answered {
+    fn write_pair(&mut self, query: &Vec<u8>, value: u64, text: &mut Text) {
         match self.first.prefix_get_key_value_mut(query) {
             Some(mut entry) => {
                 let old = entry.insert(value);

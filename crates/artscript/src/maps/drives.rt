@@ -9,21 +9,21 @@ impl<K: ScriptKey, const PREFIX_LEN: usize> Maps<K, u64, PREFIX_LEN> {
     pub(crate) fn drive(&mut self, words: Words<'_>, text: &mut Text) -> Answered {
         let calls = items_of(words)?;
         let replies = drive(&mut self.first, calls);
-        let answered = replies.show(text);
+        replies.show(text);
         drop(replies);
-        answered
+        Ok(())
     }
 }
 
 impl<K: Shown> Shown for Vec<Reply<K, u64>> {
-    fn show(&self, text: &mut Text) -> Answered {
-        text.push(b"[")?;
+    fn show(&self, text: &mut Text) {
+        text.push(b"[");
         let mut part: &[u8] = b"";
         for reply in self {
-            text.push(part)?;
-            reply.show(text)?;
+            text.push(part);
+            reply.show(text);
             part = b", ";
         }
-        text.push(b"]")
+        text.push(b"]");
     }
 }

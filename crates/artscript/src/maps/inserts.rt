@@ -35,11 +35,13 @@ impl<K: ScriptKey + NoPrefixesBytes, const PREFIX_LEN: usize> Maps<K, u64, PREFI
 
     fn insert(&mut self, mut words: Words<'_>, text: &mut Text) -> Answered {
         let (key, value) = words.last_pair()?;
-        self.first.insert(key, value).show(text)
+        self.first.insert(key, value).show(text);
+        Ok(())
     }
 
     fn get_or_insert(&mut self, mut words: Words<'_>, text: &mut Text) -> Answered {
         let (key, value) = words.last_pair()?;
-        value_of(self.first.get_or_insert(key, value)).show(text)
+        value_of(self.first.get_or_insert(key, value)).show(text);
+        Ok(())
     }
 }

@@ -5,8 +5,7 @@ ghost use Rattle.blart_map.specs.Content.{pairs};
 
 use crate::maps::calls::Maps;
 use crate::words::{
-    Answered, Lending, MapName, Shown, Text, Unanswered, Words, raise, raised, show_item,
-    show_lending,
+    Answered, Lending, MapName, Shown, Text, Words, raise, raised, show_item, show_lending,
 };
 use blart_keys::AsBytes;
 use blart_map::{IterMut, PrefixMut, RangeMut, SubtreeIterMut, ValuesMut};
@@ -26,6 +25,7 @@ impl<K: AsBytes + Shown + Drop, const PREFIX_LEN: usize> Maps<K, u64, PREFIX_LEN
             MapName::IterMut => show_lending(self.first.iter_mut(), add, letters, text),
             _ => show_lending(self.first.values_mut(), add, letters, text),
         }
+        Ok(())
     }
 
     /// Adds to the values of the pairs within two bounds, and adds the pairs.
@@ -41,7 +41,8 @@ impl<K: AsBytes + Shown + Drop, const PREFIX_LEN: usize> Maps<K, u64, PREFIX_LEN
     {
         let add = words.number()?;
         let letters = words.last_moves()?;
-        show_lending(self.first.range_mut(start, end), add, letters, text)
+        show_lending(self.first.range_mut(start, end), add, letters, text);
+        Ok(())
     }
 
     /// Adds to the values of the pairs below some bytes, and adds the pairs.
@@ -53,22 +54,23 @@ impl<K: AsBytes + Shown + Drop, const PREFIX_LEN: usize> Maps<K, u64, PREFIX_LEN
     ) -> Answered {
         let add = words.number()?;
         let letters = words.last_moves()?;
-        show_lending(self.first.prefix_mut(front), add, letters, text)
+        show_lending(self.first.prefix_mut(front), add, letters, text);
+        Ok(())
     }
 }
 
 impl<K: AsBytes + Shown + Drop, const PREFIX_LEN: usize> Lending
     for ValuesMut<'_, K, u64, PREFIX_LEN> {
-    fn front(&mut self, add: u64, part: &[u8], text: &mut Text) -> Result<bool, Unanswered> {
+    fn front(&mut self, add: u64, part: &[u8], text: &mut Text) -> bool {
         show_item(raised(self.next(), add), part, text)
     }
 
-    fn back(&mut self, add: u64, part: &[u8], text: &mut Text) -> Result<bool, Unanswered> {
+    fn back(&mut self, add: u64, part: &[u8], text: &mut Text) -> bool {
         show_item(raised(self.next_back(), add), part, text)
     }
 
-    fn left(&self) -> Option<usize> {
-        Some(self.len())
+    fn left(&self) -> usize {
+        self.len()
     }
 }
 
@@ -79,54 +81,54 @@ macro_rules! show_raised {
             let was = raise(value, $add);
             return show_item(Some(($walk.key(), was)), $part, $text);
         }
-        Ok(false)
+        false
     }};
 }
 
 impl<K: AsBytes + Shown + Drop, const PREFIX_LEN: usize> Lending
     for IterMut<'_, K, u64, PREFIX_LEN> {
-    fn front(&mut self, add: u64, part: &[u8], text: &mut Text) -> Result<bool, Unanswered> {
+    fn front(&mut self, add: u64, part: &[u8], text: &mut Text) -> bool {
         show_raised!(self, next, add, part, text)
     }
 
-    fn back(&mut self, add: u64, part: &[u8], text: &mut Text) -> Result<bool, Unanswered> {
+    fn back(&mut self, add: u64, part: &[u8], text: &mut Text) -> bool {
         show_raised!(self, next_back, add, part, text)
     }
 
-    fn left(&self) -> Option<usize> {
-        Some(self.len())
+    fn left(&self) -> usize {
+        self.len()
     }
 }
 
 impl<K: AsBytes + Shown + Drop, const PREFIX_LEN: usize> Lending
     for RangeMut<'_, K, u64, PREFIX_LEN> {
-    fn front(&mut self, add: u64, part: &[u8], text: &mut Text) -> Result<bool, Unanswered> {
+    fn front(&mut self, add: u64, part: &[u8], text: &mut Text) -> bool {
         show_raised!(self, next, add, part, text)
     }
 
-    fn back(&mut self, add: u64, part: &[u8], text: &mut Text) -> Result<bool, Unanswered> {
+    fn back(&mut self, add: u64, part: &[u8], text: &mut Text) -> bool {
         show_raised!(self, next_back, add, part, text)
     }
 }
 
 impl<K: AsBytes + Shown + Drop, const PREFIX_LEN: usize> Lending
     for PrefixMut<'_, K, u64, PREFIX_LEN> {
-    fn front(&mut self, add: u64, part: &[u8], text: &mut Text) -> Result<bool, Unanswered> {
+    fn front(&mut self, add: u64, part: &[u8], text: &mut Text) -> bool {
         show_raised!(self, next, add, part, text)
     }
 
-    fn back(&mut self, add: u64, part: &[u8], text: &mut Text) -> Result<bool, Unanswered> {
+    fn back(&mut self, add: u64, part: &[u8], text: &mut Text) -> bool {
         show_raised!(self, next_back, add, part, text)
     }
 }
 
 impl<K: AsBytes + Shown + Drop, const PREFIX_LEN: usize> Lending
     for SubtreeIterMut<'_, K, u64, PREFIX_LEN> {
-    fn front(&mut self, add: u64, part: &[u8], text: &mut Text) -> Result<bool, Unanswered> {
+    fn front(&mut self, add: u64, part: &[u8], text: &mut Text) -> bool {
         show_raised!(self, next, add, part, text)
     }
 
-    fn back(&mut self, add: u64, part: &[u8], text: &mut Text) -> Result<bool, Unanswered> {
+    fn back(&mut self, add: u64, part: &[u8], text: &mut Text) -> bool {
         show_raised!(self, next_back, add, part, text)
     }
 }

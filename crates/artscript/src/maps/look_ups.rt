@@ -5,7 +5,7 @@ ghost use Rattle.blart_map.specs.Content.{pairs};
 
 use crate::maps::calls::Maps;
 use crate::maps::within::show_order;
-use crate::words::{Answered, Left, MapName, Shown, Text, Unanswered, Words, show_walk};
+use crate::words::{Answered, MapName, Shown, Text, Unanswered, Words, show_walk};
 use blart_keys::AsBytes;
 use blart_map::Visits;
 use std::ops::Bound;
@@ -42,24 +42,24 @@ impl<K: AsBytes + Shown + Drop, V: Shown + Drop, const PREFIX_LEN: usize> Maps<K
             MapName::InnerNodes => self.first.inner_nodes().show(text),
             MapName::IsEmpty => self.first.is_empty().show(text),
             MapName::FirstKeyValue => self.first.first_key_value().show(text),
-            MapName::LastKeyValue => self.first.last_key_value().show(text),
-            _ => Err(Unanswered::NoCall),
+            _ => self.first.last_key_value().show(text),
         }
+        Ok(())
     }
 
     // The calls that look for some bytes.
     fn find(&self, name: MapName, mut words: Words<'_>, text: &mut Text) -> Answered {
         let query = words.last_bytes()?;
-        let answered = match name {
+        match name {
             MapName::Get => self.first.get(&query).show(text),
             MapName::PrefixGet => self.first.prefix_get(&query).show(text),
             MapName::ContainsKey => self.first.contains_key(&query).show(text),
             MapName::Conflicts => self.first.conflicts(&query).show(text),
             MapName::Index => self.index(&query, text),
             _ => self.find_pair(name, &query).show(text),
-        };
+        }
         drop(query);
-        answered
+        Ok(())
     }
 
     // The pair that a look-up finds.
@@ -76,22 +76,22 @@ impl<K: AsBytes + Shown + Drop, V: Shown + Drop, const PREFIX_LEN: usize> Maps<K
         }
     }
 
-    fn index(&self, query: &Vec<u8>, text: &mut Text) -> Answered {
+    fn index(&self, query: &Vec<u8>, text: &mut Text) {
         if !self.first.contains_key(query) {
-            return Err(Unanswered::NoCall);
+            return text.stop(Unanswered::NoCall);
         }
-        self.first[query].show(text)
+        self.first[query].show(text);
     }
 
     // The walks over all pairs.
     fn walk(&self, name: MapName, mut words: Words<'_>, text: &mut Text) -> Answered {
         let steps = words.last_steps()?;
         match name {
-            MapName::Iter => show_walk(self.first.iter(), Left::Told, steps, text),
-            MapName::Keys => show_walk(self.first.keys(), Left::Told, steps, text),
-            MapName::Values => show_walk(self.first.values(), Left::Told, steps, text),
-            _ => Err(Unanswered::NoCall),
+            MapName::Iter => show_walk(self.first.iter(), steps, text),
+            MapName::Keys => show_walk(self.first.keys(), steps, text),
+            _ => show_walk(self.first.values(), steps, text),
         }
+        Ok(())
     }
 
     /// The walks over the pairs within two bounds.
@@ -106,12 +106,13 @@ impl<K: AsBytes + Shown + Drop, V: Shown + Drop, const PREFIX_LEN: usize> Maps<K
         requires { CanRange (pairs self.now.first) (bound_bytes vec_bytes start)
             (bound_bytes vec_bytes end) }
     {
-        let steps = words.last_steps()?;
+        let steps = words.last_moves()?;
         let walk = match name {
             MapName::RangeCounted => self.first.range_counted(start, end, &mut Visits::new()),
             _ => self.first.range(start, end),
         };
-        show_walk(walk, Left::Untold, steps, text)
+        show_walk(walk, steps, text);
+        Ok(())
     }
 
     /// The walks over the pairs below some bytes.
@@ -122,11 +123,12 @@ impl<K: AsBytes + Shown + Drop, V: Shown + Drop, const PREFIX_LEN: usize> Maps<K
         mut words: Words<'_>,
         text: &mut Text,
     ) -> Answered {
-        let steps = words.last_steps()?;
+        let steps = words.last_moves()?;
         let walk = match name {
             MapName::PrefixCounted => self.first.prefix_counted(front, &mut Visits::new()),
             _ => self.first.prefix(front),
         };
-        show_walk(walk, Left::Untold, steps, text)
+        show_walk(walk, steps, text);
+        Ok(())
     }
 }

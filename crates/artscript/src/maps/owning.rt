@@ -1,6 +1,6 @@
 //! Walks that take the map apart.
 use crate::maps::calls::Maps;
-use crate::words::{Answered, Left, MapName, Shown, Text, Words, show_walk};
+use crate::words::{Answered, MapName, Shown, Text, Words, show_walk};
 use blart_keys::AsBytes;
 use blart_map::TreeMap;
 use std::iter::IntoIterator;
@@ -12,9 +12,10 @@ impl<K: AsBytes + Shown + Drop, V: Shown + Drop, const PREFIX_LEN: usize> Maps<K
         let letters = words.last_steps()?;
         let map = mem::replace(&mut self.first, TreeMap::with_prefix_len(self.alloc));
         match name {
-            MapName::IntoIter => show_walk(map.into_iter(), Left::Told, letters, text),
-            MapName::IntoKeys => show_walk(map.into_keys(), Left::Told, letters, text),
-            _ => show_walk(map.into_values(), Left::Told, letters, text),
+            MapName::IntoIter => show_walk(map.into_iter(), letters, text),
+            MapName::IntoKeys => show_walk(map.into_keys(), letters, text),
+            _ => show_walk(map.into_values(), letters, text),
         }
+        Ok(())
     }
 }

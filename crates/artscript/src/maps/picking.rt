@@ -6,7 +6,7 @@ ghost use Rattle.blart_keys.specs.Bounds.{bound_bytes, CanRange};
 ghost use Rattle.blart_keys.specs.KeyBytes.{vec_bytes};
 
 use crate::maps::calls::Maps;
-use crate::words::{Answered, Left, Shown, Text, ValuePick, Words, show_walk};
+use crate::words::{Answered, Shown, Text, ValuePick, Words, show_walk};
 use blart_keys::AsBytes;
 use blart_map::TakeWalk;
 use std::alloc::AllocError;
@@ -19,7 +19,8 @@ impl<K: AsBytes + Shown + Drop, const PREFIX_LEN: usize> Maps<K, u64, PREFIX_LEN
         let pick = ValuePick::read(&mut words)?;
         words.end()?;
         self.first.retain(|_, value| pick.picks(value));
-        pick.asked().show(text)
+        pick.asked().show(text);
+        Ok(())
     }
 
     /// Takes out the pairs that are picked, and adds them and how often the closure was asked.
@@ -38,9 +39,10 @@ impl<K: AsBytes + Shown + Drop, const PREFIX_LEN: usize> Maps<K, u64, PREFIX_LEN
         let walk = self
             .first
             .extract_if(start, end, |_, value| pick.picks(value));
-        show_walk(walk, Left::Untold, letters, text)?;
-        text.push(b" ")?;
-        pick.asked().show(text)
+        show_walk(walk, letters, text);
+        text.push(b" ");
+        pick.asked().show(text);
+        Ok(())
     }
 
     /// Lends the pairs within two bounds, to be kept or taken, and adds what each letter gave.
@@ -56,7 +58,8 @@ impl<K: AsBytes + Shown + Drop, const PREFIX_LEN: usize> Maps<K, u64, PREFIX_LEN
     {
         let letters = words.last_decisions()?;
         let mut walk = self.first.take_walk(start, end);
-        take_steps(&mut walk, letters, text)
+        take_steps(&mut walk, letters, text);
+        Ok(())
     }
 }
 
@@ -65,20 +68,19 @@ fn take_steps<K: AsBytes + Shown + Drop, const P: usize>(
     walk: &mut TakeWalk<'_, K, u64, P>,
     letters: &[u8],
     text: &mut Text,
-) -> Answered {
+) {
     let mut part: &[u8] = b"";
     for letter in letters {
-        text.push(part)?;
+        text.push(part);
         if *letter == b'u' {
-            walk.undecided().show(text)?;
+            walk.undecided().show(text);
         } else if walk.undecided() {
-            decide(walk, *letter, text)?;
+            decide(walk, *letter, text);
         } else {
-            lend(walk, *letter, text)?;
+            lend(walk, *letter, text);
         }
         part = b" ";
     }
-    Ok(())
 }
 
 // Keeps or takes the pair that is lent.
@@ -86,7 +88,7 @@ fn decide<K: AsBytes + Shown + Drop, const P: usize>(
     walk: &mut TakeWalk<'_, K, u64, P>,
     letter: u8,
     text: &mut Text,
-) -> Answered
+)
     requires { is_some (take_undecided walk.old) ≡ true }
 {
     match letter {
@@ -104,7 +106,7 @@ fn lend<K: AsBytes + Shown + Drop, const P: usize>(
     walk: &mut TakeWalk<'_, K, u64, P>,
     letter: u8,
     text: &mut Text,
-) -> Answered
+)
     requires { is_some (take_undecided walk.old) ≡ false }
 {
     let lent = match letter {

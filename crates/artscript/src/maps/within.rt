@@ -63,9 +63,9 @@ pub(crate) fn show_order(mut words: Words<'_>, text: &mut Text) -> Answered {
     let in_order = bounds_in_order(start.as_ref(), end.as_ref());
     drop(start);
     drop(end);
-    if is_done {
-        in_order.show(text)
-    } else {
-        Err(Unanswered::NoCall)
+    if !is_done {
+        return Err(Unanswered::NoCall);
     }
+    in_order.show(text);
+    Ok(())
 }

@@ -18,8 +18,8 @@ impl Drop for Counted<'_> {
 }
 
 impl Shown for Counted<'_> {
-    fn show(&self, text: &mut Text) -> Answered {
-        self.number.show(text)
+    fn show(&self, text: &mut Text) {
+        self.number.show(text);
     }
 }
 
@@ -39,11 +39,6 @@ impl<'a, const PREFIX_LEN: usize> CountedMaps<'a, PREFIX_LEN> {
         }
     }
 
-    /// Adds all that the maps have.
-    pub(crate) fn list(&self, text: &mut Text) -> Answered {
-        self.maps.list(text)
-    }
-
     /// Makes the call of this name with these words after it, and adds its answer.
     pub(crate) fn call(&mut self, name: MapName, words: Words<'_>, text: &mut Text) -> Answered {
         match name {
@@ -52,7 +47,8 @@ impl<'a, const PREFIX_LEN: usize> CountedMaps<'a, PREFIX_LEN> {
             }
             MapName::Drops => {
                 words.end()?;
-                self.drops.get().show(text)
+                self.drops.get().show(text);
+                Ok(())
             }
             _ => self.maps.call_of_any(name, words, text),
         }
@@ -69,5 +65,6 @@ impl<'a, const PREFIX_LEN: usize> CountedMaps<'a, PREFIX_LEN> {
             MapName::ReplaceEntry => map.replace_entry(key, value).show(text),
             _ => map.prefix_insert(key, value).show(text),
         }
+        Ok(())
     }
 }

@@ -1,5 +1,5 @@
 //! The table of mounts of a part of a script, and the calls of it.
-use crate::words::{Answered, Left, Shown, Text, Unanswered, Words, named, show_items, show_walk};
+use crate::words::{Answered, Shown, Text, Unanswered, Words, named, show_items, show_walk};
 use blart_map::Visits;
 use prefix_router::Mounts;
 use std::alloc::{AllocError, Global};
@@ -41,12 +41,6 @@ impl Table {
         }
     }
 
-    /// Adds all mounts.
-    pub(crate) fn list(&self, text: &mut Text) -> Answered {
-        show_items(self.mounts.under(b""), text)?;
-        text.push(b"\n")
-    }
-
     /// Makes the call that the words are, and adds its answer.
     pub(crate) fn call(&mut self, mut words: Words<'_>, text: &mut Text) -> Answered {
         let Some(name) = named(&NAMES, words.word()?) else {
@@ -62,7 +56,8 @@ impl Table {
 
     fn tell(&self, words: Words<'_>, text: &mut Text) -> Answered {
         words.end()?;
-        self.mounts.len().show(text)
+        self.mounts.len().show(text);
+        Ok(())
     }
 
     // The calls that place a mount.
@@ -72,31 +67,32 @@ impl Table {
             MountName::Mount => self.mounts.mount(path, target).show(text),
             _ => self.mounts.mount_over(path, target).show(text),
         }
+        Ok(())
     }
 
     // The calls that look for a path.
     fn find(&mut self, name: MountName, mut words: Words<'_>, text: &mut Text) -> Answered {
         let path = words.last_bytes()?;
-        let answered = match name {
+        match name {
             MountName::Unmount => self.mounts.unmount(&path).show(text),
             MountName::Resolve => self.mounts.resolve(&path).show(text),
             _ => self
                 .mounts
                 .resolve_counted(&path, &mut Visits::new())
                 .show(text),
-        };
+        }
         drop(path);
-        answered
+        Ok(())
     }
 
     // The walk over the mounts under some bytes.
     fn walk(&self, mut words: Words<'_>, text: &mut Text) -> Answered {
         let front = words.bytes()?;
-        let answered = match words.last_moves() {
-            Ok(letters) => show_walk(self.mounts.under(&front), Left::Untold, letters, text),
-            Err(refused) => Err(refused),
-        };
+        match words.last_moves() {
+            Ok(letters) => show_walk(self.mounts.under(&front), letters, text),
+            Err(why) => text.stop(why),
+        }
         drop(front);
-        answered
+        Ok(())
     }
 }

@@ -18,8 +18,8 @@ use std::mem;
 /// Two maps and two sets.
 #[derive(Drop)]
 pub(crate) struct Part<K: ScriptKey, const PREFIX_LEN: usize> {
-    maps: Maps<K, u64, PREFIX_LEN>,
-    sets: Sets<K, PREFIX_LEN>,
+    pub(crate) maps: Maps<K, u64, PREFIX_LEN>,
+    pub(crate) sets: Sets<K, PREFIX_LEN>,
 }
 
 impl<K: ScriptKey, const PREFIX_LEN: usize> Part<K, PREFIX_LEN> {
@@ -29,12 +29,6 @@ impl<K: ScriptKey, const PREFIX_LEN: usize> Part<K, PREFIX_LEN> {
             maps: Maps::new(alloc),
             sets: Sets::new(alloc),
         }
-    }
-
-    // Adds all that both maps and both sets have.
-    fn list(&self, text: &mut Text) -> Answered {
-        self.maps.list(text)?;
-        self.sets.list(text)
     }
 }
 
@@ -57,13 +51,7 @@ impl<const PREFIX_LEN: usize> Part<Vec<u8>, PREFIX_LEN> {
 impl<const PREFIX_LEN: usize> Part<[u8; 3], PREFIX_LEN> {
     fn call_of_three(&mut self, call: LineCall, words: Words<'_>, text: &mut Text) -> Answered {
         match call {
-            LineCall::Map(MapName::TryEntry) => enter_three(
-                &mut self.maps.first,
-                true,
-                words,
-                text,
-            ),
-            LineCall::Map(MapName::Entry) => enter_three(&mut self.maps.first, false, words, text),
+            LineCall::Map(MapName::Entry) => enter_three(&mut self.maps.first, words, text),
             _ => self.call_of_fixed(call, words, text),
         }
     }
@@ -160,35 +148,15 @@ impl<'a, const PREFIX_LEN: usize> Session<'a, PREFIX_LEN> {
         })
     }
 
-    /// Adds all that stands.
-    pub(crate) fn list(&self, text: &mut Text) -> Answered {
-        match self {
-            Session::Bytes(part) => part.list(text),
-            Session::Byte(part) => part.list(text),
-            Session::Three(part) => part.list(text),
-            Session::I32(part) => part.list(text),
-            Session::U64(part) => part.list(text),
-            Session::Zero(part) => part.list(text),
-            Session::Tagged(part) => part.list(text),
-            Session::Counted(part) => part.list(text),
-            Session::Mounts(table) => table.list(text),
-        }
-    }
-
     /// Adds the answer to the line, or a question mark where it is no call.
-    pub(crate) fn answer(
-        &mut self,
-        drops: &'a Cell<u64>,
-        line: &[u8],
-        text: &mut Text,
-    ) -> Answered {
+    pub(crate) fn answer(&mut self, drops: &'a Cell<u64>, line: &[u8], text: &mut Text) {
         let start = text.as_slice().len();
-        match self.call(drops, line, text) {
-            Err(Unanswered::NoCall) => {
-                text.truncate(start);
-                text.push(b"?")
-            }
-            answered => answered,
+        if let Err(why) = self.call(drops, line, text) {
+            text.stop(why);
+        }
+        if text.take_no_call() {
+            text.truncate(start);
+            text.push(b"?");
         }
     }
 
@@ -198,7 +166,8 @@ impl<'a, const PREFIX_LEN: usize> Session<'a, PREFIX_LEN> {
         if let Some(part) = Session::begun(alloc, drops, line) {
             drop(mem::replace(self, part));
             drops.set(0);
-            return text.push(b"()");
+            text.push(b"()");
+            return Ok(());
         }
         self.call_of_part(Words::new(line, b' ', alloc), text)
     }

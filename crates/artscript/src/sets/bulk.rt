@@ -11,9 +11,9 @@ use std::mem;
 
 impl<K: AsBytes + Drop, const PREFIX_LEN: usize> Sets<K, PREFIX_LEN> {
     /// Gives the elements from the bytes on to the second set, in the place of its own.
-    pub(crate) fn split_off(&mut self, query: &Vec<u8>, text: &mut Text) -> Answered {
+    pub(crate) fn split_off(&mut self, query: &Vec<u8>, text: &mut Text) {
         let rest = self.first.split_off(query);
-        put(&mut self.second, rest, text)
+        put(&mut self.second, rest, text);
     }
 }
 
@@ -24,7 +24,8 @@ impl<K: AsBytes + Drop + Clone, const PREFIX_LEN: usize> Sets<K, PREFIX_LEN> {
     {
         words.end()?;
         let copy = self.first.clone();
-        put(&mut self.second, copy, text)
+        put(&mut self.second, copy, text);
+        Ok(())
     }
 }
 
@@ -32,27 +33,31 @@ impl<K: ScriptKey + NoPrefixesBytes, const PREFIX_LEN: usize> Sets<K, PREFIX_LEN
     /// Moves the elements of the second set to the first.
     pub(crate) fn append(&mut self, words: Words<'_>, text: &mut Text) -> Answered {
         words.end()?;
-        self.first.append(&mut self.second).show(text)
+        self.first.append(&mut self.second).show(text);
+        Ok(())
     }
 
     /// Inserts the elements in turn.
     pub(crate) fn extend(&mut self, words: Words<'_>, text: &mut Text) -> Answered {
         let items: Vec<K> = items_of(words)?;
-        self.first.extend(items.into_iter()).show(text)
+        self.first.extend(items.into_iter()).show(text);
+        Ok(())
     }
 
     /// Puts the set of the elements in the place of the first.
     pub(crate) fn from_vec(&mut self, words: Words<'_>, text: &mut Text) -> Answered {
         let items: Vec<K> = items_of(words)?;
         let made = TreeSet::from_vec(self.alloc, items);
-        put(&mut self.first, made, text)
+        put(&mut self.first, made, text);
+        Ok(())
     }
 
     /// Puts the set of the elements in the place of the first.
     pub(crate) fn from_iter(&mut self, words: Words<'_>, text: &mut Text) -> Answered {
         let items: Vec<K> = items_of(words)?;
         let made = TreeSet::from_iter(self.alloc, items.into_iter());
-        put(&mut self.first, made, text)
+        put(&mut self.first, made, text);
+        Ok(())
     }
 }
 
@@ -60,26 +65,26 @@ impl<K: FixedKey, const PREFIX_LEN: usize> Sets<K, PREFIX_LEN> {
     /// Inserts copies of the elements in turn.
     pub(crate) fn extend_copied(&mut self, words: Words<'_>, text: &mut Text) -> Answered {
         let items: Vec<K> = items_of(words)?;
-        let answered = self.first.extend_copied(items.iter()).show(text);
+        self.first.extend_copied(items.iter()).show(text);
         drop(items);
-        answered
+        Ok(())
     }
 
     /// Puts the set of the two elements in the place of the first.
     pub(crate) fn from_array(&mut self, words: Words<'_>, text: &mut Text) -> Answered {
         let items: Vec<K> = items_of(words)?;
-        let answered = self.put_two(items.as_slice(), text);
+        self.put_two(items.as_slice(), text);
         drop(items);
-        answered
+        Ok(())
     }
 
-    fn put_two(&mut self, items: &[K], text: &mut Text) -> Answered {
+    fn put_two(&mut self, items: &[K], text: &mut Text) {
         match items {
             [one, other] => {
                 let made = TreeSet::from_array(self.alloc, [*one, *other]);
-                put(&mut self.first, made, text)
+                put(&mut self.first, made, text);
             }
-            _ => Err(Unanswered::NoCall),
+            _ => text.stop(Unanswered::NoCall),
         }
     }
 }
@@ -89,7 +94,7 @@ fn put<K: AsBytes + Drop, const P: usize>(
     place: &mut TreeSet<K, P>,
     made: Result<TreeSet<K, P>, AllocError>,
     text: &mut Text,
-) -> Answered {
+) {
     match made {
         Ok(set) => {
             drop(mem::replace(place, set));

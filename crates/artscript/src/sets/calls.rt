@@ -40,7 +40,8 @@ impl<K: AsBytes + Shown + Drop, const PREFIX_LEN: usize> Sets<K, PREFIX_LEN> {
             SetName::Clear => self.first.clear(),
             _ => mem::swap(&mut self.first, &mut self.second),
         }
-        ().show(text)
+        ().show(text);
+        Ok(())
     }
 
     // The calls that take the element at one end.
@@ -50,20 +51,21 @@ impl<K: AsBytes + Shown + Drop, const PREFIX_LEN: usize> Sets<K, PREFIX_LEN> {
             SetName::PopFirst => self.first.pop_first(),
             _ => self.first.pop_last(),
         };
-        popped.show(text)
+        popped.show(text);
+        Ok(())
     }
 
     // The calls that take the element of some bytes, those below them, or those from them on.
     fn remove(&mut self, name: SetName, mut words: Words<'_>, text: &mut Text) -> Answered {
         let query = words.last_bytes()?;
-        let answered = match name {
+        match name {
             SetName::Remove => self.first.remove(&query).show(text),
             SetName::RemovePrefix => self.first.remove_prefix(&query).show(text),
             SetName::Take => self.first.take(&query).show(text),
             _ => self.split_off(&query, text),
-        };
+        }
         drop(query);
-        answered
+        Ok(())
     }
 }
 
@@ -96,6 +98,7 @@ impl<K: ScriptKey, const PREFIX_LEN: usize> Sets<K, PREFIX_LEN> {
             SetName::TryInsert => self.first.try_insert(element).show(text),
             _ => self.first.prefix_insert(element).show(text),
         }
+        Ok(())
     }
 }
 
@@ -136,5 +139,6 @@ impl<K: ScriptKey + NoPrefixesBytes, const PREFIX_LEN: usize> Sets<K, PREFIX_LEN
             SetName::Insert => self.first.insert(element).show(text),
             _ => self.first.replace(element).show(text),
         }
+        Ok(())
     }
 }

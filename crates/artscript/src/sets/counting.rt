@@ -18,8 +18,9 @@ impl<K: AsBytes + Drop, const PREFIX_LEN: usize> Sets<K, PREFIX_LEN> {
         let answered = self.call_in(&mut sets, &count, name, words, text);
         drop(sets);
         answered?;
-        text.push(b" ")?;
-        count.get().show(text)
+        text.push(b" ");
+        count.get().show(text);
+        Ok(())
     }
 
     // Adds the bytes of both sets to those of others.

@@ -42,19 +42,20 @@ impl<K: OrderedBytes + Shown + Drop, const PREFIX_LEN: usize> Sets<K, PREFIX_LEN
             SetName::First => self.first.first().show(text),
             _ => self.first.last().show(text),
         }
+        Ok(())
     }
 
     // The calls that look for some bytes.
     fn find(&self, name: SetName, mut words: Words<'_>, text: &mut Text) -> Answered {
         let query = words.last_bytes()?;
-        let answered = match name {
+        match name {
             SetName::Contains => self.first.contains(&query).show(text),
             SetName::Conflicts => self.first.conflicts(&query).show(text),
             SetName::Get => self.first.get(&query).show(text),
             _ => self.first.prefix_get(&query).show(text),
-        };
+        }
         drop(query);
-        answered
+        Ok(())
     }
 }
 
@@ -87,6 +88,7 @@ impl<K: OrderedBytes + Shown + Drop, const PREFIX_LEN: usize> Sets<K, PREFIX_LEN
             SetName::IsSubset | SetName::IsSubsetCounted => self.first.is_subset(&self.second),
             _ => self.first.is_superset(&self.second),
         };
-        holds.show(text)
+        holds.show(text);
+        Ok(())
     }
 }

@@ -19,14 +19,14 @@ impl<K: FixedKey, const PREFIX_LEN: usize> Sets<K, PREFIX_LEN> {
             SetName::Xor => &self.first ^ &self.second,
             _ => &self.first - &self.second,
         };
-        let answered = made.show(text);
+        made.show(text);
         drop(made);
-        answered
+        Ok(())
     }
 }
 
 impl<K: AsBytes + Shown + Drop, const PREFIX_LEN: usize> Shown for TreeSet<K, PREFIX_LEN> {
-    fn show(&self, text: &mut Text) -> Answered {
-        show_items(self.iter(), text)
+    fn show(&self, text: &mut Text) {
+        show_items(self.iter(), text);
     }
 }

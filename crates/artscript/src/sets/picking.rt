@@ -5,7 +5,7 @@ ghost use Rattle.blart_keys.specs.KeyBytes.{vec_bytes};
 ghost use Rattle.blart_set.specs.Elements.{elements};
 
 use crate::sets::calls::Sets;
-use crate::words::{Answered, BytesPick, Left, Shown, Text, Words, show_walk};
+use crate::words::{Answered, BytesPick, Shown, Text, Words, show_walk};
 use blart_keys::AsBytes;
 use std::alloc::AllocError;
 use std::iter::{DoubleEndedIterator, Iterator};
@@ -17,7 +17,8 @@ impl<K: AsBytes + Shown + Drop, const PREFIX_LEN: usize> Sets<K, PREFIX_LEN> {
         let pick = BytesPick::read(&mut words)?;
         words.end()?;
         self.first.retain(|element| pick.picks(element.as_bytes()));
-        pick.asked().show(text)
+        pick.asked().show(text);
+        Ok(())
     }
 
     /// Takes out the elements that are picked, and adds them and how often the closure was asked.
@@ -36,8 +37,9 @@ impl<K: AsBytes + Shown + Drop, const PREFIX_LEN: usize> Sets<K, PREFIX_LEN> {
         let walk = self
             .first
             .extract_if(start, end, |element| pick.picks(element.as_bytes()));
-        show_walk(walk, Left::Untold, letters, text)?;
-        text.push(b" ")?;
-        pick.asked().show(text)
+        show_walk(walk, letters, text);
+        text.push(b" ");
+        pick.asked().show(text);
+        Ok(())
     }
 }

@@ -4,9 +4,7 @@ ghost use Rattle.blart_keys.specs.KeyBytes.{vec_bytes};
 ghost use Rattle.blart_set.specs.Elements.{elements};
 
 use crate::sets::calls::Sets;
-use crate::words::{
-    Answered, Left, SetName, Shown, Text, Unanswered, Words, show_items, show_walk,
-};
+use crate::words::{Answered, SetName, Shown, Text, Unanswered, Words, show_items, show_walk};
 use blart_keys::{AsBytes, OrderedBytes};
 use blart_set::{TreeSet, bounds_in_order};
 use std::iter::IntoIterator;
@@ -17,14 +15,16 @@ impl<K: AsBytes + Shown + Drop, const PREFIX_LEN: usize> Sets<K, PREFIX_LEN> {
     /// Walks over all elements.
     pub(crate) fn iter(&self, mut words: Words<'_>, text: &mut Text) -> Answered {
         let letters = words.last_steps()?;
-        show_walk(self.first.iter(), Left::Told, letters, text)
+        show_walk(self.first.iter(), letters, text);
+        Ok(())
     }
 
     /// Takes the set apart.
     pub(crate) fn into_elements(&mut self, mut words: Words<'_>, text: &mut Text) -> Answered {
         let letters = words.last_steps()?;
         let set = mem::replace(&mut self.first, TreeSet::with_prefix_len(self.alloc));
-        show_walk(set.into_iter(), Left::Told, letters, text)
+        show_walk(set.into_iter(), letters, text);
+        Ok(())
     }
 
     /// Makes the call of this name, which is of the elements within two bounds, and adds its answer.
@@ -70,16 +70,17 @@ impl<K: AsBytes + Shown + Drop, const PREFIX_LEN: usize> Sets<K, PREFIX_LEN> {
             (bound_bytes vec_bytes end) }
     {
         let letters = words.last_moves()?;
-        show_walk(self.first.range(start, end), Left::Untold, letters, text)
+        show_walk(self.first.range(start, end), letters, text);
+        Ok(())
     }
 
     /// Walks over the elements that begin with some bytes.
     pub(crate) fn prefix(&self, mut words: Words<'_>, text: &mut Text) -> Answered {
         let front = words.bytes()?;
         let letters = words.last_moves()?;
-        let answered = show_walk(self.first.prefix(&front), Left::Untold, letters, text);
+        show_walk(self.first.prefix(&front), letters, text);
         drop(front);
-        answered
+        Ok(())
     }
 }
 
@@ -99,5 +100,6 @@ impl<K: OrderedBytes + Shown + Drop, const PREFIX_LEN: usize> Sets<K, PREFIX_LEN
             }
             _ => show_items(self.first.symmetric_difference(&self.second), text),
         }
+        Ok(())
     }
 }

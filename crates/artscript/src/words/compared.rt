@@ -8,7 +8,6 @@ ghost use Rattle.std.proofs.lemmas.Slice.Eq.{bytes_eq-Decides};
 ghost use Rattle.blart_keys.specs.Keys.{AreBytes};
 ghost use borrow.Author.Rules.{rules};
 
-use crate::words::answered::Answered;
 use crate::words::text::{Shown, Text, show_bytes};
 use blart_keys::{AsBytes, OrderedBytes};
 use std::cell::Cell;
@@ -71,7 +70,7 @@ impl OrderedBytes for Compared<'_> {
 }
 
 impl Shown for Compared<'_> {
-    fn show(&self, text: &mut Text) -> Answered {
-        show_bytes(self.bytes, text)
+    fn show(&self, text: &mut Text) {
+        show_bytes(self.bytes, text);
     }
 }

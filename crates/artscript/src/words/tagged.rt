@@ -4,7 +4,7 @@ ghost use Rattle.std.proofs.Common.{◌∙◌, sym};
 ghost use Rattle.std.proofs.lemmas.Slice.Eq.{bytes_eq-Decides};
 ghost use Rattle.blart_keys.specs.KeyLaws.{begins_same_length};
 
-use crate::words::answered::{Answered, Unanswered};
+use crate::words::answered::Unanswered;
 use crate::words::keys::{FixedKey, ScriptKey, array_of};
 use crate::words::text::{Shown, Text, show_bytes};
 use blart_keys::{AsBytes, NoPrefixesBytes, OrderedBytes};
@@ -43,10 +43,10 @@ impl OrderedBytes for Tagged {
 }
 
 impl Shown for Tagged {
-    fn show(&self, text: &mut Text) -> Answered {
-        show_bytes(&self.bytes, text)?;
-        text.push(b"#")?;
-        self.tag.show(text)
+    fn show(&self, text: &mut Text) {
+        show_bytes(&self.bytes, text);
+        text.push(b"#");
+        self.tag.show(text);
     }
 }
 
