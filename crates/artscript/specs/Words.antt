@@ -30,14 +30,6 @@ read_number word = if is_numeral word then below_limit (digits_value 10 word) el
 abbrev pub is_step : ℕ → Bool
 is_step letter = letter == 102 || letter == 98 || letter == 108
 
--- letters of steps, one at least
-abbrev pub is_steps : List ℕ → Bool
-is_steps word = nat_le 1 (length word) && list_all is_step word
-
 -- the first or the last pair is lent, the lent one is kept or taken, or whether one is lent is asked
 abbrev pub is_decision : ℕ → Bool
 is_decision letter = letter == 102 || letter == 98 || letter == 107 || letter == 116 || letter == 117
-
--- letters of lendings and decisions, one at least
-abbrev pub is_decisions : List ℕ → Bool
-is_decisions word = nat_le 1 (length word) && list_all is_decision word

@@ -60,13 +60,7 @@ impl FixedKey for I32Key {}
 
 impl ScriptKey for U64Key {
     fn from_vec(bytes: Vec<u8>) -> Result<Self, Unanswered> {
-        match bytes.as_slice() {
-            [a, b, c, d, e, f, g, h] => {
-                let number = u64::from_be_bytes([*a, *b, *c, *d, *e, *f, *g, *h]);
-                Ok(U64Key::new(number))
-            }
-            _ => Err(Unanswered::NoCall),
-        }
+        Ok(number_of_digits(array_of(bytes)?))
     }
 }
 
@@ -105,6 +99,14 @@ pub(crate) fn array_of<const N: usize>(bytes: Vec<u8>) -> Result<[u8; N], Unansw
             Err(Unanswered::NoCall)
         }
     }
+}
+
+// The key of the number with these digits, the high one first.
+fn number_of_digits(digits: [u8; 8]) -> U64Key
+    ensures { ⟦<U64Key as AsBytes>⟧.bytes result ≡ digits }
+{
+    digits.value_law();
+    U64Key::new(u64::from_be_bytes(digits))
 }
 
 // The key whose bits, of which the top one is flipped, are these.

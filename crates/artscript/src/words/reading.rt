@@ -3,7 +3,7 @@ ghost use Rattle.std.specs.Prelude.{◌≡◌, true, IfOk, Some, Contains};
 ghost use Rattle.std.specs.List.{list_all};
 ghost use Rattle.std.specs.Char.{is_ascii_digit};
 ghost use Rattle.std.specs.Str.Parse.{digits_value};
-ghost use Rattle.artscript.specs.Words.{read_bytes, read_number, below_limit};
+ghost use Rattle.artscript.specs.Words.{read_bytes, read_number, below_limit, is_step, is_decision};
 ghost use Rattle.artscript.specs.Words as spec;
 
 use crate::words::answered::{Answered, Unanswered};
@@ -179,11 +179,10 @@ impl<'a> Words<'a> {
             return Ok(None);
         }
         let letters = self.last_word()?;
-        if is_steps(letters) {
-            Ok(Some(letters))
-        } else {
-            Err(Unanswered::NoCall)
+        if letters.is_empty() || !are_steps(letters) {
+            return Err(Unanswered::NoCall);
         }
+        Ok(Some(letters))
     }
 
     /// The letters of the steps that the last word is, where one is left, of a walk that does not count.
@@ -198,60 +197,29 @@ impl<'a> Words<'a> {
     /// The letters of the decisions that the last word is.
     pub fn last_decisions(&mut self) -> Result<&'a [u8], Unanswered> {
         let letters = self.last_word()?;
-        if is_decisions(letters) {
-            Ok(letters)
-        } else {
-            Err(Unanswered::NoCall)
+        if letters.is_empty() || !are_decisions(letters) {
+            return Err(Unanswered::NoCall);
         }
+        Ok(letters)
     }
 }
 
 // ---- steps
 
-// Whether the word is letters of steps and decisions, one at least.
-fn is_decisions(word: &[u8]) -> bool
-    ensures { result ≡ spec.is_decisions word.now }
+// Whether all letters are of steps and decisions.
+fn are_decisions(letters: &[u8]) -> bool
+    ensures { result ≡ list_all is_decision letters.now }
 {
-    if word.is_empty() {
-        false
-    } else {
-        is_all_decisions(word)
-    }
+    letters.iter().all(|letter| {
+        *letter == b'f' || *letter == b'b' || *letter == b'k' || *letter == b't' || *letter == b'u'
+    })
 }
 
-fn is_all_decisions(word: &[u8]) -> bool
-    ensures { result ≡ list_all spec.is_decision word.now }
+// Whether all letters are of steps.
+fn are_steps(letters: &[u8]) -> bool
+    ensures { result ≡ list_all is_step letters.now }
 {
-    word.iter().all(|letter| is_decision(*letter))
-}
-
-fn is_decision(letter: u8) -> bool
-    ensures { result ≡ spec.is_decision letter }
-{
-    letter == b'f' || letter == b'b' || letter == b'k' || letter == b't' || letter == b'u'
-}
-
-// Whether the word is letters of steps, one at least.
-fn is_steps(word: &[u8]) -> bool
-    ensures { result ≡ spec.is_steps word.now }
-{
-    if word.is_empty() {
-        false
-    } else {
-        is_all_steps(word)
-    }
-}
-
-fn is_all_steps(word: &[u8]) -> bool
-    ensures { result ≡ list_all spec.is_step word.now }
-{
-    word.iter().all(|letter| is_step(*letter))
-}
-
-fn is_step(letter: u8) -> bool
-    ensures { result ≡ spec.is_step letter }
-{
-    letter == b'f' || letter == b'b' || letter == b'l'
+    letters.iter().all(|letter| *letter == b'f' || *letter == b'b' || *letter == b'l')
 }
 
 // ---- bytes
