@@ -32,16 +32,6 @@ fn bytes_of(place: usize) -> [u8; 3] {
     ]
 }
 
-// Puts in a pair whose bytes are new.
-fn put<K: AsBytes + Drop, V: Drop, const P: usize>(
-    rt: &impl Abort,
-    map: &mut TreeMap<K, V, P>,
-    key: K,
-    value: V,
-) {
-    assert!(rt; matches!(map.try_insert(key, value), Ok(None)));
-}
-
 // Adds to a tree a pair whose key is related to no other.
 fn add<K: AsBytes + Drop, V: Drop, const P: usize>(
     rt: &impl Abort,
@@ -72,18 +62,6 @@ fn number_of(rt: &impl Abort, child: Child) -> usize {
     }
 }
 
-// A map of these keys, each with its place as value.
-fn map_of<K: AsBytes + Copy, const P: usize>(
-    rt: &(impl Abort + AllocGlobal),
-    keys: &[K],
-) -> TreeMap<K, usize, P> {
-    let mut map = TreeMap::with_prefix_len(rt.alloc());
-    for place in 0..keys.len() {
-        put(rt, &mut map, keys[place], place);
-    }
-    map
-}
-
 // The map has these values, in this order, and nothing else.
 fn assert_values<K: AsBytes + Drop, const P: usize>(
     rt: &impl Abort,
@@ -92,16 +70,4 @@ fn assert_values<K: AsBytes + Drop, const P: usize>(
 ) {
     assert!(rt; map.len() == want.len());
     assert!(rt; map.values().eq(want));
-}
-
-// Adds to a value that was lent, and gives it as it was.
-fn raise(lent: Option<&mut usize>, by: usize) -> Option<usize> {
-    match lent {
-        Some(value) => {
-            let was = *value;
-            *value = was.wrapping_add(by);
-            Some(was)
-        }
-        None => None,
-    }
 }

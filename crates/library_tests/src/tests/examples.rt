@@ -55,9 +55,34 @@ impl From<TryInsertError> for Fail {
     }
 }
 
-// The examples came to their last lines.
-fn assert_ended(rt: &impl Abort, ran: &[Result<(), Fail>]) {
+// Most examples are lent a map, one after the other: each finds in it what those before it left.
+#[test]
+fn of_maps(rt: HostRuntime) {
+    let mut map = Map::new(rt.alloc());
+    let ran = [
+        calls::insert_prefix_error(&rt, &mut map),
+        calls::try_insert_error(&rt, &mut map),
+        entries::entry(&rt, &mut map),
+        // It leaves no pair.
+        entries::occupied_entry(&rt, &mut map),
+        entries::vacant_entry(&rt, &mut map),
+        walks::iter_mut(&rt, &mut map),
+        walks::values_mut(&rt, &mut map),
+        walks::range_mut(&rt, &mut map),
+        walks::subtree_iter_mut(&rt, &mut map),
+        // It leaves no pair.
+        walks::take_walk(&rt, &mut map),
+        prefix_entries::prefix_kind(&rt, &mut map),
+        walks::extract_if(&rt, &mut map),
+        walks::prefix_mut(&rt, &mut map),
+        prefix_entries::prefix_entry(&rt, &mut map),
+        readme::fronts(&rt, &mut map),
+        readme::tree_map(&rt, rt.alloc()),
+        readme::router(&rt, rt.alloc()),
+    ];
+    drop(map);
     for result in ran {
         assert!(rt; result.is_ok());
     }
+    calls::call(&rt, rt.alloc()).expect(&rt, "memory");
 }

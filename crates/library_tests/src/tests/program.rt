@@ -3,6 +3,7 @@
 mod hostile;
 mod lines;
 
+use crate::tests::assert_display;
 use blart::{RunError, Watched, fault_line, run};
 use std::io;
 use std::io::{ErrorKind, Read, Write};
@@ -29,26 +30,19 @@ impl Read for Pieces<'_> {
     }
 }
 
-// What a writer does once it has no room left.
-#[derive(Clone, Copy, PartialEq, Eq)]
-enum Full {
-    Fails,
-    TakesNothing,
-}
-
-// Takes so many bytes a call, and so many in all.
+// Takes so many bytes a call, and so many in all. Then it fails, or takes nothing.
 #[derive(Drop)]
 struct Sink {
     taken: Vec<u8>,
     most: usize,
     room: usize,
-    full: Full,
+    fails: bool,
 }
 
 impl Write for Sink {
     fn write(&mut self, buf: &[u8]) -> io::Result<usize> {
         let count = buf.len().min(self.most).min(self.room);
-        if count == 0 && self.full == Full::Fails {
+        if count == 0 && self.fails {
             return Err(io::Error::from(ErrorKind::Other));
         }
         self.taken.extend_from_slice(&buf[..count])?;
@@ -70,7 +64,7 @@ struct Ends {
     read_fails: bool,
     most: usize,
     room: usize,
-    full: Full,
+    write_fails: bool,
 }
 
 const SOUND: Ends = Ends {
@@ -78,36 +72,8 @@ const SOUND: Ends = Ends {
     read_fails: false,
     most: AMPLE,
     room: AMPLE,
-    full: Full::Fails,
+    write_fails: true,
 };
-
-// What a run ended with, its two marks, and what was written.
-#[derive(Drop)]
-struct Outcome {
-    result: Result<(), RunError>,
-    marks: (bool, bool),
-    written: Vec<u8>,
-}
-
-fn run_over(rt: &impl AllocGlobal, text: &[u8], ends: Ends) -> Outcome {
-    let mut reader = Watched::new(Pieces {
-        text,
-        most: ends.piece,
-        fails: ends.read_fails,
-    });
-    let mut writer = Watched::new(Sink {
-        taken: Vec::new(rt.alloc()),
-        most: ends.most,
-        room: ends.room,
-        full: ends.full,
-    });
-    let result = run(rt.alloc(), &mut reader, &mut writer);
-    Outcome {
-        result,
-        marks: (reader.failed(), writer.failed()),
-        written: writer.into_inner().taken,
-    }
-}
 
 // A run over the text ends with this result, the end that failed is marked and no other, and this was written.
 fn assert_outcome(
@@ -117,15 +83,25 @@ fn assert_outcome(
     ended: Result<(), RunError>,
     written: &[u8],
 ) {
-    let got = run_over(rt, text, ends);
-    let marks = (
-        matches!(ended, Err(RunError::Read)),
-        matches!(ended, Err(RunError::Write)),
-    );
-    let is_ended = got.result == ended && got.marks == marks;
-    let is_written = *got.written.as_slice() == *written;
-    drop(got);
-    assert!(rt; is_ended && is_written);
+    let mut reader = Watched::new(Pieces {
+        text,
+        most: ends.piece,
+        fails: ends.read_fails,
+    });
+    let mut writer = Watched::new(Sink {
+        taken: Vec::new(rt.alloc()),
+        most: ends.most,
+        room: ends.room,
+        fails: ends.write_fails,
+    });
+    let result = run(rt.alloc(), &mut reader, &mut writer);
+    let (read_failed, write_failed) = (reader.failed(), writer.failed());
+    let taken = writer.into_inner().taken;
+    let is_written = *taken.as_slice() == *written;
+    drop(taken);
+    assert!(rt; result == ended && is_written);
+    assert!(rt; read_failed == matches!(ended, Err(RunError::Read)));
+    assert!(rt; write_failed == matches!(ended, Err(RunError::Write)));
 }
 
 // Adds some bytes to a text, so many times.
@@ -144,32 +120,33 @@ fn text_of(rt: &(impl Abort + AllocGlobal), parts: &[(&str, usize)]) -> Vec<u8> 
     text
 }
 
-// An answer of more bytes than wait for the writer.
+// A line, and an answer of more bytes than wait for the writer, whatever it takes at a time.
 #[test]
-fn writers_take_a_byte_a_call(rt: HostRuntime) {
-    let text = text_of(&rt, &[("insert ", 1), ("1A", 5000), (" 3\nlist", 1)]);
-    let answers = text_of(&rt, &[("none\n", 1), ("1a", 5000), (" 3\nend 1\n", 1)]);
-    for most in [1, 7, AMPLE] {
-        let ends = Ends {
-            piece: 3000,
-            most,
-            ..SOUND
-        };
-        assert_outcome(&rt, &text, ends, Ok(()), &answers);
+fn lines_and_answers_of_many_bytes(rt: HostRuntime) {
+    let rows: [(&[(&str, usize)], &[(&str, usize)]); 2] = [
+        (
+            &[("insert ", 1), ("1A", 5000), (" 3\nlist", 1)],
+            &[("none\n", 1), ("1a", 5000), (" 3\nend 1\n", 1)],
+        ),
+        (
+            &[("a", 1_000_000), ("\nlist", 1)],
+            &[("refused line\nend 0\n", 1)],
+        ),
+    ];
+    for (line, answer) in rows {
+        let text = text_of(&rt, line);
+        let answers = text_of(&rt, answer);
+        for most in [1, 7, AMPLE] {
+            let ends = Ends {
+                piece: 3000,
+                most,
+                ..SOUND
+            };
+            assert_outcome(&rt, &text, ends, Ok(()), &answers);
+        }
+        drop(text);
+        drop(answers);
     }
-    drop(text);
-    drop(answers);
-}
-
-#[test]
-fn a_line_of_many_letters_is_one_line(rt: HostRuntime) {
-    let text = text_of(&rt, &[("a", 1_000_000), ("\nlist", 1)]);
-    let ends = Ends {
-        piece: 5000,
-        ..SOUND
-    };
-    assert_outcome(&rt, &text, ends, Ok(()), b"refused line\nend 0\n");
-    drop(text);
 }
 
 // Each error's text, and the line that the program writes of it.
@@ -180,9 +157,7 @@ fn texts_of_errors(rt: HostRuntime) {
         (RunError::Write, "write failed", "artmap: write failed"),
         (RunError::Memory, "out of memory", "artmap: out of memory"),
     ] {
-        let own = error.to_string(rt.alloc()).expect(&rt, "memory");
-        let is_own = own.as_str() == text;
-        drop(own);
-        assert!(rt; is_own && fault_line(error) == line);
+        assert_display(&rt, &error, text);
+        assert!(rt; fault_line(error) == line);
     }
 }

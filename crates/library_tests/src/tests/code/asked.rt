@@ -1,5 +1,6 @@
 //! How many stored keys a call asks for their bytes.
-use super::{bytes_of, put};
+use super::bytes_of;
+use crate::tests::put;
 use blart_keys::AsBytes;
 use blart_map::TreeMap;
 use std::cell::Cell;
@@ -71,26 +72,23 @@ fn put_thousand<'a, const P: usize>(rt: &impl Abort, map: &mut Map<'a, P>, tally
     assert!(rt; map.len() == 1000);
 }
 
-// A look-up found this value, and asked stored keys at most four times: at least once where one is found.
-fn assert_found(rt: &impl Abort, calls: usize, found: Option<&usize>, want: Option<usize>) {
-    assert!(rt; calls <= 4 && (calls > 0 || want.is_none()));
-    assert!(rt; found.copied() == want);
-}
-
-// Look-ups of these bytes, and of what begins them, find this value, and ask few keys.
+// A look-up of these bytes, or of what begins them, finds this value, and asks stored keys at most four times: at least once where one is found.
 fn assert_few<K: AsBytes + Drop, const P: usize>(
     rt: &impl Abort,
     map: &TreeMap<K, usize, P>,
     tally: &Cell<Tally>,
-    query: &[u8],
-    want: Option<usize>,
+    (query, want): (&[u8], Option<usize>),
+    of_front: bool,
 ) {
     begin_round(tally);
-    let found = map.get(&query);
-    assert_found(rt, tally.get().calls, found, want);
-    begin_round(tally);
-    let found = map.prefix_get(&query);
-    assert_found(rt, tally.get().calls, found, want);
+    let found = if of_front {
+        map.prefix_get(&query)
+    } else {
+        map.get(&query)
+    };
+    let calls = tally.get().calls;
+    assert!(rt; found.copied() == want);
+    assert!(rt; calls <= 4 && (calls > 0 || want.is_none()));
 }
 
 // A thousand stored keys, and two thousand queries that find nothing: 8 is not one of the ten bytes.
@@ -98,12 +96,13 @@ fn look_up_thousand<K: AsBytes + Drop, const P: usize>(
     rt: &impl Abort,
     map: &TreeMap<K, usize, P>,
     tally: &Cell<Tally>,
+    of_front: bool,
 ) {
     for place in 0..1000 {
         let [a, b, c] = bytes_of(place);
-        assert_few(rt, map, tally, &[a, b, c], Some(place));
-        assert_few(rt, map, tally, &[a, b, 8], None);
-        assert_few(rt, map, tally, &[a, 8, c], None);
+        assert_few(rt, map, tally, (&[a, b, c], Some(place)), of_front);
+        assert_few(rt, map, tally, (&[a, b, 8], None), of_front);
+        assert_few(rt, map, tally, (&[a, 8, c], None), of_front);
     }
 }
 
@@ -115,7 +114,8 @@ fn asks_few<const P: usize>(rt: &(impl Abort + AllocGlobal)) {
     });
     let mut map = Map::<P>::with_prefix_len(rt.alloc());
     put_thousand(rt, &mut map, &tally);
-    look_up_thousand(rt, &map, &tally);
+    look_up_thousand(rt, &map, &tally, false);
+    look_up_thousand(rt, &map, &tally, true);
     drop(map);
 }
 

@@ -1,8 +1,7 @@
 //! Calls of maps that no line makes.
-use super::map_of;
+use crate::tests::map_of;
 use blart_map::{IntoIter, TreeMap};
 use std::iter::{IntoIterator, Iterator};
-use std::process::Abort;
 
 // The digits of the values, in the order in which a loop gives the pairs.
 fn digits_of(walk: IntoIter<u8, usize, 2>) -> usize {
@@ -15,7 +14,7 @@ fn digits_of(walk: IntoIter<u8, usize, 2>) -> usize {
 
 #[test]
 fn maps_in_loops(rt: HostRuntime) {
-    let map = map_of::<u8, 2>(&rt, &[5, 3, 8]);
+    let map = map_of::<u8, usize, 2>(&rt, &[(5, 0), (3, 1), (8, 2)]);
     let mut digits = 0usize;
     for (_, value) in &map {
         digits = digits.wrapping_mul(10).wrapping_add(*value);
@@ -24,15 +23,12 @@ fn maps_in_loops(rt: HostRuntime) {
     assert!(rt; digits == 102 && digits_then == 102);
 }
 
-// A pair under the key of no bytes, placed and taken back by its entry.
-fn place_and_remove(rt: &impl Abort, map: &mut TreeMap<[u8; 0], usize, 16>) -> usize {
-    map.entry([]).insert_entry(0).expect(rt, "memory").remove()
-}
-
+// A pair is placed and taken back by its entry.
 #[test]
 fn the_only_key_of_its_type(rt: HostRuntime) {
     let mut map = TreeMap::<[u8; 0], usize, 16>::new(rt.alloc());
-    let removed = place_and_remove(&rt, &mut map);
+    let entry = map.entry([]).insert_entry(0).expect(&rt, "memory");
+    let removed = entry.remove();
     let is_empty = map.is_empty();
     drop(map);
     assert!(rt; removed == 0 && is_empty);

@@ -1,5 +1,5 @@
 //! What a hasher is fed.
-use super::map_of;
+use crate::tests::map_of;
 use blart_set::TreeSet;
 use std::hash::{DefaultHasher, Hash, Hasher};
 
@@ -10,34 +10,17 @@ fn digest_of<T: Hash>(value: &T) -> u64 {
     state.finish()
 }
 
-// The length comes first, and then each key and its value; of no pairs the length alone.
+// The length comes first, and then each key and its value, and of sets each element; of no pairs the length alone.
 #[test]
-fn maps(rt: HostRuntime) {
-    let mut map = map_of::<u8, 2>(&rt, &[3, 1, 2]);
-    let mut state = DefaultHasher::new();
-    state.write_usize(3);
-    for (key, value) in [(1, 1), (2, 2), (3, 0)] {
-        state.write_u8(key);
-        state.write_usize(value);
-    }
-    let digest = digest_of(&map);
+fn maps_and_sets(rt: HostRuntime) {
+    let mut map = map_of::<u8, usize, 2>(&rt, &[(3, 0), (1, 1), (2, 2)]);
+    let of_map = digest_of(&map);
     map.clear();
-    let digest_of_none = digest_of(&map);
+    let of_none = digest_of(&map);
     drop(map);
-    assert!(rt; digest == state.finish());
-    assert!(rt; digest_of_none == digest_of(&0usize));
-}
-
-// Of sets the length, and then each element.
-#[test]
-fn sets(rt: HostRuntime) {
     let set = TreeSet::<u8, 2>::from_array(rt.alloc(), [3, 1, 2]).expect(&rt, "memory");
-    let mut state = DefaultHasher::new();
-    state.write_usize(3);
-    for element in [1, 2, 3] {
-        state.write_u8(element);
-    }
-    let digest = digest_of(&set);
+    let of_set = digest_of(&set);
     drop(set);
-    assert!(rt; digest == state.finish());
+    assert!(rt; of_map == digest_of(&(3usize, (1u8, 1usize), (2u8, 2usize), (3u8, 0usize))));
+    assert!(rt; of_none == digest_of(&0usize) && of_set == digest_of(&(3usize, 1u8, 2u8, 3u8)));
 }

@@ -1,16 +1,16 @@
 //! The bytes of the keys of each type, and the texts of errors.
-use super::vector;
+use crate::tests::assert_display;
 use blart_keys::{
     AsBytes, I32Key, InsertPrefixError, OrderedBytes, TryInsertError, U32Key, U64Key, ZKey,
     ZKeyError,
 };
 use std::alloc::AllocError;
 use std::boxed::BoxedSlice;
-use std::fmt::{Debug, Display};
+use std::fmt::Debug;
 use std::process::Abort;
 
 // Two keys of these bytes, of which the first is less.
-fn assert_keys<K: OrderedBytes + Debug>(
+fn assert_keys<K: OrderedBytes>(
     rt: &impl Abort,
     (low, low_bytes): (&K, &[u8]),
     (high, high_bytes): (&K, &[u8]),
@@ -41,19 +41,16 @@ fn numbers(rt: HostRuntime) {
 }
 
 // The same of keys that own their bytes.
-fn assert_owners<K: OrderedBytes + Debug + Drop>(
+fn assert_owners<K: OrderedBytes + Drop, E: Debug>(
     rt: &impl Abort,
-    (low, low_bytes): (K, &[u8]),
-    (high, high_bytes): (K, &[u8]),
+    (low, low_bytes): (Result<K, E>, &[u8]),
+    (high, high_bytes): (Result<K, E>, &[u8]),
 ) {
+    let (low, high) = (low.expect(rt, "memory"), high.expect(rt, "memory"));
     assert_keys(rt, (&low, low_bytes), (&high, high_bytes));
     assert_keys(rt, (&&low, low_bytes), (&&high, high_bytes));
     drop(low);
     drop(high);
-}
-
-fn boxed(rt: &(impl Abort + AllocGlobal), bytes: &[u8]) -> BoxedSlice<u8> {
-    BoxedSlice::from_slice(rt.alloc(), bytes).expect(rt, "memory")
 }
 
 #[test]
@@ -62,43 +59,39 @@ fn bytes(rt: HostRuntime) {
     assert_keys(&rt, (&[1u8, 2], &[1, 2]), (&[1, 3], &[1, 3]));
     let (ab, abc): (&[u8], &[u8]) = (b"ab", b"abc");
     assert_keys(&rt, (&ab, ab), (&abc, abc));
-    assert_owners(&rt, (vector(&rt, ab), ab), (vector(&rt, abc), abc));
-    assert_owners(&rt, (boxed(&rt, ab), ab), (boxed(&rt, abc), abc));
-}
-
-fn string(rt: &(impl Abort + AllocGlobal), text: &str) -> String {
-    text.to_string(rt.alloc()).expect(rt, "memory")
-}
-
-#[test]
-fn texts(rt: HostRuntime) {
-    let (ab, abc): (&[u8], &[u8]) = (b"ab", b"abc");
+    let low: Result<_, _> = Vec::from_slice(rt.alloc(), ab);
+    let high: Result<_, _> = Vec::from_slice(rt.alloc(), abc);
+    assert_owners(&rt, (low, ab), (high, abc));
+    let low: Result<_, _> = BoxedSlice::from_slice(rt.alloc(), ab);
+    let high: Result<_, _> = BoxedSlice::from_slice(rt.alloc(), abc);
+    assert_owners(&rt, (low, ab), (high, abc));
     assert_keys(&rt, (&"ab", ab), (&"abc", abc));
-    assert_owners(&rt, (string(&rt, "ab"), ab), (string(&rt, "abc"), abc));
+    let low: Result<_, _> = "ab".to_string(rt.alloc());
+    let high: Result<_, _> = "abc".to_string(rt.alloc());
+    assert_owners(&rt, (low, ab), (high, abc));
 }
 
 fn zkey(rt: &(impl Abort + AllocGlobal), bytes: &[u8]) -> ZKey {
     ZKey::from_bytes(rt.alloc(), bytes).expect(rt, "memory")
 }
 
-// The key of these bytes gives them back, without the zero.
-fn assert_gives_back(rt: &(impl Abort + AllocGlobal), bytes: &[u8]) {
+// The key of these bytes gives them back, without the zero that it ends with.
+fn assert_zkey(rt: &(impl Abort + AllocGlobal), bytes: &[u8], with_zero: &[u8]) {
     let key = zkey(rt, bytes);
-    let is_same = *key.to_bytes() == *bytes;
+    let is_right = *key.to_bytes() == *bytes && *key.as_bytes() == *with_zero;
     drop(key);
-    assert!(rt; is_same);
+    assert!(rt; is_right);
 }
 
 #[test]
 fn zkeys(rt: HostRuntime) {
     let (ab, abc): (&[u8], &[u8]) = (b"ab\0", b"abc\0");
-    assert_owners(&rt, (zkey(&rt, b"ab"), ab), (zkey(&rt, b"abc"), abc));
-    assert_gives_back(&rt, b"ab");
-    assert_gives_back(&rt, b"abc");
-    let empty = zkey(&rt, b"");
-    let is_zero = *empty.as_bytes() == *b"\0".as_slice();
-    drop(empty);
-    assert!(rt; is_zero);
+    let low = ZKey::from_bytes(rt.alloc(), b"ab");
+    let high = ZKey::from_bytes(rt.alloc(), b"abc");
+    assert_owners(&rt, (low, ab), (high, abc));
+    assert_zkey(&rt, b"ab", ab);
+    assert_zkey(&rt, b"abc", abc);
+    assert_zkey(&rt, b"", b"\0");
     for bytes in [[1, 0, 2], [0, 1, 2], [1, 2, 0]] {
         let made = ZKey::from_bytes(rt.alloc(), &bytes);
         assert!(rt; made.err() == Some(ZKeyError::InnerZero));
@@ -113,7 +106,7 @@ fn assert_debug<T: Debug>(rt: &(impl Abort + AllocGlobal), value: &T, want: &str
 }
 
 #[test]
-fn texts_by_debug(rt: HostRuntime) {
+fn texts_of_keys_and_errors(rt: HostRuntime) {
     assert_debug(&rt, &U32Key::new(258), "U32Key { bytes: [0, 0, 1, 2] }");
     let text = "U64Key { bytes: [0, 0, 0, 0, 0, 0, 0, 1] }";
     assert_debug(&rt, &U64Key::new(1), text);
@@ -122,17 +115,6 @@ fn texts_by_debug(rt: HostRuntime) {
     assert_debug(&rt, &zkey(&rt, b"ab"), "ZKey { bytes: [97, 98, 0] }");
     assert_debug(&rt, &ZKeyError::InnerZero, "InnerZero");
     assert_debug(&rt, &ZKeyError::Memory, "Memory");
-}
-
-fn assert_display<T: Display>(rt: &(impl Abort + AllocGlobal), value: &T, want: &str) {
-    let text = format!(in rt.alloc(); "{value}").expect(rt, "memory");
-    let is_wanted = text.as_str() == want;
-    drop(text);
-    assert!(rt; is_wanted);
-}
-
-#[test]
-fn texts_of_errors(rt: HostRuntime) {
     assert_display(&rt, &ZKeyError::InnerZero, "zero byte in key");
     assert_display(&rt, &ZKeyError::Memory, "out of memory");
     assert_display(&rt, &InsertPrefixError, "key conflicts");

@@ -1,5 +1,5 @@
-//! A tree of a thousand keys taken apart: what it is made of, and that nothing else is there.
-use super::{BYTES, add, bytes_of};
+//! A tree of the thousand keys, each with the number of those before it as value, taken apart: what it is made of, and that nothing else is there.
+use super::{BYTES, add, bytes_of, number_of};
 use art_kinds::{Child, NodeRef, Nodes};
 use art_tree::{Tree, Visits};
 use std::process::Abort;
@@ -10,27 +10,16 @@ type Bare = Tree<[u8; 3], usize, 0>;
 // The number of each key's leaf.
 type Numbers = [usize; 1000];
 
-// The number of the leaf that has this pair.
-fn number_of(rt: &impl Abort, tree: &Bare, key: [u8; 3], value: usize) -> usize {
-    let Some((id, stored, held)) = tree.get(&key, &mut Visits::new()) else {
-        panic!(rt; "a pair");
-    };
-    assert!(rt; *stored == key && *held == value);
-    id.number()
-}
-
-// Fills the tree with the thousand keys, each with the number of those before it as value.
-fn fill(rt: &impl Abort, tree: &mut Bare) {
-    for value in 0..1000 {
-        add(rt, tree, bytes_of(value), value);
-    }
-}
-
-// The numbers of the leaves, in the order in which they came.
+// The numbers of the leaves that have the pairs, in the order in which these came.
 fn numbers_of(rt: &impl Abort, tree: &Bare) -> Numbers {
     let mut numbers: Numbers = [0; 1000];
     for value in 0..1000 {
-        numbers[value] = number_of(rt, tree, bytes_of(value), value);
+        let key = bytes_of(value);
+        let Some((id, stored, held)) = tree.get(&key, &mut Visits::new()) else {
+            panic!(rt; "a pair");
+        };
+        assert!(rt; *stored == key && *held == value);
+        numbers[value] = id.number();
     }
     numbers
 }
@@ -58,7 +47,7 @@ fn node_below<'a>(
 fn assert_leaves(rt: &impl Abort, node: &NodeRef<'_, 0>, numbers: &Numbers, from: usize) {
     for place in 0..10 {
         let child = node.find(BYTES[place]).expect(rt, "an edge");
-        assert!(rt; super::number_of(rt, child) == numbers[from.wrapping_add(place) % 1000]);
+        assert!(rt; number_of(rt, child) == numbers[from.wrapping_add(place) % 1000]);
     }
 }
 
@@ -77,7 +66,9 @@ fn assert_all(rt: &impl Abort, nodes: &Nodes<0>, root: Option<Child>, numbers: &
 #[test]
 fn a_tree_taken_apart(rt: HostRuntime) {
     let mut tree = Tree::new(rt.alloc());
-    fill(&rt, &mut tree);
+    for value in 0..1000 {
+        add(&rt, &mut tree, bytes_of(value), value);
+    }
     let numbers = numbers_of(&rt, &tree);
     let (leaves, nodes, root) = tree.into_parts();
     assert_all(&rt, &nodes, root, &numbers);

@@ -1,17 +1,11 @@
 //! Chains of inner nodes.
-use super::put;
+use super::vector;
+use crate::tests::put;
 use blart_map::TreeMap;
-use std::iter::{DoubleEndedIterator, Iterator};
+use std::iter::{IntoIterator, Iterator};
 use std::process::Abort;
 
 type Map<const P: usize> = TreeMap<Vec<u8>, usize, P>;
-
-// A key of so many zeros and then another byte.
-fn zeros(rt: &(impl Abort + AllocGlobal), count: usize, last: u8) -> Vec<u8> {
-    let mut key = Vec::from_elem(rt.alloc(), 0u8, count).expect(rt, "memory");
-    assert!(rt; key.push(last).is_ok());
-    key
-}
 
 // The value of a pair, or a number that is no value where there is none.
 fn value_of(pair: Option<(&Vec<u8>, &usize)>) -> usize {
@@ -38,8 +32,10 @@ fn assert_size<const P: usize>(
 // For each number below 1,000 a key of so many zeros and then 1, so that each inner node has one below it.
 fn chain<const P: usize>(rt: &(impl Abort + AllocGlobal)) -> Map<P> {
     let mut map = Map::<P>::with_prefix_len(rt.alloc());
+    let mut longest = [0u8; 1000];
+    longest[999] = 1;
     for number in 0..1000usize {
-        put(rt, &mut map, zeros(rt, number, 1), number);
+        put(rt, &mut map, vector(rt, &longest[999 - number..]), number);
     }
     assert_size(rt, &map, 1000, 999, (999, 0));
     map
@@ -48,47 +44,33 @@ fn chain<const P: usize>(rt: &(impl Abort + AllocGlobal)) -> Map<P> {
 // What begins with 500 zeros: from the key of 999 down to that of 500.
 fn assert_below<const P: usize>(rt: &impl Abort, map: &Map<P>) {
     let front = [0u8; 500];
-    let mut walk = map.prefix(&front);
-    let mut is_right = true;
-    for step in 0..500usize {
-        let want = 999usize.wrapping_sub(step);
-        is_right = match walk.next() {
-            Some((key, number)) => {
-                is_right && key.len() == want.wrapping_add(1) && *number == want
-            }
-            None => false,
-        };
+    let mut len = 1000usize;
+    for (key, number) in map.prefix(&front) {
+        assert!(rt; key.len() == len);
+        len = len.wrapping_sub(1);
+        assert!(rt; *number == len);
     }
-    let is_end = walk.next_back().is_none();
-    drop(walk);
-    assert!(rt; is_right && is_end);
+    assert!(rt; len == 500);
 }
 
 // The chain is thinned, and a zero takes the place of all that it begins.
 fn thin<const P: usize>(rt: &(impl Abort + AllocGlobal), map: &mut Map<P>) {
     map.retain(|_, number| *number % 2 == 0);
     assert_size(rt, map, 500, 499, (998, 0));
-    let zero = Vec::from_elem(rt.alloc(), 0u8, 1).expect(rt, "memory");
-    assert!(rt; map.prefix_insert(zero, 7).is_ok());
+    assert!(rt; map.prefix_insert(vector(rt, &[0]), 7).is_ok());
     assert_size(rt, map, 2, 1, (7, 0));
 }
 
-// The pairs from the key of 500 on leave the chain.
-fn part<const P: usize>(rt: &(impl Abort + AllocGlobal), map: &mut Map<P>) -> Map<P> {
-    let key = zeros(rt, 500, 1);
-    let rest = map.split_off(&key).expect(rt, "memory");
-    drop(key);
-    rest
-}
-
-// The chain is thinned. Its clone stands, and is parted.
+// The chain is thinned. Its clone stands, and the pairs from the key of 500 on leave it.
 fn take_apart<const P: usize>(rt: &(impl Abort + AllocGlobal)) {
     let mut map = chain::<P>(rt);
     assert_below(rt, &map);
     let mut same = map.clone().expect(rt, "memory");
     thin(rt, &mut map);
     drop(map);
-    let rest = part(rt, &mut same);
+    let mut key = [0u8; 501];
+    key[500] = 1;
+    let rest = same.split_off(&key).expect(rt, "memory");
     assert_size(rt, &same, 499, 498, (999, 501));
     drop(same);
     assert_size(rt, &rest, 501, 500, (500, 0));
@@ -97,10 +79,6 @@ fn take_apart<const P: usize>(rt: &(impl Abort + AllocGlobal)) {
 
 #[test]
 fn a_chain(rt: HostRuntime) {
-    take_apart::<16>(&rt);
-}
-
-#[test]
-fn a_chain_with_no_prefix_kept(rt: HostRuntime) {
     take_apart::<0>(&rt);
+    take_apart::<16>(&rt);
 }

@@ -1,7 +1,7 @@
 //! Which of two keys with the same bytes is stored.
+use crate::tests::put;
 use blart_keys::{AsBytes, NoPrefixesBytes};
 use blart_map::TreeMap;
-use std::process::Abort;
 
 // A byte, with a tag that is none of its bytes.
 #[derive(Clone, Copy)]
@@ -40,24 +40,20 @@ fn of_tag(tag: u8) -> Tagged {
     Tagged { bytes: [7], tag }
 }
 
-// The map has one pair, with this tag and this value.
-fn assert_only(rt: &impl Abort, map: &Tags, tag: u8, value: u8) {
-    let is_first = match map.first_key_value() {
-        Some((key, stored)) => key.tag == tag && *stored == value,
-        None => false,
-    };
-    assert!(rt; is_first && map.len() == 1);
-}
-
 // The key of an entry at stored bytes is the stored key, and an entry keeps it.
 #[test]
 fn by_entries(rt: HostRuntime) {
     let mut map = Tags::with_prefix_len(rt.alloc());
-    super::put(&rt, &mut map, of_tag(1), 10);
+    put(&rt, &mut map, of_tag(1), 10);
     let of_entry = map.entry(of_tag(2)).key().tag;
     let of_prefix_entry = map.prefix_entry(of_tag(3)).key().tag;
     let is_put = map.prefix_entry(of_tag(4)).insert_entry(20).is_ok();
-    assert_only(&rt, &map, 1, 20);
+    let is_first = match map.first_key_value() {
+        Some((key, value)) => key.tag == 1 && *value == 20,
+        None => false,
+    };
+    let len = map.len();
     drop(map);
     assert!(rt; of_entry == 1 && of_prefix_entry == 1 && is_put);
+    assert!(rt; is_first && len == 1);
 }

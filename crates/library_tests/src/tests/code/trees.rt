@@ -37,10 +37,22 @@ fn zeros_but(place: usize, byte: u8) -> [u8; 41] {
     key
 }
 
-// Two keys part after forty zeros, and a third from them after twenty.
-fn children_far_down<const P: usize>(rt: &(impl Abort + AllocGlobal)) {
+// At each front of the rows so many children of a tree of these keys stand.
+fn assert_counts<const P: usize>(
+    rt: &(impl Abort + AllocGlobal),
+    keys: &[&[u8]],
+    rows: &[(&[u8], usize)],
+) {
+    let tree = tree_of::<P>(rt, keys);
+    assert_children(rt, &tree, rows);
+    drop(tree);
+}
+
+// Four keys; and two that part after forty zeros, and a third that parts from them after twenty.
+fn children<const P: usize>(rt: &(impl Abort + AllocGlobal)) {
+    let rows: [(&[u8], usize); 4] = [(b"", 3), (b"\x02", 2), (b"\x01", 0), (b"\x09", 0)];
+    assert_counts::<P>(rt, &[b"\x02\x01", b"\x03", b"\x01", b"\x02\x02"], &rows);
     let (first, second, third) = (zeros_but(40, 1), zeros_but(40, 2), zeros_but(20, 3));
-    let tree = tree_of::<P>(rt, &[&third, &second, &first]);
     let (zeros, other) = ([0; 40], zeros_but(30, 1));
     let rows: [(&[u8], usize); 4] = [
         (&zeros[..20], 2),
@@ -48,16 +60,7 @@ fn children_far_down<const P: usize>(rt: &(impl Abort + AllocGlobal)) {
         (&zeros[..30], 0),
         (&other, 0),
     ];
-    assert_children(rt, &tree, &rows);
-    drop(tree);
-}
-
-fn children<const P: usize>(rt: &(impl Abort + AllocGlobal)) {
-    let tree = tree_of::<P>(rt, &[b"\x02\x01", b"\x03", b"\x01", b"\x02\x02"]);
-    let rows: [(&[u8], usize); 4] = [(b"", 3), (b"\x02", 2), (b"\x01", 0), (b"\x09", 0)];
-    assert_children(rt, &tree, &rows);
-    drop(tree);
-    children_far_down::<P>(rt);
+    assert_counts::<P>(rt, &[&third, &second, &first], &rows);
 }
 
 #[test]
@@ -102,38 +105,32 @@ fn neighbours_of_a_leaf(rt: HostRuntime) {
     drop(tree);
 }
 
-// The number after a name in its line, or 0 where no line has the name.
+// The number between a name and the unit in its line, or 0 where no line has the name.
 fn number_after(text: &str, name: &str) -> u64 {
     let (_, rest) = text.split_once(name).unwrap_or(("", ""));
-    let mut number = 0u64;
-    for byte in rest.bytes() {
-        if byte.is_ascii_digit() {
-            number = number.wrapping_mul(10).wrapping_add((byte - b'0') as u64);
-        } else if byte == b'\n' {
-            break;
-        }
-    }
-    number
+    let (number, _) = rest.split_once(" kB").unwrap_or(("", ""));
+    number.trim_ascii().parse().unwrap_or(0)
 }
 
-// The memory that a line of what the system tells of the program says, in KiB.
-fn memory(rt: &(impl Abort + AllocGlobal + Files), name: &str) -> u64 {
+// The most memory that the program had, and what it holds now, in KiB, as the system tells it.
+fn memory(rt: &(impl Abort + AllocGlobal + Files)) -> (u64, u64) {
     let told = fs::read_to_string(rt, "/proc/self/status").expect(rt, "a file of the system");
-    let number = number_after(told.as_str(), name);
+    let most = number_after(told.as_str(), "VmPeak:");
+    let held = number_after(told.as_str(), "VmRSS:");
     drop(told);
-    assert!(rt; number > 0);
-    number
+    assert!(rt; most > 0 && held > 0);
+    (most, held)
 }
 
 type Texts = Tree<&'static [u8], usize, 16>;
 
 // Room for a million pairs takes less than 600 MB of addresses, and less than 200 MB are written before a pair comes.
 fn reserve_million(rt: &(impl Abort + AllocGlobal + Files), tree: &mut Texts) {
-    let (most, held) = (memory(rt, "VmPeak:"), memory(rt, "VmRSS:"));
+    let (most, held) = memory(rt);
     tree.reserve(1_000_000).expect(rt, "memory");
-    let taken = memory(rt, "VmPeak:").saturating_sub(most);
-    let written = memory(rt, "VmRSS:").saturating_sub(held);
-    assert!(rt; taken < 600_000_000 / 1024 && written < 200_000_000 / 1024);
+    let (most_then, held_then) = memory(rt);
+    assert!(rt; most_then.saturating_sub(most) < 600_000_000 / 1024);
+    assert!(rt; held_then.saturating_sub(held) < 200_000_000 / 1024);
 }
 
 #[test]

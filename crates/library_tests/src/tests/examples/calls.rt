@@ -1,18 +1,18 @@
 //! Calls as values, and refused insertions.
-use super::{Fail, Map, assert_ended};
+use super::{Fail, Map};
 use blart_map::{Call, InsertPrefixError, Reply, TreeMap, TryInsertError, drive};
 use std::alloc::{AllocError, Global};
 use std::process::Abort;
 
 // The example of `blart_keys::InsertPrefixError`.
-fn insert_prefix_error(rt: &impl Abort, map: &mut Map<'_>) -> Result<(), Fail> {
+pub(super) fn insert_prefix_error(rt: &impl Abort, map: &mut Map<'_>) -> Result<(), Fail> {
     map.try_insert("cat", 1)?;
     assert!(rt; map.try_entry("ca").err() == Some(InsertPrefixError));
     Ok(())
 }
 
 // The example of `blart_keys::TryInsertError`.
-fn try_insert_error(rt: &impl Abort, map: &mut Map<'_>) -> Result<(), Fail> {
+pub(super) fn try_insert_error(rt: &impl Abort, map: &mut Map<'_>) -> Result<(), Fail> {
     map.try_insert("cat", 1)?;
     let refused = map.try_insert("ca", 2);
     assert!(rt; matches!(refused, Err(TryInsertError::Prefix(_))));
@@ -20,7 +20,7 @@ fn try_insert_error(rt: &impl Abort, map: &mut Map<'_>) -> Result<(), Fail> {
 }
 
 // The example of `blart_keys::Call`.
-fn call(rt: &impl Abort, alloc: Global) -> Result<(), AllocError> {
+pub(super) fn call(rt: &impl Abort, alloc: Global) -> Result<(), AllocError> {
     let mut map = TreeMap::<&str, i32, 16>::new(alloc);
     let mut run = || -> Result<(), AllocError> {
         let calls = vec![in alloc;
@@ -38,16 +38,4 @@ fn call(rt: &impl Abort, alloc: Global) -> Result<(), AllocError> {
     let ran = run();
     drop(map);
     ran
-}
-
-#[test]
-fn as_shown(rt: HostRuntime) {
-    let mut map = Map::new(rt.alloc());
-    let ran = [
-        insert_prefix_error(&rt, &mut map),
-        try_insert_error(&rt, &mut map),
-    ];
-    drop(map);
-    assert_ended(&rt, &ran);
-    call(&rt, rt.alloc()).expect(&rt, "memory");
 }

@@ -1,10 +1,10 @@
 //! Entries of a map.
-use super::{Fail, Map, assert_ended};
+use super::{Fail, Map};
 use blart_map::Entry;
 use std::process::Abort;
 
 // The example of `blart_map::Entry`.
-fn entry(rt: &impl Abort, map: &mut Map<'_>) -> Result<(), Fail> {
+pub(super) fn entry(rt: &impl Abort, map: &mut Map<'_>) -> Result<(), Fail> {
     *map.try_entry("cat")?.or_insert(1)? = 2;
     let entry = map.try_entry("cat")?.and_modify(|value| *value = 3);
     assert!(rt; *entry.or_insert(0)? == 3);
@@ -12,7 +12,7 @@ fn entry(rt: &impl Abort, map: &mut Map<'_>) -> Result<(), Fail> {
 }
 
 // The example of `blart_map::OccupiedEntry`.
-fn occupied_entry(rt: &impl Abort, map: &mut Map<'_>) -> Result<(), Fail> {
+pub(super) fn occupied_entry(rt: &impl Abort, map: &mut Map<'_>) -> Result<(), Fail> {
     map.try_insert("cat", 1)?;
     if let Entry::Occupied(mut entry) = map.try_entry("cat")? {
         assert!(rt; entry.insert(2) == 1);
@@ -23,22 +23,10 @@ fn occupied_entry(rt: &impl Abort, map: &mut Map<'_>) -> Result<(), Fail> {
 }
 
 // The example of `blart_map::VacantEntry`.
-fn vacant_entry(rt: &impl Abort, map: &mut Map<'_>) -> Result<(), Fail> {
+pub(super) fn vacant_entry(rt: &impl Abort, map: &mut Map<'_>) -> Result<(), Fail> {
     if let Entry::Vacant(entry) = map.try_entry("cat")? {
         *entry.insert(1)? = 2;
     }
     assert!(rt; map.get(&"cat") == Some(&2));
     Ok(())
-}
-
-#[test]
-fn as_shown(rt: HostRuntime) {
-    let mut map = Map::new(rt.alloc());
-    let ran = [
-        entry(&rt, &mut map),
-        occupied_entry(&rt, &mut map),
-        vacant_entry(&rt, &mut map),
-    ];
-    drop(map);
-    assert_ended(&rt, &ran);
 }

@@ -39,15 +39,6 @@ fn ordered_bytes(rt: &impl Abort) {
     assert!(rt; a.as_bytes().cmp(&b.as_bytes()) == Ordering::Less);
 }
 
-#[test]
-fn numbers_as_shown(rt: HostRuntime) {
-    u32_key(&rt);
-    u64_key(&rt);
-    i32_key(&rt);
-    as_bytes(&rt);
-    ordered_bytes(&rt);
-}
-
 // The example of `blart_keys::ZKey`.
 fn zkey(rt: &impl Abort, alloc: Global) -> Result<(), ZKeyError> {
     let key = ZKey::from_bytes(alloc, b"ab")?;
@@ -62,12 +53,6 @@ fn zkey_error(rt: &impl Abort, alloc: Global) {
     assert!(rt; made.err() == Some(ZKeyError::InnerZero));
 }
 
-#[test]
-fn zkeys_as_shown(rt: HostRuntime) {
-    zkey(&rt, rt.alloc()).expect(&rt, "memory");
-    zkey_error(&rt, rt.alloc());
-}
-
 // The example of `blart_keys::NoPrefixesBytes`.
 fn no_prefixes_bytes(
     rt: &impl Abort,
@@ -80,7 +65,14 @@ fn no_prefixes_bytes(
 }
 
 #[test]
-fn no_prefixes_bytes_as_shown(rt: HostRuntime) {
+fn as_shown(rt: HostRuntime) {
+    u32_key(&rt);
+    u64_key(&rt);
+    i32_key(&rt);
+    as_bytes(&rt);
+    ordered_bytes(&rt);
+    zkey(&rt, rt.alloc()).expect(&rt, "memory");
+    zkey_error(&rt, rt.alloc());
     let mut map = TreeMap::new(rt.alloc());
     let ran = no_prefixes_bytes(&rt, &mut map);
     drop(map);

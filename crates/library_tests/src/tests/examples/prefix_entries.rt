@@ -1,5 +1,6 @@
 //! Prefix entries.
-use super::{Fail, Map, assert_ended};
+use super::{Fail, Map};
+use crate::tests::map_of;
 use blart_map::{PrefixEntry, PrefixKind, TreeMap};
 use std::process::Abort;
 
@@ -19,7 +20,7 @@ fn inner_occupied_entry(rt: &impl Abort, mut map: Words) {
 }
 
 // The example of `blart_map::PrefixEntry`.
-fn prefix_entry(rt: &impl Abort, map: &mut Map<'_>) -> Result<(), Fail> {
+pub(super) fn prefix_entry(rt: &impl Abort, map: &mut Map<'_>) -> Result<(), Fail> {
     map.try_insert("car", 1)?;
     map.try_insert("cat", 2)?;
     *map.prefix_entry("ca").or_insert(0)? = 1;
@@ -29,7 +30,7 @@ fn prefix_entry(rt: &impl Abort, map: &mut Map<'_>) -> Result<(), Fail> {
 }
 
 // The example of `blart_map::PrefixKind`.
-fn prefix_kind(rt: &impl Abort, map: &mut Map<'_>) -> Result<(), Fail> {
+pub(super) fn prefix_kind(rt: &impl Abort, map: &mut Map<'_>) -> Result<(), Fail> {
     match map.prefix_entry("cat").kind() {
         PrefixKind::Leaf(entry) => *entry.into_mut() = 1,
         PrefixKind::Inner(entry) => *entry.insert(0) = 2,
@@ -50,23 +51,8 @@ fn prefix_occupied(rt: &impl Abort, mut map: Words) {
     drop(map);
 }
 
-// A map of these words, each with its place, from 1 on, as value.
-fn words(rt: &(impl Abort + AllocGlobal), keys: &[&'static str]) -> Words {
-    let mut map = Words::new(rt.alloc());
-    let mut place = 1;
-    for key in keys {
-        assert!(rt; map.try_insert(*key, place).is_ok());
-        place = place.wrapping_add(1);
-    }
-    map
-}
-
 #[test]
 fn as_shown(rt: HostRuntime) {
-    inner_occupied_entry(&rt, words(&rt, &["car", "cat"]));
-    prefix_occupied(&rt, words(&rt, &["car"]));
-    let mut map = Map::new(rt.alloc());
-    let ran = [prefix_kind(&rt, &mut map), prefix_entry(&rt, &mut map)];
-    drop(map);
-    assert_ended(&rt, &ran);
+    inner_occupied_entry(&rt, map_of(&rt, &[("car", 1), ("cat", 2)]));
+    prefix_occupied(&rt, map_of(&rt, &[("car", 1)]));
 }

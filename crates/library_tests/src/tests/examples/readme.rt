@@ -1,5 +1,5 @@
 //! The code of the README.
-use super::{Fail, Map, assert_ended};
+use super::{Fail, Map};
 use blart_map::TreeMap;
 use prefix_router::Mounts;
 use std::alloc::Global;
@@ -9,7 +9,7 @@ use std::process::Abort;
 // The example of `blart_map::TreeMap`.
 //
 // The README shows it with the last line here in the place of the one before.
-fn tree_map(rt: &impl Abort, alloc: Global) -> Result<(), Fail> {
+pub(super) fn tree_map(rt: &impl Abort, alloc: Global) -> Result<(), Fail> {
     let mut map = TreeMap::new(alloc);
     let ran = insert_and_look_up(rt, &mut map);
     drop(map);
@@ -28,7 +28,7 @@ fn insert_and_look_up(rt: &impl Abort, map: &mut Map<'_>) -> Result<(), Fail> {
 }
 
 // The example of `README::fronts`.
-fn fronts(rt: &impl Abort, map: &mut Map<'_>) -> Result<(), Fail> {
+pub(super) fn fronts(rt: &impl Abort, map: &mut Map<'_>) -> Result<(), Fail> {
     map.try_insert("/static/", 7)?;
     assert!(rt; map.prefix_get(&"/static/logo.png") == Some(&7));
     assert!(rt; map.prefix_get(&"/stat") == None);
@@ -36,7 +36,7 @@ fn fronts(rt: &impl Abort, map: &mut Map<'_>) -> Result<(), Fail> {
 }
 
 // The example of `README::router`.
-fn router(rt: &impl Abort, alloc: Global) -> Result<(), Fail> {
+pub(super) fn router(rt: &impl Abort, alloc: Global) -> Result<(), Fail> {
     let mut mounts = Mounts::new(alloc);
     let ran = mount_and_resolve(rt, alloc, &mut mounts);
     drop(mounts);
@@ -59,13 +59,4 @@ fn mount_and_resolve(
     let target = mounts.resolve(b"/api/v1/users").map(|(_, target)| *target);
     assert!(rt; target == Some(1));
     Ok(())
-}
-
-#[test]
-fn the_readme(rt: HostRuntime) {
-    let mut map = Map::new(rt.alloc());
-    let ended = fronts(&rt, &mut map);
-    drop(map);
-    let ran = [ended, tree_map(&rt, rt.alloc()), router(&rt, rt.alloc())];
-    assert_ended(&rt, &ran);
 }

@@ -64,15 +64,11 @@ fn extract_if(rt: &impl Abort, set: &mut TreeSet<u8, 16>) {
 }
 
 #[test]
-fn a_set_as_shown(rt: HostRuntime) {
+fn as_shown(rt: HostRuntime) {
     let mut set = TreeSet::new(rt.alloc());
     let ran = tree_set(&rt, &mut set);
     drop(set);
     ran.expect(&rt, "memory");
-}
-
-#[test]
-fn walks_as_shown(rt: HostRuntime) {
     let set = set_of(&rt, [1u8, 2]);
     iter(&rt, &set);
     into_iter(&rt, set);

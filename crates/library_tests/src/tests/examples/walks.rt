@@ -1,11 +1,11 @@
 //! Walks that lend and take.
-use super::{Fail, Map, assert_ended};
+use super::{Fail, Map};
 use blart_map::PrefixKind;
 use std::ops::Bound;
 use std::process::Abort;
 
 // The example of `blart_map::IterMut`.
-fn iter_mut(rt: &impl Abort, map: &mut Map<'_>) -> Result<(), Fail> {
+pub(super) fn iter_mut(rt: &impl Abort, map: &mut Map<'_>) -> Result<(), Fail> {
     map.try_insert("cat", 1)?;
     let mut walk = map.iter_mut();
     assert!(rt; walk.len() == 1);
@@ -17,7 +17,7 @@ fn iter_mut(rt: &impl Abort, map: &mut Map<'_>) -> Result<(), Fail> {
 }
 
 // The example of `blart_map::ValuesMut`.
-fn values_mut(rt: &impl Abort, map: &mut Map<'_>) -> Result<(), Fail> {
+pub(super) fn values_mut(rt: &impl Abort, map: &mut Map<'_>) -> Result<(), Fail> {
     map.try_insert("cat", 1)?;
     let mut walk = map.values_mut();
     if let Some(value) = walk.next() {
@@ -28,7 +28,7 @@ fn values_mut(rt: &impl Abort, map: &mut Map<'_>) -> Result<(), Fail> {
 }
 
 // The example of `blart_map::RangeMut`.
-fn range_mut(rt: &impl Abort, map: &mut Map<'_>) -> Result<(), Fail> {
+pub(super) fn range_mut(rt: &impl Abort, map: &mut Map<'_>) -> Result<(), Fail> {
     map.try_insert("cat", 1)?;
     let low = "b";
     let mut walk = map.range_mut(Bound::Included(&low), Bound::Unbounded);
@@ -40,7 +40,7 @@ fn range_mut(rt: &impl Abort, map: &mut Map<'_>) -> Result<(), Fail> {
 }
 
 // The example of `blart_map::SubtreeIterMut`.
-fn subtree_iter_mut(rt: &impl Abort, map: &mut Map<'_>) -> Result<(), Fail> {
+pub(super) fn subtree_iter_mut(rt: &impl Abort, map: &mut Map<'_>) -> Result<(), Fail> {
     map.try_insert("cat", 1)?;
     if let PrefixKind::Inner(entry) = map.prefix_entry("ca").kind() {
         let mut walk = entry.iter_mut();
@@ -53,7 +53,7 @@ fn subtree_iter_mut(rt: &impl Abort, map: &mut Map<'_>) -> Result<(), Fail> {
 }
 
 // The example of `blart_map::PrefixMut`.
-fn prefix_mut(rt: &impl Abort, map: &mut Map<'_>) -> Result<(), Fail> {
+pub(super) fn prefix_mut(rt: &impl Abort, map: &mut Map<'_>) -> Result<(), Fail> {
     map.try_insert("car", 1)?;
     map.try_insert("cat", 2)?;
     let mut walk = map.prefix_mut(b"ca");
@@ -65,7 +65,7 @@ fn prefix_mut(rt: &impl Abort, map: &mut Map<'_>) -> Result<(), Fail> {
 }
 
 // The example of `blart_map::TakeWalk`.
-fn take_walk(rt: &impl Abort, map: &mut Map<'_>) -> Result<(), Fail> {
+pub(super) fn take_walk(rt: &impl Abort, map: &mut Map<'_>) -> Result<(), Fail> {
     map.try_insert("cat", 1)?;
     let mut walk = map.take_walk(Bound::<&&str>::Unbounded, Bound::Unbounded);
     if let Some(value) = walk.lend() {
@@ -79,7 +79,7 @@ fn take_walk(rt: &impl Abort, map: &mut Map<'_>) -> Result<(), Fail> {
 }
 
 // The example of `blart_map::ExtractIf`.
-fn extract_if(rt: &impl Abort, map: &mut Map<'_>) -> Result<(), Fail> {
+pub(super) fn extract_if(rt: &impl Abort, map: &mut Map<'_>) -> Result<(), Fail> {
     map.try_insert("cat", 0)?;
     let mut walk = map.extract_if(
         Bound::<&&str>::Unbounded,
@@ -90,21 +90,4 @@ fn extract_if(rt: &impl Abort, map: &mut Map<'_>) -> Result<(), Fail> {
     assert!(rt; walk.next().is_none());
     drop(walk);
     Ok(())
-}
-
-// Each but the last leaves one pair or none, and the next puts that pair again.
-#[test]
-fn as_shown(rt: HostRuntime) {
-    let mut map = Map::new(rt.alloc());
-    let ran = [
-        iter_mut(&rt, &mut map),
-        values_mut(&rt, &mut map),
-        range_mut(&rt, &mut map),
-        subtree_iter_mut(&rt, &mut map),
-        take_walk(&rt, &mut map),
-        extract_if(&rt, &mut map),
-        prefix_mut(&rt, &mut map),
-    ];
-    drop(map);
-    assert_ended(&rt, &ran);
 }

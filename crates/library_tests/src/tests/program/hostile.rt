@@ -1,5 +1,5 @@
 //! Lines that are no commands, and ends that fail where a line is half read or half answered.
-use super::{AMPLE, Ends, Full, SOUND, assert_outcome, push};
+use super::{AMPLE, Ends, SOUND, assert_outcome, push, text_of};
 use blart::RunError;
 use std::process::Abort;
 
@@ -18,23 +18,17 @@ fn lines_at_the_edge_of_a_command(rt: HostRuntime) {
     }
 }
 
-// The line with another byte in each place in turn, each of which is refused.
-fn push_all_spoiled(
-    rt: &impl Abort,
-    text: &mut Vec<u8>,
-    answers: &mut Vec<u8>,
-    line: &[u8],
-    byte: u8,
-) {
+// The line with another byte in each place in turn.
+fn push_all_spoiled(rt: &impl Abort, text: &mut Vec<u8>, line: &[u8], byte: u8) {
     for place in 0..line.len() {
         push(rt, text, &line[..place], 1);
         push(rt, text, &[byte], 1);
         push(rt, text, &line[place + 1..], 1);
         push(rt, text, b"\n", 1);
-        push(rt, answers, b"refused line\n", 1);
     }
 }
 
+// Of 103 bytes in all.
 const COMMANDS: [&str; 9] = [
     "insert 0102 8",
     "get 0102",
@@ -47,82 +41,77 @@ const COMMANDS: [&str; 9] = [
     "list",
 ];
 
-// The commands with a byte that none has in each place, beside one pair.
-fn spoil_commands(rt: &impl Abort, text: &mut Vec<u8>, answers: &mut Vec<u8>, byte: u8) {
-    push(rt, text, b"insert 0102 7\n", 1);
-    push(rt, answers, b"none\n", 1);
-    for command in COMMANDS {
-        push_all_spoiled(rt, text, answers, command.as_bytes(), byte);
-    }
-    push(rt, text, b"list", 1);
-    push(rt, answers, b"0102 7\nend 1\n", 1);
-}
-
+// The commands with a byte that none has in each place, beside one pair: each is refused.
 #[test]
 fn commands_with_a_byte_that_none_has(rt: HostRuntime) {
+    let parts = [
+        ("none\n", 1),
+        ("refused line\n", 103),
+        ("0102 7\nend 1\n", 1),
+    ];
+    let answers = text_of(&rt, &parts);
     for byte in [0, b'\r', b'+', b'Z', 255] {
-        let mut text = Vec::new(rt.alloc());
-        let mut answers = Vec::new(rt.alloc());
-        spoil_commands(&rt, &mut text, &mut answers, byte);
+        let mut text = text_of(&rt, &[("insert 0102 7\n", 1)]);
+        for command in COMMANDS {
+            push_all_spoiled(&rt, &mut text, command.as_bytes(), byte);
+        }
+        push(&rt, &mut text, b"list", 1);
         assert_outcome(&rt, &text, SOUND, Ok(()), &answers);
         drop(text);
-        drop(answers);
     }
+    drop(answers);
 }
 
 // A last line without a line feed is answered at the end of the input, and not where a read failed.
 #[test]
 fn a_last_line_after_a_failed_read_is_not_answered(rt: HostRuntime) {
     for piece in [1, 2, 3, 5, 1000] {
-        for (text, read_fails, ended, answers) in [
-            ("insert 01 5\nget 01", false, Ok(()), "none\n5\n"),
-            ("insert 01 5\nget 01", true, Err(RunError::Read), "none\n"),
-            ("", true, Err(RunError::Read), ""),
-        ] {
-            let ends = Ends {
-                piece,
-                read_fails,
-                ..SOUND
-            };
-            assert_outcome(&rt, text.as_bytes(), ends, ended, answers.as_bytes());
-        }
+        let ends = Ends { piece, ..SOUND };
+        let lines = b"insert 01 5\nget 01";
+        assert_outcome(&rt, lines, ends, Ok(()), b"none\n5\n");
+        let ends = Ends {
+            read_fails: true,
+            ..ends
+        };
+        assert_outcome(&rt, lines, ends, Err(RunError::Read), b"none\n");
+        assert_outcome(&rt, b"", ends, Err(RunError::Read), b"");
     }
 }
 
-// Whatever the room, what was written is a beginning of the answers.
-fn assert_cut_short(rt: &(impl Abort + AllocGlobal), text: &str, answers: &[u8], full: Full) {
+// Whatever the room, and whether a full writer fails or takes nothing, what was written is a beginning of the answers.
+fn assert_cut_short(rt: &(impl Abort + AllocGlobal), text: &[u8], answers: &[u8]) {
     for room in 0..answers.len() {
+        let written = answers.split_at(room).0;
         for most in [1, 4, AMPLE] {
-            let ends = Ends {
-                most,
-                room,
-                full,
-                ..SOUND
-            };
-            let written = answers.split_at(room).0;
-            assert_outcome(rt, text.as_bytes(), ends, Err(RunError::Write), written);
+            for write_fails in [false, true] {
+                let ends = Ends {
+                    most,
+                    room,
+                    write_fails,
+                    ..SOUND
+                };
+                assert_outcome(rt, text, ends, Err(RunError::Write), written);
+            }
         }
     }
 }
 
 #[test]
 fn a_writer_is_full_after_any_byte(rt: HostRuntime) {
-    for (text, answers) in [
-        ("insert 01 5", "none\n"),
-        (
-            "insert 01 5\nlist\nlast",
-            "none\n01 5\nend 1\nrefused line\n",
-        ),
-        (
-            "insert 01 5\ninsert 02 6\nprefix -\n",
-            "none\nnone\n01 5\n02 6\nend 2\n",
-        ),
-        (
-            "insert 01 5\ninsert 02 6\nrange 02 03\n",
-            "none\nnone\n02 6\nend 1\n",
-        ),
-    ] {
-        assert_cut_short(&rt, text, answers.as_bytes(), Full::Fails);
-        assert_cut_short(&rt, text, answers.as_bytes(), Full::TakesNothing);
-    }
+    assert_cut_short(&rt, b"insert 01 5", b"none\n");
+    assert_cut_short(
+        &rt,
+        b"insert 01 5\nlist\nlast",
+        b"none\n01 5\nend 1\nrefused line\n",
+    );
+    assert_cut_short(
+        &rt,
+        b"insert 01 5\ninsert 02 6\nprefix -\n",
+        b"none\nnone\n01 5\n02 6\nend 2\n",
+    );
+    assert_cut_short(
+        &rt,
+        b"insert 01 5\ninsert 02 6\nrange 02 03\n",
+        b"none\nnone\n02 6\nend 1\n",
+    );
 }

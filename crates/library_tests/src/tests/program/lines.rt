@@ -2,85 +2,274 @@
 use super::{Ends, SOUND, assert_outcome};
 use std::process::Abort;
 
-const TABLES: [(&str, &str); 19] = [
-    (
-        "insert 0102 7\nget 0102\nlist\n",
-        "none\n7\n0102 7\nend 1\n",
-    ),
-    (
-        "insert 0102 7\ninsert 01 8\ninsert 0102 9\nremove 0102\nremove 0102\ninsert 01 8\nlist\n",
-        "none\nrefused prefix\nold 7\n9\nnone\nnone\n01 8\nend 1\n",
-    ),
-    (
-        "insert 0A 007\nget 0a\nget 0g\ninsert 01\ninsert 01  2\nprefix 01\nprefix\n",
-        "none\n7\nrefused line\nrefused line\nrefused line\nend 0\nrefused line\n",
-    ),
-    (
-        "insert 010203 1\ninsert 020304 2\ninsert 02030405 3\ninsert 020304 4\nlist\nprefix-get 0102030405\nget 0\n",
-        "none\nnone\nrefused prefix\nold 2\n010203 1\n020304 4\nend 2\n010203 1\nrefused line\n",
-    ),
-    (
-        "insert - 18446744073709551615\ninsert 00 18446744073709551616\nget -\nprefix-get ff\noverwrite 0a 7\n\nget 0A",
-        "none\nrefused line\n18446744073709551615\n- 18446744073709551615\nlen 1\nrefused line\n7\n",
-    ),
-    (
-        "insert 00ffAB 00000000000000000001\ninsert 00 000000000000000000001\nlist\n",
-        "none\nrefused line\n00ffab 1\nend 1\n",
-    ),
-    (
-        "list\r\nlist \n list\nlist\n",
-        "refused line\nrefused line\nrefused line\nend 0\n",
-    ),
-    (
-        "get\nremove\ninsert\nget \nget - -\nlist -\n",
-        "refused line\nrefused line\nrefused line\nrefused line\nrefused line\nrefused line\n",
-    ),
-    (
-        "insert 01 +1\ninsert 01 -1\ninsert 01 \ninsert 01 1 \n",
-        "refused line\nrefused line\nrefused line\nrefused line\n",
-    ),
-    (
-        "insert 0101 1\ninsert 0102 2\ninsert 02 3\noverwrite 01 9\noverwrite 010203 4\nprefix-get 01020304\nlist\n",
-        "none\nnone\nnone\nlen 2\nlen 2\n010203 4\n010203 4\n02 3\nend 2\n",
-    ),
-    (
-        "prefix-get -\noverwrite 00\noverwrite 0 1\noverwrite 00 +1\nprefix-get 0\nprefix-get 00 1\noverwrite - 1\nprefix-get -\nlist\n",
-        "none\nrefused line\nrefused line\nrefused line\nrefused line\nrefused line\nlen 1\n- 1\n- 1\nend 1\n",
-    ),
-    (
-        "insert 0101 1\ninsert 0102 2\ninsert 02 3\nremove-prefix 01\nremove-prefix 01\nremove-prefix -\nlist\n",
-        "none\nnone\nnone\nremoved 2\nremoved 0\nremoved 1\nend 0\n",
-    ),
-    (
-        "remove-prefix\nremove-prefix 0\nremove-prefix 01 1\nremove-prefix -\nremove-Prefix 01\n",
-        "refused line\nrefused line\nrefused line\nremoved 0\nrefused line\n",
-    ),
-    ("", ""),
-    (
-        "range 02 01\ninsert 0101 1\ninsert 0102 2\ninsert 02 3\nprefix 01\nrange 0102 -\nrange - 0102\nrange 0102 0102\n",
-        "end 0\nnone\nnone\nnone\n0101 1\n0102 2\nend 2\nrefused bounds\n0101 1\nend 1\nend 0\n",
-    ),
-    (
-        "insert 010203 1\ninsert 020304 2\ninsert 02030405 3\ninsert 020304 4\nlist\nprefix-get 0102030405\nrange 03 01\nget 0\n",
-        "none\nnone\nrefused prefix\nold 2\n010203 1\n020304 4\nend 2\n010203 1\nrefused bounds\nrefused line\n",
-    ),
-    (
-        "prefix -\nrange - -\ninsert 01ff 1\ninsert 0A 2\nprefix -\nprefix 01FF\nprefix 01ff00\nprefix 0b\nrange - ff\nrange 01ff 0a\nrange 0a00 0b",
-        "end 0\nend 0\nnone\nnone\n01ff 1\n0a 2\nend 2\n01ff 1\nend 1\nend 0\nend 0\n01ff 1\n0a 2\nend 2\n01ff 1\nend 1\nend 0\n",
-    ),
-    (
-        "prefix\nprefix \nprefix 0\nprefix 01 02\nrange\nrange 01\nrange 1 2\nrange 01 2\nrange 01  02\nrange 01 02 03\nrange 01 02 ",
-        "refused line\nrefused line\nrefused line\nrefused line\nrefused line\nrefused line\nrefused line\nrefused line\nrefused line\nrefused line\nrefused line\n",
-    ),
-    (
-        "insert - 5\nprefix -\nprefix 00\nrange - 00\nrange - -\nrange 00 -\nlist\n",
-        "none\n- 5\nend 1\nend 0\n- 5\nend 1\nend 0\nrefused bounds\n- 5\nend 1\n",
-    ),
-];
+// Lines and, behind `=`, their answers; between two tables stands `;`.
+const TABLES: &str = "insert 0102 7
+get 0102
+list
+=none
+7
+0102 7
+end 1
+;insert 0102 7
+insert 01 8
+insert 0102 9
+remove 0102
+remove 0102
+insert 01 8
+list
+=none
+refused prefix
+old 7
+9
+none
+none
+01 8
+end 1
+;insert 0A 007
+get 0a
+get 0g
+insert 01
+insert 01  2
+prefix 01
+prefix
+=none
+7
+refused line
+refused line
+refused line
+end 0
+refused line
+;insert 010203 1
+insert 020304 2
+insert 02030405 3
+insert 020304 4
+list
+prefix-get 0102030405
+get 0
+=none
+none
+refused prefix
+old 2
+010203 1
+020304 4
+end 2
+010203 1
+refused line
+;insert - 18446744073709551615
+insert 00 18446744073709551616
+get -
+prefix-get ff
+overwrite 0a 7
+
+get 0A=none
+refused line
+18446744073709551615
+- 18446744073709551615
+len 1
+refused line
+7
+;insert 00ffAB 00000000000000000001
+insert 00 000000000000000000001
+list
+=none
+refused line
+00ffab 1
+end 1
+;list\r
+list\x20
+ list
+list
+=refused line
+refused line
+refused line
+end 0
+;get
+remove
+insert
+get\x20
+get - -
+list -
+=refused line
+refused line
+refused line
+refused line
+refused line
+refused line
+;insert 01 +1
+insert 01 -1
+insert 01\x20
+insert 01 1\x20
+=refused line
+refused line
+refused line
+refused line
+;insert 0101 1
+insert 0102 2
+insert 02 3
+overwrite 01 9
+overwrite 010203 4
+prefix-get 01020304
+list
+=none
+none
+none
+len 2
+len 2
+010203 4
+010203 4
+02 3
+end 2
+;prefix-get -
+overwrite 00
+overwrite 0 1
+overwrite 00 +1
+prefix-get 0
+prefix-get 00 1
+overwrite - 1
+prefix-get -
+list
+=none
+refused line
+refused line
+refused line
+refused line
+refused line
+len 1
+- 1
+- 1
+end 1
+;insert 0101 1
+insert 0102 2
+insert 02 3
+remove-prefix 01
+remove-prefix 01
+remove-prefix -
+list
+=none
+none
+none
+removed 2
+removed 0
+removed 1
+end 0
+;remove-prefix
+remove-prefix 0
+remove-prefix 01 1
+remove-prefix -
+remove-Prefix 01
+=refused line
+refused line
+refused line
+removed 0
+refused line
+;=;range 02 01
+insert 0101 1
+insert 0102 2
+insert 02 3
+prefix 01
+range 0102 -
+range - 0102
+range 0102 0102
+=end 0
+none
+none
+none
+0101 1
+0102 2
+end 2
+refused bounds
+0101 1
+end 1
+end 0
+;insert 010203 1
+insert 020304 2
+insert 02030405 3
+insert 020304 4
+list
+prefix-get 0102030405
+range 03 01
+get 0
+=none
+none
+refused prefix
+old 2
+010203 1
+020304 4
+end 2
+010203 1
+refused bounds
+refused line
+;prefix -
+range - -
+insert 01ff 1
+insert 0A 2
+prefix -
+prefix 01FF
+prefix 01ff00
+prefix 0b
+range - ff
+range 01ff 0a
+range 0a00 0b=end 0
+end 0
+none
+none
+01ff 1
+0a 2
+end 2
+01ff 1
+end 1
+end 0
+end 0
+01ff 1
+0a 2
+end 2
+01ff 1
+end 1
+end 0
+;prefix
+prefix\x20
+prefix 0
+prefix 01 02
+range
+range 01
+range 1 2
+range 01 2
+range 01  02
+range 01 02 03
+range 01 02 =refused line
+refused line
+refused line
+refused line
+refused line
+refused line
+refused line
+refused line
+refused line
+refused line
+refused line
+;insert - 5
+prefix -
+prefix 00
+range - 00
+range - -
+range 00 -
+list
+=none
+- 5
+end 1
+end 0
+- 5
+end 1
+end 0
+refused bounds
+- 5
+end 1
+";
 
 #[test]
 fn tables_of_lines(rt: HostRuntime) {
-    for (text, answers) in TABLES {
+    for table in TABLES.split(';') {
+        let (text, answers) = table.split_once('=').expect(&rt, "answers");
         for piece in [1, 2, 3, 5, 7, 100] {
             let ends = Ends { piece, ..SOUND };
             assert_outcome(&rt, text.as_bytes(), ends, Ok(()), answers.as_bytes());

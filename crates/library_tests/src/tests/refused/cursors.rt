@@ -6,17 +6,6 @@ use std::process::Abort;
 
 type Map = TreeMap<u8, usize, 2>;
 
-// A map of these keys, each with ten times itself as value. Where memory is refused, the pair is handed in again.
-fn fill(rt: &(impl Abort + Print), map: &mut Map) {
-    for key in [5u8, 2, 8, 4] {
-        let value = 10 * key as usize;
-        if map.insert(key, value).is_err() {
-            say_refused(rt);
-            assert!(rt; map.insert(key, value).is_ok());
-        }
-    }
-}
-
 // From 4 on: the first pair is taken, the last one read, and the one between taken too, which is the last to be passed.
 fn step_and_take(rt: &impl Abort, map: &mut Map) {
     let mut cursor = map.cursor(Bound::Included(&4u8), Bound::Unbounded);
@@ -33,8 +22,11 @@ fn step_and_take(rt: &impl Abort, map: &mut Map) {
 
 #[test]
 fn cursors(rt: HostRuntime) {
-    let mut map = Map::with_prefix_len(rt.alloc());
-    fill(&rt, &mut map);
+    let pairs = [(5, 50), (2, 20), (8, 80), (4, 40)];
+    let Ok(mut map) = Map::from_array(rt.alloc(), pairs) else {
+        say_refused(&rt);
+        return;
+    };
     step_and_take(&rt, &mut map);
     let (len, nodes) = (map.len(), map.inner_nodes());
     drop(map);

@@ -40,17 +40,6 @@ fn extend_set_copied(set: &mut Set) -> (bool, usize) {
     (is_all, keys.len())
 }
 
-// How many keys must be there: all of them, or those that were given before the one that was refused.
-fn count_of(rt: &(impl Abort + Print), (is_all, left): (bool, usize), all: usize) -> usize {
-    if is_all {
-        assert!(rt; left == 0);
-        return all;
-    }
-    say_refused(rt);
-    assert!(rt; left < all);
-    all.wrapping_sub(left).wrapping_sub(1)
-}
-
 // The last key, if it is its own value.
 fn last_of(map: &Map) -> Option<u8> {
     match map.last_key_value() {
@@ -59,10 +48,20 @@ fn last_of(map: &Map) -> Option<u8> {
     }
 }
 
-// There are so many keys, of which this is the last: they are from 1 on.
-fn assert_front(rt: &impl Abort, len: usize, last: Option<u8>, count: usize) {
-    assert!(rt; len == count);
-    assert!(rt; usize::from(last.unwrap_or(0)) == count);
+// The keys from 1 on are there, so many with this one as the last, and no other: all of them, or those that were given before the one that was refused.
+fn assert_front(
+    rt: &(impl Abort + Print),
+    (is_all, left): (bool, usize),
+    all: usize,
+    len: usize,
+    last: Option<u8>,
+) {
+    if !is_all {
+        say_refused(rt);
+    }
+    assert!(rt; left < all && (left == 0 || !is_all));
+    let count = all.wrapping_sub(left).wrapping_sub(!is_all as usize);
+    assert!(rt; len == count && usize::from(last.unwrap_or(0)) == count);
 }
 
 #[test]
@@ -76,7 +75,7 @@ fn pairs(rt: HostRuntime) {
         };
         let (len, last) = (map.len(), last_of(&map));
         drop(map);
-        assert_front(&rt, len, last, count_of(&rt, ran, all));
+        assert_front(&rt, ran, all, len, last);
     }
 }
 
@@ -91,6 +90,6 @@ fn elements(rt: HostRuntime) {
         };
         let (len, last) = (set.len(), set.last().copied());
         drop(set);
-        assert_front(&rt, len, last, count_of(&rt, ran, 18));
+        assert_front(&rt, ran, 18, len, last);
     }
 }

@@ -1,31 +1,32 @@
 //! Room that is made, or refused. Once it is made, the insertions are not.
-use super::{KEYS, say_refused};
+use super::{key_of, say_refused};
 use blart_map::TreeMap;
 use blart_set::TreeSet;
 use std::process::Abort;
 
 type Map = TreeMap<[u8; 2], usize, 2>;
 
-// Whether by `try_insert`, at which place of the keys, what the call answers, and how much room is left after it.
-const CALLS: [(bool, usize, Option<usize>, usize); 7] = [
-    (false, 0, None, 4),
-    (true, 1, None, 3),
-    (false, 2, None, 2),
-    (false, 3, None, 1),
-    (false, 0, Some(0), 1),
-    (true, 0, Some(0), 1),
-    (true, 4, None, 0),
+// Whether by `try_insert`, at which place of the keys, and how much room is left after it.
+const CALLS: [(bool, usize, usize); 7] = [
+    (false, 0, 4),
+    (true, 1, 3),
+    (false, 2, 2),
+    (false, 3, 1),
+    (false, 0, 1),
+    (true, 0, 1),
+    (true, 4, 0),
 ];
 
-// Puts five pairs beside the one that is there, where there is room for them. What adds no pair leaves the room as it is.
+// Puts five pairs beside the one that is there, where there is room for them. What adds no pair leaves the room as it is, and answers the value of the first.
 fn fill(rt: &(impl Abort + Print), map: &mut Map) -> usize {
     let Ok(mut room) = map.reserve(5) else {
         say_refused(rt);
         return 0;
     };
     let mut is_well = true;
-    for (is_tried, place, old, left) in CALLS {
-        let key = KEYS[place % KEYS.len()];
+    for (is_tried, place, left) in CALLS {
+        let key = key_of(place);
+        let old = if room.left() == left { Some(0) } else { None };
         assert!(rt; room.left() > 0);
         let got = if is_tried {
             room.try_insert(key, place)

@@ -6,17 +6,6 @@ use std::process::Abort;
 // Paths of which none begins another, in no order.
 const PATHS: [[u8; 4]; 3] = [*b"/app", *b"/img", *b"/api"];
 
-// The bytes as a path, at the second try if the first is refused.
-fn path(rt: &(impl Abort + AllocGlobal + Print), bytes: &[u8]) -> Vec<u8> {
-    match Vec::from_slice(rt.alloc(), bytes) {
-        Ok(path) => path,
-        Err(_) => {
-            say_refused(rt);
-            Vec::from_slice(rt.alloc(), bytes).expect(rt, "memory")
-        }
-    }
-}
-
 // The first so many paths are mounted, each with its place, and no other is.
 fn assert_mounted(rt: &impl Abort, mounts: &Mounts<usize>, count: usize) {
     assert!(rt; mounts.len() == count);
@@ -29,8 +18,11 @@ fn assert_mounted(rt: &impl Abort, mounts: &Mounts<usize>, count: usize) {
     }
 }
 
-// Mounts a path that is related to no other. Answers whether there was memory.
-fn puts(mounts: &mut Mounts<usize>, over: bool, path: Vec<u8>, place: usize) -> bool {
+// Mounts the path of a place, which is related to no other. Answers whether there was memory for the path and its mount.
+fn puts(rt: &impl AllocGlobal, mounts: &mut Mounts<usize>, over: bool, place: usize) -> bool {
+    let Ok(path) = Vec::from_slice(rt.alloc(), &PATHS[place % 3]) else {
+        return false;
+    };
     if over {
         mounts.mount_over(path, place).is_ok()
     } else {
@@ -38,18 +30,17 @@ fn puts(mounts: &mut Mounts<usize>, over: bool, path: Vec<u8>, place: usize) -> 
     }
 }
 
-// Mounts the path of a place. A refused call leaves the table as it was.
+// Mounts the path of a place, at the second try if the first is refused, which leaves the table as it was.
 fn mount_next(
     rt: &(impl Abort + AllocGlobal + Print),
     mounts: &mut Mounts<usize>,
     over: bool,
     place: usize,
 ) {
-    let bytes = PATHS[place % PATHS.len()];
-    if !puts(mounts, over, path(rt, &bytes), place) {
+    if !puts(rt, mounts, over, place) {
         say_refused(rt);
         assert_mounted(rt, mounts, place);
-        assert!(rt; puts(mounts, over, path(rt, &bytes), place));
+        assert!(rt; puts(rt, mounts, over, place));
     }
     assert_mounted(rt, mounts, place.wrapping_add(1));
 }
@@ -72,8 +63,14 @@ fn mounts(rt: HostRuntime) {
 #[test]
 fn mounts_over(rt: HostRuntime) {
     let mut mounts = all_mounted(&rt, true);
-    let is_put = mounts.mount_over(path(&rt, b"/ap"), 7).is_ok();
-    let len = mounts.len();
+    let made: Result<_, _> = Vec::from_slice(rt.alloc(), b"/ap");
+    let is_right = match made {
+        Ok(path) => mounts.mount_over(path, 7).is_ok() && mounts.len() == 2,
+        Err(_) => {
+            say_refused(&rt);
+            mounts.len() == 3
+        }
+    };
     drop(mounts);
-    assert!(rt; is_put && len == 2);
+    assert!(rt; is_right);
 }

@@ -2,7 +2,7 @@
 ghost use Rattle.std.specs.Prelude.{◌≡◌};
 ghost use Rattle.art_tree.specs.Content.{Fits};
 
-use super::{KEYS, say_refused};
+use super::{key_of, say_refused};
 use art_tree::{Point, Tree, Visits};
 use std::process::Abort;
 
@@ -11,9 +11,10 @@ type Keys = Tree<[u8; 2], usize, 2>;
 // The tree has the first so many of the keys, each with its place as value, and so many inner nodes.
 fn assert_keys(rt: &impl Abort, tree: &Keys, count: usize, nodes: usize) {
     assert!(rt; tree.len() == count && tree.inner_nodes() == nodes);
-    for place in 0..count.min(KEYS.len()) {
-        let is_there = match tree.get(&KEYS[place], &mut Visits::new()) {
-            Some((_, own, value)) => *own == KEYS[place] && *value == place,
+    for place in 0..count {
+        let key = key_of(place);
+        let is_there = match tree.get(&key, &mut Visits::new()) {
+            Some((_, own, value)) => *own == key && *value == place,
             None => false,
         };
         assert!(rt; is_there);
@@ -35,7 +36,8 @@ fn room_at(rt: &(impl Abort + Print), tree: &mut Keys, point: &Point, count: usi
 }
 
 // Places the key that comes next, at the point that was found before room was made.
-fn place_next(rt: &(impl Abort + Print), tree: &mut Keys, place: usize, key: [u8; 2]) {
+fn place_next(rt: &(impl Abort + Print), tree: &mut Keys, place: usize) {
+    let key = key_of(place);
     let point = tree.point(&key);
     room_at(rt, tree, &point, place);
     match point {
@@ -49,8 +51,8 @@ fn place_next(rt: &(impl Abort + Print), tree: &mut Keys, place: usize, key: [u8
 #[test]
 fn make_room_and_reserve(rt: HostRuntime) {
     let mut tree = Keys::new(rt.alloc());
-    for place in 0..KEYS.len() {
-        place_next(&rt, &mut tree, place, KEYS[place]);
+    for place in 0..5usize {
+        place_next(&rt, &mut tree, place);
     }
     assert_keys(&rt, &tree, 5, 2);
     tree.reserve(0).expect(&rt, "no memory is asked for");
