@@ -39,7 +39,13 @@ fn compare<const PREFIX_LEN: usize>(
     let mut text = Text::new(alloc);
     show_difference(PREFIX_LEN, script, expected, got.as_slice(), &mut text);
     drop(got);
-    Err(Failure::Differs(text))
+    match text.is_whole() {
+        Ok(()) => Err(Failure::Differs(text)),
+        Err(refused) => {
+            drop(text);
+            Err(Failure::from(refused))
+        }
+    }
 }
 
 // Adds the length and the first line of the script whose answers differ, and these.
