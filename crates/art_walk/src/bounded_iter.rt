@@ -15,7 +15,7 @@ use crate::walk::Walk;
 use art_tree::{LeafId, Tree, Visits};
 use blart_keys::AsBytes;
 use std::iter::{DoubleEndedIterator, FusedIterator, Iterator};
-use std::marker::Model;
+use std::marker::{Model, PhantomData};
 use std::ops::Bound;
 
 /// The pairs within two bounds from both ends, in byte order of their keys. Each step reads one leaf, and where the ends have met none comes at either.
@@ -37,7 +37,7 @@ pub type SubtreeIter<'a, K, V, const PREFIX_LEN: usize> = BoundedIter<
 #[derive(Drop)]
 pub struct BoundedIter<'a, K, V, M, const PREFIX_LEN: usize> {
     walk: Walk<'a, K, V>,
-    kind: M,
+    kind: PhantomData<M>,
 }
 
 impl<'a, K, V, M, const PREFIX_LEN: usize> Model for BoundedIter<'a, K, V, M, PREFIX_LEN> {
@@ -71,7 +71,7 @@ impl<'a, K: AsBytes, V, const PREFIX_LEN: usize> BoundedIter<'a, K, V, InRange, 
         let cursor = Cursor::range(tree, start, end, visits);
         BoundedIter {
             walk: Walk::new(tree.leaves(), cursor),
-            kind: InRange,
+            kind: PhantomData,
         }
     }
 }
@@ -90,7 +90,7 @@ impl<'a, K: AsBytes, V, const PREFIX_LEN: usize> BoundedIter<'a, K, V, BelowFron
         let cursor = Cursor::prefix(tree, front, visits);
         BoundedIter {
             walk: Walk::new(tree.leaves(), cursor),
-            kind: BelowFront,
+            kind: PhantomData,
         }
     }
 }
@@ -103,12 +103,12 @@ impl<'a, K: AsBytes, V, const PREFIX_LEN: usize> BoundedIter<'a, K, V, InSubtree
     {
         BoundedIter {
             walk: Walk::new(tree.leaves(), Cursor::between(first, last)),
-            kind: InSubtree,
+            kind: PhantomData,
         }
     }
 }
 
-impl<'a, K, V, M: Drop, const PREFIX_LEN: usize> Iterator for BoundedIter<'a, K, V, M, PREFIX_LEN> {
+impl<'a, K, V, M, const PREFIX_LEN: usize> Iterator for BoundedIter<'a, K, V, M, PREFIX_LEN> {
     type Item = (&'a K, &'a V);
 
     ghost next_gives = { YieldsFirstBy (λ item. (item.0.now, item.1.now)) (λ rest. rest) };
@@ -122,7 +122,7 @@ impl<'a, K, V, M: Drop, const PREFIX_LEN: usize> Iterator for BoundedIter<'a, K,
     }
 }
 
-impl<'a, K, V, M: Drop, const PREFIX_LEN: usize> DoubleEndedIterator
+impl<'a, K, V, M, const PREFIX_LEN: usize> DoubleEndedIterator
     for BoundedIter<'a, K, V, M, PREFIX_LEN> {
     ghost next_back_gives = { YieldsLastBy (λ item. (item.0.now, item.1.now)) (λ rest. rest) };
 
@@ -133,5 +133,4 @@ impl<'a, K, V, M: Drop, const PREFIX_LEN: usize> DoubleEndedIterator
     }
 }
 
-impl<'a, K, V, M: Drop, const PREFIX_LEN: usize> FusedIterator
-    for BoundedIter<'a, K, V, M, PREFIX_LEN> {}
+impl<'a, K, V, M, const PREFIX_LEN: usize> FusedIterator for BoundedIter<'a, K, V, M, PREFIX_LEN> {}

@@ -6,7 +6,7 @@ use crate::readings::{Lengths, Order};
 use crate::sheet::Sheet;
 use crate::stores::{filled, remade};
 use crate::workload::Workload;
-use blart::AsBytes;
+use blart_keys::AsBytes;
 
 /// Times maps that are made of many pairs, filled in order, joined, copied and parted.
 pub(crate) fn time_bulk<M: Copied, J: Joiner>(

@@ -12,7 +12,7 @@ use crate::sheet::Sheet;
 use crate::stores::{filled, remade};
 use crate::wishes::{Group, Wishes};
 use crate::workload::Workload;
-use blart::{AsBytes, NoPrefixesBytes};
+use blart_keys::{AsBytes, NoPrefixesBytes};
 use prefix_router::Mounts;
 
 /// How often each map is timed. The least time counts.

@@ -2,7 +2,8 @@
 use crate::failure::Failure;
 use crate::keys::Made;
 use crate::maps::{Contestant, Ours, Theirs};
-use blart::{AsBytes, Map, NoPrefixesBytes};
+use blart_keys::{AsBytes, NoPrefixesBytes};
+use blart_map::TreeMap;
 use std::alloc::{AllocError, Global};
 use std::collections::BTreeMap;
 use std::iter::FromIterator;
@@ -18,7 +19,7 @@ pub(crate) trait Joiner: Contestant {
 
 impl<K: Made + NoPrefixesBytes> Joiner for Ours<K> {
     fn of(alloc: Global, items: Vec<(K, u64)>) -> Result<Self, AllocError> {
-        Map::from_vec(alloc, items)
+        TreeMap::from_vec(alloc, items)
     }
 
     fn join(&mut self, other: &mut Self) -> Result<(), Failure> {

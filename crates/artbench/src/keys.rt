@@ -3,7 +3,7 @@ ghost use Rattle.std.specs.Prelude.{◌≡◌};
 ghost use Rattle.std.specs.List.{each_same};
 
 use crate::failure::Failure;
-use blart::{AsBytes, ZKey, ZKeyError};
+use blart_keys::{AsBytes, ZKey, ZKeyError};
 use std::alloc::Global;
 use std::clone::Clone;
 

@@ -27,7 +27,7 @@ use crate::sheet::Sheet;
 use crate::tables::{write_keys, write_sheet};
 use crate::wishes::{Group, Wishes};
 use crate::workload::{Kind, Workload};
-use blart::{NoPrefixesBytes, ZKey};
+use blart_keys::{NoPrefixesBytes, ZKey};
 use std::env;
 use std::iter::FromIterator;
 use std::process::ExitCode;

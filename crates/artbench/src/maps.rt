@@ -4,14 +4,14 @@ use crate::keys::{Key, Made};
 use crate::readings::{Lengths, Reading};
 use crate::stores::Store;
 use crate::workload::Front;
-use blart::map::{DEFAULT_PREFIX_LEN, Reserved, Room};
-use blart::{AsBytes, Map, TryInsertError};
+use blart_keys::AsBytes;
+use blart_map::{DEFAULT_PREFIX_LEN, Reserved, Room, TreeMap, TryInsertError};
 use std::alloc::{AllocError, Global};
 use std::collections::BTreeMap;
 use std::ops::Bound;
 
 /// The map under test.
-pub(crate) type Ours<K> = Map<K, u64>;
+pub(crate) type Ours<K> = TreeMap<K, u64, DEFAULT_PREFIX_LEN>;
 
 // The map under test while it has room.
 type OurRoom<'a, K> = Reserved<'a, Ours<K>, Room<K, u64, { DEFAULT_PREFIX_LEN }>>;
@@ -96,7 +96,7 @@ impl<K: Made> Store for Ours<K> {
     type Key = K;
 
     fn empty(alloc: Global) -> Self {
-        Map::new(alloc)
+        TreeMap::new(alloc)
     }
 
     fn put(&mut self, key: K, value: u64) -> Result<bool, Failure> {

@@ -4,7 +4,7 @@ use crate::resolvers::Resolver;
 use crate::sheet::Sheet;
 use crate::stores::remade;
 use crate::workload::Workload;
-use blart::AsBytes;
+use blart_keys::AsBytes;
 
 /// Times as many paths as there are keys, over a tenth as many mounts: beside a map with ranges, and beside a vector with a binary search.
 pub(crate) fn time_mounts<T: Resolver, V: Resolver, K: AsBytes>(

@@ -2,7 +2,7 @@
 use crate::failure::Failure;
 use crate::maps::Theirs;
 use crate::stores::Store;
-use blart::TryInsertError;
+use blart_map::TryInsertError;
 use prefix_router::Mounts;
 use std::alloc::Global;
 use std::ops::Bound;

@@ -2,7 +2,7 @@
 use crate::sets::{Merge, SetContestant};
 use crate::sheet::Sheet;
 use crate::workload::Workload;
-use blart::AsBytes;
+use blart_keys::AsBytes;
 
 /// Times the walks over two sets. Of each six keys one has four and the other three, of which they share two.
 pub(crate) fn time_sets<S: SetContestant, K: AsBytes>(

@@ -3,8 +3,7 @@ ghost use Rattle.std.specs.Iterator.{IsFinite};
 
 use crate::failure::Failure;
 use crate::stores::Store;
-use blart::map::DEFAULT_PREFIX_LEN;
-use blart::{TreeSet, TryInsertError};
+use blart_set::{DEFAULT_PREFIX_LEN, TreeSet, TryInsertError};
 use std::alloc::Global;
 use std::collections::BTreeSet;
 use std::iter::Iterator;

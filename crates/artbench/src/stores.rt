@@ -2,7 +2,7 @@
 use crate::failure::Failure;
 use crate::keys::Made;
 use crate::sheet::Sheet;
-use blart::AsBytes;
+use blart_keys::AsBytes;
 use std::alloc::Global;
 
 /// A map or another store of keys.

@@ -1,7 +1,7 @@
 //! The keys of a run, made from a seed.
 use crate::failure::Failure;
 use crate::keys::{Key, Made};
-use blart::AsBytes;
+use blart_keys::AsBytes;
 use rand::seq::SliceRandom;
 use rand_core::{Rng, SeedableRng};
 use rand_xoshiro::Xoshiro256PlusPlus;

@@ -3,7 +3,6 @@
 //! [`Words`] reads bytes, numbers, bounds, and keys of a [`ScriptKey`] type. [`LineCall`] is the call that a line names, and others are the calls of entries. A [`Shown`] value is written into a [`Text`], and [`show_walk`] and [`show_lending`] write what walks give.
 mod answered;
 mod compared;
-mod end_calls;
 mod entry_calls;
 mod keys;
 mod line_calls;
@@ -22,15 +21,14 @@ mod walks;
 
 pub use answered::{Answered, Unanswered};
 pub use compared::Compared;
-pub use end_calls::EndCall;
-pub use entry_calls::{EntryCall, EntryLine, OccupiedCall, PlaceCall, VacantCall, ValueCall};
+pub use entry_calls::{EntryCall, EntryGroup, EntryLine, EntryName};
 pub use keys::{FixedKey, ScriptKey};
 pub use line_calls::LineCall;
 pub use lists::items_of;
 pub use map_names::MapName;
 pub use named::named;
 pub use picks::{BytesPick, ValuePick};
-pub use prefix_calls::{InnerCall, PrefixCall, RelatedCall, SetCall};
+pub use prefix_calls::{PrefixCall, PrefixName};
 pub use reading::Words;
 pub use set_names::SetName;
 pub use tagged::Tagged;

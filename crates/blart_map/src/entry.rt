@@ -1,5 +1,5 @@
 //! A key's place in a map.
-ghost use Rattle.std.specs.Prelude.{◌≡◌, not, is_ok, Some, None, IfOk, OnErr, IfSome};
+ghost use Rattle.std.specs.Prelude.{◌≡◌, Some, None, IfOk, OnErr, IfSome};
 ghost use Rattle.std.specs.Borrow.{sem, MutBor};
 ghost use Rattle.std.specs.Option.{unwrap_or, UnwrapsOrElse};
 ghost use Rattle.std.specs.Fn.{FnOnceReturnsAt};

@@ -13,7 +13,7 @@ use crate::map::TreeMap;
 use crate::occupied::OccupiedEntry;
 use crate::walks::lending_walk::{LendingWalk, SubtreeIterMut};
 use art_tree::LeafId;
-use art_walk::{Cursor, InSubtree, SubtreeIter};
+use art_walk::{Cursor, SubtreeIter};
 use blart_keys::AsBytes;
 use std::alloc::AllocError;
 use std::marker::PhantomData;
@@ -183,7 +183,7 @@ impl<'a, K: AsBytes + Drop, V, const PREFIX_LEN: usize> InnerOccupiedEntry<
             ..
         } = self;
         map.numbers_law();
-        LendingWalk::of(map, Cursor::between(first, last), InSubtree)
+        LendingWalk::of(map, Cursor::between(first, last))
     }
 }
 

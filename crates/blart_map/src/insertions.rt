@@ -1,5 +1,5 @@
 //! Insertions.
-ghost use Rattle.std.specs.Prelude.{◌≡◌, ◌+◌, ℕ, List, true, false, length, option_map, is_some, OnOk, IfOk, OnErr, IfErr, Some, None, if◌then◌else◌};
+ghost use Rattle.std.specs.Prelude.{◌≡◌, ◌+◌, ℕ, List, true, false, length, option_map, is_some, OnOk, IfOk, OnErr, IfErr, Some, if◌then◌else◌};
 ghost use Rattle.blart_keys.specs.Bytes.{begins};
 ghost use Rattle.blart_keys.specs.Steps.{Puts, Inserts};
 ghost use Rattle.blart_keys.specs.Stored.{kept, pair_at, pair_at_front, value_at, has, overlaps, Updates, Refuses};

@@ -1,5 +1,5 @@
 //! The map, and what can be asked of it.
-ghost use Rattle.std.specs.Prelude.{◌≡◌, ◌==◌, ◌+◌, ◌-◌, ◌≤◌, ℕ, [], true, length, slice_get, option_map, option_copied, IfSome, Some};
+ghost use Rattle.std.specs.Prelude.{◌≡◌, ◌==◌, ◌+◌, ◌-◌, ◌≤◌, [], true, length, slice_get, option_map, option_copied, IfSome, Some};
 ghost use Rattle.std.specs.FinSet as set;
 ghost use Rattle.blart_keys.specs.Bytes.{begins};
 ghost use Rattle.blart_keys.specs.Steps.{bytes};

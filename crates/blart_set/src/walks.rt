@@ -70,7 +70,7 @@ impl<'a, K, M, const PREFIX_LEN: usize> Model for BoundedKeys<'a, K, M, PREFIX_L
     ghost view = { λ it. map (λ p. p.0) it.pairs };
 }
 
-impl<'a, K, M: Drop, const PREFIX_LEN: usize> Iterator for BoundedKeys<'a, K, M, PREFIX_LEN> {
+impl<'a, K, M, const PREFIX_LEN: usize> Iterator for BoundedKeys<'a, K, M, PREFIX_LEN> {
     type Item = &'a K;
 
     ghost next_gives = { YieldsFirstRef (λ rest. rest) };
@@ -86,8 +86,7 @@ impl<'a, K, M: Drop, const PREFIX_LEN: usize> Iterator for BoundedKeys<'a, K, M,
     }
 }
 
-impl<'a, K, M: Drop, const PREFIX_LEN: usize> DoubleEndedIterator
-    for BoundedKeys<'a, K, M, PREFIX_LEN> {
+impl<'a, K, M, const PREFIX_LEN: usize> DoubleEndedIterator for BoundedKeys<'a, K, M, PREFIX_LEN> {
     ghost next_back_gives = { YieldsLastRef (λ rest. rest) };
 
     /// The last element that is left.
@@ -99,7 +98,7 @@ impl<'a, K, M: Drop, const PREFIX_LEN: usize> DoubleEndedIterator
     }
 }
 
-impl<'a, K, M: Drop, const PREFIX_LEN: usize> FusedIterator for BoundedKeys<'a, K, M, PREFIX_LEN> {}
+impl<'a, K, M, const PREFIX_LEN: usize> FusedIterator for BoundedKeys<'a, K, M, PREFIX_LEN> {}
 
 #[tactic(auto, unfolding(crate::specs::Elements::elements))]
 impl<K: AsBytes, const PREFIX_LEN: usize> TreeSet<K, PREFIX_LEN> {

@@ -2,8 +2,8 @@
 //!
 //! The size of an entry whose key type is a parameter is not known, so keys that are lists of bytes and keys of three bytes have functions of their own.
 use crate::words::{
-    Answered, EntryCall, EntryLine, OccupiedCall, PlaceCall, Shown, Text, Unanswered, VacantCall,
-    ValueCall, Words, length_of, value_of,
+    Answered, EntryCall, EntryGroup, EntryLine, EntryName, Shown, Text, Unanswered, Words,
+    length_of, value_of,
 };
 use blart_keys::AsBytes;
 use blart_map::{Entry, InsertPrefixError, TreeMap};
@@ -14,11 +14,11 @@ pub(crate) type MapOf<K, const P: usize> = TreeMap<K, u64, P>;
 
 type EntryOf<'a, K, const P: usize> = Entry<'a, K, u64, P, MapOf<K, P>>;
 
-// Whether an entry of this kind has the call.
-fn has_call<K: AsBytes, const P: usize>(entry: &EntryOf<'_, K, P>, call: EntryCall) -> bool {
-    match call {
-        EntryCall::Occupied(_) => matches!(entry, Entry::Occupied(_)),
-        EntryCall::Vacant(_) => matches!(entry, Entry::Vacant(_)),
+// Whether an entry of this kind has the calls of the group.
+fn has_calls<K: AsBytes, const P: usize>(entry: &EntryOf<'_, K, P>, group: EntryGroup) -> bool {
+    match group {
+        EntryGroup::Occupied => matches!(entry, Entry::Occupied(_)),
+        EntryGroup::Vacant => matches!(entry, Entry::Vacant(_)),
         _ => true,
     }
 }
@@ -29,16 +29,6 @@ fn kind_of<K: AsBytes, const P: usize>(entry: &EntryOf<'_, K, P>) -> &'static [u
         Entry::Occupied(_) => b"Occupied ",
         Entry::Vacant(_) => b"Vacant ",
     }
-}
-
-// Adds the pair of an entry.
-macro_rules! show_placed {
-    ($placed:expr, $text:expr) => {
-        match $placed {
-            Ok(place) => Ok::<_, AllocError>((place.key(), place.get())).show($text),
-            Err(refused) => Err::<(), AllocError>(refused).show($text),
-        }
-    };
 }
 
 // ---- keys that are lists of bytes
@@ -52,12 +42,12 @@ pub fn enter_bytes<const P: usize>(
     let word = words.word()?;
     let line = EntryLine::read(words)?;
     let key = words.key_of(word)?;
-    match line.call {
-        EntryCall::Key => show_key(map, key, line, text),
-        EntryCall::Value(call) => show_value(map, key, line, call, text),
-        EntryCall::Place(call) => show_place(map, key, line, call, text),
-        EntryCall::Occupied(call) => show_occupied(map, key, line, call, text),
-        EntryCall::Vacant(call) => show_vacant(map, key, line, call, text),
+    match line.call.name.group() {
+        EntryGroup::Key => show_key(map, key, line, text),
+        EntryGroup::Value => show_value(map, key, line, text),
+        EntryGroup::Place => show_place(map, key, line, text),
+        EntryGroup::Occupied => show_occupied(map, key, line, text),
+        EntryGroup::Vacant => show_vacant(map, key, line, text),
     }
     Ok(())
 }
@@ -76,7 +66,7 @@ fn open<'a, const P: usize>(
             return None;
         }
     };
-    if !has_call(&entry, line.call) {
+    if !has_calls(&entry, line.call.name.group()) {
         text.stop(Unanswered::NoCall);
         return None;
     }
@@ -104,17 +94,17 @@ fn show_value<const P: usize>(
     map: &mut MapOf<Vec<u8>, P>,
     key: Vec<u8>,
     line: EntryLine,
-    call: ValueCall,
     text: &mut Text,
 ) {
     let Some(entry) = open(map, key, line, text) else {
         return;
     };
-    let lent = match call {
-        ValueCall::OrInsert(value) => entry.or_insert(value),
-        ValueCall::OrDefault => entry.or_default(),
-        ValueCall::OrInsertWith(value) => entry.or_insert_with(|| value),
-        ValueCall::OrInsertWithKey => entry.or_insert_with_key(length_of),
+    let value = line.call.number;
+    let lent = match line.call.name {
+        EntryName::OrInsert => entry.or_insert(value),
+        EntryName::OrDefault => entry.or_default(),
+        EntryName::OrInsertWith => entry.or_insert_with(|| value),
+        _ => entry.or_insert_with_key(length_of),
     };
     value_of(lent).show(text);
 }
@@ -124,18 +114,18 @@ fn show_place<const P: usize>(
     map: &mut MapOf<Vec<u8>, P>,
     key: Vec<u8>,
     line: EntryLine,
-    call: PlaceCall,
     text: &mut Text,
 ) {
     let Some(entry) = open(map, key, line, text) else {
         return;
     };
-    let answer = match call {
-        PlaceCall::OrInsertEntry(value) => entry.or_insert_entry(value),
-        PlaceCall::OrDefaultEntry => entry.or_default_entry(),
-        PlaceCall::OrInsertWithEntry(value) => entry.or_insert_with_entry(|| value),
-        PlaceCall::OrInsertWithKeyEntry => entry.or_insert_with_key_entry(length_of),
-        PlaceCall::InsertEntry(value) => entry.insert_entry(value),
+    let value = line.call.number;
+    let answer = match line.call.name {
+        EntryName::OrInsertEntry => entry.or_insert_entry(value),
+        EntryName::OrDefaultEntry => entry.or_default_entry(),
+        EntryName::OrInsertWithEntry => entry.or_insert_with_entry(|| value),
+        EntryName::OrInsertWithKeyEntry => entry.or_insert_with_key_entry(length_of),
+        _ => entry.insert_entry(value),
     };
     show_placed!(answer, text);
 }
@@ -145,7 +135,6 @@ fn show_occupied<const P: usize>(
     map: &mut MapOf<Vec<u8>, P>,
     key: Vec<u8>,
     line: EntryLine,
-    call: OccupiedCall,
     text: &mut Text,
 ) {
     let Some(entry) = open(map, key, line, text) else {
@@ -153,13 +142,13 @@ fn show_occupied<const P: usize>(
     };
     match entry.or_insert_entry(0) {
         Ok(mut place) => {
-            let value = match call {
-                OccupiedCall::Get => *place.get(),
-                OccupiedCall::Insert(value) => place.insert(value),
-                OccupiedCall::GetMut(value) => mem::replace(place.get_mut(), value),
-                OccupiedCall::IntoMut(value) => mem::replace(place.into_mut(), value),
-                OccupiedCall::Remove => place.remove(),
-                OccupiedCall::RemoveEntry => return place.remove_entry().show(text),
+            let value = match line.call.name {
+                EntryName::Get => *place.get(),
+                EntryName::Insert => place.insert(line.call.number),
+                EntryName::GetMut => mem::replace(place.get_mut(), line.call.number),
+                EntryName::IntoMut => mem::replace(place.into_mut(), line.call.number),
+                EntryName::Remove => place.remove(),
+                _ => return place.remove_entry().show(text),
             };
             value.show(text);
         }
@@ -172,14 +161,13 @@ fn show_vacant<const P: usize>(
     map: &mut MapOf<Vec<u8>, P>,
     key: Vec<u8>,
     line: EntryLine,
-    call: VacantCall,
     text: &mut Text,
 ) {
     if let Some(Entry::Vacant(entry)) = open(map, key, line, text) {
-        match call {
-            VacantCall::IntoKey => entry.into_key().show(text),
-            VacantCall::Insert(value) => value_of(entry.insert(value)).show(text),
-            VacantCall::InsertEntry(value) => show_placed!(entry.insert_entry(value), text),
+        match line.call.name {
+            EntryName::IntoKey => entry.into_key().show(text),
+            EntryName::VacantInsert => value_of(entry.insert(line.call.number)).show(text),
+            _ => show_placed!(entry.insert_entry(line.call.number), text),
         }
     }
 }
@@ -207,12 +195,10 @@ fn show_three<const P: usize>(
 ) {
     let entry = map.entry(key);
     text.push(kind_of(&entry));
-    match call {
-        EntryCall::Key => entry.key().show(text),
-        EntryCall::Value(ValueCall::OrInsert(value)) => value_of(entry.or_insert(value)).show(text),
-        EntryCall::Place(PlaceCall::InsertEntry(value)) => {
-            show_placed!(entry.insert_entry(value), text)
-        }
+    match call.name {
+        EntryName::Key => entry.key().show(text),
+        EntryName::OrInsert => value_of(entry.or_insert(call.number)).show(text),
+        EntryName::InsertEntry => show_placed!(entry.insert_entry(call.number), text),
         _ => text.stop(Unanswered::NoCall),
     }
 }

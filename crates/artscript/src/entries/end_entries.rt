@@ -1,5 +1,5 @@
 //! What the entries of the first pair and of the last answer.
-use crate::words::{Answered, EndCall, OccupiedCall, Shown, Text, Words};
+use crate::words::{Answered, EntryCall, EntryGroup, EntryName, Shown, Text, Unanswered, Words};
 use blart_keys::AsBytes;
 use blart_map::TreeMap;
 use std::mem;
@@ -11,7 +11,11 @@ pub fn enter_end<K: AsBytes + Shown + Drop, const P: usize>(
     words: Words<'_>,
     text: &mut Text,
 ) -> Answered {
-    show_end(map, is_first, EndCall::read(words)?, text);
+    let call = EntryCall::read(words)?;
+    match call.name.group() {
+        EntryGroup::Key | EntryGroup::Occupied => show_end(map, is_first, call, text),
+        _ => return Err(Unanswered::NoCall),
+    }
     Ok(())
 }
 
@@ -19,7 +23,7 @@ pub fn enter_end<K: AsBytes + Shown + Drop, const P: usize>(
 fn show_end<K: AsBytes + Shown + Drop, const P: usize>(
     map: &mut TreeMap<K, u64, P>,
     is_first: bool,
-    call: EndCall,
+    call: EntryCall,
     text: &mut Text,
 ) {
     let found = if is_first {
@@ -30,16 +34,14 @@ fn show_end<K: AsBytes + Shown + Drop, const P: usize>(
     let Some(mut entry) = found else {
         return text.push(b"None");
     };
-    let value = match call {
-        EndCall::Key => return Some(entry.key()).show(text),
-        EndCall::Occupied(OccupiedCall::Get) => *entry.get(),
-        EndCall::Occupied(OccupiedCall::Insert(value)) => entry.insert(value),
-        EndCall::Occupied(OccupiedCall::GetMut(value)) => mem::replace(entry.get_mut(), value),
-        EndCall::Occupied(OccupiedCall::IntoMut(value)) => mem::replace(entry.into_mut(), value),
-        EndCall::Occupied(OccupiedCall::Remove) => entry.remove(),
-        EndCall::Occupied(OccupiedCall::RemoveEntry) => {
-            return Some(entry.remove_entry()).show(text);
-        }
+    let value = match call.name {
+        EntryName::Key => return Some(entry.key()).show(text),
+        EntryName::Get => *entry.get(),
+        EntryName::Insert => entry.insert(call.number),
+        EntryName::GetMut => mem::replace(entry.get_mut(), call.number),
+        EntryName::IntoMut => mem::replace(entry.into_mut(), call.number),
+        EntryName::Remove => entry.remove(),
+        _ => return Some(entry.remove_entry()).show(text),
     };
     Some(value).show(text);
 }

@@ -2,7 +2,9 @@
 ghost use Rattle.std.specs.Prelude.{◌≡◌};
 
 use crate::maps::calls::Maps;
-use crate::words::{Answered, FixedKey, ScriptKey, Shown, Text, Unanswered, Words, items_of};
+use crate::words::{
+    Answered, FixedKey, MapName, ScriptKey, Shown, Text, Unanswered, Words, items_of,
+};
 use blart_keys::{AsBytes, NoPrefixesBytes};
 use blart_map::TreeMap;
 use std::alloc::AllocError;
@@ -37,48 +39,53 @@ impl<K: ScriptKey + NoPrefixesBytes, const PREFIX_LEN: usize> Maps<K, u64, PREFI
         Ok(())
     }
 
-    /// Inserts the pairs in turn.
-    pub(crate) fn extend(&mut self, words: Words<'_>, text: &mut Text) -> Answered {
+    /// Makes the call of this name, which takes pairs, and adds its answer.
+    pub(crate) fn take_items(
+        &mut self,
+        name: MapName,
+        words: Words<'_>,
+        text: &mut Text,
+    ) -> Answered {
         let items: Vec<(K, u64)> = items_of(words)?;
-        self.first.extend(items.into_iter()).show(text);
-        Ok(())
-    }
-
-    /// Puts the map of the pairs in the place of the first.
-    pub(crate) fn from_vec(&mut self, words: Words<'_>, text: &mut Text) -> Answered {
-        let items: Vec<(K, u64)> = items_of(words)?;
-        let made = TreeMap::from_vec(self.alloc, items);
-        put(&mut self.first, made, text);
-        Ok(())
-    }
-
-    /// Puts the map of the pairs in the place of the first.
-    pub(crate) fn from_iter(&mut self, words: Words<'_>, text: &mut Text) -> Answered {
-        let items: Vec<(K, u64)> = items_of(words)?;
-        let made = TreeMap::from_iter(self.alloc, items.into_iter());
-        put(&mut self.first, made, text);
+        match name {
+            MapName::Extend => self.first.extend(items.into_iter()).show(text),
+            MapName::FromVec => {
+                let made = TreeMap::from_vec(self.alloc, items);
+                put(&mut self.first, made, text)
+            }
+            _ => {
+                let made = TreeMap::from_iter(self.alloc, items.into_iter());
+                put(&mut self.first, made, text)
+            }
+        }
         Ok(())
     }
 }
 
 impl<K: FixedKey, const PREFIX_LEN: usize> Maps<K, u64, PREFIX_LEN> {
-    /// Inserts copies of the pairs in turn.
-    pub(crate) fn extend_copied(&mut self, words: Words<'_>, text: &mut Text) -> Answered {
+    /// Makes the call of this name, which copies pairs, and adds its answer.
+    pub(crate) fn copy_items(
+        &mut self,
+        name: MapName,
+        words: Words<'_>,
+        text: &mut Text,
+    ) -> Answered {
         let items: Vec<(K, u64)> = items_of(words)?;
+        match name {
+            MapName::ExtendCopied => self.extend_copied(&items, text),
+            _ => self.put_two(&items, text),
+        }
+        drop(items);
+        Ok(())
+    }
+
+    // Inserts copies of the pairs in turn.
+    fn extend_copied(&mut self, items: &[(K, u64)], text: &mut Text) {
         let lent = items.iter().map(|pair| (&pair.0, &pair.1));
         self.first.extend_copied(lent).show(text);
-        drop(items);
-        Ok(())
     }
 
-    /// Puts the map of the two pairs in the place of the first.
-    pub(crate) fn from_array(&mut self, words: Words<'_>, text: &mut Text) -> Answered {
-        let items: Vec<(K, u64)> = items_of(words)?;
-        self.put_two(items.as_slice(), text);
-        drop(items);
-        Ok(())
-    }
-
+    // Puts the map of the two pairs in the place of the first.
     fn put_two(&mut self, items: &[(K, u64)], text: &mut Text) {
         match items {
             [one, other] => {

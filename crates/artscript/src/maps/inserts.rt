@@ -12,8 +12,7 @@ impl<K: FixedKey, const PREFIX_LEN: usize> Maps<K, u64, PREFIX_LEN> {
     {
         match name {
             MapName::MakeClone => self.make_clone(words, text),
-            MapName::ExtendCopied => self.extend_copied(words, text),
-            MapName::FromArray => self.from_array(words, text),
+            MapName::ExtendCopied | MapName::FromArray => self.copy_items(name, words, text),
             _ => self.call_of_apart(name, words, text),
         }
     }
@@ -23,25 +22,22 @@ impl<K: ScriptKey + NoPrefixesBytes, const PREFIX_LEN: usize> Maps<K, u64, PREFI
     /// Makes the call of this name with these words after it, and adds its answer.
     pub fn call_of_apart(&mut self, name: MapName, words: Words<'_>, text: &mut Text) -> Answered {
         match name {
-            MapName::Insert => self.insert(words, text),
-            MapName::GetOrInsert => self.get_or_insert(words, text),
+            MapName::Insert | MapName::GetOrInsert => self.insert(name, words, text),
             MapName::Append => self.append(words, text),
-            MapName::Extend => self.extend(words, text),
-            MapName::FromVec => self.from_vec(words, text),
-            MapName::FromIter => self.from_iter(words, text),
+            MapName::Extend | MapName::FromVec | MapName::FromIter => self.take_items(
+                name, words, text,
+            ),
             _ => self.call(name, words, text),
         }
     }
 
-    fn insert(&mut self, mut words: Words<'_>, text: &mut Text) -> Answered {
+    // The calls that place a pair of which it is known that its key conflicts with none.
+    fn insert(&mut self, name: MapName, mut words: Words<'_>, text: &mut Text) -> Answered {
         let (key, value) = words.last_pair()?;
-        self.first.insert(key, value).show(text);
-        Ok(())
-    }
-
-    fn get_or_insert(&mut self, mut words: Words<'_>, text: &mut Text) -> Answered {
-        let (key, value) = words.last_pair()?;
-        value_of(self.first.get_or_insert(key, value)).show(text);
+        match name {
+            MapName::Insert => self.first.insert(key, value).show(text),
+            _ => value_of(self.first.get_or_insert(key, value)).show(text),
+        }
         Ok(())
     }
 }

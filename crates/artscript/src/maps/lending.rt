@@ -8,7 +8,7 @@ use crate::words::{
     Answered, Lending, MapName, Shown, Text, Words, raise, raised, show_item, show_lending,
 };
 use blart_keys::AsBytes;
-use blart_map::{IterMut, PrefixMut, RangeMut, SubtreeIterMut, ValuesMut};
+use blart_map::{IterMut, LendingWalk, ValuesMut};
 use std::ops::Bound;
 
 impl<K: AsBytes + Shown + Drop, const PREFIX_LEN: usize> Maps<K, u64, PREFIX_LEN> {
@@ -100,30 +100,8 @@ impl<K: AsBytes + Shown + Drop, const PREFIX_LEN: usize> Lending
     }
 }
 
-impl<K: AsBytes + Shown + Drop, const PREFIX_LEN: usize> Lending
-    for RangeMut<'_, K, u64, PREFIX_LEN> {
-    fn front(&mut self, add: u64, part: &[u8], text: &mut Text) -> bool {
-        show_raised!(self, next, add, part, text)
-    }
-
-    fn back(&mut self, add: u64, part: &[u8], text: &mut Text) -> bool {
-        show_raised!(self, next_back, add, part, text)
-    }
-}
-
-impl<K: AsBytes + Shown + Drop, const PREFIX_LEN: usize> Lending
-    for PrefixMut<'_, K, u64, PREFIX_LEN> {
-    fn front(&mut self, add: u64, part: &[u8], text: &mut Text) -> bool {
-        show_raised!(self, next, add, part, text)
-    }
-
-    fn back(&mut self, add: u64, part: &[u8], text: &mut Text) -> bool {
-        show_raised!(self, next_back, add, part, text)
-    }
-}
-
-impl<K: AsBytes + Shown + Drop, const PREFIX_LEN: usize> Lending
-    for SubtreeIterMut<'_, K, u64, PREFIX_LEN> {
+impl<K: AsBytes + Shown + Drop, M, const PREFIX_LEN: usize> Lending
+    for LendingWalk<'_, K, u64, M, PREFIX_LEN> {
     fn front(&mut self, add: u64, part: &[u8], text: &mut Text) -> bool {
         show_raised!(self, next, add, part, text)
     }

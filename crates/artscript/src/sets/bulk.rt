@@ -2,7 +2,9 @@
 ghost use Rattle.std.specs.Prelude.{◌≡◌};
 
 use crate::sets::calls::Sets;
-use crate::words::{Answered, FixedKey, ScriptKey, Shown, Text, Unanswered, Words, items_of};
+use crate::words::{
+    Answered, FixedKey, ScriptKey, SetName, Shown, Text, Unanswered, Words, items_of,
+};
 use blart_keys::{AsBytes, NoPrefixesBytes};
 use blart_set::TreeSet;
 use std::alloc::AllocError;
@@ -37,47 +39,47 @@ impl<K: ScriptKey + NoPrefixesBytes, const PREFIX_LEN: usize> Sets<K, PREFIX_LEN
         Ok(())
     }
 
-    /// Inserts the elements in turn.
-    pub(crate) fn extend(&mut self, words: Words<'_>, text: &mut Text) -> Answered {
+    /// Makes the call of this name, which takes elements, and adds its answer.
+    pub(crate) fn take_items(
+        &mut self,
+        name: SetName,
+        words: Words<'_>,
+        text: &mut Text,
+    ) -> Answered {
         let items: Vec<K> = items_of(words)?;
-        self.first.extend(items.into_iter()).show(text);
-        Ok(())
-    }
-
-    /// Puts the set of the elements in the place of the first.
-    pub(crate) fn from_vec(&mut self, words: Words<'_>, text: &mut Text) -> Answered {
-        let items: Vec<K> = items_of(words)?;
-        let made = TreeSet::from_vec(self.alloc, items);
-        put(&mut self.first, made, text);
-        Ok(())
-    }
-
-    /// Puts the set of the elements in the place of the first.
-    pub(crate) fn from_iter(&mut self, words: Words<'_>, text: &mut Text) -> Answered {
-        let items: Vec<K> = items_of(words)?;
-        let made = TreeSet::from_iter(self.alloc, items.into_iter());
-        put(&mut self.first, made, text);
+        match name {
+            SetName::Extend => self.first.extend(items.into_iter()).show(text),
+            SetName::FromVec => {
+                let made = TreeSet::from_vec(self.alloc, items);
+                put(&mut self.first, made, text)
+            }
+            _ => {
+                let made = TreeSet::from_iter(self.alloc, items.into_iter());
+                put(&mut self.first, made, text)
+            }
+        }
         Ok(())
     }
 }
 
 impl<K: FixedKey, const PREFIX_LEN: usize> Sets<K, PREFIX_LEN> {
-    /// Inserts copies of the elements in turn.
-    pub(crate) fn extend_copied(&mut self, words: Words<'_>, text: &mut Text) -> Answered {
+    /// Makes the call of this name, which copies elements, and adds its answer.
+    pub(crate) fn copy_items(
+        &mut self,
+        name: SetName,
+        words: Words<'_>,
+        text: &mut Text,
+    ) -> Answered {
         let items: Vec<K> = items_of(words)?;
-        self.first.extend_copied(items.iter()).show(text);
+        match name {
+            SetName::ExtendCopied => self.first.extend_copied(items.iter()).show(text),
+            _ => self.put_two(&items, text),
+        }
         drop(items);
         Ok(())
     }
 
-    /// Puts the set of the two elements in the place of the first.
-    pub(crate) fn from_array(&mut self, words: Words<'_>, text: &mut Text) -> Answered {
-        let items: Vec<K> = items_of(words)?;
-        self.put_two(items.as_slice(), text);
-        drop(items);
-        Ok(())
-    }
-
+    // Puts the set of the two elements in the place of the first.
     fn put_two(&mut self, items: &[K], text: &mut Text) {
         match items {
             [one, other] => {

@@ -109,8 +109,7 @@ impl<K: FixedKey, const PREFIX_LEN: usize> Sets<K, PREFIX_LEN> {
     {
         match name {
             SetName::MakeClone => self.make_clone(words, text),
-            SetName::ExtendCopied => self.extend_copied(words, text),
-            SetName::FromArray => self.from_array(words, text),
+            SetName::ExtendCopied | SetName::FromArray => self.copy_items(name, words, text),
             SetName::Or | SetName::And | SetName::Xor | SetName::Sub => {
                 self.operate(name, words, text)
             }
@@ -125,9 +124,9 @@ impl<K: ScriptKey + NoPrefixesBytes, const PREFIX_LEN: usize> Sets<K, PREFIX_LEN
         match name {
             SetName::Insert | SetName::Replace => self.insert(name, words, text),
             SetName::Append => self.append(words, text),
-            SetName::Extend => self.extend(words, text),
-            SetName::FromVec => self.from_vec(words, text),
-            SetName::FromIter => self.from_iter(words, text),
+            SetName::Extend | SetName::FromVec | SetName::FromIter => self.take_items(
+                name, words, text,
+            ),
             _ => self.call(name, words, text),
         }
     }

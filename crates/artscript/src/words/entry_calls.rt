@@ -10,57 +10,16 @@ pub struct EntryLine {
     pub call: EntryCall,
 }
 
-/// A call of an entry.
+/// A call of an entry, with its number, or 0 where it has none.
 #[derive(Clone, Copy)]
-pub enum EntryCall {
-    Key,
-    Value(ValueCall),
-    Place(PlaceCall),
-    Occupied(OccupiedCall),
-    Vacant(VacantCall),
+pub struct EntryCall {
+    pub name: EntryName,
+    pub number: u64,
 }
 
-/// A call of every entry that lends the value.
+/// The name of a call of an entry.
 #[derive(Clone, Copy)]
-pub enum ValueCall {
-    OrInsert(u64),
-    OrDefault,
-    OrInsertWith(u64),
-    OrInsertWithKey,
-}
-
-/// A call of every entry that answers the entry of the pair.
-#[derive(Clone, Copy)]
-pub enum PlaceCall {
-    OrInsertEntry(u64),
-    OrDefaultEntry,
-    OrInsertWithEntry(u64),
-    OrInsertWithKeyEntry,
-    InsertEntry(u64),
-}
-
-/// A call of an entry at a pair.
-#[derive(Clone, Copy)]
-pub enum OccupiedCall {
-    Get,
-    Insert(u64),
-    GetMut(u64),
-    IntoMut(u64),
-    Remove,
-    RemoveEntry,
-}
-
-/// A call of an entry where no pair stands.
-#[derive(Clone, Copy)]
-pub enum VacantCall {
-    IntoKey,
-    Insert(u64),
-    InsertEntry(u64),
-}
-
-// The name of a call of an entry.
-#[derive(Clone, Copy)]
-enum EntryName {
+pub enum EntryName {
     Key,
     OrInsert,
     OrDefault,
@@ -80,6 +39,21 @@ enum EntryName {
     IntoKey,
     VacantInsert,
     VacantInsertEntry,
+}
+
+/// Which entries have a call, and what it answers.
+#[derive(Clone, Copy)]
+pub enum EntryGroup {
+    /// Every entry: its key.
+    Key,
+    /// Every entry: the value, which it lends.
+    Value,
+    /// Every entry: the entry of the pair.
+    Place,
+    /// An entry at a pair.
+    Occupied,
+    /// An entry where no pair stands.
+    Vacant,
 }
 
 // The word that names each call.
@@ -105,6 +79,61 @@ const NAMES: [(&str, EntryName); 19] = [
     ("vacant_insert_entry", EntryName::VacantInsertEntry),
 ];
 
+impl EntryName {
+    /// Which entries have the call.
+    pub fn group(self) -> EntryGroup {
+        match self {
+            EntryName::Key => EntryGroup::Key,
+            EntryName::OrInsert
+            | EntryName::OrDefault
+            | EntryName::OrInsertWith
+            | EntryName::OrInsertWithKey => EntryGroup::Value,
+            EntryName::OrInsertEntry
+            | EntryName::OrDefaultEntry
+            | EntryName::OrInsertWithEntry
+            | EntryName::OrInsertWithKeyEntry
+            | EntryName::InsertEntry => EntryGroup::Place,
+            EntryName::Get
+            | EntryName::Insert
+            | EntryName::GetMut
+            | EntryName::IntoMut
+            | EntryName::Remove
+            | EntryName::RemoveEntry => EntryGroup::Occupied,
+            EntryName::IntoKey | EntryName::VacantInsert | EntryName::VacantInsertEntry => {
+                EntryGroup::Vacant
+            }
+        }
+    }
+
+    // Whether a number stands after the call's name.
+    fn has_number(self) -> bool {
+        matches!(
+            self,
+            EntryName::OrInsert
+                | EntryName::OrInsertWith
+                | EntryName::OrInsertEntry
+                | EntryName::OrInsertWithEntry
+                | EntryName::InsertEntry
+                | EntryName::Insert
+                | EntryName::GetMut
+                | EntryName::IntoMut
+                | EntryName::VacantInsert
+                | EntryName::VacantInsertEntry
+        )
+    }
+}
+
+impl EntryCall {
+    /// The call that the words which are left are.
+    pub fn read(mut words: Words<'_>) -> Result<EntryCall, Unanswered> {
+        let Some(name) = named(&NAMES, words.word()?) else {
+            return Err(Unanswered::NoCall);
+        };
+        let number = words.number_if(name.has_number())?;
+        Ok(EntryCall { name, number })
+    }
+}
+
 impl EntryLine {
     /// What the words that are left say.
     pub fn read(words: Words<'_>) -> Result<EntryLine, Unanswered> {
@@ -116,60 +145,5 @@ impl EntryLine {
         let add = Some(rest.number()?);
         let call = EntryCall::read(rest)?;
         Ok(EntryLine { add, call })
-    }
-}
-
-impl EntryCall {
-    /// The call that the words which are left are.
-    pub fn read(mut words: Words<'_>) -> Result<EntryCall, Unanswered> {
-        let name = words.word()?;
-        named_call(name, words.last_number()?)
-    }
-}
-
-/// The call of this name with this number, or without one.
-pub fn named_call(name: &[u8], number: Option<u64>) -> Result<EntryCall, Unanswered> {
-    let Some(name) = named(&NAMES, name) else {
-        return Err(Unanswered::NoCall);
-    };
-    let found = match number {
-        Some(number) => call_with(name, number),
-        None => bare_call(name),
-    };
-    found.ok_or(Unanswered::NoCall)
-}
-
-// The call of this name that has no argument.
-fn bare_call(name: EntryName) -> Option<EntryCall> {
-    match name {
-        EntryName::Key => Some(EntryCall::Key),
-        EntryName::OrDefault => Some(EntryCall::Value(ValueCall::OrDefault)),
-        EntryName::OrInsertWithKey => Some(EntryCall::Value(ValueCall::OrInsertWithKey)),
-        EntryName::OrDefaultEntry => Some(EntryCall::Place(PlaceCall::OrDefaultEntry)),
-        EntryName::OrInsertWithKeyEntry => Some(EntryCall::Place(PlaceCall::OrInsertWithKeyEntry)),
-        EntryName::Get => Some(EntryCall::Occupied(OccupiedCall::Get)),
-        EntryName::Remove => Some(EntryCall::Occupied(OccupiedCall::Remove)),
-        EntryName::RemoveEntry => Some(EntryCall::Occupied(OccupiedCall::RemoveEntry)),
-        EntryName::IntoKey => Some(EntryCall::Vacant(VacantCall::IntoKey)),
-        _ => None,
-    }
-}
-
-// The call of this name with this number.
-fn call_with(name: EntryName, number: u64) -> Option<EntryCall> {
-    match name {
-        EntryName::OrInsert => Some(EntryCall::Value(ValueCall::OrInsert(number))),
-        EntryName::OrInsertWith => Some(EntryCall::Value(ValueCall::OrInsertWith(number))),
-        EntryName::OrInsertEntry => Some(EntryCall::Place(PlaceCall::OrInsertEntry(number))),
-        EntryName::OrInsertWithEntry => {
-            Some(EntryCall::Place(PlaceCall::OrInsertWithEntry(number)))
-        }
-        EntryName::InsertEntry => Some(EntryCall::Place(PlaceCall::InsertEntry(number))),
-        EntryName::Insert => Some(EntryCall::Occupied(OccupiedCall::Insert(number))),
-        EntryName::GetMut => Some(EntryCall::Occupied(OccupiedCall::GetMut(number))),
-        EntryName::IntoMut => Some(EntryCall::Occupied(OccupiedCall::IntoMut(number))),
-        EntryName::VacantInsert => Some(EntryCall::Vacant(VacantCall::Insert(number))),
-        EntryName::VacantInsertEntry => Some(EntryCall::Vacant(VacantCall::InsertEntry(number))),
-        _ => None,
     }
 }

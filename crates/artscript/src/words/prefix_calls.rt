@@ -1,60 +1,27 @@
 //! The calls of prefix entries, and their words.
 use crate::words::answered::Unanswered;
-use crate::words::entry_calls::{
-    EntryCall, OccupiedCall, PlaceCall, VacantCall, ValueCall, named_call,
-};
+use crate::words::entry_calls::{EntryCall, EntryGroup, EntryName};
 use crate::words::named::named;
 use crate::words::reading::Words;
 
-/// A call of a prefix entry.
+/// A call of a prefix entry. A walk has the letters of its steps, and one that lends values what is added to each.
 #[derive(Clone, Copy)]
 pub enum PrefixCall<'a> {
-    Key,
-    GetKey,
-    Value(ValueCall),
-    Place(PlaceCall),
-    KindValue(ValueCall),
-    KindPlace(PlaceCall),
-    Occupied(RelatedCall),
-    OccupiedSet(SetCall),
-    Leaf(OccupiedCall),
-    Inner(InnerCall<'a>),
-    Vacant(VacantCall),
-}
-
-/// A call of an entry that is at a pair or in the place of pairs, and that leaves these there.
-#[derive(Clone, Copy)]
-pub enum RelatedCall {
-    Key,
-    Get,
-    GetKey,
-    GetMut(u64),
-}
-
-/// A call of an entry that puts a pair in the place of those which are there.
-#[derive(Clone, Copy)]
-pub enum SetCall {
-    Insert(u64),
-    InsertEntry(u64),
-}
-
-/// A call of an entry in the place of pairs. A walk over these has the letters of its steps, and one that lends their values what is added to each.
-#[derive(Clone, Copy)]
-pub enum InnerCall<'a> {
-    Key,
-    Get,
-    GetKey,
-    GetMut(u64),
-    Insert(u64),
-    InsertEntry(u64),
-    OnlyMut(u64),
+    /// One that entries have too.
+    Shared(EntryCall),
+    /// One of these that the entry's kind has too, made of that.
+    OfKind(EntryCall),
+    /// One that prefix entries alone have, or that theirs differs in, with its number, or 0 where it has none.
+    Own(PrefixName, u64),
+    /// The walk over the pairs in whose place the entry is.
     Iter(Option<&'a [u8]>),
+    /// The walk that lends their values.
     IterMut(u64, Option<&'a [u8]>),
 }
 
-// The name of a call that prefix entries alone have, or that theirs differs in.
+/// The name of a call that prefix entries alone have, or that theirs differs in.
 #[derive(Clone, Copy)]
-enum PrefixName {
+pub enum PrefixName {
     GetKey,
     OccupiedKey,
     Get,
@@ -68,14 +35,11 @@ enum PrefixName {
     InnerGetMut,
     InnerInsert,
     InnerInsertEntry,
-    OnlyMut,
-    Iter,
-    IterMut,
-    Kind,
+    GetKeyValueMut,
 }
 
-// The word that names each call, or begins one.
-const NAMES: [(&str, PrefixName); 17] = [
+// The word that names each call.
+const NAMES: [(&str, PrefixName); 14] = [
     ("get_key", PrefixName::GetKey),
     ("occupied_key", PrefixName::OccupiedKey),
     ("get", PrefixName::Get),
@@ -89,85 +53,53 @@ const NAMES: [(&str, PrefixName); 17] = [
     ("inner_get_mut", PrefixName::InnerGetMut),
     ("inner_insert", PrefixName::InnerInsert),
     ("inner_insert_entry", PrefixName::InnerInsertEntry),
-    ("get_key_value_mut", PrefixName::OnlyMut),
-    ("iter", PrefixName::Iter),
-    ("iter_mut", PrefixName::IterMut),
-    ("kind", PrefixName::Kind),
+    ("get_key_value_mut", PrefixName::GetKeyValueMut),
 ];
 
 impl<'a> PrefixCall<'a> {
     /// What the words that are left say.
-    pub fn read(mut words: Words<'a>) -> Result<PrefixCall<'a>, Unanswered> {
-        let word = words.word()?;
+    pub fn read(words: Words<'a>) -> Result<PrefixCall<'a>, Unanswered> {
+        let mut rest = words;
+        let word = rest.word()?;
+        if word == b"kind".as_slice() {
+            return call_of_kind(EntryCall::read(rest)?);
+        }
+        if word == b"iter".as_slice() {
+            return Ok(PrefixCall::Iter(rest.last_moves()?));
+        }
+        if word == b"iter_mut".as_slice() {
+            let add = rest.number()?;
+            return Ok(PrefixCall::IterMut(add, rest.last_moves()?));
+        }
         match named(&NAMES, word) {
-            Some(PrefixName::Iter) => Ok(PrefixCall::Inner(InnerCall::Iter(words.last_moves()?))),
-            Some(PrefixName::IterMut) => {
-                let add = words.number()?;
-                let letters = words.last_moves()?;
-                Ok(PrefixCall::Inner(InnerCall::IterMut(add, letters)))
-            }
-            Some(PrefixName::Kind) => kind_call(words),
-            Some(name) => call_of(name, words.last_number()?),
-            None => shared_call(named_call(word, words.last_number()?)?),
+            Some(name) => Ok(PrefixCall::Own(name, rest.number_if(name.has_number())?)),
+            None => Ok(PrefixCall::Shared(EntryCall::read(words)?)),
         }
     }
 }
 
-// The call of the entry's kind that the words which are left say.
-fn kind_call<'a>(words: Words<'_>) -> Result<PrefixCall<'a>, Unanswered> {
-    match EntryCall::read(words)? {
-        EntryCall::Value(call) => Ok(PrefixCall::KindValue(call)),
-        EntryCall::Place(call) => Ok(PrefixCall::KindPlace(call)),
+impl PrefixName {
+    // Whether a number stands after the call's name.
+    fn has_number(self) -> bool {
+        matches!(
+            self,
+            PrefixName::GetMut
+                | PrefixName::OccupiedInsert
+                | PrefixName::OccupiedInsertEntry
+                | PrefixName::InnerGetMut
+                | PrefixName::InnerInsert
+                | PrefixName::InnerInsertEntry
+                | PrefixName::GetKeyValueMut
+        )
+    }
+}
+
+// The call of the entry's kind, if that has it.
+fn call_of_kind<'a>(call: EntryCall) -> Result<PrefixCall<'a>, Unanswered> {
+    match (call.name.group(), call.name) {
+        (EntryGroup::Value, _) | (_, EntryName::OrInsertEntry | EntryName::InsertEntry) => {
+            Ok(PrefixCall::OfKind(call))
+        }
         _ => Err(Unanswered::NoCall),
-    }
-}
-
-// The call of this name with this number, or without one.
-fn call_of<'a>(name: PrefixName, number: Option<u64>) -> Result<PrefixCall<'a>, Unanswered> {
-    let found = match number {
-        Some(number) => call_with(name, number),
-        None => bare_call(name),
-    };
-    found.ok_or(Unanswered::NoCall)
-}
-
-// The call of prefix entries that has the name of a call of entries.
-fn shared_call<'a>(call: EntryCall) -> Result<PrefixCall<'a>, Unanswered> {
-    match call {
-        EntryCall::Key => Ok(PrefixCall::Key),
-        EntryCall::Value(call) => Ok(PrefixCall::Value(call)),
-        EntryCall::Place(call) => Ok(PrefixCall::Place(call)),
-        EntryCall::Occupied(call) => Ok(PrefixCall::Leaf(call)),
-        EntryCall::Vacant(call) => Ok(PrefixCall::Vacant(call)),
-    }
-}
-
-// The call of this name that has no argument.
-fn bare_call<'a>(name: PrefixName) -> Option<PrefixCall<'a>> {
-    match name {
-        PrefixName::GetKey => Some(PrefixCall::GetKey),
-        PrefixName::OccupiedKey => Some(PrefixCall::Occupied(RelatedCall::Key)),
-        PrefixName::Get => Some(PrefixCall::Occupied(RelatedCall::Get)),
-        PrefixName::OccupiedGetKey => Some(PrefixCall::Occupied(RelatedCall::GetKey)),
-        PrefixName::InnerKey => Some(PrefixCall::Inner(InnerCall::Key)),
-        PrefixName::InnerGet => Some(PrefixCall::Inner(InnerCall::Get)),
-        PrefixName::InnerGetKey => Some(PrefixCall::Inner(InnerCall::GetKey)),
-        _ => None,
-    }
-}
-
-// The call of this name with this number.
-fn call_with<'a>(name: PrefixName, number: u64) -> Option<PrefixCall<'a>> {
-    match name {
-        PrefixName::GetMut => Some(PrefixCall::Occupied(RelatedCall::GetMut(number))),
-        PrefixName::OccupiedInsert => Some(PrefixCall::OccupiedSet(SetCall::Insert(number))),
-        PrefixName::OccupiedInsertEntry => {
-            Some(PrefixCall::OccupiedSet(SetCall::InsertEntry(number)))
-        }
-        PrefixName::InnerGetMut => Some(PrefixCall::Inner(InnerCall::GetMut(number))),
-        PrefixName::InnerInsert => Some(PrefixCall::Inner(InnerCall::Insert(number))),
-        PrefixName::InnerInsertEntry => Some(PrefixCall::Inner(InnerCall::InsertEntry(number))),
-        PrefixName::OnlyMut => Some(PrefixCall::Inner(InnerCall::OnlyMut(number))),
-        _ => None,
     }
 }

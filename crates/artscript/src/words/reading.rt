@@ -133,6 +133,13 @@ impl<'a> Words<'a> {
         Ok(Some(number))
     }
 
+    /// The number that the last word is, of a call that has one. Else no word is left, and it is 0.
+    pub fn number_if(mut self, has_number: bool) -> Result<u64, Unanswered> {
+        let number = if has_number { self.number()? } else { 0 };
+        self.end()?;
+        Ok(number)
+    }
+
     /// The key and the number that the last two words stand for.
     pub fn last_pair<K: ScriptKey>(&mut self) -> Result<(K, u64), Unanswered> {
         let word = self.word()?;

@@ -12,6 +12,7 @@ use crate::map::TreeMap;
 use art_tree::{LeafId, OwnedRun};
 use art_walk::{Cursor, ValuesAlone, WithKeys};
 use blart_keys::AsBytes;
+use std::marker::PhantomData;
 
 /// The values, each lent in turn, with its key.
 ///
@@ -55,7 +56,7 @@ pub struct CountedWalk<'a, K: AsBytes, V, M, const PREFIX_LEN: usize> {
     ahead: OwnedRun,
     lent: Option<LeafId>,
     left: usize,
-    kind: M,
+    kind: PhantomData<M>,
     ghost fits: { count_fits cursor lent left (numbers map.now) ≡ true },
     ghost follows: { run_fits cursor ahead (numbers map.now) ≡ true },
 }
@@ -166,7 +167,7 @@ impl<'a, K: AsBytes, V, M, const PREFIX_LEN: usize> CountedWalk<'a, K, V, M, PRE
     ghost use Rattle.blart_map.specs.CountedWalk.{counted_left, lends_first, lends_last};
 
     // All pairs of the map.
-    pub(crate) fn all(map: &'a mut TreeMap<K, V, PREFIX_LEN>, kind: M) -> Self
+    pub(crate) fn all(map: &'a mut TreeMap<K, V, PREFIX_LEN>) -> Self
         ensures same_map { result.map.ghost_name ≡ map.entry.ghost_name }
         ensures unchanged { result.map.now ≡ map.old }
         ensures left { counted_left result ≡ map.old }
@@ -180,7 +181,7 @@ impl<'a, K: AsBytes, V, M, const PREFIX_LEN: usize> CountedWalk<'a, K, V, M, PRE
             ahead: OwnedRun::empty(),
             lent: None,
             left,
-            kind,
+            kind: PhantomData,
         }
     }
 

@@ -12,7 +12,7 @@ use crate::walks::counted_walk::{CountedWalk, IterMut, ValuesMut};
 use crate::walks::lending_walk::{LendingWalk, PrefixMut, RangeMut};
 use crate::walks::take_walk::TakeWalk;
 use art_tree::Visits;
-use art_walk::{BelowFront, Cursor, InRange, ValuesAlone, WithKeys};
+use art_walk::Cursor;
 use blart_keys::AsBytes;
 use std::ops::Bound;
 
@@ -40,7 +40,7 @@ impl<K: AsBytes, V, const PREFIX_LEN: usize> TreeMap<K, V, PREFIX_LEN> {
         ensures none_lent { counted_last result ≡ None }
     {
         self.numbers_law();
-        CountedWalk::all(self, WithKeys)
+        CountedWalk::all(self)
     }
 
     /// A walk that lends each value to be written, in byte order of the keys, from both ends. Takes no memory; each step reads one pair.
@@ -59,7 +59,7 @@ impl<K: AsBytes, V, const PREFIX_LEN: usize> TreeMap<K, V, PREFIX_LEN> {
         ensures none_lent { counted_last result ≡ None }
     {
         self.numbers_law();
-        CountedWalk::all(self, ValuesAlone)
+        CountedWalk::all(self)
     }
 
     /// A walk that lends the values whose keys' bytes begin with these, with their keys, in byte order of the keys, from both ends; all of them where there are no bytes. Takes no memory; each step reads one pair.
@@ -80,8 +80,8 @@ impl<K: AsBytes, V, const PREFIX_LEN: usize> TreeMap<K, V, PREFIX_LEN> {
         ensures none_lent { lending_last result ≡ None }
     {
         self.numbers_law();
-        let cursor = Cursor::prefix(&self.tree, front, &mut Visits::new());
-        LendingWalk::of(self, cursor, BelowFront)
+        let below = Cursor::prefix(&self.tree, front, &mut Visits::new());
+        LendingWalk::of(self, below)
     }
 
     /// A walk that lends the values whose keys' bytes are within both bounds, with their keys, in byte order of the keys, from both ends. The bounds are in order where the map has pairs, as for [`TreeMap::range`]. Takes no memory; each step reads one pair.
@@ -117,7 +117,7 @@ impl<K: AsBytes, V, const PREFIX_LEN: usize> TreeMap<K, V, PREFIX_LEN> {
             as_bytes(end),
             &mut Visits::new(),
         );
-        LendingWalk::of(self, cursor, InRange)
+        LendingWalk::of(self, cursor)
     }
 
     /// A walk that lends the pairs within both bounds, in byte order of their keys, from both ends, each to be kept or taken out. The bounds are in order where the map has pairs, as for [`TreeMap::range`]. Takes no memory; each step reads one pair.

@@ -11,6 +11,7 @@ use crate::map::TreeMap;
 use art_tree::{LeafId, OwnedRun};
 use art_walk::{BelowFront, Cursor, InRange, InSubtree};
 use blart_keys::AsBytes;
+use std::marker::PhantomData;
 
 /// The values whose keys are within two bounds, each lent in turn.
 ///
@@ -74,16 +75,17 @@ pub struct LendingWalk<'a, K: AsBytes, V, M, const PREFIX_LEN: usize> {
     // numbers that follow the first leaf that is left
     ahead: OwnedRun,
     lent: Option<LeafId>,
-    kind: M,
+    kind: PhantomData<M>,
     ghost fits: { walk_fits cursor lent (numbers map.now) ≡ true },
     ghost follows: { run_fits cursor ahead (numbers map.now) ≡ true },
 }
 
 impl<'a, K: AsBytes, V, M, const PREFIX_LEN: usize> LendingWalk<'a, K, V, M, PREFIX_LEN> {
-    ghost use Rattle.blart_map.specs.LendingWalk.{lending_map, lending_last, lending_left, lends_first, lends_last, lends_pair, lending_with};
+    ghost use Rattle.blart_map.specs.LendingWalk.{lending_map, lending_last, lending_left, lends_first, lends_last, lends_pair, lending_with, LendsWhere};
+    ghost use Rattle.blart_map.specs.OnceWritten.{once_written};
 
     // What the cursor has left of the map.
-    pub(crate) fn of(map: &'a mut TreeMap<K, V, PREFIX_LEN>, cursor: Cursor, kind: M) -> Self
+    pub(crate) fn of(map: &'a mut TreeMap<K, V, PREFIX_LEN>, cursor: Cursor) -> Self
         requires { walk_fits cursor None (numbers map.old) ≡ true }
         ensures same_map { result.map.ghost_name ≡ map.entry.ghost_name }
         ensures unchanged { result.map.now ≡ map.old }
@@ -95,7 +97,7 @@ impl<'a, K: AsBytes, V, M, const PREFIX_LEN: usize> LendingWalk<'a, K, V, M, PRE
             cursor,
             ahead: OwnedRun::empty(),
             lent: None,
-            kind,
+            kind: PhantomData,
         }
     }
 
@@ -143,11 +145,6 @@ impl<'a, K: AsBytes, V, M, const PREFIX_LEN: usize> LendingWalk<'a, K, V, M, PRE
         let id = self.lent.unwrap();
         self.map.leaf_mut(id)
     }
-}
-
-impl<'a, K: AsBytes, V, M: Drop, const PREFIX_LEN: usize> LendingWalk<'a, K, V, M, PREFIX_LEN> {
-    ghost use Rattle.blart_map.specs.LendingWalk.{lending_map, lending_left, LendsWhere};
-    ghost use Rattle.blart_map.specs.OnceWritten.{once_written};
 
     /// Calls the closure once with the key and the value of each pair that is left, in byte order of the keys. Each value is what the closure leaves, and the keys stay. Takes no memory; each call reads one pair.
     ///
