@@ -2,7 +2,7 @@
 ghost use Rattle.std.specs.Prelude.{◌≡◌, ◌+◌, ◌^◌, ◌<◌, max, ℕ, [], length, option_map, Some, None, IsSome, IfSome, OnOk, IfOk};
 ghost use Rattle.std.specs.Borrow.{sem};
 ghost use Rattle.art_slots.specs.Store.{slot_at, used_count};
-ghost use Rattle.art_rows.specs.Numbers.{leaf_in, Has, AreDistinct, first_number, last_number, number_after, number_before, with_pair_after, without_number};
+ghost use Rattle.art_rows.specs.Numbers.{leaf_in, Has, first_number, last_number, number_after, number_before, with_pair_after, without_number};
 ghost use Rattle.art_rows.specs.Links.{with_next, with_prev, end_with};
 ghost use Rattle.art_rows.specs.ChainLends.{lends_item, lends_at};
 
@@ -130,13 +130,6 @@ impl<T> Chain<T> {
         }
     }
 
-    /// Answers nothing. Its contract says that no number comes twice.
-    pub(crate) fn law(&self)
-        ensures distinct { AreDistinct self.now.pairs }
-    {
-        let _ = &self.first;
-    }
-
     /// How many items there are.
     pub(crate) fn len(&self) -> usize
         ensures value { result ≡ length self.now.pairs }
@@ -157,13 +150,6 @@ impl<T> Chain<T> {
         ensures { result ≡ self.now.next }
     {
         self.records.next()
-    }
-
-    /// For how many places more there is memory.
-    pub(crate) fn room(&self) -> usize
-        ensures { result ≡ self.now.room }
-    {
-        self.records.room()
     }
 
     /// The first number.

@@ -1,12 +1,10 @@
 //! The leaf records, in rows in the order of their keys.
-ghost use Rattle.std.specs.Prelude.{◌≡◌, ◌≢◌, ℕ, ◌+◌, ◌-◌, ◌*◌, ◌<◌, ◌≤◌, ◌++◌, List, [], ◌∷◌, length, map, option_map, min, take, drop, Option, Some, None, IsSome, IfSome, IfNone, OnOk, IfOk, OnErr};
-ghost use Rattle.art_rows.specs.Numbers.{leaf_in, Has, AreDistinct, first_number, last_number, number_after, number_before, with_pair_after, without_number, with_number, with_pair};
-ghost use Rattle.art_rows.specs.Rows.{position_at, nth, IsSpot, row_end, lengths, RunsAfter, RunsBefore, StandsAfter};
-ghost use Rattle.art_rows.specs.RowRoom.{row_room};
-ghost use Rattle.art_rows.specs.Blocks.{row_of, HasWay, IsCrowded, IsAfter, IsShut, GoesBeyond};
+ghost use Rattle.std.specs.Prelude.{◌≡◌, ◌≢◌, ℕ, ◌+◌, ◌-◌, ◌*◌, ◌<◌, ◌≤◌, ◌++◌, [], length, map, option_map, min, take, drop, Option, Some, None, IsSome, IfSome, OnOk, IfOk, OnErr};
+ghost use Rattle.art_rows.specs.Numbers.{leaf_in, Has, AreDistinct, first_number, last_number, number_after, number_before, without_number, with_pair};
+ghost use Rattle.art_rows.specs.Rows.{position_at, nth, RunsAfter, RunsBefore, StandsAfter};
 ghost use Rattle.art_rows.specs.declared.row.Position.{Position};
 ghost use Rattle.art_rows.specs.declared.row.TheConstants.{ROW};
-ghost use Rattle.art_rows.specs.Leaves.{index_of, room, end_room, spot_index, TakesFirst, TakesLast, AreCopies};
+ghost use Rattle.art_rows.specs.Leaves.{index_of, room, end_room, TakesFirst, TakesLast, AreCopies};
 ghost use Rattle.art_rows.specs.LeafLends.{lends_value, lends_leaf};
 ghost use Rattle.std.specs.Borrow.{sem};
 

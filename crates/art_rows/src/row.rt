@@ -1,6 +1,6 @@
 //! A row of numbers.
-ghost use Rattle.std.specs.Prelude.{◌≡◌, ℕ, ◌+◌, ◌-◌, ◌*◌, ◌^◌, ◌<◌, ◌≤◌, min, [], ◌∷◌, ◌++◌, length, take, drop, Some, true, false, IfSome, slice_index_or};
-ghost use Rattle.art_rows.specs.Rows.{among, place_in, nth, nowhere};
+ghost use Rattle.std.specs.Prelude.{◌≡◌, ℕ, ◌+◌, ◌-◌, ◌*◌, ◌^◌, ◌<◌, ◌≤◌, min, [], ◌∷◌, ◌++◌, length, take, drop, Some, true, false, slice_index_or};
+ghost use Rattle.art_rows.specs.Rows.{among, nowhere};
 ghost use Rattle.art_rows.specs.Blocks.{times, row_of};
 
 use crate::owned_run::OwnedRun;

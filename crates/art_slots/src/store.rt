@@ -1,12 +1,11 @@
 //! Records under numbers.
-ghost use Rattle.std.specs.Prelude.{◌≡◌, ◌≢◌, ℕ, ◌+◌, ◌^◌, ◌<◌, ◌≤◌, [], option_map, Some, None, IsSome, is_some, OnOk, IfOk, OnErr};
+ghost use Rattle.std.specs.Prelude.{◌≡◌, ◌≢◌, ℕ, ◌+◌, ◌^◌, ◌<◌, ◌≤◌, [], Some, None, IsSome, is_some, OnOk, IfOk, OnErr};
 ghost use Rattle.art_slots.specs.Store.{slot_at, used_count, SameRecords, AreClones};
 ghost use Rattle.std.specs.Borrow.{sem};
 
 use crate::slots::Slots;
 use std::alloc::{AllocError, Global};
 use std::marker::Model;
-use std::mem;
 
 /// Records under numbers. A number keeps its record until that is taken out. A contract sees the record at each number, and how many spare slots there are: a record that takes a spare slot asks for no memory.
 ///
@@ -59,14 +58,6 @@ impl<T> Store<T> {
         ensures small { result < 2 ^ 61 }
     {
         self.slots.used()
-    }
-
-    /// The record at a number, if there is one.
-    #[inline(always)]
-    pub fn get(&self, id: usize) -> Option<&T>
-        ensures { option_map (λ r. r.now) result ≡ slot_at self.now id }
-    {
-        self.slots.get(id)
     }
 
     /// The record at a number.
@@ -147,18 +138,6 @@ impl<T: Clone> Store<T> {
 }
 
 impl<T: Drop> Store<T> {
-    /// Puts a record in the place of another, and gives that.
-    pub fn replace(&mut self, id: usize, fresh: T) -> T
-        requires { IsSome (slot_at self.old id) }
-        ensures value { slot_at self.old id ≡ Some result }
-        ensures now { slot_at self.new id ≡ Some fresh }
-        ensures others { (j : ℕ) → j ≢ id → slot_at self.new j ≡ slot_at self.old j }
-        ensures spare { self.new.spare ≡ self.old.spare }
-        ensures used { used_count self.new ≡ used_count self.old }
-    {
-        mem::replace(self.get_mut(id), fresh)
-    }
-
     /// Puts a record into a spare slot, and gives its number.
     #[inline(always)]
     pub fn fill(&mut self, fresh: T) -> usize

@@ -1,8 +1,7 @@
 //! The tree.
-ghost use Rattle.std.specs.Prelude.{◌≡◌, ◌==◌, ◌+◌, ◌-◌, ◌<◌, ◌≤◌, ℕ, [], length, map, Some, OnOk, OnErr, IfSome};
-ghost use Rattle.std.specs.Borrow.{sem};
+ghost use Rattle.std.specs.Prelude.{◌≡◌, ◌==◌, ◌+◌, ◌-◌, ◌<◌, ◌≤◌, [], length, map, Some, OnOk, OnErr};
 ghost use Rattle.std.specs.FinSet as set;
-ghost use Rattle.blart_keys.specs.Content.{at, IsContent, IsPut};
+ghost use Rattle.blart_keys.specs.Content.{IsContent, IsPut};
 ghost use Rattle.blart_keys.specs.Steps.{bytes as pair_bytes};
 ghost use Rattle.blart_keys.specs.Fronts.{fronts, parts};
 ghost use Rattle.art_tree.specs.Leaves.{leaf_in, Has, AreDistinct, first_number, last_number, number_after, number_before, bytes};

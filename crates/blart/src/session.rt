@@ -1,5 +1,5 @@
 //! A run between two bytes of its input.
-ghost use Rattle.std.specs.Prelude.{◌≡◌, ◌≢◌, ◌≤◌, ◌<◌, ◌+◌, ℕ, List, [], ◌∷◌, ◌++◌, length, take, drop, slice_index, false, true, OnOk, MatchOption};
+ghost use Rattle.std.specs.Prelude.{◌≡◌, ◌<◌, ◌+◌, [], length, take, slice_index, false, OnOk, MatchOption};
 ghost use Rattle.blart.specs.Watched.{watched_inner, watched_failed};
 ghost use Rattle.blart.specs.Lines.{IsLine};
 ghost use Rattle.blart.specs.Serves.{IsGrown, IsAnswered, IsStepped, IsServed};

@@ -1,6 +1,6 @@
 //! Routes of which none begins another.
 ghost use Rattle.std.specs.Prelude.{◌≡◌, ◌≢◌, ◌↔◌, ◌+◌, ◌<◌, ◌^◌, ℕ, List, true, false, option_map, unwrap_or, OnOk, OnErr, IsErrOf, Some};
-ghost use Rattle.blart.specs.Words.{pairs, pair_at, pair_at_front, value_at, value_at_front, overlaps, begins, related, slice_bytes};
+ghost use Rattle.blart.specs.Words.{pairs, pair_at, value_at, value_at_front, overlaps, begins, related, slice_bytes};
 
 use blart::{AsBytes, Map, TreeMap, TryInsertError};
 use std::alloc::AllocError;

@@ -1,5 +1,5 @@
 //! The table, on the public calls of the map.
-ghost use Rattle.std.specs.Prelude.{◌≡◌, ◌≤◌, ◌+◌, ◌&&◌, ℕ, List, [], true, false, length, is_some, OnOk, IfOk, OnErr, IfErr, None, Some, if◌then◌else◌};
+ghost use Rattle.std.specs.Prelude.{◌≡◌, ◌≤◌, ◌+◌, ◌&&◌, ℕ, List, [], false, length, is_some, OnOk, IfOk, OnErr, IfErr, None, Some, if◌then◌else◌};
 ghost use Rattle.blart_keys.specs.Bytes.{begins};
 ghost use Rattle.blart_keys.specs.Content.{under, IsContent};
 ghost use Rattle.blart_keys.specs.KeyBytes.{vec_bytes};

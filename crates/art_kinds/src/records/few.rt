@@ -1,5 +1,5 @@
 //! A node with few children: their bytes, rising, beside them.
-ghost use Rattle.std.specs.Prelude.{true, false, ℕ, ◌≡◌, ◌+◌, ◌-◌, ◌<◌, ◌≤◌, [], ◌∷◌, length, take, None, IsSome};
+ghost use Rattle.std.specs.Prelude.{true, false, ◌≡◌, ◌+◌, ◌-◌, ◌<◌, ◌≤◌, [], ◌∷◌, length, take, None, IsSome};
 ghost use Rattle.art_kinds.specs.Edges.{child_at, Ascends, AddsChild, DropsChild, RedirectsChild, IsNext, IsPrevious, IsEnd, count_below, edges_with, edges_without, edges_with_child, after, before, paired};
 
 use crate::records::ids::{Child, Edge};

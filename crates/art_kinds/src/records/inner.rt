@@ -2,7 +2,7 @@
 ghost use Rattle.std.specs.Prelude.{◌≡◌, ◌+◌, ◌<◌, ◌≤◌, ◌^◌, take, length, None, IsSome, IsSomeAnd, OnOk, IfOk};
 ghost use Rattle.art_kinds.specs.Edges.{child_at, AddsChild, DropsChild, RedirectsChild};
 ghost use Rattle.art_kinds.specs.OneKinds.{FitsIn, IsOneKind, Rewires, Changes, Grows};
-ghost use Rattle.art_slots.specs.Store.{slot_at, used_count, SameRecords};
+ghost use Rattle.art_slots.specs.Store.{slot_at, SameRecords};
 
 use crate::records::children::Children;
 use crate::records::ids::Child;

@@ -1,5 +1,5 @@
 //! The inner nodes under their numbers.
-ghost use Rattle.std.specs.Prelude.{true, false, ◌≡◌, ◌≢◌, ℕ, ◌+◌, ◌%◌, ◌*◌, ◌/◌, ◌-◌, ◌<◌, ◌≤◌, ◌^◌, ◌++◌, ◌∷◌, length, take, drop, slice_get, None, Some, IsSome, is_some, IsSomeAnd, OnOk, IfOk, OnErr};
+ghost use Rattle.std.specs.Prelude.{true, false, ◌≡◌, ℕ, ◌+◌, ◌%◌, ◌*◌, ◌/◌, ◌-◌, ◌<◌, ◌≤◌, ◌^◌, ◌++◌, ◌∷◌, length, take, drop, slice_get, None, Some, IsSome, is_some, IsSomeAnd, OnOk, IfOk, OnErr};
 ghost use Rattle.art_kinds.specs.Edges.{child_at, Ascends, IsNext, IsPrevious, IsEnd};
 ghost use Rattle.art_slots.specs.Store.{slot_at};
 ghost use Rattle.art_kinds.specs.Nodes.{at, live, room, FitsNew, FitsMore, HasPlace, Lowers, SameNodes, SameSpares, MoreSpares, Makes, Renames, AddsEdgeTo, Redirects, DropsEdge, Reprefixes, JoinsPrefix, CutsPrefix, Frees};

@@ -1,7 +1,6 @@
 //! Changes to a tree that place nothing, and the look-up of the pair that begins a query.
-ghost use Rattle.std.specs.Prelude.{◌≡◌, ◌+◌, ◌<◌, ◌≤◌, [], length, option_map, Some, OnOk, OnErr};
+ghost use Rattle.std.specs.Prelude.{◌≡◌, ◌+◌, ◌<◌, ◌≤◌, [], option_map, Some, OnOk, OnErr};
 ghost use Rattle.std.specs.Borrow.{sem};
-ghost use Rattle.blart_keys.specs.Content.{front_of};
 ghost use Rattle.art_tree.specs.Leaves.{leaf_in, Has, with_pair, bytes};
 ghost use Rattle.art_tree.specs.Content.{room};
 ghost use Rattle.art_tree.specs.Takes.{MayTake};

@@ -1,5 +1,5 @@
 //! Where some bytes stand in a tree, or would go.
-ghost use Rattle.std.specs.Prelude.{◌≡◌, ℕ, Option, Some};
+ghost use Rattle.std.specs.Prelude.{ℕ, Option, Some};
 ghost use Rattle.art_tree.specs.Begins.{Bytes};
 ghost use Rattle.art_tree.specs.Places.{LeavesNearest, IsBeside};
 ghost use Rattle.art_tree.specs.Calls.Stops.{IsPlaceUnder};

@@ -1,5 +1,5 @@
 //! The way down by the bytes of a query. The prefixes that the nodes keep are compared on the way, and a leaf is read at its end, or where a prefix is longer than what is kept.
-ghost use Rattle.std.specs.Prelude.{◌≡◌, length, Some};
+ghost use Rattle.std.specs.Prelude.{◌≡◌, Some};
 ghost use Rattle.art_tree.specs.Calls.Stops.{OnWay, IsShared, IsStop, IsStep};
 ghost use Rattle.art_tree.specs.Leaves.{keys_in};
 ghost use Rattle.art_kinds.specs.Nodes.{at};

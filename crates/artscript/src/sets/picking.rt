@@ -1,5 +1,4 @@
 //! Elements that a closure picks.
-ghost use Rattle.std.specs.Prelude.{◌≡◌};
 ghost use Rattle.blart_keys.specs.Bounds.{bound_bytes, CanRange};
 ghost use Rattle.blart_keys.specs.KeyBytes.{vec_bytes};
 ghost use Rattle.blart_set.specs.Elements.{elements};
