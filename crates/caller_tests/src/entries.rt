@@ -9,20 +9,6 @@ use blart::map::Entry;
 use blart::{Map, NoPrefixesBytes, ZKey};
 use std::alloc::AllocError;
 
-/// Adds one to the count of a word, by its entry.
-pub fn count_by_entry(counts: &mut Map<ZKey, u64>, word: ZKey) -> Result<(), AllocError>
-    requires { unwrap_or (value_at zkey_bytes (pairs counts.old) (zkey_bytes word)) 0 + 1 < 2 ^ 64 }
-    ensures counted { OnOk result (value_at zkey_bytes (pairs counts.new) (zkey_bytes word)
-        ≡ Some (unwrap_or (value_at zkey_bytes (pairs counts.old) (zkey_bytes word)) 0 + 1)) }
-    ensures others { (q : List ℕ) → q ≢ zkey_bytes word
-        → pair_at zkey_bytes (pairs counts.new) q ≡ pair_at zkey_bytes (pairs counts.old) q }
-    ensures refused { OnErr result (counts.new ≡ counts.old) }
-{
-    let n = counts.entry(word).or_insert(0)?;
-    *n += 1;
-    Ok(())
-}
-
 /// Sets the score of a player who has one, and gives a first one to who has none.
 pub fn score(
     scores: &mut Map<ZKey, u64>,

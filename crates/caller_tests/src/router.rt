@@ -8,7 +8,7 @@ use prefix_router::Mounts;
 use std::alloc::{AllocError, Global};
 
 /// What answers a path.
-#[derive(Debug, Clone, Copy, PartialEq, Eq, Drop)]
+#[derive(Clone, Copy, Drop)]
 pub enum Handler {
     /// The users.
     Users,

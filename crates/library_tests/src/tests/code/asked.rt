@@ -1,10 +1,21 @@
 //! How many stored keys a call asks for their bytes.
-use super::bytes_of;
 use crate::tests::put;
 use blart_keys::AsBytes;
 use blart_map::TreeMap;
 use std::cell::Cell;
 use std::process::Abort;
+
+// The bytes of which the thousand keys are all triples, in no order.
+const BYTES: [u8; 10] = [7, 250, 0, 31, 128, 64, 3, 255, 90, 1];
+
+// The bytes of a place below 1,000, by its digits.
+fn bytes_of(place: usize) -> [u8; 3] {
+    [
+        BYTES[place / 100 % 10],
+        BYTES[place / 10 % 10],
+        BYTES[place % 10],
+    ]
+}
 
 // What was asked in a round: how often keys for their bytes, and how many keys.
 #[derive(Clone, Copy)]

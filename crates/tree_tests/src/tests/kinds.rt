@@ -1,18 +1,13 @@
 //! A node filled from 2 children to 256 and emptied again: its kind, what it keeps, and its edges in order after each step, and that there is no other node.
 ghost use Rattle.std.specs.Prelude.{◌<◌};
 
-use super::number_of;
+use super::{byte_of, number_of};
 use art_kinds::{Child, Edge, Kind, NodeId, NodeRef, Nodes};
 use art_slots::{LeafId, Visits};
 use std::process::Abort;
 
 // The number of the leaf below each byte that has one.
 type Table = [Option<usize>; 256];
-
-// The byte of a step: each once, in no order.
-fn byte_of(step: u8) -> u8 {
-    step.wrapping_mul(37).wrapping_add(100)
-}
 
 // The number of the leaf below a byte.
 fn number_below(byte: u8) -> usize

@@ -1,11 +1,20 @@
 //! A tree of the thousand keys, each with the number of those before it as value, taken apart: what it is made of, and that nothing else is there.
-use super::{BYTES, add, bytes_of, number_of};
+use super::{add, byte_of, number_of};
 use art_kinds::{Child, NodeRef, Nodes};
 use art_tree::{Tree, Visits};
 use std::process::Abort;
 
 // A tree of which no record keeps a byte of a key but those that choose a child.
 type Bare = Tree<[u8; 3], usize, 0>;
+
+// The bytes of a place below 1,000, one for each of its digits.
+fn bytes_of(place: usize) -> [u8; 3] {
+    [
+        byte_of((place / 100 % 10) as u8),
+        byte_of((place / 10 % 10) as u8),
+        byte_of((place % 10) as u8),
+    ]
+}
 
 // The number of each key's leaf.
 type Numbers = [usize; 1000];
@@ -36,7 +45,7 @@ fn node_below<'a>(
         Child::Inner(id) => {
             assert!(rt; nodes.has(id));
             let node = nodes.read(id, &mut Visits::new());
-            assert!(rt; node.depth() == depth && node.count() == BYTES.len());
+            assert!(rt; node.depth() == depth && node.count() == 10);
             assert!(rt; node.prefix().is_empty());
             node
         }
@@ -45,20 +54,22 @@ fn node_below<'a>(
 
 // The ten edges of the node lead to ten leaves, from one on.
 fn assert_leaves(rt: &impl Abort, node: &NodeRef<'_, 0>, numbers: &Numbers, from: usize) {
-    for place in 0..10 {
-        let child = node.find(BYTES[place]).expect(rt, "an edge");
-        assert!(rt; number_of(rt, child) == numbers[from.wrapping_add(place) % 1000]);
+    for digit in 0..10u8 {
+        let child = node.find(byte_of(digit)).expect(rt, "an edge");
+        let place = from.wrapping_add(digit as usize);
+        assert!(rt; number_of(rt, child) == numbers[place % 1000]);
     }
 }
 
 // From the top, each edge leads to a node, and each at the third byte to the leaf of its key.
 fn assert_all(rt: &impl Abort, nodes: &Nodes<0>, root: Option<Child>, numbers: &Numbers) {
     let top = node_below(rt, nodes, root, 0);
-    for first in 0..10 {
-        let middle = node_below(rt, nodes, top.find(BYTES[first]), 1);
-        for second in 0..10 {
-            let low = node_below(rt, nodes, middle.find(BYTES[second]), 2);
-            assert_leaves(rt, &low, numbers, first * 100 + second * 10);
+    for first in 0..10u8 {
+        let middle = node_below(rt, nodes, top.find(byte_of(first)), 1);
+        for second in 0..10u8 {
+            let low = node_below(rt, nodes, middle.find(byte_of(second)), 2);
+            let from = first as usize * 100 + second as usize * 10;
+            assert_leaves(rt, &low, numbers, from);
         }
     }
 }
