@@ -56,6 +56,7 @@ pub struct CountedWalk<'a, K: AsBytes, V, M, const PREFIX_LEN: usize> {
     ahead: OwnedRun,
     lent: Option<LeafId>,
     left: usize,
+    // whether keys are lent too: the type alone says it
     kind: PhantomData<M>,
     ghost fits: { count_fits cursor lent left (numbers map.now) ≡ true },
     ghost follows: { run_fits cursor ahead (numbers map.now) ≡ true },

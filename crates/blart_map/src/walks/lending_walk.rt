@@ -75,6 +75,7 @@ pub struct LendingWalk<'a, K: AsBytes, V, M, const PREFIX_LEN: usize> {
     // numbers that follow the first leaf that is left
     ahead: OwnedRun,
     lent: Option<LeafId>,
+    // how the walk was opened: the type alone says it
     kind: PhantomData<M>,
     ghost fits: { walk_fits cursor lent (numbers map.now) ≡ true },
     ghost follows: { run_fits cursor ahead (numbers map.now) ≡ true },

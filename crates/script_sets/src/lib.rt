@@ -1,0 +1,15 @@
+//! The lines of a script that are calls of sets.
+//!
+//! [`Sets`] are the two sets of a part of a script.
+#![tactic(auto)]
+
+mod bulk;
+mod calls;
+mod comparisons;
+mod counting;
+mod look_ups;
+mod operators;
+mod picking;
+mod walks;
+
+pub use calls::Sets;

@@ -1,0 +1,41 @@
+//! The operators, which make a new set of the first and the second.
+ghost use Rattle.std.specs.Prelude.{◌≡◌};
+
+use crate::calls::Sets;
+use blart_keys::AsBytes;
+use blart_set::TreeSet;
+use script_words::{Answered, FixedKey, SetName, Shown, Text, Words, show_items};
+use std::alloc::AllocError;
+
+impl<K: FixedKey, const PREFIX_LEN: usize> Sets<K, PREFIX_LEN> {
+    /// Makes the set that the operator of this name gives, and adds its elements.
+    pub(crate) fn operate(&self, name: SetName, words: Words<'_>, text: &mut Text) -> Answered
+        requires { (k j : K) → K.is_clone k j → K.bytes j ≡ K.bytes k }
+    {
+        words.end()?;
+        let made: Result<_, _> = match name {
+            SetName::Or => &self.first | &self.second,
+            SetName::And => &self.first & &self.second,
+            SetName::Xor => &self.first ^ &self.second,
+            _ => &self.first - &self.second,
+        };
+        show_made(&made, text);
+        drop(made);
+        Ok(())
+    }
+}
+
+// Adds the elements of a set, if it was made, or that there was no memory.
+fn show_made<K: AsBytes + Shown + Drop, const P: usize>(
+    made: &Result<TreeSet<K, P>, AllocError>,
+    text: &mut Text,
+) {
+    match made {
+        Ok(set) => {
+            text.push(b"Ok(");
+            show_items(set.iter(), text);
+            text.push(b")");
+        }
+        Err(refused) => Err::<(), AllocError>(*refused).show(text),
+    }
+}
