@@ -1,5 +1,5 @@
 //! What stops the program.
-use script_words::{Text, Unanswered};
+use crate::words::{Text, Unanswered};
 
 /// Why the program ended without its answers.
 #[derive(Drop)]

@@ -3,9 +3,13 @@
 //! The script is answered over maps of six lengths of kept prefixes, which must give the same answers.
 #![tactic(auto)]
 
+mod entries;
 mod failure;
 mod lengths;
+mod maps;
 mod session;
+mod sets;
+mod words;
 
 use crate::failure::Failure;
 use crate::lengths::answers_at_each_length;

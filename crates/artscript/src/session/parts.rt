@@ -1,15 +1,16 @@
 //! The maps and the sets of one type of keys, and the calls of them.
 ghost use Rattle.std.specs.Prelude.{◌≡◌};
 
+use crate::entries::{enter_bytes, enter_end, enter_related, enter_three};
+use crate::maps::Maps;
 use crate::session::counted::CountedMaps;
 use crate::session::mounts::Table;
-use blart_keys::{I32Key, U64Key, ZKey};
-use script_maps::{Maps, enter_bytes, enter_end, enter_related, enter_three};
-use script_sets::Sets;
-use script_words::{
+use crate::sets::Sets;
+use crate::words::{
     Answered, FixedKey, LineCall, MapName, ScriptKey, SetName, Tagged, Text, Unanswered, Words,
     named,
 };
+use blart_keys::{I32Key, U64Key, ZKey};
 use std::alloc::{AllocError, Global};
 use std::cell::Cell;
 use std::mem;

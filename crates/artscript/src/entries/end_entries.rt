@@ -1,0 +1,47 @@
+//! What the entries of the first pair and of the last answer.
+use crate::words::{Answered, EntryCall, EntryGroup, EntryName, Shown, Text, Unanswered, Words};
+use blart_keys::AsBytes;
+use blart_map::TreeMap;
+use std::mem;
+
+/// Makes the call of the entry of the first pair, or of the last, and adds its answer.
+pub fn enter_end<K: AsBytes + Shown + Drop, const P: usize>(
+    map: &mut TreeMap<K, u64, P>,
+    is_first: bool,
+    words: Words<'_>,
+    text: &mut Text,
+) -> Answered {
+    let call = EntryCall::read(words)?;
+    match call.name.group() {
+        EntryGroup::Key | EntryGroup::Occupied => show_end(map, is_first, call, text),
+        _ => return Err(Unanswered::NoCall),
+    }
+    Ok(())
+}
+
+// Adds what the call answers of the entry at an end, if there is a pair.
+fn show_end<K: AsBytes + Shown + Drop, const P: usize>(
+    map: &mut TreeMap<K, u64, P>,
+    is_first: bool,
+    call: EntryCall,
+    text: &mut Text,
+) {
+    let found = if is_first {
+        map.first_entry()
+    } else {
+        map.last_entry()
+    };
+    let Some(mut entry) = found else {
+        return text.push(b"None");
+    };
+    let value = match call.name {
+        EntryName::Key => return Some(entry.key()).show(text),
+        EntryName::Get => *entry.get(),
+        EntryName::Insert => entry.insert(call.number),
+        EntryName::GetMut => mem::replace(entry.get_mut(), call.number),
+        EntryName::IntoMut => mem::replace(entry.into_mut(), call.number),
+        EntryName::Remove => entry.remove(),
+        _ => return Some(entry.remove_entry()).show(text),
+    };
+    Some(value).show(text);
+}

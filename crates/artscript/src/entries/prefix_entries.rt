@@ -1,0 +1,336 @@
+//! What the prefix entry of a key answers.
+//!
+//! An entry is made and used in one function, which ends its loan of the map.
+use crate::entries::by_key::MapOf;
+use crate::words::{
+    Answered, EntryCall, EntryGroup, EntryName, PrefixCall, PrefixName, Shown, Text, Unanswered,
+    Words, length_of, show_lending, show_walk, value_of, written,
+};
+use blart_map::{PrefixEntry, PrefixKind, PrefixOccupied, TreeMap};
+use std::alloc::AllocError;
+use std::iter::{DoubleEndedIterator, Iterator};
+use std::mem;
+
+type BytesMap<const P: usize> = MapOf<Vec<u8>, P>;
+
+/// Makes the call of the prefix entry of a key, and adds its answer.
+pub fn enter_related<const P: usize>(
+    map: &mut TreeMap<Vec<u8>, u64, P>,
+    mut words: Words<'_>,
+    text: &mut Text,
+) -> Answered {
+    let word = words.word()?;
+    let call = PrefixCall::read(words)?;
+    let key = words.key_of(word)?;
+    match call {
+        PrefixCall::Shared(call) => show_shared(map, key, call, text),
+        PrefixCall::OfKind(call) => show_of_kind(map, key, call, text),
+        PrefixCall::Own(name, number) => show_own(map, key, name, number, text),
+        PrefixCall::Iter(letters) => walk_inner(map, key, letters, text),
+        PrefixCall::IterMut(add, letters) => lend_inner(map, key, add, letters, text),
+    }
+    Ok(())
+}
+
+// Makes a call that entries have too.
+fn show_shared<const P: usize>(
+    map: &mut BytesMap<P>,
+    key: Vec<u8>,
+    call: EntryCall,
+    text: &mut Text,
+) {
+    match call.name.group() {
+        EntryGroup::Key => show_key(map, key, false, text),
+        EntryGroup::Value => show_value(map, key, call, text),
+        EntryGroup::Place => show_place(map, key, call, text),
+        EntryGroup::Occupied => show_leaf(map, key, call, text),
+        EntryGroup::Vacant => show_vacant(map, key, call, text),
+    }
+}
+
+// Makes a call of the entry's kind.
+fn show_of_kind<const P: usize>(
+    map: &mut BytesMap<P>,
+    key: Vec<u8>,
+    call: EntryCall,
+    text: &mut Text,
+) {
+    match call.name.group() {
+        EntryGroup::Value => show_kind_value(map, key, call, text),
+        _ => show_kind_place(map, key, call, text),
+    }
+}
+
+// Makes a call that prefix entries alone have, or that theirs differs in.
+fn show_own<const P: usize>(
+    map: &mut BytesMap<P>,
+    key: Vec<u8>,
+    name: PrefixName,
+    number: u64,
+    text: &mut Text,
+) {
+    match name {
+        PrefixName::GetKey => show_key(map, key, true, text),
+        PrefixName::OccupiedKey
+        | PrefixName::Get
+        | PrefixName::OccupiedGetKey
+        | PrefixName::GetMut => show_related(map, key, name, number, text),
+        PrefixName::OccupiedInsert | PrefixName::OccupiedInsertEntry => {
+            set_related(map, key, name, number, text)
+        }
+        _ => show_inner(map, key, name, number, text),
+    }
+}
+
+// The word of the entry's kind, and a space.
+fn kind_of<const P: usize>(entry: &PrefixEntry<'_, Vec<u8>, u64, P, BytesMap<P>>) -> &'static [u8] {
+    match entry {
+        PrefixEntry::Occupied(related) => kind_of_related(related),
+        PrefixEntry::Vacant(_) => b"Vacant ",
+    }
+}
+
+fn kind_of_related<const P: usize>(
+    related: &PrefixOccupied<'_, Vec<u8>, u64, P, BytesMap<P>>,
+) -> &'static [u8] {
+    match related {
+        PrefixOccupied::Leaf(_) => b"Leaf ",
+        PrefixOccupied::Inner(_) => b"Inner ",
+    }
+}
+
+// Adds the entry's key, or the key of its pair, where it has one.
+fn show_key<const P: usize>(map: &mut BytesMap<P>, key: Vec<u8>, is_found: bool, text: &mut Text) {
+    let entry = map.prefix_entry(key);
+    text.push(kind_of(&entry));
+    if is_found {
+        entry.get_key().show(text);
+    } else {
+        entry.key().show(text);
+    }
+    drop(entry);
+}
+
+// Adds the value that the call lends.
+fn show_value<const P: usize>(
+    map: &mut BytesMap<P>,
+    key: Vec<u8>,
+    call: EntryCall,
+    text: &mut Text,
+) {
+    let entry = map.prefix_entry(key);
+    text.push(kind_of(&entry));
+    let lent = match call.name {
+        EntryName::OrInsert => entry.or_insert(call.number),
+        EntryName::OrDefault => entry.or_default(),
+        EntryName::OrInsertWith => entry.or_insert_with(|| call.number),
+        _ => entry.or_insert_with_key(length_of),
+    };
+    value_of(lent).show(text)
+}
+
+// Adds the pair whose entry the call answers.
+fn show_place<const P: usize>(
+    map: &mut BytesMap<P>,
+    key: Vec<u8>,
+    call: EntryCall,
+    text: &mut Text,
+) {
+    let entry = map.prefix_entry(key);
+    text.push(kind_of(&entry));
+    let answer = match call.name {
+        EntryName::OrInsertEntry => entry.or_insert_entry(call.number),
+        EntryName::OrDefaultEntry => entry.or_default_entry(),
+        EntryName::OrInsertWithEntry => entry.or_insert_with_entry(|| call.number),
+        EntryName::OrInsertWithKeyEntry => entry.or_insert_with_key_entry(length_of),
+        _ => entry.insert_entry(call.number),
+    };
+    show_placed!(answer, text)
+}
+
+// Adds the value that the call of the entry's kind lends.
+fn show_kind_value<const P: usize>(
+    map: &mut BytesMap<P>,
+    key: Vec<u8>,
+    call: EntryCall,
+    text: &mut Text,
+) {
+    let entry = map.prefix_entry(key);
+    text.push(kind_of(&entry));
+    let entry = entry.kind();
+    let lent = match call.name {
+        EntryName::OrInsert => entry.or_insert(call.number),
+        EntryName::OrDefault => entry.or_default(),
+        EntryName::OrInsertWith => entry.or_insert_with(|| call.number),
+        _ => entry.or_insert_with_key(length_of),
+    };
+    value_of(lent).show(text)
+}
+
+// Adds the pair whose entry the call of the entry's kind answers.
+fn show_kind_place<const P: usize>(
+    map: &mut BytesMap<P>,
+    key: Vec<u8>,
+    call: EntryCall,
+    text: &mut Text,
+) {
+    let entry = map.prefix_entry(key);
+    text.push(kind_of(&entry));
+    let answer = match call.name {
+        EntryName::OrInsertEntry => entry.kind().or_insert_entry(call.number),
+        _ => entry.kind().insert_entry(call.number),
+    };
+    show_placed!(answer, text)
+}
+
+// Adds what the call answers of an entry to which pairs are related.
+fn show_related<const P: usize>(
+    map: &mut BytesMap<P>,
+    key: Vec<u8>,
+    name: PrefixName,
+    number: u64,
+    text: &mut Text,
+) {
+    let mut entry = map.prefix_entry(key);
+    text.push(kind_of(&entry));
+    match &mut entry {
+        PrefixEntry::Occupied(related) => match name {
+            PrefixName::OccupiedKey => related.key().show(text),
+            PrefixName::Get => related.get().show(text),
+            PrefixName::OccupiedGetKey => related.get_key().show(text),
+            _ => written(related.get_mut(), number).show(text),
+        },
+        PrefixEntry::Vacant(_) => text.stop(Unanswered::NoCall),
+    }
+    drop(entry);
+}
+
+// Puts a pair in the place of the related ones, and adds what the call answers.
+fn set_related<const P: usize>(
+    map: &mut BytesMap<P>,
+    key: Vec<u8>,
+    name: PrefixName,
+    number: u64,
+    text: &mut Text,
+) {
+    let PrefixEntry::Occupied(related) = map.prefix_entry(key) else {
+        return text.stop(Unanswered::NoCall);
+    };
+    text.push(kind_of_related(&related));
+    match name {
+        PrefixName::OccupiedInsert => (*related.insert(number)).show(text),
+        _ => {
+            let place = related.insert_entry(number);
+            (place.key(), place.get()).show(text)
+        }
+    }
+}
+
+// Adds what the call answers of an entry at a pair, which `or_insert_entry` gives as it is. Its `get` and `get_mut` are those of every prefix entry with pairs.
+fn show_leaf<const P: usize>(
+    map: &mut BytesMap<P>,
+    key: Vec<u8>,
+    call: EntryCall,
+    text: &mut Text,
+) {
+    let entry = map.prefix_entry(key);
+    text.push(kind_of(&entry));
+    if !matches!(entry, PrefixEntry::Occupied(PrefixOccupied::Leaf(_))) {
+        return text.stop(Unanswered::NoCall);
+    }
+    match entry.or_insert_entry(0) {
+        Ok(mut place) => {
+            let value = match call.name {
+                EntryName::Insert => place.insert(call.number),
+                EntryName::IntoMut => mem::replace(place.into_mut(), call.number),
+                EntryName::Remove => place.remove(),
+                _ => return place.remove_entry().show(text),
+            };
+            value.show(text)
+        }
+        Err(refused) => text.stop(Unanswered::Memory(refused)),
+    }
+}
+
+// Adds what the call answers of an entry in the place of pairs.
+fn show_inner<const P: usize>(
+    map: &mut BytesMap<P>,
+    key: Vec<u8>,
+    name: PrefixName,
+    number: u64,
+    text: &mut Text,
+) {
+    let PrefixKind::Inner(mut inner) = map.prefix_entry(key).kind() else {
+        return text.stop(Unanswered::NoCall);
+    };
+    text.push(b"Inner ");
+    match name {
+        PrefixName::InnerKey => inner.key().show(text),
+        PrefixName::InnerGet => inner.get().show(text),
+        PrefixName::InnerGetKey => inner.get_key().show(text),
+        PrefixName::InnerGetMut => written(inner.get_mut(), number).show(text),
+        PrefixName::InnerInsert => (*inner.insert(number)).show(text),
+        PrefixName::InnerInsertEntry => {
+            let place = inner.insert_entry(number);
+            (place.key(), place.get()).show(text)
+        }
+        _ => match inner.get_key_value_mut() {
+            Some(mut place) => {
+                let old = place.insert(number);
+                Some((place.key(), old)).show(text)
+            }
+            None => text.push(b"None"),
+        },
+    }
+}
+
+// Walks over the pairs in whose place the entry is.
+fn walk_inner<const P: usize>(
+    map: &mut BytesMap<P>,
+    key: Vec<u8>,
+    letters: Option<&[u8]>,
+    text: &mut Text,
+) {
+    match map.prefix_entry(key).kind() {
+        PrefixKind::Inner(inner) => {
+            text.push(b"Inner ");
+            show_walk(inner.iter(), letters, text);
+        }
+        _ => text.stop(Unanswered::NoCall),
+    }
+}
+
+// Adds to the values of the pairs in whose place the entry is.
+fn lend_inner<const P: usize>(
+    map: &mut BytesMap<P>,
+    key: Vec<u8>,
+    add: u64,
+    letters: Option<&[u8]>,
+    text: &mut Text,
+) {
+    match map.prefix_entry(key).kind() {
+        PrefixKind::Inner(inner) => {
+            text.push(b"Inner ");
+            show_lending(inner.iter_mut(), add, letters, text);
+        }
+        _ => text.stop(Unanswered::NoCall),
+    }
+}
+
+// Adds what the call answers of an entry where no pair stands.
+fn show_vacant<const P: usize>(
+    map: &mut BytesMap<P>,
+    key: Vec<u8>,
+    call: EntryCall,
+    text: &mut Text,
+) {
+    let PrefixKind::Vacant(vacant) = map.prefix_entry(key).kind() else {
+        return text.stop(Unanswered::NoCall);
+    };
+    text.push(b"Vacant ");
+    match call.name {
+        EntryName::IntoKey => vacant.into_key().show(text),
+        EntryName::VacantInsert => value_of(vacant.insert(call.number)).show(text),
+        _ => show_placed!(vacant.insert_entry(call.number), text),
+    }
+}

@@ -1,0 +1,21 @@
+//! How the first map and the second compare, and what the first is as text.
+use crate::maps::calls::Maps;
+use crate::words::{Answered, MapName, Shown, Text, Words, have_one_digest, show_debug};
+use blart_keys::OrderedBytes;
+use std::fmt::Debug;
+use std::hash::Hash;
+
+impl<K: OrderedBytes + Hash + Debug + Drop, const PREFIX_LEN: usize> Maps<K, u64, PREFIX_LEN> {
+    /// Makes the call of this name, which compares the maps, and adds its answer.
+    pub(crate) fn compare(&self, name: MapName, words: Words<'_>, text: &mut Text) -> Answered {
+        words.end()?;
+        match name {
+            MapName::Equal => (self.first == self.second).show(text),
+            MapName::PartialCmp => self.first.partial_cmp(&self.second).show(text),
+            MapName::Cmp => self.first.cmp(&self.second).show(text),
+            MapName::SameHash => have_one_digest(&self.first, &self.second).show(text),
+            _ => show_debug(&self.first, text),
+        }
+        Ok(())
+    }
+}

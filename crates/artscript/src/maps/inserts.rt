@@ -1,0 +1,43 @@
+//! The calls that some key types have, and others lack.
+ghost use Rattle.std.specs.Prelude.{◌≡◌};
+
+use crate::maps::calls::Maps;
+use crate::words::{Answered, FixedKey, MapName, ScriptKey, Shown, Text, Words, value_of};
+use blart_keys::NoPrefixesBytes;
+
+impl<K: FixedKey, const PREFIX_LEN: usize> Maps<K, u64, PREFIX_LEN> {
+    /// Makes the call of this name with these words after it, and adds its answer.
+    pub fn call_of_fixed(&mut self, name: MapName, words: Words<'_>, text: &mut Text) -> Answered
+        requires { (k j : K) → K.is_clone k j → K.bytes j ≡ K.bytes k }
+    {
+        match name {
+            MapName::MakeClone => self.make_clone(words, text),
+            MapName::ExtendCopied | MapName::FromArray => self.copy_items(name, words, text),
+            _ => self.call_of_apart(name, words, text),
+        }
+    }
+}
+
+impl<K: ScriptKey + NoPrefixesBytes, const PREFIX_LEN: usize> Maps<K, u64, PREFIX_LEN> {
+    /// Makes the call of this name with these words after it, and adds its answer.
+    pub fn call_of_apart(&mut self, name: MapName, words: Words<'_>, text: &mut Text) -> Answered {
+        match name {
+            MapName::Insert | MapName::GetOrInsert => self.insert(name, words, text),
+            MapName::Append => self.append(words, text),
+            MapName::Extend | MapName::FromVec | MapName::FromIter => self.take_items(
+                name, words, text,
+            ),
+            _ => self.call(name, words, text),
+        }
+    }
+
+    // The calls that place a pair of which it is known that its key conflicts with none.
+    fn insert(&mut self, name: MapName, mut words: Words<'_>, text: &mut Text) -> Answered {
+        let (key, value) = words.last_pair()?;
+        match name {
+            MapName::Insert => self.first.insert(key, value).show(text),
+            _ => value_of(self.first.get_or_insert(key, value)).show(text),
+        }
+        Ok(())
+    }
+}

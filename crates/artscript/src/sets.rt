@@ -1,0 +1,13 @@
+//! The lines of a script that are calls of sets.
+//!
+//! [`Sets`] are the two sets of a part of a script.
+mod bulk;
+mod calls;
+mod comparisons;
+mod counting;
+mod look_ups;
+mod operators;
+mod picking;
+mod walks;
+
+pub use calls::Sets;

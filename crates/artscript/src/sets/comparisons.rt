@@ -1,0 +1,21 @@
+//! How the first set and the second compare, and what the first is as text.
+use crate::sets::calls::Sets;
+use crate::words::{Answered, SetName, Shown, Text, Words, have_one_digest, show_debug};
+use blart_keys::OrderedBytes;
+use std::fmt::Debug;
+use std::hash::Hash;
+
+impl<K: OrderedBytes + Hash + Debug + Drop, const PREFIX_LEN: usize> Sets<K, PREFIX_LEN> {
+    /// Makes the call of this name, which compares the sets, and adds its answer.
+    pub(crate) fn compare(&self, name: SetName, words: Words<'_>, text: &mut Text) -> Answered {
+        words.end()?;
+        match name {
+            SetName::Equal => (self.first == self.second).show(text),
+            SetName::PartialCmp => self.first.partial_cmp(&self.second).show(text),
+            SetName::Cmp => self.first.cmp(&self.second).show(text),
+            SetName::SameHash => have_one_digest(&self.first, &self.second).show(text),
+            _ => show_debug(&self.first, text),
+        }
+        Ok(())
+    }
+}

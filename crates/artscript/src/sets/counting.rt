@@ -1,0 +1,63 @@
+//! How often merges and tests of both sets compare elements.
+use crate::sets::calls::Sets;
+use crate::words::{Answered, Compared, SetName, Shown, Text, Unanswered, Words};
+use blart_keys::AsBytes;
+use blart_set::{TreeSet, TryInsertError};
+use std::cell::Cell;
+use std::iter::Iterator;
+
+impl<K: AsBytes + Drop, const PREFIX_LEN: usize> Sets<K, PREFIX_LEN> {
+    /// Makes the call of this name over sets of the same bytes, and adds its answer and how often it compared elements.
+    pub(crate) fn count(&self, name: SetName, words: Words<'_>, text: &mut Text) -> Answered {
+        let count = Cell::new(0u64);
+        let mut sets = Sets {
+            first: TreeSet::with_prefix_len(self.alloc),
+            second: TreeSet::with_prefix_len(self.alloc),
+            alloc: self.alloc,
+        };
+        let answered = self.call_in(&mut sets, &count, name, words, text);
+        drop(sets);
+        answered?;
+        text.push(b" ");
+        count.get().show(text);
+        Ok(())
+    }
+
+    // Adds the bytes of both sets to those of others.
+    fn add_to<'a>(
+        &'a self,
+        sets: &mut Sets<Compared<'a>, PREFIX_LEN>,
+        count: &'a Cell<u64>,
+    ) -> Answered {
+        add_all(&mut sets.first, &self.first, count)?;
+        add_all(&mut sets.second, &self.second, count)
+    }
+
+    // Adds the bytes of both sets to those of others, makes the call of these, and adds its answer.
+    fn call_in<'a>(
+        &'a self,
+        sets: &mut Sets<Compared<'a>, PREFIX_LEN>,
+        count: &'a Cell<u64>,
+        name: SetName,
+        words: Words<'_>,
+        text: &mut Text,
+    ) -> Answered {
+        self.add_to(sets, count)?;
+        sets.call_of_both(name, words, text)
+    }
+}
+
+// Adds the bytes of the elements, which count how often they are compared.
+fn add_all<'a, K: AsBytes + Drop, const P: usize>(
+    copy: &mut TreeSet<Compared<'a>, P>,
+    set: &'a TreeSet<K, P>,
+    count: &'a Cell<u64>,
+) -> Answered {
+    for element in set.iter() {
+        let bytes = element.as_bytes();
+        if let Err(TryInsertError::Memory(refused)) = copy.try_insert(Compared { bytes, count }) {
+            return Err(Unanswered::Memory(refused));
+        }
+    }
+    Ok(())
+}
