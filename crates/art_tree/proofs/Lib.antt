@@ -1,4 +1,5 @@
 pub mod CallerLemmas
+pub mod PairEnds
 mod BeginsLemmas
 mod Pairs
 mod Invariant

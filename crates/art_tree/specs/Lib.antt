@@ -3,6 +3,7 @@ pub mod Clones
 pub mod Content
 pub mod Leaves
 pub mod Longest
+pub mod Pairs
 pub mod Places
 pub mod Points
 pub mod Seeks

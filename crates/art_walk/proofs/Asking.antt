@@ -6,10 +6,10 @@ use denote.Param.Members.{Mut, Called}
 use Rattle.blart_keys.specs.Walks.{AsksPair}
 use Rattle.art_walk.proofs.Retained.{retains_none, retains_kept, retains_gone}
 use Rattle.art_tree.specs.Leaves.{Numbered, leaf_in, AreDistinct, Lacks, with_value, without_number}
+use Rattle.art_tree.specs.Pairs.{pairs_of}
 use Rattle.art_tree.proofs.CallerLemmas.{leaf_in-split, with_value-split, without_number-split, AreDistinct-with_value, AreDistinct-without_number, distinct_parts}
 use Rattle.art_walk.specs.declared.cursor.Cursor.{Cursor}
 use Rattle.art_walk.specs.Cursor.{leaves_left, FitsIn}
-use Rattle.art_walk.specs.Pairs.{pairs_of}
 use Rattle.art_walk.specs.Asking.{RetainsBy}
 use Rattle.art_walk.proofs.Changes.{left_with_value, left_with_passed, left_without}
 

@@ -6,7 +6,8 @@ pub mod Passing
 pub mod Retained
 pub mod Asking
 pub mod Lending
-pub mod PairEnds
 pub mod Runs
 pub mod Along
 pub mod Callable
+pub mod Extracted
+pub mod Writing

@@ -1,5 +1,6 @@
 pub mod Cursor
-pub mod Pairs
+pub mod EachWritten
+pub mod Extracting
 pub mod Asking
 pub mod Openings
 pub mod Lent

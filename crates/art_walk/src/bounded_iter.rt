@@ -5,9 +5,9 @@ ghost use Rattle.blart_keys.specs.Bounds.{slice_bound, CanRange};
 ghost use Rattle.blart_keys.specs.Content.{between, under};
 ghost use Rattle.art_tree.specs.Leaves.{bytes};
 ghost use Rattle.art_tree.specs.Longest.{longest};
+ghost use Rattle.art_tree.specs.Pairs.{pairs_of};
 ghost use Rattle.art_walk.specs.Cursor.{span_of, IsSpan};
 ghost use Rattle.art_walk.specs.Openings.{longer, opening};
-ghost use Rattle.art_walk.specs.Pairs.{pairs_of};
 
 use crate::cursor::Cursor;
 use crate::openings::{BelowFront, InRange, InSubtree};

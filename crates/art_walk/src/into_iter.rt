@@ -2,7 +2,7 @@
 ghost use Rattle.std.specs.Prelude.{◌≡◌, length, Some, IfSome};
 ghost use Rattle.std.specs.Iterator.{YieldsFirst, YieldsLast, UpTo, item_count};
 ghost use Rattle.std.specs.Iterator.SizeHint.{IsWithinCount};
-ghost use Rattle.art_walk.specs.Pairs.{pairs_of};
+ghost use Rattle.art_tree.specs.Pairs.{pairs_of};
 
 use art_tree::{Leaves, Tree};
 use blart_keys::AsBytes;
@@ -17,7 +17,7 @@ pub struct IntoIter<K: AsBytes, V, const PREFIX_LEN: usize> {
 
 impl<K: AsBytes, V, const PREFIX_LEN: usize> Model for IntoIter<K, V, PREFIX_LEN> {
     ghost use Rattle.std.specs.Prelude.{List};
-    ghost use Rattle.art_walk.specs.Pairs.{pairs_of};
+    ghost use Rattle.art_tree.specs.Pairs.{pairs_of};
 
     ghost Value = { List (K × V) };
 

@@ -2,7 +2,7 @@
 ghost use Rattle.std.specs.Prelude.{◌≡◌, length, map, Some, IfSome};
 ghost use Rattle.std.specs.Iterator.{YieldsFirst, YieldsLast, UpTo, item_count};
 ghost use Rattle.std.specs.Iterator.SizeHint.{IsWithinCount};
-ghost use Rattle.art_walk.specs.Pairs.{pairs_of};
+ghost use Rattle.art_tree.specs.Pairs.{pairs_of};
 
 use crate::into_iter::IntoIter;
 use art_tree::Tree;

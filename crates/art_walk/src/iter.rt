@@ -2,7 +2,7 @@
 ghost use Rattle.std.specs.Prelude.{◌≡◌, length, Some, IfSome};
 ghost use Rattle.std.specs.Iterator.{YieldsFirstBy, YieldsLastBy, UpTo, item_count};
 ghost use Rattle.std.specs.Iterator.SizeHint.{IsWithinCount};
-ghost use Rattle.art_walk.specs.Pairs.{pairs_of};
+ghost use Rattle.art_tree.specs.Pairs.{pairs_of};
 
 use crate::cursor::Cursor;
 use crate::walk::Walk;

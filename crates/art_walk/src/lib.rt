@@ -4,7 +4,10 @@
 #![tactic(auto)]
 
 mod bounded_iter;
+mod compare;
 mod cursor;
+mod each;
+mod extracting;
 mod into_iter;
 mod into_keys;
 mod into_values;
@@ -17,7 +20,10 @@ mod values;
 mod walk;
 
 pub use bounded_iter::{BoundedIter, Prefix, Range, SubtreeIter};
+pub use compare::{are_same, feed, order, partial_order};
 pub use cursor::Cursor;
+pub use each::{write_pairs, write_values};
+pub use extracting::{extract_first, extract_last};
 pub use into_iter::IntoIter;
 pub use into_keys::IntoKeys;
 pub use into_values::IntoValues;

@@ -1,7 +1,7 @@
 //! The pairs that a closure keeps.
 ghost use Rattle.std.specs.Map.Calls.{CallableOnEachPair, CalledAtPair, TakesPair};
 ghost use Rattle.blart_keys.specs.Walks.{AsksPair};
-ghost use Rattle.art_walk.specs.Pairs.{pairs_of};
+ghost use Rattle.art_tree.specs.Pairs.{pairs_of};
 ghost use Rattle.art_walk.specs.Asking.{RetainsBy};
 
 use crate::cursor::Cursor;

@@ -2,8 +2,8 @@
 ghost use Rattle.std.specs.Prelude.{◌≡◌, ◌≢◌, option_map, None, IfSome};
 ghost use Rattle.std.specs.Iterator.{YieldsFirstBy, YieldsLastBy, item_count};
 ghost use Rattle.art_tree.specs.Leaves.{Has, number_after, number_before, RunsBefore, StandsAfter};
+ghost use Rattle.art_tree.specs.Pairs.{pairs_of};
 ghost use Rattle.art_walk.specs.Cursor.{leaves_left, FitsIn};
-ghost use Rattle.art_walk.specs.Pairs.{pairs_of};
 
 use crate::cursor::Cursor;
 use art_tree::{Following, LeafId, Leaves, Run, Visits};
@@ -85,8 +85,8 @@ impl<'a, K, V> Model for Walk<'a, K, V> {
 
     ghost Value = { List (K × V) };
 
+    ghost use Rattle.art_tree.specs.Pairs.{pairs_of};
     ghost use Rattle.art_walk.specs.Cursor.{ends_left, EndsFit, StandsBeside};
-    ghost use Rattle.art_walk.specs.Pairs.{pairs_of};
 
     ghost view = { λ it. pairs_of (ends_left it.ends it.leaves.now.pairs) };
 

@@ -9,9 +9,9 @@ pub use Rattle.blart_keys.proofs.Overlapped.{overlaps_near, overlaps_apart, over
 -- what came from both ends of a walk
 pub use Rattle.blart_keys.proofs.WalkLemmas.{walked_start, walked_first, walked_last, walked_end}
 -- a map parted in two, and joined again
-pub use Rattle.blart_map.proofs.Moved.Appending.{joined_parts}
+pub use Rattle.art_insert.proofs.Moved.Appending.{joined_parts}
 -- a new pair that an entry placed and then removed
-pub use Rattle.blart_map.proofs.Placed.TakenBack.{taken_back, taken_back_fronts}
+pub use Rattle.art_insert.proofs.Placed.TakenBack.{taken_back, taken_back_fronts}
 -- what is kept by a closure that tells of the pair alone, and by one that counts; what one writes that keeps each pair
 pub use Rattle.blart_map.proofs.Taken.Filtered.{kept_by, kept_by_retained, take_from_kept, filter_from_retained, map_from_retained}
 -- a pair that was lent and then kept, or taken

@@ -1,6 +1,3 @@
--- The pairs to which a key is related, and entries.
-pub mod EntryOf
+-- The pairs to which a key is related.
 pub mod InnerPairs
-pub mod OverWritten
 pub mod PrefixValues
-pub mod Thinning

@@ -4,7 +4,5 @@ pub mod CountedPairs
 pub mod EachWritten
 pub mod LentPairs
 pub mod OnceWritten
-pub mod Writing
 pub mod WrittenInTurn
-pub mod WrittenLeaf
 pub mod WrittenWhere

@@ -12,11 +12,9 @@ pub mod OccupiedEntry
 pub mod OccupiedLends
 pub mod Openings
 pub mod Passed
-pub mod Places
 pub mod PrefixEntry
 pub mod PrefixKind
 pub mod PrefixLends
-pub mod Spans
 pub mod Written
 pub mod LendingWalk
 pub mod LentLeaves

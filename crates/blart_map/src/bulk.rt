@@ -1,6 +1,5 @@
 //! Many pairs at once.
 mod append;
-mod ascending;
 mod clone;
 mod extend;
 mod from;

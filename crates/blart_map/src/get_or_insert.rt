@@ -38,7 +38,7 @@ impl<K: NoPrefixesBytes + Drop, V: Drop, const PREFIX_LEN: usize> TreeMap<K, V, 
     /// The value of the key, to be written, after placing the closure's answer where none is stored. The closure is called there alone, once there is room.
     ///
     /// An error is answered only where the bytes are new, and leaves the map as it was.
-    #[tactic(auto, using(crate::proofs::Placed::SettingAt::new_none), unfolding(crate::specs::Content::pairs))]
+    #[tactic(auto, using(art_insert::proofs::Placed::SettingAt::new_none), unfolding(crate::specs::Content::pairs))]
     pub fn get_or_insert_with<F: FnOnce() -> V + Drop>(
         &mut self,
         key: K,

@@ -7,7 +7,7 @@ ghost use Rattle.blart_map.specs.Content.{pairs};
 ghost use Rattle.blart_keys.specs.Routed.{OverlapsToo};
 
 use crate::map::TreeMap;
-use crate::placing::{exchange_at, put_at, put_lawful};
+use art_insert::{exchange_at, put_at, put_lawful};
 use blart_keys::{AsBytes, NoPrefixesBytes, TryInsertError};
 use std::alloc::AllocError;
 

@@ -5,13 +5,14 @@ ghost use Rattle.blart_keys.specs.Content.{IsContent, IsOver};
 ghost use Rattle.blart_keys.specs.Steps.{bytes, PutsOver};
 ghost use Rattle.blart_keys.specs.Stored.{pair_at_front, has, overlaps, Overwrites};
 ghost use Rattle.art_tree.specs.Leaves.{leaf_in, with_pair};
-ghost use Rattle.art_walk.specs.Pairs.{pairs_of};
 ghost use Rattle.blart_map.specs.Content.{pairs};
-ghost use Rattle.blart_map.specs.Spans.{Spans, LeavesOne, thinned};
+ghost use Rattle.art_insert.specs.Spans.{Spans, thinned};
 ghost use Rattle.blart_keys.specs.Routed.{spared_item};
+ghost use Rattle.art_tree.specs.Pairs.{pairs_of};
 
 use crate::map::TreeMap;
-use art_tree::{LeafId, Point, Tree};
+use art_insert::leave_one;
+use art_tree::{LeafId, Point};
 use blart_keys::AsBytes;
 use std::alloc::AllocError;
 
@@ -76,26 +77,4 @@ impl<K: AsBytes + Drop, V: Drop, const PREFIX_LEN: usize> TreeMap<K, V, PREFIX_L
         self.tree.swap(last, key, value);
         self.tree.law();
     }
-}
-
-// Removes the related pairs before the last.
-fn leave_one<K: AsBytes + Drop, V: Drop, const P: usize>(
-    tree: &mut Tree<K, V, P>,
-    first: LeafId,
-    last: LeafId,
-    query: &[u8],
-)
-    requires { Spans K.bytes tree.old.pairs query.now first last }
-    ensures { LeavesOne K.bytes tree.old.pairs query.now last tree.new.pairs }
-{
-    let mut id = first;
-    'thin: while id != last {
-        tree.law();
-        let Some(next) = tree.next_of(id) else {
-            unreachable!()
-        };
-        tree.remove(id);
-        id = next;
-    }
-    tree.law();
 }

@@ -9,7 +9,7 @@ ghost use Rattle.art_tree.specs.Content.{room};
 ghost use Rattle.blart_map.specs.Within.{as_tried, added, added_ok};
 
 use crate::map::TreeMap;
-use crate::placing::{put_lawful_within, put_within};
+use art_insert::{put_lawful_within, put_within};
 use art_tree::Tree;
 use blart_keys::{AsBytes, InsertPrefixError, NoPrefixesBytes};
 use std::alloc::AllocError;

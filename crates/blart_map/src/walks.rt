@@ -9,7 +9,6 @@ ghost use Rattle.art_walk.specs.Openings.{longer, opening};
 ghost use Rattle.blart_map.specs.Content.{pairs};
 
 pub mod counted_walk;
-mod each;
 pub mod extract_if;
 mod leaves;
 mod lending;

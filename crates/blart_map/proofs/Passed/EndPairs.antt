@@ -3,9 +3,9 @@ use Rattle.std.proofs.Common.{◌≡◌, ℕ, List, [], ◌∷◌, ◌-◌, leng
 use Rattle.std.proofs.lemmas.Grind.{common_steps}
 use Rattle.art_tree.specs.Leaves.{Numbered, leaf_in, Has, AreDistinct, without_number, first_number, last_number}
 use Rattle.art_tree.proofs.CallerLemmas.{Has-last, no_last}
-use Rattle.art_walk.specs.Pairs.{pairs_of}
 use Rattle.blart_keys.proofs.Options.{some_of, is_some as has_value}
-use Rattle.blart_map.proofs.Numbers.{last_pair, slice_get-last}
+use Rattle.art_tree.specs.Pairs.{pairs_of}
+use Rattle.art_insert.proofs.Numbers.{last_pair, slice_get-last}
 
 module _ {K V : Type 0} (ps : List (Numbered K V)) (id : ℕ) where
   -- the pair at the front

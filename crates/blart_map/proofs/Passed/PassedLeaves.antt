@@ -6,14 +6,14 @@ use Rattle.blart_keys.proofs.ContentLemmas.{at_member}
 use Rattle.blart_keys.proofs.Mapped.{Member-map}
 use Rattle.blart_keys.proofs.Options.{some_of}
 use Rattle.art_tree.specs.Leaves.{Numbered, leaf_in, Has, AreDistinct, without_number, bytes}
+use Rattle.art_tree.specs.Pairs.{pairs_of}
 use Rattle.art_tree.proofs.CallerLemmas.{Member-from_leaf_in}
 use Rattle.art_walk.specs.declared.cursor.Cursor.{Cursor}
 use Rattle.art_walk.specs.Cursor.{leaves_left, FitsIn, PassesFirst, PassesLast}
-use Rattle.art_walk.specs.Pairs.{pairs_of}
 use Rattle.art_walk.proofs.Changes.{left_without}
 use Rattle.art_walk.proofs.Passing.{first_passed, first_named, last_passed, last_named}
 use Rattle.blart_map.specs.Passed.{WasFirst, WasLast, StaysLeft}
-use Rattle.blart_map.proofs.Numbers.{removed_pairs, pairs_content}
+use Rattle.art_insert.proofs.Numbers.{removed_pairs, pairs_content}
 
 module _ {K V : Type 0} (ps : List (Numbered K V)) (distinct : AreDistinct ps) where
   module _ (old new : Cursor) (before : FitsIn old ps) (fits : FitsIn new ps) where

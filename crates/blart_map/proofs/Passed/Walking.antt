@@ -2,8 +2,8 @@
 use Rattle.std.proofs.Common.{◌≡◌, ℕ, List, [], ◌∷◌, max, length, refl, ap}
 use Rattle.art_tree.specs.Leaves.{Numbered, bytes}
 use Rattle.art_tree.specs.Longest.{longest}
-use Rattle.art_walk.specs.Pairs.{pairs_of}
 use Rattle.blart_keys.specs.Steps.{bytes as pair_bytes}
+use Rattle.art_tree.specs.Pairs.{pairs_of}
 
 module _ {K V : Type 0} (key_bytes : K → List ℕ) where
   -- the longest key is the same without numbers

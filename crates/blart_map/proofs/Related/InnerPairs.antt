@@ -11,14 +11,14 @@ use Rattle.blart_keys.proofs.Mapped.{filter-map}
 use Rattle.blart_keys.proofs.Options.{some_of}
 use Rattle.blart_keys.proofs.RankLemmas.{Member, filter_member}
 use Rattle.art_tree.specs.Leaves.{Numbered, leaf_in, Has, AreDistinct, first_number, last_number, with_value, bytes}
+use Rattle.art_tree.specs.Pairs.{pairs_of}
 use Rattle.art_tree.proofs.CallerLemmas.{leaf_in-member, AreDistinct-filter, two_ends, only_one}
-use Rattle.art_walk.specs.Pairs.{pairs_of}
 use Rattle.art_walk.specs.Cursor.{span_of, IsSpan}
 use Rattle.art_walk.proofs.Ranges.{subtree_span}
 use Rattle.blart_map.specs.InnerEntry.{only}
-use Rattle.blart_map.specs.Spans.{is_number, spans, Spans}
-use Rattle.blart_map.proofs.Placed.Setting.{rewritten}
-use Rattle.blart_map.proofs.Related.Thinning.{first_has}
+use Rattle.art_insert.specs.Spans.{is_number, spans, Spans}
+use Rattle.art_insert.proofs.Placed.Setting.{rewritten}
+use Rattle.art_insert.proofs.Related.Thinning.{first_has}
 
 is_number_Some : (o : Option ℕ) (i : ℕ) → is_number o i ≡ true → o ≡ Some i
 is_number_Some None i e = absurd (false≢true e)

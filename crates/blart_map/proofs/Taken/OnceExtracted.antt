@@ -11,12 +11,12 @@ use Rattle.blart_keys.specs.Steps.{bytes as pair_bytes}
 use Rattle.blart_keys.specs.Walks.{TakesFirst}
 use Rattle.blart_keys.proofs.PutLemmas.{without_cut}
 use Rattle.art_tree.specs.Leaves.{Numbered, leaf_in, with_value, without_number}
-use Rattle.art_walk.specs.Pairs.{pairs_of}
+use Rattle.art_tree.specs.Pairs.{pairs_of}
 use Rattle.blart_map.specs.Content.{pairs}
 use Rattle.blart_map.specs.declared.walks.extract_if.ExtractIf.{ExtractIf}
 use Rattle.blart_map.specs.ExtractIf.{extract_left, ExtractsFirstTrue, stands_at, ExtractsNext}
 use Rattle.blart_map.specs.OnceTaken.{taken_all, once_extracted, still_to_extract}
-use Rattle.blart_map.proofs.Numbers.{cut_at, cut_pairs, left_pairs}
+use Rattle.art_insert.proofs.Numbers.{cut_at, cut_pairs, left_pairs}
 use Rattle.blart_map.proofs.Taken.OnceTaken.{same_value}
 
 module _ {K V F : Type 0} (g : Mut F (Bor K × (MutBor V × Unit {0})) (Bool × (MutBor V × Unit {0}))) (I : F → Type 0) (test : K × V → Bool)

@@ -6,14 +6,14 @@ use Rattle.art_tree.specs.Leaves.{Numbered, leaf_in, AreDistinct, Lacks, with_va
 use Rattle.art_walk.specs.declared.cursor.Cursor.{Cursor}
 use Rattle.art_walk.specs.Cursor.{leaves_left}
 use Rattle.art_walk.specs.Lent.{LentFirst}
-use Rattle.art_walk.specs.Pairs.{pairs_of}
 use Rattle.blart_map.specs.Content.{pairs}
 use Rattle.blart_map.specs.OnceTaken.{taken_all, once_taken, still_to_take}
 use Rattle.blart_map.specs.TakeWalk.{take_left}
 use Rattle.blart_map.specs.declared.walks.take_walk.TakeWalk.{TakeWalk}
 use Rattle.blart_keys.specs.declared.AsBytes.{Ghosts}
 use Rattle.std.specs.Prelude.{MatchOption, ⊤}
-use Rattle.blart_map.proofs.Numbers.{lacks_filter}
+use Rattle.art_tree.specs.Pairs.{pairs_of}
+use Rattle.art_insert.proofs.Numbers.{lacks_filter}
 
 module _ {K V : Type 0} (test : K × V → Bool) where
   -- ---- all at once

@@ -6,7 +6,7 @@ use Rattle.std.specs.List.{All, FoldsTo}
 use denote.Param.Members.{Mut}
 use denote.Param.Always.{always_mut, mut_next}
 use Rattle.art_tree.specs.Leaves.{Numbered}
-use Rattle.art_walk.specs.Pairs.{pairs_of}
+use Rattle.art_tree.specs.Pairs.{pairs_of}
 use Rattle.art_walk.proofs.Callable.{middle}
 use Rattle.blart_map.specs.Content.{pairs}
 use Rattle.blart_map.specs.EachWritten.{SomeCallAt, CallableInTurn, LeavesValue, TakesAtValue, LeavesPair, TakesAtPair}
@@ -19,15 +19,6 @@ pairs_filter t (p ∷ S) = elim (t p.1) as (λ b. pairs_of (cond b (p ∷ filter
 ]
 
 module _ {F K V : Type 0} (R : F → K × V → V → F → Type 0) (Q : F → K × V → Type 0) where
-  module _ (f : F) (x : K × V) (xs rest : List (K × V)) (first : xs ≡ x ∷ rest) (can : CallableInTurn R Q f xs) where
-    -- at the first
-    pub callable_first : Q f x
-    callable_first = can.at [] rest f x first refl
-
-    -- and then at the others, as that call left it
-    pub callable_others : (w : V) (h : F) → R f x w h → (others : List (K × V)) → others ≡ rest → CallableInTurn R Q h others
-    callable_others w h call others same = record { at = λ before after f' y e r. can.at (x ∷ before) after f' y (first ∙ ap (λ l. x ∷ l) (sym same ∙ e)) (h, (w, call), r) }
-
   -- one that stays in states of one kind, in each of which it may be called
   stays : (A : F → Type 0) → ((f f' : F) (x : K × V) (w : V) → R f x w f' → A f → A f') → (before : List (K × V)) (f f' : F) → FoldsTo (SomeCallAt R) f before f' → A f → A f'
   stays A next [] f f' e h = subst A e h

@@ -7,7 +7,7 @@ use denote.Param.Members.{Mut, Called}
 use Rattle.blart_keys.specs.Content.{at}
 use Rattle.blart_keys.specs.Stored.{bytes, pair_at}
 use Rattle.art_tree.specs.Leaves.{Numbered, AreDistinct, Lacks, with_value}
-use Rattle.art_walk.specs.Pairs.{pairs_of}
+use Rattle.art_tree.specs.Pairs.{pairs_of}
 use Rattle.art_tree.proofs.CallerLemmas.{numbers-with_value}
 use Rattle.art_walk.specs.declared.cursor.Cursor.{Cursor}
 use Rattle.art_walk.specs.Lent.{written_all, numbers, run_fits, walk_fits, count_fits}
@@ -139,31 +139,6 @@ module _ {F K V : Type 0} (R : F → K × V → V → F → Type 0) where
         let w = writes_each left old new S f d r same all in
         ap (λ l. at (bytes kb) l q) (writes_mapped left old new S T d r same all e) ∙ stored_mapped kb q w.values (pairs S) w.after w.called
 
-  -- ---- one call after the other
-
-  -- what will be written from here on is what was to be written from the start
-  pub record Writing (first from : List (Numbered K V)) (start : F) (left ps : List (Numbered K V)) (f : F) : Type 0 where
-    pub then : (new : List (Numbered K V)) → WritesLeft R left ps f new → WritesLeft R first from start new
-
-  pub writing_start : (left ps : List (Numbered K V)) (f : F) → Writing left ps f left ps f
-  writing_start left ps f = record { then = λ new r. r }
-
-  module _ (first from : List (Numbered K V)) (start : F) (left ps : List (Numbered K V)) (f : F) (o : Writing first from start left ps f) where
-    pub writing_end : left ≡ [] → WritesLeft R first from start ps
-    writing_end e = o.then ps (subst (λ (l : List (Numbered K V)). WritesLeft R l ps f ps) (sym e) (record { values = []; after = f; called = refl; written = refl }))
-
-    pub writing_step : (id : ℕ) (y : K × V) (w : V) (f' : F) (left' after : List (Numbered K V)) → R f y w f' → left ≡ (id, y) ∷ left' → after ≡ left' → Writing first from start after (with_value ps id w) f'
-    writing_step id y w f' left' after asks splits same = record {
-      then = λ new r.
-          let r' = subst (λ (l : List (Numbered K V)). WritesLeft R l (with_value ps id w) f' new) same r in
-          o.then new (subst (λ (l : List (Numbered K V)). WritesLeft R l ps f new) (sym splits) (record {
-            values = w ∷ r'.values;
-            after = r'.after;
-            called = (f', asks, r'.called);
-            written = r'.written;
-          }));
-    }
-
 -- the value of a pair that has another value
 pub value_mapped : {K V : Type 0} (h : V → V) (o : Option (K × V)) → option_map (λ (p : K × V). p.1) (option_map (λ (p : K × V). (p.0, h p.1)) o) ≡ option_map h (option_map (λ (p : K × V). p.1) o)
 value_mapped h None = refl
@@ -172,9 +147,6 @@ value_mapped h (Some x) = refl
 -- ---- the closure's call
 
 module _ {F K V : Type 0} (g : Mut F (MutBor V × Unit {0}) (Unit {0} × (MutBor V × Unit {0}))) where
-  pub leaves_value : (f f' : F) (y : K × V) (value left : MutBor V) → Called g f (value, tt) (tt, (left, tt)) f' → value.now ≡ y.1 → LeavesValue g f y left.now f'
-  leaves_value f f' y value left m e = record { value = value; shows = e; left = left; called = m; leaves = refl }
-
   pub acts_on_value : (f : F) (h : K × V → K × V) → ActsOnValue g f h → (x : K × V) (w : V) (f' : F) → LeavesValue g f x w f' → (f' ≡ f) × ((h x).0 ≡ x.0) × (w ≡ (h x).1)
   acts_on_value f h acts x w f' l =
       let a = acts x.0 l.value l.left f' l.called in
@@ -182,9 +154,6 @@ module _ {F K V : Type 0} (g : Mut F (MutBor V × Unit {0}) (Unit {0} × (MutBor
       (a.0, sym (ap (λ y. y.0) same) ∙ a.1, sym l.leaves ∙ a.2 ∙ ap (λ y. y.1) same)
 
 module _ {F K V : Type 0} (g : Mut F (Bor K × (MutBor V × Unit {0})) (Unit {0} × (MutBor V × Unit {0}))) where
-  pub leaves_pair : (f f' : F) (y : K × V) (key : Bor K) (value left : MutBor V) → Called g f (key, (value, tt)) (tt, (left, tt)) f' → key.now ≡ y.0 → value.now ≡ y.1 → LeavesPair g f y left.now f'
-  leaves_pair f f' y key value left m k e = record { key = key; value = value; shows = (k, e); left = left; called = m; leaves = refl }
-
   pub acts_on_pair : (f : F) (h : K × V → K × V) → ActsOnPair g f h → (x : K × V) (w : V) (f' : F) → LeavesPair g f x w f' → (f' ≡ f) × ((h x).0 ≡ x.0) × (w ≡ (h x).1)
   acts_on_pair f h acts x w f' l =
       let a = acts l.key l.value l.left f' l.called in

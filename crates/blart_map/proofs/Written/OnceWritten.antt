@@ -2,13 +2,13 @@
 use Rattle.std.proofs.Common.{◌≡◌, List, [], ◌∷◌, filter, Bool, true, false, cond, refl, sym, ap, ◌∙◌, subst}
 use Rattle.std.proofs.lemmas.Bool.{ne_eqb, eq-eqb}
 use Rattle.art_tree.specs.Leaves.{Numbered, AreDistinct, Lacks, with_value}
+use Rattle.art_tree.specs.Pairs.{pairs_of}
 use Rattle.art_walk.specs.declared.cursor.Cursor.{Cursor}
 use Rattle.art_walk.specs.Cursor.{leaves_left}
-use Rattle.art_walk.specs.Pairs.{pairs_of}
 use Rattle.art_walk.specs.Lent.{written_all}
 use Rattle.blart_map.specs.Content.{pairs}
 use Rattle.blart_map.specs.OnceWritten.{rewritten, all_rewritten}
-use Rattle.blart_map.proofs.Numbers.{lacks_filter}
+use Rattle.art_insert.proofs.Numbers.{lacks_filter}
 
 module _ {K V : Type 0} (f : K × V → V) where
   -- a pair in front that has another number stays

@@ -3,12 +3,12 @@ use Rattle.std.proofs.Common.{◌≡◌, Bool, true, false, cond, List, [], ◌�
 use Rattle.std.specs.Borrow.{Bor, MutBor}
 use denote.Param.Members.{Mut}
 use Rattle.art_tree.specs.Leaves.{Numbered, AreDistinct}
-use Rattle.art_walk.specs.Pairs.{pairs_of}
 use Rattle.blart_map.specs.Content.{pairs}
 use Rattle.blart_map.specs.EachWritten.{CalledAtEach, with_values_where, written_with, WritesLeft, WritesWhere, LeavesPair, ActsWhere}
 use Rattle.blart_map.proofs.Written.EachWritten.{after_front, front_written}
-use Rattle.blart_map.proofs.Numbers.{lacks_filter}
+use Rattle.art_insert.proofs.Numbers.{lacks_filter}
 use Rattle.blart_keys.proofs.Mapped.{filter-map}
+use Rattle.art_tree.specs.Pairs.{pairs_of}
 
 module _ {F K V : Type 0} (R : F → K × V → V → F → Type 0) (t : Numbered K V → Bool) (h : K × V → K × V) (f : F)
     (outside : (p : Numbered K V) → t p ≡ false → h p.1 ≡ p.1)

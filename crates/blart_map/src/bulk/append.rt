@@ -1,21 +1,16 @@
 //! The pairs of another map.
-ghost use Rattle.std.specs.Prelude.{◌≡◌, ◌≢◌, ◌≤◌, ◌++◌, ℕ, List, [], length, OnOk, OnErr};
+ghost use Rattle.std.specs.Prelude.{◌≡◌, ◌≢◌, ◌++◌, ℕ, List, [], OnOk, OnErr};
 ghost use Rattle.blart_keys.specs.Bulk.{IsAppended};
 ghost use Rattle.blart_keys.specs.Content.{IsContent};
 ghost use Rattle.blart_keys.specs.Steps.{bytes};
 ghost use Rattle.blart_keys.specs.Stored.{pair_at};
-ghost use Rattle.art_tree.specs.Content.{room};
-ghost use Rattle.art_walk.specs.Pairs.{pairs_of};
 ghost use Rattle.blart_map.specs.Bulk.{or_else};
 ghost use Rattle.blart_map.specs.Content.{pairs};
 
-use crate::bulk::split_off::take_leaves;
 use crate::map::TreeMap;
-use crate::placing::{add_reserved, put_reserved};
-use art_tree::{Leaves, Tree};
+use art_insert::move_into;
 use blart_keys::NoPrefixesBytes;
-use std::alloc::{AllocError, Global};
-use std::mem::swap;
+use std::alloc::AllocError;
 
 impl<K: NoPrefixesBytes + Drop, V: Drop, const PREFIX_LEN: usize> TreeMap<K, V, PREFIX_LEN> {
     /// Moves all pairs of the other map here. Where both have a key with the same bytes the other's pair stays. The other map is empty then. Where all of the other's keys are greater than all here, as after a [`TreeMap::split_off`], the pairs are those of the one and then those of the other.
@@ -48,67 +43,4 @@ impl<K: NoPrefixesBytes + Drop, V: Drop, const PREFIX_LEN: usize> TreeMap<K, V, 
         other.law();
         move_into(&mut other.tree, &mut self.tree, self.alloc)
     }
-}
-
-// Moves all pairs of one tree into another, once there is room. The tree that has fewer pairs is the one that is emptied.
-fn move_into<K: NoPrefixesBytes + Drop, V: Drop, const P: usize>(
-    from: &mut Tree<K, V, P>,
-    to: &mut Tree<K, V, P>,
-    alloc: Global,
-) -> Result<(), AllocError>
-    ensures appended { OnOk result (IsAppended (bytes K.bytes) (pairs_of to.old.pairs)
-        (pairs_of from.old.pairs) (pairs_of to.new.pairs)) }
-    ensures emptied { OnOk result (from.new.pairs ≡ []) }
-    ensures err { OnErr result (to.new.pairs ≡ to.old.pairs) }
-    ensures from_err { OnErr result (from.new.pairs ≡ from.old.pairs) }
-    ensures refused { OnErr result (to.old.pairs ≢ []) }
-    ensures from_refused { OnErr result (from.old.pairs ≢ []) }
-{
-    from.law();
-    to.law();
-    if to.len() < from.len() {
-        from.reserve(to.len())?;
-        swap(from, to);
-        add_all(take_leaves(from, alloc), to);
-    } else {
-        to.reserve(from.len())?;
-        move_all(take_leaves(from, alloc), to);
-    }
-    Ok(())
-}
-
-// Moves all pairs of some leaves into a tree, which has the room: they win where both have the bytes.
-fn move_all<K: NoPrefixesBytes + Drop, V: Drop, const P: usize>(
-    from: Leaves<K, V>,
-    to: &mut Tree<K, V, P>,
-)
-    requires content { IsContent (bytes K.bytes) (pairs_of from.pairs) }
-    requires room { length from.pairs ≤ room to.old }
-    ensures { IsAppended (bytes K.bytes) (pairs_of to.old.pairs) (pairs_of from.pairs)
-        (pairs_of to.new.pairs) }
-{
-    to.law();
-    let mut from = from;
-    while let Some((key, value)) = from.take_first() {
-        put_reserved(to, key, value);
-    }
-    drop(from);
-}
-
-// Moves all pairs of some leaves into a tree, which has the room: the tree's win where both have the bytes.
-fn add_all<K: NoPrefixesBytes + Drop, V: Drop, const P: usize>(
-    from: Leaves<K, V>,
-    to: &mut Tree<K, V, P>,
-)
-    requires content { IsContent (bytes K.bytes) (pairs_of from.pairs) }
-    requires room { length from.pairs ≤ room to.old }
-    ensures { IsAppended (bytes K.bytes) (pairs_of from.pairs) (pairs_of to.old.pairs)
-        (pairs_of to.new.pairs) }
-{
-    to.law();
-    let mut from = from;
-    while let Some((key, value)) = from.take_first() {
-        add_reserved(to, key, value);
-    }
-    drop(from);
 }

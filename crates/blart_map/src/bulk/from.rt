@@ -10,8 +10,8 @@ ghost use Rattle.blart_keys.specs.Stored.{kept_pair};
 ghost use Rattle.art_tree.specs.Leaves.{bytes as leaf_bytes};
 ghost use Rattle.blart_map.specs.Content.{pairs};
 
-use crate::bulk::ascending::put_ascending;
 use crate::map::TreeMap;
+use art_insert::put_ascending;
 use art_tree::{Frame, Leaves, Tree};
 use blart_keys::{AsBytes, NoPrefixesBytes};
 use std::alloc::{AllocError, Global};

@@ -1,14 +1,13 @@
 //! Equality of maps.
-ghost use Rattle.std.specs.Prelude.{◌≡◌, ◌&&◌, length};
+ghost use Rattle.std.specs.Prelude.{◌&&◌};
 ghost use Rattle.std.specs.Cmp.{on_per, and_per, on_equiv, and_equiv};
 ghost use Rattle.std.specs.Cmp.Lexicographic.{pointwise, lists_per, lists_equiv};
 ghost use Rattle.blart_map.specs.Content.{pairs};
 
 use crate::map::TreeMap;
-use art_walk::Iter;
+use art_walk::are_same;
 use blart_keys::AsBytes;
 use std::cmp::{Eq, PartialEq};
-use std::iter::Iterator;
 
 impl<K: AsBytes + PartialEq, V: PartialEq, const PREFIX_LEN: usize> PartialEq
     for TreeMap<K, V, PREFIX_LEN> {
@@ -30,31 +29,4 @@ impl<K: AsBytes + PartialEq, V: PartialEq, const PREFIX_LEN: usize> PartialEq
 impl<K: AsBytes + Eq, V: Eq, const PREFIX_LEN: usize> Eq for TreeMap<K, V, PREFIX_LEN> {
     ghost laws = { on_equiv (λ m. pairs m)
         (lists_equiv (and_equiv (on_equiv (λ p. p.0) K.Eq.laws) (on_equiv (λ p. p.1) V.Eq.laws))) };
-}
-
-// Whether the pairs are the same, one by one. There are as many on both sides.
-fn are_same<K: PartialEq, V: PartialEq, const P: usize>(
-    left: &mut Iter<'_, K, V, P>,
-    right: &mut Iter<'_, K, V, P>,
-) -> bool
-    requires { length left.old ≡ length right.old }
-    ensures { result
-        ≡ pointwise (λ p q. K.eq p.0 q.0 && V.eq p.1 q.1) left.old right.old }
-{
-    while let Some((key, value)) = left.next() {
-        let Some((other, its)) = right.next() else {
-            return false;
-        };
-        if !is_same(key, value, other, its) {
-            return false;
-        }
-    }
-    true
-}
-
-// Whether two pairs have the same key and the same value.
-fn is_same<K: PartialEq, V: PartialEq>(key: &K, value: &V, other: &K, its: &V) -> bool
-    ensures { result ≡ (K.eq key.now other.now && V.eq value.now its.now) }
-{
-    key == other && value == its
 }

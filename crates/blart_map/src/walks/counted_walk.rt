@@ -3,14 +3,14 @@ ghost use Rattle.std.specs.Prelude.{◌≡◌, ℕ, List, [], true, length, map,
 ghost use Rattle.std.specs.Borrow.{sem};
 ghost use Rattle.blart_keys.specs.Stored.{pair_at, value_at};
 ghost use Rattle.art_tree.specs.Leaves.{leaf_in};
+ghost use Rattle.art_tree.specs.Pairs.{pairs_of};
 ghost use Rattle.art_walk.specs.Lent.{count_fits, numbers, run_fits};
-ghost use Rattle.art_walk.specs.Pairs.{pairs_of};
 ghost use Rattle.blart_map.specs.Content.{pairs, Numbered};
 ghost use Rattle.blart_map.specs.EachWritten.{CallableInTurn, WritesLeft, WritesEach, LeavesValue, TakesAtValue, LeavesPair, TakesAtPair, ActsOnValue, ActsOnPair};
 
 use crate::map::TreeMap;
 use art_tree::{LeafId, OwnedRun};
-use art_walk::{Cursor, ValuesAlone, WithKeys};
+use art_walk::{Cursor, ValuesAlone, WithKeys, write_pairs, write_values};
 use blart_keys::AsBytes;
 use std::marker::PhantomData;
 
@@ -97,7 +97,7 @@ impl<'a, K: AsBytes, V, const PREFIX_LEN: usize> CountedWalk<'a, K, V, WithKeys,
             → pair_at K.bytes (pairs T) q ≡ option_map h (pair_at K.bytes (pairs S) q) }
     {
         let CountedWalk { map, cursor, .. } = self;
-        map.write_pairs(cursor, f);
+        write_pairs(&mut map.tree, cursor, f);
     }
 
     /// The key of the value that was lent last. One was lent. One visit, not counted.
@@ -160,7 +160,7 @@ impl<'a, K: AsBytes, V, const PREFIX_LEN: usize> CountedWalk<'a, K, V, ValuesAlo
             → value_at K.bytes (pairs T) q ≡ option_map h (value_at K.bytes (pairs S) q) }
     {
         let CountedWalk { map, cursor, .. } = self;
-        map.write_values(cursor, f);
+        write_values(&mut map.tree, cursor, f);
     }
 }
 

@@ -10,7 +10,7 @@ ghost use Rattle.blart_map.specs.Content.{pairs};
 use crate::map::TreeMap;
 use crate::walks::as_bytes;
 use art_tree::Visits;
-use art_walk::Cursor;
+use art_walk::{Cursor, extract_first, extract_last};
 use blart_keys::AsBytes;
 use std::iter::{DoubleEndedIterator, Iterator};
 use std::ops::Bound;
@@ -100,14 +100,8 @@ impl<
 
     /// Asks from the first pair that is left on, and takes out the first at which the closure answers `true`.
     fn next(&mut self) -> Option<(K, V)> {
-        self.map.numbers_law();
-        while let Some(id) = self.map.step(&mut self.cursor) {
-            let (key, value) = self.map.leaf_mut(id);
-            if (self.pred)(key, value) {
-                return Some(self.map.take_leaf(id));
-            }
-        }
-        None
+        let map = &mut *self.map;
+        extract_first(&mut map.tree, &mut self.cursor, &mut self.pred)
     }
 }
 
@@ -126,13 +120,7 @@ impl<
 
     /// Asks from the last pair that is left on, and takes out the first at which the closure answers `true`.
     fn next_back(&mut self) -> Option<(K, V)> {
-        self.map.numbers_law();
-        while let Some(id) = self.map.step_back(&mut self.cursor) {
-            let (key, value) = self.map.leaf_mut(id);
-            if (self.pred)(key, value) {
-                return Some(self.map.take_leaf(id));
-            }
-        }
-        None
+        let map = &mut *self.map;
+        extract_last(&mut map.tree, &mut self.cursor, &mut self.pred)
     }
 }

@@ -2,14 +2,14 @@
 ghost use Rattle.std.specs.Prelude.{◌≡◌, List, [], Bool, true, length, map, filter, is_some, Some, None, MatchOption, IfNone, ⊤};
 ghost use Rattle.std.specs.Borrow.{sem};
 ghost use Rattle.art_tree.specs.Leaves.{leaf_in};
+ghost use Rattle.art_tree.specs.Pairs.{pairs_of};
 ghost use Rattle.art_walk.specs.Lent.{walk_fits, numbers, run_fits};
-ghost use Rattle.art_walk.specs.Pairs.{pairs_of};
 ghost use Rattle.blart_map.specs.Content.{pairs, Numbered};
 ghost use Rattle.blart_map.specs.EachWritten.{CallableInTurn, WritesLeft, WritesWhere, LeavesPair, TakesAtPair, ActsOnPair, ActsWhere};
 
 use crate::map::TreeMap;
 use art_tree::{LeafId, OwnedRun};
-use art_walk::{BelowFront, Cursor, InRange, InSubtree};
+use art_walk::{BelowFront, Cursor, InRange, InSubtree, write_pairs};
 use blart_keys::AsBytes;
 use std::marker::PhantomData;
 
@@ -179,6 +179,6 @@ impl<'a, K: AsBytes, V, M, const PREFIX_LEN: usize> LendingWalk<'a, K, V, M, PRE
             → pairs T ≡ map h (pairs S) }
     {
         let LendingWalk { map, cursor, .. } = self;
-        map.write_pairs(cursor, f);
+        write_pairs(&mut map.tree, cursor, f);
     }
 }

@@ -2,8 +2,8 @@ use Rattle.std.proofs.Common.{List, ◌++◌, [], sym, ap, subst, ◌∙◌, suc
 use Rattle.blart_keys.specs.Walks.{AsksPair}
 use Rattle.blart_keys.proofs.Options.{is_some}
 use Rattle.art_tree.specs.Leaves.{Numbered, leaf_in, with_value}
+use Rattle.art_tree.specs.Pairs.{pairs_of}
 use Rattle.art_walk.specs.Cursor.{leaves_left}
-use Rattle.art_walk.specs.Pairs.{pairs_of}
 use Rattle.art_walk.specs.Asking.{RetainsBy}
 use Rattle.art_walk.proofs.Passing.{first_passed, first_named}
 use Rattle.art_walk.proofs.Asking.{retaining_end, retaining_kept, retaining_gone, asks_at, written_fits, written_left, written_distinct, written_row, written_named, removed_fits, removed_left, removed_distinct, removed_row}

@@ -1,8 +1,8 @@
 use Rattle.std.proofs.Common.{length}
 use Rattle.blart_keys.specs.Walks.{AsksPair}
 use Rattle.art_tree.specs.Leaves.{AreDistinct}
+use Rattle.art_tree.specs.Pairs.{pairs_of}
 use Rattle.art_walk.specs.Cursor.{leaves_left, FitsIn}
-use Rattle.art_walk.specs.Pairs.{pairs_of}
 use Rattle.art_walk.proofs.Asking.{Retaining}
 use Rattle.art_walk.proofs.Callable.{Callable}
 use Rattle.art_walk.proofs.retaining.retain_by.Given as goal

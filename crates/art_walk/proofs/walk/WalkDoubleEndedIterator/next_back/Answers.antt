@@ -1,8 +1,8 @@
 use Rattle.std.proofs.Common.{ap, refl, ◌∙◌}
 use Rattle.std.proofs.lemmas.List.{map-append}
 use Rattle.art_tree.specs.Leaves.{number_before}
+use Rattle.art_tree.specs.Pairs.{pairs_of}
 use Rattle.art_walk.specs.Cursor.{ends_left}
-use Rattle.art_walk.specs.Pairs.{pairs_of}
 use Rattle.art_walk.proofs.Passing.{fewer_last}
 use Rattle.art_walk.proofs.Runs.{stands_after, beside_last}
 use Rattle.art_walk.proofs.Steps.{has_last, passed_last}

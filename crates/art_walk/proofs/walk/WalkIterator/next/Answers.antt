@@ -1,6 +1,6 @@
 use Rattle.std.proofs.Common.{rules, ap, refl}
 use Rattle.art_tree.specs.Leaves.{number_after}
-use Rattle.art_walk.specs.Pairs.{pairs_of}
+use Rattle.art_tree.specs.Pairs.{pairs_of}
 use Rattle.art_walk.proofs.Runs.{runs_before, beside_first}
 use Rattle.art_walk.proofs.Steps.{has_first, passed_first}
 use Rattle.art_walk.proofs.walk.WalkIterator.next.Goals as goal

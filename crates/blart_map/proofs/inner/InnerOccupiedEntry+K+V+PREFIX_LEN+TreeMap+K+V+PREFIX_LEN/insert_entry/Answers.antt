@@ -4,7 +4,7 @@ use Rattle.std.specs.Prelude.{[]}
 use Rattle.blart_keys.proofs.Options.{is_some}
 use Rattle.blart_keys.proofs.StoredLemmas.{overwrites_over}
 use Rattle.art_tree.specs.Leaves.{leaf_in}
-use Rattle.art_walk.specs.Pairs.{pairs_of}
+use Rattle.art_tree.specs.Pairs.{pairs_of}
 use Rattle.blart_map.specs.Content.{pairs}
 use Rattle.blart_map.proofs.inner.InnerOccupiedEntry+K+V+PREFIX_LEN+TreeMap+K+V+PREFIX_LEN.insert_entry.Goals as goal
 

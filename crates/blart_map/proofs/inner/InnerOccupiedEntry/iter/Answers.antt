@@ -2,7 +2,7 @@ use Rattle.std.proofs.Common.{lit<, sym, ap, ◌∙◌, subst}
 use Rattle.blart_keys.specs.Bytes.{related}
 use Rattle.blart_keys.specs.Stored.{CanCount}
 use Rattle.blart_keys.proofs.StoredLemmas.{can_count_filter}
-use Rattle.art_walk.specs.Pairs.{pairs_of}
+use Rattle.art_tree.specs.Pairs.{pairs_of}
 use Rattle.blart_map.specs.Content.{pairs}
 use Rattle.blart_map.proofs.Related.InnerPairs.{inner_span, subtree_pairs}
 use Rattle.blart_map.proofs.inner.InnerOccupiedEntry.iter.Goals as goal

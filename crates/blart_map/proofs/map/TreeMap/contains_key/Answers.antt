@@ -1,7 +1,7 @@
 use Rattle.std.proofs.Common.{◌∙◌, ap, sym}
 use Rattle.std.specs.Option.{is_some}
 use Rattle.blart_keys.proofs.StoredLemmas.{stores_is, is_some-map}
-use Rattle.art_walk.specs.Pairs.{pairs_of}
+use Rattle.art_tree.specs.Pairs.{pairs_of}
 use Rattle.blart_map.specs.Content.{pairs}
 use Rattle.blart_map.proofs.map.TreeMap.contains_key.Goals as goal
 

@@ -1,7 +1,7 @@
 use Rattle.std.proofs.Common.{sym, ◌∙◌, ap, ◌&&◌}
 use Rattle.blart_keys.specs.Bounds.{bound_bytes, is_from_start, is_up_to_end}
 use Rattle.blart_keys.proofs.Mapped.{filter-map}
-use Rattle.art_walk.specs.Pairs.{pairs_of}
+use Rattle.art_tree.specs.Pairs.{pairs_of}
 use Rattle.blart_map.specs.Content.{pairs}
 use Rattle.blart_map.proofs.map.TreeMap.cursor.Goals as goal
 

@@ -2,10 +2,10 @@ use Rattle.std.proofs.Common.{◌∙◌, ap, sym, refl, lit<, bytes_eq, option_m
 use Rattle.blart_keys.specs.Stored.{written_at, pair_at}
 use Rattle.blart_keys.proofs.StoredLemmas.{written_writes, written_at-none}
 use Rattle.art_tree.specs.Leaves.{with_value}
-use Rattle.art_walk.specs.Pairs.{pairs_of}
+use Rattle.art_tree.specs.Pairs.{pairs_of}
 use Rattle.blart_map.specs.Content.{pairs}
-use Rattle.blart_map.proofs.Numbers.{found_has, found_value, found_none}
-use Rattle.blart_map.proofs.Written.Writing.{written_found}
+use Rattle.art_insert.proofs.Numbers.{found_has, found_value, found_none}
+use Rattle.art_insert.proofs.Placed.Writing.{written_found}
 use Rattle.blart_map.proofs.map.TreeMap.get_mut.Goals as goal
 
 pub value_mut-requires : goal.value_mut-requires

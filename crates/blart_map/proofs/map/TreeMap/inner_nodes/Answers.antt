@@ -3,7 +3,7 @@ use Rattle.std.specs.FinSet as set
 use Rattle.blart_keys.specs.Fronts.{fronts}
 use Rattle.blart_keys.specs.Steps.{bytes}
 use Rattle.blart_keys.proofs.Mapped.{fronts-map}
-use Rattle.art_walk.specs.Pairs.{pairs_of}
+use Rattle.art_tree.specs.Pairs.{pairs_of}
 use Rattle.blart_map.specs.Content.{pairs}
 use Rattle.blart_map.proofs.map.TreeMap.inner_nodes.Goals as goal
 

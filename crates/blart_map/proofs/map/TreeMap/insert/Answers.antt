@@ -1,6 +1,6 @@
 use Rattle.blart_keys.specs.Stored.{kept}
 use Rattle.blart_keys.proofs.StoredLemmas.{kept_bytes, inserts_old, inserts_updates, inserts_len, inserts_fronts, inserts_absent, inserts_routes}
-use Rattle.art_walk.specs.Pairs.{pairs_of}
+use Rattle.art_tree.specs.Pairs.{pairs_of}
 use Rattle.blart_map.specs.Content.{pairs}
 use Rattle.blart_map.proofs.map.TreeMap.insert.Goals as goal
 

@@ -1,5 +1,5 @@
 use Rattle.std.proofs.Common.{◌∙◌, ap, map}
-use Rattle.art_walk.specs.Pairs.{pairs_of}
+use Rattle.art_tree.specs.Pairs.{pairs_of}
 use Rattle.blart_map.specs.Content.{pairs}
 use Rattle.blart_map.proofs.map.TreeMap.into_values.Goals as goal
 

@@ -1,10 +1,10 @@
 use Rattle.std.proofs.Common.{◌≡◌, ◌∙◌, [], refl, ap, sym, lit<, length, slice_get, ◌-◌}
 use Rattle.art_tree.specs.Leaves.{without_number}
 use Rattle.art_tree.proofs.CallerLemmas.{Has-last, no_last}
-use Rattle.art_walk.specs.Pairs.{pairs_of}
 use Rattle.blart_keys.proofs.StoredLemmas.{stored_at}
+use Rattle.art_tree.specs.Pairs.{pairs_of}
 use Rattle.blart_map.specs.Content.{pairs}
-use Rattle.blart_map.proofs.Numbers.{whole_pairs, last_pair, slice_get-last}
+use Rattle.art_insert.proofs.Numbers.{whole_pairs, last_pair, slice_get-last}
 use Rattle.blart_map.proofs.map.TreeMap.last_key_value.Goals as goal
 
 pub returns-in_err-id-clause-value : goal.returns-in_err-id-clause-value

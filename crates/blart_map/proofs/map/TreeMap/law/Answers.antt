@@ -2,7 +2,7 @@ use Rattle.std.proofs.Common.{subst, ap}
 use Rattle.blart_keys.specs.Content.{IsContent}
 use Rattle.blart_keys.specs.Steps.{bytes}
 use Rattle.blart_keys.proofs.Mapped.{content_map}
-use Rattle.art_walk.specs.Pairs.{pairs_of}
+use Rattle.art_tree.specs.Pairs.{pairs_of}
 use Rattle.blart_map.specs.Content.{pairs}
 use Rattle.blart_map.proofs.map.TreeMap.law.Goals as goal
 

@@ -3,10 +3,10 @@ use Rattle.std.proofs.lemmas.Result.{on_err_weaker}
 use Rattle.blart_keys.specs.Bulk.{PutsAll}
 use Rattle.blart_keys.specs.Steps.{bytes}
 use Rattle.blart_keys.specs.Stored.{kept_pair}
-use Rattle.art_walk.specs.Pairs.{pairs_of}
+use Rattle.art_tree.specs.Pairs.{pairs_of}
 use Rattle.blart_map.specs.Content.{pairs}
-use Rattle.blart_map.proofs.Moved.BulkPuts.{on_ok}
-use Rattle.blart_map.proofs.Numbers.{no_pairs}
+use Rattle.art_insert.proofs.Moved.BulkPuts.{on_ok}
+use Rattle.art_insert.proofs.Numbers.{no_pairs}
 use Rattle.blart_map.proofs.map.TreeMap.of_sorted.Goals as goal
 
 pub returns-clause-made : goal.returns-clause-made

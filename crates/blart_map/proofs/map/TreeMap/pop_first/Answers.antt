@@ -1,8 +1,8 @@
 use Rattle.std.proofs.Common.{rules, ap}
-use Rattle.art_walk.specs.Pairs.{pairs_of}
 use Rattle.blart_keys.proofs.StoredLemmas.{takes_first}
+use Rattle.art_tree.specs.Pairs.{pairs_of}
 use Rattle.blart_map.specs.Content.{pairs}
-use Rattle.blart_map.proofs.Numbers.{whole_pairs}
+use Rattle.art_insert.proofs.Numbers.{whole_pairs}
 use Rattle.blart_map.proofs.map.TreeMap.pop_first.Goals as goal
 
 pub returns-clause-taken : goal.returns-clause-taken

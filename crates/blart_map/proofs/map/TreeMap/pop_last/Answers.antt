@@ -1,9 +1,9 @@
 use Rattle.std.proofs.Common.{◌≡◌, ◌∙◌, List, [], length, length-append, ap, sym, lit<}
 use Rattle.art_tree.proofs.CallerLemmas.{Has-last, no_last}
-use Rattle.art_walk.specs.Pairs.{pairs_of}
 use Rattle.blart_keys.proofs.StoredLemmas.{takes_last}
+use Rattle.art_tree.specs.Pairs.{pairs_of}
 use Rattle.blart_map.specs.Content.{pairs}
-use Rattle.blart_map.proofs.Numbers.{last_pair, whole_pairs}
+use Rattle.art_insert.proofs.Numbers.{last_pair, whole_pairs}
 use Rattle.blart_map.proofs.map.TreeMap.pop_last.Goals as goal
 
 pub returns-in_err-id-clause-last : goal.returns-in_err-id-clause-last

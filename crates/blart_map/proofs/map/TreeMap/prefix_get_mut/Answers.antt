@@ -3,10 +3,10 @@ use Rattle.blart_keys.specs.Bytes.{begins}
 use Rattle.blart_keys.specs.Stored.{written_at_front, pair_at_front}
 use Rattle.blart_keys.proofs.StoredLemmas.{written_front_writes, written_at_front-none}
 use Rattle.art_tree.specs.Leaves.{with_value}
-use Rattle.art_walk.specs.Pairs.{pairs_of}
+use Rattle.art_tree.specs.Pairs.{pairs_of}
 use Rattle.blart_map.specs.Content.{pairs}
-use Rattle.blart_map.proofs.Numbers.{found_has, found_value, found_none}
-use Rattle.blart_map.proofs.Written.Writing.{written_front}
+use Rattle.art_insert.proofs.Numbers.{found_has, found_value, found_none}
+use Rattle.art_insert.proofs.Placed.Writing.{written_front}
 use Rattle.blart_map.proofs.map.TreeMap.prefix_get_mut.Goals as goal
 
 pub value_mut-requires : goal.value_mut-requires

@@ -2,13 +2,13 @@ use Rattle.std.proofs.Common.{ap, lit<, subst}
 use Rattle.std.proofs.lemmas.Result.{err_from_is_err_and}
 use Rattle.blart_keys.specs.Content.{IsOver}
 use Rattle.blart_keys.specs.Steps.{bytes}
-use Rattle.art_walk.specs.Pairs.{pairs_of}
 use Rattle.blart_keys.proofs.StoredLemmas.{overwrites_over, before_over, alone_free, alone_absent}
 use Rattle.blart_map.specs.Content.{pairs}
-use Rattle.blart_map.proofs.Numbers.{whole_pairs}
+use Rattle.art_insert.proofs.Numbers.{whole_pairs}
 use Rattle.blart_keys.proofs.Overwritten.{routes_over}
-use Rattle.blart_map.proofs.Placed.Inserting.{opens_else, open_alone, exact_has, exact_takes, placed, exchanged}
-use Rattle.blart_map.proofs.Related.Thinning.{over_of_put, no_subtree_pairs}
+use Rattle.art_tree.specs.Pairs.{pairs_of}
+use Rattle.art_insert.proofs.Placed.Inserting.{opens_else, open_alone, exact_has, exact_takes, placed, exchanged}
+use Rattle.art_insert.proofs.Related.Thinning.{over_of_put, no_subtree_pairs}
 use Rattle.blart_map.proofs.map.TreeMap.prefix_insert.Goals as goal
 
 pub swap-requires : goal.swap-requires

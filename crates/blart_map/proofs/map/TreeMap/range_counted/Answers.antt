@@ -3,9 +3,9 @@ use Rattle.blart_keys.specs.Bounds.{bound_bytes, is_from_start, is_up_to_end}
 use Rattle.blart_keys.specs.Stored.{CanCount}
 use Rattle.blart_keys.proofs.Mapped.{filter-map}
 use Rattle.blart_keys.proofs.StoredLemmas.{can_count_filter}
-use Rattle.art_walk.specs.Pairs.{pairs_of}
+use Rattle.art_tree.specs.Pairs.{pairs_of}
 use Rattle.blart_map.specs.Content.{pairs}
-use Rattle.blart_map.proofs.Numbers.{no_pairs}
+use Rattle.art_insert.proofs.Numbers.{no_pairs}
 use Rattle.blart_map.proofs.Passed.Walking.{longest_pairs}
 use Rattle.blart_map.proofs.map.TreeMap.range_counted.Goals as goal
 

@@ -2,9 +2,9 @@ use Rattle.std.proofs.Common.{◌≡◌, bytes_eq, sym, refl, ap, ◌∙◌, sub
 use Rattle.blart_keys.specs.Bytes.{begins}
 use Rattle.blart_keys.specs.Stored.{pair_at, pair_at_front, Updates, has}
 use Rattle.blart_keys.proofs.StoredLemmas.{updates_without, len_without, pair_at-bytes, routes_without}
-use Rattle.art_walk.specs.Pairs.{pairs_of}
+use Rattle.art_tree.specs.Pairs.{pairs_of}
 use Rattle.blart_map.specs.Content.{pairs}
-use Rattle.blart_map.proofs.Numbers.{whole_pairs, found_pairs, without_pairs}
+use Rattle.art_insert.proofs.Numbers.{whole_pairs, found_pairs, without_pairs}
 use Rattle.blart_map.proofs.map.TreeMap.remove_entry.Goals as goal
 
 pub returns-clause-removed : goal.returns-clause-removed

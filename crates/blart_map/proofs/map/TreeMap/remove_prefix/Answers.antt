@@ -5,7 +5,7 @@ use Rattle.blart_keys.specs.Steps.{bytes}
 use Rattle.blart_keys.specs.Stored.{pair_at, pair_at_front}
 use Rattle.blart_keys.proofs.Mapped.{filter-map}
 use Rattle.blart_keys.proofs.OutsideLemmas.{length_outside, pair_at_gone, pair_at_outside, pair_at_front_outside}
-use Rattle.art_walk.specs.Pairs.{pairs_of}
+use Rattle.art_tree.specs.Pairs.{pairs_of}
 use Rattle.blart_map.specs.Content.{pairs}
 use Rattle.blart_map.proofs.map.TreeMap.remove_prefix.Goals as goal
 

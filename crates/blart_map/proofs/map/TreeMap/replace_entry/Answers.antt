@@ -1,9 +1,9 @@
 use Rattle.std.proofs.Common.{refl}
 use Rattle.std.proofs.lemmas.Result.{on_ok_weaker}
 use Rattle.blart_keys.proofs.StoredLemmas.{puts_old, puts_updates, puts_fronts, puts_free, puts_why, puts_len, puts_routes}
-use Rattle.art_walk.specs.Pairs.{pairs_of}
 use Rattle.blart_map.specs.Content.{pairs}
 use Rattle.blart_keys.proofs.Overlapped.{overlaps_put}
+use Rattle.art_tree.specs.Pairs.{pairs_of}
 use Rattle.blart_map.proofs.map.TreeMap.replace_entry.Goals as goal
 
 pub returns-clause-old : goal.returns-clause-old

@@ -2,9 +2,9 @@ use Rattle.std.proofs.Common.{◌≡◌, List, length, lit<, sym, ap, ◌∙◌,
 use Rattle.std.proofs.lemmas.List.{length-map}
 use Rattle.blart_keys.specs.Steps.{bytes}
 use Rattle.blart_keys.specs.Stored.{pair_at}
-use Rattle.art_walk.specs.Pairs.{pairs_of}
+use Rattle.art_tree.specs.Pairs.{pairs_of}
 use Rattle.blart_map.specs.Content.{pairs}
-use Rattle.blart_map.proofs.Moved.Parting.{parted, part_lengths, from_short, kept_at, given_at}
+use Rattle.art_insert.proofs.Moved.Parting.{parted, part_lengths, from_short, kept_at, given_at}
 use Rattle.blart_map.proofs.map.TreeMap.split_off.Goals as goal
 
 pub part-requires : goal.part-requires

@@ -2,9 +2,9 @@ use Rattle.std.proofs.Common.{option_map}
 use Rattle.std.proofs.lemmas.Result.{on_ok_weaker}
 use Rattle.blart_keys.specs.Stored.{kept}
 use Rattle.blart_keys.proofs.StoredLemmas.{kept_bytes, puts_old, puts_updates, puts_fronts, puts_free, puts_why, puts_value_len, puts_routes}
-use Rattle.art_walk.specs.Pairs.{pairs_of}
 use Rattle.blart_map.specs.Content.{pairs}
 use Rattle.blart_keys.proofs.Overlapped.{overlaps_put}
+use Rattle.art_tree.specs.Pairs.{pairs_of}
 use Rattle.blart_map.proofs.map.TreeMap.try_insert.Goals as goal
 
 pub returns-clause-old : goal.returns-clause-old

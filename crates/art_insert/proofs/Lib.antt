@@ -1,0 +1,4 @@
+pub mod Numbers
+pub mod Moved
+pub mod Placed
+pub mod Related

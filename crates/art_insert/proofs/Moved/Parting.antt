@@ -1,0 +1,146 @@
+-- A content parted at some bytes.
+use Rattle.std.proofs.Common.{◌≡◌, ◌≤◌, ◌+◌, ℕ, Bool, true, false, cond, not, ◌&&◌, inl, inr, List, [], ◌∷◌, ◌++◌, length, length-append, arith, refl, sym, ap, ◌∙◌, subst, Option, None, filter, bytes_eq, if◌then◌else◌}
+use Rattle.std.proofs.lemmas.Bool.{false≢true, cases_Bool, false_from_ne_true}
+use Rattle.std.proofs.lemmas.List.{length-map}
+use Rattle.std.specs.Cmp.Lexicographic.{bytes_decides}
+use Rattle.std.specs.List.{AllByRecursion}
+use Rattle.std.specs.declared.ops.Bound.TheVariants.{Included, Excluded, Unbounded}
+use Rattle.blart_keys.specs.Bytes.{less}
+use Rattle.blart_keys.specs.Bounds.{is_from_start, is_up_to_end}
+use Rattle.blart_keys.specs.Content.{IsContent, at, between}
+use Rattle.blart_keys.specs.Steps.{bytes as pair_bytes}
+use Rattle.blart_keys.specs.Stored.{pair_at}
+use Rattle.blart_keys.proofs.PartLemmas.{less-trans}
+use Rattle.blart_keys.proofs.MergeLemmas.{Lower}
+use Rattle.blart_keys.proofs.RankLemmas.{each_member, filter_none, filter_all, Ranked, Ranked-from_AllPairs, Ranked-left, Ranked-right}
+use Rattle.blart_keys.proofs.ContentLemmas.{Before, Ranked-from_content, content_from_Ranked}
+use Rattle.blart_keys.proofs.Mapped.{content_map}
+use Rattle.art_tree.specs.Leaves.{Numbered, bytes as leaf_bytes}
+use Rattle.art_tree.specs.Pairs.{pairs_of}
+
+-- two ways to part a list, with as many items after the cut, are one
+same_parts : {X : Type 0} (A B C D : List X) → A ++ B ≡ C ++ D → length A ≡ length C → (A ≡ C) × (B ≡ D)
+same_parts [] B [] D e l = (refl, e)
+same_parts [] B (z ∷ C) D e l = absurd (omega arith)
+same_parts (x ∷ A) B [] D e l = absurd (omega arith)
+same_parts (x ∷ A) B (z ∷ C) D e l =
+    let h : x ≡ z = cc in
+    let t : A ++ B ≡ C ++ D = cc in
+    let r = same_parts A B C D t (omega arith) in
+    (ap (λ y. y ∷ A) h ∙ ap (λ l. z ∷ l) r.0, r.1)
+
+module _ {X : Type 0} (bytes : X → List ℕ) (q : List ℕ) where
+  below : List X → List X
+  below S = between bytes S Unbounded (Excluded q)
+
+  from : List X → List X
+  from S = between bytes S (Included q) Unbounded
+
+  -- those below the bytes, and then the others
+  parts : (S : List X) → Ranked (Lower bytes) S → S ≡ below S ++ from S
+  unfolding below from
+  parts [] r = refl
+  parts (x ∷ S) r = elim (cases_Bool (less (bytes x) q)) [
+    | inl t ↦ rw t (ap (λ l. x ∷ l) (parts S r.1))
+    | inr f ↦
+        let none : below (x ∷ S) ≡ [] = filter_none (λ y. less (bytes y) q) (x ∷ S) (λ y m. elim m [
+          | inl e ↦ subst (λ z. less (bytes z) q ≡ false) e f
+          | inr n ↦ false_from_ne_true _ (λ t. false≢true (sym f ∙ less-trans (bytes x) (bytes y) q (each_member (Lower bytes x) S y r.0 n) t))
+        ]) in
+        let all : from (x ∷ S) ≡ x ∷ S = filter_all (λ y. not (less (bytes y) q) && true) (x ∷ S) (λ y m. elim m [
+          | inl e ↦ subst (λ z. (not (less (bytes z) q) && true) ≡ true) e (rw f refl)
+          | inr n ↦ rw (false_from_ne_true (less (bytes y) q) (λ t. false≢true (sym f ∙ less-trans (bytes x) (bytes y) q (each_member (Lower bytes x) S y r.0 n) t))) refl
+        ]) in
+        sym (ap (λ l. l ++ from (x ∷ S)) none ∙ all)
+  ]
+
+  -- a content cut in two, with as many after the cut as are not below the bytes
+  pub parted : (S A B : List X) → IsContent bytes S → S ≡ A ++ B → length B ≡ length (between bytes S (Included q) Unbounded) → (A ≡ between bytes S Unbounded (Excluded q)) × (B ≡ between bytes S (Included q) Unbounded)
+  unfolding below from
+  parted S A B c e l =
+      let p = parts S (Ranked-from_AllPairs (Lower bytes) S c.ascends) in
+      let a = ap (λ (l : List X). length l) (sym e ∙ p) in
+      let n : length A ≡ length (below S) = omega (arith, length-append A B, length-append (below S) (from S), l) in
+      same_parts A B (below S) (from S) (sym e ∙ p) n
+
+  -- there are as many as are below the bytes and as are not
+  pub part_lengths : (S : List X) → IsContent bytes S → length (between bytes S Unbounded (Excluded q)) + length (between bytes S (Included q) Unbounded) ≡ length S
+  unfolding below from
+  part_lengths S c =
+      let p = ap (λ (l : List X). length l) (parts S (Ranked-from_AllPairs (Lower bytes) S c.ascends)) in
+      omega (arith, p, length-append (below S) (from S))
+
+  -- no more are not below the bytes than there are
+  pub from_short : (S : List X) → IsContent bytes S → length (between bytes S (Included q) Unbounded) ≤ length S
+  unfolding below from
+  from_short S c =
+      let p = ap (λ (l : List X). length l) (parts S (Ranked-from_AllPairs (Lower bytes) S c.ascends)) in
+      omega (arith, p, length-append (below S) (from S))
+
+either : {X : Type 0} (b : Bool) (o : Option X) → o ≡ cond b o o
+either true o = refl
+either false o = refl
+
+-- what some items have at some bytes, of those whose bytes pass a test
+pub at-filter : {X : Type 0} (bytes : X → List ℕ) (test : List ℕ → Bool) (S : List X) (r : List ℕ) → at bytes (filter (λ x. test (bytes x)) S) r ≡ cond (test r) (at bytes S r) None
+at-filter bytes test [] r = either (test r) None
+at-filter bytes test (x ∷ S) r = elim (cases_Bool (bytes_eq (bytes x) r)) [
+  | inl t ↦
+      let same : test (bytes x) ≡ test r = ap test ((bytes_decides (bytes x) r).0 t) in
+      elim (cases_Bool (test r)) [
+        | inl passes ↦ rw (same ∙ passes, t, passes) refl
+        | inr fails ↦ rw (same ∙ fails, fails) (at-filter bytes test S r ∙ rw fails refl)
+      ]
+  | inr f ↦ elim (cases_Bool (test (bytes x))) [
+    | inl passes ↦ rw (passes, f) (at-filter bytes test S r)
+    | inr fails ↦ rw (fails, f) (at-filter bytes test S r)
+  ]
+]
+
+module _ {K V : Type 0} (kb : K → List ℕ) (q : List ℕ) (S : List (K × V)) (r : List ℕ) where
+  -- what those below some bytes have
+  pub kept_at : pair_at kb (between (pair_bytes kb) S Unbounded (Excluded q)) r ≡ (if less r q then pair_at kb S r else None)
+  unfolding pair_at
+  kept_at = at-filter (pair_bytes kb) (λ b. is_from_start Unbounded b && is_up_to_end (Excluded q) b) S r
+
+  -- and what the others have
+  pub given_at : pair_at kb (between (pair_bytes kb) S (Included q) Unbounded) r ≡ (if less r q then None else pair_at kb S r)
+  unfolding pair_at
+  given_at = at-filter (pair_bytes kb) (λ b. is_from_start (Included q) b && is_up_to_end Unbounded b) S r ∙ turned (less r q)
+    where
+      turned : (b : Bool) → cond (not b && true) (at (pair_bytes kb) S r) None ≡ cond b None (at (pair_bytes kb) S r)
+      turned true = refl
+      turned false = refl
+
+-- ---- numbered pairs
+
+module _ {K V : Type 0} (kb : K → List ℕ) where
+  -- numbered pairs come after one as their pairs do
+  each_numbered : (x : Numbered K V) (ps : List (Numbered K V)) → AllByRecursion (Before (pair_bytes kb) x.1) (pairs_of ps) → AllByRecursion (Before (leaf_bytes kb) x) ps
+  each_numbered x [] h = tt
+  each_numbered x (p ∷ ps) h = (h.0, each_numbered x ps h.1)
+
+  -- and are ranked as those are
+  ranked_numbered : (ps : List (Numbered K V)) → Ranked (Before (pair_bytes kb)) (pairs_of ps) → Ranked (Before (leaf_bytes kb)) ps
+  ranked_numbered [] h = tt
+  ranked_numbered (p ∷ ps) h = (each_numbered p ps h.0, ranked_numbered ps h.1)
+
+  -- numbered pairs are a content where their pairs are ranked
+  numbered_content : (ps : List (Numbered K V)) → Ranked (Before (pair_bytes kb)) (pairs_of ps) → IsContent (leaf_bytes kb) ps
+  numbered_content ps r = content_from_Ranked (leaf_bytes kb) ps (ranked_numbered ps r)
+
+  -- the two parts of a content are contents, whatever their numbers
+  pub parts_contents : (ps low high : List (Numbered K V)) → IsContent (leaf_bytes kb) ps → pairs_of ps ≡ pairs_of low ++ pairs_of high → IsContent (leaf_bytes kb) low × IsContent (leaf_bytes kb) high
+  parts_contents ps low high c e =
+      let r = Ranked-from_content (pair_bytes kb) (pairs_of low ++ pairs_of high) (subst (IsContent (pair_bytes kb)) e (content_map (λ p. p.1) (pair_bytes kb) ps c)) in (
+        numbered_content low (Ranked-left (Before (pair_bytes kb)) (pairs_of low) (pairs_of high) r),
+        numbered_content high (Ranked-right (Before (pair_bytes kb)) (pairs_of low) (pairs_of high) r),
+      )
+
+-- how many each part has, of which one's count is known
+pub parts_counts : {K V : Type 0} (ps low high : List (Numbered K V)) (n m : ℕ) → pairs_of ps ≡ pairs_of low ++ pairs_of high → length (pairs_of low) ≡ n → n + m ≡ length ps → (length low ≡ n) × (length high ≡ m) × (length (pairs_of high) ≡ m)
+parts_counts ps low high n m e l s =
+    let all = ap (λ (l : List _). length l) e in
+    let both = length-append (pairs_of low) (pairs_of high) in
+    let h : length (pairs_of high) ≡ m = omega (arith, all, both, length-map ps (λ p. p.1)) in
+    (omega (arith, length-map low (λ p. p.1)), omega (arith, length-map high (λ p. p.1)), h)

@@ -1,0 +1,12 @@
+-- What a placement makes of the pairs.
+pub mod Again
+pub mod FreePlaces
+pub mod Inserting
+pub mod Keeping
+pub mod Reserved
+pub mod Setting
+pub mod SettingAt
+pub mod TakenBack
+pub mod Tried
+pub mod Writing
+pub mod WrittenLeaf

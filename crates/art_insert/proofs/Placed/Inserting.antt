@@ -1,0 +1,152 @@
+-- What a point says of an insertion there.
+use Rattle.std.proofs.Common.{◌≡◌, ℕ, true, false, ◌⊎◌, inl, inr, List, [], ◌∷◌, refl, sym, ap, ◌∙◌, subst, Option, Some, None, Ok, Err, option_map, bytes_eq, subst₂}
+use Rattle.std.proofs.lemmas.Bool.{false≢true, false_from_ne_true, or_cases}
+use Rattle.blart_keys.specs.declared.calls.TryInsertError.TheVariants.{Memory}
+use Rattle.blart_keys.specs.Bytes.{begins, related, conflicts}
+use Rattle.blart_keys.specs.Content.{IsContent, IsPut, at, stores, conflict, subtree}
+use Rattle.blart_keys.specs.Keys.{NoFronts}
+use Rattle.blart_keys.specs.Steps.{bytes as pair_bytes, Puts}
+use Rattle.blart_keys.proofs.RankLemmas.{Member, Member-from_Contains, filter_member}
+use Rattle.blart_keys.proofs.ContentLemmas.{at_Some, at_absent, same_item, related-same, conflict_found, stores_found, stored_no_conflict}
+use Rattle.blart_keys.proofs.PutLemmas.{put_at}
+use Rattle.art_tree.specs.Begins.{Bytes}
+use Rattle.art_tree.specs.Content.{IsOpen}
+use Rattle.art_tree.specs.Leaves.{Numbered, leaf_in, Has, AreDistinct, first_number, with_pair, bytes}
+use Rattle.art_tree.specs.Points.{IsGood}
+use Rattle.art_tree.specs.Takes.{MayTake}
+use Rattle.art_tree.specs.declared.tree.point.Place.{Place}
+use Rattle.art_tree.specs.declared.tree.point.Point.{Point}
+use Rattle.art_tree.specs.declared.tree.point.Point.TheVariants.{Empty, Exact, Related, Free}
+use Rattle.art_tree.proofs.CallerLemmas.{leaf_in-member, Member-from_leaf_in, free_alone}
+use Rattle.blart_keys.proofs.Options.{is_some}
+use Rattle.blart_keys.proofs.Mapped.{find-map, list_any-map, content_map}
+use Rattle.art_tree.specs.Pairs.{pairs_of}
+use Rattle.art_insert.proofs.Numbers.{cut_at, cut_pairs, exchanged_pairs}
+
+-- at these points a pair may be placed
+pub opens : (point : Point) → (point ≡ Empty) ⊎ ((place : Place) × (point ≡ Free place)) → IsOpen point
+opens point (inl e) = subst IsOpen (sym e) tt
+opens point (inr e) = subst IsOpen (sym e.1) tt
+
+-- and so at each point that is no leaf's and no conflict
+pub opens_else : (point : Point) → ((i : ℕ) → point ≡ Exact i → ⊥) → ((i j : ℕ) → point ≡ Related i j → ⊥) → IsOpen point
+opens_else Empty e r = tt
+opens_else (Exact id) e r = absurd (e id refl)
+opens_else (Related i j) e r = absurd (r i j refl)
+opens_else (Free place) e r = tt
+
+module _ {X : Type 0} (bytes : X → List ℕ) (S : List X) (q : List ℕ) (alone : (y : X) → Member y S → related (bytes y) q ≡ false) where
+  -- where nothing is related nothing conflicts
+  pub alone_no_conflict : conflict bytes S q ≡ false
+  alone_no_conflict = false_from_ne_true _ (λ h. let r = conflict_found bytes S q h in false≢true (sym (alone r.0 r.1) ∙ r.2))
+
+  -- and nothing has the bytes
+  pub alone_absent : stores bytes S q ≡ false
+  alone_absent = false_from_ne_true _ (λ h. let r = stores_found bytes S q h in false≢true (sym (alone r.0 r.1) ∙ related-same (bytes r.0) q r.2))
+
+  -- and nothing is found
+  pub alone_none : at bytes S q ≡ None
+  alone_none = at_absent bytes S q (λ y m e. false≢true (sym (alone y m) ∙ related-same (bytes y) q e))
+
+module _ {K V : Type 0} (kb : K → Bytes) (ps : List (Numbered K V)) where
+  -- a key conflicts with the pairs where it does with the numbered ones
+  pub conflict_pairs : (q : Bytes) → conflict (pair_bytes kb) (pairs_of ps) q ≡ conflict (bytes kb) ps q
+  conflict_pairs q = list_any-map (λ p. p.1) (λ x. conflicts (kb x.0) q) ps
+
+  module _ (content : IsContent (bytes kb) ps) where
+    module _ (distinct : AreDistinct ps) (q : Bytes) where
+      -- no key is related to one that has an open point
+      pub open_alone : (point : Point) → IsGood kb ps point q → IsOpen point → (y : Numbered K V) → Member y ps → related (bytes kb y) q ≡ false
+      open_alone Empty good able y m = absurd (subst (Member y) good m)
+      open_alone (Exact id) good able y m = absurd able
+      open_alone (Related first last) good able y m = absurd able
+      open_alone (Free place) good able y m = free_alone kb ps content distinct q place good y m
+
+      -- a key conflicts only at a point that says so
+      pub unrelated_point : (point : Point) → IsGood kb ps point q → ((i j : ℕ) → point ≡ Related i j → ⊥) → conflict (bytes kb) ps q ≡ false
+      unrelated_point Empty good never = alone_no_conflict (bytes kb) ps q (open_alone Empty good tt)
+      unrelated_point (Exact id) good never =
+          let r = at_Some (bytes kb) ps q (id, good.0) good.1 in
+          subst (λ q. conflict (bytes kb) ps q ≡ false) r.1 (stored_no_conflict (bytes kb) ps content (id, good.0) r.0)
+      unrelated_point (Related first last) good never = absurd (never first last refl)
+      unrelated_point (Free place) good never = alone_no_conflict (bytes kb) ps q (open_alone (Free place) good tt)
+
+      -- the leaf with a key's bytes is one of the tree's
+      pub exact_has : (id : ℕ) → IsGood kb ps (Exact id) q → Has ps id
+      exact_has id good = is_some (leaf_in ps id) good.0 (leaf_in-member ps id good.0 distinct (at_Some (bytes kb) ps q (id, good.0) good.1).0)
+
+      -- and it may have a key of these bytes
+      pub exact_takes : (id : ℕ) → IsGood kb ps (Exact id) q → MayTake kb ps id q
+      exact_takes id good =
+          let r = at_Some (bytes kb) ps q (id, good.0) good.1 in
+          let here : leaf_in ps id ≡ Some good.0 = leaf_in-member ps id good.0 distinct r.0 in
+          record {
+            own = λ x e. related-same (kb x.0) q (let f : Some good.0 ≡ Some x = sym here ∙ e in let g : good.0 ≡ x = cc in sym (ap (λ (z : K × V). kb z.0) g) ∙ r.1);
+            others = λ p m off. false_from_ne_true (related (bytes kb p) q) (λ rel.
+                let same = same_item (bytes kb) ps content p (id, good.0) (Member-from_Contains p ps m) r.0 (subst (λ l. related (bytes kb p) l ≡ true) (sym r.1) rel) in
+                off (ap (λ (z : Numbered K V). z.0) same));
+          }
+
+      -- the first related leaf is one of the tree's, and its key is related
+      pub related_first : (first last : ℕ) → IsGood kb ps (Related first last) q → (x : K × V) × (leaf_in ps first ≡ Some x) × (related (kb x.0) q ≡ true)
+      related_first first last good =
+          let r = first_member (subtree (bytes kb) ps q) first good.1 in
+          let m = filter_member (λ x. related (bytes kb x) q) ps (first, r.0) r.1 in
+          (r.0, leaf_in-member ps first r.0 distinct m.0, m.1)
+        where
+          first_member : (S : List (Numbered K V)) (i : ℕ) → first_number S ≡ Some i → (x : K × V) × Member (i, x) S
+          first_member [] i e = absurd cc
+          first_member (p ∷ S) i e = let f : p.0 ≡ i = cc in (p.1, inl (λ j. (f j, p.1)))
+
+    -- ---- the answers
+
+    module _ (distinct : AreDistinct ps) (x : K × V) where
+      -- a pair placed where none is related is put
+      pub placed : ((y : Numbered K V) → Member y ps → related (bytes kb y) (kb x.0) ≡ false) → (old new : List (Numbered K V)) → old ≡ ps → IsPut (pair_bytes kb) (pairs_of old) x (pairs_of new) → Puts kb (λ pair. pair) (pairs_of ps) x x (Ok None) (pairs_of new)
+      placed alone old new e put = (
+        conflict_pairs (kb x.0) ∙ alone_no_conflict (bytes kb) ps (kb x.0) alone,
+        subst (λ S. IsPut (pair_bytes kb) (pairs_of S) x (pairs_of new)) e put,
+        sym (find-map (λ p. p.1) (λ y. bytes_eq (kb y.0) (kb x.0)) ps ∙ ap (option_map (λ p. p.1)) (alone_none (bytes kb) ps (kb x.0) alone)),
+      )
+
+      -- where there was no memory for it the pairs stand
+      pub refused : ((y : Numbered K V) → Member y ps → related (bytes kb y) (kb x.0) ≡ false) → {R : Type 0} (tell : Option (K × V) → R) (new : List (Numbered K V)) → new ≡ ps → (e : _) → Puts kb tell (pairs_of ps) x x (Err (Memory e)) (pairs_of new)
+      refused alone tell new same e = (
+        conflict_pairs (kb x.0) ∙ alone_no_conflict (bytes kb) ps (kb x.0) alone,
+        list_any-map (λ p. p.1) (λ y. bytes_eq (kb y.0) (kb x.0)) ps ∙ alone_absent (bytes kb) ps (kb x.0) alone,
+        ap pairs_of same,
+      )
+
+      -- the pair of the same bytes is exchanged
+      pub exchanged : (id : ℕ) → IsGood kb ps (Exact id) (kb x.0) → (old : K × V) → leaf_in ps id ≡ Some old → (new : List (Numbered K V)) → new ≡ with_pair ps id x → Puts kb (λ pair. pair) (pairs_of ps) x x (Ok (Some old)) (pairs_of new)
+      exchanged id good old l new e =
+          let r = at_Some (bytes kb) ps (kb x.0) (id, good.0) good.1 in
+          let f : Some good.0 ≡ Some old = sym (leaf_in-member ps id good.0 distinct r.0) ∙ l in
+          let g : good.0 ≡ old = cc in
+          let own : kb old.0 ≡ kb x.0 = ap (λ (z : K × V). kb z.0) (sym g) ∙ r.1 in
+          let c = cut_at ps id old l in
+          let cut = cut_pairs ps id old c in
+          let whole = content_map (λ p. p.1) (pair_bytes kb) ps content in
+          let there : at (pair_bytes kb) (pairs_of ps) (kb x.0) ≡ Some old = find-map (λ p. p.1) (λ y. bytes_eq (kb y.0) (kb x.0)) ps ∙ ap (option_map (λ p. p.1)) good.1 ∙ f in
+          let m = (at_Some (pair_bytes kb) (pairs_of ps) (kb x.0) old there).0 in
+          let p = put_at (pair_bytes kb) (pairs_of c.before) (pairs_of c.after) old x (subst (IsContent (pair_bytes kb)) cut whole) own in (
+            subst (λ q. conflict (pair_bytes kb) (pairs_of ps) q ≡ false) own (stored_no_conflict (pair_bytes kb) (pairs_of ps) whole old m),
+            subst₂ (λ S T. IsPut (pair_bytes kb) S x T) (sym cut) (sym (ap pairs_of e ∙ exchanged_pairs ps id old c x)) p,
+            sym there,
+          )
+
+      -- ---- keys of which none is a proper front of another
+
+      -- a related key has the same bytes, and then nothing conflicts
+      pub lawful : (IsValue : K → Type 0) → NoFronts kb IsValue → IsValue x.0 → (first last : ℕ) → IsGood kb ps (Related first last) (kb x.0) → (y : K × V) → leaf_in ps first ≡ Some y → IsValue y.0 → ⊥
+      lawful IsValue law v first last good y l w =
+          let r = related_first distinct (kb x.0) first last good in
+          let f : Some r.0 ≡ Some y = sym r.1 ∙ l in
+          let g : r.0 ≡ y = cc in
+          let rel : related (kb y.0) (kb x.0) ≡ true = subst (λ (z : K × V). related (kb z.0) (kb x.0) ≡ true) g r.2 in
+          let same : kb y.0 ≡ kb x.0 = elim (or_cases (begins (kb y.0) (kb x.0)) (begins (kb x.0) (kb y.0)) rel) [
+            | inl b ↦ law y.0 x.0 w v b
+            | inr b ↦ sym (law x.0 y.0 v w b)
+          ] in
+          let no = stored_no_conflict (bytes kb) ps content (first, y) (Member-from_leaf_in ps first y l) in
+          false≢true (sym (subst (λ q. conflict (bytes kb) ps q ≡ false) same no) ∙ good.0)

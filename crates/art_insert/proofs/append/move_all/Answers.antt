@@ -1,0 +1,46 @@
+use Rattle.std.proofs.Common.{◌≡◌, suc, [], ◌∷◌, ◌++◌, length, arith, refl, sym, ap, ◌∙◌, subst, append-nil, append_assoc}
+use Rattle.blart_keys.specs.Content.{IsContent}
+use Rattle.blart_keys.specs.Merges.{IsUnion}
+use Rattle.blart_keys.specs.Steps.{bytes}
+use Rattle.blart_keys.proofs.Mapped.{content_map}
+use Rattle.art_tree.specs.Pairs.{pairs_of}
+use Rattle.art_insert.proofs.Moved.Appending.{fresh_after, union_start, union_more}
+use Rattle.art_insert.proofs.append.move_all.Goals as goal
+
+pub loop-key-init : goal.loop-key-init
+loop-key-init g c = record {
+  moved = [];
+  whole = refl;
+  union = union_start (bytes g.K.AsBytes.bytes) (pairs_of c.args.to.now.pairs) (content_map (λ p. p.1) (bytes g.K.AsBytes.bytes) c.args.to.now.pairs c.law.ensures.content);
+  room = c.requires.room;
+}
+
+pub loop-key-smaller : goal.loop-key-smaller
+loop-key-smaller g c = let less : length c.loop-key.from.pairs ≡ suc (length c.take_first.new.self.pairs) = ap length c.in-Some.ensures.1 in omega arith
+
+pub loop-key-preserved : goal.loop-key-preserved
+loop-key-preserved g c =
+    let kb = g.K.AsBytes.bytes in
+    let i = c.loop-key.invariant in
+    let ps = c.loop-key.from.pairs in
+    let new = c.take_first.new.self.pairs in
+    let x : g.row.K.Denot × g.row.V.Denot = (c.in-Some.key, c.in-Some.value) in
+    let taken = c.in-Some.ensures in
+    let cut : pairs_of ps ≡ x ∷ pairs_of new = ap pairs_of taken.1 in
+    let whole = i.whole ∙ ap (λ l. i.moved ++ l) cut in
+    let content = c.requires.content in
+    let fresh = fresh_after (bytes kb) i.moved (pairs_of new) x (subst (IsContent (bytes kb)) whole content) in
+    let less : length ps ≡ suc (length new) = ap length taken.1 in
+    record {
+      moved = i.moved ++ x ∷ [];
+      whole = whole ∙ sym (append_assoc i.moved (x ∷ []) (pairs_of new));
+      union = union_more (bytes kb) i.moved (pairs_of c.args.to.now.pairs) (pairs_of c.loop-key.to.pairs) (pairs_of c.put_reserved.new.tree.pairs) x i.union c.put_reserved.ensures.put fresh;
+      room = omega (arith, c.put_reserved.ensures.room, i.room);
+    }
+
+pub returns : goal.returns
+returns g c =
+    let i = c.loop-key.invariant in
+    let none : pairs_of c.loop-key.from.pairs ≡ [] = ap pairs_of c.in_default.ensures.0 in
+    let whole = i.whole ∙ ap (λ l. i.moved ++ l) none ∙ append-nil i.moved in
+    subst (λ T. IsUnion (bytes g.K.AsBytes.bytes) T (pairs_of c.args.to.now.pairs) (pairs_of c.loop-key.to.pairs)) (sym whole) i.union

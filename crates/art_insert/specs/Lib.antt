@@ -1,0 +1,4 @@
+pub mod Bulk
+pub mod Places
+pub mod Spans
+pub mod Within

@@ -1,0 +1,128 @@
+//! Two walks compared, and one that is hashed.
+ghost use Rattle.std.specs.Prelude.{◌≡◌, ◌&&◌, ◌++◌, length};
+ghost use Rattle.std.specs.Cmp.Lexicographic.{pointwise, slice_cmp, slice_partial_cmp};
+ghost use Rattle.std.specs.Hash as fed;
+ghost use Rattle.std.specs.List.{fold};
+ghost use Rattle.std.specs.Ordering.{ordering_then, partial_ordering_then};
+
+use crate::iter::Iter;
+use std::cmp::{Ord, Ordering, PartialEq, PartialOrd};
+use std::hash::{Hash, Hasher};
+use std::iter::Iterator;
+
+/// Whether the pairs are the same, one by one. There are as many on both sides.
+pub fn are_same<K: PartialEq, V: PartialEq, const P: usize>(
+    left: &mut Iter<'_, K, V, P>,
+    right: &mut Iter<'_, K, V, P>,
+) -> bool
+    requires { length left.old ≡ length right.old }
+    ensures { result
+        ≡ pointwise (λ p q. K.eq p.0 q.0 && V.eq p.1 q.1) left.old right.old }
+{
+    while let Some((key, value)) = left.next() {
+        let Some((other, its)) = right.next() else {
+            return false;
+        };
+        if !is_same(key, value, other, its) {
+            return false;
+        }
+    }
+    true
+}
+
+// Whether two pairs have the same key and the same value.
+fn is_same<K: PartialEq, V: PartialEq>(key: &K, value: &V, other: &K, its: &V) -> bool
+    ensures { result ≡ (K.eq key.now other.now && V.eq value.now its.now) }
+{
+    key == other && value == its
+}
+
+/// How two lists of pairs compare, where some pairs may not.
+pub fn partial_order<K: PartialOrd, V: PartialOrd, const P: usize>(
+    left: &mut Iter<'_, K, V, P>,
+    right: &mut Iter<'_, K, V, P>,
+) -> Option<Ordering>
+    ensures { result
+        ≡ slice_partial_cmp
+        (λ p q. partial_ordering_then (K.partial_cmp p.0 q.0) (V.partial_cmp p.1 q.1))
+        left.old right.old }
+{
+    while let Some((key, value)) = left.next() {
+        let Some((other, its)) = right.next() else {
+            return Some(Ordering::Greater);
+        };
+        let found = partial_pair(key, value, other, its);
+        if !matches!(found, Some(Ordering::Equal)) {
+            return found;
+        }
+    }
+    match right.next() {
+        Some(_) => Some(Ordering::Less),
+        None => Some(Ordering::Equal),
+    }
+}
+
+// How two pairs compare, if they do.
+fn partial_pair<K: PartialOrd, V: PartialOrd>(
+    key: &K,
+    value: &V,
+    other: &K,
+    its: &V,
+) -> Option<Ordering>
+    ensures { result
+        ≡ partial_ordering_then (K.partial_cmp key.now other.now)
+        (V.partial_cmp value.now its.now) }
+{
+    match key.partial_cmp(other) {
+        Some(Ordering::Equal) => value.partial_cmp(its),
+        found => found,
+    }
+}
+
+/// How two lists of pairs compare.
+pub fn order<K: Ord, V: Ord, const P: usize>(
+    left: &mut Iter<'_, K, V, P>,
+    right: &mut Iter<'_, K, V, P>,
+) -> Ordering
+    ensures { result
+        ≡ slice_cmp (λ p q. ordering_then (K.cmp p.0 q.0) (V.cmp p.1 q.1))
+        left.old right.old }
+{
+    while let Some((key, value)) = left.next() {
+        let Some((other, its)) = right.next() else {
+            return Ordering::Greater;
+        };
+        let found = order_of_pairs(key, value, other, its);
+        if found.is_ne() {
+            return found;
+        }
+    }
+    match right.next() {
+        Some(_) => Ordering::Less,
+        None => Ordering::Equal,
+    }
+}
+
+// How two pairs compare.
+fn order_of_pairs<K: Ord, V: Ord>(key: &K, value: &V, other: &K, its: &V) -> Ordering
+    ensures { result ≡ ordering_then (K.cmp key.now other.now) (V.cmp value.now its.now) }
+{
+    match key.cmp(other) {
+        Ordering::Equal => value.cmp(its),
+        found => found,
+    }
+}
+
+/// Feeds how many pairs there are, and then each key and its value.
+pub fn feed<K: Hash, V: Hash, H: Hasher, const P: usize>(walk: Iter<'_, K, V, P>, state: &mut H)
+    ensures { state.new
+        ≡ fold H.write state.old
+        (fed.slice (λ p. K.hash_input p.0 ++ V.hash_input p.1) walk.entry) }
+{
+    let mut walk = walk;
+    state.write_usize(walk.len());
+    while let Some((key, value)) = walk.next() {
+        key.hash(state);
+        value.hash(state);
+    }
+}

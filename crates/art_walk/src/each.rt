@@ -1,0 +1,51 @@
+//! Closures called at each value that a cursor has left.
+ghost use Rattle.art_tree.specs.Leaves.{AreDistinct};
+ghost use Rattle.art_tree.specs.Pairs.{pairs_of};
+ghost use Rattle.art_walk.specs.Cursor.{leaves_left, FitsIn};
+ghost use Rattle.art_walk.specs.EachWritten.{CallableInTurn, WritesLeft, LeavesValue, TakesAtValue, LeavesPair, TakesAtPair};
+
+use crate::cursor::Cursor;
+use art_tree::{OwnedRun, Tree};
+use blart_keys::AsBytes;
+
+/// Calls the closure once at each value that the cursor has left, front to back. The values are what it leaves. Takes no memory; each call reads one leaf.
+pub fn write_values<K: AsBytes, V, F: FnMut(&mut V) + Drop, const PREFIX_LEN: usize>(
+    tree: &mut Tree<K, V, PREFIX_LEN>,
+    mut cursor: Cursor,
+    mut f: F,
+)
+    requires fits { FitsIn cursor tree.old.pairs }
+    requires callable { CallableInTurn (LeavesValue F.FnMut) (TakesAtValue F.FnMut) f
+        (pairs_of (leaves_left cursor tree.old.pairs)) }
+    ensures writes { WritesLeft (LeavesValue F.FnMut) (leaves_left cursor tree.old.pairs)
+        tree.old.pairs f tree.new.pairs }
+    ensures distinct { AreDistinct tree.old.pairs }
+{
+    tree.law();
+    let mut run = OwnedRun::empty();
+    'leaves: while let Some(id) = cursor.step_along(tree, &mut run) {
+        let (_, value) = tree.leaf_mut(id);
+        f(value);
+    }
+}
+
+/// As [`write_values`], with the key of each.
+pub fn write_pairs<K: AsBytes, V, F: FnMut(&K, &mut V) + Drop, const PREFIX_LEN: usize>(
+    tree: &mut Tree<K, V, PREFIX_LEN>,
+    mut cursor: Cursor,
+    mut f: F,
+)
+    requires fits { FitsIn cursor tree.old.pairs }
+    requires callable { CallableInTurn (LeavesPair F.FnMut) (TakesAtPair F.FnMut) f
+        (pairs_of (leaves_left cursor tree.old.pairs)) }
+    ensures writes { WritesLeft (LeavesPair F.FnMut) (leaves_left cursor tree.old.pairs)
+        tree.old.pairs f tree.new.pairs }
+    ensures distinct { AreDistinct tree.old.pairs }
+{
+    tree.law();
+    let mut run = OwnedRun::empty();
+    'leaves: while let Some(id) = cursor.step_along(tree, &mut run) {
+        let (key, value) = tree.leaf_mut(id);
+        f(key, value);
+    }
+}
