@@ -13,7 +13,7 @@ use blart_keys::NoPrefixesBytes;
 use std::alloc::{AllocError, Global};
 use std::mem::swap;
 
-/// Moves all pairs of one tree into another, once there is room. The tree that has fewer pairs is the one that is emptied.
+/// Moves all pairs of one tree into another, once there is room; where both have the bytes those that move stay. The tree that has fewer pairs is the one whose pairs are put one by one. An error leaves both as they were.
 pub fn move_into<K: NoPrefixesBytes + Drop, V: Drop, const P: usize>(
     from: &mut Tree<K, V, P>,
     to: &mut Tree<K, V, P>,

@@ -11,7 +11,7 @@ use blart_keys::AsBytes;
 use std::alloc::{AllocError, Global};
 use std::mem::{replace, swap};
 
-/// Moves the last pairs of one tree, so many, into an empty one, once there is room; or the first, where those are fewer, and exchanges the two. Where neither side has three times the pairs of the other, makes both trees anew.
+/// Moves the last pairs of one tree, so many, into an empty one, once there is room; or the first, where those are fewer, and exchanges the two. Where neither side has three times the pairs of the other, makes both trees anew. An error leaves the tree as it was.
 pub fn part<K: AsBytes + Drop, V: Drop, const P: usize>(
     from: &mut Tree<K, V, P>,
     to: &mut Tree<K, V, P>,

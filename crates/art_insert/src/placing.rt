@@ -155,7 +155,7 @@ pub fn put_within<K: AsBytes + Drop, V: Drop, const P: usize>(
     put_within_at(tree, point, key, value)
 }
 
-/// The same of a pair whose key has no conflict.
+/// As [`put_within`], of a pair whose key never conflicts.
 pub fn put_lawful_within<K: NoPrefixesBytes + Drop, V: Drop, const P: usize>(
     tree: &mut Tree<K, V, P>,
     key: K,
@@ -203,7 +203,7 @@ fn put_within_at<K: AsBytes + Drop, V: Drop, const P: usize>(
     }
 }
 
-/// Puts the pair, whose key has no conflict. A stored key stays.
+/// Puts the pair, whose key never conflicts, and gives the value that was there. A stored key stays. An error leaves the pairs as they were.
 pub fn put_lawful<K: NoPrefixesBytes + Drop, V: Drop, const P: usize>(
     tree: &mut Tree<K, V, P>,
     key: K,
@@ -221,7 +221,7 @@ pub fn put_lawful<K: NoPrefixesBytes + Drop, V: Drop, const P: usize>(
     }
 }
 
-/// Puts the pair at a point that is good for its key, and gives the value that was there. A stored key stays.
+/// Puts the pair at a point that is good for its key, and gives the value that was there. A stored key stays. An error leaves the pairs as they were.
 pub fn put_at<K: AsBytes + Drop, V: Drop, const P: usize>(
     tree: &mut Tree<K, V, P>,
     point: Point,
@@ -243,7 +243,7 @@ pub fn put_at<K: AsBytes + Drop, V: Drop, const P: usize>(
     }
 }
 
-/// Puts the pair at a point that is good for its key, and gives the pair that was there.
+/// Puts the pair at a point that is good for its key, and gives the pair that was there. An error leaves the pairs as they were.
 pub fn exchange_at<K: AsBytes + Drop, V: Drop, const P: usize>(
     tree: &mut Tree<K, V, P>,
     point: Point,

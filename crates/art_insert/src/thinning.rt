@@ -6,7 +6,7 @@ ghost use Rattle.art_insert.specs.Spans.{Spans, LeavesOne};
 use art_tree::{LeafId, Tree};
 use blart_keys::AsBytes;
 
-/// Removes the related pairs before the last.
+/// Removes the pairs related to the query, which stand from the first leaf to the last, but for the last.
 pub fn leave_one<K: AsBytes + Drop, V: Drop, const P: usize>(
     tree: &mut Tree<K, V, P>,
     first: LeafId,

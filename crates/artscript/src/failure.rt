@@ -1,5 +1,5 @@
 //! What stops the program.
-use crate::words::{Text, Unanswered};
+use script_words::{Text, Unanswered};
 
 /// Why the program ended without its answers.
 #[derive(Drop)]

@@ -1,7 +1,7 @@
 //! The same script over maps of several lengths of kept prefixes.
 use crate::failure::Failure;
 use crate::session::answers;
-use crate::words::{Shown, Text};
+use script_words::{Shown, Text};
 use std::alloc::Global;
 use std::iter::Iterator;
 

@@ -9,7 +9,6 @@ mod lengths;
 mod maps;
 mod session;
 mod sets;
-mod words;
 
 use crate::failure::Failure;
 use crate::lengths::answers_at_each_length;

@@ -7,6 +7,7 @@ mod comparisons;
 mod drives;
 mod inserts;
 mod lending;
+pub(crate) mod lent;
 mod look_ups;
 mod owning;
 mod picking;

@@ -5,8 +5,8 @@ mod counted;
 mod mounts;
 pub(crate) mod parts;
 
-use crate::words::{Text, Unanswered};
 pub(crate) use parts::Session;
+use script_words::{Text, Unanswered};
 use std::alloc::Global;
 use std::cell::Cell;
 use std::iter::Iterator;

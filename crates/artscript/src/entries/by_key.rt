@@ -1,12 +1,12 @@
 //! What the entry of a key answers.
 //!
 //! The size of an entry whose key type is a parameter is not known, so keys that are lists of bytes and keys of three bytes have functions of their own.
-use crate::words::{
+use blart_keys::AsBytes;
+use blart_map::{Entry, InsertPrefixError, TreeMap};
+use script_words::{
     Answered, EntryCall, EntryGroup, EntryLine, EntryName, Shown, Text, Unanswered, Words,
     length_of, value_of,
 };
-use blart_keys::AsBytes;
-use blart_map::{Entry, InsertPrefixError, TreeMap};
 use std::alloc::AllocError;
 use std::mem;
 

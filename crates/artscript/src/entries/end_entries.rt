@@ -1,7 +1,7 @@
 //! What the entries of the first pair and of the last answer.
-use crate::words::{Answered, EntryCall, EntryGroup, EntryName, Shown, Text, Unanswered, Words};
 use blart_keys::AsBytes;
 use blart_map::TreeMap;
+use script_words::{Answered, EntryCall, EntryGroup, EntryName, Shown, Text, Unanswered, Words};
 use std::mem;
 
 /// Makes the call of the entry of the first pair, or of the last, and adds its answer.

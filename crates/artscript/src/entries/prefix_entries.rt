@@ -2,11 +2,12 @@
 //!
 //! An entry is made and used in one function, which ends its loan of the map.
 use crate::entries::by_key::MapOf;
-use crate::words::{
-    Answered, EntryCall, EntryGroup, EntryName, PrefixCall, PrefixName, Shown, Text, Unanswered,
-    Words, length_of, show_lending, show_walk, value_of, written,
-};
+use crate::maps::lent::show_lending;
 use blart_map::{PrefixEntry, PrefixKind, PrefixOccupied, TreeMap};
+use script_words::{
+    Answered, EntryCall, EntryGroup, EntryName, PrefixCall, PrefixName, Shown, Text, Unanswered,
+    Words, length_of, show_walk, value_of, written,
+};
 use std::alloc::AllocError;
 use std::iter::{DoubleEndedIterator, Iterator};
 use std::mem;

@@ -2,11 +2,11 @@
 ghost use Rattle.std.specs.Prelude.{◌≡◌};
 
 use crate::maps::calls::Maps;
-use crate::words::{
-    Answered, FixedKey, MapName, ScriptKey, Shown, Text, Unanswered, Words, items_of,
-};
 use blart_keys::{AsBytes, NoPrefixesBytes};
 use blart_map::TreeMap;
+use script_words::{
+    Answered, FixedKey, MapName, ScriptKey, Shown, Text, Unanswered, Words, items_of,
+};
 use std::alloc::AllocError;
 use std::iter::{IntoIterator, Iterator};
 use std::mem;

@@ -2,9 +2,9 @@
 ghost use Rattle.std.specs.Prelude.{◌≡◌, []};
 ghost use Rattle.blart_map.specs.Content.{pairs};
 
-use crate::words::{Answered, MapName, ScriptKey, Shown, Text, Words, written};
 use blart_keys::AsBytes;
 use blart_map::TreeMap;
+use script_words::{Answered, MapName, ScriptKey, Shown, Text, Words, written};
 use std::alloc::Global;
 use std::mem;
 

@@ -1,7 +1,7 @@
 //! How the first map and the second compare, and what the first is as text.
 use crate::maps::calls::Maps;
-use crate::words::{Answered, MapName, Shown, Text, Words, have_one_digest, show_debug};
 use blart_keys::OrderedBytes;
+use script_words::{Answered, MapName, Shown, Text, Words, have_one_digest, show_debug};
 use std::fmt::Debug;
 use std::hash::Hash;
 

@@ -1,7 +1,7 @@
 //! The call that makes calls in turn.
 use crate::maps::calls::Maps;
-use crate::words::{Answered, ScriptKey, Shown, Text, Words, items_of};
 use blart_map::{Reply, drive};
+use script_words::{Answered, ScriptKey, Shown, Text, Words, items_of};
 use std::alloc::AllocError;
 
 impl<K: ScriptKey, const PREFIX_LEN: usize> Maps<K, u64, PREFIX_LEN> {
@@ -12,18 +12,5 @@ impl<K: ScriptKey, const PREFIX_LEN: usize> Maps<K, u64, PREFIX_LEN> {
         replies.show(text);
         drop(replies);
         Ok(())
-    }
-}
-
-impl<K: Shown> Shown for Vec<Reply<K, u64>> {
-    fn show(&self, text: &mut Text) {
-        text.push(b"[");
-        let mut part: &[u8] = b"";
-        for reply in self {
-            text.push(part);
-            reply.show(text);
-            part = b", ";
-        }
-        text.push(b"]");
     }
 }

@@ -2,8 +2,8 @@
 ghost use Rattle.std.specs.Prelude.{◌≡◌};
 
 use crate::maps::calls::Maps;
-use crate::words::{Answered, FixedKey, MapName, ScriptKey, Shown, Text, Words, value_of};
 use blart_keys::NoPrefixesBytes;
+use script_words::{Answered, FixedKey, MapName, ScriptKey, Shown, Text, Words, value_of};
 
 impl<K: FixedKey, const PREFIX_LEN: usize> Maps<K, u64, PREFIX_LEN> {
     /// Makes the call of this name with these words after it, and adds its answer.

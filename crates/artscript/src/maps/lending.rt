@@ -4,11 +4,10 @@ ghost use Rattle.blart_keys.specs.KeyBytes.{vec_bytes};
 ghost use Rattle.blart_map.specs.Content.{pairs};
 
 use crate::maps::calls::Maps;
-use crate::words::{
-    Answered, Lending, MapName, Shown, Text, Words, raise, raised, show_item, show_lending,
-};
+use crate::maps::lent::{Lending, show_item, show_lending};
 use blart_keys::AsBytes;
 use blart_map::{IterMut, LendingWalk, ValuesMut};
+use script_words::{Answered, MapName, Shown, Text, Words, raise, raised};
 use std::ops::Bound;
 
 impl<K: AsBytes + Shown + Drop, const PREFIX_LEN: usize> Maps<K, u64, PREFIX_LEN> {

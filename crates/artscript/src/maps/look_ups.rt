@@ -5,9 +5,9 @@ ghost use Rattle.blart_map.specs.Content.{pairs};
 
 use crate::maps::calls::Maps;
 use crate::maps::within::show_order;
-use crate::words::{Answered, MapName, Shown, Text, Unanswered, Words, show_walk};
 use blart_keys::AsBytes;
 use blart_map::Visits;
+use script_words::{Answered, MapName, Shown, Text, Unanswered, Words, show_walk};
 use std::ops::Bound;
 
 impl<K: AsBytes + Shown + Drop, V: Shown + Drop, const PREFIX_LEN: usize> Maps<K, V, PREFIX_LEN> {

@@ -1,8 +1,8 @@
 //! Walks that take the map apart.
 use crate::maps::calls::Maps;
-use crate::words::{Answered, MapName, Shown, Text, Words, show_walk};
 use blart_keys::AsBytes;
 use blart_map::TreeMap;
+use script_words::{Answered, MapName, Shown, Text, Words, show_walk};
 use std::iter::IntoIterator;
 use std::mem;
 

@@ -6,9 +6,9 @@ ghost use Rattle.blart_keys.specs.Bounds.{bound_bytes, CanRange};
 ghost use Rattle.blart_keys.specs.KeyBytes.{vec_bytes};
 
 use crate::maps::calls::Maps;
-use crate::words::{Answered, Shown, Text, ValuePick, Words, show_walk};
 use blart_keys::AsBytes;
 use blart_map::TakeWalk;
+use script_words::{Answered, Shown, Text, ValuePick, Words, show_walk};
 use std::alloc::AllocError;
 use std::iter::{DoubleEndedIterator, Iterator};
 use std::ops::Bound;

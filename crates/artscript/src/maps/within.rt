@@ -1,8 +1,8 @@
 //! The calls of the pairs within two bounds, or below some bytes.
 use crate::maps::calls::Maps;
-use crate::words::{Answered, MapName, Shown, Text, Unanswered, Words};
 use blart_keys::AsBytes;
 use blart_map::bounds_in_order;
+use script_words::{Answered, MapName, Shown, Text, Unanswered, Words};
 use std::ops::Bound;
 
 impl<K: AsBytes + Shown + Drop, const PREFIX_LEN: usize> Maps<K, u64, PREFIX_LEN> {

@@ -1,6 +1,6 @@
 //! Maps whose values count how often one is dropped, and the calls of them.
 use crate::maps::Maps;
-use crate::words::{Answered, MapName, Shown, Text, Words};
+use script_words::{Answered, MapName, Shown, Text, Words};
 use std::alloc::{AllocError, Global};
 use std::cell::Cell;
 

@@ -1,7 +1,7 @@
 //! The table of mounts of a part of a script, and the calls of it.
-use crate::words::{Answered, Shown, Text, Unanswered, Words, named, show_items, show_walk};
 use blart_map::Visits;
 use prefix_router::Mounts;
+use script_words::{Answered, Shown, Text, Unanswered, Words, named, show_items, show_walk};
 use std::alloc::{AllocError, Global};
 
 // A call of the table.

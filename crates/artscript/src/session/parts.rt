@@ -6,11 +6,11 @@ use crate::maps::Maps;
 use crate::session::counted::CountedMaps;
 use crate::session::mounts::Table;
 use crate::sets::Sets;
-use crate::words::{
+use blart_keys::{I32Key, U64Key, ZKey};
+use script_words::{
     Answered, FixedKey, LineCall, MapName, ScriptKey, SetName, Tagged, Text, Unanswered, Words,
     named,
 };
-use blart_keys::{I32Key, U64Key, ZKey};
 use std::alloc::{AllocError, Global};
 use std::cell::Cell;
 use std::mem;

@@ -2,11 +2,11 @@
 ghost use Rattle.std.specs.Prelude.{◌≡◌};
 
 use crate::sets::calls::Sets;
-use crate::words::{
-    Answered, FixedKey, ScriptKey, SetName, Shown, Text, Unanswered, Words, items_of,
-};
 use blart_keys::{AsBytes, NoPrefixesBytes};
 use blart_set::TreeSet;
+use script_words::{
+    Answered, FixedKey, ScriptKey, SetName, Shown, Text, Unanswered, Words, items_of,
+};
 use std::alloc::AllocError;
 use std::iter::{IntoIterator, Iterator};
 use std::mem;

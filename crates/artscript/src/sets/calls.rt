@@ -2,9 +2,9 @@
 ghost use Rattle.std.specs.Prelude.{◌≡◌, []};
 ghost use Rattle.blart_set.specs.Elements.{elements};
 
-use crate::words::{Answered, FixedKey, ScriptKey, SetName, Shown, Text, Words};
 use blart_keys::{AsBytes, NoPrefixesBytes};
 use blart_set::TreeSet;
+use script_words::{Answered, FixedKey, ScriptKey, SetName, Shown, Text, Words};
 use std::alloc::Global;
 use std::mem;
 

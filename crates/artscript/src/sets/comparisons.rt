@@ -1,7 +1,7 @@
 //! How the first set and the second compare, and what the first is as text.
 use crate::sets::calls::Sets;
-use crate::words::{Answered, SetName, Shown, Text, Words, have_one_digest, show_debug};
 use blart_keys::OrderedBytes;
+use script_words::{Answered, SetName, Shown, Text, Words, have_one_digest, show_debug};
 use std::fmt::Debug;
 use std::hash::Hash;
 

@@ -1,8 +1,8 @@
 //! How often merges and tests of both sets compare elements.
 use crate::sets::calls::Sets;
-use crate::words::{Answered, Compared, SetName, Shown, Text, Unanswered, Words};
 use blart_keys::AsBytes;
 use blart_set::{TreeSet, TryInsertError};
+use script_words::{Answered, Compared, SetName, Shown, Text, Unanswered, Words};
 use std::cell::Cell;
 use std::iter::Iterator;
 

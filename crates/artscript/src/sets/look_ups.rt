@@ -1,7 +1,7 @@
 //! The calls that leave the sets as they are.
 use crate::sets::calls::Sets;
-use crate::words::{Answered, SetName, Shown, Text, Unanswered, Words};
 use blart_keys::OrderedBytes;
+use script_words::{Answered, SetName, Shown, Text, Unanswered, Words};
 
 impl<K: OrderedBytes + Shown + Drop, const PREFIX_LEN: usize> Sets<K, PREFIX_LEN> {
     /// Makes the call of this name, which leaves the sets as they are, and adds its answer.

@@ -2,9 +2,9 @@
 ghost use Rattle.std.specs.Prelude.{◌≡◌};
 
 use crate::sets::calls::Sets;
-use crate::words::{Answered, FixedKey, SetName, Shown, Text, Words, show_items};
 use blart_keys::AsBytes;
 use blart_set::TreeSet;
+use script_words::{Answered, FixedKey, SetName, Shown, Text, Words, show_items};
 use std::alloc::AllocError;
 
 impl<K: FixedKey, const PREFIX_LEN: usize> Sets<K, PREFIX_LEN> {
@@ -19,14 +19,23 @@ impl<K: FixedKey, const PREFIX_LEN: usize> Sets<K, PREFIX_LEN> {
             SetName::Xor => &self.first ^ &self.second,
             _ => &self.first - &self.second,
         };
-        made.show(text);
+        show_made(&made, text);
         drop(made);
         Ok(())
     }
 }
 
-impl<K: AsBytes + Shown + Drop, const PREFIX_LEN: usize> Shown for TreeSet<K, PREFIX_LEN> {
-    fn show(&self, text: &mut Text) {
-        show_items(self.iter(), text);
+// Adds the elements of a set, if it was made, or that there was no memory.
+fn show_made<K: AsBytes + Shown + Drop, const P: usize>(
+    made: &Result<TreeSet<K, P>, AllocError>,
+    text: &mut Text,
+) {
+    match made {
+        Ok(set) => {
+            text.push(b"Ok(");
+            show_items(set.iter(), text);
+            text.push(b")");
+        }
+        Err(refused) => Err::<(), AllocError>(*refused).show(text),
     }
 }

@@ -4,8 +4,8 @@ ghost use Rattle.blart_keys.specs.KeyBytes.{vec_bytes};
 ghost use Rattle.blart_set.specs.Elements.{elements};
 
 use crate::sets::calls::Sets;
-use crate::words::{Answered, BytesPick, Shown, Text, Words, show_walk};
 use blart_keys::AsBytes;
+use script_words::{Answered, BytesPick, Shown, Text, Words, show_walk};
 use std::alloc::AllocError;
 use std::iter::{DoubleEndedIterator, Iterator};
 use std::ops::Bound;

@@ -4,9 +4,9 @@ ghost use Rattle.blart_keys.specs.KeyBytes.{vec_bytes};
 ghost use Rattle.blart_set.specs.Elements.{elements};
 
 use crate::sets::calls::Sets;
-use crate::words::{Answered, SetName, Shown, Text, Unanswered, Words, show_items, show_walk};
 use blart_keys::{AsBytes, OrderedBytes};
 use blart_set::{TreeSet, bounds_in_order};
+use script_words::{Answered, SetName, Shown, Text, Unanswered, Words, show_items, show_walk};
 use std::iter::IntoIterator;
 use std::mem;
 use std::ops::Bound;

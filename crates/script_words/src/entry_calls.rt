@@ -1,0 +1,149 @@
+//! The calls of entries, and their words.
+use crate::answered::Unanswered;
+use crate::names::named;
+use crate::reading::Words;
+
+/// A call of an entry, and what is added before it to a value that is stored.
+#[derive(Clone, Copy)]
+pub struct EntryLine {
+    pub add: Option<u64>,
+    pub call: EntryCall,
+}
+
+/// A call of an entry, with its number, or 0 where it has none.
+#[derive(Clone, Copy)]
+pub struct EntryCall {
+    pub name: EntryName,
+    pub number: u64,
+}
+
+/// The name of a call of an entry.
+#[derive(Clone, Copy)]
+pub enum EntryName {
+    Key,
+    OrInsert,
+    OrDefault,
+    OrInsertWith,
+    OrInsertWithKey,
+    OrInsertEntry,
+    OrDefaultEntry,
+    OrInsertWithEntry,
+    OrInsertWithKeyEntry,
+    InsertEntry,
+    Get,
+    Insert,
+    GetMut,
+    IntoMut,
+    Remove,
+    RemoveEntry,
+    IntoKey,
+    VacantInsert,
+    VacantInsertEntry,
+}
+
+/// Which entries have a call, and what it answers.
+#[derive(Clone, Copy)]
+pub enum EntryGroup {
+    /// Every entry: its key.
+    Key,
+    /// Every entry: the value, which it lends.
+    Value,
+    /// Every entry: the entry of the pair.
+    Place,
+    /// An entry at a pair.
+    Occupied,
+    /// An entry where no pair stands.
+    Vacant,
+}
+
+// The word that names each call.
+const NAMES: [(&str, EntryName); 19] = [
+    ("key", EntryName::Key),
+    ("or_insert", EntryName::OrInsert),
+    ("or_default", EntryName::OrDefault),
+    ("or_insert_with", EntryName::OrInsertWith),
+    ("or_insert_with_key", EntryName::OrInsertWithKey),
+    ("or_insert_entry", EntryName::OrInsertEntry),
+    ("or_default_entry", EntryName::OrDefaultEntry),
+    ("or_insert_with_entry", EntryName::OrInsertWithEntry),
+    ("or_insert_with_key_entry", EntryName::OrInsertWithKeyEntry),
+    ("insert_entry", EntryName::InsertEntry),
+    ("get", EntryName::Get),
+    ("insert", EntryName::Insert),
+    ("get_mut", EntryName::GetMut),
+    ("into_mut", EntryName::IntoMut),
+    ("remove", EntryName::Remove),
+    ("remove_entry", EntryName::RemoveEntry),
+    ("into_key", EntryName::IntoKey),
+    ("vacant_insert", EntryName::VacantInsert),
+    ("vacant_insert_entry", EntryName::VacantInsertEntry),
+];
+
+impl EntryName {
+    /// Which entries have the call.
+    pub fn group(self) -> EntryGroup {
+        match self {
+            EntryName::Key => EntryGroup::Key,
+            EntryName::OrInsert
+            | EntryName::OrDefault
+            | EntryName::OrInsertWith
+            | EntryName::OrInsertWithKey => EntryGroup::Value,
+            EntryName::OrInsertEntry
+            | EntryName::OrDefaultEntry
+            | EntryName::OrInsertWithEntry
+            | EntryName::OrInsertWithKeyEntry
+            | EntryName::InsertEntry => EntryGroup::Place,
+            EntryName::Get
+            | EntryName::Insert
+            | EntryName::GetMut
+            | EntryName::IntoMut
+            | EntryName::Remove
+            | EntryName::RemoveEntry => EntryGroup::Occupied,
+            EntryName::IntoKey | EntryName::VacantInsert | EntryName::VacantInsertEntry => {
+                EntryGroup::Vacant
+            }
+        }
+    }
+
+    // Whether a number stands after the call's name.
+    fn has_number(self) -> bool {
+        matches!(
+            self,
+            EntryName::OrInsert
+                | EntryName::OrInsertWith
+                | EntryName::OrInsertEntry
+                | EntryName::OrInsertWithEntry
+                | EntryName::InsertEntry
+                | EntryName::Insert
+                | EntryName::GetMut
+                | EntryName::IntoMut
+                | EntryName::VacantInsert
+                | EntryName::VacantInsertEntry
+        )
+    }
+}
+
+impl EntryCall {
+    /// The call that the words which are left are.
+    pub fn read(mut words: Words<'_>) -> Result<EntryCall, Unanswered> {
+        let Some(name) = named(&NAMES, words.word()?) else {
+            return Err(Unanswered::NoCall);
+        };
+        let number = words.number_if(name.has_number())?;
+        Ok(EntryCall { name, number })
+    }
+}
+
+impl EntryLine {
+    /// What the words that are left say.
+    pub fn read(words: Words<'_>) -> Result<EntryLine, Unanswered> {
+        let mut rest = words;
+        if rest.word()? != b"and_modify".as_slice() {
+            let call = EntryCall::read(words)?;
+            return Ok(EntryLine { add: None, call });
+        }
+        let add = Some(rest.number()?);
+        let call = EntryCall::read(rest)?;
+        Ok(EntryLine { add, call })
+    }
+}

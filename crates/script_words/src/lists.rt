@@ -1,0 +1,53 @@
+//! Lists of keys, of pairs and of calls.
+use crate::answered::{Answered, Unanswered};
+use crate::keys::ScriptKey;
+use crate::reading::Words;
+use std::alloc::AllocError;
+
+/// What a word of a list stands for.
+pub trait Item: Drop + Sized {
+    /// The item that the next word stands for.
+    fn read(words: &mut Words<'_>) -> Result<Self, Unanswered>;
+}
+
+impl<K: ScriptKey> Item for K {
+    fn read(words: &mut Words<'_>) -> Result<Self, Unanswered> {
+        words.key()
+    }
+}
+
+impl<K: ScriptKey> Item for (K, u64) {
+    fn read(words: &mut Words<'_>) -> Result<Self, Unanswered> {
+        words.parts()?.last_pair()
+    }
+}
+
+/// The items that the words are.
+pub fn items_of<T: Item>(words: Words<'_>) -> Result<Vec<T>, Unanswered> {
+    let mut items = Vec::new(words.alloc());
+    match push_items(&mut items, words) {
+        Ok(()) => Ok(items),
+        Err(refused) => {
+            drop(items);
+            Err(refused)
+        }
+    }
+}
+
+fn push_items<T: Item>(items: &mut Vec<T>, mut words: Words<'_>) -> Answered {
+    for _ in 0..u64::MAX {
+        if words.is_done() {
+            break;
+        }
+        push(items, T::read(&mut words)?)?;
+    }
+    Ok(())
+}
+
+// Adds the item after those of the list.
+fn push<T: Drop>(items: &mut Vec<T>, item: T) -> Answered {
+    match items.push(item) {
+        Ok(()) => Ok(()),
+        Err(_) => Err(Unanswered::Memory(AllocError)),
+    }
+}

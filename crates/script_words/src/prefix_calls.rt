@@ -1,0 +1,105 @@
+//! The calls of prefix entries, and their words.
+use crate::answered::Unanswered;
+use crate::entry_calls::{EntryCall, EntryGroup, EntryName};
+use crate::names::named;
+use crate::reading::Words;
+
+/// A call of a prefix entry. A walk has the letters of its steps, and one that lends values what is added to each.
+#[derive(Clone, Copy)]
+pub enum PrefixCall<'a> {
+    /// One that entries have too.
+    Shared(EntryCall),
+    /// One of these that the entry's kind has too, made of that.
+    OfKind(EntryCall),
+    /// One that prefix entries alone have, or that theirs differs in, with its number, or 0 where it has none.
+    Own(PrefixName, u64),
+    /// The walk over the pairs in whose place the entry is.
+    Iter(Option<&'a [u8]>),
+    /// The walk that lends their values.
+    IterMut(u64, Option<&'a [u8]>),
+}
+
+/// The name of a call that prefix entries alone have, or that theirs differs in.
+#[derive(Clone, Copy)]
+pub enum PrefixName {
+    GetKey,
+    OccupiedKey,
+    Get,
+    OccupiedGetKey,
+    GetMut,
+    OccupiedInsert,
+    OccupiedInsertEntry,
+    InnerKey,
+    InnerGet,
+    InnerGetKey,
+    InnerGetMut,
+    InnerInsert,
+    InnerInsertEntry,
+    GetKeyValueMut,
+}
+
+// The word that names each call.
+const NAMES: [(&str, PrefixName); 14] = [
+    ("get_key", PrefixName::GetKey),
+    ("occupied_key", PrefixName::OccupiedKey),
+    ("get", PrefixName::Get),
+    ("occupied_get_key", PrefixName::OccupiedGetKey),
+    ("get_mut", PrefixName::GetMut),
+    ("occupied_insert", PrefixName::OccupiedInsert),
+    ("occupied_insert_entry", PrefixName::OccupiedInsertEntry),
+    ("inner_key", PrefixName::InnerKey),
+    ("inner_get", PrefixName::InnerGet),
+    ("inner_get_key", PrefixName::InnerGetKey),
+    ("inner_get_mut", PrefixName::InnerGetMut),
+    ("inner_insert", PrefixName::InnerInsert),
+    ("inner_insert_entry", PrefixName::InnerInsertEntry),
+    ("get_key_value_mut", PrefixName::GetKeyValueMut),
+];
+
+impl<'a> PrefixCall<'a> {
+    /// What the words that are left say.
+    pub fn read(words: Words<'a>) -> Result<PrefixCall<'a>, Unanswered> {
+        let mut rest = words;
+        let word = rest.word()?;
+        if word == b"kind".as_slice() {
+            return call_of_kind(EntryCall::read(rest)?);
+        }
+        if word == b"iter".as_slice() {
+            return Ok(PrefixCall::Iter(rest.last_moves()?));
+        }
+        if word == b"iter_mut".as_slice() {
+            let add = rest.number()?;
+            return Ok(PrefixCall::IterMut(add, rest.last_moves()?));
+        }
+        match named(&NAMES, word) {
+            Some(name) => Ok(PrefixCall::Own(name, rest.number_if(name.has_number())?)),
+            None => Ok(PrefixCall::Shared(EntryCall::read(words)?)),
+        }
+    }
+}
+
+impl PrefixName {
+    // Whether a number stands after the call's name.
+    fn has_number(self) -> bool {
+        matches!(
+            self,
+            PrefixName::GetMut
+                | PrefixName::OccupiedInsert
+                | PrefixName::OccupiedInsertEntry
+                | PrefixName::InnerGetMut
+                | PrefixName::InnerInsert
+                | PrefixName::InnerInsertEntry
+                | PrefixName::GetKeyValueMut
+        )
+    }
+}
+
+// The call of the entry's kind, if that has it.
+fn call_of_kind<'a>(call: EntryCall) -> Result<PrefixCall<'a>, Unanswered> {
+    match (call.name.group(), call.name) {
+        (EntryGroup::Value, _) | (_, EntryName::OrInsertEntry | EntryName::InsertEntry) => {
+            Ok(PrefixCall::OfKind(call))
+        }
+        _ => Err(Unanswered::NoCall),
+    }
+}

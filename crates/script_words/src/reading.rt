@@ -1,0 +1,347 @@
+//! The words of a line, and what they stand for.
+ghost use Rattle.std.specs.Prelude.{◌≡◌, true, IfOk, Some, Contains};
+ghost use Rattle.std.specs.List.{list_all};
+ghost use Rattle.std.specs.Char.{is_ascii_digit};
+ghost use Rattle.std.specs.Str.Parse.{digits_value};
+ghost use Rattle.script_words.specs.Words.{read_bytes, read_number, below_limit, is_step, is_decision};
+ghost use Rattle.script_words.specs.Words as spec;
+
+use crate::answered::{Answered, Unanswered};
+use crate::keys::ScriptKey;
+use hex::FromHexError;
+use std::alloc::{AllocError, Global};
+use std::ops::Bound;
+
+/// The words of a text that are still to be read. One byte parts them.
+#[derive(Clone, Copy)]
+pub struct Words<'a> {
+    rest: Option<&'a [u8]>,
+    part: u8,
+    alloc: Global,
+}
+
+impl<'a> Words<'a> {
+    /// All words of the text.
+    pub fn new(text: &'a [u8], part: u8, alloc: Global) -> Self {
+        Words {
+            rest: Some(text),
+            part,
+            alloc,
+        }
+    }
+
+    /// What the program takes its memory from.
+    pub fn alloc(&self) -> Global {
+        self.alloc
+    }
+
+    /// Whether no word is left.
+    pub fn is_done(&self) -> bool {
+        self.rest.is_none()
+    }
+
+    /// That no word is left.
+    pub fn end(&self) -> Answered {
+        match self.rest {
+            Some(_) => Err(Unanswered::NoCall),
+            None => Ok(()),
+        }
+    }
+
+    /// The next word. Between two parting bytes stands a word of no bytes.
+    pub fn word(&mut self) -> Result<&'a [u8], Unanswered> {
+        let Some(text) = self.rest else {
+            return Err(Unanswered::NoCall);
+        };
+        let part = self.part;
+        match text.iter().position(|byte| *byte == part) {
+            Some(at) => {
+                self.rest = Some(&text[at + 1..]);
+                Ok(&text[..at])
+            }
+            None => {
+                self.rest = None;
+                Ok(text)
+            }
+        }
+    }
+
+    /// The last word.
+    pub fn last_word(&mut self) -> Result<&'a [u8], Unanswered> {
+        let word = self.word()?;
+        self.end()?;
+        Ok(word)
+    }
+
+    /// The words of the next word, which colons part.
+    pub fn parts(&mut self) -> Result<Words<'a>, Unanswered> {
+        Ok(Words::new(self.word()?, b':', self.alloc))
+    }
+
+    /// The bytes that the next word stands for.
+    pub fn bytes(&mut self) -> Result<Vec<u8>, Unanswered> {
+        joined_of(self.alloc, self.word()?)
+    }
+
+    /// The bytes that the last word stands for.
+    pub fn last_bytes(&mut self) -> Result<Vec<u8>, Unanswered> {
+        joined_of(self.alloc, self.last_word()?)
+    }
+
+    /// The key that a word stands for, with the tag after `#` where there is one.
+    pub fn key_of<K: ScriptKey>(&self, word: &[u8]) -> Result<K, Unanswered> {
+        let mut parts = Words::new(word, b'#', self.alloc);
+        let digits = parts.word()?;
+        match parts.last_number()? {
+            Some(tag) => K::from_vec(joined_of(self.alloc, digits)?)?.with_tag(tag),
+            None => K::from_vec(joined_of(self.alloc, digits)?),
+        }
+    }
+
+    /// The key that the next word stands for.
+    pub fn key<K: ScriptKey>(&mut self) -> Result<K, Unanswered> {
+        let word = self.word()?;
+        self.key_of(word)
+    }
+
+    /// The key that the last word stands for.
+    pub fn last_key<K: ScriptKey>(&mut self) -> Result<K, Unanswered> {
+        let word = self.last_word()?;
+        self.key_of(word)
+    }
+
+    /// The number that the next word is.
+    pub fn number(&mut self) -> Result<u64, Unanswered> {
+        number_of(self.word()?).ok_or(Unanswered::NoCall)
+    }
+
+    /// The number that the next word is, by which others are divided.
+    pub fn modulus(&mut self) -> Result<u64, Unanswered> {
+        match self.number()? {
+            0 => Err(Unanswered::NoCall),
+            number => Ok(number),
+        }
+    }
+
+    /// The number that the last word is, where one is left.
+    pub fn last_number(mut self) -> Result<Option<u64>, Unanswered> {
+        if self.is_done() {
+            return Ok(None);
+        }
+        let number = self.number()?;
+        self.end()?;
+        Ok(Some(number))
+    }
+
+    /// The number that the last word is, of a call that has one. Else no word is left, and it is 0.
+    pub fn number_if(mut self, has_number: bool) -> Result<u64, Unanswered> {
+        let number = if has_number { self.number()? } else { 0 };
+        self.end()?;
+        Ok(number)
+    }
+
+    /// The key and the number that the last two words stand for.
+    pub fn last_pair<K: ScriptKey>(&mut self) -> Result<(K, u64), Unanswered> {
+        let word = self.word()?;
+        let number = self.number()?;
+        self.end()?;
+        Ok((self.key_of(word)?, number))
+    }
+
+    /// The bounds that the next two words are.
+    pub fn bounds(&mut self) -> Result<(Bound<Vec<u8>>, Bound<Vec<u8>>), Unanswered> {
+        let start = self.start()?;
+        match self.finish() {
+            Ok(end) => Ok((start, end)),
+            Err(refused) => {
+                drop(start);
+                Err(refused)
+            }
+        }
+    }
+
+    // The start bound that the next word is.
+    fn start(&mut self) -> Result<Bound<Vec<u8>>, Unanswered> {
+        match self.word()? {
+            b"*" => Ok(Bound::Unbounded),
+            [b'[', digits @ ..] => Ok(Bound::Included(joined_of(self.alloc, digits)?)),
+            [b'(', digits @ ..] => Ok(Bound::Excluded(joined_of(self.alloc, digits)?)),
+            _ => Err(Unanswered::NoCall),
+        }
+    }
+
+    // The end bound that the next word is.
+    fn finish(&mut self) -> Result<Bound<Vec<u8>>, Unanswered> {
+        match self.word()? {
+            b"*" => Ok(Bound::Unbounded),
+            [digits @ .., b']'] => Ok(Bound::Included(joined_of(self.alloc, digits)?)),
+            [digits @ .., b')'] => Ok(Bound::Excluded(joined_of(self.alloc, digits)?)),
+            _ => Err(Unanswered::NoCall),
+        }
+    }
+
+    /// The letters of the steps that the last word is, where one is left.
+    pub fn last_steps(&mut self) -> Result<Option<&'a [u8]>, Unanswered> {
+        if self.is_done() {
+            return Ok(None);
+        }
+        let letters = self.last_word()?;
+        if letters.is_empty() || !are_steps(letters) {
+            return Err(Unanswered::NoCall);
+        }
+        Ok(Some(letters))
+    }
+
+    /// The letters of the steps that the last word is, where one is left, of a walk that does not count.
+    pub fn last_moves(&mut self) -> Result<Option<&'a [u8]>, Unanswered> {
+        let letters = self.last_steps()?;
+        match letters {
+            Some(word) if word.contains(&b'l') => Err(Unanswered::NoCall),
+            _ => Ok(letters),
+        }
+    }
+
+    /// The letters of the decisions that the last word is.
+    pub fn last_decisions(&mut self) -> Result<&'a [u8], Unanswered> {
+        let letters = self.last_word()?;
+        if letters.is_empty() || !are_decisions(letters) {
+            return Err(Unanswered::NoCall);
+        }
+        Ok(letters)
+    }
+}
+
+// ---- steps
+
+// Whether all letters are of steps and decisions.
+fn are_decisions(letters: &[u8]) -> bool
+    ensures { result ≡ list_all is_decision letters.now }
+{
+    letters.iter().all(|letter| {
+        *letter == b'f' || *letter == b'b' || *letter == b'k' || *letter == b't' || *letter == b'u'
+    })
+}
+
+// Whether all letters are of steps.
+fn are_steps(letters: &[u8]) -> bool
+    ensures { result ≡ list_all is_step letters.now }
+{
+    letters.iter().all(|letter| *letter == b'f' || *letter == b'b' || *letter == b'l')
+}
+
+// ---- bytes
+
+// The largest number of times that a byte is repeated.
+const MOST: u64 = (1 << 20) - 1;
+
+// The bytes that the word stands for, which are those of its parts where it has some.
+fn joined_of(alloc: Global, word: &[u8]) -> Result<Vec<u8>, Unanswered>
+    ensures read { ¬ Contains word.now 42 → ¬ Contains word.now 46
+        → IfOk result (λ bytes. read_bytes word.now ≡ Some bytes.items) }
+{
+    if !word.contains(&b'*') && !word.contains(&b'.') {
+        return bytes_of(alloc, word);
+    }
+    let mut bytes = Vec::new(alloc);
+    for part in word.split(|byte| *byte == b'.') {
+        push_part(&mut bytes, part)?;
+    }
+    Ok(bytes)
+}
+
+// Adds the bytes of a part: those of its digits, or one byte as often as is said.
+fn push_part(bytes: &mut Vec<u8>, part: &[u8]) -> Answered {
+    if part == b"-".as_slice() {
+        return Err(Unanswered::NoCall);
+    }
+    let (digits, times) = match part.iter().position(|byte| *byte == b'*') {
+        Some(at) => (&part[..at], Some(&part[at + 1..])),
+        None => (part, None),
+    };
+    let read = bytes_of(*bytes.allocator(), digits)?;
+    let pushed = match times {
+        Some(word) => push_repeated(bytes, &read, word),
+        None => push_all(bytes, &read),
+    };
+    drop(read);
+    pushed
+}
+
+fn push_all(bytes: &mut Vec<u8>, more: &[u8]) -> Answered {
+    Ok(bytes.extend_from_slice(more)?)
+}
+
+// Adds the one byte as often as the word says.
+fn push_repeated(bytes: &mut Vec<u8>, one: &[u8], word: &[u8]) -> Answered {
+    let ([byte], Some(count)) = (one, number_of(word)) else {
+        return Err(Unanswered::NoCall);
+    };
+    if count > MOST {
+        return Err(Unanswered::NoCall);
+    }
+    for _ in 0..count {
+        if bytes.push(*byte).is_err() {
+            return Err(Unanswered::Memory(AllocError));
+        }
+    }
+    Ok(())
+}
+
+// The bytes that the word stands for.
+fn bytes_of(alloc: Global, word: &[u8]) -> Result<Vec<u8>, Unanswered>
+    ensures read { IfOk result (λ bytes. read_bytes word.now ≡ Some bytes.items) }
+    ensures no_call { result ≡ Err Unanswered.NoCall → read_bytes word.now ≡ None }
+{
+    if word == b"-".as_slice() {
+        return Ok(Vec::new(alloc));
+    }
+    if word.is_empty() {
+        return Err(Unanswered::NoCall);
+    }
+    match hex::decode(alloc, word) {
+        Ok(bytes) => Ok(bytes),
+        Err(FromHexError::OutOfMemory) => Err(Unanswered::Memory(AllocError)),
+        Err(_) => Err(Unanswered::NoCall),
+    }
+}
+
+// ---- numbers
+
+// The number that the word is, where it is digits and below 2^64.
+fn number_of(word: &[u8]) -> Option<u64>
+    ensures { result ≡ read_number word.now }
+{
+    if is_numeral(word) {
+        value_of(word)
+    } else {
+        None
+    }
+}
+
+// Whether the word is decimal digits, one at least.
+fn is_numeral(word: &[u8]) -> bool
+    ensures { result ≡ spec.is_numeral word.now }
+{
+    if word.is_empty() {
+        false
+    } else {
+        is_all_digits(word)
+    }
+}
+
+fn is_all_digits(word: &[u8]) -> bool
+    ensures { result ≡ list_all is_ascii_digit word.now }
+{
+    word.iter().all(|byte| byte.is_ascii_digit())
+}
+
+// The value of the digits, where it is below 2^64.
+fn value_of(digits: &[u8]) -> Option<u64>
+    requires { spec.is_numeral digits.now ≡ true }
+    ensures { result ≡ below_limit (digits_value 10 digits.now) }
+{
+    match str::from_utf8(digits) {
+        Ok(text) => text.parse().ok(),
+        Err(_) => unreachable!(),
+    }
+}
