@@ -1,5 +1,5 @@
 //! Where a pair goes, room for it, and the pair placed.
-ghost use Rattle.std.specs.Prelude.{◌≡◌, ◌≢◌, ◌+◌, ◌<◌, ◌≤◌, ℕ, true, false, option_map, None, OnOk, IfOk, OnErr};
+ghost use Rattle.std.specs.Prelude.{◌≡◌, ◌≢◌, ◌+◌, ◌<◌, ◌≤◌, ℕ, true, false, option_map, Some, None, OnOk, IfOk, OnErr};
 ghost use Rattle.blart_keys.specs.Content.{stores, conflict, IsContent, IsPut};
 ghost use Rattle.blart_keys.specs.Steps.{bytes as pair_bytes, Puts, Inserts};
 ghost use Rattle.blart_keys.specs.Stored.{kept, pair_at};

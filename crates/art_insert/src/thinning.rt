@@ -1,4 +1,6 @@
 //! All related pairs but one removed.
+ghost use Rattle.std.specs.Prelude.{Some};
+ghost use Rattle.blart_keys.specs.Steps.{bytes};
 ghost use Rattle.art_insert.specs.Spans.{Spans, LeavesOne};
 
 use art_tree::{LeafId, Tree};

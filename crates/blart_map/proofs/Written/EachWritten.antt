@@ -3,7 +3,7 @@ use Rattle.std.proofs.Common.{◌≡◌, ℕ, eqb, length, true, false, cond, Li
 use Rattle.std.proofs.lemmas.Bool.{ne_eqb, eq-eqb}
 use Rattle.std.proofs.lemmas.List.{length-map}
 use Rattle.std.specs.Borrow.{Bor, MutBor}
-use denote.Param.Members.{Mut}
+use denote.Param.Members.{Mut, Called}
 use Rattle.blart_keys.specs.Content.{at}
 use Rattle.blart_keys.specs.Stored.{bytes, pair_at}
 use Rattle.art_tree.specs.Leaves.{Numbered, AreDistinct, Lacks, with_value}

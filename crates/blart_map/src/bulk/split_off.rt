@@ -1,5 +1,5 @@
 //! A map parted in two.
-ghost use Rattle.std.specs.Prelude.{◌≡◌, ◌≢◌, ◌+◌, ◌++◌, ℕ, List, [], length, OnOk, IfOk, OnErr, None, if◌then◌else◌};
+ghost use Rattle.std.specs.Prelude.{◌≡◌, ◌≢◌, ◌<◌, ◌+◌, ◌++◌, ℕ, List, [], length, OnOk, IfOk, OnErr, None, if◌then◌else◌};
 ghost use Rattle.std.specs.declared.ops.Bound.TheVariants.{Included, Excluded, Unbounded};
 ghost use Rattle.blart_keys.specs.Bytes.{less};
 ghost use Rattle.blart_keys.specs.Content.{between};
