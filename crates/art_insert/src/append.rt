@@ -6,14 +6,16 @@ ghost use Rattle.blart_keys.specs.Steps.{bytes};
 ghost use Rattle.art_tree.specs.Content.{room};
 ghost use Rattle.art_tree.specs.Pairs.{pairs_of};
 
-use crate::parting::take_leaves;
+use crate::parting::take_pairs;
 use crate::placing::{add_reserved, put_reserved};
-use art_tree::{Leaves, Tree};
+use art_tree::{Pairs, Tree};
 use blart_keys::NoPrefixesBytes;
 use std::alloc::{AllocError, Global};
 use std::mem::swap;
 
-/// Moves all pairs of one tree into another, once there is room; where both have the bytes those that move stay. The tree that has fewer pairs is the one whose pairs are put one by one. An error leaves both as they were.
+/// Moves all pairs of one tree into another, once there is room. If both have the same bytes, the
+/// pair that is moved wins. The pairs of the tree that has fewer are put one by one. An error
+/// leaves both trees unchanged.
 pub fn move_into<K: NoPrefixesBytes + Drop, V: Drop, const P: usize>(
     from: &mut Tree<K, V, P>,
     to: &mut Tree<K, V, P>,
@@ -32,22 +34,23 @@ pub fn move_into<K: NoPrefixesBytes + Drop, V: Drop, const P: usize>(
     if to.len() < from.len() {
         from.reserve(to.len())?;
         swap(from, to);
-        add_all(take_leaves(from, alloc), to);
+        add_all(take_pairs(from, alloc), to);
     } else {
         to.reserve(from.len())?;
-        move_all(take_leaves(from, alloc), to);
+        move_all(take_pairs(from, alloc), to);
     }
     Ok(())
 }
 
-// Moves all pairs of some leaves into a tree, which has the room: they win where both have the bytes.
+/// Moves pairs into a tree, which has room for them. If both have the same bytes, the pair that is
+/// moved wins.
 fn move_all<K: NoPrefixesBytes + Drop, V: Drop, const P: usize>(
-    from: Leaves<K, V>,
+    from: Pairs<K, V>,
     to: &mut Tree<K, V, P>,
 )
-    requires content { IsContent (bytes K.bytes) (pairs_of from.pairs) }
+    requires content { IsContent (bytes K.bytes) from.pairs }
     requires room { length from.pairs ≤ room to.old }
-    ensures { IsAppended (bytes K.bytes) (pairs_of to.old.pairs) (pairs_of from.pairs)
+    ensures { IsAppended (bytes K.bytes) (pairs_of to.old.pairs) from.pairs
         (pairs_of to.new.pairs) }
 {
     to.law();
@@ -58,14 +61,15 @@ fn move_all<K: NoPrefixesBytes + Drop, V: Drop, const P: usize>(
     drop(from);
 }
 
-// Moves all pairs of some leaves into a tree, which has the room: the tree's win where both have the bytes.
+/// Moves pairs into a tree, which has room for them. If both have the same bytes, the pair of the
+/// tree wins.
 fn add_all<K: NoPrefixesBytes + Drop, V: Drop, const P: usize>(
-    from: Leaves<K, V>,
+    from: Pairs<K, V>,
     to: &mut Tree<K, V, P>,
 )
-    requires content { IsContent (bytes K.bytes) (pairs_of from.pairs) }
+    requires content { IsContent (bytes K.bytes) from.pairs }
     requires room { length from.pairs ≤ room to.old }
-    ensures { IsAppended (bytes K.bytes) (pairs_of from.pairs) (pairs_of to.old.pairs)
+    ensures { IsAppended (bytes K.bytes) from.pairs (pairs_of to.old.pairs)
         (pairs_of to.new.pairs) }
 {
     to.law();

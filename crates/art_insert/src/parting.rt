@@ -1,17 +1,17 @@
 //! A tree parted in two.
 ghost use Rattle.std.specs.Prelude.{◌≡◌, ◌≤◌, ◌<◌, ◌+◌, ◌++◌, [], length, OnOk, IfOk, OnErr};
 ghost use Rattle.art_tree.specs.Content.{room};
-ghost use Rattle.art_tree.specs.Leaves.{end_room};
 ghost use Rattle.art_tree.specs.Pairs.{pairs_of};
 
-use crate::ascending::push;
 use crate::placing::place_reserved;
-use art_tree::{Frame, Leaves, Tree};
+use art_tree::{Frame, Pairs, Tree};
 use blart_keys::AsBytes;
 use std::alloc::{AllocError, Global};
 use std::mem::{replace, swap};
 
-/// Moves the last pairs of one tree, so many, into an empty one, once there is room; or the first, where those are fewer, and exchanges the two. Where neither side has three times the pairs of the other, makes both trees anew. An error leaves the tree as it was.
+/// Moves the last `count` pairs of one tree into an empty tree, once there is room. If the other
+/// pairs are fewer, it moves those and exchanges the two trees. If neither side has three times the
+/// pairs of the other, it makes both trees anew. An error leaves the trees unchanged.
 pub fn part<K: AsBytes + Drop, V: Drop, const P: usize>(
     from: &mut Tree<K, V, P>,
     to: &mut Tree<K, V, P>,
@@ -42,7 +42,8 @@ pub fn part<K: AsBytes + Drop, V: Drop, const P: usize>(
     Ok(())
 }
 
-// Makes two trees of the leaves of one, of the first so many and of the others, once there is memory.
+/// Makes two trees of the pairs of one, of the first `low` pairs and of the other `count`, once
+/// there is memory.
 fn part_anew<K: AsBytes + Drop, V: Drop, const P: usize>(
     from: &mut Tree<K, V, P>,
     to: &mut Tree<K, V, P>,
@@ -58,50 +59,51 @@ fn part_anew<K: AsBytes + Drop, V: Drop, const P: usize>(
 {
     from.law();
     let (mut lower, low_frame, high_frame) = memory_for(alloc, low, count)?;
-    let mut upper = take_leaves(from, alloc);
-    move_leaves(&mut upper, &mut lower, low);
-    drop(replace(from, Tree::from_leaves(lower, low_frame)));
-    drop(replace(to, Tree::from_leaves(upper, high_frame)));
+    let mut upper = take_pairs(from, alloc);
+    move_pairs(&mut upper, &mut lower, low);
+    drop(replace(from, Tree::from_pairs(lower, low_frame)));
+    drop(replace(to, Tree::from_pairs(upper, high_frame)));
     Ok(())
 }
 
-// Takes the leaves out of a tree, which has none then. The inner nodes are freed whole.
-pub(crate) fn take_leaves<K: AsBytes + Drop, V: Drop, const P: usize>(
+/// Takes all pairs out of a tree. The inner nodes are freed whole.
+pub(crate) fn take_pairs<K: AsBytes + Drop, V: Drop, const P: usize>(
     tree: &mut Tree<K, V, P>,
     alloc: Global,
-) -> Leaves<K, V>
-    ensures all { result.pairs ≡ tree.old.pairs }
+) -> Pairs<K, V>
+    ensures all { result.pairs ≡ pairs_of tree.old.pairs }
     ensures none { tree.new.pairs ≡ [] }
 {
-    replace(tree, Tree::new(alloc)).into_leaves()
+    replace(tree, Tree::new(alloc)).into_pairs()
 }
 
-// Memory for the first leaves, so many, and for the inner nodes of the two trees.
+/// Returns a list that has room for `low` pairs, and memory for the inner nodes of two trees, of
+/// `low` pairs and of `count`.
 fn memory_for<K: Drop, V: Drop, const P: usize>(
     alloc: Global,
     low: usize,
     count: usize,
-) -> Result<(Leaves<K, V>, Frame<P>, Frame<P>), AllocError>
+) -> Result<(Pairs<K, V>, Frame<P>, Frame<P>), AllocError>
     ensures none { IfOk result (λ m. m.0.pairs ≡ []) }
-    ensures room { IfOk result (λ m. low ≤ end_room m.0) }
+    ensures room { IfOk result (λ m. low ≤ m.0.end_room) }
     ensures below { IfOk result (λ m. low ≤ m.1) }
     ensures from { IfOk result (λ m. count ≤ m.2) }
 {
-    let mut leaves = Leaves::new(alloc);
-    if let Err(refused) = leaves.reserve_end(low) {
-        drop(leaves);
+    let mut pairs = Pairs::new(alloc);
+    if let Err(refused) = pairs.reserve(low) {
+        drop(pairs);
         return Err(refused);
     }
     match frames_for(alloc, low, count) {
-        Ok((low_frame, high_frame)) => Ok((leaves, low_frame, high_frame)),
+        Ok((low_frame, high_frame)) => Ok((pairs, low_frame, high_frame)),
         Err(refused) => {
-            drop(leaves);
+            drop(pairs);
             Err(refused)
         }
     }
 }
 
-// Memory for the inner nodes of two trees.
+/// Returns memory for the inner nodes of two trees, of `low` pairs and of `count`.
 fn frames_for<const P: usize>(
     alloc: Global,
     low: usize,
@@ -120,24 +122,24 @@ fn frames_for<const P: usize>(
     }
 }
 
-// Moves the first of some leaves, so many, to the end of others, which have none yet, and the room.
-fn move_leaves<K: Drop, V: Drop>(from: &mut Leaves<K, V>, to: &mut Leaves<K, V>, count: usize)
+/// Moves the first `count` pairs of one list to the end of another, which is empty and has room for
+/// them.
+fn move_pairs<K: Drop, V: Drop>(from: &mut Pairs<K, V>, to: &mut Pairs<K, V>, count: usize)
     requires enough { count ≤ length from.old.pairs }
     requires empty { to.old.pairs ≡ [] }
-    requires room { count ≤ end_room to.old }
-    ensures whole { pairs_of from.old.pairs
-        ≡ pairs_of to.new.pairs ++ pairs_of from.new.pairs }
-    ensures moved { length (pairs_of to.new.pairs) ≡ count }
+    requires room { count ≤ to.old.end_room }
+    ensures whole { from.old.pairs ≡ to.new.pairs ++ from.new.pairs }
+    ensures moved { length to.new.pairs ≡ count }
 {
     for _ in 0..count {
         let Some((key, value)) = from.take_first() else {
             unreachable!()
         };
-        push(to, key, value);
+        to.push(key, value);
     }
 }
 
-// Moves the last pairs of one tree, so many, into an empty one, which has the room.
+/// Moves the last `count` pairs of one tree into an empty tree, which has room for them.
 fn move_last<K: AsBytes + Drop, V: Drop, const P: usize>(
     from: &mut Tree<K, V, P>,
     to: &mut Tree<K, V, P>,
@@ -161,7 +163,7 @@ fn move_last<K: AsBytes + Drop, V: Drop, const P: usize>(
     }
 }
 
-// Moves the first pairs of one tree, so many, into an empty one, which has the room.
+/// Moves the first `count` pairs of one tree into an empty tree, which has room for them.
 fn move_first<K: AsBytes + Drop, V: Drop, const P: usize>(
     from: &mut Tree<K, V, P>,
     to: &mut Tree<K, V, P>,

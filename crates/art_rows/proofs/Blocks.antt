@@ -1,12 +1,9 @@
 -- The numbers of a block.
-use Rattle.std.proofs.Common.{◌≡◌, ◌≢◌, ◌⊎◌, ℕ, zero, suc, ◌+◌, ◌-◌, ◌*◌, ◌/◌, ◌%◌, ◌^◌, ◌<◌, ◌≤◌, List, [], ◌∷◌, ◌++◌, length, take, drop, get_or, refl, sym, ap, subst, ◌∙◌, Some, true, false, cond, eqb, eq-eqb, inl, inr, arith}
+use Rattle.std.proofs.Common.{◌≡◌, ◌⊎◌, ℕ, zero, suc, ◌+◌, ◌*◌, ◌<◌, ◌≤◌, List, [], ◌∷◌, ◌++◌, length, take, drop, get_or, refl, ap, ◌∙◌, Some, true, false, cond, eqb, eq-eqb, inl, inr, arith}
 use Rattle.std.proofs.lemmas.Bool.Decides.{leb_tells, eqb_tells}
-use Rattle.std.proofs.lemmas.List.{take-append-drop, length-map, length-take-le, take-take, drop-take, map-append, take-map, drop-map}
+use Rattle.std.proofs.lemmas.List.{take-append-drop, length-map, length-take-le, map-append, take-map, drop-map}
 use Rattle.std.proofs.lemmas.List.Sums.{sum_by-append, sum_by-cons}
 use Rattle.std.specs.List.{range_with_len}
-use Rattle.std.proofs.Math.Nat.{pow-succ', div-div-eq-div-mul}
-use Rattle.std.proofs.lemmas.Nat.{le_bytes_8}
-use Rattle.std.specs.Int.{w64, byte_at, bytes_low_first, from_le_bytes}
 use Rattle.art_rows.specs.Rows.{among, nth}
 use Rattle.art_rows.specs.Blocks.{times, row_of, numbers_at, AreWithin, ArePlaces}
 use Rattle.art_rows.specs.declared.row.TheConstants.{ROW}
@@ -121,45 +118,6 @@ within_more ns n w = (
   λ m h. w m (let a = times-append ns (n ∷ []) m in omega arith),
 )
 
--- ---- cells as a number
-
--- each byte after the lowest is one of the number without that
-byte_at-suc : (i n : ℕ) → byte_at (suc i) n ≡ byte_at i (n / 256)
-byte_at-suc zero n = refl
-byte_at-suc (suc i) n = ap (λ m. n / m % 256) (pow-succ' 256 (suc i)) ∙ ap (λ m. m % 256) (sym (div-div-eq-div-mul n 256 (256 ^ suc i)))
-
-bytes-suc : (i k n : ℕ) → bytes_low_first (suc i) k n ≡ bytes_low_first i k (n / 256)
-bytes-suc i zero n = refl
-bytes-suc i (suc k) n = λ j. byte_at-suc i n j ∷ bytes-suc (suc i) k n j
-
--- the lowest byte, and those of the number without it
-pub bytes-first : (k n : ℕ) → k ≢ 0 → bytes_low_first 0 k n ≡ n % 256 ∷ bytes_low_first 0 (k - 1) (n / 256)
-bytes-first zero n l = absurd (l refl)
-bytes-first (suc k) n l = (let e : suc k - 1 ≡ k = omega arith in rw e (ap (λ bs. n % 256 ∷ bs) (bytes-suc 0 k n)))
-
--- the first bytes of more
-bytes-take : (i j k n : ℕ) → k ≤ j → take k (bytes_low_first i j n) ≡ bytes_low_first i k n
-bytes-take i j zero n h = refl
-bytes-take i zero (suc k) n h = absurd (omega arith)
-bytes-take i (suc j) (suc k) n h = ap (λ bs. byte_at i n ∷ bs) (bytes-take (suc i) j k n (omega arith))
-
-pub length-bytes : (i k n : ℕ) → length (bytes_low_first i k n) ≡ k
-length-bytes i zero n = refl
-length-bytes i (suc k) n = ap suc (length-bytes (suc i) k n)
-
-small : (cells : List ℕ) (i : ℕ) → AreWithin cells → get_or cells i 0 < 256
-small [] i w = omega arith
-small (c ∷ cells) zero w = omega (arith, (within_cons c cells w).0)
-small (c ∷ cells) (suc i) w = small cells i (within_cons c cells w).1
-
--- eight cells that were read as a number are its bytes
-pub bytes-of : (cells : List ℕ) (k n : ℕ) → length cells ≡ 8 → AreWithin cells → k ≤ 8 → n ≡ from_le_bytes w64 cells → bytes_low_first 0 k n ≡ take k cells
-bytes-of cells k n l w h is = sym (bytes-take 0 8 k n h) ∙ ap (take k) (le_bytes_8 cells n l (λ i. small cells i w) is)
-
--- the lowest byte of those that are cells of a block is one, and so are the others
-pub within-first : (k n : ℕ) → k ≢ 0 → AreWithin (bytes_low_first 0 k n) → (n % 256 < ROW) × AreWithin (bytes_low_first 0 (k - 1) (n / 256))
-within-first k n l w = within_cons (n % 256) (bytes_low_first 0 (k - 1) (n / 256)) (subst AreWithin (bytes-first k n l) w)
-
 -- ---- the numbers of cells
 
 -- so many as there are cells
@@ -199,14 +157,3 @@ numbers-put first c place cells = map-append (λ d. first + d) (take place cells
 -- the cell at a place is taken out
 pub numbers-cut : (first place : ℕ) (cells : List ℕ) → numbers_at first (take place cells ++ drop (place + 1) cells) ≡ take place (numbers_at first cells) ++ drop (place + 1) (numbers_at first cells)
 numbers-cut first place cells = map-append (λ d. first + d) (take place cells) (drop (place + 1) cells) ∙ rw (take-map (λ d. first + d) place cells, drop-map (λ d. first + d) (place + 1) cells) refl
-
--- cells after a place, of more of which the first so many are in use
-pub numbers-after : (first place count n k : ℕ) (cells : List ℕ) → place + 1 + k ≤ count → k ≤ 8 → k ≤ n → numbers_at first (take k (take 8 (take n (drop (place + 1) cells)))) ≡ take k (drop (place + 1) (numbers_at first (take count cells)))
-numbers-after first place count n k cells l e m =
-    let after : List ℕ = drop (place + 1) cells in
-    let rest : ℕ = count - (place + 1) in
-    let whole : place + 1 + rest ≡ count = omega arith in
-    let used : drop (place + 1) (take count cells) ≡ take rest after = ap (λ c. drop (place + 1) (take c cells)) (sym whole) ∙ drop-take (place + 1) rest cells in
-    ap (numbers_at first) (take-take k 8 (take n after) e ∙ take-take k n after m ∙ sym (take-take k rest after (omega arith)) ∙ ap (take k) (sym used))
-    ∙ sym (take-map (λ c. first + c) k (drop (place + 1) (take count cells)))
-    ∙ ap (take k) (sym (drop-map (λ c. first + c) (place + 1) (take count cells)))

@@ -1,6 +1,6 @@
 -- What a caller cites of numbered items.
 -- which numbers there are
-pub use Rattle.art_rows.proofs.NumbersLemmas.{leaf_in_lacking, Lacks-from_leaf_in, has_not_lacks, has_other, Has-tail, Has-first, Has-last, no_first, no_last, Lacks-parts, distinct_parts, AreDistinct-parts, last_number-append}
+pub use Rattle.art_rows.proofs.NumbersLemmas.{leaf_in_lacking, Lacks-from_leaf_in, has_not_lacks, has_other, Has-tail, Has-first, Has-last, Has-after, Has-before, no_first, no_last, Lacks-parts, distinct_parts, AreDistinct-parts, last_number-append}
 -- the list split at a number
 pub use Rattle.art_rows.proofs.NumbersLemmas.{split, leaf_in-split, number_after-split, number_before-split, without_number-split, with_pair-split}
 -- an item more

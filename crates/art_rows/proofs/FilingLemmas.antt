@@ -103,10 +103,6 @@ module _ {K V : Type 0} where
       Files (slot_at i.records) c.rows (used_count i.records) c.pairs
   seen_rows i e f = subst (λ (d : Leaves K V). Files (slot_at i.records) d.rows (used_count i.records) d.pairs) e f.0
 
-  -- a position told of the rows that a contract sees is one in the rows
-  pub seen_at : {c : Leaves K V} (i : Inside K V) → content i.records i.rows ≡ c → (k : ℕ) (o p : Option Position) → o ≡ position_at c.rows k → o ≡ p → position_at i.rows.pairs k ≡ p
-  seen_at i e k o p told is = ap (λ (d : Leaves K V). position_at d.rows k) e ∙ sym told ∙ is
-
 module _ {K V : Type 0} (s : Store (Leaf K V)) {rows : List (Numbered (List ℕ))} {ps : List (Numbered (K × V))} (f : Files (slot_at s) rows (used_count s) ps) where
   -- filed pairs are those that a contract sees
   pub pairs_are : pairs_in s rows ≡ ps

@@ -8,7 +8,7 @@ use Rattle.art_rows.specs.Filing.{Files}
 use Rattle.art_rows.specs.declared.following.Following.{Following}
 use Rattle.art_rows.specs.declared.leaves.Leaf.{Leaf}
 use Rattle.art_rows.specs.declared.row.Position.{Position}
-use Rattle.art_rows.proofs.FilingLemmas.{number_there, same_ids, stands_there, after_there}
+use Rattle.art_rows.proofs.FilingLemmas.{number_there, same_ids}
 use Rattle.art_rows.proofs.RowsLemmas.{nth-append_left, nth-append_right, nth-within, number_after-nth, number_before-nth, place_in-nth, standing, standing-numbers, standing-end}
 
 -- what stands after a place
@@ -24,13 +24,9 @@ nth-take [] (suc k) j n e = absurd cc
 nth-take (m ∷ ns) (suc k) zero n e = e
 nth-take (m ∷ ns) (suc k) (suc j) n e = nth-take ns k j n e
 
--- the first of a run are one
-pub run_cut : {X : Type 0} (ps : List (Numbered X)) (i : ℕ) (cut run : List ℕ) → cut ≡ take (length cut) run → RunsAfter ps i run → RunsAfter ps i cut
-run_cut ps i cut run is r j n e = r j n (nth-take run (length cut) j n (ap (λ l. nth l j) (sym is) ∙ e))
-
 module _ {X : Type 0} (ps : List (Numbered X)) (distinct : AreDistinct ps) (i n : ℕ) (has : Has ps i) (rest : List ℕ) where
   -- the first of a run is the next number, and the others are a run after that
-  pub after_step : RunsAfter ps i (n ∷ rest) → (number_after ps i ≡ Some n) × RunsAfter ps n rest
+  after_step : RunsAfter ps i (n ∷ rest) → (number_after ps i ≡ Some n) × RunsAfter ps n rest
   after_step r =
       let ns : List ℕ = map (λ p. p.0) ps in
       let k : ℕ = place_in ns i in
@@ -141,9 +137,3 @@ module _ {K V : Type 0} {leaves : ℕ → Option (Leaf K V)} {rows : List (Numbe
         next_there f k (start_of r) at ids is n there i has (omega arith),
         following_there f k (start_of r) at ids is n there b (sym (ap (drop 1) cut)) after,
       )
-
-  -- a number beside another in a row is the next one, and what stands there after it is a run after it
-  pub beside : (i n : ℕ) → Has ps i → (p : Position) (ids : List ℕ) → leaf_in rows p.row ≡ Some ids → (nth ids p.place ≡ Some i) × (nth ids (p.place + 1) ≡ Some n) → (number_after ps i ≡ Some n) × RunsAfter ps n (drop (p.place + 1 + 1) ids)
-  beside i n has p ids is e =
-      let q : Position = record { row = p.row; place = p.place + 1 } in
-      (after_there f i n has p ids is e.0 e.1, after_in_row f _ q (stands_there f n q ids is e.1) ids is n e.1)

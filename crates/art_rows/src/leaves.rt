@@ -1,7 +1,7 @@
 //! The leaf records, in rows in the order of their keys.
-ghost use Rattle.std.specs.Prelude.{◌≡◌, ◌≢◌, ℕ, ◌+◌, ◌-◌, ◌*◌, ◌<◌, ◌≤◌, ◌++◌, [], length, map, option_map, min, take, drop, Option, Some, None, IsSome, IfSome, OnOk, IfOk, OnErr};
+ghost use Rattle.std.specs.Prelude.{◌≡◌, ◌≢◌, ℕ, ◌+◌, ◌-◌, ◌*◌, ◌<◌, ◌≤◌, ◌++◌, [], length, map, option_map, take, drop, Option, Some, None, IsSome, IfSome, OnOk, IfOk, OnErr};
 ghost use Rattle.art_rows.specs.Numbers.{leaf_in, Has, AreDistinct, first_number, last_number, number_after, number_before, without_number, with_pair};
-ghost use Rattle.art_rows.specs.Rows.{position_at, nth, RunsAfter, RunsBefore, StandsAfter};
+ghost use Rattle.art_rows.specs.Rows.{position_at, nth, RunsBefore, StandsAfter};
 ghost use Rattle.art_rows.specs.declared.row.Position.{Position};
 ghost use Rattle.art_rows.specs.declared.row.TheConstants.{ROW};
 ghost use Rattle.art_rows.specs.Leaves.{index_of, room, end_room, TakesFirst, TakesLast, AreCopies};
@@ -12,10 +12,9 @@ mod placing;
 
 use crate::chain::Chain;
 use crate::following::Following;
-use crate::owned_run::OwnedRun;
 use crate::row::{Position, ROW, Row};
 use crate::run::Run;
-use art_slots::{LeafId, Table, Visits};
+use art_slots::{CellId, Table, Visits};
 use std::alloc::{AllocError, Global};
 use std::marker::Model;
 use std::mem;
@@ -105,7 +104,7 @@ impl<K, V> Leaves<K, V> {
     }
 
     // The place of a leaf. The last of its row is looked at first: where pairs come in ascending order, each comes after that one, and no row is searched.
-    pub(crate) fn position_of(&self, id: LeafId) -> Position
+    pub(crate) fn position_of(&self, id: CellId) -> Position
         requires { Has self.now.pairs id }
         ensures { position_at self.now.rows (index_of self.now.pairs id) ≡ Some result }
     {
@@ -122,7 +121,7 @@ impl<K, V> Leaves<K, V> {
 
     // The place of a leaf, which may stand where it was seen. It stands apart, so that a step of a cursor is short. Its answer goes in two registers: one that goes by memory, as a longer one does, would be cleared there on each step.
     #[inline(never)]
-    fn position_near(&self, id: LeafId, seen: Position) -> Position
+    fn position_near(&self, id: CellId, seen: Position) -> Position
         requires { Has self.now.pairs id }
         ensures { position_at self.now.rows (index_of self.now.pairs id) ≡ Some result }
     {
@@ -133,7 +132,7 @@ impl<K, V> Leaves<K, V> {
     }
 
     // The leaf after this one, where this one stands as it was seen, and is not the last of its row.
-    fn after_in_row(&self, id: LeafId, seen: Position) -> Option<LeafId>
+    fn after_in_row(&self, id: CellId, seen: Position) -> Option<CellId>
         requires { Has self.now.pairs id }
         ensures after { IfSome result (λ n. number_after self.now.pairs id ≡ Some n) }
         ensures within { IfSome result (λ _. seen.place < ROW) }
@@ -145,7 +144,7 @@ impl<K, V> Leaves<K, V> {
     }
 
     // The leaf before this one, where this one stands as it was seen, and is not the first of its row.
-    fn before_in_row(&self, id: LeafId, seen: Position) -> Option<LeafId>
+    fn before_in_row(&self, id: CellId, seen: Position) -> Option<CellId>
         requires { Has self.now.pairs id }
         ensures before { IfSome result (λ n. number_before self.now.pairs id ≡ Some n) }
         ensures within { IfSome result (λ _. 0 < seen.place) }
@@ -156,7 +155,7 @@ impl<K, V> Leaves<K, V> {
     }
 
     // The number at a position.
-    pub(crate) fn number(&self, position: Position) -> LeafId
+    pub(crate) fn number(&self, position: Position) -> CellId
         requires { (k : ℕ) × (position_at self.now.rows k ≡ Some position) }
         ensures { (k : ℕ) → position_at self.now.rows k ≡ Some position → nth (map (λ p. p.0) self.now.pairs) k ≡ Some result }
     {
@@ -230,7 +229,7 @@ impl<K, V> Leaves<K, V> {
     }
 
     /// The pair of a leaf. It reads one record.
-    pub fn read(&self, id: LeafId, visits: &mut Visits) -> (&K, &V)
+    pub fn read(&self, id: CellId, visits: &mut Visits) -> (&K, &V)
         requires { Has self.now.pairs id }
         ensures value { leaf_in self.now.pairs id ≡ Some (result.0.now, result.1.now) }
         ensures counted { visits.new.count ≡ visits.old.count + 1 }
@@ -241,7 +240,7 @@ impl<K, V> Leaves<K, V> {
     }
 
     /// The first leaf.
-    pub fn first(&self) -> Option<LeafId>
+    pub fn first(&self) -> Option<CellId>
         ensures { result ≡ first_number self.now.pairs }
     {
         let _ = &self.rows;
@@ -252,7 +251,7 @@ impl<K, V> Leaves<K, V> {
     }
 
     /// The last leaf.
-    pub fn last(&self) -> Option<LeafId>
+    pub fn last(&self) -> Option<CellId>
         ensures { result ≡ last_number self.now.pairs }
     {
         let _ = &self.rows;
@@ -263,7 +262,7 @@ impl<K, V> Leaves<K, V> {
     }
 
     /// The leaf after this one.
-    pub fn next_of(&self, id: LeafId) -> Option<LeafId>
+    pub fn next_of(&self, id: CellId) -> Option<CellId>
         requires { Has self.now.pairs id }
         ensures { result ≡ number_after self.now.pairs id }
     {
@@ -276,7 +275,7 @@ impl<K, V> Leaves<K, V> {
 
     /// The leaf after this one. `seen` is where this one may stand, and then where that one does: where this one stands there, no row is searched, and no leaf is read.
     #[inline(always)]
-    pub fn next_from(&self, id: LeafId, seen: &mut Position) -> Option<LeafId>
+    pub fn next_from(&self, id: CellId, seen: &mut Position) -> Option<CellId>
         requires { Has self.now.pairs id }
         ensures { result ≡ number_after self.now.pairs id }
     {
@@ -291,7 +290,7 @@ impl<K, V> Leaves<K, V> {
 
     // The same, whatever was seen.
     #[inline(always)]
-    fn next_by_rows(&self, id: LeafId, seen: Position) -> (Option<LeafId>, Position)
+    fn next_by_rows(&self, id: CellId, seen: Position) -> (Option<CellId>, Position)
         requires { Has self.now.pairs id }
         ensures { result.0 ≡ number_after self.now.pairs id }
     {
@@ -304,7 +303,7 @@ impl<K, V> Leaves<K, V> {
 
     /// The leaf before this one. `seen` is where this one may stand, and then where that one does: where this one stands there, no row is searched, and no leaf is read.
     #[inline(always)]
-    pub fn prev_from(&self, id: LeafId, seen: &mut Position) -> Option<LeafId>
+    pub fn prev_from(&self, id: CellId, seen: &mut Position) -> Option<CellId>
         requires { Has self.now.pairs id }
         ensures { result ≡ number_before self.now.pairs id }
     {
@@ -319,7 +318,7 @@ impl<K, V> Leaves<K, V> {
 
     // The same, whatever was seen.
     #[inline(always)]
-    fn prev_by_rows(&self, id: LeafId, seen: Position) -> (Option<LeafId>, Position)
+    fn prev_by_rows(&self, id: CellId, seen: Position) -> (Option<CellId>, Position)
         requires { Has self.now.pairs id }
         ensures { result.0 ≡ number_before self.now.pairs id }
     {
@@ -331,7 +330,7 @@ impl<K, V> Leaves<K, V> {
     }
 
     /// What follows a leaf.
-    pub fn following(&self, id: LeafId) -> Following<'_>
+    pub fn following(&self, id: CellId) -> Following<'_>
         requires { Has self.now.pairs id }
         ensures { StandsAfter self.now.pairs self.now.rows id result }
     {
@@ -343,7 +342,7 @@ impl<K, V> Leaves<K, V> {
 
     /// The leaf after this one; `following` is what follows this one, and then what follows that. Only at the end of a row is the next one read.
     #[inline(always)]
-    pub fn next_in<'a>(&'a self, id: LeafId, following: &mut Following<'a>) -> Option<LeafId>
+    pub fn next_in<'a>(&'a self, id: CellId, following: &mut Following<'a>) -> Option<CellId>
         requires has { Has self.now.pairs id }
         requires following { StandsAfter self.now.pairs self.now.rows id following.old }
         ensures next { result ≡ number_after self.now.pairs id }
@@ -383,54 +382,9 @@ impl<K, V> Leaves<K, V> {
         }
     }
 
-    /// The leaf after this one; `run` is a run of numbers after this one in its row, and then such a run after that one: where it is not empty, no row is read. It borrows no row, so between two steps values may be written. `seen` is where this leaf may stand where `run` is empty, and then where the last of `run` does.
-    #[inline(always)]
-    pub fn next_ahead(&self, id: LeafId, run: &mut OwnedRun, seen: &mut Position) -> Option<LeafId>
-        requires has { Has self.now.pairs id }
-        requires runs { RunsAfter self.now.pairs id run.old }
-        ensures next { result ≡ number_after self.now.pairs id }
-        ensures runs { IfSome result (λ n. RunsAfter self.now.pairs n run.new) }
-    {
-        self.law();
-        if let Some(next) = run.split_off_first() {
-            return Some(next);
-        }
-        if let Some((next, ahead)) = self.ahead_in_row(id, *seen) {
-            seen.place += 1 + ahead.len();
-            *run = ahead;
-            return Some(next);
-        }
-        let rows = &self.rows;
-        let Some(position) = self.forward(self.position_of(id)) else {
-            return None;
-        };
-        let row = rows.read(position.row);
-        *run = row.owned_after(position.place);
-        *seen = Position {
-            row: position.row,
-            place: position.place + run.len(),
-        };
-        Some(row.run().at(position.place))
-    }
-
-    // The leaf after this one, and numbers after that, where this one stands as it was seen, and is not the last of its row.
-    #[inline(always)]
-    fn ahead_in_row(&self, id: LeafId, seen: Position) -> Option<(LeafId, OwnedRun)>
-        requires { Has self.now.pairs id }
-        ensures next { IfSome result (λ r. number_after self.now.pairs id ≡ Some r.0) }
-        ensures runs { IfSome result (λ r. RunsAfter self.now.pairs r.0 r.1) }
-        ensures last { IfSome result (λ r. seen.place + 1 + length r.1 < ROW) }
-        ensures count { IfSome (leaf_in self.now.rows seen.row) (λ ids. seen.place + 9 < ROW → IfSome result (λ r. length r.1 ≡ min 8 (length ids - (seen.place + 2)))) }
-        ensures there { IfSome (leaf_in self.now.rows seen.row) (λ ids. nth ids seen.place ≡ Some id → seen.place + 1 < length ids → IsSome result) }
-    {
-        let row = self.rows.get(seen.row)?;
-        let next = row.run().after(seen.place, id)?;
-        Some((next, row.owned_after(seen.place + 1)))
-    }
-
     /// The leaf before this one; `run` is a run of numbers before this one in its row, and then such a run before that one: where it is not empty, no row is read.
     #[inline(always)]
-    pub fn prev_in<'a>(&'a self, id: LeafId, run: &mut Run<'a>) -> Option<LeafId>
+    pub fn prev_in<'a>(&'a self, id: CellId, run: &mut Run<'a>) -> Option<CellId>
         requires has { Has self.now.pairs id }
         requires runs { RunsBefore self.now.pairs id run.old }
         ensures prev { result ≡ number_before self.now.pairs id }
@@ -448,7 +402,7 @@ impl<K, V> Leaves<K, V> {
     // The leaf before this one, and the numbers before that one in its row.
     #[cold]
     #[inline(never)]
-    fn prev_run(&self, id: LeafId) -> (Option<LeafId>, Run<'_>)
+    fn prev_run(&self, id: CellId) -> (Option<CellId>, Run<'_>)
         requires { Has self.now.pairs id }
         ensures prev { result.0 ≡ number_before self.now.pairs id }
         ensures runs { IfSome result.0 (λ n. RunsBefore self.now.pairs n result.1) }
@@ -462,7 +416,7 @@ impl<K, V> Leaves<K, V> {
     }
 
     /// The leaf before this one.
-    pub fn prev_of(&self, id: LeafId) -> Option<LeafId>
+    pub fn prev_of(&self, id: CellId) -> Option<CellId>
         requires { Has self.now.pairs id }
         ensures { result ≡ number_before self.now.pairs id }
     {
@@ -476,7 +430,7 @@ impl<K, V> Leaves<K, V> {
 
 impl<K, V> Leaves<K, V> {
     /// The key of a leaf, and its value to be written.
-    pub fn get_mut(&mut self, id: LeafId) -> (&K, &mut V)
+    pub fn get_mut(&mut self, id: CellId) -> (&K, &mut V)
         requires { Has self.old.pairs id }
         ensures* writes_back { sem 𝓛 (lends_leaf K.row V.row self.entry id result.1) }
         ensures value { leaf_in self.old.pairs id ≡ Some (result.0.now, result.1.now) }
@@ -485,7 +439,7 @@ impl<K, V> Leaves<K, V> {
     }
 
     /// The value of a leaf, to be written.
-    pub fn value_mut(&mut self, id: LeafId) -> &mut V
+    pub fn value_mut(&mut self, id: CellId) -> &mut V
         requires { Has self.old.pairs id }
         ensures* writes_back { sem 𝓛 (lends_leaf K.row V.row self.entry id result) }
         ensures value { option_map (λ p. p.1) (leaf_in self.old.pairs id) ≡ Some result.now }
@@ -526,7 +480,7 @@ impl<K: Clone, V: Clone> Leaves<K, V> {
 
 impl<K: Drop, V: Drop> Leaves<K, V> {
     /// Takes a leaf out, and gives its pair.
-    pub fn remove(&mut self, id: LeafId) -> (K, V)
+    pub fn remove(&mut self, id: CellId) -> (K, V)
         requires { Has self.old.pairs id }
         ensures value { leaf_in self.old.pairs id ≡ Some result }
         ensures rest { self.new.pairs ≡ without_number self.old.pairs id }
@@ -537,7 +491,7 @@ impl<K: Drop, V: Drop> Leaves<K, V> {
     }
 
     // The same, at the leaf's position.
-    fn remove_at(&mut self, id: LeafId, position: Position) -> (K, V)
+    fn remove_at(&mut self, id: CellId, position: Position) -> (K, V)
         requires has { Has self.old.pairs id }
         requires at { position_at self.old.rows (index_of self.old.pairs id) ≡ Some position }
         ensures value { leaf_in self.old.pairs id ≡ Some result }
@@ -576,7 +530,7 @@ impl<K: Drop, V: Drop> Leaves<K, V> {
     }
 
     /// Puts another pair under the number of a leaf, and gives the old one.
-    pub fn exchange(&mut self, id: LeafId, key: K, value: V) -> (K, V)
+    pub fn exchange(&mut self, id: CellId, key: K, value: V) -> (K, V)
         requires { Has self.old.pairs id }
         ensures value { leaf_in self.old.pairs id ≡ Some result }
         ensures pairs { self.new.pairs ≡ with_pair self.old.pairs id (key, value) }

@@ -6,13 +6,11 @@
 mod chain;
 mod following;
 mod leaves;
-mod owned_run;
 mod row;
 mod run;
 
-pub use art_slots::{LeafId, Visits};
+pub use art_slots::{CellId, Visits};
 pub use following::Following;
 pub use leaves::Leaves;
-pub use owned_run::OwnedRun;
 pub use row::Position;
 pub use run::Run;

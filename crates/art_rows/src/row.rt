@@ -1,11 +1,10 @@
 //! A row of numbers.
-ghost use Rattle.std.specs.Prelude.{◌≡◌, ℕ, ◌+◌, ◌-◌, ◌*◌, ◌^◌, ◌<◌, ◌≤◌, min, [], ◌∷◌, ◌++◌, length, take, drop, Some, true, false, slice_index_or};
+ghost use Rattle.std.specs.Prelude.{◌≡◌, ℕ, ◌+◌, ◌-◌, ◌*◌, ◌^◌, ◌<◌, ◌≤◌, [], ◌∷◌, ◌++◌, length, take, drop, Some, true, false, slice_index_or};
 ghost use Rattle.art_rows.specs.Rows.{among, nowhere};
 ghost use Rattle.art_rows.specs.Blocks.{times, row_of};
 
-use crate::owned_run::OwnedRun;
 use crate::run::Run;
-use art_slots::LeafId;
+use art_slots::CellId;
 use std::marker::Model;
 
 /// How many numbers a row has room for.
@@ -60,7 +59,7 @@ impl Model for Row {
 
 impl Row {
     /// The numbers of a block, of which one is in use: the last where they are taken downwards, or else the first.
-    pub(crate) fn new(block: usize, down: bool) -> (Row, LeafId)
+    pub(crate) fn new(block: usize, down: bool) -> (Row, CellId)
         requires { ROW * block + ROW ≤ 2 ^ 61 }
         ensures row { result.0 ≡ result.1 ∷ [] }
         ensures own { row_of result.1 ≡ block }
@@ -69,7 +68,7 @@ impl Row {
         if down {
             cells.reverse();
         }
-        let number = LeafId::new(ROW * block + cells[0] as usize);
+        let number = CellId::new(ROW * block + cells[0] as usize);
         let row = Row {
             block,
             count: 1,
@@ -104,29 +103,15 @@ impl Row {
         Run::new(ROW * self.block, &self.cells[..self.count])
     }
 
-    /// The next numbers after a place, copied: eight where there are as many, and none where less than eight cells of the row come after the place.
-    pub(crate) fn owned_after(&self, place: usize) -> OwnedRun
-        requires { place < length self.now }
-        ensures run { result ≡ take (length result) (drop (place + 1) self.now) }
-        ensures last { place + length result < ROW }
-        ensures count { place + 8 < ROW → length result ≡ min 8 (length self.now - (place + 1)) }
-    {
-        let rest = self.len() - place - 1;
-        match self.cells[place + 1..].first_chunk::<8>() {
-            Some(cells) => OwnedRun::new(ROW * self.block, *cells, rest.min(8)),
-            None => OwnedRun::empty(),
-        }
-    }
-
     /// Puts another number of the block at a place, and answers it.
-    pub(crate) fn insert(&mut self, place: usize) -> LeafId
+    pub(crate) fn insert(&mut self, place: usize) -> CellId
         requires room { length self.old < ROW }
         requires place { place ≤ length self.old }
         ensures row { self.new ≡ take place self.old ++ result ∷ drop place self.old }
         ensures fresh { among self.old result ≡ false }
         ensures block { (n : ℕ) → among self.old n ≡ true → row_of result ≡ row_of n }
     {
-        let number = LeafId::new(ROW * self.block + self.cells[self.count] as usize);
+        let number = CellId::new(ROW * self.block + self.cells[self.count] as usize);
         insert_in(&mut self.cells, self.count, place);
         self.count += 1;
         number

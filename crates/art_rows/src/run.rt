@@ -6,7 +6,7 @@ ghost use Rattle.art_rows.specs.Blocks.{numbers_at, AreWithin};
 ghost use Rattle.art_rows.specs.declared.row.TheConstants.{ROW};
 
 use crate::row::ROW;
-use art_slots::LeafId;
+use art_slots::CellId;
 use memchr::memchr;
 use std::marker::Model;
 
@@ -61,15 +61,15 @@ impl<'a> Run<'a> {
     }
 
     /// The number at a place.
-    pub(crate) fn at(&self, place: usize) -> LeafId
+    pub(crate) fn at(&self, place: usize) -> CellId
         requires { place < length self.now }
         ensures { nth self.now place ≡ Some result }
     {
-        LeafId::new(self.first + self.cells[place] as usize)
+        CellId::new(self.first + self.cells[place] as usize)
     }
 
     /// Whether a number stands at a place.
-    pub(crate) fn has_at(&self, place: usize, number: LeafId) -> bool
+    pub(crate) fn has_at(&self, place: usize, number: CellId) -> bool
         ensures here { result ≡ true → nth self.now place ≡ Some number }
         ensures there { nth self.now place ≡ Some number → result ≡ true }
     {
@@ -77,7 +77,7 @@ impl<'a> Run<'a> {
     }
 
     /// The number after another, where that stands at a place and is not the last.
-    pub(crate) fn after(&self, place: usize, number: LeafId) -> Option<LeafId>
+    pub(crate) fn after(&self, place: usize, number: CellId) -> Option<CellId>
         ensures some { IfSome result (λ n. (nth self.now place ≡ Some number) × (nth self.now (place + 1) ≡ Some n)) }
         ensures there { nth self.now place ≡ Some number → place + 1 < length self.now → IsSome result }
     {
@@ -89,7 +89,7 @@ impl<'a> Run<'a> {
     }
 
     /// The number before another, where that stands at a place and is not the first.
-    pub(crate) fn before(&self, place: usize, number: LeafId) -> Option<LeafId>
+    pub(crate) fn before(&self, place: usize, number: CellId) -> Option<CellId>
         ensures some { IfSome result (λ n. (0 < place) × (nth self.now place ≡ Some number) × (nth self.now (place - 1) ≡ Some n)) }
         ensures there { nth self.now place ≡ Some number → 0 < place → IsSome result }
     {
@@ -124,26 +124,26 @@ impl<'a> Run<'a> {
 
     /// Takes the first number off.
     #[inline(always)]
-    pub(crate) fn split_off_first(&mut self) -> Option<LeafId>
+    pub(crate) fn split_off_first(&mut self) -> Option<CellId>
         ensures { MatchOption result (self.old ≡ []) (λ n. self.old ≡ n ∷ self.new) }
     {
         let (cell, rest) = self.cells.split_first()?;
         self.cells = rest;
-        Some(LeafId::new(self.first + *cell as usize))
+        Some(CellId::new(self.first + *cell as usize))
     }
 
     /// Takes the last number off.
     #[inline(always)]
-    pub(crate) fn split_off_last(&mut self) -> Option<LeafId>
+    pub(crate) fn split_off_last(&mut self) -> Option<CellId>
         ensures { MatchOption result (self.old ≡ []) (λ n. self.old ≡ self.new ++ n ∷ []) }
     {
         let (cell, rest) = self.cells.split_last()?;
         self.cells = rest;
-        Some(LeafId::new(self.first + *cell as usize))
+        Some(CellId::new(self.first + *cell as usize))
     }
 
     /// The place of a number.
-    pub(crate) fn place_of(&self, number: LeafId) -> usize
+    pub(crate) fn place_of(&self, number: CellId) -> usize
         ensures { result ≡ place_in self.now number }
     {
         let number = number.number();

@@ -3,13 +3,13 @@
 //! A contract sees a [`Store`] as the record at each number, and how many spare slots there are.
 #![tactic(auto)]
 
-mod leaf_id;
+mod cell_id;
 mod slots;
 mod store;
 mod table;
 mod visits;
 
-pub use leaf_id::LeafId;
+pub use cell_id::CellId;
 pub use slots::Slots;
 pub use store::Store;
 pub use table::Table;

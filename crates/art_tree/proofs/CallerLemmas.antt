@@ -1,50 +1,24 @@
--- What a caller cites of the numbered pairs of a tree, of their ends and bounds, and of places that are free.
-use Rattle.std.proofs.Common.{◌≡◌, ◌<◌, List, [], ◌∷◌, ◌++◌, length, take, true, false, ap, sym, subst, ◌∙◌, arith, inl, inr}
-use Rattle.std.proofs.lemmas.Bool.{false_from_ne_true, cases_lt}
+-- What a caller cites of pairs under ids, of their ends and bounds, and of places that are free.
+use Rattle.std.proofs.Common.{◌≡◌, ℕ, List, false}
 use Rattle.blart_keys.specs.Bytes.{related}
 use Rattle.blart_keys.specs.Content.{IsContent}
 use Rattle.blart_keys.proofs.RankLemmas.{Member}
-use Rattle.blart_keys.proofs.ContentLemmas.{same_item}
-use Rattle.art_tree.specs.Begins.{Bytes, Begins, next_byte}
-use Rattle.art_tree.specs.Leaves.{Numbered, AreDistinct, bytes, keys_in}
+use Rattle.art_cells.proofs.CallerLemmas.{leaving_alone}
+use Rattle.art_tree.specs.Begins.{Bytes}
+use Rattle.art_tree.specs.Leaves.{Numbered, AreDistinct, bytes}
 use Rattle.art_tree.specs.Points.{IsFree}
 use Rattle.art_tree.specs.declared.tree.point.Place.{Place}
-use Rattle.art_tree.proofs.BeginsLemmas.{Begins-linear, Begins-more, Begins-past, Begins-trans, related_cases, related-from_front}
-use Rattle.art_tree.proofs.Pairs.KeyChanges.{departs_at}
--- which numbers there are, and what they name
-pub use Rattle.art_rows.proofs.CallerLemmas.{has_not_lacks, has_other, Has-tail, Has-first, Has-last, no_first, no_last, Lacks-parts, Lacks-from_leaf_in, distinct_parts, AreDistinct-parts, last_number-append}
-pub use Rattle.art_tree.proofs.Pairs.Numbers.{leaf_in-member, Member-from_leaf_in}
--- the list split at a number
-pub use Rattle.art_rows.proofs.CallerLemmas.{split, leaf_in-split, number_after-split, number_before-split, without_number-split, with_pair-split}
-pub use Rattle.art_tree.proofs.Pairs.Numbers.{with_value-split}
+-- which ids there are, and what they name
+pub use Rattle.art_cells.proofs.CallerLemmas.{Has-tail, Has-first, Has-last, no_first, no_last, Lacks-parts, Lacks-from_leaf_in, distinct_parts, AreDistinct-parts, last_number-append, leaf_in-member, Member-from_leaf_in}
+-- the list split at an id
+pub use Rattle.art_cells.proofs.CallerLemmas.{leaf_in-split, number_after-split, without_number-split, with_pair-split, with_value-split}
 -- a pair less, or with another key or value
-pub use Rattle.art_rows.proofs.CallerLemmas.{first_off, last_off, length-without_number, AreDistinct-without_number, same_first, same_last, leaf_in-with_now, others-with_pair}
-pub use Rattle.art_tree.proofs.Pairs.Numbers.{AreDistinct-with_value, numbers-with_value}
+pub use Rattle.art_cells.proofs.CallerLemmas.{length-without_number, AreDistinct-without_number, same_first, same_last, leaf_in-with_now, others-with_pair, AreDistinct-with_value, numbers-with_value}
 -- the pairs that pass a test, where one goes, and lists of which both ends are known
-pub use Rattle.art_tree.proofs.Pairs.Filtering.{AreDistinct-filter, filter-without, dropped_without, filter_every, HasTwoPairs, two_ends, only_one}
--- the keys of the pairs
-pub use Rattle.art_tree.proofs.Pairs.Keys.{key_of_member, member_of_key}
+pub use Rattle.art_cells.proofs.CallerLemmas.{AreDistinct-filter, filter-without, dropped_without, filter_every, two_ends, only_one}
 -- the ends of what is within a bound, or below some bytes
-pub use Rattle.art_tree.proofs.Pairs.Bounds.{are_ends, no_pairs_between, number_within_has}
+pub use Rattle.art_cells.proofs.CallerLemmas.{are_ends, no_pairs_between, number_within_has}
 
-module _ {K V : Type 0} (kb : K → Bytes) (ps : List (Numbered K V)) (content : IsContent (bytes kb) ps) (distinct : AreDistinct ps) (q : Bytes) where
-  -- no key is related to one whose place is free
-  pub free_alone : (place : Place) → IsFree kb ps place q → (y : Numbered K V) → Member y ps → related (bytes kb y) q ≡ false
-  free_alone place free y m = false_from_ne_true (related (bytes kb y) q) (λ rel.
-      let d = departs_at (keys_in kb ps) place.nearest place.depth q free.leaves in
-      let k = bytes kb y in
-      let t = take place.depth q in
-      let e = key_of_member kb ps y distinct m in
-      elim (related_cases k q rel) [
-        | inl b ↦ elim (cases_lt (length t) (length k)) [
-          | inl far ↦ d.alone y.0 k e (Begins-past t k q d.front b far)
-          | inr near ↦
-              let km : Begins k d.nearest_key = Begins-trans k t d.nearest_key (Begins-linear k t q b d.front near) d.nearest_front in
-              let r = member_of_key kb ps d.nearest d.nearest_key d.nearest_is in
-              let same = same_item (bytes kb) ps content y r.0 m r.1 (subst (λ l. related k l ≡ true) (sym r.3) (related-from_front k d.nearest_key km)) in
-              let l : length k ≡ length d.nearest_key = ap (λ x. length (bytes kb x)) same ∙ ap (λ (l : Bytes). length l) r.3 in
-              let longer : length t < length d.nearest_key = d.nearest_longer in
-              omega arith
-        ]
-        | inr b ↦ d.alone y.0 k e (Begins-trans (t ++ next_byte t q ∷ []) q k (Begins-more t q d.front d.longer) b)
-      ])
+-- no key is related to one whose place is free
+pub free_alone : {K V : Type 0} (kb : K → Bytes) (ps : List (Numbered K V)) → IsContent (bytes kb) ps → AreDistinct ps → (q : Bytes) (place : Place) → IsFree kb ps place q → (y : Numbered K V) → Member y ps → related (bytes kb y) q ≡ false
+free_alone kb ps content distinct q place free y m = leaving_alone kb ps content distinct q place.nearest place.seen.depth free.leaves y m

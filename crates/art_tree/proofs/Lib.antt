@@ -1,7 +1,11 @@
 pub mod CallerLemmas
 pub mod PairEnds
-mod BeginsLemmas
-mod Pairs
-mod Invariant
-mod Ways
-mod Calls
+pub mod Spans
+pub mod Steps
+mod UnderIds
+mod CellSpans
+mod Cloned
+mod Led
+mod Leading
+mod Naming
+mod Pointing

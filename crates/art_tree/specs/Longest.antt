@@ -1,7 +1,2 @@
 -- How long the longest key is.
-use Rattle.std.specs.Prelude.{ℕ, List, [], ◌∷◌, length, max}
-
--- the length of the longest item, or 0
-abbrev pub longest : {X : Type 0} → (X → List ℕ) → List X → ℕ
-longest bytes [] = 0
-longest bytes (x ∷ S) = max (length (bytes x)) (longest bytes S)
+pub use Rattle.art_cells.specs.Longest.{longest}

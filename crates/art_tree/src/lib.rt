@@ -1,13 +1,21 @@
-//! An adaptive radix tree over byte keys. Its inner nodes lie in slabs and its leaves in the cells of a table, each under a number, and the numbers of the leaves stand in rows in byte order.
+//! An adaptive radix tree over byte keys, whose leaves have ids that stay while the leaves do.
 //!
-//! A contract sees a [`Tree`] as the list of its pairs in byte order, each under the number of its leaf, and the room for pairs to come.
+//! A contract sees a [`Tree`] as the list of its pairs in byte order, each under the id of its
+//! leaf, and the room for pairs to come.
 #![tactic(auto)]
 
-mod lists;
+mod ids;
+mod leaf_id;
+mod named;
+mod pair_list;
 mod tree;
+mod walk;
 
-pub use art_rows::{Following, Leaves, OwnedRun, Position, Run};
-pub use art_slots::{LeafId, Visits};
-pub use tree::build::Frame;
+pub use art_cells::Position;
+pub use art_slots::Visits;
+pub use leaf_id::LeafId;
+pub use pair_list::Pairs;
+pub use tree::apart::Frame;
 pub use tree::point::{Place, Point};
 pub use tree::{DEFAULT_PREFIX_LEN, Tree};
+pub use walk::Walk;

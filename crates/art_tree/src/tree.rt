@@ -1,250 +1,205 @@
 //! The tree.
-ghost use Rattle.std.specs.Prelude.{◌≡◌, ◌==◌, ◌+◌, ◌-◌, ◌<◌, ◌≤◌, [], length, map, Some, OnOk, OnErr};
+ghost use Rattle.std.specs.Prelude.{◌≡◌, ◌==◌, ◌+◌, ◌-◌, ◌≤◌, [], length, Some};
 ghost use Rattle.std.specs.FinSet as set;
-ghost use Rattle.blart_keys.specs.Content.{IsContent, IsPut};
-ghost use Rattle.blart_keys.specs.Steps.{bytes as pair_bytes};
+ghost use Rattle.blart_keys.specs.Content.{IsContent};
 ghost use Rattle.blart_keys.specs.Fronts.{fronts, parts};
 ghost use Rattle.art_tree.specs.Leaves.{leaf_in, Has, AreDistinct, first_number, last_number, number_after, number_before, bytes};
-ghost use Rattle.art_tree.specs.Content.{room, Fits, IsOpen};
-ghost use Rattle.art_tree.specs.Invariant.Sound.{IsSound};
-ghost use Rattle.art_tree.specs.Points.{IsGood};
+ghost use Rattle.art_tree.specs.Content.{room};
 ghost use Rattle.art_tree.specs.Longest.{longest};
 
-mod apart;
-pub mod build;
+pub mod apart;
 mod change;
 mod clone;
-mod descent;
-mod free_subtree;
-mod parting;
 mod place;
 pub mod point;
 mod prefix;
-mod remove;
 mod search;
-mod seek;
-pub(crate) mod stop;
 
-use crate::lists::begins;
-use crate::tree::descent::children_of;
-use crate::tree::place::place_at;
-use crate::tree::point::{Point, point_below};
-use art_kinds::{Child, Nodes};
-use art_rows::Leaves;
-use art_slots::{LeafId, Visits};
+use crate::ids::{cell_of, id_of};
+use crate::leaf_id::LeafId;
+use crate::named::Named;
+use art_cells::{CellTree, Position};
+use art_slots::{CellId, Store, Visits};
 use blart_keys::AsBytes;
-use std::alloc::{AllocError, Global};
+use std::alloc::Global;
 use std::marker::Model;
 
-/// How many bytes of a compressed prefix an inner node keeps where nothing else is said.
+/// How many bytes of a compressed prefix an inner node keeps if nothing else is said.
 pub const DEFAULT_PREFIX_LEN: usize = 16;
 
-/// Pairs of a key and a value in the order of the keys' bytes, none of which begins another's.
+/// Pairs of a key and a value in the order of the keys' bytes, none of which is a prefix of
+/// another's. Each pair has a leaf, whose id stays while the leaf does.
 ///
-/// An inner node keeps the first `PREFIX_LEN` bytes of its compressed prefix; any length is good, 0 too.
+/// An inner node keeps the first `PREFIX_LEN` bytes of its compressed prefix; any length is good,
+/// 0 too.
 ///
-/// A call that is said to take no memory is never refused. A removal may ask for a smaller inner node, and keeps the larger one where that is refused.
+/// A call that is said not to allocate never fails to. A removal may try to get a smaller inner
+/// node, and keeps the larger one if that fails.
 #[derive(Drop)]
 pub struct Tree<K: AsBytes, V, const PREFIX_LEN: usize> {
-    pub(crate) leaves: Leaves<K, V>,
-    pub(crate) nodes: Nodes<PREFIX_LEN>,
-    pub(crate) root: Option<Child>,
+    // The tree over the cells that the leaves lie in. Each leaf has its id beside its value.
+    pub(crate) cells: CellTree<K, Named<V>, PREFIX_LEN>,
+    // The cell of each id.
+    pub(crate) ids: Store<CellId>,
 }
 
 impl<K: AsBytes, V, const PREFIX_LEN: usize> Model for Tree<K, V, PREFIX_LEN> {
+    ghost use Rattle.std.specs.Prelude.{min};
+    ghost use Rattle.art_slots.specs.Store.{slot_at};
     ghost use Rattle.art_tree.specs.Content.{Content, content_code};
+    ghost use Rattle.art_tree.specs.UnderIds.{under_ids, AreLed};
 
     ghost Value = { Content K V };
 
     ghost coded = { content_code K.code V.code };
 
-    ghost use Rattle.art_tree.specs.Invariant.Sound.{IsSound};
-    ghost use Rattle.art_kinds.specs.Nodes.{room};
-    ghost use Rattle.art_tree.specs.Leaves.{room as leaves_room};
+    ghost view = { λ t. record { pairs = under_ids t.cells.pairs; spares = record { leaves = min t.cells.spares.leaves t.ids.spare; nodes = t.cells.spares.nodes } } };
 
-    ghost view = { λ t. record { pairs = t.leaves.pairs; spares = record { leaves = leaves_room t.leaves; nodes = room t.nodes } } };
-
-    ghost invariant = { λ t. IsSound K.bytes PREFIX_LEN t.leaves t.nodes t.root };
+    ghost invariant = { λ t. AreLed (slot_at t.ids) t.cells.pairs };
 }
 
 impl<K: AsBytes, V, const PREFIX_LEN: usize> Tree<K, V, PREFIX_LEN> {
-    /// A tree with no pairs. Takes no memory.
+    /// Returns a tree with no pairs. Does not allocate.
     pub fn new(alloc: Global) -> Self
         ensures pairs { result.pairs ≡ [] }
         ensures room { room result ≡ 0 }
     {
         Tree {
-            leaves: Leaves::new(alloc),
-            nodes: Nodes::new(alloc),
-            root: None,
+            cells: CellTree::new(alloc),
+            ids: Store::new(alloc),
         }
     }
 
-    /// Answers nothing. Its contract says what holds of every tree: the pairs ascend by their keys' bytes, none of which begins another's, and no number comes twice.
+    /// Does nothing. Its contract says what holds of every tree: the pairs ascend by their keys'
+    /// bytes, none of which is a prefix of another's, and no id comes twice.
     pub fn law(&self)
         ensures content { IsContent (bytes K.bytes) self.now.pairs }
         ensures distinct { AreDistinct self.now.pairs }
     {
-        self.leaves.law()
+        self.cells.law()
     }
 
-    /// How many pairs there are.
+    /// Returns the number of pairs.
     pub fn len(&self) -> usize
         ensures { result ≡ length self.now.pairs }
     {
-        self.leaves.len()
+        self.cells.len()
     }
 
-    /// Whether there are no pairs.
+    /// Returns `true` if there are no pairs.
     pub fn is_empty(&self) -> bool
         ensures { result ≡ (length self.now.pairs == 0) }
     {
         self.len() == 0
     }
 
-    /// The leaves alone, in byte order.
-    pub fn leaves(&self) -> &Leaves<K, V>
-        ensures { result.now.pairs ≡ self.now.pairs }
-    {
-        &self.leaves
-    }
-
-    /// The first leaf.
+    /// Returns the first leaf.
     pub fn first(&self) -> Option<LeafId>
         ensures { result ≡ first_number self.now.pairs }
     {
-        self.leaves.first()
+        self.cells.law();
+        match self.cells.first() {
+            None => None,
+            Some(cell) => Some(id_of(&self.cells, cell, &mut Visits::new())),
+        }
     }
 
-    /// The last leaf.
+    /// Returns the last leaf.
     pub fn last(&self) -> Option<LeafId>
         ensures { result ≡ last_number self.now.pairs }
     {
-        self.leaves.last()
+        self.cells.law();
+        match self.cells.last() {
+            None => None,
+            Some(cell) => Some(id_of(&self.cells, cell, &mut Visits::new())),
+        }
     }
 
-    /// The leaf after a leaf.
+    /// Returns the leaf after a leaf.
     pub fn next_of(&self, id: LeafId) -> Option<LeafId>
         requires { Has self.now.pairs id }
         ensures { result ≡ number_after self.now.pairs id }
     {
-        self.leaves.next_of(id)
+        self.cells.law();
+        let cell = cell_of(&self.cells, &self.ids, id);
+        match self.cells.next_of(cell) {
+            None => None,
+            Some(next) => Some(id_of(&self.cells, next, &mut Visits::new())),
+        }
     }
 
-    /// The leaf before a leaf.
+    /// Returns the leaf before a leaf.
     pub fn prev_of(&self, id: LeafId) -> Option<LeafId>
         requires { Has self.now.pairs id }
         ensures { result ≡ number_before self.now.pairs id }
     {
-        self.leaves.prev_of(id)
+        self.cells.law();
+        let cell = cell_of(&self.cells, &self.ids, id);
+        match self.cells.prev_of(cell) {
+            None => None,
+            Some(prev) => Some(id_of(&self.cells, prev, &mut Visits::new())),
+        }
     }
 
-    /// The pair of a leaf. One visit.
+    /// Returns the leaf after a leaf. `seen` is a guess of the position of this leaf, and then of
+    /// that one: if the leaf is there, no row is searched.
+    #[inline(always)]
+    pub fn next_from(&self, id: LeafId, seen: &mut Position) -> Option<LeafId>
+        requires { Has self.now.pairs id }
+        ensures { result ≡ number_after self.now.pairs id }
+    {
+        self.cells.law();
+        let cell = cell_of(&self.cells, &self.ids, id);
+        match self.cells.next_from(cell, seen) {
+            None => None,
+            Some(next) => Some(id_of(&self.cells, next, &mut Visits::new())),
+        }
+    }
+
+    /// Returns the leaf before a leaf. `seen` is a guess of the position of this leaf, and then of
+    /// that one: if the leaf is there, no row is searched.
+    #[inline(always)]
+    pub fn prev_from(&self, id: LeafId, seen: &mut Position) -> Option<LeafId>
+        requires { Has self.now.pairs id }
+        ensures { result ≡ number_before self.now.pairs id }
+    {
+        self.cells.law();
+        let cell = cell_of(&self.cells, &self.ids, id);
+        match self.cells.prev_from(cell, seen) {
+            None => None,
+            Some(prev) => Some(id_of(&self.cells, prev, &mut Visits::new())),
+        }
+    }
+
+    /// Returns the pair of a leaf. One visit.
     pub fn leaf(&self, id: LeafId, visits: &mut Visits) -> (&K, &V)
         requires { Has self.now.pairs id }
         ensures value { leaf_in self.now.pairs id ≡ Some (result.0.now, result.1.now) }
         ensures counted { visits.new.count ≡ visits.old.count + 1 }
     {
-        self.leaves.read(id, visits)
+        self.cells.law();
+        let cell = cell_of(&self.cells, &self.ids, id);
+        let (key, named) = self.cells.leaf(cell, visits);
+        (key, &named.value)
     }
 
-    /// Where the bytes stand, or would go. The point is good for them while the pairs are unchanged.
-    pub fn point(&self, query: &[u8]) -> Point
-        ensures { IsGood K.bytes self.now.pairs result query.now }
-    {
-        match self.root {
-            None => Point::Empty,
-            Some(root) => point_below(&self.leaves, &self.nodes, &root, query),
-        }
-    }
-
-    /// How many inner nodes there are: one at each front where neighbouring keys part. Fewer than there are pairs where there are pairs, and none where there is one or none.
+    /// Returns the number of inner nodes: one at each prefix where neighbouring keys part. That is
+    /// less than the number of pairs, and 0 if there is one pair or none.
     pub fn inner_nodes(&self) -> usize
         ensures value { result ≡ set.len (fronts (bytes K.bytes) self.now.pairs) }
         ensures fewer { result ≤ length self.now.pairs - 1 }
     {
-        self.leaves.law();
-        self.nodes.live()
+        self.cells.inner_nodes()
     }
 
-    /// How many children the inner node at this front has, and 0 where none stands there. At most one visit more than the longest key has bytes.
+    /// Returns the number of children of the inner node at this front, or 0 if there is none. It
+    /// makes at most one visit more than the longest key has bytes.
     pub fn children_at(&self, front: &[u8], visits: &mut Visits) -> usize
         ensures value { result ≡ set.len (parts (bytes K.bytes) self.now.pairs front.now) }
         ensures counted { visits.new.count
             ≤ visits.old.count + longest (bytes K.bytes) self.now.pairs + 1 }
         ensures grows { visits.old.count ≤ visits.new.count }
     {
-        self.leaves.law();
-        match self.root {
-            None => 0,
-            Some(root) => children_below(&self.leaves, &self.nodes, &root, front, visits),
-        }
-    }
-}
-
-impl<K: AsBytes + Drop, V: Drop, const PREFIX_LEN: usize> Tree<K, V, PREFIX_LEN> {
-    /// Makes room, so that a pair may be placed at the point. Refused or not, the pairs stand, and the point stays good.
-    pub fn make_room(&mut self, point: &Point) -> Result<(), AllocError>
-        ensures pairs { self.new.pairs ≡ self.old.pairs }
-        ensures fits { OnOk result (Fits self.new point.now) }
-        ensures room { room self.old ≤ room self.new }
-        ensures refused { OnErr result (IsOpen point.now) }
-    {
-        match point {
-            Point::Exact(_) | Point::Related { .. } => Ok(()),
-            Point::Empty => self.leaves.reserve(1),
-            Point::Free(_) => {
-                self.leaves.reserve(1)?;
-                self.nodes.reserve(1)
-            }
-        }
-    }
-
-    /// Places a pair at a point that is good for its key and fits. Takes no memory. Another leaf may have another number then.
-    pub fn place(&mut self, point: Point, key: K, value: V) -> LeafId
-        requires good { IsGood K.bytes self.old.pairs point (K.bytes key) }
-        requires open { IsOpen point }
-        requires fits { Fits self.old point }
-        ensures put { IsPut (pair_bytes K.bytes) (map (λ p. p.1) self.old.pairs) (key, value)
-            (map (λ p. p.1) self.new.pairs) }
-        ensures now { leaf_in self.new.pairs result ≡ Some (key, value) }
-        ensures room { room self.old ≤ room self.new + 1 }
-    {
-        let (id, root) = place_at(
-            &mut self.leaves,
-            &mut self.nodes,
-            &self.root,
-            &point,
-            key,
-            value,
-        );
-        self.root = Some(root);
-        id
-    }
-}
-
-// How many children the inner node at this front has, in a tree with some pairs.
-fn children_below<K: AsBytes, V, const P: usize>(
-    leaves: &Leaves<K, V>,
-    nodes: &Nodes<P>,
-    root: &Child,
-    front: &[u8],
-    visits: &mut Visits,
-) -> usize
-    requires { IsSound K.bytes P leaves.now nodes.now (Some root.now) }
-    ensures value { result ≡ set.len (parts (bytes K.bytes) leaves.now.pairs front.now) }
-    ensures counted { visits.new.count
-        ≤ visits.old.count + longest (bytes K.bytes) leaves.now.pairs + 1 }
-    ensures grows { visits.old.count ≤ visits.new.count }
-{
-    leaves.law();
-    let Some(found) = children_of(nodes, root, front, visits) else {
-        return 0;
-    };
-    let (key, _) = leaves.read(found.1, visits);
-    if begins(front, key.as_bytes()) {
-        found.0
-    } else {
-        0
+        self.cells.children_at(front, visits)
     }
 }

@@ -6,7 +6,7 @@ use Rattle.std.proofs.lemmas.Bool.{ne_eqb}
 use Rattle.art_tree.proofs.CallerLemmas.{Has-tail, Lacks-from_leaf_in, AreDistinct-parts, distinct_parts, AreDistinct-without_number, AreDistinct-with_value, numbers-with_value, same_first, same_last}
 use Rattle.art_walk.specs.declared.cursor.Cursor.{Cursor}
 use Rattle.art_walk.specs.Cursor.{span_of, ends_left, EndsFit, leaves_left, FitsIn}
-use Rattle.art_walk.proofs.Spans.{Cut, cut_span, cut_is_span, span_cut}
+use Rattle.art_tree.proofs.Spans.{Cut, cut_span, cut_is_span, span_cut}
 
 module _ {K V : Type 0} where
   -- ---- what is left

@@ -1,13 +1,10 @@
 pub mod Changes
 pub mod Ranges
-pub mod Spans
 pub mod Steps
 pub mod Passing
 pub mod Retained
 pub mod Asking
 pub mod Lending
-pub mod Runs
-pub mod Along
 pub mod Callable
 pub mod Extracted
 pub mod Writing

@@ -1,11 +1,11 @@
 -- A pair that a cursor has passed is no longer left.
-use Rattle.std.proofs.Common.{◌≡◌, ℕ, ◌+◌, ◌<◌, List, [], ◌∷◌, ◌++◌, length, Option, Some, None, inl, refl, sym, ap, ◌∙◌, subst, arith, length-append}
+use Rattle.std.proofs.Common.{◌≡◌, ℕ, List, [], ◌∷◌, ◌++◌, Option, Some, None, inl, refl, sym, ap, ◌∙◌, subst}
 use Rattle.blart_keys.proofs.RankLemmas.{Member, Member-append_left, Member-append_right}
 use Rattle.art_tree.specs.Leaves.{Numbered, leaf_in, AreDistinct, Lacks}
 use Rattle.art_tree.proofs.CallerLemmas.{leaf_in-member}
 use Rattle.art_walk.specs.declared.cursor.Cursor.{Cursor}
 use Rattle.art_walk.specs.Cursor.{span_of, ends_left, EndsFit, leaves_left, FitsIn}
-use Rattle.art_walk.proofs.Spans.{span_cut}
+use Rattle.art_tree.proofs.Spans.{span_cut}
 use Rattle.art_walk.proofs.Steps.{some_inj}
 use Rattle.art_walk.proofs.Changes.{left_distinct, first_gone, last_gone}
 
@@ -49,9 +49,3 @@ module _ {K V : Type 0} where
       last_named =
           let e = left_names old ps id passed.0 y distinct fits_old (subst (Member (id, passed.0)) (sym passed.1) (last_member (leaves_left new ps) (id, passed.0))) named in
           passed.1 ∙ ap (λ x. leaves_left new ps ++ (id, x) ∷ []) e
-
--- ---- one item less
-
-module _ {X : Type 0} (x : X) (xs ys : List X) where
-  pub fewer_last : xs ≡ ys ++ x ∷ [] → length ys < length xs
-  fewer_last e = let l : length xs ≡ length ys + 1 = ap length e ∙ length-append ys (x ∷ []) in omega arith

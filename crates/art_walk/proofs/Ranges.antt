@@ -15,7 +15,7 @@ use Rattle.art_tree.specs.Leaves.{Numbered, leaf_in, first_number, last_number, 
 use Rattle.art_tree.specs.Seeks.{number_within, ends}
 use Rattle.art_tree.proofs.CallerLemmas.{leaf_in-member, last_number-append, are_ends, no_first, no_last}
 use Rattle.art_walk.specs.Cursor.{span_of, IsSpan}
-use Rattle.art_walk.proofs.Spans.{Cut, EndsWith, ends_with, cut_span, cut_is_span}
+use Rattle.art_tree.proofs.Spans.{Cut, EndsWith, ends_with, cut_span, cut_is_span}
 use Rattle.art_walk.proofs.Steps.{BeginsWith, begins_with, some_inj}
 
 module _ {K V : Type 0} where

@@ -1,7 +1,9 @@
 -- What a cursor has still to come in a list of numbered pairs.
-use Rattle.std.specs.Prelude.{◌≡◌, ◌≢◌, ℕ, List, [], ◌∷◌, ◌++◌, Option, Some, None, if◌then◌else◌, eqb}
-use Rattle.art_tree.specs.Leaves.{Following, Numbered, Has, nowhere, RunsBefore, StandsAfter}
+use Rattle.std.specs.Prelude.{◌≡◌, ℕ, List, [], ◌∷◌, ◌++◌, Option, Some, None}
+use Rattle.art_tree.specs.Leaves.{Numbered, nowhere}
 use Rattle.art_walk.specs.declared.cursor.Cursor.{Cursor}
+-- the pairs from one number through another
+pub use Rattle.art_tree.specs.Spans.{from_number, through_number, span_of, IsSpan, ends_left, EndsFit}
 
 -- a cursor with nothing to come
 abbrev pub nothing_left : Cursor
@@ -12,34 +14,6 @@ abbrev pub left_between : ℕ → ℕ → Cursor
 left_between first last = record { ends = Some (first, last); first_at = nowhere; last_at = nowhere }
 
 module _ {K V : Type 0} where
-  -- the pairs from that of a number on
-  abbrev pub from_number : List (Numbered K V) → ℕ → List (Numbered K V)
-  from_number [] i = []
-  from_number (p ∷ ps) i = if eqb p.0 i then p ∷ ps else from_number ps i
-
-  -- the pairs through that of a number
-  abbrev pub through_number : List (Numbered K V) → ℕ → List (Numbered K V)
-  through_number [] i = []
-  through_number (p ∷ ps) i = p ∷ (if eqb p.0 i then [] else through_number ps i)
-
-  -- the pairs from one number through another
-  abbrev pub span_of : List (Numbered K V) → ℕ → ℕ → List (Numbered K V)
-  span_of ps first last = through_number (from_number ps first) last
-
-  -- both numbers are in the list, the first not after the last
-  abbrev pub IsSpan : List (Numbered K V) → ℕ → ℕ → Type 0
-  IsSpan ps first last = Has (from_number ps first) last
-
-  -- the pairs from the first number through the last, if there are ends
-  abbrev pub ends_left : Option (ℕ × ℕ) → List (Numbered K V) → List (Numbered K V)
-  ends_left None ps = []
-  ends_left (Some e) ps = span_of ps e.0 e.1
-
-  -- the ends, if there are any, are in the list, the first not after the last
-  abbrev pub EndsFit : Option (ℕ × ℕ) → List (Numbered K V) → Type 0
-  EndsFit None ps = Unit {0}
-  EndsFit (Some e) ps = IsSpan ps e.0 e.1
-
   -- the pairs that are still to come
   abbrev pub leaves_left : Cursor → List (Numbered K V) → List (Numbered K V)
   leaves_left c ps = ends_left c.ends ps
@@ -47,11 +21,6 @@ module _ {K V : Type 0} where
   -- what is still to come is in the list, the first not after the last
   abbrev pub FitsIn : Cursor → List (Numbered K V) → Type 0
   FitsIn c ps = EndsFit c.ends ps
-
-  -- this follows the first end, where that is not the last, and this run stands before the last
-  abbrev pub StandsBeside : Option (ℕ × ℕ) → Following → List ℕ → List (Numbered K V) → List (ℕ × List ℕ) → Type 0
-  StandsBeside None following before ps rows = Unit {0}
-  StandsBeside (Some e) following before ps rows = (e.0 ≢ e.1 → StandsAfter ps rows e.0 following) × RunsBefore ps e.1 before
 
   -- the first pair, if there is one, is passed, and this is its number
   abbrev pub PassesFirst : List (Numbered K V) → Option ℕ → List (Numbered K V) → Type 0

@@ -5,7 +5,6 @@ use Rattle.std.proofs.Common.{ap, refl, ◌∙◌}
 use Rattle.art_tree.proofs.CallerLemmas.{numbers-with_value}
 use Rattle.art_tree.specs.Leaves.{Numbered, leaf_in, Lacks, with_value}
 use Rattle.art_walk.specs.declared.cursor.Cursor.{Cursor}
-use Rattle.blart_keys.specs.Bytes.{begins}
 use Rattle.art_walk.specs.Cursor.{from_number, leaves_left}
 
 module _ {K V : Type 0} where
@@ -34,20 +33,6 @@ walk_fits c lent ns = if ends_fit c.ends ns then lent_fits lent (bare ns) (leave
 -- whether a walk that counts fits these numbers: it does, and so many are left
 abbrev pub count_fits : Cursor → Option ℕ → ℕ → List ℕ → Bool
 count_fits c lent left ns = if walk_fits c lent ns then eqb left (length (leaves_left c (bare ns))) else false
-
--- whether these numbers directly follow the number i in the list
-abbrev pub follow : ℕ → List ℕ → List ℕ → Bool
-follow i run [] = begins run []
-follow i run (n ∷ ns) = if eqb n i then begins run ns else follow i run ns
-
--- whether these numbers directly follow the first end, if there is one
-abbrev pub follow_first : Option (ℕ × ℕ) → List ℕ → List ℕ → Bool
-follow_first None run ns = true
-follow_first (Some e) run ns = follow e.0 run ns
-
--- whether these numbers directly follow the first that a cursor has left
-abbrev pub run_fits : Cursor → List ℕ → List ℕ → Bool
-run_fits c run ns = follow_first c.ends run ns
 
 module _ {K V : Type 0} where
   -- the list, once each of the pairs that are left has the value that f gives it
@@ -102,7 +87,3 @@ module _ {K V : Type 0} where
   -- and counts as before
   pub count_written : (c : Cursor) (lent : Option ℕ) (left : ℕ) (ps : List (Numbered K V)) (w : V) → count_fits c lent left (numbers ps) ≡ true → count_fits c lent left (numbers (written_last lent ps w)) ≡ true
   count_written c lent left ps w h = ap (count_fits c lent left) (numbers_written lent ps w) ∙ h
-
-  -- and the numbers that follow its first are the same
-  pub run_written : (c : Cursor) (run : List ℕ) (lent : Option ℕ) (ps : List (Numbered K V)) (w : V) → run_fits c run (numbers ps) ≡ true → run_fits c run (numbers (written_last lent ps w)) ≡ true
-  run_written c run lent ps w h = ap (run_fits c run) (numbers_written lent ps w) ∙ h

@@ -11,8 +11,7 @@ ghost use Rattle.art_walk.specs.Openings.{longer, opening};
 
 use crate::cursor::Cursor;
 use crate::openings::{BelowFront, InRange, InSubtree};
-use crate::walk::Walk;
-use art_tree::{LeafId, Tree, Visits};
+use art_tree::{LeafId, Tree, Visits, Walk};
 use blart_keys::AsBytes;
 use std::iter::{DoubleEndedIterator, FusedIterator, Iterator};
 use std::marker::{Model, PhantomData};
@@ -70,7 +69,7 @@ impl<'a, K: AsBytes, V, const PREFIX_LEN: usize> BoundedIter<'a, K, V, InRange, 
     {
         let cursor = Cursor::range(tree, start, end, visits);
         BoundedIter {
-            walk: Walk::new(tree.leaves(), cursor),
+            walk: Walk::new(tree, cursor.ends()),
             kind: PhantomData,
         }
     }
@@ -89,7 +88,7 @@ impl<'a, K: AsBytes, V, const PREFIX_LEN: usize> BoundedIter<'a, K, V, BelowFron
     {
         let cursor = Cursor::prefix(tree, front, visits);
         BoundedIter {
-            walk: Walk::new(tree.leaves(), cursor),
+            walk: Walk::new(tree, cursor.ends()),
             kind: PhantomData,
         }
     }
@@ -102,7 +101,7 @@ impl<'a, K: AsBytes, V, const PREFIX_LEN: usize> BoundedIter<'a, K, V, InSubtree
         ensures { result ≡ pairs_of (span_of tree.now.pairs first last) }
     {
         BoundedIter {
-            walk: Walk::new(tree.leaves(), Cursor::between(first, last)),
+            walk: Walk::new(tree, Some((first, last))),
             kind: PhantomData,
         }
     }

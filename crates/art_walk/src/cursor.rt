@@ -1,73 +1,51 @@
 //! A first and a last leaf that are still to come.
-ghost use Rattle.std.specs.Prelude.{◌≡◌, ◌≢◌, ℕ, List, true, option_map, IfSome, Some, None};
-ghost use Rattle.art_tree.specs.Leaves.{Has, number_after, number_before, RunsAfter};
+ghost use Rattle.std.specs.Prelude.{◌≡◌, ◌≢◌, option_map, IfSome, Some, None};
+ghost use Rattle.art_tree.specs.Leaves.{Has, number_after, number_before};
 ghost use Rattle.art_walk.specs.Cursor.{nothing_left, left_between, leaves_left, FitsIn, PassesFirst, PassesLast};
-ghost use Rattle.art_walk.specs.Lent.{numbers, run_fits};
 
-use art_tree::{LeafId, Leaves, OwnedRun, Position, Tree};
+use art_tree::{LeafId, Position, Tree};
 use blart_keys::AsBytes;
 
-// The ends without the first leaf; `seen` is where that may stand, and then where the leaf after it does. Nothing is looked for after the last.
+/// Returns the ends without the first leaf, or `None` if that is also the last. `seen` is a
+/// guess of the position of the first leaf, and then of the position of the new first leaf.
 #[inline(always)]
-fn without_first<K, V>(
-    leaves: &Leaves<K, V>,
+fn without_first<K: AsBytes, V, const PREFIX_LEN: usize>(
+    tree: &Tree<K, V, PREFIX_LEN>,
     first: LeafId,
     last: LeafId,
     seen: &mut Position,
 ) -> Option<(LeafId, LeafId)>
-    requires { Has leaves.now.pairs first }
+    requires { Has tree.now.pairs first }
     ensures one { first ≡ last → result ≡ None }
     ensures more { first ≢ last → result
-        ≡ option_map (λ id. (id, last)) (number_after leaves.now.pairs first) }
+        ≡ option_map (λ id. (id, last)) (number_after tree.now.pairs first) }
 {
     if first == last {
         return None;
     }
-    let next = leaves.next_from(first, seen)?;
+    let next = tree.next_from(first, seen)?;
     Some((next, last))
 }
 
-// The same; `run` are numbers that follow the first leaf, and then numbers that follow the one that is the first. Where there are some, the leaf may not stand where it was seen.
+/// Returns the ends without the last leaf, or `None` if that is also the first. `seen` is a
+/// guess of the position of the last leaf, and then of the position of the new last leaf.
 #[inline(always)]
-fn without_first_of_run<K, V>(
-    leaves: &Leaves<K, V>,
-    first: LeafId,
-    last: LeafId,
-    run: &mut OwnedRun,
-    seen: &mut Position,
-) -> Option<(LeafId, LeafId)>
-    requires has { Has leaves.now.pairs first }
-    requires runs { RunsAfter leaves.now.pairs first run.old }
-    ensures one { first ≡ last → result ≡ None }
-    ensures more { first ≢ last → result
-        ≡ option_map (λ id. (id, last)) (number_after leaves.now.pairs first) }
-    ensures runs { IfSome result (λ ends. RunsAfter leaves.now.pairs ends.0 run.new) }
-{
-    if first == last {
-        return None;
-    }
-    let next = leaves.next_ahead(first, run, seen)?;
-    Some((next, last))
-}
-
-// The ends without the last leaf; `seen` is where that may stand, and then where the leaf before it does. Nothing is looked for before the first.
-#[inline(always)]
-fn without_last<K, V>(
-    leaves: &Leaves<K, V>,
+fn without_last<K: AsBytes, V, const PREFIX_LEN: usize>(
+    tree: &Tree<K, V, PREFIX_LEN>,
     first: LeafId,
     last: LeafId,
     seen: &mut Position,
 ) -> Option<(LeafId, LeafId)>
-    requires { Has leaves.now.pairs last }
+    requires { Has tree.now.pairs last }
     ensures one { first ≡ last → result ≡ None }
     ensures more { first ≢ last → result
-        ≡ option_map (λ id. (first, id)) (number_before leaves.now.pairs last) }
+        ≡ option_map (λ id. (first, id)) (number_before tree.now.pairs last) }
     ensures stays { IfSome result (λ ends. ends.0 ≡ first) }
 {
     if last == first {
         return None;
     }
-    let prev = leaves.prev_from(last, seen)?;
+    let prev = tree.prev_from(last, seen)?;
     Some((first, prev))
 }
 
@@ -140,29 +118,7 @@ impl Cursor {
     {
         tree.law();
         let (first, last) = self.ends?;
-        let ends = without_first(tree.leaves(), first, last, &mut self.first_at);
-        self.ends = ends;
-        Some(first)
-    }
-
-    /// Passes the first leaf that is left, and gives its number. `run` are numbers that follow it, and then such numbers that follow the next: where there are some, nothing is read. It is good for a tree whose numbers stay while the cursor is moved.
-    #[inline(always)]
-    pub fn step_along<K: AsBytes, V, const PREFIX_LEN: usize>(
-        &mut self,
-        tree: &Tree<K, V, PREFIX_LEN>,
-        run: &mut OwnedRun,
-    ) -> Option<LeafId>
-        requires fits { FitsIn self.old tree.now.pairs }
-        requires run { run_fits self.old run.old (numbers tree.now.pairs) ≡ true }
-        ensures fits { FitsIn self.new tree.now.pairs }
-        ensures passes { PassesFirst (leaves_left self.old tree.now.pairs) result
-            (leaves_left self.new tree.now.pairs) }
-        ensures there { IfSome result (λ id. Has tree.now.pairs id) }
-        ensures run { run_fits self.new run.new (numbers tree.now.pairs) ≡ true }
-    {
-        tree.law();
-        let (first, last) = self.ends?;
-        let ends = without_first_of_run(tree.leaves(), first, last, run, &mut self.first_at);
+        let ends = without_first(tree, first, last, &mut self.first_at);
         self.ends = ends;
         Some(first)
     }
@@ -178,12 +134,10 @@ impl Cursor {
         ensures passes { PassesLast (leaves_left self.old tree.now.pairs) result
             (leaves_left self.new tree.now.pairs) }
         ensures there { IfSome result (λ id. Has tree.now.pairs id) }
-        ensures run { (run : List ℕ) → run_fits self.old run (numbers tree.now.pairs) ≡ true
-            → run_fits self.new run (numbers tree.now.pairs) ≡ true }
     {
         tree.law();
         let (first, last) = self.ends?;
-        let ends = without_last(tree.leaves(), first, last, &mut self.last_at);
+        let ends = without_last(tree, first, last, &mut self.last_at);
         self.ends = ends;
         Some(last)
     }

@@ -5,7 +5,7 @@ ghost use Rattle.art_walk.specs.Cursor.{leaves_left, FitsIn};
 ghost use Rattle.art_walk.specs.EachWritten.{CallableInTurn, WritesLeft, LeavesValue, TakesAtValue, LeavesPair, TakesAtPair};
 
 use crate::cursor::Cursor;
-use art_tree::{OwnedRun, Tree};
+use art_tree::Tree;
 use blart_keys::AsBytes;
 
 /// Calls the closure once at each value that the cursor has left, front to back. The values are what it leaves. Takes no memory; each call reads one leaf.
@@ -22,8 +22,7 @@ pub fn write_values<K: AsBytes, V, F: FnMut(&mut V) + Drop, const PREFIX_LEN: us
     ensures distinct { AreDistinct tree.old.pairs }
 {
     tree.law();
-    let mut run = OwnedRun::empty();
-    'leaves: while let Some(id) = cursor.step_along(tree, &mut run) {
+    'leaves: while let Some(id) = cursor.step(tree) {
         let (_, value) = tree.leaf_mut(id);
         f(value);
     }
@@ -43,8 +42,7 @@ pub fn write_pairs<K: AsBytes, V, F: FnMut(&K, &mut V) + Drop, const PREFIX_LEN:
     ensures distinct { AreDistinct tree.old.pairs }
 {
     tree.law();
-    let mut run = OwnedRun::empty();
-    'leaves: while let Some(id) = cursor.step_along(tree, &mut run) {
+    'leaves: while let Some(id) = cursor.step(tree) {
         let (key, value) = tree.leaf_mut(id);
         f(key, value);
     }

@@ -4,42 +4,43 @@ ghost use Rattle.std.specs.Iterator.{YieldsFirst, YieldsLast, UpTo, item_count};
 ghost use Rattle.std.specs.Iterator.SizeHint.{IsWithinCount};
 ghost use Rattle.art_tree.specs.Pairs.{pairs_of};
 
-use art_tree::{Leaves, Tree};
+use art_tree::{Pairs, Tree};
 use blart_keys::AsBytes;
 use std::iter::{DoubleEndedIterator, FusedIterator, Iterator};
 use std::marker::Model;
 
-/// The pairs of a tree by value from both ends, in byte order of their keys. The tree's inner nodes are freed whole at the start, and each step takes one leaf. What was not taken is freed where the walk is dropped, which drops the leaves in a loop.
+/// The pairs of a tree by value from both ends, in byte order of their keys. The inner nodes are
+/// freed whole at the start, and each step removes one pair. Dropping the walk drops the remaining
+/// pairs in a loop.
 #[derive(Drop)]
 pub struct IntoIter<K: AsBytes, V, const PREFIX_LEN: usize> {
-    leaves: Leaves<K, V>,
+    pairs: Pairs<K, V>,
 }
 
 impl<K: AsBytes, V, const PREFIX_LEN: usize> Model for IntoIter<K, V, PREFIX_LEN> {
     ghost use Rattle.std.specs.Prelude.{List};
-    ghost use Rattle.art_tree.specs.Pairs.{pairs_of};
 
     ghost Value = { List (K × V) };
 
-    ghost view = { λ it. pairs_of it.leaves.pairs };
+    ghost view = { λ it. it.pairs.pairs };
 }
 
 impl<K: AsBytes, V, const PREFIX_LEN: usize> IntoIter<K, V, PREFIX_LEN> {
-    /// How many pairs are left.
+    /// Returns the number of remaining pairs.
     pub fn len(&self) -> usize
         ensures { result ≡ length self.now }
     {
-        self.leaves.len()
+        self.pairs.len()
     }
 }
 
 impl<K: AsBytes + Drop, V: Drop, const PREFIX_LEN: usize> IntoIter<K, V, PREFIX_LEN> {
-    /// All pairs of the tree.
+    /// Returns an iterator over all pairs of the tree.
     pub fn new(tree: Tree<K, V, PREFIX_LEN>) -> Self
         ensures { result ≡ pairs_of tree.pairs }
     {
         IntoIter {
-            leaves: tree.into_leaves(),
+            pairs: tree.into_pairs(),
         }
     }
 }
@@ -51,12 +52,12 @@ impl<K: AsBytes + Drop, V: Drop, const PREFIX_LEN: usize> Iterator for IntoIter<
 
     ghost remaining = { item_count (λ rest. rest) };
 
-    /// The first pair that is left.
+    /// Returns the first remaining pair.
     fn next(&mut self) -> Option<(K, V)> {
-        self.leaves.take_first()
+        self.pairs.take_first()
     }
 
-    /// Both bounds are the number of pairs that are left.
+    /// Both bounds are the number of remaining pairs.
     fn size_hint(&self) -> (usize, Option<usize>)
         ensures lower { IsWithinCount result.0 (item_count (λ rest. rest) self.now) }
         ensures upper { IfSome result.1 (UpTo (item_count (λ rest. rest) self.now)) }
@@ -70,9 +71,9 @@ impl<K: AsBytes + Drop, V: Drop, const PREFIX_LEN: usize> DoubleEndedIterator
     for IntoIter<K, V, PREFIX_LEN> {
     ghost next_back_gives = { YieldsLast (λ rest. rest) };
 
-    /// The last pair that is left.
+    /// Returns the last remaining pair.
     fn next_back(&mut self) -> Option<(K, V)> {
-        self.leaves.take_last()
+        self.pairs.take_last()
     }
 }
 

@@ -5,8 +5,7 @@ ghost use Rattle.std.specs.Iterator.SizeHint.{IsWithinCount};
 ghost use Rattle.art_tree.specs.Pairs.{pairs_of};
 
 use crate::cursor::Cursor;
-use crate::walk::Walk;
-use art_tree::Tree;
+use art_tree::{Tree, Walk};
 use blart_keys::AsBytes;
 use std::iter::{DoubleEndedIterator, FusedIterator, Iterator};
 use std::marker::Model;
@@ -35,7 +34,7 @@ impl<'a, K: AsBytes, V, const PREFIX_LEN: usize> Iter<'a, K, V, PREFIX_LEN> {
     {
         let cursor = Cursor::all(tree);
         Iter {
-            walk: Walk::new(tree.leaves(), cursor),
+            walk: Walk::new(tree, cursor.ends()),
             left: tree.len(),
         }
     }

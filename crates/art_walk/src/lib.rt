@@ -17,7 +17,6 @@ mod openings;
 mod retaining;
 mod seeks;
 mod values;
-mod walk;
 
 pub use bounded_iter::{BoundedIter, Prefix, Range, SubtreeIter};
 pub use compare::{are_same, feed, order, partial_order};

@@ -1,11 +1,12 @@
 -- What a list says of the list of its items' images.
 use Rattle.std.proofs.Common.{◌≡◌, ℕ, Bool, true, false, cond, ◌||◌, inl, inr, List, [], ◌∷◌, map, refl, sym, ap, ◌∙◌, subst, Some, option_map, find, filter}
-use Rattle.std.specs.Prelude.{Contains}
-use Rattle.std.specs.List.{AllByRecursion, list_any}
+use Rattle.std.specs.Prelude.{Contains, Option, length, filter_map, slice_get, if◌then◌else◌}
+use Rattle.std.specs.List.{AllByRecursion, cons_option, list_any}
+use Rattle.std.specs.Ordering.{nat_cmp}
 use Rattle.std.specs.FinSet as set
-use Rattle.blart_keys.specs.Bytes.{bytes_cmp, common, related}
-use Rattle.blart_keys.specs.Content.{IsContent, IsPut, IsOver}
-use Rattle.blart_keys.specs.Fronts.{commons, fronts}
+use Rattle.blart_keys.specs.Bytes.{begins, bytes_cmp, common, related}
+use Rattle.blart_keys.specs.Content.{under, IsContent, IsPut, IsOver}
+use Rattle.blart_keys.specs.Fronts.{commons, fronts, parts}
 use Rattle.blart_keys.proofs.RankLemmas.{Member, Contains-from_Member, Member-from_Contains, Ranked}
 use Rattle.blart_keys.proofs.ContentLemmas.{Before, Ranked-from_content, content_from_Ranked}
 use Rattle.blart_keys.proofs.PutLemmas.{put_member, member_put}
@@ -33,6 +34,11 @@ module _ {X Y : Type 0} (f : X → Y) where
         | false ↦ filter-map p xs
       ]
 
+  -- what comes of images is what comes of items by way of their images
+  pub filter_map-map : {Z : Type 0} (g : Y → Option Z) (xs : List X) → filter_map g (map f xs) ≡ filter_map (λ x. g (f x)) xs
+  filter_map-map g [] = refl
+  filter_map-map g (x ∷ xs) = ap (λ (zs : List _). cons_option (g (f x)) zs) (filter_map-map g xs)
+
   -- ---- elements
 
   -- the image of an item is one of the images
@@ -57,9 +63,23 @@ module _ {X Y : Type 0} (f : X → Y) where
   ranked_map R [] h = tt
   ranked_map R (x ∷ xs) h = (all_map (R (f x)) xs h.0, ranked_map R xs h.1)
 
+  -- what holds of the images holds of each image
+  all_from_map : (P : Y → Type 0) (xs : List X) → AllByRecursion P (map f xs) → AllByRecursion (λ x. P (f x)) xs
+  all_from_map P [] h = tt
+  all_from_map P (x ∷ xs) h = (h.0, all_from_map P xs h.1)
+
+  -- items are ranked as their images are
+  ranked_from_map : (R : Y → Y → Type 0) (xs : List X) → Ranked R (map f xs) → Ranked (λ x y. R (f x) (f y)) xs
+  ranked_from_map R [] h = tt
+  ranked_from_map R (x ∷ xs) h = (all_from_map (R (f x)) xs h.0, ranked_from_map R xs h.1)
+
   -- ---- contents
 
   module _ (bytes : Y → List ℕ) where
+    -- items whose images are a content are one
+    pub content_from_map : (xs : List X) → IsContent bytes (map f xs) → IsContent (λ x. bytes (f x)) xs
+    content_from_map xs c = content_from_Ranked (λ x. bytes (f x)) xs (ranked_from_map (Before bytes) xs (Ranked-from_content bytes (map f xs) c))
+
     -- the images of a content are a content
     pub content_map : (xs : List X) → IsContent (λ x. bytes (f x)) xs → IsContent bytes (map f xs)
     content_map xs c = content_from_Ranked bytes (map f xs) (ranked_map (Before bytes) xs (Ranked-from_content (λ x. bytes (f x)) xs c))
@@ -111,3 +131,10 @@ module _ {X Y : Type 0} (f : X → Y) where
     -- and so at the same fronts
     pub fronts-map : (xs : List X) → fronts bytes (map f xs) ≡ fronts (λ x. bytes (f x)) xs
     fronts-map xs = ap (λ (l : List (List ℕ)). set.from_list {R = bytes_cmp} l) (commons-map xs)
+
+    -- with as many children there
+    pub parts-map : (xs : List X) (q : List ℕ) → parts bytes (map f xs) q ≡ parts (λ x. bytes (f x)) xs q
+    parts-map xs q =
+        let n = length q in
+        let below : filter_map (λ y. slice_get (bytes y) n) (under bytes (map f xs) q) ≡ filter_map (λ x. slice_get (bytes (f x)) n) (under (λ x. bytes (f x)) xs q) = ap (filter_map (λ y. slice_get (bytes y) n)) (filter-map (λ y. begins q (bytes y)) xs) ∙ filter_map-map (λ y. slice_get (bytes y) n) (under (λ x. bytes (f x)) xs q) in
+        rw (fronts-map xs) (ap (λ (l : List ℕ). if set.contains (fronts (λ x. bytes (f x)) xs) q then set.from_list {R = nat_cmp} l else set.empty) below)

@@ -6,7 +6,7 @@ use mir.Syntax.{named}
 use Rattle.blart_keys.specs.declared.AsBytes.{Ghosts}
 use Rattle.art_tree.specs.Leaves.{Numbered}
 use Rattle.art_walk.specs.Cursor.{leaves_left}
-use Rattle.art_walk.specs.Lent.{LentFirst, LentLast, NoneLent, written_last, count_written, run_written}
+use Rattle.art_walk.specs.Lent.{LentFirst, LentLast, NoneLent, written_last, count_written}
 use Rattle.blart_map.specs.declared.walks.counted_walk.CountedWalk.{CountedWalk}
 use Rattle.blart_map.specs.contracts.walks.counted_walk.CountedWalk.{the_row}
 use Rattle.art_walk.specs.contracts.openings.WithKeys as with_keys
@@ -32,12 +32,10 @@ abbrev pub counted_with : {K V M : Type 0} {p : ℕ} {g : Ghosts K} → CountedW
 counted_with s w = record {
   map = record s.map { now = written_last s.lent s.map.now w };
   cursor = s.cursor;
-  ahead = s.ahead;
   lent = s.lent;
   left = s.left;
   kind = s.kind;
   fits = count_written s.cursor s.lent s.left s.map.now w s.fits;
-  follows = run_written s.cursor s.ahead s.lent s.map.now w s.follows;
 }
 
 module _ (K V M P : RattleType) (g : Ghosts K.Denot) where

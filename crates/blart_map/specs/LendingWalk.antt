@@ -6,7 +6,7 @@ use mir.Syntax.{named}
 use Rattle.blart_keys.specs.declared.AsBytes.{Ghosts}
 use Rattle.art_tree.specs.Leaves.{Numbered}
 use Rattle.art_walk.specs.Cursor.{leaves_left}
-use Rattle.art_walk.specs.Lent.{LentFirst, LentLast, NoneLent, written_last, fits_written, run_written}
+use Rattle.art_walk.specs.Lent.{LentFirst, LentLast, NoneLent, written_last, fits_written}
 use Rattle.blart_map.specs.declared.walks.lending_walk.LendingWalk.{LendingWalk}
 use Rattle.blart_map.specs.contracts.walks.lending_walk.LendingWalk.{the_row}
 
@@ -31,11 +31,9 @@ abbrev pub lending_with : {K V M : Type 0} {p : ℕ} {g : Ghosts K} → LendingW
 lending_with s w = record {
   map = record s.map { now = written_last s.lent s.map.now w };
   cursor = s.cursor;
-  ahead = s.ahead;
   lent = s.lent;
   kind = s.kind;
   fits = fits_written s.cursor s.lent s.map.now w s.fits;
-  follows = run_written s.cursor s.ahead s.lent s.map.now w s.follows;
 }
 
 module _ (K V M P : RattleType) (g : Ghosts K.Denot) where

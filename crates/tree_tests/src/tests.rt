@@ -1,6 +1,7 @@
 //! Tests of the tree and of its inner nodes.
 
 mod kinds;
+mod pair_lists;
 mod records;
 mod trees;
 

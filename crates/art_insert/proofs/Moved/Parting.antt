@@ -1,9 +1,7 @@
 -- A content parted at some bytes.
 use Rattle.std.proofs.Common.{◌≡◌, ◌≤◌, ◌+◌, ℕ, Bool, true, false, cond, not, ◌&&◌, inl, inr, List, [], ◌∷◌, ◌++◌, length, length-append, arith, refl, sym, ap, ◌∙◌, subst, Option, None, filter, bytes_eq, if◌then◌else◌}
 use Rattle.std.proofs.lemmas.Bool.{false≢true, cases_Bool, false_from_ne_true}
-use Rattle.std.proofs.lemmas.List.{length-map}
 use Rattle.std.specs.Cmp.Lexicographic.{bytes_decides}
-use Rattle.std.specs.List.{AllByRecursion}
 use Rattle.std.specs.declared.ops.Bound.TheVariants.{Included, Excluded, Unbounded}
 use Rattle.blart_keys.specs.Bytes.{less}
 use Rattle.blart_keys.specs.Bounds.{is_from_start, is_up_to_end}
@@ -14,9 +12,6 @@ use Rattle.blart_keys.proofs.PartLemmas.{less-trans}
 use Rattle.blart_keys.proofs.MergeLemmas.{Lower}
 use Rattle.blart_keys.proofs.RankLemmas.{each_member, filter_none, filter_all, Ranked, Ranked-from_AllPairs, Ranked-left, Ranked-right}
 use Rattle.blart_keys.proofs.ContentLemmas.{Before, Ranked-from_content, content_from_Ranked}
-use Rattle.blart_keys.proofs.Mapped.{content_map}
-use Rattle.art_tree.specs.Leaves.{Numbered, bytes as leaf_bytes}
-use Rattle.art_tree.specs.Pairs.{pairs_of}
 
 -- two ways to part a list, with as many items after the cut, are one
 same_parts : {X : Type 0} (A B C D : List X) → A ++ B ≡ C ++ D → length A ≡ length C → (A ≡ C) × (B ≡ D)
@@ -112,35 +107,13 @@ module _ {K V : Type 0} (kb : K → List ℕ) (q : List ℕ) (S : List (K × V))
       turned true = refl
       turned false = refl
 
--- ---- numbered pairs
+-- ---- the two parts of a list
 
-module _ {K V : Type 0} (kb : K → List ℕ) where
-  -- numbered pairs come after one as their pairs do
-  each_numbered : (x : Numbered K V) (ps : List (Numbered K V)) → AllByRecursion (Before (pair_bytes kb) x.1) (pairs_of ps) → AllByRecursion (Before (leaf_bytes kb) x) ps
-  each_numbered x [] h = tt
-  each_numbered x (p ∷ ps) h = (h.0, each_numbered x ps h.1)
-
-  -- and are ranked as those are
-  ranked_numbered : (ps : List (Numbered K V)) → Ranked (Before (pair_bytes kb)) (pairs_of ps) → Ranked (Before (leaf_bytes kb)) ps
-  ranked_numbered [] h = tt
-  ranked_numbered (p ∷ ps) h = (each_numbered p ps h.0, ranked_numbered ps h.1)
-
-  -- numbered pairs are a content where their pairs are ranked
-  numbered_content : (ps : List (Numbered K V)) → Ranked (Before (pair_bytes kb)) (pairs_of ps) → IsContent (leaf_bytes kb) ps
-  numbered_content ps r = content_from_Ranked (leaf_bytes kb) ps (ranked_numbered ps r)
-
-  -- the two parts of a content are contents, whatever their numbers
-  pub parts_contents : (ps low high : List (Numbered K V)) → IsContent (leaf_bytes kb) ps → pairs_of ps ≡ pairs_of low ++ pairs_of high → IsContent (leaf_bytes kb) low × IsContent (leaf_bytes kb) high
-  parts_contents ps low high c e =
-      let r = Ranked-from_content (pair_bytes kb) (pairs_of low ++ pairs_of high) (subst (IsContent (pair_bytes kb)) e (content_map (λ p. p.1) (pair_bytes kb) ps c)) in (
-        numbered_content low (Ranked-left (Before (pair_bytes kb)) (pairs_of low) (pairs_of high) r),
-        numbered_content high (Ranked-right (Before (pair_bytes kb)) (pairs_of low) (pairs_of high) r),
+module _ {X : Type 0} (bytes : X → List ℕ) where
+  -- the two parts of a content are contents
+  pub parts_contents : (S low high : List X) → IsContent bytes S → S ≡ low ++ high → IsContent bytes low × IsContent bytes high
+  parts_contents S low high c e =
+      let r = Ranked-from_content bytes (low ++ high) (subst (IsContent bytes) e c) in (
+        content_from_Ranked bytes low (Ranked-left (Before bytes) low high r),
+        content_from_Ranked bytes high (Ranked-right (Before bytes) low high r),
       )
-
--- how many each part has, of which one's count is known
-pub parts_counts : {K V : Type 0} (ps low high : List (Numbered K V)) (n m : ℕ) → pairs_of ps ≡ pairs_of low ++ pairs_of high → length (pairs_of low) ≡ n → n + m ≡ length ps → (length low ≡ n) × (length high ≡ m) × (length (pairs_of high) ≡ m)
-parts_counts ps low high n m e l s =
-    let all = ap (λ (l : List _). length l) e in
-    let both = length-append (pairs_of low) (pairs_of high) in
-    let h : length (pairs_of high) ≡ m = omega (arith, all, both, length-map ps (λ p. p.1)) in
-    (omega (arith, length-map low (λ p. p.1)), omega (arith, length-map high (λ p. p.1)), h)

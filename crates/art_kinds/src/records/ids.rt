@@ -2,7 +2,7 @@
 ghost use Rattle.std.specs.Prelude.{◌≡◌, ◌%◌};
 ghost use Rattle.art_kinds.specs.Numbers.{kind_of};
 
-use art_slots::LeafId;
+use art_slots::CellId;
 use std::marker::Model;
 
 /// How many children a node's record has places for.
@@ -54,7 +54,7 @@ impl NodeId {
 /// What stands below an edge.
 #[derive(Clone, Copy)]
 pub enum Child {
-    Leaf(LeafId),
+    Leaf(CellId),
     Inner(NodeId),
 }
 

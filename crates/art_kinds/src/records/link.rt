@@ -3,7 +3,7 @@ ghost use Rattle.std.specs.Prelude.{◌≡◌, ◌%◌, Some, None};
 ghost use Rattle.art_kinds.specs.Numbers.{kind_of as kind_spec};
 
 use crate::records::ids::{Child, Kind, NodeId};
-use art_slots::LeafId;
+use art_slots::CellId;
 use std::marker::Model;
 
 /// What stands below an edge: its number times eight, and its kind. A contract sees the child.
@@ -66,7 +66,7 @@ impl Link {
         let number = self.word / 8;
         let digit = self.word % 8;
         if digit == 0 {
-            return Child::Leaf(LeafId::new(number));
+            return Child::Leaf(CellId::new(number));
         }
         Child::Inner(NodeId {
             kind: kind_of(digit - 1),

@@ -8,7 +8,7 @@ ghost use Rattle.art_rows.specs.Leaves.{room, end_room, spot_index};
 
 use crate::leaves::{Leaf, Leaves};
 use crate::row::{Position, ROW, Row};
-use art_slots::LeafId;
+use art_slots::CellId;
 
 impl<K: Drop, V: Drop> Leaves<K, V> {
     // How many numbers a row has.
@@ -29,7 +29,7 @@ impl<K: Drop, V: Drop> Leaves<K, V> {
     }
 
     /// The leaf that has to make way before a pair comes after `prev`: the last of a full row. `seen` is where `prev` may stand, and then where it does.
-    pub fn crowd(&self, prev: Option<LeafId>, seen: &mut Position) -> Option<LeafId>
+    pub fn crowd(&self, prev: Option<CellId>, seen: &mut Position) -> Option<CellId>
         requires { IfSome prev (Has self.now.pairs) }
         ensures none { IfNone result (HasWay self.now.rows prev) }
         ensures some { IfSome result (IsCrowded self.now.rows prev) }
@@ -49,7 +49,7 @@ impl<K: Drop, V: Drop> Leaves<K, V> {
     }
 
     /// Puts a pair after the leaf `prev`, or in front of all, where no leaf has to make way. `seen` is where `prev` may stand: where it does, no row is searched. It asks for no memory.
-    pub fn insert(&mut self, prev: Option<LeafId>, seen: Position, key: K, value: V) -> LeafId
+    pub fn insert(&mut self, prev: Option<CellId>, seen: Position, key: K, value: V) -> CellId
         requires room { 0 < room self.old }
         requires prev { IfSome prev (Has self.old.pairs) }
         requires way { HasWay self.old.rows prev }
@@ -58,7 +58,7 @@ impl<K: Drop, V: Drop> Leaves<K, V> {
         ensures room { room self.old ≤ room self.new + 1 }
     {
         let _ = &self.rows;
-        // The prover takes an `Option<LeafId>` that is passed on as moved, so this is a copy.
+        // The prover takes an `Option<CellId>` that is passed on as moved, so this is a copy.
         let after = prev;
         let position = match self.spot(after, seen) {
             None => return self.begin(prev, None, key, value),
@@ -76,12 +76,12 @@ impl<K: Drop, V: Drop> Leaves<K, V> {
     /// Puts a pair after the leaf `prev` in a full row, whose last leaf makes way: it goes to the row after it, and has another number then. Answers the new leaf, and that number. It asks for no memory.
     pub fn insert_crowded(
         &mut self,
-        prev: Option<LeafId>,
+        prev: Option<CellId>,
         seen: Position,
-        last: LeafId,
+        last: CellId,
         key: K,
         value: V,
-    ) -> (LeafId, LeafId)
+    ) -> (CellId, CellId)
         requires room { 0 < room self.old }
         requires prev { IfSome prev (Has self.old.pairs) }
         requires has { Has self.old.pairs last }
@@ -102,7 +102,7 @@ impl<K: Drop, V: Drop> Leaves<K, V> {
     }
 
     /// Puts a pair after all others. It asks for no memory.
-    pub fn push(&mut self, key: K, value: V) -> LeafId
+    pub fn push(&mut self, key: K, value: V) -> CellId
         requires room { 0 < end_room self.old }
         ensures fresh { leaf_in self.old.pairs result ≡ None }
         ensures placed { self.new.pairs ≡ with_pair_after (last_number self.old.pairs) (result, (key, value)) self.old.pairs }
@@ -126,7 +126,7 @@ impl<K: Drop, V: Drop> Leaves<K, V> {
     // Moves the last leaf of a full row to the row after it. Answers the number that it has then.
     #[cold]
     #[inline(never)]
-    fn carry(&mut self, last: LeafId) -> LeafId
+    fn carry(&mut self, last: CellId) -> CellId
         requires room { 0 < room self.old }
         requires has { Has self.old.pairs last }
         requires row { IfSome (leaf_in self.old.rows (row_of last)) (λ ids. (length ids ≡ ROW) × (nth ids (ROW - 1) ≡ Some last)) }
@@ -146,7 +146,7 @@ impl<K: Drop, V: Drop> Leaves<K, V> {
     // Puts a pair after the last leaf of a row: into the row after it, where that is not full, or else into a new one.
     #[cold]
     #[inline(never)]
-    fn put_beyond(&mut self, prev: Option<LeafId>, row: usize, key: K, value: V) -> LeafId
+    fn put_beyond(&mut self, prev: Option<CellId>, row: usize, key: K, value: V) -> CellId
         requires prev { IfSome prev (Has self.old.pairs) }
         requires has { Has self.old.rows row }
         requires index { spot_index prev self.old.pairs ≡ row_end (Some row) self.old.rows }
@@ -170,7 +170,7 @@ impl<K: Drop, V: Drop> Leaves<K, V> {
     }
 
     // Where a pair after a leaf, which may stand where it was seen, or in front of all, has its place; nowhere while there is no row.
-    fn spot(&self, prev: Option<LeafId>, seen: Position) -> Option<Position>
+    fn spot(&self, prev: Option<CellId>, seen: Position) -> Option<Position>
         requires { IfSome prev (Has self.now.pairs) }
         ensures some { IfSome result (λ p. IsSpot self.now.rows p (spot_index prev self.now.pairs)) }
         ensures none { IfNone result (self.now.rows ≡ []) }
@@ -195,7 +195,7 @@ impl<K: Drop, V: Drop> Leaves<K, V> {
 
     // Puts a pair at a spot of a row that is not full.
     #[inline(always)]
-    fn put(&mut self, prev: Option<LeafId>, position: Position, key: K, value: V) -> LeafId
+    fn put(&mut self, prev: Option<CellId>, position: Position, key: K, value: V) -> CellId
         requires prev { IfSome prev (Has self.old.pairs) }
         requires spot { IsSpot self.old.rows position (spot_index prev self.old.pairs) }
         requires room { IfSome (leaf_in self.old.rows position.row) (λ ids. length ids < ROW) }
@@ -213,7 +213,7 @@ impl<K: Drop, V: Drop> Leaves<K, V> {
     // Puts a pair into a new row, after another or in front of all.
     #[cold]
     #[inline(never)]
-    fn begin(&mut self, prev: Option<LeafId>, prev_row: Option<usize>, key: K, value: V) -> LeafId
+    fn begin(&mut self, prev: Option<CellId>, prev_row: Option<usize>, key: K, value: V) -> CellId
         requires spare_rows { 0 < self.old.spare_rows }
         requires prev { IfSome prev (Has self.old.pairs) }
         requires prev_row { IfSome prev_row (Has self.old.rows) }

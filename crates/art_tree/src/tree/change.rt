@@ -1,20 +1,23 @@
-//! Changes to a tree that place nothing, and the look-up of the pair that begins a query.
-ghost use Rattle.std.specs.Prelude.{◌≡◌, ◌+◌, ◌<◌, ◌≤◌, [], option_map, Some, OnOk, OnErr};
+//! Pairs exchanged, removed and written.
+ghost use Rattle.std.specs.Prelude.{◌≡◌, ◌<◌, ◌≤◌, [], length, option_map, Some, None, OnOk, OnErr};
 ghost use Rattle.std.specs.Borrow.{sem};
-ghost use Rattle.art_tree.specs.Leaves.{leaf_in, Has, with_pair, bytes};
+ghost use Rattle.blart_keys.specs.Content.{at, under, without};
+ghost use Rattle.blart_keys.specs.Outside.{outside};
+ghost use Rattle.art_tree.specs.Leaves.{leaf_in, Has, OthersStand, with_pair, without_number, bytes};
 ghost use Rattle.art_tree.specs.Content.{room};
 ghost use Rattle.art_tree.specs.Takes.{MayTake};
 ghost use Rattle.art_tree.specs.TreeLends.{lends_leaf};
 
-use crate::lists::begins;
+use crate::ids::cell_of;
+use crate::leaf_id::LeafId;
+use crate::named::Named;
 use crate::tree::Tree;
-use art_kinds::Child;
-use art_slots::{LeafId, Visits};
 use blart_keys::AsBytes;
 use std::alloc::AllocError;
 
 impl<K: AsBytes + Drop, V: Drop, const PREFIX_LEN: usize> Tree<K, V, PREFIX_LEN> {
-    /// Exchanges the pair of a leaf, and gives the old one. The new key is related to the old one and to no other. Takes no memory.
+    /// Replaces the pair of a leaf, and returns the old one. The new key is related to the old one
+    /// and to no other. The other leaves are unchanged. Does not allocate.
     pub fn swap(&mut self, id: LeafId, key: K, value: V) -> (K, V)
         requires has { Has self.old.pairs id }
         requires may { MayTake K.bytes self.old.pairs id (K.bytes key) }
@@ -22,8 +25,10 @@ impl<K: AsBytes + Drop, V: Drop, const PREFIX_LEN: usize> Tree<K, V, PREFIX_LEN>
         ensures pairs { self.new.pairs ≡ with_pair self.old.pairs id (key, value) }
         ensures spares { self.new.spares ≡ self.old.spares }
     {
-        self.leaves.law();
-        self.leaves.exchange(id, key, value)
+        self.cells.law();
+        let cell = cell_of(&self.cells, &self.ids, id);
+        let (old_key, named) = self.cells.swap(cell, key, Named { id, value });
+        (old_key, named.value)
     }
 
     /// Drops every pair, and every spare record.
@@ -31,35 +36,69 @@ impl<K: AsBytes + Drop, V: Drop, const PREFIX_LEN: usize> Tree<K, V, PREFIX_LEN>
         ensures pairs { self.new.pairs ≡ [] }
         ensures room { room self.new ≡ 0 }
     {
-        self.leaves.clear();
-        self.nodes.clear();
-        self.root = None;
+        self.cells.clear();
+        self.ids.clear();
     }
 
-    /// Makes room for so many placements. Refused or not, the pairs stand.
+    /// Makes room for `count` placements. The pairs are unchanged, also if memory runs out.
     pub fn reserve(&mut self, count: usize) -> Result<(), AllocError>
         ensures pairs { self.new.pairs ≡ self.old.pairs }
         ensures grows { room self.old ≤ room self.new }
         ensures ok { OnOk result (count ≤ room self.new) }
         ensures refused { OnErr result (0 < count) }
     {
-        self.leaves.reserve(count)?;
-        self.nodes.reserve(count)
+        self.cells.reserve(count)?;
+        self.ids.reserve(count)
+    }
+
+    /// Removes a leaf, and returns its pair. Does not allocate. The id of each other leaf stays.
+    pub fn remove(&mut self, id: LeafId) -> (K, V)
+        requires { Has self.old.pairs id }
+        ensures value { leaf_in self.old.pairs id ≡ Some result }
+        ensures rest { self.new.pairs ≡ without_number self.old.pairs id }
+        ensures others { OthersStand self.old.pairs self.new.pairs id }
+        ensures gone { leaf_in self.new.pairs id ≡ None }
+    {
+        self.cells.law();
+        let cell = cell_of(&self.cells, &self.ids, id);
+        let (key, named) = self.cells.remove(cell);
+        self.cells.law();
+        self.ids.remove(id.number());
+        (key, named.value)
+    }
+
+    /// Removes the pair with these bytes, and returns it, by one descent. Does not allocate. The id
+    /// of each other leaf stays.
+    pub fn take(&mut self, query: &[u8]) -> Option<(K, V)>
+        ensures taken { result
+            ≡ option_map (λ p. p.1) (at (bytes K.bytes) self.old.pairs query.now) }
+        ensures rest { self.new.pairs ≡ without (bytes K.bytes) self.old.pairs query.now }
+    {
+        self.cells.law();
+        let Some((key, named)) = self.cells.take(query) else {
+            return None;
+        };
+        self.cells.law();
+        self.ids.remove(named.id.number());
+        Some((key, named.value))
     }
 }
 
 impl<K: AsBytes, V, const PREFIX_LEN: usize> Tree<K, V, PREFIX_LEN> {
-    /// The key of a leaf, and its value to be written.
+    /// Returns the key of a leaf, and a mutable reference to its value.
     pub fn leaf_mut(&mut self, id: LeafId) -> (&K, &mut V)
         requires { Has self.old.pairs id }
         ensures* writes_back { sem 𝓛
             (lends_leaf K.row V.row PREFIX_LEN.row K.AsBytes self.entry id result.1) }
         ensures value { leaf_in self.old.pairs id ≡ Some (result.0.now, result.1.now) }
     {
-        self.leaves.get_mut(id)
+        self.cells.law();
+        let cell = cell_of(&self.cells, &self.ids, id);
+        let (key, named) = self.cells.leaf_mut(cell);
+        (key, named.value_mut())
     }
 
-    /// The value of a leaf, to be written.
+    /// Returns a mutable reference to the value of a leaf.
     pub fn value_mut(&mut self, id: LeafId) -> &mut V
         requires { Has self.old.pairs id }
         ensures* writes_back { sem 𝓛

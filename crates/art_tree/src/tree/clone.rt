@@ -7,7 +7,8 @@ use blart_keys::AsBytes;
 use std::alloc::AllocError;
 
 impl<K: AsBytes + Clone, V: Clone, const PREFIX_LEN: usize> Tree<K, V, PREFIX_LEN> {
-    /// A tree of clones of the pairs, each under the number that it has here. It takes the memory that this tree has.
+    /// Returns a tree of clones of the pairs, each under the id that it has here, or an error if it
+    /// fails to allocate. It takes as much memory as this tree has.
     pub fn clone(&self) -> Result<Self, AllocError>
         requires { (k j : K) (v : V) → Contains (map (λ p. p.1) self.now.pairs) (k, v)
             → K.is_clone k j → K.bytes j ≡ K.bytes k }
@@ -17,9 +18,8 @@ impl<K: AsBytes + Clone, V: Clone, const PREFIX_LEN: usize> Tree<K, V, PREFIX_LE
             map (λ p. p.0) copy.pairs ≡ map (λ p. p.0) self.now.pairs) }
     {
         Ok(Tree {
-            leaves: self.leaves.clone()?,
-            nodes: self.nodes.clone()?,
-            root: self.root,
+            cells: self.cells.clone()?,
+            ids: self.ids.clone()?,
         })
     }
 }

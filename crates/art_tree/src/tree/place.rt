@@ -1,450 +1,158 @@
-//! A leaf joins the tree.
-ghost use Rattle.std.specs.Prelude.{◌≡◌, ◌≢◌, ℕ, ◌+◌, ◌-◌, ◌^◌, ◌<◌, ◌≤◌, [], length, take, slice_range, slice_index_or, true, Option, Some, IfSome, eqb, if◌then◌else◌};
-ghost use Rattle.art_tree.specs.Begins.{Bytes};
-ghost use Rattle.art_tree.specs.Invariant.Shape.{Shape};
-ghost use Rattle.art_tree.specs.Calls.Spots.{SpotFits};
-ghost use Rattle.art_tree.specs.Invariant.EdgesAbove.{LeadsTo, TurnsTo, AscendsAt};
-ghost use Rattle.art_tree.specs.Content.{Fits, IsOpen, room as places};
-ghost use Rattle.art_tree.specs.Calls.Placing.{IsSpotFor, HasNearest, IsOverLeaf, IsToJoin, TreeGains, Forks, DepthWithin, KeepsFrom, PutsPair, content_of};
-ghost use Rattle.art_kinds.specs.Nodes.{at, room, FitsNew, SameSpares};
-ghost use Rattle.art_tree.specs.Leaves.{keys_in, room as leaves_room};
-ghost use Rattle.art_tree.specs.Calls.Removing.{StartsBelow, EndsBelow, Cuts};
-ghost use Rattle.art_tree.specs.Points.{IsFree, IsGood};
-ghost use Rattle.art_tree.specs.Invariant.Sound.{IsSound};
-ghost use Rattle.art_kinds.specs.declared.records.ids.Child.{Child as Way};
-ghost use Rattle.art_kinds.specs.declared.records.ids.Child.TheVariants.{Inner};
+//! Points, and pairs placed there.
+ghost use Rattle.std.specs.Prelude.{◌≡◌, ◌+◌, ◌<◌, ◌≤◌, ℕ, List, map, Some, None, IsSome, OnOk, OnErr};
+ghost use Rattle.blart_keys.specs.Content.{IsPut};
+ghost use Rattle.blart_keys.specs.Steps.{bytes as pair_bytes};
+ghost use Rattle.art_slots.specs.Store.{slot_at, used_count};
+ghost use Rattle.art_cells.specs.Content.{IsOpen as IsOpenCell, Fits as FitsCell};
+ghost use Rattle.art_cells.specs.Points.{IsGood as IsGoodCell, IsFree as IsFreeCell};
+ghost use Rattle.art_tree.specs.Leaves.{leaf_in, Has, OthersStand};
+ghost use Rattle.art_tree.specs.Content.{Content, room, Fits, IsOpen};
+ghost use Rattle.art_tree.specs.Points.{IsGood, IsFree};
+ghost use Rattle.art_tree.specs.UnderIds.{under_ids, AreLed, IsToLead};
+ghost use Rattle.art_tree.specs.declared.named.Named.{Named};
 
-use crate::tree::descent::{EdgeAbove, Spot, locate};
-use crate::tree::parting::leaf_before;
+use crate::ids::{cell_of, id_of};
+use crate::leaf_id::LeafId;
+use crate::named::Named;
+use crate::tree::Tree;
 use crate::tree::point::{Place, Point};
-use crate::tree::remove::spot_of;
-use art_kinds::{Child, Edge, NodeId, Nodes};
-use art_rows::{Leaves, Position};
-use art_slots::{LeafId, Visits};
+use art_cells::{Beside, CellPlace, CellPoint, CellTree, Placed};
+use art_slots::{CellId, Store, Visits};
 use blart_keys::AsBytes;
+use std::alloc::AllocError;
 
-// A leaf that joins the tree. Its key leaves that of another, the nearest one, at this depth.
-#[derive(Clone, Copy)]
-struct NewLeaf<'a> {
-    id: LeafId,
-    key: &'a [u8],
-    nearest: &'a [u8],
-    depth: usize,
+impl<K: AsBytes, V, const PREFIX_LEN: usize> Tree<K, V, PREFIX_LEN> {
+    /// Returns where the bytes are, or would go. The point is good for them while the pairs are
+    /// unchanged.
+    pub fn point(&self, query: &[u8]) -> Point
+        ensures { IsGood K.bytes self.now.pairs result query.now }
+    {
+        self.cells.law();
+        let mut visits = Visits::new();
+        match self.cells.point(query) {
+            CellPoint::Empty => Point::Empty,
+            CellPoint::Exact(cell) => Point::Exact(id_of(&self.cells, cell, &mut visits)),
+            CellPoint::Related { first, last } => {
+                let first = id_of(&self.cells, first, &mut visits);
+                let last = id_of(&self.cells, last, &mut visits);
+                Point::Related { first, last }
+            }
+            CellPoint::Free(seen) => {
+                let nearest = id_of(&self.cells, seen.nearest, &mut visits);
+                Point::Free(Place { nearest, seen })
+            }
+        }
+    }
 }
 
-/// Places a pair at a point that is good for its key. Answers its leaf, and the root.
-pub(crate) fn place_at<K: AsBytes + Drop, V: Drop, const P: usize>(
-    leaves: &mut Leaves<K, V>,
-    nodes: &mut Nodes<P>,
-    root: &Option<Child>,
+impl<K: AsBytes + Drop, V: Drop, const PREFIX_LEN: usize> Tree<K, V, PREFIX_LEN> {
+    /// Makes room, so that a pair may be placed at the point. The pairs are unchanged, also if
+    /// memory runs out, and the point stays good.
+    pub fn make_room(&mut self, point: &Point) -> Result<(), AllocError>
+        ensures pairs { self.new.pairs ≡ self.old.pairs }
+        ensures fits { OnOk result (Fits self.new point.now) }
+        ensures room { room self.old ≤ room self.new }
+        ensures refused { OnErr result (IsOpen point.now) }
+    {
+        match point {
+            Point::Exact(_) | Point::Related { .. } => Ok(()),
+            Point::Empty => {
+                self.cells.make_room(&CellPoint::Empty)?;
+                self.ids.reserve(1)
+            }
+            Point::Free(place) => {
+                self.cells.make_room(&CellPoint::Free(place.seen))?;
+                self.ids.reserve(1)
+            }
+        }
+    }
+
+    /// Places a pair at a point that is good for its key and fits. Returns its leaf. Each other id
+    /// names the pair that it named. Does not allocate.
+    pub fn place(&mut self, point: Point, key: K, value: V) -> LeafId
+        requires good { IsGood K.bytes self.old.pairs point (K.bytes key) }
+        requires open { IsOpen point }
+        requires fits { Fits self.old point }
+        ensures put { IsPut (pair_bytes K.bytes) (map (λ p. p.1) self.old.pairs) (key, value)
+            (map (λ p. p.1) self.new.pairs) }
+        ensures fresh { leaf_in self.old.pairs result ≡ None }
+        ensures now { leaf_in self.new.pairs result ≡ Some (key, value) }
+        ensures others { OthersStand self.old.pairs self.new.pairs result }
+        ensures room { room self.old ≤ room self.new + 1 }
+    {
+        self.cells.law();
+        let at = cell_point(&self.cells, &self.ids, &point);
+        let id = LeafId::new(self.ids.fill(CellId::new(0)));
+        let placed = self.cells.place(at, key, Named { id, value });
+        self.cells.law();
+        lead_to(&self.cells, &mut self.ids, id, &placed);
+        id
+    }
+}
+
+// The point in the tree over cells.
+fn cell_point<K: AsBytes, V, const P: usize>(
+    cells: &CellTree<K, Named<V>, P>,
+    ids: &Store<CellId>,
     point: &Point,
-    key: K,
-    value: V,
-) -> (LeafId, Child)
-    requires whole { IsSound K.bytes P leaves.old nodes.old root.now }
-    requires good { IsGood K.bytes leaves.old.pairs point.now (K.bytes key) }
+) -> CellPoint
+    requires led { AreLed (slot_at ids.now) cells.now.pairs }
+    requires good { (q : List ℕ) × IsGood K.bytes (under_ids cells.now.pairs) point.now q }
     requires open { IsOpen point.now }
-    requires fits { Fits (content_of leaves.old nodes.old) point.now }
-    ensures placed { PutsPair K.bytes leaves.old.pairs leaves.new.pairs result.0 (key, value) }
-    ensures whole { IsSound K.bytes P leaves.new nodes.new (Some result.1) }
-    ensures room { places (content_of leaves.old nodes.old)
-        ≤ places (content_of leaves.new nodes.new) + 1 }
+    ensures good { (q : List ℕ) → IsGood K.bytes (under_ids cells.now.pairs) point.now q
+        → IsGoodCell K.bytes cells.now.pairs result q }
+    ensures open { IsOpenCell result }
+    ensures fits { (t : Content K V) (u : Content K (Named V))
+        → t.spares.leaves ≤ u.spares.leaves → t.spares.nodes ≤ u.spares.nodes
+        → Fits t point.now → FitsCell u result }
 {
     match point {
-        Point::Empty => place_first(leaves, nodes, root, key, value),
-        Point::Free(place) => match root {
-            Some(root) => place_beside(leaves, nodes, root, place, key, value),
-            None => unreachable!(),
-        },
+        Point::Empty => CellPoint::Empty,
+        Point::Free(place) => CellPoint::Free(cell_place(cells, ids, place)),
         _ => unreachable!(),
     }
 }
 
-// Places the first pair. Answers its leaf, and the root.
-fn place_first<K: AsBytes + Drop, V: Drop, const P: usize>(
-    leaves: &mut Leaves<K, V>,
-    nodes: &Nodes<P>,
-    root: &Option<Child>,
-    key: K,
-    value: V,
-) -> (LeafId, Child)
-    requires whole { IsSound K.bytes P leaves.old nodes.now root.now }
-    requires empty { leaves.old.pairs ≡ [] }
-    requires room { 0 < leaves_room leaves.old }
-    ensures placed { PutsPair K.bytes leaves.old.pairs leaves.new.pairs result.0 (key, value) }
-    ensures whole { IsSound K.bytes P leaves.new nodes.now (Some result.1) }
-    ensures room { leaves_room leaves.old ≤ leaves_room leaves.new + 1 }
-{
-    let id = leaves.insert(None, Position::unknown(), key, value);
-    (id, Child::Leaf(id))
-}
-
-// Places a pair where others stand. Answers its leaf, and the root.
-fn place_beside<K: AsBytes + Drop, V: Drop, const P: usize>(
-    leaves: &mut Leaves<K, V>,
-    nodes: &mut Nodes<P>,
-    root: &Child,
+// The place in the tree over cells, beside the cell that the nearest leaf lies in now.
+fn cell_place<K: AsBytes, V, const P: usize>(
+    cells: &CellTree<K, Named<V>, P>,
+    ids: &Store<CellId>,
     place: &Place,
-    key: K,
-    value: V,
-) -> (LeafId, Child)
-    requires whole { IsSound K.bytes P leaves.old nodes.old (Some root.now) }
-    requires free { IsFree K.bytes leaves.old.pairs place.now (K.bytes key) }
-    requires leaves_room { 0 < leaves_room leaves.old }
-    requires nodes_room { 0 < room nodes.old }
-    ensures placed { PutsPair K.bytes leaves.old.pairs leaves.new.pairs result.0 (key, value) }
-    ensures whole { IsSound K.bytes P leaves.new nodes.new (Some result.1) }
-    ensures leaves_room { leaves_room leaves.old ≤ leaves_room leaves.new + 1 }
-    ensures nodes_room { room nodes.old ≤ room nodes.new + 1 }
+) -> CellPlace
+    requires led { AreLed (slot_at ids.now) cells.now.pairs }
+    requires has { Has (under_ids cells.now.pairs) place.now.nearest }
+    ensures { (q : List ℕ) → IsFree K.bytes (under_ids cells.now.pairs) place.now q
+        → IsFreeCell K.bytes cells.now.pairs result q }
 {
-    leaves.law();
-    let (prev, mut seen) = leaf_before(leaves, &place.beside);
-    // The prover takes an `Option<LeafId>` that is passed on as moved, so this is a copy.
-    let after = prev;
-    let Some(last) = leaves.crowd(after, &mut seen) else {
-        let id = leaves.insert(prev, seen, key, value);
-        let top = join(leaves, nodes, root, place, id);
-        return (id, top);
+    cells.law();
+    let nearest = cell_of(cells, ids, place.nearest);
+    let beside = match place.seen.beside {
+        Beside::AfterLeaf(_) => Beside::AfterLeaf(nearest),
+        Beside::BeforeLeaf(_) => Beside::BeforeLeaf(nearest),
     };
-    let spot = spot_of(leaves, nodes, &Some(*root), &last);
-    let (id, moved) = leaves.insert_crowded(prev, seen, last, key, value);
-    let led = lead(nodes, root, &spot.edge, &Child::Leaf(moved));
-    let top = join(leaves, nodes, &led, &renumbered(place, last, moved), id);
-    (id, top)
+    CellPlace {
+        nearest,
+        beside,
+        ..place.seen
+    }
 }
 
-// A place after a leaf's number became another.
-fn renumbered(place: &Place, was: LeafId, now: LeafId) -> Place
-    ensures nearest { result.nearest ≡ (if eqb place.now.nearest was then now else place.now.nearest) }
-    ensures depth { result.depth ≡ place.now.depth }
-{
-    let nearest = if place.nearest == was {
-        now
-    } else {
-        place.nearest
-    };
-    Place { nearest, ..*place }
-}
-
-// Leads the tree to a leaf whose key leaves the nearest one at a place. Answers the root.
-fn join<K: AsBytes, V, const P: usize>(
-    leaves: &Leaves<K, V>,
-    nodes: &mut Nodes<P>,
-    root: &Child,
-    place: &Place,
+// Has the ids lead to the cells of a leaf that was placed, and of the one that moved, if one did.
+fn lead_to<K: AsBytes, V, const P: usize>(
+    cells: &CellTree<K, Named<V>, P>,
+    ids: &mut Store<CellId>,
     id: LeafId,
-) -> Child
-    requires joins { IsToJoin P (keys_in K.bytes leaves.now.pairs) (at nodes.old) root.now
-        place.now.nearest place.now.depth id }
-    requires room { 0 < room nodes.old }
-    ensures shape { Shape P (keys_in K.bytes leaves.now.pairs) (at nodes.new) (Some result) }
-    ensures room { room nodes.old ≤ room nodes.new + 1 }
-{
-    let mut visits = Visits::new();
-    let (own, _) = leaves.read(id, &mut visits);
-    let (nearest, _) = leaves.read(place.nearest, &mut visits);
-    let leaf = NewLeaf {
-        id,
-        key: own.as_bytes(),
-        nearest: nearest.as_bytes(),
-        depth: place.depth,
-    };
-    let spot = spot_for(nodes, root, place, leaf.key, leaf.nearest);
-    add_leaf(nodes, root, &spot, &leaf)
-}
-
-// Where a key leaves the nearest key at the depth of a place: at the end of the place's edge, where that shows, or else at the end of a way down.
-fn spot_for<const P: usize>(
-    nodes: &Nodes<P>,
-    root: &Child,
-    place: &Place,
-    key: &[u8],
-    nearest: &[u8],
-) -> Spot
-    requires nearest { HasNearest P (at nodes.now) root.now place.now nearest.now }
-    requires long { place.now.depth ≤ length key.now }
-    ensures { (keys : ℕ → Option Bytes) (s : Shape P keys (at nodes.now) (Some root.now))
-        → keys place.now.nearest ≡ Some nearest.now
-        → SpotFits (at nodes.now) (Some root.now) s.front_of nearest.now place.now.depth result }
-{
-    match spot_shown(nodes, root, place, key) {
-        Some(spot) => spot,
-        None => locate(nodes, root, nearest, place.depth, &mut Visits::new()),
-    }
-}
-
-// The spot at the end of a place's edge, where the nearest leaf is at hand to show it. No leaf is read.
-fn spot_shown<const P: usize>(
-    nodes: &Nodes<P>,
-    root: &Child,
-    place: &Place,
-    key: &[u8],
-) -> Option<Spot>
-    requires { place.now.depth ≤ length key.now }
-    ensures { IfSome result (λ spot. (keys : ℕ → Option Bytes)
-        (s : Shape P keys (at nodes.now) (Some root.now)) (nearest : Bytes)
-        → keys place.now.nearest ≡ Some nearest → place.now.depth ≤ length nearest
-        → SpotFits (at nodes.now) (Some root.now) s.front_of nearest place.now.depth spot) }
-{
-    let (above, child) = edge_toward(nodes, root, place, key)?;
-    match child {
-        Child::Leaf(id) => {
-            if id != place.nearest {
-                return None;
-            }
-            Some(Spot::Edge(above, Child::Leaf(id)))
-        }
-        Child::Inner(id) => {
-            if !is_over_nearest(nodes, &id, place) {
-                return None;
-            }
-            Some(Spot::Node(above, id))
-        }
-    }
-}
-
-// The edge over a place, and what stands below: from the node that the place names, if that is less deep, by the byte of the key that goes there; or the way into the root.
-fn edge_toward<const P: usize>(
-    nodes: &Nodes<P>,
-    root: &Child,
-    place: &Place,
-    key: &[u8],
-) -> Option<(EdgeAbove, Child)>
-    requires { place.now.depth ≤ length key.now }
-    ensures leads { IfSome result (λ e. LeadsTo (at nodes.now) (Some root.now) e.0 e.1) }
-    ensures ends { IfSome result (λ e. EndsBelow (at nodes.now) e.0 place.now.depth) }
-{
-    let Some(parent) = place.above else {
-        return Some((None, *root));
-    };
-    if !nodes.has(parent) {
-        return None;
-    }
-    let node = nodes.read(parent, &mut Visits::new());
-    let depth = node.depth();
-    if depth >= place.depth {
-        return None;
-    }
-    let byte = key[depth];
-    let child = node.find(byte)?;
-    Some((Some((parent, byte)), child))
-}
-
-// Whether a node is as deep as a place and has the nearest key below the place's byte.
-fn is_over_nearest<const P: usize>(nodes: &Nodes<P>, id: &NodeId, place: &Place) -> bool
-    ensures { result ≡ true
-        → IsOverLeaf (at nodes.now) id.now place.now.depth place.now.byte place.now.nearest }
-{
-    if !nodes.has(*id) {
-        return false;
-    }
-    let node = nodes.read(*id, &mut Visits::new());
-    if node.depth() != place.depth {
-        return false;
-    }
-    let Some(child) = node.find(place.byte) else {
-        return false;
-    };
-    match child {
-        Child::Leaf(leaf) => leaf == place.nearest,
-        Child::Inner(_) => false,
-    }
-}
-
-// Adds a leaf where its key leaves the nearest key. Answers the root.
-fn add_leaf<const P: usize>(
-    nodes: &mut Nodes<P>,
-    root: &Child,
-    spot: &Spot,
-    leaf: &NewLeaf<'_>,
-) -> Child
-    requires spot_fits { IsSpotFor P (at nodes.old) root.now spot.now
-        leaf.now.key.now leaf.now.nearest.now leaf.now.depth }
-    requires fits { 0 < room nodes.old }
-    ensures gains { TreeGains P (at nodes.old) (at nodes.new) root.now result
-        spot.now leaf.now.key.now leaf.now.nearest.now leaf.now.depth leaf.now.id }
-    ensures room { room nodes.old ≤ room nodes.new + 1 }
-{
-    match spot {
-        Spot::Node(above, node) => add_at_node(nodes, root, above, node, leaf),
-        Spot::Edge(above, child) => add_at_edge(nodes, root, above, child, leaf),
-    }
-}
-
-// Adds a leaf to a node where its key leaves the others. Answers the root.
-fn add_at_node<const P: usize>(
-    nodes: &mut Nodes<P>,
-    root: &Child,
-    above: &EdgeAbove,
-    node: &NodeId,
-    leaf: &NewLeaf<'_>,
-) -> Child
-    requires spot_fits { IsSpotFor P (at nodes.old) root.now
-        (Spot.Node above.now node.now) leaf.now.key.now leaf.now.nearest.now leaf.now.depth }
-    requires fits { 0 < room nodes.old }
-    ensures gains { TreeGains P (at nodes.old) (at nodes.new) root.now result
-        (Spot.Node above.now node.now) leaf.now.key.now leaf.now.nearest.now leaf.now.depth
-        leaf.now.id }
-    ensures room { room nodes.old ≤ room nodes.new + 1 }
-{
-    let wide = nodes.widen(*node);
-    let top = follow(nodes, root, above, *node, wide);
-    nodes.add_edge(wide, leaf.key[leaf.depth], Child::Leaf(leaf.id));
-    top
-}
-
-// Leads the edge above a node to the number that the node has now, where that is another one. Answers the root.
-fn follow<const P: usize>(
-    nodes: &mut Nodes<P>,
-    root: &Child,
-    above: &EdgeAbove,
-    node: NodeId,
-    now: NodeId,
-) -> Child
-    requires leads { LeadsTo (at nodes.old) (Some root.now) above.now (Inner node) }
-    requires ascends { AscendsAt (at nodes.old) above.now }
-    ensures turned { TurnsTo (at nodes.old) (at nodes.new) (Some root.now) (Some result)
-        above.now (Inner now) }
-    ensures spares { SameSpares nodes.old nodes.new }
-{
-    if now == node {
-        return *root;
-    }
-    lead(nodes, root, above, &Child::Inner(now))
-}
-
-// Adds a leaf at an edge where its key leaves those below, under a new node. Answers the root.
-fn add_at_edge<const P: usize>(
-    nodes: &mut Nodes<P>,
-    root: &Child,
-    above: &EdgeAbove,
-    child: &Child,
-    leaf: &NewLeaf<'_>,
-) -> Child
-    requires spot_fits { IsSpotFor P (at nodes.old) root.now
-        (Spot.Edge above.now child.now) leaf.now.key.now leaf.now.nearest.now leaf.now.depth }
-    requires fits { FitsNew nodes.old }
-    ensures gains { TreeGains P (at nodes.old) (at nodes.new) root.now result
-        (Spot.Edge above.now child.now) leaf.now.key.now leaf.now.nearest.now leaf.now.depth
-        leaf.now.id }
-    ensures room { room nodes.old ≤ room nodes.new + 1 }
-{
-    let depth = leaf.depth;
-    let start = start_below(nodes, above);
-    let byte = byte_on(nodes, child, leaf.nearest, start, depth);
-    cut_prefix(nodes, child, leaf.nearest, start, depth + 1);
-    let own = Edge {
-        byte: leaf.key[depth],
-        to: Child::Leaf(leaf.id),
-    };
-    let other = Edge { byte, to: *child };
-    let made = fork(nodes, depth, &leaf.key[start..depth], &own, &other);
-    lead(nodes, root, above, &Child::Inner(made))
-}
-
-/// Leads the edge above a child elsewhere. Answers the root.
-pub(crate) fn lead<const P: usize>(
-    nodes: &mut Nodes<P>,
-    root: &Child,
-    above: &EdgeAbove,
-    to: &Child,
-) -> Child
-    requires { (child : Way) × LeadsTo (at nodes.old) (Some root.now) above.now child }
-    ensures turned { TurnsTo (at nodes.old) (at nodes.new) (Some root.now) (Some result)
-        above.now to.now }
-    ensures spares { SameSpares nodes.old nodes.new }
-{
-    match above {
-        None => *to,
-        Some((parent, byte)) => {
-            nodes.redirect(*parent, *byte, *to);
-            *root
-        }
-    }
-}
-
-// Makes a node with two edges.
-fn fork<const P: usize>(
-    nodes: &mut Nodes<P>,
-    depth: usize,
-    prefix: &[u8],
-    one: &Edge,
-    other: &Edge,
-) -> NodeId
-    requires fits { FitsNew nodes.old }
-    requires apart { one.now.byte ≢ other.now.byte }
-    ensures made { Forks (at nodes.old) (at nodes.new) result depth
-        (take P prefix.now) one.now other.now }
-    ensures room { room nodes.old ≤ room nodes.new + 1 }
-{
-    if one.byte < other.byte {
-        nodes.new_node(depth, prefix, *one, *other)
-    } else {
-        nodes.new_node(depth, prefix, *other, *one)
-    }
-}
-
-/// Where the compressed prefix below an edge begins.
-pub(crate) fn start_below<const P: usize>(nodes: &Nodes<P>, above: &EdgeAbove) -> usize
-    requires { EndsBelow (at nodes.now) above.now (2 ^ 64 - 1) }
-    ensures { StartsBelow (at nodes.now) above.now result }
-{
-    match above {
-        None => 0,
-        Some((parent, _)) => nodes.read(*parent, &mut Visits::new()).depth() + 1,
-    }
-}
-
-/// The byte by which a child goes on at a depth, where the compressed prefix above it begins at `from`: one that a node keeps, or else one of a key below it.
-pub(crate) fn byte_on<const P: usize>(
-    nodes: &Nodes<P>,
-    child: &Child,
-    key: &[u8],
-    from: usize,
-    depth: usize,
-) -> u8
-    requires live { DepthWithin (at nodes.now) child.now (depth + 1) (length key.now) }
-    requires long { depth < length key.now }
-    requires kept { KeepsFrom P (at nodes.now) child.now key.now from }
-    requires reaches { from ≤ depth }
-    ensures { result ≡ slice_index_or key.now depth 0 }
-{
-    match child {
-        Child::Leaf(_) => key[depth],
-        Child::Inner(id) => {
-            let node = nodes.read(*id, &mut Visits::new());
-            match node.prefix_byte(depth - from) {
-                Some(byte) => byte,
-                None => key[depth],
-            }
-        }
-    }
-}
-
-/// Cuts the compressed prefix of a node. It began at `from`, and begins at `start` now: the node keeps the rest of what it kept where that was the whole prefix, and else bytes of a key below it.
-pub(crate) fn cut_prefix<const P: usize>(
-    nodes: &mut Nodes<P>,
-    child: &Child,
-    key: &[u8],
-    from: usize,
-    start: usize,
+    placed: &Placed,
 )
-    requires live { DepthWithin (at nodes.old) child.now start (length key.now) }
-    requires kept { KeepsFrom P (at nodes.old) child.now key.now from }
-    requires reaches { from ≤ start }
-    ensures cut { Cuts (at nodes.old) (at nodes.new) child.now
-        (λ end. take P (slice_range key.now start end)) }
-    ensures spares { SameSpares nodes.old nodes.new }
+    requires to_lead { IsToLead (slot_at ids.old) cells.now.pairs placed.now id }
+    requires slot { IsSome (slot_at ids.old id) }
+    ensures led { AreLed (slot_at ids.new) cells.now.pairs }
+    ensures spare { ids.new.spare ≡ ids.old.spare }
 {
-    match child {
-        Child::Leaf(_) => {}
-        Child::Inner(id) => {
-            let end = nodes.read(*id, &mut Visits::new()).depth();
-            if end - from <= P {
-                nodes.cut_prefix(*id, start - from);
-            } else {
-                nodes.set_prefix(*id, &key[start..end]);
-            }
-        }
+    cells.law();
+    *ids.get_mut(id.number()) = placed.cell;
+    if let Some(to) = placed.moved {
+        let moved = id_of(cells, to, &mut Visits::new());
+        *ids.get_mut(moved.number()) = to;
     }
 }

@@ -1,33 +1,19 @@
-//! Where some bytes stand in a tree, or would go.
-ghost use Rattle.std.specs.Prelude.{ℕ, Option, Some};
-ghost use Rattle.art_tree.specs.Begins.{Bytes};
-ghost use Rattle.art_tree.specs.Places.{LeavesNearest, IsBeside};
-ghost use Rattle.art_tree.specs.Calls.Stops.{IsPlaceUnder};
-ghost use Rattle.art_kinds.specs.Nodes.{at};
-ghost use Rattle.art_tree.specs.Points.{IsGood};
-ghost use Rattle.art_tree.specs.Invariant.Sound.{IsSound};
+//! Where some bytes are in a tree, or would go.
 
-use crate::tree::descent::end_under;
-use crate::tree::parting::{Beside, edge_beside};
-use crate::tree::stop::{Stop, stop_of};
-use art_kinds::{Child, Edge, NodeId, Nodes};
-use art_rows::Leaves;
-use art_slots::{LeafId, Visits};
-use blart_keys::AsBytes;
+use crate::leaf_id::LeafId;
+use art_cells::CellPlace;
 
-/// A place for a key that is related to no stored key. It is good for the bytes that it was found for, while the pairs are unchanged.
+/// A place for a key that is related to no stored key. It is good for the bytes that it was found
+/// for, while the pairs are unchanged.
 #[derive(Clone, Copy)]
 pub struct Place {
-    // A leaf whose key goes along with the bytes for `depth` bytes. No key goes on as they do.
+    // A leaf beside the place.
     pub(crate) nearest: LeafId,
-    pub(crate) depth: usize,
-    pub(crate) beside: Beside,
-    // The node of the edge over the place, as long as that stands, and none at the root; and the byte of an edge to the nearest leaf.
-    pub(crate) above: Option<NodeId>,
-    pub(crate) byte: u8,
+    // The place in the tree over cells as it was found. The leaf's cell may be another by now.
+    pub(crate) seen: CellPlace,
 }
 
-/// Where some bytes stand in a tree, or would go.
+/// Where some bytes are in a tree, or would go.
 #[derive(Clone, Copy)]
 pub enum Point {
     /// The tree has no pairs.
@@ -43,75 +29,4 @@ pub enum Point {
     },
     /// No stored key is related to the bytes, which would go here.
     Free(Place),
-}
-
-/// Where the bytes stand in a tree with some pairs, or would go.
-pub(crate) fn point_below<K: AsBytes, V, const P: usize>(
-    leaves: &Leaves<K, V>,
-    nodes: &Nodes<P>,
-    root: &Child,
-    query: &[u8],
-) -> Point
-    requires { IsSound K.bytes P leaves.now nodes.now (Some root.now) }
-    ensures { IsGood K.bytes leaves.now.pairs result query.now }
-{
-    leaves.law();
-    let mut visits = Visits::new();
-    let (stop, above) = stop_of(leaves, nodes, root, query);
-    match stop {
-        Stop::Same(id) => Point::Exact(id),
-        Stop::Shorter(id) => Point::Related {
-            first: id,
-            last: id,
-        },
-        Stop::Longer(child) => Point::Related {
-            first: end_under(nodes, &child, true, &mut visits),
-            last: end_under(nodes, &child, false, &mut visits),
-        },
-        Stop::AtNode(id, depth) => {
-            let (edge, is_after) = edge_beside(nodes, &id, query[depth], &mut visits);
-            Point::Free(place_under(nodes, &edge, is_after, depth, &above))
-        }
-        Stop::AtEdge(child, depth, byte) => {
-            let edge = Edge { byte, to: child };
-            Point::Free(place_under(nodes, &edge, byte < query[depth], depth, &above))
-        }
-    }
-}
-
-// The place beside an edge: after the keys below it, or before them.
-fn place_under<const P: usize>(
-    nodes: &Nodes<P>,
-    edge: &Edge,
-    is_after: bool,
-    depth: usize,
-    above: &Option<NodeId>,
-) -> Place
-    requires { (keys : ℕ → Option Bytes) × (q : Bytes)
-        × IsPlaceUnder P keys (at nodes.now) q depth edge.now.to is_after }
-    ensures leaves { (keys : ℕ → Option Bytes) (q : Bytes)
-        → IsPlaceUnder P keys (at nodes.now) q depth edge.now.to is_after
-        → LeavesNearest keys result.nearest result.depth q }
-    ensures beside { (keys : ℕ → Option Bytes) (q : Bytes)
-        → IsPlaceUnder P keys (at nodes.now) q depth edge.now.to is_after
-        → IsBeside keys q result.beside }
-{
-    let nearest = end_under(nodes, &edge.to, !is_after, &mut Visits::new());
-    if is_after {
-        Place {
-            nearest,
-            depth,
-            beside: Beside::AfterLeaf(nearest),
-            above: *above,
-            byte: edge.byte,
-        }
-    } else {
-        Place {
-            nearest,
-            depth,
-            beside: Beside::BeforeLeaf(nearest),
-            above: *above,
-            byte: edge.byte,
-        }
-    }
 }

@@ -1,102 +1,65 @@
 //! The pairs below some bytes leave the tree.
-ghost use Rattle.std.specs.Prelude.{◌≡◌, ℕ, length, Some};
-ghost use Rattle.blart_keys.specs.Content.{IsContent, under};
+ghost use Rattle.std.specs.Prelude.{◌≡◌, length, IfSome};
+ghost use Rattle.blart_keys.specs.Content.{under};
 ghost use Rattle.blart_keys.specs.Outside.{outside};
-ghost use Rattle.art_tree.specs.Calls.Pruning.{IsBranch};
-ghost use Rattle.art_tree.specs.Invariant.Shape.{Shape};
-ghost use Rattle.art_tree.specs.Invariant.Sound.{IsSound};
-ghost use Rattle.art_tree.specs.Leaves.{leaf_in, keys_in, bytes};
-ghost use Rattle.art_tree.specs.Seeks.{ends};
-ghost use Rattle.art_kinds.specs.Nodes.{at};
+ghost use Rattle.art_slots.specs.Store.{slot_at};
+ghost use Rattle.art_tree.specs.Leaves.{Has, bytes};
+ghost use Rattle.art_tree.specs.UnderIds.{AreLed};
 
+use crate::named::Named;
 use crate::tree::Tree;
-use crate::tree::descent::Branch;
-use crate::tree::free_subtree::free_subtree;
-use crate::tree::seek::branch_below;
-use art_kinds::{Child, Nodes};
-use art_rows::Leaves;
-use art_slots::{LeafId, Visits};
+use art_cells::{CellTree, Position, begins};
+use art_slots::{CellId, Store, Visits};
 use blart_keys::AsBytes;
 
 impl<K: AsBytes + Drop, V: Drop, const PREFIX_LEN: usize> Tree<K, V, PREFIX_LEN> {
-    /// Removes every pair whose bytes begin with these, and answers how many there were. Takes no memory. The number of each other leaf stays. Its cost is that of a [`Tree::span`] and of one [`Tree::remove`], and beside that of what goes: each leaf and each inner node leaves by itself, with no way down.
+    /// Removes every pair whose bytes begin with these, and returns how many there were. Does not
+    /// allocate. The id of each other leaf stays.
+    ///
+    /// Cost: that of a [`Tree::span`] and of one [`Tree::remove`], and beside that of what goes:
+    /// each leaf and each inner node leaves by itself, with no descent.
     pub fn remove_prefix(&mut self, prefix: &[u8]) -> usize
         ensures rest { self.new.pairs ≡ outside (bytes K.bytes) self.old.pairs prefix.now }
         ensures count { result ≡ length (under (bytes K.bytes) self.old.pairs prefix.now) }
     {
-        let before = self.len();
-        self.remove_branch(prefix);
-        before - self.len()
-    }
-
-    // Removes the pairs whose bytes begin with these.
-    fn remove_branch(&mut self, prefix: &[u8])
-        ensures { self.new.pairs ≡ outside (bytes K.bytes) self.old.pairs prefix.now }
-    {
-        let Some(root) = self.root else {
-            return;
-        };
-        let mut visits = Visits::new();
-        let Some(branch) = branch_below(&self.leaves, &self.nodes, &root, prefix, &mut visits)
-        else {
-            return;
-        };
-        let root = prune(&mut self.leaves, &mut self.nodes, &root, &branch, prefix);
-        self.root = Some(root);
-        self.leaves.law();
-        self.remove(branch.last);
+        free_ids(&self.cells, &mut self.ids, prefix);
+        self.cells.remove_prefix(prefix)
     }
 }
 
-// Leaves of a branch the last leaf alone: the edge above leads to it then. Answers the root.
-fn prune<K: AsBytes + Drop, V: Drop, const P: usize>(
-    leaves: &mut Leaves<K, V>,
-    nodes: &mut Nodes<P>,
-    root: &Child,
-    branch: &Branch,
-    prefix: &[u8],
-) -> Child
-    requires sound { IsSound K.bytes P leaves.old nodes.old (Some root.now) }
-    requires branch { (s : Shape P (keys_in K.bytes leaves.old.pairs) (at nodes.old) (Some root.now))
-        → IsBranch (keys_in K.bytes leaves.old.pairs) (at nodes.old)
-        (Some root.now) s.front_of prefix.now branch.now }
-    requires ends { ends (under (bytes K.bytes) leaves.old.pairs prefix.now)
-        ≡ Some (branch.now.first, branch.now.last) }
-    ensures sound { IsSound K.bytes P leaves.new nodes.new (Some result) }
-    ensures ends { ends (under (bytes K.bytes) leaves.new.pairs prefix.now)
-        ≡ Some (branch.now.last, branch.now.last) }
-    ensures rest { outside (bytes K.bytes) leaves.new.pairs prefix.now
-        ≡ outside (bytes K.bytes) leaves.old.pairs prefix.now }
-{
-    let root = free_subtree(nodes, root, &branch.above, &branch.child, &branch.last);
-    remove_leaves(leaves, branch.first, branch.last, prefix);
-    leaves.law();
-    root
-}
-
-// Takes the leaves from one up to another out of the rows: of those whose bytes begin with these the last is left.
-fn remove_leaves<K: AsBytes + Drop, V: Drop>(
-    leaves: &mut Leaves<K, V>,
-    first: LeafId,
-    last: LeafId,
+// Frees the ids of the leaves whose bytes begin with these.
+fn free_ids<K: AsBytes, V, const P: usize>(
+    cells: &CellTree<K, Named<V>, P>,
+    ids: &mut Store<CellId>,
     prefix: &[u8],
 )
-    requires content { IsContent (bytes K.bytes) leaves.old.pairs }
-    requires ends { ends (under (bytes K.bytes) leaves.old.pairs prefix.now) ≡ Some (first, last) }
-    ensures content { IsContent (bytes K.bytes) leaves.new.pairs }
-    ensures ends { ends (under (bytes K.bytes) leaves.new.pairs prefix.now) ≡ Some (last, last) }
-    ensures rest { outside (bytes K.bytes) leaves.new.pairs prefix.now
-        ≡ outside (bytes K.bytes) leaves.old.pairs prefix.now }
-    ensures stood { (j : ℕ) (x : K × V) → leaf_in leaves.new.pairs j ≡ Some x
-        → leaf_in leaves.old.pairs j ≡ Some x }
+    requires { AreLed (slot_at ids.old) cells.now.pairs }
+    ensures { AreLed (slot_at ids.new) (outside (bytes K.bytes) cells.now.pairs prefix.now) }
 {
-    let mut id = first;
-    'each: while id != last {
-        leaves.law();
-        let Some(next) = leaves.next_of(id) else {
-            unreachable!()
-        };
-        leaves.remove(id);
-        id = next;
+    cells.law();
+    let mut visits = Visits::new();
+    let mut seen = Position::unknown();
+    let mut at = first_below(cells, prefix);
+    'below: while let Some(cell) = at {
+        let (key, named) = cells.leaf(cell, &mut visits);
+        if !begins(prefix, key.as_bytes()) {
+            return;
+        }
+        ids.remove(named.id.number());
+        at = cells.next_from(cell, &mut seen);
     }
+}
+
+// Returns the first leaf whose bytes begin with these.
+fn first_below<K: AsBytes, V, const P: usize>(
+    cells: &CellTree<K, V, P>,
+    prefix: &[u8],
+) -> Option<CellId>
+    ensures { IfSome result (Has cells.now.pairs) }
+{
+    cells.law();
+    let Some(ends) = cells.span(prefix, &mut Visits::new()) else {
+        return None;
+    };
+    Some(ends.0)
 }

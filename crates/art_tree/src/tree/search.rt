@@ -1,24 +1,21 @@
 //! Look-ups by bytes.
-ghost use Rattle.std.specs.Prelude.{◌≡◌, ◌+◌, ◌≤◌, ℕ, [], length, option_map, Option, Some, IfSome};
-ghost use Rattle.blart_keys.specs.Content.{at, front_of};
-ghost use Rattle.art_tree.specs.Begins.{Bytes};
-ghost use Rattle.art_tree.specs.Calls.Descents.{IsRoot, GoesTo, IsFrontAlone};
-ghost use Rattle.art_tree.specs.Calls.Spots.{IsLeafSpot};
-ghost use Rattle.art_tree.specs.Leaves.{bytes};
-ghost use Rattle.art_kinds.specs.Nodes.{at as nodes_at};
-ghost use Rattle.art_tree.specs.Invariant.Shape.{Shape};
-ghost use Rattle.art_tree.specs.Invariant.Sound.{IsSound};
+ghost use Rattle.std.specs.Prelude.{◌≡◌, ◌+◌, ◌*◌, ◌≤◌, [], length, option_map, IfSome};
+ghost use Rattle.blart_keys.specs.Bounds.{bound_bytes};
+ghost use Rattle.blart_keys.specs.Content.{at, front_of, under};
+ghost use Rattle.art_tree.specs.Leaves.{Has, bytes};
+ghost use Rattle.art_tree.specs.Longest.{longest};
+ghost use Rattle.art_tree.specs.Seeks.{number_within, ends, bound_len};
 
-use crate::lists::begins;
+use crate::ids::id_of;
+use crate::leaf_id::LeafId;
 use crate::tree::Tree;
-use crate::tree::descent::LeafSpot;
-use art_kinds::{Child, Nodes};
-use art_rows::Leaves;
-use art_slots::{LeafId, Visits};
+use art_slots::Visits;
 use blart_keys::AsBytes;
+use std::ops::Bound;
 
 impl<K: AsBytes, V, const PREFIX_LEN: usize> Tree<K, V, PREFIX_LEN> {
-    /// The pair with these bytes, and its leaf. On n bytes at most n + 1 visits, and none where the tree has no pairs.
+    /// Returns the pair with these bytes, and its leaf. On n bytes it makes at most n + 1 visits,
+    /// and none if the tree has no pairs.
     pub fn get(&self, query: &[u8], visits: &mut Visits) -> Option<(LeafId, &K, &V)>
         ensures found { option_map (λ f. (f.0, (f.1.now, f.2.now))) result
             ≡ at (bytes K.bytes) self.now.pairs query.now }
@@ -26,18 +23,14 @@ impl<K: AsBytes, V, const PREFIX_LEN: usize> Tree<K, V, PREFIX_LEN> {
         ensures grows { visits.old.count ≤ visits.new.count }
         ensures empty { self.now.pairs ≡ [] → visits.new.count ≡ visits.old.count }
     {
-        self.law();
-        let Some(found) = pair_toward(&self.leaves, &self.nodes, &self.root, query, visits) else {
+        let Some(found) = self.cells.get(query, visits) else {
             return None;
         };
-        if found.1.as_bytes() == query {
-            Some((found.0.id, found.1, found.2))
-        } else {
-            None
-        }
+        Some((found.2.id, found.1, &found.2.value))
     }
 
-    /// The pair whose bytes begin these, and its leaf. On n bytes at most n + 1 visits, and none where the tree has no pairs.
+    /// Returns the pair whose bytes are a prefix of these, and its leaf. On n bytes it makes at
+    /// most n + 1 visits, and none if the tree has no pairs.
     pub fn get_front(&self, query: &[u8], visits: &mut Visits) -> Option<(LeafId, &K, &V)>
         ensures found { option_map (λ f. (f.0, (f.1.now, f.2.now))) result
             ≡ front_of (bytes K.bytes) self.now.pairs query.now }
@@ -45,99 +38,81 @@ impl<K: AsBytes, V, const PREFIX_LEN: usize> Tree<K, V, PREFIX_LEN> {
         ensures grows { visits.old.count ≤ visits.new.count }
         ensures empty { self.now.pairs ≡ [] → visits.new.count ≡ visits.old.count }
     {
-        self.law();
-        let Some(found) = pair_toward(&self.leaves, &self.nodes, &self.root, query, visits) else {
+        let Some(found) = self.cells.get_front(query, visits) else {
             return None;
         };
-        if begins(found.1.as_bytes(), query) {
-            Some((found.0.id, found.1, found.2))
-        } else {
-            None
-        }
+        Some((found.2.id, found.1, &found.2.value))
     }
 
-    /// The leaf with these bytes. On n bytes at most n + 1 visits, and none where the tree has no pairs.
+    /// Returns the leaf with these bytes. On n bytes it makes at most n + 1 visits, and none if the
+    /// tree has no pairs.
     pub fn search(&self, query: &[u8], visits: &mut Visits) -> Option<LeafId>
         ensures found { result
             ≡ option_map (λ p. p.0) (at (bytes K.bytes) self.now.pairs query.now) }
+        ensures there { IfSome result (Has self.now.pairs) }
         ensures counted { visits.new.count ≤ visits.old.count + length query.now + 1 }
         ensures grows { visits.old.count ≤ visits.new.count }
         ensures empty { self.now.pairs ≡ [] → visits.new.count ≡ visits.old.count }
     {
+        self.law();
         match self.get(query, visits) {
             Some(found) => Some(found.0),
             None => None,
         }
     }
 
-    /// The leaf whose bytes begin these. On n bytes at most n + 1 visits, and none where the tree has no pairs.
+    /// Returns the leaf whose bytes are a prefix of these. On n bytes it makes at most n + 1
+    /// visits, and none if the tree has no pairs.
     pub fn search_front(&self, query: &[u8], visits: &mut Visits) -> Option<LeafId>
         ensures found { result
             ≡ option_map (λ p. p.0) (front_of (bytes K.bytes) self.now.pairs query.now) }
+        ensures there { IfSome result (Has self.now.pairs) }
         ensures counted { visits.new.count ≤ visits.old.count + length query.now + 1 }
         ensures grows { visits.old.count ≤ visits.new.count }
         ensures empty { self.now.pairs ≡ [] → visits.new.count ≡ visits.old.count }
     {
+        self.law();
         match self.get_front(query, visits) {
             Some(found) => Some(found.0),
             None => None,
         }
     }
-}
 
-/// The one pair whose key may begin these bytes, and where its leaf is.
-pub(crate) fn pair_toward<'a, K: AsBytes, V, const P: usize>(
-    leaves: &'a Leaves<K, V>,
-    nodes: &Nodes<P>,
-    root: &Option<Child>,
-    query: &[u8],
-    visits: &mut Visits,
-) -> Option<(LeafSpot, &'a K, &'a V)>
-    requires { IsSound K.bytes P leaves.now nodes.now root.now }
-    ensures found { IsFrontAlone K.bytes leaves.now.pairs query.now
-        (option_map (λ f. (f.0.id, (f.1.now, f.2.now))) result) }
-    ensures spot { IfSome result (λ f. IsLeafSpot (nodes_at nodes.now) root.now f.0) }
-    ensures counted { visits.new.count ≤ visits.old.count + length query.now + 1 }
-    ensures grows { visits.old.count ≤ visits.new.count }
-    ensures empty { leaves.now.pairs ≡ [] → visits.new.count ≡ visits.old.count }
-{
-    let Some(root) = root else {
-        return None;
-    };
-    let spot = leaf_toward(nodes, root, query, visits)?;
-    let (key, value) = leaves.read(spot.id, visits);
-    Some((spot, key, value))
-}
-
-// The one leaf whose key may begin the query, and the edges to it. None where no key does.
-fn leaf_toward<const P: usize>(
-    nodes: &Nodes<P>,
-    root: &Child,
-    query: &[u8],
-    visits: &mut Visits,
-) -> Option<LeafSpot>
-    requires { IsRoot P (nodes_at nodes.now) root.now }
-    ensures goes { (keys : ℕ → Option Bytes) → Shape P keys (nodes_at nodes.now) (Some root.now)
-        → GoesTo keys query.now visits.old.count visits.new.count (option_map (λ s. s.id) result) }
-    ensures spot { IfSome result (IsLeafSpot (nodes_at nodes.now) (Some root.now)) }
-    ensures grows { visits.old.count ≤ visits.new.count }
-{
-    let mut at = *root;
-    let mut edge = None;
-    let mut above = None;
-    'down: loop {
-        let id = match at {
-            Child::Leaf(id) => return Some(LeafSpot { id, edge, above }),
-            Child::Inner(id) => id,
-        };
-        let node = nodes.read(id, visits);
-        let depth = node.depth();
-        if depth >= query.len() {
-            return None;
+    /// Returns the first leaf within a start bound, or the last within an end bound. If the bound
+    /// has n bytes (0 if it is unbounded) and the longest key L, it makes at most
+    /// (n + 2) * (L + 1) + 1 visits, and none if the tree has no pairs.
+    pub fn seek(&self, bound: Bound<&[u8]>, is_start: bool, visits: &mut Visits) -> Option<LeafId>
+        ensures found { result
+            ≡ number_within (bytes K.bytes) self.now.pairs (bound_bytes (λ b. b) bound.entry) is_start }
+        ensures counted { visits.new.count
+            ≤ visits.old.count + (bound_len (bound_bytes (λ b. b) bound.entry) + 2)
+            * (longest (bytes K.bytes) self.now.pairs + 1) + 1 }
+        ensures grows { visits.old.count ≤ visits.new.count }
+        ensures empty { self.now.pairs ≡ [] → visits.new.count ≡ visits.old.count }
+    {
+        self.cells.law();
+        match self.cells.seek(bound, is_start, visits) {
+            None => None,
+            Some(cell) => Some(id_of(&self.cells, cell, visits)),
         }
-        let byte = query[depth];
-        at = node.find(byte)?;
-        above = edge;
-        edge = Some((id, byte));
+    }
+
+    /// Returns the first and the last leaf whose bytes begin with these. On n bytes it makes at
+    /// most (n + 3) * (L + 1) visits, where the longest key has L bytes, and none if the tree has
+    /// no pairs.
+    pub fn span(&self, front: &[u8], visits: &mut Visits) -> Option<(LeafId, LeafId)>
+        ensures found { result ≡ ends (under (bytes K.bytes) self.now.pairs front.now) }
+        ensures counted { visits.new.count
+            ≤ visits.old.count + (length front.now + 3) * (longest (bytes K.bytes) self.now.pairs + 1) }
+        ensures grows { visits.old.count ≤ visits.new.count }
+        ensures empty { self.now.pairs ≡ [] → visits.new.count ≡ visits.old.count }
+    {
+        self.cells.law();
+        let Some(cells) = self.cells.span(front, visits) else {
+            return None;
+        };
+        let first = id_of(&self.cells, cells.0, visits);
+        let last = id_of(&self.cells, cells.1, visits);
+        Some((first, last))
     }
 }

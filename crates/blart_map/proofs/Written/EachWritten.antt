@@ -3,14 +3,14 @@ use Rattle.std.proofs.Common.{◌≡◌, ℕ, eqb, length, true, false, cond, Li
 use Rattle.std.proofs.lemmas.Bool.{ne_eqb, eq-eqb}
 use Rattle.std.proofs.lemmas.List.{length-map}
 use Rattle.std.specs.Borrow.{Bor, MutBor}
-use denote.Param.Members.{Mut, Called}
+use denote.Param.Members.{Mut}
 use Rattle.blart_keys.specs.Content.{at}
 use Rattle.blart_keys.specs.Stored.{bytes, pair_at}
 use Rattle.art_tree.specs.Leaves.{Numbered, AreDistinct, Lacks, with_value}
 use Rattle.art_tree.specs.Pairs.{pairs_of}
 use Rattle.art_tree.proofs.CallerLemmas.{numbers-with_value}
 use Rattle.art_walk.specs.declared.cursor.Cursor.{Cursor}
-use Rattle.art_walk.specs.Lent.{written_all, numbers, run_fits, walk_fits, count_fits}
+use Rattle.art_walk.specs.Lent.{written_all, numbers, walk_fits, count_fits}
 use Rattle.blart_map.specs.Content.{pairs}
 use Rattle.blart_map.specs.EachWritten.{CalledAtEach, with_values, written_with, WritesLeft, WritesEach, LeavesValue, ActsOnValue, LeavesPair, ActsOnPair}
 
@@ -58,10 +58,6 @@ module _ {F K V : Type 0} (R : F → K × V → V → F → Type 0) where
   -- a walk fits the list as before
   pub walk_fits_after : (c : Cursor) (lent : Option ℕ) (left old new : List (Numbered K V)) (f : F) → WritesLeft R left old f new → walk_fits c lent (numbers old) ≡ true → walk_fits c lent (numbers new) ≡ true
   walk_fits_after c lent left old new f r fits = ap (walk_fits c lent) (ap numbers r.written ∙ numbers_with r.values left old) ∙ fits
-
-  -- the same numbers follow its first
-  pub run_fits_after : (c : Cursor) (run : List ℕ) (left old new : List (Numbered K V)) (f : F) → WritesLeft R left old f new → run_fits c run (numbers old) ≡ true → run_fits c run (numbers new) ≡ true
-  run_fits_after c run left old new f r h = ap (run_fits c run) (ap numbers r.written ∙ numbers_with r.values left old) ∙ h
 
   -- and counts as before
   pub fits_after : (c : Cursor) (lent : Option ℕ) (n : ℕ) (left old new : List (Numbered K V)) (f : F) → WritesLeft R left old f new → count_fits c lent n (numbers old) ≡ true → count_fits c lent n (numbers new) ≡ true

@@ -1,10 +1,10 @@
 -- A walk whose lent pair is written.
-use Rattle.std.proofs.Common.{◌≡◌, ℕ, List, Some, true, sym, ap, subst, ◌∙◌}
+use Rattle.std.proofs.Common.{◌≡◌, ℕ, List, Some, true, sym, ap, subst}
 use Rattle.std.specs.Prelude.{MatchOption, ⊤}
 use mathlib.Core.Bool.{Bool-set}
 use Rattle.blart_keys.specs.declared.AsBytes.{Ghosts}
 use Rattle.art_tree.specs.Leaves.{Numbered, leaf_in}
-use Rattle.art_walk.specs.Lent.{walk_fits, numbers, run_fits, written_last}
+use Rattle.art_walk.specs.Lent.{walk_fits, numbers, written_last}
 use Rattle.blart_map.specs.declared.walks.lending_walk.LendingWalk.{LendingWalk}
 use Rattle.blart_map.specs.LendingWalk.{lending_with}
 
@@ -18,11 +18,9 @@ module _ {K V M : Type 0} {p : ℕ} {g : Ghosts K} (s : LendingWalk K V M p g) w
 
   module _ (w : V) where
     -- a walk with the same fields is the same walk
-    pub same_walk : (c : List (Numbered K V)) → c ≡ map_with w → (f : walk_fits s.cursor s.lent (numbers c) ≡ true) (h : run_fits s.cursor s.ahead (numbers c) ≡ true)
-        → (let x : LendingWalk K V M p g = record { map = record s.map { now = c }; cursor = s.cursor; ahead = s.ahead; lent = s.lent; kind = s.kind; fits = f; follows = h } in x) ≡ lending_with s w
+    pub same_walk : (c : List (Numbered K V)) → c ≡ map_with w → (f : walk_fits s.cursor s.lent (numbers c) ≡ true)
+        → (let x : LendingWalk K V M p g = record { map = record s.map { now = c }; cursor = s.cursor; lent = s.lent; kind = s.kind; fits = f } in x) ≡ lending_with s w
     same_walk c e =
-        subst (λ (d : List (Numbered K V)). (f : walk_fits s.cursor s.lent (numbers d) ≡ true) (h : run_fits s.cursor s.ahead (numbers d) ≡ true)
-        → (let x : LendingWalk K V M p g = record { map = record s.map { now = d }; cursor = s.cursor; ahead = s.ahead; lent = s.lent; kind = s.kind; fits = f; follows = h } in x) ≡ lending_with s w) (sym e)
-        (λ f h.
-        ap (λ q. record (record (lending_with s w) { follows = h }) { fits = q }) (Bool-set _ true f (lending_with s w).fits)
-        ∙ ap (λ q. record (lending_with s w) { follows = q }) (Bool-set _ true h (lending_with s w).follows))
+        subst (λ (d : List (Numbered K V)). (f : walk_fits s.cursor s.lent (numbers d) ≡ true)
+        → (let x : LendingWalk K V M p g = record { map = record s.map { now = d }; cursor = s.cursor; lent = s.lent; kind = s.kind; fits = f } in x) ≡ lending_with s w) (sym e)
+        (λ f. ap (λ q. record (lending_with s w) { fits = q }) (Bool-set _ true f (lending_with s w).fits))

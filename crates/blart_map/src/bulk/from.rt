@@ -7,12 +7,11 @@ ghost use Rattle.blart_keys.specs.Bytes.{bytes_cmp};
 ghost use Rattle.blart_keys.specs.Content.{IsContent};
 ghost use Rattle.blart_keys.specs.Steps.{bytes};
 ghost use Rattle.blart_keys.specs.Stored.{kept_pair};
-ghost use Rattle.art_tree.specs.Leaves.{bytes as leaf_bytes};
 ghost use Rattle.blart_map.specs.Content.{pairs};
 
 use crate::map::TreeMap;
 use art_insert::put_ascending;
-use art_tree::{Frame, Leaves, Tree};
+use art_tree::{Frame, Pairs, Tree};
 use blart_keys::{AsBytes, NoPrefixesBytes};
 use std::alloc::{AllocError, Global};
 use std::cmp::Ordering;
@@ -63,36 +62,37 @@ impl<K: NoPrefixesBytes + Drop, V: Drop, const PREFIX_LEN: usize> TreeMap<K, V, 
         }
     }
 
-    // A map of pairs whose keys' bytes do not descend: of pairs with the same bytes the first key stays, with the last value.
-    #[tactic(auto, unfolding(crate::specs::Content::pairs))]
+    /// Makes a map of pairs whose keys' bytes do not descend. Of pairs with the same bytes the first
+    /// key is kept, with the last value.
     fn of_sorted(alloc: Global, items: Vec<(K, V)>) -> Result<Self, AllocError>
         requires { IsSortedByKey (bytes K.bytes) bytes_cmp items.items }
         ensures made { IfOk result (λ map. PutsAll (bytes K.bytes) kept_pair [] items.items (pairs map)) }
         ensures refused { OnErr result (items.items ≢ []) }
     {
-        let mut leaves = Leaves::new(alloc);
-        if let Err(refused) = leaves.reserve_end(items.len()) {
-            drop(leaves);
+        let mut sorted = Pairs::new(alloc);
+        if let Err(refused) = sorted.reserve(items.len()) {
+            drop(sorted);
             drop(items);
             return Err(refused);
         }
-        put_ascending(&mut leaves, items);
-        TreeMap::of_leaves(alloc, leaves)
+        put_ascending(&mut sorted, items);
+        TreeMap::of_pairs(alloc, sorted)
     }
 
-    // The map of some leaves.
-    fn of_leaves(alloc: Global, leaves: Leaves<K, V>) -> Result<Self, AllocError>
-        requires { IsContent (leaf_bytes K.bytes) leaves.pairs }
-        ensures made { IfOk result (λ map. map ≡ leaves.pairs) }
-        ensures refused { OnErr result (leaves.pairs ≢ []) }
+    /// Makes the map of these pairs.
+    #[tactic(auto, unfolding(crate::specs::Content::pairs))]
+    fn of_pairs(alloc: Global, sorted: Pairs<K, V>) -> Result<Self, AllocError>
+        requires { IsContent (bytes K.bytes) sorted.pairs }
+        ensures made { IfOk result (λ map. pairs map ≡ sorted.pairs) }
+        ensures refused { OnErr result (sorted.pairs ≢ []) }
     {
-        match Frame::new(alloc, leaves.len()) {
+        match Frame::new(alloc, sorted.len()) {
             Ok(frame) => Ok(TreeMap {
-                tree: Tree::from_leaves(leaves, frame),
+                tree: Tree::from_pairs(sorted, frame),
                 alloc,
             }),
             Err(refused) => {
-                drop(leaves);
+                drop(sorted);
                 Err(refused)
             }
         }

@@ -4,12 +4,12 @@ ghost use Rattle.std.specs.Borrow.{sem};
 ghost use Rattle.blart_keys.specs.Stored.{pair_at, value_at};
 ghost use Rattle.art_tree.specs.Leaves.{leaf_in};
 ghost use Rattle.art_tree.specs.Pairs.{pairs_of};
-ghost use Rattle.art_walk.specs.Lent.{count_fits, numbers, run_fits};
+ghost use Rattle.art_walk.specs.Lent.{count_fits, numbers};
 ghost use Rattle.blart_map.specs.Content.{pairs, Numbered};
 ghost use Rattle.blart_map.specs.EachWritten.{CallableInTurn, WritesLeft, WritesEach, LeavesValue, TakesAtValue, LeavesPair, TakesAtPair, ActsOnValue, ActsOnPair};
 
 use crate::map::TreeMap;
-use art_tree::{LeafId, OwnedRun};
+use art_tree::LeafId;
 use art_walk::{Cursor, ValuesAlone, WithKeys, write_pairs, write_values};
 use blart_keys::AsBytes;
 use std::marker::PhantomData;
@@ -52,14 +52,11 @@ pub type ValuesMut<'a, K, V, const PREFIX_LEN: usize> = CountedWalk<
 pub struct CountedWalk<'a, K: AsBytes, V, M, const PREFIX_LEN: usize> {
     map: &'a mut TreeMap<K, V, PREFIX_LEN>,
     cursor: Cursor,
-    // numbers that follow the first leaf that is left
-    ahead: OwnedRun,
     lent: Option<LeafId>,
     left: usize,
     // whether keys are lent too: the type alone says it
     kind: PhantomData<M>,
     ghost fits: { count_fits cursor lent left (numbers map.now) ≡ true },
-    ghost follows: { run_fits cursor ahead (numbers map.now) ≡ true },
 }
 
 impl<'a, K: AsBytes, V, const PREFIX_LEN: usize> CountedWalk<'a, K, V, WithKeys, PREFIX_LEN> {
@@ -179,7 +176,6 @@ impl<'a, K: AsBytes, V, M, const PREFIX_LEN: usize> CountedWalk<'a, K, V, M, PRE
         CountedWalk {
             map,
             cursor,
-            ahead: OwnedRun::empty(),
             lent: None,
             left,
             kind: PhantomData,
@@ -199,7 +195,7 @@ impl<'a, K: AsBytes, V, M, const PREFIX_LEN: usize> CountedWalk<'a, K, V, M, PRE
         ensures* writes_back { sem 𝓛 (lends_first K.row V.row M.row PREFIX_LEN.row K.AsBytes self.entry result) }
         ensures end { IfNone result (counted_left self.old ≡ []) }
     {
-        let id = self.map.step_along(&mut self.cursor, &mut self.ahead)?;
+        let id = self.map.step(&mut self.cursor)?;
         self.lent = Some(id);
         self.left -= 1;
         Some(self.map.value_mut(id))

@@ -1,19 +1,18 @@
 //! The leaves of a map by their numbers, for its walks and for a layer above that removes as it walks.
-ghost use Rattle.std.specs.Prelude.{◌≡◌, ℕ, List, true, option_map, IfSome, Some};
+ghost use Rattle.std.specs.Prelude.{◌≡◌, option_map, IfSome, Some};
 ghost use Rattle.std.specs.Borrow.{sem};
 ghost use Rattle.blart_keys.specs.Bounds.{bound_bytes, CanRange};
 ghost use Rattle.blart_keys.specs.Content.{between, without};
 ghost use Rattle.blart_keys.specs.Steps.{bytes};
 ghost use Rattle.art_tree.specs.Leaves.{leaf_in, Has, AreDistinct, without_number};
 ghost use Rattle.art_walk.specs.Cursor.{leaves_left, FitsIn, PassesFirst, PassesLast};
-ghost use Rattle.art_walk.specs.Lent.{numbers, run_fits};
 ghost use Rattle.blart_map.specs.Content.{pairs};
 ghost use Rattle.blart_map.specs.LentLeaves.{lends_leaf};
 ghost use Rattle.blart_map.specs.Passed.{WasFirst, WasLast, StaysLeft};
 
 use crate::map::TreeMap;
 use crate::walks::as_bytes;
-use art_tree::{LeafId, OwnedRun, Visits};
+use art_tree::{LeafId, Visits};
 use art_walk::Cursor;
 use blart_keys::AsBytes;
 use std::ops::Bound;
@@ -60,22 +59,6 @@ impl<K: AsBytes, V, const PREFIX_LEN: usize> TreeMap<K, V, PREFIX_LEN> {
         cursor.step(&self.tree)
     }
 
-    // Passes the first leaf that a cursor has left, and gives its number. `run` are numbers that follow it, and then such numbers that follow the next.
-    #[inline(always)]
-    pub(crate) fn step_along(&self, cursor: &mut Cursor, run: &mut OwnedRun) -> Option<LeafId>
-        requires fits { FitsIn cursor.old self.now }
-        requires run { run_fits cursor.old run.old (numbers self.now) ≡ true }
-        ensures fits { FitsIn cursor.new self.now }
-        ensures passes { PassesFirst (leaves_left cursor.old self.now) result
-            (leaves_left cursor.new self.now) }
-        ensures there { IfSome result (λ id. Has self.now id) }
-        ensures distinct { AreDistinct self.now }
-        ensures run { run_fits cursor.new run.new (numbers self.now) ≡ true }
-    {
-        self.tree.law();
-        cursor.step_along(&self.tree, run)
-    }
-
     /// Passes the last leaf that a cursor has left, and gives its number. It reads no leaf.
     #[inline(always)]
     pub fn step_back(&self, cursor: &mut Cursor) -> Option<LeafId>
@@ -86,8 +69,6 @@ impl<K: AsBytes, V, const PREFIX_LEN: usize> TreeMap<K, V, PREFIX_LEN> {
         ensures there { IfSome result (λ id. Has self.now id) }
         ensures last { IfSome result (λ id. WasLast self.now cursor.old id cursor.new) }
         ensures distinct { AreDistinct self.now }
-        ensures run { (run : List ℕ) → run_fits cursor.old run (numbers self.now) ≡ true
-            → run_fits cursor.new run (numbers self.now) ≡ true }
     {
         self.tree.law();
         cursor.step_back(&self.tree)

@@ -3,12 +3,12 @@ ghost use Rattle.std.specs.Prelude.{◌≡◌, List, [], Bool, true, length, map
 ghost use Rattle.std.specs.Borrow.{sem};
 ghost use Rattle.art_tree.specs.Leaves.{leaf_in};
 ghost use Rattle.art_tree.specs.Pairs.{pairs_of};
-ghost use Rattle.art_walk.specs.Lent.{walk_fits, numbers, run_fits};
+ghost use Rattle.art_walk.specs.Lent.{walk_fits, numbers};
 ghost use Rattle.blart_map.specs.Content.{pairs, Numbered};
 ghost use Rattle.blart_map.specs.EachWritten.{CallableInTurn, WritesLeft, WritesWhere, LeavesPair, TakesAtPair, ActsOnPair, ActsWhere};
 
 use crate::map::TreeMap;
-use art_tree::{LeafId, OwnedRun};
+use art_tree::LeafId;
 use art_walk::{BelowFront, Cursor, InRange, InSubtree, write_pairs};
 use blart_keys::AsBytes;
 use std::marker::PhantomData;
@@ -72,13 +72,10 @@ pub type SubtreeIterMut<'a, K, V, const PREFIX_LEN: usize> = LendingWalk<
 pub struct LendingWalk<'a, K: AsBytes, V, M, const PREFIX_LEN: usize> {
     map: &'a mut TreeMap<K, V, PREFIX_LEN>,
     cursor: Cursor,
-    // numbers that follow the first leaf that is left
-    ahead: OwnedRun,
     lent: Option<LeafId>,
     // how the walk was opened: the type alone says it
     kind: PhantomData<M>,
     ghost fits: { walk_fits cursor lent (numbers map.now) ≡ true },
-    ghost follows: { run_fits cursor ahead (numbers map.now) ≡ true },
 }
 
 impl<'a, K: AsBytes, V, M, const PREFIX_LEN: usize> LendingWalk<'a, K, V, M, PREFIX_LEN> {
@@ -96,7 +93,6 @@ impl<'a, K: AsBytes, V, M, const PREFIX_LEN: usize> LendingWalk<'a, K, V, M, PRE
         LendingWalk {
             map,
             cursor,
-            ahead: OwnedRun::empty(),
             lent: None,
             kind: PhantomData,
         }
@@ -108,7 +104,7 @@ impl<'a, K: AsBytes, V, M, const PREFIX_LEN: usize> LendingWalk<'a, K, V, M, PRE
         ensures* writes_back { sem 𝓛 (lends_first K.row V.row M.row PREFIX_LEN.row K.AsBytes self.entry result) }
         ensures end { IfNone result (lending_left self.old ≡ []) }
     {
-        let id = self.map.step_along(&mut self.cursor, &mut self.ahead)?;
+        let id = self.map.step(&mut self.cursor)?;
         self.lent = Some(id);
         Some(self.map.value_mut(id))
     }

@@ -16,24 +16,22 @@ loop-key-init g c = record {
 }
 
 pub loop-key-smaller : goal.loop-key-smaller
-loop-key-smaller g c = let less : length c.loop-key.from.pairs ≡ suc (length c.take_first.new.self.pairs) = ap length c.in-Some.ensures.1 in omega arith
+loop-key-smaller g c = let less : length c.loop-key.from.pairs ≡ suc (length c.take_first.new.self.pairs) = ap length c.in-Some.ensures in omega arith
 
 pub loop-key-preserved : goal.loop-key-preserved
 loop-key-preserved g c =
     let kb = g.K.AsBytes.bytes in
     let i = c.loop-key.invariant in
-    let ps = c.loop-key.from.pairs in
-    let new = c.take_first.new.self.pairs in
+    let rest = c.take_first.new.self.pairs in
     let x : g.row.K.Denot × g.row.V.Denot = (c.in-Some.key, c.in-Some.value) in
     let taken = c.in-Some.ensures in
-    let cut : pairs_of ps ≡ x ∷ pairs_of new = ap pairs_of taken.1 in
-    let whole = i.whole ∙ ap (λ l. i.moved ++ l) cut in
+    let whole = i.whole ∙ ap (λ l. i.moved ++ l) taken in
     let content = c.requires.content in
-    let fresh = fresh_after (bytes kb) i.moved (pairs_of new) x (subst (IsContent (bytes kb)) whole content) in
-    let less : length ps ≡ suc (length new) = ap length taken.1 in
+    let fresh = fresh_after (bytes kb) i.moved rest x (subst (IsContent (bytes kb)) whole content) in
+    let less : length c.loop-key.from.pairs ≡ suc (length rest) = ap length taken in
     record {
       moved = i.moved ++ x ∷ [];
-      whole = whole ∙ sym (append_assoc i.moved (x ∷ []) (pairs_of new));
+      whole = whole ∙ sym (append_assoc i.moved (x ∷ []) rest);
       union = union_step (bytes kb) (pairs_of c.args.to.now.pairs) i.moved (pairs_of c.loop-key.to.pairs) (pairs_of c.add_reserved.new.tree.pairs) x i.union fresh c.add_reserved.ensures.added (λ t. ap pairs_of (c.add_reserved.ensures.stays t));
       room = omega (arith, c.add_reserved.ensures.room, i.room);
     }
@@ -41,6 +39,5 @@ loop-key-preserved g c =
 pub returns : goal.returns
 returns g c =
     let i = c.loop-key.invariant in
-    let none : pairs_of c.loop-key.from.pairs ≡ [] = ap pairs_of c.in_default.ensures.0 in
-    let whole = i.whole ∙ ap (λ l. i.moved ++ l) none ∙ append-nil i.moved in
+    let whole = i.whole ∙ ap (λ l. i.moved ++ l) c.in_default.ensures.0 ∙ append-nil i.moved in
     subst (λ A. IsUnion (bytes g.K.AsBytes.bytes) (pairs_of c.args.to.now.pairs) A (pairs_of c.loop-key.to.pairs)) (sym whole) i.union

@@ -8,7 +8,7 @@ use Rattle.art_insert.proofs.append.add_all.Given as goal
 abbrev pub invariant-loop-key : goal.invariant-loop-key
 invariant-loop-key g l = record {
   moved : List (g.row.K.Denot × g.row.V.Denot);
-  whole : pairs_of l.initial.from.pairs ≡ moved ++ pairs_of l.from.pairs;
+  whole : l.initial.from.pairs ≡ moved ++ l.from.pairs;
   union : IsUnion (bytes g.K.AsBytes.bytes) (pairs_of l.initial.to.pairs) moved (pairs_of l.to.pairs);
   room : length l.from.pairs ≤ room l.to;
 }

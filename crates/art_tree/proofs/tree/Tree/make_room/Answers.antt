@@ -1,12 +1,9 @@
-use Rattle.std.proofs.Common.{refl}
-use Rattle.art_tree.proofs.Invariant.Soundness.{sound_same}
+use Rattle.art_slots.specs.Store.{slot_at}
+use Rattle.art_tree.proofs.Led.{led_same}
 use Rattle.art_tree.proofs.tree.Tree.make_room.Goals as goal
 
+pub invariant_of-self-in-Empty-1 : goal.invariant_of-self-in-Empty-1
+invariant_of-self-in-Empty-1 g c = led_same (slot_at c.self.inside.ids) (slot_at c.reserve.new.self) c.self.inside.cells.pairs _ c.self.invariant c.in_ok-make_room-in-Empty.ensures.pairs c.reserve.ensures.same
+
 pub invariant_of-self-in-Free-1 : goal.invariant_of-self-in-Free-1
-invariant_of-self-in-Free-1 g c = sound_same g.K.AsBytes.bytes c.self.inside.leaves c.reserve-in-Free.new.self c.self.inside.nodes c.reserve-in-Free-2.new.self c.self.inside.root c.self.invariant c.in_ok-reserve-in-Free.ensures.pairs c.reserve-in-Free-2.ensures.same
-
-pub invariant_of-self : goal.invariant_of-self
-invariant_of-self g c = sound_same g.K.AsBytes.bytes c.self.inside.leaves c.reserve.new.self c.self.inside.nodes c.self.inside.nodes c.self.inside.root c.self.invariant c.reserve.ensures.pairs (λ j. refl)
-
-pub invariant_of-self-in_err-reserve-in-Free : goal.invariant_of-self-in_err-reserve-in-Free
-invariant_of-self-in_err-reserve-in-Free g c = sound_same g.K.AsBytes.bytes c.self.inside.leaves c.reserve-in-Free.new.self c.self.inside.nodes c.self.inside.nodes c.self.inside.root c.self.invariant c.in_err-reserve-in-Free.ensures.pairs (λ j. refl)
+invariant_of-self-in-Free-1 g c = led_same (slot_at c.self.inside.ids) (slot_at c.reserve-in-Free.new.self) c.self.inside.cells.pairs _ c.self.invariant c.in_ok-make_room-in-Free.ensures.pairs c.reserve-in-Free.ensures.same

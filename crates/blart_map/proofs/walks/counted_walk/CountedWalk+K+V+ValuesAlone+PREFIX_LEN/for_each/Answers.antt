@@ -5,14 +5,14 @@ use Rattle.art_walk.specs.Cursor.{leaves_left}
 use Rattle.blart_map.specs.Content.{pairs}
 use Rattle.blart_map.specs.CountedWalk.{counted_left}
 use Rattle.blart_map.specs.EachWritten.{WritesLeft, LeavesValue}
-use Rattle.blart_map.proofs.Written.EachWritten.{same_keys, same_length, fits_after, run_fits_after, writes_to, writes_all, writes_mapped, writes_stored, value_mapped, acts_on_value}
+use Rattle.blart_map.proofs.Written.EachWritten.{same_keys, same_length, fits_after, writes_to, writes_all, writes_mapped, writes_stored, value_mapped, acts_on_value}
 use Rattle.blart_map.proofs.walks.counted_walk.CountedWalk+K+V+ValuesAlone+PREFIX_LEN.for_each.Goals as goal
 
 pub invariant_of-self : goal.invariant_of-self
 invariant_of-self g c =
     let s = c.args.self in
     let r = subst (λ (l : List (Numbered g.row.K.Denot g.row.V.Denot)). WritesLeft (LeavesValue g.F.FnMut) (leaves_left c.args.self.cursor l) l c.args.f c.write_values.new.tree.pairs) c.map.view_is c.write_values.ensures.writes in
-    record { fits = fits_after (LeavesValue g.F.FnMut) s.cursor s.lent s.left (counted_left s) s.map.now c.write_values.new.tree.pairs c.args.f r s.fits; follows = run_fits_after (LeavesValue g.F.FnMut) s.cursor s.ahead (counted_left s) s.map.now c.write_values.new.tree.pairs c.args.f r s.follows }
+    record { fits = fits_after (LeavesValue g.F.FnMut) s.cursor s.lent s.left (counted_left s) s.map.now c.write_values.new.tree.pairs c.args.f r s.fits }
 
 pub returns : goal.returns
 returns g c =

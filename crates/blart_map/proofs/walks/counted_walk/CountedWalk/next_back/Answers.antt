@@ -1,6 +1,5 @@
 use Rattle.std.proofs.Common.{refl, lit<, arith, ap, sym, ◌∙◌, ◌-◌, length, Some}
 use Rattle.art_tree.specs.Leaves.{with_value}
-use Rattle.art_walk.specs.Lent.{run_written}
 use Rattle.art_walk.proofs.Lending.{at_some, never_none, from_test, to_count, count_test, count_is, moved_last, fewer_after_last, last_fits_now, last_fits_with, is_lent_last, last_lent_count}
 use Rattle.blart_map.proofs.walks.counted_walk.CountedWalk.next_back.Goals as goal
 
@@ -23,7 +22,6 @@ invariant_of-self g c =
       fits = to_count c.step_back.new.cursor s.lent s.left ps
           (moved_last ps s.cursor c.step_back.new.cursor s.lent (count_test s.cursor s.lent s.left ps s.fits) c.step_back.ensures.fits _ c.step_back.ensures.passes)
           (count_is s.cursor s.lent s.left ps s.fits ∙ ap length (c.in_err-id.ensures.passes.0 ∙ sym c.in_err-id.ensures.passes.1));
-      follows = c.step_back.ensures.run s.ahead s.follows;
     }
 
 pub invariant_of-self-2 : goal.invariant_of-self-2
@@ -36,7 +34,6 @@ invariant_of-self-2 g c =
       fits = to_count new (Some c.in_ok-id.id) (s.left - 1) ps
           (last_fits_now ps c.step_back.ensures.distinct s.cursor new s.lent (count_test s.cursor s.lent s.left ps s.fits) c.in_ok-id.ensures.fits c.in_ok-id.id c.in_ok-id.ensures.there c.in_ok-id.ensures.passes)
           (omega arith);
-      follows = c.in_ok-id.ensures.run s.ahead s.follows;
     }
 
 pub invariant_of-self-lent : goal.invariant_of-self-lent
@@ -50,7 +47,7 @@ invariant_of-self-lent g c w =
       to_count new (Some c.in_ok-id.id) (s.left - 1) (with_value ps id w)
           (last_fits_with ps c.step_back.ensures.distinct s.cursor new s.lent test c.in_ok-id.ensures.fits id v c.value_mut.ensures.value c.in_ok-id.ensures.passes w)
           (last_lent_count ps c.step_back.ensures.distinct s.cursor new s.lent test c.in_ok-id.ensures.fits id v c.value_mut.ensures.value c.in_ok-id.ensures.passes w s.left (count_is s.cursor s.lent s.left ps s.fits)),
-      (run_written new s.ahead (Some id) ps w (c.in_ok-id.ensures.run s.ahead s.follows), tt),
+      tt,
     )
 
 pub returns : goal.returns

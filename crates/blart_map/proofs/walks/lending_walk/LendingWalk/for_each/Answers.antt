@@ -3,7 +3,7 @@ use Rattle.art_tree.specs.Leaves.{Numbered, AreDistinct}
 use Rattle.art_walk.specs.Cursor.{leaves_left}
 use Rattle.blart_map.specs.EachWritten.{WritesLeft, LeavesPair}
 use Rattle.blart_map.specs.LendingWalk.{lending_left}
-use Rattle.blart_map.proofs.Written.EachWritten.{same_keys, same_length, walk_fits_after, run_fits_after, writes_all, acts_on_pair}
+use Rattle.blart_map.proofs.Written.EachWritten.{same_keys, same_length, walk_fits_after, writes_all, acts_on_pair}
 use Rattle.blart_map.proofs.Written.WrittenWhere.{writes_where, writes_called, acts_within}
 use Rattle.blart_map.proofs.walks.lending_walk.LendingWalk.for_each.Goals as goal
 
@@ -11,7 +11,7 @@ pub invariant_of-self : goal.invariant_of-self
 invariant_of-self g c =
     let s = c.args.self in
     let r = subst (λ (l : List (Numbered g.row.K.Denot g.row.V.Denot)). WritesLeft (LeavesPair g.F.FnMut) (leaves_left c.args.self.cursor l) l c.args.f c.write_pairs.new.tree.pairs) c.map.view_is c.write_pairs.ensures.writes in
-    record { fits = walk_fits_after (LeavesPair g.F.FnMut) s.cursor s.lent (lending_left s) s.map.now c.write_pairs.new.tree.pairs c.args.f r s.fits; follows = run_fits_after (LeavesPair g.F.FnMut) s.cursor s.ahead (lending_left s) s.map.now c.write_pairs.new.tree.pairs c.args.f r s.follows }
+    record { fits = walk_fits_after (LeavesPair g.F.FnMut) s.cursor s.lent (lending_left s) s.map.now c.write_pairs.new.tree.pairs c.args.f r s.fits }
 
 pub returns : goal.returns
 returns g c =

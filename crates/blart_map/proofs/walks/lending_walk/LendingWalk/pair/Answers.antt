@@ -1,5 +1,5 @@
 use Rattle.std.proofs.Common.{refl, sym, ap, ◌∙◌, lit<}
-use Rattle.art_walk.specs.Lent.{walk_fits, numbers, written_last, fits_written, run_fits, run_written}
+use Rattle.art_walk.specs.Lent.{walk_fits, numbers, written_last, fits_written}
 use Rattle.art_walk.proofs.Lending.{has_lent, same_left}
 use Rattle.blart_map.proofs.Written.LentPairs.{same_walk, pair_there}
 use Rattle.blart_map.proofs.walks.lending_walk.LendingWalk.pair.Goals as goal
@@ -11,14 +11,14 @@ pub invariant_of-self-lent : goal.invariant_of-self-lent
 invariant_of-self-lent g c w =
     let s = c.args.self.now in (
       ap (λ o. walk_fits s.cursor s.lent (numbers (written_last o s.map.now w))) (sym c.unwrap-id.ensures) ∙ fits_written s.cursor s.lent s.map.now w s.fits,
-      (ap (λ o. run_fits s.cursor s.ahead (numbers (written_last o s.map.now w))) (sym c.unwrap-id.ensures) ∙ run_written s.cursor s.ahead s.lent s.map.now w s.follows, tt),
+      tt,
     )
 
 pub returns : goal.returns
 returns g c =
     let s = c.args.self.now in
     let id = c.unwrap-id.result in (
-      (refl, λ w. same_walk s w _ (ap (λ o. written_last o s.map.now w) (sym c.unwrap-id.ensures)) _ _),
+      (refl, λ w. same_walk s w _ (ap (λ o. written_last o s.map.now w) (sym c.unwrap-id.ensures)) _),
       record {
         writes_back = tt;
         value = pair_there s id _ c.unwrap-id.ensures c.leaf_mut.ensures.value;

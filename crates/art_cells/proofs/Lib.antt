@@ -1,0 +1,11 @@
+pub mod CallerLemmas
+pub mod PairEnds
+pub mod Spans
+pub mod Steps
+mod Runs
+mod BeginsLemmas
+mod PairLists
+mod Pairs
+mod Invariant
+mod Ways
+mod Calls

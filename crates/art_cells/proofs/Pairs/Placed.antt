@@ -1,0 +1,156 @@
+-- The pairs with one more.
+use Rattle.std.proofs.Common.{◌≡◌, ◌≢◌, ℕ, List, [], refl, ap, sym, subst, Option, Some, None, ◌∙◌, false}
+use Rattle.std.specs.Prelude.{IfSome, map}
+use Rattle.blart_keys.specs.Bytes.{related}
+use Rattle.blart_keys.specs.Content.{IsContent, IsPut}
+use Rattle.blart_keys.specs.Steps.{bytes as pair_bytes}
+use Rattle.blart_keys.proofs.Mapped.{put_map}
+use Rattle.art_cells.specs.Begins.{Bytes}
+use Rattle.art_cells.specs.Placed.{Moves}
+use Rattle.art_cells.specs.Places.{LeavesNearest, IsLeafBefore, IsBeside, neighbour, number_before_place}
+use Rattle.art_cells.specs.Calls.Placing.{IsSpotFor, IsToJoin, TreeGains, PutsPair}
+use Rattle.art_cells.specs.Leaves.{Leaves, Numbered, leaf_in, Has, AreDistinct, OthersStand, with_pair_after, bytes, keys_in}
+use Rattle.art_kinds.specs.Nodes.{Nodes, Node, at}
+use Rattle.art_cells.specs.Points.{IsFree}
+use Rattle.art_cells.specs.Invariant.Shape.{Shape}
+use Rattle.art_cells.specs.Calls.Spots.{SpotFits}
+use Rattle.art_cells.specs.Invariant.Sound.{IsSound}
+use Rattle.art_cells.specs.declared.tree.descent.Spot.{Spot}
+use Rattle.art_cells.specs.declared.tree.parting.Beside.{Beside}
+use Rattle.art_cells.specs.declared.tree.parting.Beside.TheVariants.{AfterLeaf, BeforeLeaf}
+use Rattle.art_cells.specs.declared.tree.point.CellPlace.{CellPlace}
+use Rattle.art_kinds.specs.declared.records.ids.Child.{Child}
+use Rattle.art_kinds.specs.declared.records.ids.Child.TheVariants.{Leaf}
+use Rattle.art_cells.proofs.Invariant.Growing.{Gains, some_key}
+use Rattle.art_cells.proofs.Calls.Joining.{leaving_unrelated}
+use Rattle.art_cells.proofs.Pairs.KeyChanges.{gains_from}
+use Rattle.art_rows.proofs.CallerLemmas.{Lacks-from_leaf_in, leaf_in-placed_now, others-with_pair_after}
+use Rattle.art_cells.proofs.Pairs.Neighbours.{placed_put, before_beside}
+use Rattle.blart_keys.proofs.Options.{is_some}
+use Rattle.art_cells.proofs.Pairs.Keys.{pair_of_key, has_key}
+use Rattle.art_cells.proofs.Invariant.SameShapes.{rooted}
+use Rattle.art_cells.proofs.Invariant.SmallShapes.{first_key}
+
+-- the pair was put under a fresh number, and each other number names what it named
+pub record Places {K V : Type 0} (key_bytes : K → Bytes) (old new : List (Numbered K V)) (i : ℕ) (x : K × V) : Type 0 where
+  pub put : IsPut (bytes key_bytes) old (i, x) new
+  pub fresh : leaf_in old i ≡ None
+  pub now : leaf_in new i ≡ Some x
+  pub others : OthersStand old new i
+
+-- a tree with no key has no root
+pub no_root : {P : ℕ} → (keys : ℕ → Option Bytes) (nodes : ℕ → Option Node) (root : Option Child) → Shape P keys nodes root → ((j : ℕ) → keys j ≡ None) → root ≡ None
+no_root keys nodes None s none = refl
+no_root keys nodes (Some c) s none =
+    let k = some_key keys nodes (Some c) s [] c s.top in
+    let a : keys k.0 ≡ Some k.1 = k.2 in
+    let b : keys k.0 ≡ None = none k.0 in
+    absurd cc
+
+module _ {K V : Type 0} (key_bytes : K → Bytes) where
+  -- the leaf before a place is one of the pairs'
+  pub has_leaf_before : (pairs : List (Numbered K V)) (q : Bytes) (prev : Option ℕ) → IsLeafBefore (keys_in key_bytes pairs) q prev → IfSome prev (Has pairs)
+  has_leaf_before pairs q None st = tt
+  has_leaf_before pairs q (Some i) st = let p = pair_of_key key_bytes pairs i st.key st.is in is_some (leaf_in pairs i) p.0 p.1
+
+  -- a pair after the leaf before its place
+  pub placed_pairs : (old new : List (Numbered K V)) (q : Bytes) (prev : Option ℕ) (i : ℕ) (x : K × V) → IsContent (bytes key_bytes) old → AreDistinct old → ((j : ℕ) (k : Bytes) → keys_in key_bytes old j ≡ Some k → related k q ≡ false)
+      → IsLeafBefore (keys_in key_bytes old) q prev → leaf_in old i ≡ None → key_bytes x.0 ≡ q → new ≡ with_pair_after prev (i, x) old → Places key_bytes old new i x
+  placed_pairs old new q prev i x content distinct alone st fresh own is =
+      let has = has_leaf_before old q prev st in
+      let lacks = Lacks-from_leaf_in old i fresh in
+      subst (λ (ps : List (Numbered K V)). Places key_bytes old ps i x) (sym is) (record {
+        put = placed_put key_bytes old content distinct q alone prev (i, x) own st;
+        fresh = fresh;
+        now = leaf_in-placed_now prev (i, x) old has lacks;
+        others = others-with_pair_after prev (i, x) old has lacks;
+      })
+
+  -- the first pair
+  pub placed_first : (old new : List (Numbered K V)) (i : ℕ) (x : K × V) → IsContent (bytes key_bytes) old → old ≡ [] → leaf_in old i ≡ None → new ≡ with_pair_after None (i, x) old → Places key_bytes old new i x
+  placed_first old new i x content empty fresh is =
+      let none : (j : ℕ) (k : Bytes) → keys_in key_bytes old j ≡ Some k → ⊥ = λ j k e. (let a : keys_in key_bytes old j ≡ None = ap (λ (ps : List (Numbered K V)). keys_in key_bytes ps j) empty in cc) in
+      let distinct : AreDistinct old = subst (λ (ps : List (Numbered K V)). AreDistinct ps) (sym empty) tt in
+      placed_pairs old new (key_bytes x.0) None i x content distinct (λ j k e. absurd (none j k e)) (λ j k e. absurd (none j k e)) fresh refl is
+
+  -- the keys after that
+  pub places_gain : (old new : List (Numbered K V)) (i : ℕ) (x : K × V) → Places key_bytes old new i x → Gains (keys_in key_bytes old) (keys_in key_bytes new) i (key_bytes x.0)
+  places_gain old new i x p = gains_from key_bytes old new i p.others x p.fresh p.now
+
+  -- the first pair makes a tree of one leaf
+  pub first_sound : {P : ℕ} → (leaves leaves' : Leaves K V) (nodes : Nodes) (root : Option Child) (i : ℕ) (x : K × V) → IsSound key_bytes P leaves nodes root → leaves.pairs ≡ [] → Places key_bytes leaves.pairs leaves'.pairs i x → IsSound key_bytes P leaves' nodes (Some (Leaf i))
+  first_sound leaves leaves' nodes root i x sound empty p =
+      let none : (j : ℕ) → keys_in key_bytes leaves.pairs j ≡ None = λ j. ap (λ (ps : List (Numbered K V)). keys_in key_bytes ps j) empty in
+      let s : Shape _ (keys_in key_bytes leaves.pairs) (at nodes) None = rooted sound.shape (no_root (keys_in key_bytes leaves.pairs) (at nodes) root sound.shape none) in
+      record {
+        content = p.put.content;
+        shape = first_key (keys_in key_bytes leaves.pairs) (keys_in key_bytes leaves'.pairs) (at nodes) i (key_bytes x.0) s (places_gain leaves.pairs leaves'.pairs i x p);
+      }
+
+  -- the leaf before a free place
+  pub free_before : {P : ℕ} → (leaves : Leaves K V) (nodes : Nodes) (root : Option Child) (place : CellPlace) (q : Bytes) → IsSound key_bytes P leaves nodes root → AreDistinct leaves.pairs → IsFree key_bytes leaves.pairs place q
+      → (prev : Option ℕ) → prev ≡ number_before_place leaves.pairs place.beside → IsLeafBefore (keys_in key_bytes leaves.pairs) q prev
+  free_before leaves nodes root place q sound distinct free prev e =
+      let alone = leaving_unrelated (keys_in key_bytes leaves.pairs) (at nodes) root sound.shape place.nearest place.depth q free.leaves in
+      subst (IsLeafBefore (keys_in key_bytes leaves.pairs) q) (sym e) (before_beside key_bytes leaves.pairs sound.content distinct q alone place.beside free.beside)
+
+  -- a pair at a free place
+  pub placed_free : {P : ℕ} → (leaves : Leaves K V) (nodes : Nodes) (root : Option Child) (place : CellPlace) (new : List (Numbered K V)) (i : ℕ) (x : K × V) → IsSound key_bytes P leaves nodes root → AreDistinct leaves.pairs → IsFree key_bytes leaves.pairs place (key_bytes x.0)
+      → (prev : Option ℕ) → prev ≡ number_before_place leaves.pairs place.beside → leaf_in leaves.pairs i ≡ None → new ≡ with_pair_after prev (i, x) leaves.pairs → Places key_bytes leaves.pairs new i x
+  placed_free leaves nodes root place new i x sound distinct free prev prev_is fresh is =
+      placed_pairs leaves.pairs new (key_bytes x.0) prev i x sound.content distinct
+      (leaving_unrelated (keys_in key_bytes leaves.pairs) (at nodes) root sound.shape place.nearest place.depth (key_bytes x.0) free.leaves)
+      (free_before leaves nodes root place (key_bytes x.0) sound distinct free prev prev_is) fresh refl is
+
+  -- the leaf beside a place is one of the pairs'
+  pub has_beside : (pairs : List (Numbered K V)) (q : Bytes) (beside : Beside) → IsBeside (keys_in key_bytes pairs) q beside → Has pairs (neighbour beside)
+  has_beside pairs q (AfterLeaf i) st = has_key key_bytes pairs i st.key st.is
+  has_beside pairs q (BeforeLeaf i) st = has_key key_bytes pairs i st.key st.is
+
+  -- a pair in a fresh cell is a pair put, also where another leaf moved before
+  pub puts_pair : (old mid new : List (Numbered K V)) (moved : Option ℕ) (i : ℕ) (x : K × V) → map (λ p. p.1) mid ≡ map (λ p. p.1) old → Moves old moved mid → Places key_bytes mid new i x → PutsPair key_bytes old new (record { cell = i; moved = moved }) x
+  puts_pair old mid new moved i x same moves p = record {
+    put = subst (λ (S : List (K × V)). IsPut (pair_bytes key_bytes) S x (map (λ p. p.1) new)) same (put_map (λ p. p.1) (pair_bytes key_bytes) mid new (i, x) p.put);
+    comes = record { mid = mid; moves = moves; fresh = p.fresh; now = p.now; others = p.others };
+  }
+
+  -- the new leaf is to join the tree
+  pub joins : {P : ℕ} → (leaves : Leaves K V) (nodes : Nodes) (root : Child) (new : List (Numbered K V)) (nearest depth i : ℕ) (x : K × V) → IsSound key_bytes P leaves nodes (Some root) → LeavesNearest (keys_in key_bytes leaves.pairs) nearest depth (key_bytes x.0)
+      → Places key_bytes leaves.pairs new i x → IsToJoin P (keys_in key_bytes new) (at nodes) root nearest depth i
+  joins leaves nodes root new nearest depth i x sound good p = record {
+    rest = keys_in key_bytes leaves.pairs;
+    shape = sound.shape;
+    key = key_bytes x.0;
+    leaves = good;
+    gains = places_gain leaves.pairs new i x p;
+  }
+
+module _ {P : ℕ} (keys : ℕ → Option Bytes) (nodes : ℕ → Option Node) (root : Child) (nearest depth i : ℕ) (new : IsToJoin P keys nodes root nearest depth i) where
+  -- the nearest leaf is another
+  another : nearest ≢ i
+  another e = let a : new.rest i ≡ Some new.leaves.nearest_key = ap new.rest (sym e) ∙ new.leaves.nearest_is in let b : new.rest i ≡ None = new.gains.fresh in let z : None ≡ Some new.leaves.nearest_key = sym b ∙ a in cc
+
+  -- it has its key
+  pub has_nearest : keys nearest ≡ Some new.leaves.nearest_key
+  has_nearest = new.gains.others nearest another ∙ new.leaves.nearest_is
+
+  module _ (k m : Bytes) (own : keys i ≡ Some k) (near : keys nearest ≡ Some m) where
+    own_key : new.key ≡ k
+    own_key = let a : keys i ≡ Some new.key = new.gains.has in cc
+
+    -- the nearest key was there before
+    pub near_rest : new.rest nearest ≡ Some m
+    near_rest = sym (new.gains.others nearest another) ∙ near
+
+    -- the key leaves it
+    pub leaves_near : LeavesNearest new.rest nearest depth k
+    leaves_near = subst (λ (k : Bytes). LeavesNearest new.rest nearest depth k) own_key new.leaves
+
+    module _ (spot : Spot) (fits : SpotFits nodes (Some root) new.shape.front_of m depth spot) where
+      -- at the spot that was found
+      pub new_spot : IsSpotFor P nodes root spot k m depth
+      new_spot = record { keys = new.rest; shape = new.shape; leaf = nearest; is = near_rest; leaves = leaves_near; fits = fits }
+
+      -- and the tree has it when it was added there
+      pub new_shape : (nodes' : ℕ → Option Node) (root' : Child) → TreeGains P nodes nodes' root root' spot k m depth i → Shape P keys nodes' (Some root')
+      new_shape nodes' root' joined = joined new.rest keys new.shape nearest near_rest leaves_near fits (subst (λ (k : Bytes). Gains new.rest keys i k) own_key new.gains)

@@ -1,0 +1,57 @@
+use Rattle.std.proofs.Common.{◌≡◌, ◌<◌, length, lit<, arith, Some}
+use Rattle.art_kinds.specs.Nodes.{at}
+use Rattle.art_cells.specs.Leaves.{keys_in}
+use Rattle.art_cells.proofs.Calls.PlacedShapes.{nearest_long}
+use Rattle.art_cells.proofs.Pairs.Keys.{key_read, has_key}
+use Rattle.art_cells.proofs.Pairs.Placed.{has_nearest, near_rest, leaves_near, new_spot, new_shape}
+use Rattle.art_cells.proofs.tree.place.join.Goals as goal
+
+pub read-requires : goal.read-requires
+read-requires g c = has_key g.K.AsBytes.bytes c.args.leaves.now.pairs c.args.id c.requires.joins.key c.requires.joins.gains.has
+
+pub read-requires-2 : goal.read-requires-2
+read-requires-2 g c =
+    let near = has_nearest (keys_in g.K.AsBytes.bytes c.args.leaves.now.pairs) (at c.args.nodes.now) c.args.root.now c.args.place.now.nearest c.args.place.now.depth c.args.id c.requires.joins in
+    has_key g.K.AsBytes.bytes c.args.leaves.now.pairs c.args.place.now.nearest c.requires.joins.leaves.nearest_key near
+
+pub spot_for-spot-requires : goal.spot_for-spot-requires
+spot_for-spot-requires g c =
+    let kb = g.K.AsBytes.bytes in
+    let ps = c.args.leaves.now.pairs in
+    let p = c.args.place.now in
+    let r = c.requires.joins in
+    let k = c.as_bytes.result.now in
+    let m = c.as_bytes-2.result.now in
+    let own = key_read kb ps c.args.id c.read.ensures.value c.as_bytes.ensures in
+    let near = key_read kb ps p.nearest c.read-2.ensures.value c.as_bytes-2.ensures in
+    let is : r.rest p.nearest ≡ Some m = near_rest (keys_in kb ps) (at c.args.nodes.now) c.args.root.now p.nearest p.depth c.args.id r k m own near in
+    let good = leaves_near (keys_in kb ps) (at c.args.nodes.now) c.args.root.now p.nearest p.depth c.args.id r k m own near in
+    let long : p.depth < length m = nearest_long r.rest p.nearest p.depth k good m is in
+    let longer : p.depth < length k = good.longer in
+    (lit< tt, (record { keys = r.rest; shape = r.shape; is = is; within = omega arith }, omega arith))
+
+pub add_leaf-requires : goal.add_leaf-requires
+add_leaf-requires g c =
+    let kb = g.K.AsBytes.bytes in
+    let ps = c.args.leaves.now.pairs in
+    let p = c.args.place.now in
+    let r = c.requires.joins in
+    let k = c.as_bytes.result.now in
+    let m = c.as_bytes-2.result.now in
+    let own = key_read kb ps c.args.id c.read.ensures.value c.as_bytes.ensures in
+    let near = key_read kb ps p.nearest c.read-2.ensures.value c.as_bytes-2.ensures in
+    let is : r.rest p.nearest ≡ Some m = near_rest (keys_in kb ps) (at c.args.nodes.now) c.args.root.now p.nearest p.depth c.args.id r k m own near in
+    (lit< tt, (new_spot (keys_in kb ps) (at c.args.nodes.now) c.args.root.now p.nearest p.depth c.args.id r k m own near c.spot_for-spot.result (c.spot_for-spot.ensures r.rest r.shape is), c.requires.room))
+
+pub returns-clause-shape : goal.returns-clause-shape
+returns-clause-shape g c =
+    let kb = g.K.AsBytes.bytes in
+    let ps = c.args.leaves.now.pairs in
+    let p = c.args.place.now in
+    let r = c.requires.joins in
+    let k = c.as_bytes.result.now in
+    let m = c.as_bytes-2.result.now in
+    let own = key_read kb ps c.args.id c.read.ensures.value c.as_bytes.ensures in
+    let near = key_read kb ps p.nearest c.read-2.ensures.value c.as_bytes-2.ensures in
+    let is : r.rest p.nearest ≡ Some m = near_rest (keys_in kb ps) (at c.args.nodes.now) c.args.root.now p.nearest p.depth c.args.id r k m own near in
+    new_shape (keys_in kb ps) (at c.args.nodes.now) c.args.root.now p.nearest p.depth c.args.id r k m own near c.spot_for-spot.result (c.spot_for-spot.ensures r.rest r.shape is) (at c.add_leaf.new.nodes) c.add_leaf.result c.add_leaf.ensures.gains

@@ -1,0 +1,11 @@
+use Rattle.art_cells.specs.Calls.Stops.{OnWay}
+use Rattle.art_cells.specs.Leaves.{keys_in}
+use Rattle.art_kinds.specs.Nodes.{at}
+use Rattle.art_cells.proofs.Ways.Depths.{rank}
+use Rattle.art_cells.proofs.tree.stop.stop_of.Given as goal
+
+abbrev pub invariant-down : goal.invariant-down
+invariant-down g l = OnWay g.row.P (keys_in g.K.AsBytes.bytes l.leaves.pairs) (at l.nodes) l.child l.start l.query
+
+abbrev pub decreases-down : goal.decreases-down
+decreases-down g l = rank l.nodes l.child

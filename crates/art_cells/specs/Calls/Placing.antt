@@ -1,0 +1,89 @@
+-- How a leaf joins the tree.
+use Rattle.std.specs.Prelude.{◌≡◌, ◌≢◌, ◌<◌, ◌≤◌, ◌⊎◌, ℕ, List, map, take, slice_range, length, Option, Some, None}
+use Rattle.blart_keys.specs.Content.{IsPut}
+use Rattle.blart_keys.specs.Steps.{bytes as pair_bytes}
+use Rattle.art_cells.specs.Begins.{Bytes}
+use Rattle.art_cells.specs.Content.{Content}
+use Rattle.art_cells.specs.Placed.{ComesTo}
+use Rattle.art_cells.specs.Places.{LeavesNearest}
+use Rattle.art_cells.specs.Leaves.{Leaves, Numbered, room as leaves_room}
+use Rattle.art_kinds.specs.Edges.{child_at}
+use Rattle.art_kinds.specs.Nodes.{Node, Nodes, Makes, room}
+use Rattle.art_cells.specs.Invariant.Shape.{Shape}
+use Rattle.art_cells.specs.Calls.Spots.{SpotFits}
+use Rattle.art_kinds.specs.declared.records.ids.Child.{Child}
+use Rattle.art_kinds.specs.declared.records.ids.Child.TheVariants.{Leaf, Inner}
+use Rattle.art_kinds.specs.declared.records.ids.Edge.{Edge}
+use Rattle.art_cells.specs.declared.tree.descent.Spot.{Spot}
+use Rattle.art_cells.specs.declared.tree.place.Placed.{Placed}
+use Rattle.art_cells.specs.declared.tree.point.CellPlace.{CellPlace}
+
+-- the leaf i was added, with the key k
+pub record Gains (old new : ℕ → Option Bytes) (i : ℕ) (k : Bytes) : Type 0 where
+  pub fresh : old i ≡ None
+  pub has : new i ≡ Some k
+  pub others : (j : ℕ) → j ≢ i → new j ≡ old j
+
+-- in some tree with this root, the key leaves a stored key, the nearest one, at the spot
+pub record IsSpotFor (P : ℕ) (nodes : ℕ → Option Node) (root : Child) (spot : Spot) (key nearest : Bytes) (depth : ℕ) : Type 0 where
+  pub keys : ℕ → Option Bytes
+  pub shape : Shape P keys nodes (Some root)
+  pub leaf : ℕ
+  pub is : keys leaf ≡ Some nearest
+  pub leaves : LeavesNearest keys leaf depth key
+  pub fits : SpotFits nodes (Some root) shape.front_of nearest depth spot
+
+-- in some tree with this root, the place's nearest leaf has this key, at least as long as the place is deep
+pub record HasNearest (P : ℕ) (nodes : ℕ → Option Node) (root : Child) (place : CellPlace) (nearest : Bytes) : Type 0 where
+  pub keys : ℕ → Option Bytes
+  pub shape : Shape P keys nodes (Some root)
+  pub is : keys place.nearest ≡ Some nearest
+  pub within : place.depth ≤ length nearest
+
+-- the node is so deep, and its edge by this byte leads to the leaf
+pub record IsOverLeaf (nodes : ℕ → Option Node) (n depth byte leaf : ℕ) : Type 0 where
+  pub node : Node
+  pub is : nodes n ≡ Some node
+  pub deep : node.depth ≡ depth
+  pub there : child_at node.edges byte ≡ Some (Leaf leaf)
+
+-- each tree where the key leaves the nearest key at the spot is now the tree with the leaf i of that key too
+abbrev pub TreeGains : ℕ → (ℕ → Option Node) → (ℕ → Option Node) → Child → Child → Spot → Bytes → Bytes → ℕ → ℕ → Type 0
+TreeGains P old new root root' spot key nearest depth i =
+    (keys keys' : ℕ → Option Bytes) (s : Shape P keys old (Some root)) (leaf : ℕ) → keys leaf ≡ Some nearest → LeavesNearest keys leaf depth key → SpotFits old (Some root) s.front_of nearest depth spot
+    → Gains keys keys' i key → Shape P keys' new (Some root')
+
+-- a node was made with these two edges, in the order of their bytes
+pub record Forks (old new : ℕ → Option Node) (n depth : ℕ) (prefix : List ℕ) (one other : Edge) : Type 0 where
+  pub low : Edge
+  pub high : Edge
+  pub made : Makes old new n depth prefix low high
+  pub sorted : low.byte < high.byte
+  pub both : ((low ≡ one) × (high ≡ other)) ⊎ ((low ≡ other) × (high ≡ one))
+
+-- the child is a leaf, or a node as deep as one number at least and another at most
+abbrev pub DepthWithin : (ℕ → Option Node) → Child → ℕ → ℕ → Type 0
+DepthWithin nodes (Leaf i) least most = Unit {0}
+DepthWithin nodes (Inner n) least most = (x : Node) × (nodes n ≡ Some x) × (least ≤ x.depth) × (x.depth ≤ most)
+
+-- the child, if it is a node, keeps what a key has from here up to the node's depth, and of it P bytes at most
+abbrev pub KeepsFrom : ℕ → (ℕ → Option Node) → Child → Bytes → ℕ → Type 0
+KeepsFrom P nodes (Leaf i) key from = Unit {0}
+KeepsFrom P nodes (Inner n) key from = (x : Node) → nodes n ≡ Some x → x.prefix ≡ take P (slice_range key from x.depth)
+
+-- what a contract sees of leaves and nodes together
+abbrev pub content_of : {K V : Type 0} → Leaves K V → Nodes → Content K V
+content_of leaves nodes = record { pairs = leaves.pairs; spares = record { leaves = leaves_room leaves; nodes = room nodes } }
+
+-- the leaf i is to join the tree: that has the other keys, and the leaf's key leaves the nearest of them at a depth
+pub record IsToJoin (P : ℕ) (keys : ℕ → Option Bytes) (nodes : ℕ → Option Node) (root : Child) (nearest depth i : ℕ) : Type 0 where
+  pub rest : ℕ → Option Bytes
+  pub shape : Shape P rest nodes (Some root)
+  pub key : Bytes
+  pub leaves : LeavesNearest rest nearest depth key
+  pub gains : Gains rest keys i key
+
+-- the pair was put, and came to this cell
+pub record PutsPair {K V : Type 0} (key_bytes : K → List ℕ) (old new : List (Numbered K V)) (placed : Placed) (x : K × V) : Type 0 where
+  pub put : IsPut (pair_bytes key_bytes) (map (λ p. p.1) old) x (map (λ p. p.1) new)
+  pub comes : ComesTo old new placed x

@@ -1,0 +1,48 @@
+-- Where a way down by the bytes of a query ends.
+use Rattle.std.specs.Prelude.{◌≡◌, ℕ, Bool, ◌<◌, length, slice_index_or, Option, Some}
+use Rattle.blart_keys.specs.Bytes.{common}
+use Rattle.art_cells.specs.Begins.{Bytes, Begins}
+use Rattle.art_cells.specs.Invariant.EdgesAbove.{LeadsTo, edge_front}
+use Rattle.art_cells.specs.Invariant.Shape.{Shape}
+use Rattle.art_cells.specs.Places.{LeavesNearest}
+use Rattle.art_cells.specs.Calls.Partings.{KeyEnds, QueryEnds, LeavesAtNode, LeavesAtEdge, IsChildBeside}
+use Rattle.art_kinds.specs.Edges.{child_at}
+use Rattle.art_kinds.specs.Nodes.{Node}
+use Rattle.art_kinds.specs.declared.records.ids.Child.{Child}
+use Rattle.art_cells.specs.declared.tree.stop.Stop.{Stop}
+use Rattle.art_cells.specs.declared.tree.stop.Stop.TheVariants.{Same, Shorter, Longer, AtNode, AtEdge}
+use Rattle.art_cells.specs.declared.tree.stop.Step.{Step}
+use Rattle.art_cells.specs.declared.tree.stop.Step.TheVariants.{Down, Stops}
+
+-- a front and q have so many bytes in common, and after them the front goes on by this byte
+pub record IsShared (front q : Bytes) (len byte : ℕ) : Type 0 where
+  pub is : len ≡ length (common front q)
+  pub next : len < length front → len < length q → byte ≡ slice_index_or front len 0
+
+module _ (P : ℕ) (keys : ℕ → Option Bytes) (nodes : ℕ → Option Node) where
+  -- in some tree, q begins with the front of an edge, which is so long and leads to the child
+  pub record OnWay (child : Child) (start : ℕ) (q : Bytes) : Type 0 where
+    pub root : Option Child
+    pub shape : Shape P keys nodes root
+    pub above : Option (ℕ × ℕ)
+    pub leads : LeadsTo nodes root above child
+    pub along : Begins (edge_front shape.front_of above) q
+    pub start_is : start ≡ length (edge_front shape.front_of above)
+
+  -- where a way down by the bytes of q ends
+  abbrev pub IsStop : Stop → Bytes → Type 0
+  IsStop (Same i) q = keys i ≡ Some q
+  IsStop (Shorter i) q = KeyEnds keys i q
+  IsStop (Longer child) q = QueryEnds P keys nodes child q
+  IsStop (AtNode n depth) q = (l : LeavesAtNode P keys nodes n (slice_index_or q depth 0) q) × (depth ≡ length (l.apart.shape.front_of n)) × (depth < length q)
+  IsStop (AtEdge child depth byte) q = (l : LeavesAtEdge P keys nodes child byte (slice_index_or q depth 0) q) × (depth ≡ length l.t) × (depth < length q)
+
+  -- the way ends at a node, or goes on by one of its edges
+  abbrev pub IsStep : ℕ → Step → Bytes → Type 0
+  IsStep n (Down child start) q = OnWay child start q × ((x : Node) × (b : ℕ) × (nodes n ≡ Some x) × (child_at x.edges b ≡ Some child))
+  IsStep n (Stops stop) q = IsStop stop q
+
+  -- the child is beside the place of q, and q leaves each key below it after so many bytes
+  pub record IsPlaceUnder (q : Bytes) (depth : ℕ) (child : Child) (is_after : Bool) : Type 0 where
+    pub beside : IsChildBeside P keys nodes q child is_after
+    pub leaves : (i : ℕ) (key : Bytes) → keys i ≡ Some key → Begins beside.front key → LeavesNearest keys i depth q

@@ -1,0 +1,44 @@
+-- What a contract sees of a tree.
+use Rattle.std.specs.Prelude.{ℕ, ◌<◌, List, min, refl}
+use Rattle.std.specs.Coded.{Coded, code_by, coded×, coded_ℕ, coded_list}
+use Rattle.art_cells.specs.Leaves.{Numbered}
+use Rattle.art_cells.specs.declared.tree.point.CellPoint.{CellPoint}
+use Rattle.art_cells.specs.declared.tree.point.CellPoint.TheVariants.{Empty, Exact, Related, Free}
+
+-- for how many placements there surely is a row of leaves, and for how many the spare inner nodes are enough
+pub record Spares : Type 0 where
+  pub leaves : ℕ
+  pub nodes : ℕ
+
+-- the pairs in byte order, each under its leaf's number, and the room for pairs to come
+pub record Content (K V : Type 0) : Type 0 where
+  pub pairs : List (Numbered K V)
+  pub spares : Spares
+
+abbrev pub content_code : {K V : Type 0} → Coded K → Coded V → Coded (Content K V)
+content_code {K} {V} k v =
+    code_by
+    (List (ℕ × (K × V)) × (ℕ × ℕ))
+    (coded× (coded_list (coded× coded_ℕ (coded× k v))) (coded× coded_ℕ coded_ℕ))
+    (λ t. (t.pairs, (t.spares.leaves, t.spares.nodes)))
+    (λ p. record { pairs = p.0; spares = record { leaves = p.1.0; nodes = p.1.1 } })
+    (λ _. refl)
+
+module _ {K V : Type 0} where
+  -- how many placements are sure to succeed
+  abbrev pub room : Content K V → ℕ
+  room t = min t.spares.leaves t.spares.nodes
+
+  -- there is the room that a placement at this point takes
+  abbrev pub Fits : Content K V → CellPoint → Type 0
+  Fits t Empty = 0 < t.spares.leaves
+  Fits t (Exact id) = Unit {0}
+  Fits t (Related first last) = Unit {0}
+  Fits t (Free place) = 0 < room t
+
+-- a pair may be placed at this point
+abbrev pub IsOpen : CellPoint → Type 0
+IsOpen Empty = Unit {0}
+IsOpen (Exact id) = ⊥
+IsOpen (Related first last) = ⊥
+IsOpen (Free place) = Unit {0}

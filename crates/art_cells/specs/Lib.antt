@@ -1,0 +1,16 @@
+pub mod Begins
+pub mod Clones
+pub mod Content
+pub mod Leaves
+pub mod Longest
+pub mod PairList
+pub mod Pairs
+pub mod Placed
+pub mod Places
+pub mod Points
+pub mod Seeks
+pub mod Spans
+pub mod Takes
+pub mod TreeLends
+pub mod Invariant
+pub mod Calls

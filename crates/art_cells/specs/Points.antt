@@ -1,0 +1,25 @@
+-- Which point is good for some bytes.
+use Rattle.std.specs.Prelude.{◌≡◌, ℕ, true, List, [], Some}
+use Rattle.blart_keys.specs.Content.{at, conflict, subtree}
+use Rattle.art_cells.specs.Places.{LeavesNearest, IsBeside, neighbour}
+use Rattle.art_cells.specs.Leaves.{Numbered, first_number, last_number, keys_in, bytes}
+use Rattle.art_cells.specs.declared.tree.point.CellPlace.{CellPlace}
+use Rattle.art_cells.specs.declared.tree.point.CellPoint.{CellPoint}
+use Rattle.art_cells.specs.declared.tree.point.CellPoint.TheVariants.{Empty, Exact, Related, Free}
+
+module _ {K V : Type 0} (key_bytes : K → List ℕ) (pairs : List (Numbered K V)) where
+  -- the place is free for q, and beside its nearest leaf
+  pub record IsFree (place : CellPlace) (q : List ℕ) : Type 0 where
+    pub leaves : LeavesNearest (keys_in key_bytes pairs) place.nearest place.depth q
+    pub beside : IsBeside (keys_in key_bytes pairs) q place.beside
+    pub same : neighbour place.beside ≡ place.nearest
+
+  -- where q stands in the pairs, or would go
+  abbrev pub IsGood : CellPoint → List ℕ → Type 0
+  IsGood Empty q = pairs ≡ []
+  IsGood (Exact id) q = (x : K × V) × (at (bytes key_bytes) pairs q ≡ Some (id, x))
+  IsGood (Related first last) q =
+      (conflict (bytes key_bytes) pairs q ≡ true)
+      × (first_number (subtree (bytes key_bytes) pairs q) ≡ Some first)
+      × (last_number (subtree (bytes key_bytes) pairs q) ≡ Some last)
+  IsGood (Free place) q = IsFree place q

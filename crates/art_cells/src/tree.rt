@@ -1,0 +1,264 @@
+//! The tree.
+ghost use Rattle.std.specs.Prelude.{◌≡◌, ◌==◌, ◌+◌, ◌-◌, ◌<◌, ◌≤◌, [], length, map, Some, OnOk, OnErr};
+ghost use Rattle.std.specs.FinSet as set;
+ghost use Rattle.blart_keys.specs.Content.{IsContent, IsPut};
+ghost use Rattle.blart_keys.specs.Steps.{bytes as pair_bytes};
+ghost use Rattle.blart_keys.specs.Fronts.{fronts, parts};
+ghost use Rattle.art_cells.specs.Leaves.{leaf_in, Has, AreDistinct, first_number, last_number, number_after, number_before, bytes};
+ghost use Rattle.art_cells.specs.Content.{room, Fits, IsOpen};
+ghost use Rattle.art_cells.specs.Invariant.Sound.{IsSound};
+ghost use Rattle.art_cells.specs.Placed.{ComesTo};
+ghost use Rattle.art_cells.specs.Points.{IsGood};
+ghost use Rattle.art_cells.specs.Longest.{longest};
+
+mod apart;
+pub mod build;
+mod change;
+mod clone;
+mod descent;
+mod free_subtree;
+pub mod parting;
+pub mod place;
+pub mod point;
+mod prefix;
+mod remove;
+mod search;
+mod seek;
+pub(crate) mod stop;
+
+use crate::lists::begins;
+use crate::tree::descent::children_of;
+use crate::tree::place::{Placed, place_at};
+use crate::tree::point::{CellPoint, point_below};
+use art_kinds::{Child, Nodes};
+use art_rows::{Leaves, Position};
+use art_slots::{CellId, Visits};
+use blart_keys::AsBytes;
+use std::alloc::{AllocError, Global};
+use std::marker::Model;
+
+/// How many bytes of a compressed prefix an inner node keeps where nothing else is said.
+pub const DEFAULT_PREFIX_LEN: usize = 16;
+
+/// Pairs of a key and a value in the order of the keys' bytes, none of which begins another's.
+///
+/// An inner node keeps the first `PREFIX_LEN` bytes of its compressed prefix; any length is good, 0 too.
+///
+/// A call that is said to take no memory is never refused. A removal may ask for a smaller inner node, and keeps the larger one where that is refused.
+#[derive(Drop)]
+pub struct CellTree<K: AsBytes, V, const PREFIX_LEN: usize> {
+    pub(crate) leaves: Leaves<K, V>,
+    pub(crate) nodes: Nodes<PREFIX_LEN>,
+    pub(crate) root: Option<Child>,
+}
+
+impl<K: AsBytes, V, const PREFIX_LEN: usize> Model for CellTree<K, V, PREFIX_LEN> {
+    ghost use Rattle.art_cells.specs.Content.{Content, content_code};
+
+    ghost Value = { Content K V };
+
+    ghost coded = { content_code K.code V.code };
+
+    ghost use Rattle.art_cells.specs.Invariant.Sound.{IsSound};
+    ghost use Rattle.art_kinds.specs.Nodes.{room};
+    ghost use Rattle.art_cells.specs.Leaves.{room as leaves_room};
+
+    ghost view = { λ t. record { pairs = t.leaves.pairs; spares = record { leaves = leaves_room t.leaves; nodes = room t.nodes } } };
+
+    ghost invariant = { λ t. IsSound K.bytes PREFIX_LEN t.leaves t.nodes t.root };
+}
+
+impl<K: AsBytes, V, const PREFIX_LEN: usize> CellTree<K, V, PREFIX_LEN> {
+    /// A tree with no pairs. Takes no memory.
+    pub fn new(alloc: Global) -> Self
+        ensures pairs { result.pairs ≡ [] }
+        ensures room { room result ≡ 0 }
+    {
+        CellTree {
+            leaves: Leaves::new(alloc),
+            nodes: Nodes::new(alloc),
+            root: None,
+        }
+    }
+
+    /// Answers nothing. Its contract says what holds of every tree: the pairs ascend by their keys' bytes, none of which begins another's, and no number comes twice.
+    pub fn law(&self)
+        ensures content { IsContent (bytes K.bytes) self.now.pairs }
+        ensures distinct { AreDistinct self.now.pairs }
+    {
+        self.leaves.law()
+    }
+
+    /// How many pairs there are.
+    pub fn len(&self) -> usize
+        ensures { result ≡ length self.now.pairs }
+    {
+        self.leaves.len()
+    }
+
+    /// Whether there are no pairs.
+    pub fn is_empty(&self) -> bool
+        ensures { result ≡ (length self.now.pairs == 0) }
+    {
+        self.len() == 0
+    }
+
+    /// The first leaf.
+    pub fn first(&self) -> Option<CellId>
+        ensures { result ≡ first_number self.now.pairs }
+    {
+        self.leaves.first()
+    }
+
+    /// The last leaf.
+    pub fn last(&self) -> Option<CellId>
+        ensures { result ≡ last_number self.now.pairs }
+    {
+        self.leaves.last()
+    }
+
+    /// The leaf after a leaf.
+    pub fn next_of(&self, id: CellId) -> Option<CellId>
+        requires { Has self.now.pairs id }
+        ensures { result ≡ number_after self.now.pairs id }
+    {
+        self.leaves.next_of(id)
+    }
+
+    /// The leaf before a leaf.
+    pub fn prev_of(&self, id: CellId) -> Option<CellId>
+        requires { Has self.now.pairs id }
+        ensures { result ≡ number_before self.now.pairs id }
+    {
+        self.leaves.prev_of(id)
+    }
+
+    /// Returns the leaf after `id`, if there is one. `seen` is a guess of the position of `id`, and
+    /// then of the position of the returned leaf. If the guess is right, no row is searched.
+    #[inline(always)]
+    pub fn next_from(&self, id: CellId, seen: &mut Position) -> Option<CellId>
+        requires { Has self.now.pairs id }
+        ensures { result ≡ number_after self.now.pairs id }
+    {
+        self.leaves.next_from(id, seen)
+    }
+
+    /// Returns the leaf before `id`, if there is one. `seen` is a guess of the position of `id`, and
+    /// then of the position of the returned leaf. If the guess is right, no row is searched.
+    #[inline(always)]
+    pub fn prev_from(&self, id: CellId, seen: &mut Position) -> Option<CellId>
+        requires { Has self.now.pairs id }
+        ensures { result ≡ number_before self.now.pairs id }
+    {
+        self.leaves.prev_from(id, seen)
+    }
+
+    /// The pair of a leaf. One visit.
+    pub fn leaf(&self, id: CellId, visits: &mut Visits) -> (&K, &V)
+        requires { Has self.now.pairs id }
+        ensures value { leaf_in self.now.pairs id ≡ Some (result.0.now, result.1.now) }
+        ensures counted { visits.new.count ≡ visits.old.count + 1 }
+    {
+        self.leaves.read(id, visits)
+    }
+
+    /// Where the bytes stand, or would go. The point is good for them while the pairs are unchanged.
+    pub fn point(&self, query: &[u8]) -> CellPoint
+        ensures { IsGood K.bytes self.now.pairs result query.now }
+    {
+        match self.root {
+            None => CellPoint::Empty,
+            Some(root) => point_below(&self.leaves, &self.nodes, &root, query),
+        }
+    }
+
+    /// How many inner nodes there are: one at each front where neighbouring keys part. Fewer than there are pairs where there are pairs, and none where there is one or none.
+    pub fn inner_nodes(&self) -> usize
+        ensures value { result ≡ set.len (fronts (bytes K.bytes) self.now.pairs) }
+        ensures fewer { result ≤ length self.now.pairs - 1 }
+    {
+        self.leaves.law();
+        self.nodes.live()
+    }
+
+    /// How many children the inner node at this front has, and 0 where none stands there. At most one visit more than the longest key has bytes.
+    pub fn children_at(&self, front: &[u8], visits: &mut Visits) -> usize
+        ensures value { result ≡ set.len (parts (bytes K.bytes) self.now.pairs front.now) }
+        ensures counted { visits.new.count
+            ≤ visits.old.count + longest (bytes K.bytes) self.now.pairs + 1 }
+        ensures grows { visits.old.count ≤ visits.new.count }
+    {
+        self.leaves.law();
+        match self.root {
+            None => 0,
+            Some(root) => children_below(&self.leaves, &self.nodes, &root, front, visits),
+        }
+    }
+}
+
+impl<K: AsBytes + Drop, V: Drop, const PREFIX_LEN: usize> CellTree<K, V, PREFIX_LEN> {
+    /// Makes room, so that a pair may be placed at the point. Refused or not, the pairs stand, and the point stays good.
+    pub fn make_room(&mut self, point: &CellPoint) -> Result<(), AllocError>
+        ensures pairs { self.new.pairs ≡ self.old.pairs }
+        ensures fits { OnOk result (Fits self.new point.now) }
+        ensures room { room self.old ≤ room self.new }
+        ensures refused { OnErr result (IsOpen point.now) }
+    {
+        match point {
+            CellPoint::Exact(_) | CellPoint::Related { .. } => Ok(()),
+            CellPoint::Empty => self.leaves.reserve(1),
+            CellPoint::Free(_) => {
+                self.leaves.reserve(1)?;
+                self.nodes.reserve(1)
+            }
+        }
+    }
+
+    /// Places a pair at a point that is good for its key and fits. Returns its cell, and the cell that another leaf moved to, if one did. Does not allocate.
+    pub fn place(&mut self, point: CellPoint, key: K, value: V) -> Placed
+        requires good { IsGood K.bytes self.old.pairs point (K.bytes key) }
+        requires open { IsOpen point }
+        requires fits { Fits self.old point }
+        ensures put { IsPut (pair_bytes K.bytes) (map (λ p. p.1) self.old.pairs) (key, value)
+            (map (λ p. p.1) self.new.pairs) }
+        ensures comes { ComesTo self.old.pairs self.new.pairs result (key, value) }
+        ensures room { room self.old ≤ room self.new + 1 }
+    {
+        let (placed, root) = place_at(
+            &mut self.leaves,
+            &mut self.nodes,
+            &self.root,
+            &point,
+            key,
+            value,
+        );
+        self.root = Some(root);
+        placed
+    }
+}
+
+// How many children the inner node at this front has, in a tree with some pairs.
+fn children_below<K: AsBytes, V, const P: usize>(
+    leaves: &Leaves<K, V>,
+    nodes: &Nodes<P>,
+    root: &Child,
+    front: &[u8],
+    visits: &mut Visits,
+) -> usize
+    requires { IsSound K.bytes P leaves.now nodes.now (Some root.now) }
+    ensures value { result ≡ set.len (parts (bytes K.bytes) leaves.now.pairs front.now) }
+    ensures counted { visits.new.count
+        ≤ visits.old.count + longest (bytes K.bytes) leaves.now.pairs + 1 }
+    ensures grows { visits.old.count ≤ visits.new.count }
+{
+    leaves.law();
+    let Some(found) = children_of(nodes, root, front, visits) else {
+        return 0;
+    };
+    let (key, _) = leaves.read(found.1, visits);
+    if begins(front, key.as_bytes()) {
+        found.0
+    } else {
+        0
+    }
+}

@@ -1,0 +1,64 @@
+//! Trees that are taken apart, and trees that are made of pairs.
+ghost use Rattle.std.specs.Prelude.{◌≡◌, ◌≤◌, length};
+ghost use Rattle.blart_keys.specs.Content.{IsContent};
+ghost use Rattle.blart_keys.specs.Steps.{bytes};
+ghost use Rattle.art_cells.specs.Invariant.Sound.{IsSound};
+ghost use Rattle.art_cells.specs.Pairs.{pairs_of};
+
+use crate::pair_list::CellPairs;
+use crate::tree::CellTree;
+use crate::tree::build::{Frame, build};
+use art_kinds::{Child, Nodes};
+use art_rows::Leaves;
+use blart_keys::AsBytes;
+
+impl<K: AsBytes, V, const PREFIX_LEN: usize> CellTree<K, V, PREFIX_LEN> {
+    /// Returns the pairs in byte order. Does not allocate.
+    ///
+    /// Cost: frees the inner nodes whole. A caller that then removes pairs one by one changes no
+    /// node.
+    pub fn into_pairs(self) -> CellPairs<K, V>
+        ensures { result.pairs ≡ pairs_of self.pairs }
+    {
+        let CellTree { leaves, nodes, .. } = self;
+        drop(nodes);
+        CellPairs { leaves }
+    }
+
+    /// Returns all parts of the tree: the leaves, the inner nodes, and the root. The nodes are
+    /// those of the leaves' keys, one at each prefix where neighbouring keys part.
+    pub fn into_parts(self) -> (Leaves<K, V>, Nodes<PREFIX_LEN>, Option<Child>)
+        ensures leaves { result.0.pairs ≡ self.pairs }
+        ensures sound { IsSound K.bytes PREFIX_LEN result.0 result.1 result.2 }
+    {
+        let CellTree {
+            leaves,
+            nodes,
+            root,
+        } = self;
+        (leaves, nodes, root)
+    }
+
+    /// Returns a tree of these pairs. The bytes of their keys ascend, and no key is a prefix of
+    /// another. The frame has memory for at least as many pairs. Does not allocate.
+    ///
+    /// Cost: reads each key once or twice, and makes each inner node once, of all its children.
+    /// That is faster than a placement of each pair.
+    pub fn from_pairs(pairs: CellPairs<K, V>, frame: Frame<PREFIX_LEN>) -> Self
+        requires content { IsContent (bytes K.bytes) pairs.pairs }
+        requires room { length pairs.pairs ≤ frame }
+        ensures { pairs_of result.pairs ≡ pairs.pairs }
+    {
+        let CellPairs { leaves } = pairs;
+        let Frame { nodes, loose } = frame;
+        let mut nodes = nodes;
+        let mut loose = loose;
+        let root = build(&leaves, &mut nodes, &mut loose);
+        drop(loose);
+        CellTree {
+            leaves,
+            nodes,
+            root,
+        }
+    }
+}

@@ -1,0 +1,71 @@
+//! Changes to a tree that place nothing, and the look-up of the pair that begins a query.
+ghost use Rattle.std.specs.Prelude.{◌≡◌, ◌+◌, ◌<◌, ◌≤◌, [], option_map, Some, OnOk, OnErr};
+ghost use Rattle.std.specs.Borrow.{sem};
+ghost use Rattle.art_cells.specs.Leaves.{leaf_in, Has, with_pair, bytes};
+ghost use Rattle.art_cells.specs.Content.{room};
+ghost use Rattle.art_cells.specs.Takes.{MayTake};
+ghost use Rattle.art_cells.specs.TreeLends.{lends_leaf};
+
+use crate::lists::begins;
+use crate::tree::CellTree;
+use art_kinds::Child;
+use art_slots::{CellId, Visits};
+use blart_keys::AsBytes;
+use std::alloc::AllocError;
+
+impl<K: AsBytes + Drop, V: Drop, const PREFIX_LEN: usize> CellTree<K, V, PREFIX_LEN> {
+    /// Exchanges the pair of a leaf, and gives the old one. The new key is related to the old one and to no other. Takes no memory.
+    pub fn swap(&mut self, id: CellId, key: K, value: V) -> (K, V)
+        requires has { Has self.old.pairs id }
+        requires may { MayTake K.bytes self.old.pairs id (K.bytes key) }
+        ensures value { leaf_in self.old.pairs id ≡ Some result }
+        ensures pairs { self.new.pairs ≡ with_pair self.old.pairs id (key, value) }
+        ensures spares { self.new.spares ≡ self.old.spares }
+    {
+        self.leaves.law();
+        self.leaves.exchange(id, key, value)
+    }
+
+    /// Drops every pair, and every spare record.
+    pub fn clear(&mut self)
+        ensures pairs { self.new.pairs ≡ [] }
+        ensures room { room self.new ≡ 0 }
+    {
+        self.leaves.clear();
+        self.nodes.clear();
+        self.root = None;
+    }
+
+    /// Makes room for so many placements. Refused or not, the pairs stand.
+    pub fn reserve(&mut self, count: usize) -> Result<(), AllocError>
+        ensures pairs { self.new.pairs ≡ self.old.pairs }
+        ensures grows { room self.old ≤ room self.new }
+        ensures ok { OnOk result (count ≤ room self.new) }
+        ensures refused { OnErr result (0 < count) }
+    {
+        self.leaves.reserve(count)?;
+        self.nodes.reserve(count)
+    }
+}
+
+impl<K: AsBytes, V, const PREFIX_LEN: usize> CellTree<K, V, PREFIX_LEN> {
+    /// The key of a leaf, and its value to be written.
+    pub fn leaf_mut(&mut self, id: CellId) -> (&K, &mut V)
+        requires { Has self.old.pairs id }
+        ensures* writes_back { sem 𝓛
+            (lends_leaf K.row V.row PREFIX_LEN.row K.AsBytes self.entry id result.1) }
+        ensures value { leaf_in self.old.pairs id ≡ Some (result.0.now, result.1.now) }
+    {
+        self.leaves.get_mut(id)
+    }
+
+    /// The value of a leaf, to be written.
+    pub fn value_mut(&mut self, id: CellId) -> &mut V
+        requires { Has self.old.pairs id }
+        ensures* writes_back { sem 𝓛
+            (lends_leaf K.row V.row PREFIX_LEN.row K.AsBytes self.entry id result) }
+        ensures value { option_map (λ p. p.1) (leaf_in self.old.pairs id) ≡ Some result.now }
+    {
+        self.leaf_mut(id).1
+    }
+}

@@ -1,0 +1,25 @@
+//! A second tree of the same pairs.
+ghost use Rattle.std.specs.Prelude.{◌≡◌, map, Contains, IfOk};
+ghost use Rattle.art_cells.specs.Clones.{AreClones};
+
+use crate::tree::CellTree;
+use blart_keys::AsBytes;
+use std::alloc::AllocError;
+
+impl<K: AsBytes + Clone, V: Clone, const PREFIX_LEN: usize> CellTree<K, V, PREFIX_LEN> {
+    /// A tree of clones of the pairs, each under the number that it has here. It takes the memory that this tree has.
+    pub fn clone(&self) -> Result<Self, AllocError>
+        requires { (k j : K) (v : V) → Contains (map (λ p. p.1) self.now.pairs) (k, v)
+            → K.is_clone k j → K.bytes j ≡ K.bytes k }
+        ensures cloned { IfOk result (λ copy. AreClones K.bytes K.is_clone V.is_clone
+            (map (λ p. p.1) self.now.pairs) (map (λ p. p.1) copy.pairs)) }
+        ensures numbers { IfOk result (λ copy.
+            map (λ p. p.0) copy.pairs ≡ map (λ p. p.0) self.now.pairs) }
+    {
+        Ok(CellTree {
+            leaves: self.leaves.clone()?,
+            nodes: self.nodes.clone()?,
+            root: self.root,
+        })
+    }
+}

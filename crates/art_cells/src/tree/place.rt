@@ -1,0 +1,461 @@
+//! A leaf joins the tree.
+ghost use Rattle.std.specs.Prelude.{◌≡◌, ◌≢◌, ℕ, ◌+◌, ◌-◌, ◌^◌, ◌<◌, ◌≤◌, [], length, take, slice_range, slice_index_or, true, Option, Some, IfSome, eqb, if◌then◌else◌};
+ghost use Rattle.art_cells.specs.Begins.{Bytes};
+ghost use Rattle.art_cells.specs.Invariant.Shape.{Shape};
+ghost use Rattle.art_cells.specs.Calls.Spots.{SpotFits};
+ghost use Rattle.art_cells.specs.Invariant.EdgesAbove.{LeadsTo, TurnsTo, AscendsAt};
+ghost use Rattle.art_cells.specs.Content.{Fits, IsOpen, room as places};
+ghost use Rattle.art_cells.specs.Calls.Placing.{IsSpotFor, HasNearest, IsOverLeaf, IsToJoin, TreeGains, Forks, DepthWithin, KeepsFrom, PutsPair, content_of};
+ghost use Rattle.art_kinds.specs.Nodes.{at, room, FitsNew, SameSpares};
+ghost use Rattle.art_cells.specs.Leaves.{keys_in, room as leaves_room};
+ghost use Rattle.art_cells.specs.Calls.Removing.{StartsBelow, EndsBelow, Cuts};
+ghost use Rattle.art_cells.specs.Points.{IsFree, IsGood};
+ghost use Rattle.art_cells.specs.Invariant.Sound.{IsSound};
+ghost use Rattle.art_kinds.specs.declared.records.ids.Child.{Child as Way};
+ghost use Rattle.art_kinds.specs.declared.records.ids.Child.TheVariants.{Inner};
+
+use crate::tree::descent::{EdgeAbove, Spot, locate};
+use crate::tree::parting::leaf_before;
+use crate::tree::point::{CellPlace, CellPoint};
+use crate::tree::remove::spot_of;
+use art_kinds::{Child, Edge, NodeId, Nodes};
+use art_rows::{Leaves, Position};
+use art_slots::{CellId, Visits};
+use blart_keys::AsBytes;
+
+/// The cell of a pair that was placed, and the cell that another leaf moved to, if one did.
+#[derive(Clone, Copy)]
+pub struct Placed {
+    /// The cell of the new leaf.
+    pub cell: CellId,
+    /// The cell that another leaf moved to: a full row passes its last leaf on to the next one.
+    pub moved: Option<CellId>,
+}
+
+// A leaf that joins the tree. Its key leaves that of another, the nearest one, at this depth.
+#[derive(Clone, Copy)]
+struct NewLeaf<'a> {
+    id: CellId,
+    key: &'a [u8],
+    nearest: &'a [u8],
+    depth: usize,
+}
+
+/// Places a pair at a point that is good for its key. Returns where, and the root.
+pub(crate) fn place_at<K: AsBytes + Drop, V: Drop, const P: usize>(
+    leaves: &mut Leaves<K, V>,
+    nodes: &mut Nodes<P>,
+    root: &Option<Child>,
+    point: &CellPoint,
+    key: K,
+    value: V,
+) -> (Placed, Child)
+    requires whole { IsSound K.bytes P leaves.old nodes.old root.now }
+    requires good { IsGood K.bytes leaves.old.pairs point.now (K.bytes key) }
+    requires open { IsOpen point.now }
+    requires fits { Fits (content_of leaves.old nodes.old) point.now }
+    ensures placed { PutsPair K.bytes leaves.old.pairs leaves.new.pairs result.0 (key, value) }
+    ensures whole { IsSound K.bytes P leaves.new nodes.new (Some result.1) }
+    ensures room { places (content_of leaves.old nodes.old)
+        ≤ places (content_of leaves.new nodes.new) + 1 }
+{
+    match point {
+        CellPoint::Empty => place_first(leaves, nodes, root, key, value),
+        CellPoint::Free(place) => match root {
+            Some(root) => place_beside(leaves, nodes, root, place, key, value),
+            None => unreachable!(),
+        },
+        _ => unreachable!(),
+    }
+}
+
+// Places the first pair. Returns where, and the root.
+fn place_first<K: AsBytes + Drop, V: Drop, const P: usize>(
+    leaves: &mut Leaves<K, V>,
+    nodes: &Nodes<P>,
+    root: &Option<Child>,
+    key: K,
+    value: V,
+) -> (Placed, Child)
+    requires whole { IsSound K.bytes P leaves.old nodes.now root.now }
+    requires empty { leaves.old.pairs ≡ [] }
+    requires room { 0 < leaves_room leaves.old }
+    ensures placed { PutsPair K.bytes leaves.old.pairs leaves.new.pairs result.0 (key, value) }
+    ensures whole { IsSound K.bytes P leaves.new nodes.now (Some result.1) }
+    ensures room { leaves_room leaves.old ≤ leaves_room leaves.new + 1 }
+{
+    let cell = leaves.insert(None, Position::unknown(), key, value);
+    let placed = Placed { cell, moved: None };
+    (placed, Child::Leaf(cell))
+}
+
+// Places a pair beside others. Returns where, and the root.
+fn place_beside<K: AsBytes + Drop, V: Drop, const P: usize>(
+    leaves: &mut Leaves<K, V>,
+    nodes: &mut Nodes<P>,
+    root: &Child,
+    place: &CellPlace,
+    key: K,
+    value: V,
+) -> (Placed, Child)
+    requires whole { IsSound K.bytes P leaves.old nodes.old (Some root.now) }
+    requires free { IsFree K.bytes leaves.old.pairs place.now (K.bytes key) }
+    requires leaves_room { 0 < leaves_room leaves.old }
+    requires nodes_room { 0 < room nodes.old }
+    ensures placed { PutsPair K.bytes leaves.old.pairs leaves.new.pairs result.0 (key, value) }
+    ensures whole { IsSound K.bytes P leaves.new nodes.new (Some result.1) }
+    ensures leaves_room { leaves_room leaves.old ≤ leaves_room leaves.new + 1 }
+    ensures nodes_room { room nodes.old ≤ room nodes.new + 1 }
+{
+    leaves.law();
+    let (prev, mut seen) = leaf_before(leaves, &place.beside);
+    // The prover takes an `Option<CellId>` that is passed on as moved, so this is a copy.
+    let after = prev;
+    let Some(last) = leaves.crowd(after, &mut seen) else {
+        let cell = leaves.insert(prev, seen, key, value);
+        let top = join(leaves, nodes, root, place, cell);
+        return (Placed { cell, moved: None }, top);
+    };
+    let spot = spot_of(leaves, nodes, &Some(*root), &last);
+    let (cell, to) = leaves.insert_crowded(prev, seen, last, key, value);
+    let moved = Some(to);
+    let led = lead(nodes, root, &spot.edge, &Child::Leaf(to));
+    let top = join(leaves, nodes, &led, &renumbered(place, last, to), cell);
+    (Placed { cell, moved }, top)
+}
+
+// A place after a leaf's number became another.
+fn renumbered(place: &CellPlace, was: CellId, now: CellId) -> CellPlace
+    ensures nearest { result.nearest ≡ (if eqb place.now.nearest was then now else place.now.nearest) }
+    ensures depth { result.depth ≡ place.now.depth }
+{
+    let nearest = if place.nearest == was {
+        now
+    } else {
+        place.nearest
+    };
+    CellPlace { nearest, ..*place }
+}
+
+// Leads the tree to a leaf whose key leaves the nearest one at a place. Answers the root.
+fn join<K: AsBytes, V, const P: usize>(
+    leaves: &Leaves<K, V>,
+    nodes: &mut Nodes<P>,
+    root: &Child,
+    place: &CellPlace,
+    id: CellId,
+) -> Child
+    requires joins { IsToJoin P (keys_in K.bytes leaves.now.pairs) (at nodes.old) root.now
+        place.now.nearest place.now.depth id }
+    requires room { 0 < room nodes.old }
+    ensures shape { Shape P (keys_in K.bytes leaves.now.pairs) (at nodes.new) (Some result) }
+    ensures room { room nodes.old ≤ room nodes.new + 1 }
+{
+    let mut visits = Visits::new();
+    let (own, _) = leaves.read(id, &mut visits);
+    let (nearest, _) = leaves.read(place.nearest, &mut visits);
+    let leaf = NewLeaf {
+        id,
+        key: own.as_bytes(),
+        nearest: nearest.as_bytes(),
+        depth: place.depth,
+    };
+    let spot = spot_for(nodes, root, place, leaf.key, leaf.nearest);
+    add_leaf(nodes, root, &spot, &leaf)
+}
+
+// Where a key leaves the nearest key at the depth of a place: at the end of the place's edge, where that shows, or else at the end of a way down.
+fn spot_for<const P: usize>(
+    nodes: &Nodes<P>,
+    root: &Child,
+    place: &CellPlace,
+    key: &[u8],
+    nearest: &[u8],
+) -> Spot
+    requires nearest { HasNearest P (at nodes.now) root.now place.now nearest.now }
+    requires long { place.now.depth ≤ length key.now }
+    ensures { (keys : ℕ → Option Bytes) (s : Shape P keys (at nodes.now) (Some root.now))
+        → keys place.now.nearest ≡ Some nearest.now
+        → SpotFits (at nodes.now) (Some root.now) s.front_of nearest.now place.now.depth result }
+{
+    match spot_shown(nodes, root, place, key) {
+        Some(spot) => spot,
+        None => locate(nodes, root, nearest, place.depth, &mut Visits::new()),
+    }
+}
+
+// The spot at the end of a place's edge, where the nearest leaf is at hand to show it. No leaf is read.
+fn spot_shown<const P: usize>(
+    nodes: &Nodes<P>,
+    root: &Child,
+    place: &CellPlace,
+    key: &[u8],
+) -> Option<Spot>
+    requires { place.now.depth ≤ length key.now }
+    ensures { IfSome result (λ spot. (keys : ℕ → Option Bytes)
+        (s : Shape P keys (at nodes.now) (Some root.now)) (nearest : Bytes)
+        → keys place.now.nearest ≡ Some nearest → place.now.depth ≤ length nearest
+        → SpotFits (at nodes.now) (Some root.now) s.front_of nearest place.now.depth spot) }
+{
+    let (above, child) = edge_toward(nodes, root, place, key)?;
+    match child {
+        Child::Leaf(id) => {
+            if id != place.nearest {
+                return None;
+            }
+            Some(Spot::Edge(above, Child::Leaf(id)))
+        }
+        Child::Inner(id) => {
+            if !is_over_nearest(nodes, &id, place) {
+                return None;
+            }
+            Some(Spot::Node(above, id))
+        }
+    }
+}
+
+// The edge over a place, and what stands below: from the node that the place names, if that is less deep, by the byte of the key that goes there; or the way into the root.
+fn edge_toward<const P: usize>(
+    nodes: &Nodes<P>,
+    root: &Child,
+    place: &CellPlace,
+    key: &[u8],
+) -> Option<(EdgeAbove, Child)>
+    requires { place.now.depth ≤ length key.now }
+    ensures leads { IfSome result (λ e. LeadsTo (at nodes.now) (Some root.now) e.0 e.1) }
+    ensures ends { IfSome result (λ e. EndsBelow (at nodes.now) e.0 place.now.depth) }
+{
+    let Some(parent) = place.above else {
+        return Some((None, *root));
+    };
+    if !nodes.has(parent) {
+        return None;
+    }
+    let node = nodes.read(parent, &mut Visits::new());
+    let depth = node.depth();
+    if depth >= place.depth {
+        return None;
+    }
+    let byte = key[depth];
+    let child = node.find(byte)?;
+    Some((Some((parent, byte)), child))
+}
+
+// Whether a node is as deep as a place and has the nearest key below the place's byte.
+fn is_over_nearest<const P: usize>(nodes: &Nodes<P>, id: &NodeId, place: &CellPlace) -> bool
+    ensures { result ≡ true
+        → IsOverLeaf (at nodes.now) id.now place.now.depth place.now.byte place.now.nearest }
+{
+    if !nodes.has(*id) {
+        return false;
+    }
+    let node = nodes.read(*id, &mut Visits::new());
+    if node.depth() != place.depth {
+        return false;
+    }
+    let Some(child) = node.find(place.byte) else {
+        return false;
+    };
+    match child {
+        Child::Leaf(leaf) => leaf == place.nearest,
+        Child::Inner(_) => false,
+    }
+}
+
+// Adds a leaf where its key leaves the nearest key. Answers the root.
+fn add_leaf<const P: usize>(
+    nodes: &mut Nodes<P>,
+    root: &Child,
+    spot: &Spot,
+    leaf: &NewLeaf<'_>,
+) -> Child
+    requires spot_fits { IsSpotFor P (at nodes.old) root.now spot.now
+        leaf.now.key.now leaf.now.nearest.now leaf.now.depth }
+    requires fits { 0 < room nodes.old }
+    ensures gains { TreeGains P (at nodes.old) (at nodes.new) root.now result
+        spot.now leaf.now.key.now leaf.now.nearest.now leaf.now.depth leaf.now.id }
+    ensures room { room nodes.old ≤ room nodes.new + 1 }
+{
+    match spot {
+        Spot::Node(above, node) => add_at_node(nodes, root, above, node, leaf),
+        Spot::Edge(above, child) => add_at_edge(nodes, root, above, child, leaf),
+    }
+}
+
+// Adds a leaf to a node where its key leaves the others. Answers the root.
+fn add_at_node<const P: usize>(
+    nodes: &mut Nodes<P>,
+    root: &Child,
+    above: &EdgeAbove,
+    node: &NodeId,
+    leaf: &NewLeaf<'_>,
+) -> Child
+    requires spot_fits { IsSpotFor P (at nodes.old) root.now
+        (Spot.Node above.now node.now) leaf.now.key.now leaf.now.nearest.now leaf.now.depth }
+    requires fits { 0 < room nodes.old }
+    ensures gains { TreeGains P (at nodes.old) (at nodes.new) root.now result
+        (Spot.Node above.now node.now) leaf.now.key.now leaf.now.nearest.now leaf.now.depth
+        leaf.now.id }
+    ensures room { room nodes.old ≤ room nodes.new + 1 }
+{
+    let wide = nodes.widen(*node);
+    let top = follow(nodes, root, above, *node, wide);
+    nodes.add_edge(wide, leaf.key[leaf.depth], Child::Leaf(leaf.id));
+    top
+}
+
+// Leads the edge above a node to the number that the node has now, where that is another one. Answers the root.
+fn follow<const P: usize>(
+    nodes: &mut Nodes<P>,
+    root: &Child,
+    above: &EdgeAbove,
+    node: NodeId,
+    now: NodeId,
+) -> Child
+    requires leads { LeadsTo (at nodes.old) (Some root.now) above.now (Inner node) }
+    requires ascends { AscendsAt (at nodes.old) above.now }
+    ensures turned { TurnsTo (at nodes.old) (at nodes.new) (Some root.now) (Some result)
+        above.now (Inner now) }
+    ensures spares { SameSpares nodes.old nodes.new }
+{
+    if now == node {
+        return *root;
+    }
+    lead(nodes, root, above, &Child::Inner(now))
+}
+
+// Adds a leaf at an edge where its key leaves those below, under a new node. Answers the root.
+fn add_at_edge<const P: usize>(
+    nodes: &mut Nodes<P>,
+    root: &Child,
+    above: &EdgeAbove,
+    child: &Child,
+    leaf: &NewLeaf<'_>,
+) -> Child
+    requires spot_fits { IsSpotFor P (at nodes.old) root.now
+        (Spot.Edge above.now child.now) leaf.now.key.now leaf.now.nearest.now leaf.now.depth }
+    requires fits { FitsNew nodes.old }
+    ensures gains { TreeGains P (at nodes.old) (at nodes.new) root.now result
+        (Spot.Edge above.now child.now) leaf.now.key.now leaf.now.nearest.now leaf.now.depth
+        leaf.now.id }
+    ensures room { room nodes.old ≤ room nodes.new + 1 }
+{
+    let depth = leaf.depth;
+    let start = start_below(nodes, above);
+    let byte = byte_on(nodes, child, leaf.nearest, start, depth);
+    cut_prefix(nodes, child, leaf.nearest, start, depth + 1);
+    let own = Edge {
+        byte: leaf.key[depth],
+        to: Child::Leaf(leaf.id),
+    };
+    let other = Edge { byte, to: *child };
+    let made = fork(nodes, depth, &leaf.key[start..depth], &own, &other);
+    lead(nodes, root, above, &Child::Inner(made))
+}
+
+/// Leads the edge above a child elsewhere. Answers the root.
+pub(crate) fn lead<const P: usize>(
+    nodes: &mut Nodes<P>,
+    root: &Child,
+    above: &EdgeAbove,
+    to: &Child,
+) -> Child
+    requires { (child : Way) × LeadsTo (at nodes.old) (Some root.now) above.now child }
+    ensures turned { TurnsTo (at nodes.old) (at nodes.new) (Some root.now) (Some result)
+        above.now to.now }
+    ensures spares { SameSpares nodes.old nodes.new }
+{
+    match above {
+        None => *to,
+        Some((parent, byte)) => {
+            nodes.redirect(*parent, *byte, *to);
+            *root
+        }
+    }
+}
+
+// Makes a node with two edges.
+fn fork<const P: usize>(
+    nodes: &mut Nodes<P>,
+    depth: usize,
+    prefix: &[u8],
+    one: &Edge,
+    other: &Edge,
+) -> NodeId
+    requires fits { FitsNew nodes.old }
+    requires apart { one.now.byte ≢ other.now.byte }
+    ensures made { Forks (at nodes.old) (at nodes.new) result depth
+        (take P prefix.now) one.now other.now }
+    ensures room { room nodes.old ≤ room nodes.new + 1 }
+{
+    if one.byte < other.byte {
+        nodes.new_node(depth, prefix, *one, *other)
+    } else {
+        nodes.new_node(depth, prefix, *other, *one)
+    }
+}
+
+/// Where the compressed prefix below an edge begins.
+pub(crate) fn start_below<const P: usize>(nodes: &Nodes<P>, above: &EdgeAbove) -> usize
+    requires { EndsBelow (at nodes.now) above.now (2 ^ 64 - 1) }
+    ensures { StartsBelow (at nodes.now) above.now result }
+{
+    match above {
+        None => 0,
+        Some((parent, _)) => nodes.read(*parent, &mut Visits::new()).depth() + 1,
+    }
+}
+
+/// The byte by which a child goes on at a depth, where the compressed prefix above it begins at `from`: one that a node keeps, or else one of a key below it.
+pub(crate) fn byte_on<const P: usize>(
+    nodes: &Nodes<P>,
+    child: &Child,
+    key: &[u8],
+    from: usize,
+    depth: usize,
+) -> u8
+    requires live { DepthWithin (at nodes.now) child.now (depth + 1) (length key.now) }
+    requires long { depth < length key.now }
+    requires kept { KeepsFrom P (at nodes.now) child.now key.now from }
+    requires reaches { from ≤ depth }
+    ensures { result ≡ slice_index_or key.now depth 0 }
+{
+    match child {
+        Child::Leaf(_) => key[depth],
+        Child::Inner(id) => {
+            let node = nodes.read(*id, &mut Visits::new());
+            match node.prefix_byte(depth - from) {
+                Some(byte) => byte,
+                None => key[depth],
+            }
+        }
+    }
+}
+
+/// Cuts the compressed prefix of a node. It began at `from`, and begins at `start` now: the node keeps the rest of what it kept where that was the whole prefix, and else bytes of a key below it.
+pub(crate) fn cut_prefix<const P: usize>(
+    nodes: &mut Nodes<P>,
+    child: &Child,
+    key: &[u8],
+    from: usize,
+    start: usize,
+)
+    requires live { DepthWithin (at nodes.old) child.now start (length key.now) }
+    requires kept { KeepsFrom P (at nodes.old) child.now key.now from }
+    requires reaches { from ≤ start }
+    ensures cut { Cuts (at nodes.old) (at nodes.new) child.now
+        (λ end. take P (slice_range key.now start end)) }
+    ensures spares { SameSpares nodes.old nodes.new }
+{
+    match child {
+        Child::Leaf(_) => {}
+        Child::Inner(id) => {
+            let end = nodes.read(*id, &mut Visits::new()).depth();
+            if end - from <= P {
+                nodes.cut_prefix(*id, start - from);
+            } else {
+                nodes.set_prefix(*id, &key[start..end]);
+            }
+        }
+    }
+}

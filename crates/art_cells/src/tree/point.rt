@@ -1,0 +1,121 @@
+//! Where some bytes stand in a tree, or would go.
+ghost use Rattle.std.specs.Prelude.{◌≡◌, ℕ, Option, Some};
+ghost use Rattle.art_cells.specs.Begins.{Bytes};
+ghost use Rattle.art_cells.specs.Places.{LeavesNearest, IsBeside, neighbour};
+ghost use Rattle.art_cells.specs.Calls.Stops.{IsPlaceUnder};
+ghost use Rattle.art_kinds.specs.Nodes.{at};
+ghost use Rattle.art_cells.specs.Points.{IsGood};
+ghost use Rattle.art_cells.specs.Invariant.Sound.{IsSound};
+
+use crate::tree::descent::end_under;
+use crate::tree::parting::{Beside, edge_beside};
+use crate::tree::stop::{Stop, stop_of};
+use art_kinds::{Child, Edge, NodeId, Nodes};
+use art_rows::Leaves;
+use art_slots::{CellId, Visits};
+use blart_keys::AsBytes;
+
+/// A place for a key that is related to no stored key. It is good for the bytes that it was found for, while the pairs are unchanged.
+#[derive(Clone, Copy)]
+pub struct CellPlace {
+    /// A leaf whose key has the first `depth` bytes in common with these. No key has one more.
+    pub nearest: CellId,
+    /// How many bytes the nearest key has in common with these.
+    pub depth: usize,
+    /// The side of the nearest leaf that the place is on.
+    pub beside: Beside,
+    /// The node of the edge above the place, while that edge is there; none at the root.
+    pub above: Option<NodeId>,
+    /// The byte of an edge to the nearest leaf.
+    pub byte: u8,
+}
+
+/// Where some bytes stand in a tree, or would go.
+#[derive(Clone, Copy)]
+pub enum CellPoint {
+    /// The tree has no pairs.
+    Empty,
+    /// The bytes are those of this leaf's key.
+    Exact(CellId),
+    /// The bytes conflict with stored keys, from this leaf to that.
+    Related {
+        /// The first leaf with a related key.
+        first: CellId,
+        /// The last leaf with a related key.
+        last: CellId,
+    },
+    /// No stored key is related to the bytes, which would go here.
+    Free(CellPlace),
+}
+
+/// Where the bytes stand in a tree with some pairs, or would go.
+pub(crate) fn point_below<K: AsBytes, V, const P: usize>(
+    leaves: &Leaves<K, V>,
+    nodes: &Nodes<P>,
+    root: &Child,
+    query: &[u8],
+) -> CellPoint
+    requires { IsSound K.bytes P leaves.now nodes.now (Some root.now) }
+    ensures { IsGood K.bytes leaves.now.pairs result query.now }
+{
+    leaves.law();
+    let mut visits = Visits::new();
+    let (stop, above) = stop_of(leaves, nodes, root, query);
+    match stop {
+        Stop::Same(id) => CellPoint::Exact(id),
+        Stop::Shorter(id) => CellPoint::Related {
+            first: id,
+            last: id,
+        },
+        Stop::Longer(child) => CellPoint::Related {
+            first: end_under(nodes, &child, true, &mut visits),
+            last: end_under(nodes, &child, false, &mut visits),
+        },
+        Stop::AtNode(id, depth) => {
+            let (edge, is_after) = edge_beside(nodes, &id, query[depth], &mut visits);
+            CellPoint::Free(place_under(nodes, &edge, is_after, depth, &above))
+        }
+        Stop::AtEdge(child, depth, byte) => {
+            let edge = Edge { byte, to: child };
+            CellPoint::Free(place_under(nodes, &edge, byte < query[depth], depth, &above))
+        }
+    }
+}
+
+// The place beside an edge: after the keys below it, or before them.
+fn place_under<const P: usize>(
+    nodes: &Nodes<P>,
+    edge: &Edge,
+    is_after: bool,
+    depth: usize,
+    above: &Option<NodeId>,
+) -> CellPlace
+    requires { (keys : ℕ → Option Bytes) × (q : Bytes)
+        × IsPlaceUnder P keys (at nodes.now) q depth edge.now.to is_after }
+    ensures leaves { (keys : ℕ → Option Bytes) (q : Bytes)
+        → IsPlaceUnder P keys (at nodes.now) q depth edge.now.to is_after
+        → LeavesNearest keys result.nearest result.depth q }
+    ensures beside { (keys : ℕ → Option Bytes) (q : Bytes)
+        → IsPlaceUnder P keys (at nodes.now) q depth edge.now.to is_after
+        → IsBeside keys q result.beside }
+    ensures same { neighbour result.beside ≡ result.nearest }
+{
+    let nearest = end_under(nodes, &edge.to, !is_after, &mut Visits::new());
+    if is_after {
+        CellPlace {
+            nearest,
+            depth,
+            beside: Beside::AfterLeaf(nearest),
+            above: *above,
+            byte: edge.byte,
+        }
+    } else {
+        CellPlace {
+            nearest,
+            depth,
+            beside: Beside::BeforeLeaf(nearest),
+            above: *above,
+            byte: edge.byte,
+        }
+    }
+}

@@ -1,0 +1,143 @@
+//! Look-ups by bytes.
+ghost use Rattle.std.specs.Prelude.{◌≡◌, ◌+◌, ◌≤◌, ℕ, [], length, option_map, Option, Some, IfSome};
+ghost use Rattle.blart_keys.specs.Content.{at, front_of};
+ghost use Rattle.art_cells.specs.Begins.{Bytes};
+ghost use Rattle.art_cells.specs.Calls.Descents.{IsRoot, GoesTo, IsFrontAlone};
+ghost use Rattle.art_cells.specs.Calls.Spots.{IsLeafSpot};
+ghost use Rattle.art_cells.specs.Leaves.{bytes};
+ghost use Rattle.art_kinds.specs.Nodes.{at as nodes_at};
+ghost use Rattle.art_cells.specs.Invariant.Shape.{Shape};
+ghost use Rattle.art_cells.specs.Invariant.Sound.{IsSound};
+
+use crate::lists::begins;
+use crate::tree::CellTree;
+use crate::tree::descent::LeafSpot;
+use art_kinds::{Child, Nodes};
+use art_rows::Leaves;
+use art_slots::{CellId, Visits};
+use blart_keys::AsBytes;
+
+impl<K: AsBytes, V, const PREFIX_LEN: usize> CellTree<K, V, PREFIX_LEN> {
+    /// The pair with these bytes, and its leaf. On n bytes at most n + 1 visits, and none where the tree has no pairs.
+    pub fn get(&self, query: &[u8], visits: &mut Visits) -> Option<(CellId, &K, &V)>
+        ensures found { option_map (λ f. (f.0, (f.1.now, f.2.now))) result
+            ≡ at (bytes K.bytes) self.now.pairs query.now }
+        ensures counted { visits.new.count ≤ visits.old.count + length query.now + 1 }
+        ensures grows { visits.old.count ≤ visits.new.count }
+        ensures empty { self.now.pairs ≡ [] → visits.new.count ≡ visits.old.count }
+    {
+        self.law();
+        let Some(found) = pair_toward(&self.leaves, &self.nodes, &self.root, query, visits) else {
+            return None;
+        };
+        if found.1.as_bytes() == query {
+            Some((found.0.id, found.1, found.2))
+        } else {
+            None
+        }
+    }
+
+    /// The pair whose bytes begin these, and its leaf. On n bytes at most n + 1 visits, and none where the tree has no pairs.
+    pub fn get_front(&self, query: &[u8], visits: &mut Visits) -> Option<(CellId, &K, &V)>
+        ensures found { option_map (λ f. (f.0, (f.1.now, f.2.now))) result
+            ≡ front_of (bytes K.bytes) self.now.pairs query.now }
+        ensures counted { visits.new.count ≤ visits.old.count + length query.now + 1 }
+        ensures grows { visits.old.count ≤ visits.new.count }
+        ensures empty { self.now.pairs ≡ [] → visits.new.count ≡ visits.old.count }
+    {
+        self.law();
+        let Some(found) = pair_toward(&self.leaves, &self.nodes, &self.root, query, visits) else {
+            return None;
+        };
+        if begins(found.1.as_bytes(), query) {
+            Some((found.0.id, found.1, found.2))
+        } else {
+            None
+        }
+    }
+
+    /// The leaf with these bytes. On n bytes at most n + 1 visits, and none where the tree has no pairs.
+    pub fn search(&self, query: &[u8], visits: &mut Visits) -> Option<CellId>
+        ensures found { result
+            ≡ option_map (λ p. p.0) (at (bytes K.bytes) self.now.pairs query.now) }
+        ensures counted { visits.new.count ≤ visits.old.count + length query.now + 1 }
+        ensures grows { visits.old.count ≤ visits.new.count }
+        ensures empty { self.now.pairs ≡ [] → visits.new.count ≡ visits.old.count }
+    {
+        match self.get(query, visits) {
+            Some(found) => Some(found.0),
+            None => None,
+        }
+    }
+
+    /// The leaf whose bytes begin these. On n bytes at most n + 1 visits, and none where the tree has no pairs.
+    pub fn search_front(&self, query: &[u8], visits: &mut Visits) -> Option<CellId>
+        ensures found { result
+            ≡ option_map (λ p. p.0) (front_of (bytes K.bytes) self.now.pairs query.now) }
+        ensures counted { visits.new.count ≤ visits.old.count + length query.now + 1 }
+        ensures grows { visits.old.count ≤ visits.new.count }
+        ensures empty { self.now.pairs ≡ [] → visits.new.count ≡ visits.old.count }
+    {
+        match self.get_front(query, visits) {
+            Some(found) => Some(found.0),
+            None => None,
+        }
+    }
+}
+
+/// The one pair whose key may begin these bytes, and where its leaf is.
+pub(crate) fn pair_toward<'a, K: AsBytes, V, const P: usize>(
+    leaves: &'a Leaves<K, V>,
+    nodes: &Nodes<P>,
+    root: &Option<Child>,
+    query: &[u8],
+    visits: &mut Visits,
+) -> Option<(LeafSpot, &'a K, &'a V)>
+    requires { IsSound K.bytes P leaves.now nodes.now root.now }
+    ensures found { IsFrontAlone K.bytes leaves.now.pairs query.now
+        (option_map (λ f. (f.0.id, (f.1.now, f.2.now))) result) }
+    ensures spot { IfSome result (λ f. IsLeafSpot (nodes_at nodes.now) root.now f.0) }
+    ensures counted { visits.new.count ≤ visits.old.count + length query.now + 1 }
+    ensures grows { visits.old.count ≤ visits.new.count }
+    ensures empty { leaves.now.pairs ≡ [] → visits.new.count ≡ visits.old.count }
+{
+    let Some(root) = root else {
+        return None;
+    };
+    let spot = leaf_toward(nodes, root, query, visits)?;
+    let (key, value) = leaves.read(spot.id, visits);
+    Some((spot, key, value))
+}
+
+// The one leaf whose key may begin the query, and the edges to it. None where no key does.
+fn leaf_toward<const P: usize>(
+    nodes: &Nodes<P>,
+    root: &Child,
+    query: &[u8],
+    visits: &mut Visits,
+) -> Option<LeafSpot>
+    requires { IsRoot P (nodes_at nodes.now) root.now }
+    ensures goes { (keys : ℕ → Option Bytes) → Shape P keys (nodes_at nodes.now) (Some root.now)
+        → GoesTo keys query.now visits.old.count visits.new.count (option_map (λ s. s.id) result) }
+    ensures spot { IfSome result (IsLeafSpot (nodes_at nodes.now) (Some root.now)) }
+    ensures grows { visits.old.count ≤ visits.new.count }
+{
+    let mut at = *root;
+    let mut edge = None;
+    let mut above = None;
+    'down: loop {
+        let id = match at {
+            Child::Leaf(id) => return Some(LeafSpot { id, edge, above }),
+            Child::Inner(id) => id,
+        };
+        let node = nodes.read(id, visits);
+        let depth = node.depth();
+        if depth >= query.len() {
+            return None;
+        }
+        let byte = query[depth];
+        at = node.find(byte)?;
+        above = edge;
+        edge = Some((id, byte));
+    }
+}

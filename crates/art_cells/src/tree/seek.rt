@@ -1,0 +1,182 @@
+//! The ends of the pairs within a bound, and of those below some bytes.
+ghost use Rattle.std.specs.Prelude.{◌≡◌, ◌+◌, ◌*◌, ◌≤◌, [], length, option_map, Some, IfSome};
+ghost use Rattle.blart_keys.specs.Bounds.{bound_bytes};
+ghost use Rattle.blart_keys.specs.Content.{under};
+ghost use Rattle.art_cells.specs.Leaves.{Has, keys_in, bytes};
+ghost use Rattle.art_cells.specs.Longest.{longest};
+ghost use Rattle.art_cells.specs.Seeks.{number_within, ends, bound_len};
+ghost use Rattle.art_cells.specs.Calls.Seeking.{IsPlaceOf, beside};
+ghost use Rattle.art_cells.specs.Calls.Pruning.{IsBranch};
+ghost use Rattle.art_kinds.specs.Nodes.{at};
+ghost use Rattle.art_cells.specs.Invariant.Shape.{Shape};
+ghost use Rattle.art_cells.specs.Invariant.Sound.{IsSound};
+
+use crate::tree::CellTree;
+use crate::tree::descent::{Branch, end_under, locate};
+use crate::tree::parting::{Parting, leaf_before, leaf_beside, nearest_leaf, parting_of};
+use art_kinds::{Child, Nodes};
+use art_rows::Leaves;
+use art_slots::{CellId, Visits};
+use blart_keys::AsBytes;
+use std::ops::Bound;
+
+impl<K: AsBytes, V, const PREFIX_LEN: usize> CellTree<K, V, PREFIX_LEN> {
+    /// Returns the first leaf within a start bound, or the last within an end bound. If the bound has
+    /// n bytes (0 if it is unbounded) and the longest key L, it makes at most (n + 2) * (L + 1)
+    /// visits, and none if the tree has no pairs.
+    pub fn seek(&self, bound: Bound<&[u8]>, is_start: bool, visits: &mut Visits) -> Option<CellId>
+        ensures found { result
+            ≡ number_within (bytes K.bytes) self.now.pairs (bound_bytes (λ b. b) bound.entry) is_start }
+        ensures counted { visits.new.count
+            ≤ visits.old.count + (bound_len (bound_bytes (λ b. b) bound.entry) + 2)
+            * (longest (bytes K.bytes) self.now.pairs + 1) }
+        ensures grows { visits.old.count ≤ visits.new.count }
+        ensures empty { self.now.pairs ≡ [] → visits.new.count ≡ visits.old.count }
+    {
+        self.law();
+        match bound {
+            Bound::Unbounded => { if is_start { self.first() } else { self.last() } }
+            Bound::Included(query) => match self.find_place(query, visits) {
+                Ok(id) => Some(id),
+                Err(prev) => self.side_of(prev, is_start),
+            },
+            Bound::Excluded(query) => match self.find_place(query, visits) {
+                Err(prev) => self.side_of(prev, is_start),
+                Ok(id) => {
+                    if is_start {
+                        self.next_of(id)
+                    } else {
+                        self.prev_of(id)
+                    }
+                }
+            },
+        }
+    }
+
+    /// Returns the first and the last leaf whose bytes begin with these. On n bytes it makes at most
+    /// (n + 3) * (L + 1) - 2 visits, where the longest key has L bytes, and none if the tree has no
+    /// pairs.
+    pub fn span(&self, front: &[u8], visits: &mut Visits) -> Option<(CellId, CellId)>
+        ensures found { result ≡ ends (under (bytes K.bytes) self.now.pairs front.now) }
+        ensures counted { visits.new.count + 2
+            ≤ visits.old.count + (length front.now + 3) * (longest (bytes K.bytes) self.now.pairs + 1) }
+        ensures grows { visits.old.count ≤ visits.new.count }
+        ensures empty { self.now.pairs ≡ [] → visits.new.count ≡ visits.old.count }
+    {
+        if front.is_empty() {
+            return self.ends();
+        }
+        match self.root {
+            None => None,
+            Some(root) => {
+                let branch = branch_below(&self.leaves, &self.nodes, &root, front, visits)?;
+                Some((branch.first, branch.last))
+            }
+        }
+    }
+
+    // The first and the last leaf.
+    fn ends(&self) -> Option<(CellId, CellId)>
+        ensures { result ≡ ends self.now.pairs }
+    {
+        let Some(first) = self.first() else {
+            return None;
+        };
+        let Some(last) = self.last() else {
+            return None;
+        };
+        Some((first, last))
+    }
+
+    // The leaf on one side of a place: after it, or before.
+    fn side_of(&self, prev: Option<CellId>, is_after: bool) -> Option<CellId>
+        requires { IfSome prev (Has self.now.pairs) }
+        ensures { result ≡ beside prev self.now.pairs is_after }
+    {
+        if !is_after {
+            return prev;
+        }
+        match prev {
+            None => self.first(),
+            Some(id) => self.next_of(id),
+        }
+    }
+
+    // The leaf with these bytes, or the leaf before the place where they would go.
+    fn find_place(&self, query: &[u8], visits: &mut Visits) -> Result<CellId, Option<CellId>>
+        ensures stands { IsPlaceOf (keys_in K.bytes self.now.pairs) query.now result }
+        ensures counted { visits.new.count
+            ≤ visits.old.count + (length query.now + 2) * (longest (bytes K.bytes) self.now.pairs + 1) }
+        ensures grows { visits.old.count ≤ visits.new.count }
+        ensures empty { self.now.pairs ≡ [] → visits.new.count ≡ visits.old.count }
+    {
+        match self.root {
+            None => Err(None),
+            Some(root) => place_below(&self.leaves, &self.nodes, &root, query, visits),
+        }
+    }
+}
+
+// The leaf with these bytes, or the leaf before the place where they would go, in a tree with some pairs.
+fn place_below<K: AsBytes, V, const P: usize>(
+    leaves: &Leaves<K, V>,
+    nodes: &Nodes<P>,
+    root: &Child,
+    query: &[u8],
+    visits: &mut Visits,
+) -> Result<CellId, Option<CellId>>
+    requires { IsSound K.bytes P leaves.now nodes.now (Some root.now) }
+    ensures stands { IsPlaceOf (keys_in K.bytes leaves.now.pairs) query.now result }
+    ensures counted { visits.new.count
+        ≤ visits.old.count + (length query.now + 2) * (longest (bytes K.bytes) leaves.now.pairs + 1) }
+    ensures grows { visits.old.count ≤ visits.new.count }
+{
+    leaves.law();
+    match parting_of(leaves, nodes, root, query, visits) {
+        Parting::Same(id) => Ok(id),
+        Parting::Shorter(id) => Err(Some(id)),
+        Parting::Longer(child) => {
+            let first = end_under(nodes, &child, true, visits);
+            Err(leaves.prev_of(first))
+        }
+        Parting::Apart(mismatch) => {
+            let beside = leaf_beside(nodes, &mismatch, query, visits);
+            Err(leaf_before(leaves, &beside).0)
+        }
+    }
+}
+
+/// What stands for the keys that begin with some bytes, in a tree with some pairs. None where no key does.
+pub(crate) fn branch_below<K: AsBytes, V, const P: usize>(
+    leaves: &Leaves<K, V>,
+    nodes: &Nodes<P>,
+    root: &Child,
+    front: &[u8],
+    visits: &mut Visits,
+) -> Option<Branch>
+    requires { IsSound K.bytes P leaves.now nodes.now (Some root.now) }
+    ensures found { option_map (λ b. (b.first, b.last)) result
+        ≡ ends (under (bytes K.bytes) leaves.now.pairs front.now) }
+    ensures branch { (s : Shape P (keys_in K.bytes leaves.now.pairs) (at nodes.now) (Some root.now))
+        → IfSome result (IsBranch (keys_in K.bytes leaves.now.pairs) (at nodes.now)
+        (Some root.now) s.front_of front.now) }
+    ensures counted { visits.new.count
+        ≤ visits.old.count + 3 * longest (bytes K.bytes) leaves.now.pairs + 2 }
+    ensures grows { visits.old.count ≤ visits.new.count }
+{
+    leaves.law();
+    let (_, key, depth) = nearest_leaf(leaves, nodes, root, front, visits);
+    if depth < front.len() {
+        return None;
+    }
+    let spot = locate(nodes, root, key, depth, visits);
+    let child = spot.child();
+    let first = end_under(nodes, &child, true, visits);
+    let last = end_under(nodes, &child, false, visits);
+    Some(Branch {
+        above: spot.above(),
+        child,
+        first,
+        last,
+    })
+}

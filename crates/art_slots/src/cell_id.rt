@@ -1,0 +1,47 @@
+//! The numbers of leaves.
+ghost use Rattle.std.specs.Prelude.{◌≡◌, ◌<◌, ◌^◌};
+
+use std::marker::Model;
+
+/// The number of a leaf, less than 2^61. It stays until the leaf goes or a pair is placed. A contract sees the number.
+#[derive(Clone, Copy, PartialEq, Eq)]
+pub struct CellId {
+    number: usize,
+}
+
+impl Model for CellId {
+    ghost use Rattle.std.specs.Prelude.{ℕ, refl};
+    ghost use Rattle.std.specs.Coded.{coded_ℕ};
+
+    ghost Value = { ℕ };
+
+    ghost coded = { coded_ℕ };
+
+    ghost view = { λ a. a.number };
+
+    ghost use Rattle.std.specs.Prelude.{◌<◌, ◌^◌};
+
+    ghost invariant = { λ a. a.number < 2 ^ 61 };
+
+    ghost inverse = { λ n. record { number = n } };
+
+    ghost inverse_ok = { λ a h. refl };
+}
+
+impl CellId {
+    /// The leaf of a number.
+    pub fn new(number: usize) -> Self
+        requires { number < 2 ^ 61 }
+        ensures { result ≡ number }
+    {
+        CellId { number }
+    }
+
+    /// The number.
+    pub fn number(self) -> usize
+        ensures value { result ≡ self }
+        ensures small { result < 2 ^ 61 }
+    {
+        self.number
+    }
+}

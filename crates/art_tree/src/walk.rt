@@ -1,0 +1,97 @@
+//! A walk over the pairs of consecutive leaves, from both ends.
+ghost use Rattle.std.specs.Prelude.{◌≡◌, Option, Some, None, ℕ};
+ghost use Rattle.std.specs.Iterator.{YieldsFirstBy, YieldsLastBy, item_count};
+ghost use Rattle.art_slots.specs.Store.{slot_at};
+ghost use Rattle.art_tree.specs.Pairs.{pairs_of};
+ghost use Rattle.art_tree.specs.Spans.{ends_left, EndsFit};
+ghost use Rattle.art_tree.specs.UnderIds.{under_ids, AreLed, EndsLieIn};
+
+use crate::ids::cell_of;
+use crate::leaf_id::LeafId;
+use crate::named::Named;
+use crate::tree::Tree;
+use art_cells::{CellTree, CellWalk};
+use art_slots::{CellId, Store};
+use blart_keys::AsBytes;
+use std::iter::{DoubleEndedIterator, Iterator};
+use std::marker::Model;
+
+/// An iterator over the pairs of consecutive leaves of a tree, from both ends, in byte order of
+/// their keys. Each step reads one leaf. Once no pair is left, each step returns `None`.
+#[derive(Drop)]
+pub struct Walk<'a, K, V> {
+    // It goes from cell to cell, and reads no id.
+    walk: CellWalk<'a, K, Named<V>>,
+}
+
+impl<'a, K, V> Model for Walk<'a, K, V> {
+    ghost use Rattle.std.specs.Prelude.{List, map};
+    ghost use Rattle.art_tree.specs.UnderIds.{bare};
+
+    ghost Value = { List (K × V) };
+
+    ghost view = { λ it. map bare it.walk };
+}
+
+impl<'a, K: AsBytes, V> Walk<'a, K, V> {
+    /// Returns an iterator over the pairs from the first of these leaves through the last, or over
+    /// none if there are no ends. The first leaf must not come after the last.
+    pub fn new<const PREFIX_LEN: usize>(
+        tree: &'a Tree<K, V, PREFIX_LEN>,
+        ends: Option<(LeafId, LeafId)>,
+    ) -> Self
+        requires { EndsFit ends tree.now.pairs }
+        ensures { result ≡ pairs_of (ends_left ends tree.now.pairs) }
+    {
+        tree.cells.law();
+        let cells = cell_ends(&tree.cells, &tree.ids, &ends);
+        Walk {
+            walk: CellWalk::new(&tree.cells, cells),
+        }
+    }
+}
+
+// The cells of the first leaf and of the last.
+fn cell_ends<K: AsBytes, V, const P: usize>(
+    cells: &CellTree<K, Named<V>, P>,
+    ids: &Store<CellId>,
+    ends: &Option<(LeafId, LeafId)>,
+) -> Option<(CellId, CellId)>
+    requires led { AreLed (slot_at ids.now) cells.now.pairs }
+    requires fit { EndsFit ends.now (under_ids cells.now.pairs) }
+    ensures { EndsLieIn cells.now.pairs ends.now result }
+{
+    match ends {
+        None => None,
+        Some(both) => {
+            let first = cell_of(cells, ids, both.0);
+            Some((first, cell_of(cells, ids, both.1)))
+        }
+    }
+}
+
+impl<'a, K, V> Iterator for Walk<'a, K, V> {
+    type Item = (&'a K, &'a V);
+
+    ghost next_gives = { YieldsFirstBy (λ item. (item.0.now, item.1.now)) (λ rest. rest) };
+
+    ghost remaining = { item_count (λ rest. rest) };
+
+    /// Returns the first pair that is left.
+    #[inline(always)]
+    fn next(&mut self) -> Option<(&'a K, &'a V)> {
+        let (key, named) = self.walk.next()?;
+        Some((key, &named.value))
+    }
+}
+
+impl<'a, K, V> DoubleEndedIterator for Walk<'a, K, V> {
+    ghost next_back_gives = { YieldsLastBy (λ item. (item.0.now, item.1.now)) (λ rest. rest) };
+
+    /// Returns the last pair that is left.
+    #[inline(always)]
+    fn next_back(&mut self) -> Option<(&'a K, &'a V)> {
+        let (key, named) = self.walk.next_back()?;
+        Some((key, &named.value))
+    }
+}
