@@ -3,7 +3,7 @@ ghost use Rattle.std.specs.Prelude.{◌<◌};
 
 use super::{byte_of, number_of};
 use art_kinds::{Child, Edge, Kind, NodeId, NodeRef, Nodes};
-use art_slots::{LeafId, Visits};
+use art_slots::{CellId, Visits};
 use std::process::Abort;
 
 // The number of the leaf below each byte that has one.
@@ -18,7 +18,7 @@ fn number_below(byte: u8) -> usize
 
 // The leaf below a byte.
 fn leaf_below(byte: u8) -> Child {
-    Child::Leaf(LeafId::new(number_below(byte)))
+    Child::Leaf(CellId::new(number_below(byte)))
 }
 
 // The edges are those of the table: each is found, and they follow one another.

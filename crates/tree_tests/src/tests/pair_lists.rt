@@ -1,7 +1,6 @@
 //! Lists of pairs outside of any tree.
 use super::{add, byte_of};
-use art_tree::Tree;
-use art_tree::Pairs;
+use art_tree::{Pairs, Tree};
 use std::process::Abort;
 
 #[test]

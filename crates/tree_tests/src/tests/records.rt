@@ -1,11 +1,25 @@
-//! A tree of the thousand keys, each with the number of those before it as value, taken apart: what it is made of, and that nothing else is there.
-use super::{add, byte_of, number_of};
+//! A tree of a thousand keys, each with the number of keys before it as value, taken apart: what it
+//! is made of, and that nothing else is there.
+use super::{byte_of, number_of};
+use art_cells::{CellPoint, CellTree};
 use art_kinds::{Child, NodeRef, Nodes};
-use art_tree::{Tree, Visits};
+use art_slots::Visits;
 use std::process::Abort;
 
-// A tree of which no record keeps a byte of a key but those that choose a child.
-type Bare = Tree<[u8; 3], usize, 0>;
+// A tree whose nodes keep no byte of a key but the bytes that choose a child.
+type Bare = CellTree<[u8; 3], usize, 0>;
+
+// Adds a pair whose key is related to no other.
+fn add(rt: &impl Abort, tree: &mut Bare, key: [u8; 3], value: usize) {
+    let point = tree.point(&key);
+    tree.make_room(&point).expect(rt, "memory");
+    match point {
+        CellPoint::Exact(_) | CellPoint::Related { .. } => panic!(rt; "the key conflicts"),
+        CellPoint::Empty | CellPoint::Free(_) => {
+            tree.place(point, key, value);
+        }
+    }
+}
 
 // The bytes of a place below 1,000, one for each of its digits.
 fn bytes_of(place: usize) -> [u8; 3] {
@@ -19,7 +33,7 @@ fn bytes_of(place: usize) -> [u8; 3] {
 // The number of each key's leaf.
 type Numbers = [usize; 1000];
 
-// The numbers of the leaves that have the pairs, in the order in which these came.
+// The numbers of the leaves of the pairs, in the order in which the pairs came.
 fn numbers_of(rt: &impl Abort, tree: &Bare) -> Numbers {
     let mut numbers: Numbers = [0; 1000];
     for value in 0..1000 {
@@ -33,7 +47,8 @@ fn numbers_of(rt: &impl Abort, tree: &Bare) -> Numbers {
     numbers
 }
 
-// The node that an edge leads to. Its front has so many bytes, it keeps none of its prefix, and it has an edge at each of the ten bytes and no other.
+// The node that an edge leads to. The node is at this depth, keeps none of its prefix, and has an
+// edge at each of the ten bytes and no other.
 fn node_below<'a>(
     rt: &impl Abort,
     nodes: &'a Nodes<0>,
@@ -76,7 +91,7 @@ fn assert_all(rt: &impl Abort, nodes: &Nodes<0>, root: Option<Child>, numbers: &
 
 #[test]
 fn a_tree_taken_apart(rt: HostRuntime) {
-    let mut tree = Tree::new(rt.alloc());
+    let mut tree = Bare::new(rt.alloc());
     for value in 0..1000 {
         add(&rt, &mut tree, bytes_of(value), value);
     }

@@ -1,8 +1,7 @@
 //! Calls of a tree that no call of a map makes.
-use super::add;
+use super::{add, memory};
 use art_tree::{Tree, Visits};
 use blart_keys::AsBytes;
-use std::fs;
 use std::fs::Files;
 use std::process::Abort;
 
@@ -105,26 +104,10 @@ fn neighbours_of_a_leaf(rt: HostRuntime) {
     drop(tree);
 }
 
-// The number between a name and the unit in its line, or 0 where no line has the name.
-fn number_after(text: &str, name: &str) -> u64 {
-    let (_, rest) = text.split_once(name).unwrap_or(("", ""));
-    let (number, _) = rest.split_once(" kB").unwrap_or(("", ""));
-    number.trim_ascii().parse().unwrap_or(0)
-}
-
-// The most memory that the program had, and what it holds now, in KiB, as the system tells it.
-fn memory(rt: &(impl Abort + AllocGlobal + Files)) -> (u64, u64) {
-    let told = fs::read_to_string(rt, "/proc/self/status").expect(rt, "a file of the system");
-    let most = number_after(told.as_str(), "VmPeak:");
-    let held = number_after(told.as_str(), "VmRSS:");
-    drop(told);
-    assert!(rt; most > 0 && held > 0);
-    (most, held)
-}
-
 type Texts = Tree<&'static [u8], usize, 16>;
 
-// Room for a million pairs takes less than 600 MB of addresses, and less than 200 MB are written before a pair comes.
+// Room for a million pairs takes less than 600 MB of addresses, and less than 200 MB are written
+// before a pair comes.
 fn reserve_million(rt: &(impl Abort + AllocGlobal + Files), tree: &mut Texts) {
     let (most, held) = memory(rt);
     tree.reserve(1_000_000).expect(rt, "memory");

@@ -1,0 +1,45 @@
+//! Functions over a tree as users write them: the id of a leaf names its pair while others come,
+//! go and change.
+ghost use Rattle.std.specs.Prelude.{◌≡◌, ◌≢◌, Some, None};
+ghost use Rattle.art_tree.specs.Leaves.{leaf_in, Has};
+ghost use Rattle.art_tree.specs.Content.{Fits, IsOpen};
+ghost use Rattle.art_tree.specs.Points.{IsGood};
+
+use art_tree::{LeafId, Point, Tree};
+use blart_keys::AsBytes;
+
+/// Places a pair at a point. The id of another leaf still names its pair.
+pub fn place_beside<K: AsBytes + Drop, V: Drop, const P: usize>(
+    tree: &mut Tree<K, V, P>,
+    point: Point,
+    key: K,
+    value: V,
+    other: LeafId,
+) -> LeafId
+    ghost stored: { K × V }
+    requires good { IsGood K.bytes tree.old.pairs point (K.bytes key) }
+    requires open { IsOpen point }
+    requires fits { Fits tree.old point }
+    requires there { leaf_in tree.old.pairs other ≡ Some stored }
+    ensures placed { leaf_in tree.new.pairs result ≡ Some (key, value) }
+    ensures stays { leaf_in tree.new.pairs other ≡ Some stored }
+    ensures differs { result ≢ other }
+{
+    tree.place(point, key, value)
+}
+
+/// Removes a leaf, and returns its pair. The id of another leaf still names its pair.
+pub fn remove_beside<K: AsBytes + Drop, V: Drop, const P: usize>(
+    tree: &mut Tree<K, V, P>,
+    id: LeafId,
+    other: LeafId,
+) -> (K, V)
+    ghost stored: { K × V }
+    requires has { Has tree.old.pairs id }
+    requires differs { other ≢ id }
+    requires there { leaf_in tree.old.pairs other ≡ Some stored }
+    ensures gone { leaf_in tree.new.pairs id ≡ None }
+    ensures stays { leaf_in tree.new.pairs other ≡ Some stored }
+{
+    tree.remove(id)
+}

@@ -1,0 +1,246 @@
+//! The ids of leaves: each stays while its leaf does, and is free again after that.
+ghost use Rattle.std.specs.Prelude.{◌<◌};
+ghost use Rattle.std.specs.Vec.{vec_len};
+
+use super::{add, memory};
+use art_tree::{LeafId, Tree, Visits};
+use std::fs::Files;
+use std::process::Abort;
+
+type Key = [u8; 4];
+
+// How many bytes a key may have at each place, so that nodes of several kinds fill and split.
+const LETTERS: usize = 20;
+
+// Numbers in no order, the same ones at each run.
+#[derive(Drop)]
+struct Random {
+    state: usize,
+}
+
+impl Random {
+    // The next number, less than the bound.
+    fn below(&mut self, bound: usize) -> usize
+        requires { 0 < bound }
+        ensures { result < bound }
+    {
+        self.state ^= self.state << 13;
+        self.state ^= self.state >> 7;
+        self.state ^= self.state << 17;
+        self.state % bound
+    }
+
+    // The next letter of a key.
+    fn letter(&mut self) -> u8 {
+        self.below(LETTERS) as u8
+    }
+
+    // The next key. No key is a prefix of another, since all have the same length.
+    fn key(&mut self) -> Key {
+        [self.letter(), self.letter(), self.letter(), self.letter()]
+    }
+}
+
+// A pair that is in the tree, and the id that its placement returned.
+#[derive(Clone, Copy)]
+struct Kept {
+    key: Key,
+    value: usize,
+    id: LeafId,
+}
+
+// The id still names the pair.
+fn assert_named<const P: usize>(rt: &impl Abort, tree: &Tree<Key, usize, P>, kept: &Kept) {
+    let mut visits = Visits::new();
+    let Some(found) = tree.search(&kept.key, &mut visits) else {
+        panic!(rt; "a pair is missing");
+    };
+    assert!(rt; found == kept.id);
+    let (key, value) = tree.leaf(found, &mut visits);
+    assert!(rt; *key == kept.key && *value == kept.value);
+}
+
+// The ids of a few random pairs still name them.
+fn assert_some_named<const P: usize>(
+    rt: &impl Abort,
+    tree: &Tree<Key, usize, P>,
+    kept: &Vec<Kept>,
+    random: &mut Random,
+) {
+    for _ in 0..3 {
+        if kept.len() > 0 {
+            let at = random.below(kept.len());
+            assert_named(rt, tree, &kept[at]);
+        }
+    }
+}
+
+// Places a pair with a random key, unless the key is stored. Its id is that of no other leaf.
+fn place_one<const P: usize>(
+    rt: &impl Abort,
+    tree: &mut Tree<Key, usize, P>,
+    kept: &mut Vec<Kept>,
+    random: &mut Random,
+    value: usize,
+) {
+    let key = random.key();
+    if tree.search(&key, &mut Visits::new()).is_some() {
+        return;
+    }
+    let id = add(rt, tree, key, value);
+    for other in kept.iter() {
+        assert!(rt; other.id != id);
+    }
+    kept.push(Kept { key, value, id }).expect(rt, "memory");
+}
+
+// Takes out a random pair, if there is one.
+fn take_one<const P: usize>(
+    rt: &impl Abort,
+    tree: &mut Tree<Key, usize, P>,
+    kept: &mut Vec<Kept>,
+    random: &mut Random,
+) {
+    if kept.len() > 0 {
+        let at = random.below(kept.len());
+        let gone = kept.swap_remove(at);
+        let taken = tree.take(&gone.key);
+        assert!(rt; taken == Some((gone.key, gone.value)));
+    }
+}
+
+// Of 10,000 steps about every fourth takes a pair out, and each other one places a pair.
+fn come_and_stay<const P: usize>(rt: &(impl Abort + AllocGlobal)) {
+    let mut tree = Tree::<Key, usize, P>::new(rt.alloc());
+    let mut kept = Vec::new(rt.alloc());
+    let mut random = Random {
+        state: 88172645463325252,
+    };
+    for step in 0..10_000usize {
+        if random.below(4) == 0 {
+            take_one(rt, &mut tree, &mut kept, &mut random);
+        } else {
+            place_one(rt, &mut tree, &mut kept, &mut random, step);
+        }
+        assert_some_named(rt, &tree, &kept, &mut random);
+        assert!(rt; tree.len() == kept.len());
+    }
+    for pair in kept.iter() {
+        assert_named(rt, &tree, pair);
+    }
+    let len = kept.len();
+    drop(kept);
+    drop(tree);
+    assert!(rt; len > 4000);
+}
+
+#[test]
+fn ids_stay(rt: HostRuntime) {
+    come_and_stay::<0>(&rt);
+    come_and_stay::<2>(&rt);
+    come_and_stay::<16>(&rt);
+}
+
+// A call that removes a pair.
+#[derive(Clone, Copy)]
+enum Removal {
+    Take,
+    Remove,
+    RemovePrefix,
+    Clear,
+}
+
+// Removes the pair of a key.
+fn remove_by(rt: &impl Abort, tree: &mut Tree<Key, usize, 2>, key: &Key, removal: Removal) {
+    match removal {
+        Removal::Take => assert!(rt; tree.take(key).is_some()),
+        Removal::Remove => {
+            let id = tree.search(key, &mut Visits::new()).expect(rt, "a leaf");
+            assert!(rt; tree.remove(id).1 == 1);
+        }
+        Removal::RemovePrefix => assert!(rt; tree.remove_prefix(key) == 1),
+        Removal::Clear => tree.clear(),
+    }
+}
+
+// A pair comes and goes.
+fn come_and_go(rt: &impl Abort, tree: &mut Tree<Key, usize, 2>, removal: Removal, count: usize) {
+    for _ in 0..count {
+        let key = [1, 2, 3, 4];
+        add(rt, tree, key, 1);
+        remove_by(rt, tree, &key, removal);
+    }
+}
+
+// A pair that comes and goes 100,000 times takes less than 1 MB, after the program has run for a
+// while. An id that is not free again would take 16 bytes each time.
+fn assert_steady(
+    rt: &(impl Abort + AllocGlobal + Files),
+    tree: &mut Tree<Key, usize, 2>,
+    removal: Removal,
+) {
+    let _ = memory(rt);
+    come_and_go(rt, tree, removal, 5_000);
+    let (_, before) = memory(rt);
+    come_and_go(rt, tree, removal, 100_000);
+    let (_, after) = memory(rt);
+    let grown = after.saturating_sub(before);
+    assert!(rt; grown < 1_000_000 / 1024, "{grown} KiB more");
+}
+
+// The placements of a pair that comes and goes 1,000 times return at most 16 ids.
+fn assert_few_ids(
+    rt: &(impl Abort + AllocGlobal),
+    tree: &mut Tree<Key, usize, 2>,
+    removal: Removal,
+) {
+    let mut ids: Vec<LeafId> = Vec::new(rt.alloc());
+    for _ in 0..1_000usize {
+        let key = [1, 2, 3, 4];
+        let id = add(rt, tree, key, 1);
+        if !ids.iter().any(|it| *it == id) {
+            ids.push(id).expect(rt, "memory");
+        }
+        remove_by(rt, tree, &key, removal);
+    }
+    let count = ids.len();
+    drop(ids);
+    assert!(rt; count <= 16);
+}
+
+// A pair comes and goes in a tree of 100 pairs.
+fn assert_used_again(rt: &(impl Abort + AllocGlobal + Files), removal: Removal) {
+    let mut tree = Tree::new(rt.alloc());
+    for value in 0..100u8 {
+        add(rt, &mut tree, [value / 10, value % 10, 3, 5], 0);
+    }
+    assert_few_ids(rt, &mut tree, removal);
+    assert_steady(rt, &mut tree, removal);
+    let len = tree.len();
+    drop(tree);
+    assert!(rt; len == 100);
+}
+
+#[test]
+fn ids_are_used_again_after_take(rt: HostRuntime) {
+    assert_used_again(&rt, Removal::Take);
+}
+
+#[test]
+fn ids_are_used_again_after_remove(rt: HostRuntime) {
+    assert_used_again(&rt, Removal::Remove);
+}
+
+#[test]
+fn ids_are_used_again_after_remove_prefix(rt: HostRuntime) {
+    assert_used_again(&rt, Removal::RemovePrefix);
+}
+
+#[test]
+fn ids_are_used_again_after_clear(rt: HostRuntime) {
+    let mut tree = Tree::new(rt.alloc());
+    assert_few_ids(&rt, &mut tree, Removal::Clear);
+    let is_empty = tree.is_empty();
+    drop(tree);
+    assert!(rt; is_empty);
+}
