@@ -1,4 +1,5 @@
-//! A node filled from 2 children to 256 and emptied again: its kind, what it keeps, and its edges in order after each step, and that there is no other node.
+//! A node filled from 2 children to 256 and emptied again: after each step its kind, its depth, its
+//! prefix and its edges in order, and that there is no other node.
 ghost use Rattle.std.specs.Prelude.{◌<◌};
 
 use super::{byte_of, number_of};
@@ -42,7 +43,8 @@ fn assert_edges(rt: &impl Abort, node: &NodeRef<'_, 2>, table: &Table) {
     }
 }
 
-// The node has so many children, those of the table, and is of the least kind with room for them. Its front and its prefix stand, and it is the only node.
+// The node has `count` children, those of the table, and is of the least kind with room for them.
+// Its depth and its prefix are unchanged, and it is the only node.
 fn assert_node(rt: &impl Abort, nodes: &Nodes<2>, id: NodeId, count: usize, table: &Table) {
     let kind = match count {
         0..=4 => Kind::Four,

@@ -17,7 +17,7 @@ fn tree_of<'a, const P: usize>(
     tree
 }
 
-// At each of these fronts so many children stand.
+// The inner node at the prefix of each row has the number of children of the row, 0 for no node.
 fn assert_children<K: AsBytes, const P: usize>(
     rt: &impl Abort,
     tree: &Tree<K, usize, P>,
@@ -36,7 +36,7 @@ fn zeros_but(place: usize, byte: u8) -> [u8; 41] {
     key
 }
 
-// At each front of the rows so many children of a tree of these keys stand.
+// The rows hold of a tree of these keys.
 fn assert_counts<const P: usize>(
     rt: &(impl Abort + AllocGlobal),
     keys: &[&[u8]],
@@ -72,7 +72,7 @@ fn children_at_fronts(rt: HostRuntime) {
     children::<64>(&rt);
 }
 
-// Keys of two bytes, each below 49, of which each first byte begins 49.
+// Keys of two bytes, each below 49, so that each first byte is that of 49 keys.
 #[test]
 fn children_of_the_largest_kind(rt: HostRuntime) {
     let mut tree = Tree::<[u8; 2], usize, 2>::new(rt.alloc());
@@ -86,7 +86,7 @@ fn children_of_the_largest_kind(rt: HostRuntime) {
     assert!(rt; nodes == 50);
 }
 
-// The leaf before the one of a key, and the leaf after it.
+// The leaf before the leaf of a key, and the leaf after it.
 fn assert_neighbours(rt: &impl Abort, tree: &Tree<&[u8], usize, 2>) {
     let first = tree.search(b"abcdx", &mut Visits::new());
     let first = first.expect(rt, "the key is there");
