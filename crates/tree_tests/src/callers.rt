@@ -4,6 +4,7 @@ ghost use Rattle.std.specs.Prelude.{◌≡◌, ◌≢◌, option_map, Some, None
 ghost use Rattle.art_tree.specs.Leaves.{leaf_in, Has};
 ghost use Rattle.art_tree.specs.Content.{Fits, IsOpen};
 ghost use Rattle.art_tree.specs.Points.{IsGood};
+ghost use Rattle.art_tree.specs.Takes.{MayTake};
 
 use art_tree::{LeafId, Point, Tree, Visits};
 use blart_keys::AsBytes;
@@ -60,4 +61,24 @@ pub fn remove_beside<K: AsBytes + Drop, V: Drop, const P: usize>(
     ensures stays { leaf_in tree.new.pairs other ≡ Some stored }
 {
     tree.remove(id)
+}
+
+/// Replaces the pair of a leaf, and returns the old one. The id of another leaf still names its
+/// pair.
+pub fn swap_beside<K: AsBytes + Drop, V: Drop, const P: usize>(
+    tree: &mut Tree<K, V, P>,
+    id: LeafId,
+    key: K,
+    value: V,
+    other: LeafId,
+) -> (K, V)
+    ghost stored: { K × V }
+    requires has { Has tree.old.pairs id }
+    requires may { MayTake K.bytes tree.old.pairs id (K.bytes key) }
+    requires differs { other ≢ id }
+    requires there { leaf_in tree.old.pairs other ≡ Some stored }
+    ensures swapped { leaf_in tree.new.pairs id ≡ Some (key, value) }
+    ensures stays { leaf_in tree.new.pairs other ≡ Some stored }
+{
+    tree.swap(id, key, value)
 }

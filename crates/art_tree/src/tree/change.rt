@@ -23,6 +23,8 @@ impl<K: AsBytes + Drop, V: Drop, const PREFIX_LEN: usize> Tree<K, V, PREFIX_LEN>
         requires may { MayTake K.bytes self.old.pairs id (K.bytes key) }
         ensures value { leaf_in self.old.pairs id ≡ Some result }
         ensures pairs { self.new.pairs ≡ with_pair self.old.pairs id (key, value) }
+        ensures now { leaf_in self.new.pairs id ≡ Some (key, value) }
+        ensures others { OthersStand self.old.pairs self.new.pairs id }
         ensures spares { self.new.spares ≡ self.old.spares }
     {
         self.cells.law();

@@ -1,7 +1,8 @@
 use Rattle.std.proofs.Common.{◌≡◌, Some, sym, subst, ◌∙◌, lit<}
 use Rattle.art_slots.specs.Store.{slot_at}
 use Rattle.art_tree.specs.Content.{Content}
-use Rattle.art_tree.specs.Leaves.{leaf_in, with_pair}
+use Rattle.art_cells.proofs.CallerLemmas.{leaf_in-with_now, others-with_pair}
+use Rattle.art_tree.specs.Leaves.{leaf_in, Has, OthersStand, with_pair}
 use Rattle.art_tree.specs.Takes.{MayTake}
 use Rattle.art_tree.specs.UnderIds.{under_ids, AreLed}
 use Rattle.art_tree.specs.declared.named.Named.{Named}
@@ -36,3 +37,14 @@ returns-clause-value g c =
 
 pub returns-clause-pairs : goal.returns-clause-pairs
 returns-clause-pairs g c = rw (← c.self.view_is, c.swap-old_key.ensures.pairs) (with_pair_id (slot_at c.self.inside.ids) c.self.inside.cells.pairs c.law.ensures.distinct c.self.invariant c.args.id c.cell_of-cell.result c.cell_of-cell.ensures c.args.key c.args.value)
+
+pub returns-clause-now : goal.returns-clause-now
+returns-clause-now g c =
+    let ps = c.self.inside.cells.pairs in
+    let has = subst (λ (t : Content g.row.K.Denot g.row.V.Denot). Has t.pairs c.args.id) (sym c.self.view_is) c.requires.has in
+    rw (c.swap-old_key.ensures.pairs, with_pair_id (slot_at c.self.inside.ids) ps c.law.ensures.distinct c.self.invariant c.args.id c.cell_of-cell.result c.cell_of-cell.ensures c.args.key c.args.value) (leaf_in-with_now (under_ids ps) c.args.id (c.args.key, c.args.value) has)
+
+pub returns-clause-others : goal.returns-clause-others
+returns-clause-others g c =
+    let ps = c.self.inside.cells.pairs in
+    rw (← c.self.view_is, c.swap-old_key.ensures.pairs, with_pair_id (slot_at c.self.inside.ids) ps c.law.ensures.distinct c.self.invariant c.args.id c.cell_of-cell.result c.cell_of-cell.ensures c.args.key c.args.value) (others-with_pair (under_ids ps) c.args.id (c.args.key, c.args.value))
