@@ -104,7 +104,8 @@ impl Cursor {
         Cursor::between(first, last)
     }
 
-    /// Passes the first leaf that is left, and gives its number. It reads no leaf.
+    /// Passes the first leaf that is left, and returns its id. One visit, of the leaf after it,
+    /// if one is left.
     #[inline(always)]
     pub fn step<K: AsBytes, V, const PREFIX_LEN: usize>(
         &mut self,
@@ -123,7 +124,8 @@ impl Cursor {
         Some(first)
     }
 
-    /// Passes the last leaf that is left, and gives its number. It reads no leaf.
+    /// Passes the last leaf that is left, and returns its id. One visit, of the leaf before
+    /// it, if one is left.
     #[inline(always)]
     pub fn step_back<K: AsBytes, V, const PREFIX_LEN: usize>(
         &mut self,

@@ -16,7 +16,7 @@ impl<K: AsBytes + Drop, V: Drop, const PREFIX_LEN: usize> Tree<K, V, PREFIX_LEN>
     /// Removes every pair whose bytes begin with these, and returns how many there were. Does not
     /// allocate. The id of each other leaf stays.
     ///
-    /// Cost: that of a [`Tree::span`] and of one [`Tree::remove`], and beside that of what goes:
+    /// Cost: that of two [`Tree::span`]s and of one [`Tree::remove`], and beside that of what goes:
     /// each leaf and each inner node leaves by itself, with no descent.
     pub fn remove_prefix(&mut self, prefix: &[u8]) -> usize
         ensures rest { self.new.pairs ≡ outside (bytes K.bytes) self.old.pairs prefix.now }

@@ -44,7 +44,8 @@ impl<K: AsBytes, V, const PREFIX_LEN: usize> TreeMap<K, V, PREFIX_LEN> {
         )
     }
 
-    /// Passes the first leaf that a cursor has left, and gives its number. It reads no leaf.
+    /// Passes the first leaf that a cursor has left, and returns its id. One visit, of the leaf after
+    /// it, if one is left.
     #[inline(always)]
     pub fn step(&self, cursor: &mut Cursor) -> Option<LeafId>
         requires { FitsIn cursor.old self.now }
@@ -59,7 +60,8 @@ impl<K: AsBytes, V, const PREFIX_LEN: usize> TreeMap<K, V, PREFIX_LEN> {
         cursor.step(&self.tree)
     }
 
-    /// Passes the last leaf that a cursor has left, and gives its number. It reads no leaf.
+    /// Passes the last leaf that a cursor has left, and returns its id. One visit, of the leaf before
+    /// it, if one is left.
     #[inline(always)]
     pub fn step_back(&self, cursor: &mut Cursor) -> Option<LeafId>
         requires { FitsIn cursor.old self.now }
