@@ -1,4 +1,4 @@
-//! The pairs of another tree.
+//! The pairs of one tree moved into another.
 ghost use Rattle.std.specs.Prelude.{◌≡◌, ◌≢◌, ◌≤◌, [], length, OnOk, OnErr};
 ghost use Rattle.blart_keys.specs.Bulk.{IsAppended};
 ghost use Rattle.blart_keys.specs.Content.{IsContent};
@@ -42,7 +42,7 @@ pub fn move_into<K: NoPrefixesBytes + Drop, V: Drop, const P: usize>(
     Ok(())
 }
 
-/// Moves pairs into a tree, which has room for them. If both have the same bytes, the pair that is
+/// Moves pairs into a tree that has room for them. If both have the same bytes, the pair that is
 /// moved wins.
 fn move_all<K: NoPrefixesBytes + Drop, V: Drop, const P: usize>(
     from: Pairs<K, V>,
@@ -61,7 +61,7 @@ fn move_all<K: NoPrefixesBytes + Drop, V: Drop, const P: usize>(
     drop(from);
 }
 
-/// Moves pairs into a tree, which has room for them. If both have the same bytes, the pair of the
+/// Moves pairs into a tree that has room for them. If both have the same bytes, the pair of the
 /// tree wins.
 fn add_all<K: NoPrefixesBytes + Drop, V: Drop, const P: usize>(
     from: Pairs<K, V>,

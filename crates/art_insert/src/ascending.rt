@@ -1,4 +1,4 @@
-//! Pairs in the order of their keys' bytes, put at the end of a list.
+//! A list of pairs in the order of their keys' bytes, filled at its end.
 ghost use Rattle.std.specs.Prelude.{◌≡◌, ◌+◌, ◌<◌, ◌≤◌, [], length, Option, Some, true, false, IfSome};
 ghost use Rattle.std.specs.List.Sorted.{IsSortedByKey};
 ghost use Rattle.blart_keys.specs.Bulk.{PutsAll};
@@ -12,8 +12,8 @@ ghost use Rattle.art_insert.specs.Bulk.{NoneGreater};
 use art_tree::Pairs;
 use blart_keys::NoPrefixesBytes;
 
-/// Puts pairs whose keys' bytes do not descend into an empty list that has room for them. Of pairs
-/// with the same bytes the first key is kept, with the last value. Does not allocate.
+/// Puts pairs whose keys' bytes do not descend into an empty list that has room for them. If pairs
+/// have the same bytes, the first key is kept, with the last value. Does not allocate.
 pub fn put_ascending<K: NoPrefixesBytes + Drop, V: Drop>(
     pairs: &mut Pairs<K, V>,
     items: Vec<(K, V)>,
@@ -29,8 +29,9 @@ pub fn put_ascending<K: NoPrefixesBytes + Drop, V: Drop>(
     }
 }
 
-/// Puts a pair whose bytes are those of the last key, or greater than those of all keys. It
-/// replaces the value of the last pair, or adds a pair. It takes the room of at most one pair.
+/// Puts a pair at the end of a list. If its bytes are those of the last key, the value of the last
+/// pair is replaced. If not, they must be greater than those of all keys, and the pair is added. It
+/// uses the room of at most one pair.
 fn put_last<K: NoPrefixesBytes + Drop, V: Drop>(pairs: &mut Pairs<K, V>, key: K, value: V)
     requires content { IsContent (bytes K.bytes) pairs.old.pairs }
     requires order { NoneGreater (bytes K.bytes) pairs.old.pairs (K.bytes key) }
@@ -47,7 +48,7 @@ fn put_last<K: NoPrefixesBytes + Drop, V: Drop>(pairs: &mut Pairs<K, V>, key: K,
     }
 }
 
-/// Returns whether the last key has the bytes of this key. If not, the two are not related.
+/// Returns `true` if the last key has the bytes of this key. If not, the two keys are not related.
 fn has_bytes<K: NoPrefixesBytes, V>(pairs: &Pairs<K, V>, key: &K) -> bool
     ensures same { result ≡ true
         → (last : K) × IsLastKey pairs.now.pairs (Some last) × (K.bytes last ≡ K.bytes key.now) }

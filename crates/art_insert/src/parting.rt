@@ -1,4 +1,4 @@
-//! A tree parted in two.
+//! A tree cut in two.
 ghost use Rattle.std.specs.Prelude.{◌≡◌, ◌≤◌, ◌<◌, ◌+◌, ◌++◌, [], length, OnOk, IfOk, OnErr};
 ghost use Rattle.art_tree.specs.Content.{room};
 ghost use Rattle.art_tree.specs.Pairs.{pairs_of};
@@ -9,9 +9,11 @@ use blart_keys::AsBytes;
 use std::alloc::{AllocError, Global};
 use std::mem::{replace, swap};
 
-/// Moves the last `count` pairs of one tree into an empty tree, once there is room. If the other
-/// pairs are fewer, it moves those and exchanges the two trees. If neither side has three times the
-/// pairs of the other, it makes both trees anew. An error leaves the trees unchanged.
+/// Moves the last `count` pairs of one tree into an empty tree. Returns an error if it fails to
+/// allocate, and then both trees are unchanged.
+///
+/// If the pairs that stay are fewer, it moves those and exchanges the two trees. If neither part
+/// has three times the pairs of the other, it makes both trees anew.
 pub fn part<K: AsBytes + Drop, V: Drop, const P: usize>(
     from: &mut Tree<K, V, P>,
     to: &mut Tree<K, V, P>,
@@ -24,6 +26,7 @@ pub fn part<K: AsBytes + Drop, V: Drop, const P: usize>(
         (pairs_of from.old.pairs ≡ pairs_of from.new.pairs ++ pairs_of to.new.pairs) }
     ensures moved { OnOk result (length (pairs_of to.new.pairs) ≡ count) }
     ensures err { OnErr result (from.new.pairs ≡ from.old.pairs) }
+    ensures to_err { OnErr result (to.new.pairs ≡ to.old.pairs) }
     ensures refused { OnErr result (0 < count) }
     ensures low_refused { OnErr result (count < length from.old.pairs) }
 {
@@ -42,8 +45,8 @@ pub fn part<K: AsBytes + Drop, V: Drop, const P: usize>(
     Ok(())
 }
 
-/// Makes two trees of the pairs of one, of the first `low` pairs and of the other `count`, once
-/// there is memory.
+/// Makes one tree of the first `low` pairs of a tree and another of the last `count`. Returns an
+/// error if it fails to allocate, and then both trees are unchanged.
 fn part_anew<K: AsBytes + Drop, V: Drop, const P: usize>(
     from: &mut Tree<K, V, P>,
     to: &mut Tree<K, V, P>,
@@ -56,6 +59,7 @@ fn part_anew<K: AsBytes + Drop, V: Drop, const P: usize>(
         (pairs_of from.old.pairs ≡ pairs_of from.new.pairs ++ pairs_of to.new.pairs) }
     ensures moved { OnOk result (length (pairs_of to.new.pairs) ≡ count) }
     ensures err { OnErr result (from.new.pairs ≡ from.old.pairs) }
+    ensures to_err { OnErr result (to.new.pairs ≡ to.old.pairs) }
 {
     from.law();
     let (mut lower, low_frame, high_frame) = memory_for(alloc, low, count)?;
@@ -66,7 +70,7 @@ fn part_anew<K: AsBytes + Drop, V: Drop, const P: usize>(
     Ok(())
 }
 
-/// Takes all pairs out of a tree. The inner nodes are freed whole.
+/// Removes all pairs of a tree, and returns them. The inner nodes are freed at once.
 pub(crate) fn take_pairs<K: AsBytes + Drop, V: Drop, const P: usize>(
     tree: &mut Tree<K, V, P>,
     alloc: Global,
@@ -77,8 +81,8 @@ pub(crate) fn take_pairs<K: AsBytes + Drop, V: Drop, const P: usize>(
     replace(tree, Tree::new(alloc)).into_pairs()
 }
 
-/// Returns a list that has room for `low` pairs, and memory for the inner nodes of two trees, of
-/// `low` pairs and of `count`.
+/// Returns a list with room for `low` pairs, and memory for the inner nodes of two trees, of `low`
+/// pairs and of `count`.
 fn memory_for<K: Drop, V: Drop, const P: usize>(
     alloc: Global,
     low: usize,
@@ -122,8 +126,8 @@ fn frames_for<const P: usize>(
     }
 }
 
-/// Moves the first `count` pairs of one list to the end of another, which is empty and has room for
-/// them.
+/// Moves the first `count` pairs of one list to the end of another list. That list is empty and has
+/// room for them.
 fn move_pairs<K: Drop, V: Drop>(from: &mut Pairs<K, V>, to: &mut Pairs<K, V>, count: usize)
     requires enough { count ≤ length from.old.pairs }
     requires empty { to.old.pairs ≡ [] }
@@ -139,7 +143,7 @@ fn move_pairs<K: Drop, V: Drop>(from: &mut Pairs<K, V>, to: &mut Pairs<K, V>, co
     }
 }
 
-/// Moves the last `count` pairs of one tree into an empty tree, which has room for them.
+/// Moves the last `count` pairs of one tree into an empty tree that has room for them.
 fn move_last<K: AsBytes + Drop, V: Drop, const P: usize>(
     from: &mut Tree<K, V, P>,
     to: &mut Tree<K, V, P>,
@@ -163,7 +167,7 @@ fn move_last<K: AsBytes + Drop, V: Drop, const P: usize>(
     }
 }
 
-/// Moves the first `count` pairs of one tree into an empty tree, which has room for them.
+/// Moves the first `count` pairs of one tree into an empty tree that has room for them.
 fn move_first<K: AsBytes + Drop, V: Drop, const P: usize>(
     from: &mut Tree<K, V, P>,
     to: &mut Tree<K, V, P>,

@@ -1,4 +1,4 @@
-//! The leaf records, in rows in the order of their keys.
+//! The leaf records, and their rows in the order of the keys.
 ghost use Rattle.std.specs.Prelude.{◌≡◌, ◌≢◌, ℕ, ◌+◌, ◌-◌, ◌*◌, ◌<◌, ◌≤◌, ◌++◌, [], length, map, option_map, take, drop, Option, Some, None, IsSome, IfSome, OnOk, IfOk, OnErr};
 ghost use Rattle.art_rows.specs.Numbers.{leaf_in, Has, AreDistinct, first_number, last_number, number_after, number_before, without_number, with_pair};
 ghost use Rattle.art_rows.specs.Rows.{position_at, nth, RunsBefore, StandsAfter};
@@ -19,10 +19,11 @@ use std::alloc::{AllocError, Global};
 use std::marker::Model;
 use std::mem;
 
-/// There are no more rows than this, so that the numbers of all are small.
+/// The number of rows is less than this, so that all numbers of cells are small.
 const MOST_ROWS: usize = 1 << 56;
 
-/// So many leaves each spare row surely takes, once the others are full: a row begins with one leaf, and only beside a full one does another begin.
+/// The number of placements that each spare row is sufficient for once the others are full. A row
+/// begins with one leaf, and only beside a full row does another begin.
 const SURE: usize = 31;
 
 /// A key and its value.
@@ -53,9 +54,11 @@ impl<K: Clone, V: Clone> Clone for Leaf<K, V> {
     }
 }
 
-/// The leaves of a tree in byte order. A contract sees the pairs in order, each under its number, the rows of the numbers, and how many more rows find a place.
+/// The leaves of a tree in byte order. A contract sees the pairs in order, each under the number of
+/// its cell, the rows of the numbers, and the number of spare rows.
 ///
-/// The numbers of a row are those of 64 cells that follow one another, in which the leaves of the row lie: so a leaf's number tells its row, and leaves that are neighbours lie together.
+/// The numbers of a row are those of 64 consecutive cells. So the number of a cell tells its row,
+/// and neighbouring leaves lie close together.
 #[derive(Drop)]
 pub struct Leaves<K, V> {
     pub(crate) records: Table<Leaf<K, V>>,
@@ -77,7 +80,7 @@ impl<K, V> Model for Leaves<K, V> {
 }
 
 impl<K, V> Leaves<K, V> {
-    /// No leaves, and no place for one.
+    /// Returns no leaves, and no spare rows. Does not allocate.
     pub fn new(alloc: Global) -> Self
         ensures pairs { result.pairs ≡ [] }
         ensures rows { result.rows ≡ [] }
@@ -89,21 +92,22 @@ impl<K, V> Leaves<K, V> {
         }
     }
 
-    /// Answers nothing. Its contract says that no number comes twice.
+    /// Does nothing. Its contract says that no number comes twice.
     pub fn law(&self)
         ensures distinct { AreDistinct self.now.pairs }
     {
         let _ = &self.rows;
     }
 
-    /// How many leaves there are.
+    /// Returns the number of leaves.
     pub fn len(&self) -> usize
         ensures { result ≡ length self.now.pairs }
     {
         self.records.used()
     }
 
-    // The place of a leaf. The last of its row is looked at first: where pairs come in ascending order, each comes after that one, and no row is searched.
+    /// Returns the position of a leaf. It tries the end of the leaf's row first: if pairs come in
+    /// ascending order, each comes after the last leaf of a row, and no row is searched.
     pub(crate) fn position_of(&self, id: CellId) -> Position
         requires { Has self.now.pairs id }
         ensures { position_at self.now.rows (index_of self.now.pairs id) ≡ Some result }
@@ -119,7 +123,9 @@ impl<K, V> Leaves<K, V> {
         Position { row, place }
     }
 
-    // The place of a leaf, which may stand where it was seen. It stands apart, so that a step of a cursor is short. Its answer goes in two registers: one that goes by memory, as a longer one does, would be cleared there on each step.
+    /// Returns the position of a leaf. `seen` is a guess of it. This is a function of its own, so
+    /// that a step of a cursor is short. It returns two words, which go in registers: a larger
+    /// result would go through memory, and each step would clear that memory.
     #[inline(never)]
     fn position_near(&self, id: CellId, seen: Position) -> Position
         requires { Has self.now.pairs id }
@@ -131,7 +137,8 @@ impl<K, V> Leaves<K, V> {
         }
     }
 
-    // The leaf after this one, where this one stands as it was seen, and is not the last of its row.
+    /// Returns the leaf after this one, if `seen` is the position of this one, and it is not the
+    /// last of its row.
     fn after_in_row(&self, id: CellId, seen: Position) -> Option<CellId>
         requires { Has self.now.pairs id }
         ensures after { IfSome result (λ n. number_after self.now.pairs id ≡ Some n) }
@@ -143,7 +150,8 @@ impl<K, V> Leaves<K, V> {
         row.run().after(seen.place, id)
     }
 
-    // The leaf before this one, where this one stands as it was seen, and is not the first of its row.
+    /// Returns the leaf before this one, if `seen` is the position of this one, and it is not the
+    /// first of its row.
     fn before_in_row(&self, id: CellId, seen: Position) -> Option<CellId>
         requires { Has self.now.pairs id }
         ensures before { IfSome result (λ n. number_before self.now.pairs id ≡ Some n) }
@@ -154,7 +162,7 @@ impl<K, V> Leaves<K, V> {
         row.run().before(seen.place, id)
     }
 
-    // The number at a position.
+    /// Returns the number at a position.
     pub(crate) fn number(&self, position: Position) -> CellId
         requires { (k : ℕ) × (position_at self.now.rows k ≡ Some position) }
         ensures { (k : ℕ) → position_at self.now.rows k ≡ Some position → nth (map (λ p. p.0) self.now.pairs) k ≡ Some result }
@@ -162,7 +170,7 @@ impl<K, V> Leaves<K, V> {
         self.rows.read(position.row).run().at(position.place)
     }
 
-    /// The position of the first leaf.
+    /// Returns the position of the first leaf.
     pub(crate) fn first_position(&self) -> Option<Position>
         ensures { result ≡ position_at self.now.rows 0 }
     {
@@ -172,7 +180,7 @@ impl<K, V> Leaves<K, V> {
         }
     }
 
-    /// The position of the last leaf.
+    /// Returns the position of the last leaf.
     pub(crate) fn last_position(&self) -> Option<Position>
         ensures { result ≡ position_at self.now.rows (length self.now.pairs - 1) }
     {
@@ -185,7 +193,7 @@ impl<K, V> Leaves<K, V> {
         }
     }
 
-    /// The position after this one.
+    /// Returns the position after this one.
     #[inline(always)]
     pub(crate) fn forward(&self, position: Position) -> Option<Position>
         requires { (k : ℕ) × (position_at self.now.rows k ≡ Some position) }
@@ -205,7 +213,7 @@ impl<K, V> Leaves<K, V> {
         }
     }
 
-    /// The position before this one.
+    /// Returns the position before this one.
     #[inline(always)]
     pub(crate) fn backward(&self, position: Position) -> Option<Position>
         requires { (k : ℕ) × (position_at self.now.rows k ≡ Some position) }
@@ -228,7 +236,7 @@ impl<K, V> Leaves<K, V> {
         }
     }
 
-    /// The pair of a leaf. It reads one record.
+    /// Returns the pair of a leaf. One visit.
     pub fn read(&self, id: CellId, visits: &mut Visits) -> (&K, &V)
         requires { Has self.now.pairs id }
         ensures value { leaf_in self.now.pairs id ≡ Some (result.0.now, result.1.now) }
@@ -239,7 +247,7 @@ impl<K, V> Leaves<K, V> {
         (&leaf.key, &leaf.value)
     }
 
-    /// The first leaf.
+    /// Returns the first leaf.
     pub fn first(&self) -> Option<CellId>
         ensures { result ≡ first_number self.now.pairs }
     {
@@ -250,7 +258,7 @@ impl<K, V> Leaves<K, V> {
         }
     }
 
-    /// The last leaf.
+    /// Returns the last leaf.
     pub fn last(&self) -> Option<CellId>
         ensures { result ≡ last_number self.now.pairs }
     {
@@ -261,7 +269,7 @@ impl<K, V> Leaves<K, V> {
         }
     }
 
-    /// The leaf after this one.
+    /// Returns the leaf after this one.
     pub fn next_of(&self, id: CellId) -> Option<CellId>
         requires { Has self.now.pairs id }
         ensures { result ≡ number_after self.now.pairs id }
@@ -273,7 +281,9 @@ impl<K, V> Leaves<K, V> {
         }
     }
 
-    /// The leaf after this one. `seen` is where this one may stand, and then where that one does: where this one stands there, no row is searched, and no leaf is read.
+    /// Returns the leaf after this one. `seen` is a guess of the position of this leaf. If it is
+    /// right, no row is searched. The call sets it to the position of the returned leaf. Reads no
+    /// leaf.
     #[inline(always)]
     pub fn next_from(&self, id: CellId, seen: &mut Position) -> Option<CellId>
         requires { Has self.now.pairs id }
@@ -288,7 +298,8 @@ impl<K, V> Leaves<K, V> {
         next
     }
 
-    // The same, whatever was seen.
+    /// Returns the leaf after this one, and its position, if the guess `seen` is wrong or the row
+    /// ends.
     #[inline(always)]
     fn next_by_rows(&self, id: CellId, seen: Position) -> (Option<CellId>, Position)
         requires { Has self.now.pairs id }
@@ -301,7 +312,9 @@ impl<K, V> Leaves<K, V> {
         }
     }
 
-    /// The leaf before this one. `seen` is where this one may stand, and then where that one does: where this one stands there, no row is searched, and no leaf is read.
+    /// Returns the leaf before this one. `seen` is a guess of the position of this leaf. If it is
+    /// right, no row is searched. The call sets it to the position of the returned leaf. Reads no
+    /// leaf.
     #[inline(always)]
     pub fn prev_from(&self, id: CellId, seen: &mut Position) -> Option<CellId>
         requires { Has self.now.pairs id }
@@ -316,7 +329,8 @@ impl<K, V> Leaves<K, V> {
         prev
     }
 
-    // The same, whatever was seen.
+    /// Returns the leaf before this one, and its position, if the guess `seen` is wrong or the row
+    /// begins.
     #[inline(always)]
     fn prev_by_rows(&self, id: CellId, seen: Position) -> (Option<CellId>, Position)
         requires { Has self.now.pairs id }
@@ -329,7 +343,7 @@ impl<K, V> Leaves<K, V> {
         }
     }
 
-    /// What follows a leaf.
+    /// Returns the rest of the row of a leaf, and the next row.
     pub fn following(&self, id: CellId) -> Following<'_>
         requires { Has self.now.pairs id }
         ensures { StandsAfter self.now.pairs self.now.rows id result }
@@ -340,7 +354,9 @@ impl<K, V> Leaves<K, V> {
         Following { run, row }
     }
 
-    /// The leaf after this one; `following` is what follows this one, and then what follows that. Only at the end of a row is the next one read.
+    /// Returns the leaf after this one. `following` is the rest of the row of this leaf and the
+    /// next row, and the call sets it to those of the returned leaf. The next row is only read at
+    /// the end of a row.
     #[inline(always)]
     pub fn next_in<'a>(&'a self, id: CellId, following: &mut Following<'a>) -> Option<CellId>
         requires has { Has self.now.pairs id }
@@ -350,7 +366,7 @@ impl<K, V> Leaves<K, V> {
             (λ n. StandsAfter self.now.pairs self.now.rows n following.new) }
     {
         self.law();
-        // the run alone is written on most steps
+        // most steps write only the run
         if let Some(next) = following.run.split_off_first() {
             return Some(next);
         }
@@ -365,7 +381,9 @@ impl<K, V> Leaves<K, V> {
         Some(next)
     }
 
-    // The row after another. It is read here, so that a walk that comes to it later need not wait for it; and the answer goes in registers, so that no step of a walk clears a place for it.
+    /// Returns the row after another. It reads that row at once, so that a walk that comes to it
+    /// later need not wait for it. The result goes in registers, so that no step of a walk clears
+    /// memory for it.
     #[cold]
     #[inline(never)]
     fn row_told(&self, row: usize) -> Option<usize>
@@ -382,7 +400,8 @@ impl<K, V> Leaves<K, V> {
         }
     }
 
-    /// The leaf before this one; `run` is a run of numbers before this one in its row, and then such a run before that one: where it is not empty, no row is read.
+    /// Returns the leaf before this one. `run` has numbers directly before this one in its row, and
+    /// the call sets it to such numbers of the returned leaf. If it is not empty, no row is read.
     #[inline(always)]
     pub fn prev_in<'a>(&'a self, id: CellId, run: &mut Run<'a>) -> Option<CellId>
         requires has { Has self.now.pairs id }
@@ -399,7 +418,7 @@ impl<K, V> Leaves<K, V> {
         prev
     }
 
-    // The leaf before this one, and the numbers before that one in its row.
+    /// Returns the leaf before this one, and the numbers before that leaf in its row.
     #[cold]
     #[inline(never)]
     fn prev_run(&self, id: CellId) -> (Option<CellId>, Run<'_>)
@@ -415,7 +434,7 @@ impl<K, V> Leaves<K, V> {
         (Some(run.at(position.place)), run.run_before(position.place))
     }
 
-    /// The leaf before this one.
+    /// Returns the leaf before this one.
     pub fn prev_of(&self, id: CellId) -> Option<CellId>
         requires { Has self.now.pairs id }
         ensures { result ≡ number_before self.now.pairs id }
@@ -429,7 +448,7 @@ impl<K, V> Leaves<K, V> {
 }
 
 impl<K, V> Leaves<K, V> {
-    /// The key of a leaf, and its value to be written.
+    /// Returns the key of a leaf, and a mutable reference to its value.
     pub fn get_mut(&mut self, id: CellId) -> (&K, &mut V)
         requires { Has self.old.pairs id }
         ensures* writes_back { sem 𝓛 (lends_leaf K.row V.row self.entry id result.1) }
@@ -438,7 +457,7 @@ impl<K, V> Leaves<K, V> {
         self.records.get_mut(id.number()).pair_mut()
     }
 
-    /// The value of a leaf, to be written.
+    /// Returns a mutable reference to the value of a leaf.
     pub fn value_mut(&mut self, id: CellId) -> &mut V
         requires { Has self.old.pairs id }
         ensures* writes_back { sem 𝓛 (lends_leaf K.row V.row self.entry id result) }
@@ -448,7 +467,7 @@ impl<K, V> Leaves<K, V> {
     }
 }
 
-// Takes the number at a position out of its row, and the row away where it was the only one.
+/// Removes the number at a position from its row, and the row if it has no other number.
 fn take_out(rows: &mut Chain<Row>, position: Position)
     requires has { Has rows.old.pairs position.row }
     requires within { IfSome (leaf_in rows.old.pairs position.row) (λ ids. position.place < length ids) }
@@ -467,7 +486,8 @@ fn take_out(rows: &mut Chain<Row>, position: Position)
 }
 
 impl<K: Clone, V: Clone> Leaves<K, V> {
-    /// The leaves under the same numbers, with a clone of each key and value.
+    /// Returns the leaves under the same numbers, with a clone of each key and value, or an error
+    /// if it fails to allocate.
     pub fn clone(&self) -> Result<Self, AllocError>
         ensures cloned { IfOk result (λ copy. AreCopies K.is_clone V.is_clone self.now.pairs copy.pairs) }
     {
@@ -479,7 +499,7 @@ impl<K: Clone, V: Clone> Leaves<K, V> {
 }
 
 impl<K: Drop, V: Drop> Leaves<K, V> {
-    /// Takes a leaf out, and gives its pair.
+    /// Removes a leaf, and returns its pair.
     pub fn remove(&mut self, id: CellId) -> (K, V)
         requires { Has self.old.pairs id }
         ensures value { leaf_in self.old.pairs id ≡ Some result }
@@ -490,7 +510,7 @@ impl<K: Drop, V: Drop> Leaves<K, V> {
         self.remove_at(id, position)
     }
 
-    // The same, at the leaf's position.
+    /// Removes the leaf at this position, and returns its pair.
     fn remove_at(&mut self, id: CellId, position: Position) -> (K, V)
         requires has { Has self.old.pairs id }
         requires at { position_at self.old.rows (index_of self.old.pairs id) ≡ Some position }
@@ -505,7 +525,8 @@ impl<K: Drop, V: Drop> Leaves<K, V> {
         (leaf.key, leaf.value)
     }
 
-    /// Takes the first leaf out, and gives its pair. Its place is known by the rows alone: who takes one after the other need not wait for one to be read to find the next.
+    /// Removes the first leaf, and returns its pair. The rows alone tell its cell. So a caller that
+    /// removes one leaf after another need not wait for one to find the next.
     pub fn take_first(&mut self) -> Option<(K, V)>
         ensures { TakesFirst self.old.pairs result self.new.pairs }
     {
@@ -517,7 +538,7 @@ impl<K: Drop, V: Drop> Leaves<K, V> {
         Some(self.remove_at(id, position))
     }
 
-    /// Takes the last leaf out, and gives its pair. Its place is known by the rows alone.
+    /// Removes the last leaf, and returns its pair. The rows alone tell its cell.
     pub fn take_last(&mut self) -> Option<(K, V)>
         ensures { TakesLast self.old.pairs result self.new.pairs }
     {
@@ -529,7 +550,7 @@ impl<K: Drop, V: Drop> Leaves<K, V> {
         Some(self.remove_at(id, position))
     }
 
-    /// Puts another pair under the number of a leaf, and gives the old one.
+    /// Replaces the pair of a leaf, and returns the old pair.
     pub fn exchange(&mut self, id: CellId, key: K, value: V) -> (K, V)
         requires { Has self.old.pairs id }
         ensures value { leaf_in self.old.pairs id ≡ Some result }
@@ -543,7 +564,8 @@ impl<K: Drop, V: Drop> Leaves<K, V> {
         (old_key, old_value)
     }
 
-    /// Makes places for so many leaves more. It fails where memory is refused, and then changes nothing that a contract sees but, it may be, the number of places.
+    /// Makes room for `n` more leaves. If it fails to allocate, it returns an error, and the leaves
+    /// are unchanged. The room is never less than before.
     #[inline(always)]
     pub fn reserve(&mut self, n: usize) -> Result<(), AllocError>
         ensures pairs { self.new.pairs ≡ self.old.pairs }
@@ -560,7 +582,9 @@ impl<K: Drop, V: Drop> Leaves<K, V> {
         self.add_rows(rows)
     }
 
-    /// Makes places for so many leaves more after all others, with a spare row for each 64. It fails where memory is refused, and then changes nothing that a contract sees but, it may be, the number of places.
+    /// Makes room for `n` more leaves after all others, with a spare row for each 64. If it fails
+    /// to allocate, it returns an error, and the leaves are unchanged. The room is never less than
+    /// before.
     pub fn reserve_end(&mut self, n: usize) -> Result<(), AllocError>
         ensures pairs { self.new.pairs ≡ self.old.pairs }
         ensures rows { self.new.rows ≡ self.old.rows }
@@ -575,7 +599,7 @@ impl<K: Drop, V: Drop> Leaves<K, V> {
         self.add_rows(rows)
     }
 
-    // Makes spare rows until there are so many.
+    /// Makes spare rows until there are `count`.
     #[cold]
     #[inline(never)]
     fn add_rows(&mut self, count: usize) -> Result<(), AllocError>
@@ -592,7 +616,8 @@ impl<K: Drop, V: Drop> Leaves<K, V> {
         if rows >= MOST_ROWS {
             return Err(AllocError);
         }
-        // The numbers of rows follow one another, though a slab does not promise it: so these are the cells of all, at once.
+        // The slab numbers the rows one after another, though it does not promise it. So this
+        // allocates the cells of all of them at once.
         self.records.grow(ROW * rows)?;
         for _ in self.rows.spare()..count {
             self.add_row()?;
@@ -600,7 +625,7 @@ impl<K: Drop, V: Drop> Leaves<K, V> {
         Ok(())
     }
 
-    // Makes a row more that is spare, with cells for its numbers.
+    /// Makes one more spare row, with its cells.
     fn add_row(&mut self) -> Result<(), AllocError>
         ensures pairs { self.new.pairs ≡ self.old.pairs }
         ensures rows { self.new.rows ≡ self.old.rows }
@@ -617,7 +642,7 @@ impl<K: Drop, V: Drop> Leaves<K, V> {
         Ok(())
     }
 
-    /// Drops every leaf.
+    /// Drops every leaf, and every spare row.
     pub fn clear(&mut self)
         ensures pairs { self.new.pairs ≡ [] }
         ensures rows { self.new.rows ≡ [] }

@@ -1,6 +1,9 @@
-//! The leaves of an adaptive radix tree, in cells under numbers. Their numbers stand in rows of up to 64, in the order of the keys, and the leaves of a row lie side by side.
+//! The leaves of an adaptive radix tree, in numbered cells. Rows of up to 64 numbers have them in
+//! the order of the keys, and the leaves of a row lie side by side.
 //!
-//! A contract sees [`Leaves`] as the list of its pairs in order, each under its number, with the rows of the numbers and the spare rows. Where rows are read no leaf is, so whoever goes over leaves need not wait for one to find the next.
+//! A contract sees [`Leaves`] as the list of its pairs in order, each under the number of its cell,
+//! with the rows of the numbers and the spare rows. To go from leaf to leaf reads rows alone, so a
+//! walk need not wait for one leaf to find the next.
 #![tactic(auto)]
 
 mod chain;

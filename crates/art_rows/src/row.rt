@@ -1,4 +1,4 @@
-//! A row of numbers.
+//! Rows of the numbers of cells.
 ghost use Rattle.std.specs.Prelude.{◌≡◌, ℕ, ◌+◌, ◌-◌, ◌*◌, ◌^◌, ◌<◌, ◌≤◌, [], ◌∷◌, ◌++◌, length, take, drop, Some, true, false, slice_index_or};
 ghost use Rattle.art_rows.specs.Rows.{among, nowhere};
 ghost use Rattle.art_rows.specs.Blocks.{times, row_of};
@@ -7,7 +7,7 @@ use crate::run::Run;
 use art_slots::CellId;
 use std::marker::Model;
 
-/// How many numbers a row has room for.
+/// The number of cells in a block, which is the greatest length of a row.
 pub(crate) const ROW: usize = 64;
 
 /// A row, and a place in it.
@@ -18,7 +18,7 @@ pub struct Position {
 }
 
 impl Position {
-    /// Some position: where a leaf stands that was not seen yet is not known.
+    /// Returns some position, for a leaf whose position is not known.
     pub fn unknown() -> Self
         ensures { result ≡ nowhere }
     {
@@ -33,7 +33,8 @@ pub(crate) const CELLS: [u8; 64] = [
     50, 51, 52, 53, 54, 55, 56, 57, 58, 59, 60, 61, 62, 63,
 ];
 
-/// The numbers of a block, each as its distance from the first: those in use in order, and then the others. A contract sees the list of those in use.
+/// The cells of a block, each as its distance from the first: those in use in the order of their
+/// keys, and then the others. A contract sees the list of the numbers of those in use.
 #[derive(Drop)]
 pub(crate) struct Row {
     block: usize,
@@ -58,7 +59,8 @@ impl Model for Row {
 }
 
 impl Row {
-    /// The numbers of a block, of which one is in use: the last where they are taken downwards, or else the first.
+    /// Returns a row of a block with one cell in use, and the number of that cell: the last cell of
+    /// the block if `down` is set, or else the first.
     pub(crate) fn new(block: usize, down: bool) -> (Row, CellId)
         requires { ROW * block + ROW ≤ 2 ^ 61 }
         ensures row { result.0 ≡ result.1 ∷ [] }
@@ -77,7 +79,7 @@ impl Row {
         (row, number)
     }
 
-    /// The same numbers.
+    /// Returns a copy of the row.
     pub(crate) fn copy(&self) -> Row
         ensures { result ≡ self.now }
     {
@@ -88,7 +90,7 @@ impl Row {
         }
     }
 
-    /// How many numbers there are.
+    /// Returns the number of cells in use.
     pub(crate) fn len(&self) -> usize
         ensures len { result ≡ length self.now }
         ensures fits { length self.now ≤ ROW }
@@ -96,14 +98,14 @@ impl Row {
         self.count
     }
 
-    /// All numbers.
+    /// Returns the numbers of all cells in use.
     pub(crate) fn run(&self) -> Run<'_>
         ensures { result ≡ self.now }
     {
         Run::new(ROW * self.block, &self.cells[..self.count])
     }
 
-    /// Puts another number of the block at a place, and answers it.
+    /// Inserts the number of a cell that was not in use at a place, and returns it.
     pub(crate) fn insert(&mut self, place: usize) -> CellId
         requires room { length self.old < ROW }
         requires place { place ≤ length self.old }
@@ -117,7 +119,7 @@ impl Row {
         number
     }
 
-    /// Takes the number at a place out.
+    /// Removes the number at a place.
     pub(crate) fn remove(&mut self, place: usize)
         requires { place < length self.old }
         ensures { self.new ≡ take place self.old ++ drop (place + 1) self.old }
@@ -127,7 +129,7 @@ impl Row {
     }
 }
 
-// Moves the cell after the first so many to a place among them.
+/// Moves the cell after the first `count` cells to a place among them.
 fn insert_in(cells: &mut [u8], count: usize, place: usize)
     requires place { place ≤ count }
     requires room { count < length cells.old }
@@ -138,7 +140,7 @@ fn insert_in(cells: &mut [u8], count: usize, place: usize)
     cells[place..count + 1].rotate_right(1);
 }
 
-// Moves a cell among the first so many to their end.
+/// Moves a cell among the first `count` cells to their end.
 fn remove_in(cells: &mut [u8], count: usize, place: usize)
     requires place { place < count }
     requires within { count ≤ length cells.old }

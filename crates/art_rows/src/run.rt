@@ -1,4 +1,4 @@
-//! Numbers of a block, side by side.
+//! Neighbouring numbers of a row.
 ghost use Rattle.std.specs.Prelude.{◌≡◌, ◌+◌, ◌-◌, ◌*◌, ◌^◌, ◌<◌, ◌≤◌, [], ◌∷◌, ◌++◌, length, take, drop, Some, true, IfSome, IsSome};
 ghost use Rattle.std.specs.Option.{MatchOption};
 ghost use Rattle.art_rows.specs.Rows.{place_in, nth};
@@ -10,7 +10,8 @@ use art_slots::CellId;
 use memchr::memchr;
 use std::marker::Model;
 
-/// Numbers of a block that stand side by side, each as its distance from the first of the block. A contract sees the list of the numbers.
+/// Neighbouring numbers of a row, each as its distance from the first number of the block. A
+/// contract sees the list of the numbers.
 #[derive(Drop)]
 pub struct Run<'a> {
     first: usize,
@@ -34,7 +35,7 @@ impl<'a> Model for Run<'a> {
 }
 
 impl<'a> Run<'a> {
-    /// No numbers.
+    /// Returns a run with no numbers.
     pub fn empty() -> Self
         ensures { result ≡ [] }
     {
@@ -44,7 +45,7 @@ impl<'a> Run<'a> {
         }
     }
 
-    /// The numbers of some cells of a block.
+    /// Returns the numbers of some cells of a block.
     pub(crate) fn new(first: usize, cells: &'a [u8]) -> Self
         requires small { first + ROW ≤ 2 ^ 61 }
         requires within { AreWithin cells.now }
@@ -53,14 +54,14 @@ impl<'a> Run<'a> {
         Run { first, cells }
     }
 
-    /// How many numbers there are.
+    /// Returns how many numbers there are.
     pub(crate) fn len(&self) -> usize
         ensures { result ≡ length self.now }
     {
         self.cells.len()
     }
 
-    /// The number at a place.
+    /// Returns the number at a place.
     pub(crate) fn at(&self, place: usize) -> CellId
         requires { place < length self.now }
         ensures { nth self.now place ≡ Some result }
@@ -68,7 +69,7 @@ impl<'a> Run<'a> {
         CellId::new(self.first + self.cells[place] as usize)
     }
 
-    /// Whether a number stands at a place.
+    /// Returns `true` if this number is at this place.
     pub(crate) fn has_at(&self, place: usize, number: CellId) -> bool
         ensures here { result ≡ true → nth self.now place ≡ Some number }
         ensures there { nth self.now place ≡ Some number → result ≡ true }
@@ -76,7 +77,7 @@ impl<'a> Run<'a> {
         place < self.len() && self.at(place) == number
     }
 
-    /// The number after another, where that stands at a place and is not the last.
+    /// Returns the number after another, if that is at this place and is not the last.
     pub(crate) fn after(&self, place: usize, number: CellId) -> Option<CellId>
         ensures some { IfSome result (λ n. (nth self.now place ≡ Some number) × (nth self.now (place + 1) ≡ Some n)) }
         ensures there { nth self.now place ≡ Some number → place + 1 < length self.now → IsSome result }
@@ -88,7 +89,7 @@ impl<'a> Run<'a> {
         }
     }
 
-    /// The number before another, where that stands at a place and is not the first.
+    /// Returns the number before another, if that is at this place and is not the first.
     pub(crate) fn before(&self, place: usize, number: CellId) -> Option<CellId>
         ensures some { IfSome result (λ n. (0 < place) × (nth self.now place ≡ Some number) × (nth self.now (place - 1) ≡ Some n)) }
         ensures there { nth self.now place ≡ Some number → 0 < place → IsSome result }
@@ -100,7 +101,7 @@ impl<'a> Run<'a> {
         }
     }
 
-    /// The numbers after a place.
+    /// Returns the numbers after a place.
     pub(crate) fn run_after(&self, place: usize) -> Run<'a>
         requires { place < length self.now }
         ensures { result ≡ drop (place + 1) self.now }
@@ -111,7 +112,7 @@ impl<'a> Run<'a> {
         }
     }
 
-    /// The numbers before a place.
+    /// Returns the numbers before a place.
     pub(crate) fn run_before(&self, place: usize) -> Run<'a>
         requires { place < length self.now }
         ensures { result ≡ take place self.now }
@@ -122,7 +123,7 @@ impl<'a> Run<'a> {
         }
     }
 
-    /// Takes the first number off.
+    /// Removes the first number, and returns it.
     #[inline(always)]
     pub(crate) fn split_off_first(&mut self) -> Option<CellId>
         ensures { MatchOption result (self.old ≡ []) (λ n. self.old ≡ n ∷ self.new) }
@@ -132,7 +133,7 @@ impl<'a> Run<'a> {
         Some(CellId::new(self.first + *cell as usize))
     }
 
-    /// Takes the last number off.
+    /// Removes the last number, and returns it.
     #[inline(always)]
     pub(crate) fn split_off_last(&mut self) -> Option<CellId>
         ensures { MatchOption result (self.old ≡ []) (λ n. self.old ≡ self.new ++ n ∷ []) }
@@ -142,7 +143,7 @@ impl<'a> Run<'a> {
         Some(CellId::new(self.first + *cell as usize))
     }
 
-    /// The place of a number.
+    /// Returns the place of a number, or the length of the run if it does not have the number.
     pub(crate) fn place_of(&self, number: CellId) -> usize
         ensures { result ≡ place_in self.now number }
     {

@@ -1,9 +1,10 @@
-//! The numbers of leaves.
+//! The numbers of cells.
 ghost use Rattle.std.specs.Prelude.{◌≡◌, ◌<◌, ◌^◌};
 
 use std::marker::Model;
 
-/// The number of a leaf, less than 2^61. It stays until the leaf goes or a pair is placed. A contract sees the number.
+/// The number of a cell of a leaf, less than 2^61. A leaf may move to another cell when a pair is
+/// placed. A contract sees the number.
 #[derive(Clone, Copy, PartialEq, Eq)]
 pub struct CellId {
     number: usize,
@@ -29,7 +30,7 @@ impl Model for CellId {
 }
 
 impl CellId {
-    /// The leaf of a number.
+    /// Returns the cell with this number.
     pub fn new(number: usize) -> Self
         requires { number < 2 ^ 61 }
         ensures { result ≡ number }
@@ -37,7 +38,7 @@ impl CellId {
         CellId { number }
     }
 
-    /// The number.
+    /// Returns the number of the cell.
     pub fn number(self) -> usize
         ensures value { result ≡ self }
         ensures small { result < 2 ^ 61 }

@@ -10,7 +10,7 @@ use art_cells::CellTree;
 use art_slots::{CellId, Store, Visits};
 use blart_keys::AsBytes;
 
-/// Returns the cell that the leaf of an id lies in. Reads no leaf.
+/// Returns the cell of the leaf with this id. Reads the table of ids, and no leaf.
 #[inline(always)]
 pub(crate) fn cell_of<K: AsBytes, V, const P: usize>(
     cells: &CellTree<K, Named<V>, P>,

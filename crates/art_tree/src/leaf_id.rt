@@ -3,8 +3,8 @@ ghost use Rattle.std.specs.Prelude.{◌≡◌, ◌<◌, ◌^◌};
 
 use std::marker::Model;
 
-/// The id of a leaf, a number less than 2^61. It names its leaf until that leaf is removed, whatever
-/// pairs come and go meanwhile. A contract sees the number.
+/// The id of a leaf, a number less than 2^61. It names its leaf until that leaf is removed, while
+/// other pairs are placed and removed. A contract sees the number.
 #[derive(Clone, Copy, PartialEq, Eq)]
 pub struct LeafId {
     number: usize,
@@ -30,7 +30,7 @@ impl Model for LeafId {
 }
 
 impl LeafId {
-    /// The id of this number.
+    /// Returns the id with this number.
     pub(crate) fn new(number: usize) -> Self
         requires { number < 2 ^ 61 }
         ensures { result ≡ number }
@@ -38,7 +38,7 @@ impl LeafId {
         LeafId { number }
     }
 
-    /// The number.
+    /// Returns the number of the id.
     pub(crate) fn number(self) -> usize
         ensures value { result ≡ self }
         ensures small { result < 2 ^ 61 }

@@ -1,7 +1,7 @@
-//! An adaptive radix tree over byte keys, whose leaves have ids that stay while the leaves do.
+//! An adaptive radix tree over byte keys. Each leaf has an id, which names it until it is removed.
 //!
 //! A contract sees a [`Tree`] as the list of its pairs in byte order, each under the id of its
-//! leaf, and the room for pairs to come.
+//! leaf, and the room for further pairs.
 #![tactic(auto)]
 
 mod ids;

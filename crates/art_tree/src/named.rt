@@ -1,4 +1,4 @@
-//! Values under the ids of their leaves.
+//! Values with the ids of their leaves.
 ghost use Rattle.std.specs.Prelude.{◌≡◌};
 ghost use Rattle.std.specs.Borrow.{sem};
 
@@ -15,7 +15,7 @@ pub(crate) struct Named<V> {
 impl<V> Named<V> {
     ghost use Rattle.art_tree.specs.NamedLends.{lends_value};
 
-    /// A mutable reference to the value.
+    /// Returns a mutable reference to the value.
     pub(crate) fn value_mut(&mut self) -> &mut V
         ensures* writes_back { sem 𝓛 (lends_value V.row self.entry result) }
         ensures value { result.now ≡ self.old.value }

@@ -1,4 +1,4 @@
-//! Pairs that no tree leads to.
+//! Pairs outside of any tree.
 ghost use Rattle.std.specs.Prelude.{◌≡◌, ◌+◌, ◌<◌, ◌≤◌, ◌++◌, [], ◌∷◌, length, option_copied, OnOk, OnErr};
 ghost use Rattle.blart_keys.specs.Walks.{TakesFirst, TakesLast};
 ghost use Rattle.art_tree.specs.PairList.{IsLastKey, ReplacesLast};
@@ -9,14 +9,14 @@ use art_cells::pair_list::CellPairs;
 use std::alloc::{AllocError, Global};
 use std::marker::Model;
 
-/// A list of pairs outside of any tree. A contract sees the pairs in their order, and how many
-/// more have room at the end.
+/// A list of pairs outside of any tree. A contract sees the pairs in their order, and the number of
+/// further pairs for which there is room at the end.
 ///
 /// [`Tree::into_pairs`](crate::Tree::into_pairs) returns the pairs of a tree, and
 /// [`Tree::from_pairs`](crate::Tree::from_pairs) makes a tree of pairs in byte order.
 #[derive(Drop)]
 pub struct Pairs<K, V> {
-    // The ids say nothing here: a tree that is made of the pairs gives them new ones.
+    // The ids in these cells have no meaning: a tree that is made of the pairs gives them new ones.
     pub(crate) pairs: CellPairs<K, Named<V>>,
 }
 

@@ -24,22 +24,22 @@ use blart_keys::AsBytes;
 use std::alloc::Global;
 use std::marker::Model;
 
-/// How many bytes of a compressed prefix an inner node keeps if nothing else is said.
+/// The number of bytes of a compressed prefix that an inner node keeps by default.
 pub const DEFAULT_PREFIX_LEN: usize = 16;
 
-/// Pairs of a key and a value in the order of the keys' bytes, none of which is a prefix of
-/// another's. Each pair has a leaf, whose id stays while the leaf does.
+/// Pairs of a key and a value, in the order of the keys' bytes. No key's bytes are a prefix of
+/// another's. Each pair has a leaf, and the id of a leaf names it until the leaf is removed.
 ///
-/// An inner node keeps the first `PREFIX_LEN` bytes of its compressed prefix; any length is good,
-/// 0 too.
+/// An inner node keeps the first `PREFIX_LEN` bytes of its compressed prefix. Any length will do,
+/// also 0.
 ///
-/// A call that is said not to allocate never fails to. A removal may try to get a smaller inner
-/// node, and keeps the larger one if that fails.
+/// A removal may try to allocate a smaller inner node, and keeps the larger one if that fails. So
+/// no removal returns an error.
 #[derive(Drop)]
 pub struct Tree<K: AsBytes, V, const PREFIX_LEN: usize> {
-    // The tree over the cells that the leaves lie in. Each leaf has its id beside its value.
+    /// The tree over the cells of the leaves. Each leaf has its id beside its value.
     pub(crate) cells: CellTree<K, Named<V>, PREFIX_LEN>,
-    // The cell of each id.
+    /// The table of ids: the cell of the leaf of each id.
     pub(crate) ids: Store<CellId>,
 }
 
@@ -70,8 +70,8 @@ impl<K: AsBytes, V, const PREFIX_LEN: usize> Tree<K, V, PREFIX_LEN> {
         }
     }
 
-    /// Does nothing. Its contract says what holds of every tree: the pairs ascend by their keys'
-    /// bytes, none of which is a prefix of another's, and no id comes twice.
+    /// Does nothing. Its contract says what holds of every tree: the pairs ascend by the bytes of
+    /// their keys, no key's bytes are a prefix of another's, and no two leaves have the same id.
     pub fn law(&self)
         ensures content { IsContent (bytes K.bytes) self.now.pairs }
         ensures distinct { AreDistinct self.now.pairs }
@@ -93,7 +93,7 @@ impl<K: AsBytes, V, const PREFIX_LEN: usize> Tree<K, V, PREFIX_LEN> {
         self.len() == 0
     }
 
-    /// Returns the first leaf.
+    /// Returns the first leaf, or `None` if the tree has no pairs. One visit.
     pub fn first(&self) -> Option<LeafId>
         ensures { result ≡ first_number self.now.pairs }
     {
@@ -104,7 +104,7 @@ impl<K: AsBytes, V, const PREFIX_LEN: usize> Tree<K, V, PREFIX_LEN> {
         }
     }
 
-    /// Returns the last leaf.
+    /// Returns the last leaf, or `None` if the tree has no pairs. One visit.
     pub fn last(&self) -> Option<LeafId>
         ensures { result ≡ last_number self.now.pairs }
     {
@@ -115,7 +115,7 @@ impl<K: AsBytes, V, const PREFIX_LEN: usize> Tree<K, V, PREFIX_LEN> {
         }
     }
 
-    /// Returns the leaf after a leaf.
+    /// Returns the leaf after a leaf, or `None` if it is the last. One visit, of the returned leaf.
     pub fn next_of(&self, id: LeafId) -> Option<LeafId>
         requires { Has self.now.pairs id }
         ensures { result ≡ number_after self.now.pairs id }
@@ -128,7 +128,8 @@ impl<K: AsBytes, V, const PREFIX_LEN: usize> Tree<K, V, PREFIX_LEN> {
         }
     }
 
-    /// Returns the leaf before a leaf.
+    /// Returns the leaf before a leaf, or `None` if it is the first. One visit, of the returned
+    /// leaf.
     pub fn prev_of(&self, id: LeafId) -> Option<LeafId>
         requires { Has self.now.pairs id }
         ensures { result ≡ number_before self.now.pairs id }
@@ -141,8 +142,10 @@ impl<K: AsBytes, V, const PREFIX_LEN: usize> Tree<K, V, PREFIX_LEN> {
         }
     }
 
-    /// Returns the leaf after a leaf. `seen` is a guess of the position of this leaf, and then of
-    /// that one: if the leaf is there, no row is searched.
+    /// Returns the leaf after a leaf, or `None` if it is the last. One visit, of the returned leaf.
+    ///
+    /// `seen` is a guess of the position of the given leaf. If it is right, no row is searched. The
+    /// call sets it to the position of the returned leaf.
     #[inline(always)]
     pub fn next_from(&self, id: LeafId, seen: &mut Position) -> Option<LeafId>
         requires { Has self.now.pairs id }
@@ -156,8 +159,11 @@ impl<K: AsBytes, V, const PREFIX_LEN: usize> Tree<K, V, PREFIX_LEN> {
         }
     }
 
-    /// Returns the leaf before a leaf. `seen` is a guess of the position of this leaf, and then of
-    /// that one: if the leaf is there, no row is searched.
+    /// Returns the leaf before a leaf, or `None` if it is the first. One visit, of the returned
+    /// leaf.
+    ///
+    /// `seen` is a guess of the position of the given leaf. If it is right, no row is searched. The
+    /// call sets it to the position of the returned leaf.
     #[inline(always)]
     pub fn prev_from(&self, id: LeafId, seen: &mut Position) -> Option<LeafId>
         requires { Has self.now.pairs id }
@@ -183,8 +189,8 @@ impl<K: AsBytes, V, const PREFIX_LEN: usize> Tree<K, V, PREFIX_LEN> {
         (key, &named.value)
     }
 
-    /// Returns the number of inner nodes: one at each prefix where neighbouring keys part. That is
-    /// less than the number of pairs, and 0 if there is one pair or none.
+    /// Returns the number of inner nodes. There is one at the longest common prefix of each two
+    /// neighbouring keys. The number is less than the number of pairs, and 0 if there are no pairs.
     pub fn inner_nodes(&self) -> usize
         ensures value { result ≡ set.len (fronts (bytes K.bytes) self.now.pairs) }
         ensures fewer { result ≤ length self.now.pairs - 1 }
@@ -192,8 +198,8 @@ impl<K: AsBytes, V, const PREFIX_LEN: usize> Tree<K, V, PREFIX_LEN> {
         self.cells.inner_nodes()
     }
 
-    /// Returns the number of children of the inner node at this front, or 0 if there is none. It
-    /// makes at most one visit more than the longest key has bytes.
+    /// Returns the number of children of the inner node at this prefix, or 0 if there is no such
+    /// node. If the longest key has L bytes, it makes at most L + 1 visits.
     pub fn children_at(&self, front: &[u8], visits: &mut Visits) -> usize
         ensures value { result ≡ set.len (parts (bytes K.bytes) self.now.pairs front.now) }
         ensures counted { visits.new.count

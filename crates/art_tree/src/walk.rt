@@ -1,4 +1,4 @@
-//! A walk over the pairs of consecutive leaves, from both ends.
+//! An iterator over the pairs of consecutive leaves.
 ghost use Rattle.std.specs.Prelude.{◌≡◌, Option, Some, None, ℕ};
 ghost use Rattle.std.specs.Iterator.{YieldsFirstBy, YieldsLastBy, item_count};
 ghost use Rattle.art_slots.specs.Store.{slot_at};
@@ -17,10 +17,10 @@ use std::iter::{DoubleEndedIterator, Iterator};
 use std::marker::Model;
 
 /// An iterator over the pairs of consecutive leaves of a tree, from both ends, in byte order of
-/// their keys. Each step reads one leaf. Once no pair is left, each step returns `None`.
+/// their keys. Each step makes one visit. Once no pair is left, each step returns `None`.
 #[derive(Drop)]
 pub struct Walk<'a, K, V> {
-    // It goes from cell to cell, and reads no id.
+    /// It goes from cell to cell, and reads no id.
     walk: CellWalk<'a, K, Named<V>>,
 }
 
@@ -35,7 +35,7 @@ impl<'a, K, V> Model for Walk<'a, K, V> {
 
 impl<'a, K: AsBytes, V> Walk<'a, K, V> {
     /// Returns an iterator over the pairs from the first of these leaves through the last, or over
-    /// none if there are no ends. The first leaf must not come after the last.
+    /// no pairs if `ends` is `None`. The first leaf must not come after the last.
     pub fn new<const PREFIX_LEN: usize>(
         tree: &'a Tree<K, V, PREFIX_LEN>,
         ends: Option<(LeafId, LeafId)>,
@@ -51,7 +51,7 @@ impl<'a, K: AsBytes, V> Walk<'a, K, V> {
     }
 }
 
-// The cells of the first leaf and of the last.
+/// Returns the cells of the first leaf and of the last.
 fn cell_ends<K: AsBytes, V, const P: usize>(
     cells: &CellTree<K, Named<V>, P>,
     ids: &Store<CellId>,

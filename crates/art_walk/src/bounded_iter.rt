@@ -1,4 +1,5 @@
-//! The pairs within bounds, those that begin with some bytes, and those from one leaf through another.
+//! Iterators over the pairs within bounds, over those whose keys begin with some bytes, and over
+//! those from one leaf through another.
 ghost use Rattle.std.specs.Prelude.{◌≡◌, ◌+◌, ◌≤◌, [], length};
 ghost use Rattle.std.specs.Iterator.{YieldsFirstBy, YieldsLastBy, item_count};
 ghost use Rattle.blart_keys.specs.Bounds.{slice_bound, CanRange};
@@ -17,13 +18,16 @@ use std::iter::{DoubleEndedIterator, FusedIterator, Iterator};
 use std::marker::{Model, PhantomData};
 use std::ops::Bound;
 
-/// The pairs within two bounds from both ends, in byte order of their keys. Each step reads one leaf, and where the ends have met none comes at either.
+/// The pairs within two bounds, from both ends, in byte order of their keys. Each step makes one
+/// visit. Once no pair is left, each step returns `None`.
 pub type Range<'a, K, V, const PREFIX_LEN: usize> = BoundedIter<'a, K, V, InRange, PREFIX_LEN>;
 
-/// The pairs whose keys begin with some bytes from both ends, in byte order of their keys. Each step reads one leaf, and where the ends have met none comes at either.
+/// The pairs whose keys begin with some bytes, from both ends, in byte order of their keys. Each
+/// step makes one visit. Once no pair is left, each step returns `None`.
 pub type Prefix<'a, K, V, const PREFIX_LEN: usize> = BoundedIter<'a, K, V, BelowFront, PREFIX_LEN>;
 
-/// The pairs from one leaf through another from both ends, in byte order of their keys. Each step reads one leaf, and where the ends have met none comes at either.
+/// The pairs from one leaf through another, from both ends, in byte order of their keys. Each step
+/// makes one visit. Once no pair is left, each step returns `None`.
 pub type SubtreeIter<'a, K, V, const PREFIX_LEN: usize> = BoundedIter<
     'a,
     K,
@@ -32,7 +36,8 @@ pub type SubtreeIter<'a, K, V, const PREFIX_LEN: usize> = BoundedIter<
     PREFIX_LEN,
 >;
 
-/// Some pairs of a tree that stand one after the other, from both ends, in byte order of their keys. Each step reads one leaf, and where the ends have met none comes at either.
+/// Consecutive pairs of a tree, from both ends, in byte order of their keys. Each step makes one
+/// visit. Once no pair is left, each step returns `None`.
 #[derive(Drop)]
 pub struct BoundedIter<'a, K, V, M, const PREFIX_LEN: usize> {
     walk: Walk<'a, K, V>,
@@ -48,9 +53,11 @@ impl<'a, K, V, M, const PREFIX_LEN: usize> Model for BoundedIter<'a, K, V, M, PR
 }
 
 impl<'a, K: AsBytes, V, const PREFIX_LEN: usize> BoundedIter<'a, K, V, InRange, PREFIX_LEN> {
-    /// The pairs whose keys' bytes are within both bounds, which are in order where the tree has pairs.
+    /// Returns an iterator over the pairs whose bytes are within both bounds. If the tree has
+    /// pairs, the bounds must be in order.
     ///
-    /// Where n is the number of bytes of the longer bound and L that of the longest key, at most 2 * (n + 2) * (L + 2) visits, and none where the tree has no pairs.
+    /// If the longer bound has n bytes and the longest key has L bytes, it makes at most 2 * (n +
+    /// 2) * (L + 2) visits, and none if the tree has no pairs.
     pub fn new(
         tree: &'a Tree<K, V, PREFIX_LEN>,
         start: Bound<&[u8]>,
@@ -76,9 +83,10 @@ impl<'a, K: AsBytes, V, const PREFIX_LEN: usize> BoundedIter<'a, K, V, InRange, 
 }
 
 impl<'a, K: AsBytes, V, const PREFIX_LEN: usize> BoundedIter<'a, K, V, BelowFront, PREFIX_LEN> {
-    /// The pairs whose keys' bytes begin with these.
+    /// Returns an iterator over the pairs whose bytes begin with these.
     ///
-    /// On n bytes, where L is the length of the longest key, at most 2 * (n + 2) * (L + 2) visits, and none where the tree has no pairs.
+    /// On n bytes, if the longest key has L bytes, it makes at most 2 * (n + 2) * (L + 2) visits,
+    /// and none if the tree has no pairs.
     pub fn new(tree: &'a Tree<K, V, PREFIX_LEN>, front: &[u8], visits: &mut Visits) -> Self
         ensures value { result ≡ pairs_of (under (bytes K.bytes) tree.now.pairs front.now) }
         ensures counted { visits.new.count ≤ visits.old.count
@@ -95,7 +103,8 @@ impl<'a, K: AsBytes, V, const PREFIX_LEN: usize> BoundedIter<'a, K, V, BelowFron
 }
 
 impl<'a, K: AsBytes, V, const PREFIX_LEN: usize> BoundedIter<'a, K, V, InSubtree, PREFIX_LEN> {
-    /// The pairs from the first leaf through the last. The first does not stand after the last.
+    /// Returns an iterator over the pairs from the first leaf through the last. The first leaf must
+    /// not come after the last.
     pub fn new(tree: &'a Tree<K, V, PREFIX_LEN>, first: LeafId, last: LeafId) -> Self
         requires { IsSpan tree.now.pairs first last }
         ensures { result ≡ pairs_of (span_of tree.now.pairs first last) }
@@ -114,7 +123,7 @@ impl<'a, K, V, M, const PREFIX_LEN: usize> Iterator for BoundedIter<'a, K, V, M,
 
     ghost remaining = { item_count (λ rest. rest) };
 
-    /// The first pair that is left.
+    /// Returns the first pair that is left.
     #[inline(always)]
     fn next(&mut self) -> Option<(&'a K, &'a V)> {
         self.walk.next()
@@ -125,7 +134,7 @@ impl<'a, K, V, M, const PREFIX_LEN: usize> DoubleEndedIterator
     for BoundedIter<'a, K, V, M, PREFIX_LEN> {
     ghost next_back_gives = { YieldsLastBy (λ item. (item.0.now, item.1.now)) (λ rest. rest) };
 
-    /// The last pair that is left.
+    /// Returns the last pair that is left.
     #[inline(always)]
     fn next_back(&mut self) -> Option<(&'a K, &'a V)> {
         self.walk.next_back()

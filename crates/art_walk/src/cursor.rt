@@ -1,4 +1,4 @@
-//! A first and a last leaf that are still to come.
+//! The first and the last leaf that a walk has left.
 ghost use Rattle.std.specs.Prelude.{◌≡◌, ◌≢◌, option_map, IfSome, Some, None};
 ghost use Rattle.art_tree.specs.Leaves.{Has, number_after, number_before};
 ghost use Rattle.art_walk.specs.Cursor.{nothing_left, left_between, leaves_left, FitsIn, PassesFirst, PassesLast};
@@ -6,8 +6,8 @@ ghost use Rattle.art_walk.specs.Cursor.{nothing_left, left_between, leaves_left,
 use art_tree::{LeafId, Position, Tree};
 use blart_keys::AsBytes;
 
-/// Returns the ends without the first leaf, or `None` if that is also the last. `seen` is a
-/// guess of the position of the first leaf, and then of the position of the new first leaf.
+/// Returns the ends without the first leaf, or `None` if that is also the last. `seen` is a guess
+/// of the position of the first leaf, and the call sets it to that of the new first leaf.
 #[inline(always)]
 fn without_first<K: AsBytes, V, const PREFIX_LEN: usize>(
     tree: &Tree<K, V, PREFIX_LEN>,
@@ -27,8 +27,8 @@ fn without_first<K: AsBytes, V, const PREFIX_LEN: usize>(
     Some((next, last))
 }
 
-/// Returns the ends without the last leaf, or `None` if that is also the first. `seen` is a
-/// guess of the position of the last leaf, and then of the position of the new last leaf.
+/// Returns the ends without the last leaf, or `None` if that is also the first. `seen` is a guess
+/// of the position of the last leaf, and the call sets it to that of the new last leaf.
 #[inline(always)]
 fn without_last<K: AsBytes, V, const PREFIX_LEN: usize>(
     tree: &Tree<K, V, PREFIX_LEN>,
@@ -49,18 +49,19 @@ fn without_last<K: AsBytes, V, const PREFIX_LEN: usize>(
     Some((first, prev))
 }
 
-/// The leaves from one to another that are still to come, in byte order, or none. It holds no tree: each call is given the one that it goes over.
+/// Consecutive leaves of a tree, in byte order, or none: those that a walk has left. A cursor holds
+/// no reference to the tree. Each step is given the tree.
 #[derive(Clone, Copy)]
 pub struct Cursor {
-    // the first and the last leaf
+    /// The first and the last leaf.
     ends: Option<(LeafId, LeafId)>,
-    // where they may stand: a step that finds them there searches no row
+    /// Guesses of their positions. If they are right, a step searches no row.
     first_at: Position,
     last_at: Position,
 }
 
 impl Cursor {
-    /// Nothing to come.
+    /// Returns a cursor with no leaves.
     pub fn none() -> Cursor
         ensures { result ≡ nothing_left }
     {
@@ -71,7 +72,8 @@ impl Cursor {
         }
     }
 
-    /// The leaves from the first through the last. A tree to walk over has both, and the first does not stand after the last.
+    /// Returns a cursor over the leaves from the first through the last. The tree must have both,
+    /// and the first must not come after the last.
     pub fn between(first: LeafId, last: LeafId) -> Cursor
         ensures { result ≡ left_between first last }
     {
@@ -82,14 +84,14 @@ impl Cursor {
         }
     }
 
-    /// The first and the last leaf that are left.
+    /// Returns the first and the last leaf that are left.
     pub(crate) fn ends(&self) -> Option<(LeafId, LeafId)>
         ensures { result ≡ self.now.ends }
     {
         self.ends
     }
 
-    /// All leaves of the tree.
+    /// Returns a cursor over all leaves of the tree.
     pub fn all<K: AsBytes, V, const PREFIX_LEN: usize>(tree: &Tree<K, V, PREFIX_LEN>) -> Cursor
         ensures fits { FitsIn result tree.now.pairs }
         ensures left { leaves_left result tree.now.pairs ≡ tree.now.pairs }
@@ -104,8 +106,8 @@ impl Cursor {
         Cursor::between(first, last)
     }
 
-    /// Passes the first leaf that is left, and returns its id. One visit, of the leaf after it,
-    /// if one is left.
+    /// Passes the first leaf that is left, and returns its id. If a leaf is left then, it makes one
+    /// visit, of the new first leaf.
     #[inline(always)]
     pub fn step<K: AsBytes, V, const PREFIX_LEN: usize>(
         &mut self,
@@ -124,8 +126,8 @@ impl Cursor {
         Some(first)
     }
 
-    /// Passes the last leaf that is left, and returns its id. One visit, of the leaf before
-    /// it, if one is left.
+    /// Passes the last leaf that is left, and returns its id. If a leaf is left then, it makes one
+    /// visit, of the new last leaf.
     #[inline(always)]
     pub fn step_back<K: AsBytes, V, const PREFIX_LEN: usize>(
         &mut self,

@@ -1,4 +1,4 @@
-//! Closures called at each value that a cursor has left.
+//! Calls of a closure on each value that a cursor has left.
 ghost use Rattle.art_tree.specs.Leaves.{AreDistinct};
 ghost use Rattle.art_tree.specs.Pairs.{pairs_of};
 ghost use Rattle.art_walk.specs.Cursor.{leaves_left, FitsIn};
@@ -8,7 +8,10 @@ use crate::cursor::Cursor;
 use art_tree::Tree;
 use blart_keys::AsBytes;
 
-/// Calls the closure once at each value that the cursor has left, front to back. The values are what it leaves. Takes no memory; each call reads one leaf.
+/// Calls the closure once on each value that the cursor has left, from front to back. Each value is
+/// then what the closure wrote. Does not allocate.
+///
+/// Cost: each call of the closure takes a step of the cursor and reads one leaf.
 pub fn write_values<K: AsBytes, V, F: FnMut(&mut V) + Drop, const PREFIX_LEN: usize>(
     tree: &mut Tree<K, V, PREFIX_LEN>,
     mut cursor: Cursor,
@@ -28,7 +31,7 @@ pub fn write_values<K: AsBytes, V, F: FnMut(&mut V) + Drop, const PREFIX_LEN: us
     }
 }
 
-/// As [`write_values`], with the key of each.
+/// Like [`write_values`], and the closure gets the key of each value too.
 pub fn write_pairs<K: AsBytes, V, F: FnMut(&K, &mut V) + Drop, const PREFIX_LEN: usize>(
     tree: &mut Tree<K, V, PREFIX_LEN>,
     mut cursor: Cursor,

@@ -1,4 +1,4 @@
-//! All pairs.
+//! An iterator over all pairs.
 ghost use Rattle.std.specs.Prelude.{◌≡◌, length, Some, IfSome};
 ghost use Rattle.std.specs.Iterator.{YieldsFirstBy, YieldsLastBy, UpTo, item_count};
 ghost use Rattle.std.specs.Iterator.SizeHint.{IsWithinCount};
@@ -10,7 +10,8 @@ use blart_keys::AsBytes;
 use std::iter::{DoubleEndedIterator, FusedIterator, Iterator};
 use std::marker::Model;
 
-/// The pairs of a tree from both ends, in byte order of their keys. Each step reads one leaf, and where the ends have met none comes at either.
+/// The pairs of a tree, from both ends, in byte order of their keys. Each step makes one visit.
+/// Once no pair is left, each step returns `None`.
 #[derive(Drop)]
 pub struct Iter<'a, K, V, const PREFIX_LEN: usize> {
     walk: Walk<'a, K, V>,
@@ -28,7 +29,7 @@ impl<'a, K, V, const PREFIX_LEN: usize> Model for Iter<'a, K, V, PREFIX_LEN> {
 }
 
 impl<'a, K: AsBytes, V, const PREFIX_LEN: usize> Iter<'a, K, V, PREFIX_LEN> {
-    /// All pairs of the tree.
+    /// Returns an iterator over all pairs of the tree.
     pub fn new(tree: &'a Tree<K, V, PREFIX_LEN>) -> Self
         ensures { result ≡ pairs_of tree.now.pairs }
     {
@@ -41,7 +42,7 @@ impl<'a, K: AsBytes, V, const PREFIX_LEN: usize> Iter<'a, K, V, PREFIX_LEN> {
 }
 
 impl<'a, K, V, const PREFIX_LEN: usize> Iter<'a, K, V, PREFIX_LEN> {
-    /// How many pairs are left.
+    /// Returns the number of pairs that are left.
     pub fn len(&self) -> usize
         ensures { result ≡ length self.now }
     {
@@ -56,7 +57,7 @@ impl<'a, K, V, const PREFIX_LEN: usize> Iterator for Iter<'a, K, V, PREFIX_LEN> 
 
     ghost remaining = { item_count (λ rest. rest) };
 
-    /// The first pair that is left.
+    /// Returns the first pair that is left.
     #[inline(always)]
     fn next(&mut self) -> Option<(&'a K, &'a V)> {
         let pair = self.walk.next()?;
@@ -77,7 +78,7 @@ impl<'a, K, V, const PREFIX_LEN: usize> Iterator for Iter<'a, K, V, PREFIX_LEN> 
 impl<'a, K, V, const PREFIX_LEN: usize> DoubleEndedIterator for Iter<'a, K, V, PREFIX_LEN> {
     ghost next_back_gives = { YieldsLastBy (λ item. (item.0.now, item.1.now)) (λ rest. rest) };
 
-    /// The last pair that is left.
+    /// Returns the last pair that is left.
     #[inline(always)]
     fn next_back(&mut self) -> Option<(&'a K, &'a V)> {
         let pair = self.walk.next_back()?;

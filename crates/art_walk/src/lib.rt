@@ -1,6 +1,7 @@
 //! Walks over a tree, from both ends.
 //!
-//! A [`Cursor`] knows the first and the last leaf that are still to come. The walks are seen as the list of what they have still to give, in byte order of the keys.
+//! A [`Cursor`] holds the first and the last leaf that are left. A contract sees a walk as the list
+//! of the pairs that are left, in byte order of the keys.
 #![tactic(auto)]
 
 mod bounded_iter;

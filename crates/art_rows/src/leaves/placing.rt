@@ -1,4 +1,4 @@
-//! Leaves that join others.
+//! Placements of leaves.
 ghost use Rattle.std.specs.Prelude.{◌≡◌, ◌≢◌, ℕ, ◌+◌, ◌-◌, ◌<◌, ◌≤◌, ◌++◌, List, [], ◌∷◌, length, take, drop, Some, None, IsSome, IfSome, IfNone};
 ghost use Rattle.art_rows.specs.Numbers.{leaf_in, Has, last_number, number_after, with_pair_after, with_number, with_pair};
 ghost use Rattle.art_rows.specs.Rows.{position_at, nth, IsSpot, row_end, lengths};
@@ -11,7 +11,7 @@ use crate::row::{Position, ROW, Row};
 use art_slots::CellId;
 
 impl<K: Drop, V: Drop> Leaves<K, V> {
-    // How many numbers a row has.
+    /// Returns the length of a row.
     fn row_len(&self, row: usize) -> usize
         requires { Has self.now.rows row }
         ensures len { IfSome (leaf_in self.now.rows row) (λ ids. result ≡ length ids) }
@@ -20,7 +20,7 @@ impl<K: Drop, V: Drop> Leaves<K, V> {
         self.rows.read(row).len()
     }
 
-    // The row after another.
+    /// Returns the row after another.
     fn row_after(&self, row: usize) -> Option<usize>
         requires { Has self.now.rows row }
         ensures { result ≡ number_after self.now.rows row }
@@ -28,7 +28,9 @@ impl<K: Drop, V: Drop> Leaves<K, V> {
         self.rows.next_of(row)
     }
 
-    /// The leaf that has to make way before a pair comes after `prev`: the last of a full row. `seen` is where `prev` may stand, and then where it does.
+    /// Returns the leaf that has to move before a pair can be placed after `prev`: the last leaf of
+    /// a full row. `seen` is a guess of the position of `prev`, and the call sets it to that
+    /// position.
     pub fn crowd(&self, prev: Option<CellId>, seen: &mut Position) -> Option<CellId>
         requires { IfSome prev (Has self.now.pairs) }
         ensures none { IfNone result (HasWay self.now.rows prev) }
@@ -48,7 +50,9 @@ impl<K: Drop, V: Drop> Leaves<K, V> {
         Some(row.run().at(ROW - 1))
     }
 
-    /// Puts a pair after the leaf `prev`, or in front of all, where no leaf has to make way. `seen` is where `prev` may stand: where it does, no row is searched. It asks for no memory.
+    /// Places a pair after the leaf `prev`, or before all leaves, and returns its cell. No leaf has
+    /// to move. `seen` is a guess of the position of `prev`. If it is right, no row is searched.
+    /// Does not allocate.
     pub fn insert(&mut self, prev: Option<CellId>, seen: Position, key: K, value: V) -> CellId
         requires room { 0 < room self.old }
         requires prev { IfSome prev (Has self.old.pairs) }
@@ -73,7 +77,9 @@ impl<K: Drop, V: Drop> Leaves<K, V> {
         self.put_beyond(prev, position.row, key, value)
     }
 
-    /// Puts a pair after the leaf `prev` in a full row, whose last leaf makes way: it goes to the row after it, and has another number then. Answers the new leaf, and that number. It asks for no memory.
+    /// Places a pair after the leaf `prev` in a full row, and returns its cell. The last leaf of
+    /// the row, `last`, moves to the next row. Also returns the cell that it moved to. Does not
+    /// allocate.
     pub fn insert_crowded(
         &mut self,
         prev: Option<CellId>,
@@ -101,7 +107,7 @@ impl<K: Drop, V: Drop> Leaves<K, V> {
         }
     }
 
-    /// Puts a pair after all others. It asks for no memory.
+    /// Places a pair after all others, and returns its cell. Does not allocate.
     pub fn push(&mut self, key: K, value: V) -> CellId
         requires room { 0 < end_room self.old }
         ensures fresh { leaf_in self.old.pairs result ≡ None }
@@ -123,7 +129,7 @@ impl<K: Drop, V: Drop> Leaves<K, V> {
         self.begin(Some(last), Some(position.row), key, value)
     }
 
-    // Moves the last leaf of a full row to the row after it. Answers the number that it has then.
+    /// Moves the last leaf of a full row to the next row, and returns the cell that it moved to.
     #[cold]
     #[inline(never)]
     fn carry(&mut self, last: CellId) -> CellId
@@ -143,7 +149,8 @@ impl<K: Drop, V: Drop> Leaves<K, V> {
         self.put_beyond(Some(before), row, key, value)
     }
 
-    // Puts a pair after the last leaf of a row: into the row after it, where that is not full, or else into a new one.
+    /// Places a pair after the last leaf of a row: in the next row if that is not full, or else in
+    /// a new row between the two.
     #[cold]
     #[inline(never)]
     fn put_beyond(&mut self, prev: Option<CellId>, row: usize, key: K, value: V) -> CellId
@@ -169,7 +176,8 @@ impl<K: Drop, V: Drop> Leaves<K, V> {
         self.begin(prev, Some(row), key, value)
     }
 
-    // Where a pair after a leaf, which may stand where it was seen, or in front of all, has its place; nowhere while there is no row.
+    /// Returns the position for a pair after `prev`, or before all leaves, or `None` if there are
+    /// no rows. `seen` is a guess of the position of `prev`.
     fn spot(&self, prev: Option<CellId>, seen: Position) -> Option<Position>
         requires { IfSome prev (Has self.now.pairs) }
         ensures some { IfSome result (λ p. IsSpot self.now.rows p (spot_index prev self.now.pairs)) }
@@ -183,7 +191,7 @@ impl<K: Drop, V: Drop> Leaves<K, V> {
             None => self.first_position(),
             Some(id) => {
                 let position = self.position_near(id, seen);
-                // A place is less than the count of leaves, and so has one after it.
+                // A place is less than the number of leaves, so there is a number after it.
                 let _used = self.records.used();
                 Some(Position {
                     row: position.row,
@@ -193,7 +201,7 @@ impl<K: Drop, V: Drop> Leaves<K, V> {
         }
     }
 
-    // Puts a pair at a spot of a row that is not full.
+    /// Places a pair at a position of a row that is not full.
     #[inline(always)]
     fn put(&mut self, prev: Option<CellId>, position: Position, key: K, value: V) -> CellId
         requires prev { IfSome prev (Has self.old.pairs) }
@@ -210,7 +218,7 @@ impl<K: Drop, V: Drop> Leaves<K, V> {
         id
     }
 
-    // Puts a pair into a new row, after another or in front of all.
+    /// Places a pair in a new row, after another row or before all rows.
     #[cold]
     #[inline(never)]
     fn begin(&mut self, prev: Option<CellId>, prev_row: Option<usize>, key: K, value: V) -> CellId
@@ -223,7 +231,8 @@ impl<K: Drop, V: Drop> Leaves<K, V> {
         ensures spare_rows { self.new.spare_rows + 1 ≡ self.old.spare_rows }
         ensures rows { (self.new.rows ≡ with_pair_after prev_row (row_of result, result ∷ []) self.old.rows) × (leaf_in self.old.rows (row_of result) ≡ None) }
     {
-        // The row's number is known once it has a place, and its own numbers with it.
+        // The number of a row is known when the row is in the chain, and so are the numbers of its
+        // cells.
         let row = self.rows.insert(prev_row, Row::new(0, false).0);
         let _cells = self.records.len();
         let (numbers, id) = Row::new(row, is_before(row, prev_row));
@@ -233,7 +242,9 @@ impl<K: Drop, V: Drop> Leaves<K, V> {
     }
 }
 
-// Whether a row lies before another. Rows that are made at once are taken from the last one down, and their cells with them, so that leaves in order lie in one direction.
+/// Returns `true` if a row lies before another in memory. Rows that are made at once are taken from
+/// the last one down, and then their cells are too, so that neighbouring leaves lie in one
+/// direction.
 fn is_before(row: usize, other: Option<usize>) -> bool {
     match other {
         Some(other) => row < other,

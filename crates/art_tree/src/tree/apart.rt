@@ -1,4 +1,4 @@
-//! Trees that are taken apart, and trees that are made of pairs.
+//! The pairs of a tree as a list, and a tree of the pairs of a list.
 ghost use Rattle.std.specs.Prelude.{◌≡◌, ◌≤◌, ◌<◌, length, map, IfOk, OnErr};
 ghost use Rattle.blart_keys.specs.Content.{IsContent};
 ghost use Rattle.blart_keys.specs.Steps.{bytes};
@@ -17,8 +17,8 @@ use blart_keys::AsBytes;
 use std::alloc::{AllocError, Global};
 use std::marker::Model;
 
-/// Memory for the inner nodes and the ids of a tree that is made of pairs. A contract sees for how
-/// many pairs.
+/// Memory for the inner nodes and the ids of a tree that is made of pairs. A contract sees the
+/// number of pairs that it is sufficient for.
 #[derive(Drop)]
 pub struct Frame<const P: usize> {
     nodes: CellFrame<P>,
@@ -58,8 +58,8 @@ impl<const P: usize> Frame<P> {
 impl<K: AsBytes, V, const PREFIX_LEN: usize> Tree<K, V, PREFIX_LEN> {
     /// Returns the pairs in byte order. Does not allocate.
     ///
-    /// Cost: frees the inner nodes and the ids whole. A caller that then removes pairs one by one
-    /// changes no node.
+    /// Cost: frees the inner nodes and the table of ids at once. To remove the pairs one by one
+    /// from the list then changes no node.
     pub fn into_pairs(self) -> Pairs<K, V>
         ensures { result.pairs ≡ pairs_of self.pairs }
     {
@@ -70,11 +70,11 @@ impl<K: AsBytes, V, const PREFIX_LEN: usize> Tree<K, V, PREFIX_LEN> {
         }
     }
 
-    /// Returns a tree of these pairs. The bytes of their keys ascend, and no key is a prefix of
-    /// another. The frame has memory for at least as many pairs. Does not allocate.
+    /// Returns a tree of these pairs. The bytes of their keys must ascend, none a prefix of the
+    /// bytes of another, and the frame must be for at least as many pairs. Does not allocate.
     ///
-    /// Cost: reads each key once or twice, and makes each inner node once, of all its children.
-    /// That is faster than a placement of each pair.
+    /// Cost: reads each key once or twice, and makes each inner node once with all its children,
+    /// which is faster than to place pair by pair.
     pub fn from_pairs(pairs: Pairs<K, V>, frame: Frame<PREFIX_LEN>) -> Self
         requires content { IsContent (bytes K.bytes) pairs.pairs }
         requires room { length pairs.pairs ≤ frame }
@@ -88,7 +88,7 @@ impl<K: AsBytes, V, const PREFIX_LEN: usize> Tree<K, V, PREFIX_LEN> {
     }
 }
 
-// Gives each leaf an id.
+/// Gives each leaf an id.
 fn name_leaves<K: AsBytes, V, const P: usize>(
     cells: &mut CellTree<K, Named<V>, P>,
     ids: &mut Store<CellId>,

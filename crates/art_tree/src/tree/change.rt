@@ -1,4 +1,4 @@
-//! Pairs exchanged, removed and written.
+//! Calls that replace and remove pairs, and that return mutable references to values.
 ghost use Rattle.std.specs.Prelude.{◌≡◌, ◌<◌, ◌≤◌, [], length, option_map, Some, None, OnOk, OnErr};
 ghost use Rattle.std.specs.Borrow.{sem};
 ghost use Rattle.blart_keys.specs.Content.{at, under, without};
@@ -16,8 +16,10 @@ use blart_keys::AsBytes;
 use std::alloc::AllocError;
 
 impl<K: AsBytes + Drop, V: Drop, const PREFIX_LEN: usize> Tree<K, V, PREFIX_LEN> {
-    /// Replaces the pair of a leaf, and returns the old one. The new key is related to the old one
-    /// and to no other. The other leaves are unchanged. Does not allocate.
+    /// Replaces the pair of a leaf, and returns the old pair. The new key must be related to the
+    /// old key and to no other. The other leaves are unchanged. Does not allocate.
+    ///
+    /// Cost: reads the leaf.
     pub fn swap(&mut self, id: LeafId, key: K, value: V) -> (K, V)
         requires has { Has self.old.pairs id }
         requires may { MayTake K.bytes self.old.pairs id (K.bytes key) }
@@ -33,7 +35,7 @@ impl<K: AsBytes + Drop, V: Drop, const PREFIX_LEN: usize> Tree<K, V, PREFIX_LEN>
         (old_key, named.value)
     }
 
-    /// Drops every pair, and every spare record.
+    /// Drops every pair and every spare record. Does not allocate.
     pub fn clear(&mut self)
         ensures pairs { self.new.pairs ≡ [] }
         ensures room { room self.new ≡ 0 }
@@ -42,7 +44,8 @@ impl<K: AsBytes + Drop, V: Drop, const PREFIX_LEN: usize> Tree<K, V, PREFIX_LEN>
         self.ids.clear();
     }
 
-    /// Makes room for `count` placements. The pairs are unchanged, also if memory runs out.
+    /// Makes room for `count` placements, or returns an error if it fails to allocate. The pairs
+    /// are unchanged in both cases.
     pub fn reserve(&mut self, count: usize) -> Result<(), AllocError>
         ensures pairs { self.new.pairs ≡ self.old.pairs }
         ensures grows { room self.old ≤ room self.new }
@@ -53,7 +56,10 @@ impl<K: AsBytes + Drop, V: Drop, const PREFIX_LEN: usize> Tree<K, V, PREFIX_LEN>
         self.ids.reserve(count)
     }
 
-    /// Removes a leaf, and returns its pair. Does not allocate. The id of each other leaf stays.
+    /// Removes a leaf, and returns its pair. Each other id names the pair that it named. Does not
+    /// return an error.
+    ///
+    /// Cost: one descent by the key of the leaf.
     pub fn remove(&mut self, id: LeafId) -> (K, V)
         requires { Has self.old.pairs id }
         ensures value { leaf_in self.old.pairs id ≡ Some result }
@@ -69,8 +75,10 @@ impl<K: AsBytes + Drop, V: Drop, const PREFIX_LEN: usize> Tree<K, V, PREFIX_LEN>
         (key, named.value)
     }
 
-    /// Removes the pair with these bytes, and returns it, by one descent. Does not allocate. The id
-    /// of each other leaf stays.
+    /// Removes the pair with these bytes and returns it, or returns `None` if there is no such
+    /// pair. Each other id names the pair that it named. Does not return an error.
+    ///
+    /// Cost: one descent.
     pub fn take(&mut self, query: &[u8]) -> Option<(K, V)>
         ensures taken { result
             ≡ option_map (λ p. p.1) (at (bytes K.bytes) self.old.pairs query.now) }

@@ -1,4 +1,4 @@
-//! A second tree of the same pairs.
+//! Clones of trees.
 ghost use Rattle.std.specs.Prelude.{◌≡◌, map, Contains, IfOk};
 ghost use Rattle.art_tree.specs.Clones.{AreClones};
 
@@ -7,8 +7,10 @@ use blart_keys::AsBytes;
 use std::alloc::AllocError;
 
 impl<K: AsBytes + Clone, V: Clone, const PREFIX_LEN: usize> Tree<K, V, PREFIX_LEN> {
-    /// Returns a tree of clones of the pairs, each under the id that it has here, or an error if it
-    /// fails to allocate. It takes as much memory as this tree has.
+    /// Returns a tree of clones of the pairs, each with the same id, or an error if it fails to
+    /// allocate.
+    ///
+    /// Cost: allocates as much memory as this tree has, and clones each key and each value.
     pub fn clone(&self) -> Result<Self, AllocError>
         requires { (k j : K) (v : V) → Contains (map (λ p. p.1) self.now.pairs) (k, v)
             → K.is_clone k j → K.bytes j ≡ K.bytes k }

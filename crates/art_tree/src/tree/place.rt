@@ -1,4 +1,4 @@
-//! Points, and pairs placed there.
+//! Points, and placements of pairs.
 ghost use Rattle.std.specs.Prelude.{◌≡◌, ◌+◌, ◌<◌, ◌≤◌, ℕ, List, map, Some, None, IsSome, OnOk, OnErr};
 ghost use Rattle.blart_keys.specs.Content.{IsPut};
 ghost use Rattle.blart_keys.specs.Steps.{bytes as pair_bytes};
@@ -22,8 +22,10 @@ use blart_keys::AsBytes;
 use std::alloc::AllocError;
 
 impl<K: AsBytes, V, const PREFIX_LEN: usize> Tree<K, V, PREFIX_LEN> {
-    /// Returns where the bytes are, or would go. The point is good for them while the pairs are
-    /// unchanged.
+    /// Returns the point of these bytes: the leaf that has them, the leaves that they conflict
+    /// with, or a free place. The point is good for these bytes while the pairs are unchanged.
+    ///
+    /// Cost: one descent.
     pub fn point(&self, query: &[u8]) -> Point
         ensures { IsGood K.bytes self.now.pairs result query.now }
     {
@@ -46,8 +48,8 @@ impl<K: AsBytes, V, const PREFIX_LEN: usize> Tree<K, V, PREFIX_LEN> {
 }
 
 impl<K: AsBytes + Drop, V: Drop, const PREFIX_LEN: usize> Tree<K, V, PREFIX_LEN> {
-    /// Makes room, so that a pair may be placed at the point. The pairs are unchanged, also if
-    /// memory runs out, and the point stays good.
+    /// Makes room for a placement at the point, or returns an error if it fails to allocate. The
+    /// pairs are unchanged in both cases, and the point remains good.
     pub fn make_room(&mut self, point: &Point) -> Result<(), AllocError>
         ensures pairs { self.new.pairs ≡ self.old.pairs }
         ensures fits { OnOk result (Fits self.new point.now) }
@@ -67,8 +69,12 @@ impl<K: AsBytes + Drop, V: Drop, const PREFIX_LEN: usize> Tree<K, V, PREFIX_LEN>
         }
     }
 
-    /// Places a pair at a point that is good for its key and fits. Returns its leaf. Each other id
-    /// names the pair that it named. Does not allocate.
+    /// Places a pair, and returns its leaf. The point must be empty or free, good for the bytes of
+    /// the key, and there must be room at it. Each other id names the pair that it named. Does not
+    /// allocate.
+    ///
+    /// Cost: one descent if the edge at the point has changed since, and one if another leaf has to
+    /// move.
     pub fn place(&mut self, point: Point, key: K, value: V) -> LeafId
         requires good { IsGood K.bytes self.old.pairs point (K.bytes key) }
         requires open { IsOpen point }
@@ -90,7 +96,7 @@ impl<K: AsBytes + Drop, V: Drop, const PREFIX_LEN: usize> Tree<K, V, PREFIX_LEN>
     }
 }
 
-// The point in the tree over cells.
+/// Returns the same point in the tree over cells.
 fn cell_point<K: AsBytes, V, const P: usize>(
     cells: &CellTree<K, Named<V>, P>,
     ids: &Store<CellId>,
@@ -113,7 +119,7 @@ fn cell_point<K: AsBytes, V, const P: usize>(
     }
 }
 
-// The place in the tree over cells, beside the cell that the nearest leaf lies in now.
+/// Returns the same place in the tree over cells, beside the present cell of the nearest leaf.
 fn cell_place<K: AsBytes, V, const P: usize>(
     cells: &CellTree<K, Named<V>, P>,
     ids: &Store<CellId>,
@@ -137,7 +143,8 @@ fn cell_place<K: AsBytes, V, const P: usize>(
     }
 }
 
-// Has the ids lead to the cells of a leaf that was placed, and of the one that moved, if one did.
+/// Writes into the table of ids the cell of a new leaf, and the cell of the leaf that moved, if one
+/// did.
 fn lead_to<K: AsBytes, V, const P: usize>(
     cells: &CellTree<K, Named<V>, P>,
     ids: &mut Store<CellId>,

@@ -1,4 +1,4 @@
-//! The pairs below some bytes leave the tree.
+//! Removal of all pairs whose bytes have a prefix.
 ghost use Rattle.std.specs.Prelude.{◌≡◌, length, IfSome};
 ghost use Rattle.blart_keys.specs.Content.{under};
 ghost use Rattle.blart_keys.specs.Outside.{outside};
@@ -13,11 +13,11 @@ use art_slots::{CellId, Store, Visits};
 use blart_keys::AsBytes;
 
 impl<K: AsBytes + Drop, V: Drop, const PREFIX_LEN: usize> Tree<K, V, PREFIX_LEN> {
-    /// Removes every pair whose bytes begin with these, and returns how many there were. Does not
-    /// allocate. The id of each other leaf stays.
+    /// Removes every pair whose bytes begin with these, and returns the number of removed pairs.
+    /// Each other id names the pair that it named. Does not return an error.
     ///
-    /// Cost: that of two [`Tree::span`]s and of one [`Tree::remove`], and beside that of what goes:
-    /// each leaf and each inner node leaves by itself, with no descent.
+    /// Cost: like two calls of [`Tree::span`] and one of [`Tree::remove`]. Besides, it reads and
+    /// frees each removed leaf and inner node, with no further descent.
     pub fn remove_prefix(&mut self, prefix: &[u8]) -> usize
         ensures rest { self.new.pairs ≡ outside (bytes K.bytes) self.old.pairs prefix.now }
         ensures count { result ≡ length (under (bytes K.bytes) self.old.pairs prefix.now) }
@@ -27,7 +27,7 @@ impl<K: AsBytes + Drop, V: Drop, const PREFIX_LEN: usize> Tree<K, V, PREFIX_LEN>
     }
 }
 
-// Frees the ids of the leaves whose bytes begin with these.
+/// Frees the ids of the leaves whose bytes begin with these.
 fn free_ids<K: AsBytes, V, const P: usize>(
     cells: &CellTree<K, Named<V>, P>,
     ids: &mut Store<CellId>,
@@ -50,7 +50,7 @@ fn free_ids<K: AsBytes, V, const P: usize>(
     }
 }
 
-// Returns the first leaf whose bytes begin with these.
+/// Returns the first leaf whose bytes begin with these.
 fn first_below<K: AsBytes, V, const P: usize>(
     cells: &CellTree<K, V, P>,
     prefix: &[u8],

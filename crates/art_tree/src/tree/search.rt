@@ -78,8 +78,8 @@ impl<K: AsBytes, V, const PREFIX_LEN: usize> Tree<K, V, PREFIX_LEN> {
         }
     }
 
-    /// Returns the first leaf within a start bound, or the last within an end bound. If the bound
-    /// has n bytes (0 if it is unbounded) and the longest key L, it makes at most
+    /// Returns the first leaf within a start bound, or the last leaf within an end bound. If the
+    /// bound has n bytes (0 if it is unbounded) and the longest key has L bytes, it makes at most
     /// (n + 2) * (L + 1) + 1 visits, and none if the tree has no pairs.
     pub fn seek(&self, bound: Bound<&[u8]>, is_start: bool, visits: &mut Visits) -> Option<LeafId>
         ensures found { result
@@ -97,9 +97,9 @@ impl<K: AsBytes, V, const PREFIX_LEN: usize> Tree<K, V, PREFIX_LEN> {
         }
     }
 
-    /// Returns the first and the last leaf whose bytes begin with these. On n bytes it makes at
-    /// most (n + 3) * (L + 1) visits, where the longest key has L bytes, and none if the tree has
-    /// no pairs.
+    /// Returns the first and the last leaf whose bytes begin with these. On n bytes, if the longest
+    /// key has L bytes, it makes at most (n + 3) * (L + 1) visits, and none if the tree has no
+    /// pairs.
     pub fn span(&self, front: &[u8], visits: &mut Visits) -> Option<(LeafId, LeafId)>
         ensures found { result ≡ ends (under (bytes K.bytes) self.now.pairs front.now) }
         ensures counted { visits.new.count

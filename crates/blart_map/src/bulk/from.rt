@@ -18,9 +18,11 @@ use std::cmp::Ordering;
 use std::iter::Iterator;
 
 impl<K: NoPrefixesBytes + Drop, V: Drop, const PREFIX_LEN: usize> TreeMap<K, V, PREFIX_LEN> {
-    /// A map into which the pairs that the iterator gives were put, one after another, as [`TreeMap::insert`] does: of pairs with the same bytes the first key stays, with the last value. No pairs take no memory.
+    /// Returns a map of the pairs that the iterator yields, inserted one after another like
+    /// [`TreeMap::insert`] does: if pairs have the same bytes, the first key is kept, with the last
+    /// value. Does not allocate if there are no pairs.
     ///
-    /// The pairs are collected into a vector first, of which [`TreeMap::from_vec`] makes the map: where there is memory to sort them, each inner node is made once.
+    /// It collects the pairs into a vector first, and [`TreeMap::from_vec`] makes the map.
     pub fn from_iter<I: Iterator<Item = (K, V)>>(
         alloc: Global,
         items: I,
@@ -42,9 +44,13 @@ impl<K: NoPrefixesBytes + Drop, V: Drop, const PREFIX_LEN: usize> TreeMap<K, V, 
         TreeMap::from_vec(alloc, all)
     }
 
-    /// A map into which the pairs were put, one after another, as [`TreeMap::insert`] does: of pairs with the same bytes the first key stays, with the last value. No pairs take no memory.
+    /// Returns a map of the pairs, inserted one after another like [`TreeMap::insert`] does: if
+    /// pairs have the same bytes, the first key is kept, with the last value. Does not allocate if
+    /// there are no pairs.
     ///
-    /// The pairs are sorted by their keys' bytes first, where there is memory for that. So they lie in order, walks over the map find them side by side, and each inner node is made once.
+    /// If there is memory to sort them, it sorts the pairs by their keys' bytes first. Then
+    /// neighbouring pairs lie side by side, which makes walks over the map faster, and each inner
+    /// node is made once.
     ///
     /// ```
     /// let map = Map::from_vec(alloc, vec![in alloc; (U32Key::new(2), 'b'), (U32Key::new(1), 'a')]?)?;
@@ -57,13 +63,13 @@ impl<K: NoPrefixesBytes + Drop, V: Drop, const PREFIX_LEN: usize> TreeMap<K, V, 
         let mut items = items;
         match items.sort_by(by_bytes) {
             Ok(()) => TreeMap::of_sorted(alloc, items),
-            // Where there is no memory to sort the pairs, they are put as they come.
+            // If there is no memory to sort the pairs, they are inserted in the given order.
             Err(_) => TreeMap::put_in_turn(alloc, items.into_iter()),
         }
     }
 
-    /// Makes a map of pairs whose keys' bytes do not descend. Of pairs with the same bytes the first
-    /// key is kept, with the last value.
+    /// Returns a map of pairs whose keys' bytes do not descend. If pairs have the same bytes, the
+    /// first key is kept, with the last value.
     fn of_sorted(alloc: Global, items: Vec<(K, V)>) -> Result<Self, AllocError>
         requires { IsSortedByKey (bytes K.bytes) bytes_cmp items.items }
         ensures made { IfOk result (λ map. PutsAll (bytes K.bytes) kept_pair [] items.items (pairs map)) }
@@ -79,7 +85,7 @@ impl<K: NoPrefixesBytes + Drop, V: Drop, const PREFIX_LEN: usize> TreeMap<K, V, 
         TreeMap::of_pairs(alloc, sorted)
     }
 
-    /// Makes the map of these pairs.
+    /// Returns the map of these pairs.
     #[tactic(auto, unfolding(crate::specs::Content::pairs))]
     fn of_pairs(alloc: Global, sorted: Pairs<K, V>) -> Result<Self, AllocError>
         requires { IsContent (bytes K.bytes) sorted.pairs }
@@ -98,7 +104,7 @@ impl<K: NoPrefixesBytes + Drop, V: Drop, const PREFIX_LEN: usize> TreeMap<K, V, 
         }
     }
 
-    // A map into which the pairs that the iterator gives were put as they come.
+    /// Returns a map of the pairs that the iterator yields, inserted in the given order.
     fn put_in_turn<I: Iterator<Item = (K, V)>>(alloc: Global, items: I) -> Result<Self, AllocError>
         requires can { I.can_next items }
         requires ends { IsFinite (I.remaining items) }
@@ -119,7 +125,9 @@ impl<K: NoPrefixesBytes + Drop, V: Drop, const PREFIX_LEN: usize> TreeMap<K, V, 
 }
 
 impl<K: NoPrefixesBytes + Copy, V: Copy, const PREFIX_LEN: usize> TreeMap<K, V, PREFIX_LEN> {
-    /// A map into which the pairs were put, one after another, as [`TreeMap::insert`] does: of pairs with the same bytes the first key stays, with the last value. No pairs take no memory.
+    /// Returns a map of the pairs, inserted one after another like [`TreeMap::insert`] does: if
+    /// pairs have the same bytes, the first key is kept, with the last value. Does not allocate if
+    /// there are no pairs.
     ///
     /// ```
     /// let map = Map::from_array(alloc, [(2u8, 'b'), (1, 'a')])?;
@@ -139,7 +147,7 @@ impl<K: NoPrefixesBytes + Copy, V: Copy, const PREFIX_LEN: usize> TreeMap<K, V, 
         }
     }
 
-    // Puts copies of the pairs, one after another.
+    /// Inserts copies of the pairs, one after another.
     fn put_copies(&mut self, items: &[(K, V)]) -> Result<(), AllocError>
         ensures put { OnOk result
             (PutsAll (bytes K.bytes) kept_pair (pairs self.old) items.now (pairs self.new)) }
@@ -152,7 +160,7 @@ impl<K: NoPrefixesBytes + Copy, V: Copy, const PREFIX_LEN: usize> TreeMap<K, V, 
     }
 }
 
-// How the keys of two pairs compare by their bytes.
+/// Compares the bytes of the keys of two pairs.
 fn by_bytes<K: AsBytes, V>(one: &(K, V), other: &(K, V)) -> Ordering
     ensures { result ≡ bytes_cmp (K.bytes one.now.0) (K.bytes other.now.0) }
 {

@@ -1,4 +1,4 @@
-//! All values, each lent to be written.
+//! All values, each by a mutable reference.
 ghost use Rattle.std.specs.Prelude.{◌≡◌, ℕ, List, [], true, length, map, option_map, is_some, Some, None, MatchOption, IfNone, ⊤};
 ghost use Rattle.std.specs.Borrow.{sem};
 ghost use Rattle.blart_keys.specs.Stored.{pair_at, value_at};
@@ -14,7 +14,7 @@ use art_walk::{Cursor, ValuesAlone, WithKeys, write_pairs, write_values};
 use blart_keys::AsBytes;
 use std::marker::PhantomData;
 
-/// The values, each lent in turn, with its key.
+/// All values of a map, each by a mutable reference, with its key.
 ///
 /// ```
 /// map.try_insert("cat", 1)?;
@@ -27,7 +27,7 @@ use std::marker::PhantomData;
 /// ```
 pub type IterMut<'a, K, V, const PREFIX_LEN: usize> = CountedWalk<'a, K, V, WithKeys, PREFIX_LEN>;
 
-/// The values, each lent in turn.
+/// All values of a map, each by a mutable reference.
 ///
 /// ```
 /// map.try_insert("cat", 1)?;
@@ -45,7 +45,8 @@ pub type ValuesMut<'a, K, V, const PREFIX_LEN: usize> = CountedWalk<
     PREFIX_LEN,
 >;
 
-/// The values of a map from both ends, in byte order of their keys, each lent in turn. Each step reads one pair, and where the ends have met none comes at either.
+/// The values of a map, from both ends, in byte order of their keys, each by a mutable reference.
+/// Each step makes one visit. Once no value is left, each step returns `None`.
 ///
 /// The example of [`IterMut`] shows it.
 #[derive(Drop)]
@@ -54,7 +55,7 @@ pub struct CountedWalk<'a, K: AsBytes, V, M, const PREFIX_LEN: usize> {
     cursor: Cursor,
     lent: Option<LeafId>,
     left: usize,
-    // whether keys are lent too: the type alone says it
+    /// Whether keys are returned too. Only the type says so.
     kind: PhantomData<M>,
     ghost fits: { count_fits cursor lent left (numbers map.now) ≡ true },
 }
@@ -63,9 +64,14 @@ impl<'a, K: AsBytes, V, const PREFIX_LEN: usize> CountedWalk<'a, K, V, WithKeys,
     ghost use Rattle.blart_map.specs.CountedWalk.{counted_map, counted_last, counted_left, LendsAll, lends_pair, counted_with};
     ghost use Rattle.blart_map.specs.OnceWritten.{all_once_written};
 
-    /// Calls the closure once with the key and the value of each pair that is left, in byte order of the keys. Each value is what the closure leaves, and the keys stay. Takes no memory; each call reads one pair.
+    /// Calls the closure once on the key and the value of each pair that is left, in byte order of
+    /// the keys. Each value is then what the closure wrote, and the keys are unchanged. Does not
+    /// allocate. Each call of the closure reads one pair.
     ///
-    /// Where each call leaves the value that a function `h` of the pair gives, and the closure as it was, the pairs become what `h` makes of them: the clauses `all` and `stored` say so of a walk that has lent nothing yet, `acts` of any. For every closure `each` and `left` say which calls were made, and that each value is what its call left.
+    /// If each call leaves the closure unchanged, and the value that a function `h` of the pair
+    /// returns, the pairs become what `h` makes of them. The clauses `all` and `stored` say so of a
+    /// walk that has returned no value yet, and `acts` of any walk. For every closure, `each` and
+    /// `left` say which calls were made, and that each value is what its call wrote.
     ///
     /// ```
     /// map.try_insert("cat", 1)?;
@@ -97,7 +103,8 @@ impl<'a, K: AsBytes, V, const PREFIX_LEN: usize> CountedWalk<'a, K, V, WithKeys,
         write_pairs(&mut map.tree, cursor, f);
     }
 
-    /// The key of the value that was lent last. One was lent. One visit, not counted.
+    /// Returns the key of the value that was returned last. The walk must have returned a value.
+    /// One visit, not counted.
     pub fn key(&self) -> &K
         requires { is_some (counted_last self.now) ≡ true }
         ensures { MatchOption (counted_last self.now) ⊤
@@ -107,7 +114,8 @@ impl<'a, K: AsBytes, V, const PREFIX_LEN: usize> CountedWalk<'a, K, V, WithKeys,
         self.map.leaf(id).0
     }
 
-    /// The key and the value that was lent last, to be written again. One was lent.
+    /// Returns the key of the value that was returned last, and a mutable reference to that value.
+    /// The walk must have returned a value.
     pub fn pair(&mut self) -> (&K, &mut V)
         requires { is_some (counted_last self.old) ≡ true }
         ensures* writes_back { sem 𝓛 (lends_pair K.row V.row PREFIX_LEN.row K.AsBytes self.entry result) }
@@ -125,9 +133,14 @@ impl<'a, K: AsBytes, V, const PREFIX_LEN: usize> CountedWalk<'a, K, V, ValuesAlo
     ghost use Rattle.blart_map.specs.CountedWalk.{counted_map, counted_left, LendsAll};
     ghost use Rattle.blart_map.specs.OnceWritten.{all_once_written};
 
-    /// Calls the closure once with each value that is left, in byte order of their keys. Each value is what the closure leaves, and the keys stay. Takes no memory; each call reads one pair.
+    /// Calls the closure once on each value that is left, in byte order of the keys. Each value is
+    /// then what the closure wrote, and the keys are unchanged. Does not allocate. Each call of the
+    /// closure reads one pair.
     ///
-    /// Where each call leaves the value that a function `h` of the pair gives, and the closure as it was, the pairs become what `h` makes of them: the clauses `all` and `stored` say so of a walk that has lent nothing yet, `acts` of any. For every closure `each` and `left` say which calls were made, and that each value is what its call left.
+    /// If each call leaves the closure unchanged, and the value that a function `h` of the pair
+    /// returns, the pairs become what `h` makes of them. The clauses `all` and `stored` say so of a
+    /// walk that has returned no value yet, and `acts` of any walk. For every closure, `each` and
+    /// `left` say which calls were made, and that each value is what its call wrote.
     ///
     /// ```
     /// map.try_insert("cat", 1)?;
@@ -164,7 +177,7 @@ impl<'a, K: AsBytes, V, const PREFIX_LEN: usize> CountedWalk<'a, K, V, ValuesAlo
 impl<'a, K: AsBytes, V, M, const PREFIX_LEN: usize> CountedWalk<'a, K, V, M, PREFIX_LEN> {
     ghost use Rattle.blart_map.specs.CountedWalk.{counted_left, lends_first, lends_last};
 
-    // All pairs of the map.
+    /// Returns a walk over all pairs of the map.
     pub(crate) fn all(map: &'a mut TreeMap<K, V, PREFIX_LEN>) -> Self
         ensures same_map { result.map.ghost_name ≡ map.entry.ghost_name }
         ensures unchanged { result.map.now ≡ map.old }
@@ -182,14 +195,14 @@ impl<'a, K: AsBytes, V, M, const PREFIX_LEN: usize> CountedWalk<'a, K, V, M, PRE
         }
     }
 
-    /// How many values are left.
+    /// Returns the number of values that are left.
     pub fn len(&self) -> usize
         ensures { result ≡ length (counted_left self.now) }
     {
         self.left
     }
 
-    /// Lends the first value that is left.
+    /// Returns a mutable reference to the first value that is left.
     #[inline(always)]
     pub fn next(&mut self) -> Option<&mut V>
         ensures* writes_back { sem 𝓛 (lends_first K.row V.row M.row PREFIX_LEN.row K.AsBytes self.entry result) }
@@ -201,7 +214,7 @@ impl<'a, K: AsBytes, V, M, const PREFIX_LEN: usize> CountedWalk<'a, K, V, M, PRE
         Some(self.map.value_mut(id))
     }
 
-    /// Lends the last value that is left.
+    /// Returns a mutable reference to the last value that is left.
     #[inline(always)]
     pub fn next_back(&mut self) -> Option<&mut V>
         ensures* writes_back { sem 𝓛 (lends_last K.row V.row M.row PREFIX_LEN.row K.AsBytes self.entry result) }

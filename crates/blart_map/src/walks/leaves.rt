@@ -1,4 +1,5 @@
-//! The leaves of a map by their numbers, for its walks and for a layer above that removes as it walks.
+//! The leaves of a map by their ids, for its walks, and for a layer above that removes pairs in a
+//! walk.
 ghost use Rattle.std.specs.Prelude.{◌≡◌, option_map, IfSome, Some};
 ghost use Rattle.std.specs.Borrow.{sem};
 ghost use Rattle.blart_keys.specs.Bounds.{bound_bytes, CanRange};
@@ -18,7 +19,9 @@ use blart_keys::AsBytes;
 use std::ops::Bound;
 
 impl<K: AsBytes, V, const PREFIX_LEN: usize> TreeMap<K, V, PREFIX_LEN> {
-    /// A cursor over the pairs within both bounds. It holds no map: each call that steps it is given it beside the map. The bounds are in order where the map has pairs, as for [`TreeMap::range`]. Takes no memory.
+    /// Returns a cursor over the pairs within both bounds. It holds no reference to the map: each
+    /// step is given the map. If the map has pairs, the bounds must be in order, as for
+    /// [`TreeMap::range`]. Does not allocate.
     ///
     /// ```
     /// let mut cursor = map.cursor(Bound::<&&str>::Unbounded, Bound::Unbounded);
@@ -44,8 +47,8 @@ impl<K: AsBytes, V, const PREFIX_LEN: usize> TreeMap<K, V, PREFIX_LEN> {
         )
     }
 
-    /// Passes the first leaf that a cursor has left, and returns its id. One visit, of the leaf after
-    /// it, if one is left.
+    /// Passes the first leaf that a cursor has left, and returns its id. If a leaf is left then, it
+    /// makes one visit, of the new first leaf.
     #[inline(always)]
     pub fn step(&self, cursor: &mut Cursor) -> Option<LeafId>
         requires { FitsIn cursor.old self.now }
@@ -60,8 +63,8 @@ impl<K: AsBytes, V, const PREFIX_LEN: usize> TreeMap<K, V, PREFIX_LEN> {
         cursor.step(&self.tree)
     }
 
-    /// Passes the last leaf that a cursor has left, and returns its id. One visit, of the leaf before
-    /// it, if one is left.
+    /// Passes the last leaf that a cursor has left, and returns its id. If a leaf is left then, it
+    /// makes one visit, of the new last leaf.
     #[inline(always)]
     pub fn step_back(&self, cursor: &mut Cursor) -> Option<LeafId>
         requires { FitsIn cursor.old self.now }
@@ -76,7 +79,7 @@ impl<K: AsBytes, V, const PREFIX_LEN: usize> TreeMap<K, V, PREFIX_LEN> {
         cursor.step_back(&self.tree)
     }
 
-    /// The pair of a leaf, by its number. One visit, not counted.
+    /// Returns the pair of a leaf. One visit, not counted.
     pub fn leaf(&self, id: LeafId) -> (&K, &V)
         requires { Has self.now id }
         ensures { leaf_in self.now id ≡ Some (result.0.now, result.1.now) }
@@ -84,7 +87,7 @@ impl<K: AsBytes, V, const PREFIX_LEN: usize> TreeMap<K, V, PREFIX_LEN> {
         self.tree.leaf(id, &mut Visits::new())
     }
 
-    // The key of a leaf, and its value to be written.
+    /// Returns the key of a leaf, and a mutable reference to its value.
     pub(crate) fn leaf_mut(&mut self, id: LeafId) -> (&K, &mut V)
         requires { Has self.old id }
         ensures* writes_back { sem 𝓛
@@ -94,7 +97,7 @@ impl<K: AsBytes, V, const PREFIX_LEN: usize> TreeMap<K, V, PREFIX_LEN> {
         self.tree.leaf_mut(id)
     }
 
-    // The value of a leaf, to be written.
+    /// Returns a mutable reference to the value of a leaf.
     pub(crate) fn value_mut(&mut self, id: LeafId) -> &mut V
         requires { Has self.old id }
         ensures* writes_back { sem 𝓛
@@ -106,7 +109,8 @@ impl<K: AsBytes, V, const PREFIX_LEN: usize> TreeMap<K, V, PREFIX_LEN> {
 }
 
 impl<K: AsBytes + Drop, V: Drop, const PREFIX_LEN: usize> TreeMap<K, V, PREFIX_LEN> {
-    /// Removes a leaf, by its number, and gives its pair. A cursor that has passed the leaf has the same left. Takes no memory.
+    /// Removes a leaf, and returns its pair. A cursor that has passed the leaf has the same leaves
+    /// left. Does not return an error.
     pub fn take_leaf(&mut self, id: LeafId) -> (K, V)
         requires { Has self.old id }
         ensures value { leaf_in self.old id ≡ Some result }

@@ -1,4 +1,4 @@
-//! Some values, each lent to be written.
+//! Some values, each by a mutable reference.
 ghost use Rattle.std.specs.Prelude.{◌≡◌, List, [], Bool, true, length, map, filter, is_some, Some, None, MatchOption, IfNone, ⊤};
 ghost use Rattle.std.specs.Borrow.{sem};
 ghost use Rattle.art_tree.specs.Leaves.{leaf_in};
@@ -13,7 +13,7 @@ use art_walk::{BelowFront, Cursor, InRange, InSubtree, write_pairs};
 use blart_keys::AsBytes;
 use std::marker::PhantomData;
 
-/// The values whose keys are within two bounds, each lent in turn.
+/// The values whose keys are within two bounds, each by a mutable reference.
 ///
 /// ```
 /// map.try_insert("cat", 1)?;
@@ -26,7 +26,7 @@ use std::marker::PhantomData;
 /// ```
 pub type RangeMut<'a, K, V, const PREFIX_LEN: usize> = LendingWalk<'a, K, V, InRange, PREFIX_LEN>;
 
-/// The values whose keys begin with some bytes, each lent in turn.
+/// The values whose keys begin with some bytes, each by a mutable reference.
 ///
 /// ```
 /// map.try_insert("car", 1)?;
@@ -45,7 +45,7 @@ pub type PrefixMut<'a, K, V, const PREFIX_LEN: usize> = LendingWalk<
     PREFIX_LEN,
 >;
 
-/// The values of the pairs to which a key is related, each lent in turn.
+/// The values of the pairs to which a key is related, each by a mutable reference.
 ///
 /// ```
 /// map.try_insert("cat", 1)?;
@@ -65,7 +65,8 @@ pub type SubtreeIterMut<'a, K, V, const PREFIX_LEN: usize> = LendingWalk<
     PREFIX_LEN,
 >;
 
-/// Some values of a map from both ends, in byte order of their keys, each lent in turn. Each step reads one pair, and where the ends have met none comes at either.
+/// Some values of a map, from both ends, in byte order of their keys, each by a mutable reference.
+/// Each step makes one visit. Once no value is left, each step returns `None`.
 ///
 /// The example of [`PrefixMut`] shows it.
 #[derive(Drop)]
@@ -73,7 +74,7 @@ pub struct LendingWalk<'a, K: AsBytes, V, M, const PREFIX_LEN: usize> {
     map: &'a mut TreeMap<K, V, PREFIX_LEN>,
     cursor: Cursor,
     lent: Option<LeafId>,
-    // how the walk was opened: the type alone says it
+    /// How the walk was opened. Only the type says so.
     kind: PhantomData<M>,
     ghost fits: { walk_fits cursor lent (numbers map.now) ≡ true },
 }
@@ -82,7 +83,7 @@ impl<'a, K: AsBytes, V, M, const PREFIX_LEN: usize> LendingWalk<'a, K, V, M, PRE
     ghost use Rattle.blart_map.specs.LendingWalk.{lending_map, lending_last, lending_left, lends_first, lends_last, lends_pair, lending_with, LendsWhere};
     ghost use Rattle.blart_map.specs.OnceWritten.{once_written};
 
-    // What the cursor has left of the map.
+    /// Returns a walk over what the cursor has left of the map.
     pub(crate) fn of(map: &'a mut TreeMap<K, V, PREFIX_LEN>, cursor: Cursor) -> Self
         requires { walk_fits cursor None (numbers map.old) ≡ true }
         ensures same_map { result.map.ghost_name ≡ map.entry.ghost_name }
@@ -98,7 +99,7 @@ impl<'a, K: AsBytes, V, M, const PREFIX_LEN: usize> LendingWalk<'a, K, V, M, PRE
         }
     }
 
-    /// Lends the first value that is left.
+    /// Returns a mutable reference to the first value that is left.
     #[inline(always)]
     pub fn next(&mut self) -> Option<&mut V>
         ensures* writes_back { sem 𝓛 (lends_first K.row V.row M.row PREFIX_LEN.row K.AsBytes self.entry result) }
@@ -109,7 +110,7 @@ impl<'a, K: AsBytes, V, M, const PREFIX_LEN: usize> LendingWalk<'a, K, V, M, PRE
         Some(self.map.value_mut(id))
     }
 
-    /// Lends the last value that is left.
+    /// Returns a mutable reference to the last value that is left.
     #[inline(always)]
     pub fn next_back(&mut self) -> Option<&mut V>
         ensures* writes_back { sem 𝓛 (lends_last K.row V.row M.row PREFIX_LEN.row K.AsBytes self.entry result) }
@@ -120,7 +121,8 @@ impl<'a, K: AsBytes, V, M, const PREFIX_LEN: usize> LendingWalk<'a, K, V, M, PRE
         Some(self.map.value_mut(id))
     }
 
-    /// The key of the value that was lent last. One was lent. One visit, not counted.
+    /// Returns the key of the value that was returned last. The walk must have returned a value.
+    /// One visit, not counted.
     pub fn key(&self) -> &K
         requires { is_some (lending_last self.now) ≡ true }
         ensures { MatchOption (lending_last self.now) ⊤
@@ -130,7 +132,8 @@ impl<'a, K: AsBytes, V, M, const PREFIX_LEN: usize> LendingWalk<'a, K, V, M, PRE
         self.map.leaf(id).0
     }
 
-    /// The key and the value that was lent last, to be written again. One was lent.
+    /// Returns the key of the value that was returned last, and a mutable reference to that value.
+    /// The walk must have returned a value.
     pub fn pair(&mut self) -> (&K, &mut V)
         requires { is_some (lending_last self.old) ≡ true }
         ensures* writes_back { sem 𝓛 (lends_pair K.row V.row M.row PREFIX_LEN.row K.AsBytes self.entry result) }
@@ -143,9 +146,15 @@ impl<'a, K: AsBytes, V, M, const PREFIX_LEN: usize> LendingWalk<'a, K, V, M, PRE
         self.map.leaf_mut(id)
     }
 
-    /// Calls the closure once with the key and the value of each pair that is left, in byte order of the keys. Each value is what the closure leaves, and the keys stay. Takes no memory; each call reads one pair.
+    /// Calls the closure once on the key and the value of each pair that is left, in byte order of
+    /// the keys. Each value is then what the closure wrote, and the keys are unchanged. Does not
+    /// allocate. Each call of the closure reads one pair.
     ///
-    /// Where each call leaves the value that a function `h` of the pair gives, and the closure as it was, the pairs become what `h` makes of them: the clause `within` says so of a walk that has lent nothing yet, over the pairs that pass a test, `acts` of any. For every closure `each` and `left` say which calls were made, and that each value is what its call left: `each` of a walk that has lent nothing yet.
+    /// If each call leaves the closure unchanged, and the value that a function `h` of the pair
+    /// returns, the pairs become what `h` makes of them. The clause `within` says so, over the
+    /// pairs that pass a test, of a walk that has returned no value yet, and `acts` of any walk.
+    /// For every closure, `each` and `left` say which calls were made, and that each value is what
+    /// its call wrote: `each` of a walk that has returned no value yet.
     ///
     /// ```
     /// map.try_insert("car", 1)?;
