@@ -4,6 +4,7 @@ pub mod ChainLends
 pub mod Rows
 pub mod Blocks
 pub mod RowRoom
+pub mod Ids
 pub mod Leaves
 pub mod Filing
 pub mod LeafLends

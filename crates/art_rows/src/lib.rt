@@ -8,6 +8,7 @@
 
 mod chain;
 mod following;
+mod ids;
 mod leaves;
 mod row;
 mod run;

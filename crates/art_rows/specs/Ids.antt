@@ -1,0 +1,14 @@
+-- The ids of cells: each cell has one, and no two cells have the same.
+use Rattle.std.specs.Prelude.{◌≡◌, ℕ, ◌<◌, List, slice_index_or, slice_set}
+
+-- the number at an index
+abbrev pub id_at : List ℕ → ℕ → ℕ
+id_at ids cell = slice_index_or ids cell 0
+
+-- each of the first n cells has an id less than n, and the id leads back to the cell
+abbrev pub ArePaired : List ℕ → List ℕ → ℕ → Type 0
+ArePaired ids cells n = (c : ℕ) → c < n → (id_at ids c < n) × (id_at cells (id_at ids c) ≡ c)
+
+-- the ids, with those of two cells exchanged
+abbrev pub exchanged : List ℕ → ℕ → ℕ → List ℕ
+exchanged ids a b = slice_set (slice_set ids a (id_at ids b)) b (id_at ids a)
