@@ -43,7 +43,7 @@ module _ {K V : Type 0} where
 
   -- what a contract sees of leaves in rows
   abbrev pub content : Store (Leaf K V) → Numbers (List ℕ) → Leaves K V
-  content leaves rows = record { pairs = pairs_in leaves rows.pairs; rows = rows.pairs; spare_rows = rows.spare }
+  content leaves rows = record { pairs = pairs_in leaves rows.pairs; rows = rows.pairs; spare_rows = rows.spare; cells = length leaves.slots }
 
   -- the records are filed, and there are cells for the numbers of each row
   abbrev pub AllPlaced : Store (Leaf K V) → Numbers (List ℕ) → Type 0

@@ -1,6 +1,6 @@
 //! The leaf records, and their rows in the order of the keys.
-ghost use Rattle.std.specs.Prelude.{◌≡◌, ◌≢◌, ℕ, ◌+◌, ◌-◌, ◌*◌, ◌<◌, ◌≤◌, ◌++◌, [], length, map, option_map, take, drop, Option, Some, None, IsSome, IfSome, OnOk, IfOk, OnErr};
-ghost use Rattle.art_rows.specs.Numbers.{leaf_in, Has, AreDistinct, first_number, last_number, number_after, number_before, without_number, with_pair};
+ghost use Rattle.std.specs.Prelude.{◌≡◌, ◌≢◌, ℕ, ◌+◌, ◌-◌, ◌*◌, ◌^◌, ◌<◌, ◌≤◌, ◌++◌, [], length, map, option_map, take, drop, Option, Some, None, IsSome, IfSome, OnOk, IfOk, OnErr};
+ghost use Rattle.art_rows.specs.Numbers.{leaf_in, Has, AreBelow, AreDistinct, first_number, last_number, number_after, number_before, without_number, with_pair};
 ghost use Rattle.art_rows.specs.Rows.{position_at, nth, RunsBefore, StandsAfter};
 ghost use Rattle.art_rows.specs.declared.row.Position.{Position};
 ghost use Rattle.art_rows.specs.declared.row.TheConstants.{ROW};
@@ -85,6 +85,7 @@ impl<K, V> Leaves<K, V> {
         ensures pairs { result.pairs ≡ [] }
         ensures rows { result.rows ≡ [] }
         ensures spare_rows { result.spare_rows ≡ 0 }
+        ensures cells { result.cells ≡ 0 }
     {
         Leaves {
             records: Table::new(alloc),
@@ -92,9 +93,11 @@ impl<K, V> Leaves<K, V> {
         }
     }
 
-    /// Does nothing. Its contract says that no number comes twice.
+    /// Does nothing. Its contract says that no number comes twice, and that each is less than the
+    /// number of cells.
     pub fn law(&self)
         ensures distinct { AreDistinct self.now.pairs }
+        ensures below { AreBelow self.now.pairs self.now.cells }
     {
         let _ = &self.rows;
     }
@@ -104,6 +107,14 @@ impl<K, V> Leaves<K, V> {
         ensures { result ≡ length self.now.pairs }
     {
         self.records.used()
+    }
+
+    /// Returns the number of cells. The number of each leaf's cell is less.
+    pub fn cells(&self) -> usize
+        ensures value { result ≡ self.now.cells }
+        ensures small { result < 2 ^ 61 }
+    {
+        self.records.len()
     }
 
     /// Returns the position of a leaf. It tries the end of the leaf's row first: if pairs come in
@@ -490,6 +501,7 @@ impl<K: Clone, V: Clone> Leaves<K, V> {
     /// if it fails to allocate.
     pub fn clone(&self) -> Result<Self, AllocError>
         ensures cloned { IfOk result (λ copy. AreCopies K.is_clone V.is_clone self.now.pairs copy.pairs) }
+        ensures cells { IfOk result (λ copy. copy.cells ≡ self.now.cells) }
     {
         Ok(Leaves {
             records: self.records.clone()?,
@@ -505,6 +517,7 @@ impl<K: Drop, V: Drop> Leaves<K, V> {
         ensures value { leaf_in self.old.pairs id ≡ Some result }
         ensures rest { self.new.pairs ≡ without_number self.old.pairs id }
         ensures room { room self.old ≤ room self.new }
+        ensures cells { self.new.cells ≡ self.old.cells }
     {
         let position = self.position_of(id);
         self.remove_at(id, position)
@@ -519,6 +532,7 @@ impl<K: Drop, V: Drop> Leaves<K, V> {
         ensures rows { IfSome (leaf_in self.old.rows position.row) (λ ids. length ids ≢ 1 → self.new.rows ≡ with_pair self.old.rows position.row (take position.place ids ++ drop (position.place + 1) ids)) }
         ensures spare_rows { IfSome (leaf_in self.old.rows position.row) (λ ids. length ids ≢ 1 → self.new.spare_rows ≡ self.old.spare_rows) }
         ensures room { room self.old ≤ room self.new }
+        ensures cells { self.new.cells ≡ self.old.cells }
     {
         let leaf = self.records.take(id.number());
         take_out(&mut self.rows, position);
@@ -528,7 +542,8 @@ impl<K: Drop, V: Drop> Leaves<K, V> {
     /// Removes the first leaf, and returns its pair. The rows alone tell its cell. So a caller that
     /// removes one leaf after another need not wait for one to find the next.
     pub fn take_first(&mut self) -> Option<(K, V)>
-        ensures { TakesFirst self.old.pairs result self.new.pairs }
+        ensures takes { TakesFirst self.old.pairs result self.new.pairs }
+        ensures cells { self.new.cells ≡ self.old.cells }
     {
         let _ = &self.rows;
         let Some(position) = self.first_position() else {
@@ -540,7 +555,8 @@ impl<K: Drop, V: Drop> Leaves<K, V> {
 
     /// Removes the last leaf, and returns its pair. The rows alone tell its cell.
     pub fn take_last(&mut self) -> Option<(K, V)>
-        ensures { TakesLast self.old.pairs result self.new.pairs }
+        ensures takes { TakesLast self.old.pairs result self.new.pairs }
+        ensures cells { self.new.cells ≡ self.old.cells }
     {
         let _ = &self.rows;
         let Some(position) = self.last_position() else {
@@ -557,6 +573,7 @@ impl<K: Drop, V: Drop> Leaves<K, V> {
         ensures pairs { self.new.pairs ≡ with_pair self.old.pairs id (key, value) }
         ensures rows { self.new.rows ≡ self.old.rows }
         ensures spare_rows { self.new.spare_rows ≡ self.old.spare_rows }
+        ensures cells { self.new.cells ≡ self.old.cells }
     {
         let leaf = self.records.get_mut(id.number());
         let old_key = mem::replace(&mut leaf.key, key);
@@ -573,6 +590,7 @@ impl<K: Drop, V: Drop> Leaves<K, V> {
         ensures grows { room self.old ≤ room self.new }
         ensures ok { OnOk result (n ≤ room self.new) }
         ensures needed { OnErr result (self.old.spare_rows < n) }
+        ensures cells { self.old.cells ≤ self.new.cells }
     {
         let sure = n / SURE + self.records.used() / ROW + 2;
         let rows = if sure < n { sure } else { n };
@@ -591,6 +609,7 @@ impl<K: Drop, V: Drop> Leaves<K, V> {
         ensures grows { end_room self.old ≤ end_room self.new }
         ensures ok { OnOk result (n ≤ end_room self.new) }
         ensures needed { OnErr result (ROW * self.old.spare_rows < n) }
+        ensures cells { self.old.cells ≤ self.new.cells }
     {
         let rows = n.div_ceil(ROW);
         if rows <= self.rows.spare() {
@@ -608,6 +627,7 @@ impl<K: Drop, V: Drop> Leaves<K, V> {
         ensures rows { self.new.rows ≡ self.old.rows }
         ensures grows { self.old.spare_rows ≤ self.new.spare_rows }
         ensures ok { OnOk result (count ≤ self.new.spare_rows) }
+        ensures cells { self.old.cells ≤ self.new.cells }
     {
         if count >= MOST_ROWS {
             return Err(AllocError);
@@ -631,6 +651,7 @@ impl<K: Drop, V: Drop> Leaves<K, V> {
         ensures rows { self.new.rows ≡ self.old.rows }
         ensures grows { self.old.spare_rows ≤ self.new.spare_rows }
         ensures ok { OnOk result (self.new.spare_rows ≡ self.old.spare_rows + 1) }
+        ensures cells { self.old.cells ≤ self.new.cells }
     {
         self.rows.grow()?;
         let row = self.rows.next_place();
@@ -647,6 +668,7 @@ impl<K: Drop, V: Drop> Leaves<K, V> {
         ensures pairs { self.new.pairs ≡ [] }
         ensures rows { self.new.rows ≡ [] }
         ensures spare_rows { self.new.spare_rows ≡ 0 }
+        ensures cells { self.new.cells ≡ 0 }
     {
         self.records.clear();
         self.rows.clear();

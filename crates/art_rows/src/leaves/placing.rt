@@ -58,7 +58,9 @@ impl<K: Drop, V: Drop> Leaves<K, V> {
         requires prev { IfSome prev (Has self.old.pairs) }
         requires way { HasWay self.old.rows prev }
         ensures fresh { leaf_in self.old.pairs result ≡ None }
+        ensures lies { result < self.old.cells }
         ensures placed { self.new.pairs ≡ with_pair_after prev (result, (key, value)) self.old.pairs }
+        ensures cells { self.new.cells ≡ self.old.cells }
         ensures room { room self.old ≤ room self.new + 1 }
     {
         let _ = &self.rows;
@@ -95,6 +97,7 @@ impl<K: Drop, V: Drop> Leaves<K, V> {
         ensures moved { leaf_in self.old.pairs result.1 ≡ None }
         ensures fresh { leaf_in (with_number self.old.pairs last result.1) result.0 ≡ None }
         ensures placed { self.new.pairs ≡ with_pair_after prev (result.0, (key, value)) (with_number self.old.pairs last result.1) }
+        ensures cells { self.new.cells ≡ self.old.cells }
         ensures room { room self.old ≤ room self.new + 1 }
     {
         let _ = &self.rows;
@@ -111,7 +114,9 @@ impl<K: Drop, V: Drop> Leaves<K, V> {
     pub fn push(&mut self, key: K, value: V) -> CellId
         requires room { 0 < end_room self.old }
         ensures fresh { leaf_in self.old.pairs result ≡ None }
+        ensures lies { result < self.old.cells }
         ensures placed { self.new.pairs ≡ with_pair_after (last_number self.old.pairs) (result, (key, value)) self.old.pairs }
+        ensures cells { self.new.cells ≡ self.old.cells }
         ensures room { end_room self.old ≤ end_room self.new + 1 }
     {
         let _ = &self.rows;
@@ -138,6 +143,7 @@ impl<K: Drop, V: Drop> Leaves<K, V> {
         requires row { IfSome (leaf_in self.old.rows (row_of last)) (λ ids. (length ids ≡ ROW) × (nth ids (ROW - 1) ≡ Some last)) }
         ensures fresh { leaf_in self.old.pairs result ≡ None }
         ensures pairs { self.new.pairs ≡ with_number self.old.pairs last result }
+        ensures cells { self.new.cells ≡ self.old.cells }
         ensures row { IfSome (leaf_in self.new.rows (row_of last)) (λ ids. length ids + 1 ≡ ROW) }
         ensures room { (ids : List ℕ) → length ids ≡ ROW → room self.old ≤ row_room (lengths (with_pair self.new.rows (row_of last) ids)) self.new.spare_rows + 1 }
     {
@@ -159,7 +165,9 @@ impl<K: Drop, V: Drop> Leaves<K, V> {
         requires index { spot_index prev self.old.pairs ≡ row_end (Some row) self.old.rows }
         requires room { IsShut self.old.rows row → 0 < self.old.spare_rows }
         ensures fresh { leaf_in self.old.pairs result ≡ None }
+        ensures lies { result < self.old.cells }
         ensures placed { self.new.pairs ≡ with_pair_after prev (result, (key, value)) self.old.pairs }
+        ensures cells { self.new.cells ≡ self.old.cells }
         ensures rows { GoesBeyond self.old.rows self.old.spare_rows self.new.rows self.new.spare_rows row result }
         ensures apart { row_of result ≢ row }
     {
@@ -208,7 +216,9 @@ impl<K: Drop, V: Drop> Leaves<K, V> {
         requires spot { IsSpot self.old.rows position (spot_index prev self.old.pairs) }
         requires room { IfSome (leaf_in self.old.rows position.row) (λ ids. length ids < ROW) }
         ensures fresh { leaf_in self.old.pairs result ≡ None }
+        ensures lies { result < self.old.cells }
         ensures placed { self.new.pairs ≡ with_pair_after prev (result, (key, value)) self.old.pairs }
+        ensures cells { self.new.cells ≡ self.old.cells }
         ensures spare_rows { self.new.spare_rows ≡ self.old.spare_rows }
         ensures rows { IfSome (leaf_in self.old.rows position.row) (λ ids. self.new.rows ≡ with_pair self.old.rows position.row (take position.place ids ++ result ∷ drop position.place ids)) }
         ensures own { row_of result ≡ position.row }
@@ -227,7 +237,9 @@ impl<K: Drop, V: Drop> Leaves<K, V> {
         requires prev_row { IfSome prev_row (Has self.old.rows) }
         requires index { spot_index prev self.old.pairs ≡ row_end prev_row self.old.rows }
         ensures fresh { leaf_in self.old.pairs result ≡ None }
+        ensures lies { result < self.old.cells }
         ensures placed { self.new.pairs ≡ with_pair_after prev (result, (key, value)) self.old.pairs }
+        ensures cells { self.new.cells ≡ self.old.cells }
         ensures spare_rows { self.new.spare_rows + 1 ≡ self.old.spare_rows }
         ensures rows { (self.new.rows ≡ with_pair_after prev_row (row_of result, result ∷ []) self.old.rows) × (leaf_in self.old.rows (row_of result) ≡ None) }
     {
