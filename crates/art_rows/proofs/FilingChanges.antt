@@ -146,6 +146,10 @@ files_changed_at {K = K} {V = V} s f id n is r was k v x e =
 pub cells_changed : {K V : Type 0} (s : Store (Leaf K V)) (rows : Numbers (List ℕ)) (n : ℕ) (x : Leaf K V) → 64 * rows.top ≤ length s.slots → 64 * rows.top ≤ length (with_record s n x).slots
 cells_changed s rows n x h = (let e = length-set s.slots n (Some x) in omega arith)
 
+-- and each has an id still
+pub ids_changed : {K V : Type 0} (s : Store (Leaf K V)) (ids : List ℕ) (n : ℕ) (x : Leaf K V) → length s.slots ≤ length ids → length (with_record s n x).slots ≤ length ids
+ids_changed s ids n x h = (let e = length-set s.slots n (Some x) in omega arith)
+
 -- another value is another pair
 pub with_value-pair : {K V : Type 0} (ps : List (Numbered (K × V))) (i : ℕ) (k : K) (w v : V) → leaf_in ps i ≡ Some (k, w) → with_value ps i v ≡ with_pair ps i (k, v)
 with_value-pair [] i k w v e = refl

@@ -1,9 +1,9 @@
 -- What holds of leaf records and the rows that they are filed in.
-use Rattle.std.proofs.Common.{◌≡◌, ℕ, suc, ◌+◌, ◌-◌, ◌<◌, ◌≤◌, List, [], ◌∷◌, length, map, refl, sym, ap, subst, ◌∙◌, Option, Some, None, IsSome, Bool, true, false, cond, eqb, inl, inr, arith}
+use Rattle.std.proofs.Common.{◌≡◌, ℕ, suc, ◌+◌, ◌-◌, ◌<◌, ◌≤◌, List, [], ◌∷◌, length, map, refl, sym, ap, subst, ◌∙◌, Option, Some, None, IsSome, true, false, eqb, inl, inr, arith}
 use Rattle.std.specs.Prelude.{option_map, IfSome}
 use Rattle.std.proofs.lemmas.List.{length-map, get_or_past}
 use Rattle.std.proofs.lemmas.Bool.Decides.{leb_tells}
-use Rattle.art_rows.specs.Numbers.{Numbered, leaf_in, Has, last_number, number_after, number_before, AreBelow, Lacks, AreDistinct}
+use Rattle.art_rows.specs.Numbers.{Numbered, leaf_in, Has, last_number, number_after, number_before, Lacks, AreDistinct}
 use Rattle.art_rows.specs.Rows.{among, place_in, nth, numbers, row_with, position_at, start_of}
 use Rattle.art_rows.specs.Leaves.{Leaves, index_of}
 use Rattle.art_rows.specs.Blocks.{row_of}
@@ -95,12 +95,12 @@ module _ {K V : Type 0} {leaves : ℕ → Option (Leaf K V)} {rows : List (Numbe
 
 module _ {K V : Type 0} where
   -- what a contract sees is filed
-  pub seen : {c : Leaves K V} (i : Inside K V) → content i.records i.rows ≡ c → AllPlaced i.records i.rows →
+  pub seen : {c : Leaves K V} (i : Inside K V) → content i.records i.rows i.ids ≡ c → AllPlaced i.records i.rows i.ids →
       Files (slot_at i.records) i.rows.pairs (used_count i.records) c.pairs
   seen i e f = subst (λ (d : Leaves K V). Files (slot_at i.records) i.rows.pairs (used_count i.records) d.pairs) e f.0
 
   -- what a contract sees is filed in the rows that it sees
-  pub seen_rows : {c : Leaves K V} (i : Inside K V) → content i.records i.rows ≡ c → AllPlaced i.records i.rows →
+  pub seen_rows : {c : Leaves K V} (i : Inside K V) → content i.records i.rows i.ids ≡ c → AllPlaced i.records i.rows i.ids →
       Files (slot_at i.records) c.rows (used_count i.records) c.pairs
   seen_rows i e f = subst (λ (d : Leaves K V). Files (slot_at i.records) d.rows (used_count i.records) d.pairs) e f.0
 
@@ -265,21 +265,9 @@ module _ {K V : Type 0} {leaves : ℕ → Option (Leaf K V)} {rows : List (Numbe
   pub last_none : last_number rows ≡ None → position_at rows (length ps - 1) ≡ None
   last_none e = ap (λ rs. position_at rs (length ps - 1)) (no_last rows e)
 
--- numbers that are each below a bound
-below_each : {X : Type 0} (ps : List (Numbered X)) (n : ℕ) → ((i : ℕ) → Has ps i → i < n) → AreBelow ps n
-below_each [] n h = tt
-below_each {X = X} (p ∷ ps) n h = (h p.0 (rw (eqb_same p.0) refl), below_each ps n (λ i has. h i (also i has)))
-  where
-    also : (i : ℕ) → Has ps i → Has (p ∷ ps) i
-    also i has = go (eqb p.0 i) has
-      where
-        go : (b : Bool) → Has ps i → IsSome (cond b (Some p.1) (leaf_in ps i))
-        go true h = refl
-        go false h = h
-
 -- the number of each leaf is below the number of cells
-pub filed_below : {K V : Type 0} (s : Store (Leaf K V)) {rows : List (Numbered (List ℕ))} {ps : List (Numbered (K × V))} → Files (slot_at s) rows (used_count s) ps → AreBelow ps (length s.slots)
-filed_below s {rows} {ps} f = below_each ps (length s.slots) (λ i has. elim (leb_tells (length s.slots) i) [
+pub filed_below : {K V : Type 0} (s : Store (Leaf K V)) {rows : List (Numbered (List ℕ))} {ps : List (Numbered (K × V))} → Files (slot_at s) rows (used_count s) ps → (i : ℕ) → Has ps i → i < length s.slots
+filed_below s {rows} {ps} f i has = elim (leb_tells (length s.slots) i) [
   | inl t ↦ absurd (let a : IsSome (slot_at s i) = has_record f i has in let b : false ≡ true = rw (get_or_past s.slots i None t.1) at a in cc)
   | inr t ↦ t.1
-])
+]

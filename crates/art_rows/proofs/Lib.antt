@@ -15,4 +15,4 @@ pub mod RowsLemmas
 pub mod Runs
 pub mod Searches
 pub mod Ends
-pub mod Exchanges
+pub mod IdsLemmas

@@ -42,9 +42,9 @@ module _ {K V : Type 0} where
   AllFiled leaves rows = Files (at leaves) rows (used_count leaves) (pairs_in leaves rows)
 
   -- what a contract sees of leaves in rows
-  abbrev pub content : Store (Leaf K V) → Numbers (List ℕ) → Leaves K V
-  content leaves rows = record { pairs = pairs_in leaves rows.pairs; rows = rows.pairs; spare_rows = rows.spare; cells = length leaves.slots }
+  abbrev pub content : Store (Leaf K V) → Numbers (List ℕ) → List ℕ → Leaves K V
+  content leaves rows ids = record { pairs = pairs_in leaves rows.pairs; rows = rows.pairs; spare_rows = rows.spare; cells = length leaves.slots; ids = ids }
 
-  -- the records are filed, and there are cells for the numbers of each row
-  abbrev pub AllPlaced : Store (Leaf K V) → Numbers (List ℕ) → Type 0
-  AllPlaced leaves rows = AllFiled leaves rows.pairs × (ROW * rows.top ≤ length leaves.slots)
+  -- the records are filed, there are cells for the numbers of each row, and each cell has an id
+  abbrev pub AllPlaced : Store (Leaf K V) → Numbers (List ℕ) → List ℕ → Type 0
+  AllPlaced leaves rows ids = AllFiled leaves rows.pairs × (ROW * rows.top ≤ length leaves.slots) × (length leaves.slots ≤ length ids)

@@ -1,5 +1,5 @@
 -- The ids of cells: each cell has one, and no two cells have the same.
-use Rattle.std.specs.Prelude.{◌≡◌, ℕ, ◌<◌, List, slice_index_or, slice_set}
+use Rattle.std.specs.Prelude.{◌≡◌, ℕ, ◌<◌, ◌≤◌, List, length, slice_index_or, slice_set}
 
 -- the number at an index
 abbrev pub id_at : List ℕ → ℕ → ℕ
@@ -12,3 +12,8 @@ ArePaired ids cells n = (c : ℕ) → c < n → (id_at ids c < n) × (id_at cell
 -- the ids, with those of two cells exchanged
 abbrev pub exchanged : List ℕ → ℕ → ℕ → List ℕ
 exchanged ids a b = slice_set (slice_set ids a (id_at ids b)) b (id_at ids a)
+
+-- the cells that had an id have it still
+pub record Extends (old new : List ℕ) : Type 0 where
+  pub longer : length old ≤ length new
+  pub same : (c : ℕ) → c < length old → id_at new c ≡ id_at old c

@@ -1,5 +1,5 @@
 -- What a contract sees of a chain: the items in order, each under its number, and the room for more. And the words on such lists, which those on leaves and rows are said in.
-use Rattle.std.specs.Prelude.{◌≡◌, ◌≢◌, ℕ, List, [], ◌∷◌, Option, Some, None, IsSome, ◌<◌, refl, if◌then◌else◌, eqb}
+use Rattle.std.specs.Prelude.{◌≡◌, ◌≢◌, ℕ, List, [], ◌∷◌, Option, Some, None, IsSome, refl, if◌then◌else◌, eqb}
 use Rattle.std.specs.Coded.{Coded, code_by, coded×, coded_ℕ, coded_list}
 
 -- a number, and what is under it
@@ -88,11 +88,6 @@ module _ {X : Type 0} where
   abbrev pub Lacks : List (Numbered X) → ℕ → Type 0
   Lacks [] i = Unit {0}
   Lacks (p ∷ ps) i = (p.0 ≢ i) × Lacks ps i
-
-  -- each number is less than this
-  abbrev pub AreBelow : List (Numbered X) → ℕ → Type 0
-  AreBelow [] n = Unit {0}
-  AreBelow (p ∷ ps) n = (p.0 < n) × AreBelow ps n
 
   -- no number comes twice
   abbrev pub AreDistinct : List (Numbered X) → Type 0

@@ -1,6 +1,6 @@
 //! The ids of cells.
 ghost use Rattle.std.specs.Prelude.{◌≡◌, ℕ, ◌<◌, ◌≤◌, ◌^◌, [], length, take, OnOk, OnErr, IfOk};
-ghost use Rattle.art_rows.specs.Ids.{id_at, ArePaired, exchanged};
+ghost use Rattle.art_rows.specs.Ids.{id_at, ArePaired, Extends, exchanged};
 
 use art_slots::Words;
 use std::alloc::{AllocError, Global};
@@ -91,8 +91,7 @@ impl Ids {
     /// Gives ids to the first `count` cells. Returns an error if it fails to allocate. The cells
     /// that have ids keep them in both cases.
     pub(crate) fn grow(&mut self, count: usize) -> Result<(), AllocError>
-        ensures same { take (length self.old) self.new ≡ self.old }
-        ensures grows { length self.old ≤ length self.new }
+        ensures same { Extends self.old self.new }
         ensures enough { OnOk result (count ≤ length self.new) }
         ensures needed { OnErr result (length self.old < count) }
     {

@@ -1,10 +1,11 @@
 //! The leaf records, and their rows in the order of the keys.
 ghost use Rattle.std.specs.Prelude.{◌≡◌, ◌≢◌, ℕ, ◌+◌, ◌-◌, ◌*◌, ◌^◌, ◌<◌, ◌≤◌, ◌++◌, [], length, map, option_map, take, drop, Option, Some, None, IsSome, IfSome, OnOk, IfOk, OnErr};
-ghost use Rattle.art_rows.specs.Numbers.{leaf_in, Has, AreBelow, AreDistinct, first_number, last_number, number_after, number_before, without_number, with_pair};
+ghost use Rattle.art_rows.specs.Numbers.{leaf_in, Has, AreDistinct, first_number, last_number, number_after, number_before, without_number, with_pair};
 ghost use Rattle.art_rows.specs.Rows.{position_at, nth, RunsBefore, StandsAfter};
 ghost use Rattle.art_rows.specs.declared.row.Position.{Position};
 ghost use Rattle.art_rows.specs.declared.row.TheConstants.{ROW};
 ghost use Rattle.art_rows.specs.Leaves.{index_of, room, end_room, TakesFirst, TakesLast, AreCopies};
+ghost use Rattle.art_rows.specs.Ids.{id_at, Extends};
 ghost use Rattle.art_rows.specs.LeafLends.{lends_value, lends_leaf};
 ghost use Rattle.std.specs.Borrow.{sem};
 
@@ -12,6 +13,7 @@ mod placing;
 
 use crate::chain::Chain;
 use crate::following::Following;
+use crate::ids::Ids;
 use crate::row::{Position, ROW, Row};
 use crate::run::Run;
 use art_slots::{CellId, Table, Visits};
@@ -63,6 +65,8 @@ impl<K: Clone, V: Clone> Clone for Leaf<K, V> {
 pub struct Leaves<K, V> {
     pub(crate) records: Table<Leaf<K, V>>,
     pub(crate) rows: Chain<Row>,
+    /// The ids of the cells. A leaf that moves to another cell takes its id along.
+    pub(crate) ids: Ids,
 }
 
 impl<K, V> Model for Leaves<K, V> {
@@ -74,9 +78,9 @@ impl<K, V> Model for Leaves<K, V> {
 
     ghost use Rattle.art_rows.specs.Filing.{content, AllPlaced};
 
-    ghost view = { λ t. content t.records t.rows };
+    ghost view = { λ t. content t.records t.rows t.ids };
 
-    ghost invariant = { λ t. AllPlaced t.records t.rows };
+    ghost invariant = { λ t. AllPlaced t.records t.rows t.ids };
 }
 
 impl<K, V> Leaves<K, V> {
@@ -90,16 +94,20 @@ impl<K, V> Leaves<K, V> {
         Leaves {
             records: Table::new(alloc),
             rows: Chain::new(alloc),
+            ids: Ids::new(alloc),
         }
     }
 
-    /// Does nothing. Its contract says that no number comes twice, and that each is less than the
-    /// number of cells.
+    /// Does nothing. Its contract says that no number comes twice, that each is less than the
+    /// number of cells, and that each cell has an id of its own.
     pub fn law(&self)
         ensures distinct { AreDistinct self.now.pairs }
-        ensures below { AreBelow self.now.pairs self.now.cells }
+        ensures below { (i : ℕ) → Has self.now.pairs i → i < self.now.cells }
+        ensures named { self.now.cells ≤ length self.now.ids }
+        ensures apart { (c d : ℕ) → c < length self.now.ids → d < length self.now.ids
+            → id_at self.now.ids c ≡ id_at self.now.ids d → c ≡ d }
     {
-        let _ = &self.rows;
+        self.ids.law();
     }
 
     /// Returns the number of leaves.
@@ -115,6 +123,54 @@ impl<K, V> Leaves<K, V> {
         ensures small { result < 2 ^ 61 }
     {
         self.records.len()
+    }
+
+    /// Returns the id of the leaf in a cell. Reads no leaf.
+    #[inline(always)]
+    pub fn id_of(&self, cell: CellId) -> usize
+        requires { Has self.now.pairs cell }
+        ensures id { result ≡ id_at self.now.ids cell }
+        ensures small { result < 2 ^ 61 }
+    {
+        self.law();
+        self.ids.id_of(cell.number())
+    }
+
+    /// Returns the cell of the leaf with an id. Reads no leaf.
+    #[inline(always)]
+    pub fn cell_of(&self, id: usize) -> CellId
+        requires { (cell : ℕ) × Has self.now.pairs cell × (id_at self.now.ids cell ≡ id) }
+        ensures has { Has self.now.pairs result }
+        ensures id { id_at self.now.ids result ≡ id }
+    {
+        self.law();
+        CellId::new(self.ids.cell_of(id))
+    }
+
+    /// Returns the cell of the leaf with an id. `seen` is a guess of the position of the leaf. If it
+    /// is right, the row alone tells the cell. Reads no leaf.
+    #[inline(always)]
+    pub fn cell_near(&self, id: usize, seen: Position) -> CellId
+        requires { (cell : ℕ) × Has self.now.pairs cell × (id_at self.now.ids cell ≡ id) }
+        ensures has { Has self.now.pairs result }
+        ensures id { id_at self.now.ids result ≡ id }
+    {
+        match self.cell_at(seen) {
+            Some(cell) if self.id_of(cell) == id => cell,
+            _ => self.cell_of(id),
+        }
+    }
+
+    /// Returns the cell at a position, if there is one.
+    #[inline(always)]
+    fn cell_at(&self, seen: Position) -> Option<CellId>
+        ensures { IfSome result (Has self.now.pairs) }
+    {
+        let row = self.rows.get(seen.row)?;
+        if seen.place >= row.len() {
+            return None;
+        }
+        Some(row.run().at(seen.place))
     }
 
     /// Returns the position of a leaf. It tries the end of the leaf's row first: if pairs come in
@@ -502,10 +558,12 @@ impl<K: Clone, V: Clone> Leaves<K, V> {
     pub fn clone(&self) -> Result<Self, AllocError>
         ensures cloned { IfOk result (λ copy. AreCopies K.is_clone V.is_clone self.now.pairs copy.pairs) }
         ensures cells { IfOk result (λ copy. copy.cells ≡ self.now.cells) }
+        ensures ids { IfOk result (λ copy. copy.ids ≡ self.now.ids) }
     {
         Ok(Leaves {
             records: self.records.clone()?,
             rows: self.rows.clone()?,
+            ids: self.ids.clone()?,
         })
     }
 }
@@ -518,6 +576,7 @@ impl<K: Drop, V: Drop> Leaves<K, V> {
         ensures rest { self.new.pairs ≡ without_number self.old.pairs id }
         ensures room { room self.old ≤ room self.new }
         ensures cells { self.new.cells ≡ self.old.cells }
+        ensures ids { self.new.ids ≡ self.old.ids }
     {
         let position = self.position_of(id);
         self.remove_at(id, position)
@@ -533,6 +592,7 @@ impl<K: Drop, V: Drop> Leaves<K, V> {
         ensures spare_rows { IfSome (leaf_in self.old.rows position.row) (λ ids. length ids ≢ 1 → self.new.spare_rows ≡ self.old.spare_rows) }
         ensures room { room self.old ≤ room self.new }
         ensures cells { self.new.cells ≡ self.old.cells }
+        ensures ids { self.new.ids ≡ self.old.ids }
     {
         let leaf = self.records.take(id.number());
         take_out(&mut self.rows, position);
@@ -544,6 +604,7 @@ impl<K: Drop, V: Drop> Leaves<K, V> {
     pub fn take_first(&mut self) -> Option<(K, V)>
         ensures takes { TakesFirst self.old.pairs result self.new.pairs }
         ensures cells { self.new.cells ≡ self.old.cells }
+        ensures ids { self.new.ids ≡ self.old.ids }
     {
         let _ = &self.rows;
         let Some(position) = self.first_position() else {
@@ -557,6 +618,7 @@ impl<K: Drop, V: Drop> Leaves<K, V> {
     pub fn take_last(&mut self) -> Option<(K, V)>
         ensures takes { TakesLast self.old.pairs result self.new.pairs }
         ensures cells { self.new.cells ≡ self.old.cells }
+        ensures ids { self.new.ids ≡ self.old.ids }
     {
         let _ = &self.rows;
         let Some(position) = self.last_position() else {
@@ -574,6 +636,7 @@ impl<K: Drop, V: Drop> Leaves<K, V> {
         ensures rows { self.new.rows ≡ self.old.rows }
         ensures spare_rows { self.new.spare_rows ≡ self.old.spare_rows }
         ensures cells { self.new.cells ≡ self.old.cells }
+        ensures ids { self.new.ids ≡ self.old.ids }
     {
         let leaf = self.records.get_mut(id.number());
         let old_key = mem::replace(&mut leaf.key, key);
@@ -591,6 +654,7 @@ impl<K: Drop, V: Drop> Leaves<K, V> {
         ensures ok { OnOk result (n ≤ room self.new) }
         ensures needed { OnErr result (self.old.spare_rows < n) }
         ensures cells { self.old.cells ≤ self.new.cells }
+        ensures ids { Extends self.old.ids self.new.ids }
     {
         let sure = n / SURE + self.records.used() / ROW + 2;
         let rows = if sure < n { sure } else { n };
@@ -610,6 +674,7 @@ impl<K: Drop, V: Drop> Leaves<K, V> {
         ensures ok { OnOk result (n ≤ end_room self.new) }
         ensures needed { OnErr result (ROW * self.old.spare_rows < n) }
         ensures cells { self.old.cells ≤ self.new.cells }
+        ensures ids { Extends self.old.ids self.new.ids }
     {
         let rows = n.div_ceil(ROW);
         if rows <= self.rows.spare() {
@@ -628,6 +693,7 @@ impl<K: Drop, V: Drop> Leaves<K, V> {
         ensures grows { self.old.spare_rows ≤ self.new.spare_rows }
         ensures ok { OnOk result (count ≤ self.new.spare_rows) }
         ensures cells { self.old.cells ≤ self.new.cells }
+        ensures ids { Extends self.old.ids self.new.ids }
     {
         if count >= MOST_ROWS {
             return Err(AllocError);
@@ -638,6 +704,7 @@ impl<K: Drop, V: Drop> Leaves<K, V> {
         }
         // The slab numbers the rows one after another, though it does not promise it. So this
         // allocates the cells of all of them at once.
+        self.ids.grow(ROW * rows)?;
         self.records.grow(ROW * rows)?;
         for _ in self.rows.spare()..count {
             self.add_row()?;
@@ -652,12 +719,14 @@ impl<K: Drop, V: Drop> Leaves<K, V> {
         ensures grows { self.old.spare_rows ≤ self.new.spare_rows }
         ensures ok { OnOk result (self.new.spare_rows ≡ self.old.spare_rows + 1) }
         ensures cells { self.old.cells ≤ self.new.cells }
+        ensures ids { Extends self.old.ids self.new.ids }
     {
         self.rows.grow()?;
         let row = self.rows.next_place();
         if row >= MOST_ROWS {
             return Err(AllocError);
         }
+        self.ids.grow(ROW * (row + 1))?;
         self.records.grow(ROW * (row + 1))?;
         self.rows.add_place();
         Ok(())
@@ -672,5 +741,6 @@ impl<K: Drop, V: Drop> Leaves<K, V> {
     {
         self.records.clear();
         self.rows.clear();
+        self.ids.clear();
     }
 }

@@ -1,5 +1,6 @@
 //! Placements of leaves.
 ghost use Rattle.std.specs.Prelude.{◌≡◌, ◌≢◌, ℕ, ◌+◌, ◌-◌, ◌<◌, ◌≤◌, ◌++◌, List, [], ◌∷◌, length, take, drop, Some, None, IsSome, IfSome, IfNone};
+ghost use Rattle.art_rows.specs.Ids.{exchanged};
 ghost use Rattle.art_rows.specs.Numbers.{leaf_in, Has, last_number, number_after, with_pair_after, with_number, with_pair};
 ghost use Rattle.art_rows.specs.Rows.{position_at, nth, IsSpot, row_end, lengths};
 ghost use Rattle.art_rows.specs.RowRoom.{row_room};
@@ -61,6 +62,7 @@ impl<K: Drop, V: Drop> Leaves<K, V> {
         ensures lies { result < self.old.cells }
         ensures placed { self.new.pairs ≡ with_pair_after prev (result, (key, value)) self.old.pairs }
         ensures cells { self.new.cells ≡ self.old.cells }
+        ensures ids { self.new.ids ≡ self.old.ids }
         ensures room { room self.old ≤ room self.new + 1 }
     {
         let _ = &self.rows;
@@ -98,6 +100,7 @@ impl<K: Drop, V: Drop> Leaves<K, V> {
         ensures fresh { leaf_in (with_number self.old.pairs last result.1) result.0 ≡ None }
         ensures placed { self.new.pairs ≡ with_pair_after prev (result.0, (key, value)) (with_number self.old.pairs last result.1) }
         ensures cells { self.new.cells ≡ self.old.cells }
+        ensures ids { self.new.ids ≡ exchanged self.old.ids last result.1 }
         ensures room { room self.old ≤ room self.new + 1 }
     {
         let _ = &self.rows;
@@ -117,6 +120,7 @@ impl<K: Drop, V: Drop> Leaves<K, V> {
         ensures lies { result < self.old.cells }
         ensures placed { self.new.pairs ≡ with_pair_after (last_number self.old.pairs) (result, (key, value)) self.old.pairs }
         ensures cells { self.new.cells ≡ self.old.cells }
+        ensures ids { self.new.ids ≡ self.old.ids }
         ensures room { end_room self.old ≤ end_room self.new + 1 }
     {
         let _ = &self.rows;
@@ -144,6 +148,42 @@ impl<K: Drop, V: Drop> Leaves<K, V> {
         ensures fresh { leaf_in self.old.pairs result ≡ None }
         ensures pairs { self.new.pairs ≡ with_number self.old.pairs last result }
         ensures cells { self.new.cells ≡ self.old.cells }
+        ensures ids { self.new.ids ≡ exchanged self.old.ids last result }
+        ensures row { IfSome (leaf_in self.new.rows (row_of last)) (λ ids. length ids + 1 ≡ ROW) }
+        ensures room { (ids : List ℕ) → length ids ≡ ROW → room self.old ≤ row_room (lengths (with_pair self.new.rows (row_of last) ids)) self.new.spare_rows + 1 }
+    {
+        self.law();
+        let to = self.carry_pair(last);
+        self.exchange_ids(last, to);
+        to
+    }
+
+    /// Exchanges the ids of two cells.
+    fn exchange_ids(&mut self, a: CellId, b: CellId)
+        requires first { a < length self.old.ids }
+        requires second { b < length self.old.ids }
+        ensures pairs { self.new.pairs ≡ self.old.pairs }
+        ensures rows { self.new.rows ≡ self.old.rows }
+        ensures spare_rows { self.new.spare_rows ≡ self.old.spare_rows }
+        ensures cells { self.new.cells ≡ self.old.cells }
+        ensures ids { self.new.ids ≡ exchanged self.old.ids a b }
+    {
+        self.ids.exchange(a.number(), b.number());
+    }
+
+    /// Moves the last leaf of a full row to the next row, and returns the cell that it moved to. The
+    /// leaf does not take its id along yet.
+    #[cold]
+    #[inline(never)]
+    fn carry_pair(&mut self, last: CellId) -> CellId
+        requires room { 0 < room self.old }
+        requires has { Has self.old.pairs last }
+        requires row { IfSome (leaf_in self.old.rows (row_of last)) (λ ids. (length ids ≡ ROW) × (nth ids (ROW - 1) ≡ Some last)) }
+        ensures fresh { leaf_in self.old.pairs result ≡ None }
+        ensures pairs { self.new.pairs ≡ with_number self.old.pairs last result }
+        ensures cells { self.new.cells ≡ self.old.cells }
+        ensures lies { result < self.old.cells }
+        ensures ids { self.new.ids ≡ self.old.ids }
         ensures row { IfSome (leaf_in self.new.rows (row_of last)) (λ ids. length ids + 1 ≡ ROW) }
         ensures room { (ids : List ℕ) → length ids ≡ ROW → room self.old ≤ row_room (lengths (with_pair self.new.rows (row_of last) ids)) self.new.spare_rows + 1 }
     {
@@ -168,6 +208,7 @@ impl<K: Drop, V: Drop> Leaves<K, V> {
         ensures lies { result < self.old.cells }
         ensures placed { self.new.pairs ≡ with_pair_after prev (result, (key, value)) self.old.pairs }
         ensures cells { self.new.cells ≡ self.old.cells }
+        ensures ids { self.new.ids ≡ self.old.ids }
         ensures rows { GoesBeyond self.old.rows self.old.spare_rows self.new.rows self.new.spare_rows row result }
         ensures apart { row_of result ≢ row }
     {
@@ -219,6 +260,7 @@ impl<K: Drop, V: Drop> Leaves<K, V> {
         ensures lies { result < self.old.cells }
         ensures placed { self.new.pairs ≡ with_pair_after prev (result, (key, value)) self.old.pairs }
         ensures cells { self.new.cells ≡ self.old.cells }
+        ensures ids { self.new.ids ≡ self.old.ids }
         ensures spare_rows { self.new.spare_rows ≡ self.old.spare_rows }
         ensures rows { IfSome (leaf_in self.old.rows position.row) (λ ids. self.new.rows ≡ with_pair self.old.rows position.row (take position.place ids ++ result ∷ drop position.place ids)) }
         ensures own { row_of result ≡ position.row }
@@ -240,6 +282,7 @@ impl<K: Drop, V: Drop> Leaves<K, V> {
         ensures lies { result < self.old.cells }
         ensures placed { self.new.pairs ≡ with_pair_after prev (result, (key, value)) self.old.pairs }
         ensures cells { self.new.cells ≡ self.old.cells }
+        ensures ids { self.new.ids ≡ self.old.ids }
         ensures spare_rows { self.new.spare_rows + 1 ≡ self.old.spare_rows }
         ensures rows { (self.new.rows ≡ with_pair_after prev_row (row_of result, result ∷ []) self.old.rows) × (leaf_in self.old.rows (row_of result) ≡ None) }
     {

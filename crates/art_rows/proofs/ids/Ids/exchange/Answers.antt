@@ -1,7 +1,7 @@
 use Rattle.std.proofs.Common.{◌≡◌, ◌<◌, ◌≤◌, length, take, ap, ◌∙◌, arith, refl}
 use Rattle.std.proofs.lemmas.List.{length-take-le}
 use Rattle.art_rows.specs.Ids.{exchanged}
-use Rattle.art_rows.proofs.Exchanges.{take-exchanged}
+use Rattle.art_rows.proofs.IdsLemmas.{take-exchanged}
 use Rattle.art_rows.proofs.ids.Ids.exchange.Goals as goal
 
 pub returns : goal.returns

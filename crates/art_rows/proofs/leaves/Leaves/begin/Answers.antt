@@ -42,7 +42,7 @@ invariant_of-self g c =
     let put = ap (λ l. with_pair l r c.new-numbers.result.0) c.insert-row.ensures.placed ∙ with_pair-placed c.args.prev_row r c.new.result.0 c.new-numbers.result.0 c.self.inside.rows.pairs lacks ∙ ap (λ l. with_pair_after c.args.prev_row (r, l) c.self.inside.rows.pairs) (c.new-numbers.ensures.row ∙ ap (λ m. m ∷ []) (sym c.number.ensures.value)) in
     let files = files_begun f c.args.prev c.requires.prev n (begun_fresh f r c.insert-row.ensures.fresh n own) c.args.key c.args.value c.args.prev_row prev_row index r own c.insert-row.ensures.fresh _ put (slot_at c.put.new.self) c.put.ensures.now c.put.ensures.others (used_count c.put.new.self) c.put.ensures.used in
     let cells = c.self.invariant.1 in
-    (all_filed c.put.new.self files, omega (arith, cells, c.put.ensures.len, c.insert-row.ensures.top))
+    (all_filed c.put.new.self files, omega (arith, cells, c.put.ensures.len, c.insert-row.ensures.top), omega (arith, c.self.invariant.2, c.put.ensures.len))
 
 pub returns-clause-fresh : goal.returns-clause-fresh
 returns-clause-fresh g c =

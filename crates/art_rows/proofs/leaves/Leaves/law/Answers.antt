@@ -1,10 +1,8 @@
-use Rattle.std.proofs.Common.{length, ap}
-use Rattle.art_rows.specs.Numbers.{AreBelow}
+use Rattle.std.proofs.Common.{ap}
 use Rattle.art_rows.proofs.FilingLemmas.{seen, filed_below}
 use Rattle.art_rows.proofs.leaves.Leaves.law.Goals as goal
 
 pub returns-clause-below : goal.returns-clause-below
-returns-clause-below g c =
+returns-clause-below g c i has =
     let f = seen c.self.inside c.self.view_is c.self.invariant in
-    let b : AreBelow c.args.self.now.pairs (length c.self.inside.records.slots) = filed_below c.self.inside.records f in
-    rw (← ap (λ t. t.cells) c.self.view_is) b
+    rw (← ap (λ t. t.cells) c.self.view_is) (filed_below c.self.inside.records f i has)

@@ -38,7 +38,7 @@ invariant_of-self g c =
     let own = put_own f c.args.position.row c.get_mut.result.now c.get_mut.ensures.value c.insert-id.result c.insert-id.ensures.block in
     let none = put_fresh f c.args.position.row c.get_mut.result.now c.get_mut.ensures.value c.insert-id.result own c.insert-id.ensures.fresh in
     let cells = c.self.invariant.1 in
-    (all_filed c.put.new.self (files_put f c.args.prev c.requires.prev c.insert-id.result none c.args.key c.args.value c.args.position s c.get_mut.result.now c.get_mut.ensures.value c.insert-id.new.self c.insert-id.ensures.row own (slot_at c.put.new.self) (rw c.number.ensures.value at c.put.ensures.now) (rw c.number.ensures.value at c.put.ensures.others) (used_count c.put.new.self) c.put.ensures.used), omega (arith, cells, c.put.ensures.len))
+    (all_filed c.put.new.self (files_put f c.args.prev c.requires.prev c.insert-id.result none c.args.key c.args.value c.args.position s c.get_mut.result.now c.get_mut.ensures.value c.insert-id.new.self c.insert-id.ensures.row own (slot_at c.put.new.self) (rw c.number.ensures.value at c.put.ensures.now) (rw c.number.ensures.value at c.put.ensures.others) (used_count c.put.new.self) c.put.ensures.used), omega (arith, cells, c.put.ensures.len), omega (arith, c.self.invariant.2, c.put.ensures.len))
 
 pub returns-clause-fresh : goal.returns-clause-fresh
 returns-clause-fresh g c =

@@ -25,7 +25,7 @@ invariant_of-self g c =
     let f = seen c.self.inside c.self.view_is c.self.invariant in
     let at = rw (← ap (λ t. t.rows) c.self.view_is) at c.requires.at in
     let bound = c.self.invariant.1 in
-    (all_filed c.take-leaf.new.self (files_removed f c.args.id c.requires.has c.take_out.new.rows.pairs (taken_out f c.args.id c.requires.has c.args.position at c.take_out.new.rows.pairs c.take_out.ensures.one c.take_out.ensures.more) (slot_at c.take-leaf.new.self) (subst (λ n. slot_at c.take-leaf.new.self n ≡ None) c.number.ensures.value c.take-leaf.ensures.gone) (λ j ne. c.take-leaf.ensures.others j (λ e. ne (e ∙ c.number.ensures.value))) (used_count c.take-leaf.new.self) c.take-leaf.ensures.used), omega (arith, c.take-leaf.ensures.len, c.take_out.ensures.top))
+    (all_filed c.take-leaf.new.self (files_removed f c.args.id c.requires.has c.take_out.new.rows.pairs (taken_out f c.args.id c.requires.has c.args.position at c.take_out.new.rows.pairs c.take_out.ensures.one c.take_out.ensures.more) (slot_at c.take-leaf.new.self) (subst (λ n. slot_at c.take-leaf.new.self n ≡ None) c.number.ensures.value c.take-leaf.ensures.gone) (λ j ne. c.take-leaf.ensures.others j (λ e. ne (e ∙ c.number.ensures.value))) (used_count c.take-leaf.new.self) c.take-leaf.ensures.used), omega (arith, c.take-leaf.ensures.len, c.take_out.ensures.top), omega (arith, c.self.invariant.2, c.take-leaf.ensures.len))
 
 pub returns-clause-rest : goal.returns-clause-rest
 returns-clause-rest g c =

@@ -7,7 +7,7 @@ use Rattle.art_rows.proofs.FilingLemmas.{seen, seen_rows, row_has}
 use Rattle.art_rows.proofs.Rooms.{spare_crowded, crowded_room, left_row}
 use Rattle.art_rows.proofs.Crowds.{left_length, left_there, carry_at, carry_before, carry_has, carry_index}
 use Rattle.art_rows.proofs.Carried.{carried}
-use Rattle.art_rows.proofs.leaves.Leaves.carry.Goals as goal
+use Rattle.art_rows.proofs.leaves.Leaves.carry_pair.Goals as goal
 
 pub read-requires : goal.read-requires
 read-requires g c = rw c.number-row.ensures.value (row_has (seen c.self.inside c.self.view_is c.self.invariant) c.args.last c.requires.has)
