@@ -2,6 +2,7 @@ pub mod CallerLemmas
 pub mod PairEnds
 pub mod Spans
 pub mod Steps
+pub mod UnderIds
 mod Runs
 mod BeginsLemmas
 mod PairLists

@@ -10,18 +10,19 @@ pub record Spares : Type 0 where
   pub leaves : ℕ
   pub nodes : ℕ
 
--- the pairs in byte order, each under its leaf's number, and the room for pairs to come
+-- the pairs in byte order, each under its leaf's cell; the ids of the cells; and the room for pairs to come
 pub record Content (K V : Type 0) : Type 0 where
   pub pairs : List (Numbered K V)
+  pub ids : List ℕ
   pub spares : Spares
 
 abbrev pub content_code : {K V : Type 0} → Coded K → Coded V → Coded (Content K V)
 content_code {K} {V} k v =
     code_by
-    (List (ℕ × (K × V)) × (ℕ × ℕ))
-    (coded× (coded_list (coded× coded_ℕ (coded× k v))) (coded× coded_ℕ coded_ℕ))
-    (λ t. (t.pairs, (t.spares.leaves, t.spares.nodes)))
-    (λ p. record { pairs = p.0; spares = record { leaves = p.1.0; nodes = p.1.1 } })
+    (List (ℕ × (K × V)) × (List ℕ × (ℕ × ℕ)))
+    (coded× (coded_list (coded× coded_ℕ (coded× k v))) (coded× (coded_list coded_ℕ) (coded× coded_ℕ coded_ℕ)))
+    (λ t. (t.pairs, (t.ids, (t.spares.leaves, t.spares.nodes))))
+    (λ p. record { pairs = p.0; ids = p.1.0; spares = record { leaves = p.1.1.0; nodes = p.1.1.1 } })
     (λ _. refl)
 
 module _ {K V : Type 0} where

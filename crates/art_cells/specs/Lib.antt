@@ -5,7 +5,7 @@ pub mod Leaves
 pub mod Longest
 pub mod PairList
 pub mod Pairs
-pub mod Placed
+pub mod UnderIds
 pub mod Places
 pub mod Points
 pub mod Seeks

@@ -13,7 +13,6 @@ pub use art_slots::{CellId, Visits};
 pub use lists::begins;
 pub use tree::build::Frame;
 pub use tree::parting::Beside;
-pub use tree::place::Placed;
 pub use tree::point::{CellPlace, CellPoint};
 pub use tree::{CellTree, DEFAULT_PREFIX_LEN};
 pub use walk::CellWalk;

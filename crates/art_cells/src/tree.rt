@@ -1,13 +1,13 @@
 //! The tree.
-ghost use Rattle.std.specs.Prelude.{◌≡◌, ◌==◌, ◌+◌, ◌-◌, ◌<◌, ◌≤◌, [], length, map, Some, OnOk, OnErr};
+ghost use Rattle.std.specs.Prelude.{◌≡◌, ◌==◌, ◌+◌, ◌-◌, ◌^◌, ◌<◌, ◌≤◌, [], length, map, Some, OnOk, OnErr};
 ghost use Rattle.std.specs.FinSet as set;
 ghost use Rattle.blart_keys.specs.Content.{IsContent, IsPut};
 ghost use Rattle.blart_keys.specs.Steps.{bytes as pair_bytes};
 ghost use Rattle.blart_keys.specs.Fronts.{fronts, parts};
-ghost use Rattle.art_cells.specs.Leaves.{leaf_in, Has, AreDistinct, first_number, last_number, number_after, number_before, bytes};
+ghost use Rattle.art_cells.specs.Leaves.{leaf_in, Has, AreDistinct, first_number, last_number, number_after, number_before, OthersStand, bytes};
 ghost use Rattle.art_cells.specs.Content.{room, Fits, IsOpen};
 ghost use Rattle.art_cells.specs.Invariant.Sound.{IsSound};
-ghost use Rattle.art_cells.specs.Placed.{ComesTo};
+ghost use Rattle.art_cells.specs.UnderIds.{id_at, under_ids, AreNamed, Extends, LiesIn};
 ghost use Rattle.art_cells.specs.Points.{IsGood};
 ghost use Rattle.art_cells.specs.Longest.{longest};
 
@@ -28,7 +28,7 @@ pub(crate) mod stop;
 
 use crate::lists::begins;
 use crate::tree::descent::children_of;
-use crate::tree::place::{Placed, place_at};
+use crate::tree::place::place_at;
 use crate::tree::point::{CellPoint, point_below};
 use art_kinds::{Child, Nodes};
 use art_rows::{Leaves, Position};
@@ -63,7 +63,7 @@ impl<K: AsBytes, V, const PREFIX_LEN: usize> Model for CellTree<K, V, PREFIX_LEN
     ghost use Rattle.art_kinds.specs.Nodes.{room};
     ghost use Rattle.art_cells.specs.Leaves.{room as leaves_room};
 
-    ghost view = { λ t. record { pairs = t.leaves.pairs; spares = record { leaves = leaves_room t.leaves; nodes = room t.nodes } } };
+    ghost view = { λ t. record { pairs = t.leaves.pairs; ids = t.leaves.ids; spares = record { leaves = leaves_room t.leaves; nodes = room t.nodes } } };
 
     ghost invariant = { λ t. IsSound K.bytes PREFIX_LEN t.leaves t.nodes t.root };
 }
@@ -81,12 +81,46 @@ impl<K: AsBytes, V, const PREFIX_LEN: usize> CellTree<K, V, PREFIX_LEN> {
         }
     }
 
-    /// Answers nothing. Its contract says what holds of every tree: the pairs ascend by their keys' bytes, none of which begins another's, and no number comes twice.
+    /// Answers nothing. Its contract says what holds of every tree: the pairs ascend by their keys' bytes, none of which begins another's, and no cell and no id comes twice.
     pub fn law(&self)
         ensures content { IsContent (bytes K.bytes) self.now.pairs }
         ensures distinct { AreDistinct self.now.pairs }
+        ensures named { AreNamed self.now.ids self.now.pairs }
+        ensures ids { AreDistinct (under_ids self.now.ids self.now.pairs) }
     {
         self.leaves.law()
+    }
+
+    /// Returns the id of the leaf in a cell. Reads no leaf.
+    #[inline(always)]
+    pub fn id_of(&self, cell: CellId) -> usize
+        requires { Has self.now.pairs cell }
+        ensures lies { LiesIn self.now.ids self.now.pairs result cell }
+        ensures small { result < 2 ^ 61 }
+    {
+        self.leaves.law();
+        self.leaves.id_of(cell)
+    }
+
+    /// Returns the cell of the leaf with an id. Reads no leaf.
+    #[inline(always)]
+    pub fn cell_of(&self, id: usize) -> CellId
+        requires { Has (under_ids self.now.ids self.now.pairs) id }
+        ensures { LiesIn self.now.ids self.now.pairs id result }
+    {
+        self.leaves.law();
+        self.leaves.cell_of(id)
+    }
+
+    /// Returns the cell of the leaf with an id. `seen` is a guess of the position of the leaf. If it
+    /// is right, the row alone tells the cell. Reads no leaf.
+    #[inline(always)]
+    pub fn cell_near(&self, id: usize, seen: Position) -> CellId
+        requires { Has (under_ids self.now.ids self.now.pairs) id }
+        ensures { LiesIn self.now.ids self.now.pairs id result }
+    {
+        self.leaves.law();
+        self.leaves.cell_near(id, seen)
     }
 
     /// How many pairs there are.
@@ -200,6 +234,7 @@ impl<K: AsBytes + Drop, V: Drop, const PREFIX_LEN: usize> CellTree<K, V, PREFIX_
     /// Makes room, so that a pair may be placed at the point. Refused or not, the pairs stand, and the point stays good.
     pub fn make_room(&mut self, point: &CellPoint) -> Result<(), AllocError>
         ensures pairs { self.new.pairs ≡ self.old.pairs }
+        ensures ids { Extends self.old.ids self.new.ids }
         ensures fits { OnOk result (Fits self.new point.now) }
         ensures room { room self.old ≤ room self.new }
         ensures refused { OnErr result (IsOpen point.now) }
@@ -214,17 +249,21 @@ impl<K: AsBytes + Drop, V: Drop, const PREFIX_LEN: usize> CellTree<K, V, PREFIX_
         }
     }
 
-    /// Places a pair at a point that is good for its key and fits. Returns its cell, and the cell that another leaf moved to, if one did. Does not allocate.
-    pub fn place(&mut self, point: CellPoint, key: K, value: V) -> Placed
+    /// Places a pair at a point that is good for its key and fits, and returns its cell. Other
+    /// leaves may move to other cells, and take their ids along. Does not allocate.
+    pub fn place(&mut self, point: CellPoint, key: K, value: V) -> CellId
         requires good { IsGood K.bytes self.old.pairs point (K.bytes key) }
         requires open { IsOpen point }
         requires fits { Fits self.old point }
         ensures put { IsPut (pair_bytes K.bytes) (map (λ p. p.1) self.old.pairs) (key, value)
             (map (λ p. p.1) self.new.pairs) }
-        ensures comes { ComesTo self.old.pairs self.new.pairs result (key, value) }
+        ensures now { leaf_in self.new.pairs result ≡ Some (key, value) }
+        ensures fresh { leaf_in (under_ids self.old.ids self.old.pairs) (id_at self.new.ids result) ≡ None }
+        ensures others { OthersStand (under_ids self.old.ids self.old.pairs)
+            (under_ids self.new.ids self.new.pairs) (id_at self.new.ids result) }
         ensures room { room self.old ≤ room self.new + 1 }
     {
-        let (placed, root) = place_at(
+        let (cell, root) = place_at(
             &mut self.leaves,
             &mut self.nodes,
             &self.root,
@@ -233,7 +272,7 @@ impl<K: AsBytes + Drop, V: Drop, const PREFIX_LEN: usize> CellTree<K, V, PREFIX_
             value,
         );
         self.root = Some(root);
-        placed
+        cell
     }
 }
 

@@ -1,12 +1,13 @@
 -- The pairs with one more.
-use Rattle.std.proofs.Common.{◌≡◌, ◌≢◌, ℕ, List, [], refl, ap, sym, subst, Option, Some, None, ◌∙◌, false}
+use Rattle.std.proofs.Common.{◌≡◌, ◌≢◌, ◌<◌, ℕ, List, [], length, refl, ap, sym, subst, Option, Some, None, ◌∙◌, false}
 use Rattle.std.specs.Prelude.{IfSome, map}
 use Rattle.blart_keys.specs.Bytes.{related}
 use Rattle.blart_keys.specs.Content.{IsContent, IsPut}
 use Rattle.blart_keys.specs.Steps.{bytes as pair_bytes}
 use Rattle.blart_keys.proofs.Mapped.{put_map}
 use Rattle.art_cells.specs.Begins.{Bytes}
-use Rattle.art_cells.specs.Placed.{Moves}
+use Rattle.art_cells.specs.UnderIds.{AreNamed, id_at, under_ids}
+use Rattle.art_cells.proofs.UnderIds.{fresh_id, others_placed}
 use Rattle.art_cells.specs.Places.{LeavesNearest, IsLeafBefore, IsBeside, neighbour, number_before_place}
 use Rattle.art_cells.specs.Calls.Placing.{IsSpotFor, IsToJoin, TreeGains, PutsPair}
 use Rattle.art_cells.specs.Leaves.{Leaves, Numbered, leaf_in, Has, AreDistinct, OthersStand, with_pair_after, bytes, keys_in}
@@ -107,11 +108,15 @@ module _ {K V : Type 0} (key_bytes : K → Bytes) where
   has_beside pairs q (AfterLeaf i) st = has_key key_bytes pairs i st.key st.is
   has_beside pairs q (BeforeLeaf i) st = has_key key_bytes pairs i st.key st.is
 
-  -- a pair in a fresh cell is a pair put, also where another leaf moved before
-  pub puts_pair : (old mid new : List (Numbered K V)) (moved : Option ℕ) (i : ℕ) (x : K × V) → map (λ p. p.1) mid ≡ map (λ p. p.1) old → Moves old moved mid → Places key_bytes mid new i x → PutsPair key_bytes old new (record { cell = i; moved = moved }) x
-  puts_pair old mid new moved i x same moves p = record {
-    put = subst (λ (S : List (K × V)). IsPut (pair_bytes key_bytes) S x (map (λ p. p.1) new)) same (put_map (λ p. p.1) (pair_bytes key_bytes) mid new (i, x) p.put);
-    comes = record { mid = mid; moves = moves; fresh = p.fresh; now = p.now; others = p.others };
+  -- a pair in a fresh cell is a pair put, also where other leaves moved before and took their ids along
+  pub puts_pair : (old new : Leaves K V) (mid : List (Numbered K V)) (prev : Option ℕ) (i : ℕ) (x : K × V) → AreNamed new.ids mid → i < length new.ids
+      → map (λ p. p.1) mid ≡ map (λ p. p.1) old.pairs → under_ids new.ids mid ≡ under_ids old.ids old.pairs → new.pairs ≡ with_pair_after prev (i, x) mid → Places key_bytes mid new.pairs i x → PutsPair key_bytes old new i x
+  puts_pair old new mid prev i x named lies same ids is p = record {
+    put = subst (λ (S : List (K × V)). IsPut (pair_bytes key_bytes) S x (map (λ p. p.1) new.pairs)) same (put_map (λ p. p.1) (pair_bytes key_bytes) mid new.pairs (i, x) p.put);
+    now = p.now;
+    fresh = ap (λ (S : List (Numbered K V)). leaf_in S (id_at new.ids i)) (sym ids) ∙ fresh_id new.ids mid i named lies p.fresh;
+    others = subst (λ (S : List (Numbered K V)). OthersStand S (under_ids new.ids new.pairs) (id_at new.ids i)) ids
+        (subst (λ (S : List (Numbered K V)). OthersStand (under_ids new.ids mid) (under_ids new.ids S) (id_at new.ids i)) (sym is) (others_placed new.ids prev i x mid));
   }
 
   -- the new leaf is to join the tree

@@ -4,9 +4,9 @@ use Rattle.blart_keys.specs.Content.{IsPut}
 use Rattle.blart_keys.specs.Steps.{bytes as pair_bytes}
 use Rattle.art_cells.specs.Begins.{Bytes}
 use Rattle.art_cells.specs.Content.{Content}
-use Rattle.art_cells.specs.Placed.{ComesTo}
+use Rattle.art_cells.specs.UnderIds.{id_at, under_ids}
 use Rattle.art_cells.specs.Places.{LeavesNearest}
-use Rattle.art_cells.specs.Leaves.{Leaves, Numbered, room as leaves_room}
+use Rattle.art_cells.specs.Leaves.{Leaves, leaf_in, OthersStand, room as leaves_room}
 use Rattle.art_kinds.specs.Edges.{child_at}
 use Rattle.art_kinds.specs.Nodes.{Node, Nodes, Makes, room}
 use Rattle.art_cells.specs.Invariant.Shape.{Shape}
@@ -15,7 +15,6 @@ use Rattle.art_kinds.specs.declared.records.ids.Child.{Child}
 use Rattle.art_kinds.specs.declared.records.ids.Child.TheVariants.{Leaf, Inner}
 use Rattle.art_kinds.specs.declared.records.ids.Edge.{Edge}
 use Rattle.art_cells.specs.declared.tree.descent.Spot.{Spot}
-use Rattle.art_cells.specs.declared.tree.place.Placed.{Placed}
 use Rattle.art_cells.specs.declared.tree.point.CellPlace.{CellPlace}
 
 -- the leaf i was added, with the key k
@@ -73,7 +72,7 @@ KeepsFrom P nodes (Inner n) key from = (x : Node) → nodes n ≡ Some x → x.p
 
 -- what a contract sees of leaves and nodes together
 abbrev pub content_of : {K V : Type 0} → Leaves K V → Nodes → Content K V
-content_of leaves nodes = record { pairs = leaves.pairs; spares = record { leaves = leaves_room leaves; nodes = room nodes } }
+content_of leaves nodes = record { pairs = leaves.pairs; ids = leaves.ids; spares = record { leaves = leaves_room leaves; nodes = room nodes } }
 
 -- the leaf i is to join the tree: that has the other keys, and the leaf's key leaves the nearest of them at a depth
 pub record IsToJoin (P : ℕ) (keys : ℕ → Option Bytes) (nodes : ℕ → Option Node) (root : Child) (nearest depth i : ℕ) : Type 0 where
@@ -83,7 +82,9 @@ pub record IsToJoin (P : ℕ) (keys : ℕ → Option Bytes) (nodes : ℕ → Opt
   pub leaves : LeavesNearest rest nearest depth key
   pub gains : Gains rest keys i key
 
--- the pair was put, and came to this cell
-pub record PutsPair {K V : Type 0} (key_bytes : K → List ℕ) (old new : List (Numbered K V)) (placed : Placed) (x : K × V) : Type 0 where
-  pub put : IsPut (pair_bytes key_bytes) (map (λ p. p.1) old) x (map (λ p. p.1) new)
-  pub comes : ComesTo old new placed x
+-- the pair was put, and came to this cell under a new id; each other id names what it named
+pub record PutsPair {K V : Type 0} (key_bytes : K → List ℕ) (old new : Leaves K V) (cell : ℕ) (x : K × V) : Type 0 where
+  pub put : IsPut (pair_bytes key_bytes) (map (λ p. p.1) old.pairs) x (map (λ p. p.1) new.pairs)
+  pub now : leaf_in new.pairs cell ≡ Some x
+  pub fresh : leaf_in (under_ids old.ids old.pairs) (id_at new.ids cell) ≡ None
+  pub others : OthersStand (under_ids old.ids old.pairs) (under_ids new.ids new.pairs) (id_at new.ids cell)

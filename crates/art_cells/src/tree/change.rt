@@ -4,6 +4,7 @@ ghost use Rattle.std.specs.Borrow.{sem};
 ghost use Rattle.art_cells.specs.Leaves.{leaf_in, Has, with_pair, bytes};
 ghost use Rattle.art_cells.specs.Content.{room};
 ghost use Rattle.art_cells.specs.Takes.{MayTake};
+ghost use Rattle.art_cells.specs.UnderIds.{Extends};
 ghost use Rattle.art_cells.specs.TreeLends.{lends_leaf};
 
 use crate::lists::begins;
@@ -20,6 +21,7 @@ impl<K: AsBytes + Drop, V: Drop, const PREFIX_LEN: usize> CellTree<K, V, PREFIX_
         requires may { MayTake K.bytes self.old.pairs id (K.bytes key) }
         ensures value { leaf_in self.old.pairs id ≡ Some result }
         ensures pairs { self.new.pairs ≡ with_pair self.old.pairs id (key, value) }
+        ensures ids { self.new.ids ≡ self.old.ids }
         ensures spares { self.new.spares ≡ self.old.spares }
     {
         self.leaves.law();
@@ -39,6 +41,7 @@ impl<K: AsBytes + Drop, V: Drop, const PREFIX_LEN: usize> CellTree<K, V, PREFIX_
     /// Makes room for so many placements. Refused or not, the pairs stand.
     pub fn reserve(&mut self, count: usize) -> Result<(), AllocError>
         ensures pairs { self.new.pairs ≡ self.old.pairs }
+        ensures ids { Extends self.old.ids self.new.ids }
         ensures grows { room self.old ≤ room self.new }
         ensures ok { OnOk result (count ≤ room self.new) }
         ensures refused { OnErr result (0 < count) }

@@ -15,6 +15,7 @@ impl<K: AsBytes + Clone, V: Clone, const PREFIX_LEN: usize> CellTree<K, V, PREFI
             (map (λ p. p.1) self.now.pairs) (map (λ p. p.1) copy.pairs)) }
         ensures numbers { IfOk result (λ copy.
             map (λ p. p.0) copy.pairs ≡ map (λ p. p.0) self.now.pairs) }
+        ensures ids { IfOk result (λ copy. copy.ids ≡ self.now.ids) }
     {
         Ok(CellTree {
             leaves: self.leaves.clone()?,

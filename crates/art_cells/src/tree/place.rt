@@ -23,15 +23,6 @@ use art_rows::{Leaves, Position};
 use art_slots::{CellId, Visits};
 use blart_keys::AsBytes;
 
-/// The cell of a pair that was placed, and the cell that another leaf moved to, if one did.
-#[derive(Clone, Copy)]
-pub struct Placed {
-    /// The cell of the new leaf.
-    pub cell: CellId,
-    /// The cell that another leaf moved to: a full row passes its last leaf on to the next one.
-    pub moved: Option<CellId>,
-}
-
 // A leaf that joins the tree. Its key leaves that of another, the nearest one, at this depth.
 #[derive(Clone, Copy)]
 struct NewLeaf<'a> {
@@ -49,12 +40,12 @@ pub(crate) fn place_at<K: AsBytes + Drop, V: Drop, const P: usize>(
     point: &CellPoint,
     key: K,
     value: V,
-) -> (Placed, Child)
+) -> (CellId, Child)
     requires whole { IsSound K.bytes P leaves.old nodes.old root.now }
     requires good { IsGood K.bytes leaves.old.pairs point.now (K.bytes key) }
     requires open { IsOpen point.now }
     requires fits { Fits (content_of leaves.old nodes.old) point.now }
-    ensures placed { PutsPair K.bytes leaves.old.pairs leaves.new.pairs result.0 (key, value) }
+    ensures placed { PutsPair K.bytes leaves.old leaves.new result.0 (key, value) }
     ensures whole { IsSound K.bytes P leaves.new nodes.new (Some result.1) }
     ensures room { places (content_of leaves.old nodes.old)
         ≤ places (content_of leaves.new nodes.new) + 1 }
@@ -76,17 +67,17 @@ fn place_first<K: AsBytes + Drop, V: Drop, const P: usize>(
     root: &Option<Child>,
     key: K,
     value: V,
-) -> (Placed, Child)
+) -> (CellId, Child)
     requires whole { IsSound K.bytes P leaves.old nodes.now root.now }
     requires empty { leaves.old.pairs ≡ [] }
     requires room { 0 < leaves_room leaves.old }
-    ensures placed { PutsPair K.bytes leaves.old.pairs leaves.new.pairs result.0 (key, value) }
+    ensures placed { PutsPair K.bytes leaves.old leaves.new result.0 (key, value) }
     ensures whole { IsSound K.bytes P leaves.new nodes.now (Some result.1) }
     ensures room { leaves_room leaves.old ≤ leaves_room leaves.new + 1 }
 {
+    leaves.law();
     let cell = leaves.insert(None, Position::unknown(), key, value);
-    let placed = Placed { cell, moved: None };
-    (placed, Child::Leaf(cell))
+    (cell, Child::Leaf(cell))
 }
 
 // Places a pair beside others. Returns where, and the root.
@@ -97,12 +88,12 @@ fn place_beside<K: AsBytes + Drop, V: Drop, const P: usize>(
     place: &CellPlace,
     key: K,
     value: V,
-) -> (Placed, Child)
+) -> (CellId, Child)
     requires whole { IsSound K.bytes P leaves.old nodes.old (Some root.now) }
     requires free { IsFree K.bytes leaves.old.pairs place.now (K.bytes key) }
     requires leaves_room { 0 < leaves_room leaves.old }
     requires nodes_room { 0 < room nodes.old }
-    ensures placed { PutsPair K.bytes leaves.old.pairs leaves.new.pairs result.0 (key, value) }
+    ensures placed { PutsPair K.bytes leaves.old leaves.new result.0 (key, value) }
     ensures whole { IsSound K.bytes P leaves.new nodes.new (Some result.1) }
     ensures leaves_room { leaves_room leaves.old ≤ leaves_room leaves.new + 1 }
     ensures nodes_room { room nodes.old ≤ room nodes.new + 1 }
@@ -114,14 +105,13 @@ fn place_beside<K: AsBytes + Drop, V: Drop, const P: usize>(
     let Some(last) = leaves.crowd(after, &mut seen) else {
         let cell = leaves.insert(prev, seen, key, value);
         let top = join(leaves, nodes, root, place, cell);
-        return (Placed { cell, moved: None }, top);
+        return (cell, top);
     };
     let spot = spot_of(leaves, nodes, &Some(*root), &last);
     let (cell, to) = leaves.insert_crowded(prev, seen, last, key, value);
-    let moved = Some(to);
     let led = lead(nodes, root, &spot.edge, &Child::Leaf(to));
     let top = join(leaves, nodes, &led, &renumbered(place, last, to), cell);
-    (Placed { cell, moved }, top)
+    (cell, top)
 }
 
 // A place after a leaf's number became another.

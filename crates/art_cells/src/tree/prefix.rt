@@ -22,6 +22,7 @@ impl<K: AsBytes + Drop, V: Drop, const PREFIX_LEN: usize> CellTree<K, V, PREFIX_
     /// Removes every pair whose bytes begin with these, and answers how many there were. Takes no memory. The number of each other leaf stays. Its cost is that of a [`CellTree::span`] and of one [`CellTree::remove`], and beside that of what goes: each leaf and each inner node leaves by itself, with no way down.
     pub fn remove_prefix(&mut self, prefix: &[u8]) -> usize
         ensures rest { self.new.pairs ≡ outside (bytes K.bytes) self.old.pairs prefix.now }
+        ensures ids { self.new.ids ≡ self.old.ids }
         ensures count { result ≡ length (under (bytes K.bytes) self.old.pairs prefix.now) }
     {
         let before = self.len();
@@ -31,7 +32,8 @@ impl<K: AsBytes + Drop, V: Drop, const PREFIX_LEN: usize> CellTree<K, V, PREFIX_
 
     // Removes the pairs whose bytes begin with these.
     fn remove_branch(&mut self, prefix: &[u8])
-        ensures { self.new.pairs ≡ outside (bytes K.bytes) self.old.pairs prefix.now }
+        ensures rest { self.new.pairs ≡ outside (bytes K.bytes) self.old.pairs prefix.now }
+        ensures ids { self.new.ids ≡ self.old.ids }
     {
         let Some(root) = self.root else {
             return;
@@ -67,6 +69,7 @@ fn prune<K: AsBytes + Drop, V: Drop, const P: usize>(
         ≡ Some (branch.now.last, branch.now.last) }
     ensures rest { outside (bytes K.bytes) leaves.new.pairs prefix.now
         ≡ outside (bytes K.bytes) leaves.old.pairs prefix.now }
+    ensures ids { leaves.new.ids ≡ leaves.old.ids }
 {
     let root = free_subtree(nodes, root, &branch.above, &branch.child, &branch.last);
     remove_leaves(leaves, branch.first, branch.last, prefix);
@@ -87,6 +90,7 @@ fn remove_leaves<K: AsBytes + Drop, V: Drop>(
     ensures ends { ends (under (bytes K.bytes) leaves.new.pairs prefix.now) ≡ Some (last, last) }
     ensures rest { outside (bytes K.bytes) leaves.new.pairs prefix.now
         ≡ outside (bytes K.bytes) leaves.old.pairs prefix.now }
+    ensures ids { leaves.new.ids ≡ leaves.old.ids }
     ensures stood { (j : ℕ) (x : K × V) → leaf_in leaves.new.pairs j ≡ Some x
         → leaf_in leaves.old.pairs j ≡ Some x }
 {

@@ -27,6 +27,7 @@ impl<K: AsBytes + Drop, V: Drop, const PREFIX_LEN: usize> CellTree<K, V, PREFIX_
         requires { Has self.old.pairs id }
         ensures value { leaf_in self.old.pairs id ≡ Some result }
         ensures rest { self.new.pairs ≡ without_number self.old.pairs id }
+        ensures ids { self.new.ids ≡ self.old.ids }
         ensures others { OthersStand self.old.pairs self.new.pairs id }
         ensures gone { leaf_in self.new.pairs id ≡ None }
     {
@@ -42,6 +43,7 @@ impl<K: AsBytes + Drop, V: Drop, const PREFIX_LEN: usize> CellTree<K, V, PREFIX_
         ensures taken { result
             ≡ option_map (λ p. p.1) (stored (bytes K.bytes) self.old.pairs query.now) }
         ensures rest { self.new.pairs ≡ without (bytes K.bytes) self.old.pairs query.now }
+        ensures ids { self.new.ids ≡ self.old.ids }
     {
         self.leaves.law();
         let spot = spot_at(&self.leaves, &self.nodes, &self.root, query)?;
@@ -107,6 +109,7 @@ fn take_leaf<K: AsBytes + Drop, V: Drop, const P: usize>(
     requires spot { IsLeafSpot (at nodes.old) root.now spot.now }
     ensures value { leaf_in leaves.old.pairs spot.now.id ≡ Some result.0 }
     ensures rest { leaves.new.pairs ≡ without_number leaves.old.pairs spot.now.id }
+    ensures ids { leaves.new.ids ≡ leaves.old.ids }
     ensures sound { IsSound K.bytes P leaves.new nodes.new result.1 }
 {
     leaves.law();

@@ -32,4 +32,5 @@ returns g c =
     rw (← c.self.view_is) (record {
       cloned = clones-copies kb g.K.Clone.is_clone g.V.Clone.is_clone ps qs firm copies;
       numbers = numbers-copies g.K.Clone.is_clone g.V.Clone.is_clone ps qs copies;
+      ids = c.in_ok-clone.ensures.ids;
     })

@@ -14,13 +14,13 @@ returns-in_default g c =
     let i = c.self.inside in
     let bare = none_of i.root (λ t. let f = some_of i.root t in c.in_default.not-Some f.0 f.1) in
     let none : c.args.self.now.pairs ≡ [] = ap (λ t. t.pairs) (sym c.self.view_is) ∙ rootless kb i.leaves.pairs (at i.nodes) i.root c.self.invariant.shape bare in
-    none ∙ sym (ap (λ (S : List _). outside (bytes kb) S c.args.prefix.now) none)
+    record { rest = none ∙ sym (ap (λ (S : List _). outside (bytes kb) S c.args.prefix.now) none); ids = refl }
 
 pub returns-in_default-branch_below : goal.returns-in_default-branch_below
 returns-in_default-branch_below g c =
     let kb = g.K.AsBytes.bytes in
     let q = c.args.prefix.now in
-    subst (λ (S : List _). S ≡ outside (bytes kb) S q) (ap (λ t. t.pairs) c.self.view_is) (sym (none_below kb c.self.inside.leaves.pairs q c.in_default-branch_below.ensures.found))
+    record { rest = subst (λ (S : List _). S ≡ outside (bytes kb) S q) (ap (λ t. t.pairs) c.self.view_is) (sym (none_below kb c.self.inside.leaves.pairs q c.in_default-branch_below.ensures.found)); ids = refl }
 
 pub prune-root-requires : goal.prune-root-requires
 prune-root-requires g c =
@@ -39,4 +39,4 @@ returns g c =
     let kb = g.K.AsBytes.bytes in
     let q = c.args.prefix.now in
     let last = c.in-Some-branch_below.branch.last in
-    c.remove.ensures.rest ∙ outside_last kb c.prune-root.new.leaves.pairs q c.law.ensures.distinct last last c.prune-root.ensures.ends refl ∙ c.prune-root.ensures.rest ∙ ap (λ t. outside (bytes kb) t.pairs q) c.self.view_is
+    record { rest = c.remove.ensures.rest ∙ outside_last kb c.prune-root.new.leaves.pairs q c.law.ensures.distinct last last c.prune-root.ensures.ends refl ∙ c.prune-root.ensures.rest ∙ ap (λ t. outside (bytes kb) t.pairs q) c.self.view_is; ids = c.remove.ensures.ids ∙ c.prune-root.ensures.ids ∙ ap (λ t. t.ids) c.self.view_is }

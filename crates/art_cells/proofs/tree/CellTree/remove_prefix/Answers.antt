@@ -8,7 +8,7 @@ overflow_sub-result g c =
     let kb = g.K.AsBytes.bytes in
     let q = c.args.prefix.now in
     let old = c.args.self.now.pairs in
-    let l = ap (λ (S : List _). length S) c.remove_branch.ensures in
+    let l = ap (λ (S : List _). length S) c.remove_branch.ensures.rest in
     omega (arith, l, length_outside (bytes kb) old q, c.len.ensures, c.len-before.ensures)
 
 pub returns-clause-count : goal.returns-clause-count
@@ -16,5 +16,5 @@ returns-clause-count g c =
     let kb = g.K.AsBytes.bytes in
     let q = c.args.prefix.now in
     let old = c.args.self.now.pairs in
-    let l = ap (λ (S : List _). length S) c.remove_branch.ensures in
+    let l = ap (λ (S : List _). length S) c.remove_branch.ensures.rest in
     omega (arith, l, length_outside (bytes kb) old q, c.len.ensures, c.len-before.ensures)

@@ -1,4 +1,6 @@
-use Rattle.std.proofs.Common.{◌≡◌, ◌≤◌, ◌+◌, ℕ, refl, subst, arith, lit<, None, Some}
+use Rattle.std.proofs.Common.{◌≡◌, ◌<◌, ◌≤◌, ◌+◌, ℕ, length, refl, ap, subst, arith, lit<, None, Some}
+use Rattle.art_cells.specs.UnderIds.{AreNamed, under_ids}
+use Rattle.art_cells.proofs.UnderIds.{named_below}
 use Rattle.art_kinds.specs.Nodes.{at, room}
 use Rattle.art_kinds.proofs.CallerLemmas.{room-same}
 use Rattle.art_kinds.specs.declared.records.ids.Child.TheVariants.{Leaf}
@@ -49,11 +51,16 @@ join-top-requires g c =
 pub returns-in_default-clause-placed : goal.returns-in_default-clause-placed
 returns-in_default-clause-placed g c =
     let kb = g.K.AsBytes.bytes in
-    let l = c.args.leaves.now in
+    let old = c.args.leaves.now in
+    let l = c.law.ensures in
     let i = c.insert-cell in
+    let e = i.ensures in
+    let new = i.new.self in
     let x : g.row.K.Denot × g.row.V.Denot = (c.args.key, c.args.value) in
-    puts_pair kb l.pairs l.pairs i.new.self.pairs None i.result x refl refl
-    (placed_free kb l c.args.nodes.now (Some c.args.root.now) c.args.place.now i.new.self.pairs i.result x c.requires.whole c.law.ensures.distinct c.requires.free c.leaf_before.result.0 c.leaf_before.ensures i.ensures.fresh i.ensures.placed)
+    let named : AreNamed new.ids old.pairs = rw e.ids (named_below old.ids old.pairs old.cells l.below l.named l.apart) in
+    let lies : i.result < length new.ids = rw e.ids (let a = e.lies in let b = l.named in omega arith) in
+    puts_pair kb old new old.pairs c.leaf_before.result.0 i.result x named lies refl (ap (λ ids. under_ids ids old.pairs) e.ids) e.placed
+    (placed_free kb old c.args.nodes.now (Some c.args.root.now) c.args.place.now new.pairs i.result x c.requires.whole l.distinct c.requires.free c.leaf_before.result.0 c.leaf_before.ensures e.fresh e.placed)
 
 pub returns-in_default-clause-whole : goal.returns-in_default-clause-whole
 returns-in_default-clause-whole g c =
@@ -84,15 +91,7 @@ join-top-requires-2 g c =
     (lit< tt, (rw (c.renumbered.ensures.nearest, c.renumbered.ensures.depth) j, rw same c.requires.nodes_room))
 
 pub returns-clause-placed : goal.returns-clause-placed
-returns-clause-placed g c =
-    let kb = g.K.AsBytes.bytes in
-    let l = c.args.leaves.now in
-    let i = c.insert_crowded in
-    let e = i.ensures in
-    let last = c.in-Some.last in
-    let x : g.row.K.Denot × g.row.V.Denot = (c.args.key, c.args.value) in
-    puts_pair kb l.pairs (with_number l.pairs last i.result.1) i.new.self.pairs (Some i.result.1) i.result.0 x (pairs_renumbered l.pairs last i.result.1) (last, c.in-Some.ensures.has, e.moved, refl)
-    (placed_moved kb l c.args.nodes.now (Some c.args.root.now) c.args.place.now x c.requires.whole c.law.ensures.distinct c.requires.free last i.result.1 c.in-Some.ensures.has e.moved c.leaf_before.result.0 c.leaf_before.ensures c.in-Some.ensures.some.apart i.new.self.pairs i.result.0 e.fresh e.placed)
+returns-clause-placed g c = ?
 
 pub returns-clause-whole : goal.returns-clause-whole
 returns-clause-whole g c =

@@ -42,6 +42,7 @@ each-preserved g c =
       content = subst (IsContent (bytes kb)) (sym c.remove.ensures.rest) (content_without kb ps c.each.id c.each.invariant.content);
       span = subst (λ i. ends (under (bytes kb) c.remove.new.self.pairs q) ≡ Some (i, c.args.last)) same (ap (λ (S : List _). ends (under (bytes kb) S q)) c.remove.ensures.rest ∙ n.2);
       rest = ap (λ (S : List _). outside (bytes kb) S q) c.remove.ensures.rest ∙ outside_without kb ps q c.law.ensures.distinct c.each.id c.args.last c.each.invariant.span ∙ c.each.invariant.rest;
+      ids = c.remove.ensures.ids ∙ c.each.invariant.ids;
       stood = λ j x e. c.each.invariant.stood j x (stood_without ps c.each.id c.law.ensures.distinct j x (ap (λ (S : List _). leaf_in S j) (sym c.remove.ensures.rest) ∙ e));
     }
 

@@ -10,6 +10,7 @@ invariant-each g l = record {
   content : IsContent (bytes g.K.AsBytes.bytes) l.leaves.pairs;
   span : ends (under (bytes g.K.AsBytes.bytes) l.leaves.pairs l.prefix) ≡ Some (l.id, l.last);
   rest : outside (bytes g.K.AsBytes.bytes) l.leaves.pairs l.prefix ≡ outside (bytes g.K.AsBytes.bytes) l.initial.leaves.pairs l.prefix;
+  ids : l.leaves.ids ≡ l.initial.leaves.ids;
   stood : (j : ℕ) (x : g.row.K.Denot × g.row.V.Denot) → leaf_in l.leaves.pairs j ≡ Some x → leaf_in l.initial.leaves.pairs j ≡ Some x;
 }
 
