@@ -1,5 +1,6 @@
 pub mod CallerLemmas
 pub mod Cells
 pub mod Copies
+pub mod Packed
 pub mod StoreSlots
 pub mod Walks

@@ -4,6 +4,7 @@
 #![tactic(auto)]
 
 mod cell_id;
+mod dense;
 mod slots;
 mod store;
 mod table;
