@@ -1,3 +1,4 @@
+pub mod Blocks
 pub mod CallerLemmas
 pub mod Cells
 pub mod Copies

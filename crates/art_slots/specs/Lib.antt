@@ -7,3 +7,4 @@ pub mod Dense
 pub mod DenseLends
 pub mod Table
 pub mod TableLends
+pub mod Words

@@ -9,9 +9,11 @@ mod slots;
 mod store;
 mod table;
 mod visits;
+mod words;
 
 pub use cell_id::CellId;
 pub use slots::Slots;
 pub use store::Store;
 pub use table::Table;
 pub use visits::Visits;
+pub use words::Words;
