@@ -1,7 +1,8 @@
 -- A list of numbers in blocks: what a read, a write and a new block are in the list.
-use Rattle.std.proofs.Common.{◌≡◌, ℕ, zero, suc, ◌+◌, ◌-◌, ◌*◌, ◌/◌, ◌%◌, ◌<◌, ◌≤◌, List, [], ◌∷◌, ◌++◌, length, get_or, set, take, drop, replicate, refl, sym, ap, subst, ◌∙◌, arith, length-append}
-use Rattle.std.proofs.lemmas.List.{get_or_append_left, get_or-append-add, set-append_left, set-append_right, replicate-append-replicate}
-use Rattle.std.proofs.lemmas.List.Elements.{All-head, All-tail}
+use Rattle.std.proofs.Common.{◌≡◌, ℕ, zero, suc, ◌+◌, ◌-◌, ◌*◌, ◌/◌, ◌%◌, ◌<◌, List, [], ◌∷◌, ◌++◌, length, get_or, set, drop, replicate, refl, sym, ap, subst, ◌∙◌, arith, length-append}
+use Rattle.std.proofs.lemmas.List.{get_or_append_left, get_or-append-add, set-append_left, set-append_right, replicate-append-replicate, length-replicate}
+use Rattle.std.proofs.Math.Seq.{drop-append_seam}
+use Rattle.std.proofs.lemmas.List.Elements.{All-head, All-tail, All-append, All-replicate}
 use Rattle.std.proofs.lemmas.List.Concat.{flat_map-append}
 use Rattle.std.proofs.lemmas.Nat.{div-add-mod', div_below, mod_below}
 use Rattle.art_slots.specs.Words.{joined, IsWhole, AreWhole, AddsZeros}
@@ -67,8 +68,21 @@ module _ (blocks : List Block) (whole : AreWhole blocks) (i : ℕ) (within : i <
       ∙ set-joined blocks whole (i / 64) (i % 64) v b block_below (mod_below i 64 (omega arith))
       ∙ ap (λ k. set (joined blocks) k v) (div-add-mod' i 64)
 
--- the list once blocks of zeros were added
-pub joined-more : (old new : List Block) (count : ℕ) → AddsZeros old new count → joined new ≡ joined old ++ replicate ((length new - length old) * 64) 0
-joined-more old new count a =
-    ap joined a.added ∙ flat_map-append (λ (b : Block). b.words) old (replicate (length new - length old) zeros)
-    ∙ ap (λ ws. joined old ++ ws) (zeros-joined (length new - length old))
+module _ (old new : List Block) (count : ℕ) (a : AddsZeros old new count) where
+  -- blocks are whole once blocks of zeros were added
+  pub whole-more : AreWhole old → AreWhole new
+  whole-more h = subst AreWhole (sym a.added) (All-append IsWhole old (replicate (length new - length old) zeros) h (All-replicate IsWhole (length new - length old) zeros refl))
+
+  -- the list then
+  pub joined-more : joined new ≡ joined old ++ replicate ((length new - length old) * 64) 0
+  joined-more =
+      ap joined a.added ∙ flat_map-append (λ (b : Block). b.words) old (replicate (length new - length old) zeros)
+      ∙ ap (λ ws. joined old ++ ws) (zeros-joined (length new - length old))
+
+  -- its new numbers are zeros
+  pub zeros-more : drop (length (joined old)) (joined new) ≡ replicate (length (joined new) - length (joined old)) 0
+  zeros-more =
+      let n : ℕ = (length new - length old) * 64 in
+      let e : length (joined new) - length (joined old) ≡ n =
+      omega (arith, ap length joined-more, length-append (joined old) (replicate n 0), length-replicate {A = ℕ} n 0) in
+      ap (drop (length (joined old))) joined-more ∙ drop-append_seam (joined old) (replicate n 0) ∙ ap (λ m. replicate m 0) (sym e)

@@ -94,7 +94,7 @@ impl Words {
         ensures enough { OnOk result (count ≤ length self.new) }
         ensures needed { OnErr result (length self.old < count) }
     {
-        let len = self.blocks.len() * BLOCK;
+        let len = self.len();
         if count <= len {
             return Ok(());
         }

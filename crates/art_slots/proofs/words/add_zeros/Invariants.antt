@@ -1,4 +1,4 @@
-use Rattle.std.proofs.Common.{◌≡◌, ◌++◌, ◌+◌, length, replicate}
+use Rattle.std.proofs.Common.{◌≡◌, ◌++◌, replicate}
 use Rattle.art_slots.proofs.words.add_zeros.Given as goal
 
 abbrev pub invariant-loop : goal.invariant-loop
