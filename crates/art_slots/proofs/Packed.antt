@@ -13,7 +13,7 @@ module _ {T : Type 0} where
   abbrev pub vals : List (Option T) → List T
   vals slots = filter_map (λ slot. slot) slots
 
-  -- slots that hold a list have its values
+  -- slots that hold a list have its items as their values
   pub vals-of : (xs : List (Option T)) (cs : List T) → Holds xs cs → vals xs ≡ cs
   vals-of [] [] h = refl
   vals-of [] (c ∷ cs) h = let e : None ≡ Some c = h 0 in absurd cc

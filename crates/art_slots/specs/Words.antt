@@ -6,11 +6,11 @@ use Rattle.art_slots.specs.declared.words.Block.{Block}
 abbrev pub joined : List Block → List ℕ
 joined blocks = flat_map (λ b. b.words) blocks
 
--- a block has 64 numbers
+-- the block has 64 numbers
 abbrev pub IsWhole : Block → Type 0
 IsWhole block = length block.words ≡ 64
 
--- each block has
+-- every block has 64 numbers
 abbrev pub AreWhole : List Block → Type 0
 AreWhole blocks = All IsWhole blocks
 

@@ -4,13 +4,15 @@ use Rattle.art_slots.specs.Words.{joined, AreWhole}
 use Rattle.art_slots.proofs.Blocks.{length-joined, whole-more, zeros-more}
 use Rattle.art_slots.proofs.words.Words.grow.Goals as goal
 
--- the blocks are whole where memory was reserved, and the list is as before
+-- the blocks are whole once memory is reserved
 whole : (c : goal.After-add_zeros) → AreWhole c.reserve.new.self.items
 whole c = subst AreWhole (sym c.in_ok-reserve.ensures.items) c.self.invariant.0
 
+-- the list is unchanged then
 same : (c : goal.After-add_zeros) → joined c.reserve.new.self.items ≡ c.args.self.now
 same c = ap joined c.in_ok-reserve.ensures.items ∙ c.self.view_is
 
+-- and so is its length
 long : (c : goal.After-add_zeros) → length c.reserve.new.self.items * 64 ≡ c.len-len.result
 long c = sym (length-joined _ (whole c)) ∙ ap length (same c) ∙ sym c.len-len.ensures.len
 
