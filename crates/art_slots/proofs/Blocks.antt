@@ -1,7 +1,6 @@
 -- A list of numbers in blocks: what a read, a write and a new block are in the list.
-use Rattle.std.proofs.Common.{◌≡◌, ℕ, zero, suc, ◌+◌, ◌-◌, ◌*◌, ◌/◌, ◌%◌, ◌<◌, List, [], ◌∷◌, ◌++◌, length, get_or, set, drop, replicate, refl, sym, ap, subst, ◌∙◌, arith, length-append}
+use Rattle.std.proofs.Common.{◌≡◌, ℕ, zero, suc, ◌+◌, ◌-◌, ◌*◌, ◌/◌, ◌%◌, ◌<◌, List, [], ◌∷◌, ◌++◌, length, get_or, set, replicate, refl, sym, ap, subst, ◌∙◌, arith, length-append}
 use Rattle.std.proofs.lemmas.List.{get_or_append_left, get_or-append-add, set-append_left, set-append_right, replicate-append-replicate, length-replicate}
-use Rattle.std.proofs.Math.Seq.{drop-append_seam}
 use Rattle.std.proofs.lemmas.List.Elements.{All-head, All-tail, All-append, All-replicate}
 use Rattle.std.proofs.lemmas.List.Concat.{flat_map-append}
 use Rattle.std.proofs.lemmas.Nat.{div-add-mod', div_below, mod_below}
@@ -80,9 +79,9 @@ module _ (old new : List Block) (count : ℕ) (a : AddsZeros old new count) wher
       ∙ ap (λ ws. joined old ++ ws) (zeros-joined (length new - length old))
 
   -- its new numbers are zeros
-  pub zeros-more : drop (length (joined old)) (joined new) ≡ replicate (length (joined new) - length (joined old)) 0
+  pub zeros-more : joined new ≡ joined old ++ replicate (length (joined new) - length (joined old)) 0
   zeros-more =
       let n : ℕ = (length new - length old) * 64 in
       let e : length (joined new) - length (joined old) ≡ n =
       omega (arith, ap length joined-more, length-append (joined old) (replicate n 0), length-replicate {A = ℕ} n 0) in
-      ap (drop (length (joined old))) joined-more ∙ drop-append_seam (joined old) (replicate n 0) ∙ ap (λ m. replicate m 0) (sym e)
+      joined-more ∙ ap (λ m. joined old ++ replicate m 0) (sym e)

@@ -2,7 +2,7 @@
 use Rattle.std.specs.Prelude.{◌≡◌, ℕ, List, Option, Some, None, map, slice_index_or, slice_set, refl}
 use Rattle.std.specs.Coded.{Coded, code_by, coded×, coded_ℕ, coded_list}
 
--- the values at the keys 0, 1, 2 and so on, the slab's next key, and how many values fit in its memory
+-- the values at the keys 0, 1, 2 and so on, the slab's next key, and how many values fit in memory
 pub record Dense (T : Type 0) : Type 0 where
   pub items : List T
   pub next : ℕ
@@ -21,7 +21,8 @@ dense_code {T} code =
 module _ {T : Type 0} where
   -- the slots have these values at the keys 0, 1, 2 and so on, and no other key has a value
   abbrev pub Holds : List (Option T) → List T → Type 0
-  Holds slots items = (key : ℕ) → slice_index_or slots key None ≡ slice_index_or (map Some items) key None
+  Holds slots items =
+      (key : ℕ) → slice_index_or slots key None ≡ slice_index_or (map Some items) key None
 
   -- the dense slab with another value at a key
   abbrev pub with_item : Dense T → ℕ → T → Dense T

@@ -25,7 +25,11 @@ impl<T> Model for Dense<T> {
 
     ghost coded = { dense_code T.code };
 
-    ghost view = { λ d. record { items = values d.slab; next = d.slab.vacant_key; capacity = d.slab.capacity } };
+    ghost view = { λ d. record {
+      items = values d.slab;
+      next = d.slab.vacant_key;
+      capacity = d.slab.capacity;
+    } };
 
     ghost invariant = { λ d. Holds d.slab.slots (values d.slab) };
 }

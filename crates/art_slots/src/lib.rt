@@ -1,6 +1,6 @@
 //! Records under numbers. In a [`Store`] and in [`Slots`] the records lie in the slots of a slab. A
-//! slot that loses its record is spare, and a later record goes into it without an allocation. In a
-//! [`Table`] the caller that puts a record into it names its number. [`Words`] is a list of numbers.
+//! slot that loses its record is spare, and a later record goes into it without an allocation. In
+//! a [`Table`] the caller names the number of each record. [`Words`] is a list of numbers.
 //!
 //! A contract sees a [`Store`] as the record at each number and the number of spare slots.
 #![tactic(auto)]

@@ -69,9 +69,13 @@ impl<T> Model for Table<T> {
 
     ghost coded = { store_code T.code };
 
-    ghost view = { λ t. record { slots = map held t.cells.items; spare = length t.cells.items - t.used } };
+    ghost view = { λ t. record {
+      slots = map held t.cells.items;
+      spare = length t.cells.items - t.used;
+    } };
 
-    ghost invariant = { λ t. (t.used ≡ count_by is_some (map held t.cells.items)) × (length t.cells.items < 2 ^ 61) };
+    ghost invariant = { λ t.
+        (t.used ≡ count_by is_some (map held t.cells.items)) × (length t.cells.items < 2 ^ 61) };
 }
 
 impl<T> Table<T> {
@@ -147,8 +151,8 @@ impl<T> Table<T> {
 }
 
 impl<T: Clone> Table<T> {
-    /// Returns a table with the same number of cells and a clone of each record at its number, or an
-    /// error if it fails to allocate.
+    /// Returns a table with the same number of cells and a clone of each record at its number, or
+    /// an error if it fails to allocate.
     pub fn clone(&self) -> Result<Self, AllocError>
         ensures cloned { IfOk result (AreClones T.is_clone self.now) }
         ensures used { IfOk result (λ copy. used_count copy ≡ used_count self.now) }
@@ -204,8 +208,8 @@ impl<T: Drop> Table<T> {
     }
 }
 
-/// Adds `count` empty cells in reserved memory. Each cell's number is the number of cells before it.
-/// If the slab's next key is another number, returns the error for memory and adds no more cells.
+/// Adds `count` empty cells in reserved memory. Each cell's number is the number of cells before
+/// it. If the slab's next key is another number, returns the error for memory and adds no more.
 fn add_empty<T>(cells: &mut Dense<Cell<T>>, count: usize) -> Result<(), AllocError>
     requires { length cells.old.items + count ≤ cells.old.capacity }
     ensures adds { AddsEmpty cells.old.items cells.new.items count }

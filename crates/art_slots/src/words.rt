@@ -1,5 +1,5 @@
 //! A list of numbers, in blocks.
-ghost use Rattle.std.specs.Prelude.{◌≡◌, ◌+◌, ◌-◌, ◌^◌, ◌<◌, ◌≤◌, [], length, take, drop, replicate, slice_index_or, slice_set, OnOk, OnErr, IfOk};
+ghost use Rattle.std.specs.Prelude.{◌≡◌, ◌+◌, ◌-◌, ◌^◌, ◌<◌, ◌≤◌, [], ◌++◌, length, take, replicate, slice_index_or, slice_set, OnOk, OnErr, IfOk};
 ghost use Rattle.art_slots.specs.Words.{AddsZeros};
 
 use crate::dense::Dense;
@@ -30,8 +30,8 @@ impl Clone for Block {
 
 /// A list of numbers, with 8 bytes for each. A contract sees the list.
 ///
-/// The numbers lie in blocks of 64, and the blocks in a slab at the keys 0, 1, 2 and so on. No block
-/// is removed until the list is cleared.
+/// The numbers lie in blocks of 64, and the blocks in a slab at the keys 0, 1, 2 and so on. No
+/// block is removed until the list is cleared.
 #[derive(Drop)]
 pub struct Words {
     blocks: Dense<Block>,
@@ -85,11 +85,11 @@ impl Words {
         self.blocks.get_mut(i / BLOCK).words[i % BLOCK] = word;
     }
 
-    /// Adds zeros to the list until it has at least `count` numbers. Returns an error if it fails to
-    /// allocate. The numbers are unchanged in both cases.
+    /// Adds zeros to the list until it has at least `count` numbers. Returns an error if it fails
+    /// to allocate. The numbers are unchanged in both cases.
     pub fn grow(&mut self, count: usize) -> Result<(), AllocError>
         ensures same { take (length self.old) self.new ≡ self.old }
-        ensures zeros { drop (length self.old) self.new ≡ replicate (length self.new - length self.old) 0 }
+        ensures zeros { self.new ≡ self.old ++ replicate (length self.new - length self.old) 0 }
         ensures grows { length self.old ≤ length self.new }
         ensures enough { OnOk result (count ≤ length self.new) }
         ensures needed { OnErr result (length self.old < count) }
@@ -124,7 +124,7 @@ impl Words {
 }
 
 /// Adds `count` blocks of zeros in reserved memory. Each block's key is the number of blocks before
-/// it. If the slab's next key is another number, returns the error for memory and adds no more blocks.
+/// it. If the slab's next key is another number, returns the error for memory and adds no more.
 fn add_zeros(blocks: &mut Dense<Block>, count: usize) -> Result<(), AllocError>
     requires { length blocks.old.items + count ≤ blocks.old.capacity }
     ensures adds { AddsZeros blocks.old.items blocks.new.items count }
