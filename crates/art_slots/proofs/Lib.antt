@@ -1,5 +1,7 @@
+pub mod Blocks
 pub mod CallerLemmas
 pub mod Cells
 pub mod Copies
+pub mod Packed
 pub mod StoreSlots
 pub mod Walks

@@ -3,5 +3,8 @@ pub mod Slots
 pub mod Chain
 pub mod SlotLends
 pub mod Lends
+pub mod Dense
+pub mod DenseLends
 pub mod Table
 pub mod TableLends
+pub mod Words

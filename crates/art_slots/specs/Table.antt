@@ -1,5 +1,5 @@
 -- The cells of a table.
-use Rattle.std.specs.Prelude.{◌≡◌, ◌+◌, ℕ, List, length, map, Option, Some, None, is_some, count_by, slice_index_or}
+use Rattle.std.specs.Prelude.{◌≡◌, ◌≤◌, ◌+◌, ℕ, List, length, map, Option, Some, None, is_some, count_by, slice_index_or}
 use Rattle.art_slots.specs.declared.table.Cell.{Cell}
 use Rattle.art_slots.specs.declared.table.Cell.TheVariants.{Full, Empty}
 
@@ -14,8 +14,9 @@ module _ {T : Type 0} where
   IsCopy is_clone (Full x) copy = (y : T) × (copy ≡ Full y) × is_clone x y
   IsCopy is_clone Empty copy = copy ≡ Empty
 
-  -- there are so many cells more, with no record
+  -- the same records are at the same numbers, and there are up to `count` more cells
   pub record AddsEmpty (old new : List (Cell T)) (count : ℕ) : Type 0 where
     pub same : (j : ℕ) → slice_index_or (map held new) j None ≡ slice_index_or (map held old) j None
     pub used : count_by is_some (map held new) ≡ count_by is_some (map held old)
-    pub more : length new ≡ length old + count
+    pub grows : length old ≤ length new
+    pub most : length new ≤ length old + count

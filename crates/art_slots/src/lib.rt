@@ -1,9 +1,12 @@
-//! Records under numbers, in the slots of a slab. A slot that a record leaves is spare, and serves a later record with no memory. In a [`Table`] whoever puts a record there names its number.
+//! Records under numbers. In a [`Store`] and in [`Slots`] the records lie in the slots of a slab. A
+//! slot that loses its record is spare, and a later record goes into it without an allocation. In
+//! a [`Table`] the caller names the number of each record. [`Words`] is a list of numbers.
 //!
-//! A contract sees a [`Store`] as the record at each number, and how many spare slots there are.
+//! A contract sees a [`Store`] as the record at each number and the number of spare slots.
 #![tactic(auto)]
 
 mod cell_id;
+mod dense;
 mod slots;
 mod store;
 mod table;

@@ -1,16 +1,18 @@
 //! Records at numbers that the caller names.
-ghost use Rattle.std.specs.Prelude.{◌≡◌, ◌≢◌, ℕ, ◌+◌, ◌^◌, ◌<◌, ◌≤◌, max, [], length, Some, None, IsSome, OnOk, IfOk, vec_len, vec_capacity};
+ghost use Rattle.std.specs.Prelude.{◌≡◌, ◌≢◌, ℕ, ◌+◌, ◌^◌, ◌<◌, ◌≤◌, max, [], length, Some, None, IsSome, OnOk, IfOk};
 ghost use Rattle.art_slots.specs.Store.{slot_at, used_count, SameRecords, AreClones};
 ghost use Rattle.art_slots.specs.Table.{held, AddsEmpty};
 ghost use Rattle.std.specs.Borrow.{Lends, sem};
 
+use crate::dense::Dense;
 use std::alloc::{AllocError, Global};
 use std::marker::Model;
 use std::mem;
 
-/// There are no more cells than this, so that their numbers fit where those of slots do.
+/// The most cells that a table has. Their numbers then fit wherever a slot's number does.
 const MOST: usize = (1 << 61) - 1;
 
+/// A place for one record.
 #[derive(Drop)]
 pub(crate) enum Cell<T> {
     Full(T),
@@ -20,6 +22,7 @@ pub(crate) enum Cell<T> {
 impl<T> Cell<T> {
     ghost use Rattle.art_slots.specs.contracts.table.Cell.{the_row};
 
+    /// Returns a mutable reference to the record of a full cell.
     fn record_mut(&mut self) -> &mut T
         requires { IsSome (held self.old) }
         ensures* lends { sem 𝓛 (Lends (the_row T.row) T.row self.entry result Cell.Full) }
@@ -45,15 +48,20 @@ impl<T: Clone> Clone for Cell<T> {
     }
 }
 
-/// Records in cells, which follow one another in memory. Whoever puts a record there names the number of its cell. A contract sees them as a store whose spare slots are the empty cells.
+/// Records in cells. The caller that puts a record into the table names the number of its cell. A
+/// contract sees a table as a store whose spare slots are the empty cells.
+///
+/// The cells lie in a slab, at the keys 0, 1, 2 and so on. None is removed until the table is
+/// cleared.
 #[derive(Drop)]
 pub struct Table<T> {
-    cells: Vec<Cell<T>>,
+    cells: Dense<Cell<T>>,
+    // The number of full cells.
     used: usize,
 }
 
 impl<T> Model for Table<T> {
-    ghost use Rattle.std.specs.Prelude.{◌≡◌, ◌<◌, ◌^◌, ◌-◌, map, length, is_some, count_by, vec_len};
+    ghost use Rattle.std.specs.Prelude.{◌≡◌, ◌<◌, ◌^◌, ◌-◌, map, length, is_some, count_by};
     ghost use Rattle.art_slots.specs.Store.{Store as Records, store_code};
     ghost use Rattle.art_slots.specs.Table.{held};
 
@@ -61,25 +69,29 @@ impl<T> Model for Table<T> {
 
     ghost coded = { store_code T.code };
 
-    ghost view = { λ t. record { slots = map held t.cells.items; spare = vec_len t.cells - t.used } };
+    ghost view = { λ t. record {
+      slots = map held t.cells.items;
+      spare = length t.cells.items - t.used;
+    } };
 
-    ghost invariant = { λ t. (t.used ≡ count_by is_some (map held t.cells.items)) × (vec_len t.cells < 2 ^ 61) };
+    ghost invariant = { λ t.
+        (t.used ≡ count_by is_some (map held t.cells.items)) × (length t.cells.items < 2 ^ 61) };
 }
 
 impl<T> Table<T> {
     ghost use Rattle.art_slots.specs.TableLends.{lends_cell};
 
-    /// No cells, which ask for no memory.
+    /// Returns a table with no cells. Does not allocate.
     pub fn new(alloc: Global) -> Self
         ensures { result.slots ≡ [] }
     {
         Table {
-            cells: Vec::new(alloc),
+            cells: Dense::new(alloc),
             used: 0,
         }
     }
 
-    /// How many cells there are: their numbers are less.
+    /// Returns the number of cells. The cells have the numbers from 0 on.
     pub fn len(&self) -> usize
         ensures value { result ≡ length self.now.slots }
         ensures small { result < 2 ^ 61 }
@@ -87,7 +99,7 @@ impl<T> Table<T> {
         self.cells.len()
     }
 
-    /// How many records there are.
+    /// Returns the number of records.
     #[inline(always)]
     pub fn used(&self) -> usize
         ensures count { result ≡ used_count self.now }
@@ -96,29 +108,30 @@ impl<T> Table<T> {
         self.used
     }
 
-    /// The record at a number.
+    /// Returns the record at a number.
     #[inline(always)]
     pub fn read(&self, id: usize) -> &T
         requires { IsSome (slot_at self.now id) }
         ensures value { slot_at self.now id ≡ Some result.now }
     {
-        match &self.cells[id] {
+        match self.cells.read(id) {
             Cell::Full(record) => record,
             Cell::Empty => unreachable!(),
         }
     }
 
-    /// The record at a number, for writing.
+    /// Returns a mutable reference to the record at a number.
     #[inline(always)]
     pub fn get_mut(&mut self, id: usize) -> &mut T
         requires { IsSome (slot_at self.old id) }
         ensures* writes_back { sem 𝓛 (lends_cell T.row self.entry id result) }
         ensures value { slot_at self.old id ≡ Some result.now }
     {
-        self.cells[id].record_mut()
+        self.cells.get_mut(id).record_mut()
     }
 
-    /// Makes cells until there are so many, as long as there is memory. The records stand whatever the answer.
+    /// Adds empty cells until there are at least `count`. Returns an error if it fails to allocate.
+    /// The records are unchanged in both cases. After an error there may be more cells than before.
     pub fn grow(&mut self, count: usize) -> Result<(), AllocError>
         ensures same { SameRecords self.old self.new }
         ensures used { used_count self.new ≡ used_count self.old }
@@ -134,13 +147,13 @@ impl<T> Table<T> {
         }
         let missing = count - self.cells.len();
         self.cells.reserve(missing)?;
-        add_empty(&mut self.cells, missing);
-        Ok(())
+        add_empty(&mut self.cells, missing)
     }
 }
 
 impl<T: Clone> Table<T> {
-    /// A table with a clone of each record under its number, and as many cells.
+    /// Returns a table with the same number of cells and a clone of each record at its number, or
+    /// an error if it fails to allocate.
     pub fn clone(&self) -> Result<Self, AllocError>
         ensures cloned { IfOk result (AreClones T.is_clone self.now) }
         ensures used { IfOk result (λ copy. used_count copy ≡ used_count self.now) }
@@ -164,7 +177,7 @@ impl<T: Drop> Table<T> {
         ensures used { used_count self.new ≡ used_count self.old + 1 }
         ensures len { length self.new.slots ≡ length self.old.slots }
     {
-        self.cells[id] = Cell::Full(fresh);
+        *self.cells.get_mut(id) = Cell::Full(fresh);
         self.used += 1;
     }
 
@@ -178,7 +191,7 @@ impl<T: Drop> Table<T> {
         ensures used { used_count self.new + 1 ≡ used_count self.old }
         ensures len { length self.new.slots ≡ length self.old.slots }
     {
-        match mem::replace(&mut self.cells[id], Cell::Empty) {
+        match mem::replace(self.cells.get_mut(id), Cell::Empty) {
             Cell::Full(record) => {
                 self.used -= 1;
                 record
@@ -187,7 +200,7 @@ impl<T: Drop> Table<T> {
         }
     }
 
-    /// Drops every record and every cell, and keeps the memory.
+    /// Drops all records, removes all cells, and keeps the memory.
     pub fn clear(&mut self)
         ensures { self.new.slots ≡ [] }
     {
@@ -196,12 +209,18 @@ impl<T: Drop> Table<T> {
     }
 }
 
-// Adds so many empty cells, for which there is room.
-fn add_empty<T>(cells: &mut Vec<Cell<T>>, count: usize)
-    requires { vec_len cells.old + count ≤ vec_capacity cells.old }
-    ensures { AddsEmpty cells.old.items cells.new.items count }
+/// Adds `count` empty cells in reserved memory. Each cell's number is the number of cells before
+/// it. If the slab's next key is another number, returns the error for memory and adds no more.
+fn add_empty<T>(cells: &mut Dense<Cell<T>>, count: usize) -> Result<(), AllocError>
+    requires { length cells.old.items + count ≤ cells.old.capacity }
+    ensures adds { AddsEmpty cells.old.items cells.new.items count }
+    ensures all { OnOk result (length cells.new.items ≡ length cells.old.items + count) }
 {
     for _ in 0..count {
+        if !cells.has_next() {
+            return Err(AllocError);
+        }
         cells.push_reserved(Cell::Empty);
     }
+    Ok(())
 }

@@ -1,25 +1,52 @@
-//! A list of numbers.
-ghost use Rattle.std.specs.Prelude.{◌≡◌, ◌<◌, ◌≤◌, ◌^◌, ℕ, [], length, take, slice_index_or, slice_set, OnOk, OnErr, IfOk, vec_len};
+//! A list of numbers, in blocks.
+ghost use Rattle.std.specs.Prelude.{◌≡◌, ◌+◌, ◌-◌, ◌^◌, ◌<◌, ◌≤◌, [], ◌++◌, length, take, replicate, slice_index_or, slice_set, OnOk, OnErr, IfOk};
+ghost use Rattle.art_slots.specs.Words.{AddsZeros};
 
+use crate::dense::Dense;
 use std::alloc::{AllocError, Global};
 use std::marker::Model;
 
+/// The number of numbers in a block.
+const BLOCK: usize = 64;
+
+/// The most numbers that a list has: whole blocks, and fewer than 2^61 numbers.
+const MOST: usize = (1 << 61) - BLOCK;
+
+/// Numbers that follow one another.
+#[derive(Drop)]
+pub(crate) struct Block {
+    words: [usize; BLOCK],
+}
+
+impl Clone for Block {
+    ghost use Rattle.std.specs.Prelude.{◌≡◌};
+
+    ghost is_clone = { λ block copy. copy ≡ block };
+
+    fn clone(&self) -> Result<Self, AllocError> {
+        Ok(Block { words: self.words })
+    }
+}
+
+/// A list of numbers, with 8 bytes for each. A contract sees the list.
+///
+/// The numbers lie in blocks of 64, and the blocks in a slab at the keys 0, 1, 2 and so on. No
+/// block is removed until the list is cleared.
 #[derive(Drop)]
 pub struct Words {
-    items: Vec<usize>,
+    blocks: Dense<Block>,
 }
 
 impl Model for Words {
-    ghost use Rattle.std.specs.Prelude.{List, ℕ, ◌<◌, ◌^◌, vec_len};
-    ghost use Rattle.std.specs.Coded.{coded_list, coded_ℕ};
+    ghost use Rattle.std.specs.Prelude.{◌<◌, ◌^◌, ℕ, List, length};
 
     ghost Value = { List ℕ };
 
-    ghost coded = { coded_list coded_ℕ };
+    ghost use Rattle.art_slots.specs.Words.{joined, AreWhole};
 
-    ghost view = { λ w. w.items.items };
+    ghost view = { λ w. joined w.blocks.items };
 
-    ghost invariant = { λ w. vec_len w.items < 2 ^ 61 };
+    ghost invariant = { λ w. AreWhole w.blocks.items × (length w.blocks.items < 2 ^ 55) };
 }
 
 impl Words {
@@ -28,7 +55,7 @@ impl Words {
         ensures { result ≡ [] }
     {
         Words {
-            items: Vec::new(alloc),
+            blocks: Dense::new(alloc),
         }
     }
 
@@ -37,7 +64,7 @@ impl Words {
         ensures len { result ≡ length self.now }
         ensures small { result < 2 ^ 61 }
     {
-        self.items.len()
+        self.blocks.len() * BLOCK
     }
 
     /// Returns the number at an index.
@@ -46,7 +73,7 @@ impl Words {
         requires { i < length self.now }
         ensures { result ≡ slice_index_or self.now i 0 }
     {
-        self.items[i]
+        self.blocks.read(i / BLOCK).words[i % BLOCK]
     }
 
     /// Writes a number at an index.
@@ -55,24 +82,28 @@ impl Words {
         requires { i < length self.old }
         ensures { self.new ≡ slice_set self.old i word }
     {
-        self.items[i] = word;
+        self.blocks.get_mut(i / BLOCK).words[i % BLOCK] = word;
     }
 
-    /// Makes the list longer, with zeros, until it has at least `count` numbers. Returns an error
-    /// if it fails to allocate. The numbers are unchanged in both cases.
+    /// Adds zeros to the list until it has at least `count` numbers. Returns an error if it fails
+    /// to allocate. The numbers are unchanged in both cases.
     pub fn grow(&mut self, count: usize) -> Result<(), AllocError>
         ensures same { take (length self.old) self.new ≡ self.old }
+        ensures zeros { self.new ≡ self.old ++ replicate (length self.new - length self.old) 0 }
         ensures grows { length self.old ≤ length self.new }
         ensures enough { OnOk result (count ≤ length self.new) }
         ensures needed { OnErr result (length self.old < count) }
     {
-        if count <= self.items.len() {
+        let len = self.len();
+        if count <= len {
             return Ok(());
         }
-        if count >= 1 << 61 {
+        if count > MOST {
             return Err(AllocError);
         }
-        self.items.resize(count, 0)
+        let missing = (count - len - 1) / BLOCK + 1;
+        self.blocks.reserve(missing)?;
+        add_zeros(&mut self.blocks, missing)
     }
 
     /// Returns a copy, or an error if it fails to allocate.
@@ -80,7 +111,7 @@ impl Words {
         ensures { IfOk result (λ copy. copy ≡ self.now) }
     {
         Ok(Words {
-            items: self.items.clone()?,
+            blocks: self.blocks.clone()?,
         })
     }
 
@@ -88,6 +119,22 @@ impl Words {
     pub fn clear(&mut self)
         ensures { self.new ≡ [] }
     {
-        self.items.clear();
+        self.blocks.clear();
     }
+}
+
+/// Adds `count` blocks of zeros in reserved memory. Each block's key is the number of blocks before
+/// it. If the slab's next key is another number, returns the error for memory and adds no more.
+fn add_zeros(blocks: &mut Dense<Block>, count: usize) -> Result<(), AllocError>
+    requires { length blocks.old.items + count ≤ blocks.old.capacity }
+    ensures adds { AddsZeros blocks.old.items blocks.new.items count }
+    ensures all { OnOk result (length blocks.new.items ≡ length blocks.old.items + count) }
+{
+    for _ in 0..count {
+        if !blocks.has_next() {
+            return Err(AllocError);
+        }
+        blocks.push_reserved(Block { words: [0; BLOCK] });
+    }
+    Ok(())
 }

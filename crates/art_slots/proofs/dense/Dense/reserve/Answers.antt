@@ -1,0 +1,5 @@
+use Rattle.art_slots.proofs.Packed.{length-vals}
+use Rattle.art_slots.proofs.dense.Dense.reserve.Goals as goal
+
+pub returns-clause-room : goal.returns-clause-room
+returns-clause-room g c = rw (length-vals c.reserve.new.self.slots) c.reserve.ensures.room
