@@ -12,7 +12,7 @@ mod placing;
 
 use crate::chain::Chain;
 use crate::following::Following;
-use crate::row::{Position, ROW, Row};
+use crate::row::{HALF, Position, ROW, Row};
 use crate::run::Run;
 use art_slots::{CellId, Table, Visits};
 use std::alloc::{AllocError, Global};
@@ -21,10 +21,6 @@ use std::mem;
 
 /// The number of rows is less than this, so that all numbers of cells are small.
 const MOST_ROWS: usize = 1 << 56;
-
-/// The number of placements that each spare row is sufficient for once the others are full. A row
-/// begins with one leaf, and only beside a full row does another begin.
-const SURE: usize = 31;
 
 /// A key and its value.
 #[derive(Drop)]
@@ -592,7 +588,7 @@ impl<K: Drop, V: Drop> Leaves<K, V> {
         ensures needed { OnErr result (self.old.spare_rows < n) }
         ensures cells { self.old.cells ≤ self.new.cells }
     {
-        let sure = n / SURE + self.records.used() / ROW + 2;
+        let sure = n.div_ceil(HALF) + self.records.used().div_ceil(ROW) + 1;
         let rows = if sure < n { sure } else { n };
         if rows <= self.rows.spare() {
             return Ok(());

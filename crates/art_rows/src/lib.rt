@@ -15,5 +15,5 @@ mod run;
 pub use art_slots::{CellId, Visits};
 pub use following::Following;
 pub use leaves::Leaves;
-pub use row::Position;
+pub use row::{HALF, Position};
 pub use run::Run;

@@ -1,10 +1,9 @@
 //! Placements of leaves.
-ghost use Rattle.std.specs.Prelude.{◌≡◌, ◌≢◌, ℕ, ◌+◌, ◌-◌, ◌<◌, ◌≤◌, ◌++◌, List, [], ◌∷◌, length, take, drop, Some, None, IsSome, IfSome, IfNone};
-ghost use Rattle.art_rows.specs.Numbers.{leaf_in, Has, last_number, number_after, with_pair_after, with_number, with_pair};
-ghost use Rattle.art_rows.specs.Rows.{position_at, nth, IsSpot, row_end, lengths};
-ghost use Rattle.art_rows.specs.RowRoom.{row_room};
-ghost use Rattle.art_rows.specs.Blocks.{row_of, HasWay, IsCrowded, IsAfter, IsShut, GoesBeyond};
-ghost use Rattle.art_rows.specs.Leaves.{room, end_room, spot_index};
+ghost use Rattle.std.specs.Prelude.{◌≡◌, ◌+◌, ◌<◌, ◌≤◌, ◌++◌, [], ◌∷◌, length, take, drop, None, IsSome, IsTrue, IfSome, IfNone};
+ghost use Rattle.art_rows.specs.Numbers.{leaf_in, Has, last_number, number_after, with_pair_after, with_pair};
+ghost use Rattle.art_rows.specs.Rows.{position_at, IsSpot, row_end};
+ghost use Rattle.art_rows.specs.Blocks.{row_of, HasRoomAfter, HasWay, IsCrowded, IsRowLast, IsAfter};
+ghost use Rattle.art_rows.specs.Leaves.{room, turns_of, end_room, spot_index};
 
 use crate::leaves::{Leaf, Leaves};
 use crate::row::{Position, ROW, Row};
@@ -28,14 +27,26 @@ impl<K: Drop, V: Drop> Leaves<K, V> {
         self.rows.next_of(row)
     }
 
-    /// Returns the leaf that has to move before a pair can be placed after `prev`: the last leaf of
-    /// a full row. `seen` is a guess of the position of `prev`, and the call sets it to that
-    /// position.
+    /// Returns `true` if the row after another is not full, or if there is none.
+    fn has_room_after(&self, row: usize) -> bool
+        requires { Has self.now.rows row }
+        ensures { IsTrue result → HasRoomAfter self.now.rows row }
+    {
+        match self.row_after(row) {
+            None => true,
+            Some(next) => self.row_len(next) < ROW,
+        }
+    }
+
+    /// Returns the last leaf of the row of `prev`, if the row has to be cut before a pair can be
+    /// placed after `prev`. `seen` is a guess of the position of `prev`, and the call sets it to
+    /// that position.
     pub fn crowd(&self, prev: Option<CellId>, seen: &mut Position) -> Option<CellId>
         requires { IfSome prev (Has self.now.pairs) }
         ensures none { IfNone result (HasWay self.now.rows prev) }
         ensures some { IfSome result (IsCrowded self.now.rows prev) }
         ensures has { IfSome result (Has self.now.pairs) }
+        ensures last { IfSome result (IsRowLast self.now.rows) }
     {
         let _ = &self.rows;
         let Some(id) = prev else {
@@ -44,15 +55,18 @@ impl<K: Drop, V: Drop> Leaves<K, V> {
         let position = self.position_near(id, *seen);
         *seen = position;
         let row = self.rows.read(position.row);
-        if row.len() < ROW || position.place == ROW - 1 {
+        if row.len() < ROW {
+            return None;
+        }
+        if position.place == ROW - 1 && self.has_room_after(position.row) {
             return None;
         }
         Some(row.run().at(ROW - 1))
     }
 
-    /// Places a pair after the leaf `prev`, or before all leaves, and returns its cell. No leaf has
-    /// to move. `seen` is a guess of the position of `prev`. If it is right, no row is searched.
-    /// Does not allocate.
+    /// Places a pair after the leaf `prev`, or before all leaves, and returns its cell. No leaf
+    /// moves. `seen` is a guess of the position of `prev`. If it is right, no row is searched. Does
+    /// not allocate.
     pub fn insert(&mut self, prev: Option<CellId>, seen: Position, key: K, value: V) -> CellId
         requires room { 0 < room self.old }
         requires prev { IfSome prev (Has self.old.pairs) }
@@ -61,6 +75,10 @@ impl<K: Drop, V: Drop> Leaves<K, V> {
         ensures lies { result < self.old.cells }
         ensures placed { self.new.pairs ≡ with_pair_after prev (result, (key, value)) self.old.pairs }
         ensures cells { self.new.cells ≡ self.old.cells }
+        ensures spare { self.old.spare_rows ≤ self.new.spare_rows + 1 }
+        ensures turns { turns_of self.old ≤ turns_of self.new + 1 }
+        ensures kept { IfSome prev (λ i. IfSome (leaf_in self.old.rows (row_of i))
+            (λ ids. length ids < ROW → self.new.spare_rows ≡ self.old.spare_rows)) }
         ensures room { room self.old ≤ room self.new + 1 }
     {
         let _ = &self.rows;
@@ -76,37 +94,15 @@ impl<K: Drop, V: Drop> Leaves<K, V> {
         if position.place == 0 {
             return self.begin(prev, None, key, value);
         }
-        self.put_beyond(prev, position.row, key, value)
-    }
-
-    /// Places a pair after the leaf `prev` in a full row, and returns its cell. The last leaf of
-    /// the row, `last`, moves to the next row. Also returns the cell that it moved to. Does not
-    /// allocate.
-    pub fn insert_crowded(
-        &mut self,
-        prev: Option<CellId>,
-        seen: Position,
-        last: CellId,
-        key: K,
-        value: V,
-    ) -> (CellId, CellId)
-        requires room { 0 < room self.old }
-        requires prev { IfSome prev (Has self.old.pairs) }
-        requires has { Has self.old.pairs last }
-        requires crowded { IsCrowded self.old.rows prev last }
-        ensures moved { leaf_in self.old.pairs result.1 ≡ None }
-        ensures fresh { leaf_in (with_number self.old.pairs last result.1) result.0 ≡ None }
-        ensures placed { self.new.pairs ≡ with_pair_after prev (result.0, (key, value)) (with_number self.old.pairs last result.1) }
-        ensures cells { self.new.cells ≡ self.old.cells }
-        ensures room { room self.old ≤ room self.new + 1 }
-    {
-        let _ = &self.rows;
-        let moved = self.carry(last);
-        let _ = &self.rows;
-        let after = prev;
-        match self.spot(after, seen) {
-            Some(position) => (self.put(prev, position, key, value), moved),
-            None => unreachable!(),
+        match self.row_after(position.row) {
+            None => self.begin(prev, Some(position.row), key, value),
+            Some(next) => {
+                let start = Position {
+                    row: next,
+                    place: 0,
+                };
+                self.put(prev, start, key, value)
+            }
         }
     }
 
@@ -132,56 +128,6 @@ impl<K: Drop, V: Drop> Leaves<K, V> {
             return self.put(Some(last), end, key, value);
         }
         self.begin(Some(last), Some(position.row), key, value)
-    }
-
-    /// Moves the last leaf of a full row to the next row, and returns the cell that it moved to.
-    #[cold]
-    #[inline(never)]
-    fn carry(&mut self, last: CellId) -> CellId
-        requires room { 0 < room self.old }
-        requires has { Has self.old.pairs last }
-        requires row { IfSome (leaf_in self.old.rows (row_of last)) (λ ids. (length ids ≡ ROW) × (nth ids (ROW - 1) ≡ Some last)) }
-        ensures fresh { leaf_in self.old.pairs result ≡ None }
-        ensures pairs { self.new.pairs ≡ with_number self.old.pairs last result }
-        ensures cells { self.new.cells ≡ self.old.cells }
-        ensures row { IfSome (leaf_in self.new.rows (row_of last)) (λ ids. length ids + 1 ≡ ROW) }
-        ensures room { (ids : List ℕ) → length ids ≡ ROW → room self.old ≤ row_room (lengths (with_pair self.new.rows (row_of last) ids)) self.new.spare_rows + 1 }
-    {
-        let row = last.number() / ROW;
-        let before = self.rows.read(row).run().at(ROW - 2);
-        let place = ROW - 1;
-        let (key, value) = self.remove_at(last, Position { row, place });
-        let _ = &self.rows;
-        self.put_beyond(Some(before), row, key, value)
-    }
-
-    /// Places a pair after the last leaf of a row: in the next row if that is not full, or else in
-    /// a new row between the two.
-    #[cold]
-    #[inline(never)]
-    fn put_beyond(&mut self, prev: Option<CellId>, row: usize, key: K, value: V) -> CellId
-        requires prev { IfSome prev (Has self.old.pairs) }
-        requires has { Has self.old.rows row }
-        requires index { spot_index prev self.old.pairs ≡ row_end (Some row) self.old.rows }
-        requires room { IsShut self.old.rows row → 0 < self.old.spare_rows }
-        ensures fresh { leaf_in self.old.pairs result ≡ None }
-        ensures lies { result < self.old.cells }
-        ensures placed { self.new.pairs ≡ with_pair_after prev (result, (key, value)) self.old.pairs }
-        ensures cells { self.new.cells ≡ self.old.cells }
-        ensures rows { GoesBeyond self.old.rows self.old.spare_rows self.new.rows self.new.spare_rows row result }
-        ensures apart { row_of result ≢ row }
-    {
-        let _ = &self.rows;
-        if let Some(next) = self.row_after(row) {
-            if self.row_len(next) < ROW {
-                let start = Position {
-                    row: next,
-                    place: 0,
-                };
-                return self.put(prev, start, key, value);
-            }
-        }
-        self.begin(prev, Some(row), key, value)
     }
 
     /// Returns the position for a pair after `prev`, or before all leaves, or `None` if there are
