@@ -5,7 +5,7 @@ use Rattle.std.proofs.lemmas.List.{length-append, length-take-le, length-drop}
 use Rattle.art_rows.specs.Numbers.{Numbered, leaf_in, Has, AreDistinct, number_after, number_before, with_pair}
 use Rattle.art_rows.specs.Links.{is_at}
 use Rattle.art_rows.specs.Rows.{position_at, place_in, nth, numbers, row_end}
-use Rattle.art_rows.specs.Blocks.{row_of, HasRoomAfter, HasWay, IsCrowded, IsRowLast, IsAfter}
+use Rattle.art_rows.specs.Blocks.{row_of, HasPlace, HasRoomAfter, HasWay, IsCrowded, IsRowLast, IsAfter}
 use Rattle.art_rows.specs.Leaves.{index_of, spot_index}
 use Rattle.art_rows.specs.Filing.{Files}
 use Rattle.art_rows.specs.declared.leaves.Leaf.{Leaf}
@@ -51,7 +51,8 @@ module _ {K V : Type 0} {leaves : ℕ → Option (Leaf K V)} {rows : List (Numbe
     own_row : p.row ≡ row_of i
     own_row = (located_at f i has p is).0
 
-    -- where the row is not full, or the leaf is the last of it and the next row is not, a pair may come after it
+    -- a pair may come after the leaf, if its row is not full, or if the leaf is the last and the
+    -- next row is not full
     pub has_way : (length ids < 64) ⊎ ((p.place ≡ 63) × HasRoomAfter rows p.row) → HasWay rows (Some i)
     has_way h = rw own_ids (λ full. elim h [
       | inl l ↦ absurd (omega arith)
@@ -92,12 +93,13 @@ module _ {K V : Type 0} {leaves : ℕ → Option (Leaf K V)} {rows : List (Numbe
       let b : length ids ≡ 64 → (place_in ids i + 1 ≡ 64) × HasRoomAfter rows (row_of i) = rw own at way in
       (a ∙ (b full).0, subst (HasRoomAfter rows) (sym after.0) (b full).1)
 
--- the row of a leaf, where a place after it is in a full row
-pub full_after : (rows : List (Numbered (List ℕ))) (prev : Option ℕ) (p : Position) → IfSome prev (λ i. IsAfter rows i p) → (ids : List ℕ) → leaf_in rows p.row ≡ Some ids → length ids ≡ 64 → (Q : Type 0) → IfSome prev (λ i. IfSome (leaf_in rows (row_of i)) (λ ids. length ids < 64 → Q))
-full_after rows None p after ids at full Q = tt
-full_after rows (Some i) p after ids at full Q =
+-- a leaf of a full row has no place after it in its row
+pub no_place : (rows : List (Numbered (List ℕ))) (prev : Option ℕ) (p : Position) → IfSome prev (λ i. IsAfter rows i p) → (ids : List ℕ) → leaf_in rows p.row ≡ Some ids → length ids ≡ 64 → HasPlace rows prev → ⊥
+no_place rows None p after ids at full h = h
+no_place rows (Some i) p after ids at full h =
     let own : leaf_in rows (row_of i) ≡ Some ids = ap (leaf_in rows) (sym after.0) ∙ at in
-    rw own (λ less. absurd (omega arith))
+    let less : length ids < 64 = rw own at h in
+    omega arith
 
 -- ---- a row without its last number
 

@@ -13,7 +13,7 @@ use Rattle.art_rows.proofs.RowChanges.{spot-lacks, spot-row}
 use Rattle.art_rows.proofs.RowRoomLemmas.{load_full, load_ended, load_front, room_spare, turns_begun, turns_put, room_taken, room_ended, room_more, row_end_room-last}
 
 -- the lengths, where one row is shown
-lengths_at : (xs ys : List (Numbered (List ℕ))) (r : ℕ) (ids : List ℕ) → lengths (xs ++ (r, ids) ∷ ys) ≡ lengths xs ++ length ids ∷ lengths ys
+pub lengths_at : (xs ys : List (Numbered (List ℕ))) (r : ℕ) (ids : List ℕ) → lengths (xs ++ (r, ids) ∷ ys) ≡ lengths xs ++ length ids ∷ lengths ys
 lengths_at xs ys r ids = map-append (λ (q : Numbered (List ℕ)). length q.1) xs ((r, ids) ∷ ys)
 
 -- and where two are
@@ -23,10 +23,10 @@ lengths_two xs ys r s ids more = lengths_at xs ((s, more) ∷ ys) r ids ∙ sym 
 -- ---- full rows
 
 module _ (rows : List (Numbered (List ℕ))) (r : ℕ) (ids : List ℕ) (at : leaf_in rows r ≡ Some ids) where
-  parts : Split rows r
+  pub parts : Split rows r
   parts = split rows r (rw at refl)
 
-  shown : rows ≡ parts.before ++ (r, ids) ∷ parts.after
+  pub shown : rows ≡ parts.before ++ (r, ids) ∷ parts.after
   shown =
       let a : Some parts.pair ≡ Some ids = sym (leaf_in-split r parts.pair parts.after parts.before parts.lacks) ∙ sym (ap (λ rs. leaf_in rs r) parts.is) ∙ at in
       let b : parts.pair ≡ ids = cc in

@@ -1,5 +1,5 @@
 -- The numbers of a block: a leaf's number tells the block, and with it the row, that it is of.
-use Rattle.std.specs.Prelude.{◌≡◌, ℕ, ◌+◌, ◌-◌, ◌/◌, ◌<◌, ◌≤◌, List, [], ◌∷◌, length, map, count_by, eqb, true, Option, Some, None, IfSome}
+use Rattle.std.specs.Prelude.{◌≡◌, ◌⊎◌, ℕ, ◌+◌, ◌-◌, ◌/◌, ◌<◌, ◌≤◌, List, [], ◌∷◌, ◌++◌, length, map, count_by, eqb, true, Option, Some, None, IfSome}
 use Rattle.art_rows.specs.Numbers.{Numbered, leaf_in, number_after}
 use Rattle.art_rows.specs.Rows.{among, place_in, nth}
 use Rattle.art_rows.specs.declared.row.Position.{Position}
@@ -31,11 +31,17 @@ abbrev pub AreOwn : List (Numbered (List ℕ)) → Type 0
 AreOwn [] = Unit {0}
 AreOwn (r ∷ rs) = ((n : ℕ) → among r.1 n ≡ true → row_of n ≡ r.0) × AreOwn rs
 
+-- the row of this leaf is not full
+abbrev pub HasPlace : List (Numbered (List ℕ)) → Option ℕ → Type 0
+HasPlace rows None = ⊥
+HasPlace rows (Some i) = IfSome (leaf_in rows (row_of i)) (λ ids. length ids < ROW)
+
 -- the row after this one, if there is one, is not full
 abbrev pub HasRoomAfter : List (Numbered (List ℕ)) → ℕ → Type 0
 HasRoomAfter rows r = IfSome (number_after rows r) (λ n. IfSome (leaf_in rows n) (λ ids. length ids < ROW))
 
--- a pair may come after this leaf, or in front of all: in a full row only after its last leaf, if the row after it is not full
+-- a pair may come after this leaf, or in front of all: in a full row only after its last leaf, if
+-- the row after it is not full
 abbrev pub HasWay : List (Numbered (List ℕ)) → Option ℕ → Type 0
 HasWay rows None = Unit {0}
 HasWay rows (Some i) = IfSome (leaf_in rows (row_of i)) (λ ids. length ids ≡ ROW → (place_in ids i + 1 ≡ ROW) × HasRoomAfter rows (row_of i))
@@ -57,3 +63,20 @@ IsRowLast rows last = IfSome (leaf_in rows (row_of last)) (λ ids. nth ids (leng
 -- the place after a leaf in its row
 abbrev pub IsAfter : List (Numbered (List ℕ)) → ℕ → Position → Type 0
 IsAfter rows i p = (p.row ≡ row_of i) × IfSome (leaf_in rows (row_of i)) (λ ids. p.place ≡ place_in ids i + 1)
+
+-- the last `count` numbers of a full row have moved to a new row after it
+pub record IsCut (start now : List (Numbered (List ℕ))) (row count : ℕ) : Type 0 where
+  pub before : List (Numbered (List ℕ))
+  pub after : List (Numbered (List ℕ))
+  pub was : List ℕ
+  pub low : List ℕ
+  pub high : Numbered (List ℕ)
+  pub start_is : start ≡ before ++ (row, was) ∷ after
+  pub full : length was ≡ ROW
+  pub now_is : now ≡ before ++ (row, low) ∷ high ∷ after
+  pub low_len : length low + count ≡ ROW
+  pub high_len : length high.1 ≡ count
+
+-- the number is one of the row of another, or of the row after that
+abbrev pub IsNear : List (Numbered (List ℕ)) → ℕ → ℕ → Type 0
+IsNear rows other n = (row_of n ≡ row_of other) ⊎ (number_after rows (row_of other) ≡ Some (row_of n))

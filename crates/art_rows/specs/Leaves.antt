@@ -7,7 +7,8 @@ use Rattle.art_rows.specs.Rows.{place_in, lengths}
 use Rattle.art_rows.specs.RowRoom.{turns, row_room, row_end_room}
 use Rattle.art_rows.specs.declared.row.TheConstants.{ROW}
 
--- the pairs in order, each under its number; the rows of their numbers; the spare rows; and how many cells there are
+-- the pairs in order, each under its number; the rows of their numbers; the number of spare rows;
+-- and the number of cells
 pub record Leaves (K V : Type 0) : Type 0 where
   pub pairs : List (Numbered (K × V))
   pub rows : List (Numbered (List ℕ))

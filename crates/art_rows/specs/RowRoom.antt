@@ -1,4 +1,5 @@
--- How many numbers more surely find a place in rows, where a full row is cut in half before a number comes between its numbers.
+-- For how many more numbers there surely is a place in rows, if a full row is cut in half before a
+-- number comes between its numbers.
 use Rattle.std.specs.Prelude.{◌≡◌, ℕ, ◌+◌, ◌-◌, ◌*◌, ◌/◌, min, max, List, [], ◌∷◌}
 use Rattle.art_rows.specs.declared.row.TheConstants.{ROW, HALF}
 
@@ -21,7 +22,8 @@ abbrev pub total_excess : List ℕ → ℕ
 total_excess [] = 0
 total_excess (n ∷ ns) = excess n + total_excess ns
 
--- how near rows of these lengths are to being cut: a placement raises it by two at most, and each spare row that is used lowers it by 62 at least
+-- how near rows of these lengths are to being cut: a placement raises it by two at most, and each
+-- spare row that is used lowers it by 62 at least
 abbrev pub load : List ℕ → ℕ
 load [] = 4 * (HALF - 1)
 load (n ∷ ns) = excess n + total_excess ns + cap n + last_cap ns

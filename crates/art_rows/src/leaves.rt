@@ -15,6 +15,7 @@ use crate::following::Following;
 use crate::row::{HALF, Position, ROW, Row};
 use crate::run::Run;
 use art_slots::{CellId, Table, Visits};
+pub use placing::Moved;
 use std::alloc::{AllocError, Global};
 use std::marker::Model;
 use std::mem;
@@ -89,11 +90,12 @@ impl<K, V> Leaves<K, V> {
         }
     }
 
-    /// Does nothing. Its contract says that no number comes twice, and that each is less than the
-    /// number of cells.
+    /// Does nothing. Its contract says that no number of a leaf or of a row comes twice, and that
+    /// each number of a leaf is less than the number of cells.
     pub fn law(&self)
         ensures distinct { AreDistinct self.now.pairs }
         ensures below { AreBelow self.now.pairs self.now.cells }
+        ensures rows { AreDistinct self.now.rows }
     {
         let _ = &self.rows;
     }

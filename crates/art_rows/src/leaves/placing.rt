@@ -1,13 +1,22 @@
 //! Placements of leaves.
-ghost use Rattle.std.specs.Prelude.{◌≡◌, ◌+◌, ◌<◌, ◌≤◌, ◌++◌, [], ◌∷◌, length, take, drop, None, IsSome, IsTrue, IfSome, IfNone};
-ghost use Rattle.art_rows.specs.Numbers.{leaf_in, Has, last_number, number_after, with_pair_after, with_pair};
-ghost use Rattle.art_rows.specs.Rows.{position_at, IsSpot, row_end};
-ghost use Rattle.art_rows.specs.Blocks.{row_of, HasRoomAfter, HasWay, IsCrowded, IsRowLast, IsAfter};
+ghost use Rattle.std.specs.Prelude.{◌≡◌, ◌⊎◌, ℕ, ◌+◌, ◌-◌, ◌<◌, ◌≤◌, ◌++◌, List, [], ◌∷◌, length, take, drop, if◌then◌else◌, eqb, Some, None, IsSome, IsTrue, IfSome, IfNone};
+ghost use Rattle.art_rows.specs.Numbers.{leaf_in, Has, last_number, Numbered, number_after, with_pair_after, with_number, with_pair};
+ghost use Rattle.art_rows.specs.Rows.{position_at, nth, IsSpot, row_end};
+ghost use Rattle.art_rows.specs.Blocks.{row_of, HasPlace, HasRoomAfter, HasWay, IsCrowded, IsRowLast, IsAfter, IsCut, IsNear};
 ghost use Rattle.art_rows.specs.Leaves.{room, turns_of, end_room, spot_index};
 
 use crate::leaves::{Leaf, Leaves};
-use crate::row::{Position, ROW, Row};
+use crate::row::{HALF, Position, ROW, Row};
 use art_slots::CellId;
+
+/// What a move of a leaf leads to.
+#[derive(Clone, Copy)]
+pub struct Moved {
+    /// The cell that the leaf moved to.
+    pub to: CellId,
+    /// The leaf that is now the last of the row that the leaf left.
+    pub before: CellId,
+}
 
 impl<K: Drop, V: Drop> Leaves<K, V> {
     /// Returns the length of a row.
@@ -68,7 +77,7 @@ impl<K: Drop, V: Drop> Leaves<K, V> {
     /// moves. `seen` is a guess of the position of `prev`. If it is right, no row is searched. Does
     /// not allocate.
     pub fn insert(&mut self, prev: Option<CellId>, seen: Position, key: K, value: V) -> CellId
-        requires room { 0 < room self.old }
+        requires room { (0 < room self.old) ⊎ HasPlace self.old.rows prev }
         requires prev { IfSome prev (Has self.old.pairs) }
         requires way { HasWay self.old.rows prev }
         ensures fresh { leaf_in self.old.pairs result ≡ None }
@@ -77,8 +86,7 @@ impl<K: Drop, V: Drop> Leaves<K, V> {
         ensures cells { self.new.cells ≡ self.old.cells }
         ensures spare { self.old.spare_rows ≤ self.new.spare_rows + 1 }
         ensures turns { turns_of self.old ≤ turns_of self.new + 1 }
-        ensures kept { IfSome prev (λ i. IfSome (leaf_in self.old.rows (row_of i))
-            (λ ids. length ids < ROW → self.new.spare_rows ≡ self.old.spare_rows)) }
+        ensures kept { HasPlace self.old.rows prev → self.new.spare_rows ≡ self.old.spare_rows }
         ensures room { room self.old ≤ room self.new + 1 }
     {
         let _ = &self.rows;
@@ -128,6 +136,73 @@ impl<K: Drop, V: Drop> Leaves<K, V> {
             return self.put(Some(last), end, key, value);
         }
         self.begin(Some(last), Some(position.row), key, value)
+    }
+
+    /// Begins a new row after a full row, and moves the last leaf there. Does not allocate.
+    #[cold]
+    #[inline(never)]
+    pub fn cut(&mut self, last: CellId) -> Moved
+        requires has { Has self.old.pairs last }
+        requires row { IfSome (leaf_in self.old.rows (row_of last))
+            (λ ids. (length ids ≡ ROW) × (nth ids (ROW - 1) ≡ Some last)) }
+        requires spare { 0 < self.old.spare_rows }
+        ensures fresh { leaf_in self.old.pairs result.to ≡ None }
+        ensures lies { result.to < self.old.cells }
+        ensures pairs { self.new.pairs ≡ with_number self.old.pairs last result.to }
+        ensures has { Has self.new.pairs result.before }
+        ensures row { row_of result.before ≡ row_of last }
+        ensures last { IsRowLast self.new.rows result.before }
+        ensures spare_rows { self.new.spare_rows + 1 ≡ self.old.spare_rows }
+        ensures cells { self.new.cells ≡ self.old.cells }
+        ensures cut { IsCut self.old.rows self.new.rows (row_of last) 1 }
+        ensures member { (n : ℕ) → row_of n ≡ row_of last
+            → IsNear self.new.rows result.before (if eqb n last then result.to else n) }
+    {
+        let row = last.number() / ROW;
+        let before = self.rows.read(row).run().at(ROW - 2);
+        let place = ROW - 1;
+        let (key, value) = self.remove_at(last, Position { row, place });
+        let _ = &self.rows;
+        let to = self.begin(Some(before), Some(row), key, value);
+        Moved { to, before }
+    }
+
+    /// Moves the last leaf of a row that is being cut to the front of the next row. Does not
+    /// allocate.
+    pub fn carry(&mut self, last: CellId) -> Moved
+        requires has { Has self.old.pairs last }
+        requires last { IsRowLast self.old.rows last }
+        requires cut { (start : List (Numbered (List ℕ))) × (count : ℕ)
+            × IsCut start self.old.rows (row_of last) count × (0 < count) × (count < HALF) }
+        ensures fresh { leaf_in self.old.pairs result.to ≡ None }
+        ensures lies { result.to < self.old.cells }
+        ensures pairs { self.new.pairs ≡ with_number self.old.pairs last result.to }
+        ensures has { Has self.new.pairs result.before }
+        ensures row { row_of result.before ≡ row_of last }
+        ensures last { IsRowLast self.new.rows result.before }
+        ensures spare_rows { self.new.spare_rows ≡ self.old.spare_rows }
+        ensures cells { self.new.cells ≡ self.old.cells }
+        ensures cut { (start : List (Numbered (List ℕ))) (count : ℕ)
+            → IsCut start self.old.rows (row_of last) count
+            → IsCut start self.new.rows (row_of last) (count + 1) }
+        ensures member { (n : ℕ) → IsNear self.old.rows last n
+            → IsNear self.new.rows result.before (if eqb n last then result.to else n) }
+    {
+        let row = last.number() / ROW;
+        let ids = self.rows.read(row);
+        let place = ids.len() - 1;
+        let before = ids.run().at(place - 1);
+        let Some(next) = self.row_after(row) else {
+            unreachable!()
+        };
+        let (key, value) = self.remove_at(last, Position { row, place });
+        let _ = &self.rows;
+        let front = Position {
+            row: next,
+            place: 0,
+        };
+        let to = self.put(Some(before), front, key, value);
+        Moved { to, before }
     }
 
     /// Returns the position for a pair after `prev`, or before all leaves, or `None` if there are

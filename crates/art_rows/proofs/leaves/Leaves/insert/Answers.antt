@@ -1,4 +1,4 @@
-use Rattle.std.proofs.Common.{◌≡◌, ◌≢◌, ◌≤◌, ℕ, List, [], length, Option, Some, None, sym, ◌∙◌, arith}
+use Rattle.std.proofs.Common.{inl, inr, ◌⊎◌, ◌≡◌, ◌≢◌, ◌≤◌, ℕ, List, [], length, Option, Some, None, sym, ◌∙◌, arith}
 use Rattle.std.specs.Prelude.{IfSome, IfNone}
 use Rattle.art_rows.specs.Numbers.{Numbered, AreDistinct, leaf_in}
 use Rattle.art_rows.specs.Rows.{IsSpot, lengths, position_at}
@@ -9,7 +9,7 @@ use Rattle.art_rows.proofs.RowsLemmas.{standing}
 use Rattle.art_rows.proofs.RowRoomLemmas.{room_spare, room_less, load_starts}
 use Rattle.art_rows.proofs.Rooms.{spot_has, spot_ids, spot_put, spot_end, spot_front, spot_next, front_turns, end_turns, spare_full}
 use Rattle.art_rows.proofs.RowChanges.{spot-row}
-use Rattle.art_rows.proofs.Crowds.{is_full, in_front, at_end, full_after}
+use Rattle.art_rows.proofs.Crowds.{is_full, in_front, at_end, no_place}
 use Rattle.art_rows.proofs.leaves.Leaves.insert.Goals as goal
 
 -- a full row
@@ -20,6 +20,11 @@ full_row {rows} {k} {p} s d n len most least = spot_ids s d (λ ids. length ids 
 not_first : (rows : List (Numbered (List ℕ))) (prev : Option ℕ) (p : Position) → IfNone prev (Some p ≡ position_at rows 0) → p.place ≢ 0 → IfNone prev ⊥
 not_first rows (Some i) p e z = tt
 not_first rows None p e z = z (let s = standing rows 0 p (sym e) in let i = s.index in omega arith)
+
+-- with room, or a place that is not there
+with_room : {A B : Type 0} → A ⊎ B → (B → ⊥) → A
+with_room (inl a) off = a
+with_room (inr b) off = absurd (off b)
 
 pub row_len-requires : goal.row_len-requires
 row_len-requires g c =
@@ -51,7 +56,8 @@ begin-requires-then-position-eq0-clause-spare_rows g c =
     let full = full_row s f.apart c.row_len.result c.row_len.ensures.len c.row_len.ensures.fits c.if-row_len-lt-ROW.false in
     let front = in_front f c.args.prev c.requires.prev c.in-Some.position c.in-Some.ensures.after c.if-position-eq0.true in
     let starts = spot_front s f.apart front f.filled full in
-    room_spare (lengths c.args.self.now.rows) c.args.self.now.spare_rows (load_starts (lengths c.args.self.now.rows) starts) c.requires.room
+    let room = with_room c.requires.room (no_place c.args.self.now.rows c.args.prev c.in-Some.position c.in-Some.ensures.after s.ids at full) in
+    room_spare (lengths c.args.self.now.rows) c.args.self.now.spare_rows (load_starts (lengths c.args.self.now.rows) starts) room
 
 pub begin-requires-then-position-eq0-clause-index : goal.begin-requires-then-position-eq0-clause-index
 begin-requires-then-position-eq0-clause-index g c =
@@ -82,6 +88,14 @@ returns-then-position-eq0-clause-room g c =
     let e = b.ensures.spare_rows in
     room_less (lengths o.rows) (lengths n.rows) o.spare_rows n.spare_rows (omega arith) (front_turns c.args.self.now.rows b.new.self.rows (row_of b.result) b.result c.args.self.now.spare_rows b.new.self.spare_rows starts b.ensures.rows.0 b.ensures.spare_rows)
 
+pub returns-then-position-eq0-clause-kept : goal.returns-then-position-eq0-clause-kept
+returns-then-position-eq0-clause-kept g c =
+    let f = seen_rows c.self.inside c.self.view_is c.self.invariant in
+    let s = c.in-Some.ensures.some in
+    let at = spot-row c.args.self.now.rows _ c.in-Some.position s f.apart in
+    let full = full_row s f.apart c.row_len.result c.row_len.ensures.len c.row_len.ensures.fits c.if-row_len-lt-ROW.false in
+    λ h. absurd (no_place c.args.self.now.rows c.args.prev c.in-Some.position c.in-Some.ensures.after s.ids at full h)
+
 -- ---- at the end of a full row
 
 pub row_after-requires : goal.row_after-requires
@@ -96,7 +110,8 @@ begin-requires-in-None-row_after-clause-spare_rows g c =
     let s = c.in-Some.ensures.some in
     let at = spot-row c.args.self.now.rows _ c.in-Some.position s f.apart in
     let full = full_row s f.apart c.row_len.result c.row_len.ensures.len c.row_len.ensures.fits c.if-row_len-lt-ROW.false in
-    spare_full c.args.self.now.rows c.in-Some.position.row s.ids at full c.args.self.now.spare_rows c.requires.room
+    let room = with_room c.requires.room (no_place c.args.self.now.rows c.args.prev c.in-Some.position c.in-Some.ensures.after s.ids at full) in
+    spare_full c.args.self.now.rows c.in-Some.position.row s.ids at full c.args.self.now.spare_rows room
 
 pub begin-requires-in-None-row_after-clause-prev_row : goal.begin-requires-in-None-row_after-clause-prev_row
 begin-requires-in-None-row_after-clause-prev_row g c =
@@ -130,7 +145,7 @@ returns-in-None-row_after-clause-kept g c =
     let s = c.in-Some.ensures.some in
     let at = spot-row c.args.self.now.rows _ c.in-Some.position s f.apart in
     let full = full_row s f.apart c.row_len.result c.row_len.ensures.len c.row_len.ensures.fits c.if-row_len-lt-ROW.false in
-    full_after c.args.self.now.rows c.args.prev c.in-Some.position c.in-Some.ensures.after s.ids at full (c.begin-in-None-row_after.new.self.spare_rows ≡ c.args.self.now.spare_rows)
+    λ h. absurd (no_place c.args.self.now.rows c.args.prev c.in-Some.position c.in-Some.ensures.after s.ids at full h)
 
 pub returns-in-None-row_after-clause-room : goal.returns-in-None-row_after-clause-room
 returns-in-None-row_after-clause-room g c =
