@@ -22,11 +22,6 @@ pub is_full : (o : Option (List ℕ)) (n : ℕ) → IfSome o (λ ids. n ≡ leng
 is_full None n len most least = len
 is_full (Some ids) n len most least = omega arith
 
--- one that has fewer has
-pub has_room : (o : Option (List ℕ)) (n : ℕ) → IfSome o (λ ids. n ≡ length ids) → n < 64 → IfSome o (λ ids. length ids < 64)
-has_room None n len less = len
-has_room (Some ids) n len less = omega arith
-
 -- no row comes after itself
 pub not_after : (rows : List (Numbered (List ℕ))) → AreDistinct rows → (r next : ℕ) → Has rows r → number_after rows r ≡ Some next → next ≢ r
 not_after rows d r next has after e = (let a : is_at (number_after rows r) r ≡ false = after_other rows r d has in let b : eqb next r ≡ false = rw after at a in let t : true ≡ false = sym (eq-eqb next r e) ∙ b in absurd cc)

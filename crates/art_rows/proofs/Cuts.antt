@@ -1,5 +1,5 @@
 -- Rows that are cut, and the leaves that move then.
-use Rattle.std.proofs.Common.{◌≡◌, ◌≢◌, ◌⊎◌, ℕ, suc, ◌+◌, ◌-◌, ◌<◌, ◌≤◌, List, [], ◌∷◌, ◌++◌, length, take, drop, refl, sym, ap, subst, ◌∙◌, append_assoc, Option, Some, None, IsSome, true, false, cond, eqb, inl, inr, arith}
+use Rattle.std.proofs.Common.{◌≡◌, ◌≢◌, ◌⊎◌, ℕ, ◌+◌, ◌-◌, ◌<◌, ◌≤◌, List, [], ◌∷◌, ◌++◌, length, take, drop, refl, sym, ap, subst, ◌∙◌, append_assoc, Option, Some, None, IsSome, true, false, cond, eqb, inl, inr, arith}
 use Rattle.std.specs.Prelude.{IfSome}
 use Rattle.std.proofs.lemmas.Bool.Decides.{eqb_tells}
 use Rattle.art_rows.specs.Numbers.{Numbered, leaf_in, Has, number_after, with_pair_after, without_number, with_pair, with_number, Lacks, AreDistinct}
@@ -8,12 +8,12 @@ use Rattle.art_rows.specs.RowRoom.{turns, row_room}
 use Rattle.art_rows.specs.Blocks.{row_of, HasPlace, HasRoomAfter, HasWay, IsCrowded, IsRowLast, IsCut, IsNear}
 use Rattle.art_rows.specs.Filing.{Files}
 use Rattle.art_rows.specs.declared.leaves.Leaf.{Leaf}
-use Rattle.art_rows.proofs.NumbersLemmas.{eqb_same, eqb_other, distinct_parts, leaf_in-split, number_after-split, with_pair-split, with_pair_after-split, leaf_in-without_number, Lacks-from_leaf_in, others-with_pair_after, others-with_pair, same_after, numbers-with_pair}
+use Rattle.art_rows.proofs.NumbersLemmas.{eqb_other, distinct_parts, leaf_in-split, number_after-split, with_pair-split, with_pair_after-split, leaf_in-without_number, Lacks-from_leaf_in, others-with_pair_after, others-with_pair, same_after, numbers-with_pair}
 use Rattle.art_rows.proofs.RowsLemmas.{among-nth}
 use Rattle.art_rows.proofs.RowChanges.{own-in}
 use Rattle.art_rows.proofs.Rooms.{lengths_at, parts, shown, spare_full}
 use Rattle.art_rows.proofs.RowRoomLemmas.{turns_cut}
-use Rattle.art_rows.proofs.Crowds.{left, left_length, left_there, left_end, carry_before, carry_has}
+use Rattle.art_rows.proofs.Crowds.{left_length, left_there, left_end, carry_before, carry_has}
 use Rattle.art_rows.proofs.Carried.{carried}
 
 -- ---- the two rows

@@ -3,7 +3,7 @@ use Rattle.std.proofs.Common.{◌≡◌, ◌≢◌, ℕ, suc, ◌+◌, ◌-◌, 
 use Rattle.std.specs.Prelude.{IfSome}
 use Rattle.std.proofs.lemmas.Bool.Decides.{eqb_tells}
 use Rattle.std.proofs.lemmas.List.{length-append, length-take-le, length-drop, map-append}
-use Rattle.art_rows.specs.Numbers.{Numbered, leaf_in, Has, first_number, number_after, with_pair_after, without_number, with_pair, Lacks, AreDistinct}
+use Rattle.art_rows.specs.Numbers.{Numbered, leaf_in, Has, number_after, with_pair_after, without_number, with_pair, Lacks, AreDistinct}
 use Rattle.art_rows.specs.Rows.{numbers, position_at, AreFilled, IsSpot, row_end, lengths}
 use Rattle.art_rows.specs.RowRoom.{StartsFull, turns, row_room, row_end_room}
 use Rattle.art_rows.specs.declared.row.Position.{Position}

@@ -1,4 +1,4 @@
-use Rattle.std.proofs.Common.{◌≡◌, ◌≢◌, ℕ, ◌+◌, length, List, [], ◌∷◌, take, drop, ◌++◌, Some, None, IsSome, refl, sym, ap, subst, ◌∙◌, inl, arith}
+use Rattle.std.proofs.Common.{◌≡◌, ◌≢◌, length, [], ◌∷◌, take, drop, ◌++◌, Some, IsSome, refl, sym, ap, subst, ◌∙◌, inl, arith}
 use Rattle.art_rows.specs.Numbers.{leaf_in, with_pair_after, with_pair}
 use Rattle.art_rows.specs.Rows.{nth, row_end}
 use Rattle.art_rows.specs.Blocks.{row_of}

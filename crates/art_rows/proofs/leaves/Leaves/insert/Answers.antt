@@ -1,4 +1,4 @@
-use Rattle.std.proofs.Common.{inl, inr, ◌⊎◌, ◌≡◌, ◌≢◌, ◌≤◌, ℕ, List, [], length, Option, Some, None, sym, ◌∙◌, arith}
+use Rattle.std.proofs.Common.{inl, inr, ◌⊎◌, ◌≡◌, ◌≢◌, ◌≤◌, ℕ, List, length, Option, Some, None, sym, ◌∙◌, arith}
 use Rattle.std.specs.Prelude.{IfSome, IfNone}
 use Rattle.art_rows.specs.Numbers.{Numbered, AreDistinct, leaf_in}
 use Rattle.art_rows.specs.Rows.{IsSpot, lengths, position_at}
