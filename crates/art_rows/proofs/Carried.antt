@@ -37,6 +37,14 @@ module _ {X : Type 0} where
     | inr t ↦ rw t.0 (elim (eqb_tells p.0 n) [ inl u ↦ rw u.0 refl | inr u ↦ rw u.0 (with_number-has ps i j n (rw u.0 at h) off) ])
   ]
 
+  -- and the other number has the pair
+  pub with_number-now : (ps : List (Numbered X)) (i j : ℕ) → Has ps i → Has (with_number ps i j) j
+  with_number-now [] i j h = h
+  with_number-now (p ∷ ps) i j h = elim (eqb_tells p.0 i) [
+    | inl t ↦ rw (t.0, eqb_same j) refl
+    | inr t ↦ rw t.0 (elim (eqb_tells p.0 j) [ inl u ↦ rw u.0 refl | inr u ↦ rw u.0 (with_number-now ps i j (rw t.0 at h)) ])
+  ]
+
   -- the number before one is the last of those before it
   before_is : (xs ys : List (Numbered X)) (x : X) (i b : ℕ) → Lacks xs i → number_before (xs ++ (i, x) ∷ ys) i ≡ Some b → last_number xs ≡ Some b
   before_is xs ys x i b l e = sym (number_before-split i x ys xs l) ∙ e

@@ -1,11 +1,11 @@
 -- Full rows, and the leaves that make way.
-use Rattle.std.proofs.Common.{◌≡◌, ◌≢◌, ◌⊎◌, eqb, eq-eqb, true, false, IsSome, ◌∷◌, ◌++◌, [], ℕ, zero, suc, take, drop, ◌+◌, ◌-◌, ◌<◌, ◌≤◌, List, length, map, refl, sym, ap, ◌∙◌, Option, Some, None, inl, inr, arith}
+use Rattle.std.proofs.Common.{◌≡◌, ◌≢◌, ◌⊎◌, eqb, eq-eqb, true, false, IsSome, ◌∷◌, ◌++◌, [], ℕ, zero, suc, take, drop, ◌+◌, ◌-◌, ◌<◌, ◌≤◌, List, length, map, refl, sym, ap, subst, ◌∙◌, Option, Some, None, inl, inr, arith}
 use Rattle.std.specs.Prelude.{IfSome, IfNone}
 use Rattle.std.proofs.lemmas.List.{length-append, length-take-le, length-drop}
 use Rattle.art_rows.specs.Numbers.{Numbered, leaf_in, Has, AreDistinct, number_after, number_before, with_pair}
 use Rattle.art_rows.specs.Links.{is_at}
 use Rattle.art_rows.specs.Rows.{position_at, place_in, nth, numbers, row_end}
-use Rattle.art_rows.specs.Blocks.{row_of, HasWay, IsCrowded, IsAfter, GoesOn}
+use Rattle.art_rows.specs.Blocks.{row_of, HasPlace, HasRoomAfter, HasWay, IsCrowded, IsRowLast, IsAfter}
 use Rattle.art_rows.specs.Leaves.{index_of, spot_index}
 use Rattle.art_rows.specs.Filing.{Files}
 use Rattle.art_rows.specs.declared.leaves.Leaf.{Leaf}
@@ -14,26 +14,13 @@ use Rattle.art_rows.proofs.NumbersLemmas.{after_other, leaf_in-with_now}
 use Rattle.art_rows.proofs.RowsLemmas.{among-nth, Has-among}
 use Rattle.art_rows.proofs.Ends.{last_place, last_none}
 use Rattle.art_rows.proofs.FilingLemmas.{located_at, row_has, how_many, stands_there, number_there, before_there, none_there}
-use Rattle.art_rows.proofs.RowChanges.{spot_after}
+use Rattle.art_rows.proofs.RowChanges.{spot_after, own-in}
 use Rattle.art_rows.proofs.Rooms.{spot_ids, spot_end, no_rows, IsLast, is_last, last_end}
-
--- the number goes to the front of the next row
-pub goes_on : (rows new : List (Numbered (List ℕ))) (r n next : ℕ) → number_after rows r ≡ Some next → Has rows next → IfSome (leaf_in rows next) (λ ids. new ≡ with_pair rows next (n ∷ ids)) → GoesOn rows new r n
-goes_on rows new r n next after has put = go (leaf_in rows next) refl has put
-  where
-    go : (o : Option (List ℕ)) → leaf_in rows next ≡ o → IsSome o → IfSome o (λ ids. new ≡ with_pair rows next (n ∷ ids)) → GoesOn rows new r n
-    go None e h p = absurd (let f : false ≡ true = h in cc)
-    go (Some ids) e h p = record { next = next; after = after; ids = ids; was = e; is = p }
 
 -- a row that has as many numbers as fit has no room
 pub is_full : (o : Option (List ℕ)) (n : ℕ) → IfSome o (λ ids. n ≡ length ids) → n ≤ 64 → 64 ≤ n → IfSome o (λ ids. length ids ≡ 64)
 is_full None n len most least = len
 is_full (Some ids) n len most least = omega arith
-
--- one that has fewer has
-pub has_room : (o : Option (List ℕ)) (n : ℕ) → IfSome o (λ ids. n ≡ length ids) → n < 64 → IfSome o (λ ids. length ids < 64)
-has_room None n len less = len
-has_room (Some ids) n len less = omega arith
 
 -- no row comes after itself
 pub not_after : (rows : List (Numbered (List ℕ))) → AreDistinct rows → (r next : ℕ) → Has rows r → number_after rows r ≡ Some next → next ≢ r
@@ -56,26 +43,32 @@ module _ {K V : Type 0} {leaves : ℕ → Option (Leaf K V)} {rows : List (Numbe
     pub own_place : p.place ≡ place_in ids i
     own_place = rw own_ids at (located_at f i has p is).1
 
-    -- where the row is not full, or the leaf is the last of it, a pair may come after it
-    pub has_way : (length ids < 64) ⊎ (p.place ≡ 63) → HasWay rows (Some i)
-    has_way h = rw own_ids (λ full. (let o = own_place in elim h [ inl l ↦ absurd (omega arith) | inr e ↦ omega arith ]))
+    own_row : p.row ≡ row_of i
+    own_row = (located_at f i has p is).0
 
-    -- or else the last leaf makes way
-    pub crowded : length ids ≡ 64 → p.place ≢ 63 → (last : ℕ) → nth ids 63 ≡ Some last → IsCrowded rows (Some i) last
-    crowded full off last end = record {
+    -- a pair may come after the leaf, if its row is not full, or if the leaf is the last and the
+    -- next row is not full
+    pub has_way : (length ids < 64) ⊎ ((p.place ≡ 63) × HasRoomAfter rows p.row) → HasWay rows (Some i)
+    has_way h = rw own_ids (λ full. elim h [
+      | inl l ↦ absurd (omega arith)
+      | inr e ↦ (let o = own_place in let z = e.0 in omega arith, subst (HasRoomAfter rows) own_row e.1)
+    ])
+
+    -- or else the row is cut
+    pub crowded : length ids ≡ 64 → (last : ℕ) → nth ids 63 ≡ Some last → IsCrowded rows (Some i) last
+    crowded full last end = record {
       leaf = i;
       is = refl;
-      apart = λ e. (
-          let same : i ≡ last = cc in
-          let q : Position = record { row = p.row; place = 63 } in
-          let a : Some p ≡ Some q = sym is ∙ ap (λ n. position_at rows (index_of ps n)) same ∙ stands_there f last q ids at end in
-          let b : p ≡ q = cc in
-          off (ap (λ (x : Position). x.place) b));
+      own = own-in rows f.own p.row ids at last (among-nth ids 63 last end) ∙ own_row;
       ids = ids;
       row = own_ids;
       full = full;
       end = end;
     }
+
+  -- the last leaf of a row
+  pub row_last : (r : ℕ) (ids : List ℕ) → leaf_in rows r ≡ Some ids → (last : ℕ) → nth ids (length ids - 1) ≡ Some last → IsRowLast rows last
+  row_last r ids at last end = rw (own-in rows f.own r ids at last (among-nth ids (length ids - 1) last end), at) end
 
   -- a place in front is that of no leaf
   pub in_front : (prev : Option ℕ) → IfSome prev (Has ps) → (p : Position) → IfSome prev (λ i. IsAfter rows i p) → p.place ≡ 0 → spot_index prev ps ≡ 0
@@ -86,14 +79,22 @@ module _ {K V : Type 0} {leaves : ℕ → Option (Leaf K V)} {rows : List (Numbe
       go None h e = absurd (let t : false ≡ true = h in cc)
       go (Some ids) h e = absurd (omega arith)
 
-  -- where no leaf has to make way, the place after one in a full row is the end of the row
-  pub at_end : (prev : Option ℕ) → IfNone prev (⊥) → (p : Position) → IfSome prev (λ i. IsAfter rows i p) → HasWay rows prev → (ids : List ℕ) → leaf_in rows p.row ≡ Some ids → length ids ≡ 64 → p.place ≡ 64
+  -- a pair that has a way after a leaf of a full row comes at its end, and the next row is not full
+  pub at_end : (prev : Option ℕ) → IfNone prev (⊥) → (p : Position) → IfSome prev (λ i. IsAfter rows i p) → HasWay rows prev → (ids : List ℕ) → leaf_in rows p.row ≡ Some ids → length ids ≡ 64 → (p.place ≡ 64) × HasRoomAfter rows p.row
   at_end None some p after way ids at full = absurd some
   at_end (Some i) some p after way ids at full =
       let own : leaf_in rows (row_of i) ≡ Some ids = ap (leaf_in rows) (sym after.0) ∙ at in
       let a : p.place ≡ place_in ids i + 1 = rw own at after.1 in
-      let b : length ids ≡ 64 → place_in ids i + 1 ≡ 64 = rw own at way in
-      a ∙ b full
+      let b : length ids ≡ 64 → (place_in ids i + 1 ≡ 64) × HasRoomAfter rows (row_of i) = rw own at way in
+      (a ∙ (b full).0, subst (HasRoomAfter rows) (sym after.0) (b full).1)
+
+-- a leaf of a full row has no place after it in its row
+pub no_place : (rows : List (Numbered (List ℕ))) (prev : Option ℕ) (p : Position) → IfSome prev (λ i. IsAfter rows i p) → (ids : List ℕ) → leaf_in rows p.row ≡ Some ids → length ids ≡ 64 → HasPlace rows prev → ⊥
+no_place rows None p after ids at full h = h
+no_place rows (Some i) p after ids at full h =
+    let own : leaf_in rows (row_of i) ≡ Some ids = ap (leaf_in rows) (sym after.0) ∙ at in
+    let less : length ids < 64 = rw own at h in
+    omega arith
 
 -- ---- a row without its last number
 
@@ -104,52 +105,52 @@ nth-left [] ys (suc k) j l w = absurd (omega arith)
 nth-left (x ∷ xs) ys (suc k) zero l w = refl
 nth-left (x ∷ xs) ys (suc k) (suc j) l w = nth-left xs ys k j (omega arith) (omega arith)
 
-module _ (rows mid : List (Numbered (List ℕ))) (r : ℕ) (ids : List ℕ) (at : leaf_in rows r ≡ Some ids) (full : length ids ≡ 64) (is : mid ≡ with_pair rows r (take 63 ids ++ drop 64 ids)) where
+module _ (rows mid : List (Numbered (List ℕ))) (r : ℕ) (ids : List ℕ) (m : ℕ) (at : leaf_in rows r ≡ Some ids) (len : length ids ≡ m + 1) (is : mid ≡ with_pair rows r (take m ids ++ drop (m + 1) ids)) where
   -- the numbers that are left
   abbrev pub left : List ℕ
-  left = take 63 ids ++ drop 64 ids
+  left = take m ids ++ drop (m + 1) ids
 
-  pub left_length : length left ≡ 63
+  pub left_length : length left ≡ m
   left_length =
-      let a = length-append (take 63 ids) (drop 64 ids) in
-      let b = length-take-le 63 ids (omega arith) in
-      let c = length-drop 64 ids in
+      let a = length-append (take m ids) (drop (m + 1) ids) in
+      let b = length-take-le m ids (omega arith) in
+      let c = length-drop (m + 1) ids in
       omega arith
 
   pub left_there : leaf_in mid r ≡ Some left
   left_there = ap (λ rs. leaf_in rs r) is ∙ leaf_in-with_now rows r left (rw at refl)
 
-  pub left_end : (n : ℕ) → nth ids 62 ≡ Some n → nth left 62 ≡ Some n
-  left_end n e = nth-left ids (drop 64 ids) 63 62 (omega arith) (omega arith) ∙ e
+  pub left_end : 0 < m → (n : ℕ) → nth ids (m - 1) ≡ Some n → nth left (m - 1) ≡ Some n
+  left_end pos n e = nth-left ids (drop (m + 1) ids) m (m - 1) (omega arith) (omega arith) ∙ e
 
-module _ {K V : Type 0} {leaves : ℕ → Option (Leaf K V)} {rows : List (Numbered (List ℕ))} {count : ℕ} {ps : List (Numbered (K × V))} (f : Files leaves rows count ps) (last : ℕ) (has : Has ps last) (ids : List ℕ) (at : leaf_in rows (row_of last) ≡ Some ids) (full : length ids ≡ 64) (end : nth ids 63 ≡ Some last) where
-  -- where the last leaf of a full row stands
-  pub carry_at : position_at rows (index_of ps last) ≡ Some (record { row = row_of last; place = 63 })
-  carry_at = stands_there f last (record { row = row_of last; place = 63 }) ids at end
+module _ {K V : Type 0} {leaves : ℕ → Option (Leaf K V)} {rows : List (Numbered (List ℕ))} {count : ℕ} {ps : List (Numbered (K × V))} (f : Files leaves rows count ps) (last : ℕ) (has : Has ps last) (ids : List ℕ) (m : ℕ) (at : leaf_in rows (row_of last) ≡ Some ids) (len : length ids ≡ m + 1) (end : nth ids m ≡ Some last) where
+  -- where the last leaf of a row is
+  pub carry_at : position_at rows (index_of ps last) ≡ Some (record { row = row_of last; place = m })
+  carry_at = stands_there f last (record { row = row_of last; place = m }) ids at end
 
-  module _ (before : ℕ) (then : nth ids 62 ≡ Some before) where
+  module _ (pos : 0 < m) (before : ℕ) (then : nth ids (m - 1) ≡ Some before) where
     -- and before it
     pub carry_before : number_before ps last ≡ Some before
-    carry_before = before_there f last before has (record { row = row_of last; place = 63 }) ids at (omega arith) end then
+    carry_before = before_there f last before has (record { row = row_of last; place = m }) ids at pos end then
 
-    module _ {less : ℕ → Option (Leaf K V)} {mid : List (Numbered (List ℕ))} {fewer : ℕ} {qs : List (Numbered (K × V))} (h : Files less mid fewer qs) (is : mid ≡ with_pair rows (row_of last) (take 63 ids ++ drop 64 ids)) where
+    module _ {less : ℕ → Option (Leaf K V)} {mid : List (Numbered (List ℕ))} {fewer : ℕ} {qs : List (Numbered (K × V))} (h : Files less mid fewer qs) (is : mid ≡ with_pair rows (row_of last) (take m ids ++ drop (m + 1) ids)) where
       abbrev p : Position
-      p = record { row = row_of last; place = 62 }
+      p = record { row = row_of last; place = m - 1 }
 
-      there : leaf_in mid (row_of last) ≡ Some (left rows mid (row_of last) ids at full is)
-      there = left_there rows mid (row_of last) ids at full is
+      there : leaf_in mid (row_of last) ≡ Some (left rows mid (row_of last) ids m at len is)
+      there = left_there rows mid (row_of last) ids m at len is
 
-      e : nth (left rows mid (row_of last) ids at full is) 62 ≡ Some before
-      e = left_end rows mid (row_of last) ids at full is before then
+      e : nth (left rows mid (row_of last) ids m at len is) (m - 1) ≡ Some before
+      e = left_end rows mid (row_of last) ids m at len is pos before then
 
       -- without it that one is the last of the row
       pub carry_has : Has qs before
-      carry_has = has_there h p (left rows mid (row_of last) ids at full is) there before e
+      carry_has = has_there h p (left rows mid (row_of last) ids m at len is) there before e
 
       pub carry_index : index_of qs before + 1 ≡ row_end (Some (row_of last)) mid
       carry_index =
-          let s = spot_after mid (index_of qs before) p (stands_there h before p (left rows mid (row_of last) ids at full is) there e) in
-          let n : length s.ids ≡ 63 = spot_ids s h.apart (λ l. length l ≡ 63) (rw there (left_length rows mid (row_of last) ids at full is)) in
+          let s = spot_after mid (index_of qs before) p (stands_there h before p (left rows mid (row_of last) ids m at len is) there e) in
+          let n : length s.ids ≡ m = spot_ids s h.apart (λ l. length l ≡ m) (rw there (left_length rows mid (row_of last) ids m at len is)) in
           spot_end s h.apart (omega arith)
 
 -- ---- the end of all

@@ -5,6 +5,7 @@ pub mod LinksLemmas
 pub mod Blocks
 pub mod Carried
 pub mod Crowds
+pub mod Cuts
 pub mod RowRoomLemmas
 pub mod RowEdits
 pub mod Rooms

@@ -3,149 +3,50 @@ use Rattle.std.proofs.Common.{◌≡◌, ◌≢◌, ℕ, suc, ◌+◌, ◌-◌, 
 use Rattle.std.specs.Prelude.{IfSome}
 use Rattle.std.proofs.lemmas.Bool.Decides.{eqb_tells}
 use Rattle.std.proofs.lemmas.List.{length-append, length-take-le, length-drop, map-append}
-use Rattle.art_rows.specs.Numbers.{Numbered, leaf_in, Has, first_number, number_after, with_pair_after, without_number, with_pair, Lacks, AreDistinct}
+use Rattle.art_rows.specs.Numbers.{Numbered, leaf_in, Has, number_after, with_pair_after, without_number, with_pair, Lacks, AreDistinct}
 use Rattle.art_rows.specs.Rows.{numbers, position_at, AreFilled, IsSpot, row_end, lengths}
-use Rattle.art_rows.specs.RowRoom.{EndsFull, StartsFull, row_room, row_end_room}
-use Rattle.art_rows.specs.Blocks.{IsShut, GoesOn, GoesApart, GoesBeyond}
+use Rattle.art_rows.specs.RowRoom.{StartsFull, turns, row_room, row_end_room}
 use Rattle.art_rows.specs.declared.row.Position.{Position}
-use Rattle.art_rows.proofs.NumbersLemmas.{eqb_same, eqb_other, distinct_parts, Split, split, leaf_in-split, number_after-split, with_pair-split, with_pair_after-split, without_number-split}
+use Rattle.art_rows.proofs.NumbersLemmas.{no_first, eqb_same, eqb_other, distinct_parts, Split, split, leaf_in-split, number_after-split, with_pair-split, with_pair_after-split, without_number-split}
 use Rattle.art_rows.proofs.RowsLemmas.{numbers-append, AreFilled-parts, standing, standing-lacks, standing-row}
 use Rattle.art_rows.proofs.RowChanges.{spot-lacks, spot-row}
-use Rattle.art_rows.proofs.RowRoomLemmas.{room_spare, room_begun, room_put, room_taken, room_ended, room_more, row_end_room-last}
+use Rattle.art_rows.proofs.RowRoomLemmas.{load_full, load_ended, load_front, room_spare, turns_begun, turns_put, room_taken, room_ended, room_more, row_end_room-last}
 
 -- the lengths, where one row is shown
-lengths_at : (xs ys : List (Numbered (List ℕ))) (r : ℕ) (ids : List ℕ) → lengths (xs ++ (r, ids) ∷ ys) ≡ lengths xs ++ length ids ∷ lengths ys
+pub lengths_at : (xs ys : List (Numbered (List ℕ))) (r : ℕ) (ids : List ℕ) → lengths (xs ++ (r, ids) ∷ ys) ≡ lengths xs ++ length ids ∷ lengths ys
 lengths_at xs ys r ids = map-append (λ (q : Numbered (List ℕ)). length q.1) xs ((r, ids) ∷ ys)
 
 -- and where two are
 lengths_two : (xs ys : List (Numbered (List ℕ))) (r s : ℕ) (ids more : List ℕ) → lengths (xs ++ (r, ids) ∷ (s, more) ∷ ys) ≡ (lengths xs ++ length ids ∷ []) ++ length more ∷ lengths ys
 lengths_two xs ys r s ids more = lengths_at xs ((s, more) ∷ ys) r ids ∙ sym (append_assoc (lengths xs) (length ids ∷ []) (length more ∷ lengths ys))
 
--- a list that ends with a full row does
-ends_full : (xs : List ℕ) (n : ℕ) → n ≡ 64 → EndsFull (xs ++ n ∷ [])
-ends_full [] n e = e
-ends_full (x ∷ []) n e = e
-ends_full (x ∷ y ∷ xs) n e = ends_full (y ∷ xs) n e
+-- ---- full rows
 
--- ---- a number that comes after those of a row
+module _ (rows : List (Numbered (List ℕ))) (r : ℕ) (ids : List ℕ) (at : leaf_in rows r ≡ Some ids) where
+  pub parts : Split rows r
+  parts = split rows r (rw at refl)
 
-module _ (rows : List (Numbered (List ℕ))) (d : AreDistinct rows) (r : ℕ) (before : List (Numbered (List ℕ))) (ids : List ℕ) where
-  -- the rows after this one
-  module _ (after : List (Numbered (List ℕ))) (is : rows ≡ before ++ (r, ids) ∷ after) where
-    row_lacks : Lacks before r × Lacks after r
-    row_lacks = distinct_parts before after (r, ids) (subst AreDistinct is d)
-
-    after_is : number_after rows r ≡ first_number after
-    after_is = ap (λ rs. number_after rs r) is ∙ number_after-split r ids after before row_lacks.0
-
-  module _ (n : ℕ) (next : List ℕ) (after : List (Numbered (List ℕ))) (is : rows ≡ before ++ (r, ids) ∷ (n, next) ∷ after) where
-    second_is : rows ≡ (before ++ (r, ids) ∷ []) ++ (n, next) ∷ after
-    second_is = is ∙ sym (append_assoc before ((r, ids) ∷ []) ((n, next) ∷ after))
-
-    second_lacks : Lacks (before ++ (r, ids) ∷ []) n
-    second_lacks = (distinct_parts (before ++ (r, ids) ∷ []) after (n, next) (subst AreDistinct second_is d)).0
-
-    second_row : leaf_in rows n ≡ Some next
-    second_row = ap (λ rs. leaf_in rs n) second_is ∙ leaf_in-split n next after (before ++ (r, ids) ∷ []) second_lacks
-
-  -- where no row after it has room the others start with a full one
-  shut_starts : (after : List (Numbered (List ℕ))) → rows ≡ before ++ (r, ids) ∷ after → IsShut rows r → StartsFull (lengths after)
-  shut_starts [] is h = tt
-  shut_starts (q ∷ after) is h = rw (second_row q.0 q.1 after is) at (rw (after_is (q ∷ after) is) at h)
-
-  -- the rows, where the number is in the next one
-  pub record Onward (new : List (Numbered (List ℕ))) (n : ℕ) (after : List (Numbered (List ℕ))) : Type 0 where
-    pub next : ℕ
-    pub ids' : List ℕ
-    pub rest : List (Numbered (List ℕ))
-    pub was : after ≡ (next, ids') ∷ rest
-    pub is : new ≡ before ++ (r, ids) ∷ (next, n ∷ ids') ∷ rest
-
-  onward : (after new : List (Numbered (List ℕ))) (n : ℕ) → rows ≡ before ++ (r, ids) ∷ after → GoesOn rows new r n → Onward new n after
-  onward [] new n is g = absurd (let a : None ≡ Some g.next = sym (after_is [] is) ∙ g.after in cc)
-  onward (q ∷ after) new n is g =
-      let a : Some q.0 ≡ Some g.next = sym (after_is (q ∷ after) is) ∙ g.after in
-      let b : q.0 ≡ g.next = cc in
-      let c : Some q.1 ≡ Some g.ids = sym (second_row q.0 q.1 after is) ∙ ap (leaf_in rows) b ∙ g.was in
-      let e : q.1 ≡ g.ids = cc in
-      record {
-        next = q.0;
-        ids' = q.1;
-        rest = after;
-        was = refl;
-        is = g.is ∙ rw (← b, ← e) (ap (λ rs. with_pair rs q.0 (n ∷ q.1)) (second_is q.0 q.1 after is) ∙ with_pair-split q.0 q.1 after (n ∷ q.1) (before ++ (r, ids) ∷ []) (second_lacks q.0 q.1 after is) ∙ append_assoc before ((r, ids) ∷ []) ((q.0, n ∷ q.1) ∷ after));
-      }
-
-  -- or in a new one
-  apart : (after new : List (Numbered (List ℕ))) (n : ℕ) → rows ≡ before ++ (r, ids) ∷ after → (g : GoesApart rows new r n) → new ≡ before ++ (r, ids) ∷ (g.fresh, n ∷ []) ∷ after
-  apart after new n is g = g.is ∙ ap (with_pair_after (Some r) (g.fresh, n ∷ [])) is ∙ with_pair_after-split r ids after (g.fresh, n ∷ []) before (row_lacks after is).0
-
-module _ (rows : List (Numbered (List ℕ))) (d : AreDistinct rows) (r : ℕ) (ids : List ℕ) (at : leaf_in rows r ≡ Some ids) (full : length ids ≡ 64) where
-  cut : Split rows r
-  cut = split rows r (rw at refl)
-
-  shown : rows ≡ cut.before ++ (r, ids) ∷ cut.after
+  pub shown : rows ≡ parts.before ++ (r, ids) ∷ parts.after
   shown =
-      let a : Some cut.pair ≡ Some ids = sym (leaf_in-split r cut.pair cut.after cut.before cut.lacks) ∙ sym (ap (λ rs. leaf_in rs r) cut.is) ∙ at in
-      let b : cut.pair ≡ ids = cc in
-      cut.is ∙ ap (λ l. cut.before ++ (r, l) ∷ cut.after) b
+      let a : Some parts.pair ≡ Some ids = sym (leaf_in-split r parts.pair parts.after parts.before parts.lacks) ∙ sym (ap (λ rs. leaf_in rs r) parts.is) ∙ at in
+      let b : parts.pair ≡ ids = cc in
+      parts.is ∙ ap (λ l. parts.before ++ (r, l) ∷ parts.after) b
 
-  -- the lengths up to a full row, and those after it
-  halves : lengths rows ≡ (lengths cut.before ++ length ids ∷ []) ++ lengths cut.after
-  halves = ap lengths shown ∙ lengths_at cut.before cut.after r ids ∙ sym (append_assoc (lengths cut.before) (length ids ∷ []) (lengths cut.after))
+  shown_lengths : lengths rows ≡ lengths parts.before ++ length ids ∷ lengths parts.after
+  shown_lengths = ap lengths shown ∙ lengths_at parts.before parts.after r ids
 
-  ends : EndsFull (lengths cut.before ++ length ids ∷ [])
-  ends = ends_full (lengths cut.before) (length ids) full
+  module _ (full : length ids ≡ 64) where
+    -- with room, where a row is full, there is a spare row
+    pub spare_full : (spare : ℕ) → 0 < row_room (lengths rows) spare → 0 < spare
+    spare_full spare h = room_spare (lengths rows) spare (rw shown_lengths (load_full (lengths parts.before) (lengths parts.after) (length ids) full)) h
 
-  spare_at : (spare : ℕ) → 0 < row_room (lengths rows) spare → StartsFull (lengths cut.after) → 0 < spare
-  spare_at spare h s = room_spare (lengths cut.before ++ length ids ∷ []) (lengths cut.after) spare ends s (subst (λ l. 0 < row_room l spare) halves h)
-
-  -- with room, where the row is full and none after it has room, there is a spare row
-  pub spare_beyond : (spare : ℕ) → 0 < row_room (lengths rows) spare → IsShut rows r → 0 < spare
-  spare_beyond spare h s = spare_at spare h (shut_starts rows d r cut.before ids cut.after shown s)
-
-  -- a number after the row takes one from the room
-  pub beyond_room : (new : List (Numbered (List ℕ))) (spare less n : ℕ) → GoesBeyond rows spare new less r n → row_room (lengths rows) spare ≤ row_room (lengths new) less + 1
-  beyond_room new spare less n (inl (g, e)) =
-      let o = onward rows d r cut.before ids cut.after new n shown g in
-      let w = halves ∙ ap (λ l. (lengths cut.before ++ length ids ∷ []) ++ lengths l) o.was in
-      rw (e, w, ap lengths o.is ∙ lengths_two cut.before o.rest r o.next ids (n ∷ o.ids')) (room_put (lengths cut.before ++ length ids ∷ []) (lengths o.rest) (length o.ids') spare)
-  beyond_room new spare less n (inr (g, e)) =
-      let i = apart rows d r cut.before ids cut.after new n shown g in
-      rw (← e, halves, ap lengths i ∙ lengths_two cut.before cut.after r g.fresh ids (n ∷ [])) (room_begun (lengths cut.before ++ length ids ∷ []) (lengths cut.after) less ends (shut_starts rows d r cut.before ids cut.after shown g.shut))
-
-  -- ---- the last number of the row makes way
-  module _ (init : List ℕ) where
-    left_is : with_pair rows r init ≡ cut.before ++ (r, init) ∷ cut.after
-    left_is = ap (λ rs. with_pair rs r init) shown ∙ with_pair-split r ids cut.after init cut.before cut.lacks
-
-    module _ (e : AreDistinct (with_pair rows r init)) where
-      -- with room there is a spare row, where none after it has room
-      pub spare_crowded : (spare : ℕ) → 0 < row_room (lengths rows) spare → IsShut (with_pair rows r init) r → 0 < spare
-      spare_crowded spare h s = spare_at spare h (shut_starts (with_pair rows r init) e r cut.before init cut.after left_is s)
-
-      -- the room, once the row is full again
-      pub crowded_room : (new : List (Numbered (List ℕ))) (spare less n : ℕ) → GoesBeyond (with_pair rows r init) spare new less r n → (more : List ℕ) → length more ≡ 64 → row_room (lengths rows) spare ≤ row_room (lengths (with_pair new r more)) less + 1
-      crowded_room new spare less n (inl (g, f)) more again =
-          let o = onward (with_pair rows r init) e r cut.before init cut.after new n left_is g in
-          let w = halves ∙ ap (λ l. (lengths cut.before ++ length ids ∷ []) ++ lengths l) o.was in
-          let i : with_pair new r more ≡ cut.before ++ (r, more) ∷ (o.next, n ∷ o.ids') ∷ o.rest = ap (λ rs. with_pair rs r more) o.is ∙ with_pair-split r init ((o.next, n ∷ o.ids') ∷ o.rest) more cut.before cut.lacks in
-          let l : length more ≡ length ids = omega arith in
-          rw (f, w, ap lengths i ∙ lengths_two cut.before o.rest r o.next more (n ∷ o.ids'), l) (room_put (lengths cut.before ++ length ids ∷ []) (lengths o.rest) (length o.ids') spare)
-      crowded_room new spare less n (inr (g, f)) more again =
-          let a = apart (with_pair rows r init) e r cut.before init cut.after new n left_is g in
-          let i : with_pair new r more ≡ cut.before ++ (r, more) ∷ (g.fresh, n ∷ []) ∷ cut.after = ap (λ rs. with_pair rs r more) a ∙ with_pair-split r init ((g.fresh, n ∷ []) ∷ cut.after) more cut.before cut.lacks in
-          let l : length more ≡ length ids = omega arith in
-          rw (← f, halves, ap lengths i ∙ lengths_two cut.before cut.after r g.fresh more (n ∷ []), l) (room_begun (lengths cut.before ++ length ids ∷ []) (lengths cut.after) less ends (shut_starts (with_pair rows r init) e r cut.before init cut.after left_is g.shut))
-
-      -- the row has room then
-      pub left_row : (new : List (Numbered (List ℕ))) (spare less n : ℕ) → GoesBeyond (with_pair rows r init) spare new less r n → leaf_in new r ≡ Some init
-      left_row new spare less n (inl (g, f)) =
-          let o = onward (with_pair rows r init) e r cut.before init cut.after new n left_is g in
-          ap (λ rs. leaf_in rs r) o.is ∙ leaf_in-split r init ((o.next, n ∷ o.ids') ∷ o.rest) cut.before cut.lacks
-      left_row new spare less n (inr (g, f)) =
-          let a = apart (with_pair rows r init) e r cut.before init cut.after new n left_is g in
-          ap (λ rs. leaf_in rs r) a ∙ leaf_in-split r init ((g.fresh, n ∷ []) ∷ cut.after) cut.before cut.lacks
+    -- a row of one number after the last row, which is full, takes one turn
+    pub end_turns : number_after rows r ≡ None → (new : List (Numbered (List ℕ))) (s n spare less : ℕ) → new ≡ with_pair_after (Some r) (s, n ∷ []) rows → less + 1 ≡ spare → turns (lengths rows) spare ≤ turns (lengths new) less + 1
+    end_turns none new s n spare less e f =
+        let last : parts.after ≡ [] = no_first parts.after (sym (ap (λ rs. number_after rs r) shown ∙ number_after-split r ids parts.after parts.before parts.lacks) ∙ none) in
+        let was = shown_lengths ∙ ap (λ q. lengths parts.before ++ length ids ∷ lengths q) last in
+        let is : new ≡ parts.before ++ (r, ids) ∷ (s, n ∷ []) ∷ [] = e ∙ ap (with_pair_after (Some r) (s, n ∷ [])) (shown ∙ ap (λ q. parts.before ++ (r, ids) ∷ q) last) ∙ with_pair_after-split r ids [] (s, n ∷ []) parts.before parts.lacks in
+        rw (← f, was, ap lengths is ∙ lengths_at parts.before ((s, n ∷ []) ∷ []) r ids) (turns_begun (lengths parts.before ++ length ids ∷ []) (lengths parts.before ++ length ids ∷ 1 ∷ []) less (load_ended (lengths parts.before) (length ids) full))
 
 -- ---- spots
 
@@ -156,9 +57,9 @@ row_end-split (b ∷ before) after r ids l =
     let n = length-append b.1 (numbers before) in
     rw (eqb_other b.0 r l.0, row_end-split before after r ids l.1) (omega arith)
 
--- a row that comes first takes one from the room, where the others start with a full one
-pub front_room : (rows new : List (Numbered (List ℕ))) (r n spare less : ℕ) → StartsFull (lengths rows) → new ≡ with_pair_after None (r, n ∷ []) rows → less + 1 ≡ spare → row_room (lengths rows) spare ≤ row_room (lengths new) less + 1
-front_room rows new r n spare less s e f = rw (e, ← f) (room_begun [] (lengths rows) less tt s)
+-- a row that comes first takes one turn, where the others start with a full one
+pub front_turns : (rows new : List (Numbered (List ℕ))) (r n spare less : ℕ) → StartsFull (lengths rows) → new ≡ with_pair_after None (r, n ∷ []) rows → less + 1 ≡ spare → turns (lengths rows) spare ≤ turns (lengths new) less + 1
+front_turns rows new r n spare less s e f = rw (e, ← f) (turns_begun (lengths rows) (1 ∷ lengths rows) less (load_front (lengths rows) s))
 
 module _ {rows : List (Numbered (List ℕ))} {k : ℕ} {p : Position} (s : IsSpot rows p k) (d : AreDistinct rows) where
   -- the row of a spot
@@ -169,8 +70,8 @@ module _ {rows : List (Numbered (List ℕ))} {k : ℕ} {p : Position} (s : IsSpo
   pub spot_ids : (P : List ℕ → Type 0) → IfSome (leaf_in rows p.row) P → P s.ids
   spot_ids P h = rw (spot-row rows k p s d) at h
 
-  -- a number in the row takes one from the room
-  pub spot_put : (new : List (Numbered (List ℕ))) (n spare : ℕ) → IfSome (leaf_in rows p.row) (λ ids. new ≡ with_pair rows p.row (take p.place ids ++ n ∷ drop p.place ids)) → row_room (lengths rows) spare ≤ row_room (lengths new) spare + 1
+  -- a number in the row takes one turn
+  pub spot_put : (new : List (Numbered (List ℕ))) (n spare : ℕ) → IfSome (leaf_in rows p.row) (λ ids. new ≡ with_pair rows p.row (take p.place ids ++ n ∷ drop p.place ids)) → turns (lengths rows) spare ≤ turns (lengths new) spare + 1
   spot_put new n spare put =
       let e = spot_ids (λ ids. new ≡ with_pair rows p.row (take p.place ids ++ n ∷ drop p.place ids)) put in
       let w = s.within in
@@ -180,7 +81,7 @@ module _ {rows : List (Numbered (List ℕ))} {k : ℕ} {p : Position} (s : IsSpo
       let q : length (drop p.place s.ids) ≡ length s.ids - p.place = length-drop p.place s.ids in
       let is : new ≡ s.before ++ (p.row, more) ∷ s.after = e ∙ ap (λ rs. with_pair rs p.row more) s.is ∙ with_pair-split p.row s.ids s.after more s.before (spot-lacks rows k p s d).0 in
       let l : length more ≡ suc (length s.ids) = omega arith in
-      rw (ap lengths s.is ∙ lengths_at s.before s.after p.row s.ids, ap lengths is ∙ lengths_at s.before s.after p.row more, l) (room_put (lengths s.before) (lengths s.after) (length s.ids) spare)
+      rw (ap lengths s.is ∙ lengths_at s.before s.after p.row s.ids, ap lengths is ∙ lengths_at s.before s.after p.row more, l) (turns_put (lengths s.before) (lengths s.after) (length s.ids) spare)
 
   -- the end of the row
   pub spot_end : p.place ≡ length s.ids → k ≡ row_end (Some p.row) rows

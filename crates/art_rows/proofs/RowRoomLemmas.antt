@@ -1,87 +1,142 @@
 -- How the room of rows changes where a number is put in or taken out, and how many spare rows are enough.
-use Rattle.std.proofs.Common.{◌≡◌, ℕ, zero, suc, ◌+◌, ◌-◌, ◌*◌, ◌/◌, ◌<◌, ◌≤◌, List, [], ◌∷◌, ◌++◌, length, map, refl, arith}
+use Rattle.std.proofs.Common.{◌≡◌, ℕ, zero, suc, ◌+◌, ◌-◌, ◌*◌, ◌<◌, ◌≤◌, List, [], ◌∷◌, ◌++◌, length, map, refl, arith}
 use Rattle.std.proofs.lemmas.List.{length-append}
 use Rattle.art_rows.specs.Numbers.{Numbered}
 use Rattle.art_rows.specs.Rows.{numbers}
-use Rattle.art_rows.specs.RowRoom.{over, crowding, row_room, EndsFull, StartsFull, row_end_room}
+use Rattle.art_rows.specs.RowRoom.{excess, cap, last_cap, total_excess, load, turns, row_room, StartsFull, row_end_room}
 
--- ---- the crowding of rows, in two parts
+-- ---- the load of rows, in parts
 
--- the crowding within a list, where a row of so many stands before the first
-abbrev pub inner : ℕ → List ℕ → ℕ
-inner a [] = 0
-inner a (n ∷ ns) = over a n + inner n ns
+total-append : (xs ys : List ℕ) → total_excess (xs ++ ys) ≡ total_excess xs + total_excess ys
+total-append [] ys = omega arith
+total-append (x ∷ xs) ys = (let i = total-append xs ys in omega arith)
 
--- what the last row has, where a row of so many stands before the first
-abbrev pub last_len : ℕ → List ℕ → ℕ
-last_len a [] = a
-last_len a (n ∷ ns) = last_len n ns
+-- what the last row adds is not changed by the rows before it
+last_cap-tail : (xs ys : List ℕ) (n : ℕ) → last_cap (xs ++ n ∷ ys) ≡ last_cap (n ∷ ys)
+last_cap-tail [] ys n = refl
+last_cap-tail (x ∷ []) ys n = refl
+last_cap-tail (x ∷ z ∷ xs) ys n = last_cap-tail (z ∷ xs) ys n
 
--- the crowding is that of the front, and that of the rest after the front's last row
-pub crowding-append : (a : ℕ) (xs ys : List ℕ) → crowding a (xs ++ ys) ≡ inner a xs + crowding (last_len a xs) ys
-crowding-append a [] ys = omega arith
-crowding-append a (n ∷ xs) ys = (let i = crowding-append n xs ys in omega arith)
+-- and it is at most 62
+last_cap-most : (ns : List ℕ) → last_cap ns ≤ 62
+last_cap-most [] = omega arith
+last_cap-most (n ∷ []) = omega arith
+last_cap-most (n ∷ m ∷ ns) = last_cap-most (m ∷ ns)
 
--- where the last row is full or there is none, that is 64
-pub last_full : (xs : List ℕ) → EndsFull xs → last_len 64 xs ≡ 64
-last_full [] e = refl
-last_full (n ∷ []) e = e
-last_full (n ∷ m ∷ ns) e = last_full (m ∷ ns) e
+-- the load of another row is higher by what that row adds
+load_step : (xs ys : List ℕ) (m n k : ℕ) → excess m + cap m ≤ excess n + cap n + k → excess m ≤ excess n + k → load (xs ++ m ∷ ys) ≤ load (xs ++ n ∷ ys) + k
+load_step [] ys m n k a b = omega arith
+load_step (x ∷ xs) [] m n k a b =
+    let p = total-append xs (m ∷ []) in
+    let q = total-append xs (n ∷ []) in
+    let s = last_cap-tail xs [] m in
+    let t = last_cap-tail xs [] n in
+    omega arith
+load_step (x ∷ xs) (y ∷ ys) m n k a b =
+    let p = total-append xs (m ∷ y ∷ ys) in
+    let q = total-append xs (n ∷ y ∷ ys) in
+    let s = last_cap-tail xs (y ∷ ys) m in
+    let t = last_cap-tail xs (y ∷ ys) n in
+    omega arith
 
--- with a row of one number after a full row, and before a full one or the end, the crowding is 63 lower
-pub full_pair : (ys : List ℕ) → StartsFull ys → crowding 64 ys ≡ crowding 64 (1 ∷ ys) + 63
-full_pair [] s = omega arith
-full_pair (n ∷ ys) s = omega arith
+-- with one number more in a row, the load is at most two higher
+pub load_put : (xs ys : List ℕ) (n : ℕ) → load (xs ++ suc n ∷ ys) ≤ load (xs ++ n ∷ ys) + 2
+load_put xs ys n = load_step xs ys (suc n) n 2 (omega arith) (omega arith)
 
--- with a row of one number taken away, the crowding is at most 63 higher
-pub one_between : (a : ℕ) (ys : List ℕ) → crowding a ys ≤ crowding a (1 ∷ ys) + 63
-one_between a [] = omega arith
-one_between a (n ∷ ys) = omega arith
+-- with one number less it is not higher
+pub load_taken : (xs ys : List ℕ) (n : ℕ) → load (xs ++ n ∷ ys) ≤ load (xs ++ suc n ∷ ys)
+load_taken xs ys n = (let s = load_step xs ys n (suc n) 0 (omega arith) (omega arith) in omega arith)
 
--- with one number more in a row, the crowding is at most two higher
-pub one_more : (a n : ℕ) (ys : List ℕ) → crowding a (suc n ∷ ys) ≤ crowding a (n ∷ ys) + 2
-one_more a n [] = omega arith
-one_more a n (m ∷ ys) = omega arith
+-- a new row of one number after a full one at the end leaves it 62 lower
+pub load_ended : (xs : List ℕ) (n : ℕ) → n ≡ 64 → load (xs ++ n ∷ 1 ∷ []) + 62 ≤ load (xs ++ n ∷ [])
+load_ended [] n e = omega arith
+load_ended (x ∷ xs) n e =
+    let p = total-append xs (n ∷ 1 ∷ []) in
+    let q = total-append xs (n ∷ []) in
+    let s = last_cap-tail xs (1 ∷ []) n in
+    let t = last_cap-tail xs [] n in
+    omega arith
 
--- with one number less in a row, the crowding is not higher
-pub one_less : (a n : ℕ) (ys : List ℕ) → crowding a (n ∷ ys) ≤ crowding a (suc n ∷ ys)
-one_less a n [] = omega arith
-one_less a n (m ∷ ys) = omega arith
+-- and so does one in front of a full row or of none
+pub load_front : (ys : List ℕ) → StartsFull ys → load (1 ∷ ys) + 62 ≤ load ys
+load_front [] s = omega arith
+load_front (n ∷ []) s = omega arith
+load_front (n ∷ m ∷ ys) s = omega arith
 
--- a new row of one number between full ones leaves the crowding 63 lower
-pub crowding_begun : (xs ys : List ℕ) → EndsFull xs → StartsFull ys → crowding 64 (xs ++ ys) ≡ crowding 64 (xs ++ 1 ∷ ys) + 63
-crowding_begun xs ys e s =
-    let f = full_pair ys s in
-    rw (crowding-append 64 xs ys, crowding-append 64 xs (1 ∷ ys), last_full xs e) (omega arith)
+-- two halves of a full row leave it 64 lower
+pub load_cut : (xs ys : List ℕ) (n : ℕ) → n ≡ 64 → load (xs ++ 32 ∷ 32 ∷ ys) + 64 ≤ load (xs ++ n ∷ ys)
+load_cut [] [] n e = omega arith
+load_cut [] (y ∷ ys) n e = omega arith
+load_cut (x ∷ xs) [] n e =
+    let p = total-append xs (32 ∷ 32 ∷ []) in
+    let q = total-append xs (n ∷ []) in
+    let s = last_cap-tail xs (32 ∷ []) 32 in
+    let t = last_cap-tail xs [] n in
+    omega arith
+load_cut (x ∷ xs) (y ∷ ys) n e =
+    let p = total-append xs (32 ∷ 32 ∷ y ∷ ys) in
+    let q = total-append xs (n ∷ y ∷ ys) in
+    let s = last_cap-tail xs (32 ∷ y ∷ ys) 32 in
+    let t = last_cap-tail xs (y ∷ ys) n in
+    omega arith
+
+-- with a row of one number taken away, it is at most 64 higher
+pub load_gone : (xs ys : List ℕ) → load (xs ++ ys) ≤ load (xs ++ 1 ∷ ys) + 64
+load_gone [] [] = omega arith
+load_gone [] (y ∷ []) = omega arith
+load_gone [] (y ∷ z ∷ ys) = omega arith
+load_gone (x ∷ xs) [] =
+    let p = total-append xs [] in
+    let q = total-append xs (1 ∷ []) in
+    let s = last_cap-most (xs ++ []) in
+    omega arith
+load_gone (x ∷ xs) (y ∷ ys) =
+    let p = total-append xs (y ∷ ys) in
+    let q = total-append xs (1 ∷ y ∷ ys) in
+    let s = last_cap-tail xs ys y in
+    let t = last_cap-tail xs (y ∷ ys) 1 in
+    omega arith
+
+-- a full row has at least 64
+pub load_full : (xs ys : List ℕ) (n : ℕ) → n ≡ 64 → 64 ≤ load (xs ++ n ∷ ys)
+load_full [] ys n e = omega arith
+load_full (x ∷ xs) ys n e = (let p = total-append xs (n ∷ ys) in omega arith)
+
+-- and so have rows that start with one, or none
+pub load_starts : (ys : List ℕ) → StartsFull ys → 64 ≤ load ys
+load_starts [] s = omega arith
+load_starts (n ∷ ys) s = omega arith
 
 -- ---- the room
 
--- with room, and full rows or none on both sides of a place, there is a spare row
-pub room_spare : (xs ys : List ℕ) (spare : ℕ) → EndsFull xs → StartsFull ys → 0 < row_room (xs ++ ys) spare → 0 < spare
-room_spare xs ys zero e s h = (let c = crowding_begun xs ys e s in omega arith)
-room_spare xs ys (suc spare) e s h = omega arith
+-- with room, and a load of 64, there is a spare row
+pub room_spare : (lens : List ℕ) (spare : ℕ) → 64 ≤ load lens → 0 < row_room lens spare → 0 < spare
+room_spare lens zero l h = omega arith
+room_spare lens (suc spare) l h = omega arith
 
--- a new row of one number between full ones takes at most one from the room
-pub room_begun : (xs ys : List ℕ) (spare : ℕ) → EndsFull xs → StartsFull ys → row_room (xs ++ ys) (spare + 1) ≤ row_room (xs ++ 1 ∷ ys) spare + 1
-room_begun xs ys spare e s = (let c = crowding_begun xs ys e s in omega arith)
+-- where the load falls by 62, a spare row is used for one turn
+pub turns_begun : (old new : List ℕ) (spare : ℕ) → load new + 62 ≤ load old → turns old (spare + 1) ≤ turns new spare + 1
+turns_begun old new spare l = omega arith
 
--- a number put in a row takes at most one from the room
-pub room_put : (xs ys : List ℕ) (n spare : ℕ) → row_room (xs ++ n ∷ ys) spare ≤ row_room (xs ++ suc n ∷ ys) spare + 1
-room_put xs ys n spare =
-    let c : crowding 64 (xs ++ suc n ∷ ys) ≤ crowding 64 (xs ++ n ∷ ys) + 2 = (let m = one_more (last_len 64 xs) n ys in rw (crowding-append 64 xs (n ∷ ys), crowding-append 64 xs (suc n ∷ ys)) (omega arith)) in
-    omega arith
+-- a number put in a row takes at most one turn
+pub turns_put : (xs ys : List ℕ) (n spare : ℕ) → turns (xs ++ n ∷ ys) spare ≤ turns (xs ++ suc n ∷ ys) spare + 1
+turns_put xs ys n spare = (let l = load_put xs ys n in omega arith)
+
+-- a row that is cut takes none
+pub turns_cut : (xs ys : List ℕ) (n spare : ℕ) → n ≡ 64 → turns (xs ++ n ∷ ys) (spare + 1) ≤ turns (xs ++ 32 ∷ 32 ∷ ys) spare
+turns_cut xs ys n spare e = (let l = load_cut xs ys n e in omega arith)
+
+-- with one turn less and one spare row less at most, there is room for one number less at most
+pub room_less : (old new : List ℕ) (spare less : ℕ) → spare ≤ less + 1 → turns old spare ≤ turns new less + 1 → row_room old spare ≤ row_room new less + 1
+room_less old new spare less a b = omega arith
 
 -- a number taken out of a row takes nothing from the room
 pub room_taken : (xs ys : List ℕ) (n spare : ℕ) → row_room (xs ++ suc n ∷ ys) spare ≤ row_room (xs ++ n ∷ ys) spare
-room_taken xs ys n spare =
-    let c : crowding 64 (xs ++ n ∷ ys) ≤ crowding 64 (xs ++ suc n ∷ ys) = (let m = one_less (last_len 64 xs) n ys in rw (crowding-append 64 xs (n ∷ ys), crowding-append 64 xs (suc n ∷ ys)) (omega arith)) in
-    omega arith
+room_taken xs ys n spare = (let l = load_taken xs ys n in omega arith)
 
 -- a row of one number, taken away and then spare, takes nothing from the room
 pub room_ended : (xs ys : List ℕ) (spare : ℕ) → row_room (xs ++ 1 ∷ ys) spare ≤ row_room (xs ++ ys) (spare + 1)
-room_ended xs ys spare =
-    let c : crowding 64 (xs ++ ys) ≤ crowding 64 (xs ++ 1 ∷ ys) + 63 = (let m = one_between (last_len 64 xs) ys in rw (crowding-append 64 xs ys, crowding-append 64 xs (1 ∷ ys)) (omega arith)) in
-    omega arith
+room_ended xs ys spare = (let l = load_gone xs ys in omega arith)
 
 -- more spare rows have no less room
 pub room_more : (lens : List ℕ) (spare more : ℕ) → spare ≤ more → row_room lens spare ≤ row_room lens more
@@ -89,17 +144,23 @@ room_more lens spare more h = omega arith
 
 -- ---- how many rows are enough
 
--- two neighbours count at most 63 for each 128 numbers that they have together, and each row is a neighbour twice
-pub crowding-numbers : (a : ℕ) (rows : List (Numbered (List ℕ))) → 128 * crowding a (map (λ r. length r.1) rows) ≤ 63 * (a + 2 * length (numbers rows) + 64)
-crowding-numbers a [] = omega arith
-crowding-numbers a (r ∷ rows) =
+-- a row counts at most as much as it has numbers
+total-numbers : (rows : List (Numbered (List ℕ))) → total_excess (map (λ r. length r.1) rows) ≤ length (numbers rows)
+total-numbers [] = omega arith
+total-numbers (r ∷ rows) = (let n = length-append r.1 (numbers rows) in let i = total-numbers rows in omega arith)
+
+-- and the rows at the ends at most 62 more each
+load-numbers : (rows : List (Numbered (List ℕ))) → load (map (λ r. length r.1) rows) ≤ length (numbers rows) + 124
+load-numbers [] = omega arith
+load-numbers (r ∷ rows) =
     let n = length-append r.1 (numbers rows) in
-    let i = crowding-numbers (length r.1) rows in
+    let t = total-numbers rows in
+    let l = last_cap-most (map (λ r. length r.1) rows) in
     omega arith
 
 -- so many spare rows are enough
-pub room_enough : (rows : List (Numbered (List ℕ))) (n spare : ℕ) → n / 31 + length (numbers rows) / 64 + 2 ≤ spare → n ≤ row_room (map (λ r. length r.1) rows) spare
-room_enough rows n spare h = (let c = crowding-numbers 64 rows in omega arith)
+pub room_enough : (rows : List (Numbered (List ℕ))) (n spare : ℕ) → 2 * n + length (numbers rows) + 64 ≤ 64 * spare → n ≤ row_room (map (λ r. length r.1) rows) spare
+room_enough rows n spare h = (let l = load-numbers rows in omega arith)
 
 -- ---- the room at the end
 

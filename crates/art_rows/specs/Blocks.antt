@@ -1,6 +1,6 @@
 -- The numbers of a block: a leaf's number tells the block, and with it the row, that it is of.
-use Rattle.std.specs.Prelude.{◌≡◌, ◌≢◌, ◌⊎◌, ℕ, ◌+◌, ◌-◌, ◌/◌, ◌<◌, ◌≤◌, List, [], ◌∷◌, length, map, count_by, eqb, true, Option, Some, None, IfSome}
-use Rattle.art_rows.specs.Numbers.{Numbered, leaf_in, number_after, with_pair_after, with_pair}
+use Rattle.std.specs.Prelude.{◌≡◌, ◌⊎◌, ℕ, ◌+◌, ◌-◌, ◌/◌, ◌<◌, ◌≤◌, List, [], ◌∷◌, ◌++◌, length, map, count_by, eqb, true, Option, Some, None, IfSome}
+use Rattle.art_rows.specs.Numbers.{Numbered, leaf_in, number_after}
 use Rattle.art_rows.specs.Rows.{among, place_in, nth}
 use Rattle.art_rows.specs.declared.row.Position.{Position}
 use Rattle.art_rows.specs.declared.row.TheConstants.{ROW}
@@ -31,44 +31,52 @@ abbrev pub AreOwn : List (Numbered (List ℕ)) → Type 0
 AreOwn [] = Unit {0}
 AreOwn (r ∷ rs) = ((n : ℕ) → among r.1 n ≡ true → row_of n ≡ r.0) × AreOwn rs
 
--- a pair may come after this leaf, or in front of all, with no leaf moved: where the leaf's row is full, it is the last of it
+-- the row of this leaf is not full
+abbrev pub HasPlace : List (Numbered (List ℕ)) → Option ℕ → Type 0
+HasPlace rows None = ⊥
+HasPlace rows (Some i) = IfSome (leaf_in rows (row_of i)) (λ ids. length ids < ROW)
+
+-- the row after this one, if there is one, is not full
+abbrev pub HasRoomAfter : List (Numbered (List ℕ)) → ℕ → Type 0
+HasRoomAfter rows r = IfSome (number_after rows r) (λ n. IfSome (leaf_in rows n) (λ ids. length ids < ROW))
+
+-- a pair may come after this leaf, or in front of all: in a full row only after its last leaf, if
+-- the row after it is not full
 abbrev pub HasWay : List (Numbered (List ℕ)) → Option ℕ → Type 0
 HasWay rows None = Unit {0}
-HasWay rows (Some i) = IfSome (leaf_in rows (row_of i)) (λ ids. length ids ≡ ROW → place_in ids i + 1 ≡ ROW)
+HasWay rows (Some i) = IfSome (leaf_in rows (row_of i)) (λ ids. length ids ≡ ROW → (place_in ids i + 1 ≡ ROW) × HasRoomAfter rows (row_of i))
 
--- the leaf is in a full row, and another is the last of it
+-- the leaf is in a full row, and the other is the last of that row
 pub record IsCrowded (rows : List (Numbered (List ℕ))) (prev : Option ℕ) (last : ℕ) : Type 0 where
   pub leaf : ℕ
   pub is : prev ≡ Some leaf
-  pub apart : prev ≢ Some last
+  pub own : row_of last ≡ row_of leaf
   pub ids : List ℕ
   pub row : leaf_in rows (row_of leaf) ≡ Some ids
   pub full : length ids ≡ ROW
   pub end : nth ids (ROW - 1) ≡ Some last
 
+-- the leaf is the last of its row
+abbrev pub IsRowLast : List (Numbered (List ℕ)) → ℕ → Type 0
+IsRowLast rows last = IfSome (leaf_in rows (row_of last)) (λ ids. nth ids (length ids - 1) ≡ Some last)
+
 -- the place after a leaf in its row
 abbrev pub IsAfter : List (Numbered (List ℕ)) → ℕ → Position → Type 0
 IsAfter rows i p = (p.row ≡ row_of i) × IfSome (leaf_in rows (row_of i)) (λ ids. p.place ≡ place_in ids i + 1)
 
--- no row after this one has room
-abbrev pub IsShut : List (Numbered (List ℕ)) → ℕ → Type 0
-IsShut rows r = IfSome (number_after rows r) (λ n. IfSome (leaf_in rows n) (λ ids. length ids ≡ ROW))
+-- the last `count` numbers of a full row have moved to a new row after it
+pub record IsCut (start now : List (Numbered (List ℕ))) (row count : ℕ) : Type 0 where
+  pub before : List (Numbered (List ℕ))
+  pub after : List (Numbered (List ℕ))
+  pub was : List ℕ
+  pub low : List ℕ
+  pub high : Numbered (List ℕ)
+  pub start_is : start ≡ before ++ (row, was) ∷ after
+  pub full : length was ≡ ROW
+  pub now_is : now ≡ before ++ (row, low) ∷ high ∷ after
+  pub low_len : length low + count ≡ ROW
+  pub high_len : length high.1 ≡ count
 
--- the number came to the front of the row after this one
-pub record GoesOn (old new : List (Numbered (List ℕ))) (r n : ℕ) : Type 0 where
-  pub next : ℕ
-  pub after : number_after old r ≡ Some next
-  pub ids : List ℕ
-  pub was : leaf_in old next ≡ Some ids
-  pub is : new ≡ with_pair old next (n ∷ ids)
-
--- the number came into a new row after this one, as no row after it had room
-pub record GoesApart (old new : List (Numbered (List ℕ))) (r n : ℕ) : Type 0 where
-  pub fresh : ℕ
-  pub free : leaf_in old fresh ≡ None
-  pub shut : IsShut old r
-  pub is : new ≡ with_pair_after (Some r) (fresh, n ∷ []) old
-
--- a number comes after those of a row, which takes a spare row where none after it has room
-abbrev pub GoesBeyond : List (Numbered (List ℕ)) → ℕ → List (Numbered (List ℕ)) → ℕ → ℕ → ℕ → Type 0
-GoesBeyond old spare new less r n = (GoesOn old new r n × (less ≡ spare)) ⊎ (GoesApart old new r n × (less + 1 ≡ spare))
+-- the number is one of the row of another, or of the row after that
+abbrev pub IsNear : List (Numbered (List ℕ)) → ℕ → ℕ → Type 0
+IsNear rows other n = (row_of n ≡ row_of other) ⊎ (number_after rows (row_of other) ≡ Some (row_of n))

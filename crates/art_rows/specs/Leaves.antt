@@ -4,10 +4,11 @@ use Rattle.std.specs.Coded.{Coded, code_by, coded×, coded_ℕ, coded_list}
 use Rattle.std.specs.List.{AllZip}
 use Rattle.art_rows.specs.Numbers.{Numbered}
 use Rattle.art_rows.specs.Rows.{place_in, lengths}
-use Rattle.art_rows.specs.RowRoom.{row_room, row_end_room}
+use Rattle.art_rows.specs.RowRoom.{turns, row_room, row_end_room}
 use Rattle.art_rows.specs.declared.row.TheConstants.{ROW}
 
--- the pairs in order, each under its number; the rows of their numbers; the spare rows; how many cells there are; and the ids of the cells
+-- the pairs in order, each under its number; the rows of their numbers; the number of spare rows;
+-- the number of cells; and the ids of the cells
 pub record Leaves (K V : Type 0) : Type 0 where
   pub pairs : List (Numbered (K × V))
   pub rows : List (Numbered (List ℕ))
@@ -28,6 +29,10 @@ module _ {K V : Type 0} where
   -- for how many leaves more there surely is a row
   abbrev pub room : Leaves K V → ℕ
   room l = row_room (lengths l.rows) l.spare_rows
+
+  -- for how many placements there surely is a row, by the lengths of the rows alone
+  abbrev pub turns_of : Leaves K V → ℕ
+  turns_of l = turns (lengths l.rows) l.spare_rows
 
   -- for how many leaves more there is place after all others
   abbrev pub end_room : Leaves K V → ℕ

@@ -1,25 +1,40 @@
--- How many numbers more surely find a place in rows, where a full row passes its last number on to the row after it.
+-- For how many more numbers there surely is a place in rows, if a full row is cut in half before a
+-- number comes between its numbers.
 use Rattle.std.specs.Prelude.{◌≡◌, ℕ, ◌+◌, ◌-◌, ◌*◌, ◌/◌, min, max, List, [], ◌∷◌}
-use Rattle.art_rows.specs.declared.row.TheConstants.{ROW}
+use Rattle.art_rows.specs.declared.row.TheConstants.{ROW, HALF}
 
--- how far two rows side by side are above one row's numbers and one more
-abbrev pub over : ℕ → ℕ → ℕ
-over a b = min a ROW + min b ROW - (ROW + 1)
+-- how many numbers a row has above half, twice
+abbrev pub excess : ℕ → ℕ
+excess n = 2 * (min n ROW - HALF)
 
--- the sum of these over all neighbours, where a row of so many stands before the first and a full one after the last
-abbrev pub crowding : ℕ → List ℕ → ℕ
-crowding a [] = over a ROW
-crowding a (n ∷ ns) = over a n + crowding n ns
+-- what a row at an end adds: twice how many numbers it has after its first, up to 31 of them
+abbrev pub cap : ℕ → ℕ
+cap n = 2 * min (n - 1) (HALF - 1)
 
--- for how many numbers more spare rows surely are enough, where the rows have so many each: one for each spare row, or more where few neighbours are full
+-- what the last row adds, and as much as a row can where there is none
+abbrev pub last_cap : List ℕ → ℕ
+last_cap [] = 2 * (HALF - 1)
+last_cap (n ∷ []) = cap n
+last_cap (n ∷ m ∷ ns) = last_cap (m ∷ ns)
+
+-- the sum of the excess of rows
+abbrev pub total_excess : List ℕ → ℕ
+total_excess [] = 0
+total_excess (n ∷ ns) = excess n + total_excess ns
+
+-- how near rows of these lengths are to being cut: a placement raises it by two at most, and each
+-- spare row that is used lowers it by 62 at least
+abbrev pub load : List ℕ → ℕ
+load [] = 4 * (HALF - 1)
+load (n ∷ ns) = excess n + total_excess ns + cap n + last_cap ns
+
+-- for how many placements the spare rows are enough by the load alone
+abbrev pub turns : List ℕ → ℕ → ℕ
+turns lens spare = (ROW * spare + ROW + 1 - load lens) / 2
+
+-- for how many placements spare rows are surely enough: one for each spare row, or more
 abbrev pub row_room : List ℕ → ℕ → ℕ
-row_room lens spare = max spare (((ROW - 1) * (spare + 1) + 1 - crowding ROW lens) / 2)
-
--- the last row is full, or there is none
-abbrev pub EndsFull : List ℕ → Type 0
-EndsFull [] = Unit {0}
-EndsFull (n ∷ []) = n ≡ ROW
-EndsFull (n ∷ m ∷ ns) = EndsFull (m ∷ ns)
+row_room lens spare = max spare (turns lens spare)
 
 -- the first row is full, or there is none
 abbrev pub StartsFull : List ℕ → Type 0

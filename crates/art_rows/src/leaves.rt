@@ -14,19 +14,16 @@ mod placing;
 use crate::chain::Chain;
 use crate::following::Following;
 use crate::ids::Ids;
-use crate::row::{Position, ROW, Row};
+use crate::row::{HALF, Position, ROW, Row};
 use crate::run::Run;
 use art_slots::{CellId, Table, Visits};
+pub use placing::Moved;
 use std::alloc::{AllocError, Global};
 use std::marker::Model;
 use std::mem;
 
 /// The number of rows is less than this, so that all numbers of cells are small.
 const MOST_ROWS: usize = 1 << 56;
-
-/// The number of placements that each spare row is sufficient for once the others are full. A row
-/// begins with one leaf, and only beside a full row does another begin.
-const SURE: usize = 31;
 
 /// A key and its value.
 #[derive(Drop)]
@@ -98,11 +95,12 @@ impl<K, V> Leaves<K, V> {
         }
     }
 
-    /// Does nothing. Its contract says that no number comes twice, that each is less than the
-    /// number of cells, and that each cell has an id of its own.
+    /// Does nothing. Its contract says that no number of a leaf or of a row comes twice, that each
+    /// number of a leaf is less than the number of cells, and that each cell has an id of its own.
     pub fn law(&self)
         ensures distinct { AreDistinct self.now.pairs }
         ensures below { (i : ℕ) → Has self.now.pairs i → i < self.now.cells }
+        ensures rows { AreDistinct self.now.rows }
         ensures named { self.now.cells ≤ length self.now.ids }
         ensures apart { (c d : ℕ) → c < length self.now.ids → d < length self.now.ids
             → id_at self.now.ids c ≡ id_at self.now.ids d → c ≡ d }
@@ -656,7 +654,7 @@ impl<K: Drop, V: Drop> Leaves<K, V> {
         ensures cells { self.old.cells ≤ self.new.cells }
         ensures ids { Extends self.old.ids self.new.ids }
     {
-        let sure = n / SURE + self.records.used() / ROW + 2;
+        let sure = n.div_ceil(HALF) + self.records.used().div_ceil(ROW) + 1;
         let rows = if sure < n { sure } else { n };
         if rows <= self.rows.spare() {
             return Ok(());

@@ -15,6 +15,6 @@ mod run;
 
 pub use art_slots::{CellId, Visits};
 pub use following::Following;
-pub use leaves::Leaves;
-pub use row::Position;
+pub use leaves::{Leaves, Moved};
+pub use row::{HALF, Position};
 pub use run::Run;

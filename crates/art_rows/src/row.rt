@@ -10,6 +10,9 @@ use std::marker::Model;
 /// The number of cells in a block, which is the greatest length of a row.
 pub(crate) const ROW: usize = 64;
 
+/// The number of leaves that move to a new row when a full row is cut.
+pub const HALF: usize = 32;
+
 /// A row, and a place in it.
 #[derive(Clone, Copy)]
 pub struct Position {

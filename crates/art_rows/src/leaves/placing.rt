@@ -1,15 +1,23 @@
 //! Placements of leaves.
-ghost use Rattle.std.specs.Prelude.{◌≡◌, ◌≢◌, ℕ, ◌+◌, ◌-◌, ◌<◌, ◌≤◌, ◌++◌, List, [], ◌∷◌, length, take, drop, Some, None, IsSome, IfSome, IfNone};
+ghost use Rattle.std.specs.Prelude.{◌≡◌, ◌⊎◌, ℕ, ◌+◌, ◌-◌, ◌<◌, ◌≤◌, ◌++◌, List, [], ◌∷◌, length, take, drop, if◌then◌else◌, eqb, Some, None, IsSome, IsTrue, IfSome, IfNone};
 ghost use Rattle.art_rows.specs.Ids.{exchanged};
-ghost use Rattle.art_rows.specs.Numbers.{leaf_in, Has, last_number, number_after, with_pair_after, with_number, with_pair};
-ghost use Rattle.art_rows.specs.Rows.{position_at, nth, IsSpot, row_end, lengths};
-ghost use Rattle.art_rows.specs.RowRoom.{row_room};
-ghost use Rattle.art_rows.specs.Blocks.{row_of, HasWay, IsCrowded, IsAfter, IsShut, GoesBeyond};
-ghost use Rattle.art_rows.specs.Leaves.{room, end_room, spot_index};
+ghost use Rattle.art_rows.specs.Numbers.{leaf_in, Has, last_number, Numbered, number_after, with_pair_after, with_number, with_pair};
+ghost use Rattle.art_rows.specs.Rows.{position_at, nth, IsSpot, row_end};
+ghost use Rattle.art_rows.specs.Blocks.{row_of, HasPlace, HasRoomAfter, HasWay, IsCrowded, IsRowLast, IsAfter, IsCut, IsNear};
+ghost use Rattle.art_rows.specs.Leaves.{room, turns_of, end_room, spot_index};
 
 use crate::leaves::{Leaf, Leaves};
-use crate::row::{Position, ROW, Row};
+use crate::row::{HALF, Position, ROW, Row};
 use art_slots::CellId;
+
+/// What a move of a leaf leads to.
+#[derive(Clone, Copy)]
+pub struct Moved {
+    /// The cell that the leaf moved to.
+    pub to: CellId,
+    /// The leaf that is now the last of the row that the leaf left.
+    pub before: CellId,
+}
 
 impl<K: Drop, V: Drop> Leaves<K, V> {
     /// Returns the length of a row.
@@ -29,14 +37,26 @@ impl<K: Drop, V: Drop> Leaves<K, V> {
         self.rows.next_of(row)
     }
 
-    /// Returns the leaf that has to move before a pair can be placed after `prev`: the last leaf of
-    /// a full row. `seen` is a guess of the position of `prev`, and the call sets it to that
-    /// position.
+    /// Returns `true` if the row after another is not full, or if there is none.
+    fn has_room_after(&self, row: usize) -> bool
+        requires { Has self.now.rows row }
+        ensures { IsTrue result → HasRoomAfter self.now.rows row }
+    {
+        match self.row_after(row) {
+            None => true,
+            Some(next) => self.row_len(next) < ROW,
+        }
+    }
+
+    /// Returns the last leaf of the row of `prev`, if the row has to be cut before a pair can be
+    /// placed after `prev`. `seen` is a guess of the position of `prev`, and the call sets it to
+    /// that position.
     pub fn crowd(&self, prev: Option<CellId>, seen: &mut Position) -> Option<CellId>
         requires { IfSome prev (Has self.now.pairs) }
         ensures none { IfNone result (HasWay self.now.rows prev) }
         ensures some { IfSome result (IsCrowded self.now.rows prev) }
         ensures has { IfSome result (Has self.now.pairs) }
+        ensures last { IfSome result (IsRowLast self.now.rows) }
     {
         let _ = &self.rows;
         let Some(id) = prev else {
@@ -45,17 +65,20 @@ impl<K: Drop, V: Drop> Leaves<K, V> {
         let position = self.position_near(id, *seen);
         *seen = position;
         let row = self.rows.read(position.row);
-        if row.len() < ROW || position.place == ROW - 1 {
+        if row.len() < ROW {
+            return None;
+        }
+        if position.place == ROW - 1 && self.has_room_after(position.row) {
             return None;
         }
         Some(row.run().at(ROW - 1))
     }
 
-    /// Places a pair after the leaf `prev`, or before all leaves, and returns its cell. No leaf has
-    /// to move. `seen` is a guess of the position of `prev`. If it is right, no row is searched.
-    /// Does not allocate.
+    /// Places a pair after the leaf `prev`, or before all leaves, and returns its cell. No leaf
+    /// moves. `seen` is a guess of the position of `prev`. If it is right, no row is searched. Does
+    /// not allocate.
     pub fn insert(&mut self, prev: Option<CellId>, seen: Position, key: K, value: V) -> CellId
-        requires room { 0 < room self.old }
+        requires room { (0 < room self.old) ⊎ HasPlace self.old.rows prev }
         requires prev { IfSome prev (Has self.old.pairs) }
         requires way { HasWay self.old.rows prev }
         ensures fresh { leaf_in self.old.pairs result ≡ None }
@@ -63,6 +86,9 @@ impl<K: Drop, V: Drop> Leaves<K, V> {
         ensures placed { self.new.pairs ≡ with_pair_after prev (result, (key, value)) self.old.pairs }
         ensures cells { self.new.cells ≡ self.old.cells }
         ensures ids { self.new.ids ≡ self.old.ids }
+        ensures spare { self.old.spare_rows ≤ self.new.spare_rows + 1 }
+        ensures turns { turns_of self.old ≤ turns_of self.new + 1 }
+        ensures kept { HasPlace self.old.rows prev → self.new.spare_rows ≡ self.old.spare_rows }
         ensures room { room self.old ≤ room self.new + 1 }
     {
         let _ = &self.rows;
@@ -78,38 +104,15 @@ impl<K: Drop, V: Drop> Leaves<K, V> {
         if position.place == 0 {
             return self.begin(prev, None, key, value);
         }
-        self.put_beyond(prev, position.row, key, value)
-    }
-
-    /// Places a pair after the leaf `prev` in a full row, and returns its cell. The last leaf of
-    /// the row, `last`, moves to the next row. Also returns the cell that it moved to. Does not
-    /// allocate.
-    pub fn insert_crowded(
-        &mut self,
-        prev: Option<CellId>,
-        seen: Position,
-        last: CellId,
-        key: K,
-        value: V,
-    ) -> (CellId, CellId)
-        requires room { 0 < room self.old }
-        requires prev { IfSome prev (Has self.old.pairs) }
-        requires has { Has self.old.pairs last }
-        requires crowded { IsCrowded self.old.rows prev last }
-        ensures moved { leaf_in self.old.pairs result.1 ≡ None }
-        ensures fresh { leaf_in (with_number self.old.pairs last result.1) result.0 ≡ None }
-        ensures placed { self.new.pairs ≡ with_pair_after prev (result.0, (key, value)) (with_number self.old.pairs last result.1) }
-        ensures cells { self.new.cells ≡ self.old.cells }
-        ensures ids { self.new.ids ≡ exchanged self.old.ids last result.1 }
-        ensures room { room self.old ≤ room self.new + 1 }
-    {
-        let _ = &self.rows;
-        let moved = self.carry(last);
-        let _ = &self.rows;
-        let after = prev;
-        match self.spot(after, seen) {
-            Some(position) => (self.put(prev, position, key, value), moved),
-            None => unreachable!(),
+        match self.row_after(position.row) {
+            None => self.begin(prev, Some(position.row), key, value),
+            Some(next) => {
+                let start = Position {
+                    row: next,
+                    place: 0,
+                };
+                self.put(prev, start, key, value)
+            }
         }
     }
 
@@ -138,24 +141,60 @@ impl<K: Drop, V: Drop> Leaves<K, V> {
         self.begin(Some(last), Some(position.row), key, value)
     }
 
-    /// Moves the last leaf of a full row to the next row, and returns the cell that it moved to.
+    /// Begins a new row after a full row, and moves the last leaf there, with its id. Does
+    /// not allocate.
     #[cold]
     #[inline(never)]
-    fn carry(&mut self, last: CellId) -> CellId
-        requires room { 0 < room self.old }
+    pub fn cut(&mut self, last: CellId) -> Moved
         requires has { Has self.old.pairs last }
-        requires row { IfSome (leaf_in self.old.rows (row_of last)) (λ ids. (length ids ≡ ROW) × (nth ids (ROW - 1) ≡ Some last)) }
-        ensures fresh { leaf_in self.old.pairs result ≡ None }
-        ensures pairs { self.new.pairs ≡ with_number self.old.pairs last result }
+        requires row { IfSome (leaf_in self.old.rows (row_of last))
+            (λ ids. (length ids ≡ ROW) × (nth ids (ROW - 1) ≡ Some last)) }
+        requires spare { 0 < self.old.spare_rows }
+        ensures fresh { leaf_in self.old.pairs result.to ≡ None }
+        ensures lies { result.to < self.old.cells }
+        ensures pairs { self.new.pairs ≡ with_number self.old.pairs last result.to }
+        ensures has { Has self.new.pairs result.before }
+        ensures row { row_of result.before ≡ row_of last }
+        ensures last { IsRowLast self.new.rows result.before }
+        ensures spare_rows { self.new.spare_rows + 1 ≡ self.old.spare_rows }
         ensures cells { self.new.cells ≡ self.old.cells }
-        ensures ids { self.new.ids ≡ exchanged self.old.ids last result }
-        ensures row { IfSome (leaf_in self.new.rows (row_of last)) (λ ids. length ids + 1 ≡ ROW) }
-        ensures room { (ids : List ℕ) → length ids ≡ ROW → room self.old ≤ row_room (lengths (with_pair self.new.rows (row_of last) ids)) self.new.spare_rows + 1 }
+        ensures ids { self.new.ids ≡ exchanged self.old.ids last result.to }
+        ensures cut { IsCut self.old.rows self.new.rows (row_of last) 1 }
+        ensures member { (n : ℕ) → row_of n ≡ row_of last
+            → IsNear self.new.rows result.before (if eqb n last then result.to else n) }
     {
         self.law();
-        let to = self.carry_pair(last);
-        self.exchange_ids(last, to);
-        to
+        let moved = self.move_apart(last);
+        self.exchange_ids(last, moved.to);
+        moved
+    }
+
+    /// Moves the last leaf of a row that is being cut to the front of the next row, with its id. Does
+    /// not allocate.
+    pub fn carry(&mut self, last: CellId) -> Moved
+        requires has { Has self.old.pairs last }
+        requires last { IsRowLast self.old.rows last }
+        requires cut { (start : List (Numbered (List ℕ))) × (count : ℕ)
+            × IsCut start self.old.rows (row_of last) count × (0 < count) × (count < HALF) }
+        ensures fresh { leaf_in self.old.pairs result.to ≡ None }
+        ensures lies { result.to < self.old.cells }
+        ensures pairs { self.new.pairs ≡ with_number self.old.pairs last result.to }
+        ensures has { Has self.new.pairs result.before }
+        ensures row { row_of result.before ≡ row_of last }
+        ensures last { IsRowLast self.new.rows result.before }
+        ensures spare_rows { self.new.spare_rows ≡ self.old.spare_rows }
+        ensures cells { self.new.cells ≡ self.old.cells }
+        ensures ids { self.new.ids ≡ exchanged self.old.ids last result.to }
+        ensures cut { (start : List (Numbered (List ℕ))) (count : ℕ)
+            → IsCut start self.old.rows (row_of last) count
+            → IsCut start self.new.rows (row_of last) (count + 1) }
+        ensures member { (n : ℕ) → IsNear self.old.rows last n
+            → IsNear self.new.rows result.before (if eqb n last then result.to else n) }
+    {
+        self.law();
+        let moved = self.move_on(last);
+        self.exchange_ids(last, moved.to);
+        moved
     }
 
     /// Exchanges the ids of two cells.
@@ -171,58 +210,70 @@ impl<K: Drop, V: Drop> Leaves<K, V> {
         self.ids.exchange(a.number(), b.number());
     }
 
-    /// Moves the last leaf of a full row to the next row, and returns the cell that it moved to. The
-    /// leaf does not take its id along yet.
-    #[cold]
-    #[inline(never)]
-    fn carry_pair(&mut self, last: CellId) -> CellId
-        requires room { 0 < room self.old }
+    /// Begins a new row after a full row, and moves the last leaf there, without its id.
+    fn move_apart(&mut self, last: CellId) -> Moved
         requires has { Has self.old.pairs last }
-        requires row { IfSome (leaf_in self.old.rows (row_of last)) (λ ids. (length ids ≡ ROW) × (nth ids (ROW - 1) ≡ Some last)) }
-        ensures fresh { leaf_in self.old.pairs result ≡ None }
-        ensures pairs { self.new.pairs ≡ with_number self.old.pairs last result }
+        requires row { IfSome (leaf_in self.old.rows (row_of last))
+            (λ ids. (length ids ≡ ROW) × (nth ids (ROW - 1) ≡ Some last)) }
+        requires spare { 0 < self.old.spare_rows }
+        ensures fresh { leaf_in self.old.pairs result.to ≡ None }
+        ensures lies { result.to < self.old.cells }
+        ensures pairs { self.new.pairs ≡ with_number self.old.pairs last result.to }
+        ensures has { Has self.new.pairs result.before }
+        ensures row { row_of result.before ≡ row_of last }
+        ensures last { IsRowLast self.new.rows result.before }
+        ensures spare_rows { self.new.spare_rows + 1 ≡ self.old.spare_rows }
         ensures cells { self.new.cells ≡ self.old.cells }
-        ensures lies { result < self.old.cells }
         ensures ids { self.new.ids ≡ self.old.ids }
-        ensures row { IfSome (leaf_in self.new.rows (row_of last)) (λ ids. length ids + 1 ≡ ROW) }
-        ensures room { (ids : List ℕ) → length ids ≡ ROW → room self.old ≤ row_room (lengths (with_pair self.new.rows (row_of last) ids)) self.new.spare_rows + 1 }
+        ensures cut { IsCut self.old.rows self.new.rows (row_of last) 1 }
+        ensures member { (n : ℕ) → row_of n ≡ row_of last
+            → IsNear self.new.rows result.before (if eqb n last then result.to else n) }
     {
         let row = last.number() / ROW;
         let before = self.rows.read(row).run().at(ROW - 2);
         let place = ROW - 1;
         let (key, value) = self.remove_at(last, Position { row, place });
         let _ = &self.rows;
-        self.put_beyond(Some(before), row, key, value)
+        let to = self.begin(Some(before), Some(row), key, value);
+        Moved { to, before }
     }
 
-    /// Places a pair after the last leaf of a row: in the next row if that is not full, or else in
-    /// a new row between the two.
-    #[cold]
-    #[inline(never)]
-    fn put_beyond(&mut self, prev: Option<CellId>, row: usize, key: K, value: V) -> CellId
-        requires prev { IfSome prev (Has self.old.pairs) }
-        requires has { Has self.old.rows row }
-        requires index { spot_index prev self.old.pairs ≡ row_end (Some row) self.old.rows }
-        requires room { IsShut self.old.rows row → 0 < self.old.spare_rows }
-        ensures fresh { leaf_in self.old.pairs result ≡ None }
-        ensures lies { result < self.old.cells }
-        ensures placed { self.new.pairs ≡ with_pair_after prev (result, (key, value)) self.old.pairs }
+    /// Moves the last leaf of a row that is being cut to the front of the next row, without its id.
+    fn move_on(&mut self, last: CellId) -> Moved
+        requires has { Has self.old.pairs last }
+        requires last { IsRowLast self.old.rows last }
+        requires cut { (start : List (Numbered (List ℕ))) × (count : ℕ)
+            × IsCut start self.old.rows (row_of last) count × (0 < count) × (count < HALF) }
+        ensures fresh { leaf_in self.old.pairs result.to ≡ None }
+        ensures lies { result.to < self.old.cells }
+        ensures pairs { self.new.pairs ≡ with_number self.old.pairs last result.to }
+        ensures has { Has self.new.pairs result.before }
+        ensures row { row_of result.before ≡ row_of last }
+        ensures last { IsRowLast self.new.rows result.before }
+        ensures spare_rows { self.new.spare_rows ≡ self.old.spare_rows }
         ensures cells { self.new.cells ≡ self.old.cells }
         ensures ids { self.new.ids ≡ self.old.ids }
-        ensures rows { GoesBeyond self.old.rows self.old.spare_rows self.new.rows self.new.spare_rows row result }
-        ensures apart { row_of result ≢ row }
+        ensures cut { (start : List (Numbered (List ℕ))) (count : ℕ)
+            → IsCut start self.old.rows (row_of last) count
+            → IsCut start self.new.rows (row_of last) (count + 1) }
+        ensures member { (n : ℕ) → IsNear self.old.rows last n
+            → IsNear self.new.rows result.before (if eqb n last then result.to else n) }
     {
+        let row = last.number() / ROW;
+        let ids = self.rows.read(row);
+        let place = ids.len() - 1;
+        let before = ids.run().at(place - 1);
+        let Some(next) = self.row_after(row) else {
+            unreachable!()
+        };
+        let (key, value) = self.remove_at(last, Position { row, place });
         let _ = &self.rows;
-        if let Some(next) = self.row_after(row) {
-            if self.row_len(next) < ROW {
-                let start = Position {
-                    row: next,
-                    place: 0,
-                };
-                return self.put(prev, start, key, value);
-            }
-        }
-        self.begin(prev, Some(row), key, value)
+        let front = Position {
+            row: next,
+            place: 0,
+        };
+        let to = self.put(Some(before), front, key, value);
+        Moved { to, before }
     }
 
     /// Returns the position for a pair after `prev`, or before all leaves, or `None` if there are

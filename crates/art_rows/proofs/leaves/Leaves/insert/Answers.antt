@@ -1,4 +1,4 @@
-use Rattle.std.proofs.Common.{◌≡◌, ◌≢◌, ◌≤◌, ℕ, List, [], length, Option, Some, None, sym, ◌∙◌, arith}
+use Rattle.std.proofs.Common.{inl, inr, ◌⊎◌, ◌≡◌, ◌≢◌, ◌≤◌, ℕ, List, length, Option, Some, None, sym, ◌∙◌, arith}
 use Rattle.std.specs.Prelude.{IfSome, IfNone}
 use Rattle.art_rows.specs.Numbers.{Numbered, AreDistinct, leaf_in}
 use Rattle.art_rows.specs.Rows.{IsSpot, lengths, position_at}
@@ -6,10 +6,10 @@ use Rattle.art_rows.specs.Blocks.{row_of}
 use Rattle.art_rows.specs.declared.row.Position.{Position}
 use Rattle.art_rows.proofs.FilingLemmas.{seen_rows}
 use Rattle.art_rows.proofs.RowsLemmas.{standing}
-use Rattle.art_rows.proofs.RowRoomLemmas.{room_spare}
-use Rattle.art_rows.proofs.Rooms.{spot_has, spot_ids, spot_put, spot_end, spot_front, front_room, spare_beyond, beyond_room}
+use Rattle.art_rows.proofs.RowRoomLemmas.{room_spare, room_less, load_starts}
+use Rattle.art_rows.proofs.Rooms.{spot_has, spot_ids, spot_put, spot_end, spot_front, spot_next, front_turns, end_turns, spare_full}
 use Rattle.art_rows.proofs.RowChanges.{spot-row}
-use Rattle.art_rows.proofs.Crowds.{is_full, in_front, at_end}
+use Rattle.art_rows.proofs.Crowds.{is_full, in_front, at_end, no_place}
 use Rattle.art_rows.proofs.leaves.Leaves.insert.Goals as goal
 
 -- a full row
@@ -21,62 +21,192 @@ not_first : (rows : List (Numbered (List ℕ))) (prev : Option ℕ) (p : Positio
 not_first rows (Some i) p e z = tt
 not_first rows None p e z = z (let s = standing rows 0 p (sym e) in let i = s.index in omega arith)
 
+-- with room, or a place that is not there
+with_room : {A B : Type 0} → A ⊎ B → (B → ⊥) → A
+with_room (inl a) off = a
+with_room (inr b) off = absurd (off b)
+
 pub row_len-requires : goal.row_len-requires
 row_len-requires g c =
     let f = seen_rows c.self.inside c.self.view_is c.self.invariant in
     spot_has c.in-Some.ensures.some f.apart
 
+pub returns-then-row_len-lt-ROW-clause-turns : goal.returns-then-row_len-lt-ROW-clause-turns
+returns-then-row_len-lt-ROW-clause-turns g c =
+    let f = seen_rows c.self.inside c.self.view_is c.self.invariant in
+    let s = c.in-Some.ensures.some in
+    rw c.put.ensures.spare_rows (spot_put s f.apart c.put.new.self.rows c.put.result c.args.self.now.spare_rows c.put.ensures.rows)
+
 pub returns-then-row_len-lt-ROW-clause-room : goal.returns-then-row_len-lt-ROW-clause-room
 returns-then-row_len-lt-ROW-clause-room g c =
     let f = seen_rows c.self.inside c.self.view_is c.self.invariant in
-    rw c.put.ensures.spare_rows (spot_put c.in-Some.ensures.some f.apart c.put.new.self.rows c.put.result c.args.self.now.spare_rows c.put.ensures.rows)
+    let s = c.in-Some.ensures.some in
+    let o = c.args.self.now in
+    let n = c.put.new.self in
+    let e = c.put.ensures.spare_rows in
+    room_less (lengths o.rows) (lengths n.rows) o.spare_rows n.spare_rows (omega arith) (rw e (spot_put s f.apart n.rows c.put.result o.spare_rows c.put.ensures.rows))
+
+-- ---- in front of a full row
 
 pub begin-requires-then-position-eq0-clause-spare_rows : goal.begin-requires-then-position-eq0-clause-spare_rows
 begin-requires-then-position-eq0-clause-spare_rows g c =
     let f = seen_rows c.self.inside c.self.view_is c.self.invariant in
     let s = c.in-Some.ensures.some in
+    let at = spot-row c.args.self.now.rows _ c.in-Some.position s f.apart in
+    let full = full_row s f.apart c.row_len.result c.row_len.ensures.len c.row_len.ensures.fits c.if-row_len-lt-ROW.false in
     let front = in_front f c.args.prev c.requires.prev c.in-Some.position c.in-Some.ensures.after c.if-position-eq0.true in
-    let starts = spot_front s f.apart front f.filled (full_row s f.apart c.row_len.result c.row_len.ensures.len c.row_len.ensures.fits c.if-row_len-lt-ROW.false) in
-    room_spare [] (lengths c.args.self.now.rows) c.args.self.now.spare_rows tt starts c.requires.room
+    let starts = spot_front s f.apart front f.filled full in
+    let room = with_room c.requires.room (no_place c.args.self.now.rows c.args.prev c.in-Some.position c.in-Some.ensures.after s.ids at full) in
+    room_spare (lengths c.args.self.now.rows) c.args.self.now.spare_rows (load_starts (lengths c.args.self.now.rows) starts) room
 
 pub begin-requires-then-position-eq0-clause-index : goal.begin-requires-then-position-eq0-clause-index
 begin-requires-then-position-eq0-clause-index g c =
     in_front (seen_rows c.self.inside c.self.view_is c.self.invariant) c.args.prev c.requires.prev c.in-Some.position c.in-Some.ensures.after c.if-position-eq0.true
 
+pub returns-then-position-eq0-clause-turns : goal.returns-then-position-eq0-clause-turns
+returns-then-position-eq0-clause-turns g c =
+    let f = seen_rows c.self.inside c.self.view_is c.self.invariant in
+    let s = c.in-Some.ensures.some in
+    let at = spot-row c.args.self.now.rows _ c.in-Some.position s f.apart in
+    let full = full_row s f.apart c.row_len.result c.row_len.ensures.len c.row_len.ensures.fits c.if-row_len-lt-ROW.false in
+    let front = in_front f c.args.prev c.requires.prev c.in-Some.position c.in-Some.ensures.after c.if-position-eq0.true in
+    let starts = spot_front s f.apart front f.filled full in
+    let b = c.begin-then-position-eq0 in
+    front_turns c.args.self.now.rows b.new.self.rows (row_of b.result) b.result c.args.self.now.spare_rows b.new.self.spare_rows starts b.ensures.rows.0 b.ensures.spare_rows
+
 pub returns-then-position-eq0-clause-room : goal.returns-then-position-eq0-clause-room
 returns-then-position-eq0-clause-room g c =
     let f = seen_rows c.self.inside c.self.view_is c.self.invariant in
     let s = c.in-Some.ensures.some in
+    let at = spot-row c.args.self.now.rows _ c.in-Some.position s f.apart in
+    let full = full_row s f.apart c.row_len.result c.row_len.ensures.len c.row_len.ensures.fits c.if-row_len-lt-ROW.false in
     let front = in_front f c.args.prev c.requires.prev c.in-Some.position c.in-Some.ensures.after c.if-position-eq0.true in
-    let starts = spot_front s f.apart front f.filled (full_row s f.apart c.row_len.result c.row_len.ensures.len c.row_len.ensures.fits c.if-row_len-lt-ROW.false) in
+    let starts = spot_front s f.apart front f.filled full in
     let b = c.begin-then-position-eq0 in
-    front_room c.args.self.now.rows b.new.self.rows (row_of b.result) b.result c.args.self.now.spare_rows b.new.self.spare_rows starts b.ensures.rows.0 b.ensures.spare_rows
+    let o = c.args.self.now in
+    let n = b.new.self in
+    let e = b.ensures.spare_rows in
+    room_less (lengths o.rows) (lengths n.rows) o.spare_rows n.spare_rows (omega arith) (front_turns c.args.self.now.rows b.new.self.rows (row_of b.result) b.result c.args.self.now.spare_rows b.new.self.spare_rows starts b.ensures.rows.0 b.ensures.spare_rows)
 
-pub put_beyond-requires-clause-has : goal.put_beyond-requires-clause-has
-put_beyond-requires-clause-has g c =
-    let f = seen_rows c.self.inside c.self.view_is c.self.invariant in
-    spot_has c.in-Some.ensures.some f.apart
-
-pub put_beyond-requires-clause-index : goal.put_beyond-requires-clause-index
-put_beyond-requires-clause-index g c =
+pub returns-then-position-eq0-clause-kept : goal.returns-then-position-eq0-clause-kept
+returns-then-position-eq0-clause-kept g c =
     let f = seen_rows c.self.inside c.self.view_is c.self.invariant in
     let s = c.in-Some.ensures.some in
+    let at = spot-row c.args.self.now.rows _ c.in-Some.position s f.apart in
+    let full = full_row s f.apart c.row_len.result c.row_len.ensures.len c.row_len.ensures.fits c.if-row_len-lt-ROW.false in
+    λ h. absurd (no_place c.args.self.now.rows c.args.prev c.in-Some.position c.in-Some.ensures.after s.ids at full h)
+
+-- ---- at the end of a full row
+
+pub row_after-requires : goal.row_after-requires
+row_after-requires g c =
+    let f = seen_rows c.self.inside c.self.view_is c.self.invariant in
+    let s = c.in-Some.ensures.some in
+    spot_has s f.apart
+
+pub begin-requires-in-None-row_after-clause-spare_rows : goal.begin-requires-in-None-row_after-clause-spare_rows
+begin-requires-in-None-row_after-clause-spare_rows g c =
+    let f = seen_rows c.self.inside c.self.view_is c.self.invariant in
+    let s = c.in-Some.ensures.some in
+    let at = spot-row c.args.self.now.rows _ c.in-Some.position s f.apart in
+    let full = full_row s f.apart c.row_len.result c.row_len.ensures.len c.row_len.ensures.fits c.if-row_len-lt-ROW.false in
+    let room = with_room c.requires.room (no_place c.args.self.now.rows c.args.prev c.in-Some.position c.in-Some.ensures.after s.ids at full) in
+    spare_full c.args.self.now.rows c.in-Some.position.row s.ids at full c.args.self.now.spare_rows room
+
+pub begin-requires-in-None-row_after-clause-prev_row : goal.begin-requires-in-None-row_after-clause-prev_row
+begin-requires-in-None-row_after-clause-prev_row g c =
+    let f = seen_rows c.self.inside c.self.view_is c.self.invariant in
+    let s = c.in-Some.ensures.some in
+    spot_has s f.apart
+
+pub begin-requires-in-None-row_after-clause-index : goal.begin-requires-in-None-row_after-clause-index
+begin-requires-in-None-row_after-clause-index g c =
+    let f = seen_rows c.self.inside c.self.view_is c.self.invariant in
+    let s = c.in-Some.ensures.some in
+    let at = spot-row c.args.self.now.rows _ c.in-Some.position s f.apart in
     let full = full_row s f.apart c.row_len.result c.row_len.ensures.len c.row_len.ensures.fits c.if-row_len-lt-ROW.false in
     let some = not_first c.args.self.now.rows c.args.prev c.in-Some.position c.in-Some.ensures.first c.if-position-eq0.false in
-    let e = at_end f c.args.prev some c.in-Some.position c.in-Some.ensures.after c.requires.way s.ids (spot-row c.args.self.now.rows _ c.in-Some.position s f.apart) full in
-    spot_end s f.apart (e ∙ sym full)
+    let e = at_end f c.args.prev some c.in-Some.position c.in-Some.ensures.after c.requires.way s.ids at full in
+    spot_end s f.apart (e.0 ∙ sym full)
 
-pub put_beyond-requires-clause-room : goal.put_beyond-requires-clause-room
-put_beyond-requires-clause-room g c =
+pub returns-in-None-row_after-clause-turns : goal.returns-in-None-row_after-clause-turns
+returns-in-None-row_after-clause-turns g c =
     let f = seen_rows c.self.inside c.self.view_is c.self.invariant in
     let s = c.in-Some.ensures.some in
+    let at = spot-row c.args.self.now.rows _ c.in-Some.position s f.apart in
     let full = full_row s f.apart c.row_len.result c.row_len.ensures.len c.row_len.ensures.fits c.if-row_len-lt-ROW.false in
-    spare_beyond c.args.self.now.rows f.apart c.in-Some.position.row s.ids (spot-row c.args.self.now.rows _ c.in-Some.position s f.apart) full c.args.self.now.spare_rows c.requires.room
+    let b = c.begin-in-None-row_after in
+    let none = sym c.row_after.ensures ∙ c.in-None-row_after.is in
+    end_turns c.args.self.now.rows c.in-Some.position.row s.ids at full none b.new.self.rows (row_of b.result) b.result c.args.self.now.spare_rows b.new.self.spare_rows b.ensures.rows.0 b.ensures.spare_rows
 
-pub returns-clause-room : goal.returns-clause-room
-returns-clause-room g c =
+pub returns-in-None-row_after-clause-kept : goal.returns-in-None-row_after-clause-kept
+returns-in-None-row_after-clause-kept g c =
     let f = seen_rows c.self.inside c.self.view_is c.self.invariant in
     let s = c.in-Some.ensures.some in
+    let at = spot-row c.args.self.now.rows _ c.in-Some.position s f.apart in
     let full = full_row s f.apart c.row_len.result c.row_len.ensures.len c.row_len.ensures.fits c.if-row_len-lt-ROW.false in
-    let n = c.put_beyond.new.self in
-    beyond_room c.args.self.now.rows f.apart c.in-Some.position.row s.ids (spot-row c.args.self.now.rows _ c.in-Some.position s f.apart) full n.rows c.args.self.now.spare_rows n.spare_rows c.put_beyond.result c.put_beyond.ensures.rows
+    λ h. absurd (no_place c.args.self.now.rows c.args.prev c.in-Some.position c.in-Some.ensures.after s.ids at full h)
+
+pub returns-in-None-row_after-clause-room : goal.returns-in-None-row_after-clause-room
+returns-in-None-row_after-clause-room g c =
+    let f = seen_rows c.self.inside c.self.view_is c.self.invariant in
+    let s = c.in-Some.ensures.some in
+    let at = spot-row c.args.self.now.rows _ c.in-Some.position s f.apart in
+    let full = full_row s f.apart c.row_len.result c.row_len.ensures.len c.row_len.ensures.fits c.if-row_len-lt-ROW.false in
+    let b = c.begin-in-None-row_after in
+    let none = sym c.row_after.ensures ∙ c.in-None-row_after.is in
+    let o = c.args.self.now in
+    let n = b.new.self in
+    let q = b.ensures.spare_rows in
+    room_less (lengths o.rows) (lengths n.rows) o.spare_rows n.spare_rows (omega arith) (end_turns c.args.self.now.rows c.in-Some.position.row s.ids at full none b.new.self.rows (row_of b.result) b.result c.args.self.now.spare_rows b.new.self.spare_rows b.ensures.rows.0 b.ensures.spare_rows)
+
+pub put-requires-in-Some-row_after-clause-spot : goal.put-requires-in-Some-row_after-clause-spot
+put-requires-in-Some-row_after-clause-spot g c =
+    let f = seen_rows c.self.inside c.self.view_is c.self.invariant in
+    let s = c.in-Some.ensures.some in
+    let at = spot-row c.args.self.now.rows _ c.in-Some.position s f.apart in
+    let full = full_row s f.apart c.row_len.result c.row_len.ensures.len c.row_len.ensures.fits c.if-row_len-lt-ROW.false in
+    let some = not_first c.args.self.now.rows c.args.prev c.in-Some.position c.in-Some.ensures.first c.if-position-eq0.false in
+    let e = at_end f c.args.prev some c.in-Some.position c.in-Some.ensures.after c.requires.way s.ids at full in
+    let next = sym c.row_after.ensures ∙ c.in-Some-row_after.is in
+    let t = spot_next c.args.self.now.rows f.apart c.in-Some.position.row _ c.in-Some-row_after.next (spot_has s f.apart) (spot_end s f.apart (e.0 ∙ sym full)) next in
+    t
+
+pub put-requires-in-Some-row_after-clause-room : goal.put-requires-in-Some-row_after-clause-room
+put-requires-in-Some-row_after-clause-room g c =
+    let f = seen_rows c.self.inside c.self.view_is c.self.invariant in
+    let s = c.in-Some.ensures.some in
+    let at = spot-row c.args.self.now.rows _ c.in-Some.position s f.apart in
+    let full = full_row s f.apart c.row_len.result c.row_len.ensures.len c.row_len.ensures.fits c.if-row_len-lt-ROW.false in
+    let some = not_first c.args.self.now.rows c.args.prev c.in-Some.position c.in-Some.ensures.first c.if-position-eq0.false in
+    let e = at_end f c.args.prev some c.in-Some.position c.in-Some.ensures.after c.requires.way s.ids at full in
+    rw (sym c.row_after.ensures ∙ c.in-Some-row_after.is) at e.1
+
+pub returns-in-Some-row_after-clause-turns : goal.returns-in-Some-row_after-clause-turns
+returns-in-Some-row_after-clause-turns g c =
+    let f = seen_rows c.self.inside c.self.view_is c.self.invariant in
+    let s = c.in-Some.ensures.some in
+    let at = spot-row c.args.self.now.rows _ c.in-Some.position s f.apart in
+    let full = full_row s f.apart c.row_len.result c.row_len.ensures.len c.row_len.ensures.fits c.if-row_len-lt-ROW.false in
+    let some = not_first c.args.self.now.rows c.args.prev c.in-Some.position c.in-Some.ensures.first c.if-position-eq0.false in
+    let e = at_end f c.args.prev some c.in-Some.position c.in-Some.ensures.after c.requires.way s.ids at full in
+    let next = sym c.row_after.ensures ∙ c.in-Some-row_after.is in
+    let t = spot_next c.args.self.now.rows f.apart c.in-Some.position.row _ c.in-Some-row_after.next (spot_has s f.apart) (spot_end s f.apart (e.0 ∙ sym full)) next in
+    let b = c.put-in-Some-row_after in
+    rw b.ensures.spare_rows (spot_put t f.apart b.new.self.rows b.result c.args.self.now.spare_rows b.ensures.rows)
+
+pub returns-in-Some-row_after-clause-room : goal.returns-in-Some-row_after-clause-room
+returns-in-Some-row_after-clause-room g c =
+    let f = seen_rows c.self.inside c.self.view_is c.self.invariant in
+    let s = c.in-Some.ensures.some in
+    let at = spot-row c.args.self.now.rows _ c.in-Some.position s f.apart in
+    let full = full_row s f.apart c.row_len.result c.row_len.ensures.len c.row_len.ensures.fits c.if-row_len-lt-ROW.false in
+    let some = not_first c.args.self.now.rows c.args.prev c.in-Some.position c.in-Some.ensures.first c.if-position-eq0.false in
+    let e = at_end f c.args.prev some c.in-Some.position c.in-Some.ensures.after c.requires.way s.ids at full in
+    let next = sym c.row_after.ensures ∙ c.in-Some-row_after.is in
+    let t = spot_next c.args.self.now.rows f.apart c.in-Some.position.row _ c.in-Some-row_after.next (spot_has s f.apart) (spot_end s f.apart (e.0 ∙ sym full)) next in
+    let b = c.put-in-Some-row_after in
+    let o = c.args.self.now in
+    let n = b.new.self in
+    let q = b.ensures.spare_rows in
+    room_less (lengths o.rows) (lengths n.rows) o.spare_rows n.spare_rows (omega arith) (rw b.ensures.spare_rows (spot_put t f.apart b.new.self.rows b.result c.args.self.now.spare_rows b.ensures.rows))
