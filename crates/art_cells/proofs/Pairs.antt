@@ -4,7 +4,7 @@ pub mod Branches
 pub mod Carried
 pub mod Changes
 pub mod Copies
-pub mod Crowded
+pub mod Cutting
 pub mod Filtering
 pub mod KeyChanges
 pub mod Keys

@@ -1,4 +1,5 @@
 pub mod Building
+pub mod Cutting
 pub mod Descents
 pub mod Partings
 pub mod Placing

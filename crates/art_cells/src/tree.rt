@@ -15,6 +15,7 @@ mod apart;
 pub mod build;
 mod change;
 mod clone;
+mod cut;
 mod descent;
 mod free_subtree;
 pub mod parting;

@@ -1,23 +1,25 @@
 //! A leaf joins the tree.
-ghost use Rattle.std.specs.Prelude.{◌≡◌, ◌≢◌, ℕ, ◌+◌, ◌-◌, ◌^◌, ◌<◌, ◌≤◌, [], length, take, slice_range, slice_index_or, true, Option, Some, IfSome, eqb, if◌then◌else◌};
+ghost use Rattle.std.specs.Prelude.{◌≡◌, ◌≢◌, ℕ, ◌+◌, ◌-◌, ◌^◌, ◌<◌, ◌≤◌, [], length, take, slice_range, slice_index_or, true, Option, Some, IfSome};
 ghost use Rattle.art_cells.specs.Begins.{Bytes};
 ghost use Rattle.art_cells.specs.Invariant.Shape.{Shape};
 ghost use Rattle.art_cells.specs.Calls.Spots.{SpotFits};
 ghost use Rattle.art_cells.specs.Invariant.EdgesAbove.{LeadsTo, TurnsTo, AscendsAt};
 ghost use Rattle.art_cells.specs.Content.{Fits, IsOpen, room as places};
+ghost use Rattle.art_rows.specs.Blocks.{IsCrowded, IsRowLast};
+ghost use Rattle.art_cells.specs.Calls.Cutting.{GoesAfter};
 ghost use Rattle.art_cells.specs.Calls.Placing.{IsSpotFor, HasNearest, IsOverLeaf, IsToJoin, TreeGains, Forks, DepthWithin, KeepsFrom, PutsPair, content_of};
 ghost use Rattle.art_kinds.specs.Nodes.{at, room, FitsNew, SameSpares};
-ghost use Rattle.art_cells.specs.Leaves.{keys_in, room as leaves_room};
+ghost use Rattle.art_cells.specs.Leaves.{Has, keys_in, room as leaves_room};
 ghost use Rattle.art_cells.specs.Calls.Removing.{StartsBelow, EndsBelow, Cuts};
 ghost use Rattle.art_cells.specs.Points.{IsFree, IsGood};
 ghost use Rattle.art_cells.specs.Invariant.Sound.{IsSound};
 ghost use Rattle.art_kinds.specs.declared.records.ids.Child.{Child as Way};
 ghost use Rattle.art_kinds.specs.declared.records.ids.Child.TheVariants.{Inner};
 
+use crate::tree::cut::cut_row;
 use crate::tree::descent::{EdgeAbove, Spot, locate};
 use crate::tree::parting::leaf_before;
 use crate::tree::point::{CellPlace, CellPoint};
-use crate::tree::remove::spot_of;
 use art_kinds::{Child, Edge, NodeId, Nodes};
 use art_rows::{Leaves, Position};
 use art_slots::{CellId, Visits};
@@ -80,7 +82,7 @@ fn place_first<K: AsBytes + Drop, V: Drop, const P: usize>(
     (cell, Child::Leaf(cell))
 }
 
-// Places a pair beside others. Returns where, and the root.
+/// Places a pair beside others. Returns its cell, and the root.
 fn place_beside<K: AsBytes + Drop, V: Drop, const P: usize>(
     leaves: &mut Leaves<K, V>,
     nodes: &mut Nodes<P>,
@@ -107,24 +109,42 @@ fn place_beside<K: AsBytes + Drop, V: Drop, const P: usize>(
         let top = join(leaves, nodes, root, place, cell);
         return (cell, top);
     };
-    let spot = spot_of(leaves, nodes, &Some(*root), &last);
-    let (cell, to) = leaves.insert_crowded(prev, seen, last, key, value);
-    let led = lead(nodes, root, &spot.edge, &Child::Leaf(to));
-    let top = join(leaves, nodes, &led, &renumbered(place, last, to), cell);
-    (cell, top)
+    let Some(prev) = prev else { unreachable!() };
+    place_crowded(leaves, nodes, root, place, prev, last, key, value)
 }
 
-// A place after a leaf's number became another.
-fn renumbered(place: &CellPlace, was: CellId, now: CellId) -> CellPlace
-    ensures nearest { result.nearest ≡ (if eqb place.now.nearest was then now else place.now.nearest) }
-    ensures depth { result.depth ≡ place.now.depth }
+/// Places a pair after the leaf `prev`, once the full row of that leaf is cut in half. `last` is the
+/// last leaf of the row. Returns the cell of the pair, and the root.
+#[cold]
+#[inline(never)]
+fn place_crowded<K: AsBytes + Drop, V: Drop, const P: usize>(
+    leaves: &mut Leaves<K, V>,
+    nodes: &mut Nodes<P>,
+    root: &Child,
+    place: &CellPlace,
+    prev: CellId,
+    last: CellId,
+    key: K,
+    value: V,
+) -> (CellId, Child)
+    requires whole { IsSound K.bytes P leaves.old nodes.old (Some root.now) }
+    requires goes { GoesAfter (keys_in K.bytes leaves.old.pairs) place.now.nearest place.now.depth
+        prev (K.bytes key) }
+    requires has { Has leaves.old.pairs last }
+    requires last { IsRowLast leaves.old.rows last }
+    requires crowded { IsCrowded leaves.old.rows (Some prev) last }
+    requires leaves_room { 0 < leaves_room leaves.old }
+    requires nodes_room { 0 < room nodes.old }
+    ensures placed { PutsPair K.bytes leaves.old leaves.new result.0 (key, value) }
+    ensures whole { IsSound K.bytes P leaves.new nodes.new (Some result.1) }
+    ensures leaves_room { leaves_room leaves.old ≤ leaves_room leaves.new + 1 }
+    ensures nodes_room { room nodes.old ≤ room nodes.new + 1 }
 {
-    let nearest = if place.nearest == was {
-        now
-    } else {
-        place.nearest
-    };
-    CellPlace { nearest, ..*place }
+    let cut = cut_row(leaves, nodes, root, last, prev, place);
+    leaves.law();
+    let cell = leaves.insert(Some(cut.prev), Position::unknown(), key, value);
+    let top = join(leaves, nodes, &cut.root, &cut.place, cell);
+    (cell, top)
 }
 
 // Leads the tree to a leaf whose key leaves the nearest one at a place. Answers the root.

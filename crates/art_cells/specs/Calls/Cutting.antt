@@ -1,0 +1,29 @@
+-- How a full row is cut in half, so that a pair can come between its leaves.
+use Rattle.std.specs.Prelude.{◌≡◌, ◌+◌, ℕ, List, map, Option, Some}
+use Rattle.art_rows.specs.Blocks.{row_of, IsRowLast, IsCut, IsNear}
+use Rattle.art_kinds.specs.Nodes.{Nodes, room}
+use Rattle.art_cells.specs.Begins.{Bytes}
+use Rattle.art_cells.specs.Places.{LeavesNearest, LastBefore}
+use Rattle.art_cells.specs.Leaves.{Leaves, Has, keys_in}
+use Rattle.art_cells.specs.UnderIds.{under_ids}
+use Rattle.art_cells.specs.Invariant.Sound.{IsSound}
+use Rattle.art_cells.specs.declared.tree.cut.Cut.{Cut}
+
+-- the key q leaves the nearest one at this depth, and its place is after the leaf `prev`
+pub record GoesAfter (keys : ℕ → Option Bytes) (nearest depth prev : ℕ) (q : Bytes) : Type 0 where
+  pub leaves : LeavesNearest keys nearest depth q
+  pub before : LastBefore keys q prev
+
+-- the last `count` leaves of a full row have moved to a new row after it: the tree is whole, each id names what it named, and a key that had its place after the leaf `prev` has it after the leaf in the cell where that is now
+pub record CutsRow {K V : Type 0} (key_bytes : K → List ℕ) (P : ℕ) (start now : Leaves K V) (old new : Nodes) (nearest depth prev : ℕ) (cut : Cut) (count : ℕ) : Type 0 where
+  pub sound : IsSound key_bytes P now new (Some cut.root)
+  pub rows : IsCut start.rows now.rows (row_of cut.last) count
+  pub spare : now.spare_rows + 1 ≡ start.spare_rows
+  pub has : Has now.pairs cut.last
+  pub last : IsRowLast now.rows cut.last
+  pub near : IsNear now.rows cut.last cut.prev
+  pub same : map (λ p. p.1) now.pairs ≡ map (λ p. p.1) start.pairs
+  pub ids : under_ids now.ids now.pairs ≡ under_ids start.ids start.pairs
+  pub deep : cut.place.depth ≡ depth
+  pub goes : (q : Bytes) → GoesAfter (keys_in key_bytes start.pairs) nearest depth prev q → GoesAfter (keys_in key_bytes now.pairs) cut.place.nearest depth cut.prev q
+  pub nodes : room new ≡ room old
