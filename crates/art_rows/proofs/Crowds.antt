@@ -54,6 +54,14 @@ module _ {K V : Type 0} {leaves : ℕ → Option (Leaf K V)} {rows : List (Numbe
       | inr e ↦ (let o = own_place in let z = e.0 in omega arith, subst (HasRoomAfter rows) own_row e.1)
     ])
 
+    -- in a full row it is the last, and the next row is not full
+    pub way_means : length ids ≡ 64 → HasWay rows (Some i) → (p.place ≡ 63) × HasRoomAfter rows p.row
+    way_means full way =
+        let w : length ids ≡ 64 → (place_in ids i + 1 ≡ 64) × HasRoomAfter rows (row_of i) = rw own_ids at way in
+        let o = own_place in
+        let z = (w full).0 in
+        (omega arith, subst (HasRoomAfter rows) (sym own_row) (w full).1)
+
     -- or else the row is cut
     pub crowded : length ids ≡ 64 → (last : ℕ) → nth ids 63 ≡ Some last → IsCrowded rows (Some i) last
     crowded full last end = record {

@@ -1,5 +1,5 @@
 //! Placements of leaves.
-ghost use Rattle.std.specs.Prelude.{◌≡◌, ◌⊎◌, ℕ, ◌+◌, ◌-◌, ◌<◌, ◌≤◌, ◌++◌, List, [], ◌∷◌, length, take, drop, if◌then◌else◌, eqb, Some, None, IsSome, IsTrue, IfSome, IfNone};
+ghost use Rattle.std.specs.Prelude.{◌≡◌, ◌↔◌, ◌⊎◌, ℕ, ◌+◌, ◌-◌, ◌<◌, ◌≤◌, ◌++◌, List, [], ◌∷◌, length, take, drop, if◌then◌else◌, eqb, Some, None, IsSome, IsTrue, IfSome, IfNone};
 ghost use Rattle.art_rows.specs.Ids.{exchanged};
 ghost use Rattle.art_rows.specs.Numbers.{leaf_in, Has, last_number, Numbered, number_after, with_pair_after, with_number, with_pair};
 ghost use Rattle.art_rows.specs.Rows.{position_at, nth, IsSpot, row_end};
@@ -40,7 +40,7 @@ impl<K: Drop, V: Drop> Leaves<K, V> {
     /// Returns `true` if the row after another is not full, or if there is none.
     fn has_room_after(&self, row: usize) -> bool
         requires { Has self.now.rows row }
-        ensures { IsTrue result → HasRoomAfter self.now.rows row }
+        ensures { IsTrue result ↔ HasRoomAfter self.now.rows row }
     {
         match self.row_after(row) {
             None => true,
@@ -55,6 +55,7 @@ impl<K: Drop, V: Drop> Leaves<K, V> {
         requires { IfSome prev (Has self.now.pairs) }
         ensures none { IfNone result (HasWay self.now.rows prev) }
         ensures some { IfSome result (IsCrowded self.now.rows prev) }
+        ensures needed { IfSome result (λ _. ¬ HasWay self.now.rows prev) }
         ensures has { IfSome result (Has self.now.pairs) }
         ensures last { IfSome result (IsRowLast self.now.rows) }
     {
