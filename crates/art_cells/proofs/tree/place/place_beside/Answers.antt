@@ -1,14 +1,11 @@
-use Rattle.std.proofs.Common.{◌≡◌, ◌<◌, ◌≤◌, ◌+◌, ℕ, length, refl, ap, subst, arith, lit<, None, Some}
+use Rattle.std.proofs.Common.{◌≡◌, ◌<◌, ◌≤◌, ◌+◌, ℕ, length, refl, ap, subst, arith, lit<, Option, None, Some}
 use Rattle.art_cells.specs.UnderIds.{AreNamed, under_ids}
 use Rattle.art_cells.proofs.UnderIds.{named_below}
 use Rattle.art_kinds.specs.Nodes.{at, room}
-use Rattle.art_kinds.proofs.CallerLemmas.{room-same}
-use Rattle.art_kinds.specs.declared.records.ids.Child.TheVariants.{Leaf}
-use Rattle.art_cells.specs.Invariant.EdgesAbove.{LeadsTo}
-use Rattle.art_cells.specs.Leaves.{with_number}
-use Rattle.art_cells.proofs.Pairs.Crowded.{near_moved, placed_moved, sound_moved}
+use Rattle.art_rows.specs.Blocks.{IsCrowded}
+use Rattle.art_cells.specs.Leaves.{keys_in}
+use Rattle.art_cells.specs.Places.{LastBefore, IsLeafBefore}
 use Rattle.art_cells.proofs.Pairs.Placed.{has_beside, has_leaf_before, free_before, placed_free, puts_pair, joins}
-use Rattle.art_cells.proofs.Pairs.Renumbered.{pairs_renumbered}
 use Rattle.art_cells.proofs.tree.place.place_beside.Goals as goal
 
 pub leaf_before-requires : goal.leaf_before-requires
@@ -30,14 +27,7 @@ insert-cell-requires-clause-prev g c =
     let q = kb c.args.key in
     has_leaf_before kb l.pairs q c.leaf_before.result.0 (free_before kb l c.args.nodes.now (Some c.args.root.now) c.args.place.now q c.requires.whole c.law.ensures.distinct c.requires.free c.leaf_before.result.0 c.leaf_before.ensures)
 
-pub insert_crowded-requires-clause-prev : goal.insert_crowded-requires-clause-prev
-insert_crowded-requires-clause-prev g c =
-    let kb = g.K.AsBytes.bytes in
-    let l = c.args.leaves.now in
-    let q = kb c.args.key in
-    has_leaf_before kb l.pairs q c.leaf_before.result.0 (free_before kb l c.args.nodes.now (Some c.args.root.now) c.args.place.now q c.requires.whole c.law.ensures.distinct c.requires.free c.leaf_before.result.0 c.leaf_before.ensures)
-
--- ---- no leaf makes way
+-- ---- no row is cut
 
 pub join-top-requires : goal.join-top-requires
 join-top-requires g c =
@@ -69,41 +59,16 @@ returns-in_default-clause-whole g c =
     let p = placed_free g.K.AsBytes.bytes c.args.leaves.now c.args.nodes.now (Some c.args.root.now) c.args.place.now i.new.self.pairs i.result x c.requires.whole c.law.ensures.distinct c.requires.free c.leaf_before.result.0 c.leaf_before.ensures i.ensures.fresh i.ensures.placed in
     record { content = p.put.content; shape = c.join-top.ensures.shape }
 
--- ---- a leaf makes way
+-- ---- a row is cut
 
-pub join-top-requires-2 : goal.join-top-requires-2
-join-top-requires-2 g c =
+pub place_crowded-requires : goal.place_crowded-requires
+place_crowded-requires g c =
     let kb = g.K.AsBytes.bytes in
     let l = c.args.leaves.now in
-    let n = c.args.nodes.now in
-    let root = c.args.root.now in
-    let place = c.args.place.now in
-    let i = c.insert_crowded in
-    let e = i.ensures in
-    let x : g.row.K.Denot × g.row.V.Denot = (c.args.key, c.args.value) in
-    let s = c.spot_of-spot in
-    let leads : LeadsTo (at n) (Some root) s.result.edge (Leaf c.in-Some.last) = subst (λ (j : ℕ). LeadsTo (at n) (Some root) s.result.edge (Leaf j)) s.ensures.same s.ensures.spot.leads in
-    let p = placed_moved kb l n (Some root) place x c.requires.whole c.law.ensures.distinct c.requires.free c.in-Some.last i.result.1 c.in-Some.ensures.has e.moved c.leaf_before.result.0 c.leaf_before.ensures c.in-Some.ensures.some.apart i.new.self.pairs i.result.0 e.fresh e.placed in
-    let sound = sound_moved kb l n (Some root) place x c.requires.whole c.law.ensures.distinct c.requires.free c.in-Some.last i.result.1 c.in-Some.ensures.has e.moved c.lead-led.new.nodes (Some c.lead-led.result) s.result.edge leads c.lead-led.ensures.turned in
-    let near = near_moved kb l n (Some root) place x c.requires.whole c.law.ensures.distinct c.requires.free c.in-Some.last i.result.1 c.in-Some.ensures.has e.moved in
-    let j = joins kb (record l { pairs = with_number l.pairs c.in-Some.last i.result.1 }) c.lead-led.new.nodes c.lead-led.result i.new.self.pairs _ place.depth i.result.0 x sound near p in
-    let same : room c.lead-led.new.nodes ≡ room n = room-same n c.lead-led.new.nodes c.lead-led.ensures.spares in
-    (lit< tt, (rw (c.renumbered.ensures.nearest, c.renumbered.ensures.depth) j, rw same c.requires.nodes_room))
-
-pub returns-clause-placed : goal.returns-clause-placed
-returns-clause-placed g c = ?
-
-pub returns-clause-whole : goal.returns-clause-whole
-returns-clause-whole g c =
-    let kb = g.K.AsBytes.bytes in
-    let i = c.insert_crowded in
-    let e = i.ensures in
-    let x : g.row.K.Denot × g.row.V.Denot = (c.args.key, c.args.value) in
-    let p = placed_moved kb c.args.leaves.now c.args.nodes.now (Some c.args.root.now) c.args.place.now x c.requires.whole c.law.ensures.distinct c.requires.free c.in-Some.last i.result.1 c.in-Some.ensures.has e.moved c.leaf_before.result.0 c.leaf_before.ensures c.in-Some.ensures.some.apart i.new.self.pairs i.result.0 e.fresh e.placed in
-    record { content = p.put.content; shape = c.join-top-2.ensures.shape }
-
-pub returns-clause-nodes_room : goal.returns-clause-nodes_room
-returns-clause-nodes_room g c =
-    let same : room c.lead-led.new.nodes ≡ room c.args.nodes.now = room-same c.args.nodes.now c.lead-led.new.nodes c.lead-led.ensures.spares in
-    let r : room c.lead-led.new.nodes ≤ room c.join-top-2.new.nodes + 1 = c.join-top-2.ensures.room in
-    omega arith
+    let q = kb c.args.key in
+    let r = c.requires in
+    let is = c.in-Some-prev.is in
+    let st = free_before kb l c.args.nodes.now (Some c.args.root.now) c.args.place.now q r.whole c.law.ensures.distinct r.free c.leaf_before.result.0 c.leaf_before.ensures in
+    let before : LastBefore (keys_in kb l.pairs) q c.in-Some-prev.prev = subst (λ (o : Option ℕ). IsLeafBefore (keys_in kb l.pairs) q o) is st in
+    let crowded : IsCrowded l.rows (Some c.in-Some-prev.prev) c.in-Some.last = subst (λ (o : Option ℕ). IsCrowded l.rows o c.in-Some.last) is c.in-Some.ensures.some in
+    (lit< tt, (r.whole, (record { leaves = r.free.leaves; before = before }, (c.in-Some.ensures.has, (c.in-Some.ensures.last, (crowded, (r.leaves_room, r.nodes_room)))))))
