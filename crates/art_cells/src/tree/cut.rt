@@ -1,20 +1,21 @@
 //! A full row is cut in half.
-ghost use Rattle.std.specs.Prelude.{◌≡◌, ◌+◌, ◌<◌, ℕ, Some, if◌then◌else◌, eqb};
+ghost use Rattle.std.specs.Prelude.{◌≡◌, ◌+◌, ◌<◌, ℕ, true, Option, Some, if◌then◌else◌, eqb};
 ghost use Rattle.art_rows.specs.Blocks.{row_of, IsCrowded, IsRowLast};
 ghost use Rattle.art_kinds.specs.Nodes.{Nodes as Records, at, SameSpares};
+ghost use Rattle.art_kinds.specs.declared.records.ids.Child.{Child as Way};
 ghost use Rattle.art_kinds.specs.declared.records.ids.Child.TheVariants.{Leaf};
 ghost use Rattle.art_cells.specs.Leaves.{Leaves as Filed, Has};
 ghost use Rattle.art_cells.specs.Invariant.EdgesAbove.{LeadsTo, TurnsTo};
 ghost use Rattle.art_cells.specs.Invariant.Sound.{IsSound};
 ghost use Rattle.art_cells.specs.Calls.Cutting.{CutsRow};
 
-use crate::tree::descent::EdgeAbove;
+use crate::tree::descent::{EdgeAbove, LeafSpot};
 use crate::tree::place::lead;
 use crate::tree::point::CellPlace;
 use crate::tree::remove::spot_of;
-use art_kinds::{Child, Nodes};
+use art_kinds::{Child, Edge, NodeId, Nodes};
 use art_rows::{HALF, Leaves, Moved};
-use art_slots::CellId;
+use art_slots::{CellId, Visits};
 use blart_keys::AsBytes;
 
 /// A row that is being cut, and the place for a new pair.
@@ -28,7 +29,20 @@ pub(crate) struct Cut {
     pub(crate) prev: CellId,
     /// The place for the new pair.
     pub(crate) place: CellPlace,
+    /// A guess of the edge to the last leaf.
+    pub(crate) guess: Option<Guess>,
 }
+
+/// An edge that may lead to a leaf, and the edge that may lead to its node. A guess is tested before
+/// it is used, and nothing is proved of it.
+#[derive(Clone, Copy)]
+pub(crate) struct Guess {
+    pub(crate) edge: (NodeId, u8),
+    pub(crate) above: EdgeAbove,
+}
+
+/// The number of edges that a guess follows down at most.
+const MOST_STEPS: usize = 64;
 
 /// Moves the upper half of a full row to a new row after it, one leaf at a time, last leaf first.
 /// After each move the tree is whole. Returns the root, and the place for the new pair.
@@ -55,6 +69,7 @@ pub(crate) fn cut_row<K: AsBytes + Drop, V: Drop, const P: usize>(
         last,
         prev,
         place: *place,
+        guess: None,
     };
     begin_cut(leaves, nodes, &mut cut);
     for _ in 1..HALF {
@@ -77,9 +92,9 @@ fn begin_cut<K: AsBytes + Drop, V: Drop, const P: usize>(
         cut.old.place.nearest cut.old.place.depth cut.old.prev cut.new 1 }
 {
     leaves.law();
-    let edge = spot_of(leaves, nodes, &Some(cut.root), &cut.last).edge;
+    let spot = spot_of(leaves, nodes, &Some(cut.root), &cut.last);
     let moved = leaves.cut(cut.last);
-    follow(nodes, cut, &edge, &moved);
+    follow(nodes, cut, &spot, &moved);
 }
 
 /// Moves the last leaf of the row that is cut to the front of the new row.
@@ -96,16 +111,17 @@ fn carry_leaf<K: AsBytes + Drop, V: Drop, const P: usize>(
         → CutsRow K.bytes P start leaves.new old nodes.new nearest depth prev cut.new (count + 1) }
 {
     leaves.law();
-    let edge = spot_of(leaves, nodes, &Some(cut.root), &cut.last).edge;
+    let spot = spot_near(leaves, nodes, cut);
     let moved = leaves.carry(cut.last);
-    follow(nodes, cut, &edge, &moved);
+    follow(nodes, cut, &spot, &moved);
 }
 
-/// Redirects the edge to the last leaf of the row to the cell that the leaf moved to.
-fn follow<const P: usize>(nodes: &mut Nodes<P>, cut: &mut Cut, edge: &EdgeAbove, moved: &Moved)
-    requires { LeadsTo (at nodes.old) (Some cut.old.root) edge.now (Leaf cut.old.last) }
+/// Redirects the edge to the last leaf of the row to the cell that the leaf moved to, and guesses
+/// the edge to the leaf that is the last then.
+fn follow<const P: usize>(nodes: &mut Nodes<P>, cut: &mut Cut, spot: &LeafSpot, moved: &Moved)
+    requires { LeadsTo (at nodes.old) (Some cut.old.root) spot.now.edge (Leaf cut.old.last) }
     ensures turned { TurnsTo (at nodes.old) (at nodes.new) (Some cut.old.root) (Some cut.new.root)
-        edge.now (Leaf moved.now.to) }
+        spot.now.edge (Leaf moved.now.to) }
     ensures spares { SameSpares nodes.old nodes.new }
     ensures last { cut.new.last ≡ moved.now.before }
     ensures prev { cut.new.prev
@@ -114,7 +130,7 @@ fn follow<const P: usize>(nodes: &mut Nodes<P>, cut: &mut Cut, edge: &EdgeAbove,
         ≡ (if eqb cut.old.place.nearest cut.old.last then moved.now.to else cut.old.place.nearest) }
     ensures depth { cut.new.place.depth ≡ cut.old.place.depth }
 {
-    cut.root = lead(nodes, &cut.root, edge, &Child::Leaf(moved.to));
+    cut.root = lead(nodes, &cut.root, &spot.edge, &Child::Leaf(moved.to));
     if cut.prev == cut.last {
         cut.prev = moved.to;
     }
@@ -122,4 +138,96 @@ fn follow<const P: usize>(nodes: &mut Nodes<P>, cut: &mut Cut, edge: &EdgeAbove,
         cut.place.nearest = moved.to;
     }
     cut.last = moved.before;
+    cut.guess = guess_before(nodes, spot);
+}
+
+/// Returns where the last leaf of the row is. Tests the guess, and descends by the leaf's key if it
+/// is wrong.
+fn spot_near<K: AsBytes, V, const P: usize>(
+    leaves: &Leaves<K, V>,
+    nodes: &Nodes<P>,
+    cut: &Cut,
+) -> LeafSpot
+    requires sound { IsSound K.bytes P leaves.now nodes.now (Some cut.now.root) }
+    requires has { Has leaves.now.pairs cut.now.last }
+    ensures { LeadsTo (at nodes.now) (Some cut.now.root) result.edge (Leaf cut.now.last) }
+{
+    if let Some(guess) = cut.guess {
+        if leads_to(nodes, guess.edge, &cut.last) {
+            return LeafSpot {
+                id: cut.last,
+                edge: Some(guess.edge),
+                above: guess.above,
+            };
+        }
+    }
+    spot_of(leaves, nodes, &Some(cut.root), &cut.last)
+}
+
+/// Returns `true` if an edge leads to a leaf.
+fn leads_to<const P: usize>(nodes: &Nodes<P>, edge: (NodeId, u8), leaf: &CellId) -> bool
+    ensures { result ≡ true → (root : Option Way) → LeadsTo (at nodes.now) root (Some edge) (Leaf leaf.now) }
+{
+    if !nodes.has(edge.0) {
+        return false;
+    }
+    let Some(child) = nodes.read(edge.0, &mut Visits::new()).find(edge.1) else {
+        return false;
+    };
+    match child {
+        Child::Leaf(id) => id == *leaf,
+        Child::Inner(_) => false,
+    }
+}
+
+/// Guesses the edge to the leaf before one. It is in the same node or below it, or in the node above
+/// or below that.
+fn guess_before<const P: usize>(nodes: &Nodes<P>, spot: &LeafSpot) -> Option<Guess> {
+    let edge = spot.edge?;
+    if let Some(guess) = last_before(nodes, edge, spot.above) {
+        return Some(guess);
+    }
+    last_before(nodes, spot.above?, None)
+}
+
+/// Returns the last edge below those of a node that come before an edge. `above` is the edge to the
+/// node.
+fn last_before<const P: usize>(
+    nodes: &Nodes<P>,
+    edge: (NodeId, u8),
+    above: EdgeAbove,
+) -> Option<Guess> {
+    if !nodes.has(edge.0) {
+        return None;
+    }
+    let before = nodes.read(edge.0, &mut Visits::new()).edge_before(edge.1)?;
+    let mut guess = Guess {
+        edge: (edge.0, before.byte),
+        above,
+    };
+    let mut at = before.to;
+    for _ in 0..MOST_STEPS {
+        let Child::Inner(id) = at else {
+            return Some(guess);
+        };
+        let last = last_edge(nodes, id)?;
+        guess = Guess {
+            edge: (id, last.byte),
+            above: Some(guess.edge),
+        };
+        at = last.to;
+    }
+    None
+}
+
+/// Returns the last edge of a node, if there is such a node.
+fn last_edge<const P: usize>(nodes: &Nodes<P>, id: NodeId) -> Option<Edge> {
+    if !nodes.has(id) {
+        return None;
+    }
+    let node = nodes.read(id, &mut Visits::new());
+    if node.count() == 0 {
+        return None;
+    }
+    Some(node.end_edge(false))
 }

@@ -21,7 +21,7 @@ returns g c =
     let to = c.cut-moved.result.to in
     let e = c.cut-moved.ensures in
     let f = c.follow.ensures in
-    let s = c.spot_of-edge in
+    let s = c.spot_of-spot in
     let has = c.requires.has in
     let leads : LeadsTo (at nodes) (Some k.root) s.result.edge (Leaf k.last) = subst (λ (j : ℕ). LeadsTo (at nodes) (Some k.root) s.result.edge (Leaf j)) s.ensures.same s.ensures.spot.leads in
     let lies : to < length now.ids = (let a = e.lies in let b = l.named in omega arith) in

@@ -1,9 +1,6 @@
-use Rattle.std.proofs.Common.{◌≡◌, ◌<◌, ◌+◌, ◌∙◌, ℕ, length, Some, ap, subst, arith}
-use Rattle.art_kinds.specs.Nodes.{at}
+use Rattle.std.proofs.Common.{◌≡◌, ◌<◌, ◌+◌, ◌∙◌, ℕ, length, ap, arith}
 use Rattle.art_kinds.proofs.CallerLemmas.{room-same}
-use Rattle.art_kinds.specs.declared.records.ids.Child.TheVariants.{Leaf}
 use Rattle.art_cells.specs.Leaves.{keys_in}
-use Rattle.art_cells.specs.Invariant.EdgesAbove.{LeadsTo}
 use Rattle.art_cells.proofs.UnderIds.{named_below}
 use Rattle.art_cells.proofs.Pairs.Carried.{goes_on}
 use Rattle.art_cells.proofs.Pairs.Cutting.{renumbers, same_pairs, same_ids, whole}
@@ -20,11 +17,11 @@ returns g c start old nearest depth prev count h =
     let to = c.carry-moved.result.to in
     let e = c.carry-moved.ensures in
     let f = c.follow.ensures in
-    let s = c.spot_of-edge in
-    let leads : LeadsTo (at nodes) (Some k.root) s.result.edge (Leaf k.last) = subst (λ (j : ℕ). LeadsTo (at nodes) (Some k.root) s.result.edge (Leaf j)) s.ensures.same s.ensures.spot.leads in
+    let edge = c.spot_near-spot.result.edge in
+    let leads = c.spot_near-spot.ensures in
     let lies : to < length now.ids = (let a = e.lies in let b = l.named in omega arith) in
     record {
-      sound = whole kb now new k.last to l.distinct h.has e.fresh e.pairs nodes c.follow.new.nodes k.root c.follow.new.cut.root s.result.edge h.sound leads f.turned;
+      sound = whole kb now new k.last to l.distinct h.has e.fresh e.pairs nodes c.follow.new.nodes k.root c.follow.new.cut.root edge h.sound leads f.turned;
       rows = rw (f.last, e.row) (e.cut start.rows count h.rows);
       spare = ap (λ n. n + 1) e.spare_rows ∙ h.spare;
       has = rw f.last e.has;
