@@ -39,6 +39,12 @@ pub record HasNearest (P : ℕ) (nodes : ℕ → Option Node) (root : Child) (pl
   pub is : keys place.nearest ≡ Some nearest
   pub within : place.depth ≤ length nearest
 
+-- at the spot a key leaves that of the place's nearest leaf, in each tree with this root
+abbrev pub IsShown : ℕ → (ℕ → Option Node) → Child → CellPlace → Spot → Type 0
+IsShown P nodes root place spot =
+    (keys : ℕ → Option Bytes) (s : Shape P keys nodes (Some root)) (nearest : Bytes) → keys place.nearest ≡ Some nearest → place.depth ≤ length nearest
+    → SpotFits nodes (Some root) s.front_of nearest place.depth spot
+
 -- the node is so deep, and its edge by this byte leads to the leaf
 pub record IsOverLeaf (nodes : ℕ → Option Node) (n depth byte leaf : ℕ) : Type 0 where
   pub node : Node

@@ -7,7 +7,7 @@ ghost use Rattle.art_cells.specs.Invariant.EdgesAbove.{LeadsTo, TurnsTo, Ascends
 ghost use Rattle.art_cells.specs.Content.{Fits, IsOpen, room as places};
 ghost use Rattle.art_rows.specs.Blocks.{IsCrowded, IsRowLast};
 ghost use Rattle.art_cells.specs.Calls.Cutting.{GoesAfter};
-ghost use Rattle.art_cells.specs.Calls.Placing.{IsSpotFor, HasNearest, IsOverLeaf, IsToJoin, TreeGains, Forks, DepthWithin, KeepsFrom, PutsPair, content_of};
+ghost use Rattle.art_cells.specs.Calls.Placing.{IsSpotFor, HasNearest, IsShown, IsOverLeaf, IsToJoin, TreeGains, Forks, DepthWithin, KeepsFrom, PutsPair, content_of};
 ghost use Rattle.art_kinds.specs.Nodes.{at, room, FitsNew, SameSpares};
 ghost use Rattle.art_cells.specs.Leaves.{Has, keys_in, room as leaves_room};
 ghost use Rattle.art_cells.specs.Calls.Removing.{StartsBelow, EndsBelow, Cuts};
@@ -25,12 +25,11 @@ use art_rows::{Leaves, Position};
 use art_slots::{CellId, Visits};
 use blart_keys::AsBytes;
 
-// A leaf that joins the tree. Its key leaves that of another, the nearest one, at this depth.
+/// A leaf that joins the tree, and the depth at which its key leaves the other keys.
 #[derive(Clone, Copy)]
 struct NewLeaf<'a> {
     id: CellId,
     key: &'a [u8],
-    nearest: &'a [u8],
     depth: usize,
 }
 
@@ -147,7 +146,8 @@ fn place_crowded<K: AsBytes + Drop, V: Drop, const P: usize>(
     (cell, top)
 }
 
-// Leads the tree to a leaf whose key leaves the nearest one at a place. Answers the root.
+/// Adds a leaf to the tree. Its key leaves the nearest key at the depth of a place. Reads the
+/// nearest leaf only if it is not beside an edge of a node at that depth. Returns the root.
 fn join<K: AsBytes, V, const P: usize>(
     leaves: &Leaves<K, V>,
     nodes: &mut Nodes<P>,
@@ -161,40 +161,45 @@ fn join<K: AsBytes, V, const P: usize>(
     ensures shape { Shape P (keys_in K.bytes leaves.now.pairs) (at nodes.new) (Some result) }
     ensures room { room nodes.old ≤ room nodes.new + 1 }
 {
-    let mut visits = Visits::new();
-    let (own, _) = leaves.read(id, &mut visits);
-    let (nearest, _) = leaves.read(place.nearest, &mut visits);
+    let (own, _) = leaves.read(id, &mut Visits::new());
     let leaf = NewLeaf {
         id,
         key: own.as_bytes(),
-        nearest: nearest.as_bytes(),
         depth: place.depth,
     };
-    let spot = spot_for(nodes, root, place, leaf.key, leaf.nearest);
-    add_leaf(nodes, root, &spot, &leaf)
+    let shown = spot_shown(nodes, root, place, leaf.key);
+    if let Some(Spot::Node(above, node)) = shown {
+        return add_at_node(nodes, root, &above, &node, &leaf);
+    }
+    let (nearest, _) = leaves.read(place.nearest, &mut Visits::new());
+    let nearest = nearest.as_bytes();
+    let spot = spot_for(nodes, root, place, &shown, nearest);
+    add_leaf(nodes, root, &spot, &leaf, nearest)
 }
 
-// Where a key leaves the nearest key at the depth of a place: at the end of the place's edge, where that shows, or else at the end of a way down.
+/// Returns where a key leaves the nearest key at the depth of a place: the spot that was shown, or
+/// else the end of a descent by the nearest key.
 fn spot_for<const P: usize>(
     nodes: &Nodes<P>,
     root: &Child,
     place: &CellPlace,
-    key: &[u8],
+    shown: &Option<Spot>,
     nearest: &[u8],
 ) -> Spot
     requires nearest { HasNearest P (at nodes.now) root.now place.now nearest.now }
-    requires long { place.now.depth ≤ length key.now }
+    requires shown { IfSome shown.now (IsShown P (at nodes.now) root.now place.now) }
     ensures { (keys : ℕ → Option Bytes) (s : Shape P keys (at nodes.now) (Some root.now))
         → keys place.now.nearest ≡ Some nearest.now
         → SpotFits (at nodes.now) (Some root.now) s.front_of nearest.now place.now.depth result }
 {
-    match spot_shown(nodes, root, place, key) {
-        Some(spot) => spot,
+    match shown {
+        Some(spot) => *spot,
         None => locate(nodes, root, nearest, place.depth, &mut Visits::new()),
     }
 }
 
-// The spot at the end of a place's edge, where the nearest leaf is at hand to show it. No leaf is read.
+/// Returns the spot at the end of a place's edge, if that edge still leads to the nearest leaf or to
+/// a node that has it. Reads no leaf.
 fn spot_shown<const P: usize>(
     nodes: &Nodes<P>,
     root: &Child,
@@ -202,10 +207,7 @@ fn spot_shown<const P: usize>(
     key: &[u8],
 ) -> Option<Spot>
     requires { place.now.depth ≤ length key.now }
-    ensures { IfSome result (λ spot. (keys : ℕ → Option Bytes)
-        (s : Shape P keys (at nodes.now) (Some root.now)) (nearest : Bytes)
-        → keys place.now.nearest ≡ Some nearest → place.now.depth ≤ length nearest
-        → SpotFits (at nodes.now) (Some root.now) s.front_of nearest place.now.depth spot) }
+    ensures { IfSome result (IsShown P (at nodes.now) root.now place.now) }
 {
     let (above, child) = edge_toward(nodes, root, place, key)?;
     match child {
@@ -272,27 +274,28 @@ fn is_over_nearest<const P: usize>(nodes: &Nodes<P>, id: &NodeId, place: &CellPl
     }
 }
 
-// Adds a leaf where its key leaves the nearest key. Answers the root.
+/// Adds a leaf where its key leaves the nearest key. Returns the root.
 fn add_leaf<const P: usize>(
     nodes: &mut Nodes<P>,
     root: &Child,
     spot: &Spot,
     leaf: &NewLeaf<'_>,
+    nearest: &[u8],
 ) -> Child
     requires spot_fits { IsSpotFor P (at nodes.old) root.now spot.now
-        leaf.now.key.now leaf.now.nearest.now leaf.now.depth }
+        leaf.now.key.now nearest.now leaf.now.depth }
     requires fits { 0 < room nodes.old }
     ensures gains { TreeGains P (at nodes.old) (at nodes.new) root.now result
-        spot.now leaf.now.key.now leaf.now.nearest.now leaf.now.depth leaf.now.id }
+        spot.now leaf.now.key.now nearest.now leaf.now.depth leaf.now.id }
     ensures room { room nodes.old ≤ room nodes.new + 1 }
 {
     match spot {
         Spot::Node(above, node) => add_at_node(nodes, root, above, node, leaf),
-        Spot::Edge(above, child) => add_at_edge(nodes, root, above, child, leaf),
+        Spot::Edge(above, child) => add_at_edge(nodes, root, above, child, leaf, nearest),
     }
 }
 
-// Adds a leaf to a node where its key leaves the others. Answers the root.
+/// Adds a leaf to a node where its key leaves the others. Returns the root.
 fn add_at_node<const P: usize>(
     nodes: &mut Nodes<P>,
     root: &Child,
@@ -300,12 +303,11 @@ fn add_at_node<const P: usize>(
     node: &NodeId,
     leaf: &NewLeaf<'_>,
 ) -> Child
-    requires spot_fits { IsSpotFor P (at nodes.old) root.now
-        (Spot.Node above.now node.now) leaf.now.key.now leaf.now.nearest.now leaf.now.depth }
+    requires spot_fits { (nearest : Bytes) × IsSpotFor P (at nodes.old) root.now
+        (Spot.Node above.now node.now) leaf.now.key.now nearest leaf.now.depth }
     requires fits { 0 < room nodes.old }
-    ensures gains { TreeGains P (at nodes.old) (at nodes.new) root.now result
-        (Spot.Node above.now node.now) leaf.now.key.now leaf.now.nearest.now leaf.now.depth
-        leaf.now.id }
+    ensures gains { (nearest : Bytes) → TreeGains P (at nodes.old) (at nodes.new) root.now result
+        (Spot.Node above.now node.now) leaf.now.key.now nearest leaf.now.depth leaf.now.id }
     ensures room { room nodes.old ≤ room nodes.new + 1 }
 {
     let wide = nodes.widen(*node);
@@ -334,26 +336,27 @@ fn follow<const P: usize>(
     lead(nodes, root, above, &Child::Inner(now))
 }
 
-// Adds a leaf at an edge where its key leaves those below, under a new node. Answers the root.
+/// Adds a leaf at an edge where its key leaves those below, under a new node. Returns the root.
 fn add_at_edge<const P: usize>(
     nodes: &mut Nodes<P>,
     root: &Child,
     above: &EdgeAbove,
     child: &Child,
     leaf: &NewLeaf<'_>,
+    nearest: &[u8],
 ) -> Child
     requires spot_fits { IsSpotFor P (at nodes.old) root.now
-        (Spot.Edge above.now child.now) leaf.now.key.now leaf.now.nearest.now leaf.now.depth }
+        (Spot.Edge above.now child.now) leaf.now.key.now nearest.now leaf.now.depth }
     requires fits { FitsNew nodes.old }
     ensures gains { TreeGains P (at nodes.old) (at nodes.new) root.now result
-        (Spot.Edge above.now child.now) leaf.now.key.now leaf.now.nearest.now leaf.now.depth
+        (Spot.Edge above.now child.now) leaf.now.key.now nearest.now leaf.now.depth
         leaf.now.id }
     ensures room { room nodes.old ≤ room nodes.new + 1 }
 {
     let depth = leaf.depth;
     let start = start_below(nodes, above);
-    let byte = byte_on(nodes, child, leaf.nearest, start, depth);
-    cut_prefix(nodes, child, leaf.nearest, start, depth + 1);
+    let byte = byte_on(nodes, child, nearest, start, depth);
+    cut_prefix(nodes, child, nearest, start, depth + 1);
     let own = Edge {
         byte: leaf.key[depth],
         to: Child::Leaf(leaf.id),

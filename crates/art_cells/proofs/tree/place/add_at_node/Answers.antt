@@ -10,12 +10,12 @@ use Rattle.art_cells.proofs.tree.place.add_at_node.Goals as goal
 
 pub widen-wide-requires : goal.widen-wide-requires
 widen-wide-requires g c =
-    let j = c.requires.spot_fits in
+    let j = c.requires.spot_fits.1 in
     (lit< tt, ((covers_above j.keys (at c.args.nodes.now) (Some c.args.root.now) j.shape c.args.above.now (Inner c.args.node.now) j.fits.0.leads).live, fits_more c.args.nodes.now c.args.node.now (let r = c.requires.fits in omega arith)))
 
 pub follow-top-requires : goal.follow-top-requires
 follow-top-requires g c =
-    let j = c.requires.spot_fits in (
+    let j = c.requires.spot_fits.1 in (
       lit< tt,
       (
         leads_renamed j.keys (at c.args.nodes.now) (at c.widen-wide.new.self) (Some c.args.root.now) j.shape c.args.node.now c.args.above.now c.widen-wide.result j.fits.0.leads c.widen-wide.ensures.moved,
@@ -25,18 +25,18 @@ follow-top-requires g c =
 
 pub add_edge-requires : goal.add_edge-requires
 add_edge-requires g c =
-    let j = c.requires.spot_fits in (
+    let j = c.requires.spot_fits.1 in (
       lit< tt,
       (
         place_led c.widen-wide.new.self c.follow-top.new.nodes (Some c.args.root.now) (Some c.follow-top.result) c.args.above.now (Inner c.widen-wide.result) c.widen-wide.result c.follow-top.ensures.turned c.widen-wide.ensures.place,
-        wide_absent j.keys j.leaf c.args.leaf.now.depth c.args.leaf.now.key.now j.leaves c.args.leaf.now.nearest.now j.is (at c.args.nodes.now) (at c.widen-wide.new.self) (at c.follow-top.new.nodes) (Some c.args.root.now) (Some c.follow-top.result) c.args.node.now c.widen-wide.result c.args.above.now j.shape j.fits.1
+        wide_absent j.keys j.leaf c.args.leaf.now.depth c.args.leaf.now.key.now j.leaves c.requires.spot_fits.0 j.is (at c.args.nodes.now) (at c.widen-wide.new.self) (at c.follow-top.new.nodes) (Some c.args.root.now) (Some c.follow-top.result) c.args.node.now c.widen-wide.result c.args.above.now j.shape j.fits.1
             c.widen-wide.ensures.moved j.fits.0.leads c.follow-top.ensures.turned,
       ),
     )
 
 pub returns-clause-gains : goal.returns-clause-gains
-returns-clause-gains g c keys keys' s leaf is leaves fits gains =
-    placed_wide keys leaf c.args.leaf.now.depth c.args.leaf.now.key.now leaves c.args.leaf.now.nearest.now is keys' c.args.leaf.now.id gains (at c.args.nodes.now) (at c.widen-wide.new.self) (at c.follow-top.new.nodes) (at c.add_edge.new.self) (Some c.args.root.now) (Some c.follow-top.result) c.args.node.now c.widen-wide.result c.args.above.now s fits.1
+returns-clause-gains g c nearest keys keys' s leaf is leaves fits gains =
+    placed_wide keys leaf c.args.leaf.now.depth c.args.leaf.now.key.now leaves nearest is keys' c.args.leaf.now.id gains (at c.args.nodes.now) (at c.widen-wide.new.self) (at c.follow-top.new.nodes) (at c.add_edge.new.self) (Some c.args.root.now) (Some c.follow-top.result) c.args.node.now c.widen-wide.result c.args.above.now s fits.1
     c.widen-wide.ensures.moved fits.0.leads c.follow-top.ensures.turned c.add_edge.ensures.added
 
 pub returns-clause-room : goal.returns-clause-room
