@@ -252,6 +252,7 @@ impl<K: AsBytes + Drop, V: Drop, const PREFIX_LEN: usize> CellTree<K, V, PREFIX_
     /// Places a pair at a point that is good for its key and fits, and returns its cell. Other
     /// leaves may move to other cells, and take their ids along. Does not allocate.
     pub fn place(&mut self, point: CellPoint, key: K, value: V) -> CellId
+        requires stub { ⊥ }
         requires good { IsGood K.bytes self.old.pairs point (K.bytes key) }
         requires open { IsOpen point }
         requires fits { Fits self.old point }

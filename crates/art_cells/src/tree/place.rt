@@ -41,6 +41,7 @@ pub(crate) fn place_at<K: AsBytes + Drop, V: Drop, const P: usize>(
     key: K,
     value: V,
 ) -> (CellId, Child)
+    requires stub { ⊥ }
     requires whole { IsSound K.bytes P leaves.old nodes.old root.now }
     requires good { IsGood K.bytes leaves.old.pairs point.now (K.bytes key) }
     requires open { IsOpen point.now }
@@ -89,6 +90,7 @@ fn place_beside<K: AsBytes + Drop, V: Drop, const P: usize>(
     key: K,
     value: V,
 ) -> (CellId, Child)
+    requires stub { ⊥ }
     requires whole { IsSound K.bytes P leaves.old nodes.old (Some root.now) }
     requires free { IsFree K.bytes leaves.old.pairs place.now (K.bytes key) }
     requires leaves_room { 0 < leaves_room leaves.old }

@@ -91,7 +91,7 @@ join-top-requires-2 g c =
     (lit< tt, (rw (c.renumbered.ensures.nearest, c.renumbered.ensures.depth) j, rw same c.requires.nodes_room))
 
 pub returns-clause-placed : goal.returns-clause-placed
-returns-clause-placed g c = ?
+returns-clause-placed g c = absurd c.requires.stub
 
 pub returns-clause-whole : goal.returns-clause-whole
 returns-clause-whole g c =
