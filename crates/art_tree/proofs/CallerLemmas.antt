@@ -1,5 +1,5 @@
 -- What a caller cites of pairs under ids, of their ends and bounds, and of places that are free.
-use Rattle.std.proofs.Common.{◌≡◌, ℕ, List, false}
+use Rattle.std.proofs.Common.{◌≡◌, List, false}
 use Rattle.blart_keys.specs.Bytes.{related}
 use Rattle.blart_keys.specs.Content.{IsContent}
 use Rattle.blart_keys.proofs.RankLemmas.{Member}

@@ -1,10 +1,30 @@
 -- What a contract sees of a tree.
-use Rattle.std.specs.Prelude.{◌<◌}
-pub use Rattle.art_cells.specs.Content.{Spares, Content, content_code, room}
+use Rattle.std.specs.Prelude.{ℕ, ◌<◌, List, min, refl}
+use Rattle.std.specs.Coded.{Coded, code_by, coded×, coded_ℕ, coded_list}
+pub use Rattle.art_cells.specs.Content.{Spares}
+use Rattle.art_tree.specs.Leaves.{Numbered}
 use Rattle.art_tree.specs.declared.tree.point.Point.{Point}
 use Rattle.art_tree.specs.declared.tree.point.Point.TheVariants.{Empty, Exact, Related, Free}
 
+-- the pairs in byte order, each under the id of its leaf, and the room for further pairs
+pub record Content (K V : Type 0) : Type 0 where
+  pub pairs : List (Numbered K V)
+  pub spares : Spares
+
+abbrev pub content_code : {K V : Type 0} → Coded K → Coded V → Coded (Content K V)
+content_code {K} {V} k v =
+    code_by
+    (List (ℕ × (K × V)) × (ℕ × ℕ))
+    (coded× (coded_list (coded× coded_ℕ (coded× k v))) (coded× coded_ℕ coded_ℕ))
+    (λ t. (t.pairs, (t.spares.leaves, t.spares.nodes)))
+    (λ p. record { pairs = p.0; spares = record { leaves = p.1.0; nodes = p.1.1 } })
+    (λ _. refl)
+
 module _ {K V : Type 0} where
+  -- the number of placements that are sure to succeed
+  abbrev pub room : Content K V → ℕ
+  room t = min t.spares.leaves t.spares.nodes
+
   -- there is the room that a placement at this point takes
   abbrev pub Fits : Content K V → Point → Type 0
   Fits t Empty = 0 < t.spares.leaves

@@ -4,7 +4,6 @@ pub mod Content
 pub mod UnderIds
 pub mod Leaves
 pub mod Longest
-pub mod NamedLends
 pub mod PairList
 pub mod Pairs
 pub mod Points

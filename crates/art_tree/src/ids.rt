@@ -1,40 +1,62 @@
-//! From ids to cells, and back.
-ghost use Rattle.std.specs.Prelude.{◌≡◌, ◌+◌};
-ghost use Rattle.art_slots.specs.Store.{slot_at};
+//! From ids to cells, and back. No call here reads a leaf.
+ghost use Rattle.std.specs.Prelude.{◌≡◌, option_map, IfSome};
 ghost use Rattle.art_tree.specs.Leaves.{Has};
-ghost use Rattle.art_tree.specs.UnderIds.{under_ids, AreLed, LiesIn};
+ghost use Rattle.art_tree.specs.UnderIds.{id_at, under_ids, LiesIn};
 
 use crate::leaf_id::LeafId;
-use crate::named::Named;
-use art_cells::CellTree;
-use art_slots::{CellId, Store, Visits};
+use art_cells::{CellTree, Position};
+use art_slots::CellId;
 use blart_keys::AsBytes;
 
-/// Returns the cell of the leaf with this id. Reads the table of ids, and no leaf.
-#[inline(always)]
-pub(crate) fn cell_of<K: AsBytes, V, const P: usize>(
-    cells: &CellTree<K, Named<V>, P>,
-    ids: &Store<CellId>,
-    id: LeafId,
-) -> CellId
-    requires led { AreLed (slot_at ids.now) cells.now.pairs }
-    requires has { Has (under_ids cells.now.pairs) id }
-    ensures { LiesIn cells.now.pairs id result }
-{
-    cells.law();
-    *ids.read(id.number())
-}
-
-/// Returns the id of the leaf in a cell. One visit.
+/// Returns the id of the leaf in a cell.
 #[inline(always)]
 pub(crate) fn id_of<K: AsBytes, V, const P: usize>(
-    cells: &CellTree<K, Named<V>, P>,
+    cells: &CellTree<K, V, P>,
     cell: CellId,
-    visits: &mut Visits,
 ) -> LeafId
     requires { Has cells.now.pairs cell }
-    ensures lies { LiesIn cells.now.pairs result cell }
-    ensures counted { visits.new.count ≡ visits.old.count + 1 }
+    ensures { result ≡ id_at cells.now.ids cell }
 {
-    cells.leaf(cell, visits).1.id
+    LeafId::new(cells.id_of(cell))
+}
+
+/// Returns the id of the leaf in a cell, or `None` if there is no cell.
+#[inline(always)]
+pub(crate) fn id_of_any<K: AsBytes, V, const P: usize>(
+    cells: &CellTree<K, V, P>,
+    cell: Option<CellId>,
+) -> Option<LeafId>
+    requires { IfSome cell (Has cells.now.pairs) }
+    ensures { result ≡ option_map (id_at cells.now.ids) cell }
+{
+    match cell {
+        None => None,
+        Some(cell) => Some(id_of(cells, cell)),
+    }
+}
+
+/// Returns the cell of the leaf with this id.
+#[inline(always)]
+pub(crate) fn cell_of<K: AsBytes, V, const P: usize>(
+    cells: &CellTree<K, V, P>,
+    id: LeafId,
+) -> CellId
+    requires { Has (under_ids cells.now.ids cells.now.pairs) id }
+    ensures { LiesIn cells.now.ids cells.now.pairs id result }
+{
+    cells.cell_of(id.number())
+}
+
+/// Returns the cell of the leaf with this id. `seen` is a guess of the position of the leaf. If it
+/// is right, the table that leads from ids to cells is not read.
+#[inline(always)]
+pub(crate) fn cell_near<K: AsBytes, V, const P: usize>(
+    cells: &CellTree<K, V, P>,
+    id: LeafId,
+    seen: Position,
+) -> CellId
+    requires { Has (under_ids cells.now.ids cells.now.pairs) id }
+    ensures { LiesIn cells.now.ids cells.now.pairs id result }
+{
+    cells.cell_near(id.number(), seen)
 }

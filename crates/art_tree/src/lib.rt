@@ -6,16 +6,13 @@
 
 mod ids;
 mod leaf_id;
-mod named;
-mod pair_list;
 mod tree;
 mod walk;
 
-pub use art_cells::Position;
+pub use art_cells::pair_list::CellPairs as Pairs;
+pub use art_cells::{Frame, Position};
 pub use art_slots::Visits;
 pub use leaf_id::LeafId;
-pub use pair_list::Pairs;
-pub use tree::apart::Frame;
 pub use tree::point::{Place, Point};
 pub use tree::{DEFAULT_PREFIX_LEN, Tree};
 pub use walk::Walk;

@@ -15,11 +15,10 @@ pub mod point;
 mod prefix;
 mod search;
 
-use crate::ids::{cell_of, id_of};
+use crate::ids::{cell_near, cell_of, id_of_any};
 use crate::leaf_id::LeafId;
-use crate::named::Named;
 use art_cells::{CellTree, Position};
-use art_slots::{CellId, Store, Visits};
+use art_slots::Visits;
 use blart_keys::AsBytes;
 use std::alloc::Global;
 use std::marker::Model;
@@ -37,25 +36,22 @@ pub const DEFAULT_PREFIX_LEN: usize = 16;
 /// no removal returns an error.
 #[derive(Drop)]
 pub struct Tree<K: AsBytes, V, const PREFIX_LEN: usize> {
-    /// The tree over the cells of the leaves. Each leaf has its id beside its value.
-    pub(crate) cells: CellTree<K, Named<V>, PREFIX_LEN>,
-    /// The table of ids: the cell of the leaf of each id.
-    pub(crate) ids: Store<CellId>,
+    /// The tree over the cells of the leaves, which keeps the id of each.
+    pub(crate) cells: CellTree<K, V, PREFIX_LEN>,
 }
 
 impl<K: AsBytes, V, const PREFIX_LEN: usize> Model for Tree<K, V, PREFIX_LEN> {
-    ghost use Rattle.std.specs.Prelude.{min};
-    ghost use Rattle.art_slots.specs.Store.{slot_at};
     ghost use Rattle.art_tree.specs.Content.{Content, content_code};
-    ghost use Rattle.art_tree.specs.UnderIds.{under_ids, AreLed};
+    ghost use Rattle.art_tree.specs.UnderIds.{under_ids};
 
     ghost Value = { Content K V };
 
     ghost coded = { content_code K.code V.code };
 
-    ghost view = { λ t. record { pairs = under_ids t.cells.pairs; spares = record { leaves = min t.cells.spares.leaves t.ids.spare; nodes = t.cells.spares.nodes } } };
-
-    ghost invariant = { λ t. AreLed (slot_at t.ids) t.cells.pairs };
+    ghost view = { λ t. record {
+      pairs = under_ids t.cells.ids t.cells.pairs;
+      spares = t.cells.spares;
+    } };
 }
 
 impl<K: AsBytes, V, const PREFIX_LEN: usize> Tree<K, V, PREFIX_LEN> {
@@ -66,7 +62,6 @@ impl<K: AsBytes, V, const PREFIX_LEN: usize> Tree<K, V, PREFIX_LEN> {
     {
         Tree {
             cells: CellTree::new(alloc),
-            ids: Store::new(alloc),
         }
     }
 
@@ -93,56 +88,41 @@ impl<K: AsBytes, V, const PREFIX_LEN: usize> Tree<K, V, PREFIX_LEN> {
         self.len() == 0
     }
 
-    /// Returns the first leaf, or `None` if the tree has no pairs. One visit.
+    /// Returns the first leaf, or `None` if the tree has no pairs. Reads no leaf.
     pub fn first(&self) -> Option<LeafId>
         ensures { result ≡ first_number self.now.pairs }
     {
-        self.cells.law();
-        match self.cells.first() {
-            None => None,
-            Some(cell) => Some(id_of(&self.cells, cell, &mut Visits::new())),
-        }
+        id_of_any(&self.cells, self.cells.first())
     }
 
-    /// Returns the last leaf, or `None` if the tree has no pairs. One visit.
+    /// Returns the last leaf, or `None` if the tree has no pairs. Reads no leaf.
     pub fn last(&self) -> Option<LeafId>
         ensures { result ≡ last_number self.now.pairs }
     {
-        self.cells.law();
-        match self.cells.last() {
-            None => None,
-            Some(cell) => Some(id_of(&self.cells, cell, &mut Visits::new())),
-        }
+        id_of_any(&self.cells, self.cells.last())
     }
 
-    /// Returns the leaf after a leaf, or `None` if it is the last. One visit, of the returned leaf.
+    /// Returns the leaf after a leaf, or `None` if it is the last. Reads no leaf.
     pub fn next_of(&self, id: LeafId) -> Option<LeafId>
         requires { Has self.now.pairs id }
         ensures { result ≡ number_after self.now.pairs id }
     {
         self.cells.law();
-        let cell = cell_of(&self.cells, &self.ids, id);
-        match self.cells.next_of(cell) {
-            None => None,
-            Some(next) => Some(id_of(&self.cells, next, &mut Visits::new())),
-        }
+        let cell = cell_of(&self.cells, id);
+        id_of_any(&self.cells, self.cells.next_of(cell))
     }
 
-    /// Returns the leaf before a leaf, or `None` if it is the first. One visit, of the returned
-    /// leaf.
+    /// Returns the leaf before a leaf, or `None` if it is the first. Reads no leaf.
     pub fn prev_of(&self, id: LeafId) -> Option<LeafId>
         requires { Has self.now.pairs id }
         ensures { result ≡ number_before self.now.pairs id }
     {
         self.cells.law();
-        let cell = cell_of(&self.cells, &self.ids, id);
-        match self.cells.prev_of(cell) {
-            None => None,
-            Some(prev) => Some(id_of(&self.cells, prev, &mut Visits::new())),
-        }
+        let cell = cell_of(&self.cells, id);
+        id_of_any(&self.cells, self.cells.prev_of(cell))
     }
 
-    /// Returns the leaf after a leaf, or `None` if it is the last. One visit, of the returned leaf.
+    /// Returns the leaf after a leaf, or `None` if it is the last. Reads no leaf.
     ///
     /// `seen` is a guess of the position of the given leaf. If it is right, no row is searched. The
     /// call sets it to the position of the returned leaf.
@@ -152,15 +132,11 @@ impl<K: AsBytes, V, const PREFIX_LEN: usize> Tree<K, V, PREFIX_LEN> {
         ensures { result ≡ number_after self.now.pairs id }
     {
         self.cells.law();
-        let cell = cell_of(&self.cells, &self.ids, id);
-        match self.cells.next_from(cell, seen) {
-            None => None,
-            Some(next) => Some(id_of(&self.cells, next, &mut Visits::new())),
-        }
+        let cell = cell_near(&self.cells, id, *seen);
+        id_of_any(&self.cells, self.cells.next_from(cell, seen))
     }
 
-    /// Returns the leaf before a leaf, or `None` if it is the first. One visit, of the returned
-    /// leaf.
+    /// Returns the leaf before a leaf, or `None` if it is the first. Reads no leaf.
     ///
     /// `seen` is a guess of the position of the given leaf. If it is right, no row is searched. The
     /// call sets it to the position of the returned leaf.
@@ -170,11 +146,8 @@ impl<K: AsBytes, V, const PREFIX_LEN: usize> Tree<K, V, PREFIX_LEN> {
         ensures { result ≡ number_before self.now.pairs id }
     {
         self.cells.law();
-        let cell = cell_of(&self.cells, &self.ids, id);
-        match self.cells.prev_from(cell, seen) {
-            None => None,
-            Some(prev) => Some(id_of(&self.cells, prev, &mut Visits::new())),
-        }
+        let cell = cell_near(&self.cells, id, *seen);
+        id_of_any(&self.cells, self.cells.prev_from(cell, seen))
     }
 
     /// Returns the pair of a leaf. One visit.
@@ -183,10 +156,21 @@ impl<K: AsBytes, V, const PREFIX_LEN: usize> Tree<K, V, PREFIX_LEN> {
         ensures value { leaf_in self.now.pairs id ≡ Some (result.0.now, result.1.now) }
         ensures counted { visits.new.count ≡ visits.old.count + 1 }
     {
-        self.cells.law();
-        let cell = cell_of(&self.cells, &self.ids, id);
-        let (key, named) = self.cells.leaf(cell, visits);
-        (key, &named.value)
+        self.cells.leaf(cell_of(&self.cells, id), visits)
+    }
+
+    /// Returns the pair of a leaf. One visit.
+    ///
+    /// `seen` is a guess of the position of the leaf. If it is right, the table that leads from ids
+    /// to leaves is not read.
+    #[inline(always)]
+    pub fn leaf_near(&self, id: LeafId, seen: Position, visits: &mut Visits) -> (&K, &V)
+        requires { Has self.now.pairs id }
+        ensures value { leaf_in self.now.pairs id ≡ Some (result.0.now, result.1.now) }
+        ensures counted { visits.new.count ≡ visits.old.count + 1 }
+    {
+        let cell = cell_near(&self.cells, id, seen);
+        self.cells.leaf(cell, visits)
     }
 
     /// Returns the number of inner nodes. There is one at the longest common prefix of each two

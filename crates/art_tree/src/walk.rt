@@ -1,17 +1,15 @@
 //! An iterator over the pairs of consecutive leaves.
 ghost use Rattle.std.specs.Prelude.{◌≡◌, Option, Some, None, ℕ};
 ghost use Rattle.std.specs.Iterator.{YieldsFirstBy, YieldsLastBy, item_count};
-ghost use Rattle.art_slots.specs.Store.{slot_at};
 ghost use Rattle.art_tree.specs.Pairs.{pairs_of};
 ghost use Rattle.art_tree.specs.Spans.{ends_left, EndsFit};
-ghost use Rattle.art_tree.specs.UnderIds.{under_ids, AreLed, EndsLieIn};
+ghost use Rattle.art_tree.specs.UnderIds.{under_ids, EndsLieIn};
 
 use crate::ids::cell_of;
 use crate::leaf_id::LeafId;
-use crate::named::Named;
 use crate::tree::Tree;
 use art_cells::{CellTree, CellWalk};
-use art_slots::{CellId, Store};
+use art_slots::CellId;
 use blart_keys::AsBytes;
 use std::iter::{DoubleEndedIterator, Iterator};
 use std::marker::Model;
@@ -21,16 +19,15 @@ use std::marker::Model;
 #[derive(Drop)]
 pub struct Walk<'a, K, V> {
     /// It goes from cell to cell, and reads no id.
-    walk: CellWalk<'a, K, Named<V>>,
+    walk: CellWalk<'a, K, V>,
 }
 
 impl<'a, K, V> Model for Walk<'a, K, V> {
-    ghost use Rattle.std.specs.Prelude.{List, map};
-    ghost use Rattle.art_tree.specs.UnderIds.{bare};
+    ghost use Rattle.std.specs.Prelude.{List};
 
     ghost Value = { List (K × V) };
 
-    ghost view = { λ it. map bare it.walk };
+    ghost view = { λ it. it.walk };
 }
 
 impl<'a, K: AsBytes, V> Walk<'a, K, V> {
@@ -44,7 +41,7 @@ impl<'a, K: AsBytes, V> Walk<'a, K, V> {
         ensures { result ≡ pairs_of (ends_left ends tree.now.pairs) }
     {
         tree.cells.law();
-        let cells = cell_ends(&tree.cells, &tree.ids, &ends);
+        let cells = cell_ends(&tree.cells, &ends);
         Walk {
             walk: CellWalk::new(&tree.cells, cells),
         }
@@ -53,19 +50,17 @@ impl<'a, K: AsBytes, V> Walk<'a, K, V> {
 
 /// Returns the cells of the first leaf and of the last.
 fn cell_ends<K: AsBytes, V, const P: usize>(
-    cells: &CellTree<K, Named<V>, P>,
-    ids: &Store<CellId>,
+    cells: &CellTree<K, V, P>,
     ends: &Option<(LeafId, LeafId)>,
 ) -> Option<(CellId, CellId)>
-    requires led { AreLed (slot_at ids.now) cells.now.pairs }
-    requires fit { EndsFit ends.now (under_ids cells.now.pairs) }
-    ensures { EndsLieIn cells.now.pairs ends.now result }
+    requires { EndsFit ends.now (under_ids cells.now.ids cells.now.pairs) }
+    ensures { EndsLieIn cells.now.ids cells.now.pairs ends.now result }
 {
     match ends {
         None => None,
         Some(both) => {
-            let first = cell_of(cells, ids, both.0);
-            Some((first, cell_of(cells, ids, both.1)))
+            let first = cell_of(cells, both.0);
+            Some((first, cell_of(cells, both.1)))
         }
     }
 }
@@ -80,8 +75,7 @@ impl<'a, K, V> Iterator for Walk<'a, K, V> {
     /// Returns the first pair that is left.
     #[inline(always)]
     fn next(&mut self) -> Option<(&'a K, &'a V)> {
-        let (key, named) = self.walk.next()?;
-        Some((key, &named.value))
+        self.walk.next()
     }
 }
 
@@ -91,7 +85,6 @@ impl<'a, K, V> DoubleEndedIterator for Walk<'a, K, V> {
     /// Returns the last pair that is left.
     #[inline(always)]
     fn next_back(&mut self) -> Option<(&'a K, &'a V)> {
-        let (key, named) = self.walk.next_back()?;
-        Some((key, &named.value))
+        self.walk.next_back()
     }
 }

@@ -21,7 +21,6 @@ impl<K: AsBytes + Clone, V: Clone, const PREFIX_LEN: usize> Tree<K, V, PREFIX_LE
     {
         Ok(Tree {
             cells: self.cells.clone()?,
-            ids: self.ids.clone()?,
         })
     }
 }

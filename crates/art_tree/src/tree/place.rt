@@ -2,22 +2,18 @@
 ghost use Rattle.std.specs.Prelude.{◌≡◌, ◌+◌, ◌<◌, ◌≤◌, ℕ, List, map, Some, None, IsSome, OnOk, OnErr};
 ghost use Rattle.blart_keys.specs.Content.{IsPut};
 ghost use Rattle.blart_keys.specs.Steps.{bytes as pair_bytes};
-ghost use Rattle.art_slots.specs.Store.{slot_at, used_count};
-ghost use Rattle.art_cells.specs.Content.{IsOpen as IsOpenCell, Fits as FitsCell};
+ghost use Rattle.art_cells.specs.Content.{Content as CellContent, IsOpen as IsOpenCell, Fits as FitsCell};
 ghost use Rattle.art_cells.specs.Points.{IsGood as IsGoodCell, IsFree as IsFreeCell};
 ghost use Rattle.art_tree.specs.Leaves.{leaf_in, Has, OthersStand};
 ghost use Rattle.art_tree.specs.Content.{Content, room, Fits, IsOpen};
 ghost use Rattle.art_tree.specs.Points.{IsGood, IsFree};
-ghost use Rattle.art_tree.specs.UnderIds.{under_ids, AreLed, IsToLead};
-ghost use Rattle.art_tree.specs.declared.named.Named.{Named};
+ghost use Rattle.art_tree.specs.UnderIds.{under_ids, AreNamed};
 
 use crate::ids::{cell_of, id_of};
 use crate::leaf_id::LeafId;
-use crate::named::Named;
 use crate::tree::Tree;
 use crate::tree::point::{Place, Point};
-use art_cells::{Beside, CellPlace, CellPoint, CellTree, Placed};
-use art_slots::{CellId, Store, Visits};
+use art_cells::{Beside, CellPlace, CellPoint, CellTree};
 use blart_keys::AsBytes;
 use std::alloc::AllocError;
 
@@ -30,17 +26,16 @@ impl<K: AsBytes, V, const PREFIX_LEN: usize> Tree<K, V, PREFIX_LEN> {
         ensures { IsGood K.bytes self.now.pairs result query.now }
     {
         self.cells.law();
-        let mut visits = Visits::new();
         match self.cells.point(query) {
             CellPoint::Empty => Point::Empty,
-            CellPoint::Exact(cell) => Point::Exact(id_of(&self.cells, cell, &mut visits)),
+            CellPoint::Exact(cell) => Point::Exact(id_of(&self.cells, cell)),
             CellPoint::Related { first, last } => {
-                let first = id_of(&self.cells, first, &mut visits);
-                let last = id_of(&self.cells, last, &mut visits);
+                let first = id_of(&self.cells, first);
+                let last = id_of(&self.cells, last);
                 Point::Related { first, last }
             }
             CellPoint::Free(seen) => {
-                let nearest = id_of(&self.cells, seen.nearest, &mut visits);
+                let nearest = id_of(&self.cells, seen.nearest);
                 Point::Free(Place { nearest, seen })
             }
         }
@@ -56,16 +51,11 @@ impl<K: AsBytes + Drop, V: Drop, const PREFIX_LEN: usize> Tree<K, V, PREFIX_LEN>
         ensures room { room self.old ≤ room self.new }
         ensures refused { OnErr result (IsOpen point.now) }
     {
+        self.cells.law();
         match point {
             Point::Exact(_) | Point::Related { .. } => Ok(()),
-            Point::Empty => {
-                self.cells.make_room(&CellPoint::Empty)?;
-                self.ids.reserve(1)
-            }
-            Point::Free(place) => {
-                self.cells.make_room(&CellPoint::Free(place.seen))?;
-                self.ids.reserve(1)
-            }
+            Point::Empty => self.cells.make_room(&CellPoint::Empty),
+            Point::Free(place) => self.cells.make_room(&CellPoint::Free(place.seen)),
         }
     }
 
@@ -87,51 +77,40 @@ impl<K: AsBytes + Drop, V: Drop, const PREFIX_LEN: usize> Tree<K, V, PREFIX_LEN>
         ensures room { room self.old ≤ room self.new + 1 }
     {
         self.cells.law();
-        let at = cell_point(&self.cells, &self.ids, &point);
-        let id = LeafId::new(self.ids.fill(CellId::new(0)));
-        let placed = self.cells.place(at, key, Named { id, value });
+        let at = cell_point(&self.cells, &point);
+        let placed = self.cells.place(at, key, value);
         self.cells.law();
-        lead_to(&self.cells, &mut self.ids, id, &placed);
-        id
+        id_of(&self.cells, placed)
     }
 }
 
 /// Returns the same point in the tree over cells.
-fn cell_point<K: AsBytes, V, const P: usize>(
-    cells: &CellTree<K, Named<V>, P>,
-    ids: &Store<CellId>,
-    point: &Point,
-) -> CellPoint
-    requires led { AreLed (slot_at ids.now) cells.now.pairs }
-    requires good { (q : List ℕ) × IsGood K.bytes (under_ids cells.now.pairs) point.now q }
+fn cell_point<K: AsBytes, V, const P: usize>(cells: &CellTree<K, V, P>, point: &Point) -> CellPoint
+    requires good { (q : List ℕ)
+        × IsGood K.bytes (under_ids cells.now.ids cells.now.pairs) point.now q }
     requires open { IsOpen point.now }
-    ensures good { (q : List ℕ) → IsGood K.bytes (under_ids cells.now.pairs) point.now q
+    ensures good { (q : List ℕ)
+        → IsGood K.bytes (under_ids cells.now.ids cells.now.pairs) point.now q
         → IsGoodCell K.bytes cells.now.pairs result q }
     ensures open { IsOpenCell result }
-    ensures fits { (t : Content K V) (u : Content K (Named V))
-        → t.spares.leaves ≤ u.spares.leaves → t.spares.nodes ≤ u.spares.nodes
-        → Fits t point.now → FitsCell u result }
+    ensures fits { (t : Content K V) (u : CellContent K V)
+        → t.spares ≡ u.spares → Fits t point.now → FitsCell u result }
 {
     match point {
         Point::Empty => CellPoint::Empty,
-        Point::Free(place) => CellPoint::Free(cell_place(cells, ids, place)),
+        Point::Free(place) => CellPoint::Free(cell_place(cells, place)),
         _ => unreachable!(),
     }
 }
 
 /// Returns the same place in the tree over cells, beside the present cell of the nearest leaf.
-fn cell_place<K: AsBytes, V, const P: usize>(
-    cells: &CellTree<K, Named<V>, P>,
-    ids: &Store<CellId>,
-    place: &Place,
-) -> CellPlace
-    requires led { AreLed (slot_at ids.now) cells.now.pairs }
-    requires has { Has (under_ids cells.now.pairs) place.now.nearest }
-    ensures { (q : List ℕ) → IsFree K.bytes (under_ids cells.now.pairs) place.now q
+fn cell_place<K: AsBytes, V, const P: usize>(cells: &CellTree<K, V, P>, place: &Place) -> CellPlace
+    requires { Has (under_ids cells.now.ids cells.now.pairs) place.now.nearest }
+    ensures { (q : List ℕ) → IsFree K.bytes (under_ids cells.now.ids cells.now.pairs) place.now q
         → IsFreeCell K.bytes cells.now.pairs result q }
 {
     cells.law();
-    let nearest = cell_of(cells, ids, place.nearest);
+    let nearest = cell_of(cells, place.nearest);
     let beside = match place.seen.beside {
         Beside::AfterLeaf(_) => Beside::AfterLeaf(nearest),
         Beside::BeforeLeaf(_) => Beside::BeforeLeaf(nearest),
@@ -140,26 +119,5 @@ fn cell_place<K: AsBytes, V, const P: usize>(
         nearest,
         beside,
         ..place.seen
-    }
-}
-
-/// Writes into the table of ids the cell of a new leaf, and the cell of the leaf that moved, if one
-/// did.
-fn lead_to<K: AsBytes, V, const P: usize>(
-    cells: &CellTree<K, Named<V>, P>,
-    ids: &mut Store<CellId>,
-    id: LeafId,
-    placed: &Placed,
-)
-    requires to_lead { IsToLead (slot_at ids.old) cells.now.pairs placed.now id }
-    requires slot { IsSome (slot_at ids.old id) }
-    ensures led { AreLed (slot_at ids.new) cells.now.pairs }
-    ensures spare { ids.new.spare ≡ ids.old.spare }
-{
-    cells.law();
-    *ids.get_mut(id.number()) = placed.cell;
-    if let Some(to) = placed.moved {
-        let moved = id_of(cells, to, &mut Visits::new());
-        *ids.get_mut(moved.number()) = to;
     }
 }

@@ -6,7 +6,7 @@ ghost use Rattle.art_tree.specs.Leaves.{Has, bytes};
 ghost use Rattle.art_tree.specs.Longest.{longest};
 ghost use Rattle.art_tree.specs.Seeks.{number_within, ends, bound_len};
 
-use crate::ids::id_of;
+use crate::ids::{id_of, id_of_any};
 use crate::leaf_id::LeafId;
 use crate::tree::Tree;
 use art_slots::Visits;
@@ -23,10 +23,11 @@ impl<K: AsBytes, V, const PREFIX_LEN: usize> Tree<K, V, PREFIX_LEN> {
         ensures grows { visits.old.count ≤ visits.new.count }
         ensures empty { self.now.pairs ≡ [] → visits.new.count ≡ visits.old.count }
     {
+        self.cells.law();
         let Some(found) = self.cells.get(query, visits) else {
             return None;
         };
-        Some((found.2.id, found.1, &found.2.value))
+        Some((id_of(&self.cells, found.0), found.1, found.2))
     }
 
     /// Returns the pair whose bytes are a prefix of these, and its leaf. On n bytes it makes at
@@ -38,10 +39,11 @@ impl<K: AsBytes, V, const PREFIX_LEN: usize> Tree<K, V, PREFIX_LEN> {
         ensures grows { visits.old.count ≤ visits.new.count }
         ensures empty { self.now.pairs ≡ [] → visits.new.count ≡ visits.old.count }
     {
+        self.cells.law();
         let Some(found) = self.cells.get_front(query, visits) else {
             return None;
         };
-        Some((found.2.id, found.1, &found.2.value))
+        Some((id_of(&self.cells, found.0), found.1, found.2))
     }
 
     /// Returns the leaf with these bytes. On n bytes it makes at most n + 1 visits, and none if the
@@ -80,30 +82,29 @@ impl<K: AsBytes, V, const PREFIX_LEN: usize> Tree<K, V, PREFIX_LEN> {
 
     /// Returns the first leaf within a start bound, or the last leaf within an end bound. If the
     /// bound has n bytes (0 if it is unbounded) and the longest key has L bytes, it makes at most
-    /// (n + 2) * (L + 1) + 1 visits, and none if the tree has no pairs.
+    /// (n + 2) * (L + 1) visits, and none if the tree has no pairs.
     pub fn seek(&self, bound: Bound<&[u8]>, is_start: bool, visits: &mut Visits) -> Option<LeafId>
         ensures found { result
-            ≡ number_within (bytes K.bytes) self.now.pairs (bound_bytes (λ b. b) bound.entry) is_start }
+            ≡ number_within (bytes K.bytes) self.now.pairs (bound_bytes (λ b. b) bound.entry)
+            is_start }
         ensures counted { visits.new.count
             ≤ visits.old.count + (bound_len (bound_bytes (λ b. b) bound.entry) + 2)
-            * (longest (bytes K.bytes) self.now.pairs + 1) + 1 }
+            * (longest (bytes K.bytes) self.now.pairs + 1) }
         ensures grows { visits.old.count ≤ visits.new.count }
         ensures empty { self.now.pairs ≡ [] → visits.new.count ≡ visits.old.count }
     {
         self.cells.law();
-        match self.cells.seek(bound, is_start, visits) {
-            None => None,
-            Some(cell) => Some(id_of(&self.cells, cell, visits)),
-        }
+        id_of_any(&self.cells, self.cells.seek(bound, is_start, visits))
     }
 
     /// Returns the first and the last leaf whose bytes begin with these. On n bytes, if the longest
-    /// key has L bytes, it makes at most (n + 3) * (L + 1) visits, and none if the tree has no
+    /// key has L bytes, it makes at most (n + 3) * (L + 1) - 2 visits, and none if the tree has no
     /// pairs.
     pub fn span(&self, front: &[u8], visits: &mut Visits) -> Option<(LeafId, LeafId)>
         ensures found { result ≡ ends (under (bytes K.bytes) self.now.pairs front.now) }
-        ensures counted { visits.new.count
-            ≤ visits.old.count + (length front.now + 3) * (longest (bytes K.bytes) self.now.pairs + 1) }
+        ensures counted { visits.new.count + 2
+            ≤ visits.old.count + (length front.now + 3)
+            * (longest (bytes K.bytes) self.now.pairs + 1) }
         ensures grows { visits.old.count ≤ visits.new.count }
         ensures empty { self.now.pairs ≡ [] → visits.new.count ≡ visits.old.count }
     {
@@ -111,8 +112,6 @@ impl<K: AsBytes, V, const PREFIX_LEN: usize> Tree<K, V, PREFIX_LEN> {
         let Some(cells) = self.cells.span(front, visits) else {
             return None;
         };
-        let first = id_of(&self.cells, cells.0, visits);
-        let last = id_of(&self.cells, cells.1, visits);
-        Some((first, last))
+        Some((id_of(&self.cells, cells.0), id_of(&self.cells, cells.1)))
     }
 }

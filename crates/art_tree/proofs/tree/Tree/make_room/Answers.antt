@@ -1,9 +1,8 @@
-use Rattle.art_slots.specs.Store.{slot_at}
-use Rattle.art_tree.proofs.Led.{led_same}
+use Rattle.art_cells.proofs.UnderIds.{under_extended}
 use Rattle.art_tree.proofs.tree.Tree.make_room.Goals as goal
 
-pub invariant_of-self-in-Empty-1 : goal.invariant_of-self-in-Empty-1
-invariant_of-self-in-Empty-1 g c = led_same (slot_at c.self.inside.ids) (slot_at c.reserve.new.self) c.self.inside.cells.pairs _ c.self.invariant c.in_ok-make_room-in-Empty.ensures.pairs c.reserve.ensures.same
+pub returns-in-Empty-clause-pairs : goal.returns-in-Empty-clause-pairs
+returns-in-Empty-clause-pairs g c = rw (← c.self.view_is, c.make_room.ensures.pairs) (under_extended c.self.inside.cells.ids c.make_room.new.self.ids c.self.inside.cells.pairs c.make_room.ensures.ids c.law.ensures.named.named)
 
-pub invariant_of-self-in-Free-1 : goal.invariant_of-self-in-Free-1
-invariant_of-self-in-Free-1 g c = led_same (slot_at c.self.inside.ids) (slot_at c.reserve-in-Free.new.self) c.self.inside.cells.pairs _ c.self.invariant c.in_ok-make_room-in-Free.ensures.pairs c.reserve-in-Free.ensures.same
+pub returns-in-Free-clause-pairs : goal.returns-in-Free-clause-pairs
+returns-in-Free-clause-pairs g c = rw (← c.self.view_is, c.make_room-in-Free.ensures.pairs) (under_extended c.self.inside.cells.ids c.make_room-in-Free.new.self.ids c.self.inside.cells.pairs c.make_room-in-Free.ensures.ids c.law.ensures.named.named)

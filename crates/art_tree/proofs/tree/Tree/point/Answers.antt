@@ -1,11 +1,10 @@
-use Rattle.std.proofs.Common.{◌≡◌, subst, sym, lit<}
-use Rattle.std.specs.Prelude.{filter}
+use Rattle.std.proofs.Common.{subst, sym, lit<}
 use Rattle.blart_keys.specs.Bytes.{related}
 use Rattle.blart_keys.specs.Content.{subtree}
-use Rattle.art_slots.specs.Store.{slot_at}
 use Rattle.art_cells.specs.Points.{IsGood as IsGoodCell}
 use Rattle.art_cells.specs.declared.tree.point.CellPoint.{CellPoint}
 use Rattle.art_cells.proofs.CallerLemmas.{Has-first, Has-last, has_key, passing_has}
+use Rattle.art_cells.proofs.UnderIds.{lies_in}
 use Rattle.art_tree.specs.Leaves.{Numbered, bytes}
 use Rattle.art_tree.proofs.Pointing.{exact_has, exact_id, conflict_id, first_related_id, last_related_id, free_id}
 use Rattle.art_tree.proofs.tree.Tree.point.Goals as goal
@@ -16,7 +15,7 @@ id_of-requires g c =
     let ps = c.self.inside.cells.pairs in
     let q = c.args.query.now in
     let good = subst (λ (z : CellPoint). IsGoodCell kb ps z q) c.in-Exact.is c.point.ensures in
-    (lit< tt, exact_has (slot_at c.self.inside.ids) kb ps c.law.ensures.distinct c.self.invariant q c.in-Exact.cell good.0 good.1)
+    (lit< tt, exact_has kb c.self.inside.cells.ids ps c.law.ensures.named c.law.ensures.distinct q c.in-Exact.cell good.0 good.1)
 
 pub returns-in-Exact : goal.returns-in-Exact
 returns-in-Exact g c =
@@ -24,7 +23,7 @@ returns-in-Exact g c =
     let ps = c.self.inside.cells.pairs in
     let q = c.args.query.now in
     let good = subst (λ (z : CellPoint). IsGoodCell kb ps z q) c.in-Exact.is c.point.ensures in
-    rw (← c.self.view_is) (exact_id (slot_at c.self.inside.ids) kb ps c.law.ensures.distinct c.self.invariant q c.id_of.result c.in-Exact.cell good.0 c.id_of.ensures.lies good.1)
+    rw (← c.self.view_is, c.id_of.ensures) (good.0, exact_id kb c.self.inside.cells.ids ps c.law.ensures.named q c.in-Exact.cell good.0 good.1)
 
 pub id_of-first-requires : goal.id_of-first-requires
 id_of-first-requires g c =
@@ -47,13 +46,13 @@ returns-in-Related g c =
     let kb = g.K.AsBytes.bytes in
     let ps = c.self.inside.cells.pairs in
     let q = c.args.query.now in
-    let f = slot_at c.self.inside.ids in
-    let d = c.law.ensures.distinct in
+    let ids = c.self.inside.cells.ids in
+    let n = c.law.ensures.named in
     let good = subst (λ (z : CellPoint). IsGoodCell kb ps z q) c.in-Related.is c.point.ensures in
-    rw (← c.self.view_is) (
-      conflict_id f kb ps d c.self.invariant q good.0,
-      first_related_id f kb ps d c.self.invariant q c.id_of-first.result c.in-Related.first c.id_of-first.ensures.lies good.1,
-      last_related_id f kb ps d c.self.invariant q c.id_of-last.result c.in-Related.last c.id_of-last.ensures.lies good.2,
+    rw (← c.self.view_is, c.id_of-first.ensures, c.id_of-last.ensures) (
+      conflict_id kb ids ps n q good.0,
+      first_related_id kb ids ps n q c.in-Related.first good.1,
+      last_related_id kb ids ps n q c.in-Related.last good.2,
     )
 
 pub id_of-nearest-requires : goal.id_of-nearest-requires
@@ -69,5 +68,8 @@ returns-in-Free g c =
     let kb = g.K.AsBytes.bytes in
     let ps = c.self.inside.cells.pairs in
     let q = c.args.query.now in
+    let n = c.law.ensures.named in
+    let cell = c.in-Free.seen.nearest in
     let good = subst (λ (z : CellPoint). IsGoodCell kb ps z q) c.in-Free.is c.point.ensures in
-    rw (← c.self.view_is) (free_id (slot_at c.self.inside.ids) kb ps c.law.ensures.distinct c.self.invariant c.id_of-nearest.result c.in-Free.seen q c.id_of-nearest.ensures.lies good)
+    let has = has_key kb ps cell good.leaves.nearest_key good.leaves.nearest_is in
+    rw (← c.self.view_is) (free_id kb c.self.inside.cells.ids ps n c.id_of-nearest.result c.in-Free.seen q (lies_in c.self.inside.cells.ids ps c.id_of-nearest.result cell n has (sym c.id_of-nearest.ensures)) good)

@@ -1,6 +1,5 @@
-use Rattle.art_slots.specs.Store.{slot_at}
-use Rattle.art_tree.proofs.Led.{led_same}
+use Rattle.art_cells.proofs.UnderIds.{under_extended}
 use Rattle.art_tree.proofs.tree.Tree.reserve.Goals as goal
 
-pub invariant_of-self-2 : goal.invariant_of-self-2
-invariant_of-self-2 g c = led_same (slot_at c.self.inside.ids) (slot_at c.reserve-2.new.self) c.self.inside.cells.pairs _ c.self.invariant c.in_ok-reserve.ensures.pairs c.reserve-2.ensures.same
+pub returns-clause-pairs : goal.returns-clause-pairs
+returns-clause-pairs g c = rw (← c.self.view_is, c.reserve.ensures.pairs) (under_extended c.self.inside.cells.ids c.reserve.new.self.ids c.self.inside.cells.pairs c.reserve.ensures.ids c.law.ensures.named.named)
