@@ -113,6 +113,15 @@ impl<K: AsBytes, V, const PREFIX_LEN: usize> CellTree<K, V, PREFIX_LEN> {
         self.leaves.cell_of(id)
     }
 
+    /// Returns the cell of the leaf with an id. `seen` is a guess of it. Reads no leaf.
+    pub fn cell_again(&self, id: usize, seen: CellId) -> CellId
+        requires { Has (under_ids self.now.ids self.now.pairs) id }
+        ensures { LiesIn self.now.ids self.now.pairs id result }
+    {
+        self.leaves.law();
+        self.leaves.cell_again(id, seen)
+    }
+
     /// Returns the cell of the leaf with an id. `seen` is a guess of the position of the leaf. If it
     /// is right, the row alone tells the cell. Reads no leaf.
     #[inline(always)]

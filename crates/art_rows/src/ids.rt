@@ -1,5 +1,5 @@
 //! The ids of cells.
-ghost use Rattle.std.specs.Prelude.{◌≡◌, ℕ, ◌<◌, ◌≤◌, ◌^◌, [], length, take, OnOk, OnErr, IfOk};
+ghost use Rattle.std.specs.Prelude.{◌≡◌, ℕ, ◌<◌, ◌≤◌, ◌^◌, [], true, length, take, OnOk, OnErr, IfOk};
 ghost use Rattle.art_rows.specs.Ids.{id_at, ArePaired, Extends, exchanged};
 
 use art_slots::Words;
@@ -61,6 +61,14 @@ impl Ids {
     {
         let _len = self.ids.len();
         self.ids.read(cell)
+    }
+
+    /// Returns `true` if a cell has this id.
+    #[inline(always)]
+    pub(crate) fn is_of(&self, id: usize, cell: usize) -> bool
+        ensures { result ≡ true → (cell < length self.now) × (id_at self.now cell ≡ id) }
+    {
+        cell < self.count && self.ids.read(cell) == id
     }
 
     /// Returns the cell of an id.

@@ -159,6 +159,20 @@ impl<K, V> Leaves<K, V> {
         }
     }
 
+    /// Returns the cell of the leaf with an id. `seen` is a guess of it. If it is right, the table that
+    /// leads from ids to cells is not read. Reads no leaf.
+    pub fn cell_again(&self, id: usize, seen: CellId) -> CellId
+        requires { (cell : ℕ) × Has self.now.pairs cell × (id_at self.now.ids cell ≡ id) }
+        ensures has { Has self.now.pairs result }
+        ensures id { id_at self.now.ids result ≡ id }
+    {
+        self.law();
+        if self.ids.is_of(id, seen.number()) {
+            return seen;
+        }
+        self.cell_of(id)
+    }
+
     /// Returns the cell at a position, if there is one.
     #[inline(always)]
     fn cell_at(&self, seen: Position) -> Option<CellId>

@@ -9,7 +9,7 @@ ghost use Rattle.art_tree.specs.Content.{Content, room, Fits, IsOpen};
 ghost use Rattle.art_tree.specs.Points.{IsGood, IsFree};
 ghost use Rattle.art_tree.specs.UnderIds.{under_ids, AreNamed};
 
-use crate::ids::{cell_of, id_of};
+use crate::ids::id_of;
 use crate::leaf_id::LeafId;
 use crate::tree::Tree;
 use crate::tree::point::{Place, Point};
@@ -110,7 +110,7 @@ fn cell_place<K: AsBytes, V, const P: usize>(cells: &CellTree<K, V, P>, place: &
         → IsFreeCell K.bytes cells.now.pairs result q }
 {
     cells.law();
-    let nearest = cell_of(cells, place.nearest);
+    let nearest = cells.cell_again(place.nearest.number(), place.seen.nearest);
     let beside = match place.seen.beside {
         Beside::AfterLeaf(_) => Beside::AfterLeaf(nearest),
         Beside::BeforeLeaf(_) => Beside::BeforeLeaf(nearest),

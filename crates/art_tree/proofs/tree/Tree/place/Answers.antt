@@ -12,7 +12,7 @@ place-placed-requires g c =
     let kb = g.K.AsBytes.bytes in
     let good = subst (λ (t : Content g.row.K.Denot g.row.V.Denot). IsGood kb t.pairs c.args.point (kb c.args.key)) (sym c.self.view_is) c.requires.good in
     let spares = ap (λ t. t.spares) (sym c.self.view_is) in
-    (lit< tt, (?, (c.cell_point-at.ensures.good (kb c.args.key) good, (c.cell_point-at.ensures.open, c.cell_point-at.ensures.fits c.args.self.now c.self.inside.cells spares c.requires.fits))))
+    (lit< tt, (c.cell_point-at.ensures.good (kb c.args.key) good, (c.cell_point-at.ensures.open, c.cell_point-at.ensures.fits c.args.self.now c.self.inside.cells spares c.requires.fits)))
 
 pub returns-clause-put : goal.returns-clause-put
 returns-clause-put g c =

@@ -7,7 +7,8 @@ returns g c = λ q free.
     let kb = g.K.AsBytes.bytes in
     let cells = c.args.cells.now in
     let n = c.law.ensures.named in
+    let lies = rw c.number.ensures.value at c.cell_again-nearest.ensures in
     elim c.match-place.branch [
-      | in-AfterLeaf w ↦ free_after kb cells.ids cells.pairs n c.args.place.now c.cell_of-nearest.result c.cell_of-nearest.ensures q c.match-place.beside free _ w.in-AfterLeaf.is w.beside-is
-      | in-BeforeLeaf w ↦ free_before kb cells.ids cells.pairs n c.args.place.now c.cell_of-nearest.result c.cell_of-nearest.ensures q c.match-place.beside free _ w.in-BeforeLeaf.is w.beside-is
+      | in-AfterLeaf w ↦ free_after kb cells.ids cells.pairs n c.args.place.now c.cell_again-nearest.result lies q c.match-place.beside free _ w.in-AfterLeaf.is w.beside-is
+      | in-BeforeLeaf w ↦ free_before kb cells.ids cells.pairs n c.args.place.now c.cell_again-nearest.result lies q c.match-place.beside free _ w.in-BeforeLeaf.is w.beside-is
     ]
