@@ -1,5 +1,5 @@
 -- What a contract sees of the inner nodes.
-use Rattle.std.specs.Prelude.{◌≡◌, ◌≢◌, ℕ, zero, suc, ◌+◌, ◌-◌, ◌*◌, ◌/◌, ◌%◌, ◌≤◌, ◌<◌, List, [], ◌∷◌, ◌++◌, take, drop, length, slice_index, Option, Some, None, sum_by, min, max, refl}
+use Rattle.std.specs.Prelude.{◌≡◌, ◌≢◌, ℕ, zero, suc, ◌+◌, ◌-◌, ◌*◌, ◌/◌, ◌%◌, ◌≤◌, ◌<◌, ◌⊎◌, List, [], ◌∷◌, ◌++◌, take, drop, length, slice_index, Option, Some, None, sum_by, min, max, refl}
 use Rattle.std.specs.Coded.{Coded, code_by, coded×, coded_ℕ, coded_list}
 use Rattle.art_kinds.specs.declared.records.ids.Edge.{Edge}
 use Rattle.art_kinds.specs.declared.records.ids.Child.{Child}
@@ -122,9 +122,9 @@ pub record IsEdgeBy (x : Node) (q : List ℕ) (e : Edge) : Type 0 where
   pub byte : e.byte ≡ slice_index q x.depth
   pub there : child_at x.edges e.byte ≡ Some e.to
 
--- that edge, or none if q is not longer than the depth or the node has no such edge
+-- that edge, or none if q is no longer than the depth or the node has no such edge
 abbrev pub IsToward : Node → List ℕ → Option Edge → Type 0
-IsToward x q None = x.depth < length q → child_at x.edges (slice_index q x.depth) ≡ None
+IsToward x q None = (length q ≤ x.depth) ⊎ (child_at x.edges (slice_index q x.depth) ≡ None)
 IsToward x q (Some e) = IsEdgeBy x q e
 
 -- the same of the node under a number
