@@ -130,14 +130,9 @@ fn leaf_toward<const P: usize>(
             Child::Leaf(id) => return Some(LeafSpot { id, edge, above }),
             Child::Inner(id) => id,
         };
-        let node = nodes.read(id, visits);
-        let depth = node.depth();
-        if depth >= query.len() {
-            return None;
-        }
-        let byte = query[depth];
-        at = node.find(byte)?;
+        let next = nodes.toward(id, query, visits)?;
         above = edge;
-        edge = Some((id, byte));
+        edge = Some((id, next.byte));
+        at = next.to;
     }
 }

@@ -25,6 +25,10 @@ pub(crate) trait Children: Drop {
     fn count(&self) -> usize
         ensures { result ≡ length (edges self.now) };
 
+    /// Returns the child at the edge of a byte, or `None` if there is no such edge.
+    fn find(&self, byte: u8) -> Option<Child>
+        ensures { result ≡ child_at (edges self.now) byte };
+
     /// Adds an edge, at a byte that has none.
     fn insert(&mut self, byte: u8, to: Child)
         requires room { FitsIn places (length (edges self.old) + 1) }
@@ -59,6 +63,11 @@ impl<const N: usize> Children for Few<N> {
         Few::count(self)
     }
 
+    #[inline(always)]
+    fn find(&self, byte: u8) -> Option<Child> {
+        Few::find(self, byte)
+    }
+
     fn insert(&mut self, byte: u8, to: Child) {
         Few::insert(self, byte, to);
     }
@@ -89,6 +98,11 @@ impl Children for Indexed {
         Indexed::count(self)
     }
 
+    #[inline(always)]
+    fn find(&self, byte: u8) -> Option<Child> {
+        Indexed::find(self, byte)
+    }
+
     fn insert(&mut self, byte: u8, to: Child) {
         Indexed::insert(self, byte, to);
     }
@@ -116,6 +130,11 @@ impl Children for Full {
 
     fn count(&self) -> usize {
         Full::count(self)
+    }
+
+    #[inline(always)]
+    fn find(&self, byte: u8) -> Option<Child> {
+        Full::find(self, byte)
     }
 
     fn insert(&mut self, byte: u8, to: Child) {
