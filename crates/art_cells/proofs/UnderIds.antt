@@ -1,12 +1,12 @@
 -- Pairs under the ids of their leaves, while leaves move and come.
-use Rattle.std.proofs.Common.{◌≡◌, ◌≢◌, ℕ, ◌<◌, ◌≤◌, List, [], ◌∷◌, length, map, refl, sym, ap, subst, ◌∙◌, Option, Some, None, IsSome, Bool, cond, true, false, eqb, eq-eqb, inl, inr, arith}
+use Rattle.std.proofs.Common.{◌≡◌, ◌≢◌, ℕ, ◌<◌, ◌≤◌, List, [], ◌∷◌, length, refl, sym, ap, subst, ◌∙◌, Option, Some, None, IsSome, Bool, cond, true, false, eqb, eq-eqb, inl, inr, arith}
 use Rattle.std.proofs.lemmas.Bool.{ne_eqb}
 use Rattle.std.proofs.lemmas.Bool.Decides.{eqb_tells}
 use Rattle.std.proofs.lemmas.List.{get_or-set_same, get_or-set_other, length-set}
 use Rattle.art_rows.specs.Ids.{id_at, exchanged, Extends}
-use Rattle.art_rows.proofs.CallerLemmas.{Lacks-from_leaf_in, leaf_in_lacking}
+use Rattle.art_rows.proofs.CallerLemmas.{Lacks-from_leaf_in}
 use Rattle.art_cells.specs.Leaves.{Numbered, leaf_in, Has, Lacks, AreDistinct, OthersStand, with_number, with_pair_after}
-use Rattle.art_cells.specs.UnderIds.{AreNamed, under_id, under_ids, LiesIn}
+use Rattle.art_cells.specs.UnderIds.{AreNamed, under_ids, LiesIn}
 
 -- the id that a leaf took along, and those of the other cells
 module _ (ids : List ℕ) (a b : ℕ) (la : a < length ids) (lb : b < length ids) where

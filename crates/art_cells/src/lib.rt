@@ -1,6 +1,8 @@
-//! An adaptive radix tree over byte keys. Its inner nodes lie in slabs and its leaves in the cells of a table, each under a number, and the numbers of the leaves stand in rows in byte order.
+//! An adaptive radix tree over byte keys. Its inner nodes lie in slabs, and its leaves in numbered
+//! cells. Rows have the numbers of the cells in the order of the keys.
 //!
-//! A contract sees a [`CellTree`] as the list of its pairs in byte order, each under the number of its leaf, and the room for pairs to come.
+//! A contract sees a [`CellTree`] as the list of its pairs in byte order, each under its leaf's
+//! cell, with the ids of the cells and the room for further pairs.
 #![tactic(auto)]
 
 mod lists;

@@ -38,14 +38,17 @@ use blart_keys::AsBytes;
 use std::alloc::{AllocError, Global};
 use std::marker::Model;
 
-/// How many bytes of a compressed prefix an inner node keeps where nothing else is said.
+/// The number of bytes of a compressed prefix that an inner node keeps by default.
 pub const DEFAULT_PREFIX_LEN: usize = 16;
 
-/// Pairs of a key and a value in the order of the keys' bytes, none of which begins another's.
+/// Pairs of a key and a value, in the order of the keys' bytes. No key's bytes are a prefix of
+/// another's.
 ///
-/// An inner node keeps the first `PREFIX_LEN` bytes of its compressed prefix; any length is good, 0 too.
+/// An inner node keeps the first `PREFIX_LEN` bytes of its compressed prefix. Any length will do,
+/// also 0.
 ///
-/// A call that is said to take no memory is never refused. A removal may ask for a smaller inner node, and keeps the larger one where that is refused.
+/// A removal may try to allocate a smaller inner node, and keeps the larger one if that fails. So
+/// no removal returns an error.
 #[derive(Drop)]
 pub struct CellTree<K: AsBytes, V, const PREFIX_LEN: usize> {
     pub(crate) leaves: Leaves<K, V>,
@@ -70,7 +73,7 @@ impl<K: AsBytes, V, const PREFIX_LEN: usize> Model for CellTree<K, V, PREFIX_LEN
 }
 
 impl<K: AsBytes, V, const PREFIX_LEN: usize> CellTree<K, V, PREFIX_LEN> {
-    /// A tree with no pairs. Takes no memory.
+    /// Returns a tree with no pairs. Does not allocate.
     pub fn new(alloc: Global) -> Self
         ensures pairs { result.pairs ≡ [] }
         ensures room { room result ≡ 0 }
@@ -82,7 +85,9 @@ impl<K: AsBytes, V, const PREFIX_LEN: usize> CellTree<K, V, PREFIX_LEN> {
         }
     }
 
-    /// Answers nothing. Its contract says what holds of every tree: the pairs ascend by their keys' bytes, none of which begins another's, and no cell and no id comes twice.
+    /// Does nothing. Its contract says what holds of every tree: the pairs ascend by the bytes of
+    /// their keys, no key's bytes are a prefix of another's, no two leaves are in the same cell,
+    /// and no two have the same id.
     pub fn law(&self)
         ensures content { IsContent (bytes K.bytes) self.now.pairs }
         ensures distinct { AreDistinct self.now.pairs }
@@ -133,35 +138,35 @@ impl<K: AsBytes, V, const PREFIX_LEN: usize> CellTree<K, V, PREFIX_LEN> {
         self.leaves.cell_near(id, seen)
     }
 
-    /// How many pairs there are.
+    /// Returns the number of pairs.
     pub fn len(&self) -> usize
         ensures { result ≡ length self.now.pairs }
     {
         self.leaves.len()
     }
 
-    /// Whether there are no pairs.
+    /// Returns `true` if there are no pairs.
     pub fn is_empty(&self) -> bool
         ensures { result ≡ (length self.now.pairs == 0) }
     {
         self.len() == 0
     }
 
-    /// The first leaf.
+    /// Returns the first leaf.
     pub fn first(&self) -> Option<CellId>
         ensures { result ≡ first_number self.now.pairs }
     {
         self.leaves.first()
     }
 
-    /// The last leaf.
+    /// Returns the last leaf.
     pub fn last(&self) -> Option<CellId>
         ensures { result ≡ last_number self.now.pairs }
     {
         self.leaves.last()
     }
 
-    /// The leaf after a leaf.
+    /// Returns the leaf after a leaf.
     pub fn next_of(&self, id: CellId) -> Option<CellId>
         requires { Has self.now.pairs id }
         ensures { result ≡ number_after self.now.pairs id }
@@ -169,7 +174,7 @@ impl<K: AsBytes, V, const PREFIX_LEN: usize> CellTree<K, V, PREFIX_LEN> {
         self.leaves.next_of(id)
     }
 
-    /// The leaf before a leaf.
+    /// Returns the leaf before a leaf.
     pub fn prev_of(&self, id: CellId) -> Option<CellId>
         requires { Has self.now.pairs id }
         ensures { result ≡ number_before self.now.pairs id }
@@ -197,7 +202,7 @@ impl<K: AsBytes, V, const PREFIX_LEN: usize> CellTree<K, V, PREFIX_LEN> {
         self.leaves.prev_from(id, seen)
     }
 
-    /// The pair of a leaf. One visit.
+    /// Returns the pair of a leaf. One visit.
     pub fn leaf(&self, id: CellId, visits: &mut Visits) -> (&K, &V)
         requires { Has self.now.pairs id }
         ensures value { leaf_in self.now.pairs id ≡ Some (result.0.now, result.1.now) }
@@ -206,7 +211,7 @@ impl<K: AsBytes, V, const PREFIX_LEN: usize> CellTree<K, V, PREFIX_LEN> {
         self.leaves.read(id, visits)
     }
 
-    /// Where the bytes stand, or would go. The point is good for them while the pairs are unchanged.
+    /// Returns the point of these bytes. It is good for them while the pairs are unchanged.
     pub fn point(&self, query: &[u8]) -> CellPoint
         ensures { IsGood K.bytes self.now.pairs result query.now }
     {
@@ -216,7 +221,8 @@ impl<K: AsBytes, V, const PREFIX_LEN: usize> CellTree<K, V, PREFIX_LEN> {
         }
     }
 
-    /// How many inner nodes there are: one at each front where neighbouring keys part. Fewer than there are pairs where there are pairs, and none where there is one or none.
+    /// Returns the number of inner nodes. There is one at the longest common prefix of each two
+    /// neighbouring keys. The number is less than the number of pairs, and 0 if there are no pairs.
     pub fn inner_nodes(&self) -> usize
         ensures value { result ≡ set.len (fronts (bytes K.bytes) self.now.pairs) }
         ensures fewer { result ≤ length self.now.pairs - 1 }
@@ -225,7 +231,8 @@ impl<K: AsBytes, V, const PREFIX_LEN: usize> CellTree<K, V, PREFIX_LEN> {
         self.nodes.live()
     }
 
-    /// How many children the inner node at this front has, and 0 where none stands there. At most one visit more than the longest key has bytes.
+    /// Returns the number of children of the inner node at this prefix, or 0 if there is no such
+    /// node. If the longest key has L bytes, it makes at most L + 1 visits.
     pub fn children_at(&self, front: &[u8], visits: &mut Visits) -> usize
         ensures value { result ≡ set.len (parts (bytes K.bytes) self.now.pairs front.now) }
         ensures counted { visits.new.count
@@ -241,7 +248,8 @@ impl<K: AsBytes, V, const PREFIX_LEN: usize> CellTree<K, V, PREFIX_LEN> {
 }
 
 impl<K: AsBytes + Drop, V: Drop, const PREFIX_LEN: usize> CellTree<K, V, PREFIX_LEN> {
-    /// Makes room, so that a pair may be placed at the point. Refused or not, the pairs stand, and the point stays good.
+    /// Makes room for a placement at the point, or returns an error if it fails to allocate. The
+    /// pairs and the ids of the leaves are unchanged in both cases, and the point remains good.
     pub fn make_room(&mut self, point: &CellPoint) -> Result<(), AllocError>
         ensures pairs { self.new.pairs ≡ self.old.pairs }
         ensures ids { Extends self.old.ids self.new.ids }
@@ -286,7 +294,7 @@ impl<K: AsBytes + Drop, V: Drop, const PREFIX_LEN: usize> CellTree<K, V, PREFIX_
     }
 }
 
-// How many children the inner node at this front has, in a tree with some pairs.
+/// Returns the number of children of the inner node at this prefix, in a tree with some pairs.
 fn children_below<K: AsBytes, V, const P: usize>(
     leaves: &Leaves<K, V>,
     nodes: &Nodes<P>,

@@ -1,4 +1,4 @@
-//! Changes to a tree that place nothing, and the look-up of the pair that begins a query.
+//! Calls that replace pairs, and that return mutable references to values.
 ghost use Rattle.std.specs.Prelude.{◌≡◌, ◌+◌, ◌<◌, ◌≤◌, [], option_map, Some, OnOk, OnErr};
 ghost use Rattle.std.specs.Borrow.{sem};
 ghost use Rattle.art_cells.specs.Leaves.{leaf_in, Has, with_pair, bytes};
@@ -15,7 +15,8 @@ use blart_keys::AsBytes;
 use std::alloc::AllocError;
 
 impl<K: AsBytes + Drop, V: Drop, const PREFIX_LEN: usize> CellTree<K, V, PREFIX_LEN> {
-    /// Exchanges the pair of a leaf, and gives the old one. The new key is related to the old one and to no other. Takes no memory.
+    /// Replaces the pair of a leaf, and returns the old pair. The new key is related to the old key
+    /// and to no other. Does not allocate.
     pub fn swap(&mut self, id: CellId, key: K, value: V) -> (K, V)
         requires has { Has self.old.pairs id }
         requires may { MayTake K.bytes self.old.pairs id (K.bytes key) }
@@ -38,7 +39,8 @@ impl<K: AsBytes + Drop, V: Drop, const PREFIX_LEN: usize> CellTree<K, V, PREFIX_
         self.root = None;
     }
 
-    /// Makes room for so many placements. Refused or not, the pairs stand.
+    /// Makes room for `count` placements, or returns an error if it fails to allocate. The pairs
+    /// and the ids of the leaves are unchanged in both cases.
     pub fn reserve(&mut self, count: usize) -> Result<(), AllocError>
         ensures pairs { self.new.pairs ≡ self.old.pairs }
         ensures ids { Extends self.old.ids self.new.ids }
@@ -52,7 +54,7 @@ impl<K: AsBytes + Drop, V: Drop, const PREFIX_LEN: usize> CellTree<K, V, PREFIX_
 }
 
 impl<K: AsBytes, V, const PREFIX_LEN: usize> CellTree<K, V, PREFIX_LEN> {
-    /// The key of a leaf, and its value to be written.
+    /// Returns the key of a leaf, and a mutable reference to its value.
     pub fn leaf_mut(&mut self, id: CellId) -> (&K, &mut V)
         requires { Has self.old.pairs id }
         ensures* writes_back { sem 𝓛
@@ -62,7 +64,7 @@ impl<K: AsBytes, V, const PREFIX_LEN: usize> CellTree<K, V, PREFIX_LEN> {
         self.leaves.get_mut(id)
     }
 
-    /// The value of a leaf, to be written.
+    /// Returns a mutable reference to the value of a leaf.
     pub fn value_mut(&mut self, id: CellId) -> &mut V
         requires { Has self.old.pairs id }
         ensures* writes_back { sem 𝓛

@@ -1,4 +1,4 @@
-//! A second tree of the same pairs.
+//! Clones of trees.
 ghost use Rattle.std.specs.Prelude.{◌≡◌, map, Contains, IfOk};
 ghost use Rattle.art_cells.specs.Clones.{AreClones};
 
@@ -7,7 +7,8 @@ use blart_keys::AsBytes;
 use std::alloc::AllocError;
 
 impl<K: AsBytes + Clone, V: Clone, const PREFIX_LEN: usize> CellTree<K, V, PREFIX_LEN> {
-    /// A tree of clones of the pairs, each under the number that it has here. It takes the memory that this tree has.
+    /// Returns a tree of clones of the pairs, each in the same cell with the same id, or an error
+    /// if it fails to allocate.
     pub fn clone(&self) -> Result<Self, AllocError>
         requires { (k j : K) (v : V) → Contains (map (λ p. p.1) self.now.pairs) (k, v)
             → K.is_clone k j → K.bytes j ≡ K.bytes k }

@@ -1,4 +1,4 @@
-//! A leaf joins the tree.
+//! Placements of pairs.
 ghost use Rattle.std.specs.Prelude.{◌≡◌, ◌≢◌, ℕ, ◌+◌, ◌-◌, ◌^◌, ◌<◌, ◌≤◌, [], length, take, slice_range, slice_index_or, true, Option, Some, IfSome};
 ghost use Rattle.art_cells.specs.Begins.{Bytes};
 ghost use Rattle.art_cells.specs.Invariant.Shape.{Shape};
@@ -33,7 +33,7 @@ struct NewLeaf<'a> {
     depth: usize,
 }
 
-/// Places a pair at a point that is good for its key. Returns where, and the root.
+/// Places a pair at a point that is good for its key. Returns its cell, and the root.
 pub(crate) fn place_at<K: AsBytes + Drop, V: Drop, const P: usize>(
     leaves: &mut Leaves<K, V>,
     nodes: &mut Nodes<P>,
@@ -61,7 +61,7 @@ pub(crate) fn place_at<K: AsBytes + Drop, V: Drop, const P: usize>(
     }
 }
 
-// Places the first pair. Returns where, and the root.
+/// Places the first pair. Returns its cell, and the root.
 fn place_first<K: AsBytes + Drop, V: Drop, const P: usize>(
     leaves: &mut Leaves<K, V>,
     nodes: &Nodes<P>,
@@ -226,7 +226,9 @@ fn spot_shown<const P: usize>(
     }
 }
 
-// The edge over a place, and what stands below: from the node that the place names, if that is less deep, by the byte of the key that goes there; or the way into the root.
+/// Returns the edge above a place, and its child. It is the edge of the node that the place names,
+/// by the byte that the key has there, if that node is above the place. If the place names no node,
+/// it is the edge to the root.
 fn edge_toward<const P: usize>(
     nodes: &Nodes<P>,
     root: &Child,
@@ -253,7 +255,8 @@ fn edge_toward<const P: usize>(
     Some((Some((parent, byte)), child))
 }
 
-// Whether a node is as deep as a place and has the nearest key below the place's byte.
+/// Returns `true` if a node has the depth of a place, and its edge by the place's byte leads to the
+/// nearest leaf.
 fn is_over_nearest<const P: usize>(nodes: &Nodes<P>, id: &NodeId, place: &CellPlace) -> bool
     ensures { result ≡ true
         → IsOverLeaf (at nodes.now) id.now place.now.depth place.now.byte place.now.nearest }
@@ -316,7 +319,8 @@ fn add_at_node<const P: usize>(
     top
 }
 
-// Leads the edge above a node to the number that the node has now, where that is another one. Answers the root.
+/// Redirects the edge above a node to the node's number, if the number has changed. Returns the
+/// root.
 fn follow<const P: usize>(
     nodes: &mut Nodes<P>,
     root: &Child,
@@ -366,7 +370,7 @@ fn add_at_edge<const P: usize>(
     lead(nodes, root, above, &Child::Inner(made))
 }
 
-/// Leads the edge above a child elsewhere. Answers the root.
+/// Redirects the edge above a child to another child. Returns the root.
 pub(crate) fn lead<const P: usize>(
     nodes: &mut Nodes<P>,
     root: &Child,
@@ -387,7 +391,7 @@ pub(crate) fn lead<const P: usize>(
     }
 }
 
-// Makes a node with two edges.
+/// Makes a node with two edges.
 fn fork<const P: usize>(
     nodes: &mut Nodes<P>,
     depth: usize,
@@ -408,7 +412,7 @@ fn fork<const P: usize>(
     }
 }
 
-/// Where the compressed prefix below an edge begins.
+/// Returns the depth at which the compressed prefix below an edge begins.
 pub(crate) fn start_below<const P: usize>(nodes: &Nodes<P>, above: &EdgeAbove) -> usize
     requires { EndsBelow (at nodes.now) above.now (2 ^ 64 - 1) }
     ensures { StartsBelow (at nodes.now) above.now result }
@@ -419,7 +423,8 @@ pub(crate) fn start_below<const P: usize>(nodes: &Nodes<P>, above: &EdgeAbove) -
     }
 }
 
-/// The byte by which a child goes on at a depth, where the compressed prefix above it begins at `from`: one that a node keeps, or else one of a key below it.
+/// Returns the byte that the keys below a child have at a depth. The compressed prefix above the
+/// child begins at `from`. The byte is one that the node keeps, or else one of a key below it.
 pub(crate) fn byte_on<const P: usize>(
     nodes: &Nodes<P>,
     child: &Child,
@@ -445,7 +450,8 @@ pub(crate) fn byte_on<const P: usize>(
     }
 }
 
-/// Cuts the compressed prefix of a node. It began at `from`, and begins at `start` now: the node keeps the rest of what it kept where that was the whole prefix, and else bytes of a key below it.
+/// Cuts the compressed prefix of a node, so that it begins at `start` in place of `from`. If the
+/// node kept the whole prefix, it keeps the rest of it, and else bytes of a key below it.
 pub(crate) fn cut_prefix<const P: usize>(
     nodes: &mut Nodes<P>,
     child: &Child,

@@ -1,4 +1,4 @@
-//! Where some bytes stand in a tree, or would go.
+//! Points: the leaf that has some bytes, or the place for a new one.
 ghost use Rattle.std.specs.Prelude.{◌≡◌, ℕ, Option, Some};
 ghost use Rattle.art_cells.specs.Begins.{Bytes};
 ghost use Rattle.art_cells.specs.Places.{LeavesNearest, IsBeside, neighbour};
@@ -15,22 +15,24 @@ use art_rows::Leaves;
 use art_slots::{CellId, Visits};
 use blart_keys::AsBytes;
 
-/// A place for a key that is related to no stored key. It is good for the bytes that it was found for, while the pairs are unchanged.
+/// A place for a key that is related to no stored key. It is good for the bytes that it was found
+/// for, while the pairs are unchanged.
 #[derive(Clone, Copy)]
 pub struct CellPlace {
     /// A leaf whose key has the first `depth` bytes in common with these. No key has one more.
     pub nearest: CellId,
-    /// How many bytes the nearest key has in common with these.
+    /// The number of bytes that the nearest key has in common with these.
     pub depth: usize,
     /// The side of the nearest leaf that the place is on.
     pub beside: Beside,
-    /// The node of the edge above the place, while that edge is there; none at the root.
+    /// The node of the edge above the place, or `None` at the root. The edge may have changed
+    /// since.
     pub above: Option<NodeId>,
     /// The byte of an edge to the nearest leaf.
     pub byte: u8,
 }
 
-/// Where some bytes stand in a tree, or would go.
+/// What a tree has at some bytes.
 #[derive(Clone, Copy)]
 pub enum CellPoint {
     /// The tree has no pairs.
@@ -44,11 +46,11 @@ pub enum CellPoint {
         /// The last leaf with a related key.
         last: CellId,
     },
-    /// No stored key is related to the bytes, which would go here.
+    /// No stored key is related to the bytes. A pair with them goes to this place.
     Free(CellPlace),
 }
 
-/// Where the bytes stand in a tree with some pairs, or would go.
+/// Returns the point of some bytes in a tree with some pairs.
 pub(crate) fn point_below<K: AsBytes, V, const P: usize>(
     leaves: &Leaves<K, V>,
     nodes: &Nodes<P>,
@@ -82,7 +84,7 @@ pub(crate) fn point_below<K: AsBytes, V, const P: usize>(
     }
 }
 
-// The place beside an edge: after the keys below it, or before them.
+/// Returns the place beside an edge: after the keys below it, or before them.
 fn place_under<const P: usize>(
     nodes: &Nodes<P>,
     edge: &Edge,

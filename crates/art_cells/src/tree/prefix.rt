@@ -1,4 +1,4 @@
-//! The pairs below some bytes leave the tree.
+//! Removals of all pairs with a prefix.
 ghost use Rattle.std.specs.Prelude.{◌≡◌, ℕ, length, Some};
 ghost use Rattle.blart_keys.specs.Content.{IsContent, under};
 ghost use Rattle.blart_keys.specs.Outside.{outside};
@@ -19,7 +19,11 @@ use art_slots::{CellId, Visits};
 use blart_keys::AsBytes;
 
 impl<K: AsBytes + Drop, V: Drop, const PREFIX_LEN: usize> CellTree<K, V, PREFIX_LEN> {
-    /// Removes every pair whose bytes begin with these, and answers how many there were. Takes no memory. The number of each other leaf stays. Its cost is that of a [`CellTree::span`] and of one [`CellTree::remove`], and beside that of what goes: each leaf and each inner node leaves by itself, with no way down.
+    /// Removes every pair whose bytes begin with these, and returns the number of removed pairs. The
+    /// other leaves remain in their cells. Does not return an error.
+    ///
+    /// Cost: like one call of [`CellTree::span`] and one of [`CellTree::remove`]. Besides, it frees
+    /// each removed leaf and inner node, with no further descent.
     pub fn remove_prefix(&mut self, prefix: &[u8]) -> usize
         ensures rest { self.new.pairs ≡ outside (bytes K.bytes) self.old.pairs prefix.now }
         ensures ids { self.new.ids ≡ self.old.ids }
@@ -30,7 +34,7 @@ impl<K: AsBytes + Drop, V: Drop, const PREFIX_LEN: usize> CellTree<K, V, PREFIX_
         before - self.len()
     }
 
-    // Removes the pairs whose bytes begin with these.
+    /// Removes the pairs whose bytes begin with these.
     fn remove_branch(&mut self, prefix: &[u8])
         ensures rest { self.new.pairs ≡ outside (bytes K.bytes) self.old.pairs prefix.now }
         ensures ids { self.new.ids ≡ self.old.ids }
@@ -50,7 +54,8 @@ impl<K: AsBytes + Drop, V: Drop, const PREFIX_LEN: usize> CellTree<K, V, PREFIX_
     }
 }
 
-// Leaves of a branch the last leaf alone: the edge above leads to it then. Answers the root.
+/// Removes the leaves of a branch but the last, and redirects the edge above the branch to that
+/// one. Returns the root.
 fn prune<K: AsBytes + Drop, V: Drop, const P: usize>(
     leaves: &mut Leaves<K, V>,
     nodes: &mut Nodes<P>,
@@ -77,7 +82,8 @@ fn prune<K: AsBytes + Drop, V: Drop, const P: usize>(
     root
 }
 
-// Takes the leaves from one up to another out of the rows: of those whose bytes begin with these the last is left.
+/// Removes the leaves from one up to another, but for the last. These are the leaves whose bytes
+/// begin with the prefix.
 fn remove_leaves<K: AsBytes + Drop, V: Drop>(
     leaves: &mut Leaves<K, V>,
     first: CellId,

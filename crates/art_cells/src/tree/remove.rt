@@ -1,4 +1,4 @@
-//! A leaf leaves the tree.
+//! Removals of pairs.
 ghost use Rattle.std.specs.Prelude.{◌≡◌, ℕ, ◌<◌, length, option_map, Option, Some, None, IsSome, IfSome};
 ghost use Rattle.blart_keys.specs.Content.{at as stored, without};
 ghost use Rattle.art_cells.specs.Invariant.EdgesAbove.{LeadsTo, edge_front};
@@ -22,7 +22,8 @@ use art_slots::{CellId, Visits};
 use blart_keys::AsBytes;
 
 impl<K: AsBytes + Drop, V: Drop, const PREFIX_LEN: usize> CellTree<K, V, PREFIX_LEN> {
-    /// Removes a leaf, and gives its pair. Takes no memory. The number of each other leaf stays.
+    /// Removes a leaf, and returns its pair. The other leaves remain in their cells. Does not
+    /// return an error.
     pub fn remove(&mut self, id: CellId) -> (K, V)
         requires { Has self.old.pairs id }
         ensures value { leaf_in self.old.pairs id ≡ Some result }
@@ -38,7 +39,8 @@ impl<K: AsBytes + Drop, V: Drop, const PREFIX_LEN: usize> CellTree<K, V, PREFIX_
         pair
     }
 
-    /// Removes the pair with these bytes, and gives it. The way down that finds it is the only one. Takes no memory. The number of each other leaf stays.
+    /// Removes the pair with these bytes and returns it, or returns `None` if there is no such
+    /// pair. It descends once. The other leaves remain in their cells. Does not return an error.
     pub fn take(&mut self, query: &[u8]) -> Option<(K, V)>
         ensures taken { result
             ≡ option_map (λ p. p.1) (stored (bytes K.bytes) self.old.pairs query.now) }
@@ -53,7 +55,7 @@ impl<K: AsBytes + Drop, V: Drop, const PREFIX_LEN: usize> CellTree<K, V, PREFIX_
     }
 }
 
-// Where the leaf with these bytes is.
+/// Returns the leaf with these bytes, and the edges to it.
 fn spot_at<K: AsBytes, V, const P: usize>(
     leaves: &Leaves<K, V>,
     nodes: &Nodes<P>,
@@ -77,7 +79,7 @@ fn spot_at<K: AsBytes, V, const P: usize>(
     }
 }
 
-/// Where a leaf is.
+/// Returns a leaf with the edges to it.
 pub(crate) fn spot_of<K: AsBytes, V, const P: usize>(
     leaves: &Leaves<K, V>,
     nodes: &Nodes<P>,
@@ -97,7 +99,7 @@ pub(crate) fn spot_of<K: AsBytes, V, const P: usize>(
     }
 }
 
-// Takes a leaf away. Answers its pair, and the root.
+/// Removes a leaf. Returns its pair, and the root.
 fn take_leaf<K: AsBytes + Drop, V: Drop, const P: usize>(
     leaves: &mut Leaves<K, V>,
     nodes: &mut Nodes<P>,
@@ -118,7 +120,7 @@ fn take_leaf<K: AsBytes + Drop, V: Drop, const P: usize>(
     (pair, root)
 }
 
-// Takes away the edge to a leaf, and a node that has one edge left. Answers the root.
+/// Removes the edge to a leaf, and its node if that has one edge left. Returns the root.
 fn unlink<K: AsBytes, V, const P: usize>(
     leaves: &Leaves<K, V>,
     nodes: &mut Nodes<P>,
@@ -141,7 +143,7 @@ fn unlink<K: AsBytes, V, const P: usize>(
     }
 }
 
-// Takes an edge to a leaf away, and its node where one edge is left. Answers the root.
+/// Removes the edge of a node to a leaf, and the node if it has one edge left. Returns the root.
 fn drop_edge<K: AsBytes, V, const P: usize>(
     leaves: &Leaves<K, V>,
     nodes: &mut Nodes<P>,
@@ -169,7 +171,7 @@ fn drop_edge<K: AsBytes, V, const P: usize>(
     merge(nodes, root, above, node, &other.to)
 }
 
-// Takes an edge to a leaf away from a node that has two others. Answers the root.
+/// Removes the edge to a leaf from a node that has two others. Returns the root.
 fn shrink<const P: usize>(
     nodes: &mut Nodes<P>,
     root: &Child,
@@ -189,7 +191,7 @@ fn shrink<const P: usize>(
     lead(nodes, root, above, &Child::Inner(moved))
 }
 
-// Takes away a node: the edge above it leads to this child now. Answers the root.
+/// Removes a node, and redirects the edge above it to this child. Returns the root.
 fn merge<const P: usize>(
     nodes: &mut Nodes<P>,
     root: &Child,
@@ -207,7 +209,7 @@ fn merge<const P: usize>(
     root
 }
 
-// Another edge of a node than the one to a leaf.
+/// Returns an edge of a node other than the one to a leaf.
 fn other_edge<const P: usize>(nodes: &Nodes<P>, node: &NodeId, byte: u8) -> Edge
     requires { (keys : ℕ → Option Bytes) × (root : Option Way) × (above : Option (ℕ × ℕ))
         × (i : ℕ) × IsLeafOf P keys (at nodes.now) root above node.now byte i }
@@ -224,7 +226,8 @@ fn other_edge<const P: usize>(nodes: &Nodes<P>, node: &NodeId, byte: u8) -> Edge
     }
 }
 
-// Joins the compressed prefixes of a node and of a child, and the byte between. The child keeps that.
+/// Joins the compressed prefixes of a node and of its child, with the byte between them. The child
+/// keeps the result.
 fn join_child<const P: usize>(nodes: &mut Nodes<P>, node: &NodeId, edge: &Edge)
     requires { (keys : ℕ → Option Bytes) × (above : Option (ℕ × ℕ))
         × IsChildBelow P keys (at nodes.old) above node.now edge.now }

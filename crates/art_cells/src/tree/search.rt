@@ -18,7 +18,8 @@ use art_slots::{CellId, Visits};
 use blart_keys::AsBytes;
 
 impl<K: AsBytes, V, const PREFIX_LEN: usize> CellTree<K, V, PREFIX_LEN> {
-    /// The pair with these bytes, and its leaf. On n bytes at most n + 1 visits, and none where the tree has no pairs.
+    /// Returns the pair with these bytes, and its leaf. On n bytes it makes at most n + 1 visits,
+    /// and none if the tree has no pairs.
     pub fn get(&self, query: &[u8], visits: &mut Visits) -> Option<(CellId, &K, &V)>
         ensures found { option_map (λ f. (f.0, (f.1.now, f.2.now))) result
             ≡ at (bytes K.bytes) self.now.pairs query.now }
@@ -37,7 +38,8 @@ impl<K: AsBytes, V, const PREFIX_LEN: usize> CellTree<K, V, PREFIX_LEN> {
         }
     }
 
-    /// The pair whose bytes begin these, and its leaf. On n bytes at most n + 1 visits, and none where the tree has no pairs.
+    /// Returns the pair whose bytes are a prefix of these, and its leaf. On n bytes it makes at
+    /// most n + 1 visits, and none if the tree has no pairs.
     pub fn get_front(&self, query: &[u8], visits: &mut Visits) -> Option<(CellId, &K, &V)>
         ensures found { option_map (λ f. (f.0, (f.1.now, f.2.now))) result
             ≡ front_of (bytes K.bytes) self.now.pairs query.now }
@@ -56,7 +58,8 @@ impl<K: AsBytes, V, const PREFIX_LEN: usize> CellTree<K, V, PREFIX_LEN> {
         }
     }
 
-    /// The leaf with these bytes. On n bytes at most n + 1 visits, and none where the tree has no pairs.
+    /// Returns the leaf with these bytes. On n bytes it makes at most n + 1 visits, and none if the
+    /// tree has no pairs.
     pub fn search(&self, query: &[u8], visits: &mut Visits) -> Option<CellId>
         ensures found { result
             ≡ option_map (λ p. p.0) (at (bytes K.bytes) self.now.pairs query.now) }
@@ -70,7 +73,8 @@ impl<K: AsBytes, V, const PREFIX_LEN: usize> CellTree<K, V, PREFIX_LEN> {
         }
     }
 
-    /// The leaf whose bytes begin these. On n bytes at most n + 1 visits, and none where the tree has no pairs.
+    /// Returns the leaf whose bytes are a prefix of these. On n bytes it makes at most n + 1
+    /// visits, and none if the tree has no pairs.
     pub fn search_front(&self, query: &[u8], visits: &mut Visits) -> Option<CellId>
         ensures found { result
             ≡ option_map (λ p. p.0) (front_of (bytes K.bytes) self.now.pairs query.now) }
@@ -85,7 +89,7 @@ impl<K: AsBytes, V, const PREFIX_LEN: usize> CellTree<K, V, PREFIX_LEN> {
     }
 }
 
-/// The one pair whose key may begin these bytes, and where its leaf is.
+/// Returns the one pair whose key may be a prefix of these bytes, and the edges to its leaf.
 pub(crate) fn pair_toward<'a, K: AsBytes, V, const P: usize>(
     leaves: &'a Leaves<K, V>,
     nodes: &Nodes<P>,
@@ -109,7 +113,8 @@ pub(crate) fn pair_toward<'a, K: AsBytes, V, const P: usize>(
     Some((spot, key, value))
 }
 
-// The one leaf whose key may begin the query, and the edges to it. None where no key does.
+/// Returns the one leaf whose key may be a prefix of the query, and the edges to it, or `None` if
+/// no key is one.
 fn leaf_toward<const P: usize>(
     nodes: &Nodes<P>,
     root: &Child,

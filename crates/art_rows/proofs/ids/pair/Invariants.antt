@@ -1,4 +1,4 @@
-use Rattle.std.proofs.Common.{◌≡◌, ◌≤◌, length, take}
+use Rattle.std.proofs.Common.{◌≡◌, length, take}
 use Rattle.art_rows.specs.Ids.{ArePaired}
 use Rattle.art_rows.proofs.ids.pair.Given as goal
 

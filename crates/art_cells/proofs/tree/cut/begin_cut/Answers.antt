@@ -1,4 +1,4 @@
-use Rattle.std.proofs.Common.{◌≡◌, ◌<◌, ℕ, length, Some, subst, arith}
+use Rattle.std.proofs.Common.{◌<◌, ℕ, length, Some, subst, arith}
 use Rattle.art_rows.proofs.CallerLemmas.{crowded_near}
 use Rattle.art_kinds.specs.Nodes.{at}
 use Rattle.art_kinds.proofs.CallerLemmas.{room-same}

@@ -1,4 +1,4 @@
-use Rattle.std.proofs.Common.{◌≡◌, ◌<◌, ◌+◌, ◌∙◌, ℕ, length, ap, arith}
+use Rattle.std.proofs.Common.{◌<◌, ◌+◌, ◌∙◌, length, ap, arith}
 use Rattle.art_kinds.proofs.CallerLemmas.{room-same}
 use Rattle.art_cells.specs.Leaves.{keys_in}
 use Rattle.art_cells.proofs.UnderIds.{named_below}

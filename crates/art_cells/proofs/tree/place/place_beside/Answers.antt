@@ -1,7 +1,6 @@
-use Rattle.std.proofs.Common.{◌≡◌, ◌<◌, ◌≤◌, ◌+◌, ℕ, length, refl, ap, subst, arith, lit<, Option, None, Some}
+use Rattle.std.proofs.Common.{◌<◌, ℕ, length, refl, ap, subst, arith, lit<, Option, Some}
 use Rattle.art_cells.specs.UnderIds.{AreNamed, under_ids}
 use Rattle.art_cells.proofs.UnderIds.{named_below}
-use Rattle.art_kinds.specs.Nodes.{at, room}
 use Rattle.art_rows.specs.Blocks.{IsCrowded}
 use Rattle.art_cells.specs.Leaves.{keys_in}
 use Rattle.art_cells.specs.Places.{LastBefore, IsLeafBefore}

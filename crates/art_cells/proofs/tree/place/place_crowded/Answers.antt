@@ -1,4 +1,4 @@
-use Rattle.std.proofs.Common.{◌≡◌, ◌<◌, ◌≤◌, ◌+◌, ◌∙◌, ℕ, length, refl, sym, ap, arith, lit<, Some, inr}
+use Rattle.std.proofs.Common.{◌≡◌, ◌<◌, ◌≤◌, ◌+◌, ◌∙◌, length, refl, ap, arith, lit<, Some, inr}
 use Rattle.art_rows.specs.Rows.{lengths}
 use Rattle.art_rows.specs.RowRoom.{turns}
 use Rattle.art_rows.specs.Blocks.{HasPlace}

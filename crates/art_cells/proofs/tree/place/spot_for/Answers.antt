@@ -1,4 +1,4 @@
-use Rattle.std.proofs.Common.{lit<, subst, Option, Some}
+use Rattle.std.proofs.Common.{lit<, subst, Option}
 use Rattle.std.specs.Prelude.{IfSome}
 use Rattle.art_kinds.specs.Nodes.{at}
 use Rattle.art_cells.specs.Calls.Placing.{IsShown}
