@@ -58,6 +58,8 @@ pub struct Cursor {
     /// Guesses of their positions. If they are right, a step searches no row.
     first_at: Position,
     last_at: Position,
+    /// A guess of the position of the leaf that was passed last.
+    passed_at: Position,
 }
 
 impl Cursor {
@@ -69,6 +71,7 @@ impl Cursor {
             ends: None,
             first_at: Position::unknown(),
             last_at: Position::unknown(),
+            passed_at: Position::unknown(),
         }
     }
 
@@ -81,6 +84,7 @@ impl Cursor {
             ends: Some((first, last)),
             first_at: Position::unknown(),
             last_at: Position::unknown(),
+            passed_at: Position::unknown(),
         }
     }
 
@@ -89,6 +93,13 @@ impl Cursor {
         ensures { result ≡ self.now.ends }
     {
         self.ends
+    }
+
+    /// Returns a guess of the position of the leaf that was passed last. A call that is given a
+    /// guess tests it, so no result depends on it.
+    #[inline(always)]
+    pub fn passed_at(&self) -> Position {
+        self.passed_at
     }
 
     /// Returns a cursor over all leaves of the tree.
@@ -106,8 +117,7 @@ impl Cursor {
         Cursor::between(first, last)
     }
 
-    /// Passes the first leaf that is left, and returns its id. If a leaf is left then, it makes one
-    /// visit, of the new first leaf.
+    /// Passes the first leaf that is left, and returns its id. Reads no leaf.
     #[inline(always)]
     pub fn step<K: AsBytes, V, const PREFIX_LEN: usize>(
         &mut self,
@@ -121,13 +131,13 @@ impl Cursor {
     {
         tree.law();
         let (first, last) = self.ends?;
+        self.passed_at = self.first_at;
         let ends = without_first(tree, first, last, &mut self.first_at);
         self.ends = ends;
         Some(first)
     }
 
-    /// Passes the last leaf that is left, and returns its id. If a leaf is left then, it makes one
-    /// visit, of the new last leaf.
+    /// Passes the last leaf that is left, and returns its id. Reads no leaf.
     #[inline(always)]
     pub fn step_back<K: AsBytes, V, const PREFIX_LEN: usize>(
         &mut self,
@@ -141,6 +151,7 @@ impl Cursor {
     {
         tree.law();
         let (first, last) = self.ends?;
+        self.passed_at = self.last_at;
         let ends = without_last(tree, first, last, &mut self.last_at);
         self.ends = ends;
         Some(last)

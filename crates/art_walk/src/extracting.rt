@@ -30,7 +30,7 @@ pub fn extract_first<
 {
     tree.law();
     'pairs: while let Some(id) = cursor.step(tree) {
-        let (key, value) = tree.leaf_mut(id);
+        let (key, value) = tree.leaf_mut_near(id, cursor.passed_at());
         if pred(key, value) {
             return Some(tree.remove(id));
         }
@@ -59,7 +59,7 @@ pub fn extract_last<
 {
     tree.law();
     'pairs: while let Some(id) = cursor.step_back(tree) {
-        let (key, value) = tree.leaf_mut(id);
+        let (key, value) = tree.leaf_mut_near(id, cursor.passed_at());
         if pred(key, value) {
             return Some(tree.remove(id));
         }
