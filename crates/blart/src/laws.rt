@@ -8,7 +8,7 @@ ghost use Rattle.blart.specs.Command.{key_of, number_of};
 pub fn key_text_law(key: &[u8])
     ensures { key_of (key_text key.now) ≡ Some key.now }
 {
-    let _key = key;
+    let _bytes = &key[..];
 }
 
 /// Does nothing. Its contract is a law of the program's texts: a number that is written is read as the
