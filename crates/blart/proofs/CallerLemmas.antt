@@ -6,3 +6,7 @@ pub use Rattle.blart_set.proofs.Laws.{union_left, union_right, union_count, unio
 pub use Rattle.blart_set.proofs.Filtered.{filter_from_asked}
 -- a closure that may be called at each element: one that may always be called, or wherever what holds for all elements does
 pub use Rattle.blart_set.proofs.Callable.{callable_on_each_element, callable_on_such_elements}
+-- a prefix is no longer than what it begins, as `&path[mount.len()..]` requires
+pub use Rattle.blart_keys.specs.KeyLaws.{begins_length}
+-- a value that a walk lent, and that was written through `pair` then
+pub use Rattle.blart_map.proofs.CallerLemmas.{pair_written, pair_written_back}

@@ -6,6 +6,7 @@
 
 mod command;
 mod error;
+mod laws;
 mod output;
 mod pieces;
 mod program;
@@ -22,6 +23,7 @@ pub use blart_map::{InsertPrefixError, TreeMap, TryInsertError};
 pub use blart_set as set;
 pub use blart_set::TreeSet;
 pub use error::{RunError, fault_line};
+pub use laws::{key_text_law, number_text_law};
 pub use program::run;
 pub use watched::Watched;
 

@@ -24,3 +24,5 @@ pub use Rattle.blart_map.proofs.Written.CallableInTurn.{callable_on_each_value, 
 pub use Rattle.blart_map.proofs.Taken.OnceExtracted.{extracted, one_out}
 -- the values that a closure leaves which shows a state
 pub use Rattle.blart_map.proofs.Written.WrittenInTurn.{valued_by, valued_by_each, valued_where, valued_where_each}
+-- a value that a walk lent, and that was written through `pair` then
+pub use Rattle.blart_map.proofs.Written.PairWritten.{pair_written, pair_written_back}

@@ -1,5 +1,6 @@
 pub mod CallerLemmas
 pub mod Passed
+pub mod Popped
 pub mod Related
 pub mod Taken
 pub mod Written

@@ -4,5 +4,6 @@ pub mod CountedPairs
 pub mod EachWritten
 pub mod LentPairs
 pub mod OnceWritten
+pub mod PairWritten
 pub mod WrittenInTurn
 pub mod WrittenWhere

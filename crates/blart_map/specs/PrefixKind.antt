@@ -72,6 +72,12 @@ module _ {K V T : Type 0} {P : ℕ} {g : Ghosts K} where
   IsKindKeptOrSet (Inner e) w o = IsOverEntry e w o
   IsKindKeptOrSet (Vacant e) w o = IsSetEntry (entry.Vacant e) w o
 
+  -- o is the entry of the stored pair, or that of the key once a value of this kind was set there
+  abbrev pub IsKindKeptOrMade : PrefixKind K V P T g → (V → Type 0) → OccupiedEntry K V P T g → Type 0
+  IsKindKeptOrMade (Leaf p) Made o = o ≡ p
+  IsKindKeptOrMade (Inner e) Made o = (w : V) × Made w × IsOverEntry e w o
+  IsKindKeptOrMade (Vacant e) Made o = (w : V) × Made w × IsSetEntry (entry.Vacant e) w o
+
   -- k is the entry e
   pub record IsKindOf (e : PrefixEntry K V P T g) (k : PrefixKind K V P T g) : Type 0 where
     pub same_map : (kind_ref k).ghost_name ≡ (prefix_ref e).ghost_name

@@ -83,11 +83,14 @@ impl<K: AsBytes + Drop, V: Drop, const PREFIX_LEN: usize> TreeMap<K, V, PREFIX_L
         self.tree.remove_prefix(prefix)
     }
 
-    /// Removes the pair whose key's bytes are least, and gives it. Takes no memory.
+    /// Removes the pair whose key's bytes are least, and returns it. It does not allocate.
     #[tactic(auto, unfolding(crate::specs::Content::pairs))]
     pub fn pop_first(&mut self) -> Option<(K, V)>
         ensures taken { IfSome result
             (λ pair. TakesPair K.bytes (pairs self.old) pair (pairs self.new)) }
+        ensures routes { IfSome result
+            (λ pair. (r : List ℕ) → pair_at_front K.bytes (pairs self.new) r
+            ≡ (if begins (K.bytes pair.0) r then None else pair_at_front K.bytes (pairs self.old) r)) }
         ensures len { length (pairs self.new) + (if is_some result then 1 else 0)
             ≡ length (pairs self.old) }
         ensures first { TakesFirst (pairs self.old) result (pairs self.new) }
@@ -97,11 +100,14 @@ impl<K: AsBytes + Drop, V: Drop, const PREFIX_LEN: usize> TreeMap<K, V, PREFIX_L
         Some(self.tree.remove(id))
     }
 
-    /// Removes the pair whose key's bytes are greatest, and gives it. Takes no memory.
+    /// Removes the pair whose key's bytes are greatest, and returns it. It does not allocate.
     #[tactic(auto, unfolding(crate::specs::Content::pairs))]
     pub fn pop_last(&mut self) -> Option<(K, V)>
         ensures taken { IfSome result
             (λ pair. TakesPair K.bytes (pairs self.old) pair (pairs self.new)) }
+        ensures routes { IfSome result
+            (λ pair. (r : List ℕ) → pair_at_front K.bytes (pairs self.new) r
+            ≡ (if begins (K.bytes pair.0) r then None else pair_at_front K.bytes (pairs self.old) r)) }
         ensures len { length (pairs self.new) + (if is_some result then 1 else 0)
             ≡ length (pairs self.old) }
         ensures last { TakesLast (pairs self.old) result (pairs self.new) }

@@ -157,17 +157,22 @@ impl<K: AsBytes + Drop, V, const PREFIX_LEN: usize> TreeMap<K, V, PREFIX_LEN> {
         }
     }
 
-    /// The entry of the key, which takes in the pairs to which it is related where it conflicts with some. Takes no memory.
+    /// Returns the entry of the key. If the key conflicts, its entry takes the place of all pairs to
+    /// which it is related. It does not allocate.
     ///
-    /// Where the key's bytes are stored the key handed in is dropped, and the stored key stays.
+    /// Call [`PrefixEntry::kind`] on it, as here: only the calls of [`PrefixKind`](crate::PrefixKind)
+    /// have all clauses, since the borrow checker of the language carries no clause about the map
+    /// through an enum in an enum.
+    ///
+    /// If the key's bytes are stored, the key that was handed in is dropped, and the stored key stays.
     ///
     /// ```
     /// map.try_insert("car", 1)?;
     /// map.try_insert("cat", 2)?;
-    /// match map.prefix_entry("ca") {
-    ///     PrefixEntry::Occupied(PrefixOccupied::Leaf(entry)) => *entry.into_mut() += 1,
-    ///     PrefixEntry::Occupied(PrefixOccupied::Inner(entry)) => *entry.insert(0) += 1,
-    ///     PrefixEntry::Vacant(entry) => *entry.insert(0)? += 1,
+    /// match map.prefix_entry("ca").kind() {
+    ///     PrefixKind::Leaf(entry) => *entry.into_mut() += 1,
+    ///     PrefixKind::Inner(entry) => *entry.insert(0) += 1,
+    ///     PrefixKind::Vacant(entry) => *entry.insert(0)? += 1,
     /// }
     /// assert_eq!(map.first_key_value(), Some((&"ca", &1)));
     /// ```

@@ -159,7 +159,7 @@ impl<'a, K: AsBytes + Drop, V, const PREFIX_LEN: usize> InnerOccupiedEntry<
     /// A walk that lends the values of the related pairs, with their keys, ascending by the keys' bytes, from both ends. Takes no memory; each step reads one pair.
     ///
     /// ```
-    /// if let PrefixEntry::Occupied(PrefixOccupied::Inner(entry)) = map.prefix_entry("ca") {
+    /// if let PrefixKind::Inner(entry) = map.prefix_entry("ca").kind() {
     ///     let mut walk = entry.iter_mut();
     ///     while let Some(value) = walk.next() {
     ///         *value += 1;

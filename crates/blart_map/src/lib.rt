@@ -15,6 +15,7 @@ mod get_or_insert;
 mod inner;
 mod insertions;
 mod into_walks;
+mod laws;
 mod map;
 mod occupied;
 mod over;

@@ -13,14 +13,22 @@ use crate::vacant::VacantEntry;
 use blart_keys::AsBytes;
 use std::alloc::AllocError;
 
-/// A key's place in a map: at its pair, in the place of the pairs with which it conflicts, or where none stands yet.
+/// The place of a key in a map: the pair with its bytes, the pairs with which it conflicts, or a new
+/// place.
 ///
-/// A growing call is refused memory on `Vacant` alone. A closure or a default is called on `Vacant` and `Inner` alone, once there is room. On `Inner` such a call removes all pairs to which the key is related, and places the key. What the map becomes by a call that lends a value, or where a call is refused, is said of the same call of the entry's kind: `.kind().or_insert(..)` of `or_insert`, and so on.
+/// Call [`PrefixEntry::kind`] first, as the example does: only the calls of [`PrefixKind`] have all
+/// clauses, since the borrow checker of the language carries no clause about the map through an enum
+/// in an enum. The growing calls of this type do the same, but their contracts do not say what the
+/// map is after a write or an error.
+///
+/// A growing call fails to allocate on `Vacant` alone. A closure or a default is called on `Vacant`
+/// and `Inner` alone, once there is room. On `Inner` such a call removes all pairs to which the key
+/// is related, and places the key.
 ///
 /// ```
 /// map.try_insert("car", 1)?;
 /// map.try_insert("cat", 2)?;
-/// *map.prefix_entry("ca").or_insert(0)? = 1;
+/// *map.prefix_entry("ca").kind().or_insert(0)? = 1;
 /// assert_eq!(map.len(), 1);
 /// assert_eq!(map.get(&"ca"), Some(&1));
 /// ```
@@ -35,7 +43,7 @@ pub enum PrefixEntry<'a, K: AsBytes, V, const PREFIX_LEN: usize, T: 'a> {
 impl<'a, K: AsBytes, V, const PREFIX_LEN: usize, T: 'a> PrefixEntry<'a, K, V, PREFIX_LEN, T> {
     ghost use Rattle.blart_map.specs.PrefixEntry.{prefix_key, prefix_found};
 
-    /// The stored key on `Leaf`, and else the one that was handed in.
+    /// Returns the stored key on `Leaf`, and otherwise the key that was handed in.
     pub fn key(&self) -> &K
         ensures { prefix_key self.now ≡ Some result.now }
     {
@@ -45,7 +53,8 @@ impl<'a, K: AsBytes, V, const PREFIX_LEN: usize, T: 'a> PrefixEntry<'a, K, V, PR
         }
     }
 
-    /// The stored key on `Leaf`, on `Inner` that of the only related pair, `None` where there are more, and on `Vacant` the one that was handed in.
+    /// Returns the stored key on `Leaf`, the key of the only related pair on `Inner`, or `None` if
+    /// there are more, and the key that was handed in on `Vacant`.
     pub fn get_key(&self) -> Option<&K>
         ensures { option_copied result ≡ prefix_found self.now }
     {
@@ -65,7 +74,7 @@ impl<'a, K: AsBytes, V, const PREFIX_LEN: usize> PrefixEntry<
 > {
     ghost use Rattle.blart_map.specs.PrefixKind.{IsKindOf};
 
-    /// The entry as one of three kinds, of whose calls it is said what the map becomes.
+    /// Returns the entry as one of three kinds, whose calls say what the map becomes.
     ///
     /// ```
     /// match map.prefix_entry("ca").kind() {
@@ -94,7 +103,8 @@ impl<'a, K: AsBytes + Drop, V: Drop, const PREFIX_LEN: usize> PrefixEntry<
 > {
     ghost use Rattle.blart_map.specs.PrefixEntry.{prefix_kind, prefix_key, prefix_value, IsPrefixSet, IsPrefixKeptOrSet, IsPrefixKeptOrMade};
 
-    /// Sets the value, on `Inner` over all pairs to which the key is related, and answers the entry of the key's pair. That a refused call leaves the map as it was is said of `.kind().insert_entry(..)`: see [`PrefixKind::insert_entry`].
+    /// Sets the value, on `Inner` in place of all pairs to which the key is related, and returns the
+    /// entry of the key's pair. See [`PrefixKind::insert_entry`], which has all clauses.
     pub fn insert_entry(
         self,
         value: V,
@@ -108,7 +118,9 @@ impl<'a, K: AsBytes + Drop, V: Drop, const PREFIX_LEN: usize> PrefixEntry<
         }
     }
 
-    /// The entry of the key's pair, after placing the default where none is stored, over all pairs to which the key is related. That a refused call leaves the map as it was is said of `.kind().or_insert_entry(..)`: see [`PrefixKind::or_insert_entry`].
+    /// Returns the entry of the key's pair. If no value is stored, it first places the default, in
+    /// place of all pairs to which the key is related. See [`PrefixKind::or_insert_entry`], which has
+    /// all clauses.
     pub fn or_insert_entry(
         self,
         default: V,
@@ -123,7 +135,8 @@ impl<'a, K: AsBytes + Drop, V: Drop, const PREFIX_LEN: usize> PrefixEntry<
         }
     }
 
-    /// The entry of the key's pair, after placing the closure's answer where none is stored, over all pairs to which the key is related.
+    /// Returns the entry of the key's pair, like [`PrefixEntry::or_insert_entry`], with the value
+    /// that the closure returns. See [`PrefixKind::or_insert_with_entry`], which has all clauses.
     pub fn or_insert_with_entry<F: FnOnce() -> V + Drop>(
         self,
         default: F,
@@ -141,7 +154,9 @@ impl<'a, K: AsBytes + Drop, V: Drop, const PREFIX_LEN: usize> PrefixEntry<
         }
     }
 
-    /// The same with the answer of a closure that is given the key handed in.
+    /// Returns the entry of the key's pair, like [`PrefixEntry::or_insert_with_entry`]. The closure
+    /// takes the key that was handed in. See [`PrefixKind::or_insert_with_key_entry`], which has all
+    /// clauses.
     pub fn or_insert_with_key_entry<F: FnOnce(&K) -> V + Drop>(
         self,
         default: F,
@@ -162,7 +177,8 @@ impl<'a, K: AsBytes + Drop, V: Drop, const PREFIX_LEN: usize> PrefixEntry<
         }
     }
 
-    /// The entry of the key's pair, after placing the type's default where none is stored, over all pairs to which the key is related.
+    /// Returns the entry of the key's pair, like [`PrefixEntry::or_insert_with_entry`], with the
+    /// type's default. See [`PrefixKind::or_default_entry`], which has all clauses.
     pub fn or_default_entry(
         self,
     ) -> Result<OccupiedEntry<'a, K, V, PREFIX_LEN, TreeMap<K, V, PREFIX_LEN>>, AllocError>
@@ -174,7 +190,8 @@ impl<'a, K: AsBytes + Drop, V: Drop, const PREFIX_LEN: usize> PrefixEntry<
         self.or_insert_with_entry(|| V::default())
     }
 
-    /// As [`PrefixEntry::or_insert_entry`], and lends the value to be written. What the map becomes is said of `.kind().or_insert(..)`: see [`PrefixKind::or_insert`].
+    /// Returns a mutable reference to the value, which it places like
+    /// [`PrefixEntry::or_insert_entry`]. See [`PrefixKind::or_insert`], which has all clauses.
     pub fn or_insert(self, default: V) -> Result<&'a mut V, AllocError>
         ensures value { IfOk result
             (λ r. r.now ≡ unwrap_or (prefix_value self.entry) default) }
@@ -186,7 +203,9 @@ impl<'a, K: AsBytes + Drop, V: Drop, const PREFIX_LEN: usize> PrefixEntry<
         }
     }
 
-    /// As [`PrefixEntry::or_insert_with_entry`], and lends the value to be written. What the map becomes is said of `.kind().or_insert_with(..)`: see [`PrefixKind::or_insert_with`].
+    /// Returns a mutable reference to the value, which it places like
+    /// [`PrefixEntry::or_insert_with_entry`]. See [`PrefixKind::or_insert_with`], which has all
+    /// clauses.
     pub fn or_insert_with<F: FnOnce() -> V + Drop>(
         self,
         default: F,
@@ -202,7 +221,9 @@ impl<'a, K: AsBytes + Drop, V: Drop, const PREFIX_LEN: usize> PrefixEntry<
         }
     }
 
-    /// As [`PrefixEntry::or_insert_with_key_entry`], and lends the value to be written. What the map becomes is said of `.kind().or_insert_with_key(..)`: see [`PrefixKind::or_insert_with_key`].
+    /// Returns a mutable reference to the value, which it places like
+    /// [`PrefixEntry::or_insert_with_key_entry`]. See [`PrefixKind::or_insert_with_key`], which has
+    /// all clauses.
     pub fn or_insert_with_key<F: FnOnce(&K) -> V + Drop>(
         self,
         default: F,
@@ -219,7 +240,8 @@ impl<'a, K: AsBytes + Drop, V: Drop, const PREFIX_LEN: usize> PrefixEntry<
         }
     }
 
-    /// As [`PrefixEntry::or_default_entry`], and lends the value to be written. What the map becomes is said of `.kind().or_default()`: see [`PrefixKind::or_default`].
+    /// Returns a mutable reference to the value, which it places like
+    /// [`PrefixEntry::or_default_entry`]. See [`PrefixKind::or_default`], which has all clauses.
     pub fn or_default(self) -> Result<&'a mut V, AllocError>
     where
         V: Default,

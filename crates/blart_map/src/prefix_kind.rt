@@ -13,7 +13,11 @@ use crate::vacant::VacantEntry;
 use blart_keys::AsBytes;
 use std::alloc::AllocError;
 
-/// The three kinds of a prefix entry, for one `match`: its arms teach a caller's proof what the map becomes, which a pattern in a pattern does not. Its calls do what the calls of [`PrefixEntry`](crate::PrefixEntry) with the same names do, and say what the map becomes.
+/// The three kinds of a prefix entry, in one enum. From each arm of a `match` a caller's proof learns
+/// what the map becomes, which a pattern in a pattern does not tell.
+///
+/// It has each growing call of [`PrefixEntry`](crate::PrefixEntry) under the same name. The contracts
+/// here also say what the map becomes, and that an error leaves it unchanged.
 ///
 /// ```
 /// match map.prefix_entry("cat").kind() {
@@ -40,12 +44,16 @@ impl<'a, K: AsBytes + Drop, V: Drop, const PREFIX_LEN: usize> PrefixKind<
     PREFIX_LEN,
     TreeMap<K, V, PREFIX_LEN>,
 > {
-    ghost use Rattle.blart_map.specs.PrefixKind.{kind_value, kind_key, kind_kind, IsKindSetEntry, IsKindKeptOrSet};
+    ghost use Rattle.blart_map.specs.PrefixKind.{kind_value, kind_key, kind_kind, IsKindSetEntry, IsKindKeptOrSet, IsKindKeptOrMade};
     ghost use Rattle.blart_map.specs.PrefixLends.{kind_lends_ok, kind_rests};
 
-    /// Sets the value, on `Inner` in the place of all pairs to which the key is related, and answers the entry of the key's pair.
+    /// Sets the value, on `Inner` in place of all pairs to which the key is related, and returns the
+    /// entry of the key's pair.
     ///
-    /// Refused memory on `Vacant` alone, and then the map is as it was. On `Leaf` nothing is searched; on `Inner` there is a removal for each related pair but one; on `Vacant` there is one way down, sometimes two.
+    /// Fails to allocate on `Vacant` alone, and then the map is unchanged.
+    ///
+    /// Cost: on `Leaf` it searches nothing. On `Inner` it removes each related pair but one. On
+    /// `Vacant` it makes one descent, sometimes two.
     pub fn insert_entry(
         self,
         value: V,
@@ -62,9 +70,10 @@ impl<'a, K: AsBytes + Drop, V: Drop, const PREFIX_LEN: usize> PrefixKind<
         }
     }
 
-    /// The entry of the key's pair, after placing the default where none is stored, on `Inner` in the place of all pairs to which the key is related.
+    /// Returns the entry of the key's pair. If no value is stored, it first places the default, on
+    /// `Inner` in place of all pairs to which the key is related.
     ///
-    /// Refusals and cost are those of [`PrefixKind::insert_entry`].
+    /// Errors and cost are those of [`PrefixKind::insert_entry`].
     pub fn or_insert_entry(
         self,
         default: V,
@@ -81,9 +90,79 @@ impl<'a, K: AsBytes + Drop, V: Drop, const PREFIX_LEN: usize> PrefixKind<
         }
     }
 
-    /// The value, to be written, after placing the default where none is stored, on `Inner` in the place of all pairs to which the key is related.
+    /// Returns the entry of the key's pair, like [`PrefixKind::or_insert_entry`], with the value
+    /// that the closure returns. The closure is called if no value is stored, once there is room.
     ///
-    /// Once the borrow ends, the key has the last value written. Refusals and cost are those of [`PrefixKind::insert_entry`].
+    /// Errors and cost are those of [`PrefixKind::insert_entry`].
+    ///
+    /// ```
+    /// map.try_insert("car", 1)?;
+    /// map.try_insert("cat", 2)?;
+    /// let entry = map.prefix_entry("ca").kind().or_insert_with_entry(|| 3)?;
+    /// assert_eq!(entry.remove_entry(), ("ca", 3));
+    /// assert!(map.is_empty());
+    /// ```
+    pub fn or_insert_with_entry<F: FnOnce() -> V + Drop>(
+        self,
+        default: F,
+    ) -> Result<OccupiedEntry<'a, K, V, PREFIX_LEN, TreeMap<K, V, PREFIX_LEN>>, AllocError>
+        requires { kind_value self ≡ None → F.pre default }
+        ensures* stands { sem 𝓛
+            (kind_rests K.row V.row PREFIX_LEN.row K.AsBytes self.entry result) }
+        ensures set { IfOk result (IsKindKeptOrMade self.entry (F.post default)) }
+        ensures vacant { OnErr result (kind_kind self.entry ≡ Kind.Vacant) }
+    {
+        match self {
+            PrefixKind::Leaf(entry) => entry.kept(),
+            PrefixKind::Inner(entry) => entry.over(default()),
+            PrefixKind::Vacant(entry) => entry.insert_entry_with(default),
+        }
+    }
+
+    /// Returns the entry of the key's pair, like [`PrefixKind::or_insert_with_entry`]. The closure
+    /// takes the key that was handed in.
+    pub fn or_insert_with_key_entry<F: FnOnce(&K) -> V + Drop>(
+        self,
+        default: F,
+    ) -> Result<OccupiedEntry<'a, K, V, PREFIX_LEN, TreeMap<K, V, PREFIX_LEN>>, AllocError>
+        requires { kind_value self ≡ None
+            → (p : Bor K) → kind_key self ≡ Some p.now → F.pre default p }
+        ensures* stands { sem 𝓛
+            (kind_rests K.row V.row PREFIX_LEN.row K.AsBytes self.entry result) }
+        ensures set { IfOk result (IsKindKeptOrMade self.entry
+            (λ v. IfSome (kind_key self.entry) (λ k. FnOnceReturnsAt F.FnOnce default k v))) }
+        ensures vacant { OnErr result (kind_kind self.entry ≡ Kind.Vacant) }
+    {
+        match self {
+            PrefixKind::Leaf(entry) => entry.kept(),
+            PrefixKind::Inner(entry) => {
+                let made = default(entry.key());
+                entry.over(made)
+            }
+            PrefixKind::Vacant(entry) => entry.insert_entry_with_key(default),
+        }
+    }
+
+    /// Returns the entry of the key's pair, like [`PrefixKind::or_insert_with_entry`], with the
+    /// type's default, which is made if no value is stored, once there is room.
+    pub fn or_default_entry(
+        self,
+    ) -> Result<OccupiedEntry<'a, K, V, PREFIX_LEN, TreeMap<K, V, PREFIX_LEN>>, AllocError>
+    where
+        V: Default,
+        ensures* stands { sem 𝓛
+            (kind_rests K.row V.row PREFIX_LEN.row K.AsBytes self.entry result) }
+        ensures set { IfOk result (IsKindKeptOrMade self.entry V.is_default) }
+        ensures vacant { OnErr result (kind_kind self.entry ≡ Kind.Vacant) }
+    {
+        self.or_insert_with_entry(|| V::default())
+    }
+
+    /// Returns a mutable reference to the value. If no value is stored, it first places the default,
+    /// on `Inner` in place of all pairs to which the key is related.
+    ///
+    /// Once the borrow ends, the key has the last value written. Errors and cost are those of
+    /// [`PrefixKind::insert_entry`].
     ///
     /// ```
     /// map.try_insert("car", 1)?;
@@ -105,7 +184,8 @@ impl<'a, K: AsBytes + Drop, V: Drop, const PREFIX_LEN: usize> PrefixKind<
         }
     }
 
-    /// As [`PrefixKind::or_insert`], with the closure's answer. The closure is called where no value is stored, once there is room.
+    /// Returns a mutable reference like [`PrefixKind::or_insert`], with the value that the closure
+    /// returns. The closure is called if no value is stored, once there is room.
     pub fn or_insert_with<F: FnOnce() -> V + Drop>(
         self,
         default: F,
@@ -124,7 +204,8 @@ impl<'a, K: AsBytes + Drop, V: Drop, const PREFIX_LEN: usize> PrefixKind<
         }
     }
 
-    /// As [`PrefixKind::or_insert_with`], with the answer of a closure that is given the key handed in.
+    /// Returns a mutable reference like [`PrefixKind::or_insert_with`]. The closure takes the key that
+    /// was handed in.
     pub fn or_insert_with_key<F: FnOnce(&K) -> V + Drop>(
         self,
         default: F,
@@ -147,7 +228,8 @@ impl<'a, K: AsBytes + Drop, V: Drop, const PREFIX_LEN: usize> PrefixKind<
         }
     }
 
-    /// As [`PrefixKind::or_insert`], with the type's default, which is made where no value is stored, once there is room.
+    /// Returns a mutable reference like [`PrefixKind::or_insert`], with the type's default, which is
+    /// made if no value is stored, once there is room.
     pub fn or_default(self) -> Result<&'a mut V, AllocError>
     where
         V: Default,

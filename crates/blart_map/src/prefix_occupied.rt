@@ -8,7 +8,10 @@ use crate::map::TreeMap;
 use crate::occupied::OccupiedEntry;
 use blart_keys::AsBytes;
 
-/// A key whose bytes are stored in a map, or that conflicts there. None of its calls takes memory.
+/// A key whose bytes are stored in a map, or that conflicts there. None of its calls allocates.
+///
+/// To write to the map, call [`PrefixEntry::kind`](crate::PrefixEntry::kind) in place of matching a
+/// prefix entry: only the calls of a kind have all clauses.
 ///
 /// ```
 /// // map is {"car": 1}
@@ -29,7 +32,7 @@ pub enum PrefixOccupied<'a, K: AsBytes, V, const PREFIX_LEN: usize, T: 'a> {
 impl<'a, K: AsBytes, V, const PREFIX_LEN: usize, T: 'a> PrefixOccupied<'a, K, V, PREFIX_LEN, T> {
     ghost use Rattle.blart_map.specs.PrefixEntry.{occupied_pair, occupied_key};
 
-    /// The stored key on `Leaf`, and on `Inner` the one that was handed in.
+    /// Returns the stored key on `Leaf`, and the key that was handed in on `Inner`.
     pub fn key(&self) -> &K
         ensures { occupied_key self.now ≡ Some result.now }
     {
@@ -39,7 +42,7 @@ impl<'a, K: AsBytes, V, const PREFIX_LEN: usize, T: 'a> PrefixOccupied<'a, K, V,
         }
     }
 
-    /// The value, on `Inner` that of the only related pair; `None` where there are more.
+    /// Returns the value, on `Inner` that of the only related pair, or `None` if there are more.
     pub fn get(&self) -> Option<&V>
         ensures { option_copied result ≡ option_map (λ pair. pair.1) (occupied_pair self.now) }
     {
@@ -49,7 +52,7 @@ impl<'a, K: AsBytes, V, const PREFIX_LEN: usize, T: 'a> PrefixOccupied<'a, K, V,
         }
     }
 
-    /// The stored key, on `Inner` that of the only related pair; `None` where there are more.
+    /// Returns the stored key, on `Inner` that of the only related pair, or `None` if there are more.
     pub fn get_key(&self) -> Option<&K>
         ensures { option_copied result ≡ option_map (λ pair. pair.0) (occupied_pair self.now) }
     {
@@ -59,7 +62,12 @@ impl<'a, K: AsBytes, V, const PREFIX_LEN: usize, T: 'a> PrefixOccupied<'a, K, V,
         }
     }
 
-    /// The value, on `Inner` that of the only related pair, to be written; `None` where there are more. What a write changes is said of the `get_mut` of the two kinds.
+    /// Returns a mutable reference to the value, on `Inner` that of the only related pair, or `None`
+    /// if there are more.
+    ///
+    /// The contract says which value it is, and not what the entry is after the write: the borrow
+    /// checker of the language carries no such clause. Match the enum and call the `get_mut` of
+    /// [`OccupiedEntry`] or [`InnerOccupiedEntry`], which say it.
     pub fn get_mut(&mut self) -> Option<&mut V>
         ensures { option_copied_mut result
             ≡ option_map (λ pair. pair.1) (occupied_pair self.old) }
@@ -81,7 +89,8 @@ impl<'a, K: AsBytes + Drop, V: Drop, const PREFIX_LEN: usize> PrefixOccupied<
     ghost use Rattle.blart_map.specs.PrefixEntry.{IsOccupiedSet, IsOccupiedWritten, occupied_with};
     ghost use Rattle.blart_map.specs.PrefixLends.{occupied_lends};
 
-    /// Sets the value on `Leaf`, and on `Inner` removes the related pairs and places the key with it; answers the entry of the key's pair.
+    /// Sets the value on `Leaf`, and on `Inner` removes the related pairs and places the key with the
+    /// value. Returns the entry of the key's pair.
     pub fn insert_entry(
         self,
         value: V,
@@ -97,7 +106,8 @@ impl<'a, K: AsBytes + Drop, V: Drop, const PREFIX_LEN: usize> PrefixOccupied<
         }
     }
 
-    /// As [`PrefixOccupied::insert_entry`], and lends the value to be written. Once the borrow ends, the key has the last value written.
+    /// Returns a mutable reference to the value, which it sets like [`PrefixOccupied::insert_entry`].
+    /// Once the borrow ends, the key has the last value written.
     pub fn insert(self, value: V) -> &'a mut V
         ensures* writes_back { sem 𝓛
             (occupied_lends K.row V.row PREFIX_LEN.row K.AsBytes self.entry result) }

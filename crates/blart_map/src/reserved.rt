@@ -1,5 +1,5 @@
 //! Room for some pairs that is made beforehand.
-ghost use Rattle.std.specs.Prelude.{◌≡◌, ◌+◌, ◌<◌, ◌≤◌, ℕ, List, true, false, length, option_map, is_some, OnOk, IfOk, OnErr, Some, if◌then◌else◌};
+ghost use Rattle.std.specs.Prelude.{◌≡◌, ◌+◌, ◌<◌, ◌≤◌, ℕ, List, [], true, false, length, option_map, is_some, OnOk, IfOk, OnErr, Some, if◌then◌else◌};
 ghost use Rattle.std.specs.Borrow.{sem};
 ghost use Rattle.blart_keys.specs.Bytes.{begins};
 ghost use Rattle.blart_keys.specs.Content.{IsContent, IsPut};
@@ -15,7 +15,7 @@ use blart_keys::{AsBytes, InsertPrefixError, NoPrefixesBytes};
 use std::alloc::AllocError;
 use std::mem::replace;
 
-/// The pairs of a map, and room for some more: what a [`Reserved`] holds while the map is lent to it.
+/// The pairs of a map, and room for some more. A [`Reserved`] holds it while the map is lent to it.
 ///
 /// The example of [`Reserved`] shows it.
 #[derive(Drop)]
@@ -25,13 +25,17 @@ pub struct Room<K: AsBytes, V, const PREFIX_LEN: usize> {
     ghost fits: { left ≤ room tree },
 }
 
-/// A map with room for some pairs, as [`TreeMap::reserve`] makes it: insertions here take no memory, so none is refused for want of it.
+/// A map with room for some pairs, which [`TreeMap::reserve`] makes. Insertions here do not allocate,
+/// so none runs out of memory.
 ///
-/// The room counts down by one where a pair is added, and stands where a stored key gets a new value or a key conflicts.
+/// The room counts down by one if a pair is added. It is unchanged if a stored key gets a new value or
+/// a key conflicts.
 ///
-/// The pairs stand in this value, and are the map's again once it is dropped. One that is forgotten in place of being dropped leaves the map empty.
+/// This value holds the pairs, and the map is empty meanwhile. When it is dropped, the map has them
+/// again. If it is forgotten instead, the map stays empty.
 ///
-/// `M` is the map's type. `R` is that of what holds the pairs meanwhile, a [`Room`], which stands here because a proof would not learn what becomes of the map if the type named it in a field.
+/// `M` is the map's type. `R` is the type of what holds the pairs, a [`Room`]. It is a parameter since
+/// a proof would not learn what becomes of the map if the type named it in a field.
 ///
 /// ```
 /// let mut room = map.reserve(2)?;
@@ -85,7 +89,10 @@ impl<K: AsBytes + Drop, V: Drop, const PREFIX_LEN: usize> TreeMap<K, V, PREFIX_L
     ghost use Rattle.blart_map.specs.Content.{pairs};
     ghost use Rattle.blart_map.specs.Reserved.{reserved_map, held, room_leaves, room_count, room_left, rests_if_full};
 
-    /// Makes room for so many pairs, and lends the map to be filled; or is refused, and leaves the map as it was. For no pairs it takes no memory.
+    /// Makes room for `count` more pairs, and returns a guard that fills the map. The map is empty until
+    /// the guard is dropped.
+    ///
+    /// If it fails to allocate, the map is unchanged. For no pairs it does not allocate.
     ///
     /// ```
     /// let mut room = map.reserve(2)?;
@@ -103,6 +110,7 @@ impl<K: AsBytes + Drop, V: Drop, const PREFIX_LEN: usize> TreeMap<K, V, PREFIX_L
         ensures same_map { IfOk result
             (λ r. (reserved_map r).ghost_name ≡ self.entry.ghost_name) }
         ensures unchanged { IfOk result (λ r. held r ≡ pairs self.old) }
+        ensures meanwhile { IfOk result (λ r. (reserved_map r).now ≡ []) }
         ensures left { IfOk result (λ r. room_left r ≡ count) }
         ensures refused { OnErr result (0 < count) }
     {
@@ -112,9 +120,13 @@ impl<K: AsBytes + Drop, V: Drop, const PREFIX_LEN: usize> TreeMap<K, V, PREFIX_L
         }
     }
 
-    /// Makes room for so many pairs, and takes the pairs out with it; or is refused, and leaves the map as it was. The map is empty until the room is given back.
+    /// Makes room for `count` more pairs, and takes the pairs out of the map with it. The map is empty
+    /// until the room is put back.
+    ///
+    /// If it fails to allocate, the map is unchanged.
     pub fn take_room(&mut self, count: usize) -> Result<Room<K, V, PREFIX_LEN>, AllocError>
         ensures same { IfOk result (λ r. room_leaves r ≡ self.old) }
+        ensures empty { OnOk result (self.new ≡ []) }
         ensures left { IfOk result (λ r. room_count r ≡ count) }
         ensures err { OnErr result (self.new ≡ self.old) }
         ensures refused { OnErr result (0 < count) }
@@ -128,7 +140,7 @@ impl<K: AsBytes + Drop, V: Drop, const PREFIX_LEN: usize> TreeMap<K, V, PREFIX_L
 impl<K: AsBytes, V, const PREFIX_LEN: usize> Room<K, V, PREFIX_LEN> {
     ghost use Rattle.blart_map.specs.Reserved.{room_count, room_pairs};
 
-    /// Answers nothing. Its contract says what holds of the pairs of every room.
+    /// Does nothing. Its contract says what holds of the pairs of every room.
     #[tactic(auto, unfolding(crate::specs::Content::pairs))]
     pub fn law(&self)
         ensures { IsContent (bytes K.bytes) (room_pairs self.now) }
@@ -136,7 +148,7 @@ impl<K: AsBytes, V, const PREFIX_LEN: usize> Room<K, V, PREFIX_LEN> {
         self.tree.law();
     }
 
-    /// For how many pairs there is room.
+    /// Returns for how many pairs there is room.
     pub fn left(&self) -> usize
         ensures { result ≡ room_count self.now }
     {
@@ -147,42 +159,61 @@ impl<K: AsBytes, V, const PREFIX_LEN: usize> Room<K, V, PREFIX_LEN> {
 impl<K: AsBytes + Drop, V: Drop, const PREFIX_LEN: usize> Room<K, V, PREFIX_LEN> {
     ghost use Rattle.blart_map.specs.Reserved.{room_count, room_pairs};
 
-    /// Puts the pair, as [`Reserved::try_insert`] does.
+    /// Inserts the pair, like [`Reserved::try_insert`].
     #[tactic(auto, unfolding(crate::specs::Content::pairs))]
     pub fn try_insert(&mut self, key: K, value: V) -> Result<Option<V>, InsertPrefixError>
         requires { 0 < room_count self.old }
+        ensures old { IfOk result
+            (λ old. old ≡ value_at K.bytes (room_pairs self.old) (K.bytes key)) }
+        ensures updates { OnOk result (Updates K.bytes (room_pairs self.old) (room_pairs self.new)
+            (K.bytes key) (Some (kept K.bytes (room_pairs self.old) (key, value)))) }
+        ensures len { IfOk result (λ old. length (room_pairs self.new)
+            ≡ length (room_pairs self.old) + (if is_some old then 0 else 1)) }
+        ensures routes { OnOk result ((r : List ℕ) → pair_at_front K.bytes (room_pairs self.new) r
+            ≡ (if begins (K.bytes key) r
+            then Some (kept K.bytes (room_pairs self.old) (key, value))
+            else pair_at_front K.bytes (room_pairs self.old) r)) }
+        ensures err { OnErr result (room_pairs self.new ≡ room_pairs self.old) }
+        ensures free { OnOk result (overlaps K.bytes (room_pairs self.old) (K.bytes key) ≡ false) }
+        ensures why { OnErr result (overlaps K.bytes (room_pairs self.old) (K.bytes key) ≡ true) }
         ensures put { Puts K.bytes (option_map (λ pair. pair.1)) (room_pairs self.old) (key, value)
             (kept K.bytes (room_pairs self.old) (key, value)) (as_tried result)
             (room_pairs self.new) }
         ensures left { room_count self.new + added_ok result ≡ room_count self.old }
     {
-        // The count goes down first, so that at no time it tells of more room than there is.
+        self.law();
+        // The count goes down first, so that it never promises more room than there is.
         self.left -= 1;
-        let answer = put_within(&mut self.tree, key, value);
-        if !matches!(answer, Ok(None)) {
-            self.left += 1;
-        }
-        answer
+        let old = put_within(&mut self.tree, key, value);
+        self.left += !matches!(old, Ok(None)) as usize;
+        old
     }
 }
 
 impl<K: NoPrefixesBytes + Drop, V: Drop, const PREFIX_LEN: usize> Room<K, V, PREFIX_LEN> {
     ghost use Rattle.blart_map.specs.Reserved.{room_count, room_pairs};
 
-    /// Puts the pair, as [`Reserved::insert`] does.
+    /// Inserts the pair, like [`Reserved::insert`].
     #[tactic(auto, unfolding(crate::specs::Content::pairs))]
     pub fn insert(&mut self, key: K, value: V) -> Option<V>
         requires { 0 < room_count self.old }
         ensures old { result ≡ value_at K.bytes (room_pairs self.old) (K.bytes key) }
+        ensures updates { Updates K.bytes (room_pairs self.old) (room_pairs self.new) (K.bytes key)
+            (Some (kept K.bytes (room_pairs self.old) (key, value))) }
+        ensures len { length (room_pairs self.new)
+            ≡ length (room_pairs self.old) + (if is_some result then 0 else 1) }
+        ensures routes { (r : List ℕ) → pair_at_front K.bytes (room_pairs self.new) r
+            ≡ (if begins (K.bytes key) r
+            then Some (kept K.bytes (room_pairs self.old) (key, value))
+            else pair_at_front K.bytes (room_pairs self.old) r) }
         ensures put { IsPut (bytes K.bytes) (room_pairs self.old)
             (kept K.bytes (room_pairs self.old) (key, value)) (room_pairs self.new) }
         ensures left { room_count self.new + added result ≡ room_count self.old }
     {
+        self.law();
         self.left -= 1;
         let old = put_lawful_within(&mut self.tree, key, value);
-        if old.is_some() {
-            self.left += 1;
-        }
+        self.left += old.is_some() as usize;
         old
     }
 }
@@ -194,18 +225,20 @@ impl<'a, K: AsBytes + Drop, V: Drop, const PREFIX_LEN: usize> Reserved<
 > {
     ghost use Rattle.blart_map.specs.Reserved.{reserved_map, held, room_left};
 
-    /// For how many pairs there is room.
+    /// Returns for how many pairs there is room.
     pub fn left(&self) -> usize
         ensures { result ≡ room_left self.now }
     {
         self.room.left()
     }
 
-    /// Puts the pair as [`TreeMap::try_insert`] does, where there is room for one: it takes no memory, and is refused only for a conflict.
+    /// Inserts the pair, like [`TreeMap::try_insert`], if there is room for one. It does not allocate, and
+    /// returns an error only if the key conflicts.
     pub fn try_insert(&mut self, key: K, value: V) -> Result<Option<V>, InsertPrefixError>
         requires { 0 < room_left self.old }
         ensures same_map { (reserved_map self.new).ghost_name
             ≡ (reserved_map self.old).ghost_name }
+        ensures meanwhile { (reserved_map self.new).now ≡ (reserved_map self.old).now }
         ensures least { room_left self.old ≤ room_left self.new + 1 }
         ensures left { room_left self.new + added_ok result ≡ room_left self.old }
         ensures old { IfOk result
@@ -223,7 +256,6 @@ impl<'a, K: AsBytes + Drop, V: Drop, const PREFIX_LEN: usize> Reserved<
         ensures put { Puts K.bytes (option_map (λ pair. pair.1)) (held self.old) (key, value)
             (kept K.bytes (held self.old) (key, value)) (as_tried result) (held self.new) }
     {
-        self.room.law();
         self.room.try_insert(key, value)
     }
 }
@@ -235,11 +267,13 @@ impl<'a, K: NoPrefixesBytes + Drop, V: Drop, const PREFIX_LEN: usize> Reserved<
 > {
     ghost use Rattle.blart_map.specs.Reserved.{reserved_map, held, room_left};
 
-    /// Puts the pair as [`TreeMap::insert`] does, where there is room for one: it takes no memory, and is never refused.
+    /// Inserts the pair, like [`TreeMap::insert`], if there is room for one. It does not allocate, and
+    /// always succeeds.
     pub fn insert(&mut self, key: K, value: V) -> Option<V>
         requires { 0 < room_left self.old }
         ensures same_map { (reserved_map self.new).ghost_name
             ≡ (reserved_map self.old).ghost_name }
+        ensures meanwhile { (reserved_map self.new).now ≡ (reserved_map self.old).now }
         ensures least { room_left self.old ≤ room_left self.new + 1 }
         ensures left { room_left self.new + added result ≡ room_left self.old }
         ensures old { result ≡ value_at K.bytes (held self.old) (K.bytes key) }
@@ -253,7 +287,6 @@ impl<'a, K: NoPrefixesBytes + Drop, V: Drop, const PREFIX_LEN: usize> Reserved<
         ensures put { IsPut (bytes K.bytes) (held self.old)
             (kept K.bytes (held self.old) (key, value)) (held self.new) }
     {
-        self.room.law();
         self.room.insert(key, value)
     }
 }

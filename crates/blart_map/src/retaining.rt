@@ -8,7 +8,12 @@ use crate::map::TreeMap;
 use blart_keys::AsBytes;
 
 impl<K: AsBytes + Drop, V: Drop, const PREFIX_LEN: usize> TreeMap<K, V, PREFIX_LEN> {
-    /// Asks the closure once of each pair, ascending by the keys' bytes, and removes those at which it answers `false`. The others stay with their values as the closure left them. Takes no memory; it reads each pair that it asks about, and each that goes costs a removal.
+    /// Retains the pairs for which the closure returns `true`, each with the value that the closure
+    /// left.
+    ///
+    /// The closure is called once for each pair, in ascending order of the keys' bytes.
+    ///
+    /// Cost: one read of each pair, and a removal for each pair that goes. It does not allocate.
     ///
     /// ```
     /// map.try_insert("cat", 1)?;
@@ -28,9 +33,26 @@ impl<K: AsBytes + Drop, V: Drop, const PREFIX_LEN: usize> TreeMap<K, V, PREFIX_L
         self.retain_by(&mut f)
     }
 
-    /// As `retain`, by a closure that is lent: what it is left as shows that nothing more was asked of it.
+    /// Retains pairs like [`TreeMap::retain`], with a closure that is lent. So the contract also says
+    /// in which state the closure ends: that in which the last of these calls left it.
+    ///
+    /// The closure is called once for each pair, in ascending order of the keys' bytes.
+    ///
+    /// Cost: one read of each pair, and a removal for each pair that goes. It does not allocate.
+    ///
+    /// ```
+    /// map.try_insert("cat", 1)?;
+    /// map.try_insert("dog", 2)?;
+    /// let mut last = 0;
+    /// map.retain_by(&mut |_, value| {
+    ///     last = *value;
+    ///     *value > 1
+    /// });
+    /// assert_eq!(last, 2);
+    /// assert_eq!(map.first_key_value(), Some((&"dog", &2)));
+    /// ```
     #[tactic(auto, unfolding(crate::specs::Content::pairs))]
-    pub(crate) fn retain_by<F: FnMut(&K, &mut V) -> bool>(&mut self, f: &mut F)
+    pub fn retain_by<F: FnMut(&K, &mut V) -> bool>(&mut self, f: &mut F)
         requires { CallableOnEachPair (CalledAtPair F.FnMut) (TakesPair F.FnMut) f.old (pairs self.old) }
         ensures { RetainsBy (AsksPair F.FnMut) (pairs self.old) f.old (pairs self.new) f.new }
     {

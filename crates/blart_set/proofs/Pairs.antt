@@ -3,7 +3,7 @@ use Rattle.std.proofs.Common.{◌≡◌, ℕ, true, false, not, List, [], ◌∷
 use Rattle.std.specs.Option.{is_some, is_none}
 use Rattle.std.specs.Result.{result_map_both}
 use Rattle.std.proofs.lemmas.List.{map-append}
-use Rattle.std.specs.Prelude.{Result, Ok, Err, OnOk, OnErr, IfOk, IfErr}
+use Rattle.std.specs.Prelude.{Result, Ok, Err, OnOk, OnErr, IfOk, IfErr, IfSome}
 use Rattle.std.proofs.Common.{Bool, ◌&&◌, inl, inr}
 use Rattle.std.specs.declared.ops.Bound.{Bound}
 use Rattle.blart_keys.specs.Bounds.{CanRange, is_from_start, is_up_to_end}
@@ -16,7 +16,7 @@ use Rattle.blart_keys.specs.Bytes.{begins, related, conflicts}
 use Rattle.blart_keys.specs.Content.{at, conflict, front_of, stores, subtree, without, under, between, IsContent, IsPut, IsOver}
 use Rattle.blart_keys.specs.Steps.{bytes}
 use Rattle.blart_keys.specs.Bulk.{PutsAll}
-use Rattle.blart_keys.specs.Stored.{pair_at, kept_key, kept_pair, kept_item, kept, Updates}
+use Rattle.blart_keys.specs.Stored.{pair_at, kept_key, kept_pair, kept_item, kept, Updates, TakesPair}
 use Rattle.blart_keys.specs.Walks.{TakesFirst, TakesLast}
 use Rattle.blart_keys.proofs.Mapped.{find-map, list_any-map, filter-map, content_map, put_map, over_map}
 
@@ -85,6 +85,11 @@ module _ {K V : Type 0} where
     pub updates-told : {E : Type 0} (x : K × V) (r : Result (Option V) E) → OnOk r (Updates kb S S' q (Some x)) → OnOk (told r) (UpdatesElement kb (keys kb S) (keys kb S') q true)
     updates-told x (Ok o) u = updates-keys (Some x) u
     updates-told x (Err e) u = tt
+
+  -- which bytes are there once the first pair went, or the last
+  pub takes-keys : (kb : K → List ℕ) (S S' : List (K × V)) (r : Option (K × V)) → IfSome r (λ p. TakesPair kb S p S') → IfSome (option_map (λ p. p.0) r) (λ x. UpdatesElement kb (keys kb S) (keys kb S') (kb x) false)
+  takes-keys kb S S' None h = tt
+  takes-keys kb S S' (Some p) h = updates-keys kb S S' (kb p.0) None h.1
 
   module _ (kb : K → List ℕ) (S S' : List (K × V)) (x : K × V) where
     -- what is stored of an element

@@ -1,5 +1,5 @@
 //! Removals.
-ghost use Rattle.std.specs.Prelude.{◌≡◌, ◌+◌, ℕ, List, [], length, is_some, option_map, true, false, if◌then◌else◌};
+ghost use Rattle.std.specs.Prelude.{◌≡◌, ◌+◌, ℕ, List, [], length, is_some, option_map, IfSome, true, false, if◌then◌else◌};
 ghost use Rattle.blart_keys.specs.Bytes.{begins};
 ghost use Rattle.blart_keys.specs.Content.{at, stores, under, without};
 ghost use Rattle.blart_keys.specs.Outside.{outside};
@@ -64,7 +64,7 @@ impl<K: AsBytes + Drop, const PREFIX_LEN: usize> TreeSet<K, PREFIX_LEN> {
         self.map.remove_prefix(prefix)
     }
 
-    /// Removes the element whose bytes are least, and gives it. Takes no memory.
+    /// Removes the element whose bytes are least, and returns it. It does not allocate.
     ///
     /// ```
     /// set.try_insert("dog")?;
@@ -74,6 +74,8 @@ impl<K: AsBytes + Drop, const PREFIX_LEN: usize> TreeSet<K, PREFIX_LEN> {
     /// assert_eq!(set.pop_first(), None);
     /// ```
     pub fn pop_first(&mut self) -> Option<K>
+        ensures updates { IfSome result (λ element. UpdatesElement K.bytes (elements self.old)
+            (elements self.new) (K.bytes element) false) }
         ensures first { TakesFirst (elements self.old) result (elements self.new) }
         ensures len { length (elements self.new) + (if is_some result then 1 else 0)
             ≡ length (elements self.old) }
@@ -81,8 +83,10 @@ impl<K: AsBytes + Drop, const PREFIX_LEN: usize> TreeSet<K, PREFIX_LEN> {
         element_of(self.map.pop_first())
     }
 
-    /// Removes the element whose bytes are greatest, and gives it. Takes no memory.
+    /// Removes the element whose bytes are greatest, and returns it. It does not allocate.
     pub fn pop_last(&mut self) -> Option<K>
+        ensures updates { IfSome result (λ element. UpdatesElement K.bytes (elements self.old)
+            (elements self.new) (K.bytes element) false) }
         ensures last { TakesLast (elements self.old) result (elements self.new) }
         ensures len { length (elements self.new) + (if is_some result then 1 else 0)
             ≡ length (elements self.old) }

@@ -10,6 +10,7 @@ mod changes;
 mod compare;
 mod extracting;
 mod insertions;
+mod merge_laws;
 mod merges;
 mod operators;
 mod relations;

@@ -1,5 +1,5 @@
 //! Room for some elements that is made beforehand.
-ghost use Rattle.std.specs.Prelude.{◌≡◌, ◌+◌, ◌<◌, ◌≤◌, true, false, not, length, OnOk, IfOk, OnErr, if◌then◌else◌};
+ghost use Rattle.std.specs.Prelude.{◌≡◌, ◌+◌, ◌<◌, ◌≤◌, [], true, false, not, length, OnOk, IfOk, OnErr, if◌then◌else◌};
 ghost use Rattle.std.specs.Borrow.{sem};
 ghost use Rattle.blart_keys.specs.Content.{at, conflict, stores, IsPut};
 ghost use Rattle.blart_keys.specs.Stored.{kept_item};
@@ -12,13 +12,16 @@ use blart_keys::{AsBytes, InsertPrefixError, NoPrefixesBytes};
 use blart_map::{PutBack, Room, TreeMap};
 use std::alloc::AllocError;
 
-/// A set with room for some elements, as [`TreeSet::reserve`] makes it: insertions here take no memory, so none is refused for want of it.
+/// A set with room for some elements, which [`TreeSet::reserve`] makes. Insertions here do not allocate,
+/// so none runs out of memory.
 ///
-/// The room counts down by one where an element is added, and stands where its bytes are stored or it conflicts.
+/// The room counts down by one if an element is added. It is unchanged if the element's bytes are
+/// stored or it conflicts.
 ///
-/// The elements stand in this value, and are the set's again once it is dropped. One that is forgotten in place of being dropped leaves the set empty.
+/// This value holds the elements, and the set is empty meanwhile. When it is dropped, the set has them
+/// again. If it is forgotten instead, the set stays empty.
 ///
-/// `S` is the set's type, and `R` that of what holds the elements meanwhile, as of the map's guard.
+/// `S` is the set's type, and `R` the type of what holds the elements, as for the map's guard.
 ///
 /// ```
 /// let mut room = set.reserve(2)?;
@@ -57,7 +60,10 @@ impl<K: AsBytes + Drop, const PREFIX_LEN: usize> TreeSet<K, PREFIX_LEN> {
     ghost use Rattle.blart_set.specs.Elements.{elements};
     ghost use Rattle.blart_set.specs.Reserved.{reserved_set, held_elements, elements_left, rests_if_full};
 
-    /// Makes room for so many elements, and lends the set to be filled; or is refused, and leaves the set as it was. For no elements it takes no memory.
+    /// Makes room for `count` more elements, and returns a guard that fills the set. The set is empty
+    /// until the guard is dropped.
+    ///
+    /// If it fails to allocate, the set is unchanged. For no elements it does not allocate.
     ///
     /// ```
     /// let mut room = set.reserve(2)?;
@@ -75,6 +81,7 @@ impl<K: AsBytes + Drop, const PREFIX_LEN: usize> TreeSet<K, PREFIX_LEN> {
         ensures same_set { IfOk result
             (λ r. (reserved_set r).ghost_name ≡ self.entry.ghost_name) }
         ensures unchanged { IfOk result (λ r. held_elements r ≡ elements self.old) }
+        ensures meanwhile { IfOk result (λ r. (reserved_set r).now ≡ []) }
         ensures left { IfOk result (λ r. elements_left r ≡ count) }
         ensures refused { OnErr result (0 < count) }
     {
@@ -84,9 +91,10 @@ impl<K: AsBytes + Drop, const PREFIX_LEN: usize> TreeSet<K, PREFIX_LEN> {
         }
     }
 
-    // Makes room for so many elements, and takes the elements out with it.
+    /// Makes room for `count` more elements, and takes the elements out of the set with it.
     fn take_room(&mut self, count: usize) -> Result<Room<K, (), PREFIX_LEN>, AllocError>
         ensures same { IfOk result (λ r. room_leaves r ≡ self.old) }
+        ensures empty { OnOk result (self.new ≡ []) }
         ensures left { IfOk result (λ r. room_count r ≡ count) }
         ensures err { OnErr result (self.new ≡ self.old) }
         ensures refused { OnErr result (0 < count) }
@@ -102,18 +110,20 @@ impl<'a, K: AsBytes + Drop, const PREFIX_LEN: usize> Reserved<
 > {
     ghost use Rattle.blart_set.specs.Reserved.{reserved_set, held_elements, elements_left, added_new_ok};
 
-    /// For how many elements there is room.
+    /// Returns for how many elements there is room.
     pub fn left(&self) -> usize
         ensures { result ≡ elements_left self.now }
     {
         self.room.left()
     }
 
-    /// Adds the element as [`TreeSet::try_insert`] does, where there is room for one: it takes no memory, and is refused only for a conflict.
+    /// Inserts the element, like [`TreeSet::try_insert`], if there is room for one. It does not allocate,
+    /// and returns an error only if the element conflicts.
     pub fn try_insert(&mut self, element: K) -> Result<bool, InsertPrefixError>
         requires { 0 < elements_left self.old }
         ensures same_set { (reserved_set self.new).ghost_name
             ≡ (reserved_set self.old).ghost_name }
+        ensures meanwhile { (reserved_set self.new).now ≡ (reserved_set self.old).now }
         ensures least { elements_left self.old ≤ elements_left self.new + 1 }
         ensures left { elements_left self.new + added_new_ok result ≡ elements_left self.old }
         ensures new { IfOk result
@@ -143,11 +153,13 @@ impl<'a, K: NoPrefixesBytes + Drop, const PREFIX_LEN: usize> Reserved<
 > {
     ghost use Rattle.blart_set.specs.Reserved.{reserved_set, held_elements, elements_left, added_new};
 
-    /// Adds the element as [`TreeSet::insert`] does, where there is room for one: it takes no memory, and is never refused.
+    /// Inserts the element, like [`TreeSet::insert`], if there is room for one. It does not allocate, and
+    /// always succeeds.
     pub fn insert(&mut self, element: K) -> bool
         requires { 0 < elements_left self.old }
         ensures same_set { (reserved_set self.new).ghost_name
             ≡ (reserved_set self.old).ghost_name }
+        ensures meanwhile { (reserved_set self.new).now ≡ (reserved_set self.old).now }
         ensures least { elements_left self.old ≤ elements_left self.new + 1 }
         ensures left { elements_left self.new + added_new result ≡ elements_left self.old }
         ensures new { result ≡ not (stores K.bytes (held_elements self.old) (K.bytes element)) }

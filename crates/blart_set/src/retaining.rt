@@ -10,7 +10,11 @@ use std::ops::Bound;
 
 #[tactic(auto, unfolding(crate::specs::Elements::elements))]
 impl<K: AsBytes + Drop, const PREFIX_LEN: usize> TreeSet<K, PREFIX_LEN> {
-    /// Asks the closure once of each element, ascending by their bytes, and removes those at which it answers `false`. Takes no memory.
+    /// Retains the elements for which the closure returns `true`.
+    ///
+    /// The closure is called once for each element, in ascending order of their bytes.
+    ///
+    /// Cost: one read of each element, and a removal for each element that goes. It does not allocate.
     ///
     /// ```
     /// set.try_insert("cat")?;
@@ -25,8 +29,25 @@ impl<K: AsBytes + Drop, const PREFIX_LEN: usize> TreeSet<K, PREFIX_LEN> {
         self.retain_by(&mut f)
     }
 
-    /// As `retain`, by a closure that is lent: what it is left as shows that nothing more was asked of it.
-    pub(crate) fn retain_by<F: FnMut(&K) -> bool>(&mut self, f: &mut F)
+    /// Retains elements like [`TreeSet::retain`], with a closure that is lent. So the contract also
+    /// says in which state the closure ends: that in which the last of these calls left it.
+    ///
+    /// The closure is called once for each element, in ascending order of their bytes.
+    ///
+    /// Cost: one read of each element, and a removal for each element that goes. It does not allocate.
+    ///
+    /// ```
+    /// set.try_insert("cat")?;
+    /// set.try_insert("dog")?;
+    /// let mut was_last = false;
+    /// set.retain_by(&mut |element| {
+    ///     was_last = *element == "dog";
+    ///     was_last
+    /// });
+    /// assert!(was_last);
+    /// assert_eq!(set.len(), 1);
+    /// ```
+    pub fn retain_by<F: FnMut(&K) -> bool>(&mut self, f: &mut F)
         requires { CallableOnEachElement F.FnMut f.old (elements self.old) }
         ensures { RetainsBy (AsksElement F.FnMut) (elements self.old) f.old (elements self.new) f.new }
     {

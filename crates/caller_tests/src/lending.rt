@@ -1,5 +1,5 @@
 //! Values of a map that are written in a walk, and pairs that a closure picks.
-ghost use Rattle.std.specs.Prelude.{◌≡◌, ◌+◌, ◌%◌, ◌^◌, ◌<◌, All, ℕ, List, map, min, cond, option_map};
+ghost use Rattle.std.specs.Prelude.{◌≡◌, ◌+◌, ◌%◌, ◌^◌, ◌<◌, All, ℕ, List, map, min, cond, option_map, string_len};
 ghost use Rattle.blart.specs.Words.{pairs, begins, value_at, zkey_bytes, LeavesPair, WritesWhere};
 
 use blart::{AsBytes, Map, ZKey};
@@ -12,6 +12,17 @@ pub fn raise_below<K: AsBytes>(scores: &mut Map<K, u64>, front: &[u8])
     let mut walk = scores.prefix_mut(front);
     while let Some(value) = walk.next() {
         *value = value.wrapping_add(1);
+    }
+}
+
+/// Sets each value to the length of its key.
+pub fn measure_all(lengths: &mut Map<String, usize>)
+    ensures { pairs lengths.new ≡ map (λ p. (p.0, string_len p.0)) (pairs lengths.old) }
+{
+    let mut walk = lengths.iter_mut();
+    while let Some(_seen) = walk.next() {
+        let (key, value) = walk.pair();
+        *value = key.len();
     }
 }
 

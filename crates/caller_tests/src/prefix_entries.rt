@@ -1,5 +1,5 @@
 //! Calls of prefix entries.
-ghost use Rattle.std.specs.Prelude.{◌≡◌, ◌≢◌, ◌+◌, ◌<◌, ◌^◌, ℕ, List, true, false, unwrap_or, OnOk, OnErr, None, Some};
+ghost use Rattle.std.specs.Prelude.{◌≡◌, ◌≢◌, ◌+◌, ◌<◌, ◌^◌, ℕ, List, true, false, unwrap_or, IfOk, OnOk, OnErr, None, Some};
 ghost use Rattle.blart.specs.Words.{pairs, pair_at, value_at, overlaps, related, slice_bytes, zkey_bytes, PrefixEntryFits};
 ghost use denote.Param.{number};
 
@@ -75,6 +75,20 @@ pub fn set_section(
 {
     *sections.prefix_entry(section).kind().or_insert(0)? = target;
     Ok(())
+}
+
+/// Returns the target of a section. If it has none, the section first gets this target, in the place of
+/// those that it overlaps.
+pub fn target_or(
+    sections: &mut Map<ZKey, u64>,
+    section: ZKey,
+    target: u64,
+) -> Result<u64, AllocError>
+    ensures found { IfOk result (λ v. value_at zkey_bytes (pairs sections.new) (zkey_bytes section) ≡ Some v) }
+    ensures refused { OnErr result (sections.new ≡ sections.old) }
+{
+    let entry = sections.prefix_entry(section).kind().or_insert_with_entry(|| target)?;
+    Ok(*entry.into_mut())
 }
 
 /// Puts a pair of any key type in the place of those that it overlaps.

@@ -1,5 +1,5 @@
 //! A site of five routes, and what a table answers where mounts overlap.
-ghost use Rattle.std.specs.Prelude.{◌≡◌, ◌≢◌, ◌&&◌, ℕ, List, Vec, [], ◌∷◌, true, false, IfOk, OnOk, None, Some, if◌then◌else◌};
+ghost use Rattle.std.specs.Prelude.{◌≡◌, ◌≢◌, ◌&&◌, ℕ, List, Vec, [], ◌∷◌, true, false, IfOk, OnOk, option_map, None, Some, if◌then◌else◌};
 ghost use Rattle.std.specs.Global.{Global};
 ghost use Rattle.blart.specs.Words.{pairs, begins, related, has, overlaps, pair_at_front, value_at_front, vec_bytes};
 
@@ -80,6 +80,18 @@ pub fn asked(alloc: Global) -> Result<Option<Handler>, TryInsertError>
     };
     drop(site);
     Ok(handler)
+}
+
+/// Returns who answers a path, and the rest of the path behind the mount.
+#[tactic(auto, using(blart::proofs::CallerLemmas::begins_length))]
+pub fn routed<'a>(site: &Mounts<Handler>, path: &'a [u8]) -> Option<(Handler, &'a [u8])>
+    ensures { option_map (λ found. found.0) result
+        ≡ value_at_front vec_bytes (pairs site.now) path.now }
+{
+    match site.resolve(path) {
+        Some((mount, handler)) => Some((*handler, &path[mount.len()..])),
+        None => None,
+    }
 }
 
 /// Takes a handler down: what went to it goes nowhere, and all else where it went.

@@ -1,5 +1,5 @@
 //! The table, on the public calls of the map.
-ghost use Rattle.std.specs.Prelude.{◌≡◌, ◌≤◌, ◌+◌, ◌&&◌, ℕ, List, [], false, length, is_some, OnOk, IfOk, OnErr, IfErr, None, Some, if◌then◌else◌};
+ghost use Rattle.std.specs.Prelude.{◌≡◌, ◌≤◌, ◌+◌, ◌&&◌, ℕ, List, [], true, false, length, is_some, OnOk, IfOk, OnErr, IfErr, IfSome, None, Some, if◌then◌else◌};
 ghost use Rattle.blart_keys.specs.Bytes.{begins};
 ghost use Rattle.blart_keys.specs.Content.{under, IsContent};
 ghost use Rattle.blart_keys.specs.KeyBytes.{vec_bytes};
@@ -64,7 +64,7 @@ impl<V> Mounts<V> {
         self.map.len()
     }
 
-    /// The mount that begins the path, and its target.
+    /// Returns the mount whose path is a prefix of `path`, with its target.
     ///
     /// ```
     /// // "/api" is mounted
@@ -72,14 +72,17 @@ impl<V> Mounts<V> {
     /// assert!(mounts.resolve(b"/ap").is_none());
     /// ```
     pub fn resolve(&self, path: &[u8]) -> Option<(&Vec<u8>, &V)>
-        ensures { shown result ≡ pair_at_front vec_bytes (pairs self.now) path.now }
+        ensures value { shown result ≡ pair_at_front vec_bytes (pairs self.now) path.now }
+        ensures found { IfSome result (λ pair. begins pair.0.now.items path.now ≡ true) }
     {
         self.resolve_counted(path, &mut Visits::new())
     }
 
-    /// As [`Mounts::resolve`]. On n bytes it makes at most n + 1 visits, and none on an empty table.
+    /// Returns what [`Mounts::resolve`] returns, and counts visits. On n bytes it makes at most n + 1
+    /// visits, and none on an empty table.
     pub fn resolve_counted(&self, path: &[u8], visits: &mut Visits) -> Option<(&Vec<u8>, &V)>
         ensures value { shown result ≡ pair_at_front vec_bytes (pairs self.now) path.now }
+        ensures found { IfSome result (λ pair. begins pair.0.now.items path.now ≡ true) }
         ensures counted { visits.new.count ≤ visits.old.count + length path.now + 1 }
         ensures grows { visits.old.count ≤ visits.new.count }
         ensures empty { pairs self.now ≡ [] → visits.new.count ≡ visits.old.count }

@@ -1,6 +1,6 @@
 //! The calls of prefix entries, and their words.
 use crate::answered::Unanswered;
-use crate::entry_calls::{EntryCall, EntryGroup, EntryName};
+use crate::entry_calls::{EntryCall, EntryGroup};
 use crate::names::named;
 use crate::reading::Words;
 
@@ -94,12 +94,10 @@ impl PrefixName {
     }
 }
 
-// The call of the entry's kind, if that has it.
+/// Returns the call of the entry's kind, if `PrefixKind` has it.
 fn call_of_kind<'a>(call: EntryCall) -> Result<PrefixCall<'a>, Unanswered> {
-    match (call.name.group(), call.name) {
-        (EntryGroup::Value, _) | (_, EntryName::OrInsertEntry | EntryName::InsertEntry) => {
-            Ok(PrefixCall::OfKind(call))
-        }
+    match call.name.group() {
+        EntryGroup::Value | EntryGroup::Place => Ok(PrefixCall::OfKind(call)),
         _ => Err(Unanswered::NoCall),
     }
 }

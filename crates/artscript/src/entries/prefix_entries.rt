@@ -177,9 +177,13 @@ fn show_kind_place<const P: usize>(
 ) {
     let entry = map.prefix_entry(key);
     text.push(kind_of(&entry));
+    let entry = entry.kind();
     let answer = match call.name {
-        EntryName::OrInsertEntry => entry.kind().or_insert_entry(call.number),
-        _ => entry.kind().insert_entry(call.number),
+        EntryName::OrInsertEntry => entry.or_insert_entry(call.number),
+        EntryName::OrDefaultEntry => entry.or_default_entry(),
+        EntryName::OrInsertWithEntry => entry.or_insert_with_entry(|| call.number),
+        EntryName::OrInsertWithKeyEntry => entry.or_insert_with_key_entry(length_of),
+        _ => entry.insert_entry(call.number),
     };
     show_placed!(answer, text)
 }

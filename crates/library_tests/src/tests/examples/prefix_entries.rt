@@ -23,7 +23,7 @@ fn inner_occupied_entry(rt: &impl Abort, mut map: Words) {
 pub(super) fn prefix_entry(rt: &impl Abort, map: &mut Map<'_>) -> Result<(), Fail> {
     map.try_insert("car", 1)?;
     map.try_insert("cat", 2)?;
-    *map.prefix_entry("ca").or_insert(0)? = 1;
+    *map.prefix_entry("ca").kind().or_insert(0)? = 1;
     assert!(rt; map.len() == 1);
     assert!(rt; map.get(&"ca") == Some(&1));
     Ok(())
@@ -40,7 +40,7 @@ pub(super) fn prefix_kind(rt: &impl Abort, map: &mut Map<'_>) -> Result<(), Fail
     Ok(())
 }
 
-// The example of `blart_map::PrefixOccupied`.
+/// The example of `blart_map::PrefixOccupied`.
 fn prefix_occupied(rt: &impl Abort, mut map: Words) {
     // map is {"car": 1}
     if let PrefixEntry::Occupied(entry) = map.prefix_entry("ca") {
@@ -51,8 +51,48 @@ fn prefix_occupied(rt: &impl Abort, mut map: Words) {
     drop(map);
 }
 
+/// The example of `blart_map::PrefixKind::or_insert_with_entry`, on an empty map.
+fn made_entry(rt: &impl Abort, map: &mut Words) -> Result<(), Fail> {
+    map.try_insert("car", 1)?;
+    map.try_insert("cat", 2)?;
+    let entry = map.prefix_entry("ca").kind().or_insert_with_entry(|| 3)?;
+    assert!(rt; entry.remove_entry() == ("ca", 3));
+    assert!(rt; map.is_empty());
+    Ok(())
+}
+
+/// Calls the same call with the key, and with the type's default, of a key that conflicts, of one
+/// that is stored, and of one that is neither.
+fn made_entries(rt: &impl Abort, map: &mut Words) -> Result<(), Fail> {
+    map.try_insert("car", 1)?;
+    map.try_insert("cat", 2)?;
+    let of_key = |key: &&str| if *key == "ca" { 2 } else { 0 };
+    let over = map
+        .prefix_entry("ca")
+        .kind()
+        .or_insert_with_key_entry(of_key)?;
+    assert!(rt; over.key() == &"ca" && over.get() == &2);
+    let stored = map.prefix_entry("ca").kind().or_default_entry()?;
+    assert!(rt; stored.key() == &"ca" && stored.get() == &2);
+    let fresh = map.prefix_entry("dog").kind().or_default_entry()?;
+    assert!(rt; fresh.key() == &"dog" && fresh.get() == &0);
+    let over = map.prefix_entry("dogs").kind().or_default_entry()?;
+    assert!(rt; over.remove_entry() == ("dogs", 0));
+    assert!(rt; map.len() == 1);
+    Ok(())
+}
+
 #[test]
 fn as_shown(rt: HostRuntime) {
     inner_occupied_entry(&rt, map_of(&rt, &[("car", 1), ("cat", 2)]));
     prefix_occupied(&rt, map_of(&rt, &[("car", 1)]));
+}
+
+#[test]
+fn entries_of_kinds(rt: HostRuntime) {
+    let mut map = Words::new(rt.alloc());
+    let is_made = made_entry(&rt, &mut map).is_ok();
+    let are_made = made_entries(&rt, &mut map).is_ok();
+    drop(map);
+    assert!(rt; is_made && are_made);
 }

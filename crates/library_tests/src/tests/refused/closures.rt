@@ -12,14 +12,16 @@ enum Way {
     OrInsertWithEntry,
     PrefixOrInsertWith,
     PrefixOrInsertWithEntry,
+    KindOrInsertWithEntry,
     GetOrInsertWith,
 }
 
-const WAYS: [Way; 5] = [
+const WAYS: [Way; 6] = [
     Way::OrInsertWith,
     Way::OrInsertWithEntry,
     Way::PrefixOrInsertWith,
     Way::PrefixOrInsertWithEntry,
+    Way::KindOrInsertWithEntry,
     Way::GetOrInsertWith,
 ];
 
@@ -34,6 +36,12 @@ fn puts(map: &mut Map, way: Way, key: [u8; 2], ran: &mut bool) -> bool {
         Way::OrInsertWithEntry => map.entry(key).or_insert_with_entry(make).is_ok(),
         Way::PrefixOrInsertWith => map.prefix_entry(key).or_insert_with(make).is_ok(),
         Way::PrefixOrInsertWithEntry => map.prefix_entry(key).or_insert_with_entry(make).is_ok(),
+        Way::KindOrInsertWithEntry => {
+            map.prefix_entry(key)
+                .kind()
+                .or_insert_with_entry(make)
+                .is_ok()
+        }
         Way::GetOrInsertWith => map.get_or_insert_with(key, make).is_ok(),
     }
 }
@@ -48,7 +56,14 @@ fn puts_by_key(map: &mut Map, way: Way, key: [u8; 2], ran: &mut bool) -> bool {
         Way::OrInsertWith => map.entry(key).or_insert_with_key(make).is_ok(),
         Way::OrInsertWithEntry => map.entry(key).or_insert_with_key_entry(make).is_ok(),
         Way::PrefixOrInsertWith => map.prefix_entry(key).or_insert_with_key(make).is_ok(),
-        _ => map.prefix_entry(key).or_insert_with_key_entry(make).is_ok(),
+        Way::PrefixOrInsertWithEntry => {
+            map.prefix_entry(key).or_insert_with_key_entry(make).is_ok()
+        }
+        _ => map
+            .prefix_entry(key)
+            .kind()
+            .or_insert_with_key_entry(make)
+            .is_ok(),
     }
 }
 

@@ -3,6 +3,7 @@ use Rattle.blart_keys.proofs.StoredLemmas.{takes_first}
 use Rattle.art_tree.specs.Pairs.{pairs_of}
 use Rattle.blart_map.specs.Content.{pairs}
 use Rattle.art_insert.proofs.Numbers.{whole_pairs}
+use Rattle.blart_map.proofs.Popped.{routes_first}
 use Rattle.blart_map.proofs.map.TreeMap.pop_first.Goals as goal
 
 pub returns-clause-taken : goal.returns-clause-taken
@@ -11,3 +12,10 @@ returns-clause-taken g c =
     let kb = g.K.AsBytes.bytes in
     let ps = c.self.inside.tree.pairs in
     takes_first kb (pairs_of c.args.self.now) (pairs_of c.remove.new.self.pairs) c.remove.result (whole_pairs kb ps (pairs_of c.args.self.now) (ap pairs_of c.self.view_is) c.law.ensures.content) (search rules)
+
+pub returns-clause-routes : goal.returns-clause-routes
+unfolding pairs
+returns-clause-routes g c =
+    let kb = g.K.AsBytes.bytes in
+    let ps = c.self.inside.tree.pairs in
+    routes_first kb (pairs_of c.args.self.now) (pairs_of c.remove.new.self.pairs) c.remove.result (whole_pairs kb ps (pairs_of c.args.self.now) (ap pairs_of c.self.view_is) c.law.ensures.content) (search rules)

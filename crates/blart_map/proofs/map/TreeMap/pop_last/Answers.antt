@@ -4,6 +4,7 @@ use Rattle.blart_keys.proofs.StoredLemmas.{takes_last}
 use Rattle.art_tree.specs.Pairs.{pairs_of}
 use Rattle.blart_map.specs.Content.{pairs}
 use Rattle.art_insert.proofs.Numbers.{last_pair, whole_pairs}
+use Rattle.blart_map.proofs.Popped.{routes_last}
 use Rattle.blart_map.proofs.map.TreeMap.pop_last.Goals as goal
 
 pub returns-in_err-id-clause-last : goal.returns-in_err-id-clause-last
@@ -31,3 +32,10 @@ returns-clause-taken g c =
 pub returns-clause-len : goal.returns-clause-len
 unfolding pairs
 returns-clause-len g c = sym (ap (λ (l : List (g.row.K.Denot × g.row.V.Denot)). length l) (returns-clause-last g c) ∙ simp length-append)
+
+pub returns-clause-routes : goal.returns-clause-routes
+unfolding pairs
+returns-clause-routes g c =
+    let kb = g.K.AsBytes.bytes in
+    let ps = c.self.inside.tree.pairs in
+    routes_last kb (pairs_of c.args.self.now) (pairs_of c.remove.new.self.pairs) c.remove.result (whole_pairs kb ps (pairs_of c.args.self.now) (ap pairs_of c.self.view_is) c.law.ensures.content) (returns-clause-last g c)

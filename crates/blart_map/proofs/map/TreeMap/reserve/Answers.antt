@@ -9,6 +9,7 @@ returns-in-Ok g c = (
     stands = tt;
     same_map = refl;
     unchanged = ap pairs c.in-Ok.ensures.same;
+    meanwhile = c.in-Ok.ensures.empty;
     left = c.in-Ok.ensures.left;
     refused = tt;
   },
@@ -21,6 +22,7 @@ returns-in-Err g c = (
     stands = tt;
     same_map = tt;
     unchanged = tt;
+    meanwhile = tt;
     left = tt;
     refused = c.in-Err.ensures.refused;
   },

@@ -9,6 +9,7 @@ returns-in-Ok g c = (
     stands = tt;
     same_set = refl;
     unchanged = ap elements c.in-Ok.ensures.same;
+    meanwhile = c.in-Ok.ensures.empty;
     left = c.in-Ok.ensures.left;
     refused = tt;
   },
@@ -21,6 +22,7 @@ returns-in-Err g c = (
     stands = tt;
     same_set = tt;
     unchanged = tt;
+    meanwhile = tt;
     left = tt;
     refused = c.in-Err.ensures.refused;
   },

@@ -1,0 +1,23 @@
+use Rattle.std.proofs.Common.{refl, sym, ap, ◌∙◌, length, lit<, arith}
+use Rattle.std.specs.Prelude.{string_len, is_some}
+use Rattle.blart.specs.Words.{pairs}
+use Rattle.blart.proofs.CallerLemmas.{pair_written}
+use Rattle.caller_tests.proofs.lending.measure_all.Goals as goal
+
+pub pair-value-requires : goal.pair-value-requires
+pair-value-requires c =
+    let h = c.next.follows.holds c.in-Some._seen.now c.in-Some._seen c.in-Some.is in
+    (lit< tt, ap is_some h.1.is_last)
+
+pub loop-seen-smaller : goal.loop-seen-smaller
+loop-seen-smaller c =
+    let h = c.next.follows.holds c.in-Some._seen.now c.in-Some._seen c.in-Some.is in
+    let e = ap length h.1.splits in
+    let same = ap length (c.pair-value.ensures.same_left c.len.result) in
+    omega arith
+
+pub loop-seen-preserved : goal.loop-seen-preserved
+loop-seen-preserved c =
+    let h = c.next.follows.holds c.in-Some._seen.now c.in-Some._seen c.in-Some.is in
+    let r = pair_written _ _ _ _ _ _ _ _ _ c.len.result _ _ c.pair-value.ensures.value refl (c.pair-value.ensures.same_left c.len.result) h.1 in
+    (h.0 ∙ c.loop-seen.invariant.0, ap pairs (r.0.lent.all_written (λ p. string_len p.0) (ap string_len r.1 ∙ sym c.len.ensures)) ∙ c.loop-seen.invariant.1)
