@@ -111,7 +111,7 @@ impl<'a, K: AsBytes, V, const PREFIX_LEN: usize> CountedWalk<'a, K, V, WithKeys,
             (λ id. (v : V) × (leaf_in (counted_map self.now).now id ≡ Some (result.now, v))) }
     {
         let id = self.lent.unwrap();
-        self.map.leaf(id).0
+        self.map.leaf_near(id, self.cursor.passed_at()).0
     }
 
     /// Returns the key of the value that was returned last, and a mutable reference to that value.
@@ -125,7 +125,8 @@ impl<'a, K: AsBytes, V, const PREFIX_LEN: usize> CountedWalk<'a, K, V, WithKeys,
     {
         self.map.numbers_law();
         let id = self.lent.unwrap();
-        self.map.leaf_mut(id)
+        let seen = self.cursor.passed_at();
+        self.map.leaf_mut_near(id, seen)
     }
 }
 
@@ -211,7 +212,8 @@ impl<'a, K: AsBytes, V, M, const PREFIX_LEN: usize> CountedWalk<'a, K, V, M, PRE
         let id = self.map.step(&mut self.cursor)?;
         self.lent = Some(id);
         self.left -= 1;
-        Some(self.map.value_mut(id))
+        let seen = self.cursor.passed_at();
+        Some(self.map.value_mut_near(id, seen))
     }
 
     /// Returns a mutable reference to the last value that is left.
@@ -223,6 +225,7 @@ impl<'a, K: AsBytes, V, M, const PREFIX_LEN: usize> CountedWalk<'a, K, V, M, PRE
         let id = self.map.step_back(&mut self.cursor)?;
         self.lent = Some(id);
         self.left -= 1;
-        Some(self.map.value_mut(id))
+        let seen = self.cursor.passed_at();
+        Some(self.map.value_mut_near(id, seen))
     }
 }

@@ -107,7 +107,8 @@ impl<'a, K: AsBytes, V, M, const PREFIX_LEN: usize> LendingWalk<'a, K, V, M, PRE
     {
         let id = self.map.step(&mut self.cursor)?;
         self.lent = Some(id);
-        Some(self.map.value_mut(id))
+        let seen = self.cursor.passed_at();
+        Some(self.map.value_mut_near(id, seen))
     }
 
     /// Returns a mutable reference to the last value that is left.
@@ -118,7 +119,8 @@ impl<'a, K: AsBytes, V, M, const PREFIX_LEN: usize> LendingWalk<'a, K, V, M, PRE
     {
         let id = self.map.step_back(&mut self.cursor)?;
         self.lent = Some(id);
-        Some(self.map.value_mut(id))
+        let seen = self.cursor.passed_at();
+        Some(self.map.value_mut_near(id, seen))
     }
 
     /// Returns the key of the value that was returned last. The walk must have returned a value.
@@ -129,7 +131,7 @@ impl<'a, K: AsBytes, V, M, const PREFIX_LEN: usize> LendingWalk<'a, K, V, M, PRE
             (λ id. (v : V) × (leaf_in (lending_map self.now).now id ≡ Some (result.now, v))) }
     {
         let id = self.lent.unwrap();
-        self.map.leaf(id).0
+        self.map.leaf_near(id, self.cursor.passed_at()).0
     }
 
     /// Returns the key of the value that was returned last, and a mutable reference to that value.
@@ -143,7 +145,8 @@ impl<'a, K: AsBytes, V, M, const PREFIX_LEN: usize> LendingWalk<'a, K, V, M, PRE
     {
         self.map.numbers_law();
         let id = self.lent.unwrap();
-        self.map.leaf_mut(id)
+        let seen = self.cursor.passed_at();
+        self.map.leaf_mut_near(id, seen)
     }
 
     /// Calls the closure once on the key and the value of each pair that is left, in byte order of

@@ -63,7 +63,8 @@ impl<'a, K: AsBytes, V, const PREFIX_LEN: usize> TakeWalk<'a, K, V, PREFIX_LEN> 
     {
         let id = self.map.step(&mut self.cursor)?;
         self.lent = Some(id);
-        Some(self.map.value_mut(id))
+        let seen = self.cursor.passed_at();
+        Some(self.map.value_mut_near(id, seen))
     }
 
     /// Lends the last pair that is left, and gives its value. None is undecided.
@@ -74,7 +75,8 @@ impl<'a, K: AsBytes, V, const PREFIX_LEN: usize> TakeWalk<'a, K, V, PREFIX_LEN> 
     {
         let id = self.map.step_back(&mut self.cursor)?;
         self.lent = Some(id);
-        Some(self.map.value_mut(id))
+        let seen = self.cursor.passed_at();
+        Some(self.map.value_mut_near(id, seen))
     }
 
     /// The key of the lent pair. One is undecided. One visit, not counted.
@@ -84,7 +86,7 @@ impl<'a, K: AsBytes, V, const PREFIX_LEN: usize> TakeWalk<'a, K, V, PREFIX_LEN> 
             (λ id. (v : V) × (leaf_in (take_map self.now).now id ≡ Some (result.now, v))) }
     {
         let id = self.lent.unwrap();
-        self.map.leaf(id).0
+        self.map.leaf_near(id, self.cursor.passed_at()).0
     }
 
     /// The lent pair, its value to be written. One is undecided.
@@ -97,7 +99,8 @@ impl<'a, K: AsBytes, V, const PREFIX_LEN: usize> TakeWalk<'a, K, V, PREFIX_LEN> 
     {
         self.map.numbers_law();
         let id = self.lent.unwrap();
-        self.map.leaf_mut(id)
+        let seen = self.cursor.passed_at();
+        self.map.leaf_mut_near(id, seen)
     }
 
     /// Leaves the lent pair in the map, its value as written. One is undecided.
