@@ -109,7 +109,8 @@ pub(crate) fn pair_toward<'a, K: AsBytes, V, const P: usize>(
     Some((spot, key, value))
 }
 
-// The one leaf whose key may begin the query, and the edges to it. None where no key does.
+/// Returns the only leaf whose key may be a prefix of the query, with the edges to it, or `None` if
+/// no key is.
 fn leaf_toward<const P: usize>(
     nodes: &Nodes<P>,
     root: &Child,
