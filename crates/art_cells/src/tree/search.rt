@@ -28,11 +28,11 @@ impl<K: AsBytes, V, const PREFIX_LEN: usize> CellTree<K, V, PREFIX_LEN> {
         ensures empty { self.now.pairs ≡ [] → visits.new.count ≡ visits.old.count }
     {
         self.law();
-        let Some(found) = pair_toward(&self.leaves, &self.nodes, &self.root, query, visits) else {
+        let Some(found) = pair_below(&self.leaves, &self.nodes, &self.root, query, visits) else {
             return None;
         };
         if found.1.as_bytes() == query {
-            Some((found.0.id, found.1, found.2))
+            Some(found)
         } else {
             None
         }
@@ -48,11 +48,11 @@ impl<K: AsBytes, V, const PREFIX_LEN: usize> CellTree<K, V, PREFIX_LEN> {
         ensures empty { self.now.pairs ≡ [] → visits.new.count ≡ visits.old.count }
     {
         self.law();
-        let Some(found) = pair_toward(&self.leaves, &self.nodes, &self.root, query, visits) else {
+        let Some(found) = pair_below(&self.leaves, &self.nodes, &self.root, query, visits) else {
             return None;
         };
         if begins(found.1.as_bytes(), query) {
-            Some((found.0.id, found.1, found.2))
+            Some(found)
         } else {
             None
         }
@@ -89,7 +89,55 @@ impl<K: AsBytes, V, const PREFIX_LEN: usize> CellTree<K, V, PREFIX_LEN> {
     }
 }
 
-/// Returns the one pair whose key may be a prefix of these bytes, and the edges to its leaf.
+/// Returns the only pair whose key may be a prefix of these bytes, and its leaf, or `None` if no
+/// key is.
+fn pair_below<'a, K: AsBytes, V, const P: usize>(
+    leaves: &'a Leaves<K, V>,
+    nodes: &Nodes<P>,
+    root: &Option<Child>,
+    query: &[u8],
+    visits: &mut Visits,
+) -> Option<(CellId, &'a K, &'a V)>
+    requires { IsSound K.bytes P leaves.now nodes.now root.now }
+    ensures found { IsFrontAlone K.bytes leaves.now.pairs query.now
+        (option_map (λ f. (f.0, (f.1.now, f.2.now))) result) }
+    ensures counted { visits.new.count ≤ visits.old.count + length query.now + 1 }
+    ensures grows { visits.old.count ≤ visits.new.count }
+    ensures empty { leaves.now.pairs ≡ [] → visits.new.count ≡ visits.old.count }
+{
+    let Some(root) = root else {
+        return None;
+    };
+    let leaf = leaf_below(nodes, root, query, visits)?;
+    let (key, value) = leaves.read(leaf, visits);
+    Some((leaf, key, value))
+}
+
+/// Returns the only leaf whose key may be a prefix of the query, or `None` if no key is.
+fn leaf_below<const P: usize>(
+    nodes: &Nodes<P>,
+    root: &Child,
+    query: &[u8],
+    visits: &mut Visits,
+) -> Option<CellId>
+    requires { IsRoot P (nodes_at nodes.now) root.now }
+    ensures goes { (keys : ℕ → Option Bytes) → Shape P keys (nodes_at nodes.now) (Some root.now)
+        → GoesTo keys query.now visits.old.count visits.new.count result }
+    ensures grows { visits.old.count ≤ visits.new.count }
+{
+    let mut below = *root;
+    'down: loop {
+        let id = match below {
+            Child::Leaf(id) => return Some(id),
+            Child::Inner(id) => id,
+        };
+        let next = nodes.toward(id, query, visits)?;
+        below = next.to;
+    }
+}
+
+/// Returns the only pair whose key may be a prefix of these bytes, and the edges to its leaf, or
+/// `None` if no key is.
 pub(crate) fn pair_toward<'a, K: AsBytes, V, const P: usize>(
     leaves: &'a Leaves<K, V>,
     nodes: &Nodes<P>,
@@ -113,8 +161,8 @@ pub(crate) fn pair_toward<'a, K: AsBytes, V, const P: usize>(
     Some((spot, key, value))
 }
 
-/// Returns the one leaf whose key may be a prefix of the query, and the edges to it, or `None` if
-/// no key is one.
+/// Returns the only leaf whose key may be a prefix of the query, with the edges to it, or `None` if
+/// no key is.
 fn leaf_toward<const P: usize>(
     nodes: &Nodes<P>,
     root: &Child,
