@@ -143,12 +143,15 @@ fn insert_in(cells: &mut [u8], count: usize, place: usize)
     cells[place..count + 1].rotate_right(1);
 }
 
-/// Moves a cell among the first `count` cells to their end.
+/// Moves a cell among the first `count` cells to their end, if it is not there.
 fn remove_in(cells: &mut [u8], count: usize, place: usize)
     requires place { place < count }
     requires within { count ≤ length cells.old }
     ensures first { take (count - 1) cells.new ≡ take place (take count cells.old) ++ drop (place + 1) (take count cells.old) }
     ensures same { (n : ℕ) → times cells.new n ≡ times cells.old n }
 {
+    if place + 1 == count {
+        return;
+    }
     cells[place..count].rotate_left(1);
 }

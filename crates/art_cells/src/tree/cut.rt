@@ -1,5 +1,5 @@
 //! A full row is cut in half.
-ghost use Rattle.std.specs.Prelude.{◌≡◌, ◌+◌, ◌<◌, ℕ, true, Option, Some, if◌then◌else◌, eqb};
+ghost use Rattle.std.specs.Prelude.{◌≡◌, ◌+◌, ◌<◌, ℕ, true, Option, Some, IfSome, if◌then◌else◌, eqb};
 ghost use Rattle.art_rows.specs.Blocks.{row_of, IsCrowded, IsRowLast};
 ghost use Rattle.art_kinds.specs.Nodes.{Nodes as Records, at, SameSpares};
 ghost use Rattle.art_kinds.specs.declared.records.ids.Child.{Child as Way};
@@ -29,8 +29,10 @@ pub(crate) struct Cut {
     pub(crate) prev: CellId,
     /// The place for the new pair.
     pub(crate) place: CellPlace,
-    /// A guess of the edge to the last leaf.
-    pub(crate) guess: Option<Guess>,
+    /// The edge to the leaf that moved last, and the edge above it: the edge to the next leaf that
+    /// moves is looked for before them.
+    pub(crate) edge: EdgeAbove,
+    pub(crate) above: EdgeAbove,
 }
 
 /// An edge that may lead to a leaf, and the edge that may lead to its node. A guess is tested before
@@ -69,7 +71,8 @@ pub(crate) fn cut_row<K: AsBytes + Drop, V: Drop, const P: usize>(
         last,
         prev,
         place: *place,
-        guess: None,
+        edge: None,
+        above: None,
     };
     begin_cut(leaves, nodes, &mut cut);
     for _ in 1..HALF {
@@ -116,8 +119,7 @@ fn carry_leaf<K: AsBytes + Drop, V: Drop, const P: usize>(
     follow(nodes, cut, &spot, &moved);
 }
 
-/// Redirects the edge to the last leaf of the row to the cell that the leaf moved to, and guesses
-/// the edge to the leaf that is the last then.
+/// Redirects the edge to the last leaf of the row to the cell that the leaf moved to.
 fn follow<const P: usize>(nodes: &mut Nodes<P>, cut: &mut Cut, spot: &LeafSpot, moved: &Moved)
     requires { LeadsTo (at nodes.old) (Some cut.old.root) spot.now.edge (Leaf cut.old.last) }
     ensures turned { TurnsTo (at nodes.old) (at nodes.new) (Some cut.old.root) (Some cut.new.root)
@@ -138,11 +140,12 @@ fn follow<const P: usize>(nodes: &mut Nodes<P>, cut: &mut Cut, spot: &LeafSpot, 
         cut.place.nearest = moved.to;
     }
     cut.last = moved.before;
-    cut.guess = guess_before(nodes, spot);
+    cut.edge = spot.edge;
+    cut.above = spot.above;
 }
 
-/// Returns where the last leaf of the row is. Tests the guess, and descends by the leaf's key if it
-/// is wrong.
+/// Returns where the last leaf of the row is. Most often it is at the edge before that of the leaf
+/// that moved last, in the same node.
 fn spot_near<K: AsBytes, V, const P: usize>(
     leaves: &Leaves<K, V>,
     nodes: &Nodes<P>,
@@ -152,7 +155,58 @@ fn spot_near<K: AsBytes, V, const P: usize>(
     requires has { Has leaves.now.pairs cut.now.last }
     ensures { LeadsTo (at nodes.now) (Some cut.now.root) result.edge (Leaf cut.now.last) }
 {
-    if let Some(guess) = cut.guess {
+    if let Some((node, byte)) = &cut.edge {
+        if let Some(before) = byte_before(nodes, (*node, *byte), &cut.last) {
+            return LeafSpot {
+                id: cut.last,
+                edge: Some((*node, before)),
+                above: cut.above,
+            };
+        }
+    }
+    spot_beyond(leaves, nodes, cut)
+}
+
+/// Returns the byte of the edge before an edge in its node, if it leads to a leaf.
+#[inline(always)]
+fn byte_before<const P: usize>(nodes: &Nodes<P>, edge: (NodeId, u8), leaf: &CellId) -> Option<u8>
+    ensures { IfSome result (λ byte. (root : Option Way)
+        → LeadsTo (at nodes.now) root (Some (edge.0, byte)) (Leaf leaf.now)) }
+{
+    if !nodes.has(edge.0) {
+        return None;
+    }
+    let before = nodes.read(edge.0, &mut Visits::new()).edge_before(edge.1)?;
+    if !is_leaf(&before.to, leaf) {
+        return None;
+    }
+    Some(before.byte)
+}
+
+/// Returns `true` if a child is this leaf.
+#[inline(always)]
+fn is_leaf(child: &Child, leaf: &CellId) -> bool
+    ensures { result ≡ true → child.now ≡ Leaf leaf.now }
+{
+    match child {
+        Child::Leaf(id) => id == leaf,
+        Child::Inner(_) => false,
+    }
+}
+
+/// Returns where the last leaf of the row is. Guesses its edge and tests the guess, and descends by
+/// the leaf's key if it is wrong.
+#[inline(never)]
+fn spot_beyond<K: AsBytes, V, const P: usize>(
+    leaves: &Leaves<K, V>,
+    nodes: &Nodes<P>,
+    cut: &Cut,
+) -> LeafSpot
+    requires sound { IsSound K.bytes P leaves.now nodes.now (Some cut.now.root) }
+    requires has { Has leaves.now.pairs cut.now.last }
+    ensures { LeadsTo (at nodes.now) (Some cut.now.root) result.edge (Leaf cut.now.last) }
+{
+    if let Some(guess) = guess_before(nodes, &cut.edge, &cut.above) {
         if leads_to(nodes, guess.edge, &cut.last) {
             return LeafSpot {
                 id: cut.last,
@@ -171,23 +225,23 @@ fn leads_to<const P: usize>(nodes: &Nodes<P>, edge: (NodeId, u8), leaf: &CellId)
     if !nodes.has(edge.0) {
         return false;
     }
-    let Some(child) = nodes.read(edge.0, &mut Visits::new()).find(edge.1) else {
-        return false;
-    };
-    match child {
-        Child::Leaf(id) => id == *leaf,
-        Child::Inner(_) => false,
+    match nodes.read(edge.0, &mut Visits::new()).find(edge.1) {
+        None => false,
+        Some(child) => is_leaf(&child, leaf),
     }
 }
 
-/// Guesses the edge to the leaf before one. It is in the same node or below it, or in the node above
-/// or below that.
-fn guess_before<const P: usize>(nodes: &Nodes<P>, spot: &LeafSpot) -> Option<Guess> {
-    let edge = spot.edge?;
-    if let Some(guess) = last_before(nodes, edge, spot.above) {
+/// Guesses the edge to the leaf before that of an edge. It is below the same node, or below the node
+/// above that.
+fn guess_before<const P: usize>(
+    nodes: &Nodes<P>,
+    edge: &EdgeAbove,
+    above: &EdgeAbove,
+) -> Option<Guess> {
+    if let Some(guess) = last_before(nodes, (*edge)?, *above) {
         return Some(guess);
     }
-    last_before(nodes, spot.above?, None)
+    last_before(nodes, (*above)?, None)
 }
 
 /// Returns the last edge below those of a node that come before an edge. `above` is the edge to the
