@@ -4,6 +4,7 @@ mod ids;
 mod kinds;
 mod pair_lists;
 mod records;
+mod steps;
 mod trees;
 
 use art_kinds::Child;

@@ -1,4 +1,4 @@
-//! The ids of leaves: each stays while its leaf does, and is free again after that.
+//! The ids of leaves: each remains valid while its leaf does, and is used again after that.
 ghost use Rattle.std.specs.Prelude.{◌<◌};
 ghost use Rattle.std.specs.Vec.{vec_len};
 
@@ -151,7 +151,12 @@ enum Removal {
 }
 
 // Removes the pair of a key.
-fn remove_by(rt: &impl Abort, tree: &mut Tree<Key, usize, 2>, key: &Key, removal: Removal) {
+fn remove_by<const P: usize>(
+    rt: &impl Abort,
+    tree: &mut Tree<Key, usize, P>,
+    key: &Key,
+    removal: Removal,
+) {
     match removal {
         Removal::Take => assert!(rt; tree.take(key).is_some()),
         Removal::Remove => {
@@ -164,7 +169,12 @@ fn remove_by(rt: &impl Abort, tree: &mut Tree<Key, usize, 2>, key: &Key, removal
 }
 
 // A pair comes and goes.
-fn come_and_go(rt: &impl Abort, tree: &mut Tree<Key, usize, 2>, removal: Removal, count: usize) {
+fn come_and_go<const P: usize>(
+    rt: &impl Abort,
+    tree: &mut Tree<Key, usize, P>,
+    removal: Removal,
+    count: usize,
+) {
     for _ in 0..count {
         let key = [1, 2, 3, 4];
         add(rt, tree, key, 1);
@@ -173,10 +183,10 @@ fn come_and_go(rt: &impl Abort, tree: &mut Tree<Key, usize, 2>, removal: Removal
 }
 
 // A pair that comes and goes 100,000 times takes less than 1 MB, after the program has run for a
-// while. An id that is not free again would take 16 bytes each time.
-fn assert_steady(
+// while. A cell that is not used again would take more than 16 bytes each time.
+fn assert_steady<const P: usize>(
     rt: &(impl Abort + AllocGlobal + Files),
-    tree: &mut Tree<Key, usize, 2>,
+    tree: &mut Tree<Key, usize, P>,
     removal: Removal,
 ) {
     let _ = memory(rt);
@@ -189,9 +199,9 @@ fn assert_steady(
 }
 
 // The placements of a pair that comes and goes 1,000 times return at most 16 ids.
-fn assert_few_ids(
+fn assert_few_ids<const P: usize>(
     rt: &(impl Abort + AllocGlobal),
-    tree: &mut Tree<Key, usize, 2>,
+    tree: &mut Tree<Key, usize, P>,
     removal: Removal,
 ) {
     let mut ids: Vec<LeafId> = Vec::new(rt.alloc());
@@ -209,8 +219,8 @@ fn assert_few_ids(
 }
 
 // A pair comes and goes in a tree of 100 pairs.
-fn assert_used_again(rt: &(impl Abort + AllocGlobal + Files), removal: Removal) {
-    let mut tree = Tree::new(rt.alloc());
+fn used_again_in<const P: usize>(rt: &(impl Abort + AllocGlobal + Files), removal: Removal) {
+    let mut tree = Tree::<Key, usize, P>::new(rt.alloc());
     for value in 0..100u8 {
         add(rt, &mut tree, [value / 10, value % 10, 3, 5], 0);
     }
@@ -219,6 +229,13 @@ fn assert_used_again(rt: &(impl Abort + AllocGlobal + Files), removal: Removal) 
     let len = tree.len();
     drop(tree);
     assert!(rt; len == 100);
+}
+
+// The same at each of three prefix lengths.
+fn assert_used_again(rt: &(impl Abort + AllocGlobal + Files), removal: Removal) {
+    used_again_in::<0>(rt, removal);
+    used_again_in::<2>(rt, removal);
+    used_again_in::<16>(rt, removal);
 }
 
 #[test]
@@ -238,9 +255,52 @@ fn ids_are_used_again_after_remove_prefix(rt: HostRuntime) {
 
 #[test]
 fn ids_are_used_again_after_clear(rt: HostRuntime) {
-    let mut tree = Tree::new(rt.alloc());
+    let mut tree = Tree::<Key, usize, 2>::new(rt.alloc());
     assert_few_ids(&rt, &mut tree, Removal::Clear);
     let is_empty = tree.is_empty();
     drop(tree);
     assert!(rt; is_empty);
+}
+
+// How many pairs there are while 10,000 others come and go, each at a place of its own.
+const STAYING: usize = 300;
+
+// Pairs come at random places, and random pairs go. Since each id is used again, there are few.
+fn change_places<const P: usize>(rt: &(impl Abort + AllocGlobal)) {
+    let mut tree = Tree::<Key, usize, P>::new(rt.alloc());
+    let mut kept = Vec::new(rt.alloc());
+    let mut ids: Vec<LeafId> = Vec::new(rt.alloc());
+    let mut random = Random {
+        state: 88172645463325252,
+    };
+    for step in 0..STAYING {
+        place_one(rt, &mut tree, &mut kept, &mut random, step);
+    }
+    for step in 0..10_000usize {
+        place_one(rt, &mut tree, &mut kept, &mut random, step);
+        note_last(rt, &mut ids, &kept);
+        take_one(rt, &mut tree, &mut kept, &mut random);
+        assert_some_named(rt, &tree, &kept, &mut random);
+    }
+    let count = ids.len();
+    drop(ids);
+    drop(kept);
+    drop(tree);
+    assert!(rt; count <= 2 * STAYING, "{count} ids");
+}
+
+// Keeps the id of the pair that was placed last, unless it is kept.
+fn note_last(rt: &impl Abort, ids: &mut Vec<LeafId>, kept: &Vec<Kept>) {
+    if let Some(last) = kept.last() {
+        if !ids.iter().any(|it| *it == last.id) {
+            ids.push(last.id).expect(rt, "memory");
+        }
+    }
+}
+
+#[test]
+fn ids_are_used_again_at_other_places(rt: HostRuntime) {
+    change_places::<0>(&rt);
+    change_places::<2>(&rt);
+    change_places::<16>(&rt);
 }
