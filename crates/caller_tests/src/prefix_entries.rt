@@ -87,7 +87,10 @@ pub fn target_or(
     ensures found { IfOk result (λ v. value_at zkey_bytes (pairs sections.new) (zkey_bytes section) ≡ Some v) }
     ensures refused { OnErr result (sections.new ≡ sections.old) }
 {
-    let entry = sections.prefix_entry(section).kind().or_insert_with_entry(|| target)?;
+    let entry = sections
+        .prefix_entry(section)
+        .kind()
+        .or_insert_with_entry(|| target)?;
     Ok(*entry.into_mut())
 }
 

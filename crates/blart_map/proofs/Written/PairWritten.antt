@@ -6,7 +6,7 @@ use Rattle.std.proofs.lemmas.Grind.{common_steps}
 use Rattle.art_tree.specs.Leaves.{Numbered, leaf_in, Lacks, with_value}
 use Rattle.art_insert.proofs.Placed.Again.{with_with}
 use Rattle.art_insert.proofs.Placed.Setting.{pair_written as pair_set}
-use Rattle.art_walk.specs.Lent.{written_all, written_last, IsLent, LentFirst, LentLast}
+use Rattle.art_walk.specs.Lent.{written_all, written_last, LentFirst, LentLast}
 
 module _ {K V : Type 0} where
   -- values written at two places, in either order

@@ -23,13 +23,17 @@ impl<K: AsBytes, V, const PREFIX_LEN: usize> TreeMap<K, V, PREFIX_LEN> {
     ghost use Rattle.blart_map.specs.OnceTaken.{once_taken, still_to_take};
     ghost use Rattle.blart_map.specs.TakeWalk.{take_map, take_undecided, take_left};
 
-    /// A walk that lends each value to be written, with its key, in byte order of the keys, from both ends. Takes no memory; each step reads one pair.
+    /// Returns a walk over mutable references to all values, in byte order of the keys, from both ends.
+    /// It does not allocate. Each step reads one pair.
+    ///
+    /// [`CountedWalk::pair`] returns the value again, with its key. A caller's proof of such a loop cites
+    /// the lemma `pair_written`, and needs the name `_seen`: from `Some(_)` it learns nothing.
     ///
     /// ```
     /// let mut walk = map.iter_mut();
-    /// while let Some(_) = walk.next() {
+    /// while let Some(_seen) = walk.next() {
     ///     let (key, value) = walk.pair();
-    ///     *value += key.len();
+    ///     *value = key.len();
     /// }
     /// ```
     pub fn iter_mut(&mut self) -> IterMut<'_, K, V, PREFIX_LEN>

@@ -7,6 +7,7 @@ mod merges;
 mod prefix_entries;
 mod readme;
 mod reserved;
+mod retaining;
 mod sets;
 mod walks;
 

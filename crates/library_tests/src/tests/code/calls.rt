@@ -1,6 +1,8 @@
 //! Calls of maps that no line makes.
 use crate::tests::map_of;
+use blart::{key_text_law, number_text_law};
 use blart_map::{IntoIter, TreeMap};
+use blart_set::TreeSet;
 use std::iter::{IntoIterator, Iterator};
 
 // The digits of the values, in the order in which a loop gives the pairs.
@@ -32,4 +34,25 @@ fn the_only_key_of_its_type(rt: HostRuntime) {
     let is_empty = map.is_empty();
     drop(map);
     assert!(rt; removed == 0 && is_empty);
+}
+
+// Laws do nothing.
+#[test]
+fn laws(rt: HostRuntime) {
+    let map = map_of::<u8, usize, 2>(&rt, &[(5, 0), (3, 1)]);
+    map.put_law();
+    map.over_law();
+    map.parts_law();
+    let len = map.len();
+    drop(map);
+    let low = TreeSet::from_array(rt.alloc(), [1u8, 2]).expect(&rt, "memory");
+    let high = TreeSet::<u8, 16>::from_array(rt.alloc(), [2u8, 3]).expect(&rt, "memory");
+    low.union_law(&high);
+    low.symmetric_difference_law(&high);
+    let elements = (low.len(), high.len());
+    drop(low);
+    drop(high);
+    key_text_law(&[1, 255]);
+    number_text_law(256);
+    assert!(rt; len == 2 && elements == (2, 2));
 }

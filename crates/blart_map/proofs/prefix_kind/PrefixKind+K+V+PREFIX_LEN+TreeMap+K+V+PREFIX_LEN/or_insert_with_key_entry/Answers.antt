@@ -1,4 +1,4 @@
-use Rattle.std.proofs.Common.{rules, refl, sym, ap, Some, Result, Ok, Err, IfOk}
+use Rattle.std.proofs.Common.{rules, refl, Result, Ok, Err, IfOk}
 use Rattle.blart_map.proofs.prefix_kind.PrefixKind+K+V+PREFIX_LEN+TreeMap+K+V+PREFIX_LEN.or_insert_with_key_entry.Goals as goal
 
 -- a result that holds of one value holds of some value
