@@ -1,4 +1,4 @@
-use Rattle.std.proofs.Common.{◌≡◌, ◌≤◌, reverse, length}
+use Rattle.std.proofs.Common.{◌≤◌, reverse, length}
 use Rattle.art_tree.specs.Leaves.{AreDistinct}
 use Rattle.art_tree.specs.Pairs.{pairs_of}
 use Rattle.art_walk.specs.Cursor.{leaves_left, FitsIn}
