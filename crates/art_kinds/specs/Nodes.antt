@@ -1,5 +1,5 @@
 -- What a contract sees of the inner nodes.
-use Rattle.std.specs.Prelude.{◌≡◌, ◌≢◌, ℕ, zero, suc, ◌+◌, ◌-◌, ◌*◌, ◌/◌, ◌%◌, ◌≤◌, ◌<◌, ◌⊎◌, List, [], ◌∷◌, ◌++◌, take, drop, length, slice_index, Option, Some, None, sum_by, min, max, refl}
+use Rattle.std.specs.Prelude.{◌≡◌, ◌≢◌, ℕ, zero, suc, ◌+◌, ◌-◌, ◌*◌, ◌/◌, ◌%◌, ◌≤◌, ◌<◌, List, [], ◌∷◌, ◌++◌, take, drop, length, Option, Some, None, sum_by, min, max, refl}
 use Rattle.std.specs.Coded.{Coded, code_by, coded×, coded_ℕ, coded_list}
 use Rattle.art_kinds.specs.declared.records.ids.Edge.{Edge}
 use Rattle.art_kinds.specs.declared.records.ids.Child.{Child}
@@ -115,23 +115,6 @@ HasPlace s id = (x : Node) → at s id ≡ Some x → id % 4 < 3 → length x.ed
 -- the node has a place for one child more, or there is a spare record of the next kind
 abbrev pub FitsMore : Nodes → ℕ → Type 0
 FitsMore s id = (x : Node) → at s id ≡ Some x → id % 4 < 3 → places (id % 4) ≤ length x.edges → 0 < (store_of s (id % 4 + 1)).spare
-
--- the edge of a node by the byte that q has at the node's depth
-pub record IsEdgeBy (x : Node) (q : List ℕ) (e : Edge) : Type 0 where
-  pub below : x.depth < length q
-  pub byte : e.byte ≡ slice_index q x.depth
-  pub there : child_at x.edges e.byte ≡ Some e.to
-
--- that edge, or none if q is no longer than the depth or the node has no such edge
-abbrev pub IsToward : Node → List ℕ → Option Edge → Type 0
-IsToward x q None = (length q ≤ x.depth) ⊎ (child_at x.edges (slice_index q x.depth) ≡ None)
-IsToward x q (Some e) = IsEdgeBy x q e
-
--- the same of the node under a number
-pub record GoesBy (nodes : ℕ → Option Node) (n : ℕ) (q : List ℕ) (found : Option Edge) : Type 0 where
-  pub node : Node
-  pub is : nodes n ≡ Some node
-  pub edge : IsToward node q found
 
 -- the nodes are as before
 abbrev pub SameNodes : Nodes → Nodes → Type 0

@@ -131,8 +131,12 @@ fn leaf_below<const P: usize>(
             Child::Leaf(id) => return Some(id),
             Child::Inner(id) => id,
         };
-        let next = nodes.toward(id, query, visits)?;
-        below = next.to;
+        let node = nodes.read(id, visits);
+        let depth = node.depth();
+        if depth >= query.len() {
+            return None;
+        }
+        below = node.find(query[depth])?;
     }
 }
 
@@ -183,9 +187,14 @@ fn leaf_toward<const P: usize>(
             Child::Leaf(id) => return Some(LeafSpot { id, edge, above }),
             Child::Inner(id) => id,
         };
-        let next = nodes.toward(id, query, visits)?;
+        let node = nodes.read(id, visits);
+        let depth = node.depth();
+        if depth >= query.len() {
+            return None;
+        }
+        let byte = query[depth];
+        at = node.find(byte)?;
         above = edge;
-        edge = Some((id, next.byte));
-        at = next.to;
+        edge = Some((id, byte));
     }
 }

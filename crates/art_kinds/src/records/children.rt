@@ -25,10 +25,6 @@ pub(crate) trait Children: Drop {
     fn count(&self) -> usize
         ensures { result ≡ length (edges self.now) };
 
-    /// Returns the child at the edge of a byte, or `None` if there is no such edge.
-    fn find(&self, byte: u8) -> Option<Child>
-        ensures { result ≡ child_at (edges self.now) byte };
-
     /// Adds an edge, at a byte that has none.
     fn insert(&mut self, byte: u8, to: Child)
         requires room { FitsIn places (length (edges self.old) + 1) }
@@ -63,11 +59,6 @@ impl<const N: usize> Children for Few<N> {
         Few::count(self)
     }
 
-    #[inline(always)]
-    fn find(&self, byte: u8) -> Option<Child> {
-        Few::find(self, byte)
-    }
-
     fn insert(&mut self, byte: u8, to: Child) {
         Few::insert(self, byte, to);
     }
@@ -98,11 +89,6 @@ impl Children for Indexed {
         Indexed::count(self)
     }
 
-    #[inline(always)]
-    fn find(&self, byte: u8) -> Option<Child> {
-        Indexed::find(self, byte)
-    }
-
     fn insert(&mut self, byte: u8, to: Child) {
         Indexed::insert(self, byte, to);
     }
@@ -130,11 +116,6 @@ impl Children for Full {
 
     fn count(&self) -> usize {
         Full::count(self)
-    }
-
-    #[inline(always)]
-    fn find(&self, byte: u8) -> Option<Child> {
-        Full::find(self, byte)
     }
 
     fn insert(&mut self, byte: u8, to: Child) {

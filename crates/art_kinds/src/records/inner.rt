@@ -1,13 +1,12 @@
 //! A node of any kind, and what is done to one among the nodes of its kind.
 ghost use Rattle.std.specs.Prelude.{◌≡◌, ◌+◌, ◌<◌, ◌≤◌, ◌^◌, take, length, None, IsSome, IsSomeAnd, OnOk, IfOk};
 ghost use Rattle.art_kinds.specs.Edges.{child_at, AddsChild, DropsChild, RedirectsChild};
-ghost use Rattle.art_kinds.specs.Nodes.{IsToward};
 ghost use Rattle.art_kinds.specs.OneKinds.{FitsIn, IsOneKind, Rewires, Changes, Grows};
 ghost use Rattle.art_slots.specs.Store.{slot_at, SameRecords};
 
 use crate::records::children::Children;
-use crate::records::ids::{Child, Edge};
-use art_slots::{Store, Visits};
+use crate::records::ids::Child;
+use art_slots::Store;
 use std::alloc::AllocError;
 use std::marker::Model;
 
@@ -69,23 +68,6 @@ impl<C: Children, const P: usize> Inner<C, P> {
             edges,
             prefix: self.prefix,
         }
-    }
-
-    /// Returns the edge by the byte that a query has at the node's depth, or `None` if the query is
-    /// not longer or the node has no such edge. One visit.
-    #[inline(always)]
-    pub(super) fn toward(&self, query: &[u8], visits: &mut Visits) -> Option<Edge>
-        ensures found { IsToward self.now query.now result }
-        ensures counted { visits.new.count ≡ visits.old.count + 1 }
-    {
-        visits.add_one();
-        let depth = self.depth;
-        if depth >= query.len() {
-            return None;
-        }
-        let byte = query[depth];
-        let to = self.edges.find(byte)?;
-        Some(Edge { byte, to })
     }
 }
 

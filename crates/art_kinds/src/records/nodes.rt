@@ -2,7 +2,7 @@
 ghost use Rattle.std.specs.Prelude.{true, false, ◌≡◌, ℕ, ◌+◌, ◌%◌, ◌*◌, ◌/◌, ◌-◌, ◌<◌, ◌≤◌, ◌^◌, ◌++◌, ◌∷◌, length, take, drop, slice_get, None, Some, IsSome, is_some, IsSomeAnd, OnOk, IfOk, OnErr};
 ghost use Rattle.art_kinds.specs.Edges.{child_at, Ascends, IsNext, IsPrevious, IsEnd};
 ghost use Rattle.art_slots.specs.Store.{slot_at};
-ghost use Rattle.art_kinds.specs.Nodes.{at, live, room, FitsNew, FitsMore, HasPlace, Lowers, SameNodes, SameSpares, MoreSpares, GoesBy, Makes, Renames, AddsEdgeTo, Redirects, DropsEdge, Reprefixes, JoinsPrefix, CutsPrefix, Frees};
+ghost use Rattle.art_kinds.specs.Nodes.{at, live, room, FitsNew, FitsMore, HasPlace, Lowers, SameNodes, SameSpares, MoreSpares, Makes, Renames, AddsEdgeTo, Redirects, DropsEdge, Reprefixes, JoinsPrefix, CutsPrefix, Frees};
 
 use crate::records::few::Few;
 use crate::records::full::Full;
@@ -253,22 +253,6 @@ impl<const P: usize> Nodes<P> {
         // Whoever counts the edges learns that their bytes rise.
         let _count = node.count();
         node
-    }
-
-    /// Returns the edge of a node by the byte that a query has at the node's depth, or `None` if the
-    /// query is not longer or the node has no such edge. One visit.
-    #[inline(always)]
-    pub fn toward(&self, id: NodeId, query: &[u8], visits: &mut Visits) -> Option<Edge>
-        requires { IsSome (at self.now id) }
-        ensures found { GoesBy (at self.now) id query.now result }
-        ensures counted { visits.new.count ≡ visits.old.count + 1 }
-    {
-        match id.kind {
-            Kind::Four => self.fours.read(id.place).toward(query, visits),
-            Kind::Sixteen => self.sixteens.read(id.place).toward(query, visits),
-            Kind::FortyEight => self.forty_eights.read(id.place).toward(query, visits),
-            Kind::Full => self.fulls.read(id.place).toward(query, visits),
-        }
     }
 
     // The node under a number.
