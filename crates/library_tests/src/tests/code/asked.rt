@@ -66,9 +66,11 @@ impl<'a> AsBytes for Asked<'a> {
 
 type Map<'a, const P: usize> = TreeMap<Asked<'a>, usize, P>;
 
-// Each of a thousand insertions asks the key that comes, and one stored key at most, or two where less than two bytes of a prefix are kept; and that of a leaf which makes way.
+// Each of a thousand insertions reads the bytes of the new key, and of one stored key at most, or of two
+// if less than two bytes of a prefix are kept. If it cuts a full row in half, it may also read the keys
+// of the 32 leaves that move.
 fn put_thousand<'a, const P: usize>(rt: &impl Abort, map: &mut Map<'a, P>, tally: &'a Cell<Tally>) {
-    let most = if P < 2 { 4 } else { 3 };
+    let most = if P < 2 { 35 } else { 34 };
     for place in 0..1000 {
         begin_round(tally);
         let key = Asked {
