@@ -1,12 +1,15 @@
 -- What a caller cites of the numbered pairs of a tree, of their ends and bounds, and of keys that leave all others.
-use Rattle.std.proofs.Common.{◌≡◌, ◌<◌, ℕ, List, [], ◌∷◌, ◌++◌, length, take, true, false, ap, sym, subst, ◌∙◌, arith, inl, inr}
-use Rattle.std.proofs.lemmas.Bool.{false_from_ne_true, cases_lt}
-use Rattle.blart_keys.specs.Bytes.{related}
-use Rattle.blart_keys.specs.Content.{IsContent}
+use Rattle.std.proofs.Common.{◌≡◌, ◌<◌, ℕ, List, [], ◌∷◌, ◌++◌, length, take, true, false, ap, sym, subst, ◌∙◌, arith, inl, inr, None}
+use Rattle.std.proofs.lemmas.Bool.{false≢true, false_from_ne_true, cases_lt}
+use Rattle.blart_keys.specs.Bytes.{related, conflicts}
+use Rattle.blart_keys.specs.Content.{IsContent, at, stores, conflict}
+use Rattle.blart_keys.specs.Steps.{bytes as pair_bytes}
 use Rattle.blart_keys.proofs.RankLemmas.{Member}
-use Rattle.blart_keys.proofs.ContentLemmas.{same_item}
+use Rattle.blart_keys.proofs.ContentLemmas.{same_item, at_absent, related-same, conflict_found, stores_found}
+use Rattle.blart_keys.proofs.Mapped.{list_any-map}
 use Rattle.art_cells.specs.Begins.{Bytes, Begins, next_byte}
 use Rattle.art_cells.specs.Leaves.{Numbered, AreDistinct, bytes, keys_in}
+use Rattle.art_cells.specs.Pairs.{pairs_of}
 use Rattle.art_cells.specs.Places.{LeavesNearest}
 use Rattle.art_cells.proofs.BeginsLemmas.{Begins-linear, Begins-more, Begins-past, Begins-trans, related_cases, related-from_front}
 use Rattle.art_cells.proofs.Pairs.KeyChanges.{departs_at}
@@ -33,6 +36,23 @@ pub use Rattle.art_cells.proofs.Pairs.Filtering.{AreDistinct-filter, filter-with
 pub use Rattle.art_cells.proofs.Pairs.Keys.{key_of_member, member_of_key, pair_of_key, key_of_pair, has_key}
 -- the ends of what is within a bound, or below some bytes
 pub use Rattle.art_cells.proofs.Pairs.Bounds.{are_ends, ends_are, no_pairs_between, number_within_has}
+
+module _ {X : Type 0} (bytes : X → List ℕ) (S : List X) (q : List ℕ) (alone : (y : X) → Member y S → related (bytes y) q ≡ false) where
+  -- if nothing is related, nothing conflicts
+  pub alone_no_conflict : conflict bytes S q ≡ false
+  alone_no_conflict = false_from_ne_true _ (λ h. let r = conflict_found bytes S q h in false≢true (sym (alone r.0 r.1) ∙ r.2))
+
+  -- and nothing has the bytes
+  pub alone_absent : stores bytes S q ≡ false
+  alone_absent = false_from_ne_true _ (λ h. let r = stores_found bytes S q h in false≢true (sym (alone r.0 r.1) ∙ related-same (bytes r.0) q r.2))
+
+  -- and nothing is found
+  pub alone_none : at bytes S q ≡ None
+  alone_none = at_absent bytes S q (λ y m e. false≢true (sym (alone y m) ∙ related-same (bytes y) q e))
+
+-- a key conflicts with the pairs if it does with the numbered ones
+pub conflict_pairs : {K V : Type 0} (kb : K → Bytes) (ps : List (Numbered K V)) (q : Bytes) → conflict (pair_bytes kb) (pairs_of ps) q ≡ conflict (bytes kb) ps q
+conflict_pairs kb ps q = list_any-map (λ p. p.1) (λ x. conflicts (kb x.0) q) ps
 
 module _ {K V : Type 0} (kb : K → Bytes) (ps : List (Numbered K V)) (content : IsContent (bytes kb) ps) (distinct : AreDistinct ps) (q : Bytes) where
   -- no key is related to one that leaves the nearest key

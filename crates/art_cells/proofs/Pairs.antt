@@ -1,3 +1,4 @@
+pub mod Added
 pub mod Answers
 pub mod Bounds
 pub mod Branches

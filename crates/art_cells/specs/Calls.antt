@@ -1,3 +1,4 @@
+pub mod Adding
 pub mod Building
 pub mod Cutting
 pub mod Descents

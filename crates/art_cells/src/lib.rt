@@ -13,6 +13,7 @@ mod walk;
 pub use art_rows::{Following, Leaves, Position, Run};
 pub use art_slots::{CellId, Visits};
 pub use lists::begins;
+pub use tree::add::Added;
 pub use tree::build::Frame;
 pub use tree::parting::Beside;
 pub use tree::point::{CellPlace, CellPoint};

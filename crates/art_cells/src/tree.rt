@@ -11,6 +11,7 @@ ghost use Rattle.art_cells.specs.UnderIds.{id_at, under_ids, AreNamed, Extends, 
 ghost use Rattle.art_cells.specs.Points.{IsGood};
 ghost use Rattle.art_cells.specs.Longest.{longest};
 
+pub mod add;
 mod apart;
 pub mod build;
 mod change;
@@ -28,6 +29,7 @@ mod seek;
 pub(crate) mod stop;
 
 use crate::lists::begins;
+use crate::tree::add::make_room_beside;
 use crate::tree::descent::children_of;
 use crate::tree::place::place_at;
 use crate::tree::point::{CellPoint, point_below};
@@ -260,10 +262,7 @@ impl<K: AsBytes + Drop, V: Drop, const PREFIX_LEN: usize> CellTree<K, V, PREFIX_
         match point {
             CellPoint::Exact(_) | CellPoint::Related { .. } => Ok(()),
             CellPoint::Empty => self.leaves.reserve(1),
-            CellPoint::Free(_) => {
-                self.leaves.reserve(1)?;
-                self.nodes.reserve(1)
-            }
+            CellPoint::Free(_) => make_room_beside(&mut self.leaves, &mut self.nodes),
         }
     }
 

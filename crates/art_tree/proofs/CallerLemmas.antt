@@ -19,6 +19,9 @@ pub use Rattle.art_cells.proofs.CallerLemmas.{AreDistinct-filter, filter-without
 -- the ends of what is within a bound, or below some bytes
 pub use Rattle.art_cells.proofs.CallerLemmas.{are_ends, no_pairs_between, number_within_has}
 
+-- what nothing is related to
+pub use Rattle.art_cells.proofs.CallerLemmas.{alone_no_conflict, alone_absent, alone_none, conflict_pairs}
+
 -- no key is related to one whose place is free
 pub free_alone : {K V : Type 0} (kb : K → Bytes) (ps : List (Numbered K V)) → IsContent (bytes kb) ps → AreDistinct ps → (q : Bytes) (place : Place) → IsFree kb ps place q → (y : Numbered K V) → Member y ps → related (bytes kb y) q ≡ false
 free_alone kb ps content distinct q place free y m = leaving_alone kb ps content distinct q place.nearest place.seen.depth free.leaves y m

@@ -118,14 +118,14 @@ module _ {K V : Type 0} (kb : K → List ℕ) (ids : List ℕ) (ps : List (Numbe
 
   -- and one beside an id is beside the cell that its leaf lies in
   module _ (place : Place) (c : ℕ) (h : LiesIn ids ps place.nearest c) (q : Bytes) (beside : Beside) (m : IsFree kb (under_ids ids ps) place q) (a : ℕ) where
-    pub free_after : place.seen.beside ≡ AfterLeaf a → beside ≡ AfterLeaf c → IsFreeCell kb ps (record { nearest = c; depth = place.seen.depth; beside = beside; above = place.seen.above; byte = place.seen.byte }) q
+    pub free_after : place.seen.beside ≡ AfterLeaf a → beside ≡ AfterLeaf c → IsFreeCell kb ps (record { nearest = c; depth = place.seen.depth; beside = beside; spot = place.seen.spot; byte = place.seen.byte }) q
     free_after was is = record {
       leaves = nearest_cell place.nearest c h place.seen.depth q m.leaves;
       beside = subst (λ b. IsBeside (keys_in kb ps) q b) (sym is) (last_before_cell place.nearest c h place.seen.depth q (subst (λ b. IsOnSide (keys_in kb (under_ids ids ps)) q b place.nearest) was m.beside));
       same = rw is refl;
     }
 
-    pub free_before : place.seen.beside ≡ BeforeLeaf a → beside ≡ BeforeLeaf c → IsFreeCell kb ps (record { nearest = c; depth = place.seen.depth; beside = beside; above = place.seen.above; byte = place.seen.byte }) q
+    pub free_before : place.seen.beside ≡ BeforeLeaf a → beside ≡ BeforeLeaf c → IsFreeCell kb ps (record { nearest = c; depth = place.seen.depth; beside = beside; spot = place.seen.spot; byte = place.seen.byte }) q
     free_before was is = record {
       leaves = nearest_cell place.nearest c h place.seen.depth q m.leaves;
       beside = subst (λ b. IsBeside (keys_in kb ps) q b) (sym is) (first_after_cell place.nearest c h place.seen.depth q (subst (λ b. IsOnSide (keys_in kb (under_ids ids ps)) q b place.nearest) was m.beside));

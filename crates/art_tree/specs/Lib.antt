@@ -1,3 +1,4 @@
+pub mod Adding
 pub mod Begins
 pub mod Clones
 pub mod Content

@@ -10,7 +10,7 @@ mod tree;
 mod walk;
 
 pub use art_cells::pair_list::CellPairs as Pairs;
-pub use art_cells::{Frame, Position};
+pub use art_cells::{Added, Frame, Position};
 pub use art_slots::Visits;
 pub use leaf_id::LeafId;
 pub use tree::point::{Place, Point};

@@ -6,10 +6,10 @@ use Rattle.blart_keys.specs.Content.{IsContent, IsPut}
 use Rattle.blart_keys.specs.Steps.{bytes as pair_bytes}
 use Rattle.blart_keys.proofs.Mapped.{put_map}
 use Rattle.art_cells.specs.Begins.{Bytes}
-use Rattle.art_cells.specs.UnderIds.{AreNamed, id_at, under_ids}
-use Rattle.art_cells.proofs.UnderIds.{fresh_id, others_placed}
+use Rattle.art_cells.specs.UnderIds.{AreNamed, Extends, id_at, under_ids}
+use Rattle.art_cells.proofs.UnderIds.{fresh_id, others_placed, under_extended}
 use Rattle.art_cells.specs.Places.{LeavesNearest, IsLeafBefore, IsBeside, neighbour, number_before_place}
-use Rattle.art_cells.specs.Calls.Placing.{IsSpotFor, IsToJoin, TreeGains, PutsPair}
+use Rattle.art_cells.specs.Calls.Placing.{IsSpotFor, IsShown, IsShownIn, IsToJoin, TreeGains, PutsPair}
 use Rattle.art_cells.specs.Leaves.{Leaves, Numbered, leaf_in, Has, AreDistinct, OthersStand, with_pair_after, bytes, keys_in}
 use Rattle.art_kinds.specs.Nodes.{Nodes, Node, at}
 use Rattle.art_cells.specs.Points.{IsFree}
@@ -47,6 +47,11 @@ no_root keys nodes (Some c) s none =
     let a : keys k.0 ≡ Some k.1 = k.2 in
     let b : keys k.0 ≡ None = none k.0 in
     absurd cc
+
+-- a spot that is right for any keys is right for these
+pub shown_rest : (P : ℕ) (nodes : ℕ → Option Node) (root : Child) (place : CellPlace) (keys : ℕ → Option Bytes) (shown : Option Spot) → IfSome shown (IsShown P nodes root place) → IfSome shown (IsShownIn P keys nodes root place.nearest place.depth)
+shown_rest P nodes root place keys None h = tt
+shown_rest P nodes root place keys (Some spot) h = h keys
 
 module _ {K V : Type 0} (key_bytes : K → Bytes) where
   -- the leaf before a place is one of the pairs'
@@ -119,18 +124,30 @@ module _ {K V : Type 0} (key_bytes : K → Bytes) where
         (subst (λ (S : List (Numbered K V)). OthersStand (under_ids new.ids mid) (under_ids new.ids S) (id_at new.ids i)) (sym is) (others_placed new.ids prev i x mid));
   }
 
+  -- a pair put after more cells had ids
+  pub puts_extended : (old mid new : Leaves K V) (cell : ℕ) (x : K × V) → mid.pairs ≡ old.pairs → Extends old.ids mid.ids → ((i : ℕ) → Has old.pairs i → i < length old.ids) → PutsPair key_bytes mid new cell x → PutsPair key_bytes old new cell x
+  puts_extended old mid new cell x same more named p =
+      let e : under_ids mid.ids mid.pairs ≡ under_ids old.ids old.pairs = ap (under_ids mid.ids) same ∙ under_extended old.ids mid.ids old.pairs more named in
+      record {
+        put = subst (λ (S : List (Numbered K V)). IsPut (pair_bytes key_bytes) (map (λ p. p.1) S) x (map (λ p. p.1) new.pairs)) same p.put;
+        now = p.now;
+        fresh = subst (λ (S : List (Numbered K V)). leaf_in S (id_at new.ids cell) ≡ None) e p.fresh;
+        others = subst (λ (S : List (Numbered K V)). OthersStand S (under_ids new.ids new.pairs) (id_at new.ids cell)) e p.others;
+      }
+
   -- the new leaf is to join the tree
-  pub joins : {P : ℕ} → (leaves : Leaves K V) (nodes : Nodes) (root : Child) (new : List (Numbered K V)) (nearest depth i : ℕ) (x : K × V) → IsSound key_bytes P leaves nodes (Some root) → LeavesNearest (keys_in key_bytes leaves.pairs) nearest depth (key_bytes x.0)
-      → Places key_bytes leaves.pairs new i x → IsToJoin P (keys_in key_bytes new) (at nodes) root nearest depth i
-  joins leaves nodes root new nearest depth i x sound good p = record {
+  pub joins : {P : ℕ} → (leaves : Leaves K V) (nodes : Nodes) (root : Child) (new : List (Numbered K V)) (nearest depth : ℕ) (shown : Option Spot) (i : ℕ) (x : K × V) → IsSound key_bytes P leaves nodes (Some root) → LeavesNearest (keys_in key_bytes leaves.pairs) nearest depth (key_bytes x.0)
+      → IfSome shown (IsShownIn P (keys_in key_bytes leaves.pairs) (at nodes) root nearest depth) → Places key_bytes leaves.pairs new i x → IsToJoin P (keys_in key_bytes new) (at nodes) root nearest depth shown i
+  joins leaves nodes root new nearest depth shown i x sound good known p = record {
     rest = keys_in key_bytes leaves.pairs;
     shape = sound.shape;
     key = key_bytes x.0;
     leaves = good;
     gains = places_gain leaves.pairs new i x p;
+    known = known;
   }
 
-module _ {P : ℕ} (keys : ℕ → Option Bytes) (nodes : ℕ → Option Node) (root : Child) (nearest depth i : ℕ) (new : IsToJoin P keys nodes root nearest depth i) where
+module _ {P : ℕ} (keys : ℕ → Option Bytes) (nodes : ℕ → Option Node) (root : Child) (nearest depth : ℕ) (shown : Option Spot) (i : ℕ) (new : IsToJoin P keys nodes root nearest depth shown i) where
   -- the nearest leaf is another
   another : nearest ≢ i
   another e = let a : new.rest i ≡ Some new.leaves.nearest_key = ap new.rest (sym e) ∙ new.leaves.nearest_is in let b : new.rest i ≡ None = new.gains.fresh in let z : None ≡ Some new.leaves.nearest_key = sym b ∙ a in cc

@@ -1,16 +1,26 @@
--- A spot that a leaf at hand shows.
-use Rattle.std.proofs.Common.{◌≡◌, ℕ, ◌+◌, ◌<◌, ◌≤◌, [], ◌∷◌, ◌++◌, length, take, ap, sym, subst, ◌∙◌, Option, Some, None, arith, length-append}
+-- A spot that is known without a descent.
+use Rattle.std.proofs.Common.{◌≡◌, ℕ, Bool, true, false, List, ◌+◌, ◌<◌, ◌≤◌, [], ◌∷◌, ◌++◌, length, take, ap, sym, subst, ◌∙◌, Option, Some, None, arith, length-append}
 use Rattle.std.proofs.lemmas.List.{length-take-le}
+use Rattle.std.specs.Prelude.{not}
+use Rattle.art_kinds.specs.Edges.{child_at}
 use Rattle.art_cells.specs.Begins.{Bytes, Begins}
+use Rattle.art_cells.specs.Calls.Descents.{IsEndUnder}
+use Rattle.art_cells.specs.Calls.Partings.{LeavesAtNode, IsNextTo}
 use Rattle.art_cells.specs.Invariant.EdgesAbove.{LeadsTo, edge_front}
-use Rattle.art_cells.specs.Invariant.Shape.{Shape, CoversLeaf, CoversNode}
+use Rattle.art_cells.specs.Invariant.Shape.{Shape, Covers, CoversLeaf, CoversNode}
 use Rattle.art_cells.specs.Calls.Placing.{IsOverLeaf}
-use Rattle.art_cells.specs.Calls.Removing.{EndsBelow}
-use Rattle.art_cells.specs.Calls.Spots.{SpotFits}
+use Rattle.art_cells.specs.Calls.Removing.{EndsBelow, StartsBelow}
+use Rattle.art_cells.specs.Calls.Spots.{SpotFits, PastLength}
+use Rattle.art_cells.specs.Calls.Stops.{PastDepth, StopsAt, IsStopBelow}
+use Rattle.art_cells.specs.declared.tree.stop.Stop.{Stop}
+use Rattle.art_cells.specs.declared.tree.stop.Stop.TheVariants as stop
 use Rattle.art_kinds.specs.Nodes.{Node}
 use Rattle.art_kinds.specs.declared.records.ids.Child.{Child}
 use Rattle.art_kinds.specs.declared.records.ids.Child.TheVariants.{Leaf, Inner}
+use Rattle.art_kinds.specs.declared.records.ids.Edge.{Edge}
+use Rattle.art_cells.specs.declared.tree.descent.Spot.{Spot}
 use Rattle.art_cells.specs.declared.tree.descent.Spot.TheVariants as spot
+use Rattle.art_cells.specs.declared.tree.point.CellPlace.{CellPlace}
 use Rattle.art_cells.proofs.BeginsLemmas.{Begins-edge_front, Begins-linear, Begins-take, take_front}
 use Rattle.art_cells.proofs.Invariant.Growing.{covers_above}
 
@@ -28,6 +38,17 @@ module _ {P : ℕ} (keys : ℕ → Option Bytes) (nodes : ℕ → Option Node) (
       let k : length (s.front_of a.0 ++ a.1 ∷ []) ≡ length (s.front_of a.0) + 1 = length-append (s.front_of a.0) (a.1 ∷ []) in
       omega arith
 
+  -- an edge that does not begin too deep, and leads past the depth
+  pub shown_past : (c : Child) → depth ≤ length nearest → LeadsTo nodes root above c → EndsBelow nodes above depth → Begins (edge_front s.front_of above) nearest → PastDepth nodes depth c → SpotFits nodes root s.front_of nearest depth (spot.Edge above c)
+  shown_past c long leads ends front past =
+      let w : length (edge_front s.front_of above) ≤ depth = front_within c above leads ends in
+      let l : length (take depth nearest) ≡ depth = length-take-le depth nearest long in
+      (record { leads = leads; along = Begins-linear (edge_front s.front_of above) (take depth nearest) nearest front (Begins-take depth nearest) (omega arith) }, go c past)
+    where
+      go : (c : Child) → PastDepth nodes depth c → PastLength s.front_of depth c
+      go (Leaf i) p = tt
+      go (Inner m) p = let d : p.0.depth ≡ length (s.front_of m) = (s.node m p.0 p.1).depth in let l : depth < p.0.depth = p.2 in omega arith
+
   -- an edge that leads to the nearest leaf and does not begin too deep
   pub shown_edge : depth ≤ length nearest → LeadsTo nodes root above (Leaf leaf) → EndsBelow nodes above depth → SpotFits nodes root s.front_of nearest depth (spot.Edge above (Leaf leaf))
   shown_edge long leads ends =
@@ -35,21 +56,66 @@ module _ {P : ℕ} (keys : ℕ → Option Bytes) (nodes : ℕ → Option Node) (
       let own : keys leaf ≡ Some c.key = c.is in
       let same : c.key ≡ nearest = cc in
       let front : Begins (edge_front s.front_of above) nearest = subst (λ (z : Bytes). Begins (edge_front s.front_of above) z) same c.front in
-      let w : length (edge_front s.front_of above) ≤ depth = front_within (Leaf leaf) above leads ends in
-      let l : length (take depth nearest) ≡ depth = length-take-le depth nearest long in
-      (record { leads = leads; along = Begins-linear (edge_front s.front_of above) (take depth nearest) nearest front (Begins-take depth nearest) (omega arith) }, tt)
+      shown_past (Leaf leaf) long leads ends front tt
+
+  -- a node so deep, whose prefix the nearest key begins with
+  pub shown_front : (n : ℕ) (x : Node) → nodes n ≡ Some x → x.depth ≡ depth → LeadsTo nodes root above (Inner n) → Begins (s.front_of n) nearest → SpotFits nodes root s.front_of nearest depth (spot.Node above n)
+  shown_front n x is e leads front =
+      let d : x.depth ≡ length (s.front_of n) = (s.node n x is).depth in
+      let long : length (s.front_of n) ≡ depth = sym d ∙ e in
+      let stands : s.front_of n ≡ take depth nearest = sym (take_front (s.front_of n) nearest front) ∙ ap (λ (z : ℕ). take z nearest) long in
+      let v : CoversNode keys nodes s.front_of (edge_front s.front_of above) n = covers_above keys nodes root s above (Inner n) leads in
+      (record { leads = leads; along = subst (λ (z : Bytes). Begins (edge_front s.front_of above) z) stands v.front }, stands)
 
   -- an edge that leads to a node so deep with the nearest leaf below it
   pub shown_node : (n byte : ℕ) → LeadsTo nodes root above (Inner n) → IsOverLeaf nodes n depth byte leaf → SpotFits nodes root s.front_of nearest depth (spot.Node above n)
   shown_node n byte leads o =
       let x : Node = o.node in
-      let d : x.depth ≡ length (s.front_of n) = (s.node n x o.is).depth in
-      let e : x.depth ≡ depth = o.deep in
       let c : CoversLeaf keys (s.front_of n ++ byte ∷ []) leaf = (s.node n x o.is).below byte (Leaf leaf) o.there in
       let own : keys leaf ≡ Some c.key = c.is in
       let same : c.key ≡ nearest = cc in
-      let front : Begins (s.front_of n) nearest = Begins-edge_front (s.front_of n) nearest byte (subst (λ (z : Bytes). Begins (s.front_of n ++ byte ∷ []) z) same c.front) in
-      let long : length (s.front_of n) ≡ depth = sym d ∙ e in
-      let stands : s.front_of n ≡ take depth nearest = sym (take_front (s.front_of n) nearest front) ∙ ap (λ (z : ℕ). take z nearest) long in
-      let v : CoversNode keys nodes s.front_of (edge_front s.front_of above) n = covers_above keys nodes root s above (Inner n) leads in
-      (record { leads = leads; along = subst (λ (z : Bytes). Begins (edge_front s.front_of above) z) stands v.front }, stands)
+      shown_front n x o.is o.deep leads (Begins-edge_front (s.front_of n) nearest byte (subst (λ (z : Bytes). Begins (s.front_of n ++ byte ∷ []) z) same c.front))
+
+-- the edge above a descent is that above its stop
+pub stop_below : (nodes : ℕ → Option Node) (root : Option Child) (above : Option (ℕ × ℕ)) (start : ℕ) {child own : Child} → child ≡ own → LeadsTo nodes root above child → StartsBelow nodes above start → (s : Stop) → StopsAt nodes own start s → IsStopBelow nodes root above s
+stop_below nodes root above start is leads starts (stop.Same i) at = tt
+stop_below nodes root above start is leads starts (stop.Shorter i) at = tt
+stop_below nodes root above start is leads starts (stop.Longer c) at = tt
+stop_below nodes root above start is leads starts (stop.AtNode n depth) at = subst (λ (z : Child). LeadsTo nodes root above z) (is ∙ at) leads
+stop_below nodes root above start is leads starts (stop.AtEdge c depth byte) at =
+    (subst (λ (z : Child). LeadsTo nodes root above z) (is ∙ at.0) leads, ends above starts, at.2)
+  where
+    ends : (a : Option (ℕ × ℕ)) → StartsBelow nodes a start → EndsBelow nodes a depth
+    ends None s = tt
+    ends (Some e) s = let low : start ≤ depth = at.1 in let one : start ≡ s.0.depth + 1 = s.2 in (s.0, s.1, omega arith)
+
+-- the edge next to a byte is one of the node's
+next_there : (is_after : Bool) (es : List Edge) (b : ℕ) (e : Edge) → IsNextTo is_after es b e → child_at es e.byte ≡ Some e.to
+next_there true es b e n = n.1
+next_there false es b e n = n.1
+
+-- the spot of a place that was found by a descent is right
+module _ {P : ℕ} (keys : ℕ → Option Bytes) (nodes : ℕ → Option Node) (root : Child) (s : Shape P keys nodes (Some root)) (place : CellPlace) (key : Bytes) (is : keys place.nearest ≡ Some key) (above : Option (ℕ × ℕ)) (depth : ℕ) (deep : place.depth ≡ depth) where
+  under : (g : Bytes) → (is_first : Bool) → IsEndUnder keys is_first g place.nearest → Begins g key
+  under g is_first u = let own : keys place.nearest ≡ Some u.key = u.is in let same : u.key ≡ key = cc in subst (λ (z : Bytes). Begins g z) same u.front
+
+  -- at a node
+  pub shown_at_node : (n : ℕ) → place.spot ≡ spot.Node above n → LeadsTo nodes (Some root) above (Inner n) → (x : Node) → nodes n ≡ Some x → (b : ℕ) (q : Bytes) (l : LeavesAtNode P keys nodes n b q) → depth ≡ length (l.apart.shape.front_of n)
+      → (is_after : Bool) (e : Edge) → IsNextTo is_after x.edges b e → ((g : Bytes) → Covers keys nodes s.front_of g e.to → IsEndUnder keys (not is_after) g place.nearest) → SpotFits nodes (Some root) s.front_of key place.depth place.spot
+  shown_at_node n spot_is leads x x_is b q l d is_after e next end =
+      let covers = (s.node n x x_is).below e.byte e.to (next_there is_after x.edges b e next) in
+      let own : x.depth ≡ length (l.apart.shape.front_of n) = (l.apart.shape.node n x x_is).depth in
+      let front : Begins (s.front_of n) key = Begins-edge_front (s.front_of n) key e.byte (under (s.front_of n ++ e.byte ∷ []) (not is_after) (end (s.front_of n ++ e.byte ∷ []) covers)) in
+      subst (λ (z : Spot). SpotFits nodes (Some root) s.front_of key place.depth z) (sym spot_is)
+      (shown_front keys nodes (Some root) s place.nearest place.depth key is above n x x_is (own ∙ sym d ∙ sym deep) leads front)
+
+  -- at an edge
+  pub shown_at_edge : place.depth ≤ length key → (c : Child) → place.spot ≡ spot.Edge above c → LeadsTo nodes (Some root) above c → EndsBelow nodes above depth → PastDepth nodes depth c
+      → (is_first : Bool) → ((g : Bytes) → Covers keys nodes s.front_of g c → IsEndUnder keys is_first g place.nearest) → SpotFits nodes (Some root) s.front_of key place.depth place.spot
+  shown_at_edge long c spot_is leads ends past is_first end =
+      let g = edge_front s.front_of above in
+      let front : Begins g key = under g is_first (end g (covers_above keys nodes (Some root) s above c leads)) in
+      let ends' : EndsBelow nodes above place.depth = subst (λ (d : ℕ). EndsBelow nodes above d) (sym deep) ends in
+      let past' : PastDepth nodes place.depth c = subst (λ (d : ℕ). PastDepth nodes d c) (sym deep) past in
+      subst (λ (z : Spot). SpotFits nodes (Some root) s.front_of key place.depth z) (sym spot_is)
+      (shown_past keys nodes (Some root) s place.nearest place.depth key is above c long leads ends' front past')

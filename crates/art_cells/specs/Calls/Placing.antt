@@ -1,5 +1,5 @@
 -- How a leaf joins the tree.
-use Rattle.std.specs.Prelude.{◌≡◌, ◌≢◌, ◌<◌, ◌≤◌, ◌⊎◌, ℕ, List, map, take, slice_range, length, Option, Some, None}
+use Rattle.std.specs.Prelude.{◌≡◌, ◌≢◌, ◌<◌, ◌≤◌, ◌⊎◌, ℕ, List, map, take, slice_range, length, Option, Some, None, IfSome}
 use Rattle.blart_keys.specs.Content.{IsPut}
 use Rattle.blart_keys.specs.Steps.{bytes as pair_bytes}
 use Rattle.art_cells.specs.Begins.{Bytes}
@@ -16,6 +16,8 @@ use Rattle.art_kinds.specs.declared.records.ids.Child.TheVariants.{Leaf, Inner}
 use Rattle.art_kinds.specs.declared.records.ids.Edge.{Edge}
 use Rattle.art_cells.specs.declared.tree.descent.Spot.{Spot}
 use Rattle.art_cells.specs.declared.tree.point.CellPlace.{CellPlace}
+use Rattle.art_cells.specs.declared.tree.point.CellPoint.{CellPoint}
+use Rattle.art_cells.specs.declared.tree.point.CellPoint.TheVariants.{Empty, Exact, Related, Free}
 
 -- the leaf i was added, with the key k
 pub record Gains (old new : ℕ → Option Bytes) (i : ℕ) (k : Bytes) : Type 0 where
@@ -32,18 +34,30 @@ pub record IsSpotFor (P : ℕ) (nodes : ℕ → Option Node) (root : Child) (spo
   pub leaves : LeavesNearest keys leaf depth key
   pub fits : SpotFits nodes (Some root) shape.front_of nearest depth spot
 
--- in some tree with this root, the place's nearest leaf has this key, at least as long as the place is deep
-pub record HasNearest (P : ℕ) (nodes : ℕ → Option Node) (root : Child) (place : CellPlace) (nearest : Bytes) : Type 0 where
+-- in each tree of these keys with this root, a key that leaves the nearest leaf's at this depth does so at the spot
+abbrev pub IsShownIn : ℕ → (ℕ → Option Bytes) → (ℕ → Option Node) → Child → ℕ → ℕ → Spot → Type 0
+IsShownIn P keys nodes root nearest depth spot =
+    (s : Shape P keys nodes (Some root)) (key : Bytes) → keys nearest ≡ Some key → depth ≤ length key
+    → SpotFits nodes (Some root) s.front_of key depth spot
+
+-- so it is in each tree with this root
+abbrev pub IsShown : ℕ → (ℕ → Option Node) → Child → CellPlace → Spot → Type 0
+IsShown P nodes root place spot = (keys : ℕ → Option Bytes) → IsShownIn P keys nodes root place.nearest place.depth spot
+
+-- if the point is free, this is true of its place
+abbrev pub IfFree : CellPoint → (CellPlace → Type 0) → Type 0
+IfFree Empty T = Unit {0}
+IfFree (Exact id) T = Unit {0}
+IfFree (Related first last) T = Unit {0}
+IfFree (Free place) T = T place
+
+-- in some tree with this root, the place's nearest leaf has this key, which is at least as long as the place is deep, and the spot is right if it is known
+pub record HasNearest (P : ℕ) (nodes : ℕ → Option Node) (root : Child) (place : CellPlace) (shown : Option Spot) (nearest : Bytes) : Type 0 where
   pub keys : ℕ → Option Bytes
   pub shape : Shape P keys nodes (Some root)
   pub is : keys place.nearest ≡ Some nearest
   pub within : place.depth ≤ length nearest
-
--- at the spot a key leaves that of the place's nearest leaf, in each tree with this root
-abbrev pub IsShown : ℕ → (ℕ → Option Node) → Child → CellPlace → Spot → Type 0
-IsShown P nodes root place spot =
-    (keys : ℕ → Option Bytes) (s : Shape P keys nodes (Some root)) (nearest : Bytes) → keys place.nearest ≡ Some nearest → place.depth ≤ length nearest
-    → SpotFits nodes (Some root) s.front_of nearest place.depth spot
+  pub known : IfSome shown (IsShownIn P keys nodes root place.nearest place.depth)
 
 -- the node is so deep, and its edge by this byte leads to the leaf
 pub record IsOverLeaf (nodes : ℕ → Option Node) (n depth byte leaf : ℕ) : Type 0 where
@@ -80,13 +94,14 @@ KeepsFrom P nodes (Inner n) key from = (x : Node) → nodes n ≡ Some x → x.p
 abbrev pub content_of : {K V : Type 0} → Leaves K V → Nodes → Content K V
 content_of leaves nodes = record { pairs = leaves.pairs; ids = leaves.ids; spares = record { leaves = leaves_room leaves; nodes = room nodes } }
 
--- the leaf i is to join the tree: that has the other keys, and the leaf's key leaves the nearest of them at a depth
-pub record IsToJoin (P : ℕ) (keys : ℕ → Option Bytes) (nodes : ℕ → Option Node) (root : Child) (nearest depth i : ℕ) : Type 0 where
+-- the leaf i is to join the tree: that has the other keys, and the leaf's key leaves the nearest of them at a depth, at the spot if it is known
+pub record IsToJoin (P : ℕ) (keys : ℕ → Option Bytes) (nodes : ℕ → Option Node) (root : Child) (nearest depth : ℕ) (shown : Option Spot) (i : ℕ) : Type 0 where
   pub rest : ℕ → Option Bytes
   pub shape : Shape P rest nodes (Some root)
   pub key : Bytes
   pub leaves : LeavesNearest rest nearest depth key
   pub gains : Gains rest keys i key
+  pub known : IfSome shown (IsShownIn P rest nodes root nearest depth)
 
 -- the pair was put, and came to this cell under a new id; each other id names what it named
 pub record PutsPair {K V : Type 0} (key_bytes : K → List ℕ) (old new : Leaves K V) (cell : ℕ) (x : K × V) : Type 0 where

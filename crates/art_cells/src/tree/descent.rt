@@ -10,13 +10,15 @@ ghost use Rattle.art_kinds.specs.declared.records.ids.Child.{Child as Way};
 use art_kinds::{Child, NodeId, Nodes};
 use art_slots::{CellId, Visits};
 
-/// The edge above a child: from a node by a byte. None is the way into the root.
-pub(crate) type EdgeAbove = Option<(NodeId, u8)>;
+/// The edge above a child: a node, and a byte. `None` is above the root.
+pub type EdgeAbove = Option<(NodeId, u8)>;
 
-/// A node with the edge above it, or an edge with what stands below it.
+/// A place in the tree where bytes may leave the keys.
 #[derive(Clone, Copy)]
-pub(crate) enum Spot {
+pub enum Spot {
+    /// A node, and the edge above it.
     Node(EdgeAbove, NodeId),
+    /// An edge, and its child.
     Edge(EdgeAbove, Child),
 }
 

@@ -7,7 +7,7 @@ ghost use Rattle.art_cells.specs.Invariant.EdgesAbove.{LeadsTo, TurnsTo, Ascends
 ghost use Rattle.art_cells.specs.Content.{Fits, IsOpen, room as places};
 ghost use Rattle.art_rows.specs.Blocks.{IsCrowded, IsRowLast};
 ghost use Rattle.art_cells.specs.Calls.Cutting.{GoesAfter};
-ghost use Rattle.art_cells.specs.Calls.Placing.{IsSpotFor, HasNearest, IsShown, IsOverLeaf, IsToJoin, TreeGains, Forks, DepthWithin, KeepsFrom, PutsPair, content_of};
+ghost use Rattle.art_cells.specs.Calls.Placing.{IsSpotFor, HasNearest, IsShown, IsShownIn, IsOverLeaf, IsToJoin, TreeGains, Forks, DepthWithin, KeepsFrom, PutsPair, content_of};
 ghost use Rattle.art_kinds.specs.Nodes.{at, room, FitsNew, SameSpares};
 ghost use Rattle.art_cells.specs.Leaves.{Has, keys_in, room as leaves_room};
 ghost use Rattle.art_cells.specs.Calls.Removing.{StartsBelow, EndsBelow, Cuts};
@@ -54,7 +54,10 @@ pub(crate) fn place_at<K: AsBytes + Drop, V: Drop, const P: usize>(
     match point {
         CellPoint::Empty => place_first(leaves, nodes, root, key, value),
         CellPoint::Free(place) => match root {
-            Some(root) => place_beside(leaves, nodes, root, place, key, value),
+            Some(root) => {
+                let shown = spot_shown(nodes, root, place);
+                place_beside(leaves, nodes, root, place, &shown, key, value)
+            }
             None => unreachable!(),
         },
         _ => unreachable!(),
@@ -62,7 +65,7 @@ pub(crate) fn place_at<K: AsBytes + Drop, V: Drop, const P: usize>(
 }
 
 /// Places the first pair. Returns its cell, and the root.
-fn place_first<K: AsBytes + Drop, V: Drop, const P: usize>(
+pub(crate) fn place_first<K: AsBytes + Drop, V: Drop, const P: usize>(
     leaves: &mut Leaves<K, V>,
     nodes: &Nodes<P>,
     root: &Option<Child>,
@@ -81,17 +84,21 @@ fn place_first<K: AsBytes + Drop, V: Drop, const P: usize>(
     (cell, Child::Leaf(cell))
 }
 
-/// Places a pair beside others. Returns its cell, and the root.
-fn place_beside<K: AsBytes + Drop, V: Drop, const P: usize>(
+/// Places a pair beside others. `shown` is the spot where its key leaves them, if that is known.
+/// Returns its cell, and the root.
+pub(crate) fn place_beside<K: AsBytes + Drop, V: Drop, const P: usize>(
     leaves: &mut Leaves<K, V>,
     nodes: &mut Nodes<P>,
     root: &Child,
     place: &CellPlace,
+    shown: &Option<Spot>,
     key: K,
     value: V,
 ) -> (CellId, Child)
     requires whole { IsSound K.bytes P leaves.old nodes.old (Some root.now) }
     requires free { IsFree K.bytes leaves.old.pairs place.now (K.bytes key) }
+    requires shown { IfSome shown.now (IsShownIn P (keys_in K.bytes leaves.old.pairs) (at nodes.old)
+        root.now place.now.nearest place.now.depth) }
     requires leaves_room { 0 < leaves_room leaves.old }
     requires nodes_room { 0 < room nodes.old }
     ensures placed { PutsPair K.bytes leaves.old leaves.new result.0 (key, value) }
@@ -105,7 +112,7 @@ fn place_beside<K: AsBytes + Drop, V: Drop, const P: usize>(
     let after = prev;
     let Some(last) = leaves.crowd(after, &mut seen) else {
         let cell = leaves.insert(prev, seen, key, value);
-        let top = join(leaves, nodes, root, place, cell);
+        let top = join(leaves, nodes, root, place, shown, cell);
         return (cell, top);
     };
     let Some(prev) = prev else { unreachable!() };
@@ -142,21 +149,23 @@ fn place_crowded<K: AsBytes + Drop, V: Drop, const P: usize>(
     let cut = cut_row(leaves, nodes, root, last, prev, place);
     leaves.law();
     let cell = leaves.insert(Some(cut.prev), Position::unknown(), key, value);
-    let top = join(leaves, nodes, &cut.root, &cut.place, cell);
+    let shown = spot_shown(nodes, &cut.root, &cut.place);
+    let top = join(leaves, nodes, &cut.root, &cut.place, &shown, cell);
     (cell, top)
 }
 
-/// Adds a leaf to the tree. Its key leaves the nearest key at the depth of a place. Reads the
-/// nearest leaf only if it is not beside an edge of a node at that depth. Returns the root.
+/// Adds a leaf to the tree. Its key leaves the nearest key at the depth of a place, at the spot
+/// `shown` if that is known. Reads the nearest leaf only if the spot is no node. Returns the root.
 fn join<K: AsBytes, V, const P: usize>(
     leaves: &Leaves<K, V>,
     nodes: &mut Nodes<P>,
     root: &Child,
     place: &CellPlace,
+    shown: &Option<Spot>,
     id: CellId,
 ) -> Child
     requires joins { IsToJoin P (keys_in K.bytes leaves.now.pairs) (at nodes.old) root.now
-        place.now.nearest place.now.depth id }
+        place.now.nearest place.now.depth shown.now id }
     requires room { 0 < room nodes.old }
     ensures shape { Shape P (keys_in K.bytes leaves.now.pairs) (at nodes.new) (Some result) }
     ensures room { room nodes.old ≤ room nodes.new + 1 }
@@ -167,17 +176,17 @@ fn join<K: AsBytes, V, const P: usize>(
         key: own.as_bytes(),
         depth: place.depth,
     };
-    let shown = spot_shown(nodes, root, place, leaf.key);
-    if let Some(Spot::Node(above, node)) = shown {
+    let known = *shown;
+    if let Some(Spot::Node(above, node)) = known {
         return add_at_node(nodes, root, &above, &node, &leaf);
     }
     let (nearest, _) = leaves.read(place.nearest, &mut Visits::new());
     let nearest = nearest.as_bytes();
-    let spot = spot_for(nodes, root, place, &shown, nearest);
+    let spot = spot_for(nodes, root, place, shown, nearest);
     add_leaf(nodes, root, &spot, &leaf, nearest)
 }
 
-/// Returns where a key leaves the nearest key at the depth of a place: the spot that was shown, or
+/// Returns where a key leaves the nearest key at the depth of a place: the spot that is known, or
 /// else the end of a descent by the nearest key.
 fn spot_for<const P: usize>(
     nodes: &Nodes<P>,
@@ -186,11 +195,9 @@ fn spot_for<const P: usize>(
     shown: &Option<Spot>,
     nearest: &[u8],
 ) -> Spot
-    requires nearest { HasNearest P (at nodes.now) root.now place.now nearest.now }
-    requires shown { IfSome shown.now (IsShown P (at nodes.now) root.now place.now) }
-    ensures { (keys : ℕ → Option Bytes) (s : Shape P keys (at nodes.now) (Some root.now))
-        → keys place.now.nearest ≡ Some nearest.now
-        → SpotFits (at nodes.now) (Some root.now) s.front_of nearest.now place.now.depth result }
+    requires { HasNearest P (at nodes.now) root.now place.now shown.now nearest.now }
+    ensures { (h : HasNearest P (at nodes.now) root.now place.now shown.now nearest.now)
+        → SpotFits (at nodes.now) (Some root.now) h.shape.front_of nearest.now place.now.depth result }
 {
     match shown {
         Some(spot) => *spot,
@@ -200,16 +207,10 @@ fn spot_for<const P: usize>(
 
 /// Returns the spot at the end of a place's edge, if that edge still leads to the nearest leaf or to
 /// a node that has it. Reads no leaf.
-fn spot_shown<const P: usize>(
-    nodes: &Nodes<P>,
-    root: &Child,
-    place: &CellPlace,
-    key: &[u8],
-) -> Option<Spot>
-    requires { place.now.depth ≤ length key.now }
+fn spot_shown<const P: usize>(nodes: &Nodes<P>, root: &Child, place: &CellPlace) -> Option<Spot>
     ensures { IfSome result (IsShown P (at nodes.now) root.now place.now) }
 {
-    let (above, child) = edge_toward(nodes, root, place, key)?;
+    let (above, child) = edge_toward(nodes, root, place)?;
     match child {
         Child::Leaf(id) => {
             if id != place.nearest {
@@ -226,31 +227,25 @@ fn spot_shown<const P: usize>(
     }
 }
 
-/// Returns the edge above a place, and its child. It is the edge of the node that the place names,
-/// by the byte that the key has there, if that node is above the place. If the place names no node,
-/// it is the edge to the root.
+/// Returns the edge above a place, and its child, if the node of that edge is above the place.
 fn edge_toward<const P: usize>(
     nodes: &Nodes<P>,
     root: &Child,
     place: &CellPlace,
-    key: &[u8],
 ) -> Option<(EdgeAbove, Child)>
-    requires { place.now.depth ≤ length key.now }
     ensures leads { IfSome result (λ e. LeadsTo (at nodes.now) (Some root.now) e.0 e.1) }
     ensures ends { IfSome result (λ e. EndsBelow (at nodes.now) e.0 place.now.depth) }
 {
-    let Some(parent) = place.above else {
+    let Some((parent, byte)) = place.spot.above() else {
         return Some((None, *root));
     };
     if !nodes.has(parent) {
         return None;
     }
     let node = nodes.read(parent, &mut Visits::new());
-    let depth = node.depth();
-    if depth >= place.depth {
+    if node.depth() >= place.depth {
         return None;
     }
-    let byte = key[depth];
     let child = node.find(byte)?;
     Some((Some((parent, byte)), child))
 }

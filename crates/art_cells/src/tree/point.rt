@@ -1,16 +1,21 @@
 //! Points: the leaf that has some bytes, or the place for a new one.
-ghost use Rattle.std.specs.Prelude.{◌≡◌, ℕ, Option, Some};
+ghost use Rattle.std.specs.Prelude.{◌≡◌, ℕ, not, Option, Some};
 ghost use Rattle.art_cells.specs.Begins.{Bytes};
 ghost use Rattle.art_cells.specs.Places.{LeavesNearest, IsBeside, neighbour};
+ghost use Rattle.art_cells.specs.Calls.Descents.{IsEndUnder};
+ghost use Rattle.art_cells.specs.Calls.Placing.{IfFree, IsShownIn};
 ghost use Rattle.art_cells.specs.Calls.Stops.{IsPlaceUnder};
+ghost use Rattle.art_cells.specs.Invariant.Shape.{Shape, Covers};
+ghost use Rattle.art_cells.specs.Leaves.{keys_in};
+ghost use Rattle.art_kinds.specs.declared.records.ids.Child.{Child as Way};
 ghost use Rattle.art_kinds.specs.Nodes.{at};
 ghost use Rattle.art_cells.specs.Points.{IsGood};
 ghost use Rattle.art_cells.specs.Invariant.Sound.{IsSound};
 
-use crate::tree::descent::end_under;
+use crate::tree::descent::{Spot, end_under};
 use crate::tree::parting::{Beside, edge_beside};
 use crate::tree::stop::{Stop, stop_of};
-use art_kinds::{Child, Edge, NodeId, Nodes};
+use art_kinds::{Child, Edge, Nodes};
 use art_rows::Leaves;
 use art_slots::{CellId, Visits};
 use blart_keys::AsBytes;
@@ -25,9 +30,8 @@ pub struct CellPlace {
     pub depth: usize,
     /// The side of the nearest leaf that the place is on.
     pub beside: Beside,
-    /// The node of the edge above the place, or `None` at the root. The edge may have changed
-    /// since.
-    pub above: Option<NodeId>,
+    /// The node or the edge where the bytes leave the keys. It may have changed since.
+    pub spot: Spot,
     /// The byte of an edge to the nearest leaf.
     pub byte: u8,
 }
@@ -50,7 +54,7 @@ pub enum CellPoint {
     Free(CellPlace),
 }
 
-/// Returns the point of some bytes in a tree with some pairs.
+/// Returns the point of some bytes in a tree with some pairs. If it is free, its spot is right.
 pub(crate) fn point_below<K: AsBytes, V, const P: usize>(
     leaves: &Leaves<K, V>,
     nodes: &Nodes<P>,
@@ -58,7 +62,9 @@ pub(crate) fn point_below<K: AsBytes, V, const P: usize>(
     query: &[u8],
 ) -> CellPoint
     requires { IsSound K.bytes P leaves.now nodes.now (Some root.now) }
-    ensures { IsGood K.bytes leaves.now.pairs result query.now }
+    ensures good { IsGood K.bytes leaves.now.pairs result query.now }
+    ensures spot { IfFree result (λ place. IsShownIn P (keys_in K.bytes leaves.now.pairs)
+        (at nodes.now) root.now place.nearest place.depth place.spot) }
 {
     leaves.law();
     let mut visits = Visits::new();
@@ -75,11 +81,14 @@ pub(crate) fn point_below<K: AsBytes, V, const P: usize>(
         },
         Stop::AtNode(id, depth) => {
             let (edge, is_after) = edge_beside(nodes, &id, query[depth], &mut visits);
-            CellPoint::Free(place_under(nodes, &edge, is_after, depth, &above))
+            let spot = Spot::Node(above, id);
+            CellPoint::Free(place_under(nodes, &edge, is_after, depth, &spot))
         }
         Stop::AtEdge(child, depth, byte) => {
-            let edge = Edge { byte, to: child };
-            CellPoint::Free(place_under(nodes, &edge, byte < query[depth], depth, &above))
+            let to = &child;
+            let edge = Edge { byte, to: *to };
+            let spot = Spot::Edge(above, *to);
+            CellPoint::Free(place_under(nodes, &edge, byte < query[depth], depth, &spot))
         }
     }
 }
@@ -90,7 +99,7 @@ fn place_under<const P: usize>(
     edge: &Edge,
     is_after: bool,
     depth: usize,
-    above: &Option<NodeId>,
+    spot: &Spot,
 ) -> CellPlace
     requires { (keys : ℕ → Option Bytes) × (q : Bytes)
         × IsPlaceUnder P keys (at nodes.now) q depth edge.now.to is_after }
@@ -101,6 +110,12 @@ fn place_under<const P: usize>(
         → IsPlaceUnder P keys (at nodes.now) q depth edge.now.to is_after
         → IsBeside keys q result.beside }
     ensures same { neighbour result.beside ≡ result.nearest }
+    ensures end { (keys : ℕ → Option Bytes) (root : Option Way)
+        (s : Shape P keys (at nodes.now) root) (g : Bytes)
+        → Covers keys (at nodes.now) s.front_of g edge.now.to
+        → IsEndUnder keys (not is_after) g result.nearest }
+    ensures depth { result.depth ≡ depth }
+    ensures spot { result.spot ≡ spot.now }
 {
     let nearest = end_under(nodes, &edge.to, !is_after, &mut Visits::new());
     if is_after {
@@ -108,7 +123,7 @@ fn place_under<const P: usize>(
             nearest,
             depth,
             beside: Beside::AfterLeaf(nearest),
-            above: *above,
+            spot: *spot,
             byte: edge.byte,
         }
     } else {
@@ -116,7 +131,7 @@ fn place_under<const P: usize>(
             nearest,
             depth,
             beside: Beside::BeforeLeaf(nearest),
-            above: *above,
+            spot: *spot,
             byte: edge.byte,
         }
     }

@@ -1,71 +1,75 @@
-//! The way down by the bytes of a query. The prefixes that the nodes keep are compared on the way, and a leaf is read at its end, or where a prefix is longer than what is kept.
+//! The descent by the bytes of a query. The prefixes that the nodes keep are compared on the way. A
+//! leaf is read at the end, or if a prefix is longer than the bytes that its node keeps.
 ghost use Rattle.std.specs.Prelude.{◌≡◌, Some};
-ghost use Rattle.art_cells.specs.Calls.Stops.{OnWay, IsShared, IsStop, IsStep};
+ghost use Rattle.art_cells.specs.Calls.Stops.{OnWay, IsShared, IsStop, IsStep, StopsAt, IsStopBelow};
 ghost use Rattle.art_cells.specs.Leaves.{keys_in};
 ghost use Rattle.art_kinds.specs.Nodes.{at};
 ghost use Rattle.art_cells.specs.Invariant.Sound.{IsSound};
 ghost use Rattle.art_kinds.specs.declared.records.ids.Child.TheVariants.{Leaf, Inner};
 
 use crate::lists::{common_len, common_len_after};
-use crate::tree::descent::end_under;
+use crate::tree::descent::{EdgeAbove, end_under};
 use art_kinds::{Child, NodeId, NodeRef, Nodes};
 use art_rows::Leaves;
 use art_slots::{CellId, Visits};
 use blart_keys::AsBytes;
 
-/// Where a way down by the bytes of a query ends.
+/// Where a descent by the bytes of a query ends.
 #[derive(Clone, Copy)]
 pub(crate) enum Stop {
-    // The key of this leaf has the query's bytes.
+    /// The key of this leaf has the query's bytes.
     Same(CellId),
-    // The key of this leaf ends first: it begins the query.
+    /// The key of this leaf is a proper prefix of the query.
     Shorter(CellId),
-    // The query ends first: this child stands for the keys that begin with it.
+    /// The query is a proper prefix of the keys below this child, and of no others.
     Longer(Child),
-    // The query leaves the keys at this node, after so many bytes.
+    /// The query leaves the keys at this node, after this number of bytes.
     AtNode(NodeId, usize),
-    // The query leaves the keys of this child after so many bytes, where they go on by this byte.
+    /// The query leaves the keys below this child after this number of bytes. The next byte of the
+    /// keys is given too.
     AtEdge(Child, usize, u8),
 }
 
-// What comes of one node on the way.
+/// What follows a node of a descent.
 #[derive(Clone, Copy)]
 enum Step {
-    // The way goes on to this child, which so many bytes lead to.
-    Down(Child, usize),
-    // It ends.
+    /// A child of the node, the number of bytes that lead to it, and the byte of its edge.
+    Down(Child, usize, u8),
+    /// The end.
     Stops(Stop),
 }
 
-// How many bytes a front and a query have in common, and the byte by which the front goes on.
+/// The number of bytes that a prefix and a query have in common, and the next byte of the prefix.
 #[derive(Clone, Copy)]
 struct Shared {
     len: usize,
     byte: u8,
 }
 
-/// Where the way down by the bytes of a query ends, in a tree with some pairs, and the node of the edge that it went through last.
+/// Returns where the descent by the bytes of a query ends, in a tree with some pairs, and the edge
+/// above.
 pub(crate) fn stop_of<K: AsBytes, V, const P: usize>(
     leaves: &Leaves<K, V>,
     nodes: &Nodes<P>,
     root: &Child,
     query: &[u8],
-) -> (Stop, Option<NodeId>)
+) -> (Stop, EdgeAbove)
     requires { IsSound K.bytes P leaves.now nodes.now (Some root.now) }
-    ensures { IsStop P (keys_in K.bytes leaves.now.pairs) (at nodes.now) result.0 query.now }
+    ensures stop { IsStop P (keys_in K.bytes leaves.now.pairs) (at nodes.now) result.0 query.now }
+    ensures above { IsStopBelow (at nodes.now) (Some root.now) result.1 result.0 }
 {
     let mut child = *root;
-    let mut over = None;
+    let mut above = None;
     let mut start = 0;
     'down: loop {
         let id = match child {
-            Child::Leaf(id) => return (stop_at_leaf(leaves, nodes, start, id, query), over),
+            Child::Leaf(id) => return (stop_at_leaf(leaves, nodes, start, id, query), above),
             Child::Inner(id) => id,
         };
         match step_at(leaves, nodes, start, id, query) {
-            Step::Stops(stop) => return (stop, over),
-            Step::Down(to, next) => {
-                over = Some(id);
+            Step::Stops(stop) => return (stop, above),
+            Step::Down(to, next, byte) => {
+                above = Some((id, byte));
                 child = to;
                 start = next;
             }
@@ -73,7 +77,7 @@ pub(crate) fn stop_of<K: AsBytes, V, const P: usize>(
     }
 }
 
-// Where the way ends that has come to a leaf.
+/// Returns where a descent that has come to a leaf ends.
 fn stop_at_leaf<K: AsBytes, V, const P: usize>(
     leaves: &Leaves<K, V>,
     nodes: &Nodes<P>,
@@ -82,7 +86,8 @@ fn stop_at_leaf<K: AsBytes, V, const P: usize>(
     query: &[u8],
 ) -> Stop
     requires { OnWay P (keys_in K.bytes leaves.now.pairs) (at nodes.now) (Leaf id) start query.now }
-    ensures { IsStop P (keys_in K.bytes leaves.now.pairs) (at nodes.now) result query.now }
+    ensures { IsStop P (keys_in K.bytes leaves.now.pairs) (at nodes.now) result query.now
+        × StopsAt (at nodes.now) (Leaf id) start result }
 {
     let _nodes = nodes;
     let (key, _) = leaves.read(id, &mut Visits::new());
@@ -101,7 +106,7 @@ fn stop_at_leaf<K: AsBytes, V, const P: usize>(
     Stop::AtEdge(Child::Leaf(id), depth, key[depth])
 }
 
-// What comes of a node on the way.
+/// Returns what follows a node of a descent.
 fn step_at<K: AsBytes, V, const P: usize>(
     leaves: &Leaves<K, V>,
     nodes: &Nodes<P>,
@@ -110,7 +115,7 @@ fn step_at<K: AsBytes, V, const P: usize>(
     query: &[u8],
 ) -> Step
     requires { OnWay P (keys_in K.bytes leaves.now.pairs) (at nodes.now) (Inner id) start query.now }
-    ensures { IsStep P (keys_in K.bytes leaves.now.pairs) (at nodes.now) id result query.now }
+    ensures { IsStep P (keys_in K.bytes leaves.now.pairs) (at nodes.now) id start result query.now }
 {
     let node = nodes.read(id, &mut Visits::new());
     let shared = shared_at(leaves, nodes, &node, start, id, query);
@@ -121,13 +126,15 @@ fn step_at<K: AsBytes, V, const P: usize>(
     if shared.len < depth {
         return Step::Stops(Stop::AtEdge(Child::Inner(id), shared.len, shared.byte));
     }
-    match node.find(query[depth]) {
-        Some(child) => Step::Down(child, depth + 1),
+    let byte = query[depth];
+    match node.find(byte) {
+        Some(child) => Step::Down(child, depth + 1, byte),
         None => Step::Stops(Stop::AtNode(id, depth)),
     }
 }
 
-// How many bytes the front of a node and a query have in common, where they have the first ones. The stored prefix tells it where it is the whole or differs.
+/// Returns the number of bytes that the prefix of a node and a query have in common. They have the
+/// first `start` in common. The kept prefix tells it, if it is the whole prefix or differs.
 fn shared_at<K: AsBytes, V, const P: usize>(
     leaves: &Leaves<K, V>,
     nodes: &Nodes<P>,
@@ -157,7 +164,7 @@ fn shared_at<K: AsBytes, V, const P: usize>(
     shared_below(leaves, nodes, start, id, query)
 }
 
-// So it is told by a leaf below the node.
+/// Returns the same, told by a leaf below the node.
 #[cold]
 #[inline(never)]
 fn shared_below<K: AsBytes, V, const P: usize>(

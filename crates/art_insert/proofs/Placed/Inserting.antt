@@ -17,7 +17,8 @@ use Rattle.art_tree.specs.Takes.{MayTake}
 use Rattle.art_tree.specs.declared.tree.point.Place.{Place}
 use Rattle.art_tree.specs.declared.tree.point.Point.{Point}
 use Rattle.art_tree.specs.declared.tree.point.Point.TheVariants.{Empty, Exact, Related, Free}
-use Rattle.art_tree.proofs.CallerLemmas.{leaf_in-member, Member-from_leaf_in, free_alone}
+use Rattle.art_tree.proofs.CallerLemmas.{leaf_in-member, Member-from_leaf_in, free_alone, alone_no_conflict, alone_absent, alone_none}
+pub use Rattle.art_tree.proofs.CallerLemmas.{conflict_pairs}
 use Rattle.blart_keys.proofs.Options.{is_some}
 use Rattle.blart_keys.proofs.Mapped.{find-map, list_any-map, content_map}
 use Rattle.art_tree.specs.Pairs.{pairs_of}
@@ -35,24 +36,7 @@ opens_else (Exact id) e r = absurd (e id refl)
 opens_else (Related i j) e r = absurd (r i j refl)
 opens_else (Free place) e r = tt
 
-module _ {X : Type 0} (bytes : X → List ℕ) (S : List X) (q : List ℕ) (alone : (y : X) → Member y S → related (bytes y) q ≡ false) where
-  -- where nothing is related nothing conflicts
-  pub alone_no_conflict : conflict bytes S q ≡ false
-  alone_no_conflict = false_from_ne_true _ (λ h. let r = conflict_found bytes S q h in false≢true (sym (alone r.0 r.1) ∙ r.2))
-
-  -- and nothing has the bytes
-  pub alone_absent : stores bytes S q ≡ false
-  alone_absent = false_from_ne_true _ (λ h. let r = stores_found bytes S q h in false≢true (sym (alone r.0 r.1) ∙ related-same (bytes r.0) q r.2))
-
-  -- and nothing is found
-  pub alone_none : at bytes S q ≡ None
-  alone_none = at_absent bytes S q (λ y m e. false≢true (sym (alone y m) ∙ related-same (bytes y) q e))
-
 module _ {K V : Type 0} (kb : K → Bytes) (ps : List (Numbered K V)) where
-  -- a key conflicts with the pairs where it does with the numbered ones
-  pub conflict_pairs : (q : Bytes) → conflict (pair_bytes kb) (pairs_of ps) q ≡ conflict (bytes kb) ps q
-  conflict_pairs q = list_any-map (λ p. p.1) (λ x. conflicts (kb x.0) q) ps
-
   module _ (content : IsContent (bytes kb) ps) where
     module _ (distinct : AreDistinct ps) (q : Bytes) where
       -- no key is related to one that has an open point

@@ -6,6 +6,7 @@ ghost use Rattle.art_cells.specs.Content.{Content as CellContent, IsOpen as IsOp
 ghost use Rattle.art_cells.specs.Points.{IsGood as IsGoodCell, IsFree as IsFreeCell};
 ghost use Rattle.art_tree.specs.Leaves.{leaf_in, Has, OthersStand};
 ghost use Rattle.art_tree.specs.Content.{Content, room, Fits, IsOpen};
+ghost use Rattle.art_tree.specs.Adding.{Adds};
 ghost use Rattle.art_tree.specs.Points.{IsGood, IsFree};
 ghost use Rattle.art_tree.specs.UnderIds.{under_ids, AreNamed};
 
@@ -13,7 +14,7 @@ use crate::ids::id_of;
 use crate::leaf_id::LeafId;
 use crate::tree::Tree;
 use crate::tree::point::{Place, Point};
-use art_cells::{Beside, CellPlace, CellPoint, CellTree};
+use art_cells::{Added, Beside, CellPlace, CellPoint, CellTree};
 use blart_keys::AsBytes;
 use std::alloc::AllocError;
 
@@ -81,6 +82,32 @@ impl<K: AsBytes + Drop, V: Drop, const PREFIX_LEN: usize> Tree<K, V, PREFIX_LEN>
         let placed = self.cells.place(at, key, value);
         self.cells.law();
         id_of(&self.cells, placed)
+    }
+
+    /// Adds a pair if its key is related to no stored key. Each other id names the pair that it
+    /// named. Returns an error if it fails to allocate, and the pairs are then unchanged.
+    ///
+    /// This is [`Tree::point`], [`Tree::make_room`] and [`Tree::place`] in one call. It reads each
+    /// node once, and does not read the table of ids.
+    ///
+    /// Cost: one descent. If the row at the place is full, 32 leaves move to another row, with a
+    /// descent for each whose edge was not guessed.
+    pub fn add(&mut self, key: K, value: V) -> Result<Added<LeafId, K, V>, AllocError>
+        ensures added { Adds K.bytes self.old self.new (key, value) result }
+        ensures room { room self.old ≤ room self.new + 1 }
+    {
+        self.cells.law();
+        let added = self.cells.add(key, value);
+        self.cells.law();
+        match added {
+            Ok(Added::Placed) => Ok(Added::Placed),
+            Ok(Added::Stored(cell, key, value)) => {
+                let id = id_of(&self.cells, cell);
+                Ok(Added::Stored(id, key, value))
+            }
+            Ok(Added::Conflict) => Ok(Added::Conflict),
+            Err(refused) => Err(refused),
+        }
     }
 }
 

@@ -35,7 +35,7 @@ join-top-requires g c =
     let i = c.insert-cell in
     let x : g.row.K.Denot × g.row.V.Denot = (c.args.key, c.args.value) in
     let p = placed_free kb l c.args.nodes.now (Some c.args.root.now) c.args.place.now i.new.self.pairs i.result x c.requires.whole c.law.ensures.distinct c.requires.free c.leaf_before.result.0 c.leaf_before.ensures i.ensures.fresh i.ensures.placed in
-    (lit< tt, (joins kb l c.args.nodes.now c.args.root.now i.new.self.pairs c.args.place.now.nearest c.args.place.now.depth i.result x c.requires.whole c.requires.free.leaves p, c.requires.nodes_room))
+    (lit< tt, (joins kb l c.args.nodes.now c.args.root.now i.new.self.pairs c.args.place.now.nearest c.args.place.now.depth c.args.shown.now i.result x c.requires.whole c.requires.free.leaves c.requires.shown p, c.requires.nodes_room))
 
 pub returns-in_default-clause-placed : goal.returns-in_default-clause-placed
 returns-in_default-clause-placed g c =

@@ -10,7 +10,7 @@ use Rattle.art_cells.specs.UnderIds.{AreNamed, under_ids}
 use Rattle.art_cells.proofs.Calls.Joining.{leaving_unrelated}
 use Rattle.art_cells.proofs.UnderIds.{named_below}
 use Rattle.art_cells.proofs.Pairs.Keys.{has_key}
-use Rattle.art_cells.proofs.Pairs.Placed.{placed_pairs, puts_pair, joins}
+use Rattle.art_cells.proofs.Pairs.Placed.{placed_pairs, puts_pair, joins, shown_rest}
 use Rattle.art_cells.proofs.tree.place.place_crowded.Goals as goal
 
 pub cut_row-cut-requires : goal.cut_row-cut-requires
@@ -44,7 +44,7 @@ join-top-requires g c =
     let near : LeavesNearest (keys_in kb mid.pairs) u.place.nearest u.place.depth q = rw x.deep h.leaves in
     let alone = leaving_unrelated (keys_in kb mid.pairs) (at nodes) (Some u.root) x.sound.shape u.place.nearest u.place.depth q near in
     let p = placed_pairs kb mid.pairs i.new.self.pairs q (Some u.prev) i.result y x.sound.content c.law.ensures.distinct alone h.before i.ensures.fresh refl i.ensures.placed in
-    (lit< tt, (joins kb mid nodes u.root i.new.self.pairs u.place.nearest u.place.depth i.result y x.sound near p, rw x.nodes c.requires.nodes_room))
+    (lit< tt, (joins kb mid nodes u.root i.new.self.pairs u.place.nearest u.place.depth c.spot_shown-shown.result i.result y x.sound near (shown_rest _ (at nodes) u.root u.place (keys_in kb mid.pairs) _ c.spot_shown-shown.ensures) p, rw x.nodes c.requires.nodes_room))
 
 pub returns-clause-placed : goal.returns-clause-placed
 returns-clause-placed g c =

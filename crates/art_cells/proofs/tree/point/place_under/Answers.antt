@@ -32,3 +32,9 @@ returns-else-is_after-clause-beside g c = λ keys q h.
     let b = h.beside in
     let u = c.end_under-nearest.ensures.ends keys b.root b.shape b.front b.covers in
     subst (λ (z : Bool). IsBeside keys q (beside_leaf z c.end_under-nearest.result)) c.if-is_after.false (b.beside c.end_under-nearest.result u)
+
+pub returns-then-is_after-clause-end : goal.returns-then-is_after-clause-end
+returns-then-is_after-clause-end g c = λ keys root s front covers. c.end_under-nearest.ensures.ends keys root s front covers
+
+pub returns-else-is_after-clause-end : goal.returns-else-is_after-clause-end
+returns-else-is_after-clause-end g c = λ keys root s front covers. c.end_under-nearest.ensures.ends keys root s front covers

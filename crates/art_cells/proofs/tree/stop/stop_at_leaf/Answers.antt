@@ -1,4 +1,4 @@
-use Rattle.std.proofs.Common.{arith}
+use Rattle.std.proofs.Common.{refl, arith}
 use Rattle.art_cells.proofs.BeginsLemmas.{common-in_left}
 use Rattle.art_cells.proofs.Pairs.Keys.{has_key, key_read}
 use Rattle.art_cells.proofs.Ways.Stops.{leaf_at, start_in_key, start_in_q, len_at_leaf, same_at_leaf, shorter_at_leaf, longer_at_leaf, leaves_at_leaf}
@@ -21,17 +21,17 @@ overflow_add-depth g c =
 pub returns-then-depth-query : goal.returns-then-depth-query
 returns-then-depth-query g c =
     let is = key_read g.K.AsBytes.bytes c.args.leaves.now.pairs c.args.id c.read.ensures.value c.as_bytes-key.ensures in
-    same_at_leaf c.requires is c.common_len_after.ensures c.if-depth-query.true c.if-depth-key.true
+    (same_at_leaf c.requires is c.common_len_after.ensures c.if-depth-query.true c.if-depth-key.true, tt)
 
 pub returns-else-depth-query : goal.returns-else-depth-query
 returns-else-depth-query g c =
     let is = key_read g.K.AsBytes.bytes c.args.leaves.now.pairs c.args.id c.read.ensures.value c.as_bytes-key.ensures in
-    shorter_at_leaf c.requires is c.common_len_after.ensures c.if-depth-query.false c.if-depth-key.true
+    (shorter_at_leaf c.requires is c.common_len_after.ensures c.if-depth-query.false c.if-depth-key.true, tt)
 
 pub returns-then-depth-query-2 : goal.returns-then-depth-query-2
 returns-then-depth-query-2 g c =
     let is = key_read g.K.AsBytes.bytes c.args.leaves.now.pairs c.args.id c.read.ensures.value c.as_bytes-key.ensures in
-    longer_at_leaf c.requires is c.common_len_after.ensures c.if-depth-query-2.true c.if-depth-key.false
+    (longer_at_leaf c.requires is c.common_len_after.ensures c.if-depth-query-2.true c.if-depth-key.false, tt)
 
 pub bounds-key-depth : goal.bounds-key-depth
 bounds-key-depth g c =
@@ -42,4 +42,4 @@ bounds-key-depth g c =
 pub returns : goal.returns
 returns g c =
     let is = key_read g.K.AsBytes.bytes c.args.leaves.now.pairs c.args.id c.read.ensures.value c.as_bytes-key.ensures in
-    leaves_at_leaf c.requires is c.common_len_after.ensures c.if-depth-query-2.false c.if-depth-key.false
+    (leaves_at_leaf c.requires is c.common_len_after.ensures c.if-depth-query-2.false c.if-depth-key.false, (refl, omega arith, tt))

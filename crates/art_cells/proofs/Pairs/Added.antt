@@ -1,0 +1,36 @@
+-- A pair that was added by its key.
+use Rattle.std.proofs.Common.{◌≡◌, ℕ, List, false, sym, ap, subst, ◌∙◌, Ok, Err, option_map, bytes_eq}
+use Rattle.std.specs.declared.alloc.AllocError.{AllocError}
+use Rattle.blart_keys.specs.Bytes.{related}
+use Rattle.blart_keys.proofs.Mapped.{find-map, list_any-map}
+use Rattle.blart_keys.proofs.RankLemmas.{Member}
+use Rattle.art_kinds.specs.Nodes.{Nodes}
+use Rattle.art_cells.specs.Begins.{Bytes}
+use Rattle.art_cells.specs.Calls.Adding.{Adds}
+use Rattle.art_cells.specs.Calls.Placing.{PutsPair, content_of}
+use Rattle.art_cells.specs.Content.{Content}
+use Rattle.art_cells.specs.Leaves.{Leaves, Numbered, bytes}
+use Rattle.art_cells.specs.UnderIds.{Extends}
+use Rattle.art_cells.specs.declared.tree.add.Added.TheVariants.{Placed}
+use Rattle.art_cells.proofs.CallerLemmas.{alone_no_conflict, alone_absent, alone_none, conflict_pairs}
+
+module _ {K V : Type 0} (kb : K → Bytes) (x : K × V) where
+  -- the pair was put where no key was related
+  pub adds_placed : (old new : Leaves K V) (nodes nodes' : Nodes) (cell : ℕ) → ((y : Numbered K V) → Member y old.pairs → related (bytes kb y) (kb x.0) ≡ false) → PutsPair kb old new cell x → Adds kb (content_of old nodes) (content_of new nodes') x (Ok Placed)
+  adds_placed old new nodes nodes' cell alone p = (
+    (
+      conflict_pairs kb old.pairs (kb x.0) ∙ alone_no_conflict (bytes kb) old.pairs (kb x.0) alone,
+      p.put,
+      sym (find-map (λ p. p.1) (λ y. bytes_eq (kb y.0) (kb x.0)) old.pairs ∙ ap (option_map (λ p. p.1)) (alone_none (bytes kb) old.pairs (kb x.0) alone)),
+    ),
+    record { cell = cell; now = p.now; fresh = p.fresh; others = p.others },
+  )
+
+  -- there was no memory for it
+  pub adds_refused : (old new : Content K V) (e : AllocError) → ((y : Numbered K V) → Member y old.pairs → related (bytes kb y) (kb x.0) ≡ false) → new.pairs ≡ old.pairs → Extends old.ids new.ids → Adds kb old new x (Err e)
+  adds_refused old new e alone same more = (
+    conflict_pairs kb old.pairs (kb x.0) ∙ alone_no_conflict (bytes kb) old.pairs (kb x.0) alone,
+    list_any-map (λ p. p.1) (λ y. bytes_eq (kb y.0) (kb x.0)) old.pairs ∙ alone_absent (bytes kb) old.pairs (kb x.0) alone,
+    same,
+    more,
+  )

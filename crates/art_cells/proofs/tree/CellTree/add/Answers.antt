@@ -1,0 +1,94 @@
+use Rattle.std.proofs.Common.{◌≡◌, [], lit<, refl, sym, subst, ◌∙◌, Option, Ok, Err, true, false}
+use Rattle.blart_keys.specs.Bytes.{related}
+use Rattle.blart_keys.specs.Content.{conflict}
+use Rattle.blart_keys.specs.Steps.{bytes as pair_bytes}
+use Rattle.blart_keys.proofs.RankLemmas.{Member}
+use Rattle.art_kinds.specs.Nodes.{at}
+use Rattle.art_kinds.specs.declared.records.ids.Child.{Child}
+use Rattle.art_cells.specs.Calls.Adding.{Adds}
+use Rattle.art_cells.specs.Calls.Placing.{content_of}
+use Rattle.art_cells.specs.Content.{Content}
+use Rattle.art_cells.specs.Invariant.Sound.{IsSound}
+use Rattle.art_cells.specs.Leaves.{Numbered, bytes}
+use Rattle.art_cells.specs.Pairs.{pairs_of}
+use Rattle.art_cells.specs.Points.{IsGood}
+use Rattle.art_cells.specs.declared.tree.point.CellPoint.TheVariants.{Exact}
+use Rattle.art_cells.specs.declared.tree.add.Added.TheVariants.{Placed}
+use Rattle.art_cells.proofs.CallerLemmas.{conflict_pairs, leaving_alone}
+use Rattle.art_cells.proofs.Invariant.Soundness.{rootless, sound_same}
+use Rattle.art_cells.proofs.Pairs.Added.{adds_placed, adds_refused}
+use Rattle.art_cells.proofs.tree.CellTree.add.Goals as goal
+
+-- ---- no pairs
+
+pub add_first-requires : goal.add_first-requires
+add_first-requires g c =
+    let kb = g.K.AsBytes.bytes in
+    let l = c.self.inside.leaves in
+    let n = c.self.inside.nodes in
+    (lit< tt, (subst (λ (r : Option Child). IsSound kb g.row.PREFIX_LEN l n r) c.in-None.is c.self.invariant, rootless kb l.pairs (at n) c.self.inside.root c.self.invariant.shape c.in-None.is))
+
+pub returns-in-Err-clause-added : goal.returns-in-Err-clause-added
+returns-in-Err-clause-added g c =
+    let kb = g.K.AsBytes.bytes in
+    let l = c.self.inside.leaves in
+    let n = c.self.inside.nodes in
+    let x : g.row.K.Denot × g.row.V.Denot = (c.args.key, c.args.value) in
+    let none = rootless kb l.pairs (at n) c.self.inside.root c.self.invariant.shape c.in-None.is in
+    let alone : (y : Numbered g.row.K.Denot g.row.V.Denot) → Member y l.pairs → related (bytes kb y) (kb x.0) ≡ false = λ y m. absurd (subst (Member y) none m) in
+    let e = c.in-Err.ensures in
+    (subst (λ (t : Content g.row.K.Denot g.row.V.Denot). Adds kb t (content_of c.add_first.new.leaves n) x (Err c.in-Err.refused)) c.self.view_is (adds_refused kb x (content_of l n) (content_of c.add_first.new.leaves n) c.in-Err.refused alone e.pairs e.ids))
+
+pub returns-in-Ok-clause-added : goal.returns-in-Ok-clause-added
+returns-in-Ok-clause-added g c =
+    let kb = g.K.AsBytes.bytes in
+    let l = c.self.inside.leaves in
+    let n = c.self.inside.nodes in
+    let x : g.row.K.Denot × g.row.V.Denot = (c.args.key, c.args.value) in
+    let none = rootless kb l.pairs (at n) c.self.inside.root c.self.invariant.shape c.in-None.is in
+    let alone : (y : Numbered g.row.K.Denot g.row.V.Denot) → Member y l.pairs → related (bytes kb y) (kb x.0) ≡ false = λ y m. absurd (subst (Member y) none m) in
+    subst (λ (t : Content g.row.K.Denot g.row.V.Denot). Adds kb t (content_of c.add_first.new.leaves n) x (Ok Placed)) c.self.view_is (adds_placed kb x l c.add_first.new.leaves n n _ alone c.in-Ok.ensures.placed)
+
+-- ---- a free place
+
+pub invariant_of-self-in-Err-add_beside : goal.invariant_of-self-in-Err-add_beside
+invariant_of-self-in-Err-add_beside g c =
+    let e = c.in-Err-add_beside.ensures in
+    sound_same g.K.AsBytes.bytes c.self.inside.leaves c.add_beside.new.leaves c.self.inside.nodes c.add_beside.new.nodes c.self.inside.root c.self.invariant e.pairs e.nodes
+
+pub returns-in-Err-add_beside-clause-added : goal.returns-in-Err-add_beside-clause-added
+returns-in-Err-add_beside-clause-added g c =
+    let kb = g.K.AsBytes.bytes in
+    let l = c.self.inside.leaves in
+    let n = c.self.inside.nodes in
+    let x : g.row.K.Denot × g.row.V.Denot = (c.args.key, c.args.value) in
+    let new = content_of c.add_beside.new.leaves c.add_beside.new.nodes in
+    let free = rw c.as_bytes.ensures at c.in-Free.ensures.good in
+    let alone = leaving_alone kb l.pairs c.self.invariant.content c.law.ensures.distinct (kb x.0) c.in-Free.place.nearest c.in-Free.place.depth free.leaves in
+    let e = c.in-Err-add_beside.ensures in
+    (subst (λ (t : Content g.row.K.Denot g.row.V.Denot). Adds kb t new x (Err c.in-Err-add_beside.refused)) c.self.view_is (adds_refused kb x (content_of l n) new c.in-Err-add_beside.refused alone e.pairs e.ids))
+
+pub returns-in-Ok-add_beside-clause-added : goal.returns-in-Ok-add_beside-clause-added
+returns-in-Ok-add_beside-clause-added g c =
+    let kb = g.K.AsBytes.bytes in
+    let l = c.self.inside.leaves in
+    let n = c.self.inside.nodes in
+    let x : g.row.K.Denot × g.row.V.Denot = (c.args.key, c.args.value) in
+    let new = content_of c.add_beside.new.leaves c.add_beside.new.nodes in
+    let free = rw c.as_bytes.ensures at c.in-Free.ensures.good in
+    let alone = leaving_alone kb l.pairs c.self.invariant.content c.law.ensures.distinct (kb x.0) c.in-Free.place.nearest c.in-Free.place.depth free.leaves in
+    subst (λ (t : Content g.row.K.Denot g.row.V.Denot). Adds kb t new x (Ok Placed)) c.self.view_is (adds_placed kb x l c.add_beside.new.leaves n c.add_beside.new.nodes _ alone c.in-Ok-add_beside.ensures.placed)
+
+-- ---- related keys
+
+pub returns-in-Exact-clause-added : goal.returns-in-Exact-clause-added
+returns-in-Exact-clause-added g c =
+    let good = rw c.as_bytes.ensures at c.in-Exact.ensures.good in
+    (subst (λ (t : Content g.row.K.Denot g.row.V.Denot). IsGood g.K.AsBytes.bytes t.pairs (Exact c.in-Exact.cell) (g.K.AsBytes.bytes c.args.key)) c.self.view_is good, refl, refl)
+
+pub returns-in-Related-clause-added : goal.returns-in-Related-clause-added
+returns-in-Related-clause-added g c =
+    let kb = g.K.AsBytes.bytes in
+    let q = kb c.args.key in
+    let good = rw c.as_bytes.ensures at c.in-Related.ensures.good in
+    (subst (λ (t : Content g.row.K.Denot g.row.V.Denot). conflict (pair_bytes kb) (pairs_of t.pairs) q ≡ true) c.self.view_is (conflict_pairs kb c.self.inside.leaves.pairs q ∙ good.0), refl)

@@ -1,0 +1,31 @@
+-- How a pair is added by its key.
+use Rattle.std.specs.Prelude.{◌≡◌, ℕ, List, true, false, Some, None, Result, Ok, Err}
+use Rattle.std.specs.declared.alloc.AllocError.{AllocError}
+use Rattle.blart_keys.specs.Content.{conflict, stores}
+use Rattle.blart_keys.specs.Steps.{bytes as pair_bytes, Puts}
+use Rattle.art_cells.specs.Content.{Content}
+use Rattle.art_cells.specs.Leaves.{leaf_in, OthersStand}
+use Rattle.art_cells.specs.Pairs.{pairs_of}
+use Rattle.art_cells.specs.Points.{IsGood}
+use Rattle.art_cells.specs.UnderIds.{id_at, under_ids, Extends}
+use Rattle.art_cells.specs.declared.tree.add.Added.{Added}
+use Rattle.art_cells.specs.declared.tree.add.Added.TheVariants.{Placed, Stored, Conflict}
+use Rattle.art_cells.specs.declared.tree.point.CellPoint.TheVariants.{Exact}
+
+-- the pair is under a new id, and each other id names what it named
+pub record HasNew {K V : Type 0} (old new : Content K V) (x : K × V) : Type 0 where
+  pub cell : ℕ
+  pub now : leaf_in new.pairs cell ≡ Some x
+  pub fresh : leaf_in (under_ids old.ids old.pairs) (id_at new.ids cell) ≡ None
+  pub others : OthersStand (under_ids old.ids old.pairs) (under_ids new.ids new.pairs) (id_at new.ids cell)
+
+-- what came of a pair that was to be added
+abbrev pub Adds : {K V : Type 0} → (K → List ℕ) → Content K V → Content K V → K × V → Result (Added ℕ K V) AllocError → Type 0
+Adds key_bytes old new x (Ok Placed) = Puts key_bytes (λ pair. pair) (pairs_of old.pairs) x x (Ok None) (pairs_of new.pairs) × HasNew old new x
+Adds key_bytes old new x (Ok (Stored cell key value)) = IsGood key_bytes old.pairs (Exact cell) (key_bytes x.0) × ((key, value) ≡ x) × (new ≡ old)
+Adds key_bytes old new x (Ok Conflict) = (conflict (pair_bytes key_bytes) (pairs_of old.pairs) (key_bytes x.0) ≡ true) × (new ≡ old)
+Adds key_bytes old new x (Err refused) =
+    (conflict (pair_bytes key_bytes) (pairs_of old.pairs) (key_bytes x.0) ≡ false)
+    × (stores (pair_bytes key_bytes) (pairs_of old.pairs) (key_bytes x.0) ≡ false)
+    × (new.pairs ≡ old.pairs)
+    × Extends old.ids new.ids
