@@ -1,5 +1,5 @@
 -- A pair that was added over cells, under ids.
-use Rattle.std.proofs.Common.{◌≡◌, ℕ, List, false, true, refl, sym, ap, subst, ◌∙◌, None, Ok, Err}
+use Rattle.std.proofs.Common.{◌≡◌, ℕ, List, false, refl, sym, ap, subst, ◌∙◌, None, Ok, Err}
 use Rattle.std.specs.Prelude.{Result}
 use Rattle.std.specs.declared.alloc.AllocError.{AllocError}
 use Rattle.blart_keys.specs.Content.{conflict, stores}
@@ -16,7 +16,7 @@ use Rattle.art_tree.specs.Content.{Content}
 use Rattle.art_tree.specs.Leaves.{leaf_in}
 use Rattle.art_tree.specs.Pairs.{pairs_of}
 use Rattle.art_tree.specs.UnderIds.{id_at, AreNamed, under_ids}
-use Rattle.art_tree.proofs.Pointing.{exact_id}
+use Rattle.art_tree.proofs.Pointing.{exact_id, conflict_id, first_related_id, last_related_id}
 use Rattle.art_tree.proofs.UnderIds.{pairs_ids}
 
 module _ {K V : Type 0} where
@@ -28,7 +28,7 @@ module _ {K V : Type 0} where
   abbrev pub named_result : List ℕ → Result (Added ℕ K V) AllocError → Result (Added ℕ K V) AllocError
   named_result ids (Ok Placed) = Ok Placed
   named_result ids (Ok (Stored cell key value)) = Ok (Stored (id_at ids cell) key value)
-  named_result ids (Ok Conflict) = Ok Conflict
+  named_result ids (Ok (Conflict cell key value)) = Ok (Conflict (id_at ids cell) key value)
   named_result ids (Err refused) = Err refused
 
   module _ (kb : K → Bytes) (old new : CellContent K V) (x : K × V) (named : AreNamed old.ids old.pairs) (names : AreNamed new.ids new.pairs) where
@@ -46,9 +46,17 @@ module _ {K V : Type 0} where
     adds_named (Ok (Stored cell key value)) a = (
       (a.0.0, exact_id kb old.ids old.pairs named (kb x.0) cell a.0.0 a.0.1),
       a.1,
-      ap (λ (t : CellContent K V). under_ids t.ids t.pairs) a.2,
+      ap tree_of a.2,
     )
-    adds_named (Ok Conflict) a = (rw (pairs_ids old.ids old.pairs) a.0, ap (λ (t : CellContent K V). under_ids t.ids t.pairs) a.1)
+    adds_named (Ok (Conflict first key value)) a =
+        let ids = old.ids in
+        let ps = old.pairs in
+        let q = kb x.0 in
+        let good = a.0.1 in (
+          (id_at ids a.0.0, (conflict_id kb ids ps named q good.0, first_related_id kb ids ps named q first good.1, last_related_id kb ids ps named q a.0.0 good.2)),
+          a.1,
+          ap tree_of a.2,
+        )
     adds_named (Err refused) a = (
       rw (pairs_ids old.ids old.pairs) a.0,
       rw (pairs_ids old.ids old.pairs) a.1,

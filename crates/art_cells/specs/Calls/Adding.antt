@@ -1,5 +1,5 @@
 -- How a pair is added by its key.
-use Rattle.std.specs.Prelude.{◌≡◌, ℕ, List, true, false, Some, None, Result, Ok, Err}
+use Rattle.std.specs.Prelude.{◌≡◌, ℕ, List, false, Some, None, Result, Ok, Err}
 use Rattle.std.specs.declared.alloc.AllocError.{AllocError}
 use Rattle.blart_keys.specs.Content.{conflict, stores}
 use Rattle.blart_keys.specs.Steps.{bytes as pair_bytes, Puts}
@@ -10,7 +10,7 @@ use Rattle.art_cells.specs.Points.{IsGood}
 use Rattle.art_cells.specs.UnderIds.{id_at, under_ids, Extends}
 use Rattle.art_cells.specs.declared.tree.add.Added.{Added}
 use Rattle.art_cells.specs.declared.tree.add.Added.TheVariants.{Placed, Stored, Conflict}
-use Rattle.art_cells.specs.declared.tree.point.CellPoint.TheVariants.{Exact}
+use Rattle.art_cells.specs.declared.tree.point.CellPoint.TheVariants.{Exact, Related}
 
 -- the pair is under a new id, and each other id names what it named
 pub record HasNew {K V : Type 0} (old new : Content K V) (x : K × V) : Type 0 where
@@ -23,7 +23,7 @@ pub record HasNew {K V : Type 0} (old new : Content K V) (x : K × V) : Type 0 w
 abbrev pub Adds : {K V : Type 0} → (K → List ℕ) → Content K V → Content K V → K × V → Result (Added ℕ K V) AllocError → Type 0
 Adds key_bytes old new x (Ok Placed) = Puts key_bytes (λ pair. pair) (pairs_of old.pairs) x x (Ok None) (pairs_of new.pairs) × HasNew old new x
 Adds key_bytes old new x (Ok (Stored cell key value)) = IsGood key_bytes old.pairs (Exact cell) (key_bytes x.0) × ((key, value) ≡ x) × (new ≡ old)
-Adds key_bytes old new x (Ok Conflict) = (conflict (pair_bytes key_bytes) (pairs_of old.pairs) (key_bytes x.0) ≡ true) × (new ≡ old)
+Adds key_bytes old new x (Ok (Conflict first key value)) = ((last : ℕ) × IsGood key_bytes old.pairs (Related first last) (key_bytes x.0)) × ((key, value) ≡ x) × (new ≡ old)
 Adds key_bytes old new x (Err refused) =
     (conflict (pair_bytes key_bytes) (pairs_of old.pairs) (key_bytes x.0) ≡ false)
     × (stores (pair_bytes key_bytes) (pairs_of old.pairs) (key_bytes x.0) ≡ false)

@@ -1,5 +1,5 @@
 //! Pairs that are added by their keys.
-ghost use Rattle.std.specs.Prelude.{◌≡◌, ◌+◌, ◌<◌, ◌≤◌, [], Some, IfOk, OnOk, OnErr};
+ghost use Rattle.std.specs.Prelude.{◌≡◌, ◌+◌, ◌<◌, ◌≤◌, [], Some, Ok, IfOk, OnOk, OnErr};
 ghost use Rattle.art_cells.specs.Leaves.{Leaves as Filed, keys_in, room as leaves_room};
 ghost use Rattle.art_cells.specs.Content.{room as places};
 ghost use Rattle.art_cells.specs.Points.{IsFree};
@@ -25,8 +25,9 @@ pub enum Added<Id, K, V> {
     Placed,
     /// This leaf has the bytes of the key. The pair is returned.
     Stored(Id, K, V),
-    /// The key conflicts with stored keys. The pair was dropped.
-    Conflict,
+    /// The key conflicts with stored keys, of which that of this leaf is the first. The pair is
+    /// returned.
+    Conflict(Id, K, V),
 }
 
 impl<K: AsBytes + Drop, V: Drop, const PREFIX_LEN: usize> CellTree<K, V, PREFIX_LEN> {
@@ -55,7 +56,7 @@ impl<K: AsBytes + Drop, V: Drop, const PREFIX_LEN: usize> CellTree<K, V, PREFIX_
         };
         match point_below(&self.leaves, &self.nodes, &root, key.as_bytes()) {
             CellPoint::Exact(cell) => Ok(Added::Stored(cell, key, value)),
-            CellPoint::Related { .. } => Ok(Added::Conflict),
+            CellPoint::Related { first, .. } => Ok(Added::Conflict(first, key, value)),
             CellPoint::Empty => unreachable!(),
             CellPoint::Free(place) => {
                 let leaves = &mut self.leaves;
@@ -66,6 +67,39 @@ impl<K: AsBytes + Drop, V: Drop, const PREFIX_LEN: usize> CellTree<K, V, PREFIX_
                     }
                     Err(refused) => Err(refused),
                 }
+            }
+        }
+    }
+
+    /// Adds a pair for which there is room, if its key is related to no stored key. Other leaves may
+    /// move to other cells, and take their ids along. Does not allocate.
+    ///
+    /// Cost: as for [`CellTree::add`].
+    pub fn add_within(&mut self, key: K, value: V) -> Added<CellId, K, V>
+        requires room { 0 < places self.old }
+        ensures added { Adds K.bytes self.old self.new (key, value) (Ok result) }
+        ensures room { places self.old ≤ places self.new + 1 }
+    {
+        self.leaves.law();
+        let root = match self.root {
+            Some(root) => root,
+            None => {
+                let (_, root) = place_first(&mut self.leaves, &self.nodes, &None, key, value);
+                self.root = Some(root);
+                return Added::Placed;
+            }
+        };
+        match point_below(&self.leaves, &self.nodes, &root, key.as_bytes()) {
+            CellPoint::Exact(cell) => Added::Stored(cell, key, value),
+            CellPoint::Related { first, .. } => Added::Conflict(first, key, value),
+            CellPoint::Empty => unreachable!(),
+            CellPoint::Free(place) => {
+                let leaves = &mut self.leaves;
+                let nodes = &mut self.nodes;
+                let shown = Some(place.spot);
+                let (_, root) = place_beside(leaves, nodes, &root, &place, &shown, key, value);
+                self.root = Some(root);
+                Added::Placed
             }
         }
     }

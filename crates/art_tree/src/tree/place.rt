@@ -1,5 +1,5 @@
 //! Points, and placements of pairs.
-ghost use Rattle.std.specs.Prelude.{◌≡◌, ◌+◌, ◌<◌, ◌≤◌, ℕ, List, map, Some, None, IsSome, OnOk, OnErr};
+ghost use Rattle.std.specs.Prelude.{◌≡◌, ◌+◌, ◌<◌, ◌≤◌, ℕ, List, map, Some, None, Ok, IsSome, OnOk, OnErr};
 ghost use Rattle.blart_keys.specs.Content.{IsPut};
 ghost use Rattle.blart_keys.specs.Steps.{bytes as pair_bytes};
 ghost use Rattle.art_cells.specs.Content.{Content as CellContent, IsOpen as IsOpenCell, Fits as FitsCell};
@@ -105,8 +105,36 @@ impl<K: AsBytes + Drop, V: Drop, const PREFIX_LEN: usize> Tree<K, V, PREFIX_LEN>
                 let id = id_of(&self.cells, cell);
                 Ok(Added::Stored(id, key, value))
             }
-            Ok(Added::Conflict) => Ok(Added::Conflict),
+            Ok(Added::Conflict(cell, key, value)) => {
+                let id = id_of(&self.cells, cell);
+                Ok(Added::Conflict(id, key, value))
+            }
             Err(refused) => Err(refused),
+        }
+    }
+
+    /// Adds a pair for which there is room, if its key is related to no stored key. Each other id
+    /// names the pair that it named. Does not allocate.
+    ///
+    /// Cost: as for [`Tree::add`].
+    pub fn add_within(&mut self, key: K, value: V) -> Added<LeafId, K, V>
+        requires room { 0 < room self.old }
+        ensures added { Adds K.bytes self.old self.new (key, value) (Ok result) }
+        ensures room { room self.old ≤ room self.new + 1 }
+    {
+        self.cells.law();
+        let added = self.cells.add_within(key, value);
+        self.cells.law();
+        match added {
+            Added::Placed => Added::Placed,
+            Added::Stored(cell, key, value) => {
+                let id = id_of(&self.cells, cell);
+                Added::Stored(id, key, value)
+            }
+            Added::Conflict(cell, key, value) => {
+                let id = id_of(&self.cells, cell);
+                Added::Conflict(id, key, value)
+            }
         }
     }
 }

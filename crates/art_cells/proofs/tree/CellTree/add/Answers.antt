@@ -1,7 +1,5 @@
-use Rattle.std.proofs.Common.{◌≡◌, [], lit<, refl, sym, subst, ◌∙◌, Option, Ok, Err, true, false}
+use Rattle.std.proofs.Common.{◌≡◌, [], lit<, refl, sym, subst, ◌∙◌, Option, Ok, Err, false}
 use Rattle.blart_keys.specs.Bytes.{related}
-use Rattle.blart_keys.specs.Content.{conflict}
-use Rattle.blart_keys.specs.Steps.{bytes as pair_bytes}
 use Rattle.blart_keys.proofs.RankLemmas.{Member}
 use Rattle.art_kinds.specs.Nodes.{at}
 use Rattle.art_kinds.specs.declared.records.ids.Child.{Child}
@@ -10,11 +8,10 @@ use Rattle.art_cells.specs.Calls.Placing.{content_of}
 use Rattle.art_cells.specs.Content.{Content}
 use Rattle.art_cells.specs.Invariant.Sound.{IsSound}
 use Rattle.art_cells.specs.Leaves.{Numbered, bytes}
-use Rattle.art_cells.specs.Pairs.{pairs_of}
 use Rattle.art_cells.specs.Points.{IsGood}
-use Rattle.art_cells.specs.declared.tree.point.CellPoint.TheVariants.{Exact}
+use Rattle.art_cells.specs.declared.tree.point.CellPoint.TheVariants.{Exact, Related}
 use Rattle.art_cells.specs.declared.tree.add.Added.TheVariants.{Placed}
-use Rattle.art_cells.proofs.CallerLemmas.{conflict_pairs, leaving_alone}
+use Rattle.art_cells.proofs.CallerLemmas.{leaving_alone}
 use Rattle.art_cells.proofs.Invariant.Soundness.{rootless, sound_same}
 use Rattle.art_cells.proofs.Pairs.Added.{adds_placed, adds_refused}
 use Rattle.art_cells.proofs.tree.CellTree.add.Goals as goal
@@ -88,7 +85,5 @@ returns-in-Exact-clause-added g c =
 
 pub returns-in-Related-clause-added : goal.returns-in-Related-clause-added
 returns-in-Related-clause-added g c =
-    let kb = g.K.AsBytes.bytes in
-    let q = kb c.args.key in
     let good = rw c.as_bytes.ensures at c.in-Related.ensures.good in
-    (subst (λ (t : Content g.row.K.Denot g.row.V.Denot). conflict (pair_bytes kb) (pairs_of t.pairs) q ≡ true) c.self.view_is (conflict_pairs kb c.self.inside.leaves.pairs q ∙ good.0), refl)
+    ((c.in-Related.last, subst (λ (t : Content g.row.K.Denot g.row.V.Denot). IsGood g.K.AsBytes.bytes t.pairs (Related c.in-Related.first c.in-Related.last) (g.K.AsBytes.bytes c.args.key)) c.self.view_is good), refl, refl)

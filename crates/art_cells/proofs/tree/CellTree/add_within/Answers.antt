@@ -1,0 +1,62 @@
+use Rattle.std.proofs.Common.{◌≡◌, ◌<◌, arith, lit<, refl, sym, subst, ◌∙◌, Option, Ok, false}
+use Rattle.blart_keys.specs.Bytes.{related}
+use Rattle.blart_keys.proofs.RankLemmas.{Member}
+use Rattle.art_kinds.specs.Nodes.{at}
+use Rattle.art_kinds.specs.declared.records.ids.Child.{Child}
+use Rattle.art_cells.specs.Calls.Adding.{Adds}
+use Rattle.art_cells.specs.Calls.Placing.{content_of}
+use Rattle.art_cells.specs.Content.{Content, room as places}
+use Rattle.art_cells.specs.Invariant.Sound.{IsSound}
+use Rattle.art_cells.specs.Leaves.{Numbered, bytes}
+use Rattle.art_cells.specs.Points.{IsGood}
+use Rattle.art_cells.specs.declared.tree.point.CellPoint.TheVariants.{Exact, Related}
+use Rattle.art_cells.specs.declared.tree.add.Added.TheVariants.{Placed}
+use Rattle.art_cells.proofs.CallerLemmas.{leaving_alone}
+use Rattle.art_cells.proofs.Invariant.Soundness.{rootless}
+use Rattle.art_cells.proofs.Pairs.Added.{adds_placed}
+use Rattle.art_cells.proofs.tree.CellTree.add_within.Goals as goal
+
+-- ---- no pairs
+
+pub place_first-requires : goal.place_first-requires
+place_first-requires g c =
+    let kb = g.K.AsBytes.bytes in
+    let l = c.self.inside.leaves in
+    let n = c.self.inside.nodes in
+    let room : 0 < places (content_of l n) = subst (λ (t : Content g.row.K.Denot g.row.V.Denot). 0 < places t) (sym c.self.view_is) c.requires.room in
+    (lit< tt, (subst (λ (r : Option Child). IsSound kb g.row.PREFIX_LEN l n r) c.in-None.is c.self.invariant, (rootless kb l.pairs (at n) c.self.inside.root c.self.invariant.shape c.in-None.is, omega arith)))
+
+pub returns-in-None-clause-added : goal.returns-in-None-clause-added
+returns-in-None-clause-added g c =
+    let kb = g.K.AsBytes.bytes in
+    let l = c.self.inside.leaves in
+    let n = c.self.inside.nodes in
+    let x : g.row.K.Denot × g.row.V.Denot = (c.args.key, c.args.value) in
+    let none = rootless kb l.pairs (at n) c.self.inside.root c.self.invariant.shape c.in-None.is in
+    let alone : (y : Numbered g.row.K.Denot g.row.V.Denot) → Member y l.pairs → related (bytes kb y) (kb x.0) ≡ false = λ y m. absurd (subst (Member y) none m) in
+    subst (λ (t : Content g.row.K.Denot g.row.V.Denot). Adds kb t (content_of c.place_first.new.leaves n) x (Ok Placed)) c.self.view_is (adds_placed kb x l c.place_first.new.leaves n n _ alone c.place_first.ensures.placed)
+
+-- ---- a free place
+
+pub returns-in-Free-clause-added : goal.returns-in-Free-clause-added
+returns-in-Free-clause-added g c =
+    let kb = g.K.AsBytes.bytes in
+    let l = c.self.inside.leaves in
+    let n = c.self.inside.nodes in
+    let x : g.row.K.Denot × g.row.V.Denot = (c.args.key, c.args.value) in
+    let new = content_of c.place_beside.new.leaves c.place_beside.new.nodes in
+    let free = rw c.as_bytes.ensures at c.in-Free.ensures.good in
+    let alone = leaving_alone kb l.pairs c.self.invariant.content c.law.ensures.distinct (kb x.0) c.in-Free.place.nearest c.in-Free.place.depth free.leaves in
+    subst (λ (t : Content g.row.K.Denot g.row.V.Denot). Adds kb t new x (Ok Placed)) c.self.view_is (adds_placed kb x l c.place_beside.new.leaves n c.place_beside.new.nodes _ alone c.place_beside.ensures.placed)
+
+-- ---- related keys
+
+pub returns-in-Exact-clause-added : goal.returns-in-Exact-clause-added
+returns-in-Exact-clause-added g c =
+    let good = rw c.as_bytes.ensures at c.in-Exact.ensures.good in
+    (subst (λ (t : Content g.row.K.Denot g.row.V.Denot). IsGood g.K.AsBytes.bytes t.pairs (Exact c.in-Exact.cell) (g.K.AsBytes.bytes c.args.key)) c.self.view_is good, refl, refl)
+
+pub returns-in-Related-clause-added : goal.returns-in-Related-clause-added
+returns-in-Related-clause-added g c =
+    let good = rw c.as_bytes.ensures at c.in-Related.ensures.good in
+    ((c.in-Related.last, subst (λ (t : Content g.row.K.Denot g.row.V.Denot). IsGood g.K.AsBytes.bytes t.pairs (Related c.in-Related.first c.in-Related.last) (g.K.AsBytes.bytes c.args.key)) c.self.view_is good), refl, refl)
