@@ -1,4 +1,5 @@
 -- What a placement makes of the pairs.
+pub mod Adding
 pub mod Again
 pub mod FreePlaces
 pub mod Inserting

@@ -13,7 +13,6 @@ pub use append::move_into;
 pub use ascending::put_ascending;
 pub use parting::part;
 pub use placing::{
-    exchange_at, lawful_point, place_ready, put_at, put_lawful, put_lawful_within, put_within,
-    room_for,
+    exchange, lawful_point, place_ready, put, put_lawful, put_lawful_within, put_within, room_for,
 };
 pub use thinning::leave_one;

@@ -1,5 +1,5 @@
 //! Where a pair goes, room for it, and the pair placed.
-ghost use Rattle.std.specs.Prelude.{◌≡◌, ◌≢◌, ◌+◌, ◌<◌, ◌≤◌, ℕ, true, false, option_map, Some, None, OnOk, IfOk, OnErr};
+ghost use Rattle.std.specs.Prelude.{◌≡◌, ◌≢◌, ◌+◌, ◌<◌, ◌≤◌, ℕ, true, false, option_map, Some, None, Ok, OnOk, IfOk, OnErr};
 ghost use Rattle.blart_keys.specs.Content.{stores, conflict, IsContent, IsPut};
 ghost use Rattle.blart_keys.specs.Steps.{bytes as pair_bytes, Puts, Inserts};
 ghost use Rattle.blart_keys.specs.Stored.{kept, pair_at};
@@ -10,8 +10,10 @@ ghost use Rattle.art_tree.specs.declared.tree.point.Point.TheVariants.{Exact, Re
 ghost use Rattle.art_tree.specs.Pairs.{pairs_of};
 ghost use Rattle.art_insert.specs.Places.{IsReady, IsPlaced};
 ghost use Rattle.art_insert.specs.Within.{as_tried, added, added_ok};
+ghost use Rattle.art_cells.specs.declared.tree.add.Added.TheVariants.{Conflict};
+ghost use Rattle.art_tree.specs.Adding.{Adds};
 
-use art_tree::{LeafId, Point, Tree, Visits};
+use art_tree::{Added, LeafId, Point, Tree, Visits};
 use blart_keys::{AsBytes, InsertPrefixError, NoPrefixesBytes, TryInsertError};
 use std::alloc::AllocError;
 use std::mem::replace;
@@ -73,7 +75,55 @@ pub fn lawful_point<K: NoPrefixesBytes, V, const P: usize>(tree: &Tree<K, V, P>,
     }
 }
 
-// Places a pair whose key is related to no stored one. It takes one placement of the room.
+/// Adds a pair whose key never conflicts, as [`Tree::add`] does.
+fn add_lawful<K: NoPrefixesBytes + Drop, V: Drop, const P: usize>(
+    tree: &mut Tree<K, V, P>,
+    key: K,
+    value: V,
+) -> Result<Added<LeafId, K, V>, AllocError>
+    ensures added { Adds K.bytes tree.old tree.new (key, value) result }
+    ensures lawful { (i : ℕ) (k : K) (v : V) → result ≢ Ok (Conflict i k v) }
+    ensures content { IsContent (bytes K.bytes) tree.old.pairs }
+    ensures distinct { AreDistinct tree.old.pairs }
+{
+    tree.law();
+    match tree.add(key, value) {
+        Ok(Added::Conflict(first, key, _value)) => {
+            let (other, _) = tree.leaf(first, &mut Visits::new());
+            other.value_law();
+            key.value_law();
+            unreachable!()
+        }
+        added => added,
+    }
+}
+
+/// Adds a pair whose key never conflicts and for which there is room, as [`Tree::add_within`] does.
+fn add_lawful_within<K: NoPrefixesBytes + Drop, V: Drop, const P: usize>(
+    tree: &mut Tree<K, V, P>,
+    key: K,
+    value: V,
+) -> Added<LeafId, K, V>
+    requires { 0 < room tree.old }
+    ensures added { Adds K.bytes tree.old tree.new (key, value) (Ok result) }
+    ensures lawful { (i : ℕ) (k : K) (v : V) → result ≢ Conflict i k v }
+    ensures room { room tree.old ≤ room tree.new + 1 }
+    ensures content { IsContent (bytes K.bytes) tree.old.pairs }
+    ensures distinct { AreDistinct tree.old.pairs }
+{
+    tree.law();
+    match tree.add_within(key, value) {
+        Added::Conflict(first, key, _value) => {
+            let (other, _) = tree.leaf(first, &mut Visits::new());
+            other.value_law();
+            key.value_law();
+            unreachable!()
+        }
+        added => added,
+    }
+}
+
+/// Places a pair whose key is related to no stored key. Takes one placement of the room.
 pub(crate) fn place_reserved<K: AsBytes + Drop, V: Drop, const P: usize>(
     tree: &mut Tree<K, V, P>,
     key: K,
@@ -86,16 +136,15 @@ pub(crate) fn place_reserved<K: AsBytes + Drop, V: Drop, const P: usize>(
         (pairs_of tree.new.pairs) }
     ensures room { room tree.old ≤ room tree.new + 1 }
 {
-    tree.law();
-    match tree.point(key.as_bytes()) {
-        Point::Exact(_) | Point::Related { .. } => unreachable!(),
-        point => {
-            tree.place(point, key, value);
-        }
+    match tree.add_within(key, value) {
+        Added::Placed => {}
+        Added::Stored(_id, _key, _value) => unreachable!(),
+        Added::Conflict(_first, _key, _value) => unreachable!(),
     }
 }
 
-// Puts a pair in the place of one with the same bytes, or adds it. It takes at most one placement of the room.
+/// Puts a pair in the place of the pair with the same bytes, or adds it. Takes at most one placement
+/// of the room.
 pub(crate) fn put_reserved<K: NoPrefixesBytes + Drop, V: Drop, const P: usize>(
     tree: &mut Tree<K, V, P>,
     key: K,
@@ -106,18 +155,16 @@ pub(crate) fn put_reserved<K: NoPrefixesBytes + Drop, V: Drop, const P: usize>(
         (pairs_of tree.new.pairs) }
     ensures room { room tree.old ≤ room tree.new + 1 }
 {
-    match lawful_point(tree, &key) {
-        Point::Related { .. } => unreachable!(),
-        Point::Exact(id) => {
+    match add_lawful_within(tree, key, value) {
+        Added::Placed => {}
+        Added::Stored(id, key, value) => {
             tree.swap(id, key, value);
         }
-        point => {
-            tree.place(point, key, value);
-        }
+        Added::Conflict(_first, _key, _value) => unreachable!(),
     }
 }
 
-// Adds a pair where its bytes are new, and else drops it. It takes at most one placement of the room.
+/// Adds a pair if its bytes are new, and else drops it. Takes at most one placement of the room.
 pub(crate) fn add_reserved<K: NoPrefixesBytes + Drop, V: Drop, const P: usize>(
     tree: &mut Tree<K, V, P>,
     key: K,
@@ -130,16 +177,15 @@ pub(crate) fn add_reserved<K: NoPrefixesBytes + Drop, V: Drop, const P: usize>(
         → tree.new.pairs ≡ tree.old.pairs }
     ensures room { room tree.old ≤ room tree.new + 1 }
 {
-    match lawful_point(tree, &key) {
-        Point::Related { .. } => unreachable!(),
-        Point::Exact(_stored) => {}
-        point => {
-            tree.place(point, key, value);
-        }
+    match add_lawful_within(tree, key, value) {
+        Added::Placed => {}
+        Added::Stored(_id, _key, _value) => {}
+        Added::Conflict(_first, _key, _value) => unreachable!(),
     }
 }
 
-/// Puts the pair, where there is room, and gives the value that was there. A stored key stays. It takes one placement of the room where the pair is added.
+/// Puts a pair for which there is room, and returns the old value of its key. A stored key is
+/// unchanged. Takes one placement of the room if the pair is added.
 pub fn put_within<K: AsBytes + Drop, V: Drop, const P: usize>(
     tree: &mut Tree<K, V, P>,
     key: K,
@@ -151,11 +197,15 @@ pub fn put_within<K: AsBytes + Drop, V: Drop, const P: usize>(
         (pairs_of tree.new.pairs) }
     ensures room { room tree.old ≤ room tree.new + added_ok result }
 {
-    let point = tree.point(key.as_bytes());
-    put_within_at(tree, point, key, value)
+    tree.law();
+    match tree.add_within(key, value) {
+        Added::Placed => Ok(None),
+        Added::Stored(id, _key, value) => Ok(Some(replace(tree.value_mut(id), value))),
+        Added::Conflict(_first, _key, _value) => Err(InsertPrefixError),
+    }
 }
 
-/// As [`put_within`], of a pair whose key never conflicts.
+/// Puts a pair whose key never conflicts and for which there is room, as [`put_within`] does.
 pub fn put_lawful_within<K: NoPrefixesBytes + Drop, V: Drop, const P: usize>(
     tree: &mut Tree<K, V, P>,
     key: K,
@@ -168,42 +218,15 @@ pub fn put_lawful_within<K: NoPrefixesBytes + Drop, V: Drop, const P: usize>(
         (kept K.bytes (pairs_of tree.old.pairs) (key, value)) (pairs_of tree.new.pairs) }
     ensures room { room tree.old ≤ room tree.new + added result }
 {
-    let point = lawful_point(tree, &key);
-    match put_within_at(tree, point, key, value) {
-        Ok(old) => old,
-        Err(_) => unreachable!(),
+    match add_lawful_within(tree, key, value) {
+        Added::Placed => None,
+        Added::Stored(id, _key, value) => Some(replace(tree.value_mut(id), value)),
+        Added::Conflict(_first, _key, _value) => unreachable!(),
     }
 }
 
-// The same at a point that is good for the key.
-fn put_within_at<K: AsBytes + Drop, V: Drop, const P: usize>(
-    tree: &mut Tree<K, V, P>,
-    point: Point,
-    key: K,
-    value: V,
-) -> Result<Option<V>, InsertPrefixError>
-    requires good { IsGood K.bytes tree.old.pairs point (K.bytes key) }
-    requires room { 0 < room tree.old }
-    ensures put { Puts K.bytes (option_map (λ pair. pair.1)) (pairs_of tree.old.pairs) (key, value)
-        (kept K.bytes (pairs_of tree.old.pairs) (key, value)) (as_tried result)
-        (pairs_of tree.new.pairs) }
-    ensures room { room tree.old ≤ room tree.new + added_ok result }
-{
-    tree.law();
-    match point {
-        Point::Exact(id) => {
-            let old = replace(tree.value_mut(id), value);
-            Ok(Some(old))
-        }
-        Point::Related { .. } => Err(InsertPrefixError),
-        point => {
-            tree.place(point, key, value);
-            Ok(None)
-        }
-    }
-}
-
-/// Puts the pair, whose key never conflicts, and gives the value that was there. A stored key stays. An error leaves the pairs as they were.
+/// Puts a pair whose key never conflicts, and returns the old value of its key. A stored key is
+/// unchanged. Returns an error if it fails to allocate, and the pairs are then unchanged.
 pub fn put_lawful<K: NoPrefixesBytes + Drop, V: Drop, const P: usize>(
     tree: &mut Tree<K, V, P>,
     key: K,
@@ -213,82 +236,50 @@ pub fn put_lawful<K: NoPrefixesBytes + Drop, V: Drop, const P: usize>(
         (kept K.bytes (pairs_of tree.old.pairs) (key, value)) result (pairs_of tree.new.pairs) }
     ensures err { OnErr result (tree.new.pairs ≡ tree.old.pairs) }
 {
-    let point = lawful_point(tree, &key);
-    match put_at(tree, point, key, value) {
-        Ok(old) => Ok(old),
-        Err(TryInsertError::Memory(refused)) => Err(refused),
-        Err(TryInsertError::Prefix(_)) => unreachable!(),
+    match add_lawful(tree, key, value) {
+        Ok(Added::Placed) => Ok(None),
+        Ok(Added::Stored(id, _key, value)) => Ok(Some(replace(tree.value_mut(id), value))),
+        Ok(Added::Conflict(_first, _key, _value)) => unreachable!(),
+        Err(refused) => Err(refused),
     }
 }
 
-/// Puts the pair at a point that is good for its key, and gives the value that was there. A stored key stays. An error leaves the pairs as they were.
-pub fn put_at<K: AsBytes + Drop, V: Drop, const P: usize>(
+/// Puts a pair, and returns the old value of its key. A stored key is unchanged. Returns an error if
+/// the key conflicts or if it fails to allocate, and the pairs are then unchanged.
+pub fn put<K: AsBytes + Drop, V: Drop, const P: usize>(
     tree: &mut Tree<K, V, P>,
-    point: Point,
     key: K,
     value: V,
 ) -> Result<Option<V>, TryInsertError>
-    requires { IsGood K.bytes tree.old.pairs point (K.bytes key) }
     ensures put { Puts K.bytes (option_map (λ pair. pair.1)) (pairs_of tree.old.pairs) (key, value)
         (kept K.bytes (pairs_of tree.old.pairs) (key, value)) result (pairs_of tree.new.pairs) }
     ensures err { OnErr result (tree.new.pairs ≡ tree.old.pairs) }
 {
     tree.law();
-    match point {
-        Point::Exact(id) => Ok(Some(replace(tree.value_mut(id), value))),
-        point => match add_at(tree, point, key, value) {
-            Ok(()) => Ok(None),
-            Err(refused) => Err(refused),
-        },
+    match tree.add(key, value) {
+        Ok(Added::Placed) => Ok(None),
+        Ok(Added::Stored(id, _key, value)) => Ok(Some(replace(tree.value_mut(id), value))),
+        Ok(Added::Conflict(_first, _key, _value)) => Err(TryInsertError::Prefix(InsertPrefixError)),
+        Err(refused) => Err(TryInsertError::Memory(refused)),
     }
 }
 
-/// Puts the pair at a point that is good for its key, and gives the pair that was there. An error leaves the pairs as they were.
-pub fn exchange_at<K: AsBytes + Drop, V: Drop, const P: usize>(
+/// Puts a pair, and returns the old pair of its key's bytes. Returns an error if the key conflicts or
+/// if it fails to allocate, and the pairs are then unchanged.
+pub fn exchange<K: AsBytes + Drop, V: Drop, const P: usize>(
     tree: &mut Tree<K, V, P>,
-    point: Point,
     key: K,
     value: V,
 ) -> Result<Option<(K, V)>, TryInsertError>
-    requires { IsGood K.bytes tree.old.pairs point (K.bytes key) }
     ensures put { Puts K.bytes (λ pair. pair) (pairs_of tree.old.pairs) (key, value) (key, value)
         result (pairs_of tree.new.pairs) }
     ensures err { OnErr result (tree.new.pairs ≡ tree.old.pairs) }
 {
     tree.law();
-    match point {
-        Point::Exact(id) => Ok(Some(tree.swap(id, key, value))),
-        point => match add_at(tree, point, key, value) {
-            Ok(()) => Ok(None),
-            Err(refused) => Err(refused),
-        },
-    }
-}
-
-// Adds the pair at a point that is good for its key and is no stored one's.
-fn add_at<K: AsBytes + Drop, V: Drop, const P: usize>(
-    tree: &mut Tree<K, V, P>,
-    point: Point,
-    key: K,
-    value: V,
-) -> Result<(), TryInsertError>
-    requires good { IsGood K.bytes tree.old.pairs point (K.bytes key) }
-    requires new { (i : ℕ) → point ≢ Exact i }
-    ensures none { OnOk result (pair_at K.bytes (pairs_of tree.old.pairs) (K.bytes key) ≡ None) }
-    ensures put { Puts K.bytes (λ _. tt) (pairs_of tree.old.pairs) (key, value) (key, value) result
-        (pairs_of tree.new.pairs) }
-    ensures err { OnErr result (tree.new.pairs ≡ tree.old.pairs) }
-{
-    tree.law();
-    match point {
-        Point::Exact(_) => unreachable!(),
-        Point::Related { .. } => Err(TryInsertError::Prefix(InsertPrefixError)),
-        Point::Empty | Point::Free(_) => {
-            if let Err(refused) = tree.make_room(&point) {
-                return Err(TryInsertError::Memory(refused));
-            }
-            tree.place(point, key, value);
-            Ok(())
-        }
+    match tree.add(key, value) {
+        Ok(Added::Placed) => Ok(None),
+        Ok(Added::Stored(id, key, value)) => Ok(Some(tree.swap(id, key, value))),
+        Ok(Added::Conflict(_first, _key, _value)) => Err(TryInsertError::Prefix(InsertPrefixError)),
+        Err(refused) => Err(TryInsertError::Memory(refused)),
     }
 }

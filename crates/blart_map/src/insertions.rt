@@ -7,7 +7,7 @@ ghost use Rattle.blart_map.specs.Content.{pairs};
 ghost use Rattle.blart_keys.specs.Routed.{OverlapsToo};
 
 use crate::map::TreeMap;
-use art_insert::{exchange_at, put_at, put_lawful};
+use art_insert::{exchange, put, put_lawful};
 use blart_keys::{AsBytes, NoPrefixesBytes, TryInsertError};
 use std::alloc::AllocError;
 
@@ -48,8 +48,7 @@ impl<K: AsBytes + Drop, V: Drop, const PREFIX_LEN: usize> TreeMap<K, V, PREFIX_L
             (pairs self.new) }
     {
         self.law();
-        let point = self.tree.point(key.as_bytes());
-        put_at(&mut self.tree, point, key, value)
+        put(&mut self.tree, key, value)
     }
 
     /// Puts the pair in the place of one with the same bytes, which is the answer, or adds it. The key handed in is always the one that is stored. Errors are as those of [`TreeMap::try_insert`].
@@ -76,8 +75,7 @@ impl<K: AsBytes + Drop, V: Drop, const PREFIX_LEN: usize> TreeMap<K, V, PREFIX_L
             result (pairs self.new) }
     {
         self.law();
-        let point = self.tree.point(key.as_bytes());
-        exchange_at(&mut self.tree, point, key, value)
+        exchange(&mut self.tree, key, value)
     }
 }
 

@@ -17,8 +17,8 @@ use Rattle.art_tree.specs.Takes.{MayTake}
 use Rattle.art_tree.specs.declared.tree.point.Place.{Place}
 use Rattle.art_tree.specs.declared.tree.point.Point.{Point}
 use Rattle.art_tree.specs.declared.tree.point.Point.TheVariants.{Empty, Exact, Related, Free}
-use Rattle.art_tree.proofs.CallerLemmas.{leaf_in-member, Member-from_leaf_in, free_alone, alone_no_conflict, alone_absent, alone_none}
-pub use Rattle.art_tree.proofs.CallerLemmas.{conflict_pairs}
+use Rattle.art_tree.proofs.CallerLemmas.{leaf_in-member, Member-from_leaf_in, free_alone}
+pub use Rattle.art_tree.proofs.CallerLemmas.{alone_no_conflict, alone_absent, alone_none, conflict_pairs}
 use Rattle.blart_keys.proofs.Options.{is_some}
 use Rattle.blart_keys.proofs.Mapped.{find-map, list_any-map, content_map}
 use Rattle.art_tree.specs.Pairs.{pairs_of}
@@ -88,7 +88,7 @@ module _ {K V : Type 0} (kb : K → Bytes) (ps : List (Numbered K V)) where
       -- a pair placed where none is related is put
       pub placed : ((y : Numbered K V) → Member y ps → related (bytes kb y) (kb x.0) ≡ false) → (old new : List (Numbered K V)) → old ≡ ps → IsPut (pair_bytes kb) (pairs_of old) x (pairs_of new) → Puts kb (λ pair. pair) (pairs_of ps) x x (Ok None) (pairs_of new)
       placed alone old new e put = (
-        conflict_pairs (kb x.0) ∙ alone_no_conflict (bytes kb) ps (kb x.0) alone,
+        conflict_pairs kb ps (kb x.0) ∙ alone_no_conflict (bytes kb) ps (kb x.0) alone,
         subst (λ S. IsPut (pair_bytes kb) (pairs_of S) x (pairs_of new)) e put,
         sym (find-map (λ p. p.1) (λ y. bytes_eq (kb y.0) (kb x.0)) ps ∙ ap (option_map (λ p. p.1)) (alone_none (bytes kb) ps (kb x.0) alone)),
       )
@@ -96,7 +96,7 @@ module _ {K V : Type 0} (kb : K → Bytes) (ps : List (Numbered K V)) where
       -- where there was no memory for it the pairs stand
       pub refused : ((y : Numbered K V) → Member y ps → related (bytes kb y) (kb x.0) ≡ false) → {R : Type 0} (tell : Option (K × V) → R) (new : List (Numbered K V)) → new ≡ ps → (e : _) → Puts kb tell (pairs_of ps) x x (Err (Memory e)) (pairs_of new)
       refused alone tell new same e = (
-        conflict_pairs (kb x.0) ∙ alone_no_conflict (bytes kb) ps (kb x.0) alone,
+        conflict_pairs kb ps (kb x.0) ∙ alone_no_conflict (bytes kb) ps (kb x.0) alone,
         list_any-map (λ p. p.1) (λ y. bytes_eq (kb y.0) (kb x.0)) ps ∙ alone_absent (bytes kb) ps (kb x.0) alone,
         ap pairs_of same,
       )

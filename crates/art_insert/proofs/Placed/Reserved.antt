@@ -11,8 +11,7 @@ use Rattle.art_tree.specs.Points.{IsGood}
 use Rattle.art_tree.specs.declared.tree.point.Point.TheVariants.{Exact}
 use Rattle.blart_keys.proofs.RankLemmas.{Member}
 use Rattle.art_tree.specs.Pairs.{pairs_of}
-use Rattle.art_tree.proofs.CallerLemmas.{alone_absent}
-use Rattle.art_insert.proofs.Placed.Inserting.{placed}
+use Rattle.art_insert.proofs.Placed.Inserting.{alone_absent, placed}
 use Rattle.art_insert.proofs.Placed.Keeping.{added_kept}
 
 -- the bytes are new among the numbered pairs where they are among the pairs

@@ -1,28 +1,42 @@
-use Rattle.std.proofs.Common.{refl, sym, ◌∙◌}
+use Rattle.std.proofs.Common.{◌∙◌, sym, ap, subst, Ok}
+use Rattle.art_tree.specs.Adding.{Adds}
 use Rattle.std.proofs.lemmas.Bool.{false≢true}
-use Rattle.art_insert.proofs.Placed.Inserting.{opens_else, open_alone, placed}
-use Rattle.art_insert.proofs.Placed.Reserved.{exact_stored, open_new}
+use Rattle.art_tree.specs.Content.{Content}
+use Rattle.art_insert.proofs.Placed.Adding.{added_absent, added_stored}
 use Rattle.art_insert.proofs.placing.add_reserved.Goals as goal
 
-pub returns-in-Exact-clause-added : goal.returns-in-Exact-clause-added
-returns-in-Exact-clause-added g c =
+pub returns-in-Placed-clause-added : goal.returns-in-Placed-clause-added
+returns-in-Placed-clause-added g c = λ absent.
     let kb = g.K.AsBytes.bytes in
-    let ps = c.args.tree.now.pairs in
-    let good = c.in-Exact.ensures.good in
-    λ absent. absurd (false≢true (sym absent ∙ exact_stored kb ps (kb c.args.key) c.in-Exact._stored good))
+    let old = c.args.tree.now in
+    let new = c.add_lawful_within.new.tree in
+    let x : g.row.K.Denot × g.row.V.Denot = (c.args.key, c.args.value) in
+    let a = subst (Adds kb old new x) (ap Ok c.in-Placed.is) c.add_lawful_within.ensures.added in
+    a.0.1
 
-pub returns-in_default-clause-added : goal.returns-in_default-clause-added
-returns-in_default-clause-added g c =
+pub returns-in-Placed-clause-stays : goal.returns-in-Placed-clause-stays
+returns-in-Placed-clause-stays g c = λ there.
     let kb = g.K.AsBytes.bytes in
-    let ps = c.args.tree.now.pairs in
-    let good = c.lawful_point.ensures.good in
-    let alone = open_alone kb ps c.lawful_point.ensures.content c.lawful_point.ensures.distinct (kb c.args.key) c.lawful_point.result good (opens_else c.lawful_point.result c.in_default.not-Exact c.in_default.not-Related) in
-    λ absent. (placed kb ps c.lawful_point.ensures.content c.lawful_point.ensures.distinct (c.args.key, c.args.value) alone ps c.place.new.self.pairs refl c.place.ensures.put).1
+    let old = c.args.tree.now in
+    let new = c.add_lawful_within.new.tree in
+    let x : g.row.K.Denot × g.row.V.Denot = (c.args.key, c.args.value) in
+    let a = subst (Adds kb old new x) (ap Ok c.in-Placed.is) c.add_lawful_within.ensures.added in
+    absurd (false≢true (sym (added_absent kb old new x a) ∙ there))
 
-pub returns-in_default-clause-stays : goal.returns-in_default-clause-stays
-returns-in_default-clause-stays g c =
+pub returns-in-Stored-clause-added : goal.returns-in-Stored-clause-added
+returns-in-Stored-clause-added g c = λ absent.
     let kb = g.K.AsBytes.bytes in
-    let ps = c.args.tree.now.pairs in
-    let good = c.lawful_point.ensures.good in
-    let alone = open_alone kb ps c.lawful_point.ensures.content c.lawful_point.ensures.distinct (kb c.args.key) c.lawful_point.result good (opens_else c.lawful_point.result c.in_default.not-Exact c.in_default.not-Related) in
-    λ there. absurd (false≢true (sym (open_new kb ps (kb c.args.key) alone) ∙ there))
+    let old = c.args.tree.now in
+    let new = c.add_lawful_within.new.tree in
+    let x : g.row.K.Denot × g.row.V.Denot = (c.args.key, c.args.value) in
+    let a = subst (Adds kb old new x) (ap Ok c.in-Stored.is) c.add_lawful_within.ensures.added in
+    absurd (false≢true (sym absent ∙ added_stored kb old new x _ _ _ a))
+
+pub returns-in-Stored-clause-stays : goal.returns-in-Stored-clause-stays
+returns-in-Stored-clause-stays g c = λ there.
+    let kb = g.K.AsBytes.bytes in
+    let old = c.args.tree.now in
+    let new = c.add_lawful_within.new.tree in
+    let x : g.row.K.Denot × g.row.V.Denot = (c.args.key, c.args.value) in
+    let a = subst (Adds kb old new x) (ap Ok c.in-Stored.is) c.add_lawful_within.ensures.added in
+    ap (λ (t : Content g.row.K.Denot g.row.V.Denot). t.pairs) a.2

@@ -1,0 +1,82 @@
+-- What came of a pair that was to be added.
+use Rattle.std.proofs.Common.{◌≡◌, ℕ, List, true, false, refl, sym, ap, ◌∙◌, subst, Some, None, Ok, option_map}
+use Rattle.std.proofs.lemmas.Bool.{false_from_ne_true}
+use Rattle.blart_keys.specs.Content.{IsContent, at, stores, conflict}
+use Rattle.blart_keys.specs.Keys.{NoFronts}
+use Rattle.blart_keys.proofs.RankLemmas.{Member}
+use Rattle.blart_keys.proofs.ContentLemmas.{stores_found, at_None}
+use Rattle.blart_keys.specs.Steps.{bytes as pair_bytes, Puts}
+use Rattle.blart_keys.specs.Stored.{kept, pair_at}
+use Rattle.blart_keys.proofs.Options.{is_some}
+use Rattle.art_cells.specs.declared.tree.add.Added.TheVariants.{Placed, Stored, Conflict}
+use Rattle.art_tree.specs.Adding.{Adds}
+use Rattle.art_tree.specs.Begins.{Bytes}
+use Rattle.art_tree.specs.Content.{Content}
+use Rattle.art_tree.specs.Leaves.{Numbered, leaf_in, Has, AreDistinct, with_pair, with_value, bytes}
+use Rattle.art_tree.specs.Pairs.{pairs_of}
+use Rattle.art_tree.specs.Takes.{MayTake}
+use Rattle.art_insert.proofs.Placed.Inserting.{conflict_pairs, exact_has, exact_takes, related_first, exchanged, lawful}
+use Rattle.art_insert.proofs.Placed.Reserved.{exact_stored}
+use Rattle.art_insert.proofs.Placed.Keeping.{added_kept, value_put}
+
+module _ {K V : Type 0} (kb : K → Bytes) (old new : Content K V) (x : K × V) where
+  -- the pair was put, and is stored as it is
+  pub added_new : Adds kb old new x (Ok Placed) → Puts kb (option_map (λ pair. pair.1)) (pairs_of old.pairs) x (kept kb (pairs_of old.pairs) x) (Ok None) (pairs_of new.pairs)
+  unfolding pair_at
+  added_new a = let p = a.0 in added_kept kb (option_map (λ pair. pair.1)) (pairs_of old.pairs) x (pairs_of new.pairs) (p.0, p.1, refl) (sym p.2)
+
+  module _ (first : ℕ) (k : K) (v : V) (a : Adds kb old new x (Ok (Conflict first k v))) where
+    -- the key conflicts
+    pub added_conflicts : conflict (pair_bytes kb) (pairs_of old.pairs) (kb x.0) ≡ true
+    added_conflicts = conflict_pairs kb old.pairs (kb x.0) ∙ a.0.1.0
+
+    pub added_none : pairs_of new.pairs ≡ pairs_of old.pairs
+    added_none = ap (λ (t : Content K V). pairs_of t.pairs) a.2
+
+  -- its bytes were new
+  pub added_absent : Adds kb old new x (Ok Placed) → stores (pair_bytes kb) (pairs_of old.pairs) (kb x.0) ≡ false
+  added_absent a = false_from_ne_true _ (λ t. let r = stores_found (pair_bytes kb) (pairs_of old.pairs) (kb x.0) t in at_not_none a.0.2 r)
+    where
+      at_not_none : None ≡ at (pair_bytes kb) (pairs_of old.pairs) (kb x.0) → (y : K × V) × Member y (pairs_of old.pairs) × (kb y.0 ≡ kb x.0) → ⊥
+      at_not_none e r = at_None (pair_bytes kb) (pairs_of old.pairs) (kb x.0) r.0 (sym e) r.1 r.2
+
+  -- its bytes are stored
+  pub added_stored : (id : ℕ) (k : K) (v : V) → Adds kb old new x (Ok (Stored id k v)) → stores (pair_bytes kb) (pairs_of old.pairs) (kb x.0) ≡ true
+  added_stored id k v a = exact_stored kb old.pairs (kb x.0) id a.0
+
+  module _ (content : IsContent (bytes kb) old.pairs) (distinct : AreDistinct old.pairs) where
+    -- the first related leaf
+    pub added_related : (first : ℕ) (k : K) (v : V) → Adds kb old new x (Ok (Conflict first k v)) → Has new.pairs first
+    added_related first k v a =
+        let r = related_first kb old.pairs content distinct (kb x.0) first a.0.0 a.0.1 in
+        subst (λ (t : Content K V). Has t.pairs first) (sym a.2) (is_some (leaf_in old.pairs first) r.0 r.1)
+
+    -- a key that never conflicts has none
+    pub added_unlawful : (first : ℕ) (k : K) (v : V) → Adds kb old new x (Ok (Conflict first k v)) → (IsValue : K → Type 0) → NoFronts kb IsValue → IsValue k → (y : K × V) → leaf_in new.pairs first ≡ Some y → IsValue y.0 → ⊥
+    added_unlawful first k v a IsValue law own y is other =
+        let e : k ≡ x.0 = ap (λ (y : K × V). y.0) a.1 in
+        lawful kb old.pairs content distinct x IsValue law (subst IsValue e own) first a.0.0 a.0.1 y (subst (λ (t : Content K V). leaf_in t.pairs first ≡ Some y) a.2 is) other
+
+    module _ (id : ℕ) (k : K) (v : V) (a : Adds kb old new x (Ok (Stored id k v))) where
+      -- the leaf is there
+      pub stored_has : Has new.pairs id
+      stored_has = subst (λ (t : Content K V). Has t.pairs id) (sym a.2) (exact_has kb old.pairs content distinct (kb x.0) id a.0)
+
+      -- and may have the key
+      pub stored_takes : MayTake kb new.pairs id (kb k)
+      stored_takes =
+          let e : k ≡ x.0 = ap (λ (y : K × V). y.0) a.1 in
+          subst (λ (t : Content K V). MayTake kb t.pairs id (kb k)) (sym a.2) (subst (λ z. MayTake kb old.pairs id (kb z)) (sym e) (exact_takes kb old.pairs content distinct (kb x.0) id a.0))
+
+      -- its value was written
+      pub stored_written : (was : V) → option_map (λ p. p.1) (leaf_in new.pairs id) ≡ Some was → (ns : List (Numbered K V)) → ns ≡ with_value new.pairs id v
+          → Puts kb (option_map (λ pair. pair.1)) (pairs_of old.pairs) x (kept kb (pairs_of old.pairs) x) (Ok (Some was)) (pairs_of ns)
+      stored_written was is ns e =
+          let same : v ≡ x.1 = ap (λ (y : K × V). y.1) a.1 in
+          value_put kb old.pairs content distinct x.0 x.1 was id a.0 (subst (λ (t : Content K V). option_map (λ p. p.1) (leaf_in t.pairs id) ≡ Some was) a.2 is) ns
+          (e ∙ ap (λ (t : Content K V). with_value t.pairs id v) a.2 ∙ ap (with_value old.pairs id) same)
+
+      -- its pair was exchanged
+      pub stored_exchanged : (was : K × V) → leaf_in new.pairs id ≡ Some was → (ns : List (Numbered K V)) → ns ≡ with_pair new.pairs id (k, v) → Puts kb (λ pair. pair) (pairs_of old.pairs) x x (Ok (Some was)) (pairs_of ns)
+      stored_exchanged was is ns e =
+          exchanged kb old.pairs content distinct x id a.0 was (subst (λ (t : Content K V). leaf_in t.pairs id ≡ Some was) a.2 is) ns (e ∙ ap (λ (t : Content K V). with_pair t.pairs id (k, v)) a.2 ∙ ap (with_pair old.pairs id) a.1)
