@@ -258,7 +258,9 @@ pub fn put<K: AsBytes + Drop, V: Drop, const P: usize>(
     tree.law();
     match tree.add(key, value) {
         Ok(Added::Placed) => Ok(None),
-        Ok(Added::Stored(id, _key, value)) => Ok(Some(replace(tree.value_mut(id), value))),
+        Ok(Added::Stored(stored, _key, value)) => {
+            Ok(Some(replace(tree.value_mut(stored), value)))
+        }
         Ok(Added::Conflict(_first, _key, _value)) => Err(TryInsertError::Prefix(InsertPrefixError)),
         Err(refused) => Err(TryInsertError::Memory(refused)),
     }

@@ -29,7 +29,7 @@ returns-in-Ok-Stored-clause-put g c =
     let new = c.add.new.self in
     let x : g.row.K.Denot × g.row.V.Denot = (c.args.key, c.args.value) in
     let a = subst (Adds kb old new x) (c.in-Ok-Stored.is ∙ ap Ok c.in-Ok-Stored.field-0-is) c.add.ensures.added in
-    stored_written kb old new x c.law.ensures.content c.law.ensures.distinct _ _ _ a c.replace.result (c.value_mut.ensures.value ∙ ap Some (sym c.replace.ensures.value)) (with_value new.pairs c.in-Ok-Stored.id c.replace.new.dest) (ap (with_value new.pairs c.in-Ok-Stored.id) c.replace.ensures.after)
+    stored_written kb old new x c.law.ensures.content c.law.ensures.distinct _ _ _ a c.replace.result (c.value_mut.ensures.value ∙ ap Some (sym c.replace.ensures.value)) (with_value new.pairs c.in-Ok-Stored.stored c.replace.new.dest) (ap (with_value new.pairs c.in-Ok-Stored.stored) c.replace.ensures.after)
 
 pub returns-in-Ok-Conflict-clause-put : goal.returns-in-Ok-Conflict-clause-put
 returns-in-Ok-Conflict-clause-put g c =
