@@ -4,7 +4,6 @@ pub mod Again
 pub mod FreePlaces
 pub mod Inserting
 pub mod Keeping
-pub mod Reserved
 pub mod Setting
 pub mod SettingAt
 pub mod TakenBack

@@ -1,9 +1,7 @@
 -- A pair that was added over cells, under ids.
-use Rattle.std.proofs.Common.{◌≡◌, ℕ, List, false, refl, sym, ap, subst, ◌∙◌, None, Ok, Err}
+use Rattle.std.proofs.Common.{ℕ, List, refl, ap, ◌∙◌, Ok, Err}
 use Rattle.std.specs.Prelude.{Result}
 use Rattle.std.specs.declared.alloc.AllocError.{AllocError}
-use Rattle.blart_keys.specs.Content.{conflict, stores}
-use Rattle.blart_keys.specs.Steps.{bytes as pair_bytes, Puts}
 use Rattle.blart_keys.proofs.Options.{is_some}
 use Rattle.art_cells.specs.Calls.Adding.{Adds as AddsCell}
 use Rattle.art_cells.specs.Content.{Content as CellContent}
@@ -14,7 +12,6 @@ use Rattle.art_tree.specs.Adding.{Adds}
 use Rattle.art_tree.specs.Begins.{Bytes}
 use Rattle.art_tree.specs.Content.{Content}
 use Rattle.art_tree.specs.Leaves.{leaf_in}
-use Rattle.art_tree.specs.Pairs.{pairs_of}
 use Rattle.art_tree.specs.UnderIds.{id_at, AreNamed, under_ids}
 use Rattle.art_tree.proofs.Pointing.{exact_id, conflict_id, first_related_id, last_related_id}
 use Rattle.art_tree.proofs.UnderIds.{pairs_ids}

@@ -18,7 +18,6 @@ pub use Rattle.art_cells.proofs.CallerLemmas.{length-without_number, AreDistinct
 pub use Rattle.art_cells.proofs.CallerLemmas.{AreDistinct-filter, filter-without, dropped_without, filter_every, two_ends, only_one}
 -- the ends of what is within a bound, or below some bytes
 pub use Rattle.art_cells.proofs.CallerLemmas.{are_ends, no_pairs_between, number_within_has}
-
 -- what nothing is related to
 pub use Rattle.art_cells.proofs.CallerLemmas.{alone_no_conflict, alone_absent, alone_none, conflict_pairs}
 

@@ -1,5 +1,5 @@
 -- A pair that was added by its key.
-use Rattle.std.proofs.Common.{◌≡◌, ℕ, List, false, sym, ap, subst, ◌∙◌, Ok, Err, option_map, bytes_eq}
+use Rattle.std.proofs.Common.{◌≡◌, ℕ, false, sym, ap, ◌∙◌, Ok, Err, option_map, bytes_eq}
 use Rattle.std.specs.declared.alloc.AllocError.{AllocError}
 use Rattle.blart_keys.specs.Bytes.{related}
 use Rattle.blart_keys.proofs.Mapped.{find-map, list_any-map}

@@ -1,10 +1,11 @@
 -- What came of a pair that was to be added.
-use Rattle.std.proofs.Common.{◌≡◌, ℕ, List, true, false, refl, sym, ap, ◌∙◌, subst, Some, None, Ok, option_map}
+use Rattle.std.proofs.Common.{◌≡◌, ℕ, List, true, false, refl, sym, ap, ◌∙◌, subst, Some, None, Ok, option_map, bytes_eq}
 use Rattle.std.proofs.lemmas.Bool.{false_from_ne_true}
 use Rattle.blart_keys.specs.Content.{IsContent, at, stores, conflict}
 use Rattle.blart_keys.specs.Keys.{NoFronts}
 use Rattle.blart_keys.proofs.RankLemmas.{Member}
-use Rattle.blart_keys.proofs.ContentLemmas.{stores_found, at_None}
+use Rattle.blart_keys.proofs.ContentLemmas.{at_Some, at_None, stores_found, stores_member}
+use Rattle.blart_keys.proofs.Mapped.{list_any-map}
 use Rattle.blart_keys.specs.Steps.{bytes as pair_bytes, Puts}
 use Rattle.blart_keys.specs.Stored.{kept, pair_at}
 use Rattle.blart_keys.proofs.Options.{is_some}
@@ -16,7 +17,6 @@ use Rattle.art_tree.specs.Leaves.{Numbered, leaf_in, Has, AreDistinct, with_pair
 use Rattle.art_tree.specs.Pairs.{pairs_of}
 use Rattle.art_tree.specs.Takes.{MayTake}
 use Rattle.art_insert.proofs.Placed.Inserting.{conflict_pairs, exact_has, exact_takes, related_first, exchanged, lawful}
-use Rattle.art_insert.proofs.Placed.Reserved.{exact_stored}
 use Rattle.art_insert.proofs.Placed.Keeping.{added_kept, value_put}
 
 module _ {K V : Type 0} (kb : K → Bytes) (old new : Content K V) (x : K × V) where
@@ -42,7 +42,9 @@ module _ {K V : Type 0} (kb : K → Bytes) (old new : Content K V) (x : K × V) 
 
   -- its bytes are stored
   pub added_stored : (id : ℕ) (k : K) (v : V) → Adds kb old new x (Ok (Stored id k v)) → stores (pair_bytes kb) (pairs_of old.pairs) (kb x.0) ≡ true
-  added_stored id k v a = exact_stored kb old.pairs (kb x.0) id a.0
+  added_stored id k v a =
+      let m = at_Some (bytes kb) old.pairs (kb x.0) (id, a.0.0) a.0.1 in
+      list_any-map (λ p. p.1) (λ y. bytes_eq (kb y.0) (kb x.0)) old.pairs ∙ stores_member (bytes kb) old.pairs (kb x.0) (id, a.0.0) m.0 m.1
 
   module _ (content : IsContent (bytes kb) old.pairs) (distinct : AreDistinct old.pairs) where
     -- the first related leaf

@@ -1,35 +1,28 @@
 -- What a point says of an insertion there.
-use Rattle.std.proofs.Common.{◌≡◌, ℕ, true, false, ◌⊎◌, inl, inr, List, [], ◌∷◌, refl, sym, ap, ◌∙◌, subst, Option, Some, None, Ok, Err, option_map, bytes_eq, subst₂}
+use Rattle.std.proofs.Common.{◌≡◌, ℕ, true, false, inl, inr, List, [], ◌∷◌, refl, sym, ap, ◌∙◌, subst, Some, Ok, option_map, bytes_eq, subst₂}
 use Rattle.std.proofs.lemmas.Bool.{false≢true, false_from_ne_true, or_cases}
-use Rattle.blart_keys.specs.declared.calls.TryInsertError.TheVariants.{Memory}
-use Rattle.blart_keys.specs.Bytes.{begins, related, conflicts}
-use Rattle.blart_keys.specs.Content.{IsContent, IsPut, at, stores, conflict, subtree}
+use Rattle.blart_keys.specs.Bytes.{begins, related}
+use Rattle.blart_keys.specs.Content.{IsContent, IsPut, at, conflict, subtree}
 use Rattle.blart_keys.specs.Keys.{NoFronts}
 use Rattle.blart_keys.specs.Steps.{bytes as pair_bytes, Puts}
 use Rattle.blart_keys.proofs.RankLemmas.{Member, Member-from_Contains, filter_member}
-use Rattle.blart_keys.proofs.ContentLemmas.{at_Some, at_absent, same_item, related-same, conflict_found, stores_found, stored_no_conflict}
+use Rattle.blart_keys.proofs.ContentLemmas.{at_Some, same_item, related-same, stored_no_conflict}
 use Rattle.blart_keys.proofs.PutLemmas.{put_at}
 use Rattle.art_tree.specs.Begins.{Bytes}
 use Rattle.art_tree.specs.Content.{IsOpen}
 use Rattle.art_tree.specs.Leaves.{Numbered, leaf_in, Has, AreDistinct, first_number, with_pair, bytes}
 use Rattle.art_tree.specs.Points.{IsGood}
 use Rattle.art_tree.specs.Takes.{MayTake}
-use Rattle.art_tree.specs.declared.tree.point.Place.{Place}
 use Rattle.art_tree.specs.declared.tree.point.Point.{Point}
 use Rattle.art_tree.specs.declared.tree.point.Point.TheVariants.{Empty, Exact, Related, Free}
 use Rattle.art_tree.proofs.CallerLemmas.{leaf_in-member, Member-from_leaf_in, free_alone}
 pub use Rattle.art_tree.proofs.CallerLemmas.{alone_no_conflict, alone_absent, alone_none, conflict_pairs}
 use Rattle.blart_keys.proofs.Options.{is_some}
-use Rattle.blart_keys.proofs.Mapped.{find-map, list_any-map, content_map}
+use Rattle.blart_keys.proofs.Mapped.{find-map, content_map}
 use Rattle.art_tree.specs.Pairs.{pairs_of}
 use Rattle.art_insert.proofs.Numbers.{cut_at, cut_pairs, exchanged_pairs}
 
--- at these points a pair may be placed
-pub opens : (point : Point) → (point ≡ Empty) ⊎ ((place : Place) × (point ≡ Free place)) → IsOpen point
-opens point (inl e) = subst IsOpen (sym e) tt
-opens point (inr e) = subst IsOpen (sym e.1) tt
-
--- and so at each point that is no leaf's and no conflict
+-- at each point that is no leaf's and no conflict a pair may be placed
 pub opens_else : (point : Point) → ((i : ℕ) → point ≡ Exact i → ⊥) → ((i j : ℕ) → point ≡ Related i j → ⊥) → IsOpen point
 opens_else Empty e r = tt
 opens_else (Exact id) e r = absurd (e id refl)
@@ -85,22 +78,6 @@ module _ {K V : Type 0} (kb : K → Bytes) (ps : List (Numbered K V)) where
     -- ---- the answers
 
     module _ (distinct : AreDistinct ps) (x : K × V) where
-      -- a pair placed where none is related is put
-      pub placed : ((y : Numbered K V) → Member y ps → related (bytes kb y) (kb x.0) ≡ false) → (old new : List (Numbered K V)) → old ≡ ps → IsPut (pair_bytes kb) (pairs_of old) x (pairs_of new) → Puts kb (λ pair. pair) (pairs_of ps) x x (Ok None) (pairs_of new)
-      placed alone old new e put = (
-        conflict_pairs kb ps (kb x.0) ∙ alone_no_conflict (bytes kb) ps (kb x.0) alone,
-        subst (λ S. IsPut (pair_bytes kb) (pairs_of S) x (pairs_of new)) e put,
-        sym (find-map (λ p. p.1) (λ y. bytes_eq (kb y.0) (kb x.0)) ps ∙ ap (option_map (λ p. p.1)) (alone_none (bytes kb) ps (kb x.0) alone)),
-      )
-
-      -- where there was no memory for it the pairs stand
-      pub refused : ((y : Numbered K V) → Member y ps → related (bytes kb y) (kb x.0) ≡ false) → {R : Type 0} (tell : Option (K × V) → R) (new : List (Numbered K V)) → new ≡ ps → (e : _) → Puts kb tell (pairs_of ps) x x (Err (Memory e)) (pairs_of new)
-      refused alone tell new same e = (
-        conflict_pairs kb ps (kb x.0) ∙ alone_no_conflict (bytes kb) ps (kb x.0) alone,
-        list_any-map (λ p. p.1) (λ y. bytes_eq (kb y.0) (kb x.0)) ps ∙ alone_absent (bytes kb) ps (kb x.0) alone,
-        ap pairs_of same,
-      )
-
       -- the pair of the same bytes is exchanged
       pub exchanged : (id : ℕ) → IsGood kb ps (Exact id) (kb x.0) → (old : K × V) → leaf_in ps id ≡ Some old → (new : List (Numbered K V)) → new ≡ with_pair ps id x → Puts kb (λ pair. pair) (pairs_of ps) x x (Ok (Some old)) (pairs_of new)
       exchanged id good old l new e =

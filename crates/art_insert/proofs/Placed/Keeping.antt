@@ -1,7 +1,5 @@
 -- An insertion that keeps the key that was there.
-use Rattle.std.proofs.Common.{◌≡◌, ℕ, List, refl, sym, ap, ◌∙◌, subst, Option, Some, None, Ok, Err, option_map}
-use Rattle.blart_keys.specs.declared.calls.TryInsertError.{TryInsertError}
-use Rattle.blart_keys.specs.declared.calls.TryInsertError.TheVariants.{Prefix, Memory}
+use Rattle.std.proofs.Common.{◌≡◌, ℕ, List, refl, sym, ap, ◌∙◌, subst, Option, Some, None, Ok, option_map}
 use Rattle.blart_keys.specs.Content.{IsContent, IsPut}
 use Rattle.blart_keys.specs.Steps.{bytes as pair_bytes, Puts}
 use Rattle.blart_keys.specs.Stored.{kept, pair_at}
@@ -34,8 +32,3 @@ module _ {K V : Type 0} (kb : K → List ℕ) where
 
     pub added_kept : Puts kb {R = Unit {0}} (λ _. tt) S x x (Ok tt) S' → pair_at kb S (kb x.0) ≡ None → Puts kb tell S x (kept kb S x) (Ok (tell None)) S'
     added_kept put none = subst (λ y. Puts kb tell S x y (Ok (tell None)) S') (sym (kept_new kb S x none)) (added_put put none)
-
-    -- a refusal stores nothing
-    pub refused_put : (y : K × V) (e : TryInsertError) → Puts kb {R = Unit {0}} (λ _. tt) S x x (Err e) S' → Puts kb tell S x y (Err e) S'
-    refused_put y (Prefix e) put = put
-    refused_put y (Memory e) put = put

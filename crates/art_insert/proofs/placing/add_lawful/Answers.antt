@@ -1,4 +1,4 @@
-use Rattle.std.proofs.Common.{◌∙◌, lit<, ap, sym, subst, Ok}
+use Rattle.std.proofs.Common.{◌∙◌, lit<, ap, subst, Ok}
 use Rattle.art_tree.specs.Adding.{Adds}
 use Rattle.art_insert.proofs.Placed.Adding.{added_related, added_unlawful}
 use Rattle.art_insert.proofs.placing.add_lawful.Goals as goal

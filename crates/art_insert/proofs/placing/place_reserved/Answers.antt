@@ -1,4 +1,4 @@
-use Rattle.std.proofs.Common.{◌∙◌, ap, sym, subst, Ok, bytes_eq}
+use Rattle.std.proofs.Common.{◌∙◌, ap, sym, subst, Ok}
 use Rattle.art_tree.specs.Adding.{Adds}
 use Rattle.std.proofs.lemmas.Bool.{false≢true}
 use Rattle.art_insert.proofs.Placed.Adding.{added_conflicts, added_stored}

@@ -1,4 +1,4 @@
-use Rattle.std.proofs.Common.{◌∙◌, lit<, ap, subst, Ok}
+use Rattle.std.proofs.Common.{lit<, ap, subst, Ok}
 use Rattle.art_tree.specs.Adding.{Adds}
 use Rattle.art_insert.proofs.Placed.Adding.{stored_has, stored_takes, stored_exchanged}
 use Rattle.art_insert.proofs.placing.put_reserved.Goals as goal

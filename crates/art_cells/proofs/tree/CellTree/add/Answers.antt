@@ -1,4 +1,4 @@
-use Rattle.std.proofs.Common.{◌≡◌, [], lit<, refl, sym, subst, ◌∙◌, Option, Ok, Err, false}
+use Rattle.std.proofs.Common.{◌≡◌, lit<, refl, subst, Option, Ok, Err, false}
 use Rattle.blart_keys.specs.Bytes.{related}
 use Rattle.blart_keys.proofs.RankLemmas.{Member}
 use Rattle.art_kinds.specs.Nodes.{at}

@@ -1,4 +1,4 @@
-use Rattle.std.proofs.Common.{◌≡◌, ◌<◌, arith, lit<, refl, sym, subst, ◌∙◌, Option, Ok, false}
+use Rattle.std.proofs.Common.{◌≡◌, ◌<◌, arith, lit<, refl, sym, subst, Option, Ok, false}
 use Rattle.blart_keys.specs.Bytes.{related}
 use Rattle.blart_keys.proofs.RankLemmas.{Member}
 use Rattle.art_kinds.specs.Nodes.{at}

@@ -1,4 +1,4 @@
-use Rattle.std.proofs.Common.{◌≡◌, ◌<◌, ℕ, List, length, lit<, sym, subst, arith, Option, Some}
+use Rattle.std.proofs.Common.{◌≡◌, ℕ, List, lit<, sym, subst, arith, Option, Some}
 use Rattle.art_kinds.specs.Nodes.{Node, at}
 use Rattle.art_cells.specs.Calls.Placing.{IsShownIn}
 use Rattle.art_cells.specs.Leaves.{Numbered, keys_in}

@@ -1,4 +1,4 @@
-use Rattle.std.proofs.Common.{◌<◌, lit<, subst, arith, Option, Some}
+use Rattle.std.proofs.Common.{◌<◌, lit<, subst, arith, Option}
 use Rattle.art_kinds.specs.Nodes.{at}
 use Rattle.art_kinds.specs.declared.records.ids.Child.{Child}
 use Rattle.art_cells.specs.Calls.Placing.{content_of}

@@ -1,9 +1,7 @@
-use Rattle.std.proofs.Common.{◌≡◌, lit<, sym, ap, subst, ◌∙◌, Result, Ok}
-use Rattle.std.specs.declared.alloc.AllocError.{AllocError}
+use Rattle.std.proofs.Common.{◌≡◌, lit<, sym, ap, subst, ◌∙◌, Ok}
 use Rattle.art_cells.specs.Calls.Adding.{Adds as AddsCell}
 use Rattle.art_cells.specs.Content.{Content as CellContent}
-use Rattle.art_cells.specs.declared.tree.add.Added.{Added}
-use Rattle.art_cells.specs.declared.tree.add.Added.TheVariants.{Placed, Stored, Conflict}
+use Rattle.art_cells.specs.declared.tree.add.Added.TheVariants.{Stored, Conflict}
 use Rattle.art_tree.specs.Adding.{Adds}
 use Rattle.art_tree.specs.Content.{Content}
 use Rattle.blart_keys.specs.Bytes.{related}

@@ -13,7 +13,7 @@ returns-clause-old g c =
     let kb = g.K.AsBytes.bytes in
     let S = pairs_of c.args.self.now in
     let x : g.row.K.Denot × g.row.V.Denot = (c.args.key, c.args.value) in
-    puts_old kb (option_map (λ pair. pair.1)) S x (kept kb S x) (kept_bytes kb S x) (pairs_of c.put_at.new.tree.pairs) c.put_at.result (rw (← c.self.view_is) c.put_at.ensures.put)
+    puts_old kb (option_map (λ pair. pair.1)) S x (kept kb S x) (kept_bytes kb S x) (pairs_of c.put.new.tree.pairs) c.put.result (rw (← c.self.view_is) c.put.ensures.put)
 
 pub returns-clause-updates : goal.returns-clause-updates
 unfolding pairs
@@ -21,7 +21,7 @@ returns-clause-updates g c =
     let kb = g.K.AsBytes.bytes in
     let S = pairs_of c.args.self.now in
     let x : g.row.K.Denot × g.row.V.Denot = (c.args.key, c.args.value) in
-    puts_updates kb (option_map (λ pair. pair.1)) S x (kept kb S x) (kept_bytes kb S x) (pairs_of c.put_at.new.tree.pairs) c.put_at.result c.law.ensures.content (rw (← c.self.view_is) c.put_at.ensures.put)
+    puts_updates kb (option_map (λ pair. pair.1)) S x (kept kb S x) (kept_bytes kb S x) (pairs_of c.put.new.tree.pairs) c.put.result c.law.ensures.content (rw (← c.self.view_is) c.put.ensures.put)
 
 pub returns-clause-fronts : goal.returns-clause-fronts
 unfolding pairs
@@ -29,7 +29,7 @@ returns-clause-fronts g c =
     let kb = g.K.AsBytes.bytes in
     let S = pairs_of c.args.self.now in
     let x : g.row.K.Denot × g.row.V.Denot = (c.args.key, c.args.value) in
-    puts_fronts kb (option_map (λ pair. pair.1)) S x (kept kb S x) (kept_bytes kb S x) (pairs_of c.put_at.new.tree.pairs) c.put_at.result (rw (← c.self.view_is) c.put_at.ensures.put)
+    puts_fronts kb (option_map (λ pair. pair.1)) S x (kept kb S x) (kept_bytes kb S x) (pairs_of c.put.new.tree.pairs) c.put.result (rw (← c.self.view_is) c.put.ensures.put)
 
 pub returns-clause-free : goal.returns-clause-free
 unfolding pairs
@@ -37,7 +37,7 @@ returns-clause-free g c =
     let kb = g.K.AsBytes.bytes in
     let S = pairs_of c.args.self.now in
     let x : g.row.K.Denot × g.row.V.Denot = (c.args.key, c.args.value) in
-    puts_free kb (option_map (λ pair. pair.1)) S x (kept kb S x) (kept_bytes kb S x) (pairs_of c.put_at.new.tree.pairs) c.put_at.result (rw (← c.self.view_is) c.put_at.ensures.put)
+    puts_free kb (option_map (λ pair. pair.1)) S x (kept kb S x) (kept_bytes kb S x) (pairs_of c.put.new.tree.pairs) c.put.result (rw (← c.self.view_is) c.put.ensures.put)
 
 pub returns-clause-why : goal.returns-clause-why
 unfolding pairs
@@ -45,7 +45,7 @@ returns-clause-why g c =
     let kb = g.K.AsBytes.bytes in
     let S = pairs_of c.args.self.now in
     let x : g.row.K.Denot × g.row.V.Denot = (c.args.key, c.args.value) in
-    puts_why kb (option_map (λ pair. pair.1)) S x (kept kb S x) (kept_bytes kb S x) (pairs_of c.put_at.new.tree.pairs) c.put_at.result (rw (← c.self.view_is) c.put_at.ensures.put)
+    puts_why kb (option_map (λ pair. pair.1)) S x (kept kb S x) (kept_bytes kb S x) (pairs_of c.put.new.tree.pairs) c.put.result (rw (← c.self.view_is) c.put.ensures.put)
 
 pub returns-clause-len : goal.returns-clause-len
 unfolding pairs
@@ -53,7 +53,7 @@ returns-clause-len g c =
     let kb = g.K.AsBytes.bytes in
     let S = pairs_of c.args.self.now in
     let x : g.row.K.Denot × g.row.V.Denot = (c.args.key, c.args.value) in
-    puts_value_len kb S x (kept kb S x) (kept_bytes kb S x) (pairs_of c.put_at.new.tree.pairs) c.put_at.result c.law.ensures.content (rw (← c.self.view_is) c.put_at.ensures.put)
+    puts_value_len kb S x (kept kb S x) (kept_bytes kb S x) (pairs_of c.put.new.tree.pairs) c.put.result c.law.ensures.content (rw (← c.self.view_is) c.put.ensures.put)
 
 pub returns-clause-routes : goal.returns-clause-routes
 unfolding pairs
@@ -61,7 +61,7 @@ returns-clause-routes g c =
     let kb = g.K.AsBytes.bytes in
     let S = pairs_of c.args.self.now in
     let x : g.row.K.Denot × g.row.V.Denot = (c.args.key, c.args.value) in
-    puts_routes kb (option_map (λ pair. pair.1)) S x (kept kb S x) (kept_bytes kb S x) (pairs_of c.put_at.new.tree.pairs) c.put_at.result c.law.ensures.content (rw (← c.self.view_is) c.put_at.ensures.put)
+    puts_routes kb (option_map (λ pair. pair.1)) S x (kept kb S x) (kept_bytes kb S x) (pairs_of c.put.new.tree.pairs) c.put.result c.law.ensures.content (rw (← c.self.view_is) c.put.ensures.put)
 
 pub returns-clause-overlapped : goal.returns-clause-overlapped
 unfolding pairs
@@ -69,4 +69,4 @@ returns-clause-overlapped g c =
     let kb = g.K.AsBytes.bytes in
     let S = pairs_of c.args.self.now in
     let x : g.row.K.Denot × g.row.V.Denot = (c.args.key, c.args.value) in
-    on_ok_weaker c.put_at.result (overlaps_put kb S (pairs_of c.put_at.new.tree.pairs) (kb c.args.key) (kept kb S x)) (returns-clause-updates g c)
+    on_ok_weaker c.put.result (overlaps_put kb S (pairs_of c.put.new.tree.pairs) (kb c.args.key) (kept kb S x)) (returns-clause-updates g c)
