@@ -1,9 +1,9 @@
 //! The first and the last leaf that a walk has left.
-ghost use Rattle.std.specs.Prelude.{◌≡◌, ◌≢◌, option_map, IfSome, Some, None};
+ghost use Rattle.std.specs.Prelude.{◌≡◌, ◌≢◌, ◌+◌, option_map, is_some, IfSome, Some, None, if◌then◌else◌};
 ghost use Rattle.art_tree.specs.Leaves.{Has, number_after, number_before};
 ghost use Rattle.art_walk.specs.Cursor.{nothing_left, left_between, leaves_left, FitsIn, PassesFirst, PassesLast};
 
-use art_tree::{LeafId, Position, Tree};
+use art_tree::{LeafId, Position, Tree, Visits};
 use blart_keys::AsBytes;
 
 /// Returns the ends without the first leaf, or `None` if that is also the last. `seen` is a guess
@@ -117,41 +117,57 @@ impl Cursor {
         Cursor::between(first, last)
     }
 
-    /// Passes the first leaf that is left, and returns its id. Reads no leaf.
+    /// Passes the first leaf that is left, and returns its id, or `None` if no leaf is left.
+    ///
+    /// Cost: one visit if it returns a leaf, and none otherwise. The step reads no pair. It counts
+    /// the visit for the pair of the leaf that it returns, so that the visits of a walk can be
+    /// stated.
     #[inline(always)]
     pub fn step<K: AsBytes, V, const PREFIX_LEN: usize>(
         &mut self,
         tree: &Tree<K, V, PREFIX_LEN>,
+        visits: &mut Visits,
     ) -> Option<LeafId>
         requires { FitsIn self.old tree.now.pairs }
         ensures fits { FitsIn self.new tree.now.pairs }
         ensures passes { PassesFirst (leaves_left self.old tree.now.pairs) result
             (leaves_left self.new tree.now.pairs) }
         ensures there { IfSome result (λ id. Has tree.now.pairs id) }
+        ensures counted { visits.new.count
+            ≡ visits.old.count + (if is_some result then 1 else 0) }
     {
         tree.law();
         let (first, last) = self.ends?;
         self.passed_at = self.first_at;
+        visits.add_one();
         let ends = without_first(tree, first, last, &mut self.first_at);
         self.ends = ends;
         Some(first)
     }
 
-    /// Passes the last leaf that is left, and returns its id. Reads no leaf.
+    /// Passes the last leaf that is left, and returns its id, or `None` if no leaf is left.
+    ///
+    /// Cost: one visit if it returns a leaf, and none otherwise. The step reads no pair. It counts
+    /// the visit for the pair of the leaf that it returns, so that the visits of a walk can be
+    /// stated.
     #[inline(always)]
     pub fn step_back<K: AsBytes, V, const PREFIX_LEN: usize>(
         &mut self,
         tree: &Tree<K, V, PREFIX_LEN>,
+        visits: &mut Visits,
     ) -> Option<LeafId>
         requires { FitsIn self.old tree.now.pairs }
         ensures fits { FitsIn self.new tree.now.pairs }
         ensures passes { PassesLast (leaves_left self.old tree.now.pairs) result
             (leaves_left self.new tree.now.pairs) }
         ensures there { IfSome result (λ id. Has tree.now.pairs id) }
+        ensures counted { visits.new.count
+            ≡ visits.old.count + (if is_some result then 1 else 0) }
     {
         tree.law();
         let (first, last) = self.ends?;
         self.passed_at = self.last_at;
+        visits.add_one();
         let ends = without_last(tree, first, last, &mut self.last_at);
         self.ends = ends;
         Some(last)

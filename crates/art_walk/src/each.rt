@@ -5,7 +5,7 @@ ghost use Rattle.art_walk.specs.Cursor.{leaves_left, FitsIn};
 ghost use Rattle.art_walk.specs.EachWritten.{CallableInTurn, WritesLeft, LeavesValue, TakesAtValue, LeavesPair, TakesAtPair};
 
 use crate::cursor::Cursor;
-use art_tree::Tree;
+use art_tree::{Tree, Visits};
 use blart_keys::AsBytes;
 
 /// Calls the closure once on each value that the cursor has left, from front to back. Each value is
@@ -25,7 +25,7 @@ pub fn write_values<K: AsBytes, V, F: FnMut(&mut V) + Drop, const PREFIX_LEN: us
     ensures distinct { AreDistinct tree.old.pairs }
 {
     tree.law();
-    'leaves: while let Some(id) = cursor.step(tree) {
+    'leaves: while let Some(id) = cursor.step(tree, &mut Visits::new()) {
         let (_, value) = tree.leaf_mut_near(id, cursor.passed_at());
         f(value);
     }
@@ -45,7 +45,7 @@ pub fn write_pairs<K: AsBytes, V, F: FnMut(&K, &mut V) + Drop, const PREFIX_LEN:
     ensures distinct { AreDistinct tree.old.pairs }
 {
     tree.law();
-    'leaves: while let Some(id) = cursor.step(tree) {
+    'leaves: while let Some(id) = cursor.step(tree, &mut Visits::new()) {
         let (key, value) = tree.leaf_mut_near(id, cursor.passed_at());
         f(key, value);
     }

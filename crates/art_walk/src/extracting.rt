@@ -6,7 +6,7 @@ ghost use Rattle.art_walk.specs.Cursor.{leaves_left, FitsIn};
 ghost use Rattle.art_walk.specs.Extracting.{stands_at, ExtractsFirstTrue};
 
 use crate::cursor::Cursor;
-use art_tree::Tree;
+use art_tree::{Tree, Visits};
 use blart_keys::AsBytes;
 
 /// Asks the closure once of each pair that the cursor has left, from the first on, up to the first at which it answers `true`: that one is removed, and given. Those before it stay with their values as the closure left them. Takes no memory; it reads each pair that it asks about.
@@ -29,7 +29,7 @@ pub fn extract_first<
         < length (leaves_left cursor.old tree.old.pairs)) }
 {
     tree.law();
-    'pairs: while let Some(id) = cursor.step(tree) {
+    'pairs: while let Some(id) = cursor.step(tree, &mut Visits::new()) {
         let (key, value) = tree.leaf_mut_near(id, cursor.passed_at());
         if pred(key, value) {
             return Some(tree.remove(id));
@@ -58,7 +58,7 @@ pub fn extract_last<
         < length (leaves_left cursor.old tree.old.pairs)) }
 {
     tree.law();
-    'pairs: while let Some(id) = cursor.step_back(tree) {
+    'pairs: while let Some(id) = cursor.step_back(tree, &mut Visits::new()) {
         let (key, value) = tree.leaf_mut_near(id, cursor.passed_at());
         if pred(key, value) {
             return Some(tree.remove(id));

@@ -5,7 +5,7 @@ ghost use Rattle.art_tree.specs.Pairs.{pairs_of};
 ghost use Rattle.art_walk.specs.Asking.{RetainsBy};
 
 use crate::cursor::Cursor;
-use art_tree::Tree;
+use art_tree::{Tree, Visits};
 use blart_keys::AsBytes;
 
 /// Asks the closure once of each pair, in byte order of the keys, and removes those at which it answers `false`. The others stay with their values as the closure left them. Takes no memory; it reads each pair that it asks about, and each that goes costs a removal.
@@ -19,7 +19,7 @@ pub fn retain_by<K: AsBytes + Drop, V: Drop, F: FnMut(&K, &mut V) -> bool, const
 {
     tree.law();
     let mut cursor = Cursor::all(tree);
-    'pairs: while let Some(id) = cursor.step(tree) {
+    'pairs: while let Some(id) = cursor.step(tree, &mut Visits::new()) {
         let (key, value) = tree.leaf_mut_near(id, cursor.passed_at());
         if f(key, value) {
             continue;

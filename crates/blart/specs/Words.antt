@@ -50,7 +50,7 @@ pub use Rattle.blart_map.specs.EachWritten.{CalledAtEach, CallableInTurn, with_v
 -- a set as a list of elements, closed in proofs, and merges of two
 unfoldable pub use Rattle.blart_set.specs.Elements.{elements}
 pub use Rattle.blart_set.specs.Elements.{RefusesElement, UpdatesElement, OverwritesElement}
-pub use Rattle.blart_set.specs.Merging.{Merge, MergeProgresses, IsBeginning, Counts, union_rest, symmetric_difference_rest, intersection_rest, difference_rest}
+pub use Rattle.blart_set.specs.Merging.{Merge, MergeProgresses, IsBeginning, Counts, HasCompared, union_rest, symmetric_difference_rest, intersection_rest, difference_rest}
 pub use Rattle.blart_keys.specs.Merges.{IsUnion, IsSymmetricDifference, intersection, difference}
 -- a closure asked of an element
 pub use Rattle.blart_set.specs.Asking.{AsksElement, CallableOnEachElement}

@@ -1,5 +1,5 @@
 //! The map, and what can be asked of it.
-ghost use Rattle.std.specs.Prelude.{◌≡◌, ◌==◌, ◌+◌, ◌-◌, ◌≤◌, [], true, length, slice_get, option_map, option_copied, IfSome, Some};
+ghost use Rattle.std.specs.Prelude.{◌≡◌, ◌==◌, ◌+◌, ◌-◌, ◌<◌, ◌≤◌, [], true, length, slice_get, option_map, option_copied, IfSome, Some};
 ghost use Rattle.std.specs.FinSet as set;
 ghost use Rattle.blart_keys.specs.Bytes.{begins};
 ghost use Rattle.blart_keys.specs.Steps.{bytes};
@@ -102,6 +102,7 @@ impl<K: AsBytes, V, const PREFIX_LEN: usize> TreeMap<K, V, PREFIX_LEN> {
         ensures found { IfSome result (λ pair. K.bytes pair.0.now ≡ Q.bytes query.now) }
         ensures counted { visits.new.count ≤ visits.old.count + length (Q.bytes query.now) + 1 }
         ensures grows { visits.old.count ≤ visits.new.count }
+        ensures some_counted { IfSome result (λ _. visits.old.count < visits.new.count) }
         ensures empty { pairs self.now ≡ [] → visits.new.count ≡ visits.old.count }
     {
         match self.tree.get(query.as_bytes(), visits) {
@@ -161,6 +162,7 @@ impl<K: AsBytes, V, const PREFIX_LEN: usize> TreeMap<K, V, PREFIX_LEN> {
             (λ pair. begins (K.bytes pair.0.now) (Q.bytes query.now) ≡ true) }
         ensures counted { visits.new.count ≤ visits.old.count + length (Q.bytes query.now) + 1 }
         ensures grows { visits.old.count ≤ visits.new.count }
+        ensures some_counted { IfSome result (λ _. visits.old.count < visits.new.count) }
         ensures empty { pairs self.now ≡ [] → visits.new.count ≡ visits.old.count }
     {
         match self.tree.get_front(query.as_bytes(), visits) {

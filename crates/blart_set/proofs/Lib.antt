@@ -1,6 +1,7 @@
 pub mod Callable
 pub mod Cloned
 pub mod Compared
+pub mod Comparing
 pub mod Extracted
 pub mod Filtered
 pub mod Images

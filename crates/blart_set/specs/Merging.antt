@@ -20,12 +20,17 @@ pub record IsBeginning {K : Type 0} (A B : List K) (m : Merge K) : Type 0 where
 abbrev pub Counts : {K : Type 0} → Merge K → Merge K → Type 0
 Counts old new = (old.compares ≤ new.compares) × (new.compares + (length new.left + length new.right) ≤ old.compares + (length old.left + length old.right))
 
+-- if both sides had something left, something was compared
+abbrev pub HasCompared : {K : Type 0} → Merge K → Merge K → Type 0
+HasCompared old new = 0 < length old.left → 0 < length old.right → old.compares < new.compares
+
 -- One `next` of a merge that has still to give `rest`. The first three are those of every iterator, `MakesProgress`, by whose names a loop cites them
 pub record MergeProgresses {K A : Type 0} (rest : Merge K → List K) (s : Merge K) (r : Option A) (t : Merge K) : Type 0 where
   pub on : IsFinite (item_count rest s) → OnSome r (⊤ × IsFinite (item_count rest t) × (size (item_count rest t) < size (item_count rest s)))
   pub keeps : IfSome r (λ _. ⊤)
   pub rests : IsFinite (item_count rest s) → IfNone r (IsFinite (item_count rest t))
   pub counted : Counts s t
+  pub compared : HasCompared s t
 
 module _ {K : Type 0} (kb : K → List ℕ) where
   -- what a union has still to give: what both sides have left, each bytes once

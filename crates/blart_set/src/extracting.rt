@@ -12,7 +12,7 @@ ghost use Rattle.blart_set.specs.Elements.{elements};
 use crate::set::TreeSet;
 use art_tree::LeafId;
 use blart_keys::AsBytes;
-use blart_map::Cursor;
+use blart_map::{Cursor, Visits};
 use std::iter::{DoubleEndedIterator, Iterator};
 use std::ops::Bound;
 
@@ -89,7 +89,7 @@ impl<K: AsBytes, const PREFIX_LEN: usize> TreeSet<K, PREFIX_LEN> {
         ensures passes { PassesFirst (leaves_left cursor.old self.now) result
             (leaves_left cursor.new self.now) }
     {
-        self.map.step(cursor)
+        self.map.step(cursor, &mut Visits::new())
     }
 
     // Passes the last element that a cursor has left.
@@ -101,7 +101,7 @@ impl<K: AsBytes, const PREFIX_LEN: usize> TreeSet<K, PREFIX_LEN> {
         ensures passes { PassesLast (leaves_left cursor.old self.now) result
             (leaves_left cursor.new self.now) }
     {
-        self.map.step_back(cursor)
+        self.map.step_back(cursor, &mut Visits::new())
     }
 
     // The element of a leaf.

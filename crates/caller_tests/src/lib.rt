@@ -37,4 +37,6 @@ mod sums;
 #[cfg(test)]
 mod tests;
 #[cfg(test)]
+mod visits;
+#[cfg(test)]
 mod walks;

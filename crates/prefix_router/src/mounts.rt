@@ -1,5 +1,5 @@
 //! The table, on the public calls of the map.
-ghost use Rattle.std.specs.Prelude.{◌≡◌, ◌≤◌, ◌+◌, ◌&&◌, ℕ, List, [], true, false, length, is_some, OnOk, IfOk, OnErr, IfErr, IfSome, None, Some, if◌then◌else◌};
+ghost use Rattle.std.specs.Prelude.{◌≡◌, ◌<◌, ◌≤◌, ◌+◌, ◌&&◌, ℕ, List, [], true, false, length, is_some, OnOk, IfOk, OnErr, IfErr, IfSome, None, Some, if◌then◌else◌};
 ghost use Rattle.blart_keys.specs.Bytes.{begins};
 ghost use Rattle.blart_keys.specs.Content.{under, IsContent};
 ghost use Rattle.blart_keys.specs.KeyBytes.{vec_bytes};
@@ -85,6 +85,7 @@ impl<V> Mounts<V> {
         ensures found { IfSome result (λ pair. begins pair.0.now.items path.now ≡ true) }
         ensures counted { visits.new.count ≤ visits.old.count + length path.now + 1 }
         ensures grows { visits.old.count ≤ visits.new.count }
+        ensures some_counted { IfSome result (λ _. visits.old.count < visits.new.count) }
         ensures empty { pairs self.now ≡ [] → visits.new.count ≡ visits.old.count }
     {
         self.map.prefix_get_key_value_counted(&path, visits)

@@ -1,5 +1,5 @@
 //! Look-ups by bytes.
-ghost use Rattle.std.specs.Prelude.{◌≡◌, ◌+◌, ◌≤◌, ℕ, [], length, option_map, Option, Some, IfSome};
+ghost use Rattle.std.specs.Prelude.{◌≡◌, ◌+◌, ◌<◌, ◌≤◌, ℕ, [], length, option_map, Option, Some, IfSome};
 ghost use Rattle.blart_keys.specs.Content.{at, front_of};
 ghost use Rattle.art_cells.specs.Begins.{Bytes};
 ghost use Rattle.art_cells.specs.Calls.Descents.{IsRoot, GoesTo, IsFrontAlone};
@@ -25,6 +25,7 @@ impl<K: AsBytes, V, const PREFIX_LEN: usize> CellTree<K, V, PREFIX_LEN> {
             ≡ at (bytes K.bytes) self.now.pairs query.now }
         ensures counted { visits.new.count ≤ visits.old.count + length query.now + 1 }
         ensures grows { visits.old.count ≤ visits.new.count }
+        ensures some_counted { IfSome result (λ _. visits.old.count < visits.new.count) }
         ensures empty { self.now.pairs ≡ [] → visits.new.count ≡ visits.old.count }
     {
         self.law();
@@ -45,6 +46,7 @@ impl<K: AsBytes, V, const PREFIX_LEN: usize> CellTree<K, V, PREFIX_LEN> {
             ≡ front_of (bytes K.bytes) self.now.pairs query.now }
         ensures counted { visits.new.count ≤ visits.old.count + length query.now + 1 }
         ensures grows { visits.old.count ≤ visits.new.count }
+        ensures some_counted { IfSome result (λ _. visits.old.count < visits.new.count) }
         ensures empty { self.now.pairs ≡ [] → visits.new.count ≡ visits.old.count }
     {
         self.law();
@@ -65,6 +67,7 @@ impl<K: AsBytes, V, const PREFIX_LEN: usize> CellTree<K, V, PREFIX_LEN> {
             ≡ option_map (λ p. p.0) (at (bytes K.bytes) self.now.pairs query.now) }
         ensures counted { visits.new.count ≤ visits.old.count + length query.now + 1 }
         ensures grows { visits.old.count ≤ visits.new.count }
+        ensures some_counted { IfSome result (λ _. visits.old.count < visits.new.count) }
         ensures empty { self.now.pairs ≡ [] → visits.new.count ≡ visits.old.count }
     {
         match self.get(query, visits) {
@@ -80,6 +83,7 @@ impl<K: AsBytes, V, const PREFIX_LEN: usize> CellTree<K, V, PREFIX_LEN> {
             ≡ option_map (λ p. p.0) (front_of (bytes K.bytes) self.now.pairs query.now) }
         ensures counted { visits.new.count ≤ visits.old.count + length query.now + 1 }
         ensures grows { visits.old.count ≤ visits.new.count }
+        ensures some_counted { IfSome result (λ _. visits.old.count < visits.new.count) }
         ensures empty { self.now.pairs ≡ [] → visits.new.count ≡ visits.old.count }
     {
         match self.get_front(query, visits) {
@@ -103,6 +107,7 @@ fn pair_below<'a, K: AsBytes, V, const P: usize>(
         (option_map (λ f. (f.0, (f.1.now, f.2.now))) result) }
     ensures counted { visits.new.count ≤ visits.old.count + length query.now + 1 }
     ensures grows { visits.old.count ≤ visits.new.count }
+    ensures some_counted { IfSome result (λ _. visits.old.count < visits.new.count) }
     ensures empty { leaves.now.pairs ≡ [] → visits.new.count ≡ visits.old.count }
 {
     let Some(root) = root else {

@@ -1,5 +1,5 @@
 //! Look-ups by bytes.
-ghost use Rattle.std.specs.Prelude.{◌≡◌, ◌+◌, ◌*◌, ◌≤◌, [], length, option_map, IfSome};
+ghost use Rattle.std.specs.Prelude.{◌≡◌, ◌+◌, ◌*◌, ◌<◌, ◌≤◌, [], length, option_map, IfSome};
 ghost use Rattle.blart_keys.specs.Bounds.{bound_bytes};
 ghost use Rattle.blart_keys.specs.Content.{at, front_of, under};
 ghost use Rattle.art_tree.specs.Leaves.{Has, bytes};
@@ -21,6 +21,7 @@ impl<K: AsBytes, V, const PREFIX_LEN: usize> Tree<K, V, PREFIX_LEN> {
             ≡ at (bytes K.bytes) self.now.pairs query.now }
         ensures counted { visits.new.count ≤ visits.old.count + length query.now + 1 }
         ensures grows { visits.old.count ≤ visits.new.count }
+        ensures some_counted { IfSome result (λ _. visits.old.count < visits.new.count) }
         ensures empty { self.now.pairs ≡ [] → visits.new.count ≡ visits.old.count }
     {
         self.cells.law();
@@ -37,6 +38,7 @@ impl<K: AsBytes, V, const PREFIX_LEN: usize> Tree<K, V, PREFIX_LEN> {
             ≡ front_of (bytes K.bytes) self.now.pairs query.now }
         ensures counted { visits.new.count ≤ visits.old.count + length query.now + 1 }
         ensures grows { visits.old.count ≤ visits.new.count }
+        ensures some_counted { IfSome result (λ _. visits.old.count < visits.new.count) }
         ensures empty { self.now.pairs ≡ [] → visits.new.count ≡ visits.old.count }
     {
         self.cells.law();
@@ -54,6 +56,7 @@ impl<K: AsBytes, V, const PREFIX_LEN: usize> Tree<K, V, PREFIX_LEN> {
         ensures there { IfSome result (Has self.now.pairs) }
         ensures counted { visits.new.count ≤ visits.old.count + length query.now + 1 }
         ensures grows { visits.old.count ≤ visits.new.count }
+        ensures some_counted { IfSome result (λ _. visits.old.count < visits.new.count) }
         ensures empty { self.now.pairs ≡ [] → visits.new.count ≡ visits.old.count }
     {
         self.law();
@@ -71,6 +74,7 @@ impl<K: AsBytes, V, const PREFIX_LEN: usize> Tree<K, V, PREFIX_LEN> {
         ensures there { IfSome result (Has self.now.pairs) }
         ensures counted { visits.new.count ≤ visits.old.count + length query.now + 1 }
         ensures grows { visits.old.count ≤ visits.new.count }
+        ensures some_counted { IfSome result (λ _. visits.old.count < visits.new.count) }
         ensures empty { self.now.pairs ≡ [] → visits.new.count ≡ visits.old.count }
     {
         self.law();

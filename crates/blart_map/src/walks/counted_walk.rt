@@ -9,7 +9,7 @@ ghost use Rattle.blart_map.specs.Content.{pairs, Numbered};
 ghost use Rattle.blart_map.specs.EachWritten.{CallableInTurn, WritesLeft, WritesEach, LeavesValue, TakesAtValue, LeavesPair, TakesAtPair, ActsOnValue, ActsOnPair};
 
 use crate::map::TreeMap;
-use art_tree::LeafId;
+use art_tree::{LeafId, Visits};
 use art_walk::{Cursor, ValuesAlone, WithKeys, write_pairs, write_values};
 use blart_keys::AsBytes;
 use std::marker::PhantomData;
@@ -209,7 +209,7 @@ impl<'a, K: AsBytes, V, M, const PREFIX_LEN: usize> CountedWalk<'a, K, V, M, PRE
         ensures* writes_back { sem 𝓛 (lends_first K.row V.row M.row PREFIX_LEN.row K.AsBytes self.entry result) }
         ensures end { IfNone result (counted_left self.old ≡ []) }
     {
-        let id = self.map.step(&mut self.cursor)?;
+        let id = self.map.step(&mut self.cursor, &mut Visits::new())?;
         self.lent = Some(id);
         self.left -= 1;
         let seen = self.cursor.passed_at();
@@ -222,7 +222,7 @@ impl<'a, K: AsBytes, V, M, const PREFIX_LEN: usize> CountedWalk<'a, K, V, M, PRE
         ensures* writes_back { sem 𝓛 (lends_last K.row V.row M.row PREFIX_LEN.row K.AsBytes self.entry result) }
         ensures end { IfNone result (counted_left self.old ≡ []) }
     {
-        let id = self.map.step_back(&mut self.cursor)?;
+        let id = self.map.step_back(&mut self.cursor, &mut Visits::new())?;
         self.lent = Some(id);
         self.left -= 1;
         let seen = self.cursor.passed_at();

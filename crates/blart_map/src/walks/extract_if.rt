@@ -1,14 +1,16 @@
 //! The pairs that a closure picks, taken out one by one.
-ghost use Rattle.std.specs.Prelude.{◌≡◌, ◌&&◌, not, filter, Bool, length, true, None};
+ghost use Rattle.std.specs.Prelude.{◌≡◌, ◌+◌, ◌≤◌, ◌&&◌, [], not, filter, Bool, length, true, None};
 ghost use Rattle.std.specs.Iterator.{at_most};
 ghost use Rattle.blart_keys.specs.Bounds.{bound_bytes, is_from_start, is_up_to_end, CanRange};
 ghost use Rattle.blart_keys.specs.Content.{between};
+ghost use Rattle.blart_keys.specs.Steps.{bytes as pair_bytes};
 ghost use Rattle.art_tree.specs.Leaves.{bytes};
+ghost use Rattle.art_tree.specs.Longest.{longest};
 ghost use Rattle.art_walk.specs.Lent.{walk_fits, numbers};
+ghost use Rattle.art_walk.specs.Openings.{longer, opening};
 ghost use Rattle.blart_map.specs.Content.{pairs};
 
 use crate::map::TreeMap;
-use crate::walks::as_bytes;
 use art_tree::Visits;
 use art_walk::{Cursor, extract_first, extract_last};
 use blart_keys::AsBytes;
@@ -35,7 +37,11 @@ impl<K: AsBytes, V, const PREFIX_LEN: usize> TreeMap<K, V, PREFIX_LEN> {
     ghost use Rattle.blart_map.specs.ExtractIf.{extract_map, extract_pred, extract_left};
     ghost use Rattle.blart_map.specs.OnceTaken.{once_extracted, still_to_extract};
 
-    /// A walk that takes out the pairs within both bounds at which the closure answers `true`, from both ends. The bounds are in order where the map has pairs, as for [`TreeMap::range`]. Takes no memory; it reads each pair that it asks about, and each that it takes out costs a removal.
+    /// Returns a walk that removes and yields the pairs within both bounds for which the closure
+    /// returns `true`, from both ends. If the map has pairs, the bounds must be in order, as for
+    /// [`TreeMap::range`]. It does not allocate.
+    ///
+    /// Cost of a step: it reads each pair that it asks about, and removes the pair that it yields.
     ///
     /// ```
     /// let low = "b";
@@ -66,13 +72,44 @@ impl<K: AsBytes, V, const PREFIX_LEN: usize> TreeMap<K, V, PREFIX_LEN> {
             (bound_bytes Q.bytes start.entry) (bound_bytes Q.bytes end.entry) }
         ensures same_pred { extract_pred result ≡ pred }
     {
+        self.extract_if_counted(start, end, pred, &mut Visits::new())
+    }
+
+    /// Like [`TreeMap::extract_if`], and counts the visits of the opening.
+    ///
+    /// Cost: at most 2 * (n + 2) * (L + 2) visits, if the longer bound has n bytes and the longest
+    /// key has L bytes, and none on an empty map. Each step is one visit more, which is not
+    /// counted.
+    pub fn extract_if_counted<Q: AsBytes, F: FnMut(&K, &mut V) -> bool>(
+        &mut self,
+        start: Bound<&Q>,
+        end: Bound<&Q>,
+        pred: F,
+        visits: &mut Visits,
+    ) -> ExtractIf<'_, K, V, F, PREFIX_LEN>
+        requires { CanRange (pairs self.old) (bound_bytes Q.bytes start)
+            (bound_bytes Q.bytes end) }
+        ensures same_map { (extract_map result).ghost_name ≡ self.entry.ghost_name }
+        ensures unchanged { (extract_map result).now ≡ self.old }
+        ensures all { (test : K × V → Bool) → once_extracted test result
+            ≡ filter (λ pair. not (is_from_start (bound_bytes Q.bytes start.entry) (K.bytes pair.0)
+            && is_up_to_end (bound_bytes Q.bytes end.entry) (K.bytes pair.0)
+            && test pair)) (pairs self.old) }
+        ensures picks { (test : K × V → Bool) → still_to_extract test result
+            ≡ filter (λ pair. is_from_start (bound_bytes Q.bytes start.entry) (K.bytes pair.0)
+            && is_up_to_end (bound_bytes Q.bytes end.entry) (K.bytes pair.0)
+            && test pair) (pairs self.old) }
+        ensures left { extract_left result ≡ between (bytes K.bytes) self.old
+            (bound_bytes Q.bytes start.entry) (bound_bytes Q.bytes end.entry) }
+        ensures same_pred { extract_pred result ≡ pred }
+        ensures counted { visits.new.count ≤ visits.old.count
+            + opening (longer (bound_bytes Q.bytes start.entry) (bound_bytes Q.bytes end.entry))
+            (longest (pair_bytes K.bytes) (pairs self.old)) }
+        ensures grows { visits.old.count ≤ visits.new.count }
+        ensures empty { pairs self.old ≡ [] → visits.new.count ≡ visits.old.count }
+    {
         self.numbers_law();
-        let cursor = Cursor::range(
-            &self.tree,
-            as_bytes(start),
-            as_bytes(end),
-            &mut Visits::new(),
-        );
+        let cursor = self.cursor_counted(start, end, visits);
         ExtractIf {
             map: self,
             cursor,

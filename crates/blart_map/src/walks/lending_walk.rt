@@ -8,7 +8,7 @@ ghost use Rattle.blart_map.specs.Content.{pairs, Numbered};
 ghost use Rattle.blart_map.specs.EachWritten.{CallableInTurn, WritesLeft, WritesWhere, LeavesPair, TakesAtPair, ActsOnPair, ActsWhere};
 
 use crate::map::TreeMap;
-use art_tree::LeafId;
+use art_tree::{LeafId, Visits};
 use art_walk::{BelowFront, Cursor, InRange, InSubtree, write_pairs};
 use blart_keys::AsBytes;
 use std::marker::PhantomData;
@@ -105,7 +105,7 @@ impl<'a, K: AsBytes, V, M, const PREFIX_LEN: usize> LendingWalk<'a, K, V, M, PRE
         ensures* writes_back { sem 𝓛 (lends_first K.row V.row M.row PREFIX_LEN.row K.AsBytes self.entry result) }
         ensures end { IfNone result (lending_left self.old ≡ []) }
     {
-        let id = self.map.step(&mut self.cursor)?;
+        let id = self.map.step(&mut self.cursor, &mut Visits::new())?;
         self.lent = Some(id);
         let seen = self.cursor.passed_at();
         Some(self.map.value_mut_near(id, seen))
@@ -117,7 +117,7 @@ impl<'a, K: AsBytes, V, M, const PREFIX_LEN: usize> LendingWalk<'a, K, V, M, PRE
         ensures* writes_back { sem 𝓛 (lends_last K.row V.row M.row PREFIX_LEN.row K.AsBytes self.entry result) }
         ensures end { IfNone result (lending_left self.old ≡ []) }
     {
-        let id = self.map.step_back(&mut self.cursor)?;
+        let id = self.map.step_back(&mut self.cursor, &mut Visits::new())?;
         self.lent = Some(id);
         let seen = self.cursor.passed_at();
         Some(self.map.value_mut_near(id, seen))

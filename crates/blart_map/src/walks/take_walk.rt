@@ -5,7 +5,7 @@ ghost use Rattle.art_tree.specs.Leaves.{leaf_in, without_number};
 ghost use Rattle.art_walk.specs.Lent.{walk_fits, numbers};
 
 use crate::map::TreeMap;
-use art_tree::LeafId;
+use art_tree::{LeafId, Visits};
 use art_walk::Cursor;
 use blart_keys::AsBytes;
 
@@ -61,7 +61,7 @@ impl<'a, K: AsBytes, V, const PREFIX_LEN: usize> TakeWalk<'a, K, V, PREFIX_LEN> 
         ensures* writes_back { sem 𝓛 (lends_first K.row V.row PREFIX_LEN.row K.AsBytes self.entry result) }
         ensures end { IfNone result (take_left self.old ≡ []) }
     {
-        let id = self.map.step(&mut self.cursor)?;
+        let id = self.map.step(&mut self.cursor, &mut Visits::new())?;
         self.lent = Some(id);
         let seen = self.cursor.passed_at();
         Some(self.map.value_mut_near(id, seen))
@@ -73,7 +73,7 @@ impl<'a, K: AsBytes, V, const PREFIX_LEN: usize> TakeWalk<'a, K, V, PREFIX_LEN> 
         ensures* writes_back { sem 𝓛 (lends_last K.row V.row PREFIX_LEN.row K.AsBytes self.entry result) }
         ensures end { IfNone result (take_left self.old ≡ []) }
     {
-        let id = self.map.step_back(&mut self.cursor)?;
+        let id = self.map.step_back(&mut self.cursor, &mut Visits::new())?;
         self.lent = Some(id);
         let seen = self.cursor.passed_at();
         Some(self.map.value_mut_near(id, seen))

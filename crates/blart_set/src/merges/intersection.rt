@@ -1,6 +1,6 @@
 //! The elements of the left set whose bytes the right one has too, ascending.
 ghost use Rattle.std.specs.Iterator.{YieldsFirstRef, item_count};
-ghost use Rattle.blart_set.specs.Merging.{intersection_rest, MergeProgresses, Counts};
+ghost use Rattle.blart_set.specs.Merging.{intersection_rest, MergeProgresses, Counts, HasCompared};
 
 use crate::merges::sides::Sides;
 use blart_keys::OrderedBytes;
@@ -51,6 +51,7 @@ impl<'a, K: OrderedBytes, const PREFIX_LEN: usize> FusedIterator
 fn next_shared<'a, K: OrderedBytes, const P: usize>(sides: &mut Sides<'a, K, P>) -> Option<&'a K>
     ensures steps { YieldsFirstRef (intersection_rest K.bytes) sides.old result sides.new }
     ensures counted { Counts sides.old sides.new }
+    ensures compared { HasCompared sides.old sides.new }
 {
     'sides: while let Some(side) = sides.step_both() {
         if let Some(element) = side.of_both() {

@@ -1,8 +1,8 @@
 //! Two sets, walked side by side.
-ghost use Rattle.std.specs.Prelude.{◌≡◌, ◌+◌, ◌⊎◌, [], ◌∷◌, drop, Some, IfSome, IfNone};
+ghost use Rattle.std.specs.Prelude.{◌≡◌, ◌+◌, ◌<◌, ◌⊎◌, [], ◌∷◌, drop, Some, IfSome, IfNone};
 ghost use Rattle.blart_keys.specs.Bytes.{bytes_cmp};
 ghost use Rattle.blart_keys.specs.Content.{Ascends};
-ghost use Rattle.blart_set.specs.Merging.{Steps, Counts, IsBeginning, side_element, one_element, both_element, left_element};
+ghost use Rattle.blart_set.specs.Merging.{Steps, Counts, HasCompared, IsBeginning, side_element, one_element, both_element, left_element};
 
 use crate::merges::compares::Compares;
 use crate::merges::peeked::Peeked;
@@ -56,6 +56,7 @@ impl<'a, K: OrderedBytes, const P: usize> Sides<'a, K, P> {
     pub(crate) fn step(&mut self) -> Option<Side<'a, K>>
         ensures steps { Steps K.bytes self.old result self.new }
         ensures counted { Counts self.old self.new }
+        ensures compared { HasCompared self.old self.new }
     {
         let Some(x) = self.left.peek() else {
             let y = self.right.peek()?;
@@ -76,6 +77,7 @@ impl<'a, K: OrderedBytes, const P: usize> Sides<'a, K, P> {
         requires right { self.old.right ≡ y.now ∷ drop 1 self.old.right }
         ensures steps { Steps K.bytes self.old (Some result) self.new }
         ensures counted { Counts self.old self.new }
+        ensures compared { self.old.compares < self.new.compares }
     {
         match compare(x, y, &mut self.compares) {
             Ordering::Less => {
@@ -100,6 +102,7 @@ impl<'a, K: OrderedBytes, const P: usize> Sides<'a, K, P> {
         ensures end { IfNone result ((self.old.left ≡ []) ⊎ (self.old.right ≡ [])) }
         ensures unchanged { IfNone result (self.new ≡ self.old) }
         ensures counted { Counts self.old self.new }
+        ensures compared { HasCompared self.old self.new }
     {
         let (Some(x), Some(y)) = (self.left.peek(), self.right.peek()) else {
             return None;
@@ -113,6 +116,7 @@ impl<'a, K: OrderedBytes, const P: usize> Sides<'a, K, P> {
         ensures end { IfNone result (self.old.left ≡ []) }
         ensures unchanged { IfNone result (self.new ≡ self.old) }
         ensures counted { Counts self.old self.new }
+        ensures compared { HasCompared self.old self.new }
     {
         self.left.peek()?;
         self.step()

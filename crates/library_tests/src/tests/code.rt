@@ -3,6 +3,7 @@
 mod asked;
 mod calls;
 mod closures;
+mod counted;
 mod dropped;
 mod hashed;
 mod key_types;

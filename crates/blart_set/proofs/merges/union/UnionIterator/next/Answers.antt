@@ -9,4 +9,4 @@ returns-clause-steps g c = rw (← c.self.view_is) (rw c.element.ensures (union_
 pub returns-clause-goes : goal.returns-clause-goes
 returns-clause-goes g c =
     let less = longer (union_rest g.K.AsBytes.bytes c.args.self.now) (union_rest g.K.AsBytes.bytes c.step.new.self) c.element.result.now (returns-clause-steps g c) in
-    record { on = λ finite. (tt, finite, less); keeps = tt; rests = λ _. tt; counted = search rules }
+    record { on = λ finite. (tt, finite, less); keeps = tt; rests = λ _. tt; counted = search rules; compared = search rules }

@@ -1,0 +1,24 @@
+use Rattle.std.proofs.Common.{refl, ◌&&◌}
+use Rattle.blart_keys.specs.Bounds.{bound_bytes, is_from_start, is_up_to_end}
+use Rattle.blart_map.proofs.Taken.OnceTaken.{opened_taken, opened_left}
+use Rattle.blart_map.proofs.Passed.Opening.{opens}
+use Rattle.blart_map.proofs.map.TreeMap.extract_if_counted.Goals as goal
+
+pub invariant_of-result : goal.invariant_of-result
+invariant_of-result g c = record { fits = opens c.cursor_counted-cursor.result c.args.self.now c.args.self.now refl c.cursor_counted-cursor.ensures.fits }
+
+pub returns-clause-all : goal.returns-clause-all
+returns-clause-all g c test =
+    let kb = g.K.AsBytes.bytes in
+    let ps = c.args.self.now in
+    let lo = bound_bytes g.Q.AsBytes.bytes c.args.start in
+    let hi = bound_bytes g.Q.AsBytes.bytes c.args.end in
+    opened_taken test c.cursor_counted-cursor.result c.cursor_counted-cursor.result ps c.args.self.now c.args.self.now refl refl c.numbers_law.ensures.distinct refl (λ pair. is_from_start lo (kb pair.0) && is_up_to_end hi (kb pair.0)) c.cursor_counted-cursor.ensures.leaves
+
+pub returns-clause-picks : goal.returns-clause-picks
+returns-clause-picks g c test =
+    let kb = g.K.AsBytes.bytes in
+    let ps = c.args.self.now in
+    let lo = bound_bytes g.Q.AsBytes.bytes c.args.start in
+    let hi = bound_bytes g.Q.AsBytes.bytes c.args.end in
+    opened_left test c.cursor_counted-cursor.result c.cursor_counted-cursor.result ps c.args.self.now c.args.self.now refl refl refl (λ pair. is_from_start lo (kb pair.0) && is_up_to_end hi (kb pair.0)) c.cursor_counted-cursor.ensures.leaves
