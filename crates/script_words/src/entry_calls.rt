@@ -3,11 +3,13 @@ use crate::answered::Unanswered;
 use crate::names::named;
 use crate::reading::Words;
 
-/// A call of an entry, and what is added before it to a value that is stored.
+/// A call of an entry, what is added before it to a value that is stored, and the call that is made
+/// of the entry at a pair: of the one that the first call returns, or the first call itself.
 #[derive(Clone, Copy)]
 pub struct EntryLine {
     pub add: Option<u64>,
     pub call: EntryCall,
+    pub then: Option<EntryCall>,
 }
 
 /// A call of an entry, with its number, or 0 where it has none.
@@ -126,10 +128,21 @@ impl EntryName {
 impl EntryCall {
     /// The call that the words which are left are.
     pub fn read(mut words: Words<'_>) -> Result<EntryCall, Unanswered> {
+        let call = EntryCall::next(&mut words)?;
+        words.end()?;
+        Ok(call)
+    }
+
+    // The call that the next words are.
+    fn next(words: &mut Words<'_>) -> Result<EntryCall, Unanswered> {
         let Some(name) = named(&NAMES, words.word()?) else {
             return Err(Unanswered::NoCall);
         };
-        let number = words.number_if(name.has_number())?;
+        let number = if name.has_number() {
+            words.number()?
+        } else {
+            0
+        };
         Ok(EntryCall { name, number })
     }
 }
@@ -139,11 +152,31 @@ impl EntryLine {
     pub fn read(words: Words<'_>) -> Result<EntryLine, Unanswered> {
         let mut rest = words;
         if rest.word()? != b"and_modify".as_slice() {
-            let call = EntryCall::read(words)?;
-            return Ok(EntryLine { add: None, call });
+            return EntryLine::after(None, words);
         }
         let add = Some(rest.number()?);
-        let call = EntryCall::read(rest)?;
-        Ok(EntryLine { add, call })
+        EntryLine::after(add, rest)
+    }
+
+    /// The call that the words which are left are, and the one that is made of the entry that it
+    /// returns, after something is added to the value.
+    pub(crate) fn after(add: Option<u64>, mut words: Words<'_>) -> Result<EntryLine, Unanswered> {
+        let call = EntryCall::next(&mut words)?;
+        let group = call.name.group();
+        if words.is_done() {
+            let then = match group {
+                EntryGroup::Occupied => Some(call),
+                _ => None,
+            };
+            return Ok(EntryLine { add, call, then });
+        }
+        let next = EntryCall::read(words)?;
+        match (group, next.name.group()) {
+            (EntryGroup::Place, EntryGroup::Key | EntryGroup::Occupied) => {
+                let then = Some(next);
+                Ok(EntryLine { add, call, then })
+            }
+            _ => Err(Unanswered::NoCall),
+        }
     }
 }

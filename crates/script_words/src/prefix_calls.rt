@@ -1,6 +1,6 @@
 //! The calls of prefix entries, and their words.
 use crate::answered::Unanswered;
-use crate::entry_calls::{EntryCall, EntryGroup};
+use crate::entry_calls::{EntryGroup, EntryLine};
 use crate::names::named;
 use crate::reading::Words;
 
@@ -8,9 +8,9 @@ use crate::reading::Words;
 #[derive(Clone, Copy)]
 pub enum PrefixCall<'a> {
     /// One that entries have too.
-    Shared(EntryCall),
+    Shared(EntryLine),
     /// One of these that the entry's kind has too, made of that.
-    OfKind(EntryCall),
+    OfKind(EntryLine),
     /// One that prefix entries alone have, or that theirs differs in, with its number, or 0 where it has none.
     Own(PrefixName, u64),
     /// The walk over the pairs in whose place the entry is.
@@ -62,7 +62,7 @@ impl<'a> PrefixCall<'a> {
         let mut rest = words;
         let word = rest.word()?;
         if word == b"kind".as_slice() {
-            return call_of_kind(EntryCall::read(rest)?);
+            return call_of_kind(EntryLine::after(None, rest)?);
         }
         if word == b"iter".as_slice() {
             return Ok(PrefixCall::Iter(rest.last_moves()?));
@@ -73,7 +73,7 @@ impl<'a> PrefixCall<'a> {
         }
         match named(&NAMES, word) {
             Some(name) => Ok(PrefixCall::Own(name, rest.number_if(name.has_number())?)),
-            None => Ok(PrefixCall::Shared(EntryCall::read(words)?)),
+            None => Ok(PrefixCall::Shared(EntryLine::after(None, words)?)),
         }
     }
 }
@@ -95,9 +95,9 @@ impl PrefixName {
 }
 
 /// Returns the call of the entry's kind, if `PrefixKind` has it.
-fn call_of_kind<'a>(call: EntryCall) -> Result<PrefixCall<'a>, Unanswered> {
-    match call.name.group() {
-        EntryGroup::Value | EntryGroup::Place => Ok(PrefixCall::OfKind(call)),
+fn call_of_kind<'a>(line: EntryLine) -> Result<PrefixCall<'a>, Unanswered> {
+    match line.call.name.group() {
+        EntryGroup::Value | EntryGroup::Place => Ok(PrefixCall::OfKind(line)),
         _ => Err(Unanswered::NoCall),
     }
 }

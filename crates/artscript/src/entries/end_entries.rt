@@ -31,17 +31,12 @@ fn show_end<K: AsBytes + Shown + Drop, const P: usize>(
     } else {
         map.last_entry()
     };
-    let Some(mut entry) = found else {
-        return text.push(b"None");
-    };
-    let value = match call.name {
-        EntryName::Key => return Some(entry.key()).show(text),
-        EntryName::Get => *entry.get(),
-        EntryName::Insert => entry.insert(call.number),
-        EntryName::GetMut => mem::replace(entry.get_mut(), call.number),
-        EntryName::IntoMut => mem::replace(entry.into_mut(), call.number),
-        EntryName::Remove => entry.remove(),
-        _ => return Some(entry.remove_entry()).show(text),
-    };
-    Some(value).show(text);
+    match found {
+        Some(mut place) => {
+            text.push(b"Some(");
+            show_occupied!(place, call, text);
+            text.push(b")");
+        }
+        None => text.push(b"None"),
+    }
 }

@@ -1,31 +1,36 @@
 //! What the prefix entry of a key answers.
 //!
 //! An entry is made and used in one function, which ends its loan of the map.
-use crate::entries::by_key::MapOf;
+ghost use denote.Builtin.{u64};
+ghost use Rattle.blart_map.specs.EntryFits.{PrefixEntryFits};
+
 use crate::maps::lent::show_lending;
+use blart_keys::AsBytes;
 use blart_map::{PrefixEntry, PrefixKind, PrefixOccupied, TreeMap};
 use script_words::{
-    Answered, EntryCall, EntryGroup, EntryName, PrefixCall, PrefixName, Shown, Text, Unanswered,
-    Words, length_of, show_walk, value_of, written,
+    Answered, EntryCall, EntryGroup, EntryLine, EntryName, PrefixCall, PrefixName, ScriptKey,
+    Shown, Text, Unanswered, Words, length_of, show_walk, value_of, written,
 };
 use std::alloc::AllocError;
 use std::iter::{DoubleEndedIterator, Iterator};
 use std::mem;
 
-type BytesMap<const P: usize> = MapOf<Vec<u8>, P>;
+type MapOf<K, const P: usize> = TreeMap<K, u64, P>;
 
 /// Makes the call of the prefix entry of a key, and adds its answer.
-pub fn enter_related<const P: usize>(
-    map: &mut TreeMap<Vec<u8>, u64, P>,
+pub fn enter_related<K: ScriptKey, const P: usize>(
+    map: &mut TreeMap<K, u64, P>,
     mut words: Words<'_>,
     text: &mut Text,
-) -> Answered {
+) -> Answered
+    requires { PrefixEntryFits K.row u64 P.row K.AsBytes }
+{
     let word = words.word()?;
     let call = PrefixCall::read(words)?;
     let key = words.key_of(word)?;
     match call {
-        PrefixCall::Shared(call) => show_shared(map, key, call, text),
-        PrefixCall::OfKind(call) => show_of_kind(map, key, call, text),
+        PrefixCall::Shared(line) => show_shared(map, key, line, text),
+        PrefixCall::OfKind(line) => show_of_kind(map, key, line, text),
         PrefixCall::Own(name, number) => show_own(map, key, name, number, text),
         PrefixCall::Iter(letters) => walk_inner(map, key, letters, text),
         PrefixCall::IterMut(add, letters) => lend_inner(map, key, add, letters, text),
@@ -34,42 +39,48 @@ pub fn enter_related<const P: usize>(
 }
 
 // Makes a call that entries have too.
-fn show_shared<const P: usize>(
-    map: &mut BytesMap<P>,
-    key: Vec<u8>,
-    call: EntryCall,
+fn show_shared<K: ScriptKey, const P: usize>(
+    map: &mut MapOf<K, P>,
+    key: K,
+    line: EntryLine,
     text: &mut Text,
-) {
-    match call.name.group() {
+)
+    requires { PrefixEntryFits K.row u64 P.row K.AsBytes }
+{
+    match line.call.name.group() {
         EntryGroup::Key => show_key(map, key, false, text),
-        EntryGroup::Value => show_value(map, key, call, text),
-        EntryGroup::Place => show_place(map, key, call, text),
-        EntryGroup::Occupied => show_leaf(map, key, call, text),
-        EntryGroup::Vacant => show_vacant(map, key, call, text),
+        EntryGroup::Value => show_value(map, key, line.call, text),
+        EntryGroup::Place => show_place(map, key, line, text),
+        EntryGroup::Occupied => show_leaf(map, key, line, text),
+        EntryGroup::Vacant => show_vacant(map, key, line.call, text),
     }
 }
 
 // Makes a call of the entry's kind.
-fn show_of_kind<const P: usize>(
-    map: &mut BytesMap<P>,
-    key: Vec<u8>,
-    call: EntryCall,
+fn show_of_kind<K: ScriptKey, const P: usize>(
+    map: &mut MapOf<K, P>,
+    key: K,
+    line: EntryLine,
     text: &mut Text,
-) {
-    match call.name.group() {
-        EntryGroup::Value => show_kind_value(map, key, call, text),
-        _ => show_kind_place(map, key, call, text),
+)
+    requires { PrefixEntryFits K.row u64 P.row K.AsBytes }
+{
+    match line.call.name.group() {
+        EntryGroup::Value => show_kind_value(map, key, line.call, text),
+        _ => show_kind_place(map, key, line, text),
     }
 }
 
 // Makes a call that prefix entries alone have, or that theirs differs in.
-fn show_own<const P: usize>(
-    map: &mut BytesMap<P>,
-    key: Vec<u8>,
+fn show_own<K: ScriptKey, const P: usize>(
+    map: &mut MapOf<K, P>,
+    key: K,
     name: PrefixName,
     number: u64,
     text: &mut Text,
-) {
+)
+    requires { PrefixEntryFits K.row u64 P.row K.AsBytes }
+{
     match name {
         PrefixName::GetKey => show_key(map, key, true, text),
         PrefixName::OccupiedKey
@@ -84,15 +95,17 @@ fn show_own<const P: usize>(
 }
 
 // The word of the entry's kind, and a space.
-fn kind_of<const P: usize>(entry: &PrefixEntry<'_, Vec<u8>, u64, P, BytesMap<P>>) -> &'static [u8] {
+fn kind_of<K: AsBytes, const P: usize>(
+    entry: &PrefixEntry<'_, K, u64, P, MapOf<K, P>>,
+) -> &'static [u8] {
     match entry {
         PrefixEntry::Occupied(related) => kind_of_related(related),
         PrefixEntry::Vacant(_) => b"Vacant ",
     }
 }
 
-fn kind_of_related<const P: usize>(
-    related: &PrefixOccupied<'_, Vec<u8>, u64, P, BytesMap<P>>,
+fn kind_of_related<K: AsBytes, const P: usize>(
+    related: &PrefixOccupied<'_, K, u64, P, MapOf<K, P>>,
 ) -> &'static [u8] {
     match related {
         PrefixOccupied::Leaf(_) => b"Leaf ",
@@ -101,7 +114,14 @@ fn kind_of_related<const P: usize>(
 }
 
 // Adds the entry's key, or the key of its pair, where it has one.
-fn show_key<const P: usize>(map: &mut BytesMap<P>, key: Vec<u8>, is_found: bool, text: &mut Text) {
+fn show_key<K: ScriptKey, const P: usize>(
+    map: &mut MapOf<K, P>,
+    key: K,
+    is_found: bool,
+    text: &mut Text,
+)
+    requires { PrefixEntryFits K.row u64 P.row K.AsBytes }
+{
     let entry = map.prefix_entry(key);
     text.push(kind_of(&entry));
     if is_found {
@@ -113,89 +133,73 @@ fn show_key<const P: usize>(map: &mut BytesMap<P>, key: Vec<u8>, is_found: bool,
 }
 
 // Adds the value that the call lends.
-fn show_value<const P: usize>(
-    map: &mut BytesMap<P>,
-    key: Vec<u8>,
+fn show_value<K: ScriptKey, const P: usize>(
+    map: &mut MapOf<K, P>,
+    key: K,
     call: EntryCall,
     text: &mut Text,
-) {
+)
+    requires { PrefixEntryFits K.row u64 P.row K.AsBytes }
+{
     let entry = map.prefix_entry(key);
     text.push(kind_of(&entry));
-    let lent = match call.name {
-        EntryName::OrInsert => entry.or_insert(call.number),
-        EntryName::OrDefault => entry.or_default(),
-        EntryName::OrInsertWith => entry.or_insert_with(|| call.number),
-        _ => entry.or_insert_with_key(length_of),
-    };
-    value_of(lent).show(text)
+    show_value!(entry, call, text)
 }
 
-// Adds the pair whose entry the call answers.
-fn show_place<const P: usize>(
-    map: &mut BytesMap<P>,
-    key: Vec<u8>,
-    call: EntryCall,
+// Adds the pair whose entry the call answers, or what the next call answers of that entry.
+fn show_place<K: ScriptKey, const P: usize>(
+    map: &mut MapOf<K, P>,
+    key: K,
+    line: EntryLine,
     text: &mut Text,
-) {
+)
+    requires { PrefixEntryFits K.row u64 P.row K.AsBytes }
+{
     let entry = map.prefix_entry(key);
     text.push(kind_of(&entry));
-    let answer = match call.name {
-        EntryName::OrInsertEntry => entry.or_insert_entry(call.number),
-        EntryName::OrDefaultEntry => entry.or_default_entry(),
-        EntryName::OrInsertWithEntry => entry.or_insert_with_entry(|| call.number),
-        EntryName::OrInsertWithKeyEntry => entry.or_insert_with_key_entry(length_of),
-        _ => entry.insert_entry(call.number),
-    };
-    show_placed!(answer, text)
+    show_place!(entry, line, text)
 }
 
 // Adds the value that the call of the entry's kind lends.
-fn show_kind_value<const P: usize>(
-    map: &mut BytesMap<P>,
-    key: Vec<u8>,
+fn show_kind_value<K: ScriptKey, const P: usize>(
+    map: &mut MapOf<K, P>,
+    key: K,
     call: EntryCall,
     text: &mut Text,
-) {
+)
+    requires { PrefixEntryFits K.row u64 P.row K.AsBytes }
+{
     let entry = map.prefix_entry(key);
     text.push(kind_of(&entry));
     let entry = entry.kind();
-    let lent = match call.name {
-        EntryName::OrInsert => entry.or_insert(call.number),
-        EntryName::OrDefault => entry.or_default(),
-        EntryName::OrInsertWith => entry.or_insert_with(|| call.number),
-        _ => entry.or_insert_with_key(length_of),
-    };
-    value_of(lent).show(text)
+    show_value!(entry, call, text)
 }
 
-// Adds the pair whose entry the call of the entry's kind answers.
-fn show_kind_place<const P: usize>(
-    map: &mut BytesMap<P>,
-    key: Vec<u8>,
-    call: EntryCall,
+// Adds the pair whose entry the call of the entry's kind answers, or what the next call answers of it.
+fn show_kind_place<K: ScriptKey, const P: usize>(
+    map: &mut MapOf<K, P>,
+    key: K,
+    line: EntryLine,
     text: &mut Text,
-) {
+)
+    requires { PrefixEntryFits K.row u64 P.row K.AsBytes }
+{
     let entry = map.prefix_entry(key);
     text.push(kind_of(&entry));
     let entry = entry.kind();
-    let answer = match call.name {
-        EntryName::OrInsertEntry => entry.or_insert_entry(call.number),
-        EntryName::OrDefaultEntry => entry.or_default_entry(),
-        EntryName::OrInsertWithEntry => entry.or_insert_with_entry(|| call.number),
-        EntryName::OrInsertWithKeyEntry => entry.or_insert_with_key_entry(length_of),
-        _ => entry.insert_entry(call.number),
-    };
-    show_placed!(answer, text)
+    show_place!(entry, line, text)
 }
 
 // Adds what the call answers of an entry to which pairs are related.
-fn show_related<const P: usize>(
-    map: &mut BytesMap<P>,
-    key: Vec<u8>,
+fn show_related<K: ScriptKey, const P: usize>(
+    map: &mut MapOf<K, P>,
+    key: K,
     name: PrefixName,
     number: u64,
     text: &mut Text,
-) {
+)
+    requires { PrefixEntryFits K.row u64 P.row K.AsBytes }
+{
     let mut entry = map.prefix_entry(key);
     text.push(kind_of(&entry));
     match &mut entry {
@@ -211,13 +215,15 @@ fn show_related<const P: usize>(
 }
 
 // Puts a pair in the place of the related ones, and adds what the call answers.
-fn set_related<const P: usize>(
-    map: &mut BytesMap<P>,
-    key: Vec<u8>,
+fn set_related<K: ScriptKey, const P: usize>(
+    map: &mut MapOf<K, P>,
+    key: K,
     name: PrefixName,
     number: u64,
     text: &mut Text,
-) {
+)
+    requires { PrefixEntryFits K.row u64 P.row K.AsBytes }
+{
     let PrefixEntry::Occupied(related) = map.prefix_entry(key) else {
         return text.stop(Unanswered::NoCall);
     };
@@ -232,39 +238,32 @@ fn set_related<const P: usize>(
 }
 
 // Adds what the call answers of an entry at a pair, which `or_insert_entry` gives as it is. Its `get` and `get_mut` are those of every prefix entry with pairs.
-fn show_leaf<const P: usize>(
-    map: &mut BytesMap<P>,
-    key: Vec<u8>,
-    call: EntryCall,
+fn show_leaf<K: ScriptKey, const P: usize>(
+    map: &mut MapOf<K, P>,
+    key: K,
+    line: EntryLine,
     text: &mut Text,
-) {
+)
+    requires { PrefixEntryFits K.row u64 P.row K.AsBytes }
+{
     let entry = map.prefix_entry(key);
     text.push(kind_of(&entry));
     if !matches!(entry, PrefixEntry::Occupied(PrefixOccupied::Leaf(_))) {
         return text.stop(Unanswered::NoCall);
     }
-    match entry.or_insert_entry(0) {
-        Ok(mut place) => {
-            let value = match call.name {
-                EntryName::Insert => place.insert(call.number),
-                EntryName::IntoMut => mem::replace(place.into_mut(), call.number),
-                EntryName::Remove => place.remove(),
-                _ => return place.remove_entry().show(text),
-            };
-            value.show(text)
-        }
-        Err(refused) => text.stop(Unanswered::Memory(refused)),
-    }
+    show_place!(entry, line, text)
 }
 
 // Adds what the call answers of an entry in the place of pairs.
-fn show_inner<const P: usize>(
-    map: &mut BytesMap<P>,
-    key: Vec<u8>,
+fn show_inner<K: ScriptKey, const P: usize>(
+    map: &mut MapOf<K, P>,
+    key: K,
     name: PrefixName,
     number: u64,
     text: &mut Text,
-) {
+)
+    requires { PrefixEntryFits K.row u64 P.row K.AsBytes }
+{
     let PrefixKind::Inner(mut inner) = map.prefix_entry(key).kind() else {
         return text.stop(Unanswered::NoCall);
     };
@@ -290,12 +289,14 @@ fn show_inner<const P: usize>(
 }
 
 // Walks over the pairs in whose place the entry is.
-fn walk_inner<const P: usize>(
-    map: &mut BytesMap<P>,
-    key: Vec<u8>,
+fn walk_inner<K: ScriptKey, const P: usize>(
+    map: &mut MapOf<K, P>,
+    key: K,
     letters: Option<&[u8]>,
     text: &mut Text,
-) {
+)
+    requires { PrefixEntryFits K.row u64 P.row K.AsBytes }
+{
     match map.prefix_entry(key).kind() {
         PrefixKind::Inner(inner) => {
             text.push(b"Inner ");
@@ -306,13 +307,15 @@ fn walk_inner<const P: usize>(
 }
 
 // Adds to the values of the pairs in whose place the entry is.
-fn lend_inner<const P: usize>(
-    map: &mut BytesMap<P>,
-    key: Vec<u8>,
+fn lend_inner<K: ScriptKey, const P: usize>(
+    map: &mut MapOf<K, P>,
+    key: K,
     add: u64,
     letters: Option<&[u8]>,
     text: &mut Text,
-) {
+)
+    requires { PrefixEntryFits K.row u64 P.row K.AsBytes }
+{
     match map.prefix_entry(key).kind() {
         PrefixKind::Inner(inner) => {
             text.push(b"Inner ");
@@ -323,19 +326,17 @@ fn lend_inner<const P: usize>(
 }
 
 // Adds what the call answers of an entry where no pair stands.
-fn show_vacant<const P: usize>(
-    map: &mut BytesMap<P>,
-    key: Vec<u8>,
+fn show_vacant<K: ScriptKey, const P: usize>(
+    map: &mut MapOf<K, P>,
+    key: K,
     call: EntryCall,
     text: &mut Text,
-) {
+)
+    requires { PrefixEntryFits K.row u64 P.row K.AsBytes }
+{
     let PrefixKind::Vacant(vacant) = map.prefix_entry(key).kind() else {
         return text.stop(Unanswered::NoCall);
     };
     text.push(b"Vacant ");
-    match call.name {
-        EntryName::IntoKey => vacant.into_key().show(text),
-        EntryName::VacantInsert => value_of(vacant.insert(call.number)).show(text),
-        _ => show_placed!(vacant.insert_entry(call.number), text),
-    }
+    show_vacant!(vacant, call, text)
 }

@@ -1,7 +1,10 @@
 //! The two maps of a script, and the calls that change them.
 ghost use Rattle.std.specs.Prelude.{◌≡◌, []};
+ghost use denote.Builtin.{u64};
 ghost use Rattle.blart_map.specs.Content.{pairs};
+ghost use Rattle.blart_map.specs.EntryFits.{EntryFits, PrefixEntryFits};
 
+use crate::entries::{enter_end, enter_related, try_enter};
 use blart_keys::AsBytes;
 use blart_map::TreeMap;
 use script_words::{Answered, MapName, ScriptKey, Shown, Text, Words, written};
@@ -94,8 +97,13 @@ impl<K: AsBytes + Shown + Drop, V: Shown + Drop, const PREFIX_LEN: usize> Maps<K
 
 impl<K: ScriptKey, const PREFIX_LEN: usize> Maps<K, u64, PREFIX_LEN> {
     /// Makes the call of this name with these words after it, and adds its answer.
-    pub(crate) fn call(&mut self, name: MapName, words: Words<'_>, text: &mut Text) -> Answered {
+    pub(crate) fn call(&mut self, name: MapName, words: Words<'_>, text: &mut Text) -> Answered
+        requires entries { EntryFits K.row u64 PREFIX_LEN.row K.AsBytes }
+        requires prefix_entries { PrefixEntryFits K.row u64 PREFIX_LEN.row K.AsBytes }
+    {
         match name {
+            MapName::TryEntry | MapName::PrefixEntry | MapName::FirstEntry | MapName::LastEntry =>
+                self.enter(name, words, text),
             MapName::TryInsert | MapName::ReplaceEntry | MapName::PrefixInsert => {
                 self.place(name, words, text)
             }
@@ -119,6 +127,19 @@ impl<K: ScriptKey, const PREFIX_LEN: usize> Maps<K, u64, PREFIX_LEN> {
             | MapName::SameHash
             | MapName::DebugText => self.compare(name, words, text),
             _ => self.call_of_any(name, words, text),
+        }
+    }
+
+    // The calls of entries that keys of every type have.
+    fn enter(&mut self, name: MapName, words: Words<'_>, text: &mut Text) -> Answered
+        requires entries { EntryFits K.row u64 PREFIX_LEN.row K.AsBytes }
+        requires prefix_entries { PrefixEntryFits K.row u64 PREFIX_LEN.row K.AsBytes }
+    {
+        match name {
+            MapName::TryEntry => try_enter(&mut self.first, words, text),
+            MapName::PrefixEntry => enter_related(&mut self.first, words, text),
+            MapName::FirstEntry => enter_end(&mut self.first, true, words, text),
+            _ => enter_end(&mut self.first, false, words, text),
         }
     }
 

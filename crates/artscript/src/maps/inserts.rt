@@ -1,6 +1,9 @@
 //! The calls that some key types have, and others lack.
 ghost use Rattle.std.specs.Prelude.{◌≡◌};
+ghost use denote.Builtin.{u64};
+ghost use Rattle.blart_map.specs.EntryFits.{EntryFits, PrefixEntryFits};
 
+use crate::entries::enter;
 use crate::maps::calls::Maps;
 use blart_keys::NoPrefixesBytes;
 use script_words::{Answered, FixedKey, MapName, ScriptKey, Shown, Text, Words, value_of};
@@ -8,7 +11,9 @@ use script_words::{Answered, FixedKey, MapName, ScriptKey, Shown, Text, Words, v
 impl<K: FixedKey, const PREFIX_LEN: usize> Maps<K, u64, PREFIX_LEN> {
     /// Makes the call of this name with these words after it, and adds its answer.
     pub fn call_of_fixed(&mut self, name: MapName, words: Words<'_>, text: &mut Text) -> Answered
-        requires { (k j : K) → K.is_clone k j → K.bytes j ≡ K.bytes k }
+        requires clones { (k j : K) → K.is_clone k j → K.bytes j ≡ K.bytes k }
+        requires entries { EntryFits K.row u64 PREFIX_LEN.row K.AsBytes }
+        requires prefix_entries { PrefixEntryFits K.row u64 PREFIX_LEN.row K.AsBytes }
     {
         match name {
             MapName::MakeClone => self.make_clone(words, text),
@@ -20,8 +25,12 @@ impl<K: FixedKey, const PREFIX_LEN: usize> Maps<K, u64, PREFIX_LEN> {
 
 impl<K: ScriptKey + NoPrefixesBytes, const PREFIX_LEN: usize> Maps<K, u64, PREFIX_LEN> {
     /// Makes the call of this name with these words after it, and adds its answer.
-    pub fn call_of_apart(&mut self, name: MapName, words: Words<'_>, text: &mut Text) -> Answered {
+    pub fn call_of_apart(&mut self, name: MapName, words: Words<'_>, text: &mut Text) -> Answered
+        requires entries { EntryFits K.row u64 PREFIX_LEN.row K.AsBytes }
+        requires prefix_entries { PrefixEntryFits K.row u64 PREFIX_LEN.row K.AsBytes }
+    {
         match name {
+            MapName::Entry => enter(&mut self.first, words, text),
             MapName::Insert | MapName::GetOrInsert => self.insert(name, words, text),
             MapName::Append => self.append(words, text),
             MapName::Extend | MapName::FromVec | MapName::FromIter => self.take_items(

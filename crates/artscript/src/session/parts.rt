@@ -1,7 +1,8 @@
 //! The maps and the sets of one type of keys, and the calls of them.
 ghost use Rattle.std.specs.Prelude.{◌≡◌};
+ghost use denote.Builtin.{u64};
+ghost use Rattle.blart_map.specs.EntryFits.{EntryFits, PrefixEntryFits};
 
-use crate::entries::{enter_bytes, enter_end, enter_related, enter_three};
 use crate::maps::Maps;
 use crate::session::counted::CountedMaps;
 use crate::session::mounts::Table;
@@ -34,12 +35,7 @@ impl<K: ScriptKey, const PREFIX_LEN: usize> Part<K, PREFIX_LEN> {
 
 impl<const PREFIX_LEN: usize> Part<Vec<u8>, PREFIX_LEN> {
     fn call_of_bytes(&mut self, call: LineCall, words: Words<'_>, text: &mut Text) -> Answered {
-        let map = &mut self.maps.first;
         match call {
-            LineCall::Map(MapName::TryEntry) => enter_bytes(map, words, text),
-            LineCall::Map(MapName::PrefixEntry) => enter_related(map, words, text),
-            LineCall::Map(MapName::FirstEntry) => enter_end(map, true, words, text),
-            LineCall::Map(MapName::LastEntry) => enter_end(map, false, words, text),
             LineCall::Map(MapName::MakeClone) => self.maps.make_clone(words, text),
             LineCall::Map(name) => self.maps.call(name, words, text),
             LineCall::Set(SetName::MakeClone) => self.sets.make_clone(words, text),
@@ -48,23 +44,13 @@ impl<const PREFIX_LEN: usize> Part<Vec<u8>, PREFIX_LEN> {
     }
 }
 
-impl<const PREFIX_LEN: usize> Part<[u8; 3], PREFIX_LEN> {
-    fn call_of_three(&mut self, call: LineCall, words: Words<'_>, text: &mut Text) -> Answered {
-        match call {
-            LineCall::Map(MapName::Entry) => enter_three(&mut self.maps.first, words, text),
-            _ => self.call_of_fixed(call, words, text),
-        }
-    }
-}
-
 impl<K: FixedKey, const PREFIX_LEN: usize> Part<K, PREFIX_LEN> {
     fn call_of_fixed(&mut self, call: LineCall, words: Words<'_>, text: &mut Text) -> Answered
-        requires { (k j : K) → K.is_clone k j → K.bytes j ≡ K.bytes k }
+        requires clones { (k j : K) → K.is_clone k j → K.bytes j ≡ K.bytes k }
+        requires entries { EntryFits K.row u64 PREFIX_LEN.row K.AsBytes }
+        requires prefix_entries { PrefixEntryFits K.row u64 PREFIX_LEN.row K.AsBytes }
     {
-        let map = &mut self.maps.first;
         match call {
-            LineCall::Map(MapName::FirstEntry) => enter_end(map, true, words, text),
-            LineCall::Map(MapName::LastEntry) => enter_end(map, false, words, text),
             LineCall::Map(name) => self.maps.call_of_fixed(name, words, text),
             LineCall::Set(name) => self.sets.call_of_fixed(name, words, text),
         }
@@ -73,10 +59,7 @@ impl<K: FixedKey, const PREFIX_LEN: usize> Part<K, PREFIX_LEN> {
 
 impl<const PREFIX_LEN: usize> Part<ZKey, PREFIX_LEN> {
     fn call_of_zkeys(&mut self, call: LineCall, words: Words<'_>, text: &mut Text) -> Answered {
-        let map = &mut self.maps.first;
         match call {
-            LineCall::Map(MapName::FirstEntry) => enter_end(map, true, words, text),
-            LineCall::Map(MapName::LastEntry) => enter_end(map, false, words, text),
             LineCall::Map(name) => self.maps.call_of_apart(name, words, text),
             LineCall::Set(name) => self.sets.call_of_apart(name, words, text),
         }
@@ -119,11 +102,11 @@ pub(crate) enum Session<'a, const PREFIX_LEN: usize> {
     Bytes(Part<Vec<u8>, PREFIX_LEN>),
     Byte(Part<u8, KEPT>),
     Three(Part<[u8; 3], PREFIX_LEN>),
-    I32(Part<I32Key, KEPT>),
+    I32(Part<I32Key, PREFIX_LEN>),
     U64(Part<U64Key, KEPT>),
     Zero(Part<ZKey, KEPT>),
-    Tagged(Part<Tagged, KEPT>),
-    Counted(CountedMaps<'a, KEPT>),
+    Tagged(Part<Tagged, PREFIX_LEN>),
+    Counted(CountedMaps<'a, PREFIX_LEN>),
     Mounts(Table),
 }
 
@@ -181,7 +164,7 @@ impl<'a, const PREFIX_LEN: usize> Session<'a, PREFIX_LEN> {
         match self {
             Session::Bytes(part) => part.call_of_bytes(call, words, text),
             Session::Byte(part) => part.call_of_fixed(call, words, text),
-            Session::Three(part) => part.call_of_three(call, words, text),
+            Session::Three(part) => part.call_of_fixed(call, words, text),
             Session::I32(part) => part.call_of_fixed(call, words, text),
             Session::U64(part) => part.call_of_fixed(call, words, text),
             Session::Zero(part) => part.call_of_zkeys(call, words, text),

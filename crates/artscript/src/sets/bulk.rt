@@ -73,17 +73,21 @@ impl<K: FixedKey, const PREFIX_LEN: usize> Sets<K, PREFIX_LEN> {
         let items: Vec<K> = items_of(words)?;
         match name {
             SetName::ExtendCopied => self.first.extend_copied(items.iter()).show(text),
-            _ => self.put_two(&items, text),
+            _ => self.put_array(&items, text),
         }
         drop(items);
         Ok(())
     }
 
-    // Puts the set of the two elements in the place of the first.
-    fn put_two(&mut self, items: &[K], text: &mut Text) {
+    // Puts the set of the two or three elements in the place of the first.
+    fn put_array(&mut self, items: &[K], text: &mut Text) {
         match items {
             [one, other] => {
                 let made = TreeSet::from_array(self.alloc, [*one, *other]);
+                put(&mut self.first, made, text);
+            }
+            [one, other, last] => {
+                let made = TreeSet::from_array(self.alloc, [*one, *other, *last]);
                 put(&mut self.first, made, text);
             }
             _ => text.stop(Unanswered::NoCall),

@@ -7,6 +7,9 @@ use art_kinds::{Child, Edge, Kind, NodeId, NodeRef, Nodes};
 use art_slots::{CellId, Visits};
 use std::process::Abort;
 
+// The compressed prefix of the node, of which it keeps the first P bytes.
+const PREFIX: [u8; 3] = [5, 6, 7];
+
 // The number of the leaf below each byte that has one.
 type Table = [Option<usize>; 256];
 
@@ -23,7 +26,7 @@ fn leaf_below(byte: u8) -> Child {
 }
 
 // The edges are those of the table: each is found, and they follow one another.
-fn assert_edges(rt: &impl Abort, node: &NodeRef<'_, 2>, table: &Table) {
+fn assert_edges<const P: usize>(rt: &impl Abort, node: &NodeRef<'_, P>, table: &Table) {
     let mut least: Option<u8> = None;
     for byte in 0..=255 {
         let found = node.find(byte);
@@ -45,7 +48,13 @@ fn assert_edges(rt: &impl Abort, node: &NodeRef<'_, 2>, table: &Table) {
 
 // The node has `count` children, those of the table, and is of the least kind with room for them.
 // Its depth and its prefix are unchanged, and it is the only node.
-fn assert_node(rt: &impl Abort, nodes: &Nodes<2>, id: NodeId, count: usize, table: &Table) {
+fn assert_node<const P: usize>(
+    rt: &impl Abort,
+    nodes: &Nodes<P>,
+    id: NodeId,
+    count: usize,
+    table: &Table,
+) {
     let kind = match count {
         0..=4 => Kind::Four,
         5..=16 => Kind::Sixteen,
@@ -56,12 +65,12 @@ fn assert_node(rt: &impl Abort, nodes: &Nodes<2>, id: NodeId, count: usize, tabl
     assert!(rt; nodes.has(id));
     let node = nodes.read(id, &mut Visits::new());
     assert!(rt; node.depth() == 9 && node.count() == count);
-    assert!(rt; node.prefix() == [5, 6].as_slice());
+    assert!(rt; node.prefix() == &PREFIX[..P.min(3)]);
     assert_edges(rt, &node, table);
 }
 
 // A node with the children of the first two steps.
-fn start(rt: &impl Abort, nodes: &mut Nodes<2>) -> NodeId {
+fn start<const P: usize>(rt: &impl Abort, nodes: &mut Nodes<P>) -> NodeId {
     let (low, high) = (byte_of(0), byte_of(1));
     nodes.reserve(1).expect(rt, "memory");
     assert!(rt; low < high);
@@ -73,12 +82,12 @@ fn start(rt: &impl Abort, nodes: &mut Nodes<2>) -> NodeId {
         byte: high,
         to: leaf_below(high),
     };
-    nodes.new_node(9, &[5, 6, 7], low, high)
+    nodes.new_node(9, &PREFIX, low, high)
 }
 
 // Adds the child of a byte that has none.
 #[tactic(auto, using(art_kinds::proofs::Growing::fits_more))]
-fn add(rt: &impl Abort, nodes: &mut Nodes<2>, id: NodeId, byte: u8) -> NodeId {
+fn add<const P: usize>(rt: &impl Abort, nodes: &mut Nodes<P>, id: NodeId, byte: u8) -> NodeId {
     nodes.reserve(1).expect(rt, "memory");
     assert!(rt; nodes.has(id));
     let id = nodes.widen(id);
@@ -90,7 +99,7 @@ fn add(rt: &impl Abort, nodes: &mut Nodes<2>, id: NodeId, byte: u8) -> NodeId {
 }
 
 // Removes the child of a byte.
-fn remove(rt: &impl Abort, nodes: &mut Nodes<2>, id: NodeId, byte: u8) -> NodeId {
+fn remove<const P: usize>(rt: &impl Abort, nodes: &mut Nodes<P>, id: NodeId, byte: u8) -> NodeId {
     assert!(rt; nodes.has(id));
     let found = nodes.read(id, &mut Visits::new()).find(byte);
     assert!(rt; found.is_some());
@@ -100,7 +109,12 @@ fn remove(rt: &impl Abort, nodes: &mut Nodes<2>, id: NodeId, byte: u8) -> NodeId
 }
 
 // Adds a child at each byte but the first two.
-fn fill(rt: &impl Abort, nodes: &mut Nodes<2>, start: NodeId, table: &mut Table) -> NodeId {
+fn fill<const P: usize>(
+    rt: &impl Abort,
+    nodes: &mut Nodes<P>,
+    start: NodeId,
+    table: &mut Table,
+) -> NodeId {
     let mut id = start;
     for step in 2..=255 {
         let byte = byte_of(step);
@@ -112,7 +126,12 @@ fn fill(rt: &impl Abort, nodes: &mut Nodes<2>, start: NodeId, table: &mut Table)
 }
 
 // Removes the children in the order in which they came, all but the last two.
-fn empty(rt: &impl Abort, nodes: &mut Nodes<2>, full: NodeId, table: &mut Table) -> NodeId {
+fn empty<const P: usize>(
+    rt: &impl Abort,
+    nodes: &mut Nodes<P>,
+    full: NodeId,
+    table: &mut Table,
+) -> NodeId {
     let mut id = full;
     for step in 0..=253 {
         let byte = byte_of(step);
@@ -124,7 +143,7 @@ fn empty(rt: &impl Abort, nodes: &mut Nodes<2>, full: NodeId, table: &mut Table)
 }
 
 // A node is made, filled, emptied and removed.
-fn turn(rt: &impl Abort, nodes: &mut Nodes<2>) {
+fn turn<const P: usize>(rt: &impl Abort, nodes: &mut Nodes<P>) {
     let mut table: Table = [None; 256];
     for step in 0..2 {
         let byte = byte_of(step);
@@ -139,11 +158,20 @@ fn turn(rt: &impl Abort, nodes: &mut Nodes<2>) {
     assert!(rt; nodes.live() == 0);
 }
 
+fn two_turns<const P: usize>(rt: &(impl Abort + AllocGlobal)) {
+    let mut nodes = Nodes::<P>::new(rt.alloc());
+    turn(rt, &mut nodes);
+    // The second takes the records that the first left.
+    turn(rt, &mut nodes);
+    drop(nodes);
+}
+
 #[test]
 fn a_node_through_all_kinds(rt: HostRuntime) {
-    let mut nodes = Nodes::new(rt.alloc());
-    turn(&rt, &mut nodes);
-    // The second takes the records that the first left.
-    turn(&rt, &mut nodes);
-    drop(nodes);
+    two_turns::<0>(&rt);
+    two_turns::<1>(&rt);
+    two_turns::<2>(&rt);
+    two_turns::<8>(&rt);
+    two_turns::<16>(&rt);
+    two_turns::<64>(&rt);
 }

@@ -73,17 +73,26 @@ fn children_at_fronts(rt: HostRuntime) {
 }
 
 // Keys of two bytes, each below 49, so that each first byte is that of 49 keys.
-#[test]
-fn children_of_the_largest_kind(rt: HostRuntime) {
-    let mut tree = Tree::<[u8; 2], usize, 2>::new(rt.alloc());
+fn largest_kind<const P: usize>(rt: &(impl Abort + AllocGlobal)) {
+    let mut tree = Tree::<[u8; 2], usize, P>::new(rt.alloc());
     for place in 0..2401usize {
         let key = [(place / 49) as u8, (place % 49) as u8];
-        add(&rt, &mut tree, key, place);
+        add(rt, &mut tree, key, place);
     }
-    assert_children(&rt, &tree, &[(&[48], 49), (&[], 49)]);
+    assert_children(rt, &tree, &[(&[48], 49), (&[], 49)]);
     let nodes = tree.inner_nodes();
     drop(tree);
     assert!(rt; nodes == 50);
+}
+
+#[test]
+fn children_of_the_largest_kind(rt: HostRuntime) {
+    largest_kind::<0>(&rt);
+    largest_kind::<1>(&rt);
+    largest_kind::<2>(&rt);
+    largest_kind::<8>(&rt);
+    largest_kind::<16>(&rt);
+    largest_kind::<64>(&rt);
 }
 
 // The leaf before the leaf of a key, and the leaf after it.
