@@ -116,10 +116,6 @@ HasPlace s id = (x : Node) → at s id ≡ Some x → id % 4 < 3 → length x.ed
 abbrev pub FitsMore : Nodes → ℕ → Type 0
 FitsMore s id = (x : Node) → at s id ≡ Some x → id % 4 < 3 → places (id % 4) ≤ length x.edges → 0 < (store_of s (id % 4 + 1)).spare
 
--- the node under a number has the least kind with a place for each of its children, or there was no spare record of the next smaller kind
-abbrev pub IsNarrow : Nodes → Nodes → ℕ → Type 0
-IsNarrow old new id = (x : Node) → at new id ≡ Some x → 0 < id % 4 → length x.edges ≤ places (id % 4 - 1) → (store_of old (id % 4 - 1)).spare ≡ 0
-
 -- the nodes are as before
 abbrev pub SameNodes : Nodes → Nodes → Type 0
 SameNodes old new = (j : ℕ) → at new j ≡ at old j
