@@ -16,8 +16,8 @@ use std::io::{Read, Write};
 /// Answers the lines of the reader, in turn, over a map from byte lists to numbers.
 ///
 /// A line is the bytes up to a line feed, and the bytes after the last line feed if there are any.
-/// The answers are sent whenever the reader is asked for more. After a read that returns 0 bytes or an
-/// error, the reader is not read again. The writer is not flushed.
+/// The answers are sent whenever the reader is asked for more. After a read that returns 0 bytes or
+/// an error, the reader is not read again. The writer is not flushed.
 ///
 /// An error ends the run. `RunError::Read`: each line that a line feed ended is answered.
 /// `RunError::Write`: what was written is a beginning of the answers. `RunError::Memory`: a line

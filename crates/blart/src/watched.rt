@@ -7,8 +7,8 @@ ghost use Rattle.blart.specs.Watched.{watched_inner, watched_failed, watched_end
 use std::io;
 use std::io::{Read, Write};
 
-/// A reader or a writer with two marks: whether a read or a write of it failed, and whether it was read
-/// again after a read that returned the end or an error.
+/// A reader or a writer with two marks: whether a read or a write of it failed, and whether it was
+/// read again after a read that returned the end or an error.
 #[derive(Drop)]
 pub struct Watched<T> {
     inner: T,
@@ -41,8 +41,8 @@ impl<T> Watched<T> {
         self.failed
     }
 
-    /// Returns whether a read came after a read that returned an error, or no byte for a buffer that is
-    /// not empty.
+    /// Returns whether a read came after a read that returned an error, or no byte for a buffer
+    /// that is not empty.
     pub fn read_again(&self) -> bool
         ensures { result ≡ watched_read_again self.now }
     {

@@ -172,7 +172,8 @@ pub(super) fn set_prefix<C: Children, const P: usize>(
     record.used = copy_front(&mut record.prefix, prefix);
 }
 
-/// Adds spare records until there are `count`. The nodes are unchanged, also if this fails to allocate.
+/// Adds spare records until there are `count`. The nodes are unchanged, also if this fails to
+/// allocate.
 pub(super) fn reserve<C: Children, const P: usize>(
     store: &mut Store<Inner<C, P>>,
     count: usize,

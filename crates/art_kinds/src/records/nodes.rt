@@ -481,8 +481,8 @@ impl<const P: usize> Nodes<P> {
         }
     }
 
-    // Moves a node of the kind of 16 with at most 4 children to the kind of 4, and returns its place
-    // there. The nodes are unchanged if this fails to allocate.
+    // Moves a node of the kind of 16 with at most 4 children to the kind of 4, and returns its
+    // place there. The nodes are unchanged if this fails to allocate.
     #[cold]
     #[inline(never)]
     fn shrink_sixteen(&mut self, place: usize) -> Result<usize, AllocError>

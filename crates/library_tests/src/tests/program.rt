@@ -9,7 +9,8 @@ use std::io;
 use std::io::{ErrorKind, Read, Write};
 use std::process::Abort;
 
-// A reader of a text, which returns at most `most` bytes a read. At the end it fails if `fails` is true.
+// A reader of a text, which returns at most `most` bytes a read. At the end it fails if `fails` is
+// true.
 #[derive(Drop)]
 struct Pieces<'a> {
     text: &'a [u8],
@@ -47,8 +48,8 @@ impl Read for Pieces<'_> {
     }
 }
 
-// A writer that takes at most `most` bytes a call, and `room` bytes in all. Then it fails if `fails` is
-// true, and else takes nothing. It remembers whether it was flushed.
+// A writer that takes at most `most` bytes a call, and `room` bytes in all. Then it fails if
+// `fails` is true, and else takes nothing. It remembers whether it was flushed.
 #[derive(Drop)]
 struct Sink {
     taken: Vec<u8>,
@@ -95,8 +96,9 @@ const SOUND: Ends = Ends {
     write_fails: true,
 };
 
-// A run over the text ends with this result and has written these bytes. The end that failed is marked, and
-// no other. The reader was not read again after its end or its failure, and the writer was not flushed.
+// A run over the text ends with this result and has written these bytes. The end that failed is
+// marked, and no other. The reader was not read again after its end or its failure, and the writer
+// was not flushed.
 fn assert_outcome(
     rt: &(impl Abort + AllocGlobal),
     text: &[u8],
@@ -114,12 +116,13 @@ fn assert_outcome(
     });
     let result = run(rt.alloc(), &mut reader, &mut writer);
     let (read_failed, write_failed) = (reader.failed(), writer.failed());
+    let is_marked = reader.read_again();
     let is_read_again = reader.into_inner().read_again;
     let Sink { taken, flushed, .. } = writer.into_inner();
     let is_written = *taken.as_slice() == *written;
     drop(taken);
     assert!(rt; result == ended && is_written);
-    assert!(rt; !is_read_again && !flushed);
+    assert!(rt; !is_read_again && !is_marked && !flushed);
     assert!(rt; read_failed == matches!(ended, Err(RunError::Read)));
     assert!(rt; write_failed == matches!(ended, Err(RunError::Write)));
 }
