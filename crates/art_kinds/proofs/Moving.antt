@@ -164,24 +164,14 @@ keeps_number {was} {is} same n h = of_node (was n) refl h
     of_node None e h = absurd (false≢true h)
     of_node (Some x) e h = record { node = x; was = e; is = same n ∙ e; fresh = λ off. absurd (off refl); gone = λ off. absurd (off refl); others = λ j p q. same j }
 
--- a node that moves once spare records have come moves from where it was
-pub renames_from : {was mid is : ℕ → Option Node} {n m : ℕ} → ((j : ℕ) → mid j ≡ was j) → Renames mid is n m → Renames was is n m
-renames_from {was} {mid} {is} {n} {m} same h = record {
-  node = h.node;
-  was = sym (same n) ∙ h.was;
-  is = h.is;
-  fresh = λ off. sym (same m) ∙ h.fresh off;
-  gone = h.gone;
-  others = λ j p q. h.others j p q ∙ same j;
-}
-
--- a node at a place of a kind, as the kind's store has it
-pub seen_in : {s v : Nodes} → s ≡ v → (K : Kind) (i : ℕ) (R : Node → Type 0) → IsSomeAnd (slot_at (store_of v (digit K)) i) R
-    → IsSomeAnd (slot_at (store_of s (digit K)) i) R
-seen_in f K i R h = subst (λ (t : Nodes). IsSomeAnd (slot_at (store_of t (digit K)) i) R) (sym f) h
-
--- and as the number has it
+-- a node at a place of a kind, as the number has it
 pub numbered : (v : Nodes) (K : Kind) (i : ℕ) (R : Node → Type 0) → IsSomeAnd (slot_at (store_of v (digit K)) i) R → IsSome (at v (4 * i + digit K))
 numbered v K i R h =
     let l = digit-lt K in
     subst IsSome (sym (at_is v (4 * i + digit K) (digit K) i (omega arith) (omega arith))) (some_such R (slot_at (store_of v (digit K)) i) h)
+
+-- where the nodes stand, a node of a kind keeps its number
+pub keeps_kind : (v t : Nodes) → SameNodes v t → (K : Kind) (i : ℕ) → IsSome (slot_at (store_of v (digit K)) i) → Renames (at v) (at t) (4 * i + digit K) (4 * i + digit K)
+keeps_kind v t same K i h =
+    let l = digit-lt K in
+    keeps_number same (4 * i + digit K) (subst IsSome (sym (at_is v (4 * i + digit K) (digit K) i (omega arith) (omega arith))) h)

@@ -1,6 +1,7 @@
 -- How a run ends.
-use Rattle.std.proofs.Common.{◌≡◌, ◌≢◌, ℕ, ◌+◌, ◌-◌, ◌^◌, ◌<◌, ◌≤◌, ◌⊎◌, List, [], ◌∷◌, ◌++◌, length, length-append, inl, inr, refl, sym, ap, subst, ◌∙◌, append_assoc, append-nil, Bool, true, false, arith, Ok, Err, Some, None, ◌==◌, ◌||◌, suc, eq-eqb, eqb-true}
-use Rattle.std.specs.Prelude.{Option, Result, OnOk}
+use Rattle.std.proofs.Common.{◌≡◌, ◌≢◌, ℕ, ◌+◌, ◌-◌, ◌^◌, ◌<◌, ◌≤◌, ◌⊎◌, List, [], ◌∷◌, ◌++◌, length, length-append, inl, inr, refl, sym, ap, subst, ◌∙◌, append_assoc, append-nil, Bool, true, false, arith, Ok, Err, Some, None, ◌==◌, ◌||◌, suc, eq-eqb, eqb-true, ne_eqb}
+use Rattle.std.specs.Prelude.{Option, Result, OnOk, ◌&&◌, not}
+use Rattle.std.proofs.Math.Bool.{or-false}
 use Rattle.std.specs.List.{flat_map}
 use Rattle.std.specs.Io.KnownBytes.{Appends, Consumes, IsAtEnd}
 use Rattle.std.proofs.lemmas.List.Elements.{All-append}
@@ -271,6 +272,15 @@ some_bytes_left xs n e t none = let z : n ≡ 0 = e ∙ ap length none in let ye
 -- a read that answered no error left no mark
 pub unmarked_read : (a b : Bool) → a ≡ false → b ≡ (a || false) → b ≡ false
 unmarked_read a b e h = h ∙ rw e refl
+
+-- a read that moved bytes is no end, and came after none
+pub read_once : (ended_before ended_after again_before again_after again : Bool) (n : ℕ) (bytes : List ℕ) → n ≢ 0 → (ended_before ≡ false) × (again_before ≡ again)
+    → ended_after ≡ (ended_before || ((n == 0) && not (length bytes == 0))) → again_after ≡ (again_before || ended_before) → (ended_after ≡ false) × (again_after ≡ again)
+read_once a b c d e n bytes some h p q =
+    let f : (n == 0) ≡ false = ne_eqb n 0 some in
+    let g : b ≡ false = p ∙ rw (h.0, f) refl in
+    let k : d ≡ c = q ∙ rw h.0 (or-false c) in
+    (g, k ∙ h.1)
 
 -- serving a piece that was read ended the reading
 pub served_stops : (was mid is : Option (List ℕ)) (rm : Bool) (before between after : Option (List ℕ)) (wm : Bool) (error : RunError) (read front piece : List ℕ) (s t u : State)

@@ -1,6 +1,6 @@
 //! The program over any reader and writer.
 ghost use Rattle.std.specs.Prelude.{◌≡◌, ◌<◌, ◌-◌, ◌^◌, ℕ, List, [], ◌++◌, length, false, Some};
-ghost use Rattle.blart.specs.Watched.{watched_inner, watched_failed};
+ghost use Rattle.blart.specs.Watched.{watched_inner, watched_failed, watched_ended, watched_read_again};
 ghost use Rattle.blart.specs.Lines.{IsLine};
 ghost use Rattle.blart.specs.Session.{state_of};
 ghost use Rattle.blart.specs.RunEnds.{RunEnds, IsMarked};
@@ -16,7 +16,8 @@ use std::io::{Read, Write};
 /// Answers the lines of the reader, in turn, over a map from byte lists to numbers.
 ///
 /// A line is the bytes up to a line feed, and the bytes after the last line feed if there are any.
-/// The answers are sent whenever the reader is asked for more. The writer is not flushed.
+/// The answers are sent whenever the reader is asked for more. After a read that returns 0 bytes or
+/// an error, the reader is not read again. The writer is not flushed.
 ///
 /// An error ends the run. `RunError::Read`: each line that a line feed ended is answered.
 /// `RunError::Write`: what was written is a beginning of the answers. `RunError::Memory`: a line
@@ -44,6 +45,8 @@ pub fn run<R: Read, W: Write>(
         × (W.contents (watched_inner writer.new) ≡ Some (before ++ written))
         × RunEnds result (watched_failed reader.new) (watched_failed writer.new) read rest written }
     ensures marks { IsMarked result (watched_failed reader.new) (watched_failed writer.new) }
+    ensures once { watched_ended reader.old ≡ false
+        → watched_read_again reader.new ≡ watched_read_again reader.old }
 {
     let mut session = Session::new(alloc);
     if let Err(error) = read_all(&mut session, reader, writer) {
@@ -65,11 +68,13 @@ fn read_all<R: Read, W: Write>(
     requires writer { watched_failed writer.old ≡ false }
     requires line { IsLine session.old.line.items }
     requires none { session.old.outbox ≡ [] }
-    ensures { IsReadAll result (R.remaining (watched_inner reader.old))
+    ensures read { IsReadAll result (R.remaining (watched_inner reader.old))
         (R.remaining (watched_inner reader.new)) (watched_failed reader.new)
         (W.contents (watched_inner writer.old)) (W.contents (watched_inner writer.new))
         (watched_failed writer.new)
         (state_of session.old) (state_of session.new) }
+    ensures once { watched_ended reader.old ≡ false
+        → watched_read_again reader.new ≡ watched_read_again reader.old }
 {
     let mut chunk = [0; 8192];
     for _turn in 0..u64::MAX {

@@ -1,28 +1,36 @@
-//! An end of a run that remembers whether it failed.
+//! An end of a run that remembers whether it failed, and whether it was read again after its end.
 ghost use Rattle.std.specs.Prelude.{◌≡◌, ◌||◌, false, is_err};
 ghost use Rattle.std.specs.Io.{ReadsAtMost, WritesAtMost};
 ghost use Rattle.std.specs.Io.KnownBytes.{Keeps, ReadConsumes, WriteAppends};
-ghost use Rattle.blart.specs.Watched.{watched_inner, watched_failed, takes_nothing};
+ghost use Rattle.blart.specs.Watched.{watched_inner, watched_failed, watched_ended, watched_read_again, takes_nothing};
 
 use std::io;
 use std::io::{Read, Write};
 
-/// A reader or a writer with a mark: whether a read or a write of it failed.
+/// A reader or a writer with two marks: whether a read or a write of it failed, and whether it was
+/// read again after a read that returned the end or an error.
 #[derive(Drop)]
 pub struct Watched<T> {
     inner: T,
     failed: bool,
+    // Whether a read returned the end or an error.
+    ended: bool,
+    read_again: bool,
 }
 
 impl<T> Watched<T> {
-    /// The reader or writer, not marked.
+    /// Returns the reader or writer, with no mark.
     pub fn new(inner: T) -> Self
         ensures inner { watched_inner result ≡ inner }
         ensures mark { watched_failed result ≡ false }
+        ensures ended { watched_ended result ≡ false }
+        ensures again { watched_read_again result ≡ false }
     {
         Watched {
             inner,
             failed: false,
+            ended: false,
+            read_again: false,
         }
     }
 
@@ -33,7 +41,15 @@ impl<T> Watched<T> {
         self.failed
     }
 
-    /// The reader or writer, without its mark.
+    /// Returns whether a read came after a read that returned an error, or no byte for a buffer
+    /// that is not empty.
+    pub fn read_again(&self) -> bool
+        ensures { result ≡ watched_read_again self.now }
+    {
+        self.read_again
+    }
+
+    /// Returns the reader or writer, without its marks.
     pub fn into_inner(self) -> T
         ensures { result ≡ watched_inner self }
     {
@@ -49,9 +65,19 @@ impl<R: Read> Read for Watched<R> {
         ensures bytes { ReadConsumes (R.remaining (watched_inner self.old))
             (R.remaining (watched_inner self.new)) result buf.new }
         ensures mark { watched_failed self.new ≡ (watched_failed self.old || is_err result) }
+        ensures ended { watched_ended self.new
+            ≡ (watched_ended self.old || takes_nothing result buf.new) }
+        ensures again { watched_read_again self.new
+            ≡ (watched_read_again self.old || watched_ended self.old) }
     {
         let result = self.inner.read(buf);
+        let is_end = match &result {
+            Ok(count) => *count == 0 && !buf.is_empty(),
+            Err(_) => true,
+        };
         self.failed |= result.is_err();
+        self.read_again |= self.ended;
+        self.ended |= is_end;
         result
     }
 }

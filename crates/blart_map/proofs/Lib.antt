@@ -1,3 +1,4 @@
+pub mod Beneath
 pub mod CallerLemmas
 pub mod Passed
 pub mod Popped

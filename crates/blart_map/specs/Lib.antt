@@ -1,3 +1,4 @@
+pub mod Beneath
 pub mod Bulk
 pub mod Content
 pub mod Driven

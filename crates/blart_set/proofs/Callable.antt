@@ -6,7 +6,7 @@ use denote.Ref.{Bor}
 use denote.Param.Members.{Mut}
 use denote.Param.Always.{always_mut, mut_next}
 use Rattle.blart_set.specs.Asking.{CallableOnEachElement, SomeCallAtElement}
-use Rattle.art_walk.proofs.Callable.{middle}
+use Rattle.blart_map.proofs.Beneath.{middle}
 
 module _ {F K : Type 0} (g : Mut F (Bor K × Unit {0}) Bool) where
   module _ (f : F) (x : K) (xs rest : List K) (first : xs ≡ x ∷ rest) (can : CallableOnEachElement g f xs) where

@@ -6,11 +6,9 @@ use denote.Param.Members.{Mut, Called}
 use Rattle.std.specs.Fn.{CalledAt}
 use Rattle.blart_keys.specs.Walks.{EndsAt}
 use Rattle.blart_set.specs.Asking.{AsksElement}
-use Rattle.art_tree.specs.Leaves.{Numbered, leaf_in}
-use Rattle.art_walk.specs.declared.cursor.Cursor.{Cursor}
-use Rattle.art_walk.specs.Cursor.{leaves_left}
-use Rattle.blart_map.specs.Content.{pairs}
-use Rattle.blart_map.specs.Passed.{WasFirst, WasLast}
+use Rattle.blart_map.specs.Beneath.{Cursor}
+use Rattle.blart_map.specs.Content.{Numbered, pairs}
+use Rattle.blart_map.specs.Passed.{leaf_in, leaves_left, WasFirst, WasLast}
 use Rattle.blart_set.specs.Elements.{elements}
 use Rattle.blart_set.specs.Extracting.{AsksUpTo}
 

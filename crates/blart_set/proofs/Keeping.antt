@@ -2,8 +2,8 @@
 use Rattle.std.proofs.Common.{◌≡◌, ℕ, Bool, true, false, List, [], ◌∷◌, ◌++◌, refl, sym, ap, ◌∙◌, subst, append_assoc}
 use Rattle.blart_keys.specs.Content.{IsContent, without}
 use Rattle.blart_keys.proofs.PutLemmas.{without_cut}
-use Rattle.art_walk.proofs.Retained.{retains_none, retains_kept, retains_gone}
-use Rattle.art_walk.specs.Asking.{RetainsBy}
+use Rattle.blart_map.proofs.Beneath.{retains_none, retains_kept, retains_gone}
+use Rattle.blart_map.specs.Beneath.{RetainsBy}
 
 module _ {F K : Type 0} (kb : K → List ℕ) (R : F → K → Bool → K → F → Type 0) (start : List K) (start_f : F) where
   -- of all that are in the set now these are kept, and what is left is still to be asked

@@ -5,7 +5,7 @@ use denote.Param.Members.{Mut}
 use Rattle.blart_keys.specs.declared.AsBytes.{Ghosts}
 use Rattle.blart_keys.specs.Content.{without}
 use Rattle.blart_keys.specs.Walks.{ExtractsFirst}
-use Rattle.art_walk.specs.Cursor.{leaves_left}
+use Rattle.blart_map.specs.Passed.{leaves_left}
 use Rattle.blart_set.specs.declared.extracting.ExtractIf.{ExtractIf}
 use Rattle.blart_set.specs.Asking.{AsksElement, CallableOnEachElement}
 use Rattle.blart_set.specs.Elements.{Numbered, elements}

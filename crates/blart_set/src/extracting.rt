@@ -3,16 +3,13 @@ ghost use Rattle.std.specs.Prelude.{◌≡◌, length, true, None, Some, IfSome}
 ghost use Rattle.std.specs.Iterator.{at_most};
 ghost use Rattle.blart_keys.specs.Bounds.{bound_bytes, CanRange};
 ghost use Rattle.blart_keys.specs.Content.{between, without};
-ghost use Rattle.art_tree.specs.Leaves.{leaf_in, Has};
-ghost use Rattle.art_walk.specs.Cursor.{leaves_left, FitsIn, PassesFirst, PassesLast};
-ghost use Rattle.art_walk.specs.Lent.{walk_fits, numbers};
-ghost use Rattle.blart_map.specs.Passed.{WasFirst, WasLast, StaysLeft};
+ghost use Rattle.blart_map.specs.Passed.{leaf_in, Has, leaves_left, FitsIn, PassesFirst, PassesLast, WasFirst, WasLast, StaysLeft};
+ghost use Rattle.blart_map.specs.Beneath.{walk_fits, numbers};
 ghost use Rattle.blart_set.specs.Elements.{elements};
 
 use crate::set::TreeSet;
-use art_tree::LeafId;
 use blart_keys::AsBytes;
-use blart_map::{Cursor, Visits};
+use blart_map::{Cursor, LeafId, Visits};
 use std::iter::{DoubleEndedIterator, Iterator};
 use std::ops::Bound;
 

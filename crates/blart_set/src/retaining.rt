@@ -1,6 +1,6 @@
 //! The elements that a closure keeps.
 ghost use Rattle.blart_keys.specs.Walks.{Retains};
-ghost use Rattle.art_walk.specs.Asking.{RetainsBy};
+ghost use Rattle.blart_map.specs.Beneath.{RetainsBy};
 ghost use Rattle.blart_set.specs.Asking.{AsksElement, CallableOnEachElement};
 ghost use Rattle.blart_set.specs.Elements.{elements};
 

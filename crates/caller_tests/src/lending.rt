@@ -1,5 +1,5 @@
 //! Values of a map that are written in a walk, and pairs that a closure picks.
-ghost use Rattle.std.specs.Prelude.{◌≡◌, ◌+◌, ◌%◌, ◌^◌, ◌<◌, All, ℕ, List, map, min, cond, option_map, string_len};
+ghost use Rattle.std.specs.Prelude.{◌≡◌, ◌+◌, ◌%◌, ◌^◌, ◌<◌, All, ℕ, List, length, map, min, cond, option_map, string_len};
 ghost use Rattle.blart.specs.Words.{pairs, begins, value_at, zkey_bytes, LeavesPair, WritesWhere};
 
 use blart::{AsBytes, Map, ZKey};
@@ -23,6 +23,18 @@ pub fn measure_all(lengths: &mut Map<String, usize>)
     while let Some(_seen) = walk.next() {
         let (key, value) = walk.pair();
         *value = key.len();
+    }
+}
+
+/// Sets each value below a prefix to the number of its key's bytes.
+pub fn measure_below<K: AsBytes>(lengths: &mut Map<K, usize>, front: &[u8])
+    ensures { pairs lengths.new
+        ≡ map (λ p. cond (begins front.now (K.bytes p.0)) (p.0, length (K.bytes p.0)) p) (pairs lengths.old) }
+{
+    let mut walk = lengths.prefix_mut(front);
+    while let Some(_seen) = walk.next() {
+        let (key, value) = walk.pair();
+        *value = key.as_bytes().len();
     }
 }
 

@@ -280,9 +280,9 @@ impl Few<4> {
 }
 
 impl Few<16> {
-    /// The edges of a larger node that has sixteen.
+    /// Returns the edges of a larger node, which has at most 16.
     pub(crate) fn of_indexed(indexed: &Indexed) -> Self
-        requires { length indexed.now ≡ 16 }
+        requires { length indexed.now ≤ 16 }
         ensures { result ≡ indexed.now }
     {
         let mut edges = Few {

@@ -48,9 +48,9 @@ impl Indexed {
         edges
     }
 
-    /// The edges of a larger node that has 48.
+    /// Returns the edges of a larger node, which has at most 48.
     pub(crate) fn of_full(full: &Full) -> Self
-        requires { length full.now ≡ 48 }
+        requires { length full.now ≤ 48 }
         ensures { result ≡ full.now }
     {
         let mut edges = Indexed {

@@ -1,5 +1,5 @@
 //! A node of any kind, and what is done to one among the nodes of its kind.
-ghost use Rattle.std.specs.Prelude.{◌≡◌, ◌+◌, ◌<◌, ◌≤◌, ◌^◌, take, length, None, IsSome, IsSomeAnd, OnOk, IfOk};
+ghost use Rattle.std.specs.Prelude.{◌≡◌, ◌+◌, ◌<◌, ◌≤◌, ◌^◌, take, length, None, IsSome, IsSomeAnd, OnOk, OnErr, IfOk};
 ghost use Rattle.art_kinds.specs.Edges.{child_at, AddsChild, DropsChild, RedirectsChild};
 ghost use Rattle.art_kinds.specs.OneKinds.{FitsIn, IsOneKind, Rewires, Changes, Grows};
 ghost use Rattle.art_slots.specs.Store.{slot_at, SameRecords};
@@ -172,7 +172,8 @@ pub(super) fn set_prefix<C: Children, const P: usize>(
     record.used = copy_front(&mut record.prefix, prefix);
 }
 
-/// Adds spare records until there are so many. The nodes stand where there is no memory.
+/// Adds spare records until there are `count`. The nodes are unchanged, also if this fails to
+/// allocate.
 pub(super) fn reserve<C: Children, const P: usize>(
     store: &mut Store<Inner<C, P>>,
     count: usize,
@@ -182,6 +183,7 @@ pub(super) fn reserve<C: Children, const P: usize>(
     ensures kind { IsOneKind P C.places store.new }
     ensures grows { Grows store.old store.new }
     ensures enough { OnOk result (count ≤ store.new.spare) }
+    ensures refused { OnErr result (store.old.spare < count) }
 {
     store.reserve(count)
 }

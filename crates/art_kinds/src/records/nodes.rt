@@ -2,6 +2,7 @@
 ghost use Rattle.std.specs.Prelude.{true, false, ◌≡◌, ℕ, ◌+◌, ◌%◌, ◌*◌, ◌/◌, ◌-◌, ◌<◌, ◌≤◌, ◌^◌, ◌++◌, ◌∷◌, length, take, drop, slice_get, None, Some, IsSome, is_some, IsSomeAnd, OnOk, IfOk, OnErr};
 ghost use Rattle.art_kinds.specs.Edges.{child_at, Ascends, IsNext, IsPrevious, IsEnd};
 ghost use Rattle.art_slots.specs.Store.{slot_at};
+ghost use Rattle.art_kinds.specs.Narrow.{IsNarrow};
 ghost use Rattle.art_kinds.specs.Nodes.{at, live, room, FitsNew, FitsMore, HasPlace, Lowers, SameNodes, SameSpares, MoreSpares, Makes, Renames, AddsEdgeTo, Redirects, DropsEdge, Reprefixes, JoinsPrefix, CutsPrefix, Frees};
 
 use crate::records::few::Few;
@@ -166,7 +167,8 @@ impl<'a, const P: usize> NodeRef<'a, P> {
     }
 }
 
-/// The inner nodes. A contract sees the node under each number, and the spare records of each kind. Memory is asked for in `reserve`, and in `narrow`, which goes on where it is refused, and in no other call.
+/// The inner nodes. A contract sees the node under each number, and the spare records of each kind.
+/// Only `reserve`, `clone` and `narrow` allocate, and `narrow` keeps the larger node if that fails.
 #[derive(Drop)]
 pub struct Nodes<const P: usize> {
     pub(super) fours: Store<Inner<Few<4>, P>>,
@@ -479,107 +481,147 @@ impl<const P: usize> Nodes<P> {
         }
     }
 
-    // Moves a node of the kind of 16 with four children to the kind below, where there is memory.
+    // Moves a node of the kind of 16 with at most 4 children to the kind of 4, and returns its
+    // place there. The nodes are unchanged if this fails to allocate.
     #[cold]
     #[inline(never)]
-    fn shrink_sixteen(&mut self, place: usize) -> NodeId
-        requires few { IsSomeAnd (slot_at self.old.sixteens place) (λ x. length x.edges ≡ 4) }
-        requires small { place < 2 ^ 61 }
-        ensures moved { Renames (at self.old) (at self.new) (4 * place + 1) result }
+    fn shrink_sixteen(&mut self, place: usize) -> Result<usize, AllocError>
+        requires few { IsSomeAnd (slot_at self.old.sixteens place) (λ x. length x.edges ≤ 4) }
+        ensures moved { IfOk result (λ p. Renames (at self.old) (at self.new) (4 * place + 1) (4 * p)) }
+        ensures small { IfOk result (λ p. p < 2 ^ 61) }
         ensures live { live self.new ≡ live self.old }
+        ensures same { OnErr result (SameNodes self.old self.new) }
+        ensures refused { OnErr result (self.old.fours.spare ≡ 0) }
     {
-        if inner::reserve(&mut self.fours, 1).is_err() {
-            return NodeId {
-                kind: Kind::Sixteen,
-                place,
-            };
-        }
+        inner::reserve(&mut self.fours, 1)?;
         let large = self.sixteens.take(place);
         let edges = Few::of_few(&large.edges);
-        let at = self.fours.fill(large.with_edges(edges));
-        NodeId {
-            kind: Kind::Four,
-            place: at,
-        }
+        Ok(self.fours.fill(large.with_edges(edges)))
     }
 
-    // Moves a node of the kind of 48 with sixteen children to the kind below, where there is memory.
+    // Moves a node of the kind of 48 with at most 16 children to the kind of 16, and returns its
+    // place there. The nodes are unchanged if this fails to allocate.
     #[cold]
     #[inline(never)]
-    fn shrink_forty_eight(&mut self, place: usize) -> NodeId
-        requires few { IsSomeAnd (slot_at self.old.forty_eights place) (λ x. length x.edges ≡ 16) }
-        requires small { place < 2 ^ 61 }
-        ensures moved { Renames (at self.old) (at self.new) (4 * place + 2) result }
+    fn shrink_forty_eight(&mut self, place: usize) -> Result<usize, AllocError>
+        requires few { IsSomeAnd (slot_at self.old.forty_eights place) (λ x. length x.edges ≤ 16) }
+        ensures moved { IfOk result (λ p. Renames (at self.old) (at self.new) (4 * place + 2) (4 * p + 1)) }
+        ensures small { IfOk result (λ p. p < 2 ^ 61) }
         ensures live { live self.new ≡ live self.old }
+        ensures fours { self.new.fours ≡ self.old.fours }
+        ensures same { OnErr result (SameNodes self.old self.new) }
+        ensures refused { OnErr result (self.old.sixteens.spare ≡ 0) }
     {
-        if inner::reserve(&mut self.sixteens, 1).is_err() {
-            return NodeId {
-                kind: Kind::FortyEight,
-                place,
-            };
-        }
+        inner::reserve(&mut self.sixteens, 1)?;
         let large = self.forty_eights.take(place);
         let edges = Few::of_indexed(&large.edges);
-        let at = self.sixteens.fill(large.with_edges(edges));
-        NodeId {
-            kind: Kind::Sixteen,
-            place: at,
-        }
+        Ok(self.sixteens.fill(large.with_edges(edges)))
     }
 
-    // Moves a node of the kind of 256 with 48 children to the kind below, where there is memory.
+    // Moves a node of the kind of 256 with at most 48 children to the kind of 48, and returns its
+    // place there. The nodes are unchanged if this fails to allocate.
     #[cold]
     #[inline(never)]
-    fn shrink_full(&mut self, place: usize) -> NodeId
-        requires few { IsSomeAnd (slot_at self.old.fulls place) (λ x. length x.edges ≡ 48) }
+    fn shrink_full(&mut self, place: usize) -> Result<usize, AllocError>
+        requires few { IsSomeAnd (slot_at self.old.fulls place) (λ x. length x.edges ≤ 48) }
+        ensures moved { IfOk result (λ p. Renames (at self.old) (at self.new) (4 * place + 3) (4 * p + 2)) }
+        ensures small { IfOk result (λ p. p < 2 ^ 61) }
+        ensures live { live self.new ≡ live self.old }
+        ensures fours { self.new.fours ≡ self.old.fours }
+        ensures sixteens { self.new.sixteens ≡ self.old.sixteens }
+        ensures same { OnErr result (SameNodes self.old self.new) }
+        ensures refused { OnErr result (self.old.forty_eights.spare ≡ 0) }
+    {
+        inner::reserve(&mut self.forty_eights, 1)?;
+        let large = self.fulls.take(place);
+        let edges = Indexed::of_full(&large.edges);
+        Ok(self.forty_eights.fill(large.with_edges(edges)))
+    }
+
+    // Does what `narrow` does to a node of the kind of 16.
+    fn narrow_sixteen(&mut self, place: usize) -> NodeId
+        requires live { IsSome (slot_at self.old.sixteens place) }
         requires small { place < 2 ^ 61 }
-        ensures moved { Renames (at self.old) (at self.new) (4 * place + 3) result }
+        ensures moved { Renames (at self.old) (at self.new) (4 * place + 1) result }
+        ensures narrow { IsNarrow self.old self.new result }
+        ensures kind { result % 4 ≤ 1 }
         ensures live { live self.new ≡ live self.old }
     {
-        if inner::reserve(&mut self.forty_eights, 1).is_err() {
-            return NodeId {
-                kind: Kind::Full,
-                place,
-            };
+        let kept = NodeId {
+            kind: Kind::Sixteen,
+            place,
+        };
+        if inner::count(&self.sixteens, place) > 4 {
+            return kept;
         }
-        let wide = self.fulls.take(place);
-        let edges = Indexed::of_full(&wide.edges);
-        let at = self.forty_eights.fill(wide.with_edges(edges));
-        NodeId {
-            kind: Kind::FortyEight,
-            place: at,
+        match self.shrink_sixteen(place) {
+            Ok(at) => NodeId {
+                kind: Kind::Four,
+                place: at,
+            },
+            Err(_) => kept,
         }
     }
 
-    /// Moves a node to the smaller kind where its children fill that: where 4, 16 or 48 are left in the next larger kind. It tries once, and the node stays where memory is refused. Answers the number that the node has then.
+    // Does what `narrow` does to a node of the kind of 48.
+    fn narrow_forty_eight(&mut self, place: usize) -> NodeId
+        requires live { IsSome (slot_at self.old.forty_eights place) }
+        requires small { place < 2 ^ 61 }
+        ensures moved { Renames (at self.old) (at self.new) (4 * place + 2) result }
+        ensures narrow { IsNarrow self.old self.new result }
+        ensures kind { result % 4 ≤ 2 }
+        ensures live { live self.new ≡ live self.old }
+    {
+        let kept = NodeId {
+            kind: Kind::FortyEight,
+            place,
+        };
+        if inner::count(&self.forty_eights, place) > 16 {
+            return kept;
+        }
+        match self.shrink_forty_eight(place) {
+            Ok(at) => self.narrow_sixteen(at),
+            Err(_) => kept,
+        }
+    }
+
+    // Does what `narrow` does to a node of the kind of 256.
+    fn narrow_full(&mut self, place: usize) -> NodeId
+        requires live { IsSome (slot_at self.old.fulls place) }
+        requires small { place < 2 ^ 61 }
+        ensures moved { Renames (at self.old) (at self.new) (4 * place + 3) result }
+        ensures narrow { IsNarrow self.old self.new result }
+        ensures live { live self.new ≡ live self.old }
+    {
+        let kept = NodeId {
+            kind: Kind::Full,
+            place,
+        };
+        if inner::count(&self.fulls, place) > 48 {
+            return kept;
+        }
+        match self.shrink_full(place) {
+            Ok(at) => self.narrow_forty_eight(at),
+            Err(_) => kept,
+        }
+    }
+
+    /// Moves a node to the smallest kind that has a place for each of its children, and returns the
+    /// number that the node has then.
+    ///
+    /// It moves the node from kind to kind, and stops if it fails to allocate a record of the next
+    /// smaller one. If that kind has a spare record, it does not allocate.
     pub fn narrow(&mut self, id: NodeId) -> NodeId
         requires { IsSome (at self.old id) }
         ensures moved { Renames (at self.old) (at self.new) id result }
+        ensures narrow { IsNarrow self.old self.new result }
         ensures live { live self.new ≡ live self.old }
     {
         match id.kind {
             Kind::Four => id,
-            Kind::Sixteen => {
-                if inner::count(&self.sixteens, id.place) == 4 {
-                    self.shrink_sixteen(id.place)
-                } else {
-                    id
-                }
-            }
-            Kind::FortyEight => {
-                if inner::count(&self.forty_eights, id.place) == 16 {
-                    self.shrink_forty_eight(id.place)
-                } else {
-                    id
-                }
-            }
-            Kind::Full => {
-                if inner::count(&self.fulls, id.place) == 48 {
-                    self.shrink_full(id.place)
-                } else {
-                    id
-                }
-            }
+            Kind::Sixteen => self.narrow_sixteen(id.place),
+            Kind::FortyEight => self.narrow_forty_eight(id.place),
+            Kind::Full => self.narrow_full(id.place),
         }
     }
 

@@ -115,7 +115,18 @@ impl<'a, K: AsBytes, V, const PREFIX_LEN: usize> CountedWalk<'a, K, V, WithKeys,
     }
 
     /// Returns the key of the value that was returned last, and a mutable reference to that value.
-    /// The walk must have returned a value.
+    /// The walk must have returned a value. One visit, not counted.
+    ///
+    /// The lemma `pair_written` says that a write through it is a write of the value that `next`
+    /// returned, and `pair_written_back` the same of `next_back`.
+    ///
+    /// ```
+    /// let mut walk = map.iter_mut();
+    /// while let Some(_seen) = walk.next() {
+    ///     let (key, value) = walk.pair();
+    ///     *value = key.len();
+    /// }
+    /// ```
     pub fn pair(&mut self) -> (&K, &mut V)
         requires { is_some (counted_last self.old) ≡ true }
         ensures* writes_back { sem 𝓛 (lends_pair K.row V.row PREFIX_LEN.row K.AsBytes self.entry result) }

@@ -9,9 +9,12 @@ use std::alloc::AllocError;
 use std::clone::Clone;
 
 impl<K: AsBytes + Clone, const PREFIX_LEN: usize> TreeSet<K, PREFIX_LEN> {
-    /// A set of clones of the elements. A clone of an element has the same bytes.
+    /// Returns a set of clones of the elements, or an error if it fails to allocate. A clone of an
+    /// element has the same bytes.
     ///
-    /// It takes the memory for all elements before it clones any. An empty set takes none.
+    /// It copies the records of the tree as they lie, spare ones too, and makes no look-up. The
+    /// elements are cloned before the memory for the inner nodes is there: if a later allocation
+    /// fails, the clones are dropped. An empty set does not allocate.
     ///
     /// ```
     /// let copy = set.clone()?;

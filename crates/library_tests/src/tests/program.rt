@@ -9,17 +9,35 @@ use std::io;
 use std::io::{ErrorKind, Read, Write};
 use std::process::Abort;
 
-// Gives the text in pieces of so many bytes, and then an error or the end.
+// A reader of a text, which returns at most `most` bytes a read. At the end it fails if `fails` is
+// true.
 #[derive(Drop)]
 struct Pieces<'a> {
     text: &'a [u8],
     most: usize,
     fails: bool,
+    // Whether a read has returned the end or an error, and whether another read came after it.
+    ended: bool,
+    read_again: bool,
+}
+
+impl<'a> Pieces<'a> {
+    fn new(text: &'a [u8], most: usize, fails: bool) -> Self {
+        Pieces {
+            text,
+            most,
+            fails,
+            ended: false,
+            read_again: false,
+        }
+    }
 }
 
 impl Read for Pieces<'_> {
     fn read(&mut self, buf: &mut [u8]) -> io::Result<usize> {
-        if self.text.is_empty() && self.fails {
+        self.read_again |= self.ended;
+        self.ended = self.text.is_empty();
+        if self.ended && self.fails {
             return Err(io::Error::from(ErrorKind::Other));
         }
         let count = self.text.len().min(self.most).min(buf.len());
@@ -30,13 +48,15 @@ impl Read for Pieces<'_> {
     }
 }
 
-// Takes so many bytes a call, and so many in all. Then it fails, or takes nothing.
+// A writer that takes at most `most` bytes a call, and `room` bytes in all. Then it fails if
+// `fails` is true, and else takes nothing. It remembers whether it was flushed.
 #[derive(Drop)]
 struct Sink {
     taken: Vec<u8>,
     most: usize,
     room: usize,
     fails: bool,
+    flushed: bool,
 }
 
 impl Write for Sink {
@@ -51,6 +71,7 @@ impl Write for Sink {
     }
 
     fn flush(&mut self) -> io::Result<()> {
+        self.flushed = true;
         Ok(())
     }
 }
@@ -75,7 +96,9 @@ const SOUND: Ends = Ends {
     write_fails: true,
 };
 
-// A run over the text ends with this result, the end that failed is marked and no other, and this was written.
+// A run over the text ends with this result and has written these bytes. The end that failed is
+// marked, and no other. The reader was not read again after its end or its failure, and the writer
+// was not flushed.
 fn assert_outcome(
     rt: &(impl Abort + AllocGlobal),
     text: &[u8],
@@ -83,23 +106,23 @@ fn assert_outcome(
     ended: Result<(), RunError>,
     written: &[u8],
 ) {
-    let mut reader = Watched::new(Pieces {
-        text,
-        most: ends.piece,
-        fails: ends.read_fails,
-    });
+    let mut reader = Watched::new(Pieces::new(text, ends.piece, ends.read_fails));
     let mut writer = Watched::new(Sink {
         taken: Vec::new(rt.alloc()),
         most: ends.most,
         room: ends.room,
         fails: ends.write_fails,
+        flushed: false,
     });
     let result = run(rt.alloc(), &mut reader, &mut writer);
     let (read_failed, write_failed) = (reader.failed(), writer.failed());
-    let taken = writer.into_inner().taken;
+    let is_marked = reader.read_again();
+    let is_read_again = reader.into_inner().read_again;
+    let Sink { taken, flushed, .. } = writer.into_inner();
     let is_written = *taken.as_slice() == *written;
     drop(taken);
     assert!(rt; result == ended && is_written);
+    assert!(rt; !is_read_again && !is_marked && !flushed);
     assert!(rt; read_failed == matches!(ended, Err(RunError::Read)));
     assert!(rt; write_failed == matches!(ended, Err(RunError::Write)));
 }

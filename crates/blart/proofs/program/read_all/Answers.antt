@@ -1,9 +1,9 @@
-use Rattle.std.proofs.Common.{◌++◌, [], take, arith, length-append}
+use Rattle.std.proofs.Common.{◌++◌, [], take, refl, arith, length-append}
 use Rattle.std.proofs.lemmas.List.{length-take-le}
 use Rattle.std.proofs.lemmas.Result.{err_from_is_err_and}
 use Rattle.std.proofs.KnownBytes.{Consumes-nil, Consumes-trans}
 use Rattle.blart.proofs.Serving.{Serves-none, Serves-trans}
-use Rattle.blart.proofs.Ending.{served_stops, unmarked_read}
+use Rattle.blart.proofs.Ending.{served_stops, unmarked_read, read_once}
 use Rattle.blart.specs.Serves.{Serves}
 use Rattle.blart.specs.Session.{state_of}
 use Rattle.blart.proofs.program.read_all.Goals as goal
@@ -17,10 +17,11 @@ loop-turn-init g c = record {
   none = c.requires.none;
   reader_mark = c.requires.reader;
   writer_mark = c.requires.writer;
+  once = λ e. (e, refl);
 }
 
-pub returns-in_err-serve-in-Ok : goal.returns-in_err-serve-in-Ok
-returns-in_err-serve-in-Ok g c =
+pub returns-in_err-serve-in-Ok-clause-read : goal.returns-in_err-serve-in-Ok-clause-read
+returns-in_err-serve-in-Ok-clause-read g c =
     let p = err_from_is_err_and c.from_residual.result c.from_residual.ensures.1 in
     let i = c.loop-turn.invariant in
     rw (p.1, p.2) (served_stops _ _ _ _ _ _ _ _ c.in_err-serve-in-Ok.field-0.0 i.read _ c.front.result.now (state_of c.args.session.now) (state_of c.loop-turn.session) (state_of c.serve.new.self)
@@ -42,4 +43,5 @@ loop-turn-preserved g c =
       none = h.sent;
       reader_mark = unmarked_read _ _ i.reader_mark c.in-Ok.ensures.mark;
       writer_mark = h.served.1;
+      once = λ e. read_once _ _ _ _ _ c.in-Ok.count _ c.in-Ok.count-test.1 (i.once e) c.in-Ok.ensures.ended c.in-Ok.ensures.again;
     }

@@ -4,7 +4,7 @@ use Rattle.std.proofs.lemmas.List.Elements.{AllZip-push}
 use Rattle.std.specs.Iterator.{Yields}
 use Rattle.std.specs.List.{AllZip}
 use Rattle.std.proofs.iter.Next as it
-use Rattle.art_insert.proofs.Moved.BulkPuts.{first_came, on_ok}
+use Rattle.blart_map.proofs.Beneath.{first_came, on_ok}
 use Rattle.blart_set.proofs.Cloned.{now, cloned_some, on_err}
 use Rattle.blart_set.proofs.operators.of_clones.Goals as goal
 

@@ -1,8 +1,8 @@
 use Rattle.std.proofs.Common.{◌∷◌, length, suc, reverse, sym, ap, subst, ◌∙◌, lit<, None, refl, le_of_eq}
 use Rattle.std.specs.Fn.{CalledAt}
 use Rattle.blart_keys.specs.Content.{without}
-use Rattle.art_walk.specs.Cursor.{leaves_left}
-use Rattle.art_walk.proofs.Lending.{from_test, to_test}
+use Rattle.blart_map.specs.Passed.{leaves_left}
+use Rattle.blart_map.proofs.Beneath.{from_test, to_test}
 use Rattle.blart_set.specs.Elements.{elements}
 use Rattle.blart_set.proofs.Callable.{callable_first, callable_others}
 use Rattle.blart_set.proofs.Extracted.{called_at, asks_none, asks_true, asks_false, elements_none, same_element, last_is, le_step, lt_step, reversed_fewer}

@@ -1,6 +1,6 @@
 use Rattle.blart_keys.specs.Stored.{kept}
 use Rattle.blart_map.specs.Content.{pairs}
-use Rattle.art_insert.proofs.Placed.Tried.{tried_updates}
+use Rattle.blart_map.proofs.Beneath.{tried_updates}
 use Rattle.blart_set.specs.Elements.{elements}
 use Rattle.blart_set.proofs.Pairs.{updates-told}
 use Rattle.blart_set.proofs.Tried.{tried-new, tried-put, tried-free, tried-len, tried-err, tried-why}

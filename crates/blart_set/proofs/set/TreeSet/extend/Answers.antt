@@ -3,7 +3,7 @@ use Rattle.std.specs.Iterator.{Yields}
 use Rattle.std.proofs.iter.Next as it
 use Rattle.blart_keys.specs.Stored.{kept_item}
 use Rattle.blart_set.specs.Elements.{elements}
-use Rattle.art_insert.proofs.Moved.BulkPuts.{puts_more, puts_same}
+use Rattle.blart_map.proofs.Beneath.{puts_more, puts_same}
 use Rattle.blart_set.proofs.set.TreeSet.extend.Goals as goal
 
 pub loop-item-preserved : goal.loop-item-preserved

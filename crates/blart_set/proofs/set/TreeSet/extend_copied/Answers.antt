@@ -6,7 +6,7 @@ use Rattle.blart_set.proofs.Cloned.{now}
 use Rattle.blart_keys.specs.Bulk.{PutsAll}
 use Rattle.blart_keys.specs.Stored.{kept_item}
 use Rattle.blart_set.specs.Elements.{elements}
-use Rattle.art_insert.proofs.Moved.BulkPuts.{puts_more, puts_same}
+use Rattle.blart_map.proofs.Beneath.{puts_more, puts_same}
 use Rattle.blart_set.proofs.set.TreeSet.extend_copied.Goals as goal
 
 pub loop-item-preserved : goal.loop-item-preserved

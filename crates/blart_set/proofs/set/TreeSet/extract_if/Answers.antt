@@ -1,5 +1,5 @@
 use Rattle.std.proofs.Common.{None}
-use Rattle.art_walk.proofs.Lending.{to_test}
+use Rattle.blart_map.proofs.Beneath.{to_test}
 use Rattle.blart_set.proofs.set.TreeSet.extract_if.Goals as goal
 
 pub invariant_of-result : goal.invariant_of-result

@@ -4,7 +4,7 @@ use Rattle.std.proofs.iter.Next as it
 use Rattle.blart_keys.specs.Bulk.{PutsAll}
 use Rattle.blart_keys.specs.Stored.{kept_item}
 use Rattle.blart_set.specs.Elements.{elements}
-use Rattle.art_insert.proofs.Moved.BulkPuts.{first_came, refused_some, on_ok}
+use Rattle.blart_map.proofs.Beneath.{first_came, refused_some, on_ok}
 use Rattle.blart_set.proofs.set.TreeSet.from_iter.Goals as goal
 
 pub returns-in-Err-clause-refused : goal.returns-in-Err-clause-refused

@@ -3,7 +3,7 @@ use Rattle.std.proofs.lemmas.List.{take_more}
 use Rattle.blart_keys.specs.Bulk.{PutsAll}
 use Rattle.blart_keys.specs.Stored.{kept_item}
 use Rattle.blart_set.specs.Elements.{elements}
-use Rattle.art_insert.proofs.Moved.BulkPuts.{puts_more}
+use Rattle.blart_map.proofs.Beneath.{puts_more}
 use Rattle.blart_set.proofs.set.TreeSet.put_copies.Goals as goal
 
 pub loop-item-preserved : goal.loop-item-preserved

@@ -2,7 +2,7 @@ use Rattle.std.proofs.Common.{◌∙◌, refl, sym, ap, subst, suc, length, true
 use Rattle.blart_keys.specs.Content.{IsContent, without}
 use Rattle.blart_keys.proofs.RankLemmas.{filter_all}
 use Rattle.blart_keys.proofs.PutLemmas.{without_content}
-use Rattle.art_walk.specs.Cursor.{leaves_left}
+use Rattle.blart_map.specs.Passed.{leaves_left}
 use Rattle.blart_set.specs.Asking.{AsksElement, CallableOnEachElement}
 use Rattle.blart_set.specs.Elements.{elements}
 use Rattle.blart_set.proofs.Callable.{callable_first, callable_others}

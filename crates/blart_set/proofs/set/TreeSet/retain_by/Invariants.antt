@@ -1,6 +1,6 @@
 use Rattle.std.proofs.Common.{length}
 use Rattle.blart_keys.specs.Content.{IsContent}
-use Rattle.art_walk.specs.Cursor.{leaves_left, FitsIn}
+use Rattle.blart_map.specs.Passed.{leaves_left, FitsIn}
 use Rattle.blart_set.specs.Asking.{AsksElement, CallableOnEachElement}
 use Rattle.blart_set.specs.Elements.{elements}
 use Rattle.blart_set.proofs.Keeping.{Retaining}
