@@ -3,8 +3,8 @@ use Rattle.std.specs.Prelude.{◌≡◌, ℕ, List, false, Some, None, Result, O
 use Rattle.std.specs.declared.alloc.AllocError.{AllocError}
 use Rattle.blart_keys.specs.Content.{conflict, stores}
 use Rattle.blart_keys.specs.Steps.{bytes as pair_bytes, Puts}
-use Rattle.art_cells.specs.declared.tree.add.Added.{Added}
-use Rattle.art_cells.specs.declared.tree.add.Added.TheVariants.{Placed, Stored, Conflict}
+pub use Rattle.art_cells.specs.declared.tree.add.Added.{Added}
+pub use Rattle.art_cells.specs.declared.tree.add.Added.TheVariants.{Placed, Stored, Conflict}
 use Rattle.art_tree.specs.Content.{Content}
 use Rattle.art_tree.specs.Leaves.{leaf_in, OthersStand}
 use Rattle.art_tree.specs.Pairs.{pairs_of}
