@@ -129,8 +129,8 @@ impl<K: AsBytes, V, const PREFIX_LEN: usize> CellTree<K, V, PREFIX_LEN> {
         self.leaves.cell_again(id, seen)
     }
 
-    /// Returns the cell of the leaf with an id. `seen` is a guess of the position of the leaf. If it
-    /// is right, the row alone tells the cell. Reads no leaf.
+    /// Returns the cell of the leaf with an id. `seen` is a guess of the position of the leaf. If
+    /// it is right, the row alone tells the cell. Reads no leaf.
     #[inline(always)]
     pub fn cell_near(&self, id: usize, seen: Position) -> CellId
         requires { Has (under_ids self.now.ids self.now.pairs) id }
@@ -194,8 +194,8 @@ impl<K: AsBytes, V, const PREFIX_LEN: usize> CellTree<K, V, PREFIX_LEN> {
         self.leaves.next_from(id, seen)
     }
 
-    /// Returns the leaf before `id`, if there is one. `seen` is a guess of the position of `id`, and
-    /// then of the position of the returned leaf. If the guess is right, no row is searched.
+    /// Returns the leaf before `id`, if there is one. `seen` is a guess of the position of `id`,
+    /// and then of the position of the returned leaf. If the guess is right, no row is searched.
     #[inline(always)]
     pub fn prev_from(&self, id: CellId, seen: &mut Position) -> Option<CellId>
         requires { Has self.now.pairs id }

@@ -1,6 +1,7 @@
 //! Pairs put into a tree, one at its place or many at once, and trees parted.
 //!
-//! Each function takes a tree and says what list its pairs are then, without the numbers of their leaves.
+//! Each function takes a tree and says what list its pairs are then, without the numbers of their
+//! leaves.
 #![tactic(auto)]
 
 mod append;

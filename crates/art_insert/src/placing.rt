@@ -17,7 +17,8 @@ use blart_keys::{AsBytes, InsertPrefixError, NoPrefixesBytes, TryInsertError};
 use std::alloc::AllocError;
 use std::mem::replace;
 
-/// Makes room for a pair with this key, which is related to no stored one, and answers its place. Refused or not, the pairs stand.
+/// Makes room for a pair with this key, which is related to no stored one, and answers its place.
+/// Refused or not, the pairs stand.
 pub fn room_for<K: AsBytes + Drop, V: Drop, const P: usize>(
     tree: &mut Tree<K, V, P>,
     key: &K,
@@ -142,8 +143,8 @@ pub(crate) fn place_reserved<K: AsBytes + Drop, V: Drop, const P: usize>(
     }
 }
 
-/// Puts a pair in the place of the pair with the same bytes, or adds it. Takes at most one placement
-/// of the room.
+/// Puts a pair in the place of the pair with the same bytes, or adds it. Takes at most one
+/// placement of the room.
 pub(crate) fn put_reserved<K: NoPrefixesBytes + Drop, V: Drop, const P: usize>(
     tree: &mut Tree<K, V, P>,
     key: K,
@@ -243,8 +244,8 @@ pub fn put_lawful<K: NoPrefixesBytes + Drop, V: Drop, const P: usize>(
     }
 }
 
-/// Puts a pair, and returns the old value of its key. A stored key is unchanged. Returns an error if
-/// the key conflicts or if it fails to allocate, and the pairs are then unchanged.
+/// Puts a pair, and returns the old value of its key. A stored key is unchanged. Returns an error
+/// if the key conflicts or if it fails to allocate, and the pairs are then unchanged.
 pub fn put<K: AsBytes + Drop, V: Drop, const P: usize>(
     tree: &mut Tree<K, V, P>,
     key: K,
@@ -265,8 +266,8 @@ pub fn put<K: AsBytes + Drop, V: Drop, const P: usize>(
     }
 }
 
-/// Puts a pair, and returns the old pair of its key's bytes. Returns an error if the key conflicts or
-/// if it fails to allocate, and the pairs are then unchanged.
+/// Puts a pair, and returns the old pair of its key's bytes. Returns an error if the key conflicts
+/// or if it fails to allocate, and the pairs are then unchanged.
 pub fn exchange<K: AsBytes + Drop, V: Drop, const P: usize>(
     tree: &mut Tree<K, V, P>,
     key: K,

@@ -6,7 +6,8 @@ ghost use Rattle.art_insert.specs.Spans.{Spans, LeavesOne};
 use art_tree::{LeafId, Tree};
 use blart_keys::AsBytes;
 
-/// Removes the pairs related to the query, which stand from the first leaf to the last, but for the last.
+/// Removes the pairs related to the query, which stand from the first leaf to the last, but for the
+/// last.
 pub fn leave_one<K: AsBytes + Drop, V: Drop, const P: usize>(
     tree: &mut Tree<K, V, P>,
     first: LeafId,

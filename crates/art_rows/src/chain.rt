@@ -40,7 +40,9 @@ impl Clone for Link<Row> {
     }
 }
 
-/// Items in order, each under a number. A contract sees them so, how many more find a place, and for how many places there is memory; and a number above those of all, and the number of the next place.
+/// Items in order, each under a number. A contract sees them so, how many more find a place, and
+/// for how many places there is memory; and a number above those of all, and the number of the next
+/// place.
 #[derive(Drop)]
 pub(crate) struct Chain<T> {
     pub(crate) records: Slots<Link<T>>,

@@ -145,8 +145,8 @@ impl<K, V> Leaves<K, V> {
         CellId::new(self.ids.cell_of(id))
     }
 
-    /// Returns the cell of the leaf with an id. `seen` is a guess of the position of the leaf. If it
-    /// is right, the row alone tells the cell. Reads no leaf.
+    /// Returns the cell of the leaf with an id. `seen` is a guess of the position of the leaf. If
+    /// it is right, the row alone tells the cell. Reads no leaf.
     #[inline(always)]
     pub fn cell_near(&self, id: usize, seen: Position) -> CellId
         requires { (cell : ℕ) × Has self.now.pairs cell × (id_at self.now.ids cell ≡ id) }
@@ -159,8 +159,8 @@ impl<K, V> Leaves<K, V> {
         }
     }
 
-    /// Returns the cell of the leaf with an id. `seen` is a guess of it. If it is right, the table that
-    /// leads from ids to cells is not read. Reads no leaf.
+    /// Returns the cell of the leaf with an id. `seen` is a guess of it. If it is right, the table
+    /// that leads from ids to cells is not read. Reads no leaf.
     pub fn cell_again(&self, id: usize, seen: CellId) -> CellId
         requires { (cell : ℕ) × Has self.now.pairs cell × (id_at self.now.ids cell ≡ id) }
         ensures has { Has self.now.pairs result }

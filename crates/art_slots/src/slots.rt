@@ -9,7 +9,8 @@ use std::alloc::{AllocError, Global};
 use std::marker::Model;
 use std::mem;
 
-/// There are no more slots than this, and their numbers are less, so that the counts of a few stores have a sum, and a number and a kind fit one word.
+/// There are no more slots than this, and their numbers are less, so that the counts of a few
+/// stores have a sum, and a number and a kind fit one word.
 const MOST: usize = (1 << 61) - 1;
 
 #[derive(Drop)]
@@ -47,9 +48,12 @@ impl<T: Clone> Clone for Slot<T> {
     }
 }
 
-/// Records under numbers, in slots. A slot that a record leaves is spare, and names the next spare one. A contract sees the records and how many slots are spare as a store, and the room: how many slots more there can be with no memory.
+/// Records under numbers, in slots. A slot that a record leaves is spare, and names the next spare
+/// one. A contract sees the records and how many slots are spare as a store, and the room: how many
+/// slots more there can be with no memory.
 ///
-/// The room is the slab's, and none where a number of that slab may be too great. The number of each slot is less than the top.
+/// The room is the slab's, and none where a number of that slab may be too great. The number of
+/// each slot is less than the top.
 #[derive(Drop)]
 pub struct Slots<T> {
     slab: Slab<Slot<T>>,
@@ -195,7 +199,8 @@ impl<T> Slots<T> {
         }
     }
 
-    /// Asks for memory where there is not so much room. The records and the spare slots stand whatever the answer; where it is no, there may be less room than before.
+    /// Asks for memory where there is not so much room. The records and the spare slots stand
+    /// whatever the answer; where it is no, there may be less room than before.
     pub fn grow(&mut self, count: usize) -> Result<(), AllocError>
         ensures same { self.new.store ≡ self.old.store }
         ensures room { OnOk result (count ≤ self.new.room) }

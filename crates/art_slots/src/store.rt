@@ -7,9 +7,12 @@ use crate::slots::Slots;
 use std::alloc::{AllocError, Global};
 use std::marker::Model;
 
-/// Records under numbers. A number keeps its record until that is taken out. A contract sees the record at each number, and how many spare slots there are: a record that takes a spare slot asks for no memory.
+/// Records under numbers. A number keeps its record until that is taken out. A contract sees the
+/// record at each number, and how many spare slots there are: a record that takes a spare slot asks
+/// for no memory.
 ///
-/// A slot that a record left is spare, and so is a place that was only reserved, which is not written before a record comes there.
+/// A slot that a record left is spare, and so is a place that was only reserved, which is not
+/// written before a record comes there.
 #[derive(Drop)]
 pub struct Store<T> {
     slots: Slots<T>,
@@ -87,7 +90,8 @@ impl<T> Store<T> {
         self.slots.get_mut(id)
     }
 
-    /// Adds spare slots until there are so many. Where there is no memory, the records stand, and no spare slot is lost.
+    /// Adds spare slots until there are so many. Where there is no memory, the records stand, and
+    /// no spare slot is lost.
     #[inline(always)]
     pub fn reserve(&mut self, count: usize) -> Result<(), AllocError>
         ensures same { SameRecords self.old self.new }
@@ -102,7 +106,8 @@ impl<T> Store<T> {
         self.grow(count)
     }
 
-    // Adds spare slots until there are so many, where there are fewer. It stands apart, so that a call which finds enough of them is one comparison.
+    // Adds spare slots until there are so many, where there are fewer. It stands apart, so that a
+    // call which finds enough of them is one comparison.
     #[cold]
     #[inline(never)]
     fn grow(&mut self, count: usize) -> Result<(), AllocError>
@@ -113,18 +118,22 @@ impl<T> Store<T> {
         ensures enough { OnOk result (count ≤ self.new.spare) }
     {
         let missing = count - self.spare();
-        // A slab that has grown may say any capacity, and only where that is small are the numbers still to come surely small. So the reserved places get their slots first, and keep what they promise.
+        // A slab that has grown may say any capacity, and only where that is small are the numbers
+        // still to come surely small. So the reserved places get their slots first, and keep what
+        // they promise.
         self.slots.add_spares(self.reserved);
         self.reserved = 0;
         self.slots.grow(missing)?;
-        // A slab takes more than it is asked for. All of it is reserved, so that the next calls ask for nothing.
+        // A slab takes more than it is asked for. All of it is reserved, so that the next calls ask
+        // for nothing.
         self.reserved = self.slots.room();
         Ok(())
     }
 }
 
 impl<T: Clone> Store<T> {
-    /// A store with a clone of each record under its number. It has the slots that this one has, the spare ones too.
+    /// A store with a clone of each record under its number. It has the slots that this one has,
+    /// the spare ones too.
     pub fn clone(&self) -> Result<Self, AllocError>
         ensures cloned { IfOk result (AreClones T.is_clone self.now) }
         ensures used { IfOk result (λ copy. used_count copy ≡ used_count self.now) }

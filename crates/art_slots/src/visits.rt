@@ -4,7 +4,8 @@ ghost use Rattle.std.specs.Borrow.{ftrue};
 
 use std::marker::Model;
 
-/// How many inner nodes and leaves' pairs were read. It takes no memory. A clause reads the number as `count`.
+/// How many inner nodes and leaves' pairs were read. It takes no memory. A clause reads the number
+/// as `count`.
 #[derive(Drop)]
 pub struct Visits {
     pub ghost count: { ℕ },

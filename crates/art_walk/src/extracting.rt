@@ -9,7 +9,9 @@ use crate::cursor::Cursor;
 use art_tree::{Tree, Visits};
 use blart_keys::AsBytes;
 
-/// Asks the closure once of each pair that the cursor has left, from the first on, up to the first at which it answers `true`: that one is removed, and given. Those before it stay with their values as the closure left them. Takes no memory; it reads each pair that it asks about.
+/// Asks the closure once of each pair that the cursor has left, from the first on, up to the first
+/// at which it answers `true`: that one is removed, and given. Those before it stay with their
+/// values as the closure left them. Takes no memory; it reads each pair that it asks about.
 pub fn extract_first<
     K: AsBytes + Drop,
     V: Drop,

@@ -10,7 +10,8 @@ use blart_keys::AsBytes;
 use std::iter::{DoubleEndedIterator, FusedIterator, Iterator};
 use std::marker::Model;
 
-/// The keys of a tree by value from both ends, in byte order. A step drops the value of the key that it gives; what was not taken is freed where the walk is dropped.
+/// The keys of a tree by value from both ends, in byte order. A step drops the value of the key
+/// that it gives; what was not taken is freed where the walk is dropped.
 #[derive(Drop)]
 pub struct IntoKeys<K: AsBytes, V, const PREFIX_LEN: usize> {
     pairs: IntoIter<K, V, PREFIX_LEN>,

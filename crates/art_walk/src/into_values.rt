@@ -10,7 +10,8 @@ use blart_keys::AsBytes;
 use std::iter::{DoubleEndedIterator, FusedIterator, Iterator};
 use std::marker::Model;
 
-/// The values of a tree from both ends, in byte order of their keys. A step drops the key of the value that it gives; what was not taken is freed where the walk is dropped.
+/// The values of a tree from both ends, in byte order of their keys. A step drops the key of the
+/// value that it gives; what was not taken is freed where the walk is dropped.
 #[derive(Drop)]
 pub struct IntoValues<K: AsBytes, V, const PREFIX_LEN: usize> {
     pairs: IntoIter<K, V, PREFIX_LEN>,

@@ -8,8 +8,10 @@ use crate::cursor::Cursor;
 use art_tree::{Tree, Visits};
 use blart_keys::AsBytes;
 
-/// Asks the closure once of each pair, in byte order of the keys, and removes those at which it answers `false`. The others stay with their values as the closure left them. Takes no memory; it reads each pair that it asks about, and each that goes costs a removal.
-/// The closure is lent: the state that it is left in shows that nothing more was asked of it.
+/// Asks the closure once of each pair, in byte order of the keys, and removes those at which it
+/// answers `false`. The others stay with their values as the closure left them. Takes no memory; it
+/// reads each pair that it asks about, and each that goes costs a removal. The closure is lent: the
+/// state that it is left in shows that nothing more was asked of it.
 pub fn retain_by<K: AsBytes + Drop, V: Drop, F: FnMut(&K, &mut V) -> bool, const PREFIX_LEN: usize>(
     tree: &mut Tree<K, V, PREFIX_LEN>,
     f: &mut F,

@@ -15,7 +15,8 @@ use std::ops::Bound;
 impl Cursor {
     /// The leaves whose keys' bytes are within both bounds, none where the bounds are not in order.
     ///
-    /// Where n is the number of bytes of the longer bound and L that of the longest key, at most 2 * (n + 2) * (L + 2) visits, and none where the tree has no pairs.
+    /// Where n is the number of bytes of the longer bound and L that of the longest key, at most 2
+    /// * (n + 2) * (L + 2) visits, and none where the tree has no pairs.
     pub fn range<K: AsBytes, V, const PREFIX_LEN: usize>(
         tree: &Tree<K, V, PREFIX_LEN>,
         start: Bound<&[u8]>,
@@ -49,7 +50,8 @@ impl Cursor {
 
     /// The leaves whose keys' bytes begin with these.
     ///
-    /// On n bytes, where L is the length of the longest key, at most 2 * (n + 2) * (L + 2) visits, and none where the tree has no pairs.
+    /// On n bytes, where L is the length of the longest key, at most 2 * (n + 2) * (L + 2) visits,
+    /// and none where the tree has no pairs.
     pub fn prefix<K: AsBytes, V, const PREFIX_LEN: usize>(
         tree: &Tree<K, V, PREFIX_LEN>,
         front: &[u8],

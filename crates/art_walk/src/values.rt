@@ -10,7 +10,8 @@ use blart_keys::AsBytes;
 use std::iter::{DoubleEndedIterator, FusedIterator, Iterator};
 use std::marker::Model;
 
-/// The values of a tree from both ends, in byte order of the keys. Each step reads one leaf, and where the ends have met none comes at either.
+/// The values of a tree from both ends, in byte order of the keys. Each step reads one leaf, and
+/// where the ends have met none comes at either.
 #[derive(Drop)]
 pub struct Values<'a, K, V, const PREFIX_LEN: usize> {
     pairs: Iter<'a, K, V, PREFIX_LEN>,

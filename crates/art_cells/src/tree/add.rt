@@ -31,9 +31,9 @@ pub enum Added<Id, K, V> {
 }
 
 impl<K: AsBytes + Drop, V: Drop, const PREFIX_LEN: usize> CellTree<K, V, PREFIX_LEN> {
-    /// Adds a pair if its key is related to no stored key. Other leaves may move to other cells, and
-    /// take their ids along. Returns an error if it fails to allocate, and the pairs and the ids of
-    /// the leaves are then unchanged.
+    /// Adds a pair if its key is related to no stored key. Other leaves may move to other cells,
+    /// and take their ids along. Returns an error if it fails to allocate, and the pairs and the
+    /// ids of the leaves are then unchanged.
     ///
     /// Cost: one descent. If the row at the place is full, 32 leaves move to another row, with a
     /// descent for each whose edge was not guessed.
@@ -71,8 +71,8 @@ impl<K: AsBytes + Drop, V: Drop, const PREFIX_LEN: usize> CellTree<K, V, PREFIX_
         }
     }
 
-    /// Adds a pair for which there is room, if its key is related to no stored key. Other leaves may
-    /// move to other cells, and take their ids along. Does not allocate.
+    /// Adds a pair for which there is room, if its key is related to no stored key. Other leaves
+    /// may move to other cells, and take their ids along. Does not allocate.
     ///
     /// Cost: as for [`CellTree::add`].
     pub fn add_within(&mut self, key: K, value: V) -> Added<CellId, K, V>

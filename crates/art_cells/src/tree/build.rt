@@ -104,7 +104,8 @@ pub(crate) fn build<K: AsBytes, V, const P: usize>(
     }
 }
 
-// Makes the nodes that are at least so deep above a leaf with this key, from the deepest up, of the loose edges and of what stands above the leaf. Answers what stands there then.
+// Makes the nodes that are at least so deep above a leaf with this key, from the deepest up, of the
+// loose edges and of what stands above the leaf. Answers what stands there then.
 fn close<const P: usize>(
     nodes: &mut Nodes<P>,
     loose: &mut Vec<LooseEdge>,
@@ -132,7 +133,8 @@ fn close<const P: usize>(
     child
 }
 
-// Makes the node at the depth of the last loose edge. Answers how many loose edges are left, and the node.
+// Makes the node at the depth of the last loose edge. Answers how many loose edges are left, and
+// the node.
 fn close_one<const P: usize>(
     nodes: &mut Nodes<P>,
     loose: &[LooseEdge],
@@ -194,7 +196,8 @@ fn first_at(loose: &[LooseEdge], depth: usize) -> usize
     from
 }
 
-// Where the compressed prefix of a node begins whose parent has the last of these loose edges, or is to be made below the least depth.
+// Where the compressed prefix of a node begins whose parent has the last of these loose edges, or
+// is to be made below the least depth.
 fn start_above(loose: &[LooseEdge], least: usize) -> usize
     requires { (depth : ℕ) → last_depth loose.now ≡ Some depth → depth < 2 ^ 64 - 1 }
     ensures { result ≡ start_after least (last_depth loose.now) }

@@ -35,8 +35,8 @@ pub(crate) struct Cut {
     pub(crate) above: EdgeAbove,
 }
 
-/// An edge that may lead to a leaf, and the edge that may lead to its node. A guess is tested before
-/// it is used, and nothing is proved of it.
+/// An edge that may lead to a leaf, and the edge that may lead to its node. A guess is tested
+/// before it is used, and nothing is proved of it.
 #[derive(Clone, Copy)]
 pub(crate) struct Guess {
     pub(crate) edge: (NodeId, u8),
@@ -231,8 +231,8 @@ fn leads_to<const P: usize>(nodes: &Nodes<P>, edge: (NodeId, u8), leaf: &CellId)
     }
 }
 
-/// Guesses the edge to the leaf before that of an edge. It is below the same node, or below the node
-/// above that.
+/// Guesses the edge to the leaf before that of an edge. It is below the same node, or below the
+/// node above that.
 fn guess_before<const P: usize>(
     nodes: &Nodes<P>,
     edge: &EdgeAbove,

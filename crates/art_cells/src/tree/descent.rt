@@ -55,7 +55,8 @@ pub(crate) struct LeafSpot {
     pub(crate) above: EdgeAbove,
 }
 
-/// What stands for the keys that begin with some bytes: the edge above, what that leads to, and the leaves at both ends.
+/// What stands for the keys that begin with some bytes: the edge above, what that leads to, and the
+/// leaves at both ends.
 #[derive(Clone, Copy)]
 pub(crate) struct Branch {
     pub(crate) above: EdgeAbove,
@@ -88,7 +89,8 @@ pub(crate) fn find_nearest<const P: usize>(
     }
 }
 
-// The child to go on to: by the query's next byte, or by any where the query has ended or no key goes on so.
+// The child to go on to: by the query's next byte, or by any where the query has ended or no key
+// goes on so.
 fn toward<const P: usize>(nodes: &Nodes<P>, id: NodeId, query: &[u8], visits: &mut Visits) -> Child
     requires { HasEdges (at nodes.now) id }
     ensures child { GoesToward (at nodes.now) id query.now result }
@@ -169,7 +171,8 @@ pub(crate) fn locate<const P: usize>(
     }
 }
 
-/// How many edges the node at this depth has on the way of these bytes, and the first leaf below it. None where no node is there.
+/// How many edges the node at this depth has on the way of these bytes, and the first leaf below
+/// it. None where no node is there.
 pub(crate) fn children_of<const P: usize>(
     nodes: &Nodes<P>,
     root: &Child,

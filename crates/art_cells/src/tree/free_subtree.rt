@@ -1,4 +1,5 @@
-//! A branch leaves the tree: the nodes that hang below an edge are freed. They are turned above one another until each hangs alone, so nothing is remembered but one of them.
+//! A branch leaves the tree: the nodes that hang below an edge are freed. They are turned above one
+//! another until each hangs alone, so nothing is remembered but one of them.
 ghost use Rattle.std.specs.Prelude.{◌≡◌, ℕ, true, false, Option, Some, None, Bool};
 ghost use Rattle.art_cells.specs.Begins.{Bytes};
 ghost use Rattle.art_cells.specs.Invariant.EdgesAbove.{LeadsTo, edge_front};
@@ -49,7 +50,8 @@ fn free_child<const P: usize>(nodes: &mut Nodes<P>, child: &Child)
     }
 }
 
-// Frees a node and those that hang below it. Each is freed once, and turned above another once at most.
+// Frees a node and those that hang below it. Each is freed once, and turned above another once at
+// most.
 fn free_below<const P: usize>(nodes: &mut Nodes<P>, top: NodeId)
     requires { (goes : ℕ → Bool) × Loose goes (at nodes.old) (at nodes.old) top }
     ensures { (goes : ℕ → Bool) → Loose goes (at nodes.old) (at nodes.old) top → (j : ℕ)
@@ -86,7 +88,8 @@ fn first_node<const P: usize>(nodes: &Nodes<P>, id: NodeId) -> Option<(u8, NodeI
     }
 }
 
-// Goes on to a node below: by the last edge of all the upper node is freed, and by another the lower one is turned above it.
+// Goes on to a node below: by the last edge of all the upper node is freed, and by another the
+// lower one is turned above it.
 fn advance<const P: usize>(nodes: &mut Nodes<P>, head: NodeId, byte: u8, below: NodeId)
     requires loose { (goes : ℕ → Bool) × (before : ℕ → Option Node)
         × Loose goes before (at nodes.old) head }

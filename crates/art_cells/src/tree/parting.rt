@@ -39,7 +39,8 @@ pub(crate) struct Mismatch {
     pub(crate) spot: Spot,
 }
 
-/// The leaf whose key goes along with a query the furthest, its key's bytes, and how many of them are the query's, in a tree with some pairs.
+/// The leaf whose key goes along with a query the furthest, its key's bytes, and how many of them
+/// are the query's, in a tree with some pairs.
 pub(crate) fn nearest_leaf<'a, K: AsBytes, V, const P: usize>(
     leaves: &'a Leaves<K, V>,
     nodes: &Nodes<P>,
@@ -60,7 +61,8 @@ pub(crate) fn nearest_leaf<'a, K: AsBytes, V, const P: usize>(
     (id, key, common_len(key, query))
 }
 
-/// How a query and the stored key that goes along with it the furthest part, in a tree with some pairs.
+/// How a query and the stored key that goes along with it the furthest part, in a tree with some
+/// pairs.
 pub(crate) fn parting_of<K: AsBytes, V, const P: usize>(
     leaves: &Leaves<K, V>,
     nodes: &Nodes<P>,
@@ -169,7 +171,8 @@ fn child_beside<const P: usize>(
     }
 }
 
-/// The edge beside a byte that a node lacks, and whether the byte is after it. Of two, the one before: keys that come in order have none after.
+/// The edge beside a byte that a node lacks, and whether the byte is after it. Of two, the one
+/// before: keys that come in order have none after.
 pub(crate) fn edge_beside<const P: usize>(
     nodes: &Nodes<P>,
     id: &NodeId,

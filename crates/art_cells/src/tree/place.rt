@@ -119,8 +119,8 @@ pub(crate) fn place_beside<K: AsBytes + Drop, V: Drop, const P: usize>(
     place_crowded(leaves, nodes, root, place, prev, last, key, value)
 }
 
-/// Places a pair after the leaf `prev`, once the full row of that leaf is cut in half. `last` is the
-/// last leaf of the row. Returns the cell of the pair, and the root.
+/// Places a pair after the leaf `prev`, once the full row of that leaf is cut in half. `last` is
+/// the last leaf of the row. Returns the cell of the pair, and the root.
 #[cold]
 #[inline(never)]
 fn place_crowded<K: AsBytes + Drop, V: Drop, const P: usize>(
@@ -205,8 +205,8 @@ fn spot_for<const P: usize>(
     }
 }
 
-/// Returns the spot at the end of a place's edge, if that edge still leads to the nearest leaf or to
-/// a node that has it. Reads no leaf.
+/// Returns the spot at the end of a place's edge, if that edge still leads to the nearest leaf or
+/// to a node that has it. Reads no leaf.
 fn spot_shown<const P: usize>(nodes: &Nodes<P>, root: &Child, place: &CellPlace) -> Option<Spot>
     ensures { IfSome result (IsShown P (at nodes.now) root.now place.now) }
 {

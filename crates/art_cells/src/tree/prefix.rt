@@ -19,8 +19,8 @@ use art_slots::{CellId, Visits};
 use blart_keys::AsBytes;
 
 impl<K: AsBytes + Drop, V: Drop, const PREFIX_LEN: usize> CellTree<K, V, PREFIX_LEN> {
-    /// Removes every pair whose bytes begin with these, and returns the number of removed pairs. The
-    /// other leaves remain in their cells. Does not return an error.
+    /// Removes every pair whose bytes begin with these, and returns the number of removed pairs.
+    /// The other leaves remain in their cells. Does not return an error.
     ///
     /// Cost: like one call of [`CellTree::span`] and one of [`CellTree::remove`]. Besides, it frees
     /// each removed leaf and inner node, with no further descent.

@@ -21,8 +21,8 @@ use blart_keys::AsBytes;
 use std::ops::Bound;
 
 impl<K: AsBytes, V, const PREFIX_LEN: usize> CellTree<K, V, PREFIX_LEN> {
-    /// Returns the first leaf within a start bound, or the last within an end bound. If the bound has
-    /// n bytes (0 if it is unbounded) and the longest key L, it makes at most (n + 2) * (L + 1)
+    /// Returns the first leaf within a start bound, or the last within an end bound. If the bound
+    /// has n bytes (0 if it is unbounded) and the longest key L, it makes at most (n + 2) * (L + 1)
     /// visits, and none if the tree has no pairs.
     pub fn seek(&self, bound: Bound<&[u8]>, is_start: bool, visits: &mut Visits) -> Option<CellId>
         ensures found { result
@@ -53,9 +53,9 @@ impl<K: AsBytes, V, const PREFIX_LEN: usize> CellTree<K, V, PREFIX_LEN> {
         }
     }
 
-    /// Returns the first and the last leaf whose bytes begin with these. On n bytes it makes at most
-    /// (n + 3) * (L + 1) - 2 visits, where the longest key has L bytes, and none if the tree has no
-    /// pairs.
+    /// Returns the first and the last leaf whose bytes begin with these. On n bytes it makes at
+    /// most (n + 3) * (L + 1) - 2 visits, where the longest key has L bytes, and none if the tree
+    /// has no pairs.
     pub fn span(&self, front: &[u8], visits: &mut Visits) -> Option<(CellId, CellId)>
         ensures found { result ≡ ends (under (bytes K.bytes) self.now.pairs front.now) }
         ensures counted { visits.new.count + 2
@@ -117,7 +117,8 @@ impl<K: AsBytes, V, const PREFIX_LEN: usize> CellTree<K, V, PREFIX_LEN> {
     }
 }
 
-// The leaf with these bytes, or the leaf before the place where they would go, in a tree with some pairs.
+// The leaf with these bytes, or the leaf before the place where they would go, in a tree with some
+// pairs.
 fn place_below<K: AsBytes, V, const P: usize>(
     leaves: &Leaves<K, V>,
     nodes: &Nodes<P>,
@@ -146,7 +147,8 @@ fn place_below<K: AsBytes, V, const P: usize>(
     }
 }
 
-/// What stands for the keys that begin with some bytes, in a tree with some pairs. None where no key does.
+/// What stands for the keys that begin with some bytes, in a tree with some pairs. None where no
+/// key does.
 pub(crate) fn branch_below<K: AsBytes, V, const P: usize>(
     leaves: &Leaves<K, V>,
     nodes: &Nodes<P>,

@@ -8,7 +8,8 @@ use crate::records::ids::{Child, Edge};
 use crate::records::link::Link;
 use std::marker::Model;
 
-/// Up to 48 children, and for each byte the place of its child, or 48. A contract sees the list of edges, by rising byte.
+/// Up to 48 children, and for each byte the place of its child, or 48. A contract sees the list of
+/// edges, by rising byte.
 #[derive(Drop)]
 pub(crate) struct Indexed {
     pub(super) count: usize,

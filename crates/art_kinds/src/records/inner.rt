@@ -10,7 +10,8 @@ use art_slots::Store;
 use std::alloc::AllocError;
 use std::marker::Model;
 
-/// An inner node: the length of its front, the first bytes of its compressed prefix, and its edges. A contract sees the node.
+/// An inner node: the length of its front, the first bytes of its compressed prefix, and its edges.
+/// A contract sees the node.
 #[derive(Drop)]
 pub(super) struct Inner<C: Children, const P: usize> {
     pub(super) depth: usize,

@@ -75,7 +75,8 @@ impl Link {
     }
 }
 
-/// A child or nothing, in one word: none for nothing, or one more than the child's. A contract sees the child or nothing.
+/// A child or nothing, in one word: none for nothing, or one more than the child's. A contract sees
+/// the child or nothing.
 #[derive(Clone, Copy)]
 pub(crate) struct OptionLink {
     word: usize,

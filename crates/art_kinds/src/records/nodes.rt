@@ -665,7 +665,8 @@ impl<const P: usize> Nodes<P> {
         }
     }
 
-    /// Puts the prefix of another node and a byte in front of a node's prefix, of which it keeps the first P bytes.
+    /// Puts the prefix of another node and a byte in front of a node's prefix, of which it keeps
+    /// the first P bytes.
     pub fn join_prefix(&mut self, id: NodeId, upper: NodeId, byte: u8)
         requires live { IsSome (at self.old id) }
         requires upper { IsSome (at self.old upper) }
@@ -722,7 +723,8 @@ fn bytes_after(bytes: &[u8], count: usize) -> &[u8]
     }
 }
 
-// Writes a byte and then others after the first bytes, as many as there is room for. Answers how many bytes are used then.
+// Writes a byte and then others after the first bytes, as many as there is room for. Answers how
+// many bytes are used then.
 fn append(to: &mut [u8], used: usize, byte: u8, rest: &[u8]) -> usize
     requires { used ≤ length to.old }
     ensures within { result ≤ length to.old }
@@ -737,7 +739,8 @@ fn append(to: &mut [u8], used: usize, byte: u8, rest: &[u8]) -> usize
     start + copy_front(&mut to[start..], rest)
 }
 
-// How many of so many live nodes of a kind, and of those to come, so many placements can make outgrow it, where one that comes takes this many.
+// How many of so many live nodes of a kind, and of those to come, so many placements can make
+// outgrow it, where one that comes takes this many.
 fn outgrown(count: usize, live: usize, takes: usize) -> usize
     requires { 0 < takes }
     ensures few { count ≤ live → result ≡ count }

@@ -170,8 +170,8 @@ impl<K: Drop, V: Drop> Leaves<K, V> {
         moved
     }
 
-    /// Moves the last leaf of a row that is being cut to the front of the next row, with its id. Does
-    /// not allocate.
+    /// Moves the last leaf of a row that is being cut to the front of the next row, with its id.
+    /// Does not allocate.
     pub fn carry(&mut self, last: CellId) -> Moved
         requires has { Has self.old.pairs last }
         requires last { IsRowLast self.old.rows last }

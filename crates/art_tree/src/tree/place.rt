@@ -64,8 +64,8 @@ impl<K: AsBytes + Drop, V: Drop, const PREFIX_LEN: usize> Tree<K, V, PREFIX_LEN>
     /// the key, and there must be room at it. Each other id names the pair that it named. Does not
     /// allocate.
     ///
-    /// Cost: one descent if the edge at the point has changed since. If the row at the place is full,
-    /// 32 leaves move to another row, with a descent for each whose edge was not guessed.
+    /// Cost: one descent if the edge at the point has changed since. If the row at the place is
+    /// full, 32 leaves move to another row, with a descent for each whose edge was not guessed.
     pub fn place(&mut self, point: Point, key: K, value: V) -> LeafId
         requires good { IsGood K.bytes self.old.pairs point (K.bytes key) }
         requires open { IsOpen point }
