@@ -1,5 +1,5 @@
 -- What a point says of an insertion there.
-use Rattle.std.proofs.Common.{◌≡◌, ℕ, true, false, inl, inr, List, [], ◌∷◌, refl, sym, ap, ◌∙◌, subst, Some, Ok, option_map, bytes_eq, subst₂}
+use Rattle.std.proofs.Common.{◌≡◌, ℕ, true, false, ◌⊎◌, inl, inr, List, [], ◌∷◌, refl, sym, ap, ◌∙◌, subst, Some, None, Ok, option_map, bytes_eq, subst₂}
 use Rattle.std.proofs.lemmas.Bool.{false≢true, false_from_ne_true, or_cases}
 use Rattle.blart_keys.specs.Bytes.{begins, related}
 use Rattle.blart_keys.specs.Content.{IsContent, IsPut, at, conflict, subtree}
@@ -13,6 +13,7 @@ use Rattle.art_tree.specs.Content.{IsOpen}
 use Rattle.art_tree.specs.Leaves.{Numbered, leaf_in, Has, AreDistinct, first_number, with_pair, bytes}
 use Rattle.art_tree.specs.Points.{IsGood}
 use Rattle.art_tree.specs.Takes.{MayTake}
+use Rattle.art_tree.specs.declared.tree.point.Place.{Place}
 use Rattle.art_tree.specs.declared.tree.point.Point.{Point}
 use Rattle.art_tree.specs.declared.tree.point.Point.TheVariants.{Empty, Exact, Related, Free}
 use Rattle.art_tree.proofs.CallerLemmas.{leaf_in-member, Member-from_leaf_in, free_alone}
@@ -22,7 +23,12 @@ use Rattle.blart_keys.proofs.Mapped.{find-map, content_map}
 use Rattle.art_tree.specs.Pairs.{pairs_of}
 use Rattle.art_insert.proofs.Numbers.{cut_at, cut_pairs, exchanged_pairs}
 
--- at each point that is no leaf's and no conflict a pair may be placed
+-- a pair may be placed at these points
+pub opens : (point : Point) → (point ≡ Empty) ⊎ ((place : Place) × (point ≡ Free place)) → IsOpen point
+opens point (inl e) = subst IsOpen (sym e) tt
+opens point (inr e) = subst IsOpen (sym e.1) tt
+
+-- and at each point that is no leaf's and no conflict
 pub opens_else : (point : Point) → ((i : ℕ) → point ≡ Exact i → ⊥) → ((i j : ℕ) → point ≡ Related i j → ⊥) → IsOpen point
 opens_else Empty e r = tt
 opens_else (Exact id) e r = absurd (e id refl)
@@ -78,6 +84,14 @@ module _ {K V : Type 0} (kb : K → Bytes) (ps : List (Numbered K V)) where
     -- ---- the answers
 
     module _ (distinct : AreDistinct ps) (x : K × V) where
+      -- a pair that is placed, if none is related, is put
+      pub placed : ((y : Numbered K V) → Member y ps → related (bytes kb y) (kb x.0) ≡ false) → (old new : List (Numbered K V)) → old ≡ ps → IsPut (pair_bytes kb) (pairs_of old) x (pairs_of new) → Puts kb (λ pair. pair) (pairs_of ps) x x (Ok None) (pairs_of new)
+      placed alone old new e put = (
+        conflict_pairs kb ps (kb x.0) ∙ alone_no_conflict (bytes kb) ps (kb x.0) alone,
+        subst (λ S. IsPut (pair_bytes kb) (pairs_of S) x (pairs_of new)) e put,
+        sym (find-map (λ p. p.1) (λ y. bytes_eq (kb y.0) (kb x.0)) ps ∙ ap (option_map (λ p. p.1)) (alone_none (bytes kb) ps (kb x.0) alone)),
+      )
+
       -- the pair of the same bytes is exchanged
       pub exchanged : (id : ℕ) → IsGood kb ps (Exact id) (kb x.0) → (old : K × V) → leaf_in ps id ≡ Some old → (new : List (Numbered K V)) → new ≡ with_pair ps id x → Puts kb (λ pair. pair) (pairs_of ps) x x (Ok (Some old)) (pairs_of new)
       exchanged id good old l new e =
