@@ -91,7 +91,10 @@ impl<K: AsBytes, V, const PREFIX_LEN: usize> TreeMap<K, V, PREFIX_LEN> {
         self.len() == 0
     }
 
-    /// The pair with the query's bytes. On n bytes it makes at most n + 1 visits, and none on an empty map.
+    /// Returns the pair with the query's bytes, and counts the visits.
+    ///
+    /// Cost: at most n + 1 visits, if the query has n bytes, and none on an empty map. It makes at
+    /// least one visit if it returns a pair.
     pub fn get_key_value_counted<Q: AsBytes>(
         &self,
         query: &Q,
@@ -149,7 +152,10 @@ impl<K: AsBytes, V, const PREFIX_LEN: usize> TreeMap<K, V, PREFIX_LEN> {
         self.get_key_value(query).is_some()
     }
 
-    /// The pair whose key's bytes begin the query's. On n bytes it makes at most n + 1 visits, and none on an empty map.
+    /// Returns the pair whose key's bytes are a prefix of the query's, and counts the visits.
+    ///
+    /// Cost: at most n + 1 visits, if the query has n bytes, and none on an empty map. It makes at
+    /// least one visit if it returns a pair.
     pub fn prefix_get_key_value_counted<Q: AsBytes>(
         &self,
         query: &Q,

@@ -78,8 +78,10 @@ impl<V> Mounts<V> {
         self.resolve_counted(path, &mut Visits::new())
     }
 
-    /// Returns what [`Mounts::resolve`] returns, and counts visits. On n bytes it makes at most n + 1
-    /// visits, and none on an empty table.
+    /// Returns what [`Mounts::resolve`] returns, and counts the visits.
+    ///
+    /// Cost: at most n + 1 visits, if the path has n bytes, and none on an empty table. It makes at
+    /// least one visit if it returns a mount.
     pub fn resolve_counted(&self, path: &[u8], visits: &mut Visits) -> Option<(&Vec<u8>, &V)>
         ensures value { shown result ≡ pair_at_front vec_bytes (pairs self.now) path.now }
         ensures found { IfSome result (λ pair. begins pair.0.now.items path.now ≡ true) }

@@ -78,8 +78,7 @@ impl<K: AsBytes, V, const PREFIX_LEN: usize> TreeMap<K, V, PREFIX_LEN> {
     /// Like [`TreeMap::extract_if`], and counts the visits of the opening.
     ///
     /// Cost: at most 2 * (n + 2) * (L + 2) visits, if the longer bound has n bytes and the longest
-    /// key has L bytes, and none on an empty map. Each step is one visit more, which is not
-    /// counted.
+    /// key has L bytes, and none on an empty map. The reads of a step are not counted.
     pub fn extract_if_counted<Q: AsBytes, F: FnMut(&K, &mut V) -> bool>(
         &mut self,
         start: Bound<&Q>,

@@ -1,6 +1,6 @@
 //! Walks that are opened under a count, which only proofs read.
 use crate::tests::map_of;
-use blart_map::{TreeMap, Visits};
+use blart_map::{LeafId, TreeMap, Visits};
 use std::iter::Iterator;
 use std::ops::Bound;
 
@@ -40,8 +40,9 @@ fn take_first(map: &mut Map) -> Option<(u8, usize)> {
     None
 }
 
-// Takes the first pair with a value above 60.
+// Takes the first pair with a value above 60. The proof has to be told of the type `LeafId`.
 fn take_large(map: &mut Map) -> Option<(u8, usize)> {
+    let _id: Option<LeafId> = None;
     let mut visits = Visits::new();
     let mut walk = map.extract_if_counted(
         Bound::<&u8>::Unbounded,

@@ -9,12 +9,18 @@ type Map = TreeMap<u8, usize, 2>;
 // From 4 on: the first pair is taken, the last one read, and the one between taken too, which is the last to be passed.
 fn step_and_take(rt: &impl Abort, map: &mut Map) {
     let mut cursor = map.cursor(Bound::Included(&4u8), Bound::Unbounded);
-    let first = map.step(&mut cursor, &mut Visits::new()).expect(rt, "a pair");
+    let first = map
+        .step(&mut cursor, &mut Visits::new())
+        .expect(rt, "a pair");
     let taken = map.take_leaf(first);
-    let last = map.step_back(&mut cursor, &mut Visits::new()).expect(rt, "a pair");
+    let last = map
+        .step_back(&mut cursor, &mut Visits::new())
+        .expect(rt, "a pair");
     let (key, value) = map.leaf(last);
     let read = (*key, *value);
-    let between = map.step(&mut cursor, &mut Visits::new()).expect(rt, "a pair");
+    let between = map
+        .step(&mut cursor, &mut Visits::new())
+        .expect(rt, "a pair");
     let taken_then = map.take_leaf(between);
     assert!(rt; taken == (4, 40) && read == (8, 80) && taken_then == (5, 50));
     assert!(rt; map.step(&mut cursor, &mut Visits::new()).is_none());
