@@ -1,4 +1,4 @@
-//! What no script can say: how often keys are asked, what a hasher is fed, when keys are dropped, closures, and calls that no line makes.
+//! What no script can say: how often keys are asked, what a hasher is fed, when keys and values are dropped, closures, keys that are texts, and calls that no line makes.
 
 mod asked;
 mod calls;
@@ -9,7 +9,7 @@ mod hashed;
 mod key_types;
 mod reserved;
 mod shapes;
-mod tagged;
+mod texts;
 
 use blart_keys::AsBytes;
 use blart_map::TreeMap;

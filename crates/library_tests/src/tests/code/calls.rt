@@ -4,6 +4,7 @@ use blart::{key_text_law, number_text_law};
 use blart_map::{IntoIter, TreeMap};
 use blart_set::TreeSet;
 use std::iter::{IntoIterator, Iterator};
+use std::process::Abort;
 
 // The digits of the values, in the order in which a loop gives the pairs.
 fn digits_of(walk: IntoIter<u8, usize, 2>) -> usize {
@@ -26,14 +27,23 @@ fn maps_in_loops(rt: HostRuntime) {
 }
 
 // A pair is placed and taken back by its entry.
-#[test]
-fn the_only_key_of_its_type(rt: HostRuntime) {
-    let mut map = TreeMap::<[u8; 0], usize, 16>::new(rt.alloc());
-    let entry = map.entry([]).insert_entry(0).expect(&rt, "memory");
+fn place_only_key<const P: usize>(rt: &(impl Abort + AllocGlobal)) {
+    let mut map = TreeMap::<[u8; 0], usize, P>::with_prefix_len(rt.alloc());
+    let entry = map.entry([]).insert_entry(0).expect(rt, "memory");
     let removed = entry.remove();
     let is_empty = map.is_empty();
     drop(map);
     assert!(rt; removed == 0 && is_empty);
+}
+
+#[test]
+fn the_only_key_of_its_type(rt: HostRuntime) {
+    place_only_key::<0>(&rt);
+    place_only_key::<1>(&rt);
+    place_only_key::<2>(&rt);
+    place_only_key::<8>(&rt);
+    place_only_key::<16>(&rt);
+    place_only_key::<64>(&rt);
 }
 
 // Laws do nothing.

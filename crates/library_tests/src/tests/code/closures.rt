@@ -1,14 +1,15 @@
 //! Closures that count and write, and values that are lent.
 use super::assert_values;
 use crate::tests::{map_of, put};
+use blart_keys::I32Key;
 use blart_map::TreeMap;
 use std::iter::{DoubleEndedIterator, Iterator};
 use std::ops::Bound;
 use std::process::Abort;
 
 // Picks the even values, and doubles the others. Answers the values that came out, as digits behind a one.
-fn extract_doubling<const P: usize>(map: &mut TreeMap<u8, usize, P>) -> usize {
-    let walk = map.extract_if(Bound::<&u8>::Unbounded, Bound::Unbounded, |_, value| {
+fn extract_doubling<const P: usize>(map: &mut TreeMap<I32Key, usize, P>) -> usize {
+    let walk = map.extract_if(Bound::<&I32Key>::Unbounded, Bound::Unbounded, |_, value| {
         let is_picked = *value % 2 == 0;
         if !is_picked {
             *value = value.wrapping_mul(2);
@@ -24,20 +25,68 @@ fn extract_doubling<const P: usize>(map: &mut TreeMap<u8, usize, P>) -> usize {
 
 // The numbers below 10, each with itself as value.
 fn doubles<const P: usize>(rt: &(impl Abort + AllocGlobal)) {
-    let mut map: TreeMap<u8, usize, P> = TreeMap::with_prefix_len(rt.alloc());
+    let mut map: TreeMap<I32Key, usize, P> = TreeMap::with_prefix_len(rt.alloc());
     for key in 0..10u8 {
-        put(rt, &mut map, key, usize::from(key));
+        put(rt, &mut map, I32Key::new(i32::from(key)), usize::from(key));
     }
     assert!(rt; extract_doubling(&mut map) == 102468);
     assert_values(rt, &map, &[2, 6, 10, 14, 18]);
+    let (one, three, five) = (I32Key::new(1), I32Key::new(3), I32Key::new(5));
+    assert!(rt;
+        map.keys()
+            .eq(&[one, three, five, I32Key::new(7), I32Key::new(9)])
+    );
     drop(map);
 }
 
 #[test]
 fn values_are_written_and_picked(rt: HostRuntime) {
     doubles::<0>(&rt);
+    doubles::<1>(&rt);
     doubles::<2>(&rt);
+    doubles::<8>(&rt);
     doubles::<16>(&rt);
+    doubles::<64>(&rt);
+}
+
+// Takes a pair from each end by a closure that adds 1 to the value and to a counter of its own, and
+// picks the pair if the counter is even. Returns the two pairs and the counter.
+fn extract_by_counter<const P: usize>(
+    map: &mut TreeMap<u8, usize, P>,
+) -> (Option<(u8, usize)>, Option<(u8, usize)>, usize) {
+    let mut counter = 0usize;
+    let mut walk = map.extract_if(Bound::<&u8>::Unbounded, Bound::Unbounded, |_, value| {
+        *value = value.wrapping_add(1);
+        counter = counter.wrapping_add(1);
+        counter % 2 == 0
+    });
+    let first = walk.next();
+    let last = walk.next_back();
+    drop(walk);
+    (first, last, counter)
+}
+
+// The keys 1 to 6, all with the value 0.
+fn counts<const P: usize>(rt: &(impl Abort + AllocGlobal)) {
+    let mut map: TreeMap<u8, usize, P> = TreeMap::with_prefix_len(rt.alloc());
+    for key in 1..7u8 {
+        put(rt, &mut map, key, 0);
+    }
+    let (first, last, counter) = extract_by_counter(&mut map);
+    assert!(rt; first == Some((2, 1)) && last == Some((5, 1)) && counter == 4);
+    assert_values(rt, &map, &[1, 0, 0, 1]);
+    assert!(rt; map.keys().eq(&[1, 3, 4, 6]));
+    drop(map);
+}
+
+#[test]
+fn a_closure_picks_by_its_own_counter(rt: HostRuntime) {
+    counts::<0>(&rt);
+    counts::<1>(&rt);
+    counts::<2>(&rt);
+    counts::<8>(&rt);
+    counts::<16>(&rt);
+    counts::<64>(&rt);
 }
 
 // A map of bytes.

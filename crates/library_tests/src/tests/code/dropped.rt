@@ -1,7 +1,9 @@
-//! When keys are dropped.
+//! When keys and values are dropped.
+use crate::tests::put;
 use blart_keys::{AsBytes, NoPrefixesBytes};
 use blart_map::TreeMap;
 use std::cell::Cell;
+use std::iter::{DoubleEndedIterator, IntoIterator, Iterator};
 use std::process::Abort;
 
 // A key of one byte that counts how often one is dropped.
@@ -65,4 +67,63 @@ fn keys_for_stored_bytes(rt: HostRuntime) {
     let before = drops.get();
     drop(map);
     assert!(rt; removed == 1 && before == 4);
+}
+
+// A value that counts how often one is dropped.
+struct Counted<'a> {
+    drops: &'a Cell<usize>,
+}
+
+impl Drop for Counted<'_> {
+    fn drop(self) {
+        let Counted { drops } = self;
+        drops.set(drops.get().wrapping_add(1));
+    }
+}
+
+// Eight values.
+fn eight<'a, const P: usize>(
+    rt: &(impl Abort + AllocGlobal),
+    drops: &'a Cell<usize>,
+) -> TreeMap<u8, Counted<'a>, P> {
+    let mut map = TreeMap::with_prefix_len(rt.alloc());
+    for key in 0..8u8 {
+        put(rt, &mut map, key, Counted { drops });
+    }
+    drops.set(0);
+    map
+}
+
+// After an item from each end came and was dropped two values are dropped and six are live. The
+// walk drops the six.
+fn assert_live<W: DoubleEndedIterator + Drop>(rt: &impl Abort, mut walk: W, drops: &Cell<usize>)
+where
+    W::Item: Drop,
+    requires front { (s : W) → W.can_next s }
+    requires back { (s : W) → W.can_next_back s }
+{
+    let (first, last) = (walk.next(), walk.next_back());
+    assert!(rt; first.is_some() && last.is_some());
+    drop(first);
+    drop(last);
+    let before = drops.get();
+    drop(walk);
+    assert!(rt; before == 2 && drops.get() == 8);
+}
+
+fn values_of_walks<const P: usize>(rt: &(impl Abort + AllocGlobal)) {
+    let drops = Cell::new(0usize);
+    assert_live(rt, eight::<P>(rt, &drops).into_iter(), &drops);
+    assert_live(rt, eight::<P>(rt, &drops).into_keys(), &drops);
+    assert_live(rt, eight::<P>(rt, &drops).into_values(), &drops);
+}
+
+#[test]
+fn values_of_owning_walks(rt: HostRuntime) {
+    values_of_walks::<0>(&rt);
+    values_of_walks::<1>(&rt);
+    values_of_walks::<2>(&rt);
+    values_of_walks::<8>(&rt);
+    values_of_walks::<16>(&rt);
+    values_of_walks::<64>(&rt);
 }

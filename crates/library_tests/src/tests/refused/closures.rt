@@ -121,3 +121,39 @@ fn closures(rt: HostRuntime) {
 fn closures_of_keys(rt: HostRuntime) {
     assert_ways(&rt, true);
 }
+
+// Beside a key of three bytes comes one of two that parts from it after the first. A closure runs
+// exactly if there is memory for that. The value at stored bytes is set whatever memory there is.
+fn put_beside(rt: &(impl Abort + Print), map: &mut TreeMap<&[u8], usize, 2>) -> bool {
+    let (long, short): (&[u8], &[u8]) = (&[1, 2, 3], &[1, 9]);
+    if map.try_insert(long, 1).is_err() {
+        say_refused(rt);
+        return false;
+    }
+    assert!(rt; matches!(map.try_insert(long, 5), Ok(Some(1))));
+    let mut ran = false;
+    let put = match map.try_entry(short) {
+        Ok(entry) => entry
+            .or_insert_with(|| {
+                ran = true;
+                3
+            })
+            .is_ok(),
+        Err(_) => panic!(rt; "no key conflicts"),
+    };
+    if !put {
+        say_refused(rt);
+    }
+    assert!(rt; ran == put && map.contains_key(&short) == put);
+    assert!(rt; map.get(&long) == Some(&5) && map.inner_nodes() == put as usize);
+    put
+}
+
+#[test]
+fn a_closure_beside_a_longer_key(rt: HostRuntime) {
+    let mut map = TreeMap::with_prefix_len(rt.alloc());
+    let put = put_beside(&rt, &mut map);
+    let len = map.len();
+    drop(map);
+    assert!(rt; !put || len == 2);
+}

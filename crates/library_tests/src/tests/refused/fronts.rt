@@ -6,7 +6,7 @@ use std::iter::Iterator;
 use std::process::Abort;
 
 // Keys that are their own values.
-type Map = TreeMap<u8, u8, 2>;
+type Map<const P: usize> = TreeMap<u8, u8, P>;
 
 type Set = TreeSet<u8, 2>;
 
@@ -16,13 +16,13 @@ const KEYS: [u8; 18] = [
 ];
 
 // Puts the keys 1 to 60. Answers whether there was memory for all, and how many were not given.
-fn extend(map: &mut Map) -> (bool, usize) {
+fn extend<const P: usize>(map: &mut Map<P>) -> (bool, usize) {
     let mut keys = 1..61u8;
     let is_all = map.extend((&mut keys).zip(1..61u8)).is_ok();
     (is_all, keys.len())
 }
 
-fn extend_copied(map: &mut Map) -> (bool, usize) {
+fn extend_copied<const P: usize>(map: &mut Map<P>) -> (bool, usize) {
     let mut keys = KEYS.iter();
     let is_all = map.extend_copied((&mut keys).zip(KEYS.iter())).is_ok();
     (is_all, keys.len())
@@ -41,7 +41,7 @@ fn extend_set_copied(set: &mut Set) -> (bool, usize) {
 }
 
 // The last key, if it is its own value.
-fn last_of(map: &Map) -> Option<u8> {
+fn last_of<const P: usize>(map: &Map<P>) -> Option<u8> {
     match map.last_key_value() {
         Some((key, value)) if *key == *value => Some(*key),
         _ => None,
@@ -64,10 +64,9 @@ fn assert_front(
     assert!(rt; len == count && usize::from(last.unwrap_or(0)) == count);
 }
 
-#[test]
-fn pairs(rt: HostRuntime) {
+fn pairs<const P: usize>(rt: &(impl Abort + AllocGlobal + Print)) {
     for is_copied in [false, true] {
-        let mut map = Map::with_prefix_len(rt.alloc());
+        let mut map = Map::<P>::with_prefix_len(rt.alloc());
         let (ran, all) = if is_copied {
             (extend_copied(&mut map), 18)
         } else {
@@ -75,8 +74,39 @@ fn pairs(rt: HostRuntime) {
         };
         let (len, last) = (map.len(), last_of(&map));
         drop(map);
-        assert_front(&rt, ran, all, len, last);
+        assert_front(rt, ran, all, len, last);
     }
+}
+
+// A test for each length, so that each has its own first request.
+#[test]
+fn pairs_at_0(rt: HostRuntime) {
+    pairs::<0>(&rt);
+}
+
+#[test]
+fn pairs_at_1(rt: HostRuntime) {
+    pairs::<1>(&rt);
+}
+
+#[test]
+fn pairs_at_2(rt: HostRuntime) {
+    pairs::<2>(&rt);
+}
+
+#[test]
+fn pairs_at_8(rt: HostRuntime) {
+    pairs::<8>(&rt);
+}
+
+#[test]
+fn pairs_at_16(rt: HostRuntime) {
+    pairs::<16>(&rt);
+}
+
+#[test]
+fn pairs_at_64(rt: HostRuntime) {
+    pairs::<64>(&rt);
 }
 
 #[test]
