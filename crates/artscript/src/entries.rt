@@ -1,8 +1,11 @@
 //! The lines of a script that are calls of entries.
 //!
-//! [`enter`] and [`try_enter`] answer those of one key, [`enter_related`] those of a key and all that conflict with it, and [`enter_end`] those of the first pair and the last.
+//! [`enter`] and [`try_enter`] make those of one key, [`enter_related`] those of a key and all that
+//! conflict with it, and [`enter_end`] those of the first pair and the last.
 //!
-//! The size of an entry whose key type is a parameter is not known, so the functions that make one require that it fits in memory. And the borrow checker covers no such entry that is handed to a function, so each is made and used in one function, and what several do is a macro.
+//! The size of an entry whose key type is a parameter is not known, so the functions that make one
+//! require that it fits in memory. The borrow checker covers no such entry that is handed to a
+//! function, so each is made and used in one function. What several of these do is a macro.
 
 // Adds what the call answers of an entry at a pair.
 macro_rules! show_occupied {
@@ -34,7 +37,8 @@ macro_rules! show_pair {
     };
 }
 
-// Adds the pair of an entry, or what the next call answers of the entry, or that there was no memory.
+// Adds the pair of an entry, or what the next call of the entry answers, or that there was no
+// memory.
 macro_rules! show_placed {
     ($placed:expr, $then:expr, $text:expr) => {
         match $then {
@@ -61,8 +65,8 @@ macro_rules! show_value {
     }};
 }
 
-// Adds the pair whose entry the call of an entry answers, or what the next call answers of that one.
-// A call of an entry at a pair is made of its place, which `or_insert_entry` gives as it is.
+// Adds the pair of the entry that the call returns, or what the next call of that entry answers. A
+// call of an entry at a pair is made of that entry, which `or_insert_entry` returns as it is.
 macro_rules! show_place {
     ($entry:expr, $line:expr, $text:expr) => {{
         let value = $line.call.number;

@@ -1,6 +1,6 @@
 //! The calls of prefix entries, and their words.
 use crate::answered::Unanswered;
-use crate::entry_calls::{EntryGroup, EntryLine};
+use crate::entry_calls::{EntryCall, EntryGroup, EntryLine};
 use crate::names::named;
 use crate::reading::Words;
 
@@ -8,7 +8,7 @@ use crate::reading::Words;
 #[derive(Clone, Copy)]
 pub enum PrefixCall<'a> {
     /// One that entries have too.
-    Shared(EntryLine),
+    Shared(EntryCall),
     /// One of these that the entry's kind has too, made of that.
     OfKind(EntryLine),
     /// One that prefix entries alone have, or that theirs differs in, with its number, or 0 where it has none.
@@ -73,7 +73,7 @@ impl<'a> PrefixCall<'a> {
         }
         match named(&NAMES, word) {
             Some(name) => Ok(PrefixCall::Own(name, rest.number_if(name.has_number())?)),
-            None => Ok(PrefixCall::Shared(EntryLine::after(None, words)?)),
+            None => Ok(PrefixCall::Shared(EntryCall::read(words)?)),
         }
     }
 }

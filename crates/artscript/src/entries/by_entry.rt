@@ -32,8 +32,9 @@ pub fn enter<K: ScriptKey + NoPrefixesBytes, const P: usize>(
     Ok(())
 }
 
-// The entry of the key, if its kind has the call, after what is added to its value. Its kind is written.
-fn open<'a, K: ScriptKey + NoPrefixesBytes, const P: usize>(
+// The entry of the key, if its kind has the call, after what is added to its value. Its kind is
+// written.
+fn open<'a, K: NoPrefixesBytes + Drop, const P: usize>(
     map: &'a mut TreeMap<K, u64, P>,
     key: K,
     line: EntryLine,
@@ -54,7 +55,7 @@ fn open<'a, K: ScriptKey + NoPrefixesBytes, const P: usize>(
 }
 
 // Adds the entry's key.
-fn of_key<K: ScriptKey + NoPrefixesBytes, const P: usize>(
+fn of_key<K: NoPrefixesBytes + Shown + Drop, const P: usize>(
     map: &mut TreeMap<K, u64, P>,
     key: K,
     line: EntryLine,
@@ -68,7 +69,7 @@ fn of_key<K: ScriptKey + NoPrefixesBytes, const P: usize>(
 }
 
 // Adds the value that the call lends.
-fn of_value<K: ScriptKey + NoPrefixesBytes, const P: usize>(
+fn of_value<K: NoPrefixesBytes + Drop, const P: usize>(
     map: &mut TreeMap<K, u64, P>,
     key: K,
     line: EntryLine,
@@ -81,8 +82,8 @@ fn of_value<K: ScriptKey + NoPrefixesBytes, const P: usize>(
     }
 }
 
-// Adds the pair whose entry the call answers, or what the next call answers of that entry.
-fn of_place<K: ScriptKey + NoPrefixesBytes, const P: usize>(
+// Adds the pair of the entry that the call returns, or what the next call of that entry answers.
+fn of_place<K: NoPrefixesBytes + Shown + Drop, const P: usize>(
     map: &mut TreeMap<K, u64, P>,
     key: K,
     line: EntryLine,
@@ -96,7 +97,7 @@ fn of_place<K: ScriptKey + NoPrefixesBytes, const P: usize>(
 }
 
 // Adds what the call answers of an entry where no pair stands.
-fn of_vacant<K: ScriptKey + NoPrefixesBytes, const P: usize>(
+fn of_vacant<K: NoPrefixesBytes + Shown + Drop, const P: usize>(
     map: &mut TreeMap<K, u64, P>,
     key: K,
     line: EntryLine,

@@ -3,7 +3,7 @@ ghost use denote.Builtin.{u64};
 ghost use Rattle.blart_map.specs.EntryFits.{EntryFits};
 
 use crate::entries::kinds::{EntryOf, has_calls, kind_of};
-use blart_keys::InsertPrefixError;
+use blart_keys::{AsBytes, InsertPrefixError};
 use blart_map::{Entry, TreeMap};
 use script_words::{
     Answered, EntryGroup, EntryLine, EntryName, ScriptKey, Shown, Text, Unanswered, Words,
@@ -32,8 +32,9 @@ pub fn try_enter<K: ScriptKey, const P: usize>(
     Ok(())
 }
 
-// The entry of the key, if its kind has the call, after what is added to its value. Its kind is written, or in its place that the key conflicts.
-fn open<'a, K: ScriptKey, const P: usize>(
+// The entry of the key, if its kind has the call, after what is added to its value. Its kind is
+// written, or in its place that the key conflicts.
+fn open<'a, K: AsBytes + Drop, const P: usize>(
     map: &'a mut TreeMap<K, u64, P>,
     key: K,
     line: EntryLine,
@@ -60,7 +61,7 @@ fn open<'a, K: ScriptKey, const P: usize>(
 }
 
 // Adds the entry's key.
-fn of_key<K: ScriptKey, const P: usize>(
+fn of_key<K: AsBytes + Shown + Drop, const P: usize>(
     map: &mut TreeMap<K, u64, P>,
     key: K,
     line: EntryLine,
@@ -74,7 +75,7 @@ fn of_key<K: ScriptKey, const P: usize>(
 }
 
 // Adds the value that the call lends.
-fn of_value<K: ScriptKey, const P: usize>(
+fn of_value<K: AsBytes + Drop, const P: usize>(
     map: &mut TreeMap<K, u64, P>,
     key: K,
     line: EntryLine,
@@ -87,8 +88,8 @@ fn of_value<K: ScriptKey, const P: usize>(
     }
 }
 
-// Adds the pair whose entry the call answers, or what the next call answers of that entry.
-fn of_place<K: ScriptKey, const P: usize>(
+// Adds the pair of the entry that the call returns, or what the next call of that entry answers.
+fn of_place<K: AsBytes + Shown + Drop, const P: usize>(
     map: &mut TreeMap<K, u64, P>,
     key: K,
     line: EntryLine,
@@ -102,7 +103,7 @@ fn of_place<K: ScriptKey, const P: usize>(
 }
 
 // Adds what the call answers of an entry where no pair stands.
-fn of_vacant<K: ScriptKey, const P: usize>(
+fn of_vacant<K: AsBytes + Shown + Drop, const P: usize>(
     map: &mut TreeMap<K, u64, P>,
     key: K,
     line: EntryLine,

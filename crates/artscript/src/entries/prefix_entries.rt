@@ -29,7 +29,7 @@ pub fn enter_related<K: ScriptKey, const P: usize>(
     let call = PrefixCall::read(words)?;
     let key = words.key_of(word)?;
     match call {
-        PrefixCall::Shared(line) => show_shared(map, key, line, text),
+        PrefixCall::Shared(call) => show_shared(map, key, call, text),
         PrefixCall::OfKind(line) => show_of_kind(map, key, line, text),
         PrefixCall::Own(name, number) => show_own(map, key, name, number, text),
         PrefixCall::Iter(letters) => walk_inner(map, key, letters, text),
@@ -39,25 +39,25 @@ pub fn enter_related<K: ScriptKey, const P: usize>(
 }
 
 // Makes a call that entries have too.
-fn show_shared<K: ScriptKey, const P: usize>(
+fn show_shared<K: AsBytes + Shown + Drop, const P: usize>(
     map: &mut MapOf<K, P>,
     key: K,
-    line: EntryLine,
+    call: EntryCall,
     text: &mut Text,
 )
     requires { PrefixEntryFits K.row u64 P.row K.AsBytes }
 {
-    match line.call.name.group() {
+    match call.name.group() {
         EntryGroup::Key => show_key(map, key, false, text),
-        EntryGroup::Value => show_value(map, key, line.call, text),
-        EntryGroup::Place => show_place(map, key, line, text),
-        EntryGroup::Occupied => show_leaf(map, key, line, text),
-        EntryGroup::Vacant => show_vacant(map, key, line.call, text),
+        EntryGroup::Value => show_value(map, key, call, text),
+        EntryGroup::Place => show_place(map, key, call, text),
+        EntryGroup::Occupied => show_leaf(map, key, call, text),
+        EntryGroup::Vacant => show_vacant(map, key, call, text),
     }
 }
 
 // Makes a call of the entry's kind.
-fn show_of_kind<K: ScriptKey, const P: usize>(
+fn show_of_kind<K: AsBytes + Shown + Drop, const P: usize>(
     map: &mut MapOf<K, P>,
     key: K,
     line: EntryLine,
@@ -72,7 +72,7 @@ fn show_of_kind<K: ScriptKey, const P: usize>(
 }
 
 // Makes a call that prefix entries alone have, or that theirs differs in.
-fn show_own<K: ScriptKey, const P: usize>(
+fn show_own<K: AsBytes + Shown + Drop, const P: usize>(
     map: &mut MapOf<K, P>,
     key: K,
     name: PrefixName,
@@ -114,7 +114,7 @@ fn kind_of_related<K: AsBytes, const P: usize>(
 }
 
 // Adds the entry's key, or the key of its pair, where it has one.
-fn show_key<K: ScriptKey, const P: usize>(
+fn show_key<K: AsBytes + Shown + Drop, const P: usize>(
     map: &mut MapOf<K, P>,
     key: K,
     is_found: bool,
@@ -133,7 +133,7 @@ fn show_key<K: ScriptKey, const P: usize>(
 }
 
 // Adds the value that the call lends.
-fn show_value<K: ScriptKey, const P: usize>(
+fn show_value<K: AsBytes + Drop, const P: usize>(
     map: &mut MapOf<K, P>,
     key: K,
     call: EntryCall,
@@ -146,22 +146,29 @@ fn show_value<K: ScriptKey, const P: usize>(
     show_value!(entry, call, text)
 }
 
-// Adds the pair whose entry the call answers, or what the next call answers of that entry.
-fn show_place<K: ScriptKey, const P: usize>(
+// Adds the pair whose entry the call answers.
+fn show_place<K: AsBytes + Shown + Drop, const P: usize>(
     map: &mut MapOf<K, P>,
     key: K,
-    line: EntryLine,
+    call: EntryCall,
     text: &mut Text,
 )
     requires { PrefixEntryFits K.row u64 P.row K.AsBytes }
 {
     let entry = map.prefix_entry(key);
     text.push(kind_of(&entry));
-    show_place!(entry, line, text)
+    let placed = match call.name {
+        EntryName::OrInsertEntry => entry.or_insert_entry(call.number),
+        EntryName::OrDefaultEntry => entry.or_default_entry(),
+        EntryName::OrInsertWithEntry => entry.or_insert_with_entry(|| call.number),
+        EntryName::OrInsertWithKeyEntry => entry.or_insert_with_key_entry(length_of),
+        _ => entry.insert_entry(call.number),
+    };
+    show_pair!(placed, text)
 }
 
 // Adds the value that the call of the entry's kind lends.
-fn show_kind_value<K: ScriptKey, const P: usize>(
+fn show_kind_value<K: AsBytes + Drop, const P: usize>(
     map: &mut MapOf<K, P>,
     key: K,
     call: EntryCall,
@@ -175,8 +182,9 @@ fn show_kind_value<K: ScriptKey, const P: usize>(
     show_value!(entry, call, text)
 }
 
-// Adds the pair whose entry the call of the entry's kind answers, or what the next call answers of it.
-fn show_kind_place<K: ScriptKey, const P: usize>(
+// Adds the pair of the entry that the call of the entry's kind returns, or what the next call of
+// that entry answers.
+fn show_kind_place<K: AsBytes + Shown + Drop, const P: usize>(
     map: &mut MapOf<K, P>,
     key: K,
     line: EntryLine,
@@ -191,7 +199,7 @@ fn show_kind_place<K: ScriptKey, const P: usize>(
 }
 
 // Adds what the call answers of an entry to which pairs are related.
-fn show_related<K: ScriptKey, const P: usize>(
+fn show_related<K: AsBytes + Shown + Drop, const P: usize>(
     map: &mut MapOf<K, P>,
     key: K,
     name: PrefixName,
@@ -215,7 +223,7 @@ fn show_related<K: ScriptKey, const P: usize>(
 }
 
 // Puts a pair in the place of the related ones, and adds what the call answers.
-fn set_related<K: ScriptKey, const P: usize>(
+fn set_related<K: AsBytes + Shown + Drop, const P: usize>(
     map: &mut MapOf<K, P>,
     key: K,
     name: PrefixName,
@@ -237,11 +245,12 @@ fn set_related<K: ScriptKey, const P: usize>(
     }
 }
 
-// Adds what the call answers of an entry at a pair, which `or_insert_entry` gives as it is. Its `get` and `get_mut` are those of every prefix entry with pairs.
-fn show_leaf<K: ScriptKey, const P: usize>(
+// Adds what the call answers of an entry at a pair, which `or_insert_entry` returns as it is. Its
+// `get` and `get_mut` are those of every prefix entry with pairs.
+fn show_leaf<K: AsBytes + Shown + Drop, const P: usize>(
     map: &mut MapOf<K, P>,
     key: K,
-    line: EntryLine,
+    call: EntryCall,
     text: &mut Text,
 )
     requires { PrefixEntryFits K.row u64 P.row K.AsBytes }
@@ -251,11 +260,14 @@ fn show_leaf<K: ScriptKey, const P: usize>(
     if !matches!(entry, PrefixEntry::Occupied(PrefixOccupied::Leaf(_))) {
         return text.stop(Unanswered::NoCall);
     }
-    show_place!(entry, line, text)
+    match entry.or_insert_entry(0) {
+        Ok(mut place) => show_occupied!(place, call, text),
+        Err(refused) => text.stop(Unanswered::Memory(refused)),
+    }
 }
 
 // Adds what the call answers of an entry in the place of pairs.
-fn show_inner<K: ScriptKey, const P: usize>(
+fn show_inner<K: AsBytes + Shown + Drop, const P: usize>(
     map: &mut MapOf<K, P>,
     key: K,
     name: PrefixName,
@@ -289,7 +301,7 @@ fn show_inner<K: ScriptKey, const P: usize>(
 }
 
 // Walks over the pairs in whose place the entry is.
-fn walk_inner<K: ScriptKey, const P: usize>(
+fn walk_inner<K: AsBytes + Shown + Drop, const P: usize>(
     map: &mut MapOf<K, P>,
     key: K,
     letters: Option<&[u8]>,
@@ -307,7 +319,7 @@ fn walk_inner<K: ScriptKey, const P: usize>(
 }
 
 // Adds to the values of the pairs in whose place the entry is.
-fn lend_inner<K: ScriptKey, const P: usize>(
+fn lend_inner<K: AsBytes + Shown + Drop, const P: usize>(
     map: &mut MapOf<K, P>,
     key: K,
     add: u64,
@@ -326,7 +338,7 @@ fn lend_inner<K: ScriptKey, const P: usize>(
 }
 
 // Adds what the call answers of an entry where no pair stands.
-fn show_vacant<K: ScriptKey, const P: usize>(
+fn show_vacant<K: AsBytes + Shown + Drop, const P: usize>(
     map: &mut MapOf<K, P>,
     key: K,
     call: EntryCall,
