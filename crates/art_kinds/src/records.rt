@@ -7,3 +7,5 @@ pub(crate) mod indexed;
 mod inner;
 mod link;
 pub(crate) mod nodes;
+#[cfg(test)]
+mod tests;

@@ -11,11 +11,11 @@ use std::marker::Model;
 #[derive(Drop)]
 pub(crate) struct Ids {
     /// The id of each cell.
-    ids: Words,
+    pub(crate) ids: Words,
     /// The cell of each id.
-    cells: Words,
+    pub(crate) cells: Words,
     /// The number of cells that have an id. The words after these have no meaning.
-    count: usize,
+    pub(crate) count: usize,
 }
 
 impl Model for Ids {

@@ -175,7 +175,7 @@ impl<K, V> Leaves<K, V> {
 
     /// Returns the cell at a position, if there is one.
     #[inline(always)]
-    fn cell_at(&self, seen: Position) -> Option<CellId>
+    pub(crate) fn cell_at(&self, seen: Position) -> Option<CellId>
         ensures { IfSome result (Has self.now.pairs) }
     {
         let row = self.rows.get(seen.row)?;

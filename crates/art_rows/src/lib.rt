@@ -12,6 +12,8 @@ mod ids;
 mod leaves;
 mod row;
 mod run;
+#[cfg(test)]
+mod tests;
 
 pub use art_slots::{CellId, Visits};
 pub use following::Following;

@@ -40,9 +40,9 @@ pub(crate) const CELLS: [u8; 64] = [
 /// keys, and then the others. A contract sees the list of the numbers of those in use.
 #[derive(Drop)]
 pub(crate) struct Row {
-    block: usize,
-    count: usize,
-    cells: [u8; 64],
+    pub(crate) block: usize,
+    pub(crate) count: usize,
+    pub(crate) cells: [u8; 64],
 }
 
 impl Model for Row {

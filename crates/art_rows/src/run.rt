@@ -14,8 +14,8 @@ use std::marker::Model;
 /// contract sees the list of the numbers.
 #[derive(Drop)]
 pub struct Run<'a> {
-    first: usize,
-    cells: &'a [u8],
+    pub(crate) first: usize,
+    pub(crate) cells: &'a [u8],
 }
 
 impl<'a> Model for Run<'a> {

@@ -7,7 +7,7 @@ use std::marker::Model;
 /// placed. A contract sees the number.
 #[derive(Clone, Copy, PartialEq, Eq)]
 pub struct CellId {
-    number: usize,
+    pub(crate) number: usize,
 }
 
 impl Model for CellId {

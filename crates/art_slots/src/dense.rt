@@ -14,7 +14,7 @@ use std::marker::Model;
 /// [`Dense::has_next`] before each push.
 #[derive(Drop)]
 pub(crate) struct Dense<T> {
-    slab: Slab<T>,
+    pub(crate) slab: Slab<T>,
 }
 
 impl<T> Model for Dense<T> {

@@ -10,6 +10,8 @@ mod dense;
 mod slots;
 mod store;
 mod table;
+#[cfg(test)]
+mod tests;
 mod visits;
 mod words;
 

@@ -56,12 +56,12 @@ impl<T: Clone> Clone for Slot<T> {
 /// each slot is less than the top.
 #[derive(Drop)]
 pub struct Slots<T> {
-    slab: Slab<Slot<T>>,
+    pub(crate) slab: Slab<Slot<T>>,
     // The first spare slot.
-    free: Option<usize>,
-    spare: usize,
+    pub(crate) free: Option<usize>,
+    pub(crate) spare: usize,
     // No slot has a number as great.
-    top: usize,
+    pub(crate) top: usize,
 }
 
 impl<T> Model for Slots<T> {

@@ -15,9 +15,9 @@ use std::marker::Model;
 /// written before a record comes there.
 #[derive(Drop)]
 pub struct Store<T> {
-    slots: Slots<T>,
+    pub(crate) slots: Slots<T>,
     // How many places of the slots' room are spare slots of the store.
-    reserved: usize,
+    pub(crate) reserved: usize,
 }
 
 impl<T> Model for Store<T> {

@@ -55,9 +55,9 @@ impl<T: Clone> Clone for Cell<T> {
 /// cleared.
 #[derive(Drop)]
 pub struct Table<T> {
-    cells: Dense<Cell<T>>,
+    pub(crate) cells: Dense<Cell<T>>,
     // The number of full cells.
-    used: usize,
+    pub(crate) used: usize,
 }
 
 impl<T> Model for Table<T> {

@@ -15,7 +15,7 @@ const MOST: usize = (1 << 61) - BLOCK;
 /// Numbers that follow one another.
 #[derive(Drop)]
 pub(crate) struct Block {
-    words: [usize; BLOCK],
+    pub(crate) words: [usize; BLOCK],
 }
 
 impl Clone for Block {
@@ -34,7 +34,7 @@ impl Clone for Block {
 /// block is removed until the list is cleared.
 #[derive(Drop)]
 pub struct Words {
-    blocks: Dense<Block>,
+    pub(crate) blocks: Dense<Block>,
 }
 
 impl Model for Words {

@@ -9,7 +9,7 @@ use std::marker::Model;
 /// What stands below an edge: its number times eight, and its kind. A contract sees the child.
 #[derive(Clone, Copy)]
 pub(crate) struct Link {
-    word: usize,
+    pub(super) word: usize,
 }
 
 impl Model for Link {
@@ -79,7 +79,7 @@ impl Link {
 /// the child or nothing.
 #[derive(Clone, Copy)]
 pub(crate) struct OptionLink {
-    word: usize,
+    pub(super) word: usize,
 }
 
 impl Model for OptionLink {

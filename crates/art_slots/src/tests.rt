@@ -1,0 +1,107 @@
+//! Records of a thousand keys taken apart. Each pattern names every field of its type, so that no
+//! field is added without a look at what it holds.
+ghost use Rattle.std.specs.Prelude.{◌<◌};
+
+use crate::cell_id::CellId;
+use crate::dense::Dense;
+use crate::slots::{Slot, Slots};
+use crate::store::Store;
+use crate::table::{Cell, Table};
+use crate::words::{Block, Words};
+use std::process::Abort;
+
+type Key = [u8; 3];
+
+// The key of a place below 1,000, with a byte for each of its digits.
+fn key_of(place: usize) -> Key {
+    let byte_of = |digit: usize| ((digit % 10) as u8).wrapping_mul(37).wrapping_add(100);
+    [byte_of(place / 100), byte_of(place / 10), byte_of(place)]
+}
+
+// Adds a cell with a key.
+fn add(rt: &impl Abort, table: &mut Table<Key>, key: Key) {
+    let id = table.len();
+    table.grow(id + 1).expect(rt, "memory");
+    table.put(id, key);
+}
+
+#[test]
+fn a_table_taken_apart(rt: HostRuntime) {
+    let mut table = Table::new(rt.alloc());
+    for place in 0..1000 {
+        add(&rt, &mut table, key_of(place));
+    }
+    table.grow(1001).expect(&rt, "memory");
+    let Table { cells, used } = table;
+    let Dense { slab } = cells;
+    assert!(rt; used == 1000 && slab.len() == 1001);
+    for place in 0..1000 {
+        let Some(Cell::Full(key)) = slab.get(place) else {
+            panic!(rt; "a full cell");
+        };
+        assert!(rt; *key == key_of(place));
+    }
+    assert!(rt; matches!(slab.get(1000), Some(Cell::Empty)));
+}
+
+#[test]
+fn a_store_taken_apart(rt: HostRuntime) {
+    let mut store = Store::new(rt.alloc());
+    for place in 0..1002 {
+        store.reserve(1).expect(&rt, "memory");
+        let id = store.fill(key_of(place));
+        assert!(rt; id == place);
+    }
+    for place in 1000..1002 {
+        assert!(rt; store.has(place));
+        store.remove(place);
+    }
+    let Store { slots, reserved } = store;
+    let Slots {
+        slab,
+        free,
+        spare,
+        top,
+    } = slots;
+    assert!(rt; slab.len() == 1002 && spare == 2 && top == 1002);
+    assert!(rt; free == Some(1001) && reserved <= slab.capacity().wrapping_sub(1002));
+    for place in 0..1000 {
+        let Some(Slot::Used(key)) = slab.get(place) else {
+            panic!(rt; "a record");
+        };
+        assert!(rt; *key == key_of(place));
+    }
+    assert!(rt; matches!(slab.get(1000), Some(Slot::Spare(None))));
+    assert!(rt; matches!(slab.get(1001), Some(Slot::Spare(Some(1000)))));
+}
+
+// The number at a place of a block.
+fn word_at(block: &Block, place: usize) -> usize
+    requires { place < 64 }
+{
+    let Block { words } = block;
+    words[place]
+}
+
+#[test]
+fn words_taken_apart(rt: HostRuntime) {
+    let mut words = Words::new(rt.alloc());
+    words.grow(1000).expect(&rt, "memory");
+    for i in 0..1000 {
+        assert!(rt; i < words.len());
+        words.write(i, i);
+    }
+    let Words { blocks } = words;
+    let Dense { slab } = blocks;
+    assert!(rt; slab.len() == 16);
+    for place in 0..1024 {
+        let word = word_at(slab.get(place / 64).expect(&rt, "a block"), place % 64);
+        assert!(rt; word == if place < 1000 { place } else { 0 });
+    }
+}
+
+#[test]
+fn a_number_taken_apart(rt: HostRuntime) {
+    let CellId { number } = CellId::new(7);
+    assert!(rt; number == 7);
+}
