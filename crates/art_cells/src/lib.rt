@@ -7,6 +7,8 @@
 
 mod lists;
 pub mod pair_list;
+#[cfg(test)]
+mod tests;
 mod tree;
 mod walk;
 

@@ -17,7 +17,7 @@ pub mod build;
 mod change;
 mod clone;
 mod cut;
-mod descent;
+pub(crate) mod descent;
 mod free_subtree;
 pub mod parting;
 pub mod place;

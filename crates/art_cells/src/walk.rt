@@ -77,13 +77,13 @@ fn without_last<'a, K, V>(
 /// their keys. Each step reads one leaf. Once no pair is left, each step returns `None`.
 #[derive(Drop)]
 pub struct CellWalk<'a, K, V> {
-    leaves: &'a Leaves<K, V>,
+    pub(crate) leaves: &'a Leaves<K, V>,
     // the first and the last leaf
-    ends: Option<(CellId, CellId)>,
+    pub(crate) ends: Option<(CellId, CellId)>,
     // what follows the first leaf, if that is not the last, and the leaves before the last one in
     // its row: a step that finds its leaf here searches no row
-    following: Following<'a>,
-    before: Run<'a>,
+    pub(crate) following: Following<'a>,
+    pub(crate) before: Run<'a>,
 }
 
 impl<'a, K, V> Model for CellWalk<'a, K, V> {

@@ -1,0 +1,175 @@
+//! A tree of a thousand keys, each with the number of keys before it as value, taken apart: what it
+//! is made of, and that nothing else is there. Each pattern names every field of its type, so that
+//! no field is added without a look at what it holds.
+use crate::pair_list::CellPairs;
+use crate::tree::CellTree;
+use crate::tree::build::Frame;
+use crate::tree::descent::Spot;
+use crate::tree::parting::Beside;
+use crate::tree::point::{CellPlace, CellPoint};
+use crate::walk::CellWalk;
+use art_kinds::{Child, NodeRef, Nodes};
+use art_slots::{CellId, Visits};
+use std::process::Abort;
+
+// A tree whose nodes keep no byte of a key but the bytes that choose a child.
+type Bare = CellTree<[u8; 3], usize, 0>;
+
+// The byte of a digit.
+fn byte_of(digit: usize) -> u8 {
+    ((digit % 10) as u8).wrapping_mul(37).wrapping_add(100)
+}
+
+// The key of a place below 1,000, with a byte for each of its digits.
+fn key_of(place: usize) -> [u8; 3] {
+    [byte_of(place / 100), byte_of(place / 10), byte_of(place)]
+}
+
+// Adds a pair whose key is related to no other.
+fn add(rt: &impl Abort, tree: &mut Bare, place: usize) {
+    let key = key_of(place);
+    let point = tree.point(&key);
+    tree.make_room(&point).expect(rt, "memory");
+    match point {
+        CellPoint::Exact(_) | CellPoint::Related { .. } => panic!(rt; "the key conflicts"),
+        CellPoint::Empty | CellPoint::Free(_) => {
+            tree.place(point, key, place);
+        }
+    }
+}
+
+// The number of each key's leaf.
+type Numbers = [usize; 1000];
+
+// The numbers of the leaves of the pairs, in the order in which the pairs came.
+fn numbers_of(rt: &impl Abort, tree: &Bare) -> Numbers {
+    let mut numbers: Numbers = [0; 1000];
+    for place in 0..1000 {
+        let key = key_of(place);
+        let Some((id, stored, held)) = tree.get(&key, &mut Visits::new()) else {
+            panic!(rt; "a pair");
+        };
+        assert!(rt; *stored == key && *held == place);
+        numbers[place] = id.number();
+    }
+    numbers
+}
+
+// The node that an edge leads to. The node is at this depth, keeps none of its prefix, and has ten
+// edges.
+fn node_below<'a>(
+    rt: &impl Abort,
+    nodes: &'a Nodes<0>,
+    child: Option<Child>,
+    depth: usize,
+) -> NodeRef<'a, 0> {
+    match child.expect(rt, "an edge") {
+        Child::Leaf(_) => panic!(rt; "the edge leads to a leaf"),
+        Child::Inner(id) => {
+            assert!(rt; nodes.has(id));
+            let node = nodes.read(id, &mut Visits::new());
+            assert!(rt; node.depth() == depth && node.count() == 10);
+            assert!(rt; node.prefix().is_empty());
+            node
+        }
+    }
+}
+
+// The ten edges of the node lead to ten leaves, from one on.
+fn assert_leaves(rt: &impl Abort, node: &NodeRef<'_, 0>, numbers: &Numbers, from: usize) {
+    for digit in 0..10usize {
+        let number = numbers[from.wrapping_add(digit) % 1000];
+        match node.find(byte_of(digit)).expect(rt, "an edge") {
+            Child::Leaf(id) => assert!(rt; id.number() == number),
+            Child::Inner(_) => panic!(rt; "the edge leads to a node"),
+        }
+    }
+}
+
+// From the top, each edge leads to a node, and each at the third byte to the leaf of its key.
+fn assert_all(rt: &impl Abort, nodes: &Nodes<0>, root: Option<Child>, numbers: &Numbers) {
+    let top = node_below(rt, nodes, root, 0);
+    for first in 0..10 {
+        let middle = node_below(rt, nodes, top.find(byte_of(first)), 1);
+        for second in 0..10 {
+            let low = node_below(rt, nodes, middle.find(byte_of(second)), 2);
+            assert_leaves(rt, &low, numbers, first * 100 + second * 10);
+        }
+    }
+}
+
+// The place of a free point.
+fn place_of(rt: &impl Abort, tree: &Bare, query: &[u8]) -> CellPlace {
+    match tree.point(query) {
+        CellPoint::Free(place) => place,
+        CellPoint::Empty | CellPoint::Exact(_) => panic!(rt; "a place"),
+        CellPoint::Related { first: _, last: _ } => panic!(rt; "a place"),
+    }
+}
+
+// The places of bytes that leave the keys at a node, and beside a leaf. They name leaves and
+// nodes, and one byte of a key, which chose a child.
+fn assert_places(rt: &impl Abort, tree: &Bare, numbers: &Numbers) {
+    let CellPlace {
+        nearest,
+        depth,
+        beside,
+        spot,
+        byte,
+    } = place_of(rt, tree, &[100, 100, 101]);
+    assert!(rt; depth == 2 && nearest.number() == numbers[0] && byte == byte_of(0));
+    match beside {
+        Beside::AfterLeaf(id) => assert!(rt; id.number() == numbers[0]),
+        Beside::BeforeLeaf(_) => panic!(rt; "the place is after the leaf"),
+    }
+    match spot {
+        Spot::Node(above, _) => assert!(rt; above.is_some()),
+        Spot::Edge(_, _) => panic!(rt; "the bytes leave the keys at a node"),
+    }
+}
+
+// A walk over a tree holds the tree's leaves, the two ends, and rows.
+fn assert_walk(rt: &impl Abort, tree: &Bare) {
+    let CellWalk {
+        leaves,
+        ends,
+        following: _,
+        before: _,
+    } = CellWalk::new(tree, None);
+    assert!(rt; leaves.len() == 1000 && ends.is_none());
+}
+
+#[test]
+fn a_tree_taken_apart(rt: HostRuntime) {
+    let mut tree = Bare::new(rt.alloc());
+    for place in 0..1000 {
+        add(&rt, &mut tree, place);
+    }
+    let numbers = numbers_of(&rt, &tree);
+    assert_places(&rt, &tree, &numbers);
+    assert_walk(&rt, &tree);
+    let CellTree {
+        leaves,
+        nodes,
+        root,
+    } = tree;
+    assert_all(&rt, &nodes, root, &numbers);
+    let (live, len) = (nodes.live(), leaves.len());
+    drop(nodes);
+    drop(leaves);
+    // The keys part after no byte, after each byte and after each two bytes.
+    assert!(rt; live == 1 + 10 + 100 && len == 1000);
+}
+
+#[test]
+fn pairs_taken_apart(rt: HostRuntime) {
+    let CellPairs { leaves } = CellPairs::<u8, u8>::new(rt.alloc());
+    assert!(rt; leaves.len() == 0);
+    drop(leaves);
+    let frame = Frame::<0>::new(rt.alloc(), 1000).expect(&rt, "memory");
+    let Frame { nodes, loose } = frame;
+    let (live, len) = (nodes.live(), loose.len());
+    drop(nodes);
+    drop(loose);
+    assert!(rt; live == 0 && len == 0);
+}
