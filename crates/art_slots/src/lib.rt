@@ -7,6 +7,7 @@
 
 mod cell_id;
 mod dense;
+mod growth;
 mod slots;
 mod store;
 mod table;

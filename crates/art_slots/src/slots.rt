@@ -4,6 +4,7 @@ ghost use Rattle.art_slots.specs.Store.{slot_at, used_count, SameRecords, AreClo
 ghost use Rattle.art_slots.specs.Chain.{used_of};
 ghost use Rattle.std.specs.Borrow.{Lends, sem};
 
+use crate::growth::make_room;
 use slab::Slab;
 use std::alloc::{AllocError, Global};
 use std::marker::Model;
@@ -207,7 +208,7 @@ impl<T> Slots<T> {
         ensures top { self.new.top ≡ self.old.top }
         ensures next { self.new.next ≡ self.old.next }
     {
-        self.slab.reserve(count)?;
+        make_room(&mut self.slab, count)?;
         if self.slab.capacity() > MOST {
             return Err(AllocError);
         }
