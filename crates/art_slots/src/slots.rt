@@ -10,14 +10,14 @@ use std::alloc::{AllocError, Global};
 use std::marker::Model;
 use std::mem;
 
-/// There are no more slots than this, and their numbers are less, so that the counts of a few
-/// stores have a sum, and a number and a kind fit one word.
+/// The most slots that there can be. Their numbers are less, so the sum of the counts of a few
+/// stores does not overflow, and a number and a kind fit in one word.
 const MOST: usize = (1 << 61) - 1;
 
 #[derive(Drop)]
 pub(crate) enum Slot<T> {
     Used(T),
-    // A spare slot, with the number of the next one.
+    /// A spare slot, with the number of the next one.
     Spare(Option<usize>),
 }
 
@@ -49,19 +49,19 @@ impl<T: Clone> Clone for Slot<T> {
     }
 }
 
-/// Records under numbers, in slots. A slot that a record leaves is spare, and names the next spare
-/// one. A contract sees the records and how many slots are spare as a store, and the room: how many
-/// slots more there can be with no memory.
+/// Records under numbers, in slots. A slot that loses its record becomes spare, and names the next
+/// spare slot. A contract sees the records and the number of spare slots as a store. It also sees
+/// the room, which is the number of slots that can be added without an allocation.
 ///
-/// The room is the slab's, and none where a number of that slab may be too great. The number of
+/// The room is that of the slab, or none if a number of the slab may be too great. The number of
 /// each slot is less than the top.
 #[derive(Drop)]
 pub struct Slots<T> {
     pub(crate) slab: Slab<Slot<T>>,
-    // The first spare slot.
+    /// The first spare slot.
     pub(crate) free: Option<usize>,
     pub(crate) spare: usize,
-    // No slot has a number as great.
+    /// A number that is greater than that of each slot.
     pub(crate) top: usize,
 }
 
@@ -84,7 +84,7 @@ impl<T> Model for Slots<T> {
 impl<T> Slots<T> {
     ghost use Rattle.art_slots.specs.SlotLends.{lends_slot};
 
-    /// No slots, which ask for no memory.
+    /// Returns no slots. Does not allocate.
     pub fn new(alloc: Global) -> Self
         ensures empty { result.store.slots ≡ [] }
         ensures spare { result.store.spare ≡ 0 }
@@ -99,14 +99,14 @@ impl<T> Slots<T> {
         }
     }
 
-    /// The number of the next new slot.
+    /// Returns the number of the next new slot.
     pub fn next(&self) -> usize
         ensures { result ≡ self.now.next }
     {
         self.slab.vacant_key()
     }
 
-    /// How many slots are spare.
+    /// Returns the number of spare slots.
     pub fn spare(&self) -> usize
         ensures value { result ≡ self.now.store.spare }
         ensures small { result + self.now.room < 2 ^ 61 }
@@ -114,7 +114,7 @@ impl<T> Slots<T> {
         self.spare
     }
 
-    /// How many slots more there can be with no memory.
+    /// Returns the number of slots that can be added without an allocation.
     pub fn room(&self) -> usize
         ensures { result ≡ self.now.room }
     {
@@ -125,7 +125,7 @@ impl<T> Slots<T> {
         capacity - self.slab.len()
     }
 
-    /// How many records there are.
+    /// Returns the number of records.
     pub fn used(&self) -> usize
         ensures count { result ≡ used_count self.now.store }
         ensures small { result < 2 ^ 61 }
@@ -133,7 +133,7 @@ impl<T> Slots<T> {
         self.slab.len() - self.spare
     }
 
-    /// The record at a number, if there is one.
+    /// Returns the record at a number, if there is one.
     pub fn get(&self, id: usize) -> Option<&T>
         ensures { option_map (λ r. r.now) result ≡ slot_at self.now.store id }
     {
@@ -143,7 +143,7 @@ impl<T> Slots<T> {
         }
     }
 
-    /// The record at a number.
+    /// Returns the record at a number.
     pub fn read(&self, id: usize) -> &T
         requires { IsSome (slot_at self.now.store id) }
         ensures value { slot_at self.now.store id ≡ Some result.now }
@@ -155,14 +155,14 @@ impl<T> Slots<T> {
         }
     }
 
-    /// Whether there is a record at a number.
+    /// Returns `true` if there is a record at a number.
     pub fn has(&self, id: usize) -> bool
         ensures { result ≡ is_some (slot_at self.now.store id) }
     {
         matches!(self.slab.get(id), Some(Slot::Used(_)))
     }
 
-    /// The record at a number, for writing.
+    /// Returns a mutable reference to the record at a number.
     pub fn get_mut(&mut self, id: usize) -> &mut T
         requires { IsSome (slot_at self.old.store id) }
         ensures* writes_back { sem 𝓛 (lends_slot T.row self.entry id result) }
@@ -172,7 +172,7 @@ impl<T> Slots<T> {
         self.slab[id].record_mut()
     }
 
-    /// Makes a new slot, a spare one.
+    /// Adds a spare slot. Does not allocate.
     pub fn add_spare(&mut self)
         requires { 0 < self.old.room }
         ensures same { SameRecords self.old.store self.new.store }
@@ -187,7 +187,7 @@ impl<T> Slots<T> {
         self.top = above(self.top, id);
     }
 
-    /// Makes so many new slots, spare ones.
+    /// Adds `count` spare slots. Does not allocate.
     pub fn add_spares(&mut self, count: usize)
         requires { count ≤ self.old.room }
         ensures same { SameRecords self.old.store self.new.store }
@@ -200,8 +200,8 @@ impl<T> Slots<T> {
         }
     }
 
-    /// Asks for memory where there is not so much room. The records and the spare slots stand
-    /// whatever the answer; where it is no, there may be less room than before.
+    /// Makes room for `count` more slots. Returns an error if it fails to allocate, and there may
+    /// be less room than before then. The records and the spare slots are unchanged in both cases.
     pub fn grow(&mut self, count: usize) -> Result<(), AllocError>
         ensures same { self.new.store ≡ self.old.store }
         ensures room { OnOk result (count ≤ self.new.room) }
@@ -217,7 +217,8 @@ impl<T> Slots<T> {
 }
 
 impl<T: Clone> Slots<T> {
-    /// Slots with a clone of each record under its number, and the same spare ones.
+    /// Returns slots with a clone of each record under its number, and the same spare slots, or an
+    /// error if it fails to allocate.
     pub fn clone(&self) -> Result<Self, AllocError>
         ensures cloned { IfOk result (λ copy. AreClones T.is_clone self.now.store copy.store) }
         ensures used { IfOk result (λ copy. used_count copy.store ≡ used_count self.now.store) }
@@ -234,7 +235,7 @@ impl<T: Clone> Slots<T> {
 }
 
 impl<T: Drop> Slots<T> {
-    /// Puts a record into the first spare slot, and gives its number.
+    /// Puts a record into the first spare slot, and returns its number.
     #[inline(always)]
     pub fn fill(&mut self, fresh: T) -> usize
         requires { 0 < self.old.store.spare }
@@ -261,7 +262,7 @@ impl<T: Drop> Slots<T> {
         id
     }
 
-    /// Puts a record into a new slot, and gives its number.
+    /// Puts a record into a new slot, and returns its number. Does not allocate.
     #[inline(always)]
     pub fn put(&mut self, fresh: T) -> usize
         requires { 0 < self.old.room }
@@ -278,7 +279,7 @@ impl<T: Drop> Slots<T> {
         id
     }
 
-    /// Takes a record out, and makes its slot a spare one.
+    /// Takes a record out. Its slot becomes spare.
     pub fn take(&mut self, id: usize) -> T
         requires { IsSome (slot_at self.old.store id) }
         ensures value { slot_at self.old.store id ≡ Some result }
@@ -299,7 +300,7 @@ impl<T: Drop> Slots<T> {
         }
     }
 
-    /// Drops a record, and makes its slot a spare one.
+    /// Drops a record. Its slot becomes spare.
     pub fn remove(&mut self, id: usize)
         requires { IsSome (slot_at self.old.store id) }
         ensures gone { slot_at self.new.store id ≡ None }
@@ -314,7 +315,7 @@ impl<T: Drop> Slots<T> {
         self.spare += 1;
     }
 
-    /// Drops every record and every slot, and keeps the memory.
+    /// Drops all records, removes all slots, and keeps the memory.
     pub fn clear(&mut self)
         ensures empty { self.new.store.slots ≡ [] }
         ensures spare { self.new.store.spare ≡ 0 }
@@ -328,7 +329,7 @@ impl<T: Drop> Slots<T> {
     }
 }
 
-// The least number that is as great as another and greater than this one.
+/// Returns the least number that is not less than `top` and is greater than `id`.
 fn above(top: usize, id: usize) -> usize
     requires { id < 2 ^ 61 }
     ensures { result ≡ max top (id + 1) }

@@ -7,16 +7,16 @@ use crate::slots::Slots;
 use std::alloc::{AllocError, Global};
 use std::marker::Model;
 
-/// Records under numbers. A number keeps its record until that is taken out. A contract sees the
-/// record at each number, and how many spare slots there are: a record that takes a spare slot asks
-/// for no memory.
+/// Records under numbers. A number keeps its record until the record is taken out. A contract sees
+/// the record at each number, and the number of spare slots. A record that goes into a spare slot
+/// needs no allocation.
 ///
-/// A slot that a record left is spare, and so is a place that was only reserved, which is not
-/// written before a record comes there.
+/// A slot that lost its record is spare. So is reserved memory for a slot, which is not written
+/// before a record goes there.
 #[derive(Drop)]
 pub struct Store<T> {
     pub(crate) slots: Slots<T>,
-    // How many places of the slots' room are spare slots of the store.
+    /// The part of the slots' room that counts as spare slots of the store.
     pub(crate) reserved: usize,
 }
 
@@ -36,7 +36,7 @@ impl<T> Model for Store<T> {
 impl<T> Store<T> {
     ghost use Rattle.art_slots.specs.Lends.{lends_record};
 
-    /// A store with no records, which asks for no memory.
+    /// Returns a store with no records. Does not allocate.
     pub fn new(alloc: Global) -> Self
         ensures empty { result.slots ≡ [] }
         ensures spare { result.spare ≡ 0 }
@@ -47,14 +47,14 @@ impl<T> Store<T> {
         }
     }
 
-    /// How many spare slots there are.
+    /// Returns the number of spare slots.
     pub fn spare(&self) -> usize
         ensures { result ≡ self.now.spare }
     {
         self.slots.spare() + self.reserved
     }
 
-    /// How many records there are.
+    /// Returns the number of records.
     #[inline(always)]
     pub fn used(&self) -> usize
         ensures count { result ≡ used_count self.now }
@@ -63,7 +63,7 @@ impl<T> Store<T> {
         self.slots.used()
     }
 
-    /// The record at a number.
+    /// Returns the record at a number.
     #[inline(always)]
     pub fn read(&self, id: usize) -> &T
         requires { IsSome (slot_at self.now id) }
@@ -72,7 +72,7 @@ impl<T> Store<T> {
         self.slots.read(id)
     }
 
-    /// Whether there is a record at a number.
+    /// Returns `true` if there is a record at a number.
     #[inline(always)]
     pub fn has(&self, id: usize) -> bool
         ensures { result ≡ is_some (slot_at self.now id) }
@@ -80,7 +80,7 @@ impl<T> Store<T> {
         self.slots.has(id)
     }
 
-    /// The record at a number, for writing.
+    /// Returns a mutable reference to the record at a number.
     #[inline(always)]
     pub fn get_mut(&mut self, id: usize) -> &mut T
         requires { IsSome (slot_at self.old id) }
@@ -90,8 +90,8 @@ impl<T> Store<T> {
         self.slots.get_mut(id)
     }
 
-    /// Adds spare slots until there are so many. Where there is no memory, the records stand, and
-    /// no spare slot is lost.
+    /// Adds spare slots until there are at least `count`. Returns an error if it fails to allocate.
+    /// The records are unchanged in both cases, and there are not fewer spare slots than before.
     #[inline(always)]
     pub fn reserve(&mut self, count: usize) -> Result<(), AllocError>
         ensures same { SameRecords self.old self.new }
@@ -106,8 +106,8 @@ impl<T> Store<T> {
         self.grow(count)
     }
 
-    // Adds spare slots until there are so many, where there are fewer. It stands apart, so that a
-    // call which finds enough of them is one comparison.
+    /// Adds spare slots until there are `count`, if there are fewer. This is a function of
+    /// its own, so that a call with enough spare slots is one comparison.
     #[cold]
     #[inline(never)]
     fn grow(&mut self, count: usize) -> Result<(), AllocError>
@@ -118,22 +118,21 @@ impl<T> Store<T> {
         ensures enough { OnOk result (count ≤ self.new.spare) }
     {
         let missing = count - self.spare();
-        // A slab that has grown may say any capacity, and only where that is small are the numbers
-        // still to come surely small. So the reserved places get their slots first, and keep what
-        // they promise.
+        // A slab that has grown may have any capacity by its contract. Only if that is small are
+        // the numbers of new slots surely small. So the reserved slots are added first.
         self.slots.add_spares(self.reserved);
         self.reserved = 0;
         self.slots.grow(missing)?;
-        // A slab takes more than it is asked for. All of it is reserved, so that the next calls ask
-        // for nothing.
+        // The slab may have grown by more than was asked. All of it is reserved, so that the next
+        // calls need not allocate.
         self.reserved = self.slots.room();
         Ok(())
     }
 }
 
 impl<T: Clone> Store<T> {
-    /// A store with a clone of each record under its number. It has the slots that this one has,
-    /// the spare ones too.
+    /// Returns a store with the same slots, also the spare ones, and a clone of each record, or an
+    /// error if it fails to allocate.
     pub fn clone(&self) -> Result<Self, AllocError>
         ensures cloned { IfOk result (AreClones T.is_clone self.now) }
         ensures used { IfOk result (λ copy. used_count copy ≡ used_count self.now) }
@@ -147,7 +146,7 @@ impl<T: Clone> Store<T> {
 }
 
 impl<T: Drop> Store<T> {
-    /// Puts a record into a spare slot, and gives its number.
+    /// Puts a record into a spare slot, and returns its number.
     #[inline(always)]
     pub fn fill(&mut self, fresh: T) -> usize
         requires { 0 < self.old.spare }
@@ -165,7 +164,7 @@ impl<T: Drop> Store<T> {
         self.slots.put(fresh)
     }
 
-    /// Takes a record out, and makes its slot a spare one.
+    /// Takes a record out. Its slot becomes spare.
     #[inline(always)]
     pub fn take(&mut self, id: usize) -> T
         requires { IsSome (slot_at self.old id) }
@@ -178,7 +177,7 @@ impl<T: Drop> Store<T> {
         self.slots.take(id)
     }
 
-    /// Drops a record, and makes its slot a spare one.
+    /// Drops a record. Its slot becomes spare.
     #[inline(always)]
     pub fn remove(&mut self, id: usize)
         requires { IsSome (slot_at self.old id) }
@@ -190,7 +189,7 @@ impl<T: Drop> Store<T> {
         self.slots.remove(id);
     }
 
-    /// Drops every record, and has no spare slot then.
+    /// Drops all records. There is no spare slot then.
     pub fn clear(&mut self)
         ensures empty { self.new.slots ≡ [] }
         ensures spare { self.new.spare ≡ 0 }
