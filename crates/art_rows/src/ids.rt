@@ -88,7 +88,6 @@ impl Ids {
         requires second { b < length self.old }
         ensures { self.new ≡ exchanged self.old a b }
     {
-        let _len = self.ids.len();
         let at_a = self.ids.read(a);
         let at_b = self.ids.read(b);
         self.ids.write(a, at_b);
@@ -109,7 +108,6 @@ impl Ids {
         }
         self.cells.grow(count)?;
         self.ids.grow(count)?;
-        let _len = self.ids.len();
         pair(&mut self.ids, &mut self.cells, self.count, count);
         self.count = count;
         Ok(())
@@ -141,7 +139,6 @@ fn pair(ids: &mut Words, cells: &mut Words, first: usize, last: usize)
     requires order { first ≤ last }
     requires ids { last ≤ length ids.old }
     requires cells { last ≤ length cells.old }
-    requires small { last ≤ 2 ^ 32 }
     requires paired { ArePaired ids.old cells.old first }
     ensures paired { ArePaired ids.new cells.new last }
     ensures same { take first ids.new ≡ take first ids.old }

@@ -80,7 +80,7 @@ fn word_at(block: &Block, place: usize) -> usize
     requires { place < 64 }
 {
     let Block { words } = block;
-    words[place] as usize
+    words[place]
 }
 
 #[test]

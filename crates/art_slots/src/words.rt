@@ -9,13 +9,13 @@ use std::marker::Model;
 /// The number of numbers in a block.
 const BLOCK: usize = 64;
 
-/// The most numbers that a list has. It is a multiple of the size of a block.
-const MOST: usize = 1 << 32;
+/// The most numbers that a list has: whole blocks, and fewer than 2^61 numbers.
+const MOST: usize = (1 << 61) - BLOCK;
 
 /// Numbers that follow one another.
 #[derive(Drop)]
 pub(crate) struct Block {
-    pub(crate) words: [u32; BLOCK],
+    pub(crate) words: [usize; BLOCK],
 }
 
 impl Clone for Block {
@@ -28,7 +28,7 @@ impl Clone for Block {
     }
 }
 
-/// A list of up to 2^32 numbers less than 2^32, with 4 bytes for each. A contract sees the list.
+/// A list of numbers, with 8 bytes for each. A contract sees the list.
 ///
 /// The numbers lie in blocks of 64, and the blocks in a slab at the keys 0, 1, 2 and so on. No
 /// block is removed until the list is cleared.
@@ -38,7 +38,7 @@ pub struct Words {
 }
 
 impl Model for Words {
-    ghost use Rattle.std.specs.Prelude.{◌≤◌, ◌^◌, ℕ, List, length};
+    ghost use Rattle.std.specs.Prelude.{◌<◌, ◌^◌, ℕ, List, length};
 
     ghost Value = { List ℕ };
 
@@ -46,7 +46,7 @@ impl Model for Words {
 
     ghost view = { λ w. joined w.blocks.items };
 
-    ghost invariant = { λ w. AreWhole w.blocks.items × (length w.blocks.items ≤ 2 ^ 26) };
+    ghost invariant = { λ w. AreWhole w.blocks.items × (length w.blocks.items < 2 ^ 55) };
 }
 
 impl Words {
@@ -62,7 +62,7 @@ impl Words {
     /// Returns the length.
     pub fn len(&self) -> usize
         ensures len { result ≡ length self.now }
-        ensures small { result ≤ 2 ^ 32 }
+        ensures small { result < 2 ^ 61 }
     {
         self.blocks.len() * BLOCK
     }
@@ -71,20 +71,18 @@ impl Words {
     #[inline(always)]
     pub fn read(&self, i: usize) -> usize
         requires { i < length self.now }
-        ensures value { result ≡ slice_index_or self.now i 0 }
-        ensures small { result < 2 ^ 32 }
+        ensures { result ≡ slice_index_or self.now i 0 }
     {
-        self.blocks.read(i / BLOCK).words[i % BLOCK] as usize
+        self.blocks.read(i / BLOCK).words[i % BLOCK]
     }
 
     /// Writes a number at an index.
     #[inline(always)]
     pub fn write(&mut self, i: usize, word: usize)
-        requires within { i < length self.old }
-        requires small { word < 2 ^ 32 }
+        requires { i < length self.old }
         ensures { self.new ≡ slice_set self.old i word }
     {
-        self.blocks.get_mut(i / BLOCK).words[i % BLOCK] = word as u32;
+        self.blocks.get_mut(i / BLOCK).words[i % BLOCK] = word;
     }
 
     /// Adds zeros to the list until it has at least `count` numbers. Returns an error if it fails

@@ -4,7 +4,7 @@ use Rattle.art_slots.proofs.words.Words.read.Goals as goal
 pub read-requires : goal.read-requires
 read-requires c = block_below c.self.inside.blocks.items c.self.invariant.0 c.args.i (rw (← c.self.view_is) at c.requires)
 
-pub returns-clause-value : goal.returns-clause-value
-returns-clause-value c =
+pub returns : goal.returns
+returns c =
     let l = rw (← c.self.view_is) at c.requires in
     rw (← c.self.view_is) (at-index c.self.inside.blocks.items c.self.invariant.0 c.args.i l c.read.result.now c.read.ensures)
