@@ -102,11 +102,11 @@ pub(crate) enum Session<'a, const PREFIX_LEN: usize> {
     Bytes(Part<Vec<u8>, PREFIX_LEN>),
     Byte(Part<u8, KEPT>),
     Three(Part<[u8; 3], PREFIX_LEN>),
-    I32(Part<I32Key, PREFIX_LEN>),
+    I32(Part<I32Key, KEPT>),
     U64(Part<U64Key, KEPT>),
     Zero(Part<ZKey, KEPT>),
     Tagged(Part<Tagged, PREFIX_LEN>),
-    Counted(CountedMaps<'a, PREFIX_LEN>),
+    Counted(CountedMaps<'a, KEPT>),
     Mounts(Table),
 }
 
