@@ -9,7 +9,7 @@ use crate::tree::parting::Beside;
 use crate::tree::point::{CellPlace, CellPoint};
 use crate::walk::CellWalk;
 use art_kinds::{Child, NodeRef, Nodes};
-use art_slots::{CellId, Visits};
+use art_slots::Visits;
 use std::process::Abort;
 
 // A tree whose nodes keep no byte of a key but the bytes that choose a child.
