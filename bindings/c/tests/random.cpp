@@ -27,7 +27,7 @@ int main(int argc, char **argv) {
         if ((call.kind == 8 || call.kind == 9) && call.key.size() < 3) call.kind = 0;
         conflicts += make(map, model, call);
         if (i % 10000 == 0) same_content(map, model);
-        if (i % 200000 == 199999) {
+        if (i % 300000 == 299999) {
             art_clear(map);
             model.clear();
         }

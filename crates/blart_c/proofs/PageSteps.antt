@@ -1,5 +1,5 @@
 -- A page as it grows, pair by pair.
-use Rattle.std.proofs.Common.{◌≡◌, ◌+◌, ◌-◌, Bor, ◌≤◌, ◌<◌, ◌⊎◌, inl, inr, ℕ, zero, suc, List, [], ◌∷◌, ◌++◌, Option, Some, None, refl, sym, ap, ◌∙◌, arith, length, take, drop, map, slice_get, slice_set, append_assoc, append-nil, subst}
+use Rattle.std.proofs.Common.{◌≡◌, ◌+◌, ◌-◌, Bor, ◌≤◌, ◌<◌, ◌⊎◌, inl, inr, ℕ, zero, suc, List, [], ◌∷◌, ◌++◌, Option, Some, None, refl, sym, ap, ◌∙◌, arith, length, take, drop, slice_get, slice_set, append_assoc, append-nil, subst}
 use Rattle.std.proofs.Math.Seq.{take-append_seam, take-append-add, drop-append-add}
 use Rattle.std.proofs.lemmas.List.{length-append, length-drop, length-map, map-append, drop_all}
 use Rattle.std.proofs.lemmas.Option.{slice_get_past}

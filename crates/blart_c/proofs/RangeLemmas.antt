@@ -1,5 +1,5 @@
 -- Which pairs lie between two bounds.
-use Rattle.std.proofs.Common.{◌≡◌, ◌⊎◌, inl, inr, ℕ, Bool, true, false, ◌&&◌, not, List, [], ◌∷◌, ◌++◌, filter, cond, refl, sym, ap, ◌∙◌, subst}
+use Rattle.std.proofs.Common.{◌≡◌, ◌⊎◌, inl, inr, ℕ, Bool, true, false, ◌&&◌, List, [], ◌∷◌, ◌++◌, filter, cond, refl, sym, ap, ◌∙◌, subst}
 use Rattle.std.proofs.lemmas.Bool.{false≢true, and_parts, and_from, not-true, not_from_false, false_from_ne_true, cases_Bool, eqb-true, not-false, cond-true, cond-false}
 use Rattle.std.specs.declared.ops.Bound.{Bound}
 use Rattle.std.specs.declared.ops.Bound.TheVariants.{Included, Excluded, Unbounded}
@@ -8,7 +8,7 @@ use Rattle.blart_keys.specs.Bounds.{in_order, is_from_start, is_up_to_end}
 use Rattle.blart_keys.specs.Content.{IsContent, between, under}
 use Rattle.blart_keys.proofs.ByteLemmas.{begins-itself}
 use Rattle.blart_keys.proofs.PartLemmas.{less-irrefl, less-same, less-trans, less-from_PartsBelow, less_or, begins_between}
-use Rattle.blart_keys.proofs.RankLemmas.{Member, Member-append_left, Member-append_right, Member-append_cases, Ranked, Ranked-across, Ranked-filter, filter_member, member_filter, filter_none, filter_twice}
+use Rattle.blart_keys.proofs.RankLemmas.{Member, Member-append_right, Member-append_cases, Ranked, Ranked-across, Ranked-filter, filter_member, member_filter, filter_none, filter_twice}
 use Rattle.blart_keys.proofs.ContentLemmas.{Before, Ranked-from_content}
 use Rattle.blart_c.specs.Paged.{later, start_at}
 

@@ -6,7 +6,7 @@ use Rattle.blart_keys.specs.KeyBytes.{slice_bytes, vec_bytes}
 use Rattle.blart_keys.specs.Steps.{bytes}
 use Rattle.blart_map.specs.Content.{pairs}
 use Rattle.blart_c.specs.Held.{held}
-use Rattle.blart_c.specs.Paged.{IsPage, end_at, start_at}
+use Rattle.blart_c.specs.Paged.{IsPage, start_at}
 use Rattle.blart_c.proofs.pages.art_page.Goals as goal
 
 pub returns-clause-page : goal.returns-clause-page

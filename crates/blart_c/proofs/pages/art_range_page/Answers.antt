@@ -1,5 +1,4 @@
 use Rattle.std.proofs.Common.{rules, ◌≡◌, ◌∙◌, ap, subst}
-use Rattle.std.specs.declared.ops.Bound.TheVariants.{Unbounded}
 use Rattle.blart_keys.specs.Bounds.{bound_bytes}
 use Rattle.blart_keys.specs.Content.{between}
 use Rattle.blart_keys.specs.KeyBytes.{slice_bytes, vec_bytes}

@@ -1,5 +1,5 @@
 use Rattle.std.proofs.Common.{rules, ◌≡◌, ◌∙◌, ◌++◌, ◌∷◌, [], sym, ap, subst}
-use Rattle.std.specs.declared.ops.Bound.TheVariants.{Included, Unbounded}
+use Rattle.std.specs.declared.ops.Bound.TheVariants.{Included}
 use Rattle.blart_keys.specs.Bounds.{bound_bytes}
 use Rattle.blart_keys.specs.Content.{between, under}
 use Rattle.blart_keys.specs.KeyBytes.{slice_bytes, vec_bytes}

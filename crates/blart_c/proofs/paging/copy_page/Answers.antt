@@ -1,5 +1,4 @@
-use Rattle.std.proofs.Common.{rules, slice_set, ◌+◌, ◌++◌, ◌≡◌, ◌∷◌, ◌∙◌, inl, inr, [], sym, map, subst, ap, length}
-use Rattle.std.proofs.lemmas.Grind.{common_steps}
+use Rattle.std.proofs.Common.{rules, slice_set, ◌+◌, ◌≡◌, ◌∷◌, ◌∙◌, inl, inr, [], sym, subst, ap, length}
 use Rattle.std.proofs.lemmas.List.{map-append}
 use Rattle.blart_c.specs.Paged.{IsPage}
 use Rattle.blart_c.proofs.PageSteps.{HasCopied, copies_one, page_done, page_full}

@@ -1,8 +1,8 @@
 -- `from_box` calls `into_raw_with_allocator`, and moves what it returns into the parts.
-use Rattle.std.proofs.Common.{◌≡◌, List, [], ◌∷◌, ◌++◌, refl, ap, ◌∙◌}
+use Rattle.std.proofs.Common.{◌≡◌, [], ◌∷◌, ◌++◌, refl, ap, ◌∙◌}
 use mir.Syntax.{Fn, Args, a_type, dcons, dnil}
 use mir.MapTy.{inst_fn}
-use mir.Val.{Val, vptr, vstruct, of_list}
+use mir.Val.{Val, vstruct, of_list}
 use mir.Raw.{raw as bare}
 use base.Logic.{SProp, never, id⊢, fst∗}
 use base.Fml.{ftrue, flft}
