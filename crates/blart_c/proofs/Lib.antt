@@ -1,0 +1,5 @@
+mod AsBox
+mod BoxPartsSteps
+mod Opened
+mod PageSteps
+mod RangeLemmas

@@ -1,0 +1,5 @@
+pub mod Copied
+pub mod Held
+pub mod Lent
+pub mod Owned
+pub mod Paged
