@@ -1,4 +1,4 @@
--- The edges that a reference leads to.
+-- The edges behind a reference.
 use Rattle.std.specs.Prelude.{List}
 use Rattle.art_kinds.specs.declared.records.ids.Edge.{Edge}
 use Rattle.art_kinds.specs.declared.records.nodes.EdgesRef.{EdgesRef}

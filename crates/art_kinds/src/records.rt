@@ -1,4 +1,4 @@
-//! The records of inner nodes.
+//! The records of inner nodes, of each kind.
 pub(crate) mod children;
 pub(crate) mod few;
 pub(crate) mod full;

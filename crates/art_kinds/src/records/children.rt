@@ -1,4 +1,4 @@
-//! What the children of a node are kept in.
+//! The edges of a node, in any of the four kinds.
 ghost use Rattle.std.specs.Prelude.{◌≡◌, ℕ, ◌+◌, List, Option, IsSome, Some, None, length};
 ghost use Rattle.art_kinds.specs.declared.records.ids.Edge.{Edge};
 ghost use Rattle.art_kinds.specs.Edges.{child_at, AddsChild, DropsChild, RedirectsChild};
@@ -9,23 +9,23 @@ use crate::records::full::Full;
 use crate::records::ids::Child;
 use crate::records::indexed::Indexed;
 
-/// The children of a node, kept as its kind keeps them.
+/// The edges of a node, as one of the kinds of node keeps them.
 pub(crate) trait Children: Drop {
-    // The edges, by rising byte.
+    // The edges in ascending order of their bytes.
     ghost edges: { Self → List Edge };
 
-    // For how many there are places, where that is a limit.
+    // The greatest number of edges, or `None` if there is a place for each byte.
     ghost places: { Option ℕ };
 
-    /// The same children.
+    /// Returns a copy with the same edges.
     fn copy(&self) -> Self
         ensures { edges result ≡ edges self.now };
 
-    /// How many edges there are.
+    /// Returns the number of edges.
     fn count(&self) -> usize
         ensures { result ≡ length (edges self.now) };
 
-    /// Adds an edge, at a byte that has none.
+    /// Adds an edge at a byte that has none.
     fn insert(&mut self, byte: u8, to: Child)
         requires room { FitsIn places (length (edges self.old) + 1) }
         requires absent { child_at (edges self.old) byte ≡ None }
@@ -36,7 +36,7 @@ pub(crate) trait Children: Drop {
         requires { IsSome (child_at (edges self.old) byte) }
         ensures { DropsChild (edges self.old) (edges self.new) byte };
 
-    /// Leads the edge at a byte elsewhere.
+    /// Redirects the edge at a byte.
     fn redirect(&mut self, byte: u8, to: Child)
         requires { IsSome (child_at (edges self.old) byte) }
         ensures { RedirectsChild (edges self.old) (edges self.new) byte to };

@@ -1,4 +1,4 @@
-//! A node with few children: their bytes, rising, beside them.
+//! A node with few children: their bytes in ascending order, and the children beside them.
 ghost use Rattle.std.specs.Prelude.{true, false, ◌≡◌, ◌+◌, ◌-◌, ◌<◌, ◌≤◌, [], ◌∷◌, length, take, None, IsSome};
 ghost use Rattle.art_kinds.specs.Edges.{child_at, Ascends, AddsChild, DropsChild, RedirectsChild, IsNext, IsPrevious, IsEnd, count_below, edges_with, edges_without, edges_with_child, after, before, paired};
 
@@ -7,7 +7,7 @@ use crate::records::indexed::Indexed;
 use crate::records::link::Link;
 use std::marker::Model;
 
-/// Up to so many children. A contract sees the list of edges, by rising byte.
+/// Up to `N` edges of a node. A contract sees the edges in ascending order of their bytes.
 #[derive(Drop)]
 pub(crate) struct Few<const N: usize> {
     pub(super) count: usize,
@@ -32,7 +32,7 @@ impl<const N: usize> Model for Few<N> {
 }
 
 impl<const N: usize> Few<N> {
-    /// How many edges there are.
+    /// Returns the number of edges.
     pub(crate) fn count(&self) -> usize
         ensures count { result ≡ length self.now }
         ensures ascends { Ascends self.now }
@@ -42,7 +42,7 @@ impl<const N: usize> Few<N> {
         self.count
     }
 
-    /// What stands below the edge at a byte.
+    /// Returns the child of the edge at a byte, if there is one.
     pub(crate) fn find(&self, byte: u8) -> Option<Child>
         ensures { result ≡ child_at self.now byte }
     {
@@ -53,7 +53,7 @@ impl<const N: usize> Few<N> {
         )
     }
 
-    /// The edge with the least byte.
+    /// Returns the edge with the least byte.
     pub(crate) fn first(&self) -> Edge
         requires { 0 < length self.now }
         ensures { IsEnd true self.now result }
@@ -64,7 +64,7 @@ impl<const N: usize> Few<N> {
         }
     }
 
-    /// The edge with the greatest byte.
+    /// Returns the edge with the greatest byte.
     pub(crate) fn last(&self) -> Edge
         requires { 0 < length self.now }
         ensures { IsEnd false self.now result }
@@ -76,7 +76,7 @@ impl<const N: usize> Few<N> {
         }
     }
 
-    /// The edge with the least byte above this one.
+    /// Returns the edge with the least byte greater than `byte`, if there is one.
     pub(crate) fn edge_after(&self, byte: u8) -> Option<Edge>
         ensures { IsNext self.now byte result }
     {
@@ -87,7 +87,7 @@ impl<const N: usize> Few<N> {
         )
     }
 
-    /// The edge with the greatest byte below this one.
+    /// Returns the edge with the greatest byte less than `byte`, if there is one.
     pub(crate) fn edge_before(&self, byte: u8) -> Option<Edge>
         ensures { IsPrevious self.now byte result }
     {
@@ -98,12 +98,12 @@ impl<const N: usize> Few<N> {
         )
     }
 
-    /// The edges of a node with another number of places.
+    /// Returns the same edges with room for `N` of them, in place of `M`.
     pub(crate) fn of_few<const M: usize>(few: &Few<M>) -> Self
         requires { length few.now ≤ N }
         ensures { result ≡ few.now }
     {
-        // Whoever counts the edges learns how many places are used.
+        // The count says how many places are used, and that these are at most `M`.
         let count = few.count();
         let mut bytes = [0; N];
         let mut children = [Link::none(); N];
@@ -120,7 +120,7 @@ impl<const N: usize> Few<N> {
         }
     }
 
-    /// Adds an edge, at a byte that has none.
+    /// Adds an edge at a byte that has none.
     pub(crate) fn insert(&mut self, byte: u8, to: Child)
         requires room { length self.old < N }
         requires absent { child_at self.old byte ≡ None }
@@ -145,7 +145,7 @@ impl<const N: usize> Few<N> {
         self.count -= 1;
     }
 
-    /// Leads the edge at a byte elsewhere.
+    /// Redirects the edge at a byte.
     pub(crate) fn redirect(&mut self, byte: u8, to: Child)
         requires { IsSome (child_at self.old byte) }
         ensures { RedirectsChild self.old self.new byte to }
@@ -160,7 +160,7 @@ impl<const N: usize> Few<N> {
     }
 }
 
-// What stands below the edge at a byte.
+/// Returns the child of the first edge at a byte, if there is one.
 fn find_in(bytes: &[u8], children: &[Link], byte: u8) -> Option<Child>
     requires { length children.now ≡ length bytes.now }
     ensures { result ≡ child_at (paired bytes.now children.now) byte }
@@ -173,7 +173,7 @@ fn find_in(bytes: &[u8], children: &[Link], byte: u8) -> Option<Child>
     None
 }
 
-// The first edge after a byte.
+/// Returns the first edge with a byte greater than `byte`, if there is one.
 fn after_in(bytes: &[u8], children: &[Link], byte: u8) -> Option<Edge>
     requires { length children.now ≡ length bytes.now }
     ensures { result ≡ after (paired bytes.now children.now) byte }
@@ -189,7 +189,8 @@ fn after_in(bytes: &[u8], children: &[Link], byte: u8) -> Option<Edge>
     None
 }
 
-// The last of the first edges that are before a byte.
+/// Returns the last edge with a byte less than `byte`, if there is one. The search ends at the
+/// first byte that is not less.
 fn before_in(bytes: &[u8], children: &[Link], byte: u8) -> Option<Edge>
     requires { length children.now ≡ length bytes.now }
     ensures { result ≡ before (paired bytes.now children.now) byte }
@@ -207,7 +208,7 @@ fn before_in(bytes: &[u8], children: &[Link], byte: u8) -> Option<Edge>
     found
 }
 
-// How many of the bytes are before this one.
+/// Returns the number of bytes less than `byte`. The count ends at the first byte that is not less.
 fn place_of(bytes: &[u8], byte: u8) -> usize
     ensures count { result ≡ count_below bytes.now byte }
     ensures within { result ≤ length bytes.now }
@@ -222,7 +223,7 @@ fn place_of(bytes: &[u8], byte: u8) -> usize
     place
 }
 
-// Puts an edge among the first so many.
+/// Inserts an edge among the first `count` edges, before the first with a byte that is not less.
 fn insert_in(bytes: &mut [u8], children: &mut [Link], count: usize, byte: u8, to: Link)
     requires within { count < length bytes.old }
     requires same { length children.old ≡ length bytes.old }
@@ -236,7 +237,8 @@ fn insert_in(bytes: &mut [u8], children: &mut [Link], count: usize, byte: u8, to
     children[place] = to;
 }
 
-// Closes up over the edge at a byte, among the first so many.
+/// Removes the edge at a byte from the first `count` edges. The edges after it move up by one
+/// place.
 fn remove_in(bytes: &mut [u8], children: &mut [Link], count: usize, byte: u8)
     requires within { count ≤ length bytes.old }
     requires same { length children.old ≡ length bytes.old }
@@ -250,7 +252,7 @@ fn remove_in(bytes: &mut [u8], children: &mut [Link], count: usize, byte: u8)
     children.copy_within(place + 1..count, place);
 }
 
-// Leads the first edge at a byte elsewhere, among the first so many.
+/// Redirects the first edge at a byte, if there is one among the first `count` edges.
 fn redirect_in(bytes: &[u8], children: &mut [Link], count: usize, byte: u8, to: Link)
     requires within { count ≤ length bytes.now }
     requires same { length children.old ≡ length bytes.now }
@@ -265,7 +267,7 @@ fn redirect_in(bytes: &[u8], children: &mut [Link], count: usize, byte: u8, to: 
 }
 
 impl Few<4> {
-    /// Two edges.
+    /// Returns two edges.
     pub(crate) fn pair(low: Edge, high: Edge) -> Self
         requires { low.byte < high.byte }
         ensures { result ≡ low ∷ high ∷ [] }
@@ -280,7 +282,7 @@ impl Few<4> {
 }
 
 impl Few<16> {
-    /// Returns the edges of a larger node, which has at most 16.
+    /// Returns the edges of a larger node that has at most 16 edges.
     pub(crate) fn of_indexed(indexed: &Indexed) -> Self
         requires { length indexed.now ≤ 16 }
         ensures { result ≡ indexed.now }
@@ -290,7 +292,7 @@ impl Few<16> {
             bytes: [0; 16],
             children: [Link::none(); 16],
         };
-        // Whoever counts the edges learns that they rise, and have bytes.
+        // The count says that the bytes of the edges ascend and are less than 256.
         let _count = indexed.count();
         for next in 0..256usize {
             if let Some(to) = indexed.find(next as u8) {
@@ -301,7 +303,7 @@ impl Few<16> {
     }
 }
 
-// Copies bytes and children to the front of others.
+/// Copies bytes and children to the front of other slices.
 fn copy_in(bytes: &mut [u8], children: &mut [Link], from_bytes: &[u8], from_children: &[Link])
     requires bytes { length from_bytes.now ≤ length bytes.old }
     requires children { length from_children.now ≤ length children.old }

@@ -7,7 +7,7 @@ use crate::records::indexed::Indexed;
 use crate::records::link::OptionLink;
 use std::marker::Model;
 
-/// A child or nothing for each byte. A contract sees the list of edges, by rising byte.
+/// A child or nothing for each byte. A contract sees the edges in ascending order of their bytes.
 #[derive(Drop)]
 pub(crate) struct Full {
     pub(super) count: usize,
@@ -31,7 +31,7 @@ impl Model for Full {
 }
 
 impl Full {
-    /// The edges of a smaller node.
+    /// Returns the edges of a smaller node.
     pub(crate) fn of_indexed(indexed: &Indexed) -> Self
         ensures { result ≡ indexed.now }
     {
@@ -39,7 +39,7 @@ impl Full {
             count: 0,
             children: [OptionLink::none(); 256],
         };
-        // Whoever counts the edges learns that they rise, and have bytes.
+        // The count says that the bytes of the edges ascend and are less than 256.
         let _count = indexed.count();
         for next in 0..256usize {
             if let Some(to) = indexed.find(next as u8) {
@@ -49,7 +49,7 @@ impl Full {
         edges
     }
 
-    /// How many edges there are.
+    /// Returns the number of edges.
     pub(crate) fn count(&self) -> usize
         ensures count { result ≡ length self.now }
         ensures ascends { Ascends self.now }
@@ -59,14 +59,14 @@ impl Full {
         self.count
     }
 
-    /// What stands below the edge at a byte.
+    /// Returns the child of the edge at a byte, if there is one.
     pub(crate) fn find(&self, byte: u8) -> Option<Child>
         ensures { result ≡ child_at self.now byte }
     {
         self.children[byte as usize].child()
     }
 
-    // The edge with the least byte from this one on.
+    /// Returns the edge with the least byte that is not less than `start`, if there is one.
     fn edge_from(&self, start: usize) -> Option<Edge>
         requires { start ≤ 256 }
         ensures { IsFrom self.now start result }
@@ -82,7 +82,7 @@ impl Full {
         None
     }
 
-    // The edge with the greatest byte below this one.
+    /// Returns the edge with the greatest byte less than `end`, if there is one.
     fn edge_below(&self, end: usize) -> Option<Edge>
         requires { end ≤ 256 }
         ensures found { IsPrevious self.now end result }
@@ -101,7 +101,7 @@ impl Full {
         None
     }
 
-    /// The edge with the least byte.
+    /// Returns the edge with the least byte.
     pub(crate) fn first(&self) -> Edge
         requires { 0 < length self.now }
         ensures { IsEnd true self.now result }
@@ -112,7 +112,7 @@ impl Full {
         }
     }
 
-    /// The edge with the greatest byte.
+    /// Returns the edge with the greatest byte.
     pub(crate) fn last(&self) -> Edge
         requires { 0 < length self.now }
         ensures { IsEnd false self.now result }
@@ -123,21 +123,21 @@ impl Full {
         }
     }
 
-    /// The edge with the least byte above this one.
+    /// Returns the edge with the least byte greater than `byte`, if there is one.
     pub(crate) fn edge_after(&self, byte: u8) -> Option<Edge>
         ensures { IsNext self.now byte result }
     {
         self.edge_from(byte as usize + 1)
     }
 
-    /// The edge with the greatest byte below this one.
+    /// Returns the edge with the greatest byte less than `byte`, if there is one.
     pub(crate) fn edge_before(&self, byte: u8) -> Option<Edge>
         ensures { IsPrevious self.now byte result }
     {
         self.edge_below(byte as usize)
     }
 
-    /// Adds an edge, at a byte that has none.
+    /// Adds an edge at a byte that has none.
     pub(crate) fn insert(&mut self, byte: u8, to: Child)
         requires { child_at self.old byte ≡ None }
         ensures { AddsChild self.old self.new byte to }
@@ -155,7 +155,7 @@ impl Full {
         self.count -= 1;
     }
 
-    /// Leads the edge at a byte elsewhere.
+    /// Redirects the edge at a byte.
     pub(crate) fn redirect(&mut self, byte: u8, to: Child)
         requires { IsSome (child_at self.old byte) }
         ensures { RedirectsChild self.old self.new byte to }

@@ -1,11 +1,11 @@
-//! The numbers of records, and what stands below an edge.
+//! The numbers of inner nodes, and the edges between nodes and children.
 ghost use Rattle.std.specs.Prelude.{◌≡◌, ◌%◌};
 ghost use Rattle.art_kinds.specs.Numbers.{kind_of};
 
 use art_slots::CellId;
 use std::marker::Model;
 
-/// How many children a node's record has places for.
+/// The kind of an inner node: the number of children that its record has places for.
 #[derive(Clone, Copy, PartialEq, Eq)]
 pub enum Kind {
     Four,
@@ -14,7 +14,8 @@ pub enum Kind {
     Full,
 }
 
-/// The number of an inner node. A contract sees kind and place as one number.
+/// The number of an inner node: the kind of its record, and its place among the records of that
+/// kind. A contract sees both as one number.
 #[derive(Clone, Copy, PartialEq, Eq)]
 pub struct NodeId {
     pub(crate) kind: Kind,
@@ -43,7 +44,7 @@ impl Model for NodeId {
 }
 
 impl NodeId {
-    /// The kind of the node's record.
+    /// Returns the kind of the node's record.
     pub fn kind(self) -> Kind
         ensures { result ≡ kind_of (self % 4) }
     {
@@ -51,14 +52,14 @@ impl NodeId {
     }
 }
 
-/// What stands below an edge.
+/// A child of an inner node: a leaf, or another inner node.
 #[derive(Clone, Copy)]
 pub enum Child {
     Leaf(CellId),
     Inner(NodeId),
 }
 
-/// A way down from a node, by a byte.
+/// An edge of a node: a byte and the child that it leads to.
 #[derive(Clone, Copy)]
 pub struct Edge {
     pub byte: u8,

@@ -8,8 +8,8 @@ use crate::records::ids::{Child, Edge};
 use crate::records::link::Link;
 use std::marker::Model;
 
-/// Up to 48 children, and for each byte the place of its child, or 48. A contract sees the list of
-/// edges, by rising byte.
+/// Up to 48 children, and for each byte the place of its child, or 48 if the byte has no child. A
+/// contract sees the edges in ascending order of their bytes.
 #[derive(Drop)]
 pub(crate) struct Indexed {
     pub(super) count: usize,
@@ -34,7 +34,7 @@ impl Model for Indexed {
 }
 
 impl Indexed {
-    /// The edges of a smaller node.
+    /// Returns the edges of a smaller node.
     pub(crate) fn of_sixteen(sixteen: &Few<16>) -> Self
         ensures { result ≡ sixteen.now }
     {
@@ -49,7 +49,7 @@ impl Indexed {
         edges
     }
 
-    /// Returns the edges of a larger node, which has at most 48.
+    /// Returns the edges of a larger node that has at most 48 edges.
     pub(crate) fn of_full(full: &Full) -> Self
         requires { length full.now ≤ 48 }
         ensures { result ≡ full.now }
@@ -59,7 +59,7 @@ impl Indexed {
             index: [48; 256],
             children: [Link::none(); 48],
         };
-        // Whoever counts the edges learns that they rise, and have bytes.
+        // The count says that the bytes of the edges ascend and are less than 256.
         let _count = full.count();
         for next in 0..256usize {
             if let Some(to) = full.find(next as u8) {
@@ -69,7 +69,7 @@ impl Indexed {
         edges
     }
 
-    /// How many edges there are.
+    /// Returns the number of edges.
     pub(crate) fn count(&self) -> usize
         ensures count { result ≡ length self.now }
         ensures ascends { Ascends self.now }
@@ -79,7 +79,7 @@ impl Indexed {
         self.count
     }
 
-    /// What stands below the edge at a byte.
+    /// Returns the child of the edge at a byte, if there is one.
     pub(crate) fn find(&self, byte: u8) -> Option<Child>
         ensures { result ≡ child_at self.now byte }
     {
@@ -91,7 +91,7 @@ impl Indexed {
         }
     }
 
-    // The edge with the least byte from this one on.
+    /// Returns the edge with the least byte that is not less than `start`, if there is one.
     fn edge_from(&self, start: usize) -> Option<Edge>
         requires { start ≤ 256 }
         ensures { IsFrom self.now start result }
@@ -108,7 +108,7 @@ impl Indexed {
         None
     }
 
-    // The edge with the greatest byte below this one.
+    /// Returns the edge with the greatest byte less than `end`, if there is one.
     fn edge_below(&self, end: usize) -> Option<Edge>
         requires { end ≤ 256 }
         ensures found { IsPrevious self.now end result }
@@ -128,7 +128,7 @@ impl Indexed {
         None
     }
 
-    /// The edge with the least byte.
+    /// Returns the edge with the least byte.
     pub(crate) fn first(&self) -> Edge
         requires { 0 < length self.now }
         ensures { IsEnd true self.now result }
@@ -139,7 +139,7 @@ impl Indexed {
         }
     }
 
-    /// The edge with the greatest byte.
+    /// Returns the edge with the greatest byte.
     pub(crate) fn last(&self) -> Edge
         requires { 0 < length self.now }
         ensures { IsEnd false self.now result }
@@ -150,21 +150,21 @@ impl Indexed {
         }
     }
 
-    /// The edge with the least byte above this one.
+    /// Returns the edge with the least byte greater than `byte`, if there is one.
     pub(crate) fn edge_after(&self, byte: u8) -> Option<Edge>
         ensures { IsNext self.now byte result }
     {
         self.edge_from(byte as usize + 1)
     }
 
-    /// The edge with the greatest byte below this one.
+    /// Returns the edge with the greatest byte less than `byte`, if there is one.
     pub(crate) fn edge_before(&self, byte: u8) -> Option<Edge>
         ensures { IsPrevious self.now byte result }
     {
         self.edge_below(byte as usize)
     }
 
-    /// Adds an edge, at a byte that has none.
+    /// Adds an edge at a byte that has none.
     pub(crate) fn insert(&mut self, byte: u8, to: Child)
         requires room { length self.old < 48 }
         requires absent { child_at self.old byte ≡ None }
@@ -176,7 +176,7 @@ impl Indexed {
         self.count = place + 1;
     }
 
-    /// Removes the edge at a byte. The last child takes its place.
+    /// Removes the edge at a byte. The last child moves to the place that becomes free.
     pub(crate) fn remove(&mut self, byte: u8)
         requires { IsSome (child_at self.old byte) }
         ensures { DropsChild self.old self.new byte }
@@ -189,7 +189,7 @@ impl Indexed {
         self.count = last;
     }
 
-    /// Leads the edge at a byte elsewhere.
+    /// Redirects the edge at a byte.
     pub(crate) fn redirect(&mut self, byte: u8, to: Child)
         requires { IsSome (child_at self.old byte) }
         ensures { RedirectsChild self.old self.new byte to }
@@ -199,7 +199,7 @@ impl Indexed {
     }
 }
 
-// Writes one number for another.
+/// Replaces each entry `from` of an index with `to`.
 fn rename_in(index: &mut [u8], from: u8, to: u8)
     requires { from < 48 }
     ensures { (b : ℕ) → slice_index_or index.new b 48 ≡ moved from to (slice_index_or index.old b 48) }

@@ -1,4 +1,4 @@
-//! A node of any kind, and what is done to one among the nodes of its kind.
+//! The record of an inner node, and the operations on one record of a store.
 ghost use Rattle.std.specs.Prelude.{◌≡◌, ◌+◌, ◌<◌, ◌≤◌, ◌^◌, take, length, None, IsSome, IsSomeAnd, OnOk, OnErr, IfOk};
 ghost use Rattle.art_kinds.specs.Edges.{child_at, AddsChild, DropsChild, RedirectsChild};
 ghost use Rattle.art_kinds.specs.OneKinds.{FitsIn, IsOneKind, Rewires, Changes, Grows};
@@ -10,12 +10,12 @@ use art_slots::Store;
 use std::alloc::AllocError;
 use std::marker::Model;
 
-/// An inner node: the length of its front, the first bytes of its compressed prefix, and its edges.
-/// A contract sees the node.
+/// An inner node: its depth, the first bytes of its compressed prefix, and its edges. The depth is
+/// the number of bytes that all keys below the node share. A contract sees the node.
 #[derive(Drop)]
 pub(super) struct Inner<C: Children, const P: usize> {
     pub(super) depth: usize,
-    // How much of `prefix` is used.
+    /// The number of bytes of `prefix` that are used.
     pub(super) used: usize,
     pub(super) prefix: [u8; P],
     pub(super) edges: C,
@@ -35,7 +35,7 @@ impl<C: Children, const P: usize> Model for Inner<C, P> {
 }
 
 impl<C: Children, const P: usize> Inner<C, P> {
-    /// A node. It keeps the first P bytes of the prefix.
+    /// Returns a node. It keeps the first `P` bytes of `prefix`.
     #[inline(always)]
     pub(super) fn new(depth: usize, prefix: &[u8], edges: C) -> Self
         ensures { result ≡ record { depth = depth; prefix = take P prefix.now; edges = C.edges edges } }
@@ -50,7 +50,7 @@ impl<C: Children, const P: usize> Inner<C, P> {
         node
     }
 
-    /// Gives the node another prefix, of which it keeps the first P bytes.
+    /// Replaces the node's prefix with the first `P` bytes of `prefix`.
     #[inline(always)]
     fn set_prefix(&mut self, prefix: &[u8])
         ensures { self.new ≡ record self.old { prefix = take P prefix.now } }
@@ -58,7 +58,7 @@ impl<C: Children, const P: usize> Inner<C, P> {
         self.used = copy_front(&mut self.prefix, prefix);
     }
 
-    /// The node with its children kept in another way.
+    /// Returns the node with other edges, which may be of another kind.
     #[inline(always)]
     pub(super) fn with_edges<D: Children>(self, edges: D) -> Inner<D, P>
         ensures { result ≡ record self { edges = D.edges edges } }
@@ -85,7 +85,7 @@ impl<C: Children, const P: usize> Clone for Inner<C, P> {
     }
 }
 
-/// The same nodes of two kinds in other stores.
+/// Returns copies of two stores, or an error if it fails to allocate.
 pub(super) fn copy_both<C: Children, D: Children, const P: usize>(
     first: &Store<Inner<C, P>>,
     second: &Store<Inner<D, P>>,
@@ -98,7 +98,7 @@ pub(super) fn copy_both<C: Children, D: Children, const P: usize>(
     Ok((first.clone()?, second.clone()?))
 }
 
-/// How many children the node at a place has.
+/// Returns the number of edges of the node at a place.
 #[inline(always)]
 pub(super) fn count<C: Children, const P: usize>(store: &Store<Inner<C, P>>, place: usize) -> usize
     requires kind { IsOneKind P C.places store.now }
@@ -126,7 +126,7 @@ pub(super) fn add_edge<C: Children, const P: usize>(
     store.get_mut(place).edges.insert(byte, to);
 }
 
-/// Leads an edge elsewhere.
+/// Redirects an edge of a node.
 #[inline(always)]
 pub(super) fn redirect<C: Children, const P: usize>(
     store: &mut Store<Inner<C, P>>,
@@ -142,7 +142,7 @@ pub(super) fn redirect<C: Children, const P: usize>(
     store.get_mut(place).edges.redirect(byte, to);
 }
 
-/// Removes an edge.
+/// Removes an edge from a node.
 #[inline(always)]
 pub(super) fn remove_edge<C: Children, const P: usize>(
     store: &mut Store<Inner<C, P>>,
@@ -157,7 +157,7 @@ pub(super) fn remove_edge<C: Children, const P: usize>(
     store.get_mut(place).edges.remove(byte);
 }
 
-/// Gives a node another prefix, of which it keeps the first P bytes.
+/// Replaces a node's prefix with the first `P` bytes of `prefix`.
 #[inline(always)]
 pub(super) fn set_prefix<C: Children, const P: usize>(
     store: &mut Store<Inner<C, P>>,
@@ -173,8 +173,8 @@ pub(super) fn set_prefix<C: Children, const P: usize>(
     record.used = copy_front(&mut record.prefix, prefix);
 }
 
-/// Adds spare records until there are `count`. The nodes are unchanged, also if this fails to
-/// allocate.
+/// Adds spare records until there are at least `count`. Returns an error if it fails to allocate.
+/// The nodes are unchanged in both cases.
 pub(super) fn reserve<C: Children, const P: usize>(
     store: &mut Store<Inner<C, P>>,
     count: usize,
@@ -189,7 +189,7 @@ pub(super) fn reserve<C: Children, const P: usize>(
     store.reserve(count)
 }
 
-// Copies as many bytes from the front as there is room for, and answers how many.
+/// Copies the first bytes of `from` to the front of `to`, as many as fit, and returns their number.
 pub(super) fn copy_front(to: &mut [u8], from: &[u8]) -> usize
     ensures within { result ≤ length to.old }
     ensures copied { take result to.new ≡ take (length to.old) from.now }

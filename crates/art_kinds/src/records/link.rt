@@ -6,7 +6,8 @@ use crate::records::ids::{Child, Kind, NodeId};
 use art_slots::CellId;
 use std::marker::Model;
 
-/// What stands below an edge: its number times eight, and its kind. A contract sees the child.
+/// A child in one word: 8 times the number of the leaf's cell, or 8 times the node's place plus 1
+/// to 4 for its kind. A contract sees the child.
 #[derive(Clone, Copy)]
 pub(crate) struct Link {
     pub(super) word: usize,
@@ -32,7 +33,7 @@ impl Model for Link {
 }
 
 impl Link {
-    /// A child's word.
+    /// Returns the link to a child.
     pub(crate) fn of(child: Child) -> Self
         ensures { result ≡ child }
     {
@@ -54,12 +55,12 @@ impl Link {
         }
     }
 
-    /// What stands in a place that is not used.
+    /// Returns a link for a place that is not used.
     pub(crate) fn none() -> Self {
         Link { word: 0 }
     }
 
-    /// The child.
+    /// Returns the child.
     pub(crate) fn child(self) -> Child
         ensures { result ≡ self }
     {
@@ -75,8 +76,8 @@ impl Link {
     }
 }
 
-/// A child or nothing, in one word: none for nothing, or one more than the child's. A contract sees
-/// the child or nothing.
+/// A child or nothing in one word: 0 for nothing, or 1 more than the word of the [`Link`] to the
+/// child. A contract sees the child or nothing.
 #[derive(Clone, Copy)]
 pub(crate) struct OptionLink {
     pub(super) word: usize,
@@ -103,7 +104,7 @@ impl Model for OptionLink {
 }
 
 impl OptionLink {
-    /// A child's word.
+    /// Returns the link to a child.
     pub(crate) fn of(child: Child) -> Self
         ensures { result ≡ Some child }
     {
@@ -113,14 +114,14 @@ impl OptionLink {
         }
     }
 
-    /// The word for nothing.
+    /// Returns the link to nothing.
     pub(crate) fn none() -> Self
         ensures { result ≡ None }
     {
         OptionLink { word: 0 }
     }
 
-    /// The child, if there is one.
+    /// Returns the child, if there is one.
     pub(crate) fn child(self) -> Option<Child>
         ensures { result ≡ self }
     {
@@ -134,7 +135,7 @@ impl OptionLink {
     }
 }
 
-// The kind of a digit.
+/// Returns the kind with the number `digit % 4`. The kinds have the numbers 0 to 3 by size.
 fn kind_of(digit: usize) -> Kind
     ensures { result ≡ kind_spec (digit % 4) }
 {

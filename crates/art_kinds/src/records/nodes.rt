@@ -14,10 +14,10 @@ use art_slots::{Store, Visits};
 use std::alloc::{AllocError, Global};
 use std::marker::Model;
 
-/// A record with a prefix of this length or longer has no size in the machine's numbers.
+/// No record has a prefix of this length or longer. So the size of a record does not overflow.
 const PREFIX_BOUND: usize = 1 << 62;
 
-/// The edges of a node of any kind.
+/// A reference to the edges of a node of any kind.
 #[derive(Drop)]
 pub(super) enum EdgesRef<'a> {
     Four(&'a Few<4>),
@@ -26,7 +26,7 @@ pub(super) enum EdgesRef<'a> {
     Full(&'a Full),
 }
 
-/// A node that is read. A contract sees the node.
+/// A shared reference to a node. A contract sees the node.
 #[derive(Drop)]
 pub struct NodeRef<'a, const P: usize> {
     depth: usize,
@@ -51,14 +51,14 @@ impl<'a, const P: usize> Model for NodeRef<'a, P> {
 }
 
 impl<'a, const P: usize> NodeRef<'a, P> {
-    /// The length of the node's front.
+    /// Returns the depth of the node, which is the number of bytes that all keys below it share.
     pub fn depth(&self) -> usize
         ensures { result ≡ self.now.depth }
     {
         self.depth
     }
 
-    /// How many edges the node has.
+    /// Returns the number of edges.
     pub fn count(&self) -> usize
         ensures count { result ≡ length self.now.edges }
         ensures ascends { Ascends self.now.edges }
@@ -71,7 +71,7 @@ impl<'a, const P: usize> NodeRef<'a, P> {
         }
     }
 
-    /// A byte of the stored part of the compressed prefix.
+    /// Returns a byte of the stored part of the compressed prefix, if that part is long enough.
     pub fn prefix_byte(&self, at: usize) -> Option<u8>
         ensures { result ≡ slice_get self.now.prefix at }
     {
@@ -82,7 +82,7 @@ impl<'a, const P: usize> NodeRef<'a, P> {
         }
     }
 
-    /// The stored part of the compressed prefix.
+    /// Returns the stored part of the compressed prefix.
     pub fn prefix(&self) -> &'a [u8]
         ensures value { result.now ≡ self.now.prefix }
         ensures small { P < 2 ^ 62 }
@@ -91,7 +91,7 @@ impl<'a, const P: usize> NodeRef<'a, P> {
         &prefix[..self.used]
     }
 
-    /// What stands below the edge at a byte.
+    /// Returns the child of the edge at a byte, if there is one.
     #[inline(always)]
     pub fn find(&self, byte: u8) -> Option<Child>
         ensures { result ≡ child_at self.now.edges byte }
@@ -104,7 +104,8 @@ impl<'a, const P: usize> NodeRef<'a, P> {
         }
     }
 
-    /// The edge at one end: that with the least byte, or that with the greatest.
+    /// Returns the edge with the least byte if `is_first` is set, or else the one with the
+    /// greatest.
     pub fn end_edge(&self, is_first: bool) -> Edge
         requires { 0 < length self.now.edges }
         ensures { IsEnd is_first self.now.edges result }
@@ -116,7 +117,7 @@ impl<'a, const P: usize> NodeRef<'a, P> {
         }
     }
 
-    // The edge with the least byte.
+    /// Returns the edge with the least byte.
     fn first_edge(&self) -> Edge
         requires { 0 < length self.now.edges }
         ensures { IsEnd true self.now.edges result }
@@ -129,7 +130,7 @@ impl<'a, const P: usize> NodeRef<'a, P> {
         }
     }
 
-    // The edge with the greatest byte.
+    /// Returns the edge with the greatest byte.
     fn last_edge(&self) -> Edge
         requires { 0 < length self.now.edges }
         ensures { IsEnd false self.now.edges result }
@@ -142,7 +143,7 @@ impl<'a, const P: usize> NodeRef<'a, P> {
         }
     }
 
-    /// The edge with the least byte above this one.
+    /// Returns the edge with the least byte greater than `byte`, if there is one.
     pub fn edge_after(&self, byte: u8) -> Option<Edge>
         ensures { IsNext self.now.edges byte result }
     {
@@ -154,7 +155,7 @@ impl<'a, const P: usize> NodeRef<'a, P> {
         }
     }
 
-    /// The edge with the greatest byte below this one.
+    /// Returns the edge with the greatest byte less than `byte`, if there is one.
     pub fn edge_before(&self, byte: u8) -> Option<Edge>
         ensures { IsPrevious self.now.edges byte result }
     {
@@ -167,8 +168,9 @@ impl<'a, const P: usize> NodeRef<'a, P> {
     }
 }
 
-/// The inner nodes. A contract sees the node under each number, and the spare records of each kind.
-/// Only `reserve`, `clone` and `narrow` allocate, and `narrow` keeps the larger node if that fails.
+/// The inner nodes. A contract sees the node under each number, and the number of spare records of
+/// each kind. Only `reserve`, `clone` and `narrow` allocate, and `narrow` keeps the larger node if
+/// that fails.
 #[derive(Drop)]
 pub struct Nodes<const P: usize> {
     pub(super) fours: Store<Inner<Few<4>, P>>,
@@ -193,7 +195,7 @@ impl<const P: usize> Model for Nodes<P> {
 }
 
 impl<const P: usize> Nodes<P> {
-    /// No nodes.
+    /// Returns a store with no nodes. Does not allocate.
     pub fn new(alloc: Global) -> Self
         ensures none { (j : ℕ) → at result j ≡ None }
         ensures live { live result ≡ 0 }
@@ -207,7 +209,8 @@ impl<const P: usize> Nodes<P> {
         }
     }
 
-    /// The same nodes under the same numbers.
+    /// Returns a copy with the same nodes under the same numbers. Returns an error if it fails to
+    /// allocate, or if a record with a prefix of `P` bytes may be too large.
     pub fn clone(&self) -> Result<Self, AllocError>
         ensures same { IfOk result (λ copy. SameNodes self.now copy) }
     {
@@ -224,14 +227,14 @@ impl<const P: usize> Nodes<P> {
         })
     }
 
-    /// How many nodes there are.
+    /// Returns the number of nodes.
     pub fn live(&self) -> usize
         ensures { result ≡ live self.now }
     {
         self.fours.used() + self.sixteens.used() + self.forty_eights.used() + self.fulls.used()
     }
 
-    /// Whether there is a node under a number.
+    /// Returns `true` if there is a node under a number.
     pub fn has(&self, id: NodeId) -> bool
         ensures { result ≡ is_some (at self.now id) }
     {
@@ -243,7 +246,7 @@ impl<const P: usize> Nodes<P> {
         }
     }
 
-    /// The node under a number. It counts as a visit.
+    /// Returns the node under a number. One visit.
     pub fn read(&self, id: NodeId, visits: &mut Visits) -> NodeRef<'_, P>
         requires { IsSome (at self.now id) }
         ensures value { at self.now id ≡ Some result }
@@ -252,12 +255,12 @@ impl<const P: usize> Nodes<P> {
     {
         visits.add_one();
         let node = self.node_at(id);
-        // Whoever counts the edges learns that their bytes rise.
+        // The count says that the bytes of the edges ascend.
         let _count = node.count();
         node
     }
 
-    // The node under a number.
+    /// Returns the node under a number, without a visit.
     fn node_at(&self, id: NodeId) -> NodeRef<'_, P>
         requires { IsSome (at self.now id) }
         ensures value { at self.now id ≡ Some result }
@@ -318,7 +321,7 @@ impl<const P: usize> Nodes<P> {
         }
     }
 
-    /// Leads an edge elsewhere.
+    /// Redirects an edge of a node.
     pub fn redirect(&mut self, id: NodeId, byte: u8, to: Child)
         requires { IsSomeAnd (at self.old id) (λ x. IsSome (child_at x.edges byte)) }
         ensures edges_with_child { Redirects (at self.old) (at self.new) id byte to }
@@ -333,7 +336,7 @@ impl<const P: usize> Nodes<P> {
         }
     }
 
-    /// Removes an edge.
+    /// Removes an edge from a node.
     pub fn remove_edge(&mut self, id: NodeId, byte: u8)
         requires { IsSomeAnd (at self.old id) (λ x. IsSome (child_at x.edges byte)) }
         ensures removed { DropsEdge (at self.old) (at self.new) id byte }
@@ -365,7 +368,8 @@ impl<const P: usize> Nodes<P> {
         }
     }
 
-    /// Makes a node with two edges. It keeps the first P bytes of the prefix.
+    /// Makes a node with two edges, and returns its number. The node keeps the first `P` bytes of
+    /// `prefix`. Does not allocate.
     #[cold]
     #[inline(never)]
     pub fn new_node(&mut self, depth: usize, prefix: &[u8], low: Edge, high: Edge) -> NodeId
@@ -383,7 +387,8 @@ impl<const P: usize> Nodes<P> {
         }
     }
 
-    // Moves a full node of four children to the next kind.
+    /// Moves a full node of the kind of 4 to the kind of 16, and returns the number that it has
+    /// then.
     #[cold]
     #[inline(never)]
     fn grow_four(&mut self, place: usize) -> NodeId
@@ -404,7 +409,8 @@ impl<const P: usize> Nodes<P> {
         }
     }
 
-    // Moves a full node of sixteen children to the next kind.
+    /// Moves a full node of the kind of 16 to the kind of 48, and returns the number that it has
+    /// then.
     #[cold]
     #[inline(never)]
     fn grow_sixteen(&mut self, place: usize) -> NodeId
@@ -425,7 +431,8 @@ impl<const P: usize> Nodes<P> {
         }
     }
 
-    // Moves a full node of 48 children to the largest kind.
+    /// Moves a full node of the kind of 48 to the kind of 256, and returns the number that it has
+    /// then.
     #[cold]
     #[inline(never)]
     fn grow_forty_eight(&mut self, place: usize) -> NodeId
@@ -446,7 +453,8 @@ impl<const P: usize> Nodes<P> {
         }
     }
 
-    /// Sees to a place for one edge more. Answers the number that the node has then.
+    /// Makes sure that a node has a place for one more edge, and returns the number that it has
+    /// then. If it has no such place, it moves to the next larger kind. Does not allocate.
     pub fn widen(&mut self, id: NodeId) -> NodeId
         requires live { IsSome (at self.old id) }
         requires fits { FitsMore self.old id }
@@ -481,8 +489,8 @@ impl<const P: usize> Nodes<P> {
         }
     }
 
-    // Moves a node of the kind of 16 with at most 4 children to the kind of 4, and returns its
-    // place there. The nodes are unchanged if this fails to allocate.
+    /// Moves a node of the kind of 16 with at most 4 children to the kind of 4, and returns its
+    /// place there. The nodes are unchanged if this fails to allocate.
     #[cold]
     #[inline(never)]
     fn shrink_sixteen(&mut self, place: usize) -> Result<usize, AllocError>
@@ -499,8 +507,8 @@ impl<const P: usize> Nodes<P> {
         Ok(self.fours.fill(large.with_edges(edges)))
     }
 
-    // Moves a node of the kind of 48 with at most 16 children to the kind of 16, and returns its
-    // place there. The nodes are unchanged if this fails to allocate.
+    /// Moves a node of the kind of 48 with at most 16 children to the kind of 16, and returns its
+    /// place there. The nodes are unchanged if this fails to allocate.
     #[cold]
     #[inline(never)]
     fn shrink_forty_eight(&mut self, place: usize) -> Result<usize, AllocError>
@@ -518,8 +526,8 @@ impl<const P: usize> Nodes<P> {
         Ok(self.sixteens.fill(large.with_edges(edges)))
     }
 
-    // Moves a node of the kind of 256 with at most 48 children to the kind of 48, and returns its
-    // place there. The nodes are unchanged if this fails to allocate.
+    /// Moves a node of the kind of 256 with at most 48 children to the kind of 48, and returns its
+    /// place there. The nodes are unchanged if this fails to allocate.
     #[cold]
     #[inline(never)]
     fn shrink_full(&mut self, place: usize) -> Result<usize, AllocError>
@@ -538,7 +546,7 @@ impl<const P: usize> Nodes<P> {
         Ok(self.forty_eights.fill(large.with_edges(edges)))
     }
 
-    // Does what `narrow` does to a node of the kind of 16.
+    /// Does what `narrow` does, for a node of the kind of 16.
     fn narrow_sixteen(&mut self, place: usize) -> NodeId
         requires live { IsSome (slot_at self.old.sixteens place) }
         requires small { place < 2 ^ 61 }
@@ -563,7 +571,7 @@ impl<const P: usize> Nodes<P> {
         }
     }
 
-    // Does what `narrow` does to a node of the kind of 48.
+    /// Does what `narrow` does, for a node of the kind of 48.
     fn narrow_forty_eight(&mut self, place: usize) -> NodeId
         requires live { IsSome (slot_at self.old.forty_eights place) }
         requires small { place < 2 ^ 61 }
@@ -585,7 +593,7 @@ impl<const P: usize> Nodes<P> {
         }
     }
 
-    // Does what `narrow` does to a node of the kind of 256.
+    /// Does what `narrow` does, for a node of the kind of 256.
     fn narrow_full(&mut self, place: usize) -> NodeId
         requires live { IsSome (slot_at self.old.fulls place) }
         requires small { place < 2 ^ 61 }
@@ -625,7 +633,8 @@ impl<const P: usize> Nodes<P> {
         }
     }
 
-    /// Sees to room for so many placements. The nodes stand where there is no memory.
+    /// Makes room for `count` more placements. Returns an error if it fails to allocate, or if a
+    /// record with a prefix of `P` bytes may be too large. The nodes are unchanged in both cases.
     pub fn reserve(&mut self, count: usize) -> Result<(), AllocError>
         ensures same { SameNodes self.old self.new }
         ensures room { room self.old ≤ room self.new }
@@ -650,7 +659,7 @@ impl<const P: usize> Nodes<P> {
         )
     }
 
-    /// Gives a node another prefix, of which it keeps the first P bytes.
+    /// Replaces a node's prefix with the first `P` bytes of `prefix`.
     pub fn set_prefix(&mut self, id: NodeId, prefix: &[u8])
         requires { IsSome (at self.old id) }
         ensures set { Reprefixes (at self.old) (at self.new) id (take P prefix.now) }
@@ -665,8 +674,8 @@ impl<const P: usize> Nodes<P> {
         }
     }
 
-    /// Puts the prefix of another node and a byte in front of a node's prefix, of which it keeps
-    /// the first P bytes.
+    /// Puts the prefix of the node `upper` and a byte before the prefix of the node `id`, which
+    /// keeps the first `P` bytes of the result.
     pub fn join_prefix(&mut self, id: NodeId, upper: NodeId, byte: u8)
         requires live { IsSome (at self.old id) }
         requires upper { IsSome (at self.old upper) }
@@ -684,7 +693,7 @@ impl<const P: usize> Nodes<P> {
         self.set_prefix(id, &prefix[..used]);
     }
 
-    /// Takes so many bytes away from the front of a node's prefix.
+    /// Removes the first `count` bytes of a node's prefix.
     pub fn cut_prefix(&mut self, id: NodeId, count: usize)
         requires { IsSome (at self.old id) }
         ensures cut { CutsPrefix P (at self.old) (at self.new) id count }
@@ -699,7 +708,7 @@ impl<const P: usize> Nodes<P> {
         self.set_prefix(id, &prefix[..used]);
     }
 
-    /// Removes every node and every spare record.
+    /// Removes all nodes and all spare records.
     pub fn clear(&mut self)
         ensures none { (j : ℕ) → at self.new j ≡ None }
         ensures live { live self.new ≡ 0 }
@@ -712,7 +721,7 @@ impl<const P: usize> Nodes<P> {
     }
 }
 
-// The bytes after the first so many.
+/// Returns the bytes after the first `count`.
 fn bytes_after(bytes: &[u8], count: usize) -> &[u8]
     ensures { result.now ≡ drop count bytes.now }
 {
@@ -723,8 +732,8 @@ fn bytes_after(bytes: &[u8], count: usize) -> &[u8]
     }
 }
 
-// Writes a byte and then others after the first bytes, as many as there is room for. Answers how
-// many bytes are used then.
+/// Writes `byte` and then `rest` after the first `used` bytes of `to`, as far as there is room.
+/// Returns the number of bytes that are used then.
 fn append(to: &mut [u8], used: usize, byte: u8, rest: &[u8]) -> usize
     requires { used ≤ length to.old }
     ensures within { result ≤ length to.old }
@@ -739,8 +748,9 @@ fn append(to: &mut [u8], used: usize, byte: u8, rest: &[u8]) -> usize
     start + copy_front(&mut to[start..], rest)
 }
 
-// How many of so many live nodes of a kind, and of those to come, so many placements can make
-// outgrow it, where one that comes takes this many.
+/// Returns the greatest number of nodes that `count` placements can move out of a kind. The kind
+/// has `live` nodes, each of which may move with one placement. A node that comes into the kind
+/// takes `takes` placements to move out of it.
 fn outgrown(count: usize, live: usize, takes: usize) -> usize
     requires { 0 < takes }
     ensures few { count ≤ live → result ≡ count }

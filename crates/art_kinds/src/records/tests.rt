@@ -1,5 +1,5 @@
-//! The inner nodes of a thousand keys taken apart, and a node of each other kind. Each pattern
-//! names every field of its type, so that no field is added without a look at what it holds.
+//! Takes the inner nodes of a thousand keys apart, and a node of each other kind. Each pattern
+//! names every field of its type, so a new field does not compile until a test looks at it.
 ghost use Rattle.std.specs.Prelude.{◌<◌, ◌≤◌};
 
 use crate::records::few::Few;
@@ -12,15 +12,15 @@ use crate::records::nodes::Nodes;
 use art_slots::{CellId, Visits};
 use std::process::Abort;
 
-// The steps of ten children in the order of their bytes.
+/// Ten steps, in ascending order of their bytes.
 const STEPS: [u8; 10] = [5, 6, 0, 7, 1, 8, 2, 9, 3, 4];
 
-// The byte of a step: each of 256 once, in no order.
+/// Returns the byte of a step. The 256 steps have different bytes, in no order.
 fn byte_of(step: u8) -> u8 {
     step.wrapping_mul(37).wrapping_add(100)
 }
 
-// Leaves with the numbers from this one on.
+/// Returns 256 leaves with consecutive numbers, from `first` on.
 fn leaves_from(first: usize) -> [Child; 256]
     requires { first < 1000 }
 {
@@ -31,7 +31,7 @@ fn leaves_from(first: usize) -> [Child; 256]
     leaves
 }
 
-// A node with children at the bytes of the first two steps.
+/// Makes a node with two children, at the bytes of the first two steps.
 fn start(rt: &impl Abort, nodes: &mut Nodes<0>, depth: usize, low: Child, high: Child) -> NodeId {
     nodes.reserve(1).expect(rt, "memory");
     let low = Edge { byte: 100, to: low };
@@ -42,7 +42,7 @@ fn start(rt: &impl Abort, nodes: &mut Nodes<0>, depth: usize, low: Child, high: 
     nodes.new_node(depth, &[1, 2, 3], low, high)
 }
 
-// Adds the child of a byte that has none.
+/// Adds a child at a byte that has none, and returns the number that the node has then.
 #[tactic(auto, using(crate::proofs::Growing::fits_more))]
 fn add(rt: &impl Abort, nodes: &mut Nodes<0>, id: NodeId, byte: u8, to: Child) -> NodeId {
     nodes.reserve(1).expect(rt, "memory");
@@ -55,7 +55,7 @@ fn add(rt: &impl Abort, nodes: &mut Nodes<0>, id: NodeId, byte: u8, to: Child) -
     id
 }
 
-// A node with these children, at the byte of each step.
+/// Makes a node with these children, one at the byte of each step.
 fn node_of(rt: &impl Abort, nodes: &mut Nodes<0>, depth: usize, children: &[Child]) -> NodeId {
     assert!(rt; 2 <= children.len() && children.len() <= 256);
     let mut id = start(rt, nodes, depth, children[0], children[1]);
@@ -65,7 +65,7 @@ fn node_of(rt: &impl Abort, nodes: &mut Nodes<0>, depth: usize, children: &[Chil
     id
 }
 
-// The node above a hundred leaves, from this one on.
+/// Makes the node above a hundred leaves, from `first` on.
 fn middle_of(rt: &impl Abort, nodes: &mut Nodes<0>, first: usize) -> NodeId
     requires { first ≤ 900 }
 {
@@ -77,7 +77,7 @@ fn middle_of(rt: &impl Abort, nodes: &mut Nodes<0>, first: usize) -> NodeId
     node_of(rt, nodes, 1, &lows)
 }
 
-// The node above a thousand leaves.
+/// Makes the node above a thousand leaves.
 fn top_of(rt: &impl Abort, nodes: &mut Nodes<0>) -> NodeId {
     let mut middles = [Child::Leaf(CellId::new(0)); 10];
     for step in 0..10 {
@@ -86,8 +86,8 @@ fn top_of(rt: &impl Abort, nodes: &mut Nodes<0>) -> NodeId {
     node_of(rt, nodes, 0, &middles)
 }
 
-// The words of the ten children of a node, in the order of the steps. The node is at this depth, a
-// word leads to it, and it has no byte of a key but those of its children.
+/// Returns the words of the ten children of the node that `word` leads to, in the order of the
+/// steps. Asserts that the node has the depth `at`, an empty prefix, and no other children.
 fn words_of(rt: &impl Abort, nodes: &Nodes<0>, word: usize, at: usize) -> [usize; 10] {
     let place = word / 8;
     assert!(rt; word % 8 == 2 && nodes.sixteens.has(place));
@@ -118,7 +118,7 @@ fn words_of(rt: &impl Abort, nodes: &Nodes<0>, word: usize, at: usize) -> [usize
     words
 }
 
-// A word leads to the node above a hundred leaves, from this one on.
+/// Asserts that `word` leads to the node above a hundred leaves, from `first` on.
 fn assert_middle(rt: &impl Abort, nodes: &Nodes<0>, word: usize, first: usize) {
     let words = words_of(rt, nodes, word, 1);
     for place in 0..100 {
@@ -146,7 +146,7 @@ fn nodes_taken_apart(rt: HostRuntime) {
     assert!(rt; forty_eights.used() == 0 && fulls.used() == 0);
 }
 
-// The children of a node of three.
+/// Asserts that these are the edges of a node with three children.
 fn assert_four(rt: &impl Abort, edges: &Few<4>) {
     let Few {
         count,
@@ -161,7 +161,7 @@ fn assert_four(rt: &impl Abort, edges: &Few<4>) {
     }
 }
 
-// The children of a node of twenty.
+/// Asserts that these are the edges of a node with twenty children.
 fn assert_forty_eight(rt: &impl Abort, edges: &Indexed) {
     let Indexed {
         count,
@@ -187,7 +187,7 @@ fn assert_forty_eight(rt: &impl Abort, edges: &Indexed) {
     }
 }
 
-// The children of a node of sixty.
+/// Asserts that these are the edges of a node with sixty children.
 fn assert_full(rt: &impl Abort, edges: &Full) {
     let Full { count, children } = edges;
     assert!(rt; *count == 60);
