@@ -1,11 +1,11 @@
--- The numbers of a block: a leaf's number tells the block, and with it the row, that it is of.
+-- The numbers of a block. The number of a leaf tells its block, and so its row.
 use Rattle.std.specs.Prelude.{◌≡◌, ◌⊎◌, ℕ, ◌+◌, ◌-◌, ◌/◌, ◌<◌, ◌≤◌, List, [], ◌∷◌, ◌++◌, length, map, count_by, eqb, true, Option, Some, None, IfSome}
 use Rattle.art_rows.specs.Numbers.{Numbered, leaf_in, number_after}
 use Rattle.art_rows.specs.Rows.{among, place_in, nth}
 use Rattle.art_rows.specs.declared.row.Position.{Position}
 use Rattle.art_rows.specs.declared.row.TheConstants.{ROW}
 
--- how often a number stands in a list
+-- how often a number is in a list
 abbrev pub times : List ℕ → ℕ → ℕ
 times ns n = count_by (λ m. eqb m n) ns
 
@@ -21,7 +21,7 @@ numbers_at first cells = map (λ c. first + c) cells
 abbrev pub AreWithin : List ℕ → Type 0
 AreWithin cells = (c : ℕ) → 0 < times cells c → c < ROW
 
--- each is a cell of a block, and stands there once at most
+-- each is a cell of a block, and none is there twice
 pub record ArePlaces (cells : List ℕ) : Type 0 where
   pub once : (c : ℕ) → times cells c ≤ 1
   pub within : AreWithin cells
@@ -31,7 +31,7 @@ abbrev pub AreOwn : List (Numbered (List ℕ)) → Type 0
 AreOwn [] = Unit {0}
 AreOwn (r ∷ rs) = ((n : ℕ) → among r.1 n ≡ true → row_of n ≡ r.0) × AreOwn rs
 
--- the row of this leaf is not full
+-- there is such a leaf, and its row is not full
 abbrev pub HasPlace : List (Numbered (List ℕ)) → Option ℕ → Type 0
 HasPlace rows None = ⊥
 HasPlace rows (Some i) = IfSome (leaf_in rows (row_of i)) (λ ids. length ids < ROW)
@@ -40,8 +40,8 @@ HasPlace rows (Some i) = IfSome (leaf_in rows (row_of i)) (λ ids. length ids < 
 abbrev pub HasRoomAfter : List (Numbered (List ℕ)) → ℕ → Type 0
 HasRoomAfter rows r = IfSome (number_after rows r) (λ n. IfSome (leaf_in rows n) (λ ids. length ids < ROW))
 
--- a pair may come after this leaf, or in front of all: in a full row only after its last leaf, if
--- the row after it is not full
+-- a pair may come after this leaf, or before all leaves. In a full row it may only come after the
+-- last leaf, if the next row is not full
 abbrev pub HasWay : List (Numbered (List ℕ)) → Option ℕ → Type 0
 HasWay rows None = Unit {0}
 HasWay rows (Some i) = IfSome (leaf_in rows (row_of i)) (λ ids. length ids ≡ ROW → (place_in ids i + 1 ≡ ROW) × HasRoomAfter rows (row_of i))

@@ -9,7 +9,7 @@ use Rattle.art_rows.specs.Leaves.{Leaves}
 use Rattle.art_rows.specs.declared.leaves.Leaf.{Leaf}
 
 module _ {K V : Type 0} where
-  -- the pair of a record, in front of others
+  -- the pair of a record, if there is one, before others
   abbrev pub put : ℕ → Option (Leaf K V) → List (Numbered (K × V)) → List (Numbered (K × V))
   put n None ps = ps
   put n (Some x) ps = (n, (x.key, x.value)) ∷ ps
@@ -19,11 +19,11 @@ module _ {K V : Type 0} where
   gather leaves [] = []
   gather leaves (n ∷ ns) = put n (leaves n) (gather leaves ns)
 
-  -- the record under a number: its pair
+  -- the record of the pair under a number
   abbrev pub filed : List (Numbered (K × V)) → ℕ → Option (Leaf K V)
   filed ps i = option_map (λ (x : K × V). record { key = x.0; value = x.1 }) (leaf_in ps i)
 
-  -- the records are those of the pairs, whose numbers are those of the rows; each row has numbers of its own
+  -- the records are those of the pairs, the rows have their numbers, and each row has its own
   pub record Files (leaves : ℕ → Option (Leaf K V)) (rows : List (Numbered (List ℕ))) (count : ℕ) (pairs : List (Numbered (K × V))) : Type 0 where
     pub distinct : AreDistinct pairs
     pub each : (i : ℕ) → leaves i ≡ filed pairs i
@@ -33,11 +33,11 @@ module _ {K V : Type 0} where
     pub own : AreOwn rows
     pub counted : count ≡ length pairs
 
-  -- the pairs of a store of leaves
+  -- the pairs of a store of leaves, in the order of the rows
   abbrev pub pairs_in : Store (Leaf K V) → List (Numbered (List ℕ)) → List (Numbered (K × V))
   pairs_in leaves rows = gather (at leaves) (numbers rows)
 
-  -- the records are filed in the rows, and no others
+  -- the records are filed in the rows, and there are no others
   abbrev pub AllFiled : Store (Leaf K V) → List (Numbered (List ℕ)) → Type 0
   AllFiled leaves rows = Files (at leaves) rows (used_count leaves) (pairs_in leaves rows)
 

@@ -13,7 +13,7 @@ ArePaired ids cells n = (c : ℕ) → c < n → (id_at ids c < n) × (id_at cell
 abbrev pub exchanged : List ℕ → ℕ → ℕ → List ℕ
 exchanged ids a b = slice_set (slice_set ids a (id_at ids b)) b (id_at ids a)
 
--- the cells that had an id have it still
+-- each cell that had an id still has it
 pub record Extends (old new : List ℕ) : Type 0 where
   pub longer : length old ≤ length new
   pub same : (c : ℕ) → c < length old → id_at new c ≡ id_at old c

@@ -26,7 +26,7 @@ leaves_code {K} {V} k v =
     (λ _. refl)
 
 module _ {K V : Type 0} where
-  -- for how many leaves more there surely is a row
+  -- for how many more leaves there surely is room
   abbrev pub room : Leaves K V → ℕ
   room l = row_room (lengths l.rows) l.spare_rows
 
@@ -34,15 +34,15 @@ module _ {K V : Type 0} where
   abbrev pub turns_of : Leaves K V → ℕ
   turns_of l = turns (lengths l.rows) l.spare_rows
 
-  -- for how many leaves more there is place after all others
+  -- for how many more leaves there is room after all others
   abbrev pub end_room : Leaves K V → ℕ
   end_room l = ROW * l.spare_rows + row_end_room (lengths l.rows)
 
-  -- how many pairs stand before that of a number
+  -- how many pairs come before that of a number
   abbrev pub index_of : List (Numbered (K × V)) → ℕ → ℕ
   index_of ps i = place_in (map (λ p. p.0) ps) i
 
-  -- how many pairs stand before a place: that after a number, or the front
+  -- how many pairs come before a place, which is after a number or before all pairs
   abbrev pub spot_index : Option ℕ → List (Numbered (K × V)) → ℕ
   spot_index None ps = 0
   spot_index (Some i) ps = index_of ps i + 1
@@ -52,23 +52,23 @@ module _ {K V : Type 0} where
   with_value [] i v = []
   with_value (p ∷ ps) i v = if eqb p.0 i then (p.0, (p.1.0, v)) ∷ ps else p ∷ with_value ps i v
 
-  -- the first pair, if there is one, is taken out
+  -- the first pair is removed, if there is one
   abbrev pub TakesFirst : List (Numbered (K × V)) → Option (K × V) → List (Numbered (K × V)) → Type 0
   TakesFirst old None new = (old ≡ []) × (new ≡ [])
   TakesFirst old (Some x) new = (id : ℕ) × (old ≡ (id, x) ∷ new)
 
-  -- the last pair, if there is one, is taken out
+  -- the last pair is removed, if there is one
   abbrev pub TakesLast : List (Numbered (K × V)) → Option (K × V) → List (Numbered (K × V)) → Type 0
   TakesLast old None new = (old ≡ []) × (new ≡ [])
   TakesLast old (Some x) new = (id : ℕ) × (old ≡ new ++ (id, x) ∷ [])
 
 module _ {K V : Type 0} (is_key : K → K → Type 0) (is_value : V → V → Type 0) where
-  -- the same number, with a clone of the key and one of the value
+  -- the number is the same, with a clone of the key and one of the value
   pub record IsCopy (old new : Numbered (K × V)) : Type 0 where
     pub number : new.0 ≡ old.0
     pub key : is_key old.1.0 new.1.0
     pub value : is_value old.1.1 new.1.1
 
-  -- pair by pair a copy
+  -- each pair is a copy of the one at the same place
   abbrev pub AreCopies : List (Numbered (K × V)) → List (Numbered (K × V)) → Type 0
   AreCopies ps qs = AllZip IsCopy ps qs

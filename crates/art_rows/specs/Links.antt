@@ -1,33 +1,33 @@
--- How the leaf records are linked.
+-- How the records of a chain are linked.
 use Rattle.std.specs.Prelude.{◌≡◌, ℕ, zero, suc, List, [], ◌∷◌, length, Option, option_map, Some, None, Bool, false, if◌then◌else◌, eqb}
 use Rattle.art_slots.specs.Slots.{Slots}
 use Rattle.art_slots.specs.Store.{Store, slot_at as at, used_count}
 use Rattle.art_rows.specs.Numbers.{Numbered as Pair, Numbers as Content, leaf_in, first_number, last_number, number_after, number_before, AreDistinct}
 use Rattle.art_rows.specs.declared.chain.Link.{Link}
 
--- the number is this one
+-- the number is there, and is this one
 abbrev pub is_at : Option ℕ → ℕ → Bool
 is_at None j = false
 is_at (Some i) j = eqb i j
 
--- an end of the list: another leaf where none stands beyond it, or else as it was
+-- an end of the list, which changes if no record is beyond the link
 abbrev pub end_with : Option ℕ → Option ℕ → Option ℕ → Option ℕ
 end_with None to old = to
 end_with (Some i) to old = old
 
 module _ {X : Type 0} where
-  -- the pair of this leaf, and then those that its link leads to
+  -- the pair of this record, and then those that its link leads to
   abbrev pub step : (Option ℕ → List (Pair X)) → ℕ → Option (Link X) → List (Pair X)
   step rest i None = []
   step rest i (Some x) = (i, x.item) ∷ rest x.next
 
-  -- the pairs that the links lead to, at most so many
+  -- the pairs that the links lead to, at most n of them
   abbrev pub follow : (ℕ → Option (Link X)) → ℕ → Option ℕ → List (Pair X)
   follow leaves zero start = []
   follow leaves (suc n) None = []
   follow leaves (suc n) (Some i) = step (follow leaves n) i (leaves i)
 
-  -- the record under a number: its pair, linked to its neighbours
+  -- the record under a number: its item, linked to its neighbours
   abbrev pub linked : List (Pair X) → ℕ → Option (Link X)
   linked ps i =
       option_map
@@ -42,7 +42,7 @@ module _ {X : Type 0} where
     pub ends : last ≡ last_number pairs
     pub counted : count ≡ length pairs
 
-  -- the pairs of a store of leaves
+  -- the pairs of a store of records
   abbrev pub pairs_in : Store (Link X) → Option ℕ → List (Pair X)
   pairs_in leaves first = follow (at leaves) (used_count leaves) first
 
@@ -50,14 +50,14 @@ module _ {X : Type 0} where
   abbrev pub AllLinked : Store (Link X) → Option ℕ → Option ℕ → Type 0
   AllLinked leaves first last = Links (at leaves) first last (used_count leaves) (pairs_in leaves first)
 
-  -- what a contract sees of linked leaves
+  -- what a contract sees of linked records
   abbrev pub content : Slots (Link X) → Option ℕ → Content X
   content leaves first = record { pairs = pairs_in leaves.store first; spare = leaves.store.spare; room = leaves.room; top = leaves.top; next = leaves.next }
 
-  -- the leaves, with one linked to another after it
+  -- the records, with one linked to another after it
   abbrev pub with_next : (ℕ → Option (Link X)) → Option ℕ → Option ℕ → ℕ → Option (Link X)
   with_next leaves i to j = if is_at i j then option_map (λ (x : Link X). record x { next = to }) (leaves j) else leaves j
 
-  -- the leaves, with one linked to another before it
+  -- the records, with one linked to another before it
   abbrev pub with_prev : (ℕ → Option (Link X)) → Option ℕ → Option ℕ → ℕ → Option (Link X)
   with_prev leaves i to j = if is_at i j then option_map (λ (x : Link X). record x { prev = to }) (leaves j) else leaves j

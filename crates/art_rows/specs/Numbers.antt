@@ -1,12 +1,12 @@
--- What a contract sees of a chain: the items in order, each under its number, and the room for more. And the words on such lists, which those on leaves and rows are said in.
+-- What a contract sees of a chain, and the definitions on lists of numbered items.
 use Rattle.std.specs.Prelude.{◌≡◌, ◌≢◌, ℕ, List, [], ◌∷◌, Option, Some, None, IsSome, refl, if◌then◌else◌, eqb}
 use Rattle.std.specs.Coded.{Coded, code_by, coded×, coded_ℕ, coded_list}
 
--- a number, and what is under it
+-- a number, and the item under it
 abbrev pub Numbered : Type 0 → Type 0
 Numbered X = ℕ × X
 
--- the items in the order of the links, each under its number; how many more find a place; for how many places there is memory; a number above those of all; and the number of the next place
+-- the items in order, the spare places, the room for more, a number above all, and the next number
 pub record Numbers (X : Type 0) : Type 0 where
   pub pairs : List (Numbered X)
   pub spare : ℕ
@@ -24,62 +24,62 @@ numbers_code {X} x =
     (λ _. refl)
 
 module _ {X : Type 0} where
-  -- what is under a number
+  -- the item under a number, if there is one
   abbrev pub leaf_in : List (Numbered X) → ℕ → Option X
   leaf_in [] i = None
   leaf_in (p ∷ ps) i = if eqb p.0 i then Some p.1 else leaf_in ps i
 
-  -- something is under the number
+  -- there is an item under the number
   abbrev pub Has : List (Numbered X) → ℕ → Type 0
   Has ps i = IsSome (leaf_in ps i)
 
-  -- the number of the first pair
+  -- the number of the first pair, if there is one
   abbrev pub first_number : List (Numbered X) → Option ℕ
   first_number [] = None
   first_number (p ∷ ps) = Some p.0
 
-  -- the number of the last pair
+  -- the number of the last pair, if there is one
   abbrev pub last_number : List (Numbered X) → Option ℕ
   last_number [] = None
   last_number (p ∷ []) = Some p.0
   last_number (p ∷ q ∷ ps) = last_number (q ∷ ps)
 
-  -- the number after a number
+  -- the number after a number, if there is one
   abbrev pub number_after : List (Numbered X) → ℕ → Option ℕ
   number_after [] i = None
   number_after (p ∷ ps) i = if eqb p.0 i then first_number ps else number_after ps i
 
-  -- the number before a number, where `back` stands before the list
+  -- the number before a number in a list that comes after the number `back`
   abbrev pub number_before_from : Option ℕ → List (Numbered X) → ℕ → Option ℕ
   number_before_from back [] i = None
   number_before_from back (p ∷ ps) i = if eqb p.0 i then back else number_before_from (Some p.0) ps i
 
-  -- the number before a number
+  -- the number before a number, if there is one
   abbrev pub number_before : List (Numbered X) → ℕ → Option ℕ
   number_before ps i = number_before_from None ps i
 
-  -- the number after a place: that of a number, or the front
+  -- the number after a number, or the first number
   abbrev pub next_number : Option ℕ → List (Numbered X) → Option ℕ
   next_number None ps = first_number ps
   next_number (Some i) ps = number_after ps i
 
-  -- the pairs, with another after the one of a number, or in front
+  -- the pairs with one more, after that of a number or before all
   abbrev pub with_pair_after : Option ℕ → Numbered X → List (Numbered X) → List (Numbered X)
   with_pair_after None x ps = x ∷ ps
   with_pair_after (Some i) x [] = []
   with_pair_after (Some i) x (p ∷ ps) = if eqb p.0 i then p ∷ x ∷ ps else p ∷ with_pair_after (Some i) x ps
 
-  -- the pairs but that of a number
+  -- the pairs without that of a number
   abbrev pub without_number : List (Numbered X) → ℕ → List (Numbered X)
   without_number [] i = []
   without_number (p ∷ ps) i = if eqb p.0 i then ps else p ∷ without_number ps i
 
-  -- the pairs, with something else under a number
+  -- the pairs, with another item under a number
   abbrev pub with_pair : List (Numbered X) → ℕ → X → List (Numbered X)
   with_pair [] i x = []
   with_pair (p ∷ ps) i x = if eqb p.0 i then (p.0, x) ∷ ps else p ∷ with_pair ps i x
 
-  -- the pairs, that of the number i under the number j in its place
+  -- the pairs, with the number i replaced by j
   abbrev pub with_number : List (Numbered X) → ℕ → ℕ → List (Numbered X)
   with_number [] i j = []
   with_number (p ∷ ps) i j = if eqb p.0 i then (j, p.1) ∷ ps else p ∷ with_number ps i j
@@ -94,6 +94,6 @@ module _ {X : Type 0} where
   AreDistinct [] = Unit {0}
   AreDistinct (p ∷ ps) = Lacks ps p.0 × AreDistinct ps
 
-  -- each other number names what it named
+  -- each other number has the item that it had
   abbrev pub OthersStand : List (Numbered X) → List (Numbered X) → ℕ → Type 0
   OthersStand old new i = (j : ℕ) → j ≢ i → leaf_in new j ≡ leaf_in old j

@@ -1,4 +1,4 @@
--- Rows of numbers: which row has a number, at which place, and the numbers of all rows in order.
+-- Rows of numbers: the row and the place of a number, and the numbers of all rows in order.
 use Rattle.std.specs.Prelude.{◌≡◌, ◌≤◌, ℕ, zero, suc, ◌+◌, ◌-◌, ◌<◌, List, [], ◌∷◌, ◌++◌, length, map, Option, option_map, Some, None, Bool, true, false, if◌then◌else◌, eqb, ltb}
 use Rattle.art_rows.specs.Numbers.{Numbered}
 use Rattle.art_rows.specs.declared.following.Following.{Following}
@@ -9,12 +9,12 @@ abbrev pub among : List ℕ → ℕ → Bool
 among [] i = false
 among (n ∷ ns) i = if eqb n i then true else among ns i
 
--- how many numbers stand before this one
+-- how many numbers come before this one
 abbrev pub place_in : List ℕ → ℕ → ℕ
 place_in [] i = 0
 place_in (n ∷ ns) i = if eqb n i then 0 else suc (place_in ns i)
 
--- what stands at a place
+-- the item at a place, if there is one
 abbrev pub nth : {X : Type 0} → List X → ℕ → Option X
 nth [] k = None
 nth (n ∷ ns) zero = Some n
@@ -30,17 +30,17 @@ abbrev pub row_with : List (Numbered (List ℕ)) → ℕ → ℕ
 row_with [] i = 0
 row_with (r ∷ rs) i = if among r.1 i then r.0 else row_with rs i
 
--- the row and the place in it of the number that has so many before it
+-- the row and the place of the number with k numbers before it
 abbrev pub position_at : List (Numbered (List ℕ)) → ℕ → Option Position
 position_at [] k = None
 position_at (r ∷ rs) k = if ltb k (length r.1) then Some (record { row = r.0; place = k }) else position_at rs (k - length r.1)
 
--- each row has a number
+-- no row is empty
 abbrev pub AreFilled : List (Numbered (List ℕ)) → Type 0
 AreFilled [] = Unit {0}
 AreFilled (r ∷ rs) = (0 < length r.1) × AreFilled rs
 
--- a place in a row, or its end, that so many numbers stand before
+-- a place in a row, or its end, with k numbers before it
 pub record IsSpot (rows : List (Numbered (List ℕ))) (p : Position) (k : ℕ) : Type 0 where
   pub before : List (Numbered (List ℕ))
   pub ids : List ℕ
@@ -49,7 +49,7 @@ pub record IsSpot (rows : List (Numbered (List ℕ))) (p : Position) (k : ℕ) :
   pub index : k ≡ length (numbers before) + p.place
   pub within : p.place ≤ length ids
 
--- how many numbers stand in a row and those before it, or none where no row is named
+-- how many numbers a row and those before it have, or 0 if no row is named
 abbrev pub row_end : Option ℕ → List (Numbered (List ℕ)) → ℕ
 row_end None rows = 0
 row_end (Some r) [] = 0
@@ -63,24 +63,24 @@ lengths rows = map (λ r. length r.1) rows
 abbrev pub start_of : ℕ → Position
 start_of r = record { row = r; place = 0 }
 
--- a position that says nothing
+-- the position of a leaf whose position is not known
 abbrev pub nowhere : Position
 nowhere = record { row = 0; place = 0 }
 
--- what follows where nothing was looked up
+-- what follows a leaf after which nothing was looked up
 abbrev pub nothing_follows : Following
 nothing_follows = record { run = []; row = None }
 
 module _ {X : Type 0} where
-  -- the numbers of a run stand directly after that of i, in this order
+  -- the numbers of a run come directly after i, in this order
   abbrev pub RunsAfter : List (Numbered X) → ℕ → List ℕ → Type 0
   RunsAfter ps i run = (j n : ℕ) → nth run j ≡ Some n → nth (map (λ p. p.0) ps) (place_in (map (λ p. p.0) ps) i + 1 + j) ≡ Some n
 
-  -- the numbers of a run stand directly before that of i, in this order
+  -- the numbers of a run come directly before i, in this order
   abbrev pub RunsBefore : List (Numbered X) → ℕ → List ℕ → Type 0
   RunsBefore ps i run = (length run ≤ place_in (map (λ p. p.0) ps) i) × ((j n : ℕ) → nth run j ≡ Some n → nth (map (λ p. p.0) ps) (place_in (map (λ p. p.0) ps) i + j - length run) ≡ Some n)
 
-  -- the run stands directly after the number i, and after the run the row, or nothing where none is named
+  -- the run comes directly after i, and then the start of the row, or nothing if none is named
   pub record StandsAfter (ps : List (Numbered X)) (rows : List (Numbered (List ℕ))) (i : ℕ) (following : Following) : Type 0 where
     pub run : RunsAfter ps i following.run
     pub row : option_map start_of following.row ≡ position_at rows (place_in (map (λ p. p.0) ps) i + 1 + length following.run)

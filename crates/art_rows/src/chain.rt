@@ -1,4 +1,4 @@
-//! Records in a chain: each is under a number, and linked to its neighbours.
+//! A chain of records. Each record has a number, and is linked to its neighbours.
 ghost use Rattle.std.specs.Prelude.{◌≡◌, ◌+◌, ◌^◌, ◌<◌, max, ℕ, [], length, option_map, Some, None, IsSome, IfSome, OnOk, IfOk};
 ghost use Rattle.std.specs.Borrow.{sem};
 ghost use Rattle.art_slots.specs.Store.{slot_at, used_count};
@@ -11,7 +11,7 @@ use art_slots::Slots;
 use std::alloc::{AllocError, Global};
 use std::marker::Model;
 
-/// An item, and the numbers before and after it.
+/// An item, and the numbers of the items before and after it.
 #[derive(Drop)]
 pub(crate) struct Link<T> {
     pub(crate) item: T,
@@ -20,6 +20,7 @@ pub(crate) struct Link<T> {
 }
 
 impl<T> Link<T> {
+    /// Returns a mutable reference to the item.
     fn item_mut(&mut self) -> &mut T
         ensures* writes_back { sem 𝓛 (lends_item T.row self.entry result) }
         ensures item { result.now ≡ self.old.item }
@@ -40,9 +41,9 @@ impl Clone for Link<Row> {
     }
 }
 
-/// Items in order, each under a number. A contract sees them so, how many more find a place, and
-/// for how many places there is memory; and a number above those of all, and the number of the next
-/// place.
+/// Items in order, each under a number. A contract sees the items in order, the number of spare
+/// places, the number of places that can be added without an allocation, a number greater than that
+/// of each place, and the number of the next new place.
 #[derive(Drop)]
 pub(crate) struct Chain<T> {
     pub(crate) records: Slots<Link<T>>,
@@ -64,7 +65,7 @@ impl<T> Model for Chain<T> {
     ghost invariant = { λ t. AllLinked t.records.store t.first t.last };
 }
 
-// Links the record `at` to the one after it, or makes that one the first.
+/// Links the record `at` to the record after it. If `at` is `None`, that record becomes the first.
 fn set_next<T>(
     records: &mut Slots<Link<T>>,
     first: &mut Option<usize>,
@@ -84,7 +85,7 @@ fn set_next<T>(
     }
 }
 
-// Links the record `at` to the one before it, or makes that one the last.
+/// Links the record `at` to the record before it. If `at` is `None`, that record becomes the last.
 fn set_prev<T>(
     records: &mut Slots<Link<T>>,
     last: &mut Option<usize>,
@@ -105,7 +106,8 @@ fn set_prev<T>(
 }
 
 impl Chain<Row> {
-    /// The same rows under the same numbers.
+    /// Returns a copy with the same rows under the same numbers, or an error if it fails to
+    /// allocate.
     pub(crate) fn clone(&self) -> Result<Self, AllocError>
         ensures same { IfOk result (λ copy. copy.pairs ≡ self.now.pairs) }
         ensures top { IfOk result (λ copy. copy.top ≡ self.now.top) }
@@ -119,7 +121,7 @@ impl Chain<Row> {
 }
 
 impl<T> Chain<T> {
-    /// No items, and no place for one.
+    /// Returns a chain with no items and no places. Does not allocate.
     pub(crate) fn new(alloc: Global) -> Self
         ensures pairs { result.pairs ≡ [] }
         ensures spare { result.spare ≡ 0 }
@@ -132,7 +134,7 @@ impl<T> Chain<T> {
         }
     }
 
-    /// How many items there are.
+    /// Returns the number of items.
     pub(crate) fn len(&self) -> usize
         ensures value { result ≡ length self.now.pairs }
         ensures small { result < 2 ^ 61 }
@@ -140,35 +142,35 @@ impl<T> Chain<T> {
         self.records.used()
     }
 
-    /// How many items more find a place with no memory asked for.
+    /// Returns the number of spare places. An item that goes into one needs no allocation.
     pub(crate) fn spare(&self) -> usize
         ensures { result ≡ self.now.spare }
     {
         self.records.spare()
     }
 
-    /// The number of the next place that is made.
+    /// Returns the number of the next new place.
     pub(crate) fn next_place(&self) -> usize
         ensures { result ≡ self.now.next }
     {
         self.records.next()
     }
 
-    /// The first number.
+    /// Returns the first number, if there is one.
     pub(crate) fn first(&self) -> Option<usize>
         ensures { result ≡ first_number self.now.pairs }
     {
         self.first
     }
 
-    /// The last number.
+    /// Returns the last number, if there is one.
     pub(crate) fn last(&self) -> Option<usize>
         ensures { result ≡ last_number self.now.pairs }
     {
         self.last
     }
 
-    /// The number after this one.
+    /// Returns the number after this one, if there is one.
     pub(crate) fn next_of(&self, id: usize) -> Option<usize>
         requires { Has self.now.pairs id }
         ensures { result ≡ number_after self.now.pairs id }
@@ -176,7 +178,7 @@ impl<T> Chain<T> {
         self.record(id).next
     }
 
-    /// The number before this one.
+    /// Returns the number before this one, if there is one.
     pub(crate) fn prev_of(&self, id: usize) -> Option<usize>
         requires { Has self.now.pairs id }
         ensures { result ≡ number_before self.now.pairs id }
@@ -184,7 +186,7 @@ impl<T> Chain<T> {
         self.record(id).prev
     }
 
-    // The record of a number.
+    /// Returns the record of a number.
     fn record(&self, id: usize) -> &Link<T>
         requires { Has self.now.pairs id }
         ensures value { leaf_in self.now.pairs id ≡ Some result.now.item }
@@ -194,7 +196,7 @@ impl<T> Chain<T> {
         self.records.read(id)
     }
 
-    /// The item of a number, if it has one.
+    /// Returns the item of a number, if it has one.
     pub(crate) fn get(&self, id: usize) -> Option<&T>
         ensures { option_map (λ r. r.now) result ≡ leaf_in self.now.pairs id }
     {
@@ -204,7 +206,7 @@ impl<T> Chain<T> {
         }
     }
 
-    /// The item of a number.
+    /// Returns the item of a number.
     pub(crate) fn read(&self, id: usize) -> &T
         requires { Has self.now.pairs id }
         ensures { leaf_in self.now.pairs id ≡ Some result.now }
@@ -212,7 +214,7 @@ impl<T> Chain<T> {
         &self.record(id).item
     }
 
-    /// The item of a number, to be written.
+    /// Returns a mutable reference to the item of a number.
     pub(crate) fn get_mut(&mut self, id: usize) -> &mut T
         requires { Has self.old.pairs id }
         ensures* writes_back { sem 𝓛 (lends_at T.row self.entry id result) }
@@ -224,7 +226,8 @@ impl<T> Chain<T> {
 }
 
 impl<T: Drop> Chain<T> {
-    /// Puts an item after the one of `prev`, or in front of all. It asks for no memory.
+    /// Inserts an item after the item of `prev`, or before all others, and returns its number. Does
+    /// not allocate.
     pub(crate) fn insert(&mut self, prev: Option<usize>, item: T) -> usize
         requires spare { 0 < self.old.spare }
         requires prev { IfSome prev (Has self.old.pairs) }
@@ -249,7 +252,7 @@ impl<T: Drop> Chain<T> {
         number
     }
 
-    /// Takes an item out.
+    /// Removes an item, and returns it.
     pub(crate) fn remove(&mut self, id: usize) -> T
         requires { Has self.old.pairs id }
         ensures value { leaf_in self.old.pairs id ≡ Some result }
@@ -263,7 +266,8 @@ impl<T: Drop> Chain<T> {
         link.item
     }
 
-    /// Takes memory for one place more, where there is none.
+    /// Makes room for one more place. Returns an error if it fails to allocate. The items and the
+    /// spare places are unchanged in both cases.
     pub(crate) fn grow(&mut self) -> Result<(), AllocError>
         ensures pairs { self.new.pairs ≡ self.old.pairs }
         ensures spare { self.new.spare ≡ self.old.spare }
@@ -273,7 +277,7 @@ impl<T: Drop> Chain<T> {
         self.records.grow(1)
     }
 
-    /// Makes a place for one item more, for which there is memory.
+    /// Adds a spare place. Does not allocate.
     pub(crate) fn add_place(&mut self)
         requires { 0 < self.old.room }
         ensures pairs { self.new.pairs ≡ self.old.pairs }
@@ -283,7 +287,7 @@ impl<T: Drop> Chain<T> {
         self.records.add_spare();
     }
 
-    /// Drops every item.
+    /// Drops all items, and removes all places.
     pub(crate) fn clear(&mut self)
         ensures pairs { self.new.pairs ≡ [] }
         ensures spare { self.new.spare ≡ 0 }

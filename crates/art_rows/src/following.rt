@@ -1,9 +1,9 @@
-//! What follows a leaf in the rows.
+//! The leaves after a leaf, by rows.
 ghost use Rattle.std.specs.Prelude.{◌≡◌};
 
 use crate::run::Run;
 
-/// What follows a leaf: the rest of its row, and the number of the row after it.
+/// The rest of the row of a leaf, and the number of the next row.
 #[derive(Drop)]
 pub struct Following<'a> {
     pub(crate) run: Run<'a>,
@@ -13,7 +13,7 @@ pub struct Following<'a> {
 impl<'a> Following<'a> {
     ghost use Rattle.art_rows.specs.Rows.{nothing_follows};
 
-    /// Nothing was looked up.
+    /// Returns an empty value, for a leaf after which nothing was looked up.
     pub fn unknown() -> Self
         ensures { result ≡ nothing_follows }
     {

@@ -33,6 +33,7 @@ pub(crate) struct Leaf<K, V> {
 }
 
 impl<K, V> Leaf<K, V> {
+    /// Returns the key, and a mutable reference to the value.
     fn pair_mut(&mut self) -> (&K, &mut V)
         ensures* writes_back { sem 𝓛 (lends_value K.row V.row self.entry result.1) }
         ensures key { result.0.now ≡ self.old.key }

@@ -2,8 +2,8 @@
 //! the order of the keys, and the leaves of a row lie side by side.
 //!
 //! A contract sees [`Leaves`] as the list of its pairs in order, each under the number of its cell,
-//! with the rows of the numbers and the spare rows. To go from leaf to leaf reads rows alone, so a
-//! walk need not wait for one leaf to find the next.
+//! with the rows of the numbers and the spare rows. A step from leaf to leaf reads only rows, so a
+//! walk does not wait for one leaf to find the next.
 #![tactic(auto)]
 
 mod chain;

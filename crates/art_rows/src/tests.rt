@@ -1,5 +1,5 @@
-//! The leaves of a thousand keys taken apart. Each pattern names every field of its type, so that
-//! no field is added without a look at what it holds.
+//! Takes the leaves of a thousand keys apart. Each pattern names every field of its type, so a new
+//! field does not compile until a test looks at it.
 ghost use Rattle.art_rows.specs.Numbers.{Has};
 
 use crate::chain::{Chain, Link};
@@ -13,19 +13,20 @@ use std::process::Abort;
 
 type Key = [u8; 3];
 
-// The key of a place below 1,000, with a byte for each of its digits.
+/// Returns the key of a place less than 1,000, with a byte for each of its digits.
 fn key_of(place: usize) -> Key {
     let byte_of = |digit: usize| ((digit % 10) as u8).wrapping_mul(37).wrapping_add(100);
     [byte_of(place / 100), byte_of(place / 10), byte_of(place)]
 }
 
-// Adds a pair at the end.
+/// Adds the pair of a place at the end.
 fn push(rt: &impl Abort, leaves: &mut Leaves<Key, usize>, place: usize) {
     leaves.reserve_end(1).expect(rt, "memory");
     leaves.push(key_of(place), place);
 }
 
-// The leaf of a place holds its pair, and its position and what follows it are those of the place.
+/// Asserts that a leaf has the pair of a place, and that its cell and its position are those of the
+/// place.
 fn assert_leaf(rt: &impl Abort, leaves: &Leaves<Key, usize>, cell: CellId, at: usize)
     requires { Has leaves.now.pairs cell }
 {
@@ -36,7 +37,7 @@ fn assert_leaf(rt: &impl Abort, leaves: &Leaves<Key, usize>, cell: CellId, at: u
     assert!(rt; row == at / 64 && place == at % 64);
 }
 
-// What follows the leaf of a place is the rest of its row, and the next row.
+/// Asserts that the leaf of a place is followed by the rest of its row, and by the next row.
 fn assert_following(rt: &impl Abort, leaves: &Leaves<Key, usize>, cell: CellId, at: usize)
     requires { Has leaves.now.pairs cell }
 {
@@ -49,7 +50,7 @@ fn assert_following(rt: &impl Abort, leaves: &Leaves<Key, usize>, cell: CellId, 
     assert!(rt; cells == &CELLS[start..end]);
 }
 
-// A row has the cells of its block in order, and is linked to the rows beside it.
+/// Asserts that a row has the cells of its block in order, and is linked to the rows beside it.
 fn assert_row(rt: &impl Abort, rows: &Chain<Row>, number: usize) {
     let Some(Link { item, prev, next }) = rows.records.get(number) else {
         panic!(rt; "a row");
@@ -67,7 +68,7 @@ fn assert_row(rt: &impl Abort, rows: &Chain<Row>, number: usize) {
     }
 }
 
-// Each cell has the id that is its own number.
+/// Asserts that the id of each cell is its own number.
 fn assert_ids(rt: &impl Abort, ids: &Ids) {
     let Ids { ids, cells, count } = ids;
     assert!(rt; *count == 1088 && ids.len() == 1088 && cells.len() == 1088);

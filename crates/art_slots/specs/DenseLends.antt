@@ -1,4 +1,4 @@
--- What a dense slab ends as, where a `&mut` to one of its values is returned.
+-- What a dense slab becomes once a returned `&mut` to one of its values ends.
 use Rattle.std.specs.Prelude.{ℕ}
 use Rattle.std.specs.Borrow.{Lends, Fml, RattleType, MutBor}
 use Rattle.art_slots.specs.Dense.{Dense, with_item}

@@ -1,4 +1,4 @@
--- What a store ends as, where a `&mut` to one of its records is returned.
+-- What a store becomes once a returned `&mut` to one of its records ends.
 use Rattle.std.specs.Prelude.{ℕ}
 use Rattle.std.specs.Borrow.{Lends, Fml, RattleType, MutBor}
 use Rattle.art_slots.specs.Store.{Store, with_record}

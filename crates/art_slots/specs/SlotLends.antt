@@ -1,4 +1,4 @@
--- What slots end as, where a `&mut` to one of their records is returned.
+-- What slots become once a returned `&mut` to one of their records ends.
 use Rattle.std.specs.Prelude.{ℕ}
 use Rattle.std.specs.Borrow.{Lends, Fml, RattleType, MutBor}
 use Rattle.art_slots.specs.Slots.{Slots, with_slot}

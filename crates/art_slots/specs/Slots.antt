@@ -3,14 +3,14 @@ use Rattle.std.specs.Prelude.{ℕ, refl}
 use Rattle.std.specs.Coded.{Coded, code_by, coded×, coded_ℕ}
 use Rattle.art_slots.specs.Store.{Store, store_code, with_record}
 
--- the records and how many slots are spare, as a store, how many slots more there can be with no memory, a number above those of all slots, and that of the next new slot
+-- the records and spare slots as a store, the room for more, a number above all, and the next number
 pub record Slots (T : Type 0) : Type 0 where
   pub store : Store T
   pub room : ℕ
   pub top : ℕ
   pub next : ℕ
 
--- slots are coded as the tuple of these
+-- slots are coded as the tuple of their fields
 abbrev pub slots_code : {T : Type 0} → Coded T → Coded (Slots T)
 slots_code {T} code =
     code_by

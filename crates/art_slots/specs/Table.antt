@@ -9,7 +9,7 @@ module _ {T : Type 0} where
   held (Full x) = Some x
   held Empty = None
 
-  -- the second cell is as the first, with a clone of its record
+  -- the second cell is like the first, with a clone of its record
   abbrev pub IsCopy : (T → T → Type 0) → Cell T → Cell T → Type 0
   IsCopy is_clone (Full x) copy = (y : T) × (copy ≡ Full y) × is_clone x y
   IsCopy is_clone Empty copy = copy ≡ Empty

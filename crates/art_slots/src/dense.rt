@@ -85,7 +85,7 @@ impl<T> Dense<T> {
         make_room(&mut self.slab, more)
     }
 
-    /// Returns true if the slab's next key is the number of values.
+    /// Returns `true` if the slab's next key is the number of values.
     pub fn has_next(&self) -> bool
         ensures { result ≡ (self.now.next == length self.now.items) }
     {

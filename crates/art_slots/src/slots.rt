@@ -14,6 +14,7 @@ use std::mem;
 /// stores does not overflow, and a number and a kind fit in one word.
 const MOST: usize = (1 << 61) - 1;
 
+/// A slot of a store.
 #[derive(Drop)]
 pub(crate) enum Slot<T> {
     Used(T),
@@ -24,6 +25,7 @@ pub(crate) enum Slot<T> {
 impl<T> Slot<T> {
     ghost use Rattle.art_slots.specs.contracts.slots.Slot.{the_row};
 
+    /// Returns a mutable reference to the record of a used slot.
     fn record_mut(&mut self) -> &mut T
         requires { IsSome (used_of (Some self.old)) }
         ensures* lends { sem 𝓛 (Lends (the_row T.row) T.row self.entry result Slot.Used) }

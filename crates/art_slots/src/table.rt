@@ -56,7 +56,7 @@ impl<T: Clone> Clone for Cell<T> {
 #[derive(Drop)]
 pub struct Table<T> {
     pub(crate) cells: Dense<Cell<T>>,
-    // The number of full cells.
+    /// The number of full cells.
     pub(crate) used: usize,
 }
 

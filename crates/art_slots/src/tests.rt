@@ -1,5 +1,5 @@
-//! Records of a thousand keys taken apart. Each pattern names every field of its type, so that no
-//! field is added without a look at what it holds.
+//! Takes the records of a thousand keys apart. Each pattern names every field of its type, so a new
+//! field does not compile until a test looks at it.
 ghost use Rattle.std.specs.Prelude.{◌<◌};
 
 use crate::cell_id::CellId;
@@ -12,13 +12,13 @@ use std::process::Abort;
 
 type Key = [u8; 3];
 
-// The key of a place below 1,000, with a byte for each of its digits.
+/// Returns the key of a place less than 1,000, with a byte for each of its digits.
 fn key_of(place: usize) -> Key {
     let byte_of = |digit: usize| ((digit % 10) as u8).wrapping_mul(37).wrapping_add(100);
     [byte_of(place / 100), byte_of(place / 10), byte_of(place)]
 }
 
-// Adds a cell with a key.
+/// Adds a cell with a key.
 fn add(rt: &impl Abort, table: &mut Table<Key>, key: Key) {
     let id = table.len();
     table.grow(id + 1).expect(rt, "memory");
@@ -75,7 +75,7 @@ fn a_store_taken_apart(rt: HostRuntime) {
     assert!(rt; matches!(slab.get(1001), Some(Slot::Spare(Some(1000)))));
 }
 
-// The number at a place of a block.
+/// Returns the number at a place of a block.
 fn word_at(block: &Block, place: usize) -> usize
     requires { place < 64 }
 {

@@ -4,8 +4,8 @@ ghost use Rattle.std.specs.Borrow.{ftrue};
 
 use std::marker::Model;
 
-/// How many inner nodes and leaves' pairs were read. It takes no memory. A clause reads the number
-/// as `count`.
+/// The number of visits: how many inner nodes and pairs of leaves were read. It is no value at run
+/// time. A clause reads the number as `count`.
 #[derive(Drop)]
 pub struct Visits {
     pub ghost count: { ℕ },
@@ -16,21 +16,21 @@ impl Model for Visits {
 }
 
 impl Visits {
-    /// None yet.
+    /// Returns a count of no visits.
     pub fn new() -> Visits
         ensures { result.count ≡ 0 }
     {
         Visits {}
     }
 
-    // One more than this.
+    /// Returns a count of one visit more.
     fn next(&self) -> Visits
         ensures { result.count ≡ self.now.count + 1 }
     {
         Visits {}
     }
 
-    /// Counts one record more.
+    /// Counts one more visit.
     pub fn add_one(&mut self)
         ensures { self.new.count ≡ self.old.count + 1 }
     {

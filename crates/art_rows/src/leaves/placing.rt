@@ -10,7 +10,7 @@ use crate::leaves::{Leaf, Leaves};
 use crate::row::{HALF, Position, ROW, Row};
 use art_slots::CellId;
 
-/// What a move of a leaf leads to.
+/// The result of a move of a leaf.
 #[derive(Clone, Copy)]
 pub struct Moved {
     /// The cell that the leaf moved to.
@@ -349,9 +349,9 @@ impl<K: Drop, V: Drop> Leaves<K, V> {
     }
 }
 
-/// Returns `true` if a row lies before another in memory. Rows that are made at once are taken from
-/// the last one down, and then their cells are too, so that neighbouring leaves lie in one
-/// direction.
+/// Returns `true` if a row lies before another in memory. Rows that are made in one call are used
+/// from the last to the first. The cells of such a row are then used in this order too, so that
+/// neighbouring leaves lie in one direction.
 fn is_before(row: usize, other: Option<usize>) -> bool {
     match other {
         Some(other) => row < other,
