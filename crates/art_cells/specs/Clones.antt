@@ -9,6 +9,6 @@ module _ {K V : Type 0} (kb : K → List ℕ) (is_key : K → K → Type 0) (is_
     pub bytes : kb new.0 ≡ kb old.0
     pub value : is_value old.1 new.1
 
-  -- pair by pair a clone
+  -- each pair is a clone of the one at the same place
   abbrev pub AreClones : List (K × V) → List (K × V) → Type 0
   AreClones S S' = AllZip IsPairClone S S'

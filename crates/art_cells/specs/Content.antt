@@ -5,12 +5,12 @@ use Rattle.art_cells.specs.Leaves.{Numbered}
 use Rattle.art_cells.specs.declared.tree.point.CellPoint.{CellPoint}
 use Rattle.art_cells.specs.declared.tree.point.CellPoint.TheVariants.{Empty, Exact, Related, Free}
 
--- for how many placements there surely is a row of leaves, and for how many the spare inner nodes are enough
+-- for how many placements there surely is room among the leaves, and among the inner nodes
 pub record Spares : Type 0 where
   pub leaves : ℕ
   pub nodes : ℕ
 
--- the pairs in byte order, each under its leaf's cell; the ids of the cells; and the room for pairs to come
+-- the pairs in byte order, each under its leaf's cell, the ids of the cells, and the room for more
 pub record Content (K V : Type 0) : Type 0 where
   pub pairs : List (Numbered K V)
   pub ids : List ℕ
@@ -26,11 +26,11 @@ content_code {K} {V} k v =
     (λ _. refl)
 
 module _ {K V : Type 0} where
-  -- how many placements are sure to succeed
+  -- how many placements surely succeed
   abbrev pub room : Content K V → ℕ
   room t = min t.spares.leaves t.spares.nodes
 
-  -- there is the room that a placement at this point takes
+  -- there is room for a placement at this point
   abbrev pub Fits : Content K V → CellPoint → Type 0
   Fits t Empty = 0 < t.spares.leaves
   Fits t (Exact id) = Unit {0}

@@ -1,10 +1,10 @@
 -- What a contract sees of the leaves: the pairs in order, each under its number.
 use Rattle.std.specs.Prelude.{ℕ, List, option_map, Option}
--- the words on lists of numbered pairs
+-- the definitions on lists of numbered pairs
 pub use Rattle.art_rows.specs.Numbers.{leaf_in, Has, first_number, last_number, number_after, number_before, number_before_from, next_number, with_pair_after, without_number, with_number, with_pair, Lacks, AreDistinct, OthersStand}
 -- the leaves, with the rows of their numbers and the spare rows
 pub use Rattle.art_rows.specs.Leaves.{Leaves, with_value, room, end_room}
--- a position that says nothing, and what stands beside a leaf in its row
+-- a position that is not known, and what comes beside a leaf in its row
 pub use Rattle.art_rows.specs.declared.following.Following.{Following}
 pub use Rattle.art_rows.specs.Rows.{nowhere, RunsBefore, StandsAfter}
 

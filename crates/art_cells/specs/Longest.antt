@@ -1,4 +1,4 @@
--- How long the longest key is.
+-- The length of the longest key.
 use Rattle.std.specs.Prelude.{ℕ, List, [], ◌∷◌, length, max}
 
 -- the length of the longest item, or 0

@@ -1,8 +1,8 @@
--- What a contract sees of pairs that no tree leads to.
+-- What a contract sees of a list of pairs outside of any tree.
 use Rattle.std.specs.Prelude.{◌≡◌, ℕ, List, [], ◌∷◌, ◌++◌, Option, Some, None, refl}
 use Rattle.std.specs.Coded.{Coded, code_by, coded×, coded_ℕ, coded_list}
 
--- the pairs in their order, and how many more have room at the end
+-- the pairs in their order, and for how many more there is room at the end
 pub record PairList (K V : Type 0) : Type 0 where
   pub pairs : List (K × V)
   pub end_room : ℕ
@@ -17,7 +17,7 @@ pair_list_code {K} {V} k v =
     (λ _. refl)
 
 module _ {K V : Type 0} where
-  -- the key of the last pair, or none if there is no pair
+  -- the key of the last pair, or none if there are no pairs
   abbrev pub IsLastKey : List (K × V) → Option K → Type 0
   IsLastKey S None = S ≡ []
   IsLastKey S (Some key) = (front : List (K × V)) × (value : V) × (S ≡ front ++ (key, value) ∷ [])

@@ -6,7 +6,7 @@ use Rattle.art_cells.specs.Leaves.{Numbered, number_before}
 use Rattle.art_cells.specs.declared.tree.parting.Beside.{Beside}
 use Rattle.art_cells.specs.declared.tree.parting.Beside.TheVariants.{AfterLeaf, BeforeLeaf}
 
--- the key q goes along with that of the leaf `nearest` for so many bytes, and with no key for one more
+-- q and the key of `nearest` share their first `depth` bytes, and no key shares one more with q
 pub record LeavesNearest (keys : ℕ → Option Bytes) (nearest depth : ℕ) (q : Bytes) : Type 0 where
   pub nearest_key : Bytes
   pub nearest_is : keys nearest ≡ Some nearest_key
@@ -29,7 +29,7 @@ pub record FirstAfter (keys : ℕ → Option Bytes) (q : Bytes) (i : ℕ) : Type
   pub after : less q key ≡ true
   pub first : (j : ℕ) (k : Bytes) → keys j ≡ Some k → less q k ≡ true → (j ≡ i) ⊎ (less key k ≡ true)
 
--- the leaf before q, or none where no key is less
+-- the leaf before q, or none if no key is less
 abbrev pub IsLeafBefore : (ℕ → Option Bytes) → Bytes → Option ℕ → Type 0
 IsLeafBefore keys q None = (j : ℕ) (k : Bytes) → keys j ≡ Some k → less k q ≡ false
 IsLeafBefore keys q (Some i) = LastBefore keys q i

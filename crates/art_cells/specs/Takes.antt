@@ -1,4 +1,4 @@
--- Which key may stand under a leaf's number in place of its own.
+-- The keys that may replace the key of a leaf.
 use Rattle.std.specs.Prelude.{◌≡◌, ◌≢◌, ℕ, true, false, List, Some, Contains}
 use Rattle.blart_keys.specs.Bytes.{related}
 use Rattle.art_cells.specs.Leaves.{Numbered, leaf_in, bytes}

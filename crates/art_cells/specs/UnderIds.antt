@@ -9,15 +9,15 @@ pub record AreNamed {K V : Type 0} (ids : List ℕ) (ps : List (Numbered K V)) :
   pub apart : (c d : ℕ) → c < length ids → d < length ids → id_at ids c ≡ id_at ids d → c ≡ d
 
 module _ {K V : Type 0} where
-  -- a pair under its cell, under its id
+  -- a pair under the id of its cell, in place of the cell
   abbrev pub under_id : List ℕ → Numbered K V → Numbered K V
   under_id ids p = (id_at ids p.0, p.1)
 
-  -- the pairs, each under its id
+  -- the pairs, each under the id of its cell
   abbrev pub under_ids : List ℕ → List (Numbered K V) → List (Numbered K V)
   under_ids ids ps = map (under_id ids) ps
 
-  -- the leaf of this id lies in this cell
+  -- the leaf with this id is in this cell
   pub record LiesIn (ids : List ℕ) (ps : List (Numbered K V)) (id cell : ℕ) : Type 0 where
     pub has : Has ps cell
     pub named : id_at ids cell ≡ id

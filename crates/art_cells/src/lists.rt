@@ -1,4 +1,4 @@
-//! Tests of byte lists.
+//! Comparisons of byte lists.
 ghost use Rattle.std.specs.Prelude.{◌≡◌, ◌≤◌, drop, length};
 ghost use Rattle.blart_keys.specs.Bytes as spec;
 
@@ -9,7 +9,7 @@ pub fn begins(a: &[u8], b: &[u8]) -> bool
     b.starts_with(a)
 }
 
-/// How long the longest common front is.
+/// Returns the length of the longest common prefix.
 #[tactic(auto, using(blart_keys::proofs::ByteLemmas::common_step, blart_keys::proofs::ByteLemmas::common_stop))]
 pub(crate) fn common_len(a: &[u8], b: &[u8]) -> usize
     ensures { result ≡ length (spec.common a.now b.now) }
@@ -21,7 +21,7 @@ pub(crate) fn common_len(a: &[u8], b: &[u8]) -> usize
     n
 }
 
-/// How long the longest common front is of what two lists have after so many bytes.
+/// Returns the length of the longest common prefix of what two lists have after `start` bytes.
 pub(crate) fn common_len_after(a: &[u8], b: &[u8], start: usize) -> usize
     requires a { start ≤ length a.now }
     requires b { start ≤ length b.now }

@@ -1,4 +1,4 @@
-//! Pairs that no tree leads to.
+//! Lists of pairs outside of any tree.
 ghost use Rattle.std.specs.Prelude.{◌≡◌, ◌+◌, ◌<◌, ◌≤◌, ◌++◌, [], ◌∷◌, length, option_copied, OnOk, OnErr};
 ghost use Rattle.blart_keys.specs.Walks.{TakesFirst, TakesLast};
 ghost use Rattle.art_cells.specs.PairList.{IsLastKey, ReplacesLast};

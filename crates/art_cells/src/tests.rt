@@ -1,6 +1,6 @@
-//! A tree of a thousand keys, each with the number of keys before it as value, taken apart: what it
-//! is made of, and that nothing else is there. Each pattern names every field of its type, so that
-//! no field is added without a look at what it holds.
+//! Takes a tree apart. It has a thousand keys, each with its place as value. The tests assert what
+//! the tree is made of, and that nothing else is there. Each pattern names every field of its type,
+//! so a new field does not compile until a test looks at it.
 use crate::pair_list::CellPairs;
 use crate::tree::CellTree;
 use crate::tree::build::Frame;
@@ -12,20 +12,20 @@ use art_kinds::{Child, NodeRef, Nodes};
 use art_slots::Visits;
 use std::process::Abort;
 
-// A tree whose nodes keep no byte of a key but the bytes that choose a child.
+/// A tree whose nodes store no part of their compressed prefixes.
 type Bare = CellTree<[u8; 3], usize, 0>;
 
-// The byte of a digit.
+/// Returns the byte of a digit.
 fn byte_of(digit: usize) -> u8 {
     ((digit % 10) as u8).wrapping_mul(37).wrapping_add(100)
 }
 
-// The key of a place below 1,000, with a byte for each of its digits.
+/// Returns the key of a place less than 1,000, with a byte for each of its digits.
 fn key_of(place: usize) -> [u8; 3] {
     [byte_of(place / 100), byte_of(place / 10), byte_of(place)]
 }
 
-// Adds a pair whose key is related to no other.
+/// Adds the pair of a place. Its key is related to no other.
 fn add(rt: &impl Abort, tree: &mut Bare, place: usize) {
     let key = key_of(place);
     let point = tree.point(&key);
@@ -38,10 +38,10 @@ fn add(rt: &impl Abort, tree: &mut Bare, place: usize) {
     }
 }
 
-// The number of each key's leaf.
+/// The number of the cell of each key's leaf.
 type Numbers = [usize; 1000];
 
-// The numbers of the leaves of the pairs, in the order in which the pairs came.
+/// Returns the numbers of the leaves' cells, in the order in which the pairs came.
 fn numbers_of(rt: &impl Abort, tree: &Bare) -> Numbers {
     let mut numbers: Numbers = [0; 1000];
     for place in 0..1000 {
@@ -55,8 +55,8 @@ fn numbers_of(rt: &impl Abort, tree: &Bare) -> Numbers {
     numbers
 }
 
-// The node that an edge leads to. The node is at this depth, keeps none of its prefix, and has ten
-// edges.
+/// Returns the node that an edge leads to. Asserts that it has this depth, an empty stored prefix,
+/// and ten edges.
 fn node_below<'a>(
     rt: &impl Abort,
     nodes: &'a Nodes<0>,
@@ -75,7 +75,7 @@ fn node_below<'a>(
     }
 }
 
-// The ten edges of the node lead to ten leaves, from one on.
+/// Asserts that the ten edges of a node lead to ten leaves, from `from` on.
 fn assert_leaves(rt: &impl Abort, node: &NodeRef<'_, 0>, numbers: &Numbers, from: usize) {
     for digit in 0..10usize {
         let number = numbers[from.wrapping_add(digit) % 1000];
@@ -86,7 +86,8 @@ fn assert_leaves(rt: &impl Abort, node: &NodeRef<'_, 0>, numbers: &Numbers, from
     }
 }
 
-// From the top, each edge leads to a node, and each at the third byte to the leaf of its key.
+/// Asserts that each edge from the top leads to a node, and each edge by a third byte to the leaf
+/// of its key.
 fn assert_all(rt: &impl Abort, nodes: &Nodes<0>, root: Option<Child>, numbers: &Numbers) {
     let top = node_below(rt, nodes, root, 0);
     for first in 0..10 {
@@ -98,7 +99,7 @@ fn assert_all(rt: &impl Abort, nodes: &Nodes<0>, root: Option<Child>, numbers: &
     }
 }
 
-// The place of a free point.
+/// Returns the place of a free point.
 fn place_of(rt: &impl Abort, tree: &Bare, query: &[u8]) -> CellPlace {
     match tree.point(query) {
         CellPoint::Free(place) => place,
@@ -107,8 +108,8 @@ fn place_of(rt: &impl Abort, tree: &Bare, query: &[u8]) -> CellPlace {
     }
 }
 
-// The places of bytes that leave the keys at a node, and beside a leaf. They name leaves and
-// nodes, and one byte of a key, which chose a child.
+/// Asserts that the place of some bytes, which leave the keys at a node, names a leaf, the node,
+/// and one byte of a key.
 fn assert_places(rt: &impl Abort, tree: &Bare, numbers: &Numbers) {
     let CellPlace {
         nearest,
@@ -128,7 +129,7 @@ fn assert_places(rt: &impl Abort, tree: &Bare, numbers: &Numbers) {
     }
 }
 
-// A walk over a tree holds the tree's leaves, the two ends, and rows.
+/// Asserts that a walk over no pairs of a tree has the tree's leaves, and no ends.
 fn assert_walk(rt: &impl Abort, tree: &Bare) {
     let CellWalk {
         leaves,

@@ -78,11 +78,12 @@ fn without_last<'a, K, V>(
 #[derive(Drop)]
 pub struct CellWalk<'a, K, V> {
     pub(crate) leaves: &'a Leaves<K, V>,
-    // the first and the last leaf
+    /// The first and the last leaf.
     pub(crate) ends: Option<(CellId, CellId)>,
-    // what follows the first leaf, if that is not the last, and the leaves before the last one in
-    // its row: a step that finds its leaf here searches no row
+    /// What follows the first leaf, if that is not the last.
     pub(crate) following: Following<'a>,
+    /// Leaves directly before the last one, in its row. A step that finds its leaf in `following`
+    /// or here searches no row.
     pub(crate) before: Run<'a>,
 }
 

@@ -12,14 +12,14 @@ use Rattle.art_cells.specs.declared.tree.add.Added.{Added}
 use Rattle.art_cells.specs.declared.tree.add.Added.TheVariants.{Placed, Stored, Conflict}
 use Rattle.art_cells.specs.declared.tree.point.CellPoint.TheVariants.{Exact, Related}
 
--- the pair is under a new id, and each other id names what it named
+-- the pair is under a new id, and each other id has the pair that it had
 pub record HasNew {K V : Type 0} (old new : Content K V) (x : K × V) : Type 0 where
   pub cell : ℕ
   pub now : leaf_in new.pairs cell ≡ Some x
   pub fresh : leaf_in (under_ids old.ids old.pairs) (id_at new.ids cell) ≡ None
   pub others : OthersStand (under_ids old.ids old.pairs) (under_ids new.ids new.pairs) (id_at new.ids cell)
 
--- what came of a pair that was to be added
+-- the result of an addition of a pair
 abbrev pub Adds : {K V : Type 0} → (K → List ℕ) → Content K V → Content K V → K × V → Result (Added ℕ K V) AllocError → Type 0
 Adds key_bytes old new x (Ok Placed) = Puts key_bytes (λ pair. pair) (pairs_of old.pairs) x x (Ok None) (pairs_of new.pairs) × HasNew old new x
 Adds key_bytes old new x (Ok (Stored cell key value)) = IsGood key_bytes old.pairs (Exact cell) (key_bytes x.0) × ((key, value) ≡ x) × (new ≡ old)

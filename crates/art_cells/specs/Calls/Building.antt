@@ -10,11 +10,11 @@ use Rattle.art_kinds.specs.declared.records.ids.Child.TheVariants.{Leaf, Inner}
 use Rattle.art_kinds.specs.declared.records.ids.Edge.{Edge}
 use Rattle.art_cells.specs.declared.tree.build.LooseEdge.{LooseEdge}
 
--- the front of a loose edge beside a key: as many of the key's bytes as its node is deep, and its own
+-- the front of a loose edge beside the key k: the first bytes of k up to its depth, and its byte
 abbrev pub loose_front : Bytes → LooseEdge → Bytes
 loose_front k e = take e.depth k ++ e.edge.byte ∷ []
 
--- each loose edge is of a deeper node than those before it, or of the same one by a greater byte
+-- the depths of loose edges ascend, and at the same depth their bytes do
 abbrev pub RiseAbove : ℕ → ℕ → List LooseEdge → Type 0
 RiseAbove depth byte [] = Unit {0}
 RiseAbove depth byte (e ∷ es) = ((depth < e.depth) ⊎ ((depth ≡ e.depth) × (byte < e.edge.byte))) × RiseAbove e.depth e.edge.byte es
@@ -23,13 +23,13 @@ abbrev pub Rise : List LooseEdge → Type 0
 Rise [] = Unit {0}
 Rise (e ∷ es) = RiseAbove e.depth e.edge.byte es
 
--- how deep the node of the last loose edge is
+-- the depth of the last loose edge, if there is one
 abbrev pub last_depth : List LooseEdge → Option ℕ
 last_depth [] = None
 last_depth (e ∷ []) = Some e.depth
 last_depth (e ∷ f ∷ es) = last_depth (f ∷ es)
 
--- where the prefix of a node begins whose parent is to be so deep, but no less than this; with no parent, this
+-- where the prefix of a node begins below a parent of this depth, but not before `least`
 abbrev pub start_after : ℕ → Option ℕ → ℕ
 start_after least None = least
 start_after least (Some depth) = max least (depth + 1)
@@ -38,13 +38,13 @@ start_after least (Some depth) = max least (depth + 1)
 abbrev pub edges_of : List LooseEdge → List Edge
 edges_of es = map (λ e. e.edge) es
 
--- a node was made, of this depth, prefix and edges
+-- a node is made, with this depth, prefix and edges
 pub record MakesNode (old new : ℕ → Option Node) (n depth : ℕ) (prefix : List ℕ) (edges : List Edge) : Type 0 where
   pub fresh : old n ≡ None
   pub is : new n ≡ Some (record { depth = depth; prefix = prefix; edges = edges })
   pub others : (j : ℕ) → j ≢ n → new j ≡ old j
 
--- the node n, now under m, has one more edge, the last
+-- the node n, now under the number m, has one more edge after the others
 pub record AddsLast (old new : ℕ → Option Node) (n m : ℕ) (e : Edge) : Type 0 where
   pub node : Node
   pub was : old n ≡ Some node
@@ -53,30 +53,30 @@ pub record AddsLast (old new : ℕ → Option Node) (n m : ℕ) (e : Edge) : Typ
   pub gone : m ≢ n → new n ≡ None
   pub others : (j : ℕ) → j ≢ n → j ≢ m → new j ≡ old j
 
--- the child, if it is a node, keeps what its front has after g, and of it P bytes at most
+-- the child is a leaf, or a node that keeps the first P bytes that its front has after g
 abbrev pub KeepsAfter : ℕ → (ℕ → Option Node) → (ℕ → Bytes) → Bytes → Child → Type 0
 KeepsAfter P nodes front_of g (Leaf i) = Unit {0}
 KeepsAfter P nodes front_of g (Inner n) = (x : Node) → nodes n ≡ Some x → x.prefix ≡ take P (drop (length g) (front_of n))
 
 module _ (P : ℕ) (keys : ℕ → Option Bytes) (nodes : ℕ → Option Node) (front_of : ℕ → Bytes) where
-  -- the child stands for the keys that begin with g
+  -- the keys below the child are those that begin with g, and a node keeps its bytes after g
   pub record StandsFor (g : Bytes) (c : Child) : Type 0 where
     pub covers : Covers keys nodes front_of g c
     pub keeps : KeepsAfter P nodes front_of g c
 
-  -- the nodes are as in a tree, whatever leads to them
+  -- the nodes fit the keys, whatever edges lead to them
   pub record AreMade : Type 0 where
     pub node : (n : ℕ) (x : Node) → nodes n ≡ Some x → NodeFits keys nodes front_of (front_of n) x
     pub keeps : (n b : ℕ) (x : Node) (c : Child) → nodes n ≡ Some x → child_at x.edges b ≡ Some c → KeepsAfter P nodes front_of (front_of n ++ b ∷ []) c
     pub apart : (n m : ℕ) → IsSome (nodes n) → IsSome (nodes m) → front_of n ≡ front_of m → n ≡ m
 
-  -- an edge is loose beside the key: it leaves the key by a lesser byte
+  -- an edge is loose beside the key: it leaves the key at its depth, by a lesser byte
   pub record IsLoose (k : Bytes) (e : LooseEdge) : Type 0 where
     pub within : e.depth < length k
     pub before : e.edge.byte < slice_index_or k e.depth 0
     pub stands : StandsFor (loose_front k e) e.edge.to
 
--- The nodes that are made of the keys up to k: what stands below loose edges, and a child that stands for the keys that begin with the first s bytes of k.
+-- the nodes of the keys up to k, below loose edges and below the child of the first s bytes of k
 pub record IsPart (P : ℕ) (keys : ℕ → Option Bytes) (nodes : ℕ → Option Node) (k : Bytes) (es : List LooseEdge) (s : ℕ) (c : Child) : Type 0 where
   pub front_of : ℕ → Bytes
   pub made : AreMade P keys nodes front_of
@@ -85,17 +85,17 @@ pub record IsPart (P : ℕ) (keys : ℕ → Option Bytes) (nodes : ℕ → Optio
   pub rise : Rise es
   pub within : s ≤ length k
   pub child : StandsFor P keys nodes front_of (take s k) c
-  -- each node stands below the child or a loose edge
+  -- each node is below the child or a loose edge
   pub under : (n : ℕ) → IsSome (nodes n) → Begins (take s k) (front_of n) ⊎ ((e : LooseEdge) × Contains es e × Begins (loose_front k e) (front_of n))
-  -- and so does each key that is not greater
+  -- so is each key that is not greater than k
   pub below : (j : ℕ) (l : Bytes) → keys j ≡ Some l → Begins (take s k) l ⊎ (((e : LooseEdge) × Contains es e × Begins (loose_front k e) l) ⊎ (less k l ≡ true))
 
--- how many pairs stand after that of a number
+-- how many pairs come after that of a number
 abbrev pub count_after : {X : Type 0} → List (ℕ × X) → ℕ → ℕ
 count_after [] i = 0
 count_after (p ∷ ps) i = if eqb p.0 i then length ps else count_after ps i
 
--- k is the key of the leaf, and no greater key goes along with it for so many bytes
+-- k is the key of the leaf, and no greater key begins with its first `least` bytes
 pub record IsTurn (keys : ℕ → Option Bytes) (leaf : ℕ) (k : Bytes) (least : ℕ) : Type 0 where
   pub is : keys leaf ≡ Some k
   pub only : (j : ℕ) (l : Bytes) → keys j ≡ Some l → Begins k l → j ≡ leaf

@@ -9,12 +9,12 @@ use Rattle.art_cells.specs.UnderIds.{under_ids}
 use Rattle.art_cells.specs.Invariant.Sound.{IsSound}
 use Rattle.art_cells.specs.declared.tree.cut.Cut.{Cut}
 
--- the key q leaves the nearest one at this depth, and its place is after the leaf `prev`
+-- q leaves the nearest key at this depth, and the leaf `prev` is the last one before q
 pub record GoesAfter (keys : ℕ → Option Bytes) (nearest depth prev : ℕ) (q : Bytes) : Type 0 where
   pub leaves : LeavesNearest keys nearest depth q
   pub before : LastBefore keys q prev
 
--- the last `count` leaves of a full row have moved to a new row after it: the tree is whole, each id names what it named, and a key that had its place after the leaf `prev` has it after the leaf in the cell where that is now
+-- `count` leaves of a full row moved to a new row: the tree is sound, the ids keep their pairs, and a place after `prev` remains one
 pub record CutsRow {K V : Type 0} (key_bytes : K → List ℕ) (P : ℕ) (start now : Leaves K V) (old new : Nodes) (nearest depth prev : ℕ) (cut : Cut) (count : ℕ) : Type 0 where
   pub sound : IsSound key_bytes P now new (Some cut.root)
   pub rows : IsCut start.rows now.rows (row_of cut.last) count

@@ -1,4 +1,4 @@
--- Where a query leaves the stored keys, and what is known there.
+-- Where a query leaves the stored keys.
 use Rattle.std.specs.Prelude.{◌≡◌, ◌≢◌, ℕ, Bool, true, false, not, List, [], ◌∷◌, ◌++◌, ◌<◌, length, slice_index_or, Option, Some, IsSome}
 use Rattle.blart_keys.specs.Bytes.{related}
 use Rattle.art_cells.specs.Begins.{Bytes, Begins}
@@ -16,7 +16,7 @@ use Rattle.art_cells.specs.declared.tree.parting.Beside.TheVariants.{AfterLeaf, 
 use Rattle.art_kinds.specs.declared.records.ids.Child.{Child}
 use Rattle.art_kinds.specs.declared.records.ids.Edge.{Edge}
 
--- the key of the leaf begins q, and is shorter
+-- the key of the leaf is a proper prefix of q
 pub record KeyEnds (keys : ℕ → Option Bytes) (i : ℕ) (q : Bytes) : Type 0 where
   pub key : Bytes
   pub is : keys i ≡ Some key
@@ -28,7 +28,7 @@ abbrev pub beside_leaf : Bool → ℕ → Beside
 beside_leaf true i = AfterLeaf i
 beside_leaf false i = BeforeLeaf i
 
--- the edge that is next to a byte: before it, or after it
+-- the edge next to a byte, before it or after it
 abbrev pub IsNextTo : Bool → List Edge → ℕ → Edge → Type 0
 IsNextTo true es b e = IsPrevious es b (Some e)
 IsNextTo false es b e = IsNext es b (Some e)
@@ -40,20 +40,20 @@ pub record IsEdgeBeside (nodes : ℕ → Option Node) (n b : ℕ) (e : Edge) (is
   pub next : IsNextTo is_after node.edges b e
 
 module _ (P : ℕ) (keys : ℕ → Option Bytes) (nodes : ℕ → Option Node) where
-  -- a sound tree, no key of which is related to q
+  -- a tree of the keys, of which none is related to q
   pub record NoneRelated (q : Bytes) : Type 0 where
     pub root : Option Child
     pub shape : Shape P keys nodes root
     pub alone : (j : ℕ) (k : Bytes) → keys j ≡ Some k → related k q ≡ false
 
-  -- q leaves the keys at a node, and goes on by this byte
+  -- q leaves the keys at a node, and its next byte is this one
   pub record LeavesAtNode (n byte : ℕ) (q : Bytes) : Type 0 where
     pub apart : NoneRelated q
     pub live : IsSome (nodes n)
     pub goes_on : Begins (apart.shape.front_of n ++ byte ∷ []) q
     pub none : (j : ℕ) (k : Bytes) → keys j ≡ Some k → Begins (apart.shape.front_of n ++ byte ∷ []) k → ⊥
 
-  -- q leaves the keys after a front t on the way to a child: they go on by the nearest key's byte, and q by another
+  -- q leaves the keys below the child after t: they go on by `nearest_byte`, and q by another byte
   pub record LeavesAtEdge (child : Child) (nearest_byte byte : ℕ) (q : Bytes) : Type 0 where
     pub apart : NoneRelated q
     pub t : Bytes
@@ -64,7 +64,7 @@ module _ (P : ℕ) (keys : ℕ → Option Bytes) (nodes : ℕ → Option Node) w
     pub goes_on : Begins (t ++ byte ∷ []) q
     pub other : nearest_byte ≢ byte
 
-  -- q leaves a stored key, the nearest one, at this spot
+  -- q leaves the nearest stored key at this spot
   pub record LeavesAt (mismatch : Mismatch) (q : Bytes) : Type 0 where
     pub apart : NoneRelated q
     pub nearest : Bytes
@@ -73,7 +73,7 @@ module _ (P : ℕ) (keys : ℕ → Option Bytes) (nodes : ℕ → Option Node) w
     pub leaves : LeavesNearest keys mismatch.nearest mismatch.depth q
     pub spot_fits : SpotFits nodes apart.root apart.shape.front_of nearest mismatch.depth mismatch.spot
 
-  -- a child beside the place of q: of the keys below it the one next to q has no key between
+  -- a child beside the place of q: the last or the first leaf below it is beside q
   pub record IsChildBeside (q : Bytes) (child : Child) (is_after : Bool) : Type 0 where
     pub root : Option Child
     pub shape : Shape P keys nodes root
@@ -81,7 +81,7 @@ module _ (P : ℕ) (keys : ℕ → Option Bytes) (nodes : ℕ → Option Node) w
     pub covers : Covers keys nodes shape.front_of front child
     pub beside : (i : ℕ) → IsEndUnder keys (not is_after) front i → IsBeside keys q (beside_leaf is_after i)
 
-  -- q begins a stored key, and is shorter, and the child stands for the keys that begin with q
+  -- q is a proper prefix of a stored key, and the keys below the child are those that begin with q
   pub record QueryEnds (child : Child) (q : Bytes) : Type 0 where
     pub root : Option Child
     pub shape : Shape P keys nodes root
@@ -92,7 +92,7 @@ module _ (P : ℕ) (keys : ℕ → Option Bytes) (nodes : ℕ → Option Node) w
     pub begun : Begins q key
     pub longer : length q < length key
 
-  -- how q and the key that goes along with it the furthest part
+  -- how q parts from the key that has the longest common prefix with it
   abbrev pub IsParting : Parting → Bytes → Type 0
   IsParting (Same i) q = keys i ≡ Some q
   IsParting (Shorter i) q = KeyEnds keys i q

@@ -1,4 +1,4 @@
--- How a leaf joins the tree.
+-- How a leaf is added to the tree.
 use Rattle.std.specs.Prelude.{◌≡◌, ◌≢◌, ◌<◌, ◌≤◌, ◌⊎◌, ℕ, List, map, take, slice_range, length, Option, Some, None, IfSome}
 use Rattle.blart_keys.specs.Content.{IsPut}
 use Rattle.blart_keys.specs.Steps.{bytes as pair_bytes}
@@ -19,13 +19,13 @@ use Rattle.art_cells.specs.declared.tree.point.CellPlace.{CellPlace}
 use Rattle.art_cells.specs.declared.tree.point.CellPoint.{CellPoint}
 use Rattle.art_cells.specs.declared.tree.point.CellPoint.TheVariants.{Empty, Exact, Related, Free}
 
--- the leaf i was added, with the key k
+-- the leaf i is added, with the key k
 pub record Gains (old new : ℕ → Option Bytes) (i : ℕ) (k : Bytes) : Type 0 where
   pub fresh : old i ≡ None
   pub has : new i ≡ Some k
   pub others : (j : ℕ) → j ≢ i → new j ≡ old j
 
--- in some tree with this root, the key leaves a stored key, the nearest one, at the spot
+-- in some tree with this root, the key leaves the nearest stored key at the spot
 pub record IsSpotFor (P : ℕ) (nodes : ℕ → Option Node) (root : Child) (spot : Spot) (key nearest : Bytes) (depth : ℕ) : Type 0 where
   pub keys : ℕ → Option Bytes
   pub shape : Shape P keys nodes (Some root)
@@ -34,13 +34,13 @@ pub record IsSpotFor (P : ℕ) (nodes : ℕ → Option Node) (root : Child) (spo
   pub leaves : LeavesNearest keys leaf depth key
   pub fits : SpotFits nodes (Some root) shape.front_of nearest depth spot
 
--- in each tree of these keys with this root, a key that leaves the nearest leaf's at this depth does so at the spot
+-- in each tree of these keys, a key that leaves the nearest one at this depth does so at the spot
 abbrev pub IsShownIn : ℕ → (ℕ → Option Bytes) → (ℕ → Option Node) → Child → ℕ → ℕ → Spot → Type 0
 IsShownIn P keys nodes root nearest depth spot =
     (s : Shape P keys nodes (Some root)) (key : Bytes) → keys nearest ≡ Some key → depth ≤ length key
     → SpotFits nodes (Some root) s.front_of key depth spot
 
--- so it is in each tree with this root
+-- the same holds in each tree with this root
 abbrev pub IsShown : ℕ → (ℕ → Option Node) → Child → CellPlace → Spot → Type 0
 IsShown P nodes root place spot = (keys : ℕ → Option Bytes) → IsShownIn P keys nodes root place.nearest place.depth spot
 
@@ -51,7 +51,7 @@ IfFree (Exact id) T = Unit {0}
 IfFree (Related first last) T = Unit {0}
 IfFree (Free place) T = T place
 
--- in some tree with this root, the place's nearest leaf has this key, which is at least as long as the place is deep, and the spot is right if it is known
+-- in some tree, this is the key of the place's nearest leaf, and the spot is right if it is known
 pub record HasNearest (P : ℕ) (nodes : ℕ → Option Node) (root : Child) (place : CellPlace) (shown : Option Spot) (nearest : Bytes) : Type 0 where
   pub keys : ℕ → Option Bytes
   pub shape : Shape P keys nodes (Some root)
@@ -59,20 +59,20 @@ pub record HasNearest (P : ℕ) (nodes : ℕ → Option Node) (root : Child) (pl
   pub within : place.depth ≤ length nearest
   pub known : IfSome shown (IsShownIn P keys nodes root place.nearest place.depth)
 
--- the node is so deep, and its edge by this byte leads to the leaf
+-- the node has this depth, and its edge by this byte leads to the leaf
 pub record IsOverLeaf (nodes : ℕ → Option Node) (n depth byte leaf : ℕ) : Type 0 where
   pub node : Node
   pub is : nodes n ≡ Some node
   pub deep : node.depth ≡ depth
   pub there : child_at node.edges byte ≡ Some (Leaf leaf)
 
--- each tree where the key leaves the nearest key at the spot is now the tree with the leaf i of that key too
+-- each tree in which the key leaves the nearest key at the spot now has the leaf i with the key too
 abbrev pub TreeGains : ℕ → (ℕ → Option Node) → (ℕ → Option Node) → Child → Child → Spot → Bytes → Bytes → ℕ → ℕ → Type 0
 TreeGains P old new root root' spot key nearest depth i =
     (keys keys' : ℕ → Option Bytes) (s : Shape P keys old (Some root)) (leaf : ℕ) → keys leaf ≡ Some nearest → LeavesNearest keys leaf depth key → SpotFits old (Some root) s.front_of nearest depth spot
     → Gains keys keys' i key → Shape P keys' new (Some root')
 
--- a node was made with these two edges, in the order of their bytes
+-- a node is made with these two edges, in the order of their bytes
 pub record Forks (old new : ℕ → Option Node) (n depth : ℕ) (prefix : List ℕ) (one other : Edge) : Type 0 where
   pub low : Edge
   pub high : Edge
@@ -80,12 +80,12 @@ pub record Forks (old new : ℕ → Option Node) (n depth : ℕ) (prefix : List 
   pub sorted : low.byte < high.byte
   pub both : ((low ≡ one) × (high ≡ other)) ⊎ ((low ≡ other) × (high ≡ one))
 
--- the child is a leaf, or a node as deep as one number at least and another at most
+-- the child is a leaf, or a node with a depth of at least `least` and at most `most`
 abbrev pub DepthWithin : (ℕ → Option Node) → Child → ℕ → ℕ → Type 0
 DepthWithin nodes (Leaf i) least most = Unit {0}
 DepthWithin nodes (Inner n) least most = (x : Node) × (nodes n ≡ Some x) × (least ≤ x.depth) × (x.depth ≤ most)
 
--- the child, if it is a node, keeps what a key has from here up to the node's depth, and of it P bytes at most
+-- the child is a leaf, or a node that keeps P bytes of the key from `from` to the node's depth
 abbrev pub KeepsFrom : ℕ → (ℕ → Option Node) → Child → Bytes → ℕ → Type 0
 KeepsFrom P nodes (Leaf i) key from = Unit {0}
 KeepsFrom P nodes (Inner n) key from = (x : Node) → nodes n ≡ Some x → x.prefix ≡ take P (slice_range key from x.depth)
@@ -94,7 +94,7 @@ KeepsFrom P nodes (Inner n) key from = (x : Node) → nodes n ≡ Some x → x.p
 abbrev pub content_of : {K V : Type 0} → Leaves K V → Nodes → Content K V
 content_of leaves nodes = record { pairs = leaves.pairs; ids = leaves.ids; spares = record { leaves = leaves_room leaves; nodes = room nodes } }
 
--- the leaf i is to join the tree: that has the other keys, and the leaf's key leaves the nearest of them at a depth, at the spot if it is known
+-- the tree has all keys but that of the leaf i, which leaves the nearest key at this depth
 pub record IsToJoin (P : ℕ) (keys : ℕ → Option Bytes) (nodes : ℕ → Option Node) (root : Child) (nearest depth : ℕ) (shown : Option Spot) (i : ℕ) : Type 0 where
   pub rest : ℕ → Option Bytes
   pub shape : Shape P rest nodes (Some root)
@@ -103,7 +103,7 @@ pub record IsToJoin (P : ℕ) (keys : ℕ → Option Bytes) (nodes : ℕ → Opt
   pub gains : Gains rest keys i key
   pub known : IfSome shown (IsShownIn P rest nodes root nearest depth)
 
--- the pair was put, and came to this cell under a new id; each other id names what it named
+-- the pair is placed in this cell under a new id, and each other id has the pair that it had
 pub record PutsPair {K V : Type 0} (key_bytes : K → List ℕ) (old new : Leaves K V) (cell : ℕ) (x : K × V) : Type 0 where
   pub put : IsPut (pair_bytes key_bytes) (map (λ p. p.1) old.pairs) x (map (λ p. p.1) new.pairs)
   pub now : leaf_in new.pairs cell ≡ Some x

@@ -1,4 +1,4 @@
--- A branch of the tree goes: the edge above it, the nodes and the keys below that.
+-- The removal of a branch: the edge to it, and the nodes and the keys below that.
 use Rattle.std.specs.Prelude.{◌≡◌, ◌⊎◌, ℕ, Bool, true, false, ◌<◌, ◌^◌, List, length, Option, Some, None, IsSome}
 use Rattle.art_cells.specs.Begins.{Bytes, Begins}
 use Rattle.art_cells.specs.Invariant.EdgesAbove.{LeadsTo, edge_front}
@@ -10,13 +10,13 @@ use Rattle.art_kinds.specs.declared.records.ids.Child.TheVariants.{Inner}
 use Rattle.art_kinds.specs.declared.records.ids.Edge.{Edge}
 use Rattle.art_cells.specs.declared.tree.descent.Branch.{Branch}
 
--- the edge leads to the child, which stands for the keys that begin with q, and q begins with the edge's front
+-- the edge leads to the child, its front is a prefix of q, and below the child are the keys with q
 pub record IsBranch (keys : ℕ → Option Bytes) (nodes : ℕ → Option Node) (root : Option Child) (front_of : ℕ → Bytes) (q : Bytes) (b : Branch) : Type 0 where
   pub leads : LeadsTo nodes root b.above b.child
   pub along : Begins (edge_front front_of b.above) q
   pub covers : Covers keys nodes front_of q b.child
 
--- of the keys that begin with g that of the leaf i alone is left, and all others stand
+-- of the keys that begin with g only that of the leaf i is left, and the others are unchanged
 pub record Prunes (old new : ℕ → Option Bytes) (g : Bytes) (i : ℕ) (k : Bytes) : Type 0 where
   pub was : old i ≡ Some k
   pub front : Begins g k
@@ -25,7 +25,7 @@ pub record Prunes (old new : ℕ → Option Bytes) (g : Bytes) (i : ℕ) (k : By
   pub stood : (j : ℕ) (l : Bytes) → new j ≡ Some l → old j ≡ Some l
   pub only : (j : ℕ) (l : Bytes) → new j ≡ Some l → Begins g l → j ≡ i
 
--- the nodes whose fronts begin with g are gone, and all others stand
+-- the nodes whose fronts begin with g are removed, and the others are unchanged
 pub record FreesSubtree (old new : ℕ → Option Node) (front_of : ℕ → Bytes) (g : Bytes) : Type 0 where
   pub gone : (m : ℕ) → Begins g (front_of m) → new m ≡ None
   pub kept : (m : ℕ) → (Begins g (front_of m) → ⊥) → new m ≡ old m
@@ -34,11 +34,11 @@ pub record FreesSubtree (old new : ℕ → Option Node) (front_of : ℕ → Byte
 abbrev pub LeadsIn : (ℕ → Option Node) → ℕ → ℕ → ℕ → Type 0
 LeadsIn nodes m b x = (y : Node) × (nodes m ≡ Some y) × (child_at y.edges b ≡ Some (Inner x))
 
--- there is an edge after the one at a byte
+-- there is an edge after the one with this byte
 abbrev pub IsNotLast : List Edge → ℕ → Type 0
 IsNotLast edges b = (d : ℕ) × (b < d) × IsSome (child_at edges d)
 
--- the nodes that are to go hang below one of them, each on one edge, and all others stand; below a fresh one, and at each edge but the last of any, all are fresh and deeper
+-- the nodes that go are below `head`, each at one edge, and the others are unchanged. Below a fresh node, and at an edge that is not the last, each node is fresh and deeper
 pub record Loose (goes : ℕ → Bool) (before nodes : ℕ → Option Node) (head : ℕ) : Type 0 where
   pub fresh : ℕ → Bool
   pub rank : ℕ → ℕ
@@ -52,12 +52,12 @@ pub record Loose (goes : ℕ → Bool) (before nodes : ℕ → Option Node) (hea
   pub covered : (n : ℕ) → IsSome (nodes n) → goes n ≡ true → (n ≡ head) ⊎ ((m : ℕ) × (b : ℕ) × (goes m ≡ true) × LeadsIn nodes m b n)
   pub deeper : (m b x : ℕ) (y z : Node) → goes m ≡ true → nodes m ≡ Some y → child_at y.edges b ≡ Some (Inner x) → nodes x ≡ Some z → (fresh m ≡ true) ⊎ IsNotLast y.edges b → (fresh x ≡ true) × (y.depth < z.depth)
 
--- the first edge that leads to a node, by its byte and that node, or none where none does
+-- the byte and the node of the first edge that leads to a node, or none if no edge does
 abbrev pub IsFirstNode : List Edge → Option (ℕ × ℕ) → Type 0
 IsFirstNode edges None = (b x : ℕ) → child_at edges b ≡ Some (Inner x) → ⊥
 IsFirstNode edges (Some f) = (child_at edges f.0 ≡ Some (Inner f.1)) × ((b x : ℕ) → b < f.0 → child_at edges b ≡ Some (Inner x) → ⊥)
 
--- the same of the node of a number
+-- the same, for the edges of a node under a number
 pub record HasFirstNode (nodes : ℕ → Option Node) (n : ℕ) (f : Option (ℕ × ℕ)) : Type 0 where
   pub node : Node
   pub is : nodes n ≡ Some node
@@ -71,6 +71,6 @@ pub record IsDeeper (old new : ℕ → Option Node) (n m : ℕ) : Type 0 where
   pub is_is : new m ≡ Some is
   pub deeper : was.depth < is.depth
 
--- a node has gone, or as many stand, and the node m is deeper than the node n was
+-- there are fewer nodes, or as many and the node m is deeper than the node n was
 abbrev pub Advances : Nodes → Nodes → ℕ → ℕ → Type 0
 Advances old new n m = (live new < live old) ⊎ ((live new ≡ live old) × (d : IsDeeper (at old) (at new) n m) × (d.was.depth < 2 ^ 64))

@@ -1,4 +1,4 @@
--- What a leaf's removal finds, and what it leaves.
+-- What the removal of a leaf finds, and what it leaves.
 use Rattle.std.specs.Prelude.{◌≡◌, ◌≢◌, ℕ, ◌+◌, ◌<◌, List, take, drop, length, Option, Some, None}
 use Rattle.art_cells.specs.Invariant.EdgesAbove.{LeadsTo, TurnsTo}
 use Rattle.art_cells.specs.Begins.{Bytes}
@@ -9,13 +9,13 @@ use Rattle.art_kinds.specs.declared.records.ids.Child.{Child}
 use Rattle.art_kinds.specs.declared.records.ids.Child.TheVariants.{Leaf, Inner}
 use Rattle.art_kinds.specs.declared.records.ids.Edge.{Edge}
 
--- the leaf i is gone, which had the key k
+-- the leaf i, which had the key k, is removed
 pub record Loses (old new : ℕ → Option Bytes) (i : ℕ) (k : Bytes) : Type 0 where
   pub was : old i ≡ Some k
   pub gone : new i ≡ None
   pub others : (j : ℕ) → j ≢ i → new j ≡ old j
 
--- the leaf i hangs on a node by the byte b, and this edge leads to the node
+-- the edge of the node n by the byte b leads to the leaf i, and the edge above leads to the node
 pub record IsLeafOf (P : ℕ) (keys : ℕ → Option Bytes) (nodes : ℕ → Option Node) (root : Option Child) (above : Option (ℕ × ℕ)) (n b i : ℕ) : Type 0 where
   pub shape : Shape P keys nodes root
   pub key : Bytes
@@ -25,14 +25,14 @@ pub record IsLeafOf (P : ℕ) (keys : ℕ → Option Bytes) (nodes : ℕ → Opt
   pub low : child_at node.edges b ≡ Some (Leaf i)
   pub leads : LeadsTo nodes root above (Inner n)
 
--- an edge of the node, by another byte
+-- an edge of the node by another byte
 pub record OtherEdge (nodes : ℕ → Option Node) (n b : ℕ) (e : Edge) : Type 0 where
   pub node : Node
   pub is : nodes n ≡ Some node
   pub there : child_at node.edges e.byte ≡ Some e.to
   pub other : b ≢ e.byte
 
--- in some tree of these keys, the edge above leads to the node n, and this edge is one of the node's
+-- in some tree of these keys, the edge above leads to the node n, which has this edge
 pub record IsChildBelow (P : ℕ) (keys : ℕ → Option Bytes) (nodes : ℕ → Option Node) (above : Option (ℕ × ℕ)) (n : ℕ) (e : Edge) : Type 0 where
   pub root : Option Child
   pub shape : Shape P keys nodes root
@@ -41,26 +41,26 @@ pub record IsChildBelow (P : ℕ) (keys : ℕ → Option Bytes) (nodes : ℕ →
   pub is : nodes n ≡ Some node
   pub there : child_at node.edges e.byte ≡ Some e.to
 
--- what stands below the edge begins this deep
+-- the bytes below the edge begin at this depth
 abbrev pub StartsBelow : (ℕ → Option Node) → Option (ℕ × ℕ) → ℕ → Type 0
 StartsBelow nodes None start = start ≡ 0
 StartsBelow nodes (Some e) start = (x : Node) × (nodes e.0 ≡ Some x) × (start ≡ x.depth + 1)
 
--- the edge's node is less deep than this
+-- the node of the edge is less deep than this
 abbrev pub EndsBelow : (ℕ → Option Node) → Option (ℕ × ℕ) → ℕ → Type 0
 EndsBelow nodes None end = Unit {0}
 EndsBelow nodes (Some e) end = (x : Node) × (nodes e.0 ≡ Some x) × (x.depth < end)
 
--- the child, if it is a node, has another prefix, and all else stands
+-- the child is a leaf or has another prefix, and the rest is unchanged
 abbrev pub Cuts : (ℕ → Option Node) → (ℕ → Option Node) → Child → (ℕ → List ℕ) → Type 0
 Cuts old new (Leaf i) prefix = (j : ℕ) → new j ≡ old j
 Cuts old new (Inner n) prefix = (x : Node) × (old n ≡ Some x) × Reprefixes old new n (prefix x.depth)
 
--- so is it of the child where each node keeps P bytes at most of what its front has after g
+-- the child is a leaf or keeps P bytes that its front has after g, and the rest is unchanged
 abbrev pub CutsAfter : ℕ → (ℕ → Option Node) → (ℕ → Option Node) → (ℕ → Bytes) → Bytes → Child → Type 0
 CutsAfter P old new front_of g (Leaf i) = (j : ℕ) → new j ≡ old j
 CutsAfter P old new front_of g (Inner n) = Reprefixes old new n (take P (drop (length g) (front_of n)))
 
--- the edge leads to the child now, and the node is gone
+-- the edge is redirected to the child, and then the node is removed
 abbrev pub Merged : (ℕ → Option Node) → (ℕ → Option Node) → Option Child → Option Child → Option (ℕ × ℕ) → ℕ → Child → Type 0
 Merged old new root root' above n to = (mid : ℕ → Option Node) × TurnsTo old mid root root' above to × Frees mid new n

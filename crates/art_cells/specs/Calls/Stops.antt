@@ -16,7 +16,7 @@ use Rattle.art_cells.specs.declared.tree.stop.Stop.TheVariants.{Same, Shorter, L
 use Rattle.art_cells.specs.declared.tree.stop.Step.{Step}
 use Rattle.art_cells.specs.declared.tree.stop.Step.TheVariants.{Down, Stops}
 
--- a front and q have so many bytes in common, and after them the front goes on by this byte
+-- a front and q have `len` bytes in common, and the next byte of the front is `byte`
 pub record IsShared (front q : Bytes) (len byte : ℕ) : Type 0 where
   pub is : len ≡ length (common front q)
   pub next : len < length front → len < length q → byte ≡ slice_index_or front len 0
@@ -26,7 +26,7 @@ abbrev pub PastDepth : (ℕ → Option Node) → ℕ → Child → Type 0
 PastDepth nodes depth (Leaf i) = Unit {0}
 PastDepth nodes depth (Inner n) = (x : Node) × (nodes n ≡ Some x) × (depth < x.depth)
 
--- the end of a descent that came to the child after `start` bytes is there
+-- a descent that came to the child after `start` bytes ends there
 abbrev pub StopsAt : (ℕ → Option Node) → Child → ℕ → Stop → Type 0
 StopsAt nodes child start (Same i) = Unit {0}
 StopsAt nodes child start (Shorter i) = Unit {0}
@@ -43,7 +43,7 @@ IsStopBelow nodes root above (AtNode n depth) = LeadsTo nodes root above (Inner 
 IsStopBelow nodes root above (AtEdge c depth byte) = LeadsTo nodes root above c × EndsBelow nodes above depth × PastDepth nodes depth c
 
 module _ (P : ℕ) (keys : ℕ → Option Bytes) (nodes : ℕ → Option Node) where
-  -- in some tree, q begins with the front of an edge, which is so long and leads to the child
+  -- in some tree, an edge leads to the child, and its front has `start` bytes and is a prefix of q
   pub record OnWay (child : Child) (start : ℕ) (q : Bytes) : Type 0 where
     pub root : Option Child
     pub shape : Shape P keys nodes root
@@ -65,7 +65,7 @@ module _ (P : ℕ) (keys : ℕ → Option Bytes) (nodes : ℕ → Option Node) w
   IsStep n start (Down child next byte) q = OnWay child next q × ((x : Node) × (nodes n ≡ Some x) × (child_at x.edges byte ≡ Some child) × (next ≡ x.depth + 1))
   IsStep n start (Stops stop) q = IsStop stop q × StopsAt nodes (Inner n) start stop
 
-  -- the child is beside the place of q, and q leaves each key below it after so many bytes
+  -- the child is beside the place of q, and q leaves each key below it after `depth` bytes
   pub record IsPlaceUnder (q : Bytes) (depth : ℕ) (child : Child) (is_after : Bool) : Type 0 where
     pub beside : IsChildBeside P keys nodes q child is_after
     pub leaves : (i : ℕ) (key : Bytes) → keys i ≡ Some key → Begins beside.front key → LeavesNearest keys i depth q

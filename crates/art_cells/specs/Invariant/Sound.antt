@@ -1,4 +1,4 @@
--- What is true of a tree's records.
+-- The invariant of a tree's records.
 use Rattle.std.specs.Prelude.{ℕ, List, Option}
 use Rattle.blart_keys.specs.Content.{IsContent}
 use Rattle.art_cells.specs.Leaves.{Leaves, keys_in, bytes}
@@ -7,7 +7,7 @@ use Rattle.art_cells.specs.Invariant.Shape.{Shape}
 use Rattle.art_kinds.specs.declared.records.ids.Child.{Child}
 
 module _ {K V : Type 0} (key_bytes : K → List ℕ) where
-  -- the pairs are a content, and the nodes stand where their keys part and keep P bytes of their compressed prefixes
+  -- the pairs are a content, and the inner nodes are those of their keys
   pub record IsSound (P : ℕ) (leaves : Leaves K V) (nodes : Nodes) (root : Option Child) : Type 0 where
     pub content : IsContent (bytes key_bytes) leaves.pairs
     pub shape : Shape P (keys_in key_bytes leaves.pairs) (at nodes) root

@@ -1,4 +1,4 @@
-//! The inner nodes of leaves in order, each made once, when all leaves below it are known.
+//! The inner nodes of leaves in order. Each is made once, when all leaves below it are known.
 ghost use Rattle.std.specs.Prelude.{◌≡◌, ◌≢◌, ◌+◌, ◌-◌, ◌^◌, ◌<◌, ◌≤◌, ◌++◌, ℕ, [], ◌∷◌, length, take, drop, All, Option, Some, None, IfSome, IfNone, IfOk, OnErr, vec_capacity};
 ghost use Rattle.blart_keys.specs.Content.{IsContent};
 ghost use Rattle.art_cells.specs.Begins.{Bytes};
@@ -17,14 +17,14 @@ use blart_keys::AsBytes;
 use std::alloc::{AllocError, Global};
 use std::marker::Model;
 
-/// An edge of a node that is still to be made, and how deep that node is to be.
+/// An edge of a node that is not made yet, and the depth of that node.
 #[derive(Clone, Copy)]
 pub(crate) struct LooseEdge {
     depth: usize,
     edge: Edge,
 }
 
-/// Memory for the inner nodes of so many leaves. A contract sees for how many.
+/// Reserved memory for the inner nodes of a number of leaves. A contract sees the number.
 #[derive(Drop)]
 pub struct Frame<const P: usize> {
     pub(crate) nodes: Nodes<P>,
@@ -46,7 +46,7 @@ impl<const P: usize> Model for Frame<P> {
 }
 
 impl<const P: usize> Frame<P> {
-    /// Takes the memory for so many leaves.
+    /// Allocates memory for the inner nodes of `count` leaves.
     pub fn new(alloc: Global, count: usize) -> Result<Self, AllocError>
         ensures enough { IfOk result (λ frame. count ≤ frame) }
         ensures refused { OnErr result (0 < count) }
@@ -66,7 +66,8 @@ impl<const P: usize> Frame<P> {
     }
 }
 
-/// Makes the inner nodes of leaves, in a vector that has a place for each leaf. Answers the root.
+/// Makes the inner nodes of leaves, and returns the root. `loose` is empty, and has room for as
+/// many edges as there are leaves.
 pub(crate) fn build<K: AsBytes, V, const P: usize>(
     leaves: &Leaves<K, V>,
     nodes: &mut Nodes<P>,
@@ -104,8 +105,9 @@ pub(crate) fn build<K: AsBytes, V, const P: usize>(
     }
 }
 
-// Makes the nodes that are at least so deep above a leaf with this key, from the deepest up, of the
-// loose edges and of what stands above the leaf. Answers what stands there then.
+/// Makes the nodes above a leaf with this key that have a depth of at least `least`, from the
+/// deepest up. Each takes its loose edges and an edge toward the leaf. Returns the topmost node, or
+/// the leaf if no node is made.
 fn close<const P: usize>(
     nodes: &mut Nodes<P>,
     loose: &mut Vec<LooseEdge>,
@@ -133,8 +135,8 @@ fn close<const P: usize>(
     child
 }
 
-// Makes the node at the depth of the last loose edge. Answers how many loose edges are left, and
-// the node.
+/// Makes the node at the depth of the last loose edge. Returns the number of loose edges that are
+/// left, and the node.
 fn close_one<const P: usize>(
     nodes: &mut Nodes<P>,
     loose: &[LooseEdge],
@@ -167,7 +169,7 @@ fn close_one<const P: usize>(
     (from, make_node(nodes, depth, prefix, group, own))
 }
 
-// How deep the last loose edge's node is to be, where that is at least so deep.
+/// Returns the depth of the last loose edge's node, if that is at least `least`.
 fn deepest(loose: &[LooseEdge], least: usize) -> Option<usize>
     ensures some { IfSome result
         (λ depth. (last_depth loose.now ≡ Some depth) × (least ≤ depth)) }
@@ -182,7 +184,7 @@ fn deepest(loose: &[LooseEdge], least: usize) -> Option<usize>
     }
 }
 
-// The place of the first loose edge of a node at this depth.
+/// Returns the index from which on all loose edges are of a node at this depth.
 fn first_at(loose: &[LooseEdge], depth: usize) -> usize
     ensures within { result ≤ length loose.now }
     ensures group { All (λ e. e.depth ≡ depth) (drop result loose.now) }
@@ -196,8 +198,8 @@ fn first_at(loose: &[LooseEdge], depth: usize) -> usize
     from
 }
 
-// Where the compressed prefix of a node begins whose parent has the last of these loose edges, or
-// is to be made below the least depth.
+/// Returns where the compressed prefix of a node begins whose parent has the last of these loose
+/// edges: after the depth of the parent, but not before `least`.
 fn start_above(loose: &[LooseEdge], least: usize) -> usize
     requires { (depth : ℕ) → last_depth loose.now ≡ Some depth → depth < 2 ^ 64 - 1 }
     ensures { result ≡ start_after least (last_depth loose.now) }
@@ -208,7 +210,7 @@ fn start_above(loose: &[LooseEdge], least: usize) -> usize
     }
 }
 
-// Makes a node of loose edges and one more, in order.
+/// Makes a node of loose edges and one more edge, in order. Returns its number.
 fn make_node<const P: usize>(
     nodes: &mut Nodes<P>,
     depth: usize,
@@ -236,7 +238,7 @@ fn make_node<const P: usize>(
     add_last(nodes, id, last)
 }
 
-// Adds an edge to a node. Answers the number that the node has then.
+/// Adds an edge after the other edges of a node. Returns the number that the node has then.
 fn add_last<const P: usize>(nodes: &mut Nodes<P>, id: NodeId, edge: Edge) -> NodeId
     requires rise { (x : Node) × (at nodes.old id ≡ Some x) × Ascends (x.edges ++ edge ∷ []) }
     requires room { 0 < room nodes.old }

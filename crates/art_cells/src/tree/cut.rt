@@ -1,4 +1,4 @@
-//! A full row is cut in half.
+//! Cuts a full row in half.
 ghost use Rattle.std.specs.Prelude.{◌≡◌, ◌+◌, ◌<◌, ℕ, true, Option, Some, IfSome, if◌then◌else◌, eqb};
 ghost use Rattle.art_rows.specs.Blocks.{row_of, IsCrowded, IsRowLast};
 ghost use Rattle.art_kinds.specs.Nodes.{Nodes as Records, at, SameSpares};

@@ -1,4 +1,4 @@
-//! Ways down the tree.
+//! Descents in the tree.
 ghost use Rattle.std.specs.Prelude.{◌≡◌, ℕ, ◌+◌, ◌<◌, ◌≤◌, length, Option, Some};
 ghost use Rattle.art_cells.specs.Begins.{Bytes};
 ghost use Rattle.art_kinds.specs.Nodes.{at};
@@ -10,10 +10,10 @@ ghost use Rattle.art_kinds.specs.declared.records.ids.Child.{Child as Way};
 use art_kinds::{Child, NodeId, Nodes};
 use art_slots::{CellId, Visits};
 
-/// The edge above a child: a node, and a byte. `None` is above the root.
+/// The edge above a child: the number of a node, and a byte. It is `None` for the root.
 pub type EdgeAbove = Option<(NodeId, u8)>;
 
-/// A place in the tree where bytes may leave the keys.
+/// A place in the tree where some bytes may leave the keys.
 #[derive(Clone, Copy)]
 pub enum Spot {
     /// A node, and the edge above it.
@@ -26,7 +26,7 @@ impl Spot {
     ghost use Rattle.std.specs.Prelude.{◌≡◌};
     ghost use Rattle.art_cells.specs.Calls.Spots.{child_under, above_of};
 
-    /// What stands at the spot or below it.
+    /// Returns the node of the spot, or the child of its edge.
     pub(crate) fn child(&self) -> Child
         ensures { result ≡ child_under self.now }
     {
@@ -36,7 +36,7 @@ impl Spot {
         }
     }
 
-    /// The edge above it.
+    /// Returns the edge above the spot.
     pub(crate) fn above(&self) -> EdgeAbove
         ensures { result ≡ above_of self.now }
     {
@@ -55,8 +55,8 @@ pub(crate) struct LeafSpot {
     pub(crate) above: EdgeAbove,
 }
 
-/// What stands for the keys that begin with some bytes: the edge above, what that leads to, and the
-/// leaves at both ends.
+/// The part of a tree that has the pairs with some prefix: the edge above it, the child at its top,
+/// and its first and last leaf.
 #[derive(Clone, Copy)]
 pub(crate) struct Branch {
     pub(crate) above: EdgeAbove,
@@ -65,7 +65,7 @@ pub(crate) struct Branch {
     pub(crate) last: CellId,
 }
 
-/// A leaf whose key goes along with the query as far as any stored key does.
+/// Returns a leaf whose key has the longest common prefix with the query.
 pub(crate) fn find_nearest<const P: usize>(
     nodes: &Nodes<P>,
     root: &Child,
@@ -89,8 +89,8 @@ pub(crate) fn find_nearest<const P: usize>(
     }
 }
 
-// The child to go on to: by the query's next byte, or by any where the query has ended or no key
-// goes on so.
+/// Returns the child of the node by the query's next byte. If the query has ended, or no edge has
+/// that byte, returns the child of the first edge.
 fn toward<const P: usize>(nodes: &Nodes<P>, id: NodeId, query: &[u8], visits: &mut Visits) -> Child
     requires { HasEdges (at nodes.now) id }
     ensures child { GoesToward (at nodes.now) id query.now result }
@@ -106,7 +106,8 @@ fn toward<const P: usize>(nodes: &Nodes<P>, id: NodeId, query: &[u8], visits: &m
     node.end_edge(true).to
 }
 
-/// The leaf at one end of those below a child: that with the least key, or that with the greatest.
+/// Returns the leaf with the least key below a child if `is_first` is set, or else the one with the
+/// greatest key.
 pub(crate) fn end_under<const P: usize>(
     nodes: &Nodes<P>,
     child: &Child,
@@ -132,7 +133,7 @@ pub(crate) fn end_under<const P: usize>(
     }
 }
 
-/// Goes down by a stored key, to where another would leave it at this length.
+/// Descends by a stored key, and returns the spot where another key would leave it at this depth.
 pub(crate) fn locate<const P: usize>(
     nodes: &Nodes<P>,
     root: &Child,
@@ -171,8 +172,9 @@ pub(crate) fn locate<const P: usize>(
     }
 }
 
-/// How many edges the node at this depth has on the way of these bytes, and the first leaf below
-/// it. None where no node is there.
+/// Descends by the bytes of `front` to a node whose depth is their number. Returns the number of
+/// its edges and the first leaf below it, or `None` if there is no such node. If some node has the
+/// prefix `front`, it is this one.
 pub(crate) fn children_of<const P: usize>(
     nodes: &Nodes<P>,
     root: &Child,

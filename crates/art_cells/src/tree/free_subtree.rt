@@ -1,5 +1,6 @@
-//! A branch leaves the tree: the nodes that hang below an edge are freed. They are turned above one
-//! another until each hangs alone, so nothing is remembered but one of them.
+//! Frees the inner nodes below an edge. Only one of them is remembered. It is freed once none of
+//! its edges but the last leads to a node. Until then, a node below is rotated above it, and is
+//! remembered in its place.
 ghost use Rattle.std.specs.Prelude.{◌≡◌, ℕ, true, false, Option, Some, None, Bool};
 ghost use Rattle.art_cells.specs.Begins.{Bytes};
 ghost use Rattle.art_cells.specs.Invariant.EdgesAbove.{LeadsTo, edge_front};
@@ -14,7 +15,7 @@ use crate::tree::place::lead;
 use art_kinds::{Child, NodeId, Nodes};
 use art_slots::{CellId, Visits};
 
-/// Frees the nodes that hang below an edge, which leads to this leaf then. Answers the root.
+/// Frees the nodes below an edge, and redirects the edge to this leaf. Returns the root.
 pub(crate) fn free_subtree<const P: usize>(
     nodes: &mut Nodes<P>,
     root: &Child,
@@ -35,7 +36,7 @@ pub(crate) fn free_subtree<const P: usize>(
     lead(nodes, root, above, &Child::Leaf(*leaf))
 }
 
-// Frees the nodes that hang below an edge.
+/// Frees a child and the nodes below it, if it is a node.
 fn free_child<const P: usize>(nodes: &mut Nodes<P>, child: &Child)
     requires { (keys : ℕ → Option Bytes) × (root : Option Way) × (above : Option (ℕ × ℕ))
         × Shape P keys (at nodes.old) root × LeadsTo (at nodes.old) root above child.now }
@@ -50,8 +51,7 @@ fn free_child<const P: usize>(nodes: &mut Nodes<P>, child: &Child)
     }
 }
 
-// Frees a node and those that hang below it. Each is freed once, and turned above another once at
-// most.
+/// Frees a node and the nodes below it. Each is freed once, and rotated above another at most once.
 fn free_below<const P: usize>(nodes: &mut Nodes<P>, top: NodeId)
     requires { (goes : ℕ → Bool) × Loose goes (at nodes.old) (at nodes.old) top }
     ensures { (goes : ℕ → Bool) → Loose goes (at nodes.old) (at nodes.old) top → (j : ℕ)
@@ -67,7 +67,7 @@ fn free_below<const P: usize>(nodes: &mut Nodes<P>, top: NodeId)
     }
 }
 
-// The first edge of a node that leads to a node, by its byte, and that node.
+/// Returns the byte of the first edge of a node that leads to a node, and that node.
 fn first_node<const P: usize>(nodes: &Nodes<P>, id: NodeId) -> Option<(u8, NodeId)>
     requires { HasEdges (at nodes.now) id }
     ensures { HasFirstNode (at nodes.now) id result }
@@ -88,8 +88,8 @@ fn first_node<const P: usize>(nodes: &Nodes<P>, id: NodeId) -> Option<(u8, NodeI
     }
 }
 
-// Goes on to a node below: by the last edge of all the upper node is freed, and by another the
-// lower one is turned above it.
+/// Moves on to a node below. The upper node is freed if no edge comes after this one. Otherwise the
+/// lower node is rotated above it.
 fn advance<const P: usize>(nodes: &mut Nodes<P>, head: NodeId, byte: u8, below: NodeId)
     requires loose { (goes : ℕ → Bool) × (before : ℕ → Option Node)
         × Loose goes before (at nodes.old) head }
@@ -99,7 +99,7 @@ fn advance<const P: usize>(nodes: &mut Nodes<P>, head: NodeId, byte: u8, below: 
     ensures advances { Advances nodes.old nodes.new head below }
 {
     let node = nodes.read(head, &mut Visits::new());
-    // Whoever asks for the depth learns that it is a number of the machine's.
+    // The depth is a `usize`, so it is less than 2^64.
     let _depth = node.depth();
     if node.edge_after(byte).is_none() {
         nodes.free(head);
@@ -108,7 +108,7 @@ fn advance<const P: usize>(nodes: &mut Nodes<P>, head: NodeId, byte: u8, below: 
     }
 }
 
-// Turns a node above the one that it hangs on: what hung at its last edge hangs where it hung.
+/// Rotates a node above its parent. The child of its last edge takes its place below the parent.
 fn rotate<const P: usize>(nodes: &mut Nodes<P>, head: NodeId, byte: u8, below: NodeId)
     requires loose { (goes : ℕ → Bool) × (before : ℕ → Option Node)
         × Loose goes before (at nodes.old) head }

@@ -1,4 +1,4 @@
-//! How a query and the stored keys part.
+//! Where a query and the stored keys part.
 ghost use Rattle.std.specs.Prelude.{◌≡◌, ◌+◌, ◌≤◌, ℕ, length, Option, Some};
 ghost use Rattle.art_cells.specs.Calls.Descents.{IsNearest};
 ghost use Rattle.art_cells.specs.Calls.Partings.{IsParting, LeavesAt, LeavesAtNode, IsEdgeBeside, IsChildBeside};
@@ -16,31 +16,34 @@ use art_rows::{Leaves, Position};
 use art_slots::{CellId, Visits};
 use blart_keys::AsBytes;
 
-/// How a query and the stored key that goes along with it the furthest part.
+/// How a query parts from the stored key that has the longest common prefix with it.
 #[derive(Clone, Copy)]
 pub(crate) enum Parting {
-    // The key of this leaf has the query's bytes.
+    /// The key of this leaf has the query's bytes.
     Same(CellId),
-    // The key of this leaf ends first: it begins the query.
+    /// The key of this leaf is a proper prefix of the query.
     Shorter(CellId),
-    // The query ends first: this child stands for the keys that begin with it.
+    /// The query is a proper prefix of the keys below this child, and of no others.
     Longer(Child),
-    // Both go on, by different bytes. No stored key is related to the query.
+    /// Both go on, by different bytes. No stored key is related to the query.
     Apart(Mismatch),
 }
 
-/// Where a query leaves a stored key, the nearest one, and no key goes along with it any further.
+/// Where a query leaves the nearest key. No stored key has a longer common prefix with the query.
 #[derive(Clone, Copy)]
 pub(crate) struct Mismatch {
+    /// The leaf of the nearest key.
     pub(crate) nearest: CellId,
-    // So many bytes are the same, and by this one the nearest key goes on.
+    /// The length of the common prefix.
     pub(crate) depth: usize,
+    /// The next byte of the nearest key.
     pub(crate) byte: u8,
+    /// The node or the edge where the query leaves the keys.
     pub(crate) spot: Spot,
 }
 
-/// The leaf whose key goes along with a query the furthest, its key's bytes, and how many of them
-/// are the query's, in a tree with some pairs.
+/// Returns a leaf whose key has the longest common prefix with the query, the bytes of that key,
+/// and the length of the prefix, in a tree with some pairs.
 pub(crate) fn nearest_leaf<'a, K: AsBytes, V, const P: usize>(
     leaves: &'a Leaves<K, V>,
     nodes: &Nodes<P>,
@@ -61,8 +64,8 @@ pub(crate) fn nearest_leaf<'a, K: AsBytes, V, const P: usize>(
     (id, key, common_len(key, query))
 }
 
-/// How a query and the stored key that goes along with it the furthest part, in a tree with some
-/// pairs.
+/// Returns how a query parts from the stored key that has the longest common prefix with it, in a
+/// tree with some pairs.
 pub(crate) fn parting_of<K: AsBytes, V, const P: usize>(
     leaves: &Leaves<K, V>,
     nodes: &Nodes<P>,
@@ -106,7 +109,7 @@ pub enum Beside {
     BeforeLeaf(CellId),
 }
 
-/// The leaf before a place, and where that may stand.
+/// Returns the leaf before a place, if there is one, and a guess of its position.
 pub(crate) fn leaf_before<K: AsBytes, V>(
     leaves: &Leaves<K, V>,
     beside: &Beside,
@@ -124,7 +127,7 @@ pub(crate) fn leaf_before<K: AsBytes, V>(
     }
 }
 
-/// A leaf beside the place of a query that leaves a stored key.
+/// Returns a leaf beside the place of a query that leaves the nearest key.
 pub(crate) fn leaf_beside<const P: usize>(
     nodes: &Nodes<P>,
     mismatch: &Mismatch,
@@ -148,7 +151,7 @@ pub(crate) fn leaf_beside<const P: usize>(
     }
 }
 
-// A child beside the place of a query, and whether the place is after it.
+/// Returns a child beside the place of a query, and `true` if the place is after it.
 fn child_beside<const P: usize>(
     nodes: &Nodes<P>,
     mismatch: &Mismatch,
@@ -171,8 +174,9 @@ fn child_beside<const P: usize>(
     }
 }
 
-/// The edge beside a byte that a node lacks, and whether the byte is after it. Of two, the one
-/// before: keys that come in order have none after.
+/// Returns the edge beside a byte that a node lacks, and `true` if the byte is after it. Of two
+/// such edges it returns the one before the byte, since keys that come in ascending order have none
+/// after.
 pub(crate) fn edge_beside<const P: usize>(
     nodes: &Nodes<P>,
     id: &NodeId,

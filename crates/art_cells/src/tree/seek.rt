@@ -1,4 +1,4 @@
-//! The ends of the pairs within a bound, and of those below some bytes.
+//! The first and the last pair within a bound, and of those with a prefix.
 ghost use Rattle.std.specs.Prelude.{◌≡◌, ◌+◌, ◌*◌, ◌≤◌, [], length, option_map, Some, IfSome};
 ghost use Rattle.blart_keys.specs.Bounds.{bound_bytes};
 ghost use Rattle.blart_keys.specs.Content.{under};
@@ -75,7 +75,7 @@ impl<K: AsBytes, V, const PREFIX_LEN: usize> CellTree<K, V, PREFIX_LEN> {
         }
     }
 
-    // The first and the last leaf.
+    /// Returns the first and the last leaf, if there are leaves.
     fn ends(&self) -> Option<(CellId, CellId)>
         ensures { result ≡ ends self.now.pairs }
     {
@@ -88,7 +88,7 @@ impl<K: AsBytes, V, const PREFIX_LEN: usize> CellTree<K, V, PREFIX_LEN> {
         Some((first, last))
     }
 
-    // The leaf on one side of a place: after it, or before.
+    /// Returns the leaf after a place if `is_after` is set, or else `prev`, the leaf before it.
     fn side_of(&self, prev: Option<CellId>, is_after: bool) -> Option<CellId>
         requires { IfSome prev (Has self.now.pairs) }
         ensures { result ≡ beside prev self.now.pairs is_after }
@@ -102,7 +102,7 @@ impl<K: AsBytes, V, const PREFIX_LEN: usize> CellTree<K, V, PREFIX_LEN> {
         }
     }
 
-    // The leaf with these bytes, or the leaf before the place where they would go.
+    /// Returns the leaf with these bytes, or else the leaf before the place where they would go.
     fn find_place(&self, query: &[u8], visits: &mut Visits) -> Result<CellId, Option<CellId>>
         ensures stands { IsPlaceOf (keys_in K.bytes self.now.pairs) query.now result }
         ensures counted { visits.new.count
@@ -117,8 +117,8 @@ impl<K: AsBytes, V, const PREFIX_LEN: usize> CellTree<K, V, PREFIX_LEN> {
     }
 }
 
-// The leaf with these bytes, or the leaf before the place where they would go, in a tree with some
-// pairs.
+/// Returns the leaf with these bytes, or else the leaf before the place where they would go, in a
+/// tree with some pairs.
 fn place_below<K: AsBytes, V, const P: usize>(
     leaves: &Leaves<K, V>,
     nodes: &Nodes<P>,
@@ -147,8 +147,8 @@ fn place_below<K: AsBytes, V, const P: usize>(
     }
 }
 
-/// What stands for the keys that begin with some bytes, in a tree with some pairs. None where no
-/// key does.
+/// Returns the branch of the keys with a prefix, in a tree with some pairs, or `None` if no key has
+/// the prefix.
 pub(crate) fn branch_below<K: AsBytes, V, const P: usize>(
     leaves: &Leaves<K, V>,
     nodes: &Nodes<P>,

@@ -164,7 +164,7 @@ fn shared_at<K: AsBytes, V, const P: usize>(
     shared_below(leaves, nodes, start, id, query)
 }
 
-/// Returns the same, told by a leaf below the node.
+/// Does what `shared_at` does, by a leaf below the node.
 #[cold]
 #[inline(never)]
 fn shared_below<K: AsBytes, V, const P: usize>(
