@@ -4,17 +4,17 @@ use Rattle.blart_keys.specs.declared.calls.InsertPrefixError.{InsertPrefixError}
 use Rattle.blart_keys.specs.declared.calls.TryInsertError.{TryInsertError}
 use Rattle.blart_keys.specs.declared.calls.TryInsertError.TheVariants.{Prefix}
 
--- the answer, as an insertion gives it that might be refused memory
+-- the result, in the type of an insertion that may fail to allocate
 abbrev pub as_tried : {A : Type 0} → Result A InsertPrefixError → Result A TryInsertError
 as_tried (Ok answer) = Ok answer
 as_tried (Err e) = Err (Prefix e)
 
--- how many pairs an insertion added that answers the old value
+-- how many pairs an insertion added that returns the old value
 abbrev pub added : {V : Type 0} → Option V → ℕ
 added None = 1
 added (Some old) = 0
 
--- the same of one that may be refused
+-- the same for an insertion that may return an error
 abbrev pub added_ok : {V E : Type 0} → Result (Option V) E → ℕ
 added_ok (Ok old) = added old
 added_ok (Err e) = 0

@@ -1,4 +1,4 @@
-//! The pairs of one tree moved into another.
+//! Moves the pairs of one tree into another.
 ghost use Rattle.std.specs.Prelude.{◌≡◌, ◌≢◌, ◌≤◌, [], length, OnOk, OnErr};
 ghost use Rattle.blart_keys.specs.Bulk.{IsAppended};
 ghost use Rattle.blart_keys.specs.Content.{IsContent};

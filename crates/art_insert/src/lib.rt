@@ -1,7 +1,7 @@
-//! Pairs put into a tree, one at its place or many at once, and trees parted.
+//! Insertions into a tree, of one pair or of many, and a tree cut in two.
 //!
-//! Each function takes a tree and says what list its pairs are then, without the numbers of their
-//! leaves.
+//! The contract of each function says what the list of the tree's pairs is then, without the ids of
+//! their leaves.
 #![tactic(auto)]
 
 mod append;

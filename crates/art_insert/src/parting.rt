@@ -1,4 +1,4 @@
-//! A tree cut in two.
+//! Cuts a tree in two.
 ghost use Rattle.std.specs.Prelude.{◌≡◌, ◌≤◌, ◌<◌, ◌+◌, ◌++◌, [], length, OnOk, IfOk, OnErr};
 ghost use Rattle.art_tree.specs.Content.{room};
 ghost use Rattle.art_tree.specs.Pairs.{pairs_of};

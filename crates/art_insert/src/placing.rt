@@ -1,4 +1,4 @@
-//! Where a pair goes, room for it, and the pair placed.
+//! The point of a pair, room for it, and its placement.
 ghost use Rattle.std.specs.Prelude.{◌≡◌, ◌≢◌, ◌+◌, ◌<◌, ◌≤◌, ℕ, true, false, option_map, Some, None, Ok, OnOk, IfOk, OnErr};
 ghost use Rattle.blart_keys.specs.Content.{stores, conflict, IsContent, IsPut};
 ghost use Rattle.blart_keys.specs.Steps.{bytes as pair_bytes, Puts, Inserts};
@@ -17,8 +17,8 @@ use blart_keys::{AsBytes, InsertPrefixError, NoPrefixesBytes, TryInsertError};
 use std::alloc::AllocError;
 use std::mem::replace;
 
-/// Makes room for a pair with this key, which is related to no stored one, and answers its place.
-/// Refused or not, the pairs stand.
+/// Makes room for a pair with this key, which is related to no stored key, and returns its point.
+/// Returns an error if it fails to allocate. The pairs are unchanged in both cases.
 pub fn room_for<K: AsBytes + Drop, V: Drop, const P: usize>(
     tree: &mut Tree<K, V, P>,
     key: &K,
@@ -40,7 +40,7 @@ pub fn room_for<K: AsBytes + Drop, V: Drop, const P: usize>(
     }
 }
 
-/// Places a pair at a point that is ready for its key.
+/// Places a pair at a point that is ready for its key, and returns its leaf. Does not allocate.
 pub fn place_ready<K: AsBytes + Drop, V: Drop, const P: usize>(
     tree: &mut Tree<K, V, P>,
     point: Point,
@@ -56,7 +56,7 @@ pub fn place_ready<K: AsBytes + Drop, V: Drop, const P: usize>(
     id
 }
 
-/// Where the key stands, or would go: it never conflicts.
+/// Returns the point of a key that never conflicts: its leaf, or where it would go.
 pub fn lawful_point<K: NoPrefixesBytes, V, const P: usize>(tree: &Tree<K, V, P>, key: &K) -> Point
     ensures good { IsGood K.bytes tree.now.pairs result (K.bytes key.now) }
     ensures lawful { (i j : ℕ) → result ≢ Related i j }
@@ -75,7 +75,7 @@ pub fn lawful_point<K: NoPrefixesBytes, V, const P: usize>(tree: &Tree<K, V, P>,
     }
 }
 
-/// Adds a pair whose key never conflicts, as [`Tree::add`] does.
+/// Adds a pair whose key never conflicts, like [`Tree::add`].
 fn add_lawful<K: NoPrefixesBytes + Drop, V: Drop, const P: usize>(
     tree: &mut Tree<K, V, P>,
     key: K,
@@ -98,7 +98,7 @@ fn add_lawful<K: NoPrefixesBytes + Drop, V: Drop, const P: usize>(
     }
 }
 
-/// Adds a pair whose key never conflicts and for which there is room, as [`Tree::add_within`] does.
+/// Adds a pair whose key never conflicts and for which there is room, like [`Tree::add_within`].
 fn add_lawful_within<K: NoPrefixesBytes + Drop, V: Drop, const P: usize>(
     tree: &mut Tree<K, V, P>,
     key: K,
@@ -123,7 +123,7 @@ fn add_lawful_within<K: NoPrefixesBytes + Drop, V: Drop, const P: usize>(
     }
 }
 
-/// Places a pair whose key is related to no stored key. Takes one placement of the room.
+/// Places a pair whose key is related to no stored key. Uses the room of one placement.
 pub(crate) fn place_reserved<K: AsBytes + Drop, V: Drop, const P: usize>(
     tree: &mut Tree<K, V, P>,
     key: K,
@@ -143,8 +143,7 @@ pub(crate) fn place_reserved<K: AsBytes + Drop, V: Drop, const P: usize>(
     }
 }
 
-/// Puts a pair in the place of the pair with the same bytes, or adds it. Takes at most one
-/// placement of the room.
+/// Replaces the pair with the same bytes, or adds the pair. Uses the room of at most one placement.
 pub(crate) fn put_reserved<K: NoPrefixesBytes + Drop, V: Drop, const P: usize>(
     tree: &mut Tree<K, V, P>,
     key: K,
@@ -164,7 +163,7 @@ pub(crate) fn put_reserved<K: NoPrefixesBytes + Drop, V: Drop, const P: usize>(
     }
 }
 
-/// Adds a pair if its bytes are new, and else drops it. Takes at most one placement of the room.
+/// Adds a pair if its bytes are new, or else drops it. Uses the room of at most one placement.
 pub(crate) fn add_reserved<K: NoPrefixesBytes + Drop, V: Drop, const P: usize>(
     tree: &mut Tree<K, V, P>,
     key: K,
@@ -185,7 +184,8 @@ pub(crate) fn add_reserved<K: NoPrefixesBytes + Drop, V: Drop, const P: usize>(
 }
 
 /// Puts a pair for which there is room, and returns the old value of its key. A stored key is
-/// unchanged. Takes one placement of the room if the pair is added.
+/// unchanged. Returns an error if the key conflicts. Uses the room of one placement if the pair is
+/// added.
 pub fn put_within<K: AsBytes + Drop, V: Drop, const P: usize>(
     tree: &mut Tree<K, V, P>,
     key: K,
@@ -205,7 +205,7 @@ pub fn put_within<K: AsBytes + Drop, V: Drop, const P: usize>(
     }
 }
 
-/// Puts a pair whose key never conflicts and for which there is room, as [`put_within`] does.
+/// Puts a pair whose key never conflicts and for which there is room, like [`put_within`].
 pub fn put_lawful_within<K: NoPrefixesBytes + Drop, V: Drop, const P: usize>(
     tree: &mut Tree<K, V, P>,
     key: K,

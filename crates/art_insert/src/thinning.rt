@@ -1,4 +1,4 @@
-//! All related pairs but one removed.
+//! Removes all related pairs but one.
 ghost use Rattle.std.specs.Prelude.{Some};
 ghost use Rattle.blart_keys.specs.Steps.{bytes};
 ghost use Rattle.art_insert.specs.Spans.{Spans, LeavesOne};
@@ -6,8 +6,8 @@ ghost use Rattle.art_insert.specs.Spans.{Spans, LeavesOne};
 use art_tree::{LeafId, Tree};
 use blart_keys::AsBytes;
 
-/// Removes the pairs related to the query, which stand from the first leaf to the last, but for the
-/// last.
+/// Removes the pairs that are related to the query, except for the last. They are the pairs from
+/// the leaf `first` through the leaf `last`.
 pub fn leave_one<K: AsBytes + Drop, V: Drop, const P: usize>(
     tree: &mut Tree<K, V, P>,
     first: LeafId,

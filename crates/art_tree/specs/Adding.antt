@@ -11,14 +11,14 @@ use Rattle.art_tree.specs.Pairs.{pairs_of}
 use Rattle.art_tree.specs.Points.{IsGood}
 use Rattle.art_tree.specs.declared.tree.point.Point.TheVariants.{Exact, Related}
 
--- the pair has a new id, and each other id names what it named
+-- the pair has a new id, and each other id has the pair that it had
 pub record HasNew {K V : Type 0} (old new : Content K V) (x : K × V) : Type 0 where
   pub id : ℕ
   pub now : leaf_in new.pairs id ≡ Some x
   pub fresh : leaf_in old.pairs id ≡ None
   pub others : OthersStand old.pairs new.pairs id
 
--- what came of a pair that was to be added
+-- the result of an addition of a pair
 abbrev pub Adds : {K V : Type 0} → (K → List ℕ) → Content K V → Content K V → K × V → Result (Added ℕ K V) AllocError → Type 0
 Adds key_bytes old new x (Ok Placed) = Puts key_bytes (λ pair. pair) (pairs_of old.pairs) x x (Ok None) (pairs_of new.pairs) × HasNew old new x
 Adds key_bytes old new x (Ok (Stored id key value)) = IsGood key_bytes old.pairs (Exact id) (key_bytes x.0) × ((key, value) ≡ x) × (new ≡ old)

@@ -1,2 +1,2 @@
--- Which byte lists begin others, as a fact by recursion.
+-- Prefixes of byte lists, by recursion.
 pub use Rattle.art_cells.specs.Begins.{Bytes, Begins, next_byte}

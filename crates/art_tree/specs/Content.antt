@@ -21,11 +21,11 @@ content_code {K} {V} k v =
     (λ _. refl)
 
 module _ {K V : Type 0} where
-  -- the number of placements that are sure to succeed
+  -- how many placements surely succeed
   abbrev pub room : Content K V → ℕ
   room t = min t.spares.leaves t.spares.nodes
 
-  -- there is the room that a placement at this point takes
+  -- there is room for a placement at this point
   abbrev pub Fits : Content K V → Point → Type 0
   Fits t Empty = 0 < t.spares.leaves
   Fits t (Exact id) = Unit {0}

@@ -1,2 +1,2 @@
--- How long the longest key is.
+-- The length of the longest key.
 pub use Rattle.art_cells.specs.Longest.{longest}

@@ -1,2 +1,2 @@
--- What a contract sees of pairs that no tree leads to.
+-- What a contract sees of a list of pairs outside of any tree.
 pub use Rattle.art_cells.specs.PairList.{PairList, pair_list_code, IsLastKey, ReplacesLast}

@@ -1,4 +1,4 @@
--- Which point is good for some bytes.
+-- The points that are good for some bytes.
 use Rattle.std.specs.Prelude.{◌≡◌, ℕ, true, List, [], Some, Option}
 use Rattle.blart_keys.specs.Content.{at, conflict, subtree}
 use Rattle.art_cells.specs.Places.{LeavesNearest, LastBefore, FirstAfter}
@@ -21,7 +21,7 @@ module _ {K V : Type 0} (key_bytes : K → List ℕ) (pairs : List (Numbered K V
     pub leaves : LeavesNearest (keys_in key_bytes pairs) place.nearest place.seen.depth q
     pub beside : IsOnSide (keys_in key_bytes pairs) q place.seen.beside place.nearest
 
-  -- where q stands in the pairs, or would go
+  -- the point says where q is in the pairs, or where it would go
   abbrev pub IsGood : Point → List ℕ → Type 0
   IsGood Empty q = pairs ≡ []
   IsGood (Exact id) q = (x : K × V) × (at (bytes key_bytes) pairs q ≡ Some (id, x))

@@ -1,2 +1,2 @@
--- What is sought within a bound, and the ends of some pairs.
+-- The pair at the end of a bound, and the ends of some pairs.
 pub use Rattle.art_cells.specs.Seeks.{bound_len, number_within, ends}

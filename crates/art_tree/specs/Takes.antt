@@ -1,2 +1,2 @@
--- Which key may stand under a leaf's number in place of its own.
+-- The keys that may replace the key of a leaf.
 pub use Rattle.art_cells.specs.Takes.{MayTake}

@@ -1,10 +1,10 @@
--- Pairs under the cells that their leaves lie in, and under the ids of their leaves.
+-- Pairs under the cells of their leaves, and under the ids of their leaves.
 use Rattle.std.specs.Prelude.{ℕ, List, Option, Some, None}
 pub use Rattle.art_cells.specs.UnderIds.{id_at, AreNamed, under_id, under_ids, LiesIn}
 use Rattle.art_tree.specs.Leaves.{Numbered}
 
 module _ {K V : Type 0} where
-  -- the leaves of two ids, if there are two, lie in two cells
+  -- the leaves with two ids, if there are two, are in two cells
   abbrev pub EndsLieIn : List ℕ → List (Numbered K V) → Option (ℕ × ℕ) → Option (ℕ × ℕ) → Type 0
   EndsLieIn ids ps None None = Unit {0}
   EndsLieIn ids ps None (Some c) = ⊥

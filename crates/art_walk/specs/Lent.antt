@@ -1,4 +1,4 @@
--- What a walk lent: once the loan is over, the value of one pair was written, and nothing else differs.
+-- What is true once a returned `&mut` to a value ends: one value is written, and no more changes.
 use Rattle.std.specs.Prelude.{◌≡◌, ℕ, List, [], ◌∷◌, ◌++◌, Option, Some, None, Bool, true, false, if◌then◌else◌, is_some, map, eqb, length}
 use Rattle.std.specs.Option.{is_none}
 use Rattle.std.proofs.Common.{ap, refl, ◌∙◌}
@@ -21,33 +21,33 @@ abbrev pub ends_fit : Option (ℕ × ℕ) → List ℕ → Bool
 ends_fit None ns = true
 ends_fit (Some e) ns = is_some (leaf_in (from_number (bare ns) e.0) e.1)
 
--- whether the number lent last, if there is one, is among these, and is none of those that are left
+-- whether the number returned last, if there is one, is among these, and not among those left
 abbrev pub lent_fits : Option ℕ → List (Numbered (Unit {0}) (Unit {0})) → List (Numbered (Unit {0}) (Unit {0})) → Bool
 lent_fits None ps left = true
 lent_fits (Some i) ps left = if is_some (leaf_in ps i) then is_none (leaf_in left i) else false
 
--- whether a walk that lends fits these numbers: its ends do, and the number that it lent last does
+-- whether a walk fits these numbers: its ends do, and the number that it returned last does
 abbrev pub walk_fits : Cursor → Option ℕ → List ℕ → Bool
 walk_fits c lent ns = if ends_fit c.ends ns then lent_fits lent (bare ns) (leaves_left c (bare ns)) else false
 
--- whether a walk that counts fits these numbers: it does, and so many are left
+-- whether a walk fits these numbers, and the count of those that are left is right
 abbrev pub count_fits : Cursor → Option ℕ → ℕ → List ℕ → Bool
 count_fits c lent left ns = if walk_fits c lent ns then eqb left (length (leaves_left c (bare ns))) else false
 
 module _ {K V : Type 0} where
-  -- the list, once each of the pairs that are left has the value that f gives it
+  -- the list, with the value of f for each of the pairs that are left
   abbrev pub written_all : (K × V → V) → List (Numbered K V) → List (Numbered K V) → List (Numbered K V)
   written_all f [] ps = ps
   written_all f (p ∷ left) ps = written_all f left (with_value ps p.0 (f p.1))
 
-  -- of the pairs that were left one was lent, which had the value v and has w now; the others are still to come
+  -- a pair that was left was returned, with the value v, which is w now, and the others are left
   pub record IsLent (old new : List (Numbered K V)) (left after : List (Numbered K V)) (number : ℕ) (key : K) (v w : V) : Type 0 where
     pub named : leaf_in old number ≡ Some (key, v)
     pub written : new ≡ with_value old number w
     pub passed : Lacks after number
     pub all_written : (f : K × V → V) → f (key, v) ≡ w → written_all f after new ≡ written_all f left old
 
-  -- this was the first, and it is the pair lent last
+  -- that pair was the first, and is the one returned last
   pub record LentFirst (old new : List (Numbered K V)) (left after : List (Numbered K V)) (last : Option ℕ) (v w : V) : Type 0 where
     pub number : ℕ
     pub key : K
@@ -55,7 +55,7 @@ module _ {K V : Type 0} where
     pub lent : IsLent old new left after number key v w
     pub is_last : last ≡ Some number
 
-  -- this was the last, and it is the pair lent last
+  -- that pair was the last, and is the one returned last
   pub record LentLast (old new : List (Numbered K V)) (left after : List (Numbered K V)) (last : Option ℕ) (v w : V) : Type 0 where
     pub number : ℕ
     pub key : K
@@ -63,19 +63,19 @@ module _ {K V : Type 0} where
     pub lent : IsLent old new left after number key v w
     pub is_last : last ≡ Some number
 
-  -- nothing was left, and nothing changed
+  -- no pair was left, and nothing changed
   pub record NoneLent (old new : List (Numbered K V)) (left after : List (Numbered K V)) (was last : Option ℕ) : Type 0 where
     pub unchanged : new ≡ old
     pub none : left ≡ []
     pub still : after ≡ []
     pub same : last ≡ was
 
-  -- the list, with this value at the pair lent last
+  -- the list, with this value for the pair returned last
   abbrev pub written_last : Option ℕ → List (Numbered K V) → V → List (Numbered K V)
   written_last None ps w = ps
   written_last (Some i) ps w = with_value ps i w
 
-  -- a value written leaves the numbers
+  -- a written value changes no number
   pub numbers_written : (lent : Option ℕ) (ps : List (Numbered K V)) (w : V) → numbers (written_last lent ps w) ≡ numbers ps
   numbers_written None ps w = refl
   numbers_written (Some i) ps w = numbers-with_value ps i w
@@ -84,6 +84,6 @@ module _ {K V : Type 0} where
   pub fits_written : (c : Cursor) (lent : Option ℕ) (ps : List (Numbered K V)) (w : V) → walk_fits c lent (numbers ps) ≡ true → walk_fits c lent (numbers (written_last lent ps w)) ≡ true
   fits_written c lent ps w h = ap (walk_fits c lent) (numbers_written lent ps w) ∙ h
 
-  -- and counts as before
+  -- and its count fits as before
   pub count_written : (c : Cursor) (lent : Option ℕ) (left : ℕ) (ps : List (Numbered K V)) (w : V) → count_fits c lent left (numbers ps) ≡ true → count_fits c lent left (numbers (written_last lent ps w)) ≡ true
   count_written c lent left ps w h = ap (count_fits c lent left) (numbers_written lent ps w) ∙ h

@@ -56,8 +56,8 @@ impl<'a, K: AsBytes, V, const PREFIX_LEN: usize> BoundedIter<'a, K, V, InRange, 
     /// Returns an iterator over the pairs whose bytes are within both bounds. If the tree has
     /// pairs, the bounds must be in order.
     ///
-    /// If the longer bound has n bytes and the longest key has L bytes, it makes at most 2 * (n +
-    /// 2) * (L + 2) visits, and none if the tree has no pairs.
+    /// If the longer bound has n bytes and the longest key has L bytes, it makes at most
+    /// 2 * (n + 2) * (L + 2) visits, and none if the tree has no pairs.
     pub fn new(
         tree: &'a Tree<K, V, PREFIX_LEN>,
         start: Bound<&[u8]>,

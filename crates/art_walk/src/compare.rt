@@ -1,4 +1,4 @@
-//! Two walks compared, and one that is hashed.
+//! Comparisons of two walks, and the hash of one.
 ghost use Rattle.std.specs.Prelude.{◌≡◌, ◌&&◌, ◌++◌, length};
 ghost use Rattle.std.specs.Cmp.Lexicographic.{pointwise, slice_cmp, slice_partial_cmp};
 ghost use Rattle.std.specs.Hash as fed;
@@ -10,7 +10,8 @@ use std::cmp::{Ord, Ordering, PartialEq, PartialOrd};
 use std::hash::{Hash, Hasher};
 use std::iter::Iterator;
 
-/// Whether the pairs are the same, one by one. There are as many on both sides.
+/// Returns `true` if each pair equals the other pair at its place. Both walks must have the same
+/// number of pairs.
 pub fn are_same<K: PartialEq, V: PartialEq, const P: usize>(
     left: &mut Iter<'_, K, V, P>,
     right: &mut Iter<'_, K, V, P>,
@@ -30,14 +31,15 @@ pub fn are_same<K: PartialEq, V: PartialEq, const P: usize>(
     true
 }
 
-// Whether two pairs have the same key and the same value.
+/// Returns `true` if two pairs have equal keys and equal values.
 fn is_same<K: PartialEq, V: PartialEq>(key: &K, value: &V, other: &K, its: &V) -> bool
     ensures { result ≡ (K.eq key.now other.now && V.eq value.now its.now) }
 {
     key == other && value == its
 }
 
-/// How two lists of pairs compare, where some pairs may not.
+/// Compares two lists of pairs. The first two pairs that are not equal decide, or else the lengths.
+/// Returns `None` if those pairs cannot be compared.
 pub fn partial_order<K: PartialOrd, V: PartialOrd, const P: usize>(
     left: &mut Iter<'_, K, V, P>,
     right: &mut Iter<'_, K, V, P>,
@@ -62,7 +64,8 @@ pub fn partial_order<K: PartialOrd, V: PartialOrd, const P: usize>(
     }
 }
 
-// How two pairs compare, if they do.
+/// Compares two pairs by their keys, or by their values if the keys are equal. Returns `None` if
+/// these cannot be compared.
 fn partial_pair<K: PartialOrd, V: PartialOrd>(
     key: &K,
     value: &V,
@@ -79,7 +82,7 @@ fn partial_pair<K: PartialOrd, V: PartialOrd>(
     }
 }
 
-/// How two lists of pairs compare.
+/// Compares two lists of pairs. The first two pairs that are not equal decide, or else the lengths.
 pub fn order<K: Ord, V: Ord, const P: usize>(
     left: &mut Iter<'_, K, V, P>,
     right: &mut Iter<'_, K, V, P>,
@@ -103,7 +106,7 @@ pub fn order<K: Ord, V: Ord, const P: usize>(
     }
 }
 
-// How two pairs compare.
+/// Compares two pairs by their keys, or by their values if the keys are equal.
 fn order_of_pairs<K: Ord, V: Ord>(key: &K, value: &V, other: &K, its: &V) -> Ordering
     ensures { result ≡ ordering_then (K.cmp key.now other.now) (V.cmp value.now its.now) }
 {
@@ -113,7 +116,7 @@ fn order_of_pairs<K: Ord, V: Ord>(key: &K, value: &V, other: &K, its: &V) -> Ord
     }
 }
 
-/// Feeds how many pairs there are, and then each key and its value.
+/// Feeds a hasher the number of pairs, and then each key and its value.
 pub fn feed<K: Hash, V: Hash, H: Hasher, const P: usize>(walk: Iter<'_, K, V, P>, state: &mut H)
     ensures { state.new
         ≡ fold H.write state.old

@@ -1,4 +1,4 @@
-//! Pairs that a closure picks, taken out of a tree as a cursor comes to them.
+//! Removes pairs that a closure picks, as a cursor passes them.
 ghost use Rattle.std.specs.Prelude.{◌<◌, length, reverse, IfSome};
 ghost use Rattle.std.specs.Map.Calls.{CallableOnEachPair, CalledAtPair, TakesPair};
 ghost use Rattle.art_tree.specs.Pairs.{pairs_of};
@@ -9,9 +9,13 @@ use crate::cursor::Cursor;
 use art_tree::{Tree, Visits};
 use blart_keys::AsBytes;
 
-/// Asks the closure once of each pair that the cursor has left, from the first on, up to the first
-/// at which it answers `true`: that one is removed, and given. Those before it stay with their
-/// values as the closure left them. Takes no memory; it reads each pair that it asks about.
+/// Calls the closure once on each pair that the cursor has left, from the first on, up to the first
+/// pair for which it returns `true`. Removes that pair and returns it, or returns `None` if there
+/// is no such pair. The pairs before it remain, with the values that the closure left. Does not
+/// return an error.
+///
+/// Cost: each call of the closure takes a step of the cursor and reads one leaf. The pair that is
+/// returned costs a removal.
 pub fn extract_first<
     K: AsBytes + Drop,
     V: Drop,
@@ -40,7 +44,7 @@ pub fn extract_first<
     None
 }
 
-/// As [`extract_first`], from the last pair on.
+/// Like [`extract_first`], from the last pair on.
 pub fn extract_last<
     K: AsBytes + Drop,
     V: Drop,

@@ -1,4 +1,4 @@
-//! All keys, taken out of a tree.
+//! An iterator over all keys of a tree by value.
 ghost use Rattle.std.specs.Prelude.{◌≡◌, length, map, Some, IfSome};
 ghost use Rattle.std.specs.Iterator.{YieldsFirst, YieldsLast, UpTo, item_count};
 ghost use Rattle.std.specs.Iterator.SizeHint.{IsWithinCount};
@@ -10,8 +10,8 @@ use blart_keys::AsBytes;
 use std::iter::{DoubleEndedIterator, FusedIterator, Iterator};
 use std::marker::Model;
 
-/// The keys of a tree by value from both ends, in byte order. A step drops the value of the key
-/// that it gives; what was not taken is freed where the walk is dropped.
+/// The keys of a tree by value from both ends, in byte order. Each step drops the value of the key
+/// that it returns. Dropping the walk drops the remaining pairs.
 #[derive(Drop)]
 pub struct IntoKeys<K: AsBytes, V, const PREFIX_LEN: usize> {
     pairs: IntoIter<K, V, PREFIX_LEN>,
@@ -26,7 +26,7 @@ impl<K: AsBytes, V, const PREFIX_LEN: usize> Model for IntoKeys<K, V, PREFIX_LEN
 }
 
 impl<K: AsBytes, V, const PREFIX_LEN: usize> IntoKeys<K, V, PREFIX_LEN> {
-    /// How many keys are left.
+    /// Returns the number of keys that are left.
     pub fn len(&self) -> usize
         ensures { result ≡ length self.now }
     {
@@ -35,7 +35,7 @@ impl<K: AsBytes, V, const PREFIX_LEN: usize> IntoKeys<K, V, PREFIX_LEN> {
 }
 
 impl<K: AsBytes + Drop, V: Drop, const PREFIX_LEN: usize> IntoKeys<K, V, PREFIX_LEN> {
-    /// All keys of the tree.
+    /// Returns an iterator over all keys of the tree.
     pub fn new(tree: Tree<K, V, PREFIX_LEN>) -> Self
         ensures { result ≡ map (λ p. p.0) (pairs_of tree.pairs) }
     {
@@ -52,7 +52,7 @@ impl<K: AsBytes + Drop, V: Drop, const PREFIX_LEN: usize> Iterator for IntoKeys<
 
     ghost remaining = { item_count (λ rest. rest) };
 
-    /// The first key that is left.
+    /// Returns the first key that is left.
     fn next(&mut self) -> Option<K> {
         Some(self.pairs.next()?.0)
     }
@@ -71,7 +71,7 @@ impl<K: AsBytes + Drop, V: Drop, const PREFIX_LEN: usize> DoubleEndedIterator
     for IntoKeys<K, V, PREFIX_LEN> {
     ghost next_back_gives = { YieldsLast (λ rest. rest) };
 
-    /// The last key that is left.
+    /// Returns the last key that is left.
     fn next_back(&mut self) -> Option<K> {
         Some(self.pairs.next_back()?.0)
     }

@@ -1,4 +1,4 @@
-//! All values, taken out of a tree.
+//! An iterator over all values of a tree by value.
 ghost use Rattle.std.specs.Prelude.{◌≡◌, length, map, Some, IfSome};
 ghost use Rattle.std.specs.Iterator.{YieldsFirst, YieldsLast, UpTo, item_count};
 ghost use Rattle.std.specs.Iterator.SizeHint.{IsWithinCount};
@@ -10,8 +10,8 @@ use blart_keys::AsBytes;
 use std::iter::{DoubleEndedIterator, FusedIterator, Iterator};
 use std::marker::Model;
 
-/// The values of a tree from both ends, in byte order of their keys. A step drops the key of the
-/// value that it gives; what was not taken is freed where the walk is dropped.
+/// The values of a tree by value from both ends, in byte order of their keys. Each step drops the
+/// key of the value that it returns. Dropping the walk drops the remaining pairs.
 #[derive(Drop)]
 pub struct IntoValues<K: AsBytes, V, const PREFIX_LEN: usize> {
     pairs: IntoIter<K, V, PREFIX_LEN>,
@@ -26,7 +26,7 @@ impl<K: AsBytes, V, const PREFIX_LEN: usize> Model for IntoValues<K, V, PREFIX_L
 }
 
 impl<K: AsBytes, V, const PREFIX_LEN: usize> IntoValues<K, V, PREFIX_LEN> {
-    /// How many values are left.
+    /// Returns the number of values that are left.
     pub fn len(&self) -> usize
         ensures { result ≡ length self.now }
     {
@@ -35,7 +35,7 @@ impl<K: AsBytes, V, const PREFIX_LEN: usize> IntoValues<K, V, PREFIX_LEN> {
 }
 
 impl<K: AsBytes + Drop, V: Drop, const PREFIX_LEN: usize> IntoValues<K, V, PREFIX_LEN> {
-    /// All values of the tree.
+    /// Returns an iterator over all values of the tree.
     pub fn new(tree: Tree<K, V, PREFIX_LEN>) -> Self
         ensures { result ≡ map (λ p. p.1) (pairs_of tree.pairs) }
     {
@@ -53,7 +53,7 @@ impl<K: AsBytes + Drop, V: Drop, const PREFIX_LEN: usize> Iterator
 
     ghost remaining = { item_count (λ rest. rest) };
 
-    /// The first value that is left.
+    /// Returns the first value that is left.
     fn next(&mut self) -> Option<V> {
         Some(self.pairs.next()?.1)
     }
@@ -72,7 +72,7 @@ impl<K: AsBytes + Drop, V: Drop, const PREFIX_LEN: usize> DoubleEndedIterator
     for IntoValues<K, V, PREFIX_LEN> {
     ghost next_back_gives = { YieldsLast (λ rest. rest) };
 
-    /// The last value that is left.
+    /// Returns the last value that is left.
     fn next_back(&mut self) -> Option<V> {
         Some(self.pairs.next_back()?.1)
     }

@@ -1,4 +1,4 @@
-//! All keys.
+//! An iterator over all keys.
 ghost use Rattle.std.specs.Prelude.{◌≡◌, length, map, Some, IfSome};
 ghost use Rattle.std.specs.Iterator.{YieldsFirstRef, YieldsLastRef, UpTo, item_count};
 ghost use Rattle.std.specs.Iterator.SizeHint.{IsWithinCount};
@@ -10,8 +10,8 @@ use blart_keys::AsBytes;
 use std::iter::{DoubleEndedIterator, FusedIterator, Iterator};
 use std::marker::Model;
 
-/// The keys of a tree from both ends, in byte order of the keys. Each step reads one leaf, and
-/// where the ends have met none comes at either.
+/// The keys of a tree, from both ends, in byte order. Each step makes one visit. Once no key is
+/// left, each step returns `None`.
 #[derive(Drop)]
 pub struct Keys<'a, K, V, const PREFIX_LEN: usize> {
     pairs: Iter<'a, K, V, PREFIX_LEN>,
@@ -26,7 +26,7 @@ impl<'a, K, V, const PREFIX_LEN: usize> Model for Keys<'a, K, V, PREFIX_LEN> {
 }
 
 impl<'a, K: AsBytes, V, const PREFIX_LEN: usize> Keys<'a, K, V, PREFIX_LEN> {
-    /// All keys of the tree.
+    /// Returns an iterator over all keys of the tree.
     pub fn new(tree: &'a Tree<K, V, PREFIX_LEN>) -> Self
         ensures { result ≡ map (λ p. p.0) (pairs_of tree.now.pairs) }
     {
@@ -37,7 +37,7 @@ impl<'a, K: AsBytes, V, const PREFIX_LEN: usize> Keys<'a, K, V, PREFIX_LEN> {
 }
 
 impl<'a, K, V, const PREFIX_LEN: usize> Keys<'a, K, V, PREFIX_LEN> {
-    /// How many keys are left.
+    /// Returns the number of keys that are left.
     pub fn len(&self) -> usize
         ensures { result ≡ length self.now }
     {
@@ -52,7 +52,7 @@ impl<'a, K, V, const PREFIX_LEN: usize> Iterator for Keys<'a, K, V, PREFIX_LEN> 
 
     ghost remaining = { item_count (λ rest. rest) };
 
-    /// The first key that is left.
+    /// Returns the first key that is left.
     #[inline(always)]
     fn next(&mut self) -> Option<&'a K> {
         Some(self.pairs.next()?.0)
@@ -71,7 +71,7 @@ impl<'a, K, V, const PREFIX_LEN: usize> Iterator for Keys<'a, K, V, PREFIX_LEN> 
 impl<'a, K, V, const PREFIX_LEN: usize> DoubleEndedIterator for Keys<'a, K, V, PREFIX_LEN> {
     ghost next_back_gives = { YieldsLastRef (λ rest. rest) };
 
-    /// The last key that is left.
+    /// Returns the last key that is left.
     #[inline(always)]
     fn next_back(&mut self) -> Option<&'a K> {
         Some(self.pairs.next_back()?.0)

@@ -1,9 +1,9 @@
-//! Types that say how a walk was opened, by which walks that differ in nothing else are told apart.
+//! Types that say how a walk was opened. They tell apart walks that are otherwise the same.
 
-/// Says that a walk lends values with their keys.
+/// Says that a walk yields mutable references to the values, with their keys.
 pub struct WithKeys;
 
-/// Says that a walk lends values alone.
+/// Says that a walk yields mutable references to the values alone.
 pub struct ValuesAlone;
 
 /// Says that a walk goes over the pairs within two bounds.

@@ -1,4 +1,4 @@
-//! The pairs that a closure keeps.
+//! Keeps the pairs that a closure picks.
 ghost use Rattle.std.specs.Map.Calls.{CallableOnEachPair, CalledAtPair, TakesPair};
 ghost use Rattle.blart_keys.specs.Walks.{AsksPair};
 ghost use Rattle.art_tree.specs.Pairs.{pairs_of};
@@ -8,10 +8,15 @@ use crate::cursor::Cursor;
 use art_tree::{Tree, Visits};
 use blart_keys::AsBytes;
 
-/// Asks the closure once of each pair, in byte order of the keys, and removes those at which it
-/// answers `false`. The others stay with their values as the closure left them. Takes no memory; it
-/// reads each pair that it asks about, and each that goes costs a removal. The closure is lent: the
-/// state that it is left in shows that nothing more was asked of it.
+/// Calls the closure once on each pair, in byte order of the keys, and removes the pairs for which
+/// it returns `false`. The others remain, with the values that the closure left. Does not return an
+/// error.
+///
+/// The closure is passed by mutable reference, so its last state shows that it was not called
+/// again.
+///
+/// Cost: each call of the closure takes a step of the cursor and reads one leaf. Each pair that is
+/// removed costs a removal.
 pub fn retain_by<K: AsBytes + Drop, V: Drop, F: FnMut(&K, &mut V) -> bool, const PREFIX_LEN: usize>(
     tree: &mut Tree<K, V, PREFIX_LEN>,
     f: &mut F,

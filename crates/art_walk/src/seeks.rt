@@ -1,4 +1,4 @@
-//! Cursors over what is within bounds, or begins with some bytes.
+//! Cursors over the leaves within two bounds, and over those whose keys begin with some bytes.
 ghost use Rattle.std.specs.Prelude.{◌≡◌, ◌+◌, ◌≤◌, [], length};
 ghost use Rattle.blart_keys.specs.Bounds.{slice_bound, is_up_to_end};
 ghost use Rattle.blart_keys.specs.Content.{between, under};
@@ -13,10 +13,11 @@ use blart_keys::{AsBytes, is_less};
 use std::ops::Bound;
 
 impl Cursor {
-    /// The leaves whose keys' bytes are within both bounds, none where the bounds are not in order.
+    /// Returns a cursor over the leaves whose keys' bytes are within both bounds. It has no leaves
+    /// if the bounds are not in order.
     ///
-    /// Where n is the number of bytes of the longer bound and L that of the longest key, at most 2
-    /// * (n + 2) * (L + 2) visits, and none where the tree has no pairs.
+    /// If the longer bound has n bytes and the longest key has L bytes, it makes at most
+    /// 2 * (n + 2) * (L + 2) visits, and none if the tree has no pairs.
     pub fn range<K: AsBytes, V, const PREFIX_LEN: usize>(
         tree: &Tree<K, V, PREFIX_LEN>,
         start: Bound<&[u8]>,
@@ -48,10 +49,10 @@ impl Cursor {
         }
     }
 
-    /// The leaves whose keys' bytes begin with these.
+    /// Returns a cursor over the leaves whose keys' bytes begin with these.
     ///
-    /// On n bytes, where L is the length of the longest key, at most 2 * (n + 2) * (L + 2) visits,
-    /// and none where the tree has no pairs.
+    /// On n bytes, if the longest key has L bytes, it makes at most 2 * (n + 2) * (L + 2) visits,
+    /// and none if the tree has no pairs.
     pub fn prefix<K: AsBytes, V, const PREFIX_LEN: usize>(
         tree: &Tree<K, V, PREFIX_LEN>,
         front: &[u8],
@@ -73,7 +74,7 @@ impl Cursor {
     }
 }
 
-// Whether some bytes are within an end bound.
+/// Returns `true` if some bytes are within an end bound.
 fn is_within_end(bytes: &[u8], end: Bound<&[u8]>) -> bool
     ensures { result ≡ is_up_to_end (slice_bound end.entry) bytes.now }
 {

@@ -17,7 +17,7 @@ is_up_to_end (Included hi) b = not (less hi b)
 is_up_to_end (Excluded hi) b = less b hi
 is_up_to_end Unbounded b = true
 
--- not (both bounded and the start greater than the end), and not (both excluded and equal)
+-- the start is not greater than the end, and they are not equal if both are excluded
 abbrev pub in_order : Bound (List ℕ) → Bound (List ℕ) → Bool
 in_order (Included lo) (Included hi) = not (less hi lo)
 in_order (Included lo) (Excluded hi) = not (less hi lo)
@@ -31,7 +31,7 @@ in_order Unbounded hi = true
 abbrev pub CanRange : {X : Type 0} → List X → Bound (List ℕ) → Bound (List ℕ) → Type 0
 CanRange S lo hi = (S ≡ []) ⊎ (in_order lo hi ≡ true)
 
--- the bytes of the query of a bound
+-- a bound on a query, by the query's bytes
 abbrev pub bound_bytes : {Q : Type 0} → (Q → List ℕ) → Bound (Bor Q) → Bound (List ℕ)
 bound_bytes bytes (Included q) = Included (bytes q.now)
 bound_bytes bytes (Excluded q) = Excluded (bytes q.now)

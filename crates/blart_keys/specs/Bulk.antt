@@ -4,11 +4,11 @@ use Rattle.blart_keys.specs.Content.{at, IsPut}
 use Rattle.blart_keys.specs.Merges.{IsUnion}
 
 module _ {X : Type 0} (bytes : X → List ℕ) where
-  -- the items are put in turn; `keep old x` is what is stored of x, where the item with its bytes was this, or none
+  -- the items are put in order, and `keep old x` is stored for x, where `old` was at its bytes
   abbrev pub PutsAll : (Option X → X → X) → List X → List X → List X → Type 0
   PutsAll keep S [] S' = S' ≡ S
   PutsAll keep S (x ∷ items) S' = (T : List X) × IsPut bytes S (keep (at bytes S (bytes x)) x) T × PutsAll keep T items S'
 
-  -- T is appended to S: its items win where both have the bytes
+  -- T is appended to S: if both have an item with some bytes, the item of T wins
   abbrev pub IsAppended : List X → List X → List X → Type 0
   IsAppended S T S' = IsUnion bytes T S S'

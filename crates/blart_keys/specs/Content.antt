@@ -1,4 +1,4 @@
--- Contents: lists of items that ascend by their bytes, none of which begins another's.
+-- Contents: lists of items that ascend by their bytes. No item's bytes are a prefix of another's.
 use Rattle.std.specs.Prelude.{◌≡◌, ◌≢◌, ℕ, Bool, true, false, ◌&&◌, not, List, Option, find, filter, AllPairs, Contains, ◌↔◌, bytes_eq}
 use Rattle.std.specs.List.{list_any}
 use Rattle.std.specs.declared.ops.Bound.{Bound}
@@ -24,7 +24,7 @@ module _ {X : Type 0} (bytes : X → List ℕ) where
   abbrev pub stores : List X → List ℕ → Bool
   stores S q = list_any (λ x. bytes_eq (bytes x) q) S
 
-  -- the item whose bytes begin q
+  -- the item whose bytes are a prefix of q
   abbrev pub front_of : List X → List ℕ → Option X
   front_of S q = find (λ x. begins (bytes x) q) S
 
@@ -48,13 +48,13 @@ module _ {X : Type 0} (bytes : X → List ℕ) where
   abbrev pub without : List X → List ℕ → List X
   without S q = filter (λ x. not (bytes_eq (bytes x) q)) S
 
-  -- S' is the content that has x, and at all other bytes what S has
+  -- S' is the content that has x, and at all other bytes the items of S
   pub record IsPut (S : List X) (x : X) (S' : List X) : Type 0 where
     pub content : IsContent S'
     pub there : Contains S' x
     pub others : (y : X) → bytes y ≢ bytes x → Contains S' y ↔ Contains S y
 
-  -- S' is the content that has x, and of the items not related to x what S has
+  -- S' is the content that has x, and the items of S that are not related to x
   pub record IsOver (S : List X) (x : X) (S' : List X) : Type 0 where
     pub content : IsContent S'
     pub there : Contains S' x

@@ -1,4 +1,4 @@
--- The bytes of keys, a word for each type of keys.
+-- The bytes of keys, with a name for each type of keys.
 use Rattle.std.specs.Prelude.{ℕ, ℤ, List, [], ◌∷◌, Vec}
 use Rattle.std.specs.Global.{Global}
 use Rattle.std.specs.Int.{to_be_bytes, w32, w64}

@@ -10,7 +10,7 @@ use Rattle.std.proofs.lemmas.Nat.Bits.{and_pow}
 use Rattle.std.proofs.lemmas.Int.{of_z-to_z}
 use Rattle.blart_keys.specs.Keys.{AreBytes, AreBytesOf, flipped, unflipped}
 
--- what is read of bytes is a byte, also after their end
+-- a read of bytes returns a byte, also after their end
 byte_read : (b : List ℕ) → AreBytes b → (i : ℕ) → get_or b i 0 < 256
 byte_read b h i = elim (cases_lt i (length b)) [
   | inl l ↦ h i 0 l
@@ -25,22 +25,22 @@ be_back_4 b h = be_bytes_4 b _ h.len (byte_read b h.small) refl
 pub be_back_8 : (b : List ℕ) → AreBytesOf 8 b → to_be_bytes w64 (from_be_bytes w64 b) ≡ b
 be_back_8 b h = be_bytes_8 b _ h.len (byte_read b h.small) refl
 
--- to flip the top bit of a number below it is to add it
+-- a flip of the top bit adds it to a number that is less than it
 pub flip_low : (n : ℕ) → n < 2 ^ 31 → bit_xor n (2 ^ 31) ≡ n + 2 ^ 31
 flip_low n h = omega (arith, xor_add_and n (2 ^ 31), and_pow n 31)
 
--- to flip the top bit of another number of 32 bits is to take it away
+-- a flip of the top bit subtracts it from another number of 32 bits
 pub flip_high : (n : ℕ) → 2 ^ 31 ≤ n → n < 2 ^ 32 → bit_xor n (2 ^ 31) ≡ n - 2 ^ 31
 flip_high n h k = omega (arith, xor_add_and n (2 ^ 31), and_pow n 31)
 
--- the top bit flipped twice is as it was
+-- two flips of the top bit change nothing
 pub flip_twice : (n : ℕ) → n < 2 ^ 32 → bit_xor (bit_xor n (2 ^ 31)) (2 ^ 31) ≡ n
 flip_twice n h = elim (cases_lt n (2 ^ 31)) [
   | inl l ↦ ap (λ m. bit_xor m (2 ^ 31)) (flip_low n l) ∙ flip_high (n + 2 ^ 31) (omega arith) (omega arith) ∙ omega arith
   | inr g ↦ ap (λ m. bit_xor m (2 ^ 31)) (flip_high n g h) ∙ flip_low (n - 2 ^ 31) (omega arith) ∙ omega arith
 ]
 
--- a number of 32 bits stays one when its top bit is flipped
+-- a number of 32 bits still has 32 bits after a flip of its top bit
 pub flip_fits : (n : ℕ) → n < 2 ^ 32 → bit_xor n (2 ^ 31) < 2 ^ 32
 flip_fits n h = xor_lt 32 n (2 ^ 31) h (omega arith)
 

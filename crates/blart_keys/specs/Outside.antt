@@ -1,4 +1,4 @@
--- What is left where all that begins with some bytes goes.
+-- What is left once all items with a prefix are removed.
 use Rattle.std.specs.Prelude.{ℕ, not, List, filter}
 use Rattle.blart_keys.specs.Bytes.{begins}
 

@@ -11,7 +11,7 @@ ghost use Rattle.blart_keys.specs.KeyLaws.{begins_same_length, one_byte_cmp, one
 use crate::traits::{AsBytes, NoPrefixesBytes, OrderedBytes};
 use std::boxed::BoxedSlice;
 
-/// The bytes as they are, of which each is known to be one.
+/// Returns these bytes. Its contract says that each of them is less than 256.
 pub(crate) fn same_bytes(bytes: &[u8]) -> &[u8]
     ensures value { result.now ≡ bytes.now }
     ensures bytes { AreBytes result.now }
@@ -19,7 +19,8 @@ pub(crate) fn same_bytes(bytes: &[u8]) -> &[u8]
     bytes
 }
 
-/// Whether the first bytes are less: at the first place where they differ its byte is less, or they begin the others.
+/// Returns `true` if `a` is less than `b`: at the first place where they differ it has the lesser
+/// byte, or it is a proper prefix of `b`.
 pub fn is_less(a: &[u8], b: &[u8]) -> bool
     ensures { result ≡ less a.now b.now }
 {

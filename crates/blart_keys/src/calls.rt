@@ -1,9 +1,10 @@
-//! The calls of a map as values, and how an insertion is refused.
+//! The calls of a map as values, and the errors of an insertion.
 
 use std::alloc::AllocError;
 use thiserror::Error;
 
-/// The key conflicts: a stored key begins it or is begun by it, and has other bytes.
+/// The error of a key that conflicts: it has other bytes than a stored key, and the bytes of one of
+/// the two are a prefix of the other's.
 ///
 /// ```
 /// map.try_insert("cat", 1)?;
@@ -13,7 +14,7 @@ use thiserror::Error;
 #[error("key conflicts")]
 pub struct InsertPrefixError;
 
-/// Why an insertion was refused. The map is as before.
+/// The error of an insertion. The map is unchanged.
 ///
 /// ```
 /// map.try_insert("cat", 1)?;
@@ -25,7 +26,7 @@ pub enum TryInsertError {
     /// The key conflicts with a stored key.
     #[error("key conflicts")]
     Prefix(InsertPrefixError),
-    /// There was no memory.
+    /// The allocation failed.
     #[error("out of memory")]
     Memory(AllocError),
 }
@@ -45,45 +46,45 @@ pub enum TryInsertError {
 /// ```
 #[derive(Drop)]
 pub enum Call<K, V> {
-    /// Give the stored key with these bytes the value, or insert the pair, unless its key conflicts.
-    /// A stored key stays. The answer has the old value.
+    /// Sets the value of the stored key with these bytes, or inserts the pair, unless the key
+    /// conflicts. A stored key is unchanged. The reply has the old value.
     TryInsert(K, V),
-    /// Put the pair in place of the one with its bytes, or insert it, unless its key conflicts. The
-    /// answer has the old pair.
+    /// Replaces the pair with the same bytes, or inserts the pair, unless the key conflicts. The
+    /// reply has the old pair.
     ReplaceEntry(K, V),
-    /// Insert the pair in place of all pairs whose keys are related to its key.
+    /// Inserts the pair in place of all pairs whose keys are related to its key.
     PrefixInsert(K, V),
-    /// Take out the pair with the bytes of this key.
+    /// Removes the pair with the bytes of this key.
     RemoveEntry(K),
-    /// Ask whether a pair has the bytes of this key.
+    /// Asks if there is a pair with the bytes of this key.
     ContainsKey(K),
-    /// Take out the first pair.
+    /// Removes the first pair.
     PopFirst,
-    /// Take out the last pair.
+    /// Removes the last pair.
     PopLast,
-    /// Take out all pairs.
+    /// Removes all pairs.
     Clear,
 }
 
-/// What a call answered.
+/// The result of a call.
 ///
-/// The example of [`Call`] shows it.
+/// [`Call`] has an example.
 #[derive(Drop)]
 pub enum Reply<K, V> {
-    /// The old value, if a pair with these bytes was stored, or why the insertion was refused.
+    /// The old value, if there was a pair with these bytes, or the error of the insertion.
     TryInsert(Result<Option<V>, TryInsertError>),
-    /// The old pair, if one with these bytes was stored, or why the insertion was refused.
+    /// The old pair, if there was one with these bytes, or the error of the insertion.
     ReplaceEntry(Result<Option<(K, V)>, TryInsertError>),
-    /// That the pair is stored, or that there was no memory.
+    /// `Ok` if the pair is stored, or an error if the allocation failed.
     PrefixInsert(Result<(), AllocError>),
-    /// The pair that was taken out, if there was one.
+    /// The removed pair, if there was one.
     RemoveEntry(Option<(K, V)>),
-    /// Whether a pair has these bytes.
+    /// `true` if there is a pair with these bytes.
     ContainsKey(bool),
-    /// The first pair, if there was one.
+    /// The removed first pair, if there was one.
     PopFirst(Option<(K, V)>),
-    /// The last pair, if there was one.
+    /// The removed last pair, if there was one.
     PopLast(Option<(K, V)>),
-    /// That the map is empty.
+    /// The map has no pairs.
     Clear,
 }

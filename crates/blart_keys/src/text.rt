@@ -1,4 +1,4 @@
-//! Texts as keys, by their UTF-8 bytes.
+//! Strings as keys, by their UTF-8 bytes.
 
 ghost use Rattle.std.specs.Prelude.{string_bytes, refl};
 ghost use Rattle.std.proofs.lemmas.Slice.Eq.{bytes_eq-Decides};

@@ -1,4 +1,4 @@
-//! What a key type is, and the same for references to keys.
+//! The key traits, also for references to keys.
 
 ghost use Rattle.std.specs.Prelude.{◌≡◌, ℕ, List};
 ghost use Rattle.blart_keys.specs.Keys.{NoFronts, OrderedAs, EqualAs};
@@ -13,22 +13,23 @@ pub trait AsBytes {
     /// The bytes of a value.
     ghost bytes: { Self → List ℕ };
 
-    /// Holds of the values of the type.
+    /// Holds for each value of the type.
     ghost IsValue: { Self → Type 0 };
 
-    /// The bytes of the key.
+    /// Returns the bytes of the key.
     fn as_bytes(&self) -> &[u8]
         ensures { result.now ≡ bytes self.now };
 
-    /// Answers nothing. Its contract says that the key in hand is a value of its type, as the laws
-    /// of the other traits ask.
+    /// Does nothing. Its contract says that the key is a value of its type. The laws of the other
+    /// traits require this.
     fn value_law(&self)
         ensures { IsValue self.now };
 }
 
-/// A key type of which no value's bytes are a proper front of another's.
+/// A key type in which no value's bytes are a proper prefix of another's.
 ///
-/// Two keys of such a type are related only where their bytes are equal, so no insertion of one conflicts.
+/// Two keys of such a type are related only if their bytes are equal, so no insertion of one
+/// conflicts.
 ///
 /// ```
 /// map.insert(U32Key::new(1), 1)?;
@@ -36,11 +37,11 @@ pub trait AsBytes {
 /// assert_eq!(map.len(), 2);
 /// ```
 pub trait NoPrefixesBytes: AsBytes {
-    /// Of two values, if one's bytes begin the other's, the bytes are equal.
+    /// If the bytes of one value are a prefix of another's, the bytes are equal.
     ghost no_fronts: { NoFronts Self.bytes Self.IsValue };
 }
 
-/// A key type whose order is that of the bytes.
+/// A key type whose order is the order of the bytes.
 ///
 /// ```
 /// let (a, b) = (U32Key::new(1), U32Key::new(256));
@@ -48,10 +49,10 @@ pub trait NoPrefixesBytes: AsBytes {
 /// assert_eq!(a.as_bytes().cmp(&b.as_bytes()), Ordering::Less);
 /// ```
 pub trait OrderedBytes: AsBytes + Ord {
-    /// Two values compare as their bytes do.
+    /// Two values compare like their bytes.
     ghost ordered: { OrderedAs Self.bytes Self.IsValue Self.cmp };
 
-    /// Two values are equal exactly where their bytes are.
+    /// Two values are equal if and only if their bytes are equal.
     ghost equal_bytes: { EqualAs Self.bytes Self.IsValue Self.eq };
 }
 

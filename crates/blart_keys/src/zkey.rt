@@ -1,4 +1,4 @@
-//! Bytes with one zero after them, so that no key begins another.
+//! Bytes with one zero after them, so that no key is a prefix of another.
 
 ghost use Rattle.std.specs.Prelude.{◌≡◌, ℕ, List, ◌∷◌, [], ◌++◌, IfOk, IsErrOf, Contains, ◌↔◌, refl};
 ghost use Rattle.std.proofs.lemmas.Slice.Eq.{bytes_eq-Decides};
@@ -9,7 +9,7 @@ use crate::traits::{AsBytes, NoPrefixesBytes, OrderedBytes};
 use std::alloc::Global;
 use thiserror::Error;
 
-/// Why bytes make no [`ZKey`].
+/// An error in the making of a [`ZKey`].
 ///
 /// ```
 /// let made = ZKey::from_bytes(alloc, b"a\0");
@@ -20,14 +20,14 @@ pub enum ZKeyError {
     /// One of the bytes is zero.
     #[error("zero byte in key")]
     InnerZero,
-    /// There was no memory.
+    /// The allocation failed.
     #[error("out of memory")]
     Memory,
 }
 
-/// Bytes without a zero, and one zero after them.
+/// A key of bytes without a zero, and one zero after them.
 ///
-/// No key of this type begins another, and keys compare as the bytes without the zero do.
+/// No key of this type is a prefix of another. Keys compare like their bytes without the zero.
 ///
 /// ```
 /// let key = ZKey::from_bytes(alloc, b"ab")?;
@@ -41,10 +41,10 @@ pub struct ZKey {
 }
 
 impl ZKey {
-    /// The key of these bytes followed by one zero.
+    /// Returns the key of these bytes, followed by one zero.
     ///
-    /// Answers `InnerZero` exactly where one of the bytes is zero. Takes memory for the copy, and
-    /// answers `Memory` where there is none.
+    /// Returns `InnerZero` if and only if one of the bytes is zero. Allocates memory for a copy of
+    /// the bytes, and returns `Memory` if that fails.
     ///
     /// ```
     /// let key = ZKey::from_bytes(rt.alloc(), b"ab")?;
@@ -69,7 +69,7 @@ impl ZKey {
         Ok(ZKey { bytes: all })
     }
 
-    /// The bytes without the zero: those that the key was made from.
+    /// Returns the bytes without the zero, from which the key was made.
     pub fn to_bytes(&self) -> &[u8]
         ensures value { result.now ++ 0 ∷ [] ≡ ⟦<ZKey as AsBytes>⟧.bytes self.now }
         ensures given { (b : List ℕ) → ⟦<ZKey as AsBytes>⟧.bytes self.now ≡ b ++ 0 ∷ [] → result.now ≡ b }

@@ -11,10 +11,10 @@ use crate::records::indexed::Indexed;
 
 /// The edges of a node, as one of the kinds of node keeps them.
 pub(crate) trait Children: Drop {
-    // The edges in ascending order of their bytes.
+    /// The edges in ascending order of their bytes.
     ghost edges: { Self → List Edge };
 
-    // The greatest number of edges, or `None` if there is a place for each byte.
+    /// The greatest number of edges, or `None` if there is a place for each byte.
     ghost places: { Option ℕ };
 
     /// Returns a copy with the same edges.

@@ -12,8 +12,7 @@ use blart_keys::AsBytes;
 impl<K: AsBytes, V, const PREFIX_LEN: usize> Tree<K, V, PREFIX_LEN> {
     /// Returns the pairs in byte order. Does not allocate.
     ///
-    /// Cost: frees the inner nodes at once. To remove the pairs one by one from the list then
-    /// changes no node.
+    /// Cost: frees the inner nodes at once. A removal of a pair from the list then changes no node.
     pub fn into_pairs(self) -> Pairs<K, V>
         ensures { result.pairs ≡ pairs_of self.pairs }
     {
@@ -21,11 +20,11 @@ impl<K: AsBytes, V, const PREFIX_LEN: usize> Tree<K, V, PREFIX_LEN> {
         cells.into_pairs()
     }
 
-    /// Returns a tree of these pairs. The bytes of their keys must ascend, none a prefix of the
-    /// bytes of another, and the frame must be for at least as many pairs. Does not allocate.
+    /// Returns a tree of these pairs. The bytes of their keys must ascend, and no key's bytes may
+    /// be a prefix of another's. The frame must be for at least as many pairs. Does not allocate.
     ///
-    /// Cost: reads each key once or twice, and makes each inner node once with all its children,
-    /// which is faster than to place pair by pair.
+    /// Cost: reads each key once or twice, and makes each inner node once, with all its children.
+    /// That is faster than a placement of each pair.
     pub fn from_pairs(pairs: Pairs<K, V>, frame: Frame<PREFIX_LEN>) -> Self
         requires content { IsContent (bytes K.bytes) pairs.pairs }
         requires room { length pairs.pairs ≤ frame }

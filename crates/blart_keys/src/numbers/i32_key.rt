@@ -11,13 +11,12 @@ ghost use Rattle.blart_keys.specs.NumberLaws.{flipped_back};
 use crate::traits::{AsBytes, NoPrefixesBytes, OrderedBytes};
 use std::marker::Model;
 
-/// The top bit of 32.
+/// The highest of 32 bits.
 const TOP_BIT: u32 = 1 << 31;
 
-/// A signed number of 32 bits by the four big-endian bytes of its bits, of which the top one is
-/// flipped.
+/// A number of type `i32`, by the four big-endian bytes of its bits with the highest bit flipped.
 ///
-/// So the bytes of negative numbers come first, and keys compare as their numbers.
+/// So the bytes of negative numbers come first, and keys compare like their numbers.
 ///
 /// ```
 /// let key = I32Key::new(-1);
@@ -42,7 +41,7 @@ impl Model for I32Key {
 }
 
 impl I32Key {
-    /// The key of a number.
+    /// Returns the key of a number.
     ///
     /// ```
     /// let key = I32Key::new(-1);
@@ -59,7 +58,7 @@ impl I32Key {
         }
     }
 
-    /// The number of the key.
+    /// Returns the number of the key.
     pub fn get(&self) -> i32
         ensures { result ≡ self.now }
     {
@@ -67,7 +66,7 @@ impl I32Key {
         (flipped ^ TOP_BIT).cast_signed()
     }
 
-    /// Answers nothing. Its contract says that keys compare as their numbers.
+    /// Does nothing. Its contract says that keys compare like their numbers.
     pub fn order_law(&self, other: &Self)
         ensures { ⟦<I32Key as Ord>⟧.cmp self.now other.now ≡ int_cmp self.now other.now }
     {

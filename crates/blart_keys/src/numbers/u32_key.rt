@@ -11,9 +11,9 @@ ghost use Rattle.blart_keys.specs.NumberLaws.{be_back_4};
 use crate::traits::{AsBytes, NoPrefixesBytes, OrderedBytes};
 use std::marker::Model;
 
-/// An unsigned number of 32 bits by its four big-endian bytes.
+/// A number of type `u32`, by its four big-endian bytes.
 ///
-/// Keys compare as their numbers.
+/// Keys compare like their numbers.
 ///
 /// ```
 /// let key = U32Key::new(258);
@@ -38,7 +38,7 @@ impl Model for U32Key {
 }
 
 impl U32Key {
-    /// The key of a number.
+    /// Returns the key of a number.
     ///
     /// ```
     /// let key = U32Key::new(258);
@@ -54,14 +54,14 @@ impl U32Key {
         }
     }
 
-    /// The number of the key.
+    /// Returns the number of the key.
     pub fn get(&self) -> u32
         ensures { result ≡ self.now }
     {
         u32::from_be_bytes(self.bytes)
     }
 
-    /// Answers nothing. Its contract says that keys compare as their numbers.
+    /// Does nothing. Its contract says that keys compare like their numbers.
     pub fn order_law(&self, other: &Self)
         ensures { ⟦<U32Key as Ord>⟧.cmp self.now other.now ≡ nat_cmp self.now other.now }
     {

@@ -11,9 +11,9 @@ ghost use Rattle.blart_keys.specs.NumberLaws.{be_back_8};
 use crate::traits::{AsBytes, NoPrefixesBytes, OrderedBytes};
 use std::marker::Model;
 
-/// An unsigned number of 64 bits by its eight big-endian bytes.
+/// A number of type `u64`, by its eight big-endian bytes.
 ///
-/// Keys compare as their numbers.
+/// Keys compare like their numbers.
 ///
 /// ```
 /// let key = U64Key::new(258);
@@ -38,7 +38,7 @@ impl Model for U64Key {
 }
 
 impl U64Key {
-    /// The key of a number.
+    /// Returns the key of a number.
     ///
     /// ```
     /// let key = U64Key::new(1);
@@ -54,14 +54,14 @@ impl U64Key {
         }
     }
 
-    /// The number of the key.
+    /// Returns the number of the key.
     pub fn get(&self) -> u64
         ensures { result ≡ self.now }
     {
         u64::from_be_bytes(self.bytes)
     }
 
-    /// Answers nothing. Its contract says that keys compare as their numbers.
+    /// Does nothing. Its contract says that keys compare like their numbers.
     pub fn order_law(&self, other: &Self)
         ensures { ⟦<U64Key as Ord>⟧.cmp self.now other.now ≡ nat_cmp self.now other.now }
     {
