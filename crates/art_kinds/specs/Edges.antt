@@ -126,7 +126,7 @@ pub record Filled (count : ℕ) (t : List (Option Child)) : Type 0 where
 abbrev pub child_under : List Child → ℕ → Option Child
 child_under children s = if ltb s 48 then Some (slice_index_or children s (Leaf 0)) else None
 
--- the table that an index of places stands for
+-- the table of the children at the places of an index
 abbrev pub table : List ℕ → List Child → List (Option Child)
 table index children = map (child_under children) index
 

@@ -210,7 +210,7 @@ impl<T: Drop> Table<T> {
 }
 
 /// Adds `count` empty cells in reserved memory. Each cell's number is the number of cells before
-/// it. If the slab's next key is another number, returns the error for memory and adds no more.
+/// it. If the slab's next key is another number, returns an allocation error and adds no more.
 fn add_empty<T>(cells: &mut Dense<Cell<T>>, count: usize) -> Result<(), AllocError>
     requires { length cells.old.items + count ≤ cells.old.capacity }
     ensures adds { AddsEmpty cells.old.items cells.new.items count }

@@ -124,7 +124,7 @@ impl Words {
 }
 
 /// Adds `count` blocks of zeros in reserved memory. Each block's key is the number of blocks before
-/// it. If the slab's next key is another number, returns the error for memory and adds no more.
+/// it. If the slab's next key is another number, returns an allocation error and adds no more.
 fn add_zeros(blocks: &mut Dense<Block>, count: usize) -> Result<(), AllocError>
     requires { length blocks.old.items + count ≤ blocks.old.capacity }
     ensures adds { AddsZeros blocks.old.items blocks.new.items count }

@@ -50,7 +50,7 @@ fn without_last<K: AsBytes, V, const PREFIX_LEN: usize>(
 }
 
 /// Consecutive leaves of a tree, in byte order, or none: those that a walk has left. A cursor holds
-/// no reference to the tree. Each step is given the tree.
+/// no reference to the tree. Each step takes the tree.
 #[derive(Clone, Copy)]
 pub struct Cursor {
     /// The first and the last leaf.

@@ -20,6 +20,7 @@ use std::marker::Model;
 /// An edge of a node that is not made yet, and the depth of that node.
 #[derive(Clone, Copy)]
 pub(crate) struct LooseEdge {
+    /// The depth of the node.
     depth: usize,
     edge: Edge,
 }
@@ -198,8 +199,9 @@ fn first_at(loose: &[LooseEdge], depth: usize) -> usize
     from
 }
 
-/// Returns where the compressed prefix of a node begins whose parent has the last of these loose
-/// edges: after the depth of the parent, but not before `least`.
+/// Returns the depth at which the compressed prefix of a node begins. The parent of the node has
+/// the last of these loose edges. The prefix begins after the parent's depth, but not before
+/// `least`.
 fn start_above(loose: &[LooseEdge], least: usize) -> usize
     requires { (depth : ℕ) → last_depth loose.now ≡ Some depth → depth < 2 ^ 64 - 1 }
     ensures { result ≡ start_after least (last_depth loose.now) }

@@ -53,9 +53,9 @@ impl<K: AsBytes, V, const PREFIX_LEN: usize> CellTree<K, V, PREFIX_LEN> {
         }
     }
 
-    /// Returns the first and the last leaf whose bytes begin with these. On n bytes it makes at
-    /// most (n + 3) * (L + 1) - 2 visits, where the longest key has L bytes, and none if the tree
-    /// has no pairs.
+    /// Returns the first and the last leaf whose bytes begin with these. On n bytes, if the longest
+    /// key has L bytes, it makes at most (n + 3) * (L + 1) - 2 visits, and none if the tree has no
+    /// pairs.
     pub fn span(&self, front: &[u8], visits: &mut Visits) -> Option<(CellId, CellId)>
         ensures found { result ≡ ends (under (bytes K.bytes) self.now.pairs front.now) }
         ensures counted { visits.new.count + 2

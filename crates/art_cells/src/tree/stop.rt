@@ -25,8 +25,8 @@ pub(crate) enum Stop {
     Longer(Child),
     /// The query leaves the keys at this node, after this number of bytes.
     AtNode(NodeId, usize),
-    /// The query leaves the keys below this child after this number of bytes. The next byte of the
-    /// keys is given too.
+    /// The query leaves the keys below this child after this number of bytes. The last field is the
+    /// next byte of the keys.
     AtEdge(Child, usize, u8),
 }
 

@@ -10,8 +10,11 @@ use std::marker::Model;
 /// Up to `N` edges of a node. A contract sees the edges in ascending order of their bytes.
 #[derive(Drop)]
 pub(crate) struct Few<const N: usize> {
+    /// The number of edges.
     pub(super) count: usize,
+    /// The bytes of the edges in ascending order. Those after the first `count` have no meaning.
     pub(super) bytes: [u8; N],
+    /// The children of the edges, each at the place of its byte.
     pub(super) children: [Link; N],
 }
 

@@ -10,7 +10,9 @@ use std::marker::Model;
 /// A child or nothing for each byte. A contract sees the edges in ascending order of their bytes.
 #[derive(Drop)]
 pub(crate) struct Full {
+    /// The number of edges.
     pub(super) count: usize,
+    /// The child of each byte, or nothing.
     pub(super) children: [OptionLink; 256],
 }
 

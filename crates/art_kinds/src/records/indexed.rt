@@ -12,8 +12,11 @@ use std::marker::Model;
 /// contract sees the edges in ascending order of their bytes.
 #[derive(Drop)]
 pub(crate) struct Indexed {
+    /// The number of edges.
     pub(super) count: usize,
+    /// The place of the child of each byte, or 48.
     pub(super) index: [u8; 256],
+    /// The children, in the first `count` places.
     pub(super) children: [Link; 48],
 }
 

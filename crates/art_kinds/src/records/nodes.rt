@@ -633,8 +633,8 @@ impl<const P: usize> Nodes<P> {
         }
     }
 
-    /// Makes room for `count` more placements. Returns an error if it fails to allocate, or if a
-    /// record with a prefix of `P` bytes may be too large. The nodes are unchanged in both cases.
+    /// Makes room for `count` placements. Returns an error if it fails to allocate, or if a record
+    /// with a prefix of `P` bytes may be too large. The nodes are unchanged in each case.
     pub fn reserve(&mut self, count: usize) -> Result<(), AllocError>
         ensures same { SameNodes self.old self.new }
         ensures room { room self.old ≤ room self.new }
