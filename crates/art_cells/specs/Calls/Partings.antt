@@ -40,7 +40,7 @@ pub record IsEdgeBeside (nodes : ℕ → Option Node) (n b : ℕ) (e : Edge) (is
   pub next : IsNextTo is_after node.edges b e
 
 module _ (P : ℕ) (keys : ℕ → Option Bytes) (nodes : ℕ → Option Node) where
-  -- a tree of the keys, of which none is related to q
+  -- there is a tree of the keys, and no key is related to q
   pub record NoneRelated (q : Bytes) : Type 0 where
     pub root : Option Child
     pub shape : Shape P keys nodes root

@@ -25,8 +25,7 @@ pub enum Added<Id, K, V> {
     Placed,
     /// This leaf has the bytes of the key. The pair is returned.
     Stored(Id, K, V),
-    /// The key conflicts with stored keys, of which that of this leaf is the first. The pair is
-    /// returned.
+    /// The key conflicts with stored keys. This leaf has the first of them. The pair is returned.
     Conflict(Id, K, V),
 }
 

@@ -446,7 +446,7 @@ pub(crate) fn byte_on<const P: usize>(
 }
 
 /// Cuts the compressed prefix of a node, so that it begins at `start` in place of `from`. If the
-/// node kept the whole prefix, it keeps the rest of it, and else bytes of a key below it.
+/// node kept the whole prefix, it keeps the rest of it, or else bytes of a key below it.
 pub(crate) fn cut_prefix<const P: usize>(
     nodes: &mut Nodes<P>,
     child: &Child,

@@ -748,9 +748,9 @@ fn append(to: &mut [u8], used: usize, byte: u8, rest: &[u8]) -> usize
     start + copy_front(&mut to[start..], rest)
 }
 
-/// Returns the greatest number of nodes that `count` placements can move out of a kind. The kind
-/// has `live` nodes, each of which may move with one placement. A node that comes into the kind
-/// takes `takes` placements to move out of it.
+/// Returns the greatest number of nodes that `count` placements can move out of a kind. Each of the
+/// `live` nodes of the kind takes at least one placement. A node that comes into the kind takes
+/// `takes` placements.
 fn outgrown(count: usize, live: usize, takes: usize) -> usize
     requires { 0 < takes }
     ensures few { count ≤ live → result ≡ count }
