@@ -4,43 +4,43 @@ use Rattle.std.proofs.lemmas.List.{get_or_append_left, get_or-append-add, set-ap
 use Rattle.std.proofs.lemmas.List.Elements.{All-head, All-tail, All-append, All-replicate}
 use Rattle.std.proofs.lemmas.List.Concat.{flat_map-append}
 use Rattle.std.proofs.lemmas.Nat.{div-add-mod', div_below, mod_below}
-use Rattle.art_slots.specs.Words.{joined, IsWhole, AreWhole, AddsZeros}
-use Rattle.art_slots.specs.declared.words.Block.{Block}
+use Rattle.art_slots.specs.Halves.{joined, IsWhole, AreWhole, AddsZeros}
+use Rattle.art_slots.specs.declared.halves.Block.{Block}
 
 -- a block of zeros
 abbrev pub zeros : Block
-zeros = record { words = replicate 64 0 }
+zeros = record { halves = replicate 64 0 }
 
 -- there are 64 numbers for each block
 pub length-joined : (blocks : List Block) → AreWhole blocks → length (joined blocks) ≡ length blocks * 64
 length-joined [] h = refl
 length-joined (b ∷ bs) h =
-    omega (arith, length-joined bs (All-tail IsWhole b bs h), length-append b.words (joined bs), All-head IsWhole b bs h)
+    omega (arith, length-joined bs (All-tail IsWhole b bs h), length-append b.halves (joined bs), All-head IsWhole b bs h)
 
 -- what a place in a block is in the list
-pub at-joined : (blocks : List Block) → AreWhole blocks → (k j : ℕ) (d : Block) → k < length blocks → j < 64 → get_or (joined blocks) (k * 64 + j) 0 ≡ get_or (get_or blocks k d).words j 0
+pub at-joined : (blocks : List Block) → AreWhole blocks → (k j : ℕ) (d : Block) → k < length blocks → j < 64 → get_or (joined blocks) (k * 64 + j) 0 ≡ get_or (get_or blocks k d).halves j 0
 at-joined [] h k j d l m = absurd (omega arith)
 at-joined (b ∷ bs) h zero j d l m =
     let e : 0 * 64 + j ≡ j = omega arith in
-    let n : length b.words ≡ 64 = All-head IsWhole b bs h in
-    rw e (get_or_append_left b.words (joined bs) 0 j (omega arith))
+    let n : length b.halves ≡ 64 = All-head IsWhole b bs h in
+    rw e (get_or_append_left b.halves (joined bs) 0 j (omega arith))
 at-joined (b ∷ bs) h (suc k) j d l m =
-    let n : length b.words ≡ 64 = All-head IsWhole b bs h in
-    let e : suc k * 64 + j ≡ length b.words + (k * 64 + j) = omega arith in
-    rw e (get_or-append-add b.words (joined bs) (k * 64 + j) 0 ∙ at-joined bs (All-tail IsWhole b bs h) k j d (omega arith) m)
+    let n : length b.halves ≡ 64 = All-head IsWhole b bs h in
+    let e : suc k * 64 + j ≡ length b.halves + (k * 64 + j) = omega arith in
+    rw e (get_or-append-add b.halves (joined bs) (k * 64 + j) 0 ∙ at-joined bs (All-tail IsWhole b bs h) k j d (omega arith) m)
 
 -- what a write in a block is in the list
-pub set-joined : (blocks : List Block) → AreWhole blocks → (k j v : ℕ) (d : Block) → k < length blocks → j < 64 → joined (set blocks k (record { words = set (get_or blocks k d).words j v })) ≡ set (joined blocks) (k * 64 + j) v
+pub set-joined : (blocks : List Block) → AreWhole blocks → (k j v : ℕ) (d : Block) → k < length blocks → j < 64 → joined (set blocks k (record { halves = set (get_or blocks k d).halves j v })) ≡ set (joined blocks) (k * 64 + j) v
 set-joined [] h k j v d l m = absurd (omega arith)
 set-joined (b ∷ bs) h zero j v d l m =
     let e : 0 * 64 + j ≡ j = omega arith in
-    let n : length b.words ≡ 64 = All-head IsWhole b bs h in
-    rw e (sym (set-append_left b.words (joined bs) j v (omega arith)))
+    let n : length b.halves ≡ 64 = All-head IsWhole b bs h in
+    rw e (sym (set-append_left b.halves (joined bs) j v (omega arith)))
 set-joined (b ∷ bs) h (suc k) j v d l m =
-    let n : length b.words ≡ 64 = All-head IsWhole b bs h in
+    let n : length b.halves ≡ 64 = All-head IsWhole b bs h in
     let e : suc k * 64 + j - 64 ≡ k * 64 + j = omega arith in
-    ap (λ ws. b.words ++ ws) (set-joined bs (All-tail IsWhole b bs h) k j v d (omega arith) m ∙ ap (λ i. set (joined bs) i v) (sym e))
-    ∙ sym (set-append_right b.words (joined bs) 64 (suc k * 64 + j) v n (omega arith))
+    ap (λ ws. b.halves ++ ws) (set-joined bs (All-tail IsWhole b bs h) k j v d (omega arith) m ∙ ap (λ i. set (joined bs) i v) (sym e))
+    ∙ sym (set-append_right b.halves (joined bs) 64 (suc k * 64 + j) v n (omega arith))
 
 -- the numbers of blocks of zeros
 zeros-joined : (n : ℕ) → joined (replicate n zeros) ≡ replicate (n * 64) 0
@@ -55,15 +55,15 @@ module _ (blocks : List Block) (whole : AreWhole blocks) (i : ℕ) (within : i <
   block_below = div_below i 64 (length blocks) (omega arith) (omega (arith, length-joined blocks whole))
 
   -- the number at an index
-  pub at-index : (b : Block) → b ≡ get_or blocks (i / 64) b → get_or b.words (i % 64) 0 ≡ get_or (joined blocks) i 0
+  pub at-index : (b : Block) → b ≡ get_or blocks (i / 64) b → get_or b.halves (i % 64) 0 ≡ get_or (joined blocks) i 0
   at-index b e =
-      ap (λ (c : Block). get_or c.words (i % 64) 0) e ∙ sym (at-joined blocks whole (i / 64) (i % 64) b block_below (mod_below i 64 (omega arith)))
+      ap (λ (c : Block). get_or c.halves (i % 64) 0) e ∙ sym (at-joined blocks whole (i / 64) (i % 64) b block_below (mod_below i 64 (omega arith)))
       ∙ ap (λ k. get_or (joined blocks) k 0) (div-add-mod' i 64)
 
   -- the list once the number at an index was written
-  pub set-index : (v : ℕ) (b : Block) → b ≡ get_or blocks (i / 64) b → joined (set blocks (i / 64) (record { words = set b.words (i % 64) v })) ≡ set (joined blocks) i v
+  pub set-index : (v : ℕ) (b : Block) → b ≡ get_or blocks (i / 64) b → joined (set blocks (i / 64) (record { halves = set b.halves (i % 64) v })) ≡ set (joined blocks) i v
   set-index v b e =
-      ap (λ (c : Block). joined (set blocks (i / 64) (record { words = set c.words (i % 64) v }))) e
+      ap (λ (c : Block). joined (set blocks (i / 64) (record { halves = set c.halves (i % 64) v }))) e
       ∙ set-joined blocks whole (i / 64) (i % 64) v b block_below (mod_below i 64 (omega arith))
       ∙ ap (λ k. set (joined blocks) k v) (div-add-mod' i 64)
 
@@ -75,7 +75,7 @@ module _ (old new : List Block) (count : ℕ) (a : AddsZeros old new count) wher
   -- the list then
   pub joined-more : joined new ≡ joined old ++ replicate ((length new - length old) * 64) 0
   joined-more =
-      ap joined a.added ∙ flat_map-append (λ (b : Block). b.words) old (replicate (length new - length old) zeros)
+      ap joined a.added ∙ flat_map-append (λ (b : Block). b.halves) old (replicate (length new - length old) zeros)
       ∙ ap (λ ws. joined old ++ ws) (zeros-joined (length new - length old))
 
   -- its new numbers are zeros

@@ -7,4 +7,5 @@ pub mod Dense
 pub mod DenseLends
 pub mod Table
 pub mod TableLends
+pub mod Halves
 pub mod Words

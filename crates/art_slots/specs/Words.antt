@@ -1,21 +1,12 @@
--- How a list of numbers lies in blocks.
-use Rattle.std.specs.Prelude.{◌≡◌, ◌≤◌, ◌+◌, ◌-◌, ℕ, List, ◌++◌, length, replicate, flat_map, All}
-use Rattle.art_slots.specs.declared.words.Block.{Block}
+-- The numbers of which two lists have the low and the high halves.
+use Rattle.std.specs.Prelude.{◌≤◌, ◌+◌, ◌*◌, ◌^◌, ◌⊎◌, ℕ, List, [], ◌∷◌, length}
 
--- the numbers of blocks, in order
-abbrev pub joined : List Block → List ℕ
-joined blocks = flat_map (λ b. b.words) blocks
+-- the numbers with these low and high halves; a number with no high half is its low half
+abbrev pub numbers : List ℕ → List ℕ → List ℕ
+numbers [] high = []
+numbers (l ∷ low) [] = l ∷ low
+numbers (l ∷ low) (h ∷ high) = (l + h * 2 ^ 32) ∷ numbers low high
 
--- the block has 64 numbers
-abbrev pub IsWhole : Block → Type 0
-IsWhole block = length block.words ≡ 64
-
--- every block has 64 numbers
-abbrev pub AreWhole : List Block → Type 0
-AreWhole blocks = All IsWhole blocks
-
--- there are up to `count` more blocks, of zeros, after the others
-pub record AddsZeros (old new : List Block) (count : ℕ) : Type 0 where
-  pub added : new ≡ old ++ replicate (length new - length old) (record { words = replicate 64 0 })
-  pub grows : length old ≤ length new
-  pub most : length new ≤ length old + count
+-- each number has a high half if there are more than 2^32 of them
+abbrev pub HasHighHalves : List ℕ → List ℕ → Type 0
+HasHighHalves low high = (length low ≤ 2 ^ 32) ⊎ (length low ≤ length high)

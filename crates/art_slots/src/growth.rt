@@ -6,13 +6,13 @@ use slab::Slab;
 use std::alloc::AllocError;
 
 /// A slab that grows gets room for one more value per `GROWTH` values at least.
-const GROWTH: usize = 8;
+const GROWTH: usize = 4;
 
 /// A slab that grows gets room for this number of values more at least.
 const LEAST: usize = 4;
 
 /// Makes room for `more` more values. A slab that grows by itself doubles its memory, and up to
-/// half of it is not used. Here it grows by an eighth of its values, or by `LEAST` values, if that
+/// half of it is not used. Here it grows by a quarter of its values, or by `LEAST` values, if that
 /// is enough. If values come one at a time, each is moved a bounded number of times on average.
 pub(crate) fn make_room<T>(slab: &mut Slab<T>, more: usize) -> Result<(), AllocError>
     ensures room { OnOk result (HasRoomFor slab.new more) }

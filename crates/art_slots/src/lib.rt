@@ -8,6 +8,7 @@
 mod cell_id;
 mod dense;
 mod growth;
+mod halves;
 mod slots;
 mod store;
 mod table;

@@ -4,10 +4,11 @@ ghost use Rattle.std.specs.Prelude.{◌<◌};
 
 use crate::cell_id::CellId;
 use crate::dense::Dense;
+use crate::halves::{Block, Halves};
 use crate::slots::{Slot, Slots};
 use crate::store::Store;
 use crate::table::{Cell, Table};
-use crate::words::{Block, Words};
+use crate::words::Words;
 use std::process::Abort;
 
 type Key = [u8; 3];
@@ -76,11 +77,11 @@ fn a_store_taken_apart(rt: HostRuntime) {
 }
 
 /// Returns the number at a place of a block.
-fn word_at(block: &Block, place: usize) -> usize
+fn half_at(block: &Block, place: usize) -> u32
     requires { place < 64 }
 {
-    let Block { words } = block;
-    words[place]
+    let Block { halves } = block;
+    halves[place]
 }
 
 #[test]
@@ -91,13 +92,30 @@ fn words_taken_apart(rt: HostRuntime) {
         assert!(rt; i < words.len());
         words.write(i, i);
     }
-    let Words { blocks } = words;
+    let Words { low, high } = words;
+    assert!(rt; high.len() == 0);
+    let Halves { blocks } = low;
     let Dense { slab } = blocks;
     assert!(rt; slab.len() == 16);
     for place in 0..1024 {
-        let word = word_at(slab.get(place / 64).expect(&rt, "a block"), place % 64);
-        assert!(rt; word == if place < 1000 { place } else { 0 });
+        let half = half_at(slab.get(place / 64).expect(&rt, "a block"), place % 64);
+        assert!(rt; half as usize == if place < 1000 { place } else { 0 });
     }
+}
+
+#[test]
+fn numbers_of_two_halves(rt: HostRuntime) {
+    let mut low = Halves::new(rt.alloc());
+    low.grow(1).expect(&rt, "memory");
+    let mut high = Halves::new(rt.alloc());
+    high.grow(1).expect(&rt, "memory");
+    assert!(rt; high.len() == 64);
+    high.write(3, 2);
+    let mut words = Words { low, high };
+    assert!(rt; words.len() == 64);
+    assert!(rt; words.read(3) == 2 << 32 && words.read(4) == 0);
+    words.write(3, 5);
+    assert!(rt; words.read(3) == 5);
 }
 
 #[test]

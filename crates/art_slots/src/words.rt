@@ -1,52 +1,38 @@
-//! A list of numbers, in blocks.
-ghost use Rattle.std.specs.Prelude.{◌≡◌, ◌+◌, ◌-◌, ◌^◌, ◌<◌, ◌≤◌, [], ◌++◌, length, take, replicate, slice_index_or, slice_set, OnOk, OnErr, IfOk};
-ghost use Rattle.art_slots.specs.Words.{AddsZeros};
+//! A list of numbers that are less than its length.
+ghost use Rattle.std.specs.Prelude.{◌≡◌, ◌^◌, ◌<◌, ◌≤◌, [], length, take, slice_index_or, slice_set, OnOk, OnErr, IfOk};
 
-use crate::dense::Dense;
+use crate::halves::{BLOCK, Halves};
 use std::alloc::{AllocError, Global};
 use std::marker::Model;
 
-/// The number of numbers in a block.
-const BLOCK: usize = 64;
+/// A number has a low half below this and a high half.
+const RADIX: usize = 1 << 32;
 
-/// The most numbers that a list has: whole blocks, and fewer than 2^61 numbers.
-const MOST: usize = (1 << 61) - BLOCK;
+/// The most blocks of numbers that need no high halves.
+const LOW_BLOCKS: usize = RADIX / BLOCK;
 
-/// Numbers that follow one another.
-#[derive(Drop)]
-pub(crate) struct Block {
-    pub(crate) words: [usize; BLOCK],
-}
-
-impl Clone for Block {
-    ghost use Rattle.std.specs.Prelude.{◌≡◌};
-
-    ghost is_clone = { λ block copy. copy ≡ block };
-
-    fn clone(&self) -> Result<Self, AllocError> {
-        Ok(Block { words: self.words })
-    }
-}
-
-/// A list of numbers, with 8 bytes for each. A contract sees the list.
+/// A list of numbers that are less than its length, with 4 bytes for each number while there are at
+/// most 2^32, and 8 bytes from then on. A contract sees the list.
 ///
-/// The numbers lie in blocks of 64, and the blocks in a slab at the keys 0, 1, 2 and so on. No
-/// block is removed until the list is cleared.
+/// The list has no high halves while it is short, so it has no use for a number that is greater.
+/// When it grows beyond 2^32 numbers, their high halves are zeros.
 #[derive(Drop)]
 pub struct Words {
-    pub(crate) blocks: Dense<Block>,
+    pub(crate) low: Halves,
+    /// The high halves of the numbers, if the list is long. A number without one is less than 2^32.
+    pub(crate) high: Halves,
 }
 
 impl Model for Words {
-    ghost use Rattle.std.specs.Prelude.{◌<◌, ◌^◌, ℕ, List, length};
+    ghost use Rattle.std.specs.Prelude.{ℕ, List};
 
     ghost Value = { List ℕ };
 
-    ghost use Rattle.art_slots.specs.Words.{joined, AreWhole};
+    ghost use Rattle.art_slots.specs.Words.{numbers, HasHighHalves};
 
-    ghost view = { λ w. joined w.blocks.items };
+    ghost view = { λ w. numbers w.low w.high };
 
-    ghost invariant = { λ w. AreWhole w.blocks.items × (length w.blocks.items < 2 ^ 55) };
+    ghost invariant = { λ w. HasHighHalves w.low w.high };
 }
 
 impl Words {
@@ -55,16 +41,18 @@ impl Words {
         ensures { result ≡ [] }
     {
         Words {
-            blocks: Dense::new(alloc),
+            low: Halves::new(alloc),
+            high: Halves::new(alloc),
         }
     }
 
     /// Returns the length.
+    #[inline(always)]
     pub fn len(&self) -> usize
         ensures len { result ≡ length self.now }
         ensures small { result < 2 ^ 61 }
     {
-        self.blocks.len() * BLOCK
+        self.low.len()
     }
 
     /// Returns the number at an index.
@@ -73,37 +61,45 @@ impl Words {
         requires { i < length self.now }
         ensures { result ≡ slice_index_or self.now i 0 }
     {
-        self.blocks.read(i / BLOCK).words[i % BLOCK]
+        let low = self.low.read(i) as usize;
+        if i < self.high.len() {
+            low + self.high.read(i) as usize * RADIX
+        } else {
+            low
+        }
     }
 
-    /// Writes a number at an index.
+    /// Writes a number that is less than the length at an index.
     #[inline(always)]
     pub fn write(&mut self, i: usize, word: usize)
-        requires { i < length self.old }
+        requires within { i < length self.old }
+        requires small { word < length self.old }
         ensures { self.new ≡ slice_set self.old i word }
     {
-        self.blocks.get_mut(i / BLOCK).words[i % BLOCK] = word;
+        if i < self.high.len() {
+            self.low.write(i, (word % RADIX) as u32);
+            self.high.write(i, (word / RADIX) as u32);
+        } else {
+            self.low.write(i, word as u32);
+        }
     }
 
-    /// Adds zeros to the list until it has at least `count` numbers. Returns an error if it fails
-    /// to allocate. The numbers are unchanged in both cases.
+    /// Adds numbers to the list until it has at least `count`. Returns an error if it fails to
+    /// allocate. The numbers that the list had are unchanged in both cases.
     pub fn grow(&mut self, count: usize) -> Result<(), AllocError>
         ensures same { take (length self.old) self.new ≡ self.old }
-        ensures zeros { self.new ≡ self.old ++ replicate (length self.new - length self.old) 0 }
         ensures grows { length self.old ≤ length self.new }
         ensures enough { OnOk result (count ≤ length self.new) }
         ensures needed { OnErr result (length self.old < count) }
     {
-        let len = self.len();
-        if count <= len {
+        if count <= self.len() {
             return Ok(());
         }
-        if count > MOST {
-            return Err(AllocError);
+        let blocks = (count - 1) / BLOCK + 1;
+        if blocks > LOW_BLOCKS {
+            self.high.grow(blocks)?;
         }
-        let missing = (count - len - 1) / BLOCK + 1;
-        self.blocks.reserve(missing)?;
-        add_zeros(&mut self.blocks, missing)
+        self.low.grow(blocks)
     }
 
     /// Returns a copy, or an error if it fails to allocate.
@@ -111,7 +107,8 @@ impl Words {
         ensures { IfOk result (λ copy. copy ≡ self.now) }
     {
         Ok(Words {
-            blocks: self.blocks.clone()?,
+            low: self.low.clone()?,
+            high: self.high.clone()?,
         })
     }
 
@@ -119,22 +116,7 @@ impl Words {
     pub fn clear(&mut self)
         ensures { self.new ≡ [] }
     {
-        self.blocks.clear();
+        self.low.clear();
+        self.high.clear();
     }
-}
-
-/// Adds `count` blocks of zeros in reserved memory. Each block's key is the number of blocks before
-/// it. If the slab's next key is another number, returns an allocation error and adds no more.
-fn add_zeros(blocks: &mut Dense<Block>, count: usize) -> Result<(), AllocError>
-    requires { length blocks.old.items + count ≤ blocks.old.capacity }
-    ensures adds { AddsZeros blocks.old.items blocks.new.items count }
-    ensures all { OnOk result (length blocks.new.items ≡ length blocks.old.items + count) }
-{
-    for _ in 0..count {
-        if !blocks.has_next() {
-            return Err(AllocError);
-        }
-        blocks.push_reserved(Block { words: [0; BLOCK] });
-    }
-    Ok(())
 }

@@ -1,36 +1,46 @@
-use Rattle.std.proofs.Common.{◌≡◌, ◌*◌, length, ap, sym, ◌∙◌, subst, arith}
+use Rattle.std.proofs.Common.{◌≡◌, length, take, ap, sym, ◌∙◌, arith}
+use Rattle.std.proofs.Math.Seq.{take-length}
 use Rattle.std.proofs.lemmas.Result.{on_ok_weaker}
-use Rattle.art_slots.specs.Words.{joined, AreWhole}
-use Rattle.art_slots.proofs.Blocks.{length-joined, whole-more, zeros-more}
+use Rattle.art_slots.specs.Words.{numbers}
+use Rattle.art_slots.proofs.Numbers.{length-numbers, zeros-high, take-numbers}
+use Rattle.art_slots.proofs.words.Words.grow.Goals.{then-blocks-gt-LOW_BLOCKS+in_ok-grow, else-blocks-gt-LOW_BLOCKS}
 use Rattle.art_slots.proofs.words.Words.grow.Goals as goal
 
--- the blocks are whole once memory is reserved
-whole : (c : goal.After-add_zeros) → AreWhole c.reserve.new.self.items
-whole c = subst AreWhole (sym c.in_ok-reserve.ensures.items) c.self.invariant.0
+-- the numbers are unchanged if zeros were added to the high halves and that failed
+unchanged : (c : goal.After-from_residual) → numbers c.self.inside.low c.grow.new.self ≡ c.args.self.now
+unchanged c =
+    ap (numbers c.self.inside.low) c.grow.ensures.zeros ∙ zeros-high c.self.inside.low c.self.inside.high _ ∙ c.self.view_is
 
--- the list is unchanged then
-same : (c : goal.After-add_zeros) → joined c.reserve.new.self.items ≡ c.args.self.now
-same c = ap joined c.in_ok-reserve.ensures.items ∙ c.self.view_is
+pub returns-in_err-grow-clause-same : goal.returns-in_err-grow-clause-same
+returns-in_err-grow-clause-same c = rw (unchanged c) (take-length c.args.self.now)
 
--- and so is its length
-long : (c : goal.After-add_zeros) → length c.reserve.new.self.items * 64 ≡ c.len-len.result
-long c = sym (length-joined _ (whole c)) ∙ ap length (same c) ∙ sym c.len-len.ensures.len
+pub returns-in_err-grow-clause-grows : goal.returns-in_err-grow-clause-grows
+returns-in_err-grow-clause-grows c = rw (unchanged c) (omega arith)
 
-pub invariant_of-self-2 : goal.invariant_of-self-2
-invariant_of-self-2 c =
-    let a = c.add_zeros.ensures.adds in
-    let m = a.most in
-    let l = long c in
-    let f = c.if-count-len.false in
-    let g = c.if-count-gt-MOST.false in
-    (whole-more _ _ _ a (whole c), omega arith)
+-- the numbers before the low halves grow
+kept : (c : goal.After-grow-2) → numbers c.if-blocks-gt-LOW_BLOCKS.self-inside.low c.if-blocks-gt-LOW_BLOCKS.self-inside.high ≡ c.args.self.now
+kept c = elim c.if-blocks-gt-LOW_BLOCKS.branch [
+  | then-blocks-gt-LOW_BLOCKS+in_ok-grow w ↦ rw w.self-inside-is (ap (numbers c.self.inside.low) w.grow.ensures.zeros ∙ zeros-high c.self.inside.low c.self.inside.high _ ∙ c.self.view_is)
+  | else-blocks-gt-LOW_BLOCKS w ↦ rw w.self-inside-is c.self.view_is
+]
 
-pub returns-clause-zeros : goal.returns-clause-zeros
-returns-clause-zeros c = rw (← same c) (zeros-more _ _ _ c.add_zeros.ensures.adds)
+-- there are as many low halves as numbers
+long : (c : goal.After-grow-2) → length c.if-blocks-gt-LOW_BLOCKS.self-inside.low ≡ length c.args.self.now
+long c = sym (length-numbers c.if-blocks-gt-LOW_BLOCKS.self-inside.low c.if-blocks-gt-LOW_BLOCKS.self-inside.high) ∙ ap length (kept c)
+
+pub returns-clause-same : goal.returns-clause-same
+returns-clause-same c =
+    let low = c.if-blocks-gt-LOW_BLOCKS.self-inside.low in
+    let high = c.if-blocks-gt-LOW_BLOCKS.self-inside.high in
+    ap (λ n. take n (numbers c.grow-2.new.self high)) (sym (long c))
+    ∙ ap (λ ls. take (length low) (numbers ls high)) c.grow-2.ensures.zeros ∙ take-numbers low _ high ∙ kept c
+
+pub returns-clause-grows : goal.returns-clause-grows
+returns-clause-grows c =
+    omega (arith, long c, c.grow-2.ensures.grows, length-numbers c.grow-2.new.self c.if-blocks-gt-LOW_BLOCKS.self-inside.high)
 
 pub returns-clause-enough : goal.returns-clause-enough
 returns-clause-enough c =
-    let l = long c in
+    let n = length-numbers c.grow-2.new.self c.if-blocks-gt-LOW_BLOCKS.self-inside.high in
     let f = c.if-count-len.false in
-    let n = length-joined _ (whole-more _ _ _ c.add_zeros.ensures.adds (whole c)) in
-    on_ok_weaker c.add_zeros.result (λ e. omega arith) c.add_zeros.ensures.all
+    on_ok_weaker c.grow-2.result (λ e. omega arith) c.grow-2.ensures.enough

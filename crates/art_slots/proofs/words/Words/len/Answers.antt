@@ -1,6 +1,6 @@
-use Rattle.std.proofs.Common.{ap, sym, ◌∙◌, ◌*◌}
-use Rattle.art_slots.proofs.Blocks.{length-joined}
+use Rattle.std.proofs.Common.{sym, ◌∙◌}
+use Rattle.art_slots.proofs.Numbers.{length-numbers}
 use Rattle.art_slots.proofs.words.Words.len.Goals as goal
 
 pub returns-clause-len : goal.returns-clause-len
-returns-clause-len c = rw (← c.self.view_is) (ap (λ n. n * 64) c.len.ensures ∙ sym (length-joined c.self.inside.blocks.items c.self.invariant.0))
+returns-clause-len c = rw (← c.self.view_is) (c.len.ensures.len ∙ sym (length-numbers c.self.inside.low c.self.inside.high))

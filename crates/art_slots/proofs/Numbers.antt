@@ -1,0 +1,58 @@
+-- Numbers in low and high halves: what a read, a write and a longer list are in the numbers.
+use Rattle.std.proofs.Common.{◌≡◌, ℕ, zero, suc, ◌+◌, ◌*◌, ◌^◌, ◌<◌, ◌≤◌, List, [], ◌∷◌, ◌++◌, length, take, get_or, set, replicate, refl, ap, arith}
+use Rattle.std.proofs.Math.Seq.{take-append_seam}
+use Rattle.art_slots.specs.Words.{numbers}
+
+-- there are as many numbers as low halves
+pub length-numbers : (low high : List ℕ) → length (numbers low high) ≡ length low
+length-numbers [] high = refl
+length-numbers (l ∷ low) [] = refl
+length-numbers (l ∷ low) (h ∷ high) = ap suc (length-numbers low high)
+
+-- a number with no high half
+pub at-low : (low high : List ℕ) (i : ℕ) → length high ≤ i → get_or (numbers low high) i 0 ≡ get_or low i 0
+at-low [] high i p = refl
+at-low (l ∷ low) [] i p = refl
+at-low (l ∷ low) (h ∷ high) zero p = absurd (omega arith)
+at-low (l ∷ low) (h ∷ high) (suc i) p = at-low low high i (omega arith)
+
+-- a number with two halves
+pub at-both : (low high : List ℕ) (i : ℕ) → i < length low → i < length high → get_or (numbers low high) i 0 ≡ get_or low i 0 + get_or high i 0 * 2 ^ 32
+at-both [] high i p q = absurd (omega arith)
+at-both (l ∷ low) [] i p q = absurd (omega arith)
+at-both (l ∷ low) (h ∷ high) zero p q = refl
+at-both (l ∷ low) (h ∷ high) (suc i) p q = at-both low high i (omega arith) (omega arith)
+
+-- a low half alone is written
+pub set-low : (low high : List ℕ) (i a : ℕ) → length high ≤ i → numbers (set low i a) high ≡ set (numbers low high) i a
+set-low [] high i a p = refl
+set-low (l ∷ low) [] zero a p = refl
+set-low (l ∷ low) [] (suc i) a p = refl
+set-low (l ∷ low) (h ∷ high) zero a p = absurd (omega arith)
+set-low (l ∷ low) (h ∷ high) (suc i) a p = ap (λ ns. (l + h * 2 ^ 32) ∷ ns) (set-low low high i a (omega arith))
+
+-- both halves are written
+pub set-both : (low high : List ℕ) (i a b : ℕ) → i < length high → numbers (set low i a) (set high i b) ≡ set (numbers low high) i (a + b * 2 ^ 32)
+set-both [] high i a b p = refl
+set-both (l ∷ low) [] i a b p = absurd (omega arith)
+set-both (l ∷ low) (h ∷ high) zero a b p = refl
+set-both (l ∷ low) (h ∷ high) (suc i) a b p = ap (λ ns. (l + h * 2 ^ 32) ∷ ns) (set-both low high i a b (omega arith))
+
+-- high halves that are zeros change no number
+none-high : (low : List ℕ) (n : ℕ) → numbers low (replicate n 0) ≡ low
+none-high [] n = refl
+none-high (l ∷ low) zero = refl
+none-high (l ∷ low) (suc n) =
+    let e : l + 0 * 2 ^ 32 ≡ l = omega arith in
+    rw (e, none-high low n) refl
+
+pub zeros-high : (low high : List ℕ) (n : ℕ) → numbers low (high ++ replicate n 0) ≡ numbers low high
+zeros-high [] high n = refl
+zeros-high (l ∷ low) [] n = none-high (l ∷ low) n
+zeros-high (l ∷ low) (h ∷ high) n = ap (λ ns. (l + h * 2 ^ 32) ∷ ns) (zeros-high low high n)
+
+-- more low halves leave the numbers before them
+pub take-numbers : (low more high : List ℕ) → take (length low) (numbers (low ++ more) high) ≡ numbers low high
+take-numbers [] more high = refl
+take-numbers (l ∷ low) more [] = ap (λ ns. l ∷ ns) (take-append_seam low more)
+take-numbers (l ∷ low) more (h ∷ high) = ap (λ ns. (l + h * 2 ^ 32) ∷ ns) (take-numbers low more high)
