@@ -1,6 +1,13 @@
 //! What stands where a request for memory was refused.
 //!
-//! Each test passes wherever in it one request is refused, and a test that meets the refusal writes the line `refused`. `tools/refusals` refuses the first request of each, then the second, and so on, until none meets it.
+//! Each test passes wherever in it one request is refused, and from wherever in it all requests are
+//! refused. It writes the line `refused` for each call that was. `tools/refusals` refuses the first
+//! request of each test alone, then the second, and so on, until none meets it; and then all requests
+//! from the first on, all from the second on, and so on.
+//!
+//! Where a test makes a refused call again, or asks for memory of its own, the remarks `Refusals pause.`
+//! and `Refusals resume.` stand around that. For the runs with all requests from one on refused the tool
+//! puts calls in their places. Elsewhere a test is right whatever is refused.
 
 mod closures;
 mod cursors;
@@ -21,7 +28,7 @@ fn key_of(place: usize) -> [u8; 2] {
     KEYS[place % 5]
 }
 
-// Says that a request was refused.
+// Says that a call was refused.
 fn say_refused(rt: &impl Print) {
     let _ = println!(rt; "refused");
 }

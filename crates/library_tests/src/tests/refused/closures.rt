@@ -94,13 +94,17 @@ fn assert_runs(
     put
 }
 
-// In an empty map, where the leaf asks for memory, and beside a pair, where the inner node does; at stored bytes the closure does not run.
+// In an empty map, where the leaf asks for memory, and beside a pair, where the inner node does. Then
+// each again, with memory for what was refused; at stored bytes the closure does not run.
 fn assert_both(rt: &(impl Abort + Print), map: &mut Map, way: Way, of_key: bool) {
     let first = assert_runs(rt, map, way, of_key, [1, 7]);
     let second = assert_runs(rt, map, way, of_key, [1, 9]);
-    assert!(rt; first || second);
     assert!(rt; map.inner_nodes() == (first && second) as usize);
+    // Refusals pause.
     assert!(rt; assert_runs(rt, map, way, of_key, [1, 7]));
+    assert!(rt; assert_runs(rt, map, way, of_key, [1, 9]));
+    // Refusals resume.
+    assert!(rt; map.inner_nodes() == 1);
 }
 
 // Each way, in a map of its own.

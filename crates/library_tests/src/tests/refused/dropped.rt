@@ -76,7 +76,9 @@ fn three_values<'a>(rt: &(impl Abort + AllocGlobal + Print), drops: &'a Cell<usi
     for key in KEYS {
         if !puts(&mut map, Way::Insert, key, drops) {
             say_refused(rt);
+            // Refusals pause.
             assert!(rt; puts(&mut map, Way::Insert, key, drops));
+            // Refusals resume.
         }
     }
     map

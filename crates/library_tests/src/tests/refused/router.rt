@@ -20,9 +20,11 @@ fn assert_mounted(rt: &impl Abort, mounts: &Mounts<usize>, count: usize) {
 
 // Mounts the path of a place, which is related to no other. Answers whether there was memory for the path and its mount.
 fn puts(rt: &impl AllocGlobal, mounts: &mut Mounts<usize>, over: bool, place: usize) -> bool {
+    // Refusals pause.
     let Ok(path) = Vec::from_slice(rt.alloc(), &PATHS[place % 3]) else {
         return false;
     };
+    // Refusals resume.
     if over {
         mounts.mount_over(path, place).is_ok()
     } else {
@@ -40,7 +42,9 @@ fn mount_next(
     if !puts(rt, mounts, over, place) {
         say_refused(rt);
         assert_mounted(rt, mounts, place);
+        // Refusals pause.
         assert!(rt; puts(rt, mounts, over, place));
+        // Refusals resume.
     }
     assert_mounted(rt, mounts, place.wrapping_add(1));
 }

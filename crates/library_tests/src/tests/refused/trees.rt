@@ -32,7 +32,9 @@ fn room_at(rt: &(impl Abort + Print), tree: &mut Keys, point: &Point, count: usi
     }
     say_refused(rt);
     assert_keys(rt, tree, count, nodes);
-    tree.make_room(point).expect(rt, "one request is refused");
+    // Refusals pause.
+    tree.make_room(point).expect(rt, "no request is refused");
+    // Refusals resume.
 }
 
 // Places the key that comes next, at the point that was found before room was made.
@@ -59,7 +61,9 @@ fn make_room_and_reserve(rt: HostRuntime) {
     if tree.reserve(100).is_err() {
         say_refused(&rt);
         assert_keys(&rt, &tree, 5, 2);
-        tree.reserve(100).expect(&rt, "one request is refused");
+        // Refusals pause.
+        tree.reserve(100).expect(&rt, "no request is refused");
+        // Refusals resume.
     }
     assert_keys(&rt, &tree, 5, 2);
     drop(tree);
