@@ -10,7 +10,7 @@ use Rattle.art_slots.specs.Store.{Store, slot_at, used_count, with_record}
 use Rattle.art_kinds.specs.declared.records.ids.Child.{Child}
 use Rattle.art_kinds.specs.declared.records.ids.Kind.{Kind}
 use Rattle.art_kinds.specs.declared.records.ids.Kind.TheVariants.{Four, Sixteen, FortyEight, Full}
-use Rattle.art_kinds.specs.declared.records.ids.NodeId.TheInside.{Inside}
+use Rattle.art_kinds.specs.declared.records.ids.Parts.{Parts}
 use Rattle.art_slots.proofs.StoreSlots.{one, with-now, with-others, with-count, sum-least}
 use Rattle.art_kinds.proofs.Rooms.{grown-change, serves-grown, serves-less}
 use Rattle.art_kinds.proofs.Growing.{freed-spares}
@@ -166,7 +166,7 @@ module _ (s t : Nodes) (d i : ℕ) (l : d < 4) (same : (j : ℕ) → j < 4 → j
       ]
 
 -- the place of a number
-pub place_of : (w : Inside) (n : ℕ) → number w ≡ n → n / 4 ≡ w.place
+pub place_of : (w : Parts) (n : ℕ) → number w ≡ n → n / 4 ≡ w.place
 place_of w n e =
     let l : digit w.kind < 4 = digit-lt w.kind in
     let z : 4 * w.place + digit w.kind ≡ n = e in
@@ -177,7 +177,7 @@ pub such : {X : Type 0} → (R : X → Type 0) (o : Option X) (x : X) → o ≡ 
 such R o x e h = subst (λ t. IsSomeAnd t R) (sym e) h
 
 -- a number of a kind
-module _ (w : Inside) {n : ℕ} (e : number w ≡ n) {K : Kind} (k : w.kind ≡ K) where
+module _ (w : Parts) {n : ℕ} (e : number w ≡ n) {K : Kind} (k : w.kind ≡ K) where
   -- its digit is that of the kind
   pub digit_of : n % 4 ≡ digit K
   digit_of =
@@ -191,7 +191,7 @@ module _ (w : Inside) {n : ℕ} (e : number w ≡ n) {K : Kind} (k : w.kind ≡ 
   found_in v = ap (λ j. slot_at (store_of v j) (n / 4)) digit_of ∙ ap (slot_at (store_of v (digit K))) (place_of w n e)
 
 -- a number of a kind, in nodes that a contract sees
-module _ {s v : Nodes} (f : s ≡ v) (w : Inside) {n : ℕ} (e : number w ≡ n) {K : Kind} (k : w.kind ≡ K) where
+module _ {s v : Nodes} (f : s ≡ v) (w : Parts) {n : ℕ} (e : number w ≡ n) {K : Kind} (k : w.kind ≡ K) where
   -- what stands under it
   pub found_at : at v n ≡ slot_at (store_of s (digit K)) w.place
   found_at = sym (ap (λ (t : Nodes). at t n) f) ∙ found_in w e k s
@@ -360,7 +360,7 @@ limit FortyEight = Some 48
 limit Full = None
 
 -- a node that has a place has one for an edge more
-pub room_of : {s v : Nodes} → s ≡ v → (w : Inside) {n : ℕ} → number w ≡ n → {K : Kind} → w.kind ≡ K
+pub room_of : {s v : Nodes} → s ≡ v → (w : Parts) {n : ℕ} → number w ≡ n → {K : Kind} → w.kind ≡ K
     → (b : ℕ) → IsSomeAnd (at v n) (λ x. child_at x.edges b ≡ None) → HasPlace v n
     → IsSomeAnd (slot_at (store_of s (digit K)) w.place) (λ x. FitsIn (limit K) (length x.edges + 1))
 room_of {s} {v} f w {n} e {K} k b some h = by_node (at v n) refl some
@@ -391,6 +391,6 @@ pub small_in : {P : ℕ} {l : Option ℕ} {a : Store Node} → IsOneKind P l a �
 small_in {P} {l} {a} v i R h = small_live v i (some_such R (slot_at a i) h)
 
 -- and it is in the store of its kind
-pub found_small : {s v : Nodes} (f : s ≡ v) (w : Inside) {n : ℕ} (e : number w ≡ n) {K : Kind} (k : w.kind ≡ K) {P : ℕ} {l : Option ℕ} → IsOneKind P l (store_of s (digit K)) → (R : Node → Type 0) → IsSomeAnd (at v n) R
+pub found_small : {s v : Nodes} (f : s ≡ v) (w : Parts) {n : ℕ} (e : number w ≡ n) {K : Kind} (k : w.kind ≡ K) {P : ℕ} {l : Option ℕ} → IsOneKind P l (store_of s (digit K)) → (R : Node → Type 0) → IsSomeAnd (at v n) R
     → (P < 2 ^ 62) × IsSomeAnd (slot_at (store_of s (digit K)) w.place) R
 found_small f w e k v R h = let there = holds_at f w e k (λ (o : Option Node). IsSomeAnd o R) h in (small_in v w.place R there, there)

@@ -44,11 +44,10 @@ module _ {s v : Nodes} (f : s ≡ v) (K L : Kind) (off : digit K ≢ digit L) {a
   others_entered k far = ap (λ (t : Store Node). slot_at t k) entered ∙ g.others k far
 
   -- it has another number, and the others stand
-  pub renamed : {n : ℕ} → n ≡ 4 * i + digit K → Renames (at v) (at (put (put s K a) L b)) n (4 * j + digit L)
-  renamed {n} e =
+  pub renamed : {n m : ℕ} → n ≡ 4 * i + digit K → m ≡ 4 * j + digit L → Renames (at v) (at (put (put s K a) L b)) n m
+  renamed {n} {m} e q =
       let lk = digit-lt K in
       let ll = digit-lt L in
-      let m = 4 * j + digit L in
       let c = moves s (put (put s K a) L b) (digit K) (digit L) i j x rest was gone others_left g.fresh is others_entered in
       let r : Renames (at s) (at (put (put s K a) L b)) n m = c n m (omega arith) (omega arith) (omega arith) (omega arith) in
       subst (λ (z : Nodes). Renames (at z) (at (put (put s K a) L b)) n m) f r
@@ -62,10 +61,10 @@ module _ {s v : Nodes} (f : s ≡ v) (K L : Kind) (off : digit K ≢ digit L) {a
       l ∙ ap (λ (z : Nodes). live z) f
 
   -- it has a place for one edge more, where the kind has
-  pub renamed-place : (digit L < 3 → length x.edges < places (digit L)) → HasPlace (put (put s K a) L b) (4 * j + digit L)
-  renamed-place few =
+  pub renamed-place : {m : ℕ} → m ≡ 4 * j + digit L → (digit L < 3 → length x.edges < places (digit L)) → HasPlace (put (put s K a) L b) m
+  renamed-place {m} q few =
       let ll = digit-lt L in
-      has_place (put (put s K a) L b) (4 * j + digit L) (digit L) j x (omega arith) (omega arith) is few
+      has_place (put (put s K a) L b) m (digit L) j x (omega arith) (omega arith) is few
 
   -- it moves to the next kind, of which one figure falls by one
   pub renamed-lowers : digit L ≡ suc (digit K) → length x.edges ≡ places (digit K) → Lowers (digit L) v (put (put s K a) L b)
@@ -171,7 +170,8 @@ numbered v K i R h =
     subst IsSome (sym (at_is v (4 * i + digit K) (digit K) i (omega arith) (omega arith))) (some_such R (slot_at (store_of v (digit K)) i) h)
 
 -- where the nodes stand, a node of a kind keeps its number
-pub keeps_kind : (v t : Nodes) → SameNodes v t → (K : Kind) (i : ℕ) → IsSome (slot_at (store_of v (digit K)) i) → Renames (at v) (at t) (4 * i + digit K) (4 * i + digit K)
-keeps_kind v t same K i h =
+pub keeps_kind : (v t : Nodes) → SameNodes v t → (K : Kind) (i : ℕ) {m : ℕ} → m ≡ 4 * i + digit K → IsSome (slot_at (store_of v (digit K)) i) → Renames (at v) (at t) (4 * i + digit K) m
+keeps_kind v t same K i e h =
     let l = digit-lt K in
-    keeps_number same (4 * i + digit K) (subst IsSome (sym (at_is v (4 * i + digit K) (digit K) i (omega arith) (omega arith))) h)
+    subst (λ m. Renames (at v) (at t) (4 * i + digit K) m) (sym e) (
+    keeps_number same (4 * i + digit K) (subst IsSome (sym (at_is v (4 * i + digit K) (digit K) i (omega arith) (omega arith))) h))

@@ -149,8 +149,10 @@ paired [] cs = []
 paired (b ∷ bs) [] = []
 paired (b ∷ bs) (c ∷ cs) = record { byte = b; to = c } ∷ paired bs cs
 
--- the first `count` bytes and children of two arrays are used, and the bytes ascend
+-- the first `count` bytes and children of two arrays are used, the bytes ascend, and a byte can
+-- hold the count
 pub record IsFew (count room : ℕ) (bytes : List ℕ) (children : List Child) : Type 0 where
   pub sorted : Sorted count room (paired bytes children)
   pub wide : length bytes ≡ room
   pub long : length children ≡ room
+  pub fits : room < 256

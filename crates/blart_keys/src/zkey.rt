@@ -6,7 +6,8 @@ ghost use Rattle.blart_keys.specs.Keys.{AreBytes, EndsInZero};
 ghost use Rattle.blart_keys.specs.KeyLaws.{zero_no_fronts};
 
 use crate::traits::{AsBytes, NoPrefixesBytes, OrderedBytes};
-use std::alloc::Global;
+use std::alloc::{AllocError, Global};
+use std::clone::Clone;
 use thiserror::Error;
 
 /// An error in the making of a [`ZKey`].
@@ -33,6 +34,7 @@ pub enum ZKeyError {
 /// let key = ZKey::from_bytes(alloc, b"ab")?;
 /// assert_eq!(key.as_bytes(), b"ab\0".as_slice());
 /// assert_eq!(key.to_bytes(), b"ab".as_slice());
+/// assert_eq!(key.clone()?.to_bytes(), b"ab".as_slice());
 /// ```
 #[derive(Debug, PartialEq, Eq, PartialOrd, Ord, Hash, Drop)]
 pub struct ZKey {
@@ -76,6 +78,19 @@ impl ZKey {
     {
         let all = self.bytes.as_slice();
         &all[..all.len() - 1]
+    }
+}
+
+impl Clone for ZKey {
+    ghost use Rattle.blart_keys.specs.KeyBytes.{zkey_bytes};
+
+    ghost is_clone = { λ key copy. zkey_bytes copy ≡ zkey_bytes key };
+
+    /// Returns a key with the same bytes, or an error if it fails to allocate.
+    fn clone(&self) -> Result<ZKey, AllocError> {
+        Ok(ZKey {
+            bytes: self.bytes.clone()?,
+        })
     }
 }
 

@@ -7,11 +7,12 @@ use crate::records::indexed::Indexed;
 use crate::records::link::Link;
 use std::marker::Model;
 
-/// Up to `N` edges of a node. A contract sees the edges in ascending order of their bytes.
+/// Up to `N` edges of a node. `N` is less than 256, so a byte holds the number of edges. A contract
+/// sees the edges in ascending order of their bytes.
 #[derive(Drop)]
 pub(crate) struct Few<const N: usize> {
     /// The number of edges.
-    pub(super) count: usize,
+    pub(super) count: u8,
     /// The bytes of the edges in ascending order. Those after the first `count` have no meaning.
     pub(super) bytes: [u8; N],
     /// The children of the edges, each at the place of its byte.
@@ -42,7 +43,7 @@ impl<const N: usize> Few<N> {
         ensures few { result ≤ N }
     {
         let _children: &[Link; N] = &self.children;
-        self.count
+        self.count as usize
     }
 
     /// Returns the child of the edge at a byte, if there is one.
@@ -50,8 +51,8 @@ impl<const N: usize> Few<N> {
         ensures { result ≡ child_at self.now byte }
     {
         find_in(
-            &self.bytes[..self.count],
-            &self.children[..self.count],
+            &self.bytes[..self.count as usize],
+            &self.children[..self.count as usize],
             byte,
         )
     }
@@ -72,7 +73,7 @@ impl<const N: usize> Few<N> {
         requires { 0 < length self.now }
         ensures { IsEnd false self.now result }
     {
-        let last = self.count - 1;
+        let last = self.count as usize - 1;
         Edge {
             byte: self.bytes[last],
             to: self.children[last].child(),
@@ -84,8 +85,8 @@ impl<const N: usize> Few<N> {
         ensures { IsNext self.now byte result }
     {
         after_in(
-            &self.bytes[..self.count],
-            &self.children[..self.count],
+            &self.bytes[..self.count as usize],
+            &self.children[..self.count as usize],
             byte,
         )
     }
@@ -95,15 +96,16 @@ impl<const N: usize> Few<N> {
         ensures { IsPrevious self.now byte result }
     {
         before_in(
-            &self.bytes[..self.count],
-            &self.children[..self.count],
+            &self.bytes[..self.count as usize],
+            &self.children[..self.count as usize],
             byte,
         )
     }
 
     /// Returns the same edges with room for `N` of them, in place of `M`.
     pub(crate) fn of_few<const M: usize>(few: &Few<M>) -> Self
-        requires { length few.now ≤ N }
+        requires fits { N < 256 }
+        requires few { length few.now ≤ N }
         ensures { result ≡ few.now }
     {
         // The count says how many places are used, and that these are at most `M`.
@@ -117,7 +119,7 @@ impl<const N: usize> Few<N> {
             &few.children[..count],
         );
         Few {
-            count,
+            count: count as u8,
             bytes,
             children,
         }
@@ -132,7 +134,7 @@ impl<const N: usize> Few<N> {
         insert_in(
             &mut self.bytes,
             &mut self.children,
-            self.count,
+            self.count as usize,
             byte,
             Link::of(to),
         );
@@ -144,7 +146,12 @@ impl<const N: usize> Few<N> {
         requires { IsSome (child_at self.old byte) }
         ensures { DropsChild self.old self.new byte }
     {
-        remove_in(&mut self.bytes, &mut self.children, self.count, byte);
+        remove_in(
+            &mut self.bytes,
+            &mut self.children,
+            self.count as usize,
+            byte,
+        );
         self.count -= 1;
     }
 
@@ -156,7 +163,7 @@ impl<const N: usize> Few<N> {
         redirect_in(
             &self.bytes,
             &mut self.children,
-            self.count,
+            self.count as usize,
             byte,
             Link::of(to),
         );

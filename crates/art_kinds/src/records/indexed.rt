@@ -46,7 +46,7 @@ impl Indexed {
             index: [48; 256],
             children: [Link::none(); 48],
         };
-        for i in 0..sixteen.count {
+        for i in 0..sixteen.count as usize {
             edges.insert(sixteen.bytes[i], sixteen.children[i].child());
         }
         edges

@@ -1,8 +1,7 @@
 //! A child in one word.
-ghost use Rattle.std.specs.Prelude.{◌≡◌, ◌%◌, Some, None};
-ghost use Rattle.art_kinds.specs.Numbers.{kind_of as kind_spec};
+ghost use Rattle.std.specs.Prelude.{◌≡◌, Some, None};
 
-use crate::records::ids::{Child, Kind, NodeId};
+use crate::records::ids::{Child, NodeId};
 use art_slots::CellId;
 use std::marker::Model;
 
@@ -34,6 +33,7 @@ impl Model for Link {
 
 impl Link {
     /// Returns the link to a child.
+    #[inline(always)]
     pub(crate) fn of(child: Child) -> Self
         ensures { result ≡ child }
     {
@@ -41,17 +41,9 @@ impl Link {
             Child::Leaf(id) => Link {
                 word: id.number() * 8,
             },
-            Child::Inner(id) => {
-                let digit = match id.kind {
-                    Kind::Four => 1,
-                    Kind::Sixteen => 2,
-                    Kind::FortyEight => 3,
-                    Kind::Full => 4,
-                };
-                Link {
-                    word: id.place * 8 + digit,
-                }
-            }
+            Child::Inner(id) => Link {
+                word: id.number / 4 * 8 + id.number % 4 + 1,
+            },
         }
     }
 
@@ -61,6 +53,7 @@ impl Link {
     }
 
     /// Returns the child.
+    #[inline(always)]
     pub(crate) fn child(self) -> Child
         ensures { result ≡ self }
     {
@@ -70,8 +63,7 @@ impl Link {
             return Child::Leaf(CellId::new(number));
         }
         Child::Inner(NodeId {
-            kind: kind_of(digit - 1),
-            place: number,
+            number: number * 4 + digit - 1,
         })
     }
 }
@@ -105,6 +97,7 @@ impl Model for OptionLink {
 
 impl OptionLink {
     /// Returns the link to a child.
+    #[inline(always)]
     pub(crate) fn of(child: Child) -> Self
         ensures { result ≡ Some child }
     {
@@ -122,6 +115,7 @@ impl OptionLink {
     }
 
     /// Returns the child, if there is one.
+    #[inline(always)]
     pub(crate) fn child(self) -> Option<Child>
         ensures { result ≡ self }
     {
@@ -132,17 +126,5 @@ impl OptionLink {
             word: self.word - 1,
         };
         Some(link.child())
-    }
-}
-
-/// Returns the kind with the number `digit % 4`. The kinds have the numbers 0 to 3 by size.
-fn kind_of(digit: usize) -> Kind
-    ensures { result ≡ kind_spec (digit % 4) }
-{
-    match digit % 4 {
-        0 => Kind::Four,
-        1 => Kind::Sixteen,
-        2 => Kind::FortyEight,
-        _ => Kind::Full,
     }
 }

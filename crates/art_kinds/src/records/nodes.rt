@@ -238,11 +238,12 @@ impl<const P: usize> Nodes<P> {
     pub fn has(&self, id: NodeId) -> bool
         ensures { result ≡ is_some (at self.now id) }
     {
-        match id.kind {
-            Kind::Four => self.fours.has(id.place),
-            Kind::Sixteen => self.sixteens.has(id.place),
-            Kind::FortyEight => self.forty_eights.has(id.place),
-            Kind::Full => self.fulls.has(id.place),
+        let parts = id.parts();
+        match parts.kind {
+            Kind::Four => self.fours.has(parts.place),
+            Kind::Sixteen => self.sixteens.has(parts.place),
+            Kind::FortyEight => self.forty_eights.has(parts.place),
+            Kind::Full => self.fulls.has(parts.place),
         }
     }
 
@@ -265,9 +266,10 @@ impl<const P: usize> Nodes<P> {
         requires { IsSome (at self.now id) }
         ensures value { at self.now id ≡ Some result }
     {
-        match id.kind {
+        let parts = id.parts();
+        match parts.kind {
             Kind::Four => {
-                let record = self.fours.read(id.place);
+                let record = self.fours.read(parts.place);
                 NodeRef {
                     depth: record.depth,
                     used: record.used,
@@ -276,7 +278,7 @@ impl<const P: usize> Nodes<P> {
                 }
             }
             Kind::Sixteen => {
-                let record = self.sixteens.read(id.place);
+                let record = self.sixteens.read(parts.place);
                 NodeRef {
                     depth: record.depth,
                     used: record.used,
@@ -285,7 +287,7 @@ impl<const P: usize> Nodes<P> {
                 }
             }
             Kind::FortyEight => {
-                let record = self.forty_eights.read(id.place);
+                let record = self.forty_eights.read(parts.place);
                 NodeRef {
                     depth: record.depth,
                     used: record.used,
@@ -294,7 +296,7 @@ impl<const P: usize> Nodes<P> {
                 }
             }
             Kind::Full => {
-                let record = self.fulls.read(id.place);
+                let record = self.fulls.read(parts.place);
                 NodeRef {
                     depth: record.depth,
                     used: record.used,
@@ -313,11 +315,12 @@ impl<const P: usize> Nodes<P> {
         ensures spares { Lowers (id % 4 + 1) self.old self.new }
         ensures live { live self.new ≡ live self.old }
     {
-        match id.kind {
-            Kind::Four => inner::add_edge(&mut self.fours, id.place, byte, to),
-            Kind::Sixteen => inner::add_edge(&mut self.sixteens, id.place, byte, to),
-            Kind::FortyEight => inner::add_edge(&mut self.forty_eights, id.place, byte, to),
-            Kind::Full => inner::add_edge(&mut self.fulls, id.place, byte, to),
+        let parts = id.parts();
+        match parts.kind {
+            Kind::Four => inner::add_edge(&mut self.fours, parts.place, byte, to),
+            Kind::Sixteen => inner::add_edge(&mut self.sixteens, parts.place, byte, to),
+            Kind::FortyEight => inner::add_edge(&mut self.forty_eights, parts.place, byte, to),
+            Kind::Full => inner::add_edge(&mut self.fulls, parts.place, byte, to),
         }
     }
 
@@ -328,11 +331,12 @@ impl<const P: usize> Nodes<P> {
         ensures spares { SameSpares self.old self.new }
         ensures live { live self.new ≡ live self.old }
     {
-        match id.kind {
-            Kind::Four => inner::redirect(&mut self.fours, id.place, byte, to),
-            Kind::Sixteen => inner::redirect(&mut self.sixteens, id.place, byte, to),
-            Kind::FortyEight => inner::redirect(&mut self.forty_eights, id.place, byte, to),
-            Kind::Full => inner::redirect(&mut self.fulls, id.place, byte, to),
+        let parts = id.parts();
+        match parts.kind {
+            Kind::Four => inner::redirect(&mut self.fours, parts.place, byte, to),
+            Kind::Sixteen => inner::redirect(&mut self.sixteens, parts.place, byte, to),
+            Kind::FortyEight => inner::redirect(&mut self.forty_eights, parts.place, byte, to),
+            Kind::Full => inner::redirect(&mut self.fulls, parts.place, byte, to),
         }
     }
 
@@ -343,11 +347,12 @@ impl<const P: usize> Nodes<P> {
         ensures spares { MoreSpares self.old self.new }
         ensures live { live self.new ≡ live self.old }
     {
-        match id.kind {
-            Kind::Four => inner::remove_edge(&mut self.fours, id.place, byte),
-            Kind::Sixteen => inner::remove_edge(&mut self.sixteens, id.place, byte),
-            Kind::FortyEight => inner::remove_edge(&mut self.forty_eights, id.place, byte),
-            Kind::Full => inner::remove_edge(&mut self.fulls, id.place, byte),
+        let parts = id.parts();
+        match parts.kind {
+            Kind::Four => inner::remove_edge(&mut self.fours, parts.place, byte),
+            Kind::Sixteen => inner::remove_edge(&mut self.sixteens, parts.place, byte),
+            Kind::FortyEight => inner::remove_edge(&mut self.forty_eights, parts.place, byte),
+            Kind::Full => inner::remove_edge(&mut self.fulls, parts.place, byte),
         }
     }
 
@@ -360,11 +365,12 @@ impl<const P: usize> Nodes<P> {
         ensures live { live self.new + 1 ≡ live self.old }
         ensures spares { MoreSpares self.old self.new }
     {
-        match id.kind {
-            Kind::Four => self.fours.remove(id.place),
-            Kind::Sixteen => self.sixteens.remove(id.place),
-            Kind::FortyEight => self.forty_eights.remove(id.place),
-            Kind::Full => self.fulls.remove(id.place),
+        let parts = id.parts();
+        match parts.kind {
+            Kind::Four => self.fours.remove(parts.place),
+            Kind::Sixteen => self.sixteens.remove(parts.place),
+            Kind::FortyEight => self.forty_eights.remove(parts.place),
+            Kind::Full => self.fulls.remove(parts.place),
         }
     }
 
@@ -381,10 +387,7 @@ impl<const P: usize> Nodes<P> {
     {
         let fours = &mut self.fours;
         let node = Inner::new(depth, prefix, Few::pair(low, high));
-        NodeId {
-            kind: Kind::Four,
-            place: fours.fill(node),
-        }
+        NodeId::of(Kind::Four, fours.fill(node))
     }
 
     /// Moves a full node of the kind of 4 to the kind of 16, and returns the number that it has
@@ -403,10 +406,7 @@ impl<const P: usize> Nodes<P> {
         let four = self.fours.take(place);
         let edges = Few::of_few(&four.edges);
         let at = self.sixteens.fill(four.with_edges(edges));
-        NodeId {
-            kind: Kind::Sixteen,
-            place: at,
-        }
+        NodeId::of(Kind::Sixteen, at)
     }
 
     /// Moves a full node of the kind of 16 to the kind of 48, and returns the number that it has
@@ -425,10 +425,7 @@ impl<const P: usize> Nodes<P> {
         let sixteen = self.sixteens.take(place);
         let edges = Indexed::of_sixteen(&sixteen.edges);
         let at = self.forty_eights.fill(sixteen.with_edges(edges));
-        NodeId {
-            kind: Kind::FortyEight,
-            place: at,
-        }
+        NodeId::of(Kind::FortyEight, at)
     }
 
     /// Moves a full node of the kind of 48 to the kind of 256, and returns the number that it has
@@ -447,10 +444,7 @@ impl<const P: usize> Nodes<P> {
         let indexed = self.forty_eights.take(place);
         let edges = Full::of_indexed(&indexed.edges);
         let at = self.fulls.fill(indexed.with_edges(edges));
-        NodeId {
-            kind: Kind::Full,
-            place: at,
-        }
+        NodeId::of(Kind::Full, at)
     }
 
     /// Makes sure that a node has a place for one more edge, and returns the number that it has
@@ -463,26 +457,27 @@ impl<const P: usize> Nodes<P> {
         ensures live { live self.new ≡ live self.old }
         ensures spares { Lowers (result % 4) self.old self.new }
     {
-        match id.kind {
+        let parts = id.parts();
+        match parts.kind {
             Kind::Four => {
-                if inner::count(&self.fours, id.place) < 4 {
+                if inner::count(&self.fours, parts.place) < 4 {
                     id
                 } else {
-                    self.grow_four(id.place)
+                    self.grow_four(parts.place)
                 }
             }
             Kind::Sixteen => {
-                if inner::count(&self.sixteens, id.place) < 16 {
+                if inner::count(&self.sixteens, parts.place) < 16 {
                     id
                 } else {
-                    self.grow_sixteen(id.place)
+                    self.grow_sixteen(parts.place)
                 }
             }
             Kind::FortyEight => {
-                if inner::count(&self.forty_eights, id.place) < 48 {
+                if inner::count(&self.forty_eights, parts.place) < 48 {
                     id
                 } else {
-                    self.grow_forty_eight(id.place)
+                    self.grow_forty_eight(parts.place)
                 }
             }
             Kind::Full => id,
@@ -555,18 +550,12 @@ impl<const P: usize> Nodes<P> {
         ensures kind { result % 4 ≤ 1 }
         ensures live { live self.new ≡ live self.old }
     {
-        let kept = NodeId {
-            kind: Kind::Sixteen,
-            place,
-        };
+        let kept = NodeId::of(Kind::Sixteen, place);
         if inner::count(&self.sixteens, place) > 4 {
             return kept;
         }
         match self.shrink_sixteen(place) {
-            Ok(at) => NodeId {
-                kind: Kind::Four,
-                place: at,
-            },
+            Ok(at) => NodeId::of(Kind::Four, at),
             Err(_) => kept,
         }
     }
@@ -580,10 +569,7 @@ impl<const P: usize> Nodes<P> {
         ensures kind { result % 4 ≤ 2 }
         ensures live { live self.new ≡ live self.old }
     {
-        let kept = NodeId {
-            kind: Kind::FortyEight,
-            place,
-        };
+        let kept = NodeId::of(Kind::FortyEight, place);
         if inner::count(&self.forty_eights, place) > 16 {
             return kept;
         }
@@ -601,10 +587,7 @@ impl<const P: usize> Nodes<P> {
         ensures narrow { IsNarrow self.old self.new result }
         ensures live { live self.new ≡ live self.old }
     {
-        let kept = NodeId {
-            kind: Kind::Full,
-            place,
-        };
+        let kept = NodeId::of(Kind::Full, place);
         if inner::count(&self.fulls, place) > 48 {
             return kept;
         }
@@ -625,11 +608,12 @@ impl<const P: usize> Nodes<P> {
         ensures narrow { IsNarrow self.old self.new result }
         ensures live { live self.new ≡ live self.old }
     {
-        match id.kind {
+        let parts = id.parts();
+        match parts.kind {
             Kind::Four => id,
-            Kind::Sixteen => self.narrow_sixteen(id.place),
-            Kind::FortyEight => self.narrow_forty_eight(id.place),
-            Kind::Full => self.narrow_full(id.place),
+            Kind::Sixteen => self.narrow_sixteen(parts.place),
+            Kind::FortyEight => self.narrow_forty_eight(parts.place),
+            Kind::Full => self.narrow_full(parts.place),
         }
     }
 
@@ -666,11 +650,12 @@ impl<const P: usize> Nodes<P> {
         ensures spares { SameSpares self.old self.new }
         ensures live { live self.new ≡ live self.old }
     {
-        match id.kind {
-            Kind::Four => inner::set_prefix(&mut self.fours, id.place, prefix),
-            Kind::Sixteen => inner::set_prefix(&mut self.sixteens, id.place, prefix),
-            Kind::FortyEight => inner::set_prefix(&mut self.forty_eights, id.place, prefix),
-            Kind::Full => inner::set_prefix(&mut self.fulls, id.place, prefix),
+        let parts = id.parts();
+        match parts.kind {
+            Kind::Four => inner::set_prefix(&mut self.fours, parts.place, prefix),
+            Kind::Sixteen => inner::set_prefix(&mut self.sixteens, parts.place, prefix),
+            Kind::FortyEight => inner::set_prefix(&mut self.forty_eights, parts.place, prefix),
+            Kind::Full => inner::set_prefix(&mut self.fulls, parts.place, prefix),
         }
     }
 

@@ -4,7 +4,7 @@ ghost use Rattle.std.specs.Prelude.{◌<◌, ◌≤◌};
 
 use crate::records::few::Few;
 use crate::records::full::Full;
-use crate::records::ids::{Child, Edge, Kind, NodeId};
+use crate::records::ids::{Child, Edge, NodeId};
 use crate::records::indexed::Indexed;
 use crate::records::inner::Inner;
 use crate::records::link::{Link, OptionLink};
@@ -130,9 +130,9 @@ fn assert_middle(rt: &impl Abort, nodes: &Nodes<0>, word: usize, first: usize) {
 #[test]
 fn nodes_taken_apart(rt: HostRuntime) {
     let mut nodes = Nodes::new(rt.alloc());
-    let NodeId { kind, place } = top_of(&rt, &mut nodes);
-    assert!(rt; kind == Kind::Sixteen);
-    let words = words_of(&rt, &nodes, place.wrapping_mul(8).wrapping_add(2), 0);
+    let NodeId { number } = top_of(&rt, &mut nodes);
+    assert!(rt; number % 4 == 1);
+    let words = words_of(&rt, &nodes, (number / 4).wrapping_mul(8).wrapping_add(2), 0);
     for step in 0..10 {
         assert_middle(&rt, &nodes, words[step], 100 * step);
     }
@@ -202,13 +202,13 @@ fn assert_full(rt: &impl Abort, edges: &Full) {
 fn kinds_taken_apart(rt: HostRuntime) {
     let mut nodes = Nodes::new(rt.alloc());
     let leaves = leaves_from(0);
-    let four = node_of(&rt, &mut nodes, 5, &leaves[..3]);
-    let forty_eight = node_of(&rt, &mut nodes, 5, &leaves[..20]);
-    let full = node_of(&rt, &mut nodes, 5, &leaves[..60]);
-    assert!(rt; nodes.fours.has(four.place) && nodes.fulls.has(full.place));
-    assert!(rt; nodes.forty_eights.has(forty_eight.place) && nodes.live() == 3);
-    assert_four(&rt, &nodes.fours.read(four.place).edges);
-    assert_forty_eight(&rt, &nodes.forty_eights.read(forty_eight.place).edges);
-    assert_full(&rt, &nodes.fulls.read(full.place).edges);
+    let four = node_of(&rt, &mut nodes, 5, &leaves[..3]).parts().place;
+    let forty_eight = node_of(&rt, &mut nodes, 5, &leaves[..20]).parts().place;
+    let full = node_of(&rt, &mut nodes, 5, &leaves[..60]).parts().place;
+    assert!(rt; nodes.fours.has(four) && nodes.fulls.has(full));
+    assert!(rt; nodes.forty_eights.has(forty_eight) && nodes.live() == 3);
+    assert_four(&rt, &nodes.fours.read(four).edges);
+    assert_forty_eight(&rt, &nodes.forty_eights.read(forty_eight).edges);
+    assert_full(&rt, &nodes.fulls.read(full).edges);
     drop(nodes);
 }

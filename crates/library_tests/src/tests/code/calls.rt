@@ -3,6 +3,7 @@ use crate::tests::map_of;
 use blart::{key_text_law, number_text_law};
 use blart_map::{IntoIter, TreeMap};
 use blart_set::TreeSet;
+use std::alloc::AllocError;
 use std::iter::{IntoIterator, Iterator};
 use std::process::Abort;
 
@@ -24,6 +25,19 @@ fn maps_in_loops(rt: HostRuntime) {
     }
     let digits_then = digits_of(map.into_iter());
     assert!(rt; digits == 102 && digits_then == 102);
+}
+
+#[test]
+fn maps_and_sets_collected(rt: HostRuntime) {
+    let map = map_of::<u8, usize, 2>(&rt, &[(5, 0), (3, 1)]);
+    let made: Result<TreeMap<u8, usize, 2>, AllocError> = map.into_iter().collect(rt.alloc());
+    let map = made.expect(&rt, "memory");
+    let is_map = map.len() == 2 && map.get(&3) == Some(&1);
+    let made: Result<TreeSet<u8, 2>, AllocError> = map.into_keys().collect(rt.alloc());
+    let set = made.expect(&rt, "memory");
+    let is_set = set.len() == 2 && set.contains(&5);
+    drop(set);
+    assert!(rt; is_map && is_set);
 }
 
 // A pair is placed and taken back by its entry.

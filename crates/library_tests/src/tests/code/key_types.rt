@@ -79,8 +79,11 @@ fn zkey(rt: &(impl Abort + AllocGlobal), bytes: &[u8]) -> ZKey {
 fn assert_zkey(rt: &(impl Abort + AllocGlobal), bytes: &[u8], with_zero: &[u8]) {
     let key = zkey(rt, bytes);
     let is_right = *key.to_bytes() == *bytes && *key.as_bytes() == *with_zero;
+    let copy = key.clone().expect(rt, "memory");
+    let is_same = copy == key;
+    drop(copy);
     drop(key);
-    assert!(rt; is_right);
+    assert!(rt; is_right && is_same);
 }
 
 #[test]

@@ -16,6 +16,7 @@ invariant_of-self g c =
       sorted = sorted_more i.count g.row.N (paired i.bytes i.children) (paired n.bytes n.children) v.sorted same (edge c.args.byte c.args.to) c.ranges.byte.fits (rw c.self.view_is c.requires.absent) (rw c.of.ensures at c.insert_in.ensures) (omega (arith, u, room));
       wide = c.insert_in.auto.bytes ∙ v.wide;
       long = c.insert_in.auto.children ∙ v.long;
+      fits = v.fits;
     }
 
 pub returns : goal.returns

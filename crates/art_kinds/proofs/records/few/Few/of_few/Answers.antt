@@ -28,13 +28,14 @@ invariant_of-result g c =
     let long : length nc ≡ g.row.N = c.copy_in.auto.children ∙ length-replicate g.row.N c.none-children.result in
     record {
       sorted = record {
-        within = omega (arith, k.ensures.count, c.requires);
+        within = omega (arith, k.ensures.count, c.requires.few);
         long = length-paired nb nc (long ∙ sym wide) ∙ wide;
         ascends = subst (λ (z : List Edge). Ascends z) (sym e) v.sorted.ascends;
         small = λ b l. ap (λ (z : List Edge). child_at z b) e ∙ v.sorted.small b l;
       };
       wide = wide;
       long = long;
+      fits = c.requires.fits;
     }
 
 pub returns : goal.returns

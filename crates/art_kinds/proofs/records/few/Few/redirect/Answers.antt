@@ -14,6 +14,7 @@ invariant_of-self g c =
       sorted = sorted_same i.count g.row.N (paired i.bytes i.children) (paired i.bytes n.children) v.sorted same c.args.byte c.args.to c.ranges.byte.fits (rw c.self.view_is c.requires) (rw c.of.ensures at c.redirect_in.ensures);
       wide = v.wide;
       long = c.redirect_in.auto.children ∙ v.long;
+      fits = v.fits;
     }
 
 pub returns : goal.returns

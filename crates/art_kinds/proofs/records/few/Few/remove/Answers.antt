@@ -14,6 +14,7 @@ invariant_of-self g c =
       sorted = sorted_less i.count g.row.N (paired i.bytes i.children) (paired n.bytes n.children) v.sorted same c.args.byte (rw c.self.view_is c.requires) c.remove_in.ensures;
       wide = c.remove_in.auto.bytes ∙ v.wide;
       long = c.remove_in.auto.children ∙ v.long;
+      fits = v.fits;
     }
 
 pub returns : goal.returns

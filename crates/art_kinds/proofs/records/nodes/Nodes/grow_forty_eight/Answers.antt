@@ -17,8 +17,8 @@ returns g c =
     record { fresh = u.fresh; is = u.now; others = u.others; spare = u.spare; used = u.used } in
     let full = holds_in f FortyEight c.args.place t.value (λ x. length x.edges ≡ 48) c.requires.full in
     record {
-      moved = renamed f FortyEight Full off t.value same left came (omega arith);
-      place = renamed-place f FortyEight Full off t.value same left came (λ _. omega (arith, full));
+      moved = renamed f FortyEight Full off t.value same left came (omega arith) c.of.ensures;
+      place = renamed-place f FortyEight Full off t.value same left came c.of.ensures (λ _. omega (arith, full));
       live = renamed-live f FortyEight Full off t.value same left came;
       kind = omega arith;
       spares = renamed-lowers f FortyEight Full off t.value same left came refl full;

@@ -17,8 +17,8 @@ returns g c =
     record { fresh = u.fresh; is = u.now; others = u.others; spare = u.spare; used = u.used } in
     let full = holds_in f Sixteen c.args.place t.value (λ x. length x.edges ≡ 16) c.requires.full in
     record {
-      moved = renamed f Sixteen FortyEight off t.value same left came (omega arith);
-      place = renamed-place f Sixteen FortyEight off t.value same left came (λ _. omega (arith, full));
+      moved = renamed f Sixteen FortyEight off t.value same left came (omega arith) c.of.ensures;
+      place = renamed-place f Sixteen FortyEight off t.value same left came c.of.ensures (λ _. omega (arith, full));
       live = renamed-live f Sixteen FortyEight off t.value same left came;
       kind = omega arith;
       spares = renamed-lowers f Sixteen FortyEight off t.value same left came refl full;

@@ -4,7 +4,7 @@ use Rattle.art_kinds.proofs.Moving.{keeps_kind}
 use Rattle.art_kinds.proofs.records.nodes.Nodes.narrow_full.Goals as goal
 
 pub returns-then-count-gt48-clause-moved : goal.returns-then-count-gt48-clause-moved
-returns-then-count-gt48-clause-moved g c = keeps_kind c.args.self.now c.args.self.now (λ j. refl) Full c.args.place c.requires.live
+returns-then-count-gt48-clause-moved g c = keeps_kind c.args.self.now c.args.self.now (λ j. refl) Full c.args.place c.of-kept.ensures c.requires.live
 
 pub returns-in-Err-clause-moved : goal.returns-in-Err-clause-moved
-returns-in-Err-clause-moved g c = keeps_kind _ _ c.in-Err.ensures.same Full c.args.place c.requires.live
+returns-in-Err-clause-moved g c = keeps_kind _ _ c.in-Err.ensures.same Full c.args.place c.of-kept.ensures c.requires.live
