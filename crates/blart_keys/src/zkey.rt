@@ -34,7 +34,6 @@ pub enum ZKeyError {
 /// let key = ZKey::from_bytes(alloc, b"ab")?;
 /// assert_eq!(key.as_bytes(), b"ab\0".as_slice());
 /// assert_eq!(key.to_bytes(), b"ab".as_slice());
-/// assert_eq!(key.clone()?.to_bytes(), b"ab".as_slice());
 /// ```
 #[derive(Debug, PartialEq, Eq, PartialOrd, Ord, Hash, Drop)]
 pub struct ZKey {
