@@ -85,7 +85,8 @@ fn insert(map: &mut Pairs, alloc: Global, word: &[u8], value: u64) -> Answer
 
 fn get(map: &Pairs, alloc: Global, word: &[u8]) -> Answer
     ensures { (key : List ℕ) → key_of word.now ≡ Some key
-        → AnswersOrRefuses (content_of map.now) (Get key) (text_of result ∷ []) (content_of map.now) }
+        → AnswersOrRefuses (content_of map.now) (Get key) (text_of result ∷ [])
+        (content_of map.now) }
 {
     match decode_key(alloc, word) {
         Some(key) => value_answer(map.get(&key).copied()),
@@ -172,7 +173,8 @@ fn write_front<W: Write>(
     ensures { (key : List ℕ) → key_of word.now ≡ Some key
         → (text : List ℕ) × AnswersOrRefuses (content_of map.now) (PrefixGet key) (text ∷ [])
         (content_of map.now)
-        × IsSent result (W.contents (watched_inner writer.old)) (W.contents (watched_inner writer.new))
+        × IsSent result (W.contents (watched_inner writer.old))
+        (W.contents (watched_inner writer.new))
         (watched_failed writer.new) (outbox.old ++ ended text) outbox.new }
 {
     match decode_key(alloc, word) {
@@ -191,7 +193,8 @@ fn write_found<W: Write>(
     ensures { IsSent result (W.contents (watched_inner writer.old))
         (W.contents (watched_inner writer.new))
         (watched_failed writer.new) (outbox.old ++ ended
-        (found_text (option_map pair_of (option_map (λ pair. (pair.0.now, pair.1.now)) found.entry))))
+        (found_text (option_map pair_of
+        (option_map (λ pair. (pair.0.now, pair.1.now)) found.entry))))
         outbox.new }
 {
     match found {
@@ -227,7 +230,8 @@ fn write_prefix<W: Write>(
     ensures { (key : List ℕ) → key_of word.now ≡ Some key
         → (lines : List (List ℕ)) × AnswersOrRefuses (content_of map.now) (ListPrefix key) lines
         (content_of map.now)
-        × IsSent result (W.contents (watched_inner writer.old)) (W.contents (watched_inner writer.new))
+        × IsSent result (W.contents (watched_inner writer.old))
+        (W.contents (watched_inner writer.new))
         (watched_failed writer.new) (outbox.old ++ flat_map ended lines) outbox.new }
 {
     match decode_key(alloc, word) {
@@ -249,7 +253,8 @@ fn write_range<W: Write>(
     ensures { (low high : List ℕ) → key_of first.now ≡ Some low → key_of second.now ≡ Some high
         → (lines : List (List ℕ)) × AnswersOrRefuses (content_of map.now) (ListRange low high) lines
         (content_of map.now)
-        × IsSent result (W.contents (watched_inner writer.old)) (W.contents (watched_inner writer.new))
+        × IsSent result (W.contents (watched_inner writer.old))
+        (W.contents (watched_inner writer.new))
         (watched_failed writer.new) (outbox.old ++ flat_map ended lines) outbox.new }
 {
     match decode_both(alloc, first, second) {
@@ -305,8 +310,10 @@ fn write_listing<'a, I: Iterator<Item = (&'a Vec<u8>, &'a u64)> + Drop, W: Write
     requires mark { watched_failed writer.old ≡ false }
     requires can { I.can_next walk }
     requires ends { UpTo (I.remaining walk) (2 ^ 64 - 1) }
-    ensures { (pairs : Stored) → AlwaysYields I.next_gives (λ item. (item.0.now, item.1.now)) walk pairs
-        → IsSent result (W.contents (watched_inner writer.old)) (W.contents (watched_inner writer.new))
+    ensures { (pairs : Stored)
+        → AlwaysYields I.next_gives (λ item. (item.0.now, item.1.now)) walk pairs
+        → IsSent result (W.contents (watched_inner writer.old))
+        (W.contents (watched_inner writer.new))
         (watched_failed writer.new) (outbox.old ++ flat_map ended (listing (by_bytes pairs)))
         outbox.new }
 {

@@ -128,7 +128,8 @@ impl Session {
 // Where the first line feed is.
 fn first_feed(bytes: &[u8]) -> Option<usize>
     ensures { MatchOption result (IsLine bytes.now)
-        (λ at. (at < length bytes.now) × (slice_index bytes.now at ≡ 10) × IsLine (take at bytes.now)) }
+        (λ at. (at < length bytes.now) × (slice_index bytes.now at ≡ 10)
+        × IsLine (take at bytes.now)) }
 {
     for (at, byte) in bytes.iter().enumerate() {
         if *byte == b'\n' {

@@ -11,7 +11,8 @@ use blart_keys::AsBytes;
 
 #[tactic(auto, unfolding(crate::specs::Elements::elements))]
 impl<K: AsBytes + Drop, const PREFIX_LEN: usize> TreeSet<K, PREFIX_LEN> {
-    /// Removes the element with the query's bytes, and tells whether there was one. Takes no memory.
+    /// Removes the element with the query's bytes. Returns `true` if there was one. Does not
+    /// allocate.
     ///
     /// ```
     /// set.try_insert("cat")?;
@@ -30,7 +31,7 @@ impl<K: AsBytes + Drop, const PREFIX_LEN: usize> TreeSet<K, PREFIX_LEN> {
         self.take(query).is_some()
     }
 
-    /// Removes the element with the query's bytes, and gives it. Takes no memory.
+    /// Removes the element with the query's bytes, and returns it. Does not allocate.
     pub fn take<Q: AsBytes>(&mut self, query: &Q) -> Option<K>
         ensures value { result ≡ at K.bytes (elements self.old) (Q.bytes query.now) }
         ensures rest { elements self.new
@@ -43,7 +44,11 @@ impl<K: AsBytes + Drop, const PREFIX_LEN: usize> TreeSet<K, PREFIX_LEN> {
         element_of(self.map.remove_entry(query))
     }
 
-    /// Removes the elements whose bytes begin with these, and answers how many there were; all of them where there are no bytes. Takes no memory. Its cost is that of a few ways down, however many elements go, and beside that of what goes.
+    /// Removes the elements of whose bytes the prefix is a prefix, and returns how many there were.
+    /// If the prefix is empty, these are all elements. Does not allocate.
+    ///
+    /// Cost: a few descents, however many elements are removed, and the drop of the removed
+    /// elements.
     ///
     /// ```
     /// set.try_insert("car")?;
@@ -94,7 +99,7 @@ impl<K: AsBytes + Drop, const PREFIX_LEN: usize> TreeSet<K, PREFIX_LEN> {
         element_of(self.map.pop_last())
     }
 
-    /// Drops every element. Takes no memory.
+    /// Drops every element. Does not allocate.
     pub fn clear(&mut self)
         ensures { elements self.new ≡ [] }
     {
@@ -102,7 +107,7 @@ impl<K: AsBytes + Drop, const PREFIX_LEN: usize> TreeSet<K, PREFIX_LEN> {
     }
 }
 
-// The element of a pair of the map.
+/// Returns the element of a pair of the map.
 pub(crate) fn element_of<K>(pair: Option<(K, ())>) -> Option<K>
     ensures { result ≡ option_map (λ pair. pair.0) pair }
 {

@@ -1,4 +1,4 @@
-//! The elements that a closure picks, taken out one by one.
+//! Removals of the elements for which a closure returns `true`, one by one.
 ghost use Rattle.std.specs.Prelude.{◌≡◌, length, true, None, Some, IfSome};
 ghost use Rattle.std.specs.Iterator.{at_most};
 ghost use Rattle.blart_keys.specs.Bounds.{bound_bytes, CanRange};
@@ -13,7 +13,10 @@ use blart_map::{Cursor, LeafId, Visits};
 use std::iter::{DoubleEndedIterator, Iterator};
 use std::ops::Bound;
 
-/// The elements within two bounds at which a closure answers `true`, taken out of the set one by one, from both ends. The closure is asked once of each element that the walk reaches, before the element is taken out. Dropped, the walk stops where it is, and the elements not reached stay.
+/// An iterator that removes the elements within two bounds for which a closure returns `true`, one
+/// by one, from both ends. The closure is called once for each element that the iterator reaches,
+/// before the element is removed. If the iterator is dropped, the elements that it did not reach
+/// remain in the set.
 ///
 /// ```
 /// // set is {1, 2, 3, 4}
@@ -34,7 +37,9 @@ pub struct ExtractIf<'a, K: AsBytes, F, const PREFIX_LEN: usize> {
 impl<K: AsBytes, const PREFIX_LEN: usize> TreeSet<K, PREFIX_LEN> {
     ghost use Rattle.blart_set.specs.Extracting.{extract_set, extract_pred, extract_left};
 
-    /// A walk that takes out the elements within both bounds at which the closure answers `true`, from both ends. The bounds are in order where the set has elements, as for [`TreeSet::range`]. Takes no memory.
+    /// Returns an iterator that removes the elements within both bounds for which the closure
+    /// returns `true`, from both ends. The bounds must be in order if the set has elements, as for
+    /// [`TreeSet::range`]. Does not allocate.
     ///
     /// ```
     /// let low = "b";
@@ -65,7 +70,7 @@ impl<K: AsBytes, const PREFIX_LEN: usize> TreeSet<K, PREFIX_LEN> {
         }
     }
 
-    // A cursor over the elements within both bounds.
+    /// Returns a cursor over the elements within both bounds.
     pub(crate) fn cursor<Q: AsBytes>(&self, start: Bound<&Q>, end: Bound<&Q>) -> Cursor
         requires { CanRange (elements self.now) (bound_bytes Q.bytes start)
             (bound_bytes Q.bytes end) }
@@ -77,7 +82,7 @@ impl<K: AsBytes, const PREFIX_LEN: usize> TreeSet<K, PREFIX_LEN> {
         self.map.cursor(start, end)
     }
 
-    // Passes the first element that a cursor has left.
+    /// Passes the first element that a cursor has left, and returns the id of its leaf.
     pub(crate) fn step(&self, cursor: &mut Cursor) -> Option<LeafId>
         requires { FitsIn cursor.old self.now }
         ensures fits { FitsIn cursor.new self.now }
@@ -89,7 +94,7 @@ impl<K: AsBytes, const PREFIX_LEN: usize> TreeSet<K, PREFIX_LEN> {
         self.map.step(cursor, &mut Visits::new())
     }
 
-    // Passes the last element that a cursor has left.
+    /// Passes the last element that a cursor has left, and returns the id of its leaf.
     pub(crate) fn step_back(&self, cursor: &mut Cursor) -> Option<LeafId>
         requires { FitsIn cursor.old self.now }
         ensures fits { FitsIn cursor.new self.now }
@@ -101,7 +106,7 @@ impl<K: AsBytes, const PREFIX_LEN: usize> TreeSet<K, PREFIX_LEN> {
         self.map.step_back(cursor, &mut Visits::new())
     }
 
-    // The element of a leaf.
+    /// Returns the element of a leaf.
     pub(crate) fn element(&self, id: LeafId) -> &K
         requires { Has self.now id }
         ensures { leaf_in self.now id ≡ Some (result.now, tt) }
@@ -112,7 +117,7 @@ impl<K: AsBytes, const PREFIX_LEN: usize> TreeSet<K, PREFIX_LEN> {
 
 #[tactic(auto, unfolding(crate::specs::Elements::elements))]
 impl<K: AsBytes + Drop, const PREFIX_LEN: usize> TreeSet<K, PREFIX_LEN> {
-    // Removes the element of a leaf, and gives it.
+    /// Removes the element of a leaf, and returns it.
     pub(crate) fn take_element(&mut self, id: LeafId) -> K
         requires { Has self.old id }
         ensures value { leaf_in self.old id ≡ Some (result, tt) }
@@ -136,7 +141,8 @@ impl<'a, K: AsBytes + Drop, F: FnMut(&K) -> bool + Drop, const PREFIX_LEN: usize
 
     ghost remaining = { λ s. at_most (length (extract_left s)) };
 
-    /// Asks from the first element that is left on, and takes out the first at which the closure answers `true`.
+    /// Calls the closure from the first element that is left on, and removes the first element for
+    /// which it returns `true`.
     fn next(&mut self) -> Option<K> {
         while let Some(id) = self.set.step(&mut self.cursor) {
             if (self.pred)(self.set.element(id)) {
@@ -159,7 +165,8 @@ impl<
 
     ghost next_back_gives = { ExtractsNextBack F.FnMut };
 
-    /// Asks from the last element that is left on, and takes out the first at which the closure answers `true`.
+    /// Calls the closure from the last element that is left on, and removes the first element for
+    /// which it returns `true`.
     fn next_back(&mut self) -> Option<K> {
         while let Some(id) = self.set.step_back(&mut self.cursor) {
             if (self.pred)(self.set.element(id)) {

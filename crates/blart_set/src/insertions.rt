@@ -17,9 +17,11 @@ use std::alloc::AllocError;
 
 #[tactic(auto, unfolding(crate::specs::Elements::elements))]
 impl<K: AsBytes + Drop, const PREFIX_LEN: usize> TreeSet<K, PREFIX_LEN> {
-    /// Adds the element, unless there is one with the same bytes: that one stays, and the one handed in is dropped then. The answer is whether the bytes were new.
+    /// Inserts the element, unless an element with the same bytes is stored. Then that element is
+    /// unchanged, and the one that was handed in is dropped. Returns `true` if the bytes were new.
     ///
-    /// `Prefix` is answered exactly where the element conflicts. `Memory` is answered only where the bytes are new. A refused call leaves the set as it was.
+    /// Returns the error `Prefix` exactly if the element conflicts, and `Memory` only if the bytes
+    /// are new. After an error the set is unchanged.
     ///
     /// ```
     /// assert!(set.try_insert("cat")?);
@@ -45,9 +47,9 @@ impl<K: AsBytes + Drop, const PREFIX_LEN: usize> TreeSet<K, PREFIX_LEN> {
         told(self.map.try_insert(element, ()))
     }
 
-    /// Puts the element in the place of all elements that are related to it.
+    /// Inserts the element, in place of all elements that are related to it.
     ///
-    /// Where there are such elements it takes no memory. An error leaves the set as it was.
+    /// If there are such elements, it does not allocate. After an error the set is unchanged.
     ///
     /// ```
     /// set.try_insert("car")?;
@@ -73,9 +75,11 @@ impl<K: AsBytes + Drop, const PREFIX_LEN: usize> TreeSet<K, PREFIX_LEN> {
 
 #[tactic(auto, unfolding(crate::specs::Elements::elements))]
 impl<K: NoPrefixesBytes + Drop, const PREFIX_LEN: usize> TreeSet<K, PREFIX_LEN> {
-    /// Adds the element, unless there is one with the same bytes: that one stays, and the one handed in is dropped then. The answer is whether the bytes were new. Elements of this type never conflict.
+    /// Inserts the element, unless an element with the same bytes is stored. Then that element is
+    /// unchanged, and the one that was handed in is dropped. Returns `true` if the bytes were new.
+    /// Elements of this type never conflict.
     ///
-    /// An error is answered only where the bytes are new, and leaves the set as it was.
+    /// Returns an error only if the bytes are new. After an error the set is unchanged.
     ///
     /// ```
     /// assert!(set.insert(U32Key::new(258))?);
@@ -98,9 +102,11 @@ impl<K: NoPrefixesBytes + Drop, const PREFIX_LEN: usize> TreeSet<K, PREFIX_LEN> 
         told(self.map.insert(element, ()))
     }
 
-    /// Puts the element in the place of one with the same bytes, which is the answer, or adds it. The new element is always the one that is stored.
+    /// Replaces the element with the same bytes, and returns the old one, or inserts the element if
+    /// there is none. The stored element is always the new one.
     ///
-    /// An error is answered only where the bytes are new, and leaves the set as it was: an element that is there is exchanged in place.
+    /// Returns an error only if the bytes are new, since a stored element is replaced in place.
+    /// After an error the set is unchanged.
     ///
     /// ```
     /// assert_eq!(set.replace(2u8)?, None);
@@ -127,7 +133,7 @@ impl<K: NoPrefixesBytes + Drop, const PREFIX_LEN: usize> TreeSet<K, PREFIX_LEN> 
     }
 }
 
-// Whether the bytes were new, as an insertion into the map tells.
+/// Returns whether the bytes were new, by the result of an insertion into the map.
 pub(crate) fn told<E>(answer: Result<Option<()>, E>) -> Result<bool, E>
     ensures { result ≡ result_map_both is_none (λ e. e) answer }
 {
@@ -137,7 +143,7 @@ pub(crate) fn told<E>(answer: Result<Option<()>, E>) -> Result<bool, E>
     }
 }
 
-// Answers nothing. Its contract says that the element conflicts with none.
+/// Does nothing. Its contract says that the element conflicts with no element.
 pub(crate) fn element_law<K: NoPrefixesBytes + Drop, const P: usize>(
     map: &TreeMap<K, (), P>,
     element: &K,

@@ -1,8 +1,8 @@
 //! A set in the order of its elements' bytes, on an adaptive radix tree.
 //!
 //! A [`TreeSet`] is a map of units. A contract sees it as the map's pairs, each under the number of
-//! its leaf; the clauses of calls speak of `elements set`, the list of the elements. Their bytes
-//! strictly ascend, and no element's bytes begin another's.
+//! its leaf. The clauses of calls use `elements set`, the list of the elements. Their bytes
+//! strictly ascend, and no element's bytes are a prefix of another's.
 #![tactic(auto)]
 
 mod bulk;

@@ -7,9 +7,9 @@ use crate::set::TreeSet;
 use blart_keys::AsBytes;
 
 impl<K: AsBytes, const PREFIX_LEN: usize> TreeSet<K, PREFIX_LEN> {
-    /// Does nothing. Its contract is a law of [`TreeSet::union`]: the union of two sets is the
-    /// difference, the intersection and the difference of the other set, and no element is in two of
-    /// them, since the lengths add up.
+    /// Does nothing. Its contract is a law of [`TreeSet::union`]: the union of two sets has the
+    /// elements of the difference, of the intersection and of the difference of the other set. No
+    /// element is in two of these, since the lengths add up.
     pub fn union_law(&self, other: &Self)
         ensures parts { (U : List K) → IsUnion K.bytes (elements self.now) (elements other.now) U
             → (x : K) → Contains U x
@@ -25,8 +25,8 @@ impl<K: AsBytes, const PREFIX_LEN: usize> TreeSet<K, PREFIX_LEN> {
         other.law();
     }
 
-    /// Does nothing. Its contract is a law of [`TreeSet::symmetric_difference`]: it has as many elements
-    /// as the two differences together.
+    /// Does nothing. Its contract is a law of [`TreeSet::symmetric_difference`]: it has as many
+    /// elements as the two differences together.
     pub fn symmetric_difference_law(&self, other: &Self)
         ensures { (U : List K)
             → IsSymmetricDifference K.bytes (elements self.now) (elements other.now) U

@@ -22,7 +22,7 @@ use crate::set::TreeSet;
 use blart_keys::OrderedBytes;
 
 impl<K: OrderedBytes, const PREFIX_LEN: usize> TreeSet<K, PREFIX_LEN> {
-    // The two sets side by side.
+    /// Returns the two sets side by side.
     fn beside<'a>(&'a self, other: &'a TreeSet<K, PREFIX_LEN>) -> Sides<'a, K, PREFIX_LEN>
         ensures { IsBeginning (elements self.now) (elements other.now) result }
     {
@@ -31,7 +31,11 @@ impl<K: OrderedBytes, const PREFIX_LEN: usize> TreeSet<K, PREFIX_LEN> {
         Sides::new(self.iter(), other.iter())
     }
 
-    /// The elements of this set whose bytes the other lacks, ascending. It walks both sets once, and makes at most as many comparisons as it consumes elements of both.
+    /// Returns an iterator over the elements of this set whose bytes the other lacks, in ascending
+    /// order.
+    ///
+    /// Cost: one pass over both sets, with at most as many comparisons as it consumes elements of
+    /// both.
     ///
     /// ```
     /// // a is {1, 2, 3, 5}, b is {2, 4, 5, 6}
@@ -54,7 +58,11 @@ impl<K: OrderedBytes, const PREFIX_LEN: usize> TreeSet<K, PREFIX_LEN> {
         }
     }
 
-    /// The elements of either set whose bytes the other lacks, ascending. It walks both sets once, and makes at most as many comparisons as it consumes elements of both. It may hold related elements, of one set each.
+    /// Returns an iterator over the elements of either set whose bytes the other lacks, in
+    /// ascending order. Two of them may be related, one of each set.
+    ///
+    /// Cost: one pass over both sets, with at most as many comparisons as it consumes elements of
+    /// both.
     pub fn symmetric_difference<'a>(
         &'a self,
         other: &'a TreeSet<K, PREFIX_LEN>,
@@ -70,7 +78,11 @@ impl<K: OrderedBytes, const PREFIX_LEN: usize> TreeSet<K, PREFIX_LEN> {
         }
     }
 
-    /// The elements of this set whose bytes the other has too, ascending. It walks both sets once, and makes at most as many comparisons as it consumes elements of both.
+    /// Returns an iterator over the elements of this set whose bytes the other has too, in
+    /// ascending order.
+    ///
+    /// Cost: one pass over both sets, with at most as many comparisons as it consumes elements of
+    /// both.
     ///
     /// ```
     /// // a is {1, 2, 3, 5}, b is {2, 4, 5, 6}
@@ -93,7 +105,12 @@ impl<K: OrderedBytes, const PREFIX_LEN: usize> TreeSet<K, PREFIX_LEN> {
         }
     }
 
-    /// The elements of both sets, ascending; where both have the bytes, this set's. It walks both sets once, and makes at most as many comparisons as it consumes elements of both. It may hold related elements, of one set each.
+    /// Returns an iterator over the elements of both sets, in ascending order. If both sets have
+    /// the bytes, it yields this set's element. Two of the elements may be related, one of each
+    /// set.
+    ///
+    /// Cost: one pass over both sets, with at most as many comparisons as it consumes elements of
+    /// both.
     pub fn union<'a>(&'a self, other: &'a TreeSet<K, PREFIX_LEN>) -> Union<'a, K, PREFIX_LEN>
         ensures begins { IsBeginning (elements self.now) (elements other.now) result }
         ensures value { IsUnion K.bytes (elements self.now) (elements other.now)

@@ -27,7 +27,8 @@ impl<'a, 'b, K: OrderedBytes + NoPrefixesBytes + Clone, const PREFIX_LEN: usize>
     ghost bitor_gives = { λ a b r. MakesClones K.bytes K.is_clone elements
         (IsUnion K.bytes (elements a.now) (elements b.now)) r };
 
-    /// A set of clones of the elements of [`TreeSet::union`]. A clone of an element has the same bytes. An error is answered only where either set has an element.
+    /// Returns a set of clones of the elements of [`TreeSet::union`]. A clone of an element has the
+    /// same bytes. Returns an error only if either set has an element.
     ///
     /// ```
     /// // a is {1, 2, 3, 5}, b is {2, 4, 5, 6}
@@ -52,7 +53,8 @@ impl<'a, 'b, K: OrderedBytes + NoPrefixesBytes + Clone, const PREFIX_LEN: usize>
     ghost bitand_gives = { λ a b r. MakesClones K.bytes K.is_clone elements
         (λ U. U ≡ intersection K.bytes (elements a.now) (elements b.now)) r };
 
-    /// A set of clones of the elements of [`TreeSet::intersection`]. A clone of an element has the same bytes. An error is answered only where some bytes are in both sets.
+    /// Returns a set of clones of the elements of [`TreeSet::intersection`]. A clone of an element
+    /// has the same bytes. Returns an error only if some bytes are in both sets.
     fn bitand(
         self,
         other: &'b TreeSet<K, PREFIX_LEN>,
@@ -72,7 +74,9 @@ impl<'a, 'b, K: OrderedBytes + NoPrefixesBytes + Clone, const PREFIX_LEN: usize>
     ghost sub_gives = { λ a b r. MakesClones K.bytes K.is_clone elements
         (λ U. U ≡ difference K.bytes (elements a.now) (elements b.now)) r };
 
-    /// A set of clones of the elements of [`TreeSet::difference`]. A clone of an element has the same bytes. An error is answered only where the right set lacks the bytes of some element of the left one.
+    /// Returns a set of clones of the elements of [`TreeSet::difference`]. A clone of an element
+    /// has the same bytes. Returns an error only if the right set lacks the bytes of some element
+    /// of the left one.
     fn sub(self, other: &'b TreeSet<K, PREFIX_LEN>) -> Result<TreeSet<K, PREFIX_LEN>, AllocError> {
         self.law();
         of_clones(self.alloc, self.difference(other))
@@ -90,7 +94,9 @@ impl<'a, 'b, K: OrderedBytes + NoPrefixesBytes + Clone, const PREFIX_LEN: usize>
     ghost bitxor_gives = { λ a b r. MakesClones K.bytes K.is_clone elements
         (IsSymmetricDifference K.bytes (elements a.now) (elements b.now)) r };
 
-    /// A set of clones of the elements of [`TreeSet::symmetric_difference`]. A clone of an element has the same bytes. An error is answered only where one of the sets has an element whose bytes the other lacks.
+    /// Returns a set of clones of the elements of [`TreeSet::symmetric_difference`]. A clone of an
+    /// element has the same bytes. Returns an error only if one of the sets has an element whose
+    /// bytes the other lacks.
     fn bitxor(
         self,
         other: &'b TreeSet<K, PREFIX_LEN>,
@@ -99,7 +105,7 @@ impl<'a, 'b, K: OrderedBytes + NoPrefixesBytes + Clone, const PREFIX_LEN: usize>
     }
 }
 
-// A set into which clones of the elements that the iterator gives were put, one after another.
+/// Returns a set of clones of the elements that the iterator yields, inserted one after another.
 fn of_clones<'x, K: NoPrefixesBytes + Clone, I: Iterator<Item = &'x K>, const P: usize>(
     alloc: Global,
     items: I,

@@ -1,4 +1,4 @@
-//! How two sets stand to each other.
+//! Comparisons of two sets as sets: disjoint sets, subsets and supersets.
 ghost use Rattle.std.specs.Prelude.{◌≡◌, ◌==◌, length};
 ghost use Rattle.blart_keys.specs.Merges.{intersection, difference};
 ghost use Rattle.blart_set.specs.Elements.{elements};
@@ -8,7 +8,9 @@ use blart_keys::OrderedBytes;
 use std::iter::Iterator;
 
 impl<K: OrderedBytes, const PREFIX_LEN: usize> TreeSet<K, PREFIX_LEN> {
-    /// Whether no bytes are in both sets. It walks both once, and stops at the first that are.
+    /// Returns `true` if no bytes are in both sets.
+    ///
+    /// Cost: one pass over both sets, up to the first bytes that are in both.
     ///
     /// ```
     /// // a is {1, 2, 3}, b is {4, 5, 6}
@@ -21,7 +23,9 @@ impl<K: OrderedBytes, const PREFIX_LEN: usize> TreeSet<K, PREFIX_LEN> {
         self.intersection(other).next().is_none()
     }
 
-    /// Whether the other set has the bytes of each element of this one. It walks both once, and stops at the first that the other lacks.
+    /// Returns `true` if the other set has the bytes of each element of this one.
+    ///
+    /// Cost: one pass over both sets, up to the first element that the other lacks.
     pub fn is_subset(&self, other: &TreeSet<K, PREFIX_LEN>) -> bool
         ensures { result
             ≡ (length (difference K.bytes (elements self.now) (elements other.now)) == 0) }
@@ -29,7 +33,9 @@ impl<K: OrderedBytes, const PREFIX_LEN: usize> TreeSet<K, PREFIX_LEN> {
         self.difference(other).next().is_none()
     }
 
-    /// Whether this set has the bytes of each element of the other. It walks both once, and stops at the first that this set lacks.
+    /// Returns `true` if this set has the bytes of each element of the other.
+    ///
+    /// Cost: one pass over both sets, up to the first element that this set lacks.
     pub fn is_superset(&self, other: &TreeSet<K, PREFIX_LEN>) -> bool
         ensures { result
             ≡ (length (difference K.bytes (elements other.now) (elements self.now)) == 0) }

@@ -1,4 +1,4 @@
-//! Room for some elements that is made beforehand.
+//! Room for some elements, made beforehand.
 ghost use Rattle.std.specs.Prelude.{◌≡◌, ◌+◌, ◌<◌, ◌≤◌, [], true, false, not, length, OnOk, IfOk, OnErr, if◌then◌else◌};
 ghost use Rattle.std.specs.Borrow.{sem};
 ghost use Rattle.blart_keys.specs.Content.{at, conflict, stores, IsPut};
@@ -12,16 +12,16 @@ use blart_keys::{AsBytes, InsertPrefixError, NoPrefixesBytes};
 use blart_map::{PutBack, Room, TreeMap};
 use std::alloc::AllocError;
 
-/// A set with room for some elements, which [`TreeSet::reserve`] makes. Insertions here do not allocate,
-/// so none runs out of memory.
+/// A set with room for some elements, which [`TreeSet::reserve`] makes. Insertions here do not
+/// allocate, so none runs out of memory.
 ///
 /// The room counts down by one if an element is added. It is unchanged if the element's bytes are
 /// stored or it conflicts.
 ///
-/// This value holds the elements, and the set is empty meanwhile. When it is dropped, the set has them
-/// again. If it is forgotten instead, the set stays empty.
+/// This value holds the elements, and the set is empty until it is dropped. Then the set has them
+/// again. If it is forgotten instead, the set remains empty.
 ///
-/// `S` is the set's type, and `R` the type of what holds the elements, as for the map's guard.
+/// `S` is the set's type, and `R` the type that holds the elements, as for the map's guard.
 ///
 /// ```
 /// let mut room = set.reserve(2)?;
@@ -60,10 +60,10 @@ impl<K: AsBytes + Drop, const PREFIX_LEN: usize> TreeSet<K, PREFIX_LEN> {
     ghost use Rattle.blart_set.specs.Elements.{elements};
     ghost use Rattle.blart_set.specs.Reserved.{reserved_set, held_elements, elements_left, rests_if_full};
 
-    /// Makes room for `count` more elements, and returns a guard that fills the set. The set is empty
-    /// until the guard is dropped.
+    /// Makes room for `count` more elements, and returns a guard that fills the set. The set is
+    /// empty until the guard is dropped.
     ///
-    /// If it fails to allocate, the set is unchanged. For no elements it does not allocate.
+    /// If it fails to allocate, the set is unchanged. If `count` is 0, it does not allocate.
     ///
     /// ```
     /// let mut room = set.reserve(2)?;
@@ -110,15 +110,15 @@ impl<'a, K: AsBytes + Drop, const PREFIX_LEN: usize> Reserved<
 > {
     ghost use Rattle.blart_set.specs.Reserved.{reserved_set, held_elements, elements_left, added_new_ok};
 
-    /// Returns for how many elements there is room.
+    /// Returns the number of elements for which there is room.
     pub fn left(&self) -> usize
         ensures { result ≡ elements_left self.now }
     {
         self.room.left()
     }
 
-    /// Inserts the element, like [`TreeSet::try_insert`], if there is room for one. It does not allocate,
-    /// and returns an error only if the element conflicts.
+    /// Inserts the element, like [`TreeSet::try_insert`], if there is room for one. It does not
+    /// allocate, and returns an error only if the element conflicts.
     pub fn try_insert(&mut self, element: K) -> Result<bool, InsertPrefixError>
         requires { 0 < elements_left self.old }
         ensures same_set { (reserved_set self.new).ghost_name
@@ -153,8 +153,8 @@ impl<'a, K: NoPrefixesBytes + Drop, const PREFIX_LEN: usize> Reserved<
 > {
     ghost use Rattle.blart_set.specs.Reserved.{reserved_set, held_elements, elements_left, added_new};
 
-    /// Inserts the element, like [`TreeSet::insert`], if there is room for one. It does not allocate, and
-    /// always succeeds.
+    /// Inserts the element, like [`TreeSet::insert`], if there is room for one. It does not
+    /// allocate, and always succeeds.
     pub fn insert(&mut self, element: K) -> bool
         requires { 0 < elements_left self.old }
         ensures same_set { (reserved_set self.new).ghost_name

@@ -14,7 +14,8 @@ impl<K: AsBytes + Drop, const PREFIX_LEN: usize> TreeSet<K, PREFIX_LEN> {
     ///
     /// The closure is called once for each element, in ascending order of their bytes.
     ///
-    /// Cost: one read of each element, and a removal for each element that goes. It does not allocate.
+    /// Cost: one read of each element, and a removal for each element that is removed. It does not
+    /// allocate.
     ///
     /// ```
     /// set.try_insert("cat")?;
@@ -29,12 +30,14 @@ impl<K: AsBytes + Drop, const PREFIX_LEN: usize> TreeSet<K, PREFIX_LEN> {
         self.retain_by(&mut f)
     }
 
-    /// Retains elements like [`TreeSet::retain`], with a closure that is lent. So the contract also
-    /// says in which state the closure ends: that in which the last of these calls left it.
+    /// Retains elements like [`TreeSet::retain`], by a mutable reference to the closure. So the
+    /// contract also says in which state the closure ends: the state in which the last of these
+    /// calls left it.
     ///
     /// The closure is called once for each element, in ascending order of their bytes.
     ///
-    /// Cost: one read of each element, and a removal for each element that goes. It does not allocate.
+    /// Cost: one read of each element, and a removal for each element that is removed. It does not
+    /// allocate.
     ///
     /// ```
     /// set.try_insert("cat")?;
@@ -49,7 +52,8 @@ impl<K: AsBytes + Drop, const PREFIX_LEN: usize> TreeSet<K, PREFIX_LEN> {
     /// ```
     pub fn retain_by<F: FnMut(&K) -> bool>(&mut self, f: &mut F)
         requires { CallableOnEachElement F.FnMut f.old (elements self.old) }
-        ensures { RetainsBy (AsksElement F.FnMut) (elements self.old) f.old (elements self.new) f.new }
+        ensures { RetainsBy (AsksElement F.FnMut) (elements self.old) f.old
+            (elements self.new) f.new }
     {
         self.law();
         let mut cursor = self.cursor(Bound::<&u8>::Unbounded, Bound::Unbounded);

@@ -1,4 +1,4 @@
-//! The set, and what can be asked of it.
+//! The set, and its calls that read.
 ghost use Rattle.std.specs.Prelude.{◌≡◌, ◌==◌, ◌-◌, [], true, length, slice_get, option_copied, IfSome};
 ghost use Rattle.blart_keys.specs.Bytes.{begins};
 ghost use Rattle.blart_keys.specs.Content.{at, conflict, front_of, stores, IsContent};
@@ -10,9 +10,11 @@ use blart_map::{DEFAULT_PREFIX_LEN, TreeMap};
 use std::alloc::Global;
 use std::marker::Model;
 
-/// Elements in the order of their bytes, none of which begins another's.
+/// Elements in the order of their bytes. No element's bytes are a prefix of another's.
 ///
-/// A byte list is less than another where its byte is less at the first place where they differ, or where it begins the other. Two elements are related if the bytes of one begin those of the other. An element conflicts with a set that has a related one with other bytes.
+/// A byte list is less than another if its byte is less at the first place where they differ, or if
+/// it is a proper prefix of the other. Two elements are related if the bytes of one are a prefix of
+/// the other's. An element conflicts with a set if the set has a related element with other bytes.
 ///
 /// ```
 /// assert!(set.try_insert("cat")?);
@@ -37,7 +39,8 @@ impl<K: AsBytes, const PREFIX_LEN: usize> Model for TreeSet<K, PREFIX_LEN> {
 }
 
 impl<K: AsBytes> TreeSet<K, DEFAULT_PREFIX_LEN> {
-    /// A set with no elements, of which an inner node keeps 16 bytes of its compressed prefix. Takes no memory.
+    /// Returns a set with no elements. An inner node keeps 16 bytes of its compressed prefix. Does
+    /// not allocate.
     pub fn new(alloc: Global) -> Self
         ensures { elements result ≡ [] }
     {
@@ -47,7 +50,7 @@ impl<K: AsBytes> TreeSet<K, DEFAULT_PREFIX_LEN> {
 
 #[tactic(auto, unfolding(crate::specs::Elements::elements))]
 impl<K: AsBytes, const PREFIX_LEN: usize> TreeSet<K, PREFIX_LEN> {
-    /// A set with no elements. Takes no memory.
+    /// Returns a set with no elements. Does not allocate.
     pub fn with_prefix_len(alloc: Global) -> Self
         ensures { elements result ≡ [] }
     {
@@ -57,7 +60,8 @@ impl<K: AsBytes, const PREFIX_LEN: usize> TreeSet<K, PREFIX_LEN> {
         }
     }
 
-    /// Answers nothing. Its contract says what holds of every set: the elements ascend by their bytes, none of which begins another's, and a count of them fits.
+    /// Does nothing. Its contract says what holds of every set: the elements ascend by their bytes,
+    /// no element's bytes are a prefix of another's, and the number of elements fits a `usize`.
     pub fn law(&self)
         ensures content { IsContent K.bytes (elements self.now) }
         ensures fits { CanCount (elements self.now) }
@@ -65,28 +69,28 @@ impl<K: AsBytes, const PREFIX_LEN: usize> TreeSet<K, PREFIX_LEN> {
         self.map.law();
     }
 
-    /// How many elements there are.
+    /// Returns the number of elements.
     pub fn len(&self) -> usize
         ensures { result ≡ length (elements self.now) }
     {
         self.map.len()
     }
 
-    /// Whether there are no elements.
+    /// Returns `true` if there are no elements.
     pub fn is_empty(&self) -> bool
         ensures { result ≡ (length (elements self.now) == 0) }
     {
         self.map.is_empty()
     }
 
-    /// Whether some element has the query's bytes.
+    /// Returns `true` if some element has the query's bytes.
     pub fn contains<Q: AsBytes>(&self, query: &Q) -> bool
         ensures { result ≡ stores K.bytes (elements self.now) (Q.bytes query.now) }
     {
         self.map.contains_key(query)
     }
 
-    /// The element with the query's bytes.
+    /// Returns the element with the query's bytes.
     ///
     /// ```
     /// set.try_insert("cat")?;
@@ -104,7 +108,7 @@ impl<K: AsBytes, const PREFIX_LEN: usize> TreeSet<K, PREFIX_LEN> {
         }
     }
 
-    /// The element whose bytes begin the query's. There is at most one.
+    /// Returns the element whose bytes are a prefix of the query's. There is at most one.
     ///
     /// ```
     /// set.try_insert("/static/")?;
@@ -123,14 +127,15 @@ impl<K: AsBytes, const PREFIX_LEN: usize> TreeSet<K, PREFIX_LEN> {
         }
     }
 
-    /// Whether an insertion of an element with the query's bytes would be refused for a conflict: whether some element is related to them and has other bytes.
+    /// Returns `true` if an element with the query's bytes would conflict: some element is related
+    /// to them and has other bytes.
     pub fn conflicts<Q: AsBytes>(&self, query: &Q) -> bool
         ensures { result ≡ conflict K.bytes (elements self.now) (Q.bytes query.now) }
     {
         self.map.conflicts(query)
     }
 
-    /// The element whose bytes are least.
+    /// Returns the element whose bytes are least.
     pub fn first(&self) -> Option<&K>
         ensures { option_copied result ≡ slice_get (elements self.now) 0 }
     {
@@ -140,7 +145,7 @@ impl<K: AsBytes, const PREFIX_LEN: usize> TreeSet<K, PREFIX_LEN> {
         }
     }
 
-    /// The element whose bytes are greatest.
+    /// Returns the element whose bytes are greatest.
     pub fn last(&self) -> Option<&K>
         ensures { option_copied result
             ≡ slice_get (elements self.now) (length (elements self.now) - 1) }

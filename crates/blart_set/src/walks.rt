@@ -1,4 +1,4 @@
-//! Walks.
+//! Iterators.
 ghost use Rattle.std.specs.Prelude.{◌≡◌};
 ghost use Rattle.std.specs.Iterator.{YieldsFirstRef, YieldsLastRef, item_count};
 ghost use Rattle.blart_keys.specs.Bounds.{bound_bytes, CanRange};
@@ -13,7 +13,8 @@ use std::iter::{DoubleEndedIterator, FusedIterator, IntoIterator, Iterator};
 use std::marker::Model;
 use std::ops::Bound;
 
-/// The elements of a set from both ends, ascending by their bytes. It knows how many are left.
+/// An iterator over the elements of a set from both ends, in ascending order of their bytes. It
+/// knows how many are left.
 ///
 /// ```
 /// // set is {1, 2}
@@ -23,7 +24,8 @@ use std::ops::Bound;
 /// ```
 pub type Iter<'a, K, const PREFIX_LEN: usize> = Keys<'a, K, (), PREFIX_LEN>;
 
-/// The elements of a set by value from both ends, ascending by their bytes. It knows how many are left; what was not taken is freed where the walk is dropped.
+/// An iterator over the elements of a set by value from both ends, in ascending order of their
+/// bytes. It knows how many are left. When it is dropped, it drops the elements that are left.
 ///
 /// ```
 /// // set is {1, 2}
@@ -33,7 +35,8 @@ pub type Iter<'a, K, const PREFIX_LEN: usize> = Keys<'a, K, (), PREFIX_LEN>;
 /// ```
 pub type IntoIter<K, const PREFIX_LEN: usize> = IntoKeys<K, (), PREFIX_LEN>;
 
-/// The elements within two bounds from both ends, ascending by their bytes.
+/// An iterator over the elements within two bounds from both ends, in ascending order of their
+/// bytes.
 ///
 /// ```
 /// // set is {1, 2, 3}
@@ -44,7 +47,8 @@ pub type IntoIter<K, const PREFIX_LEN: usize> = IntoKeys<K, (), PREFIX_LEN>;
 /// ```
 pub type Range<'a, K, const PREFIX_LEN: usize> = BoundedKeys<'a, K, InRange, PREFIX_LEN>;
 
-/// The elements whose bytes begin with some bytes, from both ends, ascending.
+/// An iterator over the elements of whose bytes some bytes are a prefix, from both ends, in
+/// ascending order.
 ///
 /// ```
 /// // set is {[1, 2], [3, 4]}
@@ -54,9 +58,10 @@ pub type Range<'a, K, const PREFIX_LEN: usize> = BoundedKeys<'a, K, InRange, PRE
 /// ```
 pub type Prefix<'a, K, const PREFIX_LEN: usize> = BoundedKeys<'a, K, BelowFront, PREFIX_LEN>;
 
-/// Some elements that stand one after the other, from both ends, ascending by their bytes.
+/// An iterator over neighbouring elements of a set from both ends, in ascending order of their
+/// bytes.
 ///
-/// The example of [`Range`] shows it.
+/// [`Range`] has an example.
 #[derive(Drop)]
 pub struct BoundedKeys<'a, K, M, const PREFIX_LEN: usize> {
     pairs: BoundedIter<'a, K, (), M, PREFIX_LEN>,
@@ -77,7 +82,7 @@ impl<'a, K, M, const PREFIX_LEN: usize> Iterator for BoundedKeys<'a, K, M, PREFI
 
     ghost remaining = { item_count (λ rest. rest) };
 
-    /// The first element that is left.
+    /// Returns the first element that is left.
     fn next(&mut self) -> Option<&'a K> {
         match self.pairs.next() {
             Some(pair) => Some(pair.0),
@@ -89,7 +94,7 @@ impl<'a, K, M, const PREFIX_LEN: usize> Iterator for BoundedKeys<'a, K, M, PREFI
 impl<'a, K, M, const PREFIX_LEN: usize> DoubleEndedIterator for BoundedKeys<'a, K, M, PREFIX_LEN> {
     ghost next_back_gives = { YieldsLastRef (λ rest. rest) };
 
-    /// The last element that is left.
+    /// Returns the last element that is left.
     fn next_back(&mut self) -> Option<&'a K> {
         match self.pairs.next_back() {
             Some(pair) => Some(pair.0),
@@ -102,7 +107,8 @@ impl<'a, K, M, const PREFIX_LEN: usize> FusedIterator for BoundedKeys<'a, K, M, 
 
 #[tactic(auto, unfolding(crate::specs::Elements::elements))]
 impl<K: AsBytes, const PREFIX_LEN: usize> TreeSet<K, PREFIX_LEN> {
-    /// The elements, ascending by their bytes, from both ends. Takes no memory.
+    /// Returns an iterator over the elements from both ends, in ascending order of their bytes.
+    /// Does not allocate.
     ///
     /// ```
     /// set.try_insert("dog")?;
@@ -118,9 +124,13 @@ impl<K: AsBytes, const PREFIX_LEN: usize> TreeSet<K, PREFIX_LEN> {
         self.map.keys()
     }
 
-    /// The elements whose bytes are within both bounds, ascending, from both ends: an element with an included bound's bytes is within it, one with an excluded bound's is not. Takes no memory.
+    /// Returns an iterator over the elements whose bytes are within both bounds, from both ends, in
+    /// ascending order. An element with the bytes of an included bound is within it, and one with
+    /// the bytes of an excluded bound is not. Does not allocate.
     ///
-    /// The bounds are in order where the set has elements, of which [`bounds_in_order`](crate::bounds_in_order) is the test; on an empty set any bounds give an empty walk.
+    /// If the set has elements, the bounds must be in order, which
+    /// [`bounds_in_order`](crate::bounds_in_order) tests. On an empty set the iterator is empty for
+    /// any bounds.
     pub fn range<Q: AsBytes>(&self, start: Bound<&Q>, end: Bound<&Q>) -> Range<'_, K, PREFIX_LEN>
         requires { CanRange (elements self.now) (bound_bytes Q.bytes start)
             (bound_bytes Q.bytes end) }
@@ -134,7 +144,8 @@ impl<K: AsBytes, const PREFIX_LEN: usize> TreeSet<K, PREFIX_LEN> {
         }
     }
 
-    /// The elements whose bytes begin with these, ascending, from both ends; all of them where there are no bytes. Takes no memory.
+    /// Returns an iterator over the elements of whose bytes `front` is a prefix, from both ends, in
+    /// ascending order. If `front` is empty, these are all elements. Does not allocate.
     ///
     /// ```
     /// set.try_insert("car")?;
@@ -160,7 +171,8 @@ impl<K: AsBytes + Drop, const PREFIX_LEN: usize> IntoIterator for TreeSet<K, PRE
 
     ghost into_iter_gives = { λ set items. items ≡ elements set };
 
-    /// The elements by value, ascending by their bytes, from both ends. Takes no memory. What was not taken is freed where the walk is dropped.
+    /// Returns an iterator over the elements by value from both ends, in ascending order of their
+    /// bytes. Does not allocate. When the iterator is dropped, it drops the elements that are left.
     #[tactic(auto, unfolding(crate::specs::Elements::elements))]
     fn into_iter(self) -> IntoIter<K, PREFIX_LEN> {
         self.map.into_keys()
@@ -174,7 +186,7 @@ impl<'a, K: AsBytes, const PREFIX_LEN: usize> IntoIterator for &'a TreeSet<K, PR
 
     ghost into_iter_gives = { λ set items. items ≡ elements set.now };
 
-    /// The elements, as [`TreeSet::iter`].
+    /// Returns an iterator over the elements, like [`TreeSet::iter`].
     fn into_iter(self) -> Iter<'a, K, PREFIX_LEN> {
         self.iter()
     }

@@ -9,9 +9,15 @@ use blart_keys::NoPrefixesBytes;
 use std::alloc::AllocError;
 
 impl<K: NoPrefixesBytes + Drop, const PREFIX_LEN: usize> TreeSet<K, PREFIX_LEN> {
-    /// Moves all elements of the other set here. Where both have the same bytes the other's element stays. The other set is empty then. Where all of the other's elements are greater than all here, as after a [`TreeSet::split_off`], the elements are those of the one and then those of the other.
+    /// Moves all elements of the other set into this one, and leaves the other set empty. If both
+    /// sets have the same bytes, the other's element is stored. If all elements of the other set
+    /// are greater than all of this one, as after a [`TreeSet::split_off`], the elements are those
+    /// of this set and then those of the other.
     ///
-    /// The elements of the set that has fewer move, one insertion each; where that is this set, the two are exchanged. The memory for as many elements is taken before any of them moves; an error leaves both sets as they were. Where either set is empty it takes none.
+    /// The elements of the set that has fewer are moved, with one insertion each. If that is this
+    /// set, the two sets are exchanged first. It allocates for as many elements before any of them
+    /// is moved. If it fails to allocate, both sets are unchanged. If either set is empty, it does
+    /// not allocate.
     ///
     /// ```
     /// // left is {1, 2, 3}, right is {3, 4, 5}

@@ -12,9 +12,9 @@ impl<K: AsBytes + Clone, const PREFIX_LEN: usize> TreeSet<K, PREFIX_LEN> {
     /// Returns a set of clones of the elements, or an error if it fails to allocate. A clone of an
     /// element has the same bytes.
     ///
-    /// It copies the records of the tree as they lie, spare ones too, and makes no look-up. The
-    /// elements are cloned before the memory for the inner nodes is there: if a later allocation
-    /// fails, the clones are dropped. An empty set does not allocate.
+    /// It copies the records of the tree as they lie, spare ones too, and searches nothing. The
+    /// elements are cloned before the inner nodes are allocated: if a later allocation fails, the
+    /// clones are dropped. An empty set does not allocate.
     ///
     /// ```
     /// let copy = set.clone()?;

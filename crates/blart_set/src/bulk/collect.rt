@@ -1,4 +1,4 @@
-//! Sets that iterators are collected into.
+//! Sets as collections of the elements of an iterator.
 ghost use Rattle.std.specs.Prelude.{[]};
 ghost use Rattle.blart_keys.specs.Bulk.{PutsAll};
 ghost use Rattle.blart_keys.specs.Stored.{kept_item};

@@ -1,4 +1,4 @@
-//! Elements from an iterator, put one after another.
+//! Insertions of the elements of an iterator, one after another.
 ghost use Rattle.std.specs.Prelude.{◌≡◌, false, map, OnOk, OnErr};
 ghost use Rattle.std.specs.Iterator.{IsFinite};
 ghost use Rattle.blart_keys.specs.Bulk.{PutsAll};
@@ -13,9 +13,11 @@ use std::alloc::AllocError;
 use std::iter::Iterator;
 
 impl<K: NoPrefixesBytes + Drop, const PREFIX_LEN: usize> TreeSet<K, PREFIX_LEN> {
-    /// Puts the elements that the iterator gives, one after another, as [`TreeSet::insert`] does: of elements with the same bytes the first stays.
+    /// Inserts the elements that the iterator yields, one after another, like [`TreeSet::insert`].
+    /// Of elements with the same bytes the first is stored.
     ///
-    /// An error is answered only at an element whose bytes are new. That element is dropped, and the ones before it stay.
+    /// Returns an error only at an element whose bytes are new. That element is dropped, and those
+    /// before it are stored.
     ///
     /// ```
     /// set.extend(vec![in alloc; 3u8, 1, 2]?.into_iter())?;
@@ -36,7 +38,7 @@ impl<K: NoPrefixesBytes + Drop, const PREFIX_LEN: usize> TreeSet<K, PREFIX_LEN> 
         Ok(())
     }
 
-    // Puts one element.
+    /// Inserts one element.
     pub(crate) fn put(&mut self, element: K) -> Result<(), AllocError>
         ensures put { OnOk result
             (IsPut K.bytes (elements self.old)
@@ -51,7 +53,8 @@ impl<K: NoPrefixesBytes + Drop, const PREFIX_LEN: usize> TreeSet<K, PREFIX_LEN> 
 }
 
 impl<K: NoPrefixesBytes + Copy, const PREFIX_LEN: usize> TreeSet<K, PREFIX_LEN> {
-    /// Puts copies of the elements that the iterator gives, one after another, as [`TreeSet::extend`] puts the elements.
+    /// Inserts copies of the elements that the iterator yields, one after another, like
+    /// [`TreeSet::extend`].
     ///
     /// ```
     /// set.extend_copied(other.iter())?;
@@ -65,7 +68,8 @@ impl<K: NoPrefixesBytes + Copy, const PREFIX_LEN: usize> TreeSet<K, PREFIX_LEN> 
         requires can { I.can_next items }
         requires ends { IsFinite (I.remaining items) }
         ensures { TakesItems I.next_gives items result
-            (λ xs. PutsAll K.bytes kept_item (elements self.old) (map (λ x. x.now) xs) (elements self.new))
+            (λ xs. PutsAll K.bytes kept_item (elements self.old)
+            (map (λ x. x.now) xs) (elements self.new))
             (λ x. stores K.bytes (elements self.new) (K.bytes x.now) ≡ false) }
     {
         for item in items {

@@ -12,9 +12,11 @@ use std::alloc::{AllocError, Global};
 use std::iter::Iterator;
 
 impl<K: NoPrefixesBytes + Drop, const PREFIX_LEN: usize> TreeSet<K, PREFIX_LEN> {
-    /// A set into which the elements that the iterator gives were put, one after another, as [`TreeSet::insert`] does: of elements with the same bytes the first stays. No elements take no memory.
+    /// Returns a set of the elements that the iterator yields, inserted one after another, like
+    /// [`TreeSet::insert`]. Of elements with the same bytes the first is stored. If there are no
+    /// elements, it does not allocate.
     ///
-    /// The elements are collected into a vector first, of which [`TreeSet::from_vec`] makes the set.
+    /// It first collects the elements into a vector, and then calls [`TreeSet::from_vec`].
     pub fn from_iter<I: Iterator<Item = K>>(alloc: Global, items: I) -> Result<Self, AllocError>
         requires can { I.can_next items }
         requires ends { IsFinite (I.remaining items) }
@@ -32,16 +34,21 @@ impl<K: NoPrefixesBytes + Drop, const PREFIX_LEN: usize> TreeSet<K, PREFIX_LEN> 
         TreeSet::from_vec(alloc, all)
     }
 
-    /// A set into which the elements were put, one after another, as [`TreeSet::insert`] does: of elements with the same bytes the first stays. No elements take no memory.
+    /// Returns a set of the elements, inserted one after another, like [`TreeSet::insert`]. Of
+    /// elements with the same bytes the first is stored. If there are no elements, it does not
+    /// allocate.
     ///
-    /// The set is a map of units, which [`TreeMap::from_vec`] makes: it sorts the elements by their bytes where there is memory for that, and then each inner node is made once. So they lie in order, and walks over the set find them side by side.
+    /// The set is a map of units, which [`TreeMap::from_vec`] makes. That call sorts the elements
+    /// by their bytes if it can allocate for it, and then makes each inner node once. So the
+    /// elements lie in order, and an iterator over the set finds them side by side.
     ///
     /// ```
     /// let set = TreeSet::from_vec(alloc, vec![in alloc; 3u8, 1, 2]?)?;
     /// assert_eq!(set.first(), Some(&1));
     /// ```
     pub fn from_vec(alloc: Global, items: Vec<K>) -> Result<Self, AllocError>
-        ensures made { IfOk result (λ set. PutsAll K.bytes kept_item [] items.items (elements set)) }
+        ensures made { IfOk result
+            (λ set. PutsAll K.bytes kept_item [] items.items (elements set)) }
         ensures refused { OnErr result (items.items ≢ []) }
     {
         let pairs = with_units(alloc, items)?;
@@ -51,7 +58,9 @@ impl<K: NoPrefixesBytes + Drop, const PREFIX_LEN: usize> TreeSet<K, PREFIX_LEN> 
 }
 
 impl<K: NoPrefixesBytes + Copy, const PREFIX_LEN: usize> TreeSet<K, PREFIX_LEN> {
-    /// A set into which the elements were put, one after another, as [`TreeSet::insert`] does: of elements with the same bytes the first stays. No elements take no memory.
+    /// Returns a set of the elements, inserted one after another, like [`TreeSet::insert`]. Of
+    /// elements with the same bytes the first is stored. If there are no elements, it does not
+    /// allocate.
     ///
     /// ```
     /// let set = TreeSet::from_array(alloc, [3u8, 1, 2])?;
@@ -71,7 +80,7 @@ impl<K: NoPrefixesBytes + Copy, const PREFIX_LEN: usize> TreeSet<K, PREFIX_LEN> 
         }
     }
 
-    // Puts copies of the elements, one after another.
+    /// Inserts copies of the elements, one after another.
     fn put_copies(&mut self, items: &[K]) -> Result<(), AllocError>
         ensures put { OnOk result
             (PutsAll K.bytes kept_item (elements self.old) items.now (elements self.new)) }
@@ -84,7 +93,7 @@ impl<K: NoPrefixesBytes + Copy, const PREFIX_LEN: usize> TreeSet<K, PREFIX_LEN> 
     }
 }
 
-// The elements, each with a unit.
+/// Returns the elements, each with a unit.
 fn with_units<K: Drop>(alloc: Global, items: Vec<K>) -> Result<Vec<(K, ())>, AllocError>
     ensures units { IfOk result (λ pairs. map (λ p. p.0) pairs.items ≡ items.items) }
     ensures refused { OnErr result (items.items ≢ []) }

@@ -1,4 +1,4 @@
-//! A set parted in two.
+//! Splits of a set into two.
 ghost use Rattle.std.specs.Prelude.{◌≡◌, ◌≢◌, ◌++◌, ℕ, List, [], false, OnOk, IfOk, OnErr, if◌then◌else◌};
 ghost use Rattle.std.specs.declared.ops.Bound.TheVariants.{Included, Excluded, Unbounded};
 ghost use Rattle.blart_keys.specs.Bytes.{less};
@@ -10,9 +10,10 @@ use blart_keys::AsBytes;
 use std::alloc::AllocError;
 
 impl<K: AsBytes + Drop, const PREFIX_LEN: usize> TreeSet<K, PREFIX_LEN> {
-    /// Keeps the elements whose bytes are less than the query's, and gives a set of the others.
+    /// Keeps the elements whose bytes are less than the query's, and returns a set of the others.
     ///
-    /// It takes the memory for the elements that move before any of them does; an error leaves the set as it was. Where no element moves, or all do, it takes none.
+    /// It allocates for the elements that are moved before any of them is moved. If it fails to
+    /// allocate, the set is unchanged. If no element is moved, or all are, it does not allocate.
     ///
     /// ```
     /// set.try_insert("ant")?;
@@ -25,10 +26,13 @@ impl<K: AsBytes + Drop, const PREFIX_LEN: usize> TreeSet<K, PREFIX_LEN> {
     #[tactic(auto, unfolding(crate::specs::Elements::elements))]
     pub fn split_off<Q: AsBytes>(&mut self, query: &Q) -> Result<Self, AllocError>
         ensures kept { OnOk result ((r : List ℕ) → stores K.bytes (elements self.new) r
-            ≡ (if less r (Q.bytes query.now) then stores K.bytes (elements self.old) r else false)) }
+            ≡ (if less r (Q.bytes query.now) then stores K.bytes (elements self.old) r
+            else false)) }
         ensures given { IfOk result (λ rest. (r : List ℕ) → stores K.bytes (elements rest) r
-            ≡ (if less r (Q.bytes query.now) then false else stores K.bytes (elements self.old) r)) }
-        ensures whole { IfOk result (λ rest. elements self.old ≡ elements self.new ++ elements rest) }
+            ≡ (if less r (Q.bytes query.now) then false
+            else stores K.bytes (elements self.old) r)) }
+        ensures whole { IfOk result
+            (λ rest. elements self.old ≡ elements self.new ++ elements rest) }
         ensures below { OnOk result (elements self.new
             ≡ between K.bytes (elements self.old) Unbounded (Excluded (Q.bytes query.now))) }
         ensures from { IfOk result (λ rest. elements rest

@@ -4,7 +4,7 @@ use blart_keys::AsBytes;
 use std::fmt::{Debug, Formatter, Result, Write};
 
 impl<K: AsBytes + Debug, const PREFIX_LEN: usize> Debug for TreeSet<K, PREFIX_LEN> {
-    /// The elements between braces, ascending by their bytes.
+    /// Writes the elements between braces, in ascending order of their bytes.
     ///
     /// ```
     /// assert_eq!(format!(in alloc; "{set:?}")?, "{1, 2, 3}");

@@ -12,7 +12,8 @@ impl<K: AsBytes + PartialEq, const PREFIX_LEN: usize> PartialEq for TreeSet<K, P
 
     ghost laws = { on_per (λ s. elements s) (lists_per K.PartialEq.laws) };
 
-    /// Whether there are as many elements on both sides, and each is equal to its fellow, by their own `==`.
+    /// Returns `true` if both sets have the same number of elements, and the elements in the same
+    /// positions are equal by their own `==`.
     ///
     /// ```
     /// assert!(left == right);

@@ -13,7 +13,8 @@ impl<K: AsBytes + Hash, const PREFIX_LEN: usize> Hash for TreeSet<K, PREFIX_LEN>
     ghost respects_eq = { (on_Alike (λ s. elements s)
         (items_Alike (record { fed = K.respects_eq }))).fed };
 
-    /// Feeds how many elements there are, by `write_usize`, and then each element. Equal sets feed the same.
+    /// Feeds the hasher the number of elements, by `write_usize`, and then each element. Equal sets
+    /// feed it the same.
     fn hash<H: Hasher>(&self, state: &mut H) {
         self.map.hash(state);
     }

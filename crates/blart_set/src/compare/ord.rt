@@ -12,7 +12,10 @@ impl<K: AsBytes + PartialOrd, const PREFIX_LEN: usize> PartialOrd for TreeSet<K,
 
     ghost laws = { on_po (λ s. elements s) (lists_po K.PartialOrd.laws) };
 
-    /// The first two elements that are not equal decide, by their own order; where there are none the set with fewer elements is less. Goes over both sets once, up to there.
+    /// Compares the first two elements that are not equal, by their own order. If there are none,
+    /// the set with fewer elements is less.
+    ///
+    /// Cost: one pass over both sets, up to these elements.
     fn partial_cmp(&self, other: &Self) -> Option<Ordering> {
         self.map.partial_cmp(&other.map)
     }
@@ -28,7 +31,10 @@ impl<K: AsBytes + Ord, const PREFIX_LEN: usize> Ord for TreeSet<K, PREFIX_LEN> {
 
     ghost matches_eq = { λ x y. lists_ties K.cmp K.matches_eq (elements x) (elements y) };
 
-    /// The first two elements that are not equal decide, by their own order; where there are none the set with fewer elements is less. Goes over both sets once, up to there.
+    /// Compares the first two elements that are not equal, by their own order. If there are none,
+    /// the set with fewer elements is less.
+    ///
+    /// Cost: one pass over both sets, up to these elements.
     ///
     /// ```
     /// // left is {1, 2, 3}, right is {1, 2, 4}

@@ -4,7 +4,8 @@ ghost use Rattle.std.specs.Prelude.{◌≡◌, ◌+◌};
 use blart_map::Visits;
 use std::marker::Model;
 
-/// How many comparisons of elements a merge made. It takes no memory. A clause sees the number.
+/// The number of comparisons of elements that a merge made. It takes no memory at run time. A
+/// contract sees the number.
 ///
 /// ```
 /// let mut compares = Compares::new();
@@ -24,7 +25,7 @@ impl Model for Compares {
 }
 
 impl Compares {
-    /// None yet.
+    /// Returns a count of no comparisons.
     pub fn new() -> Compares
         ensures { result ≡ 0 }
     {
@@ -33,7 +34,7 @@ impl Compares {
         }
     }
 
-    /// Counts one comparison more.
+    /// Counts one more comparison.
     pub fn add_one(&mut self)
         ensures { self.new ≡ self.old + 1 }
     {

@@ -1,4 +1,4 @@
-//! The elements of the left set whose bytes the right one lacks, ascending.
+//! The elements of the left set whose bytes the right one lacks, in ascending order.
 ghost use Rattle.std.specs.Iterator.{YieldsFirstRef, item_count};
 ghost use Rattle.blart_set.specs.Merging.{difference_rest, MergeProgresses, Counts, HasCompared};
 
@@ -7,7 +7,8 @@ use blart_keys::OrderedBytes;
 use std::iter::{FusedIterator, Iterator};
 use std::marker::Model;
 
-/// The elements of the left set whose bytes the right one lacks, ascending. It makes at most as many comparisons as it consumes elements of both sets.
+/// An iterator over the elements of the left set whose bytes the right one lacks, in ascending
+/// order. It makes at most as many comparisons as it consumes elements of both sets.
 ///
 /// ```
 /// // left is {1, 2}, right is {2, 3}
@@ -35,7 +36,8 @@ impl<'a, K: OrderedBytes, const PREFIX_LEN: usize> Iterator for Difference<'a, K
 
     ghost remaining = { item_count (difference_rest K.bytes) };
 
-    /// The next element that only the left set has. It ends where the left side does.
+    /// Returns the next element that only the left set has. Returns `None` when the left set is
+    /// exhausted.
     fn next(&mut self) -> Option<&'a K>
         ensures steps { YieldsFirstRef (difference_rest K.bytes) self.old result self.new }
         ensures goes { MergeProgresses (difference_rest K.bytes) self.old result self.new }
@@ -47,7 +49,7 @@ impl<'a, K: OrderedBytes, const PREFIX_LEN: usize> Iterator for Difference<'a, K
 impl<'a, K: OrderedBytes, const PREFIX_LEN: usize> FusedIterator
     for Difference<'a, K, PREFIX_LEN> {}
 
-// The next element that only the left side has.
+/// Returns the next element that only the left side has.
 fn next_lacking<'a, K: OrderedBytes, const P: usize>(sides: &mut Sides<'a, K, P>) -> Option<&'a K>
     ensures steps { YieldsFirstRef (difference_rest K.bytes) sides.old result sides.new }
     ensures counted { Counts sides.old sides.new }

@@ -1,4 +1,4 @@
-//! The elements of the left set whose bytes the right one has too, ascending.
+//! The elements of the left set whose bytes the right one has too, in ascending order.
 ghost use Rattle.std.specs.Iterator.{YieldsFirstRef, item_count};
 ghost use Rattle.blart_set.specs.Merging.{intersection_rest, MergeProgresses, Counts, HasCompared};
 
@@ -7,7 +7,8 @@ use blart_keys::OrderedBytes;
 use std::iter::{FusedIterator, Iterator};
 use std::marker::Model;
 
-/// The elements of the left set whose bytes the right one has too, ascending. It makes at most as many comparisons as it consumes elements of both sets.
+/// An iterator over the elements of the left set whose bytes the right one has too, in ascending
+/// order. It makes at most as many comparisons as it consumes elements of both sets.
 ///
 /// ```
 /// // left is {1, 2}, right is {2, 3}
@@ -35,7 +36,7 @@ impl<'a, K: OrderedBytes, const PREFIX_LEN: usize> Iterator for Intersection<'a,
 
     ghost remaining = { item_count (intersection_rest K.bytes) };
 
-    /// The next element that both sets have. It ends where either side does.
+    /// Returns the next element that both sets have. Returns `None` when either set is exhausted.
     fn next(&mut self) -> Option<&'a K>
         ensures steps { YieldsFirstRef (intersection_rest K.bytes) self.old result self.new }
         ensures goes { MergeProgresses (intersection_rest K.bytes) self.old result self.new }
@@ -47,7 +48,7 @@ impl<'a, K: OrderedBytes, const PREFIX_LEN: usize> Iterator for Intersection<'a,
 impl<'a, K: OrderedBytes, const PREFIX_LEN: usize> FusedIterator
     for Intersection<'a, K, PREFIX_LEN> {}
 
-// The next element that both sides have.
+/// Returns the next element that both sides have.
 fn next_shared<'a, K: OrderedBytes, const P: usize>(sides: &mut Sides<'a, K, P>) -> Option<&'a K>
     ensures steps { YieldsFirstRef (intersection_rest K.bytes) sides.old result sides.new }
     ensures counted { Counts sides.old sides.new }

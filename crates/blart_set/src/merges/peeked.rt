@@ -1,11 +1,11 @@
-//! A walk that shows its next element.
+//! An iterator that shows its next element.
 ghost use Rattle.std.specs.Prelude.{◌≡◌, [], ◌∷◌, drop, MatchOption};
 
 use crate::walks::Iter;
 use std::iter::Iterator;
 use std::marker::Model;
 
-/// The elements of a set, of which the first can be seen before it is taken.
+/// An iterator over the elements of a set, whose next element can be seen before it is taken.
 #[derive(Drop)]
 pub(crate) struct Peeked<'a, K, const P: usize> {
     head: Option<&'a K>,
@@ -25,7 +25,7 @@ impl<'a, K, const P: usize> Model for Peeked<'a, K, P> {
 }
 
 impl<'a, K, const P: usize> Peeked<'a, K, P> {
-    // All that the walk has left.
+    /// Returns all elements that the iterator has left.
     pub(crate) fn new(mut rest: Iter<'a, K, P>) -> Self
         ensures { result ≡ rest.entry }
     {
@@ -33,7 +33,7 @@ impl<'a, K, const P: usize> Peeked<'a, K, P> {
         Peeked { head, rest }
     }
 
-    // The first element that is left.
+    /// Returns the first element that is left.
     pub(crate) fn peek(&self) -> Option<&'a K>
         ensures { MatchOption result (self.now ≡ [])
             (λ element. self.now ≡ element.now ∷ drop 1 self.now) }
@@ -41,7 +41,7 @@ impl<'a, K, const P: usize> Peeked<'a, K, P> {
         self.head
     }
 
-    // Passes it.
+    /// Passes the first element that is left.
     pub(crate) fn advance(&mut self)
         ensures { self.new ≡ drop 1 self.old }
     {

@@ -1,4 +1,4 @@
-//! Two sets, walked side by side.
+//! Two sets, side by side.
 ghost use Rattle.std.specs.Prelude.{◌≡◌, ◌+◌, ◌<◌, ◌⊎◌, [], ◌∷◌, drop, Some, IfSome, IfNone};
 ghost use Rattle.blart_keys.specs.Bytes.{bytes_cmp};
 ghost use Rattle.blart_keys.specs.Content.{Ascends};
@@ -11,7 +11,8 @@ use blart_keys::OrderedBytes;
 use std::cmp::Ordering;
 use std::marker::Model;
 
-/// The least of what two sets have left: an element of the one, of the other, or the left one's where both have its bytes.
+/// The least of the elements that two sets have left: an element of the left one, of the right one,
+/// or the left one's if both have its bytes.
 #[derive(Drop)]
 pub(crate) enum Side<'a, K> {
     Left(&'a K),
@@ -19,7 +20,7 @@ pub(crate) enum Side<'a, K> {
     Both(&'a K),
 }
 
-/// What two sets have left, and the comparisons made so far.
+/// The elements that two sets have left, and the number of comparisons made.
 #[derive(Drop)]
 pub(crate) struct Sides<'a, K: OrderedBytes, const P: usize> {
     left: Peeked<'a, K, P>,
@@ -39,7 +40,7 @@ impl<'a, K: OrderedBytes, const P: usize> Model for Sides<'a, K, P> {
 }
 
 impl<'a, K: OrderedBytes, const P: usize> Sides<'a, K, P> {
-    // Two walks, of which nothing was compared so far.
+    /// Returns two iterators side by side, with no comparison made.
     pub(crate) fn new(left: Iter<'a, K, P>, right: Iter<'a, K, P>) -> Self
         requires left { Ascends K.bytes left }
         requires right { Ascends K.bytes right }
@@ -52,7 +53,8 @@ impl<'a, K: OrderedBytes, const P: usize> Sides<'a, K, P> {
         }
     }
 
-    // Passes the least of what is left, and gives it. It compares only where both sides have something left, and then once.
+    /// Passes the least of the elements that are left, and returns it. It makes one comparison if
+    /// both sides have elements left, and none otherwise.
     pub(crate) fn step(&mut self) -> Option<Side<'a, K>>
         ensures steps { Steps K.bytes self.old result self.new }
         ensures counted { Counts self.old self.new }
@@ -70,7 +72,8 @@ impl<'a, K: OrderedBytes, const P: usize> Sides<'a, K, P> {
         Some(self.step_least(x, y))
     }
 
-    // The same, where these are the first that both sides have left. It compares once.
+    /// Passes the least of the elements that are left, like [`Sides::step`]. `x` and `y` are the
+    /// first elements that the sides have left. It makes one comparison.
     #[inline(always)]
     fn step_least(&mut self, x: &'a K, y: &'a K) -> Side<'a, K>
         requires left { self.old.left ≡ x.now ∷ drop 1 self.old.left }
@@ -96,7 +99,8 @@ impl<'a, K: OrderedBytes, const P: usize> Sides<'a, K, P> {
         }
     }
 
-    // The same, where both sides have something left.
+    /// Passes the least of the elements that are left, like [`Sides::step`], if both sides have
+    /// elements left.
     pub(crate) fn step_both(&mut self) -> Option<Side<'a, K>>
         ensures steps { IfSome result (λ side. Steps K.bytes self.old (Some side) self.new) }
         ensures end { IfNone result ((self.old.left ≡ []) ⊎ (self.old.right ≡ [])) }
@@ -110,7 +114,8 @@ impl<'a, K: OrderedBytes, const P: usize> Sides<'a, K, P> {
         Some(self.step_least(x, y))
     }
 
-    // The same, where the left side has something left.
+    /// Passes the least of the elements that are left, like [`Sides::step`], if the left side has
+    /// elements left.
     pub(crate) fn step_left(&mut self) -> Option<Side<'a, K>>
         ensures steps { IfSome result (λ side. Steps K.bytes self.old (Some side) self.new) }
         ensures end { IfNone result (self.old.left ≡ []) }
@@ -124,7 +129,7 @@ impl<'a, K: OrderedBytes, const P: usize> Sides<'a, K, P> {
 }
 
 impl<'a, K> Side<'a, K> {
-    // The element.
+    /// Returns the element.
     pub(crate) fn element(self) -> &'a K
         ensures { result ≡ side_element self.entry }
     {
@@ -133,7 +138,7 @@ impl<'a, K> Side<'a, K> {
         }
     }
 
-    // The element, where only one side has the bytes.
+    /// Returns the element if only one side has its bytes.
     pub(crate) fn of_one(self) -> Option<&'a K>
         ensures { result ≡ one_element self.entry }
     {
@@ -143,7 +148,7 @@ impl<'a, K> Side<'a, K> {
         }
     }
 
-    // The element, where both sides have the bytes.
+    /// Returns the element if both sides have its bytes.
     pub(crate) fn of_both(self) -> Option<&'a K>
         ensures { result ≡ both_element self.entry }
     {
@@ -153,7 +158,7 @@ impl<'a, K> Side<'a, K> {
         }
     }
 
-    // The element, where only the left side has the bytes.
+    /// Returns the element if only the left side has its bytes.
     pub(crate) fn of_left(self) -> Option<&'a K>
         ensures { result ≡ left_element self.entry }
     {

@@ -1,4 +1,4 @@
-//! The elements of either set whose bytes the other lacks, ascending.
+//! The elements of either set whose bytes the other lacks, in ascending order.
 ghost use Rattle.std.specs.Iterator.{YieldsFirstRef, item_count};
 ghost use Rattle.blart_set.specs.Merging.{symmetric_difference_rest, MergeProgresses, Counts, HasCompared};
 
@@ -7,7 +7,8 @@ use blart_keys::OrderedBytes;
 use std::iter::{FusedIterator, Iterator};
 use std::marker::Model;
 
-/// The elements of either set whose bytes the other lacks, ascending. It makes at most as many comparisons as it consumes elements of both sets.
+/// An iterator over the elements of either set whose bytes the other lacks, in ascending order. It
+/// makes at most as many comparisons as it consumes elements of both sets.
 ///
 /// ```
 /// // left is {1, 2}, right is {2, 3}
@@ -38,10 +39,12 @@ impl<'a, K: OrderedBytes, const PREFIX_LEN: usize> Iterator
 
     ghost remaining = { item_count (symmetric_difference_rest K.bytes) };
 
-    /// The next element that only one of the sets has.
+    /// Returns the next element that only one of the sets has.
     fn next(&mut self) -> Option<&'a K>
-        ensures steps { YieldsFirstRef (symmetric_difference_rest K.bytes) self.old result self.new }
-        ensures goes { MergeProgresses (symmetric_difference_rest K.bytes) self.old result self.new }
+        ensures steps { YieldsFirstRef (symmetric_difference_rest K.bytes)
+            self.old result self.new }
+        ensures goes { MergeProgresses (symmetric_difference_rest K.bytes)
+            self.old result self.new }
     {
         next_apart(&mut self.sides)
     }
@@ -50,7 +53,7 @@ impl<'a, K: OrderedBytes, const PREFIX_LEN: usize> Iterator
 impl<'a, K: OrderedBytes, const PREFIX_LEN: usize> FusedIterator
     for SymmetricDifference<'a, K, PREFIX_LEN> {}
 
-// The next element that only one side has.
+/// Returns the next element that only one side has.
 fn next_apart<'a, K: OrderedBytes, const P: usize>(sides: &mut Sides<'a, K, P>) -> Option<&'a K>
     ensures steps { YieldsFirstRef (symmetric_difference_rest K.bytes) sides.old result sides.new }
     ensures counted { Counts sides.old sides.new }

@@ -1,4 +1,4 @@
-//! The elements of both sets, ascending; where both have the bytes, the left set's.
+//! The elements of both sets, in ascending order.
 ghost use Rattle.std.specs.Iterator.{YieldsFirstRef, item_count};
 ghost use Rattle.blart_set.specs.Merging.{union_rest, MergeProgresses};
 
@@ -7,7 +7,9 @@ use blart_keys::OrderedBytes;
 use std::iter::{FusedIterator, Iterator};
 use std::marker::Model;
 
-/// The elements of both sets, ascending; where both have the bytes, the left set's. It makes at most as many comparisons as it consumes elements of both sets.
+/// An iterator over the elements of both sets, in ascending order. If both sets have the bytes, it
+/// yields the left set's element. It makes at most as many comparisons as it consumes elements of
+/// both sets.
 ///
 /// ```
 /// // left is {1, 2}, right is {2, 3}
@@ -37,7 +39,7 @@ impl<'a, K: OrderedBytes, const PREFIX_LEN: usize> Iterator for Union<'a, K, PRE
 
     ghost remaining = { item_count (union_rest K.bytes) };
 
-    /// The next element.
+    /// Returns the next element.
     fn next(&mut self) -> Option<&'a K>
         ensures steps { YieldsFirstRef (union_rest K.bytes) self.old result self.new }
         ensures goes { MergeProgresses (union_rest K.bytes) self.old result self.new }
