@@ -1,4 +1,4 @@
-//! The commands that a line may be.
+//! The commands that a line may hold.
 ghost use Rattle.std.specs.Prelude.{◌≡◌, ◌==◌, ◌<◌, ◌+◌, ◌*◌, true, [], ◌∷◌, length, IfSome, MatchOption, is_some};
 ghost use Rattle.std.specs.List.{position, list_all};
 ghost use Rattle.std.specs.Char.{is_ascii_digit};
@@ -24,7 +24,7 @@ pub(crate) enum Command<'a> {
     Range(&'a [u8], &'a [u8]),
 }
 
-// The words of a line, where there are at most three.
+/// The words of a line, if there are at most three.
 #[derive(Clone, Copy)]
 enum Words<'a> {
     One(&'a [u8]),
@@ -33,7 +33,7 @@ enum Words<'a> {
     More,
 }
 
-/// The command that the line is.
+/// Returns the command that the line holds, if it holds one.
 pub(crate) fn parse(line: &[u8]) -> Option<Command<'_>>
     ensures { Parses result (words_of line.now) }
 {
@@ -112,7 +112,7 @@ fn split_line(line: &[u8]) -> Words<'_>
     }
 }
 
-// The first word, and what follows the space after it if there is one.
+/// Returns the first word, and the bytes after the space that follows it, if there is one.
 fn split_word(text: &[u8]) -> (&[u8], Option<&[u8]>)
     ensures { MatchOption result.1 (words_of text.now ≡ result.0.now ∷ [])
         (λ rest. words_of text.now ≡ result.0.now ∷ words_of rest.now) }
@@ -123,7 +123,7 @@ fn split_word(text: &[u8]) -> (&[u8], Option<&[u8]>)
     }
 }
 
-// Where the first space is.
+/// Returns the position of the first space.
 fn space(text: &[u8]) -> Option<usize>
     ensures value { result ≡ position (λ b. b == 32) text.now }
     ensures within { IfSome result (λ at. at < length text.now) }
@@ -133,7 +133,7 @@ fn space(text: &[u8]) -> Option<usize>
 
 // ---- keys
 
-// Whether the word is a key.
+/// Returns `true` if the word is a key.
 fn is_key(word: &[u8]) -> bool
     ensures { result ≡ is_some (key_of word.now) }
 {
@@ -146,7 +146,7 @@ fn is_key(word: &[u8]) -> bool
     }
 }
 
-// Whether the word is an even number of digits.
+/// Returns `true` if the word is an even number of digits.
 fn is_decodable(word: &[u8]) -> bool
     ensures { result ≡ is_some (from_ok (decode_of word.now)) }
 {
@@ -183,7 +183,7 @@ fn number(word: &[u8]) -> Option<u64>
     }
 }
 
-// Whether the word is 1 to 20 digits.
+/// Returns `true` if the word is 1 to 20 digits.
 fn is_numeral(word: &[u8]) -> bool
     ensures { result ≡ spec.is_numeral word.now }
 {
@@ -200,7 +200,7 @@ fn is_all_digits(text: &[u8]) -> bool
     text.iter().all(|b| b.is_ascii_digit())
 }
 
-// The value of the digits, if it is below 2^64.
+/// Returns the value of the digits, if it is below 2^64.
 fn value_of(digits: &[u8]) -> Option<u64>
     requires { spec.is_numeral digits.now ≡ true }
     ensures { result ≡ below_limit (digits_value 10 digits.now) }

@@ -11,8 +11,8 @@ pub fn key_text_law(key: &[u8])
     let _bytes = &key[..];
 }
 
-/// Does nothing. Its contract is a law of the program's texts: a number that is written is read as the
-/// same number.
+/// Does nothing. Its contract is a law of the program's texts: a number that is written is read as
+/// the same number.
 pub fn number_text_law(number: u64)
     ensures { number_of (decimal number) ≡ Some number }
 {

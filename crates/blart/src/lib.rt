@@ -1,7 +1,9 @@
-//! An ordered map from keys that are byte lists, on an adaptive radix tree, and the program over it.
+//! An ordered map from keys that are byte lists, on an adaptive radix tree, and the program over
+//! it.
 //!
-//! [`TreeMap`] is the map and [`TreeSet`] the set; what goes with them stands in [`map`] and [`set`]. A key type is [`AsBytes`]. [`run`] is
-//! what the program `artmap` does, over any reader and writer.
+//! [`TreeMap`] is the map and [`TreeSet`] the set. [`map`] and [`set`] have the types that go with
+//! them. A key type implements [`AsBytes`]. [`run`] is the program `artmap`, over any reader and
+//! writer.
 #![tactic(auto)]
 
 mod command;
@@ -27,8 +29,8 @@ pub use laws::{key_text_law, number_text_law};
 pub use program::run;
 pub use watched::Watched;
 
-/// A [`TreeMap`] of which an inner node keeps 16 bytes of its compressed prefix.
+/// A [`TreeMap`] whose inner nodes keep 16 bytes of their compressed prefixes.
 pub type Map<K, V> = TreeMap<K, V, { map::DEFAULT_PREFIX_LEN }>;
 
-/// A [`TreeSet`] of which an inner node keeps 16 bytes of its compressed prefix.
+/// A [`TreeSet`] whose inner nodes keep 16 bytes of their compressed prefixes.
 pub type Set<K> = TreeSet<K, { map::DEFAULT_PREFIX_LEN }>;

@@ -1,4 +1,4 @@
-//! Answers on their way out, in a buffer of fixed size.
+//! A buffer of fixed size, for the replies that wait for the writer.
 ghost use Rattle.std.specs.Prelude.{◌≡◌, ◌≤◌, ◌<◌, ◌+◌, ℕ, List, [], ◌∷◌, ◌++◌, length, take, false, OnOk};
 ghost use Rattle.blart.specs.Watched.{watched_inner, watched_failed};
 ghost use Rattle.blart.specs.Sent.{IsSent};
@@ -9,7 +9,7 @@ use crate::watched::Watched;
 use std::io::Write;
 use std::marker::Model;
 
-/// How many bytes wait at most.
+/// The largest number of bytes that wait.
 pub(crate) const ROOM: usize = 8192;
 
 /// Bytes that wait for the writer.
@@ -37,7 +37,7 @@ impl Outbox {
         }
     }
 
-    /// Adds the text after what waits.
+    /// Adds the text after the bytes that wait.
     pub(crate) fn append(&mut self, text: &[u8])
         requires { length self.old + length text.now ≤ ROOM }
         ensures { self.new ≡ self.old ++ text.now }
@@ -47,7 +47,7 @@ impl Outbox {
         self.count = end;
     }
 
-    /// Adds one byte after what waits.
+    /// Adds one byte after the bytes that wait.
     pub(crate) fn push(&mut self, byte: u8)
         requires { length self.old < ROOM }
         ensures { self.new ≡ self.old ++ byte ∷ [] }
@@ -68,7 +68,7 @@ impl Outbox {
         self.count = 0;
     }
 
-    /// Sends all that waits.
+    /// Sends all bytes that wait.
     pub(crate) fn flush<W: Write>(&mut self, writer: &mut Watched<W>) -> Result<(), RunError>
         requires { watched_failed writer.old ≡ false }
         ensures sent { IsSent result (W.contents (watched_inner writer.old))
@@ -81,7 +81,7 @@ impl Outbox {
         Ok(())
     }
 
-    /// Makes room for so many bytes, by sending what waits where there is none.
+    /// Makes room for `count` bytes. If there is too little, it sends all bytes that wait.
     pub(crate) fn make_room<W: Write>(
         &mut self,
         writer: &mut Watched<W>,
@@ -101,7 +101,7 @@ impl Outbox {
     }
 }
 
-// Writes all the bytes. After an error a front of them was written.
+/// Writes all the bytes. After an error some prefix of them was written.
 fn send<W: Write>(writer: &mut Watched<W>, bytes: &[u8]) -> Result<(), RunError>
     requires { watched_failed writer.old ≡ false }
     ensures { IsSent result (W.contents (watched_inner writer.old))

@@ -1,7 +1,7 @@
-//! Fronts and rests of byte lists.
+//! Prefixes and rests of byte lists.
 ghost use Rattle.std.specs.Prelude.{◌≡◌, ◌≤◌, length, take, drop};
 
-// The first `count` bytes.
+/// Returns the first `count` bytes.
 pub(crate) fn front(bytes: &[u8], count: usize) -> &[u8]
     requires { count ≤ length bytes.now }
     ensures { result.now ≡ take count bytes.now }
@@ -9,7 +9,7 @@ pub(crate) fn front(bytes: &[u8], count: usize) -> &[u8]
     &bytes[..count]
 }
 
-// What follows the first `count` bytes.
+/// Returns the bytes after the first `count`.
 pub(crate) fn rest_after(bytes: &[u8], count: usize) -> &[u8]
     requires { count ≤ length bytes.now }
     ensures { result.now ≡ drop count bytes.now }

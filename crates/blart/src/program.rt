@@ -13,15 +13,15 @@ use crate::watched::Watched;
 use std::alloc::Global;
 use std::io::{Read, Write};
 
-/// Answers the lines of the reader, in turn, over a map from byte lists to numbers.
+/// Replies to the lines of the reader, one after another, over a map from byte lists to numbers.
 ///
 /// A line is the bytes up to a line feed, and the bytes after the last line feed if there are any.
-/// The answers are sent whenever the reader is asked for more. After a read that returns 0 bytes or
+/// The replies are sent whenever the reader is asked for more. After a read that returns 0 bytes or
 /// an error, the reader is not read again. The writer is not flushed.
 ///
-/// An error ends the run. `RunError::Read`: each line that a line feed ended is answered.
-/// `RunError::Write`: what was written is a beginning of the answers. `RunError::Memory`: a line
-/// did not fit, and the lines before it are answered.
+/// An error ends the run. After `RunError::Read`, there is a reply to each line that a line feed
+/// ended. After `RunError::Write`, the bytes that were written are a prefix of the replies. After
+/// `RunError::Memory`, a line did not fit in memory, and there is a reply to each line before it.
 ///
 /// ```
 /// let mut reader = Watched::new(b"insert 0102 7\nget 0102\n".as_slice());
@@ -36,7 +36,7 @@ pub fn run<R: Read, W: Write>(
 ) -> Result<(), RunError>
     requires reader { watched_failed reader.old ≡ false }
     requires writer { watched_failed writer.old ≡ false }
-    // Where both tell their bytes, and the input is short enough for the reads that there are.
+    // If both tell their bytes, and the input is short enough for the number of reads.
     ensures answered { (input before : List ℕ) → R.remaining (watched_inner reader.old) ≡ Some input
         → length input < 2 ^ 64 - 1
         → W.contents (watched_inner writer.old) ≡ Some before
@@ -58,7 +58,7 @@ pub fn run<R: Read, W: Write>(
     ended
 }
 
-// Serves all that the reader gives.
+/// Replies to all lines that the reader yields.
 fn read_all<R: Read, W: Write>(
     session: &mut Session,
     reader: &mut Watched<R>,

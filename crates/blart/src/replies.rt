@@ -1,4 +1,4 @@
-//! What the program answers to a line.
+//! The program's reply to a line.
 ghost use Rattle.std.specs.Prelude.{◌≡◌, ◌≢◌, ◌==◌, ◌||◌, ◌⊎◌, ◌<◌, ◌-◌, ◌^◌, ℕ, List, [], ◌∷◌, ◌++◌, length, false, Some, MatchOption, option_map};
 ghost use Rattle.std.specs.List.{flat_map};
 ghost use Rattle.std.specs.Iterator.{UpTo, AlwaysYields};
@@ -27,7 +27,7 @@ use std::ops::Bound;
 /// Keys and their values.
 pub(crate) type Pairs = TreeMap<Vec<u8>, u64, DEFAULT_PREFIX_LEN>;
 
-/// Answers the line.
+/// Writes the reply to the line.
 pub(crate) fn reply<W: Write>(
     map: &mut Pairs,
     alloc: Global,
@@ -130,7 +130,7 @@ fn overwrite(map: &mut Pairs, alloc: Global, word: &[u8], value: u64) -> Answer
     }
 }
 
-// The word's key, if there is memory for it.
+/// Returns the key of the word, or `None` if it fails to allocate.
 fn decode_key(alloc: Global, word: &[u8]) -> Option<Vec<u8>>
     ensures { (key : List ℕ) → key_of word.now ≡ Some key
         → MatchOption result (key ≢ []) (λ found. key ≡ found.items) }
@@ -161,7 +161,7 @@ fn value_answer(value: Option<u64>) -> Answer
     }
 }
 
-// Writes the pair whose key begins the word's, or `none`.
+/// Writes the pair whose key is a prefix of the word's key, or `none`.
 fn write_front<W: Write>(
     map: &Pairs,
     alloc: Global,
@@ -183,7 +183,7 @@ fn write_front<W: Write>(
     }
 }
 
-// Writes the pair, or `none`.
+/// Writes the pair, or `none`.
 fn write_found<W: Write>(
     found: Option<(&Vec<u8>, &u64)>,
     outbox: &mut Outbox,
@@ -203,7 +203,7 @@ fn write_found<W: Write>(
     }
 }
 
-// Writes all pairs.
+/// Writes all pairs.
 fn write_list<W: Write>(
     map: &Pairs,
     outbox: &mut Outbox,
@@ -218,7 +218,7 @@ fn write_list<W: Write>(
     write_listing(map.iter(), outbox, writer)
 }
 
-// Writes the pairs whose keys begin with the word's.
+/// Writes the pairs of whose keys the word's key is a prefix.
 fn write_prefix<W: Write>(
     map: &Pairs,
     alloc: Global,
@@ -240,7 +240,7 @@ fn write_prefix<W: Write>(
     }
 }
 
-// Writes the pairs from the first word's key on, below the second's.
+/// Writes the pairs from the first word's key on, below the second's.
 fn write_range<W: Write>(
     map: &Pairs,
     alloc: Global,
@@ -263,7 +263,7 @@ fn write_range<W: Write>(
     }
 }
 
-// The words' keys, if there is memory for both.
+/// Returns the keys of both words, or `None` if it fails to allocate.
 fn decode_both(alloc: Global, first: &[u8], second: &[u8]) -> Option<(Vec<u8>, Vec<u8>)>
     ensures { (low high : List ℕ) → key_of first.now ≡ Some low → key_of second.now ≡ Some high
         → MatchOption result ((low ≢ []) ⊎ (high ≢ []))
@@ -272,7 +272,8 @@ fn decode_both(alloc: Global, first: &[u8], second: &[u8]) -> Option<(Vec<u8>, V
     Some((decode_key(alloc, first)?, decode_key(alloc, second)?))
 }
 
-// Writes the pairs from the first key on, below the second, or that the bounds are refused.
+/// Writes the pairs from the first key on, below the second, or `refused bounds` if the bounds are
+/// not in order.
 fn write_between<W: Write>(
     map: &Pairs,
     low: &Vec<u8>,
@@ -293,7 +294,7 @@ fn write_between<W: Write>(
     write_listing(walk, outbox, writer)
 }
 
-// Whether the bounds are in order, or there are no pairs.
+/// Returns `true` if the bounds are in order, or there are no pairs.
 fn is_range(map: &Pairs, low: &Vec<u8>, high: &Vec<u8>) -> bool
     ensures { result ≡ ((length (pairs map.now) == 0)
         || in_order (Included low.now.items) (Excluded high.now.items)) }
@@ -301,7 +302,7 @@ fn is_range(map: &Pairs, low: &Vec<u8>, high: &Vec<u8>) -> bool
     map.is_empty() || bounds_in_order(Bound::Included(low), Bound::Excluded(high))
 }
 
-// Writes a line a pair of the walk, and how many there are.
+/// Writes each pair that the iterator yields on a line of its own, and then the number of pairs.
 fn write_listing<'a, I: Iterator<Item = (&'a Vec<u8>, &'a u64)> + Drop, W: Write>(
     walk: I,
     outbox: &mut Outbox,

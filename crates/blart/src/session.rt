@@ -13,7 +13,7 @@ use crate::watched::Watched;
 use std::alloc::Global;
 use std::io::Write;
 
-/// The content, the answers that wait for the writer, and what has come of the next line.
+/// The map, the replies that wait for the writer, and the bytes of the next line that were read.
 #[derive(Drop)]
 pub(crate) struct Session {
     pub(crate) map: Pairs,
@@ -36,7 +36,8 @@ impl Session {
         }
     }
 
-    // Adds the bytes to the line. Where memory is refused, what waits is sent.
+    /// Adds the bytes to the line. If it fails to allocate, it sends all bytes that wait, and
+    /// returns an error.
     fn grow<W: Write>(&mut self, writer: &mut Watched<W>, bytes: &[u8]) -> Result<(), RunError>
         requires { watched_failed writer.old ≡ false }
         ensures { IsGrown result (W.contents (watched_inner writer.old))
@@ -50,7 +51,7 @@ impl Session {
         Ok(())
     }
 
-    // Answers the line, and begins the next.
+    /// Writes the reply to the line, and empties the line for the next.
     fn answer<W: Write>(&mut self, writer: &mut Watched<W>) -> Result<(), RunError>
         requires { watched_failed writer.old ≡ false }
         ensures { IsAnswered result (W.contents (watched_inner writer.old))
@@ -68,7 +69,8 @@ impl Session {
         Ok(())
     }
 
-    // Serves the bytes up to a line feed, or all of them, and says how many.
+    /// Adds the bytes up to a line feed to the line, and replies to the line. If there is no line
+    /// feed, adds all bytes. Returns the number of bytes that it used, with the line feed.
     fn step<W: Write>(&mut self, writer: &mut Watched<W>, bytes: &[u8]) -> Result<usize, RunError>
         requires mark { watched_failed writer.old ≡ false }
         requires some { 0 < length bytes.now }
@@ -90,7 +92,7 @@ impl Session {
         }
     }
 
-    /// Serves the bytes, and sends all answers.
+    /// Adds the bytes to the input, replies to each line that ends in them, and sends all replies.
     pub(crate) fn serve<W: Write>(
         &mut self,
         writer: &mut Watched<W>,
@@ -110,7 +112,7 @@ impl Session {
         self.outbox.flush(writer)
     }
 
-    /// Answers the last line, if any bytes of it came, and sends all answers.
+    /// Replies to the last line, if any bytes of it were read, and sends all replies.
     pub(crate) fn finish<W: Write>(&mut self, writer: &mut Watched<W>) -> Result<(), RunError>
         requires { watched_failed writer.old ≡ false }
         ensures { IsFinished result (W.contents (watched_inner writer.old))
@@ -125,7 +127,7 @@ impl Session {
     }
 }
 
-// Where the first line feed is.
+/// Returns the position of the first line feed.
 fn first_feed(bytes: &[u8]) -> Option<usize>
     ensures { MatchOption result (IsLine bytes.now)
         (λ at. (at < length bytes.now) × (slice_index bytes.now at ≡ 10)

@@ -1,4 +1,4 @@
-//! Answers as text. They take no memory.
+//! Replies as text. They do not allocate.
 ghost use Rattle.std.specs.Prelude.{◌≡◌, ◌≤◌, ◌<◌, ◌+◌, ◌/◌, ◌%◌, ◌++◌, ◌∷◌, [], length, false, codes, decimal, slice_index};
 ghost use Rattle.hex.specs.Hex.{encode_lower, lower_digits};
 ghost use Rattle.blart.specs.Watched.{watched_inner, watched_failed};
@@ -12,7 +12,7 @@ use crate::output::Outbox;
 use crate::watched::Watched;
 use std::io::Write;
 
-/// An answer of one line without a key.
+/// A reply of one line without a key.
 #[derive(Clone, Copy)]
 pub(crate) enum Answer {
     None,
@@ -27,7 +27,7 @@ pub(crate) enum Answer {
     RefusedLine,
 }
 
-/// Writes the answer as a line.
+/// Writes the reply as a line.
 pub(crate) fn write_answer<W: Write>(
     answer: Answer,
     outbox: &mut Outbox,
@@ -44,7 +44,7 @@ pub(crate) fn write_answer<W: Write>(
     Ok(())
 }
 
-// Adds the answer's text, which has at most 31 bytes.
+/// Adds the reply's text, which has at most 31 bytes.
 fn append_answer(answer: Answer, outbox: &mut Outbox)
     requires { length outbox.old + 31 ≤ 8192 }
     ensures after { outbox.new ≡ outbox.old ++ text_of answer }
@@ -64,7 +64,7 @@ fn append_answer(answer: Answer, outbox: &mut Outbox)
     }
 }
 
-// Adds a word of at most eight bytes and the number's digits.
+/// Adds a word of at most eight bytes and the number's digits.
 fn append_counted(word: &[u8], number: u64, outbox: &mut Outbox)
     requires short { length word.now ≤ 8 }
     requires fits { length outbox.old + 31 ≤ 8192 }
@@ -75,7 +75,7 @@ fn append_counted(word: &[u8], number: u64, outbox: &mut Outbox)
     append_decimal(number, outbox);
 }
 
-// Adds the number's digits, of which there are at most 20.
+/// Adds the number's digits. There are at most 20.
 fn append_decimal(number: u64, outbox: &mut Outbox)
     requires { length outbox.old + 20 ≤ 8192 }
     ensures after { outbox.new ≡ outbox.old ++ decimal number }
@@ -101,7 +101,7 @@ pub(crate) fn write_pair<W: Write>(
     write_value(value, outbox, writer)
 }
 
-// Writes a space, the number and the end of the line.
+/// Writes a space, the number and the end of the line.
 fn write_value<W: Write>(
     value: u64,
     outbox: &mut Outbox,
@@ -147,7 +147,7 @@ fn write_dash<W: Write>(outbox: &mut Outbox, writer: &mut Watched<W>) -> Result<
     Ok(())
 }
 
-// Writes the bytes as hexadecimal digits.
+/// Writes the bytes as hexadecimal digits.
 fn write_digits<W: Write>(
     key: &[u8],
     outbox: &mut Outbox,
@@ -164,7 +164,7 @@ fn write_digits<W: Write>(
     Ok(())
 }
 
-// Writes the byte as two digits.
+/// Writes the byte as two digits.
 fn write_byte<W: Write>(
     byte: u8,
     outbox: &mut Outbox,
@@ -183,7 +183,7 @@ fn write_byte<W: Write>(
     Ok(())
 }
 
-// The digit of a value below 16.
+/// Returns the digit of a value below 16.
 fn digit(value: u8) -> u8
     requires { value < 16 }
     ensures { result ≡ slice_index lower_digits value }

@@ -13,7 +13,7 @@ use std::io::{Read, Write};
 pub struct Watched<T> {
     inner: T,
     failed: bool,
-    // Whether a read returned the end or an error.
+    /// Set if a read returned the end or an error.
     ended: bool,
     read_again: bool,
 }
@@ -34,15 +34,16 @@ impl<T> Watched<T> {
         }
     }
 
-    /// Whether a read or a write answered an error, or a write took no byte of a piece that is not empty.
+    /// Returns `true` if a read or a write returned an error, or a write took no byte of a piece
+    /// that was not empty.
     pub fn failed(&self) -> bool
         ensures { result ≡ watched_failed self.now }
     {
         self.failed
     }
 
-    /// Returns whether a read came after a read that returned an error, or no byte for a buffer
-    /// that is not empty.
+    /// Returns `true` if a read came after a read that returned an error, or no byte for a buffer
+    /// that was not empty.
     pub fn read_again(&self) -> bool
         ensures { result ≡ watched_read_again self.now }
     {

@@ -71,11 +71,12 @@ pub extern "C" fn art_prefix_get(
     }
 }
 
-/// Gives the key the value. Returns `ADDED` if the key was new. If it was stored, returns `REPLACED`
-/// and writes the value that it had to `old`. Returns `CONFLICT` exactly if the key is a proper prefix
-/// of a stored key, or a stored key is one of it. Returns `NO_MEMORY` if memory runs out: the key is
-/// copied before it is looked up, so a stored key may need memory too. After `CONFLICT` and
-/// `NO_MEMORY` the map is unchanged. `*old` is unchanged unless the code is `REPLACED`.
+/// Gives the key the value. Returns `ADDED` if the key was new. If it was stored, returns
+/// `REPLACED` and writes the value that it had to `old`. Returns `CONFLICT` exactly if the key is a
+/// proper prefix of a stored key, or a stored key is one of it. Returns `NO_MEMORY` if memory runs
+/// out: the key is copied before it is looked up, so a stored key may need memory too. After
+/// `CONFLICT` and `NO_MEMORY` the map is unchanged. `*old` is unchanged unless the code is
+/// `REPLACED`.
 #[unsafe(no_mangle)]
 pub extern "C" fn art_insert(
     map: &mut ArtMap,

@@ -73,7 +73,8 @@ impl ZKey {
     /// Returns the bytes without the zero, from which the key was made.
     pub fn to_bytes(&self) -> &[u8]
         ensures value { result.now ++ 0 ∷ [] ≡ ⟦<ZKey as AsBytes>⟧.bytes self.now }
-        ensures given { (b : List ℕ) → ⟦<ZKey as AsBytes>⟧.bytes self.now ≡ b ++ 0 ∷ [] → result.now ≡ b }
+        ensures given { (b : List ℕ) → ⟦<ZKey as AsBytes>⟧.bytes self.now ≡ b ++ 0 ∷ []
+            → result.now ≡ b }
     {
         let all = self.bytes.as_slice();
         &all[..all.len() - 1]

@@ -1,6 +1,7 @@
-//! A table of mounts: paths of which none begins another, each with a target.
+//! A table of mounts: paths with targets. No path is a prefix of another.
 //!
-//! A path is bytes, and no byte has a meaning of its own. At most one mount begins a path, so there is nothing to choose where one is resolved.
+//! A path is bytes, and no byte has a meaning of its own. At most one mounted path is a prefix of a
+//! path, so there is nothing to choose when a path is resolved.
 #![tactic(auto)]
 
 mod mounts;

@@ -12,7 +12,7 @@ use blart_map::{DEFAULT_PREFIX_LEN, Prefix, TreeMap, TryInsertError, Visits};
 use std::alloc::{AllocError, Global};
 use std::marker::Model;
 
-/// Mounts, each a path with its target. No mount begins another.
+/// Mounts, each a path with its target. No mounted path is a prefix of another.
 ///
 /// ```
 /// let mut mounts = Mounts::new(alloc);
@@ -38,7 +38,7 @@ impl<V> Model for Mounts<V> {
 }
 
 impl<V> Mounts<V> {
-    /// A table with no mounts. Takes no memory.
+    /// Returns a table with no mounts. Does not allocate.
     #[tactic(auto, unfolding(blart_keys::specs::Stored::pair_at_front))]
     pub fn new(alloc: Global) -> Self
         ensures empty { pairs result ≡ [] }
@@ -49,7 +49,8 @@ impl<V> Mounts<V> {
         }
     }
 
-    /// Answers nothing. Its contract says what holds of every table: the mounts ascend by the bytes of their paths, of which none begins another, and a count of them fits.
+    /// Does nothing. Its contract says what holds of every table: the mounts ascend by the bytes of
+    /// their paths, no path is a prefix of another, and the number of mounts fits a `usize`.
     pub fn law(&self)
         ensures content { IsContent (bytes vec_bytes) (pairs self.now) }
         ensures fits { CanCount (pairs self.now) }
@@ -57,7 +58,7 @@ impl<V> Mounts<V> {
         self.map.law();
     }
 
-    /// How many mounts there are.
+    /// Returns the number of mounts.
     pub fn len(&self) -> usize
         ensures { result ≡ length (pairs self.now) }
     {
@@ -93,7 +94,8 @@ impl<V> Mounts<V> {
         self.map.prefix_get_key_value_counted(&path, visits)
     }
 
-    /// The mounts whose paths begin with these bytes, ascending, from both ends; all of them where there are no bytes. Takes no memory.
+    /// Returns an iterator over the mounts of whose paths `front` is a prefix, from both ends, in
+    /// ascending order. If `front` is empty, these are all mounts. Does not allocate.
     pub fn under(&self, front: &[u8]) -> Prefix<'_, Vec<u8>, V, DEFAULT_PREFIX_LEN>
         ensures value { result ≡ under (bytes vec_bytes) (pairs self.now) front.now }
         ensures fits { CanCount result }
@@ -103,9 +105,12 @@ impl<V> Mounts<V> {
 }
 
 impl<V: Drop> Mounts<V> {
-    /// Mounts the target at the path, in the place of the one that was mounted there, which is the answer. A path that is mounted stays, and the one handed in is dropped then.
+    /// Mounts the target at the path, and returns the target that was mounted there before. A path
+    /// that is mounted is unchanged, and the one that was handed in is dropped.
     ///
-    /// `Prefix` is answered exactly where another mount begins the path or is begun by it; `Memory` only where nothing is mounted at the path. A refused call leaves the table as it was.
+    /// Returns the error `Prefix` exactly if another mounted path is a prefix of the path, or the
+    /// path is a prefix of it. Returns `Memory` only if nothing is mounted at the path. After an
+    /// error the table is unchanged.
     pub fn mount(&mut self, path: Vec<u8>, target: V) -> Result<Option<V>, TryInsertError>
         ensures old { IfOk result (λ old. old ≡ value_at vec_bytes (pairs self.old) path.items) }
         ensures mounted { OnOk result
@@ -125,9 +130,10 @@ impl<V: Drop> Mounts<V> {
         self.map.try_insert(path, target)
     }
 
-    /// Mounts the target at the path, in the place of all mounts that begin the path or are begun by it.
+    /// Mounts the target at the path, in place of all mounts whose paths are a prefix of the path,
+    /// or have it as a prefix.
     ///
-    /// Where there are such mounts no memory is taken. A refused call leaves the table as it was.
+    /// If there are such mounts, it does not allocate. After an error the table is unchanged.
     pub fn mount_over(&mut self, path: Vec<u8>, target: V) -> Result<(), AllocError>
         ensures mounted { OnOk result
             (Overwrites vec_bytes (pairs self.old) (path, target) (pairs self.new)) }
@@ -142,7 +148,7 @@ impl<V: Drop> Mounts<V> {
         self.map.prefix_insert(path, target)
     }
 
-    /// Takes down the mount at the path, and gives its target. Takes no memory.
+    /// Removes the mount at the path, and returns its target. Does not allocate.
     pub fn unmount(&mut self, path: &[u8]) -> Option<V>
         ensures old { result ≡ value_at vec_bytes (pairs self.old) path.now }
         ensures unmounted { Updates vec_bytes (pairs self.old) (pairs self.new) path.now None }

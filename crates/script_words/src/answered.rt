@@ -1,16 +1,16 @@
-//! What stops a line.
+//! The errors of a line.
 use std::alloc::AllocError;
 
-/// Why a line has no answer of its own.
+/// The reason why a line has no answer of its own.
 #[derive(Clone, Copy, Debug)]
 pub enum Unanswered {
-    /// The line is no call, or one whose condition does not hold.
+    /// The line is no call, or a call whose condition does not hold.
     NoCall,
-    /// The program had no memory to read the line or to write its answer.
+    /// The program failed to allocate while it read the line or wrote its answer.
     Memory(AllocError),
 }
 
-/// That the answer is written, or why there is none.
+/// `Ok` if the answer is written, or the reason why there is none.
 pub type Answered = Result<(), Unanswered>;
 
 impl From<AllocError> for Unanswered {

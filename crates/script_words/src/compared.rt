@@ -1,4 +1,4 @@
-//! Keys that count how often they are compared.
+//! Keys that count their comparisons.
 ghost use Rattle.std.specs.Prelude.{refl};
 ghost use Rattle.std.specs.Cmp.{partial_order_from_own_ties};
 ghost use Rattle.std.specs.Cmp.Rules.{comparing};
@@ -13,13 +13,13 @@ use blart_keys::{AsBytes, OrderedBytes};
 use std::cell::Cell;
 use std::cmp::Ordering;
 
-/// The bytes of a key, which count how often they are compared with others.
+/// The bytes of a key, and a count of its comparisons with other keys.
 #[derive(Clone, Copy)]
 #[derive_where(PartialEq, Eq)]
 pub struct Compared<'a> {
     /// The bytes.
     pub bytes: &'a [u8],
-    /// How often keys were compared.
+    /// The number of comparisons of keys.
     #[derive_where(skip)]
     pub count: &'a Cell<u64>,
 }

@@ -3,8 +3,8 @@ use crate::answered::Unanswered;
 use crate::names::named;
 use crate::reading::Words;
 
-/// A call of an entry, what is added before it to a value that is stored, and the call that is made
-/// of the entry at a pair: of the one that the first call returns, or the first call itself.
+/// A call of an entry, the number that is added before it to a stored value, and the call of the
+/// entry at a pair: of the entry that the first call returns, or the first call itself.
 #[derive(Clone, Copy)]
 pub struct EntryLine {
     pub add: Option<u64>,
@@ -12,7 +12,7 @@ pub struct EntryLine {
     pub then: Option<EntryCall>,
 }
 
-/// A call of an entry, with its number, or 0 where it has none.
+/// A call of an entry, with its number, or 0 if it has none.
 #[derive(Clone, Copy)]
 pub struct EntryCall {
     pub name: EntryName,
@@ -43,22 +43,22 @@ pub enum EntryName {
     VacantInsertEntry,
 }
 
-/// Which entries have a call, and what it answers.
+/// The entries that have a call, and what it returns.
 #[derive(Clone, Copy)]
 pub enum EntryGroup {
-    /// Every entry: its key.
+    /// Every entry. The call returns the key.
     Key,
-    /// Every entry: the value, which it lends.
+    /// Every entry. The call returns a reference to the value.
     Value,
-    /// Every entry: the entry of the pair.
+    /// Every entry. The call returns the entry of the pair.
     Place,
     /// An entry at a pair.
     Occupied,
-    /// An entry where no pair stands.
+    /// An entry at which there is no pair.
     Vacant,
 }
 
-// The word that names each call.
+/// The word that names each call.
 const NAMES: [(&str, EntryName); 19] = [
     ("key", EntryName::Key),
     ("or_insert", EntryName::OrInsert),
@@ -82,7 +82,7 @@ const NAMES: [(&str, EntryName); 19] = [
 ];
 
 impl EntryName {
-    /// Which entries have the call.
+    /// Returns which entries have the call.
     pub fn group(self) -> EntryGroup {
         match self {
             EntryName::Key => EntryGroup::Key,
@@ -107,7 +107,7 @@ impl EntryName {
         }
     }
 
-    // Whether a number stands after the call's name.
+    /// Returns `true` if a number follows the call's name.
     fn has_number(self) -> bool {
         matches!(
             self,
@@ -126,14 +126,14 @@ impl EntryName {
 }
 
 impl EntryCall {
-    /// The call that the words which are left are.
+    /// Reads the call from the words that are left.
     pub fn read(mut words: Words<'_>) -> Result<EntryCall, Unanswered> {
         let call = EntryCall::next(&mut words)?;
         words.end()?;
         Ok(call)
     }
 
-    // The call that the next words are.
+    /// Reads the call from the next words.
     fn next(words: &mut Words<'_>) -> Result<EntryCall, Unanswered> {
         let Some(name) = named(&NAMES, words.word()?) else {
             return Err(Unanswered::NoCall);
@@ -148,7 +148,7 @@ impl EntryCall {
 }
 
 impl EntryLine {
-    /// What the words that are left say.
+    /// Reads the line from the words that are left.
     pub fn read(words: Words<'_>) -> Result<EntryLine, Unanswered> {
         let mut rest = words;
         if rest.word()? != b"and_modify".as_slice() {
@@ -158,8 +158,8 @@ impl EntryLine {
         EntryLine::after(add, rest)
     }
 
-    /// The call that the words which are left are, and the one that is made of the entry that it
-    /// returns, after something is added to the value.
+    /// Reads from the words that are left the call, and the call of the entry that it returns.
+    /// `add` is the number that is added to the value before.
     pub(crate) fn after(add: Option<u64>, mut words: Words<'_>) -> Result<EntryLine, Unanswered> {
         let call = EntryCall::next(&mut words)?;
         let group = call.name.group();

@@ -1,4 +1,4 @@
-//! The types that a script's keys may have.
+//! The key types of scripts.
 ghost use Rattle.std.specs.Prelude.{◌≡◌, IfOk};
 ghost use Rattle.std.specs.Int.{to_be_bytes, w32};
 
@@ -9,13 +9,13 @@ use std::alloc::{AllocError, Global};
 use std::fmt::Debug;
 use std::hash::Hash;
 
-/// A type of the keys of scripts.
+/// A key type of scripts.
 pub trait ScriptKey: OrderedBytes + Hash + Debug + Shown + Drop + Sized {
-    /// The key of these bytes, where the type has one.
+    /// Returns the key with these bytes, if the type has one.
     fn from_vec(bytes: Vec<u8>) -> Result<Self, Unanswered>
         ensures same { IfOk result (λ key. Self.bytes key ≡ bytes.items) };
 
-    /// The key with this tag, where the type has tags.
+    /// Returns the key with this tag, if the type has tags.
     fn with_tag(self, tag: u64) -> Result<Self, Unanswered>
         ensures same { IfOk result (λ key. Self.bytes key ≡ Self.bytes self) }
     {
@@ -24,7 +24,7 @@ pub trait ScriptKey: OrderedBytes + Hash + Debug + Shown + Drop + Sized {
     }
 }
 
-/// A type of keys that are copied, and all have the same number of bytes.
+/// A key type that is `Copy`, and whose keys all have the same number of bytes.
 pub trait FixedKey: ScriptKey + NoPrefixesBytes + Copy {}
 
 impl ScriptKey for Vec<u8> {
@@ -74,7 +74,7 @@ impl ScriptKey for ZKey {
     }
 }
 
-// The key of these bytes, of which the last is zero and no other is.
+/// Returns the key with these bytes. The last must be zero, and no other may be.
 fn zkey_of(alloc: Global, bytes: &[u8]) -> Result<ZKey, Unanswered>
     ensures { IfOk result (λ key. ⟦<ZKey as AsBytes>⟧.bytes key ≡ bytes.now) }
 {
@@ -88,7 +88,7 @@ fn zkey_of(alloc: Global, bytes: &[u8]) -> Result<ZKey, Unanswered>
     }
 }
 
-/// The bytes, where there are so many.
+/// Returns the bytes as an array, if there are `N` of them.
 pub(crate) fn array_of<const N: usize>(bytes: Vec<u8>) -> Result<[u8; N], Unanswered>
     ensures { IfOk result (λ array. array ≡ bytes.items) }
 {
@@ -101,7 +101,7 @@ pub(crate) fn array_of<const N: usize>(bytes: Vec<u8>) -> Result<[u8; N], Unansw
     }
 }
 
-// The key of the number with these digits, the high one first.
+/// Returns the key of the number with these digits, the high one first.
 fn number_of_digits(digits: [u8; 8]) -> U64Key
     ensures { ⟦<U64Key as AsBytes>⟧.bytes result ≡ digits }
 {
@@ -109,7 +109,7 @@ fn number_of_digits(digits: [u8; 8]) -> U64Key
     U64Key::new(u64::from_be_bytes(digits))
 }
 
-// The key whose bits, of which the top one is flipped, are these.
+/// Returns the key whose bits are these, with the top bit flipped.
 fn number_of_bits(bits: u32) -> I32Key
     ensures { ⟦<I32Key as AsBytes>⟧.bytes result ≡ to_be_bytes w32 bits }
 {

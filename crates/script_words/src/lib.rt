@@ -1,6 +1,8 @@
-//! The words of a script's lines, what they call, and how answers are written.
+//! The words of a script's lines, the calls that they name, and the texts of answers.
 //!
-//! [`Words`] reads bytes, numbers, bounds, and keys of a [`ScriptKey`] type. [`LineCall`] is the call that a line names, and others are the calls of entries. A [`Shown`] value is written into a [`Text`], and [`show_walk`] writes what a walk gives.
+//! [`Words`] reads bytes, numbers, bounds, and keys of a [`ScriptKey`] type. [`LineCall`] is the
+//! call that a line names, and [`EntryCall`] and [`PrefixCall`] are calls of entries. A [`Shown`]
+//! value is written into a [`Text`], and [`show_walk`] writes what an iterator yields.
 #![tactic(auto)]
 
 mod answered;

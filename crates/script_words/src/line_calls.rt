@@ -14,7 +14,7 @@ pub enum LineCall {
 }
 
 impl LineCall {
-    /// The call that the next word names, or the next two.
+    /// Reads the call that the next word names, or the next two.
     pub fn read(words: &mut Words<'_>) -> Result<LineCall, Unanswered> {
         let word = words.word()?;
         if word == b"set".as_slice() {

@@ -4,9 +4,9 @@ use crate::keys::ScriptKey;
 use crate::reading::Words;
 use std::alloc::AllocError;
 
-/// What a word of a list stands for.
+/// An item of a list, which a word stands for.
 pub trait Item: Drop + Sized {
-    /// The item that the next word stands for.
+    /// Reads the item that the next word stands for.
     fn read(words: &mut Words<'_>) -> Result<Self, Unanswered>;
 }
 
@@ -22,7 +22,7 @@ impl<K: ScriptKey> Item for (K, u64) {
     }
 }
 
-/// The items that the words are.
+/// Returns the items that the words stand for.
 pub fn items_of<T: Item>(words: Words<'_>) -> Result<Vec<T>, Unanswered> {
     let mut items = Vec::new(words.alloc());
     match push_items(&mut items, words) {
@@ -44,7 +44,7 @@ fn push_items<T: Item>(items: &mut Vec<T>, mut words: Words<'_>) -> Answered {
     Ok(())
 }
 
-// Adds the item after those of the list.
+/// Adds the item at the end of the list.
 fn push<T: Drop>(items: &mut Vec<T>, item: T) -> Answered {
     match items.push(item) {
         Ok(()) => Ok(()),

@@ -74,7 +74,7 @@ pub enum MapName {
     Drops,
 }
 
-// The word that names each call.
+/// The word that names each call.
 const NAMES: [(&str, MapName); 68] = [
     ("new", MapName::New),
     ("clear", MapName::Clear),
@@ -149,7 +149,7 @@ const NAMES: [(&str, MapName); 68] = [
     ("drops", MapName::Drops),
 ];
 
-/// The call that the word names.
+/// Returns the call that the word names.
 pub fn map_name_of(word: &[u8]) -> Option<MapName> {
     named(&NAMES, word)
 }

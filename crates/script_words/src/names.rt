@@ -1,7 +1,7 @@
-//! Words in a table of names.
+//! Look-ups of words in a table of names.
 use std::iter::Iterator;
 
-/// What the word stands for in the table, if it is there.
+/// Returns the value of the word in the table, if the table has the word.
 pub fn named<T: Copy>(names: &[(&str, T)], word: &[u8]) -> Option<T> {
     for (text, value) in names {
         if text.as_bytes() == word {

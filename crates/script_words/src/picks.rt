@@ -1,9 +1,9 @@
-//! What closures look for, and how often they were asked.
+//! The conditions of closures, with counts of their calls.
 use crate::answered::Unanswered;
 use crate::reading::Words;
 use std::cell::Cell;
 
-/// A value that, when a number is added, leaves this rest.
+/// A condition of values: a value plus a number leaves a remainder.
 #[derive(Drop)]
 pub struct ValuePick {
     modulus: u64,
@@ -13,7 +13,7 @@ pub struct ValuePick {
 }
 
 impl ValuePick {
-    /// What the next three words say: the modulus, the rest and what is added.
+    /// Reads the next three words: the modulus, the remainder and the number to add.
     pub fn read(words: &mut Words<'_>) -> Result<ValuePick, Unanswered> {
         let modulus = words.modulus()?;
         let rest = words.number()?;
@@ -26,20 +26,20 @@ impl ValuePick {
         })
     }
 
-    /// Adds to the value, and answers whether it leaves the rest.
+    /// Adds the number to the value, and returns `true` if the sum leaves the remainder.
     pub fn picks(&self, value: &mut u64) -> bool {
         self.asked.set(self.asked.get().wrapping_add(1));
         *value = value.wrapping_add(self.add);
         value.checked_rem(self.modulus) == Some(self.rest)
     }
 
-    /// How often it was asked.
+    /// Returns how often [`ValuePick::picks`] was called.
     pub fn asked(&self) -> u64 {
         self.asked.get()
     }
 }
 
-/// Bytes of which the sum leaves this rest.
+/// A condition of bytes: their sum leaves a remainder.
 #[derive(Drop)]
 pub struct BytesPick {
     modulus: u64,
@@ -48,7 +48,7 @@ pub struct BytesPick {
 }
 
 impl BytesPick {
-    /// What the next two words say: the modulus and the rest.
+    /// Reads the next two words: the modulus and the remainder.
     pub fn read(words: &mut Words<'_>) -> Result<BytesPick, Unanswered> {
         let modulus = words.modulus()?;
         let rest = words.number()?;
@@ -59,7 +59,7 @@ impl BytesPick {
         })
     }
 
-    /// Whether the bytes leave the rest.
+    /// Returns `true` if the sum of the bytes leaves the remainder.
     pub fn picks(&self, bytes: &[u8]) -> bool {
         self.asked.set(self.asked.get().wrapping_add(1));
         let mut sum = 0u64;
@@ -69,7 +69,7 @@ impl BytesPick {
         sum.checked_rem(self.modulus) == Some(self.rest)
     }
 
-    /// How often it was asked.
+    /// Returns how often [`BytesPick::picks`] was called.
     pub fn asked(&self) -> u64 {
         self.asked.get()
     }

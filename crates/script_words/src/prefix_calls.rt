@@ -4,22 +4,24 @@ use crate::entry_calls::{EntryCall, EntryGroup, EntryLine};
 use crate::names::named;
 use crate::reading::Words;
 
-/// A call of a prefix entry. A walk has the letters of its steps, and one that lends values what is added to each.
+/// A call of a prefix entry. An iterator has the letters of its steps, and an iterator of mutable
+/// references also has the number that is added to each value.
 #[derive(Clone, Copy)]
 pub enum PrefixCall<'a> {
-    /// One that entries have too.
+    /// A call that entries have too.
     Shared(EntryCall),
-    /// One of these that the entry's kind has too, made of that.
+    /// A call that entries have too, of the entry's kind.
     OfKind(EntryLine),
-    /// One that prefix entries alone have, or that theirs differs in, with its number, or 0 where it has none.
+    /// A call that only prefix entries have, or that differs from that of entries, with its number,
+    /// or 0 if it has none.
     Own(PrefixName, u64),
-    /// The walk over the pairs in whose place the entry is.
+    /// The iterator over the related pairs.
     Iter(Option<&'a [u8]>),
-    /// The walk that lends their values.
+    /// The iterator over mutable references to their values.
     IterMut(u64, Option<&'a [u8]>),
 }
 
-/// The name of a call that prefix entries alone have, or that theirs differs in.
+/// The name of a call that only prefix entries have, or that differs from that of entries.
 #[derive(Clone, Copy)]
 pub enum PrefixName {
     GetKey,
@@ -38,7 +40,7 @@ pub enum PrefixName {
     GetKeyValueMut,
 }
 
-// The word that names each call.
+/// The word that names each call.
 const NAMES: [(&str, PrefixName); 14] = [
     ("get_key", PrefixName::GetKey),
     ("occupied_key", PrefixName::OccupiedKey),
@@ -57,7 +59,7 @@ const NAMES: [(&str, PrefixName); 14] = [
 ];
 
 impl<'a> PrefixCall<'a> {
-    /// What the words that are left say.
+    /// Reads the call from the words that are left.
     pub fn read(words: Words<'a>) -> Result<PrefixCall<'a>, Unanswered> {
         let mut rest = words;
         let word = rest.word()?;
@@ -79,7 +81,7 @@ impl<'a> PrefixCall<'a> {
 }
 
 impl PrefixName {
-    // Whether a number stands after the call's name.
+    /// Returns `true` if a number follows the call's name.
     fn has_number(self) -> bool {
         matches!(
             self,

@@ -1,4 +1,4 @@
-//! The words of a line, and what they stand for.
+//! The words of a line, and the values that they stand for.
 ghost use Rattle.std.specs.Prelude.{◌≡◌, true, IfOk, Some, Contains};
 ghost use Rattle.std.specs.List.{list_all};
 ghost use Rattle.std.specs.Char.{is_ascii_digit};
@@ -12,7 +12,7 @@ use hex::FromHexError;
 use std::alloc::{AllocError, Global};
 use std::ops::Bound;
 
-/// The words of a text that are still to be read. One byte parts them.
+/// The words of a text that are not read yet. One byte separates them.
 #[derive(Clone, Copy)]
 pub struct Words<'a> {
     rest: Option<&'a [u8]>,
@@ -21,7 +21,7 @@ pub struct Words<'a> {
 }
 
 impl<'a> Words<'a> {
-    /// All words of the text.
+    /// Returns all words of the text.
     pub fn new(text: &'a [u8], part: u8, alloc: Global) -> Self {
         Words {
             rest: Some(text),
@@ -30,17 +30,17 @@ impl<'a> Words<'a> {
         }
     }
 
-    /// What the program takes its memory from.
+    /// Returns the allocator of the program.
     pub fn alloc(&self) -> Global {
         self.alloc
     }
 
-    /// Whether no word is left.
+    /// Returns `true` if no word is left.
     pub fn is_done(&self) -> bool {
         self.rest.is_none()
     }
 
-    /// That no word is left.
+    /// Returns `Ok` if no word is left, or an error.
     pub fn end(&self) -> Answered {
         match self.rest {
             Some(_) => Err(Unanswered::NoCall),
@@ -48,7 +48,7 @@ impl<'a> Words<'a> {
         }
     }
 
-    /// The next word. Between two parting bytes stands a word of no bytes.
+    /// Reads the next word. Between two separators there is a word of no bytes.
     pub fn word(&mut self) -> Result<&'a [u8], Unanswered> {
         let Some(text) = self.rest else {
             return Err(Unanswered::NoCall);
@@ -66,29 +66,29 @@ impl<'a> Words<'a> {
         }
     }
 
-    /// The last word.
+    /// Reads the last word.
     pub fn last_word(&mut self) -> Result<&'a [u8], Unanswered> {
         let word = self.word()?;
         self.end()?;
         Ok(word)
     }
 
-    /// The words of the next word, which colons part.
+    /// Reads the next word, and returns its own words, which colons separate.
     pub fn parts(&mut self) -> Result<Words<'a>, Unanswered> {
         Ok(Words::new(self.word()?, b':', self.alloc))
     }
 
-    /// The bytes that the next word stands for.
+    /// Reads the bytes that the next word stands for.
     pub fn bytes(&mut self) -> Result<Vec<u8>, Unanswered> {
         joined_of(self.alloc, self.word()?)
     }
 
-    /// The bytes that the last word stands for.
+    /// Reads the bytes that the last word stands for.
     pub fn last_bytes(&mut self) -> Result<Vec<u8>, Unanswered> {
         joined_of(self.alloc, self.last_word()?)
     }
 
-    /// The key that a word stands for, with the tag after `#` where there is one.
+    /// Returns the key that a word stands for, with the tag after `#` if there is one.
     pub fn key_of<K: ScriptKey>(&self, word: &[u8]) -> Result<K, Unanswered> {
         let mut parts = Words::new(word, b'#', self.alloc);
         let digits = parts.word()?;
@@ -98,24 +98,24 @@ impl<'a> Words<'a> {
         }
     }
 
-    /// The key that the next word stands for.
+    /// Reads the key that the next word stands for.
     pub fn key<K: ScriptKey>(&mut self) -> Result<K, Unanswered> {
         let word = self.word()?;
         self.key_of(word)
     }
 
-    /// The key that the last word stands for.
+    /// Reads the key that the last word stands for.
     pub fn last_key<K: ScriptKey>(&mut self) -> Result<K, Unanswered> {
         let word = self.last_word()?;
         self.key_of(word)
     }
 
-    /// The number that the next word is.
+    /// Reads the next word, which is a number.
     pub fn number(&mut self) -> Result<u64, Unanswered> {
         number_of(self.word()?).ok_or(Unanswered::NoCall)
     }
 
-    /// The number that the next word is, by which others are divided.
+    /// Reads the next word, which is a number by which others are divided, and not 0.
     pub fn modulus(&mut self) -> Result<u64, Unanswered> {
         match self.number()? {
             0 => Err(Unanswered::NoCall),
@@ -123,7 +123,7 @@ impl<'a> Words<'a> {
         }
     }
 
-    /// The number that the last word is, where one is left.
+    /// Reads the last word, which is a number, if a word is left.
     pub fn last_number(mut self) -> Result<Option<u64>, Unanswered> {
         if self.is_done() {
             return Ok(None);
@@ -133,14 +133,15 @@ impl<'a> Words<'a> {
         Ok(Some(number))
     }
 
-    /// The number that the last word is, of a call that has one. Else no word is left, and it is 0.
+    /// Reads the last word, which is a number, if `has_number`. Otherwise no word may be left, and
+    /// it returns 0.
     pub fn number_if(mut self, has_number: bool) -> Result<u64, Unanswered> {
         let number = if has_number { self.number()? } else { 0 };
         self.end()?;
         Ok(number)
     }
 
-    /// The key and the number that the last two words stand for.
+    /// Reads the key and the number that the last two words stand for.
     pub fn last_pair<K: ScriptKey>(&mut self) -> Result<(K, u64), Unanswered> {
         let word = self.word()?;
         let number = self.number()?;
@@ -148,7 +149,7 @@ impl<'a> Words<'a> {
         Ok((self.key_of(word)?, number))
     }
 
-    /// The bounds that the next two words are.
+    /// Reads the next two words, which are bounds.
     pub fn bounds(&mut self) -> Result<(Bound<Vec<u8>>, Bound<Vec<u8>>), Unanswered> {
         let start = self.start()?;
         match self.finish() {
@@ -160,7 +161,7 @@ impl<'a> Words<'a> {
         }
     }
 
-    // The start bound that the next word is.
+    /// Reads the next word, which is a start bound.
     fn start(&mut self) -> Result<Bound<Vec<u8>>, Unanswered> {
         match self.word()? {
             b"*" => Ok(Bound::Unbounded),
@@ -170,7 +171,7 @@ impl<'a> Words<'a> {
         }
     }
 
-    // The end bound that the next word is.
+    /// Reads the next word, which is an end bound.
     fn finish(&mut self) -> Result<Bound<Vec<u8>>, Unanswered> {
         match self.word()? {
             b"*" => Ok(Bound::Unbounded),
@@ -180,7 +181,7 @@ impl<'a> Words<'a> {
         }
     }
 
-    /// The letters of the steps that the last word is, where one is left.
+    /// Reads the last word, which is letters of steps, if a word is left.
     pub fn last_steps(&mut self) -> Result<Option<&'a [u8]>, Unanswered> {
         if self.is_done() {
             return Ok(None);
@@ -192,7 +193,8 @@ impl<'a> Words<'a> {
         Ok(Some(letters))
     }
 
-    /// The letters of the steps that the last word is, where one is left, of a walk that does not count.
+    /// Reads the last word, which is letters of steps, if a word is left. The steps are of an
+    /// iterator that does not count.
     pub fn last_moves(&mut self) -> Result<Option<&'a [u8]>, Unanswered> {
         let letters = self.last_steps()?;
         match letters {
@@ -201,7 +203,7 @@ impl<'a> Words<'a> {
         }
     }
 
-    /// The letters of the decisions that the last word is.
+    /// Reads the last word, which is letters of decisions.
     pub fn last_decisions(&mut self) -> Result<&'a [u8], Unanswered> {
         let letters = self.last_word()?;
         if letters.is_empty() || !are_decisions(letters) {
@@ -213,7 +215,7 @@ impl<'a> Words<'a> {
 
 // ---- steps
 
-// Whether all letters are of steps and decisions.
+/// Returns `true` if all letters are of steps and decisions.
 fn are_decisions(letters: &[u8]) -> bool
     ensures { result ≡ list_all is_decision letters.now }
 {
@@ -222,7 +224,7 @@ fn are_decisions(letters: &[u8]) -> bool
     })
 }
 
-// Whether all letters are of steps.
+/// Returns `true` if all letters are of steps.
 fn are_steps(letters: &[u8]) -> bool
     ensures { result ≡ list_all is_step letters.now }
 {
@@ -231,10 +233,10 @@ fn are_steps(letters: &[u8]) -> bool
 
 // ---- bytes
 
-// The largest number of times that a byte is repeated.
+/// The largest number of times that a byte is repeated.
 const MOST: u64 = (1 << 20) - 1;
 
-// The bytes that the word stands for, which are those of its parts where it has some.
+/// Returns the bytes that the word stands for. If it has parts, these are the bytes of its parts.
 fn joined_of(alloc: Global, word: &[u8]) -> Result<Vec<u8>, Unanswered>
     ensures read { ¬ Contains word.now 42 → ¬ Contains word.now 46
         → IfOk result (λ bytes. read_bytes word.now ≡ Some bytes.items) }
@@ -249,7 +251,7 @@ fn joined_of(alloc: Global, word: &[u8]) -> Result<Vec<u8>, Unanswered>
     Ok(bytes)
 }
 
-// Adds the bytes of a part: those of its digits, or one byte as often as is said.
+/// Adds the bytes of a part: those of its digits, or one byte repeated.
 fn push_part(bytes: &mut Vec<u8>, part: &[u8]) -> Answered {
     if part == b"-".as_slice() {
         return Err(Unanswered::NoCall);
@@ -271,7 +273,7 @@ fn push_all(bytes: &mut Vec<u8>, more: &[u8]) -> Answered {
     Ok(bytes.extend_from_slice(more)?)
 }
 
-// Adds the one byte as often as the word says.
+/// Adds the one byte as often as the word says.
 fn push_repeated(bytes: &mut Vec<u8>, one: &[u8], word: &[u8]) -> Answered {
     let ([byte], Some(count)) = (one, number_of(word)) else {
         return Err(Unanswered::NoCall);
@@ -287,7 +289,7 @@ fn push_repeated(bytes: &mut Vec<u8>, one: &[u8], word: &[u8]) -> Answered {
     Ok(())
 }
 
-// The bytes that the word stands for.
+/// Returns the bytes that the word stands for.
 fn bytes_of(alloc: Global, word: &[u8]) -> Result<Vec<u8>, Unanswered>
     ensures read { IfOk result (λ bytes. read_bytes word.now ≡ Some bytes.items) }
     ensures no_call { result ≡ Err Unanswered.NoCall → read_bytes word.now ≡ None }
@@ -307,7 +309,7 @@ fn bytes_of(alloc: Global, word: &[u8]) -> Result<Vec<u8>, Unanswered>
 
 // ---- numbers
 
-// The number that the word is, where it is digits and below 2^64.
+/// Returns the number that the word is, if it is digits and below 2^64.
 fn number_of(word: &[u8]) -> Option<u64>
     ensures { result ≡ read_number word.now }
 {
@@ -318,7 +320,7 @@ fn number_of(word: &[u8]) -> Option<u64>
     }
 }
 
-// Whether the word is decimal digits, one at least.
+/// Returns `true` if the word is decimal digits, at least one.
 fn is_numeral(word: &[u8]) -> bool
     ensures { result ≡ spec.is_numeral word.now }
 {
@@ -335,7 +337,7 @@ fn is_all_digits(word: &[u8]) -> bool
     word.iter().all(|byte| byte.is_ascii_digit())
 }
 
-// The value of the digits, where it is below 2^64.
+/// Returns the value of the digits, if it is below 2^64.
 fn value_of(digits: &[u8]) -> Option<u64>
     requires { spec.is_numeral digits.now ≡ true }
     ensures { result ≡ below_limit (digits_value 10 digits.now) }

@@ -63,7 +63,7 @@ pub enum SetName {
     IsSupersetCounted,
 }
 
-// The word that names each call.
+/// The word that names each call.
 const NAMES: [(&str, SetName); 57] = [
     ("new", SetName::New),
     ("clear", SetName::Clear),
@@ -127,7 +127,7 @@ const NAMES: [(&str, SetName); 57] = [
     ("is_superset_counted", SetName::IsSupersetCounted),
 ];
 
-/// The call that the word names.
+/// Returns the call that the word names.
 pub fn set_name_of(word: &[u8]) -> Option<SetName> {
     named(&NAMES, word)
 }

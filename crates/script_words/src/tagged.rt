@@ -1,4 +1,4 @@
-//! Keys with a tag that is none of their bytes.
+//! Keys with a tag that is not among their bytes.
 ghost use Rattle.std.specs.Prelude.{◌≡◌, length, refl};
 ghost use Rattle.std.proofs.Common.{◌∙◌, sym};
 ghost use Rattle.std.proofs.lemmas.Slice.Eq.{bytes_eq-Decides};
@@ -9,7 +9,7 @@ use crate::keys::{FixedKey, ScriptKey, array_of};
 use crate::text::{Shown, Text, show_bytes};
 use blart_keys::{AsBytes, NoPrefixesBytes, OrderedBytes};
 
-/// Three bytes as a key, and a tag that no comparison sees.
+/// A key of three bytes, and a tag that no comparison reads.
 #[derive(Clone, Copy)]
 #[derive_where(PartialEq, Eq, PartialOrd, Ord, Hash, Debug)]
 pub struct Tagged {

@@ -1,11 +1,12 @@
-//! Answers as text: what `{:?}` would write, with keys in hexadecimal.
+//! Answers as text: the text of `{:?}`, with keys in hexadecimal.
 use crate::answered::{Answered, Unanswered};
 use blart_keys::{AsBytes, I32Key, InsertPrefixError, Reply, TryInsertError, U64Key, ZKey};
 use std::alloc::{AllocError, Global};
 use std::cmp::Ordering;
 use std::fmt::Debug;
 
-/// Text on its way out. Where there is no memory for more, or a line is no call, the text is stopped, and what stopped it first is remembered.
+/// A text that grows. If it fails to allocate, or a line is no call, the text is stopped. It keeps
+/// the first reason.
 #[derive(Drop)]
 pub struct Text {
     bytes: Vec<u8>,
@@ -13,7 +14,7 @@ pub struct Text {
 }
 
 impl Text {
-    /// Text of no bytes.
+    /// Returns a text of no bytes.
     pub fn new(alloc: Global) -> Self {
         Text {
             bytes: Vec::new(alloc),
@@ -21,12 +22,12 @@ impl Text {
         }
     }
 
-    /// Drops what stands after the first so many bytes.
+    /// Keeps the first `count` bytes, and drops the others.
     pub fn truncate(&mut self, count: usize) {
         self.bytes.truncate(count);
     }
 
-    /// Adds the bytes after the text.
+    /// Adds the bytes at the end of the text.
     pub fn push(&mut self, bytes: &[u8]) {
         if self.bytes.extend_from_slice(bytes).is_err() {
             self.stop(Unanswered::Memory(AllocError));
@@ -40,7 +41,8 @@ impl Text {
         }
     }
 
-    /// Whether a line that is no call stopped the text. It goes on then.
+    /// Returns `true` if the text was stopped by a line that is no call. Then the text is no longer
+    /// stopped.
     pub fn take_no_call(&mut self) -> bool {
         if matches!(self.stopped, Some(Unanswered::NoCall)) {
             self.stopped = None;
@@ -49,7 +51,7 @@ impl Text {
         false
     }
 
-    /// That nothing stopped the text, or what did.
+    /// Returns `Ok` if the text is not stopped, or the reason that stopped it.
     pub fn is_whole(&self) -> Answered {
         match self.stopped {
             Some(why) => Err(why),
@@ -57,12 +59,12 @@ impl Text {
         }
     }
 
-    /// The bytes of the text.
+    /// Returns the bytes of the text.
     pub fn as_slice(&self) -> &[u8] {
         self.bytes.as_slice()
     }
 
-    /// What the text takes its memory from.
+    /// Returns the allocator of the text.
     pub fn alloc(&self) -> Global {
         *self.bytes.allocator()
     }
@@ -70,11 +72,11 @@ impl Text {
 
 /// A value that can be written as an answer.
 pub trait Shown {
-    /// Adds the value after the text.
+    /// Adds the value at the end of the text.
     fn show(&self, text: &mut Text);
 }
 
-/// Adds the bytes in lower-case hexadecimal, or `-` where there are none.
+/// Adds the bytes in lower-case hexadecimal, or `-` if there are none.
 pub fn show_bytes(bytes: &[u8], text: &mut Text) {
     if bytes.is_empty() {
         return text.push(b"-");
@@ -82,12 +84,12 @@ pub fn show_bytes(bytes: &[u8], text: &mut Text) {
     push_made(hex::encode(text.alloc(), bytes), text);
 }
 
-/// Adds the value's own text.
+/// Adds the value's `Debug` text.
 pub fn show_debug<T: Debug>(value: &T, text: &mut Text) {
     push_made(format!(in text.alloc(); "{value:?}"), text);
 }
 
-// Adds a text that was made, if there was memory for it.
+/// Adds a text, or stops if the text failed to allocate.
 fn push_made(made: Result<String, AllocError>, text: &mut Text) {
     match made {
         Ok(own) => text.push(own.as_bytes()),
@@ -246,7 +248,7 @@ impl<K: Shown> Shown for Reply<K, u64> {
     }
 }
 
-// Adds the call's name and its answer.
+/// Adds the call's name and its result.
 fn show_reply<T: Shown>(name: &[u8], answer: &T, text: &mut Text) {
     text.push(name);
     text.push(b"(");

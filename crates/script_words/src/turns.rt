@@ -1,4 +1,4 @@
-//! Calls that are made in turn.
+//! Calls that are made one after another.
 use crate::answered::Unanswered;
 use crate::keys::ScriptKey;
 use crate::lists::Item;
@@ -6,7 +6,7 @@ use crate::names::named;
 use crate::reading::Words;
 use blart_keys::Call;
 
-// The name of a call that is made in turn.
+/// The name of a call that is made among others.
 #[derive(Clone, Copy)]
 enum TurnName {
     TryInsert,
@@ -19,7 +19,7 @@ enum TurnName {
     Clear,
 }
 
-// The word that names each call.
+/// The word that names each call.
 const NAMES: [(&str, TurnName); 8] = [
     ("TryInsert", TurnName::TryInsert),
     ("ReplaceEntry", TurnName::ReplaceEntry),
@@ -37,7 +37,7 @@ impl<K: ScriptKey> Item for Call<K, u64> {
     }
 }
 
-// The call that the parts of a word are.
+/// Returns the call that the parts of a word name.
 fn call_of<K: ScriptKey>(mut parts: Words<'_>) -> Result<Call<K, u64>, Unanswered> {
     let Some(name) = named(&NAMES, parts.word()?) else {
         return Err(Unanswered::NoCall);
@@ -55,7 +55,7 @@ fn call_of<K: ScriptKey>(mut parts: Words<'_>) -> Result<Call<K, u64>, Unanswere
     }
 }
 
-// The call of this name that places a pair.
+/// Returns the call of this name that places a pair.
 fn call_with_pair<K>(name: TurnName, pair: (K, u64)) -> Call<K, u64> {
     let (key, value) = pair;
     match name {
@@ -65,7 +65,7 @@ fn call_with_pair<K>(name: TurnName, pair: (K, u64)) -> Call<K, u64> {
     }
 }
 
-// The call of this name, which has no arguments.
+/// Returns the call of this name, which has no arguments.
 fn bare_call<K>(name: TurnName) -> Call<K, u64> {
     match name {
         TurnName::PopFirst => Call::PopFirst,

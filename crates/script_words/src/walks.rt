@@ -1,10 +1,10 @@
-//! Walks, and what their steps give.
+//! Iterators, and the items of their steps.
 ghost use Rattle.std.specs.Iterator.{IsFinite};
 
 use crate::text::{Shown, Text};
 use std::iter::{DoubleEndedIterator, Iterator};
 
-/// Adds what each letter gave, or all items where there are no letters.
+/// Adds the result of each letter, or all items if there are no letters.
 pub fn show_walk<W: DoubleEndedIterator>(walk: W, letters: Option<&[u8]>, text: &mut Text)
 where
     W::Item: Shown + Drop,
@@ -18,7 +18,7 @@ where
     }
 }
 
-/// Adds all items, between brackets and parted by commas.
+/// Adds all items, between brackets and separated by commas.
 pub fn show_items<W: Iterator>(walk: W, text: &mut Text)
 where
     W::Item: Shown + Drop,
@@ -35,7 +35,7 @@ where
     text.push(b"]");
 }
 
-// Adds what each letter gave, parted by spaces.
+/// Adds the result of each letter, separated by spaces.
 fn show_steps<W: DoubleEndedIterator>(mut walk: W, letters: &[u8], text: &mut Text)
 where
     W::Item: Shown + Drop,
