@@ -218,7 +218,7 @@ fn write_list<W: Write>(
     write_listing(map.iter(), outbox, writer)
 }
 
-/// Writes the pairs of whose keys the word's key is a prefix.
+/// Writes the pairs whose keys begin with the word's key.
 fn write_prefix<W: Write>(
     map: &Pairs,
     alloc: Global,

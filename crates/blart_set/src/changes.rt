@@ -44,8 +44,8 @@ impl<K: AsBytes + Drop, const PREFIX_LEN: usize> TreeSet<K, PREFIX_LEN> {
         element_of(self.map.remove_entry(query))
     }
 
-    /// Removes the elements of whose bytes the prefix is a prefix, and returns how many there were.
-    /// If the prefix is empty, these are all elements. Does not allocate.
+    /// Removes the elements whose bytes begin with `prefix`, and returns how many there were. If
+    /// `prefix` is empty, these are all elements. Does not allocate.
     ///
     /// Cost: a few descents, however many elements are removed, and the drop of the removed
     /// elements.

@@ -18,8 +18,8 @@ use std::alloc::AllocError;
 /// The room counts down by one if an element is added. It is unchanged if the element's bytes are
 /// stored or it conflicts.
 ///
-/// This value holds the elements, and the set is empty until it is dropped. Then the set has them
-/// again. If it is forgotten instead, the set remains empty.
+/// This value holds the elements, and the set is empty meanwhile. When it is dropped, the set has
+/// them again. If it is forgotten instead, the set remains empty.
 ///
 /// `S` is the set's type, and `R` the type that holds the elements, as for the map's guard.
 ///

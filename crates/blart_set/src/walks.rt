@@ -47,8 +47,8 @@ pub type IntoIter<K, const PREFIX_LEN: usize> = IntoKeys<K, (), PREFIX_LEN>;
 /// ```
 pub type Range<'a, K, const PREFIX_LEN: usize> = BoundedKeys<'a, K, InRange, PREFIX_LEN>;
 
-/// An iterator over the elements of whose bytes some bytes are a prefix, from both ends, in
-/// ascending order.
+/// An iterator over the elements whose bytes begin with some bytes, from both ends, in ascending
+/// order.
 ///
 /// ```
 /// // set is {[1, 2], [3, 4]}
@@ -144,7 +144,7 @@ impl<K: AsBytes, const PREFIX_LEN: usize> TreeSet<K, PREFIX_LEN> {
         }
     }
 
-    /// Returns an iterator over the elements of whose bytes `front` is a prefix, from both ends, in
+    /// Returns an iterator over the elements whose bytes begin with `front`, from both ends, in
     /// ascending order. If `front` is empty, these are all elements. Does not allocate.
     ///
     /// ```

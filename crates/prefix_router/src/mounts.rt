@@ -94,7 +94,7 @@ impl<V> Mounts<V> {
         self.map.prefix_get_key_value_counted(&path, visits)
     }
 
-    /// Returns an iterator over the mounts of whose paths `front` is a prefix, from both ends, in
+    /// Returns an iterator over the mounts whose paths begin with `front`, from both ends, in
     /// ascending order. If `front` is empty, these are all mounts. Does not allocate.
     pub fn under(&self, front: &[u8]) -> Prefix<'_, Vec<u8>, V, DEFAULT_PREFIX_LEN>
         ensures value { result ≡ under (bytes vec_bytes) (pairs self.now) front.now }
@@ -130,8 +130,8 @@ impl<V: Drop> Mounts<V> {
         self.map.try_insert(path, target)
     }
 
-    /// Mounts the target at the path, in place of all mounts whose paths are a prefix of the path,
-    /// or have it as a prefix.
+    /// Mounts the target at the path, in place of all mounts whose paths are a prefix of it or
+    /// begin with it.
     ///
     /// If there are such mounts, it does not allocate. After an error the table is unchanged.
     pub fn mount_over(&mut self, path: Vec<u8>, target: V) -> Result<(), AllocError>

@@ -109,7 +109,8 @@ fn number_of_digits(digits: [u8; 8]) -> U64Key
     U64Key::new(u64::from_be_bytes(digits))
 }
 
-/// Returns the key whose bits are these, with the top bit flipped.
+/// Returns the key whose bytes are the big-endian bytes of these bits. Its number has the top bit
+/// flipped.
 fn number_of_bits(bits: u32) -> I32Key
     ensures { ⟦<I32Key as AsBytes>⟧.bytes result ≡ to_be_bytes w32 bits }
 {

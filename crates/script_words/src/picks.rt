@@ -3,7 +3,7 @@ use crate::answered::Unanswered;
 use crate::reading::Words;
 use std::cell::Cell;
 
-/// A condition of values: a value plus a number leaves a remainder.
+/// A condition of values: a value plus a number leaves a given remainder.
 #[derive(Drop)]
 pub struct ValuePick {
     modulus: u64,
@@ -39,7 +39,7 @@ impl ValuePick {
     }
 }
 
-/// A condition of bytes: their sum leaves a remainder.
+/// A condition of bytes: their sum leaves a given remainder.
 #[derive(Drop)]
 pub struct BytesPick {
     modulus: u64,

@@ -6,7 +6,7 @@ use crate::names::named;
 use crate::reading::Words;
 use blart_keys::Call;
 
-/// The name of a call that is made among others.
+/// The name of a call in a list of calls.
 #[derive(Clone, Copy)]
 enum TurnName {
     TryInsert,
