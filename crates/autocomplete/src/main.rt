@@ -1,58 +1,86 @@
-//! Completes what is typed: `autocomplete FILE` reads a list of words, one a line, and then answers each line of standard input by the first ten words that begin with it, in order.
+//! Completes words. `autocomplete FILE` reads a list of words from a file, and then writes the first
+//! words that begin with each line that it reads from standard input.
 #![tactic(auto)]
 
 use anyhow::Context;
 use blart::{Set, TreeSet, ZKey};
+use std::io::ErrorKind;
 use std::iter::Iterator;
-use std::{env, fs};
+use std::{env, fs, str};
 
-// How many words an answer has at most.
+const USAGE: &str = "\
+usage: autocomplete FILE
+
+Each line of FILE is a word. Blank lines are skipped. For each line of standard input
+the first ten words that begin with it are written, in order.
+";
+
+/// The number of words that are written for a line at most.
 const MOST: usize = 10;
 
 fn main(rt: HostRuntime) -> anyhow::Result<()> {
-    let path = path_of(&rt)?;
-    let text = fs::read_to_string(&rt, path.as_str()).context("the list of words")?;
+    let file = file_of(&rt)?;
+    if file.as_str() == "--help" {
+        print!(rt; "{USAGE}")?;
+        return Ok(());
+    }
+    let text = fs::read_to_string(&rt, file.as_str()).context(format_args!("{file}"))?;
     let mut words = TreeSet::new(rt.alloc());
-    let answered = run(&rt, &text, &mut words);
+    let result = run(&rt, &file, &text, &mut words);
     drop(words);
-    answered
+    result
 }
 
-// Takes the words of a text, and answers by them.
-fn run(rt: &HostRuntime, text: &str, words: &mut Set<ZKey>) -> anyhow::Result<()> {
-    take_words(rt, text, words)?;
-    print!(rt; "{} words\n> ", words.len())?;
-    answer(rt, words)?;
+/// Returns the first argument.
+fn file_of(rt: &HostRuntime) -> anyhow::Result<String> {
+    env::args(rt)?.nth(1).context("usage: autocomplete FILE")
+}
+
+/// Inserts the words of a list, and then completes the lines of standard input.
+fn run(rt: &HostRuntime, file: &str, text: &str, words: &mut Set<ZKey>) -> anyhow::Result<()> {
+    insert_all(rt, file, text, words)?;
+    let count = words.len();
+    print!(rt; "{count} {}\n> ", if count == 1 { "word" } else { "words" })?;
+    complete_all(rt, words)?;
     println!(rt; "")?;
     Ok(())
 }
 
-// The file that is named.
-fn path_of(rt: &HostRuntime) -> anyhow::Result<String> {
-    env::args(rt)?.nth(1).context("usage: autocomplete FILE")
-}
-
-// Takes the words of a text, one a line.
-fn take_words(rt: &impl AllocGlobal, text: &str, words: &mut Set<ZKey>) -> anyhow::Result<()> {
+/// Inserts the word of each line, except for blank lines.
+fn insert_all(
+    rt: &impl AllocGlobal,
+    file: &str,
+    text: &str,
+    words: &mut Set<ZKey>,
+) -> anyhow::Result<()> {
+    let mut number = 0usize;
     for line in text.lines() {
-        words.insert(ZKey::from_bytes(rt.alloc(), line.as_bytes())?)?;
+        number = number.wrapping_add(1);
+        if !line.trim().is_empty() {
+            let word = ZKey::from_bytes(rt.alloc(), line.as_bytes());
+            words.insert(word.context(format_args!("{file}:{number}"))?)?;
+        }
     }
     Ok(())
 }
 
-// Answers each line of standard input.
-fn answer(rt: &HostRuntime, words: &Set<ZKey>) -> anyhow::Result<()> {
+/// Completes each line of standard input.
+fn complete_all(rt: &HostRuntime, words: &Set<ZKey>) -> anyhow::Result<()> {
     for line in rt.lines(rt.alloc()) {
-        complete(rt, words, &line?)?;
+        match line {
+            Ok(letters) => complete(rt, words, &letters)?,
+            Err(error) if error.kind() == ErrorKind::InvalidData => println!(rt; "not UTF-8")?,
+            Err(error) => return Err(error.into()),
+        }
+        print!(rt; "> ")?;
     }
     Ok(())
 }
 
-// Prints the first words that begin with these letters, and the next prompt.
+/// Writes the first words that begin with some letters.
 fn complete(rt: &impl Print, words: &Set<ZKey>, letters: &str) -> anyhow::Result<()> {
     for word in words.prefix(letters.as_bytes()).take(MOST) {
-        println!(rt; "{}", std::str::from_utf8(word.to_bytes())?)?;
+        println!(rt; "{}", str::from_utf8(word.to_bytes())?)?;
     }
-    print!(rt; "> ")?;
     Ok(())
 }

@@ -1,60 +1,119 @@
-//! Routes paths: `routes FILE` reads a table of mounts, each a path and a target on a line, with a space between, and then answers each line of standard input by the mount that begins it.
+//! Routes paths. `routes FILE` reads a table of mounts from a file, and then writes the target of
+//! each path that it reads from standard input.
 #![tactic(auto)]
 
 use anyhow::Context;
 use prefix_router::Mounts;
-use std::io::{BufRead, BufReader};
+use std::io::{BufRead, BufReader, ErrorKind};
 use std::iter::Iterator;
-use std::{env, fs};
+use std::{env, fs, str};
+
+const USAGE: &str = "\
+usage: routes FILE
+
+Each line of FILE mounts a path: the path, a space, and a target. Blank lines and
+lines that begin with # are skipped. No path may be a prefix of another.
+
+Each line of standard input is a path. For each, the target of the mount that is a
+prefix of it is written, and the rest of the path.
+";
 
 type Table = Mounts<String>;
 
+/// A line of a file.
+#[derive(Clone, Copy)]
+struct Line<'a> {
+    file: &'a str,
+    number: usize,
+    text: &'a str,
+}
+
 fn main(rt: HostRuntime) -> anyhow::Result<()> {
-    let path = path_of(&rt)?;
-    let text = fs::read_to_string(&rt, path.as_str()).context("the table")?;
+    let file = file_of(&rt)?;
+    if file.as_str() == "--help" {
+        print!(rt; "{USAGE}")?;
+        return Ok(());
+    }
+    let text = fs::read_to_string(&rt, file.as_str()).context(format_args!("{file}"))?;
     let mut table = Mounts::new(rt.alloc());
-    let answered = run(&rt, &text, &mut table);
+    let result = run(&rt, &file, &text, &mut table);
     drop(table);
-    answered
+    result
 }
 
-// Mounts what a text says, and answers by the table.
-fn run(rt: &HostRuntime, text: &str, table: &mut Table) -> anyhow::Result<()> {
-    mount_all(rt, text, table)?;
-    println!(rt; "{} mounts", table.len())?;
-    answer(rt, table)
-}
-
-// The file that is named.
-fn path_of(rt: &HostRuntime) -> anyhow::Result<String> {
+/// Returns the first argument.
+fn file_of(rt: &HostRuntime) -> anyhow::Result<String> {
     env::args(rt)?.nth(1).context("usage: routes FILE")
 }
 
-// Mounts what a text says, one mount a line.
-fn mount_all(rt: &impl AllocGlobal, text: &str, table: &mut Table) -> anyhow::Result<()> {
-    for line in text.lines() {
-        mount(rt, table, line)?;
+/// Mounts the paths of a table, and then routes the lines of standard input.
+fn run(rt: &HostRuntime, file: &str, text: &str, table: &mut Table) -> anyhow::Result<()> {
+    mount_all(rt, file, text, table)?;
+    let count = table.len();
+    println!(rt; "{count} {}", if count == 1 { "mount" } else { "mounts" })?;
+    route_all(rt, table)
+}
+
+/// Mounts the path of each line, except for blank lines and remarks.
+fn mount_all(
+    rt: &impl AllocGlobal,
+    file: &str,
+    text: &str,
+    table: &mut Table,
+) -> anyhow::Result<()> {
+    let mut number = 0usize;
+    for text in text.lines() {
+        number = number.wrapping_add(1);
+        if !text.trim().is_empty() && !text.starts_with('#') {
+            mount(rt, table, &Line { file, number, text })?;
+        }
     }
     Ok(())
 }
 
-// Mounts what a line says.
-fn mount(rt: &impl AllocGlobal, table: &mut Table, line: &str) -> anyhow::Result<()> {
-    let (path, target) = line.split_once(' ').context("a line without a target")?;
+/// Mounts the path of a line. Returns an error if the line has no target, or if its path and a path
+/// that is mounted are equal or one is a prefix of the other.
+fn mount(rt: &impl AllocGlobal, table: &mut Table, line: &Line<'_>) -> anyhow::Result<()> {
+    let Line { file, number, text } = line;
+    let Some((path, target)) = text.split_once(' ') else {
+        anyhow::bail!("{file}:{number}: {text} has no target");
+    };
+    if let Some(other) = related(table, path.as_bytes()) {
+        let other = str::from_utf8(other)?;
+        if other == path {
+            anyhow::bail!("{file}:{number}: {path} is mounted already");
+        }
+        anyhow::bail!("{file}:{number}: {path} conflicts with {other}");
+    }
     let path = Vec::from_slice(rt.alloc(), path.as_bytes())?;
     table.mount(path, target.to_string(rt.alloc())?)?;
     Ok(())
 }
 
-// Answers each line of standard input.
-fn answer(rt: &HostRuntime, table: &Table) -> anyhow::Result<()> {
+/// Returns a mounted path that is a prefix of `path`, or the first of which `path` is a prefix.
+fn related<'a>(table: &'a Table, path: &[u8]) -> Option<&'a [u8]> {
+    match table.resolve(path) {
+        Some((mounted, _)) => Some(mounted.as_slice()),
+        None => {
+            let (mounted, _) = table.under(path).next()?;
+            Some(mounted.as_slice())
+        }
+    }
+}
+
+/// Routes each line of standard input.
+fn route_all(rt: &HostRuntime, table: &Table) -> anyhow::Result<()> {
     for line in BufReader::new(rt.alloc(), rt.reader())?.lines(rt.alloc()) {
-        route(rt, table, &line?)?;
+        match line {
+            Ok(path) => route(rt, table, &path)?,
+            Err(error) if error.kind() == ErrorKind::InvalidData => println!(rt; "not UTF-8")?,
+            Err(error) => return Err(error.into()),
+        }
     }
     Ok(())
 }
 
-// Prints the target of the mount that begins the path, and what is left of the path.
+/// Writes the target of a path, and the rest of the path behind the mount.
 fn route(rt: &impl Print, table: &Table, path: &str) -> anyhow::Result<()> {
     match table.resolve(path.as_bytes()) {
         Some((mounted, target)) => {

@@ -10,6 +10,7 @@
 //! puts calls in their places. Elsewhere a test is right whatever is refused.
 
 mod closures;
+mod collected;
 mod cursors;
 mod driving;
 mod dropped;

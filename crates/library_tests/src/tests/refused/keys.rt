@@ -1,6 +1,7 @@
 //! Keys that end in a zero.
 use super::say_refused;
 use blart_keys::{AsBytes, ZKey, ZKeyError};
+use std::alloc::AllocError;
 use std::process::Abort;
 
 #[test]
@@ -20,4 +21,22 @@ fn zero_ended_keys(rt: HostRuntime) {
             }
         }
     }
+}
+
+#[test]
+fn a_copied_key(rt: HostRuntime) {
+    let Ok(key) = ZKey::from_bytes(rt.alloc(), b"ab") else {
+        say_refused(&rt);
+        return;
+    };
+    let is_copied = match key.clone() {
+        Ok(copy) => copy == key,
+        Err(AllocError) => {
+            say_refused(&rt);
+            true
+        }
+    };
+    let is_kept = key.as_bytes() == b"ab\0".as_slice();
+    drop(key);
+    assert!(rt; is_copied && is_kept);
 }
