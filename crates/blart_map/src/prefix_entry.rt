@@ -34,9 +34,9 @@ use std::alloc::AllocError;
 /// ```
 #[derive(Drop)]
 pub enum PrefixEntry<'a, K: AsBytes, V, const PREFIX_LEN: usize, T: 'a> {
-    /// The key's bytes are stored, or it conflicts with some.
+    /// The key's bytes are stored, or the key conflicts with stored keys.
     Occupied(PrefixOccupied<'a, K, V, PREFIX_LEN, T>),
-    /// The key is related to none.
+    /// The key is related to no stored key.
     Vacant(VacantEntry<'a, K, V, PREFIX_LEN, T>),
 }
 

@@ -13,8 +13,8 @@ use crate::vacant::VacantEntry;
 use blart_keys::AsBytes;
 use std::alloc::AllocError;
 
-/// The three kinds of a prefix entry, in one enum. From each arm of a `match` a caller's proof learns
-/// what the map becomes, which a pattern in a pattern does not tell.
+/// The three kinds of a prefix entry, in one enum. From each arm of a `match` a caller's proof
+/// learns what the map becomes. From a pattern in a pattern it would not.
 ///
 /// It has each growing call of [`PrefixEntry`](crate::PrefixEntry) under the same name. The contracts
 /// here also say what the map becomes, and that an error leaves it unchanged.
@@ -31,9 +31,9 @@ use std::alloc::AllocError;
 pub enum PrefixKind<'a, K: AsBytes, V, const PREFIX_LEN: usize, T: 'a> {
     /// The key's bytes are stored.
     Leaf(OccupiedEntry<'a, K, V, PREFIX_LEN, T>),
-    /// The key conflicts with some.
+    /// The key conflicts with stored keys.
     Inner(InnerOccupiedEntry<'a, K, V, PREFIX_LEN, T>),
-    /// The key is related to none.
+    /// The key is related to no stored key.
     Vacant(VacantEntry<'a, K, V, PREFIX_LEN, T>),
 }
 
