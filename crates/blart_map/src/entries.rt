@@ -162,8 +162,8 @@ impl<K: AsBytes + Drop, V, const PREFIX_LEN: usize> TreeMap<K, V, PREFIX_LEN> {
         }
     }
 
-    /// Returns the entry of the key. If the key conflicts, its entry takes the place of all pairs to
-    /// which it is related. It does not allocate.
+    /// Returns the entry of the key. If the key conflicts, its entry takes the place of all pairs
+    /// to which it is related. It does not allocate.
     ///
     /// Call [`PrefixEntry::kind`] on it, as in the example: only the calls of
     /// [`PrefixKind`](crate::PrefixKind) have all clauses, since the borrow checker of the language

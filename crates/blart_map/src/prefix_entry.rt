@@ -13,13 +13,13 @@ use crate::vacant::VacantEntry;
 use blart_keys::AsBytes;
 use std::alloc::AllocError;
 
-/// The place of a key in a map: the pair with its bytes, the pairs with which it conflicts, or a new
-/// place.
+/// The place of a key in a map: the pair with its bytes, the pairs with which it conflicts, or a
+/// new place.
 ///
 /// Call [`PrefixEntry::kind`] first, as the example does: only the calls of [`PrefixKind`] have all
-/// clauses, since the borrow checker of the language carries no clause about the map through an enum
-/// in an enum. The growing calls of this type do the same, but their contracts do not say what the
-/// map is after a write or an error.
+/// clauses, since the borrow checker of the language carries no clause about the map through an
+/// enum in an enum. The growing calls of this type do the same, but their contracts do not say what
+/// the map is after a write or an error.
 ///
 /// A growing call fails to allocate on `Vacant` alone. A closure or a default is called on `Vacant`
 /// and `Inner` alone, once there is room. On `Inner` such a call removes all pairs to which the key
@@ -103,8 +103,8 @@ impl<'a, K: AsBytes + Drop, V: Drop, const PREFIX_LEN: usize> PrefixEntry<
 > {
     ghost use Rattle.blart_map.specs.PrefixEntry.{prefix_kind, prefix_key, prefix_value, IsPrefixSet, IsPrefixKeptOrSet, IsPrefixKeptOrMade};
 
-    /// Sets the value, on `Inner` in place of all pairs to which the key is related, and returns the
-    /// entry of the key's pair. See [`PrefixKind::insert_entry`], which has all clauses.
+    /// Sets the value, on `Inner` in place of all pairs to which the key is related, and returns
+    /// the entry of the key's pair. See [`PrefixKind::insert_entry`], which has all clauses.
     pub fn insert_entry(
         self,
         value: V,
@@ -119,8 +119,8 @@ impl<'a, K: AsBytes + Drop, V: Drop, const PREFIX_LEN: usize> PrefixEntry<
     }
 
     /// Returns the entry of the key's pair. If no value is stored, it first places the default, in
-    /// place of all pairs to which the key is related. See [`PrefixKind::or_insert_entry`], which has
-    /// all clauses.
+    /// place of all pairs to which the key is related. See [`PrefixKind::or_insert_entry`], which
+    /// has all clauses.
     pub fn or_insert_entry(
         self,
         default: V,
@@ -155,8 +155,8 @@ impl<'a, K: AsBytes + Drop, V: Drop, const PREFIX_LEN: usize> PrefixEntry<
     }
 
     /// Returns the entry of the key's pair, like [`PrefixEntry::or_insert_with_entry`]. The closure
-    /// takes the key that was handed in. See [`PrefixKind::or_insert_with_key_entry`], which has all
-    /// clauses.
+    /// takes the key that was handed in. See [`PrefixKind::or_insert_with_key_entry`], which has
+    /// all clauses.
     pub fn or_insert_with_key_entry<F: FnOnce(&K) -> V + Drop>(
         self,
         default: F,

@@ -92,8 +92,8 @@ impl<'a, K: AsBytes + Drop, V: Drop, const PREFIX_LEN: usize> PrefixOccupied<
     ghost use Rattle.blart_map.specs.PrefixEntry.{IsOccupiedSet, IsOccupiedWritten, occupied_with};
     ghost use Rattle.blart_map.specs.PrefixLends.{occupied_lends};
 
-    /// Sets the value on `Leaf`, and on `Inner` removes the related pairs and places the key with the
-    /// value. Returns the entry of the key's pair.
+    /// Sets the value on `Leaf`, and on `Inner` removes the related pairs and places the key with
+    /// the value. Returns the entry of the key's pair.
     pub fn insert_entry(
         self,
         value: V,
@@ -109,8 +109,8 @@ impl<'a, K: AsBytes + Drop, V: Drop, const PREFIX_LEN: usize> PrefixOccupied<
         }
     }
 
-    /// Returns a mutable reference to the value, which it sets like [`PrefixOccupied::insert_entry`].
-    /// Once the borrow ends, the key has the last value written.
+    /// Returns a mutable reference to the value, which it sets like
+    /// [`PrefixOccupied::insert_entry`]. Once the borrow ends, the key has the last value written.
     pub fn insert(self, value: V) -> &'a mut V
         ensures* writes_back { sem 𝓛
             (occupied_lends K.row V.row PREFIX_LEN.row K.AsBytes self.entry result) }

@@ -33,8 +33,9 @@ impl<K: AsBytes + Drop, V: Drop, const PREFIX_LEN: usize> TreeMap<K, V, PREFIX_L
         self.retain_by(&mut f)
     }
 
-    /// Retains pairs like [`TreeMap::retain`], with a closure that is lent. So the contract also says
-    /// in which state the closure ends: that in which the last of these calls left it.
+    /// Retains pairs like [`TreeMap::retain`], with a mutable reference to a closure. So the
+    /// contract also says in which state the closure ends: the state in which the last of these
+    /// calls left it.
     ///
     /// The closure is called once for each pair, in ascending order of the keys' bytes.
     ///
