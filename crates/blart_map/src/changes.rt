@@ -94,7 +94,8 @@ impl<K: AsBytes + Drop, V: Drop, const PREFIX_LEN: usize> TreeMap<K, V, PREFIX_L
             (λ pair. TakesPair K.bytes (pairs self.old) pair (pairs self.new)) }
         ensures routes { IfSome result
             (λ pair. (r : List ℕ) → pair_at_front K.bytes (pairs self.new) r
-            ≡ (if begins (K.bytes pair.0) r then None else pair_at_front K.bytes (pairs self.old) r)) }
+            ≡ (if begins (K.bytes pair.0) r then None
+            else pair_at_front K.bytes (pairs self.old) r)) }
         ensures len { length (pairs self.new) + (if is_some result then 1 else 0)
             ≡ length (pairs self.old) }
         ensures first { TakesFirst (pairs self.old) result (pairs self.new) }
@@ -111,7 +112,8 @@ impl<K: AsBytes + Drop, V: Drop, const PREFIX_LEN: usize> TreeMap<K, V, PREFIX_L
             (λ pair. TakesPair K.bytes (pairs self.old) pair (pairs self.new)) }
         ensures routes { IfSome result
             (λ pair. (r : List ℕ) → pair_at_front K.bytes (pairs self.new) r
-            ≡ (if begins (K.bytes pair.0) r then None else pair_at_front K.bytes (pairs self.old) r)) }
+            ≡ (if begins (K.bytes pair.0) r then None
+            else pair_at_front K.bytes (pairs self.old) r)) }
         ensures len { length (pairs self.new) + (if is_some result then 1 else 0)
             ≡ length (pairs self.old) }
         ensures last { TakesLast (pairs self.old) result (pairs self.new) }

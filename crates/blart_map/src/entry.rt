@@ -145,7 +145,8 @@ impl<'a, K: AsBytes + Drop, V: Drop, const PREFIX_LEN: usize> Entry<
         ensures* writes_back { sem 𝓛
             (entry_lends_ok K.row V.row PREFIX_LEN.row K.AsBytes self.entry result) }
         ensures value { IfOk result (λ r. UnwrapsOrElse (entry_value self.entry)
-            (λ v. IfSome (entry_key self.entry) (λ k. FnOnceReturnsAt F.FnOnce default k v)) r.now) }
+            (λ v. IfSome (entry_key self.entry) (λ k. FnOnceReturnsAt F.FnOnce default k v))
+            r.now) }
         ensures absent { OnErr result (entry_value self.entry ≡ None) }
     {
         match self {

@@ -231,7 +231,8 @@ impl<'a, K: AsBytes + Drop, V: Drop, const PREFIX_LEN: usize> PrefixEntry<
         requires { prefix_value self ≡ None
             → (p : Bor K) → prefix_key self ≡ Some p.now → F.pre default p }
         ensures value { IfOk result (λ r. UnwrapsOrElse (prefix_value self.entry)
-            (λ v. IfSome (prefix_key self.entry) (λ k. FnOnceReturnsAt F.FnOnce default k v)) r.now) }
+            (λ v. IfSome (prefix_key self.entry) (λ k. FnOnceReturnsAt F.FnOnce default k v))
+            r.now) }
         ensures vacant { OnErr result (prefix_kind self.entry ≡ Kind.Vacant) }
     {
         match self.or_insert_with_key_entry(default) {

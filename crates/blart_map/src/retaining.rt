@@ -27,7 +27,8 @@ impl<K: AsBytes + Drop, V: Drop, const PREFIX_LEN: usize> TreeMap<K, V, PREFIX_L
     /// ```
     #[tactic(auto, unfolding(crate::specs::Content::pairs))]
     pub fn retain<F: FnMut(&K, &mut V) -> bool + Drop>(&mut self, mut f: F)
-        requires { CallableOnEachPair (CalledAtPair F.FnMut) (TakesPair F.FnMut) f (pairs self.old) }
+        requires { CallableOnEachPair (CalledAtPair F.FnMut) (TakesPair F.FnMut) f
+            (pairs self.old) }
         ensures { Retains (AsksPair F.FnMut) (pairs self.old) f (pairs self.new) }
     {
         self.retain_by(&mut f)
@@ -54,7 +55,8 @@ impl<K: AsBytes + Drop, V: Drop, const PREFIX_LEN: usize> TreeMap<K, V, PREFIX_L
     /// ```
     #[tactic(auto, unfolding(crate::specs::Content::pairs))]
     pub fn retain_by<F: FnMut(&K, &mut V) -> bool>(&mut self, f: &mut F)
-        requires { CallableOnEachPair (CalledAtPair F.FnMut) (TakesPair F.FnMut) f.old (pairs self.old) }
+        requires { CallableOnEachPair (CalledAtPair F.FnMut) (TakesPair F.FnMut) f.old
+            (pairs self.old) }
         ensures { RetainsBy (AsksPair F.FnMut) (pairs self.old) f.old (pairs self.new) f.new }
     {
         art_walk::retain_by(&mut self.tree, f)

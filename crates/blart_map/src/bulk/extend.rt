@@ -72,7 +72,8 @@ impl<K: NoPrefixesBytes + Copy, V: Copy, const PREFIX_LEN: usize> TreeMap<K, V, 
         requires can { I.can_next items }
         requires ends { IsFinite (I.remaining items) }
         ensures { TakesItems I.next_gives items result
-            (λ xs. PutsAll (bytes K.bytes) kept_pair (pairs self.old) (map deref_pair xs) (pairs self.new))
+            (λ xs. PutsAll (bytes K.bytes) kept_pair (pairs self.old) (map deref_pair xs)
+            (pairs self.new))
             (λ x. stores (bytes K.bytes) (pairs self.new) (K.bytes x.0.now) ≡ false) }
     {
         for item in items {

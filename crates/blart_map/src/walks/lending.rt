@@ -42,7 +42,8 @@ impl<K: AsBytes, V, const PREFIX_LEN: usize> TreeMap<K, V, PREFIX_LEN> {
     pub fn iter_mut(&mut self) -> IterMut<'_, K, V, PREFIX_LEN>
         ensures same_map { (counted_map result).ghost_name ≡ self.entry.ghost_name }
         ensures unchanged { (counted_map result).now ≡ self.old }
-        ensures all { (f : K × V → V) → all_once_written f result ≡ all_rewritten f (pairs self.old) }
+        ensures all { (f : K × V → V) → all_once_written f result
+            ≡ all_rewritten f (pairs self.old) }
         ensures left { counted_left result ≡ self.old }
         ensures none_lent { counted_last result ≡ None }
     {
@@ -62,7 +63,8 @@ impl<K: AsBytes, V, const PREFIX_LEN: usize> TreeMap<K, V, PREFIX_LEN> {
     pub fn values_mut(&mut self) -> ValuesMut<'_, K, V, PREFIX_LEN>
         ensures same_map { (counted_map result).ghost_name ≡ self.entry.ghost_name }
         ensures unchanged { (counted_map result).now ≡ self.old }
-        ensures all { (f : K × V → V) → all_once_written f result ≡ all_rewritten f (pairs self.old) }
+        ensures all { (f : K × V → V) → all_once_written f result
+            ≡ all_rewritten f (pairs self.old) }
         ensures left { counted_left result ≡ self.old }
         ensures none_lent { counted_last result ≡ None }
     {

@@ -62,7 +62,8 @@ impl<'a, K: AsBytes, V, const PREFIX_LEN: usize> TakeWalk<'a, K, V, PREFIX_LEN> 
     /// if no pair is left. No pair may be undecided.
     pub fn lend(&mut self) -> Option<&mut V>
         requires { is_some (take_undecided self.old) ≡ false }
-        ensures* writes_back { sem 𝓛 (lends_first K.row V.row PREFIX_LEN.row K.AsBytes self.entry result) }
+        ensures* writes_back { sem 𝓛
+            (lends_first K.row V.row PREFIX_LEN.row K.AsBytes self.entry result) }
         ensures end { IfNone result (take_left self.old ≡ []) }
     {
         let id = self.map.step(&mut self.cursor, &mut Visits::new())?;
@@ -75,7 +76,8 @@ impl<'a, K: AsBytes, V, const PREFIX_LEN: usize> TakeWalk<'a, K, V, PREFIX_LEN> 
     /// no pair is left. No pair may be undecided.
     pub fn lend_back(&mut self) -> Option<&mut V>
         requires { is_some (take_undecided self.old) ≡ false }
-        ensures* writes_back { sem 𝓛 (lends_last K.row V.row PREFIX_LEN.row K.AsBytes self.entry result) }
+        ensures* writes_back { sem 𝓛
+            (lends_last K.row V.row PREFIX_LEN.row K.AsBytes self.entry result) }
         ensures end { IfNone result (take_left self.old ≡ []) }
     {
         let id = self.map.step_back(&mut self.cursor, &mut Visits::new())?;
@@ -98,7 +100,8 @@ impl<'a, K: AsBytes, V, const PREFIX_LEN: usize> TakeWalk<'a, K, V, PREFIX_LEN> 
     /// undecided.
     pub fn pair(&mut self) -> (&K, &mut V)
         requires { is_some (take_undecided self.old) ≡ true }
-        ensures* writes_back { sem 𝓛 (lends_pair K.row V.row PREFIX_LEN.row K.AsBytes self.entry result) }
+        ensures* writes_back { sem 𝓛
+            (lends_pair K.row V.row PREFIX_LEN.row K.AsBytes self.entry result) }
         ensures value { MatchOption (take_undecided self.old) ⊤
             (λ id. leaf_in (take_map self.old).now id ≡ Some (result.0.now, result.1.now)) }
         ensures same_left { (w : V) → take_left (take_with self.old w) ≡ take_left self.old }
