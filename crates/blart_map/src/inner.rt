@@ -18,8 +18,8 @@ use blart_keys::AsBytes;
 use std::alloc::AllocError;
 use std::marker::PhantomData;
 
-/// A key that a map lacks, and that conflicts with some of its keys. Its entry is the place of the
-/// pairs to which it is related. None of its calls allocates.
+/// The entry of a key that a map lacks, and that conflicts with some of its keys. It is the place
+/// of the pairs to which the key is related. None of its calls allocates.
 ///
 /// Two keys are related if the bytes of one are a prefix of the other's. Here there are two cases.
 /// A stored key is a prefix of the entry's key, and then no other stored key is related to it. Or
@@ -227,9 +227,9 @@ impl<'a, K: AsBytes + Drop, V: Drop, const PREFIX_LEN: usize> InnerOccupiedEntry
         }
     }
 
-    /// Like [`InnerOccupiedEntry::insert_entry`], with the result type of a call that may return an
-    /// error. It returns none. If a call of an enum has that type, the borrow checker follows the
-    /// map through this call.
+    /// Like [`InnerOccupiedEntry::insert_entry`], with the entry in a `Result` that is never an
+    /// error. If a call of an enum returns such a `Result`, the borrow checker follows the map
+    /// through this call.
     pub(crate) fn over(
         self,
         value: V,

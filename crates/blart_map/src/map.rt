@@ -242,8 +242,8 @@ impl<K: AsBytes, V, const PREFIX_LEN: usize> TreeMap<K, V, PREFIX_LEN> {
         Some(self.tree.leaf(id, &mut Visits::new()))
     }
 
-    /// Returns `true` if some key is related to the query's bytes and has other bytes. An insertion
-    /// of a key with the query's bytes then returns an error for the conflict.
+    /// Returns `true` if some key is related to the query's bytes and has other bytes. In that case
+    /// [`TreeMap::try_insert`] returns the error `Prefix` for a key with the query's bytes.
     ///
     /// ```
     /// map.try_insert("/api/", 1)?;

@@ -10,8 +10,8 @@ use std::alloc::AllocError;
 use std::marker::PhantomData;
 use std::mem::replace;
 
-/// A pair of a map. To read or write it searches nothing, and a removal makes one descent by its
-/// key. None of its calls allocates.
+/// The entry of a pair of a map. Reads and writes of the value search nothing, and a removal makes
+/// one descent by the key. None of its calls allocates.
 ///
 /// `T` is the map's type. It is a parameter because a type with a const parameter must be known to
 /// live as long as it is borrowed.
@@ -127,9 +127,8 @@ impl<'a, K: AsBytes, V, const PREFIX_LEN: usize> OccupiedEntry<
         map.value_mut(self.id)
     }
 
-    /// Returns this entry, with the result type of a call that may return an error. It returns
-    /// none. If a call of an enum has that type, the borrow checker follows the map through this
-    /// call.
+    /// Returns this entry, in a `Result` that is never an error. If a call of an enum returns such
+    /// a `Result`, the borrow checker follows the map through this call.
     pub(crate) fn kept(
         self,
     ) -> Result<OccupiedEntry<'a, K, V, PREFIX_LEN, TreeMap<K, V, PREFIX_LEN>>, AllocError>
@@ -155,7 +154,7 @@ impl<'a, K: AsBytes, V: Drop, const PREFIX_LEN: usize> OccupiedEntry<
     ghost use Rattle.blart_map.specs.LentLeaves.{lends_leaf};
     ghost use Rattle.art_tree.specs.Leaves.{with_value};
 
-    /// Sets the value, and returns this entry, with the result type of [`OccupiedEntry::kept`].
+    /// Sets the value, and returns this entry in a `Result`, like [`OccupiedEntry::kept`].
     pub(crate) fn set(
         self,
         value: V,

@@ -53,8 +53,8 @@ impl<'a, K: AsBytes, V, const PREFIX_LEN: usize, T: 'a> PrefixEntry<'a, K, V, PR
         }
     }
 
-    /// Returns the stored key on `Leaf`, the key of the only related pair on `Inner`, or `None` if
-    /// there are more, and the key that was handed in on `Vacant`.
+    /// Returns the stored key on `Leaf`, and the key that was handed in on `Vacant`. On `Inner`,
+    /// returns the key of the only related pair, or `None` if there are more.
     pub fn get_key(&self) -> Option<&K>
         ensures { option_copied result ≡ prefix_found self.now }
     {

@@ -65,8 +65,8 @@ impl<'a, K: AsBytes, V, const PREFIX_LEN: usize, T: 'a> PrefixOccupied<'a, K, V,
         }
     }
 
-    /// Returns a mutable reference to the value on `Leaf`. On `Inner`, returns one to the value of
-    /// the only related pair, or `None` if there are more.
+    /// Returns a mutable reference to the value on `Leaf`, and to the value of the only related
+    /// pair on `Inner`. Returns `None` if there are more related pairs.
     ///
     /// The contract says which value it is, and not what the entry is after the write: the borrow
     /// checker of the language carries no such clause. Match the enum and call the `get_mut` of

@@ -32,7 +32,7 @@ pub struct Room<K: AsBytes, V, const PREFIX_LEN: usize> {
 /// or a key conflicts.
 ///
 /// This value holds the pairs, and the map is empty meanwhile. When it is dropped, the map has them
-/// again. If it is forgotten instead, the map stays empty.
+/// again. If it is forgotten instead, the map remains empty.
 ///
 /// `M` is the map's type. `R` is the type of the value that holds the pairs, a [`Room`]. It is a
 /// parameter since a proof would not learn what becomes of the map if the type named it in a field.

@@ -12,8 +12,8 @@ use blart_keys::AsBytes;
 use std::alloc::AllocError;
 use std::marker::PhantomData;
 
-/// A key that a map lacks, and that conflicts with none of its keys. Of its calls, only the
-/// insertions allocate. If one fails to allocate, the map is unchanged.
+/// The entry of a key that a map lacks, and that conflicts with none of its keys. Of its calls,
+/// only the insertions allocate. If one fails to allocate, the map is unchanged.
 ///
 /// ```
 /// if let Entry::Vacant(entry) = map.try_entry("cat")? {

@@ -44,7 +44,8 @@ impl<K: AsBytes, V, const PREFIX_LEN: usize> TreeMap<K, V, PREFIX_LEN> {
     /// returns `true`, from both ends. If the map has pairs, the bounds must be in order, as for
     /// [`TreeMap::range`]. It does not allocate.
     ///
-    /// Cost of a step: it reads each pair that it asks about, and removes the pair that it yields.
+    /// Cost of a step: it reads each pair on which it calls the closure, and removes the pair that
+    /// it yields.
     ///
     /// ```
     /// let low = "b";

@@ -10,9 +10,9 @@ use art_walk::Cursor;
 use blart_keys::AsBytes;
 
 /// A walk over the pairs within two bounds, from both ends, in byte order of their keys. It lends
-/// each pair in turn, which is then kept or taken out of the map. Each step reads one pair. Once no
-/// pair is left, each step returns `None`. If the walk is dropped while a pair is undecided, that
-/// pair is kept.
+/// one pair at a time, and each pair is then kept or removed from the map. Each step reads one
+/// pair. Once no pair is left, each step returns `None`. If the walk is dropped while a pair is
+/// undecided, that pair is kept.
 ///
 /// ```
 /// map.try_insert("cat", 1)?;
