@@ -1,4 +1,4 @@
-//! Calls as values, and bounds.
+//! Calls as values, and the order of bounds.
 ghost use Rattle.std.specs.Prelude.{◌≡◌, ◌≢◌, [], OnErr};
 ghost use Rattle.blart_keys.specs.Bounds.{in_order, bound_bytes};
 ghost use Rattle.blart_keys.specs.Steps.{Step};
@@ -10,7 +10,8 @@ use blart_keys::{AsBytes, Call, Reply, is_less};
 use std::alloc::AllocError;
 use std::ops::Bound;
 
-/// Whether the bounds are in order: they are unless both are bounded and the start is greater than the end, or both are excluded and equal.
+/// Returns `true` if the bounds are in order. They are not if both are bounded and the start is
+/// greater than the end, or if both are excluded and equal.
 ///
 /// ```
 /// assert!(bounds_in_order(Bound::Included(&3u8), Bound::Excluded(&8u8)));
@@ -29,9 +30,11 @@ pub fn bounds_in_order<Q: AsBytes>(start: Bound<&Q>, end: Bound<&Q>) -> bool
     }
 }
 
-/// Makes the calls in turn, and gives one reply for each. It goes on after a refused call.
+/// Makes the calls in turn, and returns one reply for each. It continues after a call that returns
+/// an error.
 ///
-/// It takes the memory for the replies first, and where that is refused makes no call. No calls take no memory.
+/// It allocates the memory for the replies first. If that fails, it makes no call. If there are no
+/// calls, it does not allocate.
 ///
 /// ```
 /// let calls = vec![in alloc; Call::TryInsert("ab", 1), Call::TryInsert("a", 2), Call::PopFirst]?;
@@ -56,7 +59,7 @@ pub fn drive<K: AsBytes + Drop, V: Drop, const PREFIX_LEN: usize>(
     Ok(replies)
 }
 
-// Makes one call.
+/// Makes one call, and returns its reply.
 #[tactic(auto, unfolding(crate::specs::Content::pairs))]
 fn answer<K: AsBytes + Drop, V: Drop, const PREFIX_LEN: usize>(
     map: &mut TreeMap<K, V, PREFIX_LEN>,

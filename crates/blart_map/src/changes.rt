@@ -12,7 +12,7 @@ use crate::map::TreeMap;
 use blart_keys::AsBytes;
 
 impl<K: AsBytes + Drop, V: Drop, const PREFIX_LEN: usize> TreeMap<K, V, PREFIX_LEN> {
-    /// Removes the pair with the query's bytes, and gives it. Takes no memory.
+    /// Removes the pair with the query's bytes, and returns it. Does not allocate.
     pub fn remove_entry<Q: AsBytes>(&mut self, query: &Q) -> Option<(K, V)>
         ensures stored { result ≡ pair_at K.bytes (pairs self.old) (Q.bytes query.now) }
         ensures updates { Updates K.bytes (pairs self.old) (pairs self.new)
@@ -31,7 +31,7 @@ impl<K: AsBytes + Drop, V: Drop, const PREFIX_LEN: usize> TreeMap<K, V, PREFIX_L
         self.tree.take(query.as_bytes())
     }
 
-    /// Removes the pair with the query's bytes, and gives its value. Takes no memory.
+    /// Removes the pair with the query's bytes, and returns its value. Does not allocate.
     ///
     /// ```
     /// map.try_insert("cat", 2)?;
@@ -59,7 +59,11 @@ impl<K: AsBytes + Drop, V: Drop, const PREFIX_LEN: usize> TreeMap<K, V, PREFIX_L
         }
     }
 
-    /// Removes the pairs whose keys' bytes begin with these, and answers how many there were; all of them where there are no bytes. Takes no memory. Its cost is that of a few ways down, however many pairs go, and beside that of what goes.
+    /// Removes the pairs whose keys' bytes begin with these, and returns the number of removed
+    /// pairs. If there are no bytes, it removes all pairs. Does not allocate.
+    ///
+    /// Cost: a few descents, however many pairs it removes. Besides, it frees each removed pair and
+    /// inner node, with no further descent.
     ///
     /// ```
     /// map.try_insert("car", 1)?;
@@ -83,14 +87,15 @@ impl<K: AsBytes + Drop, V: Drop, const PREFIX_LEN: usize> TreeMap<K, V, PREFIX_L
         self.tree.remove_prefix(prefix)
     }
 
-    /// Removes the pair whose key's bytes are least, and returns it. It does not allocate.
+    /// Removes the pair whose key's bytes are least, and returns it. Does not allocate.
     #[tactic(auto, unfolding(crate::specs::Content::pairs))]
     pub fn pop_first(&mut self) -> Option<(K, V)>
         ensures taken { IfSome result
             (λ pair. TakesPair K.bytes (pairs self.old) pair (pairs self.new)) }
         ensures routes { IfSome result
             (λ pair. (r : List ℕ) → pair_at_front K.bytes (pairs self.new) r
-            ≡ (if begins (K.bytes pair.0) r then None else pair_at_front K.bytes (pairs self.old) r)) }
+            ≡ (if begins (K.bytes pair.0) r then None
+            else pair_at_front K.bytes (pairs self.old) r)) }
         ensures len { length (pairs self.new) + (if is_some result then 1 else 0)
             ≡ length (pairs self.old) }
         ensures first { TakesFirst (pairs self.old) result (pairs self.new) }
@@ -100,14 +105,15 @@ impl<K: AsBytes + Drop, V: Drop, const PREFIX_LEN: usize> TreeMap<K, V, PREFIX_L
         Some(self.tree.remove(id))
     }
 
-    /// Removes the pair whose key's bytes are greatest, and returns it. It does not allocate.
+    /// Removes the pair whose key's bytes are greatest, and returns it. Does not allocate.
     #[tactic(auto, unfolding(crate::specs::Content::pairs))]
     pub fn pop_last(&mut self) -> Option<(K, V)>
         ensures taken { IfSome result
             (λ pair. TakesPair K.bytes (pairs self.old) pair (pairs self.new)) }
         ensures routes { IfSome result
             (λ pair. (r : List ℕ) → pair_at_front K.bytes (pairs self.new) r
-            ≡ (if begins (K.bytes pair.0) r then None else pair_at_front K.bytes (pairs self.old) r)) }
+            ≡ (if begins (K.bytes pair.0) r then None
+            else pair_at_front K.bytes (pairs self.old) r)) }
         ensures len { length (pairs self.new) + (if is_some result then 1 else 0)
             ≡ length (pairs self.old) }
         ensures last { TakesLast (pairs self.old) result (pairs self.new) }
@@ -117,7 +123,7 @@ impl<K: AsBytes + Drop, V: Drop, const PREFIX_LEN: usize> TreeMap<K, V, PREFIX_L
         Some(self.tree.remove(id))
     }
 
-    /// Drops every pair. Takes no memory.
+    /// Drops all pairs. Does not allocate.
     #[tactic(auto, unfolding(crate::specs::Content::pairs))]
     pub fn clear(&mut self)
         ensures empty { pairs self.new ≡ [] }

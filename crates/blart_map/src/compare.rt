@@ -1,4 +1,4 @@
-//! Comparisons, hashes and texts of maps, which are those of their lists of pairs.
+//! Comparisons, hashes and texts of maps. They are made from the maps' lists of pairs.
 mod debug;
 mod eq;
 mod hash;

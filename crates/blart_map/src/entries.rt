@@ -19,7 +19,8 @@ use blart_keys::{AsBytes, InsertPrefixError, NoPrefixesBytes};
 use std::marker::PhantomData;
 
 impl<K: AsBytes, V, const PREFIX_LEN: usize> TreeMap<K, V, PREFIX_LEN> {
-    /// The entry of the pair whose key's bytes begin the query's. There is at most one. Takes no memory.
+    /// Returns the entry of the pair whose key's bytes are a prefix of the query's. There is at
+    /// most one such pair. Does not allocate.
     ///
     /// ```
     /// map.try_insert("/static/", 7)?;
@@ -53,7 +54,8 @@ impl<K: AsBytes, V, const PREFIX_LEN: usize> TreeMap<K, V, PREFIX_LEN> {
         }
     }
 
-    /// The entry of the pair whose key's bytes are least, if there is a pair. Takes no memory.
+    /// Returns the entry of the pair whose key's bytes are least, or `None` if there are no pairs.
+    /// Does not allocate.
     ///
     /// ```
     /// map.try_insert("cat", 1)?;
@@ -85,7 +87,8 @@ impl<K: AsBytes, V, const PREFIX_LEN: usize> TreeMap<K, V, PREFIX_LEN> {
         }
     }
 
-    /// The entry of the pair whose key's bytes are greatest, if there is a pair. Takes no memory.
+    /// Returns the entry of the pair whose key's bytes are greatest, or `None` if there are no
+    /// pairs. Does not allocate.
     ///
     /// ```
     /// map.try_insert("cat", 1)?;
@@ -121,9 +124,11 @@ impl<K: AsBytes, V, const PREFIX_LEN: usize> TreeMap<K, V, PREFIX_LEN> {
 }
 
 impl<K: AsBytes + Drop, V, const PREFIX_LEN: usize> TreeMap<K, V, PREFIX_LEN> {
-    /// The entry of the key. Takes no memory. It is refused exactly where the key conflicts, and then the key is dropped.
+    /// Returns the entry of the key. Does not allocate. Returns an error exactly if the key
+    /// conflicts, and the key is then dropped.
     ///
-    /// Where the key's bytes are stored the key handed in is dropped, and the stored key stays.
+    /// If the key's bytes are stored, the key that was handed in is dropped, and the stored key is
+    /// unchanged.
     ///
     /// ```
     /// *map.try_entry("cat")?.or_insert(0)? += 1;
@@ -157,14 +162,15 @@ impl<K: AsBytes + Drop, V, const PREFIX_LEN: usize> TreeMap<K, V, PREFIX_LEN> {
         }
     }
 
-    /// Returns the entry of the key. If the key conflicts, its entry takes the place of all pairs to
-    /// which it is related. It does not allocate.
+    /// Returns the entry of the key. If the key conflicts, its entry takes the place of all pairs
+    /// to which it is related. It does not allocate.
     ///
-    /// Call [`PrefixEntry::kind`] on it, as here: only the calls of [`PrefixKind`](crate::PrefixKind)
-    /// have all clauses, since the borrow checker of the language carries no clause about the map
-    /// through an enum in an enum.
+    /// Call [`PrefixEntry::kind`] on it, as in the example: only the calls of
+    /// [`PrefixKind`](crate::PrefixKind) have all clauses, since the borrow checker of the language
+    /// carries no clause about the map through an enum in an enum.
     ///
-    /// If the key's bytes are stored, the key that was handed in is dropped, and the stored key stays.
+    /// If the key's bytes are stored, the key that was handed in is dropped, and the stored key is
+    /// unchanged.
     ///
     /// ```
     /// map.try_insert("car", 1)?;
@@ -211,7 +217,7 @@ impl<K: AsBytes + Drop, V, const PREFIX_LEN: usize> TreeMap<K, V, PREFIX_LEN> {
 }
 
 impl<K: NoPrefixesBytes + Drop, V, const PREFIX_LEN: usize> TreeMap<K, V, PREFIX_LEN> {
-    /// The entry of the key, as [`TreeMap::try_entry`]. Keys of this type never conflict.
+    /// Returns the entry of the key, like [`TreeMap::try_entry`]. Keys of this type never conflict.
     ///
     /// ```
     /// *map.entry(U32Key::new(258)).or_insert(0)? += 1;

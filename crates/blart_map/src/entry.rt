@@ -11,9 +11,10 @@ use crate::vacant::VacantEntry;
 use blart_keys::AsBytes;
 use std::alloc::AllocError;
 
-/// A key's place in a map: at its pair, or where none stands yet.
+/// The place of a key in a map: the pair with its bytes, or a new place.
 ///
-/// A growing call is refused memory on `Vacant` alone, and then the map is as it was. A closure or a default is called on `Vacant` alone, once there is room.
+/// A growing call fails to allocate on `Vacant` alone, and then the map is unchanged. A closure or
+/// a default is called on `Vacant` alone, once there is room.
 ///
 /// ```
 /// *map.try_entry("cat")?.or_insert(1)? = 2;
@@ -24,7 +25,7 @@ use std::alloc::AllocError;
 pub enum Entry<'a, K: AsBytes, V, const PREFIX_LEN: usize, T: 'a> {
     /// The key's bytes are stored.
     Occupied(OccupiedEntry<'a, K, V, PREFIX_LEN, T>),
-    /// They are not, and the key conflicts with none.
+    /// The key is related to no stored key.
     Vacant(VacantEntry<'a, K, V, PREFIX_LEN, T>),
 }
 
@@ -32,7 +33,7 @@ impl<'a, K: AsBytes, V, const PREFIX_LEN: usize, T: 'a> Entry<'a, K, V, PREFIX_L
     ghost use Rattle.blart_map.specs.Entry.{entry_key, entry_value};
     ghost use Rattle.blart_map.specs.Modified.{IsModified};
 
-    /// The stored key, or the one handed in where none is stored.
+    /// Returns the stored key on `Occupied`, and the key that was handed in on `Vacant`.
     pub fn key(&self) -> &K
         ensures { entry_key self.now ≡ Some result.now }
     {
@@ -42,7 +43,8 @@ impl<'a, K: AsBytes, V, const PREFIX_LEN: usize, T: 'a> Entry<'a, K, V, PREFIX_L
         }
     }
 
-    /// Calls the closure on the value where one is stored.
+    /// Calls the closure on a mutable reference to the value if one is stored, and returns the
+    /// entry.
     pub fn and_modify<F: FnOnce(&mut V) + Drop>(self, f: F) -> Self
         requires { (p : MutBor V) → entry_value self ≡ Some p.now → F.pre f p }
         ensures { IsModified F.FnOnce f self.entry result }
@@ -67,7 +69,8 @@ impl<'a, K: AsBytes + Drop, V: Drop, const PREFIX_LEN: usize> Entry<
     ghost use Rattle.blart_map.specs.Entry.{entry_key, entry_value, IsSetEntry, IsKeptOrSet, IsKeptOrMade};
     ghost use Rattle.blart_map.specs.EntryLends.{entry_lends_ok, entry_rests};
 
-    /// The value, to be written, after placing the default where none is stored.
+    /// Returns a mutable reference to the value. If no value is stored, it first places the
+    /// default.
     pub fn or_insert(self, default: V) -> Result<&'a mut V, AllocError>
         ensures* writes_back { sem 𝓛
             (entry_lends_ok K.row V.row PREFIX_LEN.row K.AsBytes self.entry result) }
@@ -80,7 +83,7 @@ impl<'a, K: AsBytes + Drop, V: Drop, const PREFIX_LEN: usize> Entry<
         }
     }
 
-    /// Sets the value, and answers the entry of its pair.
+    /// Sets the value, and returns the entry of the key's pair.
     pub fn insert_entry(
         self,
         value: V,
@@ -96,7 +99,7 @@ impl<'a, K: AsBytes + Drop, V: Drop, const PREFIX_LEN: usize> Entry<
         }
     }
 
-    /// The entry of the key's pair, after placing the default where none is stored.
+    /// Returns the entry of the key's pair. If no value is stored, it first places the default.
     pub fn or_insert_entry(
         self,
         default: V,
@@ -112,7 +115,8 @@ impl<'a, K: AsBytes + Drop, V: Drop, const PREFIX_LEN: usize> Entry<
         }
     }
 
-    /// The value, to be written, after placing the closure's answer where none is stored.
+    /// Returns a mutable reference to the value. If no value is stored, it first places the value
+    /// that the closure returns.
     pub fn or_insert_with<F: FnOnce() -> V + Drop>(
         self,
         default: F,
@@ -130,7 +134,8 @@ impl<'a, K: AsBytes + Drop, V: Drop, const PREFIX_LEN: usize> Entry<
         }
     }
 
-    /// The value, to be written, after placing the closure's answer where none is stored. The closure is given the key handed in.
+    /// Returns a mutable reference to the value, like [`Entry::or_insert_with`]. The closure takes
+    /// the key that was handed in.
     pub fn or_insert_with_key<F: FnOnce(&K) -> V + Drop>(
         self,
         default: F,
@@ -140,7 +145,8 @@ impl<'a, K: AsBytes + Drop, V: Drop, const PREFIX_LEN: usize> Entry<
         ensures* writes_back { sem 𝓛
             (entry_lends_ok K.row V.row PREFIX_LEN.row K.AsBytes self.entry result) }
         ensures value { IfOk result (λ r. UnwrapsOrElse (entry_value self.entry)
-            (λ v. IfSome (entry_key self.entry) (λ k. FnOnceReturnsAt F.FnOnce default k v)) r.now) }
+            (λ v. IfSome (entry_key self.entry) (λ k. FnOnceReturnsAt F.FnOnce default k v))
+            r.now) }
         ensures absent { OnErr result (entry_value self.entry ≡ None) }
     {
         match self {
@@ -149,7 +155,8 @@ impl<'a, K: AsBytes + Drop, V: Drop, const PREFIX_LEN: usize> Entry<
         }
     }
 
-    /// The value, to be written, after placing the type's default where none is stored.
+    /// Returns a mutable reference to the value. If no value is stored, it first places the type's
+    /// default.
     pub fn or_default(self) -> Result<&'a mut V, AllocError>
     where
         V: Default,
@@ -162,7 +169,8 @@ impl<'a, K: AsBytes + Drop, V: Drop, const PREFIX_LEN: usize> Entry<
         self.or_insert_with(|| V::default())
     }
 
-    /// The entry of the key's pair, after placing the closure's answer where none is stored.
+    /// Returns the entry of the key's pair. If no value is stored, it first places the value that
+    /// the closure returns.
     pub fn or_insert_with_entry<F: FnOnce() -> V + Drop>(
         self,
         default: F,
@@ -179,7 +187,8 @@ impl<'a, K: AsBytes + Drop, V: Drop, const PREFIX_LEN: usize> Entry<
         }
     }
 
-    /// The entry of the key's pair, after placing the closure's answer where none is stored. The closure is given the key handed in.
+    /// Returns the entry of the key's pair, like [`Entry::or_insert_with_entry`]. The closure takes
+    /// the key that was handed in.
     pub fn or_insert_with_key_entry<F: FnOnce(&K) -> V + Drop>(
         self,
         default: F,
@@ -198,7 +207,8 @@ impl<'a, K: AsBytes + Drop, V: Drop, const PREFIX_LEN: usize> Entry<
         }
     }
 
-    /// The entry of the key's pair, after placing the type's default where none is stored.
+    /// Returns the entry of the key's pair. If no value is stored, it first places the type's
+    /// default.
     pub fn or_default_entry(
         self,
     ) -> Result<OccupiedEntry<'a, K, V, PREFIX_LEN, TreeMap<K, V, PREFIX_LEN>>, AllocError>

@@ -1,4 +1,4 @@
-//! A key's value, placed first where none is stored.
+//! The value of a key, which is placed first if none is stored.
 ghost use Rattle.std.specs.Prelude.{◌≡◌, false, None, IfOk, OnErr};
 ghost use Rattle.std.specs.Borrow.{sem};
 ghost use Rattle.std.specs.Option.{unwrap_or, UnwrapsOrElse};
@@ -11,9 +11,10 @@ use blart_keys::NoPrefixesBytes;
 use std::alloc::AllocError;
 
 impl<K: NoPrefixesBytes + Drop, V: Drop, const PREFIX_LEN: usize> TreeMap<K, V, PREFIX_LEN> {
-    /// The value of the key, to be written, after placing the pair where none is stored. A stored key stays, and the one handed in is dropped.
+    /// Returns a mutable reference to the value of the key. If no value is stored, it first places
+    /// the pair. A stored key is unchanged, and the key that was handed in is then dropped.
     ///
-    /// An error is answered only where the bytes are new, and leaves the map as it was.
+    /// Returns an error only if the bytes are new. The map is then unchanged.
     ///
     /// ```
     /// *map.get_or_insert(U32Key::new(258), 0)? += 1;
@@ -35,9 +36,11 @@ impl<K: NoPrefixesBytes + Drop, V: Drop, const PREFIX_LEN: usize> TreeMap<K, V, 
         }
     }
 
-    /// The value of the key, to be written, after placing the closure's answer where none is stored. The closure is called there alone, once there is room.
+    /// Returns a mutable reference to the value of the key. If no value is stored, it first places
+    /// the key with the value that the closure returns. The closure is called only then, once there
+    /// is room.
     ///
-    /// An error is answered only where the bytes are new, and leaves the map as it was.
+    /// Returns an error only if the bytes are new. The map is then unchanged.
     #[tactic(auto, using(art_insert::proofs::Placed::SettingAt::new_none), unfolding(crate::specs::Content::pairs))]
     pub fn get_or_insert_with<F: FnOnce() -> V + Drop>(
         &mut self,

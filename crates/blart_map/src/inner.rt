@@ -1,4 +1,4 @@
-//! A key to which pairs of a map are related.
+//! A key that conflicts with keys of a map.
 ghost use Rattle.std.specs.Prelude.{◌≡◌, true, option_map, option_copied, is_some, IfSome, IfOk, OnErr};
 ghost use Rattle.std.specs.Option.{option_copied_mut};
 ghost use Rattle.std.specs.Borrow.{sem};
@@ -18,9 +18,12 @@ use blart_keys::AsBytes;
 use std::alloc::AllocError;
 use std::marker::PhantomData;
 
-/// A key that a map lacks, and that conflicts with some of its keys: the place of the pairs to which it is related. None of its calls takes memory.
+/// The entry of a key that a map lacks, and that conflicts with some of its keys. It is the place
+/// of the pairs to which the key is related. None of its calls allocates.
 ///
-/// Two keys are related if the bytes of one begin those of the other. Either one key begins the entry's, and then it is the only one, or there are one or more that the entry's begins.
+/// Two keys are related if the bytes of one are a prefix of the other's. Here there are two cases.
+/// A stored key is a prefix of the entry's key, and then no other stored key is related to it. Or
+/// the entry's key is a prefix of one or more stored keys.
 ///
 /// ```
 /// // map is {"car": 1, "cat": 2}
@@ -35,7 +38,7 @@ use std::marker::PhantomData;
 pub struct InnerOccupiedEntry<'a, K: AsBytes, V, const PREFIX_LEN: usize, T: 'a> {
     pub(crate) map: &'a mut TreeMap<K, V, PREFIX_LEN>,
     pub(crate) key: K,
-    // the first and the last leaf to whose keys the key is related
+    /// The first and the last leaf whose keys are related to the key.
     pub(crate) first: LeafId,
     pub(crate) last: LeafId,
     pub(crate) lender: PhantomData<T>,
@@ -52,14 +55,14 @@ impl<'a, K: AsBytes, V, const PREFIX_LEN: usize, T: 'a> InnerOccupiedEntry<
     ghost use Rattle.blart_map.specs.InnerEntry.{inner_key, related_pairs, inner_pair, inner_with, IsOnlyWritten};
     ghost use Rattle.blart_map.specs.InnerLends.{inner_value_lends};
 
-    /// The key that was handed in.
+    /// Returns the key that was handed in.
     pub fn key(&self) -> &K
         ensures { result.now ≡ inner_key self.now }
     {
         &self.key
     }
 
-    // The only related pair.
+    /// Returns the only related pair, or `None` if there are more.
     fn get_key_value(&self) -> Option<(&K, &V)>
         ensures { shown result ≡ inner_pair self.now }
     {
@@ -71,7 +74,7 @@ impl<'a, K: AsBytes, V, const PREFIX_LEN: usize, T: 'a> InnerOccupiedEntry<
         }
     }
 
-    /// The value of the only related pair; `None` where there are more.
+    /// Returns the value of the only related pair, or `None` if there are more.
     pub fn get(&self) -> Option<&V>
         ensures { option_copied result ≡ option_map (λ pair. pair.1) (inner_pair self.now) }
     {
@@ -81,7 +84,7 @@ impl<'a, K: AsBytes, V, const PREFIX_LEN: usize, T: 'a> InnerOccupiedEntry<
         }
     }
 
-    /// The key of the only related pair; `None` where there are more.
+    /// Returns the key of the only related pair, or `None` if there are more.
     pub fn get_key(&self) -> Option<&K>
         ensures { option_copied result ≡ option_map (λ pair. pair.0) (inner_pair self.now) }
     {
@@ -91,7 +94,8 @@ impl<'a, K: AsBytes, V, const PREFIX_LEN: usize, T: 'a> InnerOccupiedEntry<
         }
     }
 
-    /// The value of the only related pair, to be written; `None` where there are more.
+    /// Returns a mutable reference to the value of the only related pair, or `None` if there are
+    /// more.
     pub fn get_mut(&mut self) -> Option<&mut V>
         ensures* writes_back { sem 𝓛
             (inner_value_lends K.row V.row PREFIX_LEN.row T.row K.AsBytes self.entry result) }
@@ -108,7 +112,8 @@ impl<'a, K: AsBytes, V, const PREFIX_LEN: usize, T: 'a> InnerOccupiedEntry<
         None
     }
 
-    /// The related pairs, ascending by their keys' bytes, from both ends. Takes no memory; each step is one visit.
+    /// Returns an iterator over the related pairs, from both ends, in byte order of their keys.
+    /// Does not allocate. Each step makes one visit.
     pub fn iter(&self) -> SubtreeIter<'_, K, V, PREFIX_LEN>
         ensures value { result ≡ related_pairs self.now }
         ensures fits { CanCount result }
@@ -132,7 +137,8 @@ impl<'a, K: AsBytes + Drop, V, const PREFIX_LEN: usize> InnerOccupiedEntry<
     ghost use Rattle.blart_map.specs.LendingWalk.{lending_map, lending_last, lending_left};
     ghost use Rattle.blart_map.specs.OnceWritten.{rewritten, once_written};
 
-    /// The entry of the only related pair, in place of this one; `None` where there are more, and the map stands.
+    /// Returns the entry of the only related pair, in place of this entry. If there are more, it
+    /// returns `None`, and the map is unchanged.
     #[tactic(auto, using(crate::proofs::Related::InnerPairs::inner_has))]
     pub fn get_key_value_mut(
         self,
@@ -156,7 +162,8 @@ impl<'a, K: AsBytes + Drop, V, const PREFIX_LEN: usize> InnerOccupiedEntry<
         map.only_entry(first, last)
     }
 
-    /// A walk that lends the values of the related pairs, with their keys, ascending by the keys' bytes, from both ends. Takes no memory; each step reads one pair.
+    /// Returns a walk over mutable references to the values of the related pairs, with their keys,
+    /// in byte order of the keys, from both ends. Does not allocate. Each step reads one pair.
     ///
     /// ```
     /// if let PrefixKind::Inner(entry) = map.prefix_entry("ca").kind() {
@@ -198,7 +205,7 @@ impl<'a, K: AsBytes + Drop, V: Drop, const PREFIX_LEN: usize> InnerOccupiedEntry
     ghost use Rattle.blart_map.specs.InnerLends.{inner_lends};
     ghost use Rattle.blart_map.specs.PrefixLends.{inner_over_rests};
 
-    /// Removes the related pairs and places the key with the value, and answers its entry.
+    /// Removes the related pairs, places the key with the value, and returns the entry of the pair.
     pub fn insert_entry(
         self,
         value: V,
@@ -220,7 +227,9 @@ impl<'a, K: AsBytes + Drop, V: Drop, const PREFIX_LEN: usize> InnerOccupiedEntry
         }
     }
 
-    // As `insert_entry`, answered as by a call that may be refused: where that call is one of an enum, the check follows the map through this one.
+    /// Like [`InnerOccupiedEntry::insert_entry`], with the entry in a `Result` that is never an
+    /// error. If a call of an enum returns such a `Result`, the borrow checker follows the map
+    /// through this call.
     pub(crate) fn over(
         self,
         value: V,
@@ -245,7 +254,8 @@ impl<'a, K: AsBytes + Drop, V: Drop, const PREFIX_LEN: usize> InnerOccupiedEntry
         })
     }
 
-    /// Removes the related pairs and places the key with the value, which is lent to be written.
+    /// Removes the related pairs, places the key with the value, and returns a mutable reference to
+    /// the value.
     ///
     /// ```
     /// map.try_insert("car", 1)?;

@@ -12,9 +12,12 @@ use blart_keys::{AsBytes, NoPrefixesBytes, TryInsertError};
 use std::alloc::AllocError;
 
 impl<K: AsBytes + Drop, V: Drop, const PREFIX_LEN: usize> TreeMap<K, V, PREFIX_LEN> {
-    /// Gives the stored key with these bytes the value, and answers the old value; or adds the pair. A stored key stays, and the one handed in is dropped then: [`TreeMap::replace_entry`] exchanges both.
+    /// Sets the value of the stored key with these bytes and returns the old value, or inserts the
+    /// pair and returns `None`. A stored key is unchanged, and the key that was handed in is then
+    /// dropped. [`TreeMap::replace_entry`] replaces both the key and the value.
     ///
-    /// `Prefix` is answered exactly where the key conflicts. `Memory` is answered only where the bytes are new. A refused call leaves the map as it was.
+    /// Returns the error `Prefix` exactly if the key conflicts, and `Memory` only if the bytes are
+    /// new. If it returns an error, the map is unchanged.
     ///
     /// ```
     /// assert_eq!(map.try_insert("cat", 1)?, None);
@@ -51,7 +54,9 @@ impl<K: AsBytes + Drop, V: Drop, const PREFIX_LEN: usize> TreeMap<K, V, PREFIX_L
         put(&mut self.tree, key, value)
     }
 
-    /// Puts the pair in the place of one with the same bytes, which is the answer, or adds it. The key handed in is always the one that is stored. Errors are as those of [`TreeMap::try_insert`].
+    /// Replaces the pair with the same bytes and returns the old pair, or inserts the pair and
+    /// returns `None`. The key that was handed in is always stored. Errors are those of
+    /// [`TreeMap::try_insert`].
     #[tactic(auto, unfolding(crate::specs::Content::pairs))]
     pub fn replace_entry(&mut self, key: K, value: V) -> Result<Option<(K, V)>, TryInsertError>
         ensures old { IfOk result (λ old. old ≡ pair_at K.bytes (pairs self.old) (K.bytes key)) }
@@ -80,9 +85,11 @@ impl<K: AsBytes + Drop, V: Drop, const PREFIX_LEN: usize> TreeMap<K, V, PREFIX_L
 }
 
 impl<K: NoPrefixesBytes + Drop, V: Drop, const PREFIX_LEN: usize> TreeMap<K, V, PREFIX_LEN> {
-    /// Gives the stored key with these bytes the value, and answers the old value; or adds the pair. A stored key stays, and the one handed in is dropped then. Keys of this type never conflict.
+    /// Sets the value of the stored key with these bytes and returns the old value, or inserts the
+    /// pair and returns `None`. A stored key is unchanged, and the key that was handed in is then
+    /// dropped. Keys of this type never conflict.
     ///
-    /// An error is answered only where the bytes are new, and leaves the map as it was.
+    /// Returns an error only if the bytes are new. The map is then unchanged.
     ///
     /// ```
     /// assert_eq!(map.insert(U32Key::new(258), 'a')?, None);

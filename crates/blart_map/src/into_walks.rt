@@ -1,4 +1,4 @@
-//! Walks that take the map.
+//! Iterators that consume the map.
 ghost use Rattle.std.specs.Prelude.{◌≡◌, map};
 ghost use Rattle.blart_keys.specs.Stored.{CanCount};
 ghost use Rattle.blart_map.specs.Content.{pairs};
@@ -9,7 +9,8 @@ use blart_keys::AsBytes;
 use std::iter::IntoIterator;
 
 impl<K: AsBytes + Drop, V: Drop, const PREFIX_LEN: usize> TreeMap<K, V, PREFIX_LEN> {
-    /// The keys by value, ascending by their bytes, from both ends. Takes no memory. What was not taken is freed where the walk is dropped.
+    /// Returns an iterator over the keys by value, from both ends, in byte order. Does not
+    /// allocate. Dropping the iterator drops the remaining pairs.
     pub fn into_keys(self) -> IntoKeys<K, V, PREFIX_LEN>
         ensures value { result ≡ map (λ pair. pair.0) (pairs self) }
         ensures fits { CanCount result }
@@ -19,7 +20,8 @@ impl<K: AsBytes + Drop, V: Drop, const PREFIX_LEN: usize> TreeMap<K, V, PREFIX_L
         keys
     }
 
-    /// The values by value, in the order of their keys' bytes, from both ends. Takes no memory. What was not taken is freed where the walk is dropped.
+    /// Returns an iterator over the values by value, from both ends, in byte order of their keys.
+    /// Does not allocate. Dropping the iterator drops the remaining pairs.
     pub fn into_values(self) -> IntoValues<K, V, PREFIX_LEN>
         ensures value { result ≡ map (λ pair. pair.1) (pairs self) }
         ensures fits { CanCount result }
@@ -38,7 +40,8 @@ impl<K: AsBytes + Drop, V: Drop, const PREFIX_LEN: usize> IntoIterator
 
     ghost into_iter_gives = { λ map items. items ≡ pairs map };
 
-    /// The pairs by value, ascending by their keys' bytes, from both ends. Takes no memory. What was not taken is freed where the walk is dropped.
+    /// Returns an iterator over the pairs by value, from both ends, in byte order of their keys.
+    /// Does not allocate. Dropping the iterator drops the remaining pairs.
     ///
     /// ```
     /// map.try_insert("dog", 2)?;

@@ -20,8 +20,8 @@ impl<K: AsBytes, V, const PREFIX_LEN: usize> TreeMap<K, V, PREFIX_LEN> {
         self.law();
     }
 
-    /// Does nothing. Its contract is a law of [`TreeMap::prefix_insert`]: for any pair exactly one list
-    /// satisfies `IsOver`, which says what the map becomes.
+    /// Does nothing. Its contract is a law of [`TreeMap::prefix_insert`]: for any pair exactly one
+    /// list satisfies `IsOver`, which says what the map becomes.
     pub fn over_law(&self)
         ensures { (pair : K × V)
             → (S : List (K × V)) × IsOver (bytes K.bytes) (pairs self.now) pair S
@@ -30,9 +30,9 @@ impl<K: AsBytes, V, const PREFIX_LEN: usize> TreeMap<K, V, PREFIX_LEN> {
         self.law();
     }
 
-    /// Does nothing. Its contract is a law of [`TreeMap::split_off`] and [`TreeMap::append`]: if the
-    /// pairs are parted in two, and the upper part is appended to the lower, they are the same list
-    /// again.
+    /// Does nothing. Its contract is a law of [`TreeMap::split_off`] and [`TreeMap::append`]: if
+    /// the pairs are parted in two, and the upper part is appended to the lower, they are the same
+    /// list again.
     pub fn parts_law(&self)
         ensures { (low high S : List (K × V)) → pairs self.now ≡ low ++ high
             → IsAppended (bytes K.bytes) low high S → S ≡ pairs self.now }

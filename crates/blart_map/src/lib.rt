@@ -1,8 +1,8 @@
 //! A map in the order of its keys' bytes, on an adaptive radix tree.
 //!
-//! A contract sees a [`TreeMap`] as the list of its pairs, each under the number of its leaf; the
-//! clauses of calls speak of `pairs map`, the list without the numbers. The bytes of the pairs'
-//! keys strictly ascend, and no key's bytes begin another's.
+//! A contract sees a [`TreeMap`] as the list of its pairs, each under the id of its leaf. The
+//! clauses of calls speak of `pairs map`, the list without the ids. The bytes of the pairs' keys
+//! strictly ascend, and no key's bytes are a prefix of another's.
 #![tactic(auto)]
 
 mod bulk;

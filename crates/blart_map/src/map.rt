@@ -1,4 +1,4 @@
-//! The map, and what can be asked of it.
+//! The map, and the calls that read it.
 ghost use Rattle.std.specs.Prelude.{◌≡◌, ◌==◌, ◌+◌, ◌-◌, ◌<◌, ◌≤◌, [], true, length, slice_get, option_map, option_copied, IfSome, Some};
 ghost use Rattle.std.specs.FinSet as set;
 ghost use Rattle.blart_keys.specs.Bytes.{begins};
@@ -13,13 +13,18 @@ use blart_keys::AsBytes;
 use std::alloc::Global;
 use std::marker::Model;
 
-/// Keys and their values in the order of the keys' bytes, none of which begins another's.
+/// A map of keys to values, in the order of the keys' bytes. No key's bytes are a prefix of
+/// another's.
 ///
-/// A byte list is less than another where its byte is less at the first place where they differ, or where it begins the other. Two keys are related if the bytes of one begin those of the other. A key conflicts with a map that stores a related key with other bytes.
+/// A byte list is less than another if its byte is less at the first place where they differ, or if
+/// it is a proper prefix of the other. Two keys are related if the bytes of one are a prefix of the
+/// other's. A key conflicts with a map that stores a related key with other bytes.
 ///
-/// An inner node keeps the first `PREFIX_LEN` bytes of its compressed prefix; any length is good, 0 too.
+/// An inner node keeps the first `PREFIX_LEN` bytes of its compressed prefix. Any length will do,
+/// also 0.
 ///
-/// A call that is said to take no memory is never refused. Where it removes pairs it may ask for a smaller inner node, and keeps the larger one where that is refused.
+/// A call that is said not to allocate does not return an error for memory. If it removes pairs, it
+/// may try to allocate a smaller inner node, and keeps the larger one if that fails.
 ///
 /// ```
 /// map.try_insert("car", 1)?;
@@ -31,7 +36,7 @@ use std::marker::Model;
 #[derive(Drop)]
 pub struct TreeMap<K: AsBytes, V, const PREFIX_LEN: usize> {
     pub(crate) tree: Tree<K, V, PREFIX_LEN>,
-    // for the maps that are made of this one
+    /// The allocator of the maps that are made from this one.
     pub(crate) alloc: Global,
 }
 
@@ -45,7 +50,8 @@ impl<K: AsBytes, V, const PREFIX_LEN: usize> Model for TreeMap<K, V, PREFIX_LEN>
 }
 
 impl<K: AsBytes, V> TreeMap<K, V, DEFAULT_PREFIX_LEN> {
-    /// A map with no pairs, of which an inner node keeps 16 bytes of its compressed prefix. Takes no memory.
+    /// Returns a map with no pairs, whose inner nodes keep 16 bytes of their compressed prefixes.
+    /// Does not allocate.
     pub fn new(alloc: Global) -> Self
         ensures empty { pairs result ≡ [] }
         ensures nothing { HasNothing K.bytes (pairs result) }
@@ -55,7 +61,7 @@ impl<K: AsBytes, V> TreeMap<K, V, DEFAULT_PREFIX_LEN> {
 }
 
 impl<K: AsBytes, V, const PREFIX_LEN: usize> TreeMap<K, V, PREFIX_LEN> {
-    /// A map with no pairs. Takes no memory.
+    /// Returns a map with no pairs. Does not allocate.
     #[tactic(auto, unfolding(crate::specs::Content::pairs))]
     pub fn with_prefix_len(alloc: Global) -> Self
         ensures empty { pairs result ≡ [] }
@@ -67,7 +73,9 @@ impl<K: AsBytes, V, const PREFIX_LEN: usize> TreeMap<K, V, PREFIX_LEN> {
         }
     }
 
-    /// Answers nothing. Its contract says what holds of every map: the pairs ascend by their keys' bytes, none of which begins another's, and a count of them fits.
+    /// Does nothing. Its contract says what holds of every map: the pairs ascend by the bytes of
+    /// their keys, no key's bytes are a prefix of another's, and the number of pairs fits a
+    /// `usize`.
     pub fn law(&self)
         ensures content { IsContent (bytes K.bytes) (pairs self.now) }
         ensures fits { CanCount (pairs self.now) }
@@ -76,7 +84,7 @@ impl<K: AsBytes, V, const PREFIX_LEN: usize> TreeMap<K, V, PREFIX_LEN> {
         let _fits = self.len();
     }
 
-    /// How many pairs there are.
+    /// Returns the number of pairs.
     #[tactic(auto, unfolding(crate::specs::Content::pairs))]
     pub fn len(&self) -> usize
         ensures { result ≡ length (pairs self.now) }
@@ -84,7 +92,7 @@ impl<K: AsBytes, V, const PREFIX_LEN: usize> TreeMap<K, V, PREFIX_LEN> {
         self.tree.len()
     }
 
-    /// Whether there are no pairs.
+    /// Returns `true` if there are no pairs.
     pub fn is_empty(&self) -> bool
         ensures { result ≡ (length (pairs self.now) == 0) }
     {
@@ -114,7 +122,7 @@ impl<K: AsBytes, V, const PREFIX_LEN: usize> TreeMap<K, V, PREFIX_LEN> {
         }
     }
 
-    /// The pair with the query's bytes.
+    /// Returns the pair with the query's bytes.
     pub fn get_key_value<Q: AsBytes>(&self, query: &Q) -> Option<(&K, &V)>
         ensures value { shown result ≡ at (bytes K.bytes) (pairs self.now) (Q.bytes query.now) }
         ensures pair { shown result ≡ pair_at K.bytes (pairs self.now) (Q.bytes query.now) }
@@ -123,7 +131,7 @@ impl<K: AsBytes, V, const PREFIX_LEN: usize> TreeMap<K, V, PREFIX_LEN> {
         self.get_key_value_counted(query, &mut Visits::new())
     }
 
-    /// The value of the key with the query's bytes.
+    /// Returns the value of the key with the query's bytes.
     ///
     /// ```
     /// map.try_insert("cat", 2)?;
@@ -144,7 +152,7 @@ impl<K: AsBytes, V, const PREFIX_LEN: usize> TreeMap<K, V, PREFIX_LEN> {
         }
     }
 
-    /// Whether some key has the query's bytes.
+    /// Returns `true` if some key has the query's bytes.
     pub fn contains_key<Q: AsBytes>(&self, query: &Q) -> bool
         ensures value { result ≡ stores (bytes K.bytes) (pairs self.now) (Q.bytes query.now) }
         ensures stored { result ≡ has K.bytes (pairs self.now) (Q.bytes query.now) }
@@ -177,7 +185,7 @@ impl<K: AsBytes, V, const PREFIX_LEN: usize> TreeMap<K, V, PREFIX_LEN> {
         }
     }
 
-    /// The pair whose key's bytes begin the query's.
+    /// Returns the pair whose key's bytes are a prefix of the query's.
     pub fn prefix_get_key_value<Q: AsBytes>(&self, query: &Q) -> Option<(&K, &V)>
         ensures value { shown result
             ≡ front_of (bytes K.bytes) (pairs self.now) (Q.bytes query.now) }
@@ -188,7 +196,8 @@ impl<K: AsBytes, V, const PREFIX_LEN: usize> TreeMap<K, V, PREFIX_LEN> {
         self.prefix_get_key_value_counted(query, &mut Visits::new())
     }
 
-    /// The value of the key whose bytes begin the query's. There is at most one.
+    /// Returns the value of the key whose bytes are a prefix of the query's. There is at most one
+    /// such key.
     ///
     /// ```
     /// map.try_insert("/static/", 7)?;
@@ -208,7 +217,7 @@ impl<K: AsBytes, V, const PREFIX_LEN: usize> TreeMap<K, V, PREFIX_LEN> {
         }
     }
 
-    /// The pair whose key's bytes are least.
+    /// Returns the pair whose key's bytes are least.
     #[tactic(auto, unfolding(crate::specs::Content::pairs))]
     pub fn first_key_value(&self) -> Option<(&K, &V)>
         ensures value { shown result ≡ slice_get (pairs self.now) 0 }
@@ -220,7 +229,7 @@ impl<K: AsBytes, V, const PREFIX_LEN: usize> TreeMap<K, V, PREFIX_LEN> {
         Some(self.tree.leaf(id, &mut Visits::new()))
     }
 
-    /// The pair whose key's bytes are greatest.
+    /// Returns the pair whose key's bytes are greatest.
     #[tactic(auto, unfolding(crate::specs::Content::pairs))]
     pub fn last_key_value(&self) -> Option<(&K, &V)>
         ensures value { shown result
@@ -233,7 +242,8 @@ impl<K: AsBytes, V, const PREFIX_LEN: usize> TreeMap<K, V, PREFIX_LEN> {
         Some(self.tree.leaf(id, &mut Visits::new()))
     }
 
-    /// Whether an insertion of a key with the query's bytes would be refused for a conflict: whether some key is related to them and has other bytes.
+    /// Returns `true` if some key is related to the query's bytes and has other bytes. In that case
+    /// [`TreeMap::try_insert`] returns the error `Prefix` for a key with the query's bytes.
     ///
     /// ```
     /// map.try_insert("/api/", 1)?;
@@ -249,7 +259,8 @@ impl<K: AsBytes, V, const PREFIX_LEN: usize> TreeMap<K, V, PREFIX_LEN> {
         matches!(self.tree.point(query.as_bytes()), Point::Related { .. })
     }
 
-    /// How many inner nodes stand: one at each front where neighbouring keys part. So there are fewer than pairs where there are pairs, and none where there is one or none.
+    /// Returns the number of inner nodes. There is one at the longest common prefix of each two
+    /// neighbouring keys. The number is less than the number of pairs, and 0 if there are no pairs.
     #[tactic(auto, unfolding(crate::specs::Content::pairs))]
     pub fn inner_nodes(&self) -> usize
         ensures value { result ≡ set.len (fronts (bytes K.bytes) (pairs self.now)) }

@@ -1,4 +1,4 @@
-//! A pair that stands in a map.
+//! The entry of a pair of a map.
 ghost use Rattle.std.specs.Prelude.{◌≡◌, Some, IfOk, OnErr};
 ghost use Rattle.std.specs.Borrow.{sem};
 ghost use Rattle.art_tree.specs.Leaves.{Has};
@@ -10,9 +10,11 @@ use std::alloc::AllocError;
 use std::marker::PhantomData;
 use std::mem::replace;
 
-/// A pair that stands in a map. Reading and writing it search nothing; a removal goes down by its key. No call of it takes memory.
+/// The entry of a pair of a map. Reads and writes of the value search nothing, and a removal makes
+/// one descent by the key. None of its calls allocates.
 ///
-/// `T` is the map's type, which stands here because a borrow of a type with a const parameter has to be known to live as long as it is lent.
+/// `T` is the map's type. It is a parameter because a type with a const parameter must be known to
+/// live as long as it is borrowed.
 ///
 /// ```
 /// map.try_insert("cat", 1)?;
@@ -35,21 +37,21 @@ impl<'a, K: AsBytes, V, const PREFIX_LEN: usize, T: 'a> OccupiedEntry<'a, K, V, 
     ghost use Rattle.blart_map.specs.OccupiedEntry.{with_entry_value};
     ghost use Rattle.blart_map.specs.OccupiedLends.{entry_value_lends};
 
-    /// The stored key.
+    /// Returns the stored key.
     pub fn key(&self) -> &K
         ensures { entry_key (Occupied self.now) ≡ Some result.now }
     {
         self.map.leaf(self.id).0
     }
 
-    /// The value.
+    /// Returns the value.
     pub fn get(&self) -> &V
         ensures { entry_value (Occupied self.now) ≡ Some result.now }
     {
         self.map.leaf(self.id).1
     }
 
-    /// The value, to be written.
+    /// Returns a mutable reference to the value.
     pub fn get_mut(&mut self) -> &mut V
         ensures* writes_back { sem 𝓛
             (entry_value_lends K.row V.row PREFIX_LEN.row T.row K.AsBytes self.entry result) }
@@ -61,7 +63,7 @@ impl<'a, K: AsBytes, V, const PREFIX_LEN: usize, T: 'a> OccupiedEntry<'a, K, V, 
         self.map.value_mut(id)
     }
 
-    /// Sets the value, and gives the old one. The key stays.
+    /// Sets the value, and returns the old value. The key is unchanged.
     pub fn insert(&mut self, value: V) -> V
         ensures old { entry_value (Occupied self.old) ≡ Some result }
         ensures written { IsSetEntry (Occupied self.old) value self.new }
@@ -79,7 +81,7 @@ impl<'a, K: AsBytes + Drop, V: Drop, const PREFIX_LEN: usize, T: 'a> OccupiedEnt
 > {
     ghost use Rattle.blart_map.specs.Entry.{Occupied, entry_value, entry_pair, IsRemoved};
 
-    /// Removes the pair, and gives it.
+    /// Removes the pair, and returns it.
     pub fn remove_entry(self) -> (K, V)
         ensures pair { entry_pair (Occupied self.entry) ≡ Some result }
         ensures rest { IsRemoved (Occupied self.entry) self.exit.0.now }
@@ -89,7 +91,7 @@ impl<'a, K: AsBytes + Drop, V: Drop, const PREFIX_LEN: usize, T: 'a> OccupiedEnt
         self.map.take_leaf(id)
     }
 
-    /// Removes the pair, and gives its value.
+    /// Removes the pair, and returns its value.
     pub fn remove(self) -> V
         ensures value { entry_value (Occupied self.entry) ≡ Some result }
         ensures rest { IsRemoved (Occupied self.entry) self.exit.0.now }
@@ -111,7 +113,7 @@ impl<'a, K: AsBytes, V, const PREFIX_LEN: usize> OccupiedEntry<
     ghost use Rattle.blart_map.specs.LentLeaves.{lends_leaf};
     ghost use Rattle.art_tree.specs.Leaves.{with_value};
 
-    /// The value, to be written for as long as the map was lent.
+    /// Returns a mutable reference to the value that lives as long as the borrow of the map.
     pub fn into_mut(self) -> &'a mut V
         ensures* writes_back { sem 𝓛
             (lends_leaf K.row V.row PREFIX_LEN.row K.AsBytes
@@ -125,7 +127,8 @@ impl<'a, K: AsBytes, V, const PREFIX_LEN: usize> OccupiedEntry<
         map.value_mut(self.id)
     }
 
-    // This entry, as a call that may be refused answers it: where that call is one of an enum, the check follows the map through this one.
+    /// Returns this entry, in a `Result` that is never an error. If a call of an enum returns such
+    /// a `Result`, the borrow checker follows the map through this call.
     pub(crate) fn kept(
         self,
     ) -> Result<OccupiedEntry<'a, K, V, PREFIX_LEN, TreeMap<K, V, PREFIX_LEN>>, AllocError>
@@ -151,7 +154,7 @@ impl<'a, K: AsBytes, V: Drop, const PREFIX_LEN: usize> OccupiedEntry<
     ghost use Rattle.blart_map.specs.LentLeaves.{lends_leaf};
     ghost use Rattle.art_tree.specs.Leaves.{with_value};
 
-    // This entry, once the value is this one, answered as `kept` answers it.
+    /// Sets the value, and returns this entry in a `Result`, like [`OccupiedEntry::kept`].
     pub(crate) fn set(
         self,
         value: V,
@@ -167,7 +170,8 @@ impl<'a, K: AsBytes, V: Drop, const PREFIX_LEN: usize> OccupiedEntry<
         Ok(OccupiedEntry { map, id, lender })
     }
 
-    // Sets the value, and lends it to be written for as long as the map was lent.
+    /// Sets the value, and returns a mutable reference to it that lives as long as the borrow of
+    /// the map.
     pub(crate) fn write(self, value: V) -> &'a mut V
         ensures* writes_back { sem 𝓛
             (lends_leaf K.row V.row PREFIX_LEN.row K.AsBytes self.entry.map self.entry.id result) }

@@ -1,4 +1,4 @@
-//! An insertion over all related pairs.
+//! An insertion in place of all related pairs.
 ghost use Rattle.std.specs.Prelude.{◌≡◌, ℕ, List, true, false, OnOk, OnErr, Some, if◌then◌else◌};
 ghost use Rattle.blart_keys.specs.Bytes.{begins};
 ghost use Rattle.blart_keys.specs.Content.{IsContent, IsOver};
@@ -17,9 +17,9 @@ use blart_keys::AsBytes;
 use std::alloc::AllocError;
 
 impl<K: AsBytes + Drop, V: Drop, const PREFIX_LEN: usize> TreeMap<K, V, PREFIX_LEN> {
-    /// Puts the pair in the place of all pairs whose keys are related to its key.
+    /// Inserts the pair in place of all pairs whose keys are related to its key.
     ///
-    /// Where there are such pairs it takes no memory. An error leaves the map as it was.
+    /// If there are such pairs, it does not allocate. If it returns an error, the map is unchanged.
     ///
     /// ```
     /// map.try_insert("car", 1)?;
@@ -61,7 +61,8 @@ impl<K: AsBytes + Drop, V: Drop, const PREFIX_LEN: usize> TreeMap<K, V, PREFIX_L
         }
     }
 
-    // Puts the pair in the place of the related ones, from the first leaf to the last, under the number of the last.
+    /// Places the pair in place of the related pairs, from the first leaf to the last, under the id
+    /// of the last leaf.
     pub(crate) fn overwrite(&mut self, first: LeafId, last: LeafId, key: K, value: V)
         requires { Spans K.bytes self.old (K.bytes key) first last }
         ensures over { IsOver (bytes K.bytes) (pairs_of self.old) (key, value)

@@ -1,4 +1,4 @@
-//! Where a pair goes, room for it, and the pair placed; and what an entry asks of the map that it holds.
+//! Points and placements of pairs, and the calls that entries make of their map.
 ghost use Rattle.std.specs.Prelude.{◌≡◌, ◌+◌, ◌<◌, false, eqb, option_map, is_some, Some, None, IfOk, IfSome, IfNone, OnErr};
 ghost use Rattle.std.specs.Borrow.{sem};
 ghost use Rattle.std.specs.Fn.{FnOnceReturnsAt};
@@ -23,7 +23,7 @@ use std::alloc::AllocError;
 use std::marker::PhantomData;
 
 impl<K: AsBytes, V, const PREFIX_LEN: usize> TreeMap<K, V, PREFIX_LEN> {
-    // What holds of the numbered pairs.
+    /// Does nothing. Its contract says what holds of the pairs with the ids of their leaves.
     pub(crate) fn numbers_law(&self)
         ensures content { IsContent (bytes K.bytes) self.now }
         ensures distinct { AreDistinct self.now }
@@ -31,7 +31,7 @@ impl<K: AsBytes, V, const PREFIX_LEN: usize> TreeMap<K, V, PREFIX_LEN> {
         self.tree.law()
     }
 
-    // The pairs from one leaf through another.
+    /// Returns an iterator over the pairs from one leaf through another.
     pub(crate) fn iter_between(
         &self,
         first: LeafId,
@@ -43,7 +43,7 @@ impl<K: AsBytes, V, const PREFIX_LEN: usize> TreeMap<K, V, PREFIX_LEN> {
         SubtreeIter::new(&self.tree, first, last)
     }
 
-    // The entry of a leaf, where it is the last as well.
+    /// Returns the entry of the first leaf if it is also the last, and `None` if it is not.
     pub(crate) fn only_entry(
         &mut self,
         first: LeafId,
@@ -68,28 +68,28 @@ impl<K: AsBytes, V, const PREFIX_LEN: usize> TreeMap<K, V, PREFIX_LEN> {
         }
     }
 
-    // The leaf of the first pair.
+    /// Returns the leaf of the first pair.
     pub(crate) fn first_leaf(&self) -> Option<LeafId>
         ensures { result ≡ first_number self.now }
     {
         self.tree.first()
     }
 
-    // The leaf of the last pair.
+    /// Returns the leaf of the last pair.
     pub(crate) fn last_leaf(&self) -> Option<LeafId>
         ensures { result ≡ last_number self.now }
     {
         self.tree.last()
     }
 
-    // The leaf whose key's bytes begin the query's.
+    /// Returns the leaf whose key's bytes are a prefix of the query's.
     pub(crate) fn front_leaf(&self, query: &[u8]) -> Option<LeafId>
         ensures { result ≡ option_map (λ p. p.0) (front_of (bytes K.bytes) self.now query.now) }
     {
         self.tree.search_front(query, &mut Visits::new())
     }
 
-    // Where the bytes stand, or would go.
+    /// Returns the point of the query's bytes.
     pub(crate) fn point_of(&self, query: &[u8]) -> Point
         ensures { IsGood K.bytes self.now result query.now }
     {
@@ -98,7 +98,8 @@ impl<K: AsBytes, V, const PREFIX_LEN: usize> TreeMap<K, V, PREFIX_LEN> {
 }
 
 impl<K: NoPrefixesBytes, V, const PREFIX_LEN: usize> TreeMap<K, V, PREFIX_LEN> {
-    // The leaf of the key. Where there is none a pair with the key may be placed: it never conflicts.
+    /// Returns the leaf of the key. If there is none, a pair with the key may be placed, since the
+    /// key never conflicts.
     pub(crate) fn lawful_leaf(&self, key: &K) -> Option<LeafId>
         ensures there { IfSome result (λ id. Has self.now id) }
         ensures good { IfSome result
@@ -118,7 +119,8 @@ impl<K: NoPrefixesBytes, V, const PREFIX_LEN: usize> TreeMap<K, V, PREFIX_LEN> {
 }
 
 impl<K: AsBytes + Drop, V: Drop, const PREFIX_LEN: usize> TreeMap<K, V, PREFIX_LEN> {
-    // Places a pair whose key is related to none.
+    /// Places a pair whose key is related to no stored key, and returns its leaf. If it fails to
+    /// allocate, the map is unchanged.
     pub(crate) fn place_new(&mut self, key: K, value: V) -> Result<LeafId, AllocError>
         requires absent { stores (bytes K.bytes) self.old (K.bytes key) ≡ false }
         requires free { conflict (bytes K.bytes) self.old (K.bytes key) ≡ false }
@@ -131,7 +133,8 @@ impl<K: AsBytes + Drop, V: Drop, const PREFIX_LEN: usize> TreeMap<K, V, PREFIX_L
         }
     }
 
-    // The same with the closure's answer, which is called once there is room.
+    /// Places a pair like [`TreeMap::place_new`], with the value that the closure returns. The
+    /// closure is called once there is room.
     pub(crate) fn place_new_with<F: FnOnce() -> V + Drop>(
         &mut self,
         key: K,
@@ -153,7 +156,7 @@ impl<K: AsBytes + Drop, V: Drop, const PREFIX_LEN: usize> TreeMap<K, V, PREFIX_L
         }
     }
 
-    // The same with the answer of a closure that is given the key.
+    /// Places a pair like [`TreeMap::place_new_with`]. The closure takes the key.
     pub(crate) fn place_new_with_key<F: FnOnce(&K) -> V + Drop>(
         &mut self,
         key: K,

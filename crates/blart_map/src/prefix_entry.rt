@@ -13,13 +13,13 @@ use crate::vacant::VacantEntry;
 use blart_keys::AsBytes;
 use std::alloc::AllocError;
 
-/// The place of a key in a map: the pair with its bytes, the pairs with which it conflicts, or a new
-/// place.
+/// The place of a key in a map: the pair with its bytes, the pairs with which it conflicts, or a
+/// new place.
 ///
 /// Call [`PrefixEntry::kind`] first, as the example does: only the calls of [`PrefixKind`] have all
-/// clauses, since the borrow checker of the language carries no clause about the map through an enum
-/// in an enum. The growing calls of this type do the same, but their contracts do not say what the
-/// map is after a write or an error.
+/// clauses, since the borrow checker of the language carries no clause about the map through an
+/// enum in an enum. The growing calls of this type do the same, but their contracts do not say what
+/// the map is after a write or an error.
 ///
 /// A growing call fails to allocate on `Vacant` alone. A closure or a default is called on `Vacant`
 /// and `Inner` alone, once there is room. On `Inner` such a call removes all pairs to which the key
@@ -34,9 +34,9 @@ use std::alloc::AllocError;
 /// ```
 #[derive(Drop)]
 pub enum PrefixEntry<'a, K: AsBytes, V, const PREFIX_LEN: usize, T: 'a> {
-    /// The key's bytes are stored, or it conflicts with some.
+    /// The key's bytes are stored, or the key conflicts with stored keys.
     Occupied(PrefixOccupied<'a, K, V, PREFIX_LEN, T>),
-    /// The key is related to none.
+    /// The key is related to no stored key.
     Vacant(VacantEntry<'a, K, V, PREFIX_LEN, T>),
 }
 
@@ -53,8 +53,8 @@ impl<'a, K: AsBytes, V, const PREFIX_LEN: usize, T: 'a> PrefixEntry<'a, K, V, PR
         }
     }
 
-    /// Returns the stored key on `Leaf`, the key of the only related pair on `Inner`, or `None` if
-    /// there are more, and the key that was handed in on `Vacant`.
+    /// Returns the stored key on `Leaf`, and the key that was handed in on `Vacant`. On `Inner`,
+    /// returns the key of the only related pair, or `None` if there are more.
     pub fn get_key(&self) -> Option<&K>
         ensures { option_copied result ≡ prefix_found self.now }
     {
@@ -103,8 +103,8 @@ impl<'a, K: AsBytes + Drop, V: Drop, const PREFIX_LEN: usize> PrefixEntry<
 > {
     ghost use Rattle.blart_map.specs.PrefixEntry.{prefix_kind, prefix_key, prefix_value, IsPrefixSet, IsPrefixKeptOrSet, IsPrefixKeptOrMade};
 
-    /// Sets the value, on `Inner` in place of all pairs to which the key is related, and returns the
-    /// entry of the key's pair. See [`PrefixKind::insert_entry`], which has all clauses.
+    /// Sets the value, on `Inner` in place of all pairs to which the key is related, and returns
+    /// the entry of the key's pair. See [`PrefixKind::insert_entry`], which has all clauses.
     pub fn insert_entry(
         self,
         value: V,
@@ -119,8 +119,8 @@ impl<'a, K: AsBytes + Drop, V: Drop, const PREFIX_LEN: usize> PrefixEntry<
     }
 
     /// Returns the entry of the key's pair. If no value is stored, it first places the default, in
-    /// place of all pairs to which the key is related. See [`PrefixKind::or_insert_entry`], which has
-    /// all clauses.
+    /// place of all pairs to which the key is related. See [`PrefixKind::or_insert_entry`], which
+    /// has all clauses.
     pub fn or_insert_entry(
         self,
         default: V,
@@ -155,8 +155,8 @@ impl<'a, K: AsBytes + Drop, V: Drop, const PREFIX_LEN: usize> PrefixEntry<
     }
 
     /// Returns the entry of the key's pair, like [`PrefixEntry::or_insert_with_entry`]. The closure
-    /// takes the key that was handed in. See [`PrefixKind::or_insert_with_key_entry`], which has all
-    /// clauses.
+    /// takes the key that was handed in. See [`PrefixKind::or_insert_with_key_entry`], which has
+    /// all clauses.
     pub fn or_insert_with_key_entry<F: FnOnce(&K) -> V + Drop>(
         self,
         default: F,
@@ -231,7 +231,8 @@ impl<'a, K: AsBytes + Drop, V: Drop, const PREFIX_LEN: usize> PrefixEntry<
         requires { prefix_value self ≡ None
             → (p : Bor K) → prefix_key self ≡ Some p.now → F.pre default p }
         ensures value { IfOk result (λ r. UnwrapsOrElse (prefix_value self.entry)
-            (λ v. IfSome (prefix_key self.entry) (λ k. FnOnceReturnsAt F.FnOnce default k v)) r.now) }
+            (λ v. IfSome (prefix_key self.entry) (λ k. FnOnceReturnsAt F.FnOnce default k v))
+            r.now) }
         ensures vacant { OnErr result (prefix_kind self.entry ≡ Kind.Vacant) }
     {
         match self.or_insert_with_key_entry(default) {

@@ -13,11 +13,11 @@ use crate::vacant::VacantEntry;
 use blart_keys::AsBytes;
 use std::alloc::AllocError;
 
-/// The three kinds of a prefix entry, in one enum. From each arm of a `match` a caller's proof learns
-/// what the map becomes, which a pattern in a pattern does not tell.
+/// The three kinds of a prefix entry, in one enum. From each arm of a `match` a caller's proof
+/// learns what the map becomes. From a pattern in a pattern it would not.
 ///
-/// It has each growing call of [`PrefixEntry`](crate::PrefixEntry) under the same name. The contracts
-/// here also say what the map becomes, and that an error leaves it unchanged.
+/// It has each growing call of [`PrefixEntry`](crate::PrefixEntry) under the same name. The
+/// contracts here also say what the map becomes, and that an error leaves it unchanged.
 ///
 /// ```
 /// match map.prefix_entry("cat").kind() {
@@ -31,9 +31,9 @@ use std::alloc::AllocError;
 pub enum PrefixKind<'a, K: AsBytes, V, const PREFIX_LEN: usize, T: 'a> {
     /// The key's bytes are stored.
     Leaf(OccupiedEntry<'a, K, V, PREFIX_LEN, T>),
-    /// The key conflicts with some.
+    /// The key conflicts with stored keys.
     Inner(InnerOccupiedEntry<'a, K, V, PREFIX_LEN, T>),
-    /// The key is related to none.
+    /// The key is related to no stored key.
     Vacant(VacantEntry<'a, K, V, PREFIX_LEN, T>),
 }
 
@@ -47,8 +47,8 @@ impl<'a, K: AsBytes + Drop, V: Drop, const PREFIX_LEN: usize> PrefixKind<
     ghost use Rattle.blart_map.specs.PrefixKind.{kind_value, kind_key, kind_kind, IsKindSetEntry, IsKindKeptOrSet, IsKindKeptOrMade};
     ghost use Rattle.blart_map.specs.PrefixLends.{kind_lends_ok, kind_rests};
 
-    /// Sets the value, on `Inner` in place of all pairs to which the key is related, and returns the
-    /// entry of the key's pair.
+    /// Sets the value, on `Inner` in place of all pairs to which the key is related, and returns
+    /// the entry of the key's pair.
     ///
     /// Fails to allocate on `Vacant` alone, and then the map is unchanged.
     ///
@@ -158,8 +158,8 @@ impl<'a, K: AsBytes + Drop, V: Drop, const PREFIX_LEN: usize> PrefixKind<
         self.or_insert_with_entry(|| V::default())
     }
 
-    /// Returns a mutable reference to the value. If no value is stored, it first places the default,
-    /// on `Inner` in place of all pairs to which the key is related.
+    /// Returns a mutable reference to the value. If no value is stored, it first places the
+    /// default, on `Inner` in place of all pairs to which the key is related.
     ///
     /// Once the borrow ends, the key has the last value written. Errors and cost are those of
     /// [`PrefixKind::insert_entry`].
@@ -204,8 +204,8 @@ impl<'a, K: AsBytes + Drop, V: Drop, const PREFIX_LEN: usize> PrefixKind<
         }
     }
 
-    /// Returns a mutable reference like [`PrefixKind::or_insert_with`]. The closure takes the key that
-    /// was handed in.
+    /// Returns a mutable reference like [`PrefixKind::or_insert_with`]. The closure takes the key
+    /// that was handed in.
     pub fn or_insert_with_key<F: FnOnce(&K) -> V + Drop>(
         self,
         default: F,
@@ -228,8 +228,8 @@ impl<'a, K: AsBytes + Drop, V: Drop, const PREFIX_LEN: usize> PrefixKind<
         }
     }
 
-    /// Returns a mutable reference like [`PrefixKind::or_insert`], with the type's default, which is
-    /// made if no value is stored, once there is room.
+    /// Returns a mutable reference like [`PrefixKind::or_insert`], with the type's default, which
+    /// is made if no value is stored, once there is room.
     pub fn or_default(self) -> Result<&'a mut V, AllocError>
     where
         V: Default,

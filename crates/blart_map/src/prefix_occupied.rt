@@ -1,4 +1,4 @@
-//! A key whose bytes are stored in a map, or that conflicts there.
+//! A key whose bytes are stored in a map, or that conflicts with stored keys.
 ghost use Rattle.std.specs.Prelude.{◌≡◌, option_map, option_copied, Some};
 ghost use Rattle.std.specs.Borrow.{sem};
 ghost use Rattle.std.specs.Option.{option_copied_mut};
@@ -8,7 +8,8 @@ use crate::map::TreeMap;
 use crate::occupied::OccupiedEntry;
 use blart_keys::AsBytes;
 
-/// A key whose bytes are stored in a map, or that conflicts there. None of its calls allocates.
+/// A key whose bytes are stored in a map, or that conflicts with stored keys. None of its calls
+/// allocates.
 ///
 /// To write to the map, call [`PrefixEntry::kind`](crate::PrefixEntry::kind) in place of matching a
 /// prefix entry: only the calls of a kind have all clauses.
@@ -25,7 +26,7 @@ use blart_keys::AsBytes;
 pub enum PrefixOccupied<'a, K: AsBytes, V, const PREFIX_LEN: usize, T: 'a> {
     /// The key's bytes are stored.
     Leaf(OccupiedEntry<'a, K, V, PREFIX_LEN, T>),
-    /// The key conflicts with some.
+    /// The key conflicts with stored keys.
     Inner(InnerOccupiedEntry<'a, K, V, PREFIX_LEN, T>),
 }
 
@@ -42,7 +43,8 @@ impl<'a, K: AsBytes, V, const PREFIX_LEN: usize, T: 'a> PrefixOccupied<'a, K, V,
         }
     }
 
-    /// Returns the value, on `Inner` that of the only related pair, or `None` if there are more.
+    /// Returns the value on `Leaf`. On `Inner`, returns the value of the only related pair, or
+    /// `None` if there are more.
     pub fn get(&self) -> Option<&V>
         ensures { option_copied result ≡ option_map (λ pair. pair.1) (occupied_pair self.now) }
     {
@@ -52,7 +54,8 @@ impl<'a, K: AsBytes, V, const PREFIX_LEN: usize, T: 'a> PrefixOccupied<'a, K, V,
         }
     }
 
-    /// Returns the stored key, on `Inner` that of the only related pair, or `None` if there are more.
+    /// Returns the stored key on `Leaf`. On `Inner`, returns the key of the only related pair, or
+    /// `None` if there are more.
     pub fn get_key(&self) -> Option<&K>
         ensures { option_copied result ≡ option_map (λ pair. pair.0) (occupied_pair self.now) }
     {
@@ -62,8 +65,8 @@ impl<'a, K: AsBytes, V, const PREFIX_LEN: usize, T: 'a> PrefixOccupied<'a, K, V,
         }
     }
 
-    /// Returns a mutable reference to the value, on `Inner` that of the only related pair, or `None`
-    /// if there are more.
+    /// Returns a mutable reference to the value on `Leaf`, and to the value of the only related
+    /// pair on `Inner`. Returns `None` if there are more related pairs.
     ///
     /// The contract says which value it is, and not what the entry is after the write: the borrow
     /// checker of the language carries no such clause. Match the enum and call the `get_mut` of
@@ -89,8 +92,8 @@ impl<'a, K: AsBytes + Drop, V: Drop, const PREFIX_LEN: usize> PrefixOccupied<
     ghost use Rattle.blart_map.specs.PrefixEntry.{IsOccupiedSet, IsOccupiedWritten, occupied_with};
     ghost use Rattle.blart_map.specs.PrefixLends.{occupied_lends};
 
-    /// Sets the value on `Leaf`, and on `Inner` removes the related pairs and places the key with the
-    /// value. Returns the entry of the key's pair.
+    /// Sets the value on `Leaf`, and on `Inner` removes the related pairs and places the key with
+    /// the value. Returns the entry of the key's pair.
     pub fn insert_entry(
         self,
         value: V,
@@ -106,8 +109,8 @@ impl<'a, K: AsBytes + Drop, V: Drop, const PREFIX_LEN: usize> PrefixOccupied<
         }
     }
 
-    /// Returns a mutable reference to the value, which it sets like [`PrefixOccupied::insert_entry`].
-    /// Once the borrow ends, the key has the last value written.
+    /// Returns a mutable reference to the value, which it sets like
+    /// [`PrefixOccupied::insert_entry`]. Once the borrow ends, the key has the last value written.
     pub fn insert(self, value: V) -> &'a mut V
         ensures* writes_back { sem 𝓛
             (occupied_lends K.row V.row PREFIX_LEN.row K.AsBytes self.entry result) }

@@ -15,7 +15,7 @@ use blart_keys::{AsBytes, InsertPrefixError, NoPrefixesBytes};
 use std::alloc::AllocError;
 use std::mem::replace;
 
-/// The pairs of a map, and room for some more. A [`Reserved`] holds it while the map is lent to it.
+/// The pairs of a map, and room for some more. A [`Reserved`] holds it while it borrows the map.
 ///
 /// The example of [`Reserved`] shows it.
 #[derive(Drop)]
@@ -25,17 +25,17 @@ pub struct Room<K: AsBytes, V, const PREFIX_LEN: usize> {
     ghost fits: { left ≤ room tree },
 }
 
-/// A map with room for some pairs, which [`TreeMap::reserve`] makes. Insertions here do not allocate,
-/// so none runs out of memory.
+/// A map with room for some pairs, which [`TreeMap::reserve`] makes. Insertions here do not
+/// allocate, so none runs out of memory.
 ///
-/// The room counts down by one if a pair is added. It is unchanged if a stored key gets a new value or
-/// a key conflicts.
+/// The room counts down by one if a pair is added. It is unchanged if a stored key gets a new value
+/// or a key conflicts.
 ///
 /// This value holds the pairs, and the map is empty meanwhile. When it is dropped, the map has them
-/// again. If it is forgotten instead, the map stays empty.
+/// again. If it is forgotten instead, the map remains empty.
 ///
-/// `M` is the map's type. `R` is the type of what holds the pairs, a [`Room`]. It is a parameter since
-/// a proof would not learn what becomes of the map if the type named it in a field.
+/// `M` is the map's type. `R` is the type of the value that holds the pairs, a [`Room`]. It is a
+/// parameter since a proof would not learn what becomes of the map if the type named it in a field.
 ///
 /// ```
 /// let mut room = map.reserve(2)?;
@@ -50,14 +50,14 @@ pub struct Reserved<'a, M, R: PutBack<M>> {
     room: R,
 }
 
-/// What was taken out of a map, to be put back.
+/// A value that was taken out of a map, and can be put back.
 ///
 /// The example of [`Reserved`] shows it.
 pub trait PutBack<M>: Drop {
     /// The map, once it is put back.
     ghost filled: { Self → M };
 
-    /// Puts it in the place of what the map has.
+    /// Replaces the content of the map by this value.
     fn put_back(self, map: &mut M)
         ensures { map.new ≡ filled self };
 }
@@ -89,10 +89,10 @@ impl<K: AsBytes + Drop, V: Drop, const PREFIX_LEN: usize> TreeMap<K, V, PREFIX_L
     ghost use Rattle.blart_map.specs.Content.{pairs};
     ghost use Rattle.blart_map.specs.Reserved.{reserved_map, held, room_leaves, room_count, room_left, rests_if_full};
 
-    /// Makes room for `count` more pairs, and returns a guard that fills the map. The map is empty until
-    /// the guard is dropped.
+    /// Makes room for `count` more pairs, and returns a guard that fills the map. The map is empty
+    /// until the guard is dropped.
     ///
-    /// If it fails to allocate, the map is unchanged. For no pairs it does not allocate.
+    /// If it fails to allocate, the map is unchanged. If `count` is 0, it does not allocate.
     ///
     /// ```
     /// let mut room = map.reserve(2)?;
@@ -120,8 +120,8 @@ impl<K: AsBytes + Drop, V: Drop, const PREFIX_LEN: usize> TreeMap<K, V, PREFIX_L
         }
     }
 
-    /// Makes room for `count` more pairs, and takes the pairs out of the map with it. The map is empty
-    /// until the room is put back.
+    /// Makes room for `count` more pairs, and takes the pairs out of the map with it. The map is
+    /// empty until the room is put back.
     ///
     /// If it fails to allocate, the map is unchanged.
     pub fn take_room(&mut self, count: usize) -> Result<Room<K, V, PREFIX_LEN>, AllocError>
@@ -148,7 +148,7 @@ impl<K: AsBytes, V, const PREFIX_LEN: usize> Room<K, V, PREFIX_LEN> {
         self.tree.law();
     }
 
-    /// Returns for how many pairs there is room.
+    /// Returns the number of pairs for which there is room.
     pub fn left(&self) -> usize
         ensures { result ≡ room_count self.now }
     {
@@ -225,15 +225,15 @@ impl<'a, K: AsBytes + Drop, V: Drop, const PREFIX_LEN: usize> Reserved<
 > {
     ghost use Rattle.blart_map.specs.Reserved.{reserved_map, held, room_left};
 
-    /// Returns for how many pairs there is room.
+    /// Returns the number of pairs for which there is room.
     pub fn left(&self) -> usize
         ensures { result ≡ room_left self.now }
     {
         self.room.left()
     }
 
-    /// Inserts the pair, like [`TreeMap::try_insert`], if there is room for one. It does not allocate, and
-    /// returns an error only if the key conflicts.
+    /// Inserts the pair, like [`TreeMap::try_insert`], if there is room for one. It does not
+    /// allocate, and returns an error only if the key conflicts.
     pub fn try_insert(&mut self, key: K, value: V) -> Result<Option<V>, InsertPrefixError>
         requires { 0 < room_left self.old }
         ensures same_map { (reserved_map self.new).ghost_name
@@ -267,8 +267,8 @@ impl<'a, K: NoPrefixesBytes + Drop, V: Drop, const PREFIX_LEN: usize> Reserved<
 > {
     ghost use Rattle.blart_map.specs.Reserved.{reserved_map, held, room_left};
 
-    /// Inserts the pair, like [`TreeMap::insert`], if there is room for one. It does not allocate, and
-    /// always succeeds.
+    /// Inserts the pair, like [`TreeMap::insert`], if there is room for one. It does not allocate,
+    /// and always succeeds.
     pub fn insert(&mut self, key: K, value: V) -> Option<V>
         requires { 0 < room_left self.old }
         ensures same_map { (reserved_map self.new).ghost_name

@@ -13,7 +13,7 @@ impl<K: AsBytes + Drop, V: Drop, const PREFIX_LEN: usize> TreeMap<K, V, PREFIX_L
     ///
     /// The closure is called once for each pair, in ascending order of the keys' bytes.
     ///
-    /// Cost: one read of each pair, and a removal for each pair that goes. It does not allocate.
+    /// Cost: one read of each pair, and a removal for each removed pair. Does not allocate.
     ///
     /// ```
     /// map.try_insert("cat", 1)?;
@@ -27,18 +27,20 @@ impl<K: AsBytes + Drop, V: Drop, const PREFIX_LEN: usize> TreeMap<K, V, PREFIX_L
     /// ```
     #[tactic(auto, unfolding(crate::specs::Content::pairs))]
     pub fn retain<F: FnMut(&K, &mut V) -> bool + Drop>(&mut self, mut f: F)
-        requires { CallableOnEachPair (CalledAtPair F.FnMut) (TakesPair F.FnMut) f (pairs self.old) }
+        requires { CallableOnEachPair (CalledAtPair F.FnMut) (TakesPair F.FnMut) f
+            (pairs self.old) }
         ensures { Retains (AsksPair F.FnMut) (pairs self.old) f (pairs self.new) }
     {
         self.retain_by(&mut f)
     }
 
-    /// Retains pairs like [`TreeMap::retain`], with a closure that is lent. So the contract also says
-    /// in which state the closure ends: that in which the last of these calls left it.
+    /// Retains pairs like [`TreeMap::retain`], with a mutable reference to a closure. So the
+    /// contract also says in which state the closure ends: the state in which the last of these
+    /// calls left it.
     ///
     /// The closure is called once for each pair, in ascending order of the keys' bytes.
     ///
-    /// Cost: one read of each pair, and a removal for each pair that goes. It does not allocate.
+    /// Cost: one read of each pair, and a removal for each removed pair. Does not allocate.
     ///
     /// ```
     /// map.try_insert("cat", 1)?;
@@ -53,7 +55,8 @@ impl<K: AsBytes + Drop, V: Drop, const PREFIX_LEN: usize> TreeMap<K, V, PREFIX_L
     /// ```
     #[tactic(auto, unfolding(crate::specs::Content::pairs))]
     pub fn retain_by<F: FnMut(&K, &mut V) -> bool>(&mut self, f: &mut F)
-        requires { CallableOnEachPair (CalledAtPair F.FnMut) (TakesPair F.FnMut) f.old (pairs self.old) }
+        requires { CallableOnEachPair (CalledAtPair F.FnMut) (TakesPair F.FnMut) f.old
+            (pairs self.old) }
         ensures { RetainsBy (AsksPair F.FnMut) (pairs self.old) f.old (pairs self.new) f.new }
     {
         art_walk::retain_by(&mut self.tree, f)

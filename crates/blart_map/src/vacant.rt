@@ -12,7 +12,8 @@ use blart_keys::AsBytes;
 use std::alloc::AllocError;
 use std::marker::PhantomData;
 
-/// A key that a map lacks, and that conflicts with none of its keys. Only its insertions take memory, and a refused one leaves the map as it was.
+/// The entry of a key that a map lacks, and that conflicts with none of its keys. Of its calls,
+/// only the insertions allocate. If one fails to allocate, the map is unchanged.
 ///
 /// ```
 /// if let Entry::Vacant(entry) = map.try_entry("cat")? {
@@ -32,14 +33,14 @@ pub struct VacantEntry<'a, K: AsBytes, V, const PREFIX_LEN: usize, T: 'a> {
 impl<'a, K: AsBytes, V, const PREFIX_LEN: usize, T: 'a> VacantEntry<'a, K, V, PREFIX_LEN, T> {
     ghost use Rattle.blart_map.specs.Entry.{Vacant, entry_ref, vacant_key};
 
-    /// The key.
+    /// Returns the key.
     pub fn key(&self) -> &K
         ensures { result.now ≡ vacant_key self.now }
     {
         &self.key
     }
 
-    /// Gives the key back. The map stands.
+    /// Returns the key by value. The map is unchanged.
     pub fn into_key(self) -> K
         ensures key { result ≡ vacant_key self.entry }
         ensures unchanged { self.exit.0.now ≡ (entry_ref (Vacant self.entry)).now }
@@ -58,7 +59,8 @@ impl<'a, K: AsBytes + Drop, V: Drop, const PREFIX_LEN: usize> VacantEntry<
     ghost use Rattle.blart_map.specs.Entry.{Vacant, entry_pairs, IsSetEntry, IsUndone};
     ghost use Rattle.blart_map.specs.EntryLends.{entry_lends_ok, entry_rests};
 
-    /// Places the key with the value, which is lent to be written. Where memory is refused the key and the value are dropped.
+    /// Places the key with the value, and returns a mutable reference to the value. If it fails to
+    /// allocate, the key and the value are dropped.
     pub fn insert(self, value: V) -> Result<&'a mut V, AllocError>
         ensures* writes_back { sem 𝓛
             (entry_lends_ok K.row V.row PREFIX_LEN.row K.AsBytes (Vacant self.entry) result) }
@@ -69,7 +71,8 @@ impl<'a, K: AsBytes + Drop, V: Drop, const PREFIX_LEN: usize> VacantEntry<
         Ok(map.value_mut(id))
     }
 
-    /// Places the key with the value, and answers its entry. Where memory is refused the key and the value are dropped.
+    /// Places the key with the value, and returns the entry of the pair. If it fails to allocate,
+    /// the key and the value are dropped.
     pub fn insert_entry(
         self,
         value: V,
@@ -88,7 +91,8 @@ impl<'a, K: AsBytes + Drop, V: Drop, const PREFIX_LEN: usize> VacantEntry<
         })
     }
 
-    // Places the key with the closure's answer, which is lent to be written. The closure is called once there is room.
+    /// Places the key with the value that the closure returns, and returns a mutable reference to
+    /// the value. The closure is called once there is room.
     pub(crate) fn insert_with<F: FnOnce() -> V + Drop>(
         self,
         default: F,
@@ -103,7 +107,7 @@ impl<'a, K: AsBytes + Drop, V: Drop, const PREFIX_LEN: usize> VacantEntry<
         Ok(map.value_mut(id))
     }
 
-    // The same with the answer of a closure that is given the key.
+    /// Places a pair like [`VacantEntry::insert_with`]. The closure takes the key.
     pub(crate) fn insert_with_key<F: FnOnce(&K) -> V + Drop>(
         self,
         default: F,
@@ -118,7 +122,8 @@ impl<'a, K: AsBytes + Drop, V: Drop, const PREFIX_LEN: usize> VacantEntry<
         Ok(map.value_mut(id))
     }
 
-    // Places the key with the closure's answer, and answers its entry.
+    /// Places the key with the value that the closure returns, and returns the entry of the pair.
+    /// The closure is called once there is room.
     pub(crate) fn insert_entry_with<F: FnOnce() -> V + Drop>(
         self,
         default: F,
@@ -138,7 +143,7 @@ impl<'a, K: AsBytes + Drop, V: Drop, const PREFIX_LEN: usize> VacantEntry<
         })
     }
 
-    // The same with the answer of a closure that is given the key.
+    /// Places a pair like [`VacantEntry::insert_entry_with`]. The closure takes the key.
     pub(crate) fn insert_entry_with_key<F: FnOnce(&K) -> V + Drop>(
         self,
         default: F,

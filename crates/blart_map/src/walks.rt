@@ -1,4 +1,4 @@
-//! Walks.
+//! Iterators over pairs, keys and values.
 ghost use Rattle.std.specs.Prelude.{◌≡◌, ◌+◌, ◌≤◌, [], length, map};
 ghost use Rattle.blart_keys.specs.Bounds.{bound_bytes, slice_bound, CanRange};
 ghost use Rattle.blart_keys.specs.Content.{between, under};
@@ -23,7 +23,8 @@ use std::iter::IntoIterator;
 use std::ops::Bound;
 
 impl<K: AsBytes, V, const PREFIX_LEN: usize> TreeMap<K, V, PREFIX_LEN> {
-    /// The pairs, ascending by their keys' bytes, from both ends. Takes no memory; each step is one visit.
+    /// Returns an iterator over the pairs, from both ends, in byte order of their keys. Does not
+    /// allocate. Each step makes one visit.
     #[tactic(auto, unfolding(crate::specs::Content::pairs))]
     pub fn iter(&self) -> Iter<'_, K, V, PREFIX_LEN>
         ensures value { result ≡ pairs self.now }
@@ -33,7 +34,8 @@ impl<K: AsBytes, V, const PREFIX_LEN: usize> TreeMap<K, V, PREFIX_LEN> {
         Iter::new(&self.tree)
     }
 
-    /// The keys, ascending by their bytes, from both ends. Takes no memory; each step is one visit.
+    /// Returns an iterator over the keys, from both ends, in byte order. Does not allocate. Each
+    /// step makes one visit.
     #[tactic(auto, unfolding(crate::specs::Content::pairs))]
     pub fn keys(&self) -> Keys<'_, K, V, PREFIX_LEN>
         ensures value { result ≡ map (λ pair. pair.0) (pairs self.now) }
@@ -43,7 +45,8 @@ impl<K: AsBytes, V, const PREFIX_LEN: usize> TreeMap<K, V, PREFIX_LEN> {
         Keys::new(&self.tree)
     }
 
-    /// The values, in the order of their keys' bytes, from both ends. Takes no memory; each step is one visit.
+    /// Returns an iterator over the values, from both ends, in byte order of their keys. Does not
+    /// allocate. Each step makes one visit.
     #[tactic(auto, unfolding(crate::specs::Content::pairs))]
     pub fn values(&self) -> Values<'_, K, V, PREFIX_LEN>
         ensures value { result ≡ map (λ pair. pair.1) (pairs self.now) }
@@ -53,7 +56,8 @@ impl<K: AsBytes, V, const PREFIX_LEN: usize> TreeMap<K, V, PREFIX_LEN> {
         Values::new(&self.tree)
     }
 
-    /// The pairs whose keys' bytes begin with these, ascending, from both ends; all of them where there are no bytes. Takes no memory.
+    /// Returns an iterator over the pairs whose keys' bytes begin with these, from both ends, in
+    /// byte order of their keys. If there are no bytes, it goes over all pairs. Does not allocate.
     ///
     /// ```
     /// map.try_insert("car", 1)?;
@@ -73,7 +77,10 @@ impl<K: AsBytes, V, const PREFIX_LEN: usize> TreeMap<K, V, PREFIX_LEN> {
         self.prefix_counted(front, &mut Visits::new())
     }
 
-    /// As [`TreeMap::prefix`]. On n bytes it makes at most 2 * (n + 2) * (L + 2) visits, where L is the length of the longest key, and none on an empty map; each step is one more.
+    /// Like [`TreeMap::prefix`], and counts the visits.
+    ///
+    /// Cost: at most 2 * (n + 2) * (L + 2) visits, if there are n bytes and the longest key has L
+    /// bytes, and none on an empty map. Each step is one visit more.
     pub fn prefix_counted(&self, front: &[u8], visits: &mut Visits) -> Prefix<'_, K, V, PREFIX_LEN>
         ensures value { result ≡ under (bytes K.bytes) (pairs self.now) front.now }
         ensures fits { CanCount result }
@@ -86,9 +93,13 @@ impl<K: AsBytes, V, const PREFIX_LEN: usize> TreeMap<K, V, PREFIX_LEN> {
         Prefix::new(&self.tree, front, visits)
     }
 
-    /// The pairs whose keys' bytes are within both bounds, ascending, from both ends: a key with an included bound's bytes is within it, one with an excluded bound's is not. Takes no memory.
+    /// Returns an iterator over the pairs whose keys' bytes are within both bounds, from both ends,
+    /// in byte order of their keys. A key with the bytes of an included bound is within it, and a
+    /// key with the bytes of an excluded bound is not. Does not allocate.
     ///
-    /// The bounds are in order where the map has pairs, of which [`bounds_in_order`](crate::bounds_in_order) is the test; on an empty map any bounds give an empty walk.
+    /// If the map has pairs, the bounds must be in order, which
+    /// [`bounds_in_order`](crate::bounds_in_order) tests. On an empty map the iterator is empty for
+    /// any bounds.
     ///
     /// ```
     /// let (low, high) = ("b", "d");
@@ -107,7 +118,10 @@ impl<K: AsBytes, V, const PREFIX_LEN: usize> TreeMap<K, V, PREFIX_LEN> {
         self.range_counted(start, end, &mut Visits::new())
     }
 
-    /// As [`TreeMap::range`]. It makes at most 2 * (n + 2) * (L + 2) visits, where n is the length of the longer bound and L that of the longest key, and none on an empty map; each step is one more.
+    /// Like [`TreeMap::range`], and counts the visits.
+    ///
+    /// Cost: at most 2 * (n + 2) * (L + 2) visits, if the longer bound has n bytes and the longest
+    /// key has L bytes, and none on an empty map. Each step is one visit more.
     pub fn range_counted<Q: AsBytes>(
         &self,
         start: Bound<&Q>,
@@ -131,7 +145,7 @@ impl<K: AsBytes, V, const PREFIX_LEN: usize> TreeMap<K, V, PREFIX_LEN> {
     }
 }
 
-// The bound as bytes.
+/// Returns the bound with the bytes of its query.
 pub(crate) fn as_bytes<Q: AsBytes>(bound: Bound<&Q>) -> Bound<&[u8]>
     ensures { slice_bound result ≡ bound_bytes Q.bytes bound.entry }
 {
@@ -149,7 +163,7 @@ impl<'a, K: AsBytes, V, const PREFIX_LEN: usize> IntoIterator for &'a TreeMap<K,
 
     ghost into_iter_gives = { λ map items. items ≡ pairs map.now };
 
-    /// The pairs, as [`TreeMap::iter`].
+    /// Returns an iterator over the pairs, like [`TreeMap::iter`].
     fn into_iter(self) -> Iter<'a, K, V, PREFIX_LEN> {
         self.iter()
     }

@@ -1,4 +1,4 @@
-//! Values to be written.
+//! Mutable references to values, and the index operator.
 ghost use Rattle.std.specs.Prelude.{◌≡◌, true, option_map, Some};
 ghost use Rattle.std.specs.Option.{option_copied_mut};
 ghost use Rattle.std.specs.Borrow.{sem};
@@ -14,7 +14,8 @@ use blart_keys::AsBytes;
 use std::ops::Index;
 
 impl<K: AsBytes, V, const PREFIX_LEN: usize> TreeMap<K, V, PREFIX_LEN> {
-    /// The value of the key with the query's bytes, to be written. No other value changes, and no key.
+    /// Returns a mutable reference to the value of the key with the query's bytes. No other value
+    /// and no key changes.
     ///
     /// ```
     /// if let Some(value) = map.get_mut(&"cat") {
@@ -37,7 +38,8 @@ impl<K: AsBytes, V, const PREFIX_LEN: usize> TreeMap<K, V, PREFIX_LEN> {
         }
     }
 
-    /// The value of the key whose bytes begin the query's, to be written. No other value changes, and no key.
+    /// Returns a mutable reference to the value of the key whose bytes are a prefix of the query's.
+    /// No other value and no key changes.
     pub fn prefix_get_mut<Q: AsBytes>(&mut self, query: &Q) -> Option<&mut V>
         ensures* writes_back { sem 𝓛
             (lends_at_front K.row V.row PREFIX_LEN.row K.AsBytes self.entry
@@ -65,7 +67,7 @@ impl<'a, K: AsBytes, V, Q: AsBytes, const PREFIX_LEN: usize> Index<&'a Q>
     ghost index_gives = { λ map query value. value_at K.bytes (pairs map) (Q.bytes query.now)
         ≡ Some value };
 
-    /// The value of the key with the query's bytes, which is in the map.
+    /// Returns the value of the key with the query's bytes. The map must have such a key.
     fn index(&self, query: &'a Q) -> &V {
         self.get(query).unwrap()
     }

@@ -1,4 +1,4 @@
-//! The pairs of another map.
+//! Moves the pairs of one map into another.
 ghost use Rattle.std.specs.Prelude.{◌≡◌, ◌≢◌, ◌++◌, ℕ, List, [], OnOk, OnErr};
 ghost use Rattle.blart_keys.specs.Bulk.{IsAppended};
 ghost use Rattle.blart_keys.specs.Content.{IsContent};
@@ -13,9 +13,16 @@ use blart_keys::NoPrefixesBytes;
 use std::alloc::AllocError;
 
 impl<K: NoPrefixesBytes + Drop, V: Drop, const PREFIX_LEN: usize> TreeMap<K, V, PREFIX_LEN> {
-    /// Moves all pairs of the other map here. Where both have a key with the same bytes the other's pair stays. The other map is empty then. Where all of the other's keys are greater than all here, as after a [`TreeMap::split_off`], the pairs are those of the one and then those of the other.
+    /// Moves all pairs of the other map into this one. The other map is empty then. If both have a
+    /// key with the same bytes, the other map's pair is kept. If all keys of the other map are
+    /// greater than all keys of this one, as after a [`TreeMap::split_off`], the pairs are those of
+    /// this map, followed by those of the other.
     ///
-    /// The pairs of the map that has fewer move, one insertion each, and its records are freed whole; where that is this map, the two are exchanged. The memory for as many pairs is taken before any of them moves; an error leaves both maps as they were. Where either map is empty it takes none.
+    /// It allocates room for all pairs of the map that has fewer, before any pair moves. If that
+    /// fails, both maps are unchanged. If either map is empty, it does not allocate.
+    ///
+    /// Cost: one insertion for each pair of the map that has fewer, whose records are freed whole.
+    /// If that is this map, the two are exchanged.
     ///
     /// ```
     /// left.insert(U32Key::new(1), 'a')?;

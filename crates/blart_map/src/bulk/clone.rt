@@ -1,4 +1,4 @@
-//! A second map of the same pairs.
+//! Clones of maps.
 ghost use Rattle.std.specs.Prelude.{◌≡◌, ◌≢◌, [], Contains, IfOk, OnErr};
 ghost use Rattle.blart_map.specs.Bulk.{AreClones};
 ghost use Rattle.blart_map.specs.Content.{pairs};
@@ -9,9 +9,10 @@ use std::alloc::AllocError;
 use std::clone::Clone;
 
 impl<K: AsBytes + Clone, V: Clone, const PREFIX_LEN: usize> TreeMap<K, V, PREFIX_LEN> {
-    /// A map of clones of the pairs. A clone of a stored key has the same bytes.
+    /// Returns a map of clones of the pairs. A clone of a stored key must have the same bytes. If
+    /// the map is empty, it does not allocate.
     ///
-    /// It copies the records as they lie, spare ones too, and makes no look-up. An empty map takes no memory.
+    /// Cost: it copies the records as they are, also the spare ones, and makes no look-up.
     ///
     /// ```
     /// let copy = map.clone()?;

@@ -1,4 +1,4 @@
-//! Pairs from an iterator, put one after another.
+//! Insertions of the pairs of an iterator.
 ghost use Rattle.std.specs.Prelude.{◌≡◌, false, map, OnOk, OnErr};
 ghost use Rattle.std.specs.Iterator.{IsFinite};
 ghost use Rattle.std.specs.Map.Iter.{deref_pair};
@@ -15,9 +15,11 @@ use std::alloc::AllocError;
 use std::iter::Iterator;
 
 impl<K: NoPrefixesBytes + Drop, V: Drop, const PREFIX_LEN: usize> TreeMap<K, V, PREFIX_LEN> {
-    /// Puts the pairs that the iterator gives, one after another, as [`TreeMap::insert`] does: of pairs with the same bytes the first key stays, with the last value.
+    /// Inserts the pairs that the iterator yields, one after another, like [`TreeMap::insert`]. If
+    /// pairs have the same bytes, the first key is kept, with the last value.
     ///
-    /// An error is answered only at a pair whose bytes are new. That pair is dropped, and the ones before it stay.
+    /// Returns an error only at a pair whose bytes are new. That pair is dropped, and the pairs
+    /// before it are kept.
     ///
     /// ```
     /// map.extend(vec![in alloc; (U32Key::new(2), 'b'), (U32Key::new(1), 'a')]?.into_iter())?;
@@ -38,7 +40,7 @@ impl<K: NoPrefixesBytes + Drop, V: Drop, const PREFIX_LEN: usize> TreeMap<K, V, 
         Ok(())
     }
 
-    // Puts one pair.
+    /// Inserts one pair, like [`TreeMap::insert`], and drops the old value.
     pub(crate) fn put(&mut self, key: K, value: V) -> Result<(), AllocError>
         ensures put { OnOk result
             (IsPut (bytes K.bytes) (pairs self.old)
@@ -54,7 +56,8 @@ impl<K: NoPrefixesBytes + Drop, V: Drop, const PREFIX_LEN: usize> TreeMap<K, V, 
 }
 
 impl<K: NoPrefixesBytes + Copy, V: Copy, const PREFIX_LEN: usize> TreeMap<K, V, PREFIX_LEN> {
-    /// Puts copies of the pairs that the iterator gives, one after another, as [`TreeMap::extend`] puts the pairs.
+    /// Inserts copies of the pairs that the iterator yields, one after another, like
+    /// [`TreeMap::extend`].
     ///
     /// ```
     /// map.extend_copied(other.iter())?;
@@ -69,7 +72,8 @@ impl<K: NoPrefixesBytes + Copy, V: Copy, const PREFIX_LEN: usize> TreeMap<K, V, 
         requires can { I.can_next items }
         requires ends { IsFinite (I.remaining items) }
         ensures { TakesItems I.next_gives items result
-            (λ xs. PutsAll (bytes K.bytes) kept_pair (pairs self.old) (map deref_pair xs) (pairs self.new))
+            (λ xs. PutsAll (bytes K.bytes) kept_pair (pairs self.old) (map deref_pair xs)
+            (pairs self.new))
             (λ x. stores (bytes K.bytes) (pairs self.new) (K.bytes x.0.now) ≡ false) }
     {
         for item in items {

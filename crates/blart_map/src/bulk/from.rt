@@ -57,7 +57,8 @@ impl<K: NoPrefixesBytes + Drop, V: Drop, const PREFIX_LEN: usize> TreeMap<K, V, 
     /// assert_eq!(map.first_key_value(), Some((&U32Key::new(1), &'a')));
     /// ```
     pub fn from_vec(alloc: Global, items: Vec<(K, V)>) -> Result<Self, AllocError>
-        ensures made { IfOk result (λ map. PutsAll (bytes K.bytes) kept_pair [] items.items (pairs map)) }
+        ensures made { IfOk result
+            (λ map. PutsAll (bytes K.bytes) kept_pair [] items.items (pairs map)) }
         ensures refused { OnErr result (items.items ≢ []) }
     {
         let mut items = items;
@@ -72,7 +73,8 @@ impl<K: NoPrefixesBytes + Drop, V: Drop, const PREFIX_LEN: usize> TreeMap<K, V, 
     /// first key is kept, with the last value.
     fn of_sorted(alloc: Global, items: Vec<(K, V)>) -> Result<Self, AllocError>
         requires { IsSortedByKey (bytes K.bytes) bytes_cmp items.items }
-        ensures made { IfOk result (λ map. PutsAll (bytes K.bytes) kept_pair [] items.items (pairs map)) }
+        ensures made { IfOk result
+            (λ map. PutsAll (bytes K.bytes) kept_pair [] items.items (pairs map)) }
         ensures refused { OnErr result (items.items ≢ []) }
     {
         let mut sorted = Pairs::new(alloc);

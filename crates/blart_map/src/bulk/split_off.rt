@@ -1,4 +1,4 @@
-//! A map parted in two.
+//! Splits a map in two.
 ghost use Rattle.std.specs.Prelude.{◌≡◌, ◌≢◌, ◌<◌, ◌+◌, ◌++◌, ℕ, List, [], length, OnOk, IfOk, OnErr, None, if◌then◌else◌};
 ghost use Rattle.std.specs.declared.ops.Bound.TheVariants.{Included, Excluded, Unbounded};
 ghost use Rattle.blart_keys.specs.Bytes.{less};
@@ -16,9 +16,17 @@ use std::alloc::AllocError;
 use std::ops::Bound;
 
 impl<K: AsBytes + Drop, V: Drop, const PREFIX_LEN: usize> TreeMap<K, V, PREFIX_LEN> {
-    /// Keeps the pairs whose keys' bytes are less than the query's, and gives a map of the others.
+    /// Keeps the pairs whose keys' bytes are less than the query's, and returns a map of the
+    /// others.
     ///
-    /// Where one side has three times the pairs of the other or more, those of the smaller side move one by one, and where they are the ones that stay, the two maps are exchanged. Otherwise the pairs that stay move, and the inner nodes of both maps are made anew, each once: so at most four times as many pairs are read as the smaller side has. The memory is taken before any pair moves; an error leaves the map as it was. Where one side has no pairs it takes none.
+    /// It allocates before any pair moves. If that fails, the map is unchanged. If either side has
+    /// no pairs, it does not allocate.
+    ///
+    /// Cost: if one side has at least three times the pairs of the other, the pairs of the smaller
+    /// side move one by one. If those are the pairs that this map keeps, the two maps are
+    /// exchanged. Otherwise the pairs that this map keeps move, and the inner nodes of both maps
+    /// are made anew, each once. So it reads at most four times as many pairs as the smaller side
+    /// has.
     ///
     /// ```
     /// map.try_insert("ant", 1)?;
@@ -62,7 +70,7 @@ impl<K: AsBytes + Drop, V: Drop, const PREFIX_LEN: usize> TreeMap<K, V, PREFIX_L
 }
 
 impl<K: AsBytes, V, const PREFIX_LEN: usize> TreeMap<K, V, PREFIX_LEN> {
-    // How many keys' bytes are not less than the query's.
+    /// Returns the number of keys whose bytes are not less than the query's.
     fn count_from<Q: AsBytes>(&self, query: &Q) -> usize
         ensures { result ≡ length (between (bytes K.bytes) (pairs self.now)
             (Included (Q.bytes query.now)) Unbounded) }
@@ -74,7 +82,8 @@ impl<K: AsBytes, V, const PREFIX_LEN: usize> TreeMap<K, V, PREFIX_LEN> {
     }
 }
 
-// How many of so many pairs the second of two walks has, which together have all. It goes no further than the shorter walk.
+/// Returns the number of pairs of the second of two walks, which together have `len` pairs. It goes
+/// no further than the shorter walk.
 fn count_after<K, V, const P: usize>(
     low: Range<'_, K, V, P>,
     high: Range<'_, K, V, P>,

@@ -4,7 +4,8 @@ use blart_keys::AsBytes;
 use std::fmt::{Debug, Formatter, Result, Write};
 
 impl<K: AsBytes + Debug, V: Debug, const PREFIX_LEN: usize> Debug for TreeMap<K, V, PREFIX_LEN> {
-    /// The pairs between braces, each as its key, a colon and its value, ascending by the keys' bytes.
+    /// Writes the pairs between braces, in byte order of their keys, each as its key, a colon and
+    /// its value.
     ///
     /// ```
     /// assert_eq!(format!(in alloc; "{map:?}")?, "{1: 10, 2: 20}");

@@ -16,7 +16,11 @@ impl<K: AsBytes + PartialEq, V: PartialEq, const PREFIX_LEN: usize> PartialEq
     ghost laws = { on_per (λ m. pairs m)
         (lists_per (and_per (on_per (λ p. p.0) K.PartialEq.laws) (on_per (λ p. p.1) V.PartialEq.laws))) };
 
-    /// Whether there are as many pairs on both sides, and each has the key and the value of its fellow, by their own `==`. Goes over both maps once, and over neither where the counts differ.
+    /// Returns `true` if both maps have the same number of pairs, and the keys and the values at
+    /// each place are equal by their own `==`.
+    ///
+    /// Cost: one read of each pair of both maps, up to the first difference. If the numbers of
+    /// pairs differ, it reads none.
     ///
     /// ```
     /// assert!(left == right);

@@ -16,7 +16,8 @@ impl<K: AsBytes + Hash, V: Hash, const PREFIX_LEN: usize> Hash for TreeMap<K, V,
         (items_Alike (and-Alike (on_Alike (λ p. p.0) (record { fed = K.respects_eq }))
         (on_Alike (λ p. p.1) (record { fed = V.respects_eq }))))).fed };
 
-    /// Feeds how many pairs there are, by `write_usize`, and then each key and its value. Equal maps feed the same.
+    /// Feeds the hasher the number of pairs, by `write_usize`, and then each key and its value.
+    /// Equal maps feed the same.
     fn hash<H: Hasher>(&self, state: &mut H) {
         feed(self.iter(), state);
     }

@@ -18,7 +18,11 @@ impl<K: AsBytes + PartialOrd, V: PartialOrd, const PREFIX_LEN: usize> PartialOrd
     ghost laws = { on_po (λ m. pairs m)
         (lists_po (then_po (on_po (λ p. p.0) K.PartialOrd.laws) (on_po (λ p. p.1) V.PartialOrd.laws))) };
 
-    /// The first two pairs that are not equal decide, by the keys' own order and then the values'; where there are none the map with fewer pairs is less. Goes over both maps once, up to there.
+    /// Compares the first two pairs that are not equal, by the keys' own order and then by the
+    /// values'. If there are no such pairs, the map with fewer pairs is less. Returns `None` if
+    /// those two pairs cannot be compared.
+    ///
+    /// Cost: one read of each pair of both maps, up to those two.
     fn partial_cmp(&self, other: &Self) -> Option<Ordering> {
         partial_order(&mut self.iter(), &mut other.iter())
     }
@@ -43,7 +47,10 @@ impl<K: AsBytes + Ord, V: Ord, const PREFIX_LEN: usize> Ord for TreeMap<K, V, PR
         (K.matches_eq p.0 q.0) (V.matches_eq p.1 q.1))
         (pairs x) (pairs y) };
 
-    /// The first two pairs that are not equal decide, by the keys' own order and then the values'; where there are none the map with fewer pairs is less. Goes over both maps once, up to there.
+    /// Compares the first two pairs that are not equal, by the keys' own order and then by the
+    /// values'. If there are no such pairs, the map with fewer pairs is less.
+    ///
+    /// Cost: one read of each pair of both maps, up to those two.
     ///
     /// ```
     /// left.try_insert("ab", 1)?;

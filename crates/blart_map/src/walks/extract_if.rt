@@ -1,4 +1,4 @@
-//! The pairs that a closure picks, taken out one by one.
+//! Removes the pairs that a closure selects, one by one.
 ghost use Rattle.std.specs.Prelude.{◌≡◌, ◌+◌, ◌≤◌, ◌&&◌, [], not, filter, Bool, length, true, None};
 ghost use Rattle.std.specs.Iterator.{at_most};
 ghost use Rattle.blart_keys.specs.Bounds.{bound_bytes, is_from_start, is_up_to_end, CanRange};
@@ -17,7 +17,10 @@ use blart_keys::AsBytes;
 use std::iter::{DoubleEndedIterator, Iterator};
 use std::ops::Bound;
 
-/// The pairs within two bounds at which a closure answers `true`, taken out of the map one by one, from both ends. The closure is asked once of each pair that the walk reaches, before the pair is taken out. A pair that stays keeps its value as the closure left it. Dropped, the walk stops where it is, and the pairs not reached stay as they were.
+/// A walk that removes and yields the pairs within two bounds for which a closure returns `true`,
+/// one by one, from both ends. The closure is called once on each pair that the walk reaches,
+/// before the pair is removed. A pair that remains keeps the value that the closure left. If the
+/// walk is dropped, it stops where it is, and the pairs that it did not reach are unchanged.
 ///
 /// ```
 /// map.try_insert("cat", 0)?;
@@ -41,7 +44,8 @@ impl<K: AsBytes, V, const PREFIX_LEN: usize> TreeMap<K, V, PREFIX_LEN> {
     /// returns `true`, from both ends. If the map has pairs, the bounds must be in order, as for
     /// [`TreeMap::range`]. It does not allocate.
     ///
-    /// Cost of a step: it reads each pair that it asks about, and removes the pair that it yields.
+    /// Cost of a step: it reads each pair on which it calls the closure, and removes the pair that
+    /// it yields.
     ///
     /// ```
     /// let low = "b";
@@ -134,7 +138,9 @@ impl<
 
     ghost remaining = { λ s. at_most (length (extract_left s)) };
 
-    /// Asks from the first pair that is left on, and takes out the first at which the closure answers `true`.
+    /// Calls the closure on each pair that is left, from the first on, up to the first pair for
+    /// which it returns `true`. Removes that pair and returns it, or returns `None` if there is no
+    /// such pair.
     fn next(&mut self) -> Option<(K, V)> {
         let map = &mut *self.map;
         extract_first(&mut map.tree, &mut self.cursor, &mut self.pred)
@@ -154,7 +160,9 @@ impl<
 
     ghost next_back_gives = { ExtractsNextBack F.FnMut };
 
-    /// Asks from the last pair that is left on, and takes out the first at which the closure answers `true`.
+    /// Calls the closure on each pair that is left, from the last on, up to one for which it
+    /// returns `true`. Removes that pair and returns it, or returns `None` if there is no such
+    /// pair.
     fn next_back(&mut self) -> Option<(K, V)> {
         let map = &mut *self.map;
         extract_last(&mut map.tree, &mut self.cursor, &mut self.pred)

@@ -22,7 +22,7 @@ use std::ops::Bound;
 
 impl<K: AsBytes, V, const PREFIX_LEN: usize> TreeMap<K, V, PREFIX_LEN> {
     /// Returns a cursor over the pairs within both bounds. It holds no reference to the map: each
-    /// step is given the map. If the map has pairs, the bounds must be in order, as for
+    /// step takes the map. If the map has pairs, the bounds must be in order, as for
     /// [`TreeMap::range`]. Does not allocate.
     ///
     /// ```

@@ -1,4 +1,4 @@
-//! Walks that lend values, opened.
+//! Walks over mutable references to values.
 ghost use Rattle.std.specs.Prelude.{◌≡◌, ◌+◌, ◌≤◌, ◌&&◌, [], length, not, filter, Bool, None};
 ghost use Rattle.blart_keys.specs.Bounds.{bound_bytes, is_from_start, is_up_to_end, CanRange};
 ghost use Rattle.blart_keys.specs.Bytes.{begins};
@@ -25,11 +25,12 @@ impl<K: AsBytes, V, const PREFIX_LEN: usize> TreeMap<K, V, PREFIX_LEN> {
     ghost use Rattle.blart_map.specs.OnceTaken.{once_taken, still_to_take};
     ghost use Rattle.blart_map.specs.TakeWalk.{take_map, take_undecided, take_left};
 
-    /// Returns a walk over mutable references to all values, in byte order of the keys, from both ends.
-    /// It does not allocate. Each step reads one pair.
+    /// Returns a walk over mutable references to all values, in byte order of the keys, from both
+    /// ends. It does not allocate. Each step reads one pair.
     ///
-    /// [`CountedWalk::pair`] returns the value again, with its key. A caller's proof of such a loop cites
-    /// the lemma `pair_written`, and needs the name `_seen`: from `Some(_)` it learns nothing.
+    /// [`CountedWalk::pair`] returns the value again, with its key. A caller's proof of such a loop
+    /// cites the lemma `pair_written`, and needs the name `_seen`: from `Some(_)` it learns
+    /// nothing.
     ///
     /// ```
     /// let mut walk = map.iter_mut();
@@ -41,7 +42,8 @@ impl<K: AsBytes, V, const PREFIX_LEN: usize> TreeMap<K, V, PREFIX_LEN> {
     pub fn iter_mut(&mut self) -> IterMut<'_, K, V, PREFIX_LEN>
         ensures same_map { (counted_map result).ghost_name ≡ self.entry.ghost_name }
         ensures unchanged { (counted_map result).now ≡ self.old }
-        ensures all { (f : K × V → V) → all_once_written f result ≡ all_rewritten f (pairs self.old) }
+        ensures all { (f : K × V → V) → all_once_written f result
+            ≡ all_rewritten f (pairs self.old) }
         ensures left { counted_left result ≡ self.old }
         ensures none_lent { counted_last result ≡ None }
     {
@@ -49,7 +51,8 @@ impl<K: AsBytes, V, const PREFIX_LEN: usize> TreeMap<K, V, PREFIX_LEN> {
         CountedWalk::all(self)
     }
 
-    /// A walk that lends each value to be written, in byte order of the keys, from both ends. Takes no memory; each step reads one pair.
+    /// Returns a walk over mutable references to all values, in byte order of the keys, from both
+    /// ends. It does not allocate. Each step reads one pair.
     ///
     /// ```
     /// let mut walk = map.values_mut();
@@ -60,7 +63,8 @@ impl<K: AsBytes, V, const PREFIX_LEN: usize> TreeMap<K, V, PREFIX_LEN> {
     pub fn values_mut(&mut self) -> ValuesMut<'_, K, V, PREFIX_LEN>
         ensures same_map { (counted_map result).ghost_name ≡ self.entry.ghost_name }
         ensures unchanged { (counted_map result).now ≡ self.old }
-        ensures all { (f : K × V → V) → all_once_written f result ≡ all_rewritten f (pairs self.old) }
+        ensures all { (f : K × V → V) → all_once_written f result
+            ≡ all_rewritten f (pairs self.old) }
         ensures left { counted_left result ≡ self.old }
         ensures none_lent { counted_last result ≡ None }
     {
@@ -117,8 +121,8 @@ impl<K: AsBytes, V, const PREFIX_LEN: usize> TreeMap<K, V, PREFIX_LEN> {
     }
 
     /// Returns a walk over mutable references to the values whose keys are within both bounds, in
-    /// byte order of the keys, from both ends. If the map has pairs, the bounds must be in order, as
-    /// for [`TreeMap::range`]. It does not allocate. Each step reads one pair.
+    /// byte order of the keys, from both ends. If the map has pairs, the bounds must be in order,
+    /// as for [`TreeMap::range`]. It does not allocate. Each step reads one pair.
     ///
     /// ```
     /// let (low, high) = ("b", "d");
@@ -179,9 +183,9 @@ impl<K: AsBytes, V, const PREFIX_LEN: usize> TreeMap<K, V, PREFIX_LEN> {
         LendingWalk::of(self, cursor)
     }
 
-    /// Returns a walk that lends the pairs within both bounds, in byte order of their keys, from both
-    /// ends. Each pair is then kept or taken. If the map has pairs, the bounds must be in order, as
-    /// for [`TreeMap::range`]. It does not allocate. Each step reads one pair.
+    /// Returns a walk that lends the pairs within both bounds, in byte order of their keys, from
+    /// both ends. Each pair is then kept or taken. If the map has pairs, the bounds must be in
+    /// order, as for [`TreeMap::range`]. It does not allocate. Each step reads one pair.
     ///
     /// ```
     /// let mut walk = map.take_walk(Bound::<&&str>::Unbounded, Bound::Unbounded);

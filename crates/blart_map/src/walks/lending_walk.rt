@@ -102,7 +102,8 @@ impl<'a, K: AsBytes, V, M, const PREFIX_LEN: usize> LendingWalk<'a, K, V, M, PRE
     /// Returns a mutable reference to the first value that is left.
     #[inline(always)]
     pub fn next(&mut self) -> Option<&mut V>
-        ensures* writes_back { sem 𝓛 (lends_first K.row V.row M.row PREFIX_LEN.row K.AsBytes self.entry result) }
+        ensures* writes_back { sem 𝓛
+            (lends_first K.row V.row M.row PREFIX_LEN.row K.AsBytes self.entry result) }
         ensures end { IfNone result (lending_left self.old ≡ []) }
     {
         let id = self.map.step(&mut self.cursor, &mut Visits::new())?;
@@ -114,7 +115,8 @@ impl<'a, K: AsBytes, V, M, const PREFIX_LEN: usize> LendingWalk<'a, K, V, M, PRE
     /// Returns a mutable reference to the last value that is left.
     #[inline(always)]
     pub fn next_back(&mut self) -> Option<&mut V>
-        ensures* writes_back { sem 𝓛 (lends_last K.row V.row M.row PREFIX_LEN.row K.AsBytes self.entry result) }
+        ensures* writes_back { sem 𝓛
+            (lends_last K.row V.row M.row PREFIX_LEN.row K.AsBytes self.entry result) }
         ensures end { IfNone result (lending_left self.old ≡ []) }
     {
         let id = self.map.step_back(&mut self.cursor, &mut Visits::new())?;
@@ -149,10 +151,12 @@ impl<'a, K: AsBytes, V, M, const PREFIX_LEN: usize> LendingWalk<'a, K, V, M, PRE
     /// ```
     pub fn pair(&mut self) -> (&K, &mut V)
         requires { is_some (lending_last self.old) ≡ true }
-        ensures* writes_back { sem 𝓛 (lends_pair K.row V.row M.row PREFIX_LEN.row K.AsBytes self.entry result) }
+        ensures* writes_back { sem 𝓛
+            (lends_pair K.row V.row M.row PREFIX_LEN.row K.AsBytes self.entry result) }
         ensures value { MatchOption (lending_last self.old) ⊤
             (λ id. leaf_in (lending_map self.old).now id ≡ Some (result.0.now, result.1.now)) }
-        ensures same_left { (w : V) → lending_left (lending_with self.old w) ≡ lending_left self.old }
+        ensures same_left { (w : V) → lending_left (lending_with self.old w)
+            ≡ lending_left self.old }
     {
         self.map.numbers_law();
         let id = self.lent.unwrap();

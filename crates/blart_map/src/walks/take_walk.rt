@@ -1,4 +1,4 @@
-//! Some pairs, each lent in turn, to be kept or taken.
+//! A walk over pairs, each of which is kept or taken.
 ghost use Rattle.std.specs.Prelude.{◌≡◌, [], true, false, is_some, Some, None, MatchOption, IfNone, ⊤};
 ghost use Rattle.std.specs.Borrow.{sem};
 ghost use Rattle.art_tree.specs.Leaves.{leaf_in, without_number};
@@ -9,7 +9,10 @@ use art_tree::{LeafId, Visits};
 use art_walk::Cursor;
 use blart_keys::AsBytes;
 
-/// The pairs within two bounds from both ends, in byte order of their keys, each lent in turn and then kept or taken out of the map. Each step reads one pair, and where the ends have met none comes at either. Dropped while a pair is undecided, it keeps that pair.
+/// A walk over the pairs within two bounds, from both ends, in byte order of their keys. It lends
+/// one pair at a time, and each pair is then kept or removed from the map. Each step reads one
+/// pair. Once no pair is left, each step returns `None`. If the walk is dropped while a pair is
+/// undecided, that pair is kept.
 ///
 /// ```
 /// map.try_insert("cat", 1)?;
@@ -33,7 +36,7 @@ pub struct TakeWalk<'a, K: AsBytes, V, const PREFIX_LEN: usize> {
 impl<'a, K: AsBytes, V, const PREFIX_LEN: usize> TakeWalk<'a, K, V, PREFIX_LEN> {
     ghost use Rattle.blart_map.specs.TakeWalk.{take_map, take_undecided, take_left, lends_first, lends_last, lends_pair, take_with};
 
-    // What the cursor has left of the map.
+    /// Returns a walk over what the cursor has left of the map.
     pub(crate) fn of(map: &'a mut TreeMap<K, V, PREFIX_LEN>, cursor: Cursor) -> Self
         requires { walk_fits cursor None (numbers map.old) ≡ true }
         ensures same_map { result.map.ghost_name ≡ map.entry.ghost_name }
@@ -48,17 +51,19 @@ impl<'a, K: AsBytes, V, const PREFIX_LEN: usize> TakeWalk<'a, K, V, PREFIX_LEN> 
         }
     }
 
-    /// Whether a pair is lent, and neither kept nor taken so far.
+    /// Returns `true` if a pair is undecided: it is lent, and neither kept nor taken so far.
     pub fn undecided(&self) -> bool
         ensures { result ≡ is_some (take_undecided self.now) }
     {
         self.lent.is_some()
     }
 
-    /// Lends the first pair that is left, and gives its value. None is undecided.
+    /// Lends the first pair that is left, and returns a mutable reference to its value, or `None`
+    /// if no pair is left. No pair may be undecided.
     pub fn lend(&mut self) -> Option<&mut V>
         requires { is_some (take_undecided self.old) ≡ false }
-        ensures* writes_back { sem 𝓛 (lends_first K.row V.row PREFIX_LEN.row K.AsBytes self.entry result) }
+        ensures* writes_back { sem 𝓛
+            (lends_first K.row V.row PREFIX_LEN.row K.AsBytes self.entry result) }
         ensures end { IfNone result (take_left self.old ≡ []) }
     {
         let id = self.map.step(&mut self.cursor, &mut Visits::new())?;
@@ -67,10 +72,12 @@ impl<'a, K: AsBytes, V, const PREFIX_LEN: usize> TakeWalk<'a, K, V, PREFIX_LEN> 
         Some(self.map.value_mut_near(id, seen))
     }
 
-    /// Lends the last pair that is left, and gives its value. None is undecided.
+    /// Lends the last pair that is left, and returns a mutable reference to its value, or `None` if
+    /// no pair is left. No pair may be undecided.
     pub fn lend_back(&mut self) -> Option<&mut V>
         requires { is_some (take_undecided self.old) ≡ false }
-        ensures* writes_back { sem 𝓛 (lends_last K.row V.row PREFIX_LEN.row K.AsBytes self.entry result) }
+        ensures* writes_back { sem 𝓛
+            (lends_last K.row V.row PREFIX_LEN.row K.AsBytes self.entry result) }
         ensures end { IfNone result (take_left self.old ≡ []) }
     {
         let id = self.map.step_back(&mut self.cursor, &mut Visits::new())?;
@@ -79,7 +86,7 @@ impl<'a, K: AsBytes, V, const PREFIX_LEN: usize> TakeWalk<'a, K, V, PREFIX_LEN> 
         Some(self.map.value_mut_near(id, seen))
     }
 
-    /// The key of the lent pair. One is undecided. One visit, not counted.
+    /// Returns the key of the lent pair. A pair must be undecided. One visit, not counted.
     pub fn key(&self) -> &K
         requires { is_some (take_undecided self.now) ≡ true }
         ensures { MatchOption (take_undecided self.now) ⊤
@@ -89,10 +96,12 @@ impl<'a, K: AsBytes, V, const PREFIX_LEN: usize> TakeWalk<'a, K, V, PREFIX_LEN> 
         self.map.leaf_near(id, self.cursor.passed_at()).0
     }
 
-    /// The lent pair, its value to be written. One is undecided.
+    /// Returns the key of the lent pair, and a mutable reference to its value. A pair must be
+    /// undecided.
     pub fn pair(&mut self) -> (&K, &mut V)
         requires { is_some (take_undecided self.old) ≡ true }
-        ensures* writes_back { sem 𝓛 (lends_pair K.row V.row PREFIX_LEN.row K.AsBytes self.entry result) }
+        ensures* writes_back { sem 𝓛
+            (lends_pair K.row V.row PREFIX_LEN.row K.AsBytes self.entry result) }
         ensures value { MatchOption (take_undecided self.old) ⊤
             (λ id. leaf_in (take_map self.old).now id ≡ Some (result.0.now, result.1.now)) }
         ensures same_left { (w : V) → take_left (take_with self.old w) ≡ take_left self.old }
@@ -103,7 +112,7 @@ impl<'a, K: AsBytes, V, const PREFIX_LEN: usize> TakeWalk<'a, K, V, PREFIX_LEN> 
         self.map.leaf_mut_near(id, seen)
     }
 
-    /// Leaves the lent pair in the map, its value as written. One is undecided.
+    /// Keeps the lent pair in the map, with the value that was written. A pair must be undecided.
     pub fn keep(&mut self)
         requires { is_some (take_undecided self.old) ≡ true }
         ensures same_map { (take_map self.new).ghost_name ≡ (take_map self.old).ghost_name }
@@ -118,7 +127,8 @@ impl<'a, K: AsBytes, V, const PREFIX_LEN: usize> TakeWalk<'a, K, V, PREFIX_LEN> 
 impl<'a, K: AsBytes + Drop, V: Drop, const PREFIX_LEN: usize> TakeWalk<'a, K, V, PREFIX_LEN> {
     ghost use Rattle.blart_map.specs.TakeWalk.{take_map, take_undecided, take_left};
 
-    /// Takes the lent pair out of the map, and gives it, its value as written. One is undecided. Takes no memory.
+    /// Removes the lent pair from the map, and returns it with the value that was written. A pair
+    /// must be undecided. Does not allocate.
     pub fn take(&mut self) -> (K, V)
         requires { is_some (take_undecided self.old) ≡ true }
         ensures same_map { (take_map self.new).ghost_name ≡ (take_map self.old).ghost_name }
