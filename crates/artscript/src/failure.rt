@@ -1,7 +1,7 @@
-//! What stops the program.
+//! The reasons why the program stops.
 use script_words::{Text, Unanswered};
 
-/// Why the program ended without its answers.
+/// The reason why the program ended without its answers.
 #[derive(Drop)]
 pub(crate) enum Failure {
     /// Standard input could not be read.
@@ -10,7 +10,7 @@ pub(crate) enum Failure {
     Write,
     /// The program had no memory.
     Memory,
-    /// Two lengths of prefixes gave different answers; the text says to which line.
+    /// Two prefix lengths led to different answers. The text tells for which line.
     Differs(Text),
 }
 
@@ -21,7 +21,7 @@ impl From<Unanswered> for Failure {
 }
 
 impl Failure {
-    /// What is said of it.
+    /// Returns the message for the reason.
     pub(crate) fn text(&self) -> &[u8] {
         match self {
             Failure::Read => b"read failed",
