@@ -1,4 +1,5 @@
-//! Completes what is typed: `autocomplete FILE` reads a list of words, one a line, and then answers each line of standard input by the first ten words that begin with it, in order.
+//! Completes words: `autocomplete FILE` reads a list of words, one on each line. Then it answers
+//! each line of standard input with the first ten words that start with it, in order.
 #![tactic(auto)]
 
 use anyhow::Context;
@@ -6,7 +7,7 @@ use blart::{Set, TreeSet, ZKey};
 use std::iter::Iterator;
 use std::{env, fs};
 
-// How many words an answer has at most.
+/// The greatest number of words in an answer.
 const MOST: usize = 10;
 
 fn main(rt: HostRuntime) -> anyhow::Result<()> {
@@ -18,7 +19,7 @@ fn main(rt: HostRuntime) -> anyhow::Result<()> {
     answered
 }
 
-// Takes the words of a text, and answers by them.
+/// Reads the words of a text, and answers with them.
 fn run(rt: &HostRuntime, text: &str, words: &mut Set<ZKey>) -> anyhow::Result<()> {
     take_words(rt, text, words)?;
     print!(rt; "{} words\n> ", words.len())?;
@@ -27,12 +28,12 @@ fn run(rt: &HostRuntime, text: &str, words: &mut Set<ZKey>) -> anyhow::Result<()
     Ok(())
 }
 
-// The file that is named.
+/// Returns the name of the file.
 fn path_of(rt: &HostRuntime) -> anyhow::Result<String> {
     env::args(rt)?.nth(1).context("usage: autocomplete FILE")
 }
 
-// Takes the words of a text, one a line.
+/// Inserts the words of a text, one from each line.
 fn take_words(rt: &impl AllocGlobal, text: &str, words: &mut Set<ZKey>) -> anyhow::Result<()> {
     for line in text.lines() {
         words.insert(ZKey::from_bytes(rt.alloc(), line.as_bytes())?)?;
@@ -40,7 +41,7 @@ fn take_words(rt: &impl AllocGlobal, text: &str, words: &mut Set<ZKey>) -> anyho
     Ok(())
 }
 
-// Answers each line of standard input.
+/// Answers each line of standard input.
 fn answer(rt: &HostRuntime, words: &Set<ZKey>) -> anyhow::Result<()> {
     for line in rt.lines(rt.alloc()) {
         complete(rt, words, &line?)?;
@@ -48,7 +49,7 @@ fn answer(rt: &HostRuntime, words: &Set<ZKey>) -> anyhow::Result<()> {
     Ok(())
 }
 
-// Prints the first words that begin with these letters, and the next prompt.
+/// Prints the first words that start with the letters, and the next prompt.
 fn complete(rt: &impl Print, words: &Set<ZKey>, letters: &str) -> anyhow::Result<()> {
     for word in words.prefix(letters.as_bytes()).take(MOST) {
         println!(rt; "{}", std::str::from_utf8(word.to_bytes())?)?;

@@ -1,4 +1,6 @@
-//! Routes paths: `routes FILE` reads a table of mounts, each a path and a target on a line, with a space between, and then answers each line of standard input by the mount that begins it.
+//! Routes paths: `routes FILE` reads a table of mounts. Each line has a path and a target, with a
+//! space between them. Then it answers each line of standard input with the mount that is its
+//! prefix.
 #![tactic(auto)]
 
 use anyhow::Context;
@@ -18,19 +20,19 @@ fn main(rt: HostRuntime) -> anyhow::Result<()> {
     answered
 }
 
-// Mounts what a text says, and answers by the table.
+/// Reads the mounts of a text, and answers with their table.
 fn run(rt: &HostRuntime, text: &str, table: &mut Table) -> anyhow::Result<()> {
     mount_all(rt, text, table)?;
     println!(rt; "{} mounts", table.len())?;
     answer(rt, table)
 }
 
-// The file that is named.
+/// Returns the name of the file.
 fn path_of(rt: &HostRuntime) -> anyhow::Result<String> {
     env::args(rt)?.nth(1).context("usage: routes FILE")
 }
 
-// Mounts what a text says, one mount a line.
+/// Mounts a target for each line of a text.
 fn mount_all(rt: &impl AllocGlobal, text: &str, table: &mut Table) -> anyhow::Result<()> {
     for line in text.lines() {
         mount(rt, table, line)?;
@@ -38,7 +40,7 @@ fn mount_all(rt: &impl AllocGlobal, text: &str, table: &mut Table) -> anyhow::Re
     Ok(())
 }
 
-// Mounts what a line says.
+/// Mounts the target of a line at its path.
 fn mount(rt: &impl AllocGlobal, table: &mut Table, line: &str) -> anyhow::Result<()> {
     let (path, target) = line.split_once(' ').context("a line without a target")?;
     let path = Vec::from_slice(rt.alloc(), path.as_bytes())?;
@@ -46,7 +48,7 @@ fn mount(rt: &impl AllocGlobal, table: &mut Table, line: &str) -> anyhow::Result
     Ok(())
 }
 
-// Answers each line of standard input.
+/// Answers each line of standard input.
 fn answer(rt: &HostRuntime, table: &Table) -> anyhow::Result<()> {
     for line in BufReader::new(rt.alloc(), rt.reader())?.lines(rt.alloc()) {
         route(rt, table, &line?)?;
@@ -54,7 +56,7 @@ fn answer(rt: &HostRuntime, table: &Table) -> anyhow::Result<()> {
     Ok(())
 }
 
-// Prints the target of the mount that begins the path, and what is left of the path.
+/// Prints the target of the mount that is a prefix of the path, and the rest of the path.
 fn route(rt: &impl Print, table: &Table, path: &str) -> anyhow::Result<()> {
     match table.resolve(path.as_bytes()) {
         Some((mounted, target)) => {
