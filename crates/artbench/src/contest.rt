@@ -18,8 +18,8 @@ use prefix_router::Mounts;
 /// The number of times that each map is timed. The least time counts.
 const ROUNDS: usize = 3;
 
-/// Times both maps in turn on keys of one type. The calls whose keys must not conflict are timed on
-/// keys of a second type.
+/// Times both maps in turn on keys of one type. The calls that require a key type whose keys cannot
+/// conflict are timed on keys of a second type.
 pub(crate) fn contest<K: Key, F: Made + NoPrefixesBytes>(
     rt: &HostRuntime,
     workload: &Workload<K>,

@@ -1,4 +1,5 @@
-//! Both maps under the calls that take many pairs at once. No two of their keys may conflict.
+//! Both maps under the calls that take many pairs at once. These require a key type whose keys
+//! cannot conflict.
 use crate::failure::Failure;
 use crate::keys::Made;
 use crate::maps::{Contestant, Ours, Theirs};

@@ -98,8 +98,8 @@ fn write_times_of(rt: &HostRuntime, kind: Kind, wishes: Wishes) -> Result<(), Fa
     written
 }
 
-/// Times both maps on keys of one type. The calls whose keys must not conflict are timed on keys of
-/// a second type.
+/// Times both maps in turn on keys of one type. The calls that require a key type whose keys cannot
+/// conflict are timed on keys of a second type.
 fn time<K: Key, F: Made + NoPrefixesBytes>(
     rt: &HostRuntime,
     kind: Kind,

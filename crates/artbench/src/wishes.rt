@@ -1,4 +1,4 @@
-//! The wishes that the arguments express.
+//! The arguments of the program.
 use crate::failure::Failure;
 use crate::workload::Kind;
 
@@ -39,7 +39,7 @@ impl Group {
     }
 }
 
-/// The number of keys, their kind, and the group of calls. `None` stands for all.
+/// The number of keys, their kind, and the group of calls. `None` means all.
 #[derive(Clone, Copy)]
 pub(crate) struct Wishes {
     pub(crate) keys: usize,
@@ -63,7 +63,7 @@ impl Wishes {
     }
 }
 
-/// Returns the wishes that three words express.
+/// Reads the three words of the arguments.
 fn wishes_of(keys: &str, kind: &str, rows: &str) -> Result<Wishes, Failure> {
     let Ok(keys) = keys.parse::<usize>() else {
         return Err(Failure::Usage);

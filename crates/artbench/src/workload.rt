@@ -174,8 +174,8 @@ impl<K: AsBytes> Workload<K> {
         Ok(())
     }
 
-    /// Appends as many paths as there are keys. By turns, a path is below a mount, and only similar
-    /// to one.
+    /// Appends as many paths as there are keys. Every second path is below a mount. The others are
+    /// like them, but start with a missing key.
     pub(crate) fn paths(&self, lists: &mut Vec<Vec<u8>>) -> Result<(), Failure> {
         let mounts = (self.keys.len() / 10).max(1);
         for (place, other) in self.misses.iter().enumerate() {

@@ -22,7 +22,7 @@ pub fn part_and_join<V: Drop>(map: &mut Map<U32Key, V>, key: U32Key) -> Result<(
     Ok(())
 }
 
-/// Moves all pairs of one map to another, where they replace those with the same bytes. If the call
+/// Moves all pairs of one map to another. They replace its pairs with the same bytes. If the call
 /// fails, both maps are unchanged.
 pub fn give_all<K: NoPrefixesBytes + Drop, V: Drop>(
     from: &mut Map<K, V>,

@@ -21,7 +21,7 @@ mod router;
 mod runs;
 mod trees;
 
-/// Keys with three different first bytes, in no order.
+/// Keys in no order. Two of them have the same first byte.
 const KEYS: [[u8; 2]; 5] = [[2, 1], [3, 3], [1, 7], [2, 2], [9, 9]];
 
 /// Returns the key of a place.

@@ -43,7 +43,8 @@ const COMMANDS: [&str; 9] = [
     "list",
 ];
 
-/// Each command with a byte replaced by one that no command has is refused, in a map of one pair.
+/// A command is refused if one of its bytes is replaced by a byte that no command has. The map has
+/// one pair.
 #[test]
 fn commands_with_a_byte_that_none_has(rt: HostRuntime) {
     let parts = [
