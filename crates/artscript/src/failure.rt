@@ -8,7 +8,7 @@ pub(crate) enum Failure {
     Read,
     /// Standard output could not be written.
     Write,
-    /// The program had no memory.
+    /// The program ran out of memory.
     Memory,
     /// Two prefix lengths led to different answers. The text tells for which line.
     Differs(Text),
