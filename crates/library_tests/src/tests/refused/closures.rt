@@ -67,7 +67,7 @@ fn puts_by_key(map: &mut Map, way: Way, key: [u8; 2], ran: &mut bool) -> bool {
     }
 }
 
-/// Checks that the closure runs exactly if a new value is inserted, and that the map is else
+/// Checks that the closure runs exactly if a new value is inserted, and that the map is otherwise
 /// unchanged. Returns whether the value is stored now.
 fn assert_runs(
     rt: &(impl Abort + Print),
