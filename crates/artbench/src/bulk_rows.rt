@@ -1,4 +1,4 @@
-//! Times calls that take or give many pairs at once.
+//! Times calls that insert, move, copy or remove many pairs at once.
 use crate::failure::Failure;
 use crate::joins::{Joiner, place};
 use crate::maps::{Contestant, Copied};
@@ -8,7 +8,7 @@ use crate::stores::{filled, remade};
 use crate::workload::Workload;
 use blart_keys::AsBytes;
 
-/// Times maps that are made of many pairs, filled in order, joined, copied and parted.
+/// Times maps that are made from many pairs, filled in order, joined, copied and split.
 pub(crate) fn time_bulk<M: Copied, J: Joiner>(
     rt: &HostRuntime,
     workload: &Workload<M::Key>,
@@ -24,7 +24,7 @@ pub(crate) fn time_bulk<M: Copied, J: Joiner>(
     drop(map);
 }
 
-// Times a map that is made of all pairs at once, in random order, and a walk over it.
+/// Times the construction of a map from all pairs, in random order, and a walk over it.
 fn time_from_vec<J: Joiner, K: AsBytes>(rt: &HostRuntime, keys: &[K], sheet: &mut Sheet) {
     let mut items = Vec::new(rt.alloc());
     let placed = place(rt.alloc(), keys, &mut items);
@@ -41,14 +41,14 @@ fn time_from_vec<J: Joiner, K: AsBytes>(rt: &HostRuntime, keys: &[K], sheet: &mu
     }
 }
 
-// Times a walk over a map that was just made.
+/// Times a walk over a new map.
 fn time_walk<J: Joiner>(rt: &HostRuntime, map: &J, count: usize, sheet: &mut Sheet) {
     sheet.start(rt);
     let sum = map.walk::<Order>();
     sheet.stop(rt, "iter, from_vec", count, sum);
 }
 
-// Times a map that is filled one by one, in order.
+/// Times insertions one by one, in order.
 fn time_in_order<J: Joiner, K: AsBytes>(rt: &HostRuntime, sorted: &[K], sheet: &mut Sheet) {
     let keys = remade(rt.alloc(), sorted, sheet);
     let mut map = J::empty(rt.alloc());
@@ -60,7 +60,7 @@ fn time_in_order<J: Joiner, K: AsBytes>(rt: &HostRuntime, sorted: &[K], sheet: &
     drop(map);
 }
 
-// Times an `append` of a map of the second half of some keys to one of the first.
+/// Times an `append` of a map of the second half of the keys to a map of the first half.
 fn time_append<J: Joiner, K: AsBytes>(
     rt: &HostRuntime,
     call: &'static str,
@@ -79,7 +79,7 @@ fn time_append<J: Joiner, K: AsBytes>(
     drop(other);
 }
 
-// Times a copy of a map, and whether it is the same.
+/// Times a copy of a map, and the comparison of both.
 fn time_copy<M: Copied>(rt: &HostRuntime, map: &M, count: usize, sheet: &mut Sheet) {
     sheet.start(rt);
     let copied = map.copy();
@@ -93,7 +93,7 @@ fn time_copy<M: Copied>(rt: &HostRuntime, map: &M, count: usize, sheet: &mut She
     }
 }
 
-// Notes what a copy gave, and times whether it is the same.
+/// Notes the sum over a copy, and times its comparison with the map.
 fn time_eq<M: Contestant>(rt: &HostRuntime, map: &M, copy: &M, count: usize, sheet: &mut Sheet) {
     sheet.note("clone", count, copy.walk::<Lengths>());
     sheet.start(rt);
@@ -101,7 +101,7 @@ fn time_eq<M: Contestant>(rt: &HostRuntime, map: &M, copy: &M, count: usize, she
     sheet.stop(rt, "eq", count, sum);
 }
 
-// Times a map parted at the key in the middle.
+/// Times the split of a map at the key in the middle.
 fn time_part<M: Contestant>(rt: &HostRuntime, map: &mut M, sorted: &[M::Key], sheet: &mut Sheet) {
     let half = sorted.len() / 2;
     let Some(from) = sorted.get(half) else {

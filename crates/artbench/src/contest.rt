@@ -1,4 +1,4 @@
-//! Both maps in turn on the same keys.
+//! Runs both maps in turn on the same keys.
 use crate::bulk_rows::time_bulk;
 use crate::joins::Joiner;
 use crate::keys::{Key, Made};
@@ -15,10 +15,11 @@ use crate::workload::Workload;
 use blart_keys::{AsBytes, NoPrefixesBytes};
 use prefix_router::Mounts;
 
-/// How often each map is timed. The least time counts.
+/// The number of times that each map is timed. The least time counts.
 const ROUNDS: usize = 3;
 
-/// Times both maps, in turn, on keys of a type, and where no key may begin another on keys of a second type.
+/// Times both maps in turn on keys of one type. The calls that require a key type whose keys cannot
+/// conflict are timed on keys of a second type.
 pub(crate) fn contest<K: Key, F: Made + NoPrefixesBytes>(
     rt: &HostRuntime,
     workload: &Workload<K>,
@@ -35,7 +36,7 @@ pub(crate) fn contest<K: Key, F: Made + NoPrefixesBytes>(
     }
 }
 
-// Times the calls of a map that are asked for.
+/// Times the calls of a map that the arguments ask for.
 fn run_maps<M: Copied, J: Joiner>(
     rt: &HostRuntime,
     workload: &Workload<M::Key>,
@@ -50,7 +51,8 @@ fn run_maps<M: Copied, J: Joiner>(
     }
 }
 
-// Times the calls of a set and of tables of mounts that are asked for, but none where the keys are arrays.
+/// Times the calls of a set and of tables of mounts that the arguments ask for. Does nothing if the
+/// keys are arrays.
 fn run_others<S: SetContestant, T: Resolver, V: Resolver, K: AsBytes>(
     rt: &HostRuntime,
     workload: &Workload<K>,
@@ -68,7 +70,7 @@ fn run_others<S: SetContestant, T: Resolver, V: Resolver, K: AsBytes>(
     }
 }
 
-// Times the calls that go by a pair.
+/// Times the calls on single pairs, and walks.
 fn time_pairs<M: Contestant>(rt: &HostRuntime, workload: &Workload<M::Key>, sheet: &mut Sheet) {
     let mut map = M::empty(rt.alloc());
     time_store(rt, &mut map, workload, sheet);
@@ -79,7 +81,7 @@ fn time_pairs<M: Contestant>(rt: &HostRuntime, workload: &Workload<M::Key>, shee
     time_rest::<M>(rt, workload, sheet);
 }
 
-// Times an empty map from its first pair to its last.
+/// Times a map from its first insertion to its last removal.
 fn time_store<M: Contestant>(
     rt: &HostRuntime,
     map: &mut M,
@@ -96,7 +98,7 @@ fn time_store<M: Contestant>(
     time_changes(rt, map, workload, sheet);
 }
 
-// Times insertions into room that is made in an empty map.
+/// Times insertions into reserved room of an empty map.
 fn time_store_reserved<M: Contestant>(
     rt: &HostRuntime,
     map: &mut M,
@@ -111,7 +113,7 @@ fn time_store_reserved<M: Contestant>(
     sheet.note("insert, reserved", workload.keys.len(), sum);
 }
 
-// Times look-ups, and walks that lend.
+/// Times look-ups, and walks that borrow the map.
 fn time_look_ups<M: Contestant>(
     rt: &HostRuntime,
     map: &M,
@@ -139,7 +141,7 @@ fn time_look_ups<M: Contestant>(
     sheet.stop(rt, "prefix", workload.fronts.len(), sum);
 }
 
-// Times calls that change all values, and that take each pair.
+/// Times a call that changes all values, and the removal of each pair.
 fn time_changes<M: Contestant>(
     rt: &HostRuntime,
     map: &mut M,
@@ -155,7 +157,7 @@ fn time_changes<M: Contestant>(
     sheet.stop(rt, "remove", count, sum);
 }
 
-// Times calls that go over all pairs and change or take them.
+/// Times calls that go over all pairs and keep or take them.
 fn time_rest<M: Contestant>(rt: &HostRuntime, workload: &Workload<M::Key>, sheet: &mut Sheet) {
     let count = workload.keys.len();
     let mut map: M = filled(rt.alloc(), &workload.keys, sheet);

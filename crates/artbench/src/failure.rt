@@ -1,8 +1,8 @@
-//! Why a run has no results.
+//! The reasons why a run has no results.
 use std::alloc::{AllocError, AllocFailed};
 use std::io;
 
-/// Why a run has no results.
+/// The reason why a run has no results.
 #[derive(Clone, Copy)]
 pub(crate) enum Failure {
     Usage,
@@ -13,7 +13,7 @@ pub(crate) enum Failure {
 }
 
 impl Failure {
-    /// What is told of it.
+    /// Returns the message for the reason.
     pub(crate) fn message(self) -> &'static str {
         match self {
             Failure::Usage =>

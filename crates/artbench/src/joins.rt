@@ -1,4 +1,5 @@
-//! Both maps under the calls that take many pairs at once, which want keys of which none can begin another.
+//! Both maps under the calls that take many pairs at once. These require a key type whose keys
+//! cannot conflict.
 use crate::failure::Failure;
 use crate::keys::Made;
 use crate::maps::{Contestant, Ours, Theirs};
@@ -8,12 +9,12 @@ use std::alloc::{AllocError, Global};
 use std::collections::BTreeMap;
 use std::iter::FromIterator;
 
-/// A map, as far as its bulk calls are timed.
+/// A map with the bulk calls that are timed.
 pub(crate) trait Joiner: Contestant {
-    /// A map of the pairs.
+    /// Returns a map of the pairs.
     fn of(alloc: Global, items: Vec<(Self::Key, u64)>) -> Result<Self, AllocError>;
 
-    /// Moves all pairs of the other map here.
+    /// Moves all pairs of the other map to this one.
     fn join(&mut self, other: &mut Self) -> Result<(), Failure>;
 }
 
@@ -37,7 +38,7 @@ impl<K: Made> Joiner for Theirs<K> {
     }
 }
 
-/// Adds each key, made anew, with its place.
+/// Makes each key again, and appends it with its place.
 pub(crate) fn place<F: Made, K: AsBytes>(
     alloc: Global,
     keys: &[K],

@@ -9,11 +9,11 @@ use std::clone::Clone;
 
 /// A key type whose keys are made from bytes.
 pub(crate) trait Made: AsBytes + Ord + Sized + Drop {
-    /// The key of some bytes.
+    /// Returns the key of the bytes.
     fn made(alloc: Global, bytes: &[u8]) -> Result<Self, Failure>;
 }
 
-/// A key type whose keys are cloned too.
+/// A key type whose keys can be cloned too.
 pub(crate) trait Key: Made + Clone {
     /// A clone has the same bytes.
     ghost cloned: { (key clone : Self) → Self.is_clone key clone → Self.bytes clone ≡ Self.bytes key };
@@ -49,7 +49,7 @@ impl Key for [u8; 16] {
     ghost cloned = { λ key clone same. each_same key clone same.whole };
 }
 
-// The first of the bytes, and zeros for those that lack.
+/// Returns the first `N` bytes, padded with zeros.
 fn padded<const N: usize>(bytes: &[u8]) -> [u8; N] {
     let mut key = [0u8; N];
     for (place, byte) in key.iter_mut().zip(bytes) {
@@ -58,7 +58,8 @@ fn padded<const N: usize>(bytes: &[u8]) -> [u8; N] {
     key
 }
 
-// A zero byte after the key: a zero within is written as 1 and 1 then, and a one as 1 and 2, which leaves the order.
+// The key ends with a zero byte. So a zero within it is written as 1 and 1, and a one as 1 and 2.
+// The order of the keys is unchanged.
 impl Made for ZKey {
     fn made(alloc: Global, bytes: &[u8]) -> Result<Self, Failure> {
         let mut written = Vec::new(alloc);

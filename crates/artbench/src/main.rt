@@ -1,6 +1,10 @@
 //! Times the map beside the library's `BTreeMap`, on keys that the program makes from a seed.
 //!
-//! `artbench KEYS KIND [ROWS]`: how many keys, which kind of them (`random`, `urls`, `dense`, `short`, `random8`, `random16`, `dense8` or `all`), and which calls (`pairs`, `bulk`, `sets`, `mounts` or `all`; `all` where nothing is said; `keys` where the keys are to be written and nothing is timed). Sums over what the calls gave go to standard output, which are the same on each run; times and ratios go to standard error.
+//! `artbench KEYS KIND [ROWS]`: the number of keys, their kind (`random`, `urls`, `dense`, `short`,
+//! `random8`, `random16`, `dense8` or `all`), and the calls (`pairs`, `bulk`, `sets`, `mounts` or
+//! `all`, which is the default). If `ROWS` is `keys`, the program writes the keys and times
+//! nothing. Sums over the results of the calls go to standard output. They are the same on each
+//! run. Times and ratios go to standard error.
 #![tactic(auto)]
 
 mod bulk_rows;
@@ -42,7 +46,7 @@ fn main(rt: HostRuntime) -> ExitCode {
     }
 }
 
-// Runs what the arguments ask for.
+/// Runs what the arguments ask for.
 fn run(rt: &HostRuntime) -> Result<(), Failure> {
     let wishes = read(rt)?;
     for kind in Kind::ALL {
@@ -53,7 +57,7 @@ fn run(rt: &HostRuntime) -> Result<(), Failure> {
     Ok(())
 }
 
-// Reads the arguments.
+/// Reads the arguments.
 fn read(rt: &HostRuntime) -> Result<Wishes, Failure> {
     let args = Vec::from_iter(rt.alloc(), env::args(rt)?)?;
     let wishes = Wishes::read(&args);
@@ -61,7 +65,7 @@ fn read(rt: &HostRuntime) -> Result<Wishes, Failure> {
     wishes
 }
 
-// Writes the keys of a kind, or times both maps on them.
+/// Writes the keys of a kind, or times both maps on them.
 fn run_kind(rt: &HostRuntime, kind: Kind, wishes: Wishes) -> Result<(), Failure> {
     if wishes.group == Some(Group::Keys) {
         write_keys_of(rt, kind, wishes.keys)
@@ -70,7 +74,7 @@ fn run_kind(rt: &HostRuntime, kind: Kind, wishes: Wishes) -> Result<(), Failure>
     }
 }
 
-// Writes so many keys of a kind.
+/// Writes `count` keys of a kind.
 fn write_keys_of(rt: &HostRuntime, kind: Kind, count: usize) -> Result<(), Failure> {
     let mut workload = Workload::new(rt.alloc(), kind);
     let written = match workload.fill(count) {
@@ -81,7 +85,7 @@ fn write_keys_of(rt: &HostRuntime, kind: Kind, count: usize) -> Result<(), Failu
     written
 }
 
-// Times both maps on keys of a kind, each of the kind's type, and writes what they gave.
+/// Times both maps on keys of a kind, with the key type of that kind, and writes the results.
 fn write_times_of(rt: &HostRuntime, kind: Kind, wishes: Wishes) -> Result<(), Failure> {
     let mut sheet = Sheet::new(rt.alloc());
     match kind {
@@ -94,7 +98,8 @@ fn write_times_of(rt: &HostRuntime, kind: Kind, wishes: Wishes) -> Result<(), Fa
     written
 }
 
-// Times both maps on keys of a type; on those of a second type where no key may begin another.
+/// Times both maps in turn on keys of one type. The calls that require a key type whose keys cannot
+/// conflict are timed on keys of a second type.
 fn time<K: Key, F: Made + NoPrefixesBytes>(
     rt: &HostRuntime,
     kind: Kind,

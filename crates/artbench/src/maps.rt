@@ -13,18 +13,19 @@ use std::ops::Bound;
 /// The map under test.
 pub(crate) type Ours<K> = TreeMap<K, u64, DEFAULT_PREFIX_LEN>;
 
-// The map under test while it has room.
+/// The reserved room of the map under test.
 type OurRoom<'a, K> = Reserved<'a, Ours<K>, Room<K, u64, { DEFAULT_PREFIX_LEN }>>;
 
 /// The library's map.
 pub(crate) type Theirs<K> = BTreeMap<K, u64>;
 
-/// A map, as far as it is timed. Each call gives a sum over what it found.
+/// A map with the calls that are timed. Each call returns a sum over its results.
 pub(crate) trait Contestant: Store + PartialEq {
-    /// Stores each key with its place, once there is room for all, where the map can make it.
+    /// Stores each key with its place. If the map can reserve room, it reserves the room for all
+    /// keys first.
     fn store_reserved(&mut self, keys: Vec<Self::Key>) -> Result<u64, Failure>;
 
-    /// Looks each key up.
+    /// Looks up each key.
     fn look_up(&self, keys: &[Self::Key]) -> u64;
 
     /// Walks over all pairs.
@@ -36,7 +37,7 @@ pub(crate) trait Contestant: Store + PartialEq {
     /// Walks over at most 100 pairs from a key on.
     fn walk_from<'a>(&'a self, start: &'a Self::Key) -> u64;
 
-    /// From each start on, walks over at most 100 pairs.
+    /// Walks over at most 100 pairs from each start on. There are at most 10,000 starts.
     final fn range(&self, starts: &[Self::Key]) -> u64 {
         let mut sum = 0u64;
         for start in starts.iter().take(10_000) {
@@ -45,10 +46,10 @@ pub(crate) trait Contestant: Store + PartialEq {
         sum
     }
 
-    /// Walks over what begins with a front.
+    /// Walks over the pairs whose keys start with a prefix.
     fn walk_front<'a>(&'a self, front: &'a Front<Self::Key>) -> u64;
 
-    /// Walks over what begins with each of the fronts.
+    /// Walks over the pairs whose keys start with each of the prefixes.
     final fn prefix(&self, fronts: &[Front<Self::Key>]) -> u64 {
         let mut sum = 0u64;
         for front in fronts {
@@ -63,20 +64,20 @@ pub(crate) trait Contestant: Store + PartialEq {
     /// Keeps the pairs with an odd value.
     fn retain(&mut self) -> u64;
 
-    /// Takes the map apart.
+    /// Walks over all pairs and consumes the map.
     fn take_apart(self) -> u64;
 
-    /// Keeps the pairs before a key, and gives the rest.
+    /// Keeps the pairs before a key, and returns the rest.
     fn part(&mut self, from: &Self::Key) -> Result<Self, AllocError>;
 }
 
-/// A map that is copied too.
+/// A map that can be copied too.
 pub(crate) trait Copied: Contestant {
-    /// A map of the same pairs.
+    /// Returns a map of the same pairs.
     fn copy(&self) -> Result<Self, AllocError>;
 }
 
-// Stores each key with its place, where there is room, and gives how many keys were new.
+/// Stores each key with its place in the reserved room. Returns the number of new keys.
 fn fill<K: Made>(room: &mut OurRoom<'_, K>, keys: Vec<K>) -> Result<u64, Failure> {
     let count = room.left();
     let mut place = 0u64;

@@ -1,4 +1,4 @@
-//! Times paths that a table of mounts resolves.
+//! Times the look-ups of paths in a table of mounts.
 use crate::failure::Failure;
 use crate::resolvers::Resolver;
 use crate::sheet::Sheet;
@@ -6,7 +6,8 @@ use crate::stores::remade;
 use crate::workload::Workload;
 use blart_keys::AsBytes;
 
-/// Times as many paths as there are keys, over a tenth as many mounts: beside a map with ranges, and beside a vector with a binary search.
+/// Times as many paths as there are keys, over a tenth as many mounts, beside a map with ranges and
+/// beside a vector with a binary search.
 pub(crate) fn time_mounts<T: Resolver, V: Resolver, K: AsBytes>(
     rt: &HostRuntime,
     workload: &Workload<K>,
@@ -20,7 +21,7 @@ pub(crate) fn time_mounts<T: Resolver, V: Resolver, K: AsBytes>(
     drop(paths);
 }
 
-// Times a table of mounts.
+/// Times a table of mounts.
 fn time_paths<T: Resolver, K: AsBytes>(
     rt: &HostRuntime,
     workload: &Workload<K>,
@@ -38,7 +39,7 @@ fn time_paths<T: Resolver, K: AsBytes>(
     drop(table);
 }
 
-// The bytes of the first tenth of the keys, in order.
+/// Returns the bytes of the first tenth of the keys, in order.
 fn sorted_mounts<K: AsBytes>(rt: &HostRuntime, keys: &[K], sheet: &mut Sheet) -> Vec<Vec<u8>> {
     let (first, _) = keys.split_at(keys.len() / 10);
     let mut mounts: Vec<Vec<u8>> = remade(rt.alloc(), first, sheet);

@@ -1,18 +1,18 @@
-//! What a walk reads of each pair.
+//! The bytes and values that a walk reads of each pair.
 
-/// What a walk adds to its sum.
+/// A choice of what a walk adds to its sum.
 pub(crate) trait Reading {
-    /// The sum with a pair added.
+    /// Returns the sum with a pair added.
     fn added(sum: u64, key: &[u8], value: u64) -> u64;
 }
 
-/// The values, and how long the keys are.
+/// Adds the values and the lengths of the keys.
 pub(crate) struct Lengths;
 
-/// The values, and the first byte of each key.
+/// Adds the values and the first byte of each key.
 pub(crate) struct FirstBytes;
 
-/// The values, and how long the keys are, by their order.
+/// Adds the values and the lengths of the keys. The sum depends on their order.
 pub(crate) struct Order;
 
 impl Reading for Lengths {

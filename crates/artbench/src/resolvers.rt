@@ -1,4 +1,4 @@
-//! Tables of mounts: the router's, and two that serve in its place.
+//! Tables of mounts: the router's, and two others that do the same.
 use crate::failure::Failure;
 use crate::maps::Theirs;
 use crate::stores::Store;
@@ -7,15 +7,15 @@ use prefix_router::Mounts;
 use std::alloc::Global;
 use std::ops::Bound;
 
-/// A vector of mounts that ascend.
+/// A vector of mounts in ascending order.
 pub(crate) type Sorted = Vec<Vec<u8>>;
 
-/// A table of paths of which none begins another, which were stored in their order.
+/// A table of paths that were stored in their order. No path is a prefix of another.
 pub(crate) trait Resolver: Store<Key = Vec<u8>> {
-    /// The place of the mount that begins a path, if there is one.
+    /// Returns the place of the mount that is a prefix of the path, if there is one.
     fn place(&self, path: &Vec<u8>) -> Option<u64>;
 
-    /// Resolves each path, and gives a sum over the places.
+    /// Resolves each path, and returns a sum over the places.
     final fn resolve_all(&self, paths: &[Vec<u8>]) -> u64 {
         let mut sum = 0u64;
         for path in paths {
@@ -52,7 +52,8 @@ impl Resolver for Mounts<u64> {
     }
 }
 
-// Of the mounts up to a path only the last can begin it, since none begins another.
+// Of the mounts up to a path only the last can be a prefix of it, since no mount is a prefix of
+// another.
 impl Resolver for Theirs<Vec<u8>> {
     fn place(&self, path: &Vec<u8>) -> Option<u64> {
         match self

@@ -4,7 +4,8 @@ use crate::sheet::Sheet;
 use crate::workload::Workload;
 use blart_keys::AsBytes;
 
-/// Times the walks over two sets. Of each six keys one has four and the other three, of which they share two.
+/// Times the walks over two sets. Of every six keys the first set has four and the second three.
+/// They share two of these.
 pub(crate) fn time_sets<S: SetContestant, K: AsBytes>(
     rt: &HostRuntime,
     workload: &Workload<K>,
@@ -19,7 +20,7 @@ pub(crate) fn time_sets<S: SetContestant, K: AsBytes>(
     drop(other);
 }
 
-// Stores the keys whose place is no multiple of a number in an empty set.
+/// Stores the keys whose place is no multiple of `number` in an empty set.
 fn store_every<S: SetContestant, K: AsBytes>(
     rt: &HostRuntime,
     set: &mut S,
@@ -34,7 +35,7 @@ fn store_every<S: SetContestant, K: AsBytes>(
     sheet.checked(stored)
 }
 
-// Times the four merges of two sets that have so many elements.
+/// Times the four merges of two sets that have `count` elements together.
 fn time_merges<S: SetContestant>(
     rt: &HostRuntime,
     one: &S,

@@ -16,19 +16,20 @@ pub(crate) type TheirSet = BTreeSet<Vec<u8>>;
 
 /// A walk over two sets.
 pub(crate) enum Merge {
-    /// What either set has.
+    /// The elements of either set.
     Union,
-    /// What both sets have.
+    /// The elements of both sets.
     Intersection,
-    /// What the first set alone has.
+    /// The elements of the first set only.
     Difference,
-    /// What one set alone has.
+    /// The elements of only one set.
     SymmetricDifference,
 }
 
-/// A set of lists of bytes, as far as it is timed. Each call gives a sum over what it found.
+/// A set of lists of bytes, with the calls that are timed. Each call returns a sum over its
+/// results.
 pub(crate) trait SetContestant: Store<Key = Vec<u8>> {
-    /// Walks over what both sets give together.
+    /// Walks over a merge of both sets.
     fn merge_sum(&self, other: &Self, merge: Merge) -> u64;
 }
 
@@ -85,7 +86,7 @@ impl SetContestant for TheirSet {
     }
 }
 
-// The sum over what a walk gives.
+/// Returns the sum over the items of a walk.
 fn sum_of<'a, I: Iterator<Item = &'a Vec<u8>>>(keys: I) -> u64
     requires can { I.can_next keys }
     requires ends { IsFinite (I.remaining keys) }
@@ -97,7 +98,7 @@ fn sum_of<'a, I: Iterator<Item = &'a Vec<u8>>>(keys: I) -> u64
     sum
 }
 
-// A sum to which an element was added; it depends on the order.
+/// Returns the sum with an element added. It depends on the order of the elements.
 fn added(sum: u64, key: &Vec<u8>) -> u64 {
     let last = match key.last() {
         Some(byte) => *byte as u64,

@@ -1,25 +1,25 @@
-//! What both maps were timed at, call by call.
+//! The times of both maps, call by call.
 use crate::failure::Failure;
 use std::alloc::Global;
 use std::time::Instant;
 
-/// What one call was timed at.
+/// The times of one call.
 #[derive(Clone, Copy)]
 pub(crate) struct Row {
-    /// The call's name.
+    /// The name of the call.
     pub(crate) call: &'static str,
-    /// How many keys or pairs it went over.
+    /// The number of keys or pairs that it went over.
     pub(crate) count: usize,
-    /// A sum over what it gave.
+    /// The sum over its results.
     pub(crate) sum: u64,
-    /// How long it took with the map under test, at the least.
+    /// The least time with the map under test, in nanoseconds.
     pub(crate) ours: u64,
-    /// How long it took with the library's, at the least.
+    /// The least time with the library's map, in nanoseconds.
     pub(crate) theirs: u64,
 }
 
 impl Row {
-    // Keeps the least time of a map.
+    /// Keeps the least time of a map.
     fn keep_least(&mut self, is_ours: bool, nanos: u64) {
         if is_ours {
             self.ours = self.ours.min(nanos);
@@ -29,7 +29,7 @@ impl Row {
     }
 }
 
-/// The rows, which each run goes over from the first on.
+/// The rows. Each run fills them from the first on.
 #[derive(Drop)]
 pub(crate) struct Sheet {
     pub(crate) rows: Vec<Row>,
@@ -41,7 +41,7 @@ pub(crate) struct Sheet {
 }
 
 impl Sheet {
-    /// A sheet without rows.
+    /// Returns a sheet without rows.
     pub(crate) fn new(alloc: Global) -> Self {
         Sheet {
             rows: Vec::new(alloc),
@@ -53,13 +53,13 @@ impl Sheet {
         }
     }
 
-    /// Begins a run, of the map under test or of the library's.
+    /// Starts a run of the map under test or of the library's.
     pub(crate) fn begin_run(&mut self, is_ours: bool) {
         self.next = 0;
         self.is_ours = is_ours;
     }
 
-    /// Notes that a call begins.
+    /// Notes that a call starts.
     pub(crate) fn start(&mut self, rt: &HostRuntime) {
         self.started = Instant::now(rt).ok();
     }
@@ -72,7 +72,7 @@ impl Sheet {
         }
     }
 
-    // How many nanoseconds have gone by since the call began.
+    /// Returns the number of nanoseconds since the call started.
     fn elapsed(&self, rt: &HostRuntime) -> Result<u64, Failure> {
         let Some(start) = self.started else {
             return Err(Failure::Io);
@@ -86,13 +86,14 @@ impl Sheet {
         )
     }
 
-    /// Notes a call that has just ended, and what it gave.
+    /// Notes that a call has ended, and the sum over its results.
     pub(crate) fn stop(&mut self, rt: &HostRuntime, call: &'static str, count: usize, sum: u64) {
         self.end(rt);
         self.note(call, count, sum);
     }
 
-    /// Notes what the call gave that ended last, and how long it took, unless it was less before. Its sum must be that of the runs before.
+    /// Notes the sum and the time of the call that ended last, unless an earlier run took less
+    /// time. The sum must be the same in all runs.
     pub(crate) fn note(&mut self, call: &'static str, count: usize, sum: u64) {
         if self.next == self.rows.len() {
             self.add_row(call, count, sum);
@@ -104,7 +105,7 @@ impl Sheet {
         self.next = self.next.wrapping_add(1);
     }
 
-    // Adds a row without times.
+    /// Appends a row without times.
     fn add_row(&mut self, call: &'static str, count: usize, sum: u64) {
         let row = Row {
             call,
@@ -118,7 +119,7 @@ impl Sheet {
         }
     }
 
-    /// What a call gave that may fail, or 0 where it did.
+    /// Returns the sum of a call, or 0 if the call failed.
     pub(crate) fn checked(&mut self, given: Result<u64, Failure>) -> u64 {
         match given {
             Ok(sum) => sum,
@@ -129,19 +130,19 @@ impl Sheet {
         }
     }
 
-    /// Notes whether a call has failed.
+    /// Notes the failure of a call, if it failed.
     pub(crate) fn check(&mut self, done: Result<(), Failure>) {
         if let Err(failure) = done {
             self.fail(failure);
         }
     }
 
-    /// Notes why the run has no results, if it had any so far.
+    /// Notes why the run has no results, unless a reason was noted before.
     pub(crate) fn fail(&mut self, failure: Failure) {
         self.failure = self.failure.or(Some(failure));
     }
 
-    /// Why the run has no results, if so.
+    /// Returns the reason why the run has no results, if there is one.
     pub(crate) fn ended(&self) -> Result<(), Failure> {
         match self.failure {
             None => Ok(()),

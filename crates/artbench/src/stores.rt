@@ -1,4 +1,4 @@
-//! What keys are stored in.
+//! The stores of keys.
 use crate::failure::Failure;
 use crate::keys::Made;
 use crate::sheet::Sheet;
@@ -7,16 +7,16 @@ use std::alloc::Global;
 
 /// A map or another store of keys.
 pub(crate) trait Store: Sized + Drop {
-    /// What its keys are.
+    /// The type of the keys.
     type Key: Made;
 
-    /// A store with no keys.
+    /// Returns a store with no keys.
     fn empty(alloc: Global) -> Self;
 
-    /// Stores a key, a map with a value, and tells whether the key was new.
+    /// Stores a key, and its value if the store is a map. Returns whether the key was new.
     fn put(&mut self, key: Self::Key, value: u64) -> Result<bool, Failure>;
 
-    /// Stores each key with its place, and gives how many were new.
+    /// Stores each key with its place. Returns the number of new keys.
     final fn store(&mut self, keys: Vec<Self::Key>) -> Result<u64, Failure> {
         let mut place = 0u64;
         let mut count = 0u64;
@@ -28,7 +28,7 @@ pub(crate) trait Store: Sized + Drop {
     }
 }
 
-/// A store of the keys, each made anew.
+/// Makes each key again, and returns a store of them.
 pub(crate) fn filled<M: Store, K: AsBytes>(alloc: Global, keys: &[K], sheet: &mut Sheet) -> M {
     let keys = remade(alloc, keys, sheet);
     let mut map = M::empty(alloc);
@@ -37,7 +37,7 @@ pub(crate) fn filled<M: Store, K: AsBytes>(alloc: Global, keys: &[K], sheet: &mu
     map
 }
 
-/// Each key, made anew. The sheet notes where there is no memory for all.
+/// Makes each key again. The sheet notes the failure if there is no memory for all.
 pub(crate) fn remade<F: Made, K: AsBytes>(alloc: Global, keys: &[K], sheet: &mut Sheet) -> Vec<F> {
     let mut made = Vec::new(alloc);
     let pushed = remake(alloc, keys, &mut made);
@@ -45,7 +45,7 @@ pub(crate) fn remade<F: Made, K: AsBytes>(alloc: Global, keys: &[K], sheet: &mut
     made
 }
 
-// Adds each key, made anew.
+/// Makes each key again, and appends it.
 fn remake<F: Made, K: AsBytes>(
     alloc: Global,
     keys: &[K],

@@ -3,7 +3,8 @@ use crate::failure::Failure;
 use crate::sheet::{Row, Sheet};
 use crate::workload::Workload;
 
-/// Writes the keys of a kind on standard output, each in a line of hexadecimal digits: those that are stored, those that are looked up and found, and those that are missing.
+/// Writes the keys of a kind to standard output, each on a line of hexadecimal digits: the stored
+/// keys, the keys that look-ups find, and the missing keys.
 pub(crate) fn write_keys(rt: &HostRuntime, workload: &Workload<Vec<u8>>) -> Result<(), Failure> {
     println!(rt; "{} {}", workload.kind.name(), workload.keys.len())?;
     write_lines(rt, &workload.keys)?;
@@ -11,7 +12,7 @@ pub(crate) fn write_keys(rt: &HostRuntime, workload: &Workload<Vec<u8>>) -> Resu
     write_lines(rt, &workload.misses)
 }
 
-// Writes each key in a line.
+/// Writes each key on a line.
 fn write_lines(rt: &HostRuntime, keys: &[Vec<u8>]) -> Result<(), Failure> {
     for key in keys {
         println!(rt; "{}", hex::encode(rt.alloc(), key.as_slice())?)?;
@@ -19,7 +20,8 @@ fn write_lines(rt: &HostRuntime, keys: &[Vec<u8>]) -> Result<(), Failure> {
     Ok(())
 }
 
-/// Writes the rows for so many keys of a kind: what the calls gave on standard output, and the times on standard error.
+/// Writes the rows for `keys` keys of a kind: the sums to standard output, and the times to
+/// standard error.
 pub(crate) fn write_sheet(
     rt: &HostRuntime,
     name: &str,
@@ -33,7 +35,7 @@ pub(crate) fn write_sheet(
     write_times(rt, &sheet.rows)
 }
 
-// Writes what the calls gave, which is the same on each run.
+/// Writes the sums, which are the same on each run.
 fn write_sums(rt: &HostRuntime, rows: &[Row]) -> Result<(), Failure> {
     for row in rows {
         println!(rt; "{} {} {}", row.call, row.count, row.sum)?;
@@ -41,7 +43,7 @@ fn write_sums(rt: &HostRuntime, rows: &[Row]) -> Result<(), Failure> {
     Ok(())
 }
 
-// Writes the times of each row.
+/// Writes the times of each row.
 fn write_times(rt: &HostRuntime, rows: &[Row]) -> Result<(), Failure> {
     for row in rows {
         write_time(rt, row)?;
@@ -49,7 +51,8 @@ fn write_times(rt: &HostRuntime, rows: &[Row]) -> Result<(), Failure> {
     Ok(())
 }
 
-// Writes the nanoseconds a key or pair, and the ratio: below 1 the map is faster.
+/// Writes the nanoseconds for each key or pair, and the ratio. If it is below 1, the map is faster
+/// than the library's.
 fn write_time(rt: &HostRuntime, row: &Row) -> Result<(), Failure> {
     let count = (row.count as u64).max(1);
     let (ours, theirs) = (row.ours / count, row.theirs / count);

@@ -1,24 +1,24 @@
-//! What the arguments ask for.
+//! The arguments of the program.
 use crate::failure::Failure;
 use crate::workload::Kind;
 
 /// Calls that are timed together.
 #[derive(Clone, Copy, PartialEq, Eq)]
 pub(crate) enum Group {
-    /// Calls of a map that go by a pair, and its walks.
+    /// Calls of a map on single pairs, and its walks.
     Pairs,
-    /// Calls of a map that take or give many pairs at once.
+    /// Calls of a map that take or return many pairs at once.
     Bulk,
     /// Calls of a set.
     Sets,
-    /// Paths over a table of mounts.
+    /// Look-ups of paths in a table of mounts.
     Mounts,
-    /// No call: the keys are written, and nothing is timed.
+    /// No calls. The keys are written and nothing is timed.
     Keys,
 }
 
 impl Group {
-    /// Every group.
+    /// All groups.
     const ALL: [Group; 5] = [
         Group::Pairs,
         Group::Bulk,
@@ -27,7 +27,7 @@ impl Group {
         Group::Keys,
     ];
 
-    /// The word that names the group.
+    /// Returns the word for the group.
     pub(crate) fn name(self) -> &'static str {
         match self {
             Group::Pairs => "pairs",
@@ -39,7 +39,7 @@ impl Group {
     }
 }
 
-/// How many keys are asked for, of which kind, and which calls; where none is named, of all.
+/// The number of keys, their kind, and the group of calls. `None` means all.
 #[derive(Clone, Copy)]
 pub(crate) struct Wishes {
     pub(crate) keys: usize,
@@ -48,7 +48,7 @@ pub(crate) struct Wishes {
 }
 
 impl Wishes {
-    /// What the arguments say, the first of which is the program's name.
+    /// Reads the arguments. The first is the program's name.
     pub(crate) fn read(args: &[String]) -> Result<Self, Failure> {
         match args {
             [_, keys, kind] => wishes_of(keys, kind, "all"),
@@ -57,13 +57,13 @@ impl Wishes {
         }
     }
 
-    /// Whether calls of a group are to be timed.
+    /// Returns whether the calls of a group are to be timed.
     pub(crate) fn asks_for(self, group: Group) -> bool {
         self.group.is_none() || self.group == Some(group)
     }
 }
 
-// What three words ask for.
+/// Reads the three words of the arguments.
 fn wishes_of(keys: &str, kind: &str, rows: &str) -> Result<Wishes, Failure> {
     let Ok(keys) = keys.parse::<usize>() else {
         return Err(Failure::Usage);
@@ -75,7 +75,7 @@ fn wishes_of(keys: &str, kind: &str, rows: &str) -> Result<Wishes, Failure> {
     })
 }
 
-// The kind of keys that a word names, or none for all.
+/// Returns the kind of keys that a word names, or `None` for all.
 fn kind_of(word: &str) -> Result<Option<Kind>, Failure> {
     for kind in Kind::ALL {
         if word == kind.name() {
@@ -85,7 +85,7 @@ fn kind_of(word: &str) -> Result<Option<Kind>, Failure> {
     none_for_all(word)
 }
 
-// The group of calls that a word names, or none for all.
+/// Returns the group of calls that a word names, or `None` for all.
 fn group_of(word: &str) -> Result<Option<Group>, Failure> {
     for group in Group::ALL {
         if word == group.name() {
@@ -95,7 +95,7 @@ fn group_of(word: &str) -> Result<Option<Group>, Failure> {
     none_for_all(word)
 }
 
-// None, where the word asks for all.
+/// Returns `None` if the word is `all`, and else an error.
 fn none_for_all<T>(word: &str) -> Result<Option<T>, Failure> {
     if word == "all" {
         Ok(None)

@@ -7,16 +7,16 @@ use rand_core::{Rng, SeedableRng};
 use rand_xoshiro::Xoshiro256PlusPlus;
 use std::alloc::{AllocError, Global};
 
-/// A kind of keys. No key of a kind begins another.
+/// A kind of keys. No key of a kind is a prefix of another.
 #[derive(Clone, Copy, PartialEq, Eq)]
 pub(crate) enum Kind {
     /// Eight random bytes.
     Random,
     /// Texts like the addresses of pages, each with a zero byte at the end.
     Urls,
-    /// The numbers from 0 on, in eight bytes, the high one first.
+    /// The numbers from 0 on, in eight bytes, with the high byte first.
     Dense,
-    /// Prefixes of one to three bytes that do not nest, as of networks.
+    /// Keys of one to three bytes, like the prefixes of networks. None is a prefix of another.
     Short,
     /// The same keys as `Random`, as arrays.
     Random8,
@@ -27,7 +27,7 @@ pub(crate) enum Kind {
 }
 
 impl Kind {
-    /// Every kind.
+    /// All kinds.
     pub(crate) const ALL: [Kind; 7] = [
         Kind::Random,
         Kind::Urls,
@@ -38,7 +38,7 @@ impl Kind {
         Kind::Dense8,
     ];
 
-    /// The word that names the kind.
+    /// Returns the word for the kind.
     pub(crate) fn name(self) -> &'static str {
         match self {
             Kind::Random => "random",
@@ -51,12 +51,12 @@ impl Kind {
         }
     }
 
-    /// Whether the keys are arrays.
+    /// Returns whether the keys are arrays.
     pub(crate) fn is_of_arrays(self) -> bool {
         matches!(self, Kind::Random8 | Kind::Random16 | Kind::Dense8)
     }
 
-    // Adds the bytes of the key at a place, or of one that is missing.
+    /// Appends the bytes of the key at a place, or of a missing key.
     fn write(
         self,
         key: &mut Vec<u8>,
@@ -80,7 +80,8 @@ impl Kind {
         }
     }
 
-    // How many bytes of a key its prefix has: few enough that it begins several keys.
+    /// Returns the length of a key's prefix that is searched for: so short that several keys start
+    /// with it.
     fn front(self, len: usize) -> usize {
         match self {
             Kind::Random | Kind::Short | Kind::Random8 | Kind::Random16 => 2,
@@ -90,16 +91,16 @@ impl Kind {
     }
 }
 
-/// Bytes that begin stored keys.
+/// A prefix of stored keys.
 #[derive(Drop)]
 pub(crate) struct Front<K> {
-    /// They are the first of this key, and no key that they begin is less.
+    /// The least possible key with this prefix. The prefix is its first `len` bytes.
     pub(crate) least: K,
     len: usize,
 }
 
 impl<K: AsBytes> Front<K> {
-    /// The bytes.
+    /// Returns the bytes of the prefix.
     pub(crate) fn bytes(&self) -> &[u8] {
         let bytes = self.least.as_bytes();
         bytes.split_at(self.len.min(bytes.len())).0
@@ -117,14 +118,14 @@ pub(crate) struct Workload<K> {
     pub(crate) sorted: Vec<K>,
     /// The same keys, in another random order.
     pub(crate) hits: Vec<K>,
-    /// Keys like those, of which few or none are stored.
+    /// Keys of the same kind. Few of them or none are stored.
     pub(crate) misses: Vec<K>,
-    /// Bytes that begin stored keys.
+    /// Prefixes of stored keys.
     pub(crate) fronts: Vec<Front<K>>,
 }
 
 impl<K: Key> Workload<K> {
-    /// No keys of a kind, so far.
+    /// Returns a workload of a kind, with no keys yet.
     pub(crate) fn new(alloc: Global, kind: Kind) -> Self {
         Workload {
             alloc,
@@ -137,7 +138,7 @@ impl<K: Key> Workload<K> {
         }
     }
 
-    /// Makes so many keys. The seed is always the same.
+    /// Makes `count` keys. The seed is always the same.
     pub(crate) fn fill(&mut self, count: usize) -> Result<(), Failure> {
         let mut rng = Xoshiro256PlusPlus::seed_from_u64(7);
         push_keys(
@@ -163,7 +164,7 @@ impl<K: Key> Workload<K> {
 }
 
 impl<K: AsBytes> Workload<K> {
-    /// Adds the bytes of the keys whose place is no multiple of a number.
+    /// Appends the bytes of the keys whose place is no multiple of `number`.
     pub(crate) fn every(&self, number: usize, lists: &mut Vec<Vec<u8>>) -> Result<(), Failure> {
         for (place, key) in self.keys.iter().enumerate() {
             if place % number.max(1) != 0 {
@@ -173,7 +174,8 @@ impl<K: AsBytes> Workload<K> {
         Ok(())
     }
 
-    /// Adds as many paths as there are keys: by turns one below a mount, and one that is like it.
+    /// Appends as many paths as there are keys. Every second path is below a mount. The others are
+    /// like them, but start with a missing key.
     pub(crate) fn paths(&self, lists: &mut Vec<Vec<u8>>) -> Result<(), Failure> {
         let mounts = (self.keys.len() / 10).max(1);
         for (place, other) in self.misses.iter().enumerate() {
@@ -187,7 +189,7 @@ impl<K: AsBytes> Workload<K> {
     }
 }
 
-// Adds the bytes of a key, and some more after them.
+/// Appends the bytes of a key, and some more after them.
 fn push_list(
     lists: &mut Vec<Vec<u8>>,
     alloc: Global,
@@ -200,7 +202,7 @@ fn push_list(
     Ok(())
 }
 
-// Adds so many keys of a kind.
+/// Appends `count` keys of a kind.
 fn push_keys<K: Key>(
     keys: &mut Vec<K>,
     alloc: Global,
@@ -217,7 +219,7 @@ fn push_keys<K: Key>(
     Ok(())
 }
 
-// Adds some keys in order, and in a random order.
+/// Appends the keys in order to one list, and in random order to another.
 fn push_orders<K: Key>(
     keys: &[K],
     sorted: &mut Vec<K>,
@@ -231,7 +233,7 @@ fn push_orders<K: Key>(
     Ok(())
 }
 
-// Adds what begins the first 10,000 of the keys.
+/// Appends prefixes of the first 10,000 keys.
 fn push_fronts<K: Key>(
     fronts: &mut Vec<Front<K>>,
     alloc: Global,
@@ -262,7 +264,8 @@ const WORDS: [&str; 18] = [
     "tag/", "search/", "comment/", "list/", "view/", "edit/", "data/", "static/", "assets/",
 ];
 
-// Adds an address: a host, one to four words, a number and a zero byte. One that is missing has a letter in the number's place.
+/// Appends an address: a host, one to four words, a number and a zero byte. A missing key has a
+/// letter before the number.
 fn write_url(key: &mut Vec<u8>, random: u64, missing: bool) -> Result<(), AllocError> {
     write_word(key, &HOSTS, random)?;
     let words = 1 + (random >> 8) % 4;
@@ -277,7 +280,7 @@ fn write_url(key: &mut Vec<u8>, random: u64, missing: bool) -> Result<(), AllocE
     Ok(())
 }
 
-// Adds one of the words.
+/// Appends one of the words.
 fn write_word(key: &mut Vec<u8>, words: &[&str], random: u64) -> Result<(), AllocError> {
     match words.get((random % 32) as usize % words.len().max(1)) {
         Some(word) => key.extend_from_slice(word.as_bytes()),
@@ -285,7 +288,7 @@ fn write_word(key: &mut Vec<u8>, words: &[&str], random: u64) -> Result<(), Allo
     }
 }
 
-// Adds the six decimal digits of a number.
+/// Appends the six decimal digits of a number.
 fn write_number(key: &mut Vec<u8>, number: u64) -> Result<(), AllocError> {
     for unit in [100_000u64, 10_000, 1_000, 100, 10, 1] {
         key.push(b'0' + (number / unit % 10) as u8)?;
@@ -293,7 +296,8 @@ fn write_number(key: &mut Vec<u8>, number: u64) -> Result<(), AllocError> {
     Ok(())
 }
 
-// Adds a prefix. Its first byte says whether it is the last; else the second does, and else there is a third.
+/// Appends a key. Its first byte tells whether it is the last. If not, the second byte tells
+/// whether there is a third.
 fn write_short(key: &mut Vec<u8>, random: u64) -> Result<(), AllocError> {
     let [first, second, third, ..] = random.to_be_bytes();
     key.push(first)?;

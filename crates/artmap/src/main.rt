@@ -1,4 +1,4 @@
-//! Answers the lines of standard input, each on a line of standard output.
+//! Answers each line of standard input with one or more lines on standard output.
 #![tactic(auto)]
 
 use blart::{RunError, Watched, fault_line, run};

@@ -1,13 +1,15 @@
-//! The lines of a script that are calls of entries.
+//! The lines of a script that call an entry.
 //!
-//! [`enter`] and [`try_enter`] make those of one key, [`enter_related`] those of a key and all that
-//! conflict with it, and [`enter_end`] those of the first pair and the last.
+//! [`enter`] and [`try_enter`] make the calls of an entry for one key, [`enter_related`] those of
+//! an entry for a key and all keys that conflict with it, and [`enter_end`] those of the first and
+//! the last entry.
 //!
-//! The size of an entry whose key type is a parameter is not known, so the functions that make one
-//! require that it fits in memory. The borrow checker covers no such entry that is handed to a
-//! function, so each is made and used in one function. What several of these do is a macro.
+//! The size of an entry whose key type is a parameter is not known. So the functions that make one
+//! require that it fits in memory. The borrow checker does not cover such an entry when it is
+//! passed to a function. So each entry is made and used in one function, and macros hold the code
+//! that several of these share.
 
-// Adds what the call answers of an entry at a pair.
+// Appends the result of a call on an occupied entry.
 macro_rules! show_occupied {
     ($place:ident, $call:expr, $text:expr) => {
         match $call.name {
@@ -27,7 +29,7 @@ macro_rules! show_occupied {
     };
 }
 
-// Adds the pair of an entry, or that there was no memory.
+// Appends the pair of an entry, or the error if the call ran out of memory.
 macro_rules! show_pair {
     ($placed:expr, $text:expr) => {
         match $placed {
@@ -37,8 +39,8 @@ macro_rules! show_pair {
     };
 }
 
-// Adds the pair of an entry, or what the next call of the entry answers, or that there was no
-// memory.
+// Appends the pair of an entry, or the result of the next call on that entry, or the error if the
+// call ran out of memory.
 macro_rules! show_placed {
     ($placed:expr, $then:expr, $text:expr) => {
         match $then {
@@ -51,7 +53,7 @@ macro_rules! show_placed {
     };
 }
 
-// Adds the value that the call of an entry lends.
+// Appends the value of the reference that a call on an entry returns.
 macro_rules! show_value {
     ($entry:expr, $call:expr, $text:expr) => {{
         let value = $call.number;
@@ -65,8 +67,9 @@ macro_rules! show_value {
     }};
 }
 
-// Adds the pair of the entry that the call returns, or what the next call of that entry answers. A
-// call of an entry at a pair is made of that entry, which `or_insert_entry` returns as it is.
+// Appends the pair of the entry that the call returns, or the result of the next call on that
+// entry. `or_insert_entry` returns an occupied entry unchanged, so a call on an occupied entry is
+// made on its result.
 macro_rules! show_place {
     ($entry:expr, $line:expr, $text:expr) => {{
         let value = $line.call.number;
@@ -81,7 +84,7 @@ macro_rules! show_place {
     }};
 }
 
-// Adds what the call answers of an entry where no pair stands.
+// Appends the result of a call on a vacant entry.
 macro_rules! show_vacant {
     ($entry:expr, $call:expr, $text:expr) => {
         match $call.name {

@@ -1,16 +1,16 @@
-//! What stops the program.
+//! The reasons why the program stops.
 use script_words::{Text, Unanswered};
 
-/// Why the program ended without its answers.
+/// The reason why the program ended without its answers.
 #[derive(Drop)]
 pub(crate) enum Failure {
     /// Standard input could not be read.
     Read,
     /// Standard output could not be written.
     Write,
-    /// The program had no memory.
+    /// The program ran out of memory.
     Memory,
-    /// Two lengths of prefixes gave different answers; the text says to which line.
+    /// Two prefix lengths led to different answers. The text tells for which line.
     Differs(Text),
 }
 
@@ -21,7 +21,7 @@ impl From<Unanswered> for Failure {
 }
 
 impl Failure {
-    /// What is said of it.
+    /// Returns the message for the reason.
     pub(crate) fn text(&self) -> &[u8] {
         match self {
             Failure::Read => b"read failed",

@@ -1,11 +1,11 @@
-//! The same script over maps of several lengths of kept prefixes.
+//! Runs one script over maps of several prefix lengths.
 use crate::failure::Failure;
 use crate::session::answers;
 use script_words::{Shown, Text};
 use std::alloc::Global;
 use std::iter::Iterator;
 
-/// The answers to the script, which are the same over maps of six lengths.
+/// Returns the answers to the script. They are the same over maps of six prefix lengths.
 pub(crate) fn answers_at_each_length(alloc: Global, script: &[u8]) -> Result<Text, Failure> {
     let expected = answers::<0>(alloc, script)?;
     match compare_all(alloc, script, expected.as_slice()) {
@@ -17,7 +17,7 @@ pub(crate) fn answers_at_each_length(alloc: Global, script: &[u8]) -> Result<Tex
     }
 }
 
-// That the script has the expected answers at the other lengths too.
+/// Checks that the script has the expected answers at the other prefix lengths too.
 fn compare_all(alloc: Global, script: &[u8], expected: &[u8]) -> Result<(), Failure> {
     compare::<1>(alloc, script, expected)?;
     compare::<2>(alloc, script, expected)?;
@@ -26,7 +26,7 @@ fn compare_all(alloc: Global, script: &[u8], expected: &[u8]) -> Result<(), Fail
     compare::<64>(alloc, script, expected)
 }
 
-// That the script has the expected answers at this length too.
+/// Checks that the script has the expected answers at this prefix length.
 fn compare<const PREFIX_LEN: usize>(
     alloc: Global,
     script: &[u8],
@@ -48,7 +48,7 @@ fn compare<const PREFIX_LEN: usize>(
     }
 }
 
-// Adds the length and the first line of the script whose answers differ, and these.
+/// Appends the prefix length, the first line of the script whose answers differ, and both answers.
 fn show_difference(length: usize, script: &[u8], expected: &[u8], got: &[u8], text: &mut Text) {
     let number = same_lines(expected, got);
     text.push(b"at PREFIX_LEN 0 and ");
@@ -63,7 +63,7 @@ fn show_difference(length: usize, script: &[u8], expected: &[u8], got: &[u8], te
     text.push(line_at(got, number));
 }
 
-// How many lines stand before the first byte that differs.
+/// Returns the number of lines before the first byte that differs.
 fn same_lines(expected: &[u8], got: &[u8]) -> usize {
     let mut number: usize = 0;
     for (one, other) in expected.iter().zip(got.iter()) {
@@ -77,7 +77,7 @@ fn same_lines(expected: &[u8], got: &[u8]) -> usize {
     number
 }
 
-// The line after so many others, or no bytes where there is none.
+/// Returns the line after the first `number` lines, or no bytes if there is none.
 fn line_at(text: &[u8], number: usize) -> &[u8] {
     text.split(|byte| *byte == b'\n').nth(number).unwrap_or(b"")
 }

@@ -1,6 +1,6 @@
-//! Answers the lines of a script of calls of the map and the set, each on a line of standard output.
+//! Answers each line of a script of calls of the map and the set with a line on standard output.
 //!
-//! The script is answered over maps of six lengths of kept prefixes, which must give the same answers.
+//! The script runs over maps of six prefix lengths, which must yield the same answers.
 #![tactic(auto)]
 
 mod entries;
@@ -25,7 +25,7 @@ fn main(rt: HostRuntime) -> ExitCode {
     }
 }
 
-// Reads the script and writes its answers.
+/// Reads the script and writes its answers.
 fn run(rt: &HostRuntime) -> Result<(), Failure> {
     let mut script = Vec::new(rt.alloc());
     if rt.stdin().read_to_end(&mut script).is_err() {
@@ -39,7 +39,7 @@ fn run(rt: &HostRuntime) -> Result<(), Failure> {
     Ok(())
 }
 
-// Writes on standard error why there are no answers.
+/// Writes to standard error why there are no answers.
 fn report(rt: &HostRuntime, failure: &Failure) -> std::io::Result<()> {
     let mut errors = rt.stderr();
     errors.write_all(b"artscript: ")?;

@@ -1,6 +1,6 @@
-//! The lines of a script that are calls of maps, but for those of entries.
+//! The lines of a script that call a map. The calls of entries are in `entries`.
 //!
-//! [`Maps`] are the two maps of a part of a script.
+//! [`Maps`] holds the two maps of a part of a script.
 mod bulk;
 mod calls;
 mod comparisons;

@@ -1,6 +1,7 @@
-//! A script from its lines to its answers.
+//! Runs a script: from its lines to its answers.
 //!
-//! [`answers`] answers a whole script. A [`Session`] has the maps and the sets that calls are of, and answers line after line.
+//! [`answers`] answers a whole script. A [`Session`] holds the maps and sets that the lines call,
+//! and answers one line after the other.
 mod counted;
 mod mounts;
 pub(crate) mod parts;
@@ -11,7 +12,7 @@ use std::alloc::Global;
 use std::cell::Cell;
 use std::iter::Iterator;
 
-/// The answers to the lines of the script, each ended by a line feed.
+/// Returns the answers to the lines of the script. Each ends with a line feed.
 pub(crate) fn answers<const PREFIX_LEN: usize>(
     alloc: Global,
     script: &[u8],
@@ -30,7 +31,7 @@ pub(crate) fn answers<const PREFIX_LEN: usize>(
     }
 }
 
-// Adds what stands for each line of the script.
+/// Appends the reply to each line of the script.
 fn reply_all<'a, const PREFIX_LEN: usize>(
     session: &mut Session<'a, PREFIX_LEN>,
     drops: &'a Cell<u64>,
@@ -47,7 +48,8 @@ fn reply_all<'a, const PREFIX_LEN: usize>(
     }
 }
 
-// Adds what stands for the line: itself, its answer or a question mark.
+/// Appends the reply to the line: the line itself if it is empty or a remark, else its answer or a
+/// question mark.
 fn reply<'a, const PREFIX_LEN: usize>(
     session: &mut Session<'a, PREFIX_LEN>,
     drops: &'a Cell<u64>,

@@ -1,6 +1,6 @@
-//! The lines of a script that are calls of sets.
+//! The lines of a script that call a set.
 //!
-//! [`Sets`] are the two sets of a part of a script.
+//! [`Sets`] holds the two sets of a part of a script.
 mod bulk;
 mod calls;
 mod comparisons;

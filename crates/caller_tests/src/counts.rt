@@ -5,12 +5,13 @@ ghost use Rattle.blart.specs.Words.{pairs, pair_at, value_at, has};
 use blart::{Map, NoPrefixesBytes};
 use std::alloc::AllocError;
 
-/// Adds one to the count of a word, by a look-up and an insertion.
+/// Adds one to the count of a word, with a look-up and an insertion.
 pub fn count<W: NoPrefixesBytes + Drop>(counts: &mut Map<W, u64>, word: W) -> Result<(), AllocError>
     requires { unwrap_or (value_at W.bytes (pairs counts.old) (W.bytes word)) 0 + 1 < 2 ^ 64 }
     ensures counted { OnOk result (value_at W.bytes (pairs counts.new) (W.bytes word)
         ≡ Some (unwrap_or (value_at W.bytes (pairs counts.old) (W.bytes word)) 0 + 1)) }
-    ensures others { (q : List ℕ) → q ≢ W.bytes word → value_at W.bytes (pairs counts.new) q ≡ value_at W.bytes (pairs counts.old) q }
+    ensures others { (q : List ℕ) → q ≢ W.bytes word
+        → value_at W.bytes (pairs counts.new) q ≡ value_at W.bytes (pairs counts.old) q }
     ensures refused { OnErr result (counts.new ≡ counts.old) }
 {
     let more = match counts.get(&word) {
@@ -21,7 +22,7 @@ pub fn count<W: NoPrefixesBytes + Drop>(counts: &mut Map<W, u64>, word: W) -> Re
     Ok(())
 }
 
-/// Adds one to the count of a word, in place.
+/// Adds one to the count of a word in place.
 pub fn count_in_place<W: NoPrefixesBytes + Drop>(
     counts: &mut Map<W, u64>,
     word: W,
@@ -29,7 +30,8 @@ pub fn count_in_place<W: NoPrefixesBytes + Drop>(
     requires { unwrap_or (value_at W.bytes (pairs counts.old) (W.bytes word)) 0 + 1 < 2 ^ 64 }
     ensures counted { OnOk result (value_at W.bytes (pairs counts.new) (W.bytes word)
         ≡ Some (unwrap_or (value_at W.bytes (pairs counts.old) (W.bytes word)) 0 + 1)) }
-    ensures others { (q : List ℕ) → q ≢ W.bytes word → value_at W.bytes (pairs counts.new) q ≡ value_at W.bytes (pairs counts.old) q }
+    ensures others { (q : List ℕ) → q ≢ W.bytes word
+        → value_at W.bytes (pairs counts.new) q ≡ value_at W.bytes (pairs counts.old) q }
     ensures refused { OnErr result (counts.new ≡ counts.old) }
 {
     match counts.get_mut(&word) {
@@ -41,18 +43,20 @@ pub fn count_in_place<W: NoPrefixesBytes + Drop>(
     Ok(())
 }
 
-/// Stores the pair unless its key is stored, and answers whether it did.
+/// Inserts the pair unless its key is stored. Returns whether it did.
 pub fn insert_if_absent<K: NoPrefixesBytes + Drop, V: Drop>(
     store: &mut Map<K, V>,
     key: K,
     value: V,
 ) -> Result<bool, AllocError>
-    ensures added { IfOk result (λ added. added ≡ not (has K.bytes (pairs store.old) (K.bytes key))) }
+    ensures added { IfOk result
+        (λ added. added ≡ not (has K.bytes (pairs store.old) (K.bytes key))) }
     ensures there { OnOk result (has K.bytes (pairs store.new) (K.bytes key) ≡ true) }
     ensures new { has K.bytes (pairs store.old) (K.bytes key) ≡ false
         → OnOk result (pair_at K.bytes (pairs store.new) (K.bytes key) ≡ Some (key, value)) }
     ensures kept { has K.bytes (pairs store.old) (K.bytes key) ≡ true → store.new ≡ store.old }
-    ensures others { (q : List ℕ) → q ≢ K.bytes key → pair_at K.bytes (pairs store.new) q ≡ pair_at K.bytes (pairs store.old) q }
+    ensures others { (q : List ℕ) → q ≢ K.bytes key
+        → pair_at K.bytes (pairs store.new) q ≡ pair_at K.bytes (pairs store.old) q }
     ensures refused { OnErr result (store.new ≡ store.old) }
 {
     if store.contains_key(&key) {

@@ -9,7 +9,7 @@ use blart::map::Entry;
 use blart::{Map, NoPrefixesBytes, ZKey};
 use std::alloc::AllocError;
 
-/// Sets the score of a player who has one, and gives a first one to who has none.
+/// Sets the score of a player to `next`, or to `first` if the player has none.
 pub fn score(
     scores: &mut Map<ZKey, u64>,
     player: ZKey,
@@ -29,14 +29,17 @@ pub fn score(
     Ok(())
 }
 
-/// Takes a member out, or else lets one in, and answers whether it is in now. A refusal leaves the members as they were.
+/// Removes a member if it is stored, else adds it. Returns whether it is stored now. If the call
+/// fails, the members are unchanged.
 pub fn toggle<V: Drop>(
     members: &mut Map<ZKey, V>,
     member: ZKey,
     value: V,
 ) -> Result<bool, AllocError>
-    ensures turned { IfOk result (λ now. now ≡ not (has zkey_bytes (pairs members.old) (zkey_bytes member))) }
-    ensures there { IfOk result (λ now. has zkey_bytes (pairs members.new) (zkey_bytes member) ≡ now) }
+    ensures turned { IfOk result
+        (λ now. now ≡ not (has zkey_bytes (pairs members.old) (zkey_bytes member))) }
+    ensures there { IfOk result
+        (λ now. has zkey_bytes (pairs members.new) (zkey_bytes member) ≡ now) }
     ensures others { (q : List ℕ) → q ≢ zkey_bytes member
         → pair_at zkey_bytes (pairs members.new) q ≡ pair_at zkey_bytes (pairs members.old) q }
     ensures refused { OnErr result (members.new ≡ members.old) }
@@ -53,13 +56,14 @@ pub fn toggle<V: Drop>(
     }
 }
 
-/// Sets the target of a route that is stored or overlaps none, and answers whether it did.
+/// Sets the target of a route that is stored or overlaps none. Returns whether it did.
 pub fn set_route(
     routes: &mut Map<&'static str, u32>,
     front: &'static str,
     target: u32,
 ) -> Result<bool, AllocError>
-    ensures done { IfOk result (λ done. done ≡ not (overlaps slice_bytes (pairs routes.old) front.now)) }
+    ensures done { IfOk result
+        (λ done. done ≡ not (overlaps slice_bytes (pairs routes.old) front.now)) }
     ensures set { IfOk result (λ done. done ≡ true
         → value_at slice_bytes (pairs routes.new) front.now ≡ Some target) }
     ensures others { (q : List ℕ) → q ≢ front.now
@@ -74,7 +78,7 @@ pub fn set_route(
     Ok(true)
 }
 
-/// Stores a value and takes it back.
+/// Inserts a value and takes it back.
 pub fn borrow_place<V: Drop>(store: &mut Map<ZKey, V>, key: ZKey, value: V) -> Result<V, AllocError>
     ensures value { IfOk result (λ back. back ≡ value) }
     ensures gone { OnOk result (pair_at zkey_bytes (pairs store.new) (zkey_bytes key) ≡ None) }
@@ -91,7 +95,8 @@ pub fn borrow_place<V: Drop>(store: &mut Map<ZKey, V>, key: ZKey, value: V) -> R
     }
 }
 
-/// Stores a value at a key that is new, and takes it back: the map is as it was, with as many inner nodes.
+/// Inserts a value if the key is new, and takes it back. The map's pairs and its number of inner
+/// nodes are unchanged.
 pub fn try_place<V: Drop>(store: &mut Map<ZKey, V>, key: ZKey, value: V) -> Result<V, AllocError>
     ensures value { IfOk result (λ back. back ≡ value) }
     ensures same { pairs store.new ≡ pairs store.old }
@@ -121,7 +126,8 @@ pub fn tally<W: NoPrefixesBytes + Drop>(counts: &mut Map<W, u64>, word: W) -> Re
     Ok(())
 }
 
-/// Adds one to the count of a word of any key type, by the call of the map that lends.
+/// Adds one to the count of a word of any key type, with the map's call that returns a mutable
+/// reference.
 pub fn count_at<W: NoPrefixesBytes + Drop>(
     counts: &mut Map<W, u64>,
     word: W,
@@ -137,12 +143,14 @@ pub fn count_at<W: NoPrefixesBytes + Drop>(
     Ok(())
 }
 
-/// Sets the target of the route that begins the path, and gives the old one.
+/// Sets the target of the route that is a prefix of the path, and returns the old target.
 pub fn redirect(routes: &mut Map<&'static str, u32>, path: &'static str, target: u32) -> Option<u32>
     ensures old { result ≡ value_at_front slice_bytes (pairs routes.old) path.now }
     ensures none { result ≡ None → routes.new ≡ routes.old }
-    ensures set { IfSome result (λ old. IfSome (pair_at_front slice_bytes (pairs routes.old) path.now)
-        (λ p. Updates slice_bytes (pairs routes.old) (pairs routes.new) p.0.now (Some (p.0, target)))) }
+    ensures set { IfSome result
+        (λ old. IfSome (pair_at_front slice_bytes (pairs routes.old) path.now)
+        (λ p. Updates slice_bytes (pairs routes.old) (pairs routes.new) p.0.now
+        (Some (p.0, target)))) }
 {
     match routes.prefix_get_key_value_mut(&path) {
         Some(mut entry) => {
@@ -154,7 +162,7 @@ pub fn redirect(routes: &mut Map<&'static str, u32>, path: &'static str, target:
     }
 }
 
-/// Sets the value of the first pair, and answers whether there is one.
+/// Sets the value of the first pair. Returns whether there is one.
 pub fn set_first(scores: &mut Map<ZKey, u64>, next: u64) -> bool
     ensures none { result ≡ false → scores.new ≡ scores.old }
     ensures len { length (pairs scores.new) ≡ length (pairs scores.old) }
@@ -168,7 +176,7 @@ pub fn set_first(scores: &mut Map<ZKey, u64>, next: u64) -> bool
     }
 }
 
-/// Sets the score of a player who has one, and answers whether that is so.
+/// Sets the score of a player who has one. Returns whether the player has one.
 pub fn update_score(scores: &mut Map<ZKey, u64>, player: ZKey, next: u64) -> bool
     ensures is_player { result ≡ has zkey_bytes (pairs scores.old) (zkey_bytes player) }
     ensures set { result ≡ true

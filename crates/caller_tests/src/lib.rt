@@ -1,7 +1,8 @@
-//! Functions over maps, sets and routers as users write them, each with a contract that says its
+//! Functions over maps, sets and routers as users write them. The contract of each tells its
 //! effect.
 //!
-//! They are proved from the contracts of `blart`, `blart_set` and `prefix_router` alone. One test calls some, so that all of them stand in a crate of tests, which is proved once.
+//! They are proved from the contracts of `blart`, `blart_set` and `prefix_router` alone. One test
+//! calls some of them. So all are in a crate of tests, which is proved once.
 #![tactic(auto)]
 
 #[cfg(test)]

@@ -1,4 +1,4 @@
-//! Maps that are taken apart.
+//! Walks that consume a map.
 ghost use Rattle.std.specs.Prelude.{◌≡◌, map, IfOk};
 ghost use Rattle.blart.specs.Words.{pairs};
 
@@ -6,7 +6,7 @@ use blart::{AsBytes, Map};
 use std::alloc::{AllocError, Global};
 use std::iter::{IntoIterator, Iterator};
 
-/// The pairs of a map in a vector, in the order of their keys' bytes.
+/// Returns the pairs of a map as a vector, in the order of their keys' bytes.
 pub fn into_vec<K: AsBytes + Drop, V: Drop>(
     alloc: Global,
     map: Map<K, V>,
@@ -20,7 +20,7 @@ pub fn into_vec<K: AsBytes + Drop, V: Drop>(
     Ok(pairs)
 }
 
-/// The values of a map in a vector, in the order of their keys' bytes.
+/// Returns the values of a map as a vector, in the order of their keys' bytes.
 pub fn into_values_vec<K: AsBytes + Drop>(
     alloc: Global,
     scores: Map<K, u64>,

@@ -1,4 +1,4 @@
-//! Maps that are parted, joined, made and compared.
+//! Maps that are split, joined, moved and compared.
 ghost use Rattle.std.specs.Prelude.{◌≡◌, ℕ, List, true, OnOk, OnErr, IfOk, None, if◌then◌else◌};
 ghost use Rattle.std.specs.Hash.DefaultHasher as sip;
 ghost use Rattle.std.specs.List.{fold};
@@ -8,7 +8,7 @@ use blart::{AsBytes, Map, NoPrefixesBytes, U32Key};
 use std::alloc::AllocError;
 use std::hash::{DefaultHasher, Hash, Hasher};
 
-/// Parts a map in two and joins it again. A refusal at the first step leaves the map as it was.
+/// Splits a map in two and joins it again. If the split fails, the map is unchanged.
 pub fn part_and_join<V: Drop>(map: &mut Map<U32Key, V>, key: U32Key) -> Result<(), AllocError>
     ensures { OnOk result (pairs map.new ≡ pairs map.old) }
 {
@@ -22,7 +22,8 @@ pub fn part_and_join<V: Drop>(map: &mut Map<U32Key, V>, key: U32Key) -> Result<(
     Ok(())
 }
 
-/// Gives all pairs of one map to another, whose own pairs give way. A refusal leaves both maps as they were.
+/// Moves all pairs of one map to another. They replace its pairs with the same bytes. If the call
+/// fails, both maps are unchanged.
 pub fn give_all<K: NoPrefixesBytes + Drop, V: Drop>(
     from: &mut Map<K, V>,
     to: &mut Map<K, V>,
@@ -34,7 +35,7 @@ pub fn give_all<K: NoPrefixesBytes + Drop, V: Drop>(
     to.append(from)
 }
 
-/// Keeps the pairs below a time, and gives those from then on.
+/// Keeps the pairs below a time, and returns those from that time on.
 pub fn later<V: Drop>(
     times: &mut Map<U32Key, V>,
     from: U32Key,
@@ -48,7 +49,7 @@ pub fn later<V: Drop>(
     times.split_off(&from)
 }
 
-// What a hasher makes of a value.
+/// Returns the hash of a value.
 fn digest_of<T: Hash>(value: &T) -> u64
     ensures { result ≡ sip.finish (fold sip.write sip.initial (T.hash_input value.now)) }
 {
@@ -57,14 +58,15 @@ fn digest_of<T: Hash>(value: &T) -> u64
     state.finish()
 }
 
-// Whether two values differ or have one digest.
+/// Returns whether two values differ or have the same hash.
 fn agree<T: Eq + Hash>(left: &T, right: &T) -> bool
     ensures { result ≡ true }
 {
     *left != *right || digest_of(left) == digest_of(right)
 }
 
-/// Whether two maps differ or have one digest, which is so: equal maps feed equal words.
+/// Returns whether two maps differ or have the same hash. It is always true: equal maps feed the
+/// hasher equal words.
 pub fn have_one_digest<K: AsBytes + Hash, V: Hash>(left: &Map<K, V>, right: &Map<K, V>) -> bool
     ensures { result ≡ true }
 {

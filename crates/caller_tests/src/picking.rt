@@ -9,14 +9,14 @@ use std::iter;
 use std::iter::Iterator;
 use std::ops::Bound;
 
-/// Keeps the pairs whose value is a bound or above it.
+/// Keeps the pairs whose value is at least the bound.
 pub fn drop_below<K: AsBytes + Drop>(scores: &mut Map<K, u64>, bound: u64)
     ensures { pairs scores.new ≡ filter (λ p. leb bound p.1) (pairs scores.old) }
 {
     scores.retain(|_, score| *score >= bound);
 }
 
-/// Keeps the first so many pairs, by a closure that counts.
+/// Keeps the first `count` pairs, with a closure that counts.
 pub fn keep_first<K: AsBytes + Drop, V: Drop>(map: &mut Map<K, V>, count: usize)
     ensures { pairs map.new ≡ take count (pairs map.old) }
 {
@@ -28,7 +28,8 @@ pub fn keep_first<K: AsBytes + Drop, V: Drop>(map: &mut Map<K, V>, count: usize)
     });
 }
 
-/// Adds one to each value, where none is the greatest of its type: a closure that may not be called on any pair, but on each of these.
+/// Adds one to each value. No value may be the greatest of its type. The closure may not be called
+/// on every pair, but on each of these.
 pub fn raise_all<K: AsBytes + Drop>(counts: &mut Map<K, u32>)
     requires { All (λ p. p.1 + 1 < 2 ^ 32) (pairs counts.old) }
     ensures { pairs counts.new ≡ map (λ p. (p.0, p.1 + 1)) (pairs counts.old) }
@@ -39,7 +40,8 @@ pub fn raise_all<K: AsBytes + Drop>(counts: &mut Map<K, u32>)
     });
 }
 
-/// Takes out the pairs whose value is below a bound, and gives them, ascending, as a vector.
+/// Removes the pairs whose value is below a bound, and returns them as a vector, in ascending
+/// order.
 pub fn drain_below<K: AsBytes + Drop>(
     alloc: Global,
     scores: &mut Map<K, u64>,
@@ -64,7 +66,7 @@ pub fn drain_below<K: AsBytes + Drop>(
     Ok(low)
 }
 
-/// Takes out the first pair whose value is below a bound, if there is one, and no other.
+/// Removes the first pair whose value is below a bound, if there is one, and no other. Returns it.
 pub fn take_below<K: AsBytes + Drop>(scores: &mut Map<K, u64>, bound: u64) -> Option<(K, u64)>
     ensures first { result ≡ slice_get (filter (λ p. ltb p.1 bound) (pairs scores.old)) 0 }
     ensures left { MatchOption result (scores.new ≡ scores.old)
@@ -80,7 +82,8 @@ pub fn take_below<K: AsBytes + Drop>(scores: &mut Map<K, u64>, bound: u64) -> Op
     walk.next()
 }
 
-/// Moves the pairs whose value is a bound or above it to another map, where a key of the same bytes stays, with the new value.
+/// Moves the pairs whose value is at least the bound to another map. If that has a key of the same
+/// bytes, it keeps its own key and gets the new value.
 pub fn move_above<K: NoPrefixesBytes + Drop>(
     from: &mut Map<K, u64>,
     to: &mut Map<K, u64>,

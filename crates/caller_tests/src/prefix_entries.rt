@@ -7,7 +7,7 @@ use blart::map::PrefixKind;
 use blart::{AsBytes, Map, ZKey};
 use std::alloc::AllocError;
 
-/// Puts one route in the place of those that it overlaps, and answers whether there were any.
+/// Replaces the routes that a route overlaps by that route. Returns whether there were any.
 pub fn merge_routes(routes: &mut Map<&'static str, u32>, front: &'static str, target: u32) -> bool
     ensures merged { result ≡ overlaps slice_bytes (pairs routes.old) front.now }
     ensures set { result ≡ true → value_at slice_bytes (pairs routes.new) front.now ≡ Some target }
@@ -26,7 +26,7 @@ pub fn merge_routes(routes: &mut Map<&'static str, u32>, front: &'static str, ta
     }
 }
 
-/// Sets the target of a route, in the place of those that it overlaps.
+/// Sets the target of a route, in the place of the routes that it overlaps.
 pub fn set_over(
     routes: &mut Map<&'static str, u32>,
     front: &'static str,
@@ -51,7 +51,8 @@ pub fn set_over(
     Ok(())
 }
 
-/// Adds one to the count of a word, which takes in the words that it overlaps, and starts at zero where it has none itself.
+/// Adds one to the count of a word. The word replaces those that it overlaps. Its count starts at 0
+/// if it is not stored.
 pub fn count_over(counts: &mut Map<ZKey, u64>, word: ZKey) -> Result<(), AllocError>
     requires { unwrap_or (value_at zkey_bytes (pairs counts.old) (zkey_bytes word)) 0 + 1 < 2 ^ 64 }
     ensures counted { OnOk result (value_at zkey_bytes (pairs counts.new) (zkey_bytes word)
@@ -62,13 +63,15 @@ pub fn count_over(counts: &mut Map<ZKey, u64>, word: ZKey) -> Result<(), AllocEr
     Ok(())
 }
 
-/// Sets the target of a section, in the place of those that it overlaps, by one call of its entry's kind.
+/// Sets the target of a section, in the place of the sections that it overlaps, with one call of
+/// its entry's kind.
 pub fn set_section(
     sections: &mut Map<ZKey, u64>,
     section: ZKey,
     target: u64,
 ) -> Result<(), AllocError>
-    ensures set { OnOk result (value_at zkey_bytes (pairs sections.new) (zkey_bytes section) ≡ Some target) }
+    ensures set { OnOk result
+        (value_at zkey_bytes (pairs sections.new) (zkey_bytes section) ≡ Some target) }
     ensures others { (q : List ℕ) → q ≢ zkey_bytes section → related q (zkey_bytes section) ≡ false
         → pair_at zkey_bytes (pairs sections.new) q ≡ pair_at zkey_bytes (pairs sections.old) q }
     ensures refused { OnErr result (sections.new ≡ sections.old) }
@@ -77,14 +80,15 @@ pub fn set_section(
     Ok(())
 }
 
-/// Returns the target of a section. If it has none, the section first gets this target, in the place of
-/// those that it overlaps.
+/// Returns the target of a section. If it has none, it first gets this one, in the place of the
+/// sections that it overlaps.
 pub fn target_or(
     sections: &mut Map<ZKey, u64>,
     section: ZKey,
     target: u64,
 ) -> Result<u64, AllocError>
-    ensures found { IfOk result (λ v. value_at zkey_bytes (pairs sections.new) (zkey_bytes section) ≡ Some v) }
+    ensures found { IfOk result
+        (λ v. value_at zkey_bytes (pairs sections.new) (zkey_bytes section) ≡ Some v) }
     ensures refused { OnErr result (sections.new ≡ sections.old) }
 {
     let entry = sections
@@ -94,7 +98,7 @@ pub fn target_or(
     Ok(*entry.into_mut())
 }
 
-/// Puts a pair of any key type in the place of those that it overlaps.
+/// Inserts a pair of any key type, in the place of those that it overlaps.
 pub fn put_over<K: AsBytes + Drop, V: Drop>(
     map: &mut Map<K, V>,
     key: K,
@@ -108,7 +112,7 @@ pub fn put_over<K: AsBytes + Drop, V: Drop>(
     Ok(())
 }
 
-/// The same of words, whose entries fit.
+/// Does the same for words, whose entries fit.
 pub fn put_word_over(map: &mut Map<ZKey, u64>, word: ZKey, value: u64) -> Result<(), AllocError>
     ensures set { OnOk result (value_at zkey_bytes (pairs map.new) (zkey_bytes word) ≡ Some value) }
     ensures refused { OnErr result (map.new ≡ map.old) }

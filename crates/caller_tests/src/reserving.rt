@@ -1,17 +1,18 @@
-//! Maps and sets into which all goes or nothing does, since the room is made beforehand.
+//! Insertions of all items or none: the room is reserved first.
 ghost use Rattle.std.specs.Prelude.{◌≡◌, ◌≢◌, ◌∷◌, [], true, ℕ, List, OnOk, OnErr, Some};
 ghost use Rattle.blart.specs.Words.{pairs, bytes, pair_at, value_at, elements, stores, kept_pair, kept_item, PutsAll};
 
 use blart::{Map, NoPrefixesBytes, Set};
 use std::alloc::AllocError;
 
-/// Gives both keys their values. A refusal gives neither.
+/// Sets the values of both keys. If the call fails, neither is set.
 pub fn set_limits<K: NoPrefixesBytes + Drop>(
     limits: &mut Map<K, u64>,
     low: (K, u64),
     high: (K, u64),
 ) -> Result<(), AllocError>
-    ensures high { OnOk result (value_at K.bytes (pairs limits.new) (K.bytes high.0) ≡ Some high.1) }
+    ensures high { OnOk result
+        (value_at K.bytes (pairs limits.new) (K.bytes high.0) ≡ Some high.1) }
     ensures others { OnOk result ((q : List ℕ) → q ≢ K.bytes low.0 → q ≢ K.bytes high.0
         → pair_at K.bytes (pairs limits.new) q ≡ pair_at K.bytes (pairs limits.old) q) }
     ensures refused { OnErr result (limits.new ≡ limits.old) }
@@ -22,7 +23,7 @@ pub fn set_limits<K: NoPrefixesBytes + Drop>(
     Ok(())
 }
 
-/// Puts all the pairs in turn. A refusal puts none.
+/// Inserts all pairs in turn. If the call fails, none is inserted.
 pub fn put_all<K: NoPrefixesBytes + Drop>(
     scores: &mut Map<K, u64>,
     batch: Vec<(K, u64)>,
@@ -38,7 +39,7 @@ pub fn put_all<K: NoPrefixesBytes + Drop>(
     Ok(())
 }
 
-/// Adds both elements. A refusal adds neither.
+/// Adds both elements. If the call fails, neither is added.
 pub fn add_both<K: NoPrefixesBytes + Drop>(set: &mut Set<K>, a: K, b: K) -> Result<(), AllocError>
     ensures put { OnOk result (PutsAll K.bytes kept_item (elements set.old) (a ∷ b ∷ [])
         (elements set.new)) }
@@ -50,7 +51,7 @@ pub fn add_both<K: NoPrefixesBytes + Drop>(set: &mut Set<K>, a: K, b: K) -> Resu
     Ok(())
 }
 
-/// Adds an element, for which the room is made first.
+/// Adds an element, after reserving the room for it.
 pub fn add_one<K: NoPrefixesBytes + Drop>(set: &mut Set<K>, element: K) -> Result<(), AllocError>
     ensures added { OnOk result (stores K.bytes (elements set.new) (K.bytes element) ≡ true) }
     ensures others { OnOk result ((q : List ℕ) → q ≢ K.bytes element

@@ -1,4 +1,4 @@
-//! A site of five routes, and what a table answers where mounts overlap.
+//! A site of five routes, and what a table resolves if mounts overlap.
 ghost use Rattle.std.specs.Prelude.{◌≡◌, ◌≢◌, ◌&&◌, ℕ, List, Vec, [], ◌∷◌, true, false, IfOk, OnOk, option_map, None, Some, if◌then◌else◌};
 ghost use Rattle.std.specs.Global.{Global};
 ghost use Rattle.blart.specs.Words.{pairs, begins, related, has, overlaps, pair_at_front, value_at_front, vec_bytes};
@@ -7,22 +7,22 @@ use blart::TryInsertError;
 use prefix_router::Mounts;
 use std::alloc::{AllocError, Global};
 
-/// What answers a path.
+/// What handles a path.
 #[derive(Clone, Copy, Drop)]
 pub enum Handler {
     /// The users.
     Users,
-    /// What is for sale.
+    /// The items for sale.
     Items,
     /// Pictures.
     Images,
     /// Style sheets.
     Styles,
-    /// Whether all is well.
+    /// The state of the site.
     Health,
 }
 
-// Mounts a handler. A refusal leaves the site as it was.
+/// Mounts a handler. If the call fails, the site is unchanged.
 fn mount(
     site: &mut Mounts<Handler>,
     alloc: Global,
@@ -30,14 +30,15 @@ fn mount(
     handler: Handler,
 ) -> Result<(), TryInsertError>
     ensures { IfOk result (λ _. (r : List ℕ) → value_at_front vec_bytes (pairs site.new) r
-        ≡ (if begins path.now r then Some handler else value_at_front vec_bytes (pairs site.old) r)) }
+        ≡ (if begins path.now r then Some handler
+        else value_at_front vec_bytes (pairs site.old) r)) }
 {
     let path = Vec::from_slice(alloc, path).map_err(TryInsertError::Memory)?;
     site.mount(path, handler)?;
     Ok(())
 }
 
-// Mounts a handler for each first letter. A refusal leaves those that were mounted before it.
+/// Mounts a handler for each first letter. If a mount fails, those before it remain.
 fn mount_all(site: &mut Mounts<Handler>, alloc: Global) -> Result<(), TryInsertError>
     ensures { IfOk result (λ _. (r : List ℕ) → value_at_front vec_bytes (pairs site.new) r
         ≡ (if begins (47 ∷ 117 ∷ []) r then Some Handler.Users
@@ -54,7 +55,7 @@ fn mount_all(site: &mut Mounts<Handler>, alloc: Global) -> Result<(), TryInsertE
     mount(site, alloc, b"/u", Handler::Users)
 }
 
-/// The site: each path goes to the handler of its first letter, if there is one.
+/// Returns the site. Each path resolves to the handler of its first letter, if there is one.
 pub fn site(alloc: Global) -> Result<Mounts<Handler>, TryInsertError>
     ensures { IfOk result (λ site. (r : List ℕ) → value_at_front vec_bytes (pairs site) r
         ≡ (if begins (47 ∷ 117 ∷ []) r then Some Handler.Users
@@ -69,7 +70,7 @@ pub fn site(alloc: Global) -> Result<Mounts<Handler>, TryInsertError>
     Ok(site)
 }
 
-/// Who answers `/users/7`: the users.
+/// Returns the handler of `/users/7`: the users.
 pub fn asked(alloc: Global) -> Result<Option<Handler>, TryInsertError>
     ensures { IfOk result (λ handler. handler ≡ Some Handler.Users) }
 {
@@ -82,7 +83,7 @@ pub fn asked(alloc: Global) -> Result<Option<Handler>, TryInsertError>
     Ok(handler)
 }
 
-/// Returns who answers a path, and the rest of the path behind the mount.
+/// Returns the handler of a path, and the rest of the path after the mount.
 #[tactic(auto, using(blart::proofs::CallerLemmas::begins_length))]
 pub fn routed<'a>(site: &Mounts<Handler>, path: &'a [u8]) -> Option<(Handler, &'a [u8])>
     ensures { option_map (λ found. found.0) result
@@ -94,7 +95,8 @@ pub fn routed<'a>(site: &Mounts<Handler>, path: &'a [u8]) -> Option<(Handler, &'
     }
 }
 
-/// Takes a handler down: what went to it goes nowhere, and all else where it went.
+/// Unmounts a handler. The paths that resolved to it resolve to nothing. All others resolve as
+/// before.
 pub fn take_down(site: &mut Mounts<Handler>, path: &[u8])
     ensures { (r : List ℕ) → value_at_front vec_bytes (pairs site.new) r
         ≡ (if begins path.now r && has vec_bytes (pairs site.old) path.now then None
@@ -103,15 +105,21 @@ pub fn take_down(site: &mut Mounts<Handler>, path: &[u8])
     site.unmount(path);
 }
 
-/// Mounts a target in the place of all that its path begins or that begin it. What is below goes to it, and all else where it went; but what went to a mount that begins the path goes nowhere.
+/// Mounts a target in the place of all mounts whose paths are related to this one. The paths that
+/// start with it resolve to the target. Those that resolved to a mount whose path is a prefix of
+/// this one resolve to nothing. All others resolve as before.
 pub fn redirect<V: Drop>(site: &mut Mounts<V>, path: Vec<u8>, target: V) -> Result<(), AllocError>
     ensures below { OnOk result ((r : List ℕ) → begins path.items r ≡ true
         → value_at_front vec_bytes (pairs site.new) r ≡ Some target) }
-    ensures stands { OnOk result ((r : List ℕ) (mount : Vec ℕ Global × V) → begins path.items r ≡ false
-        → pair_at_front vec_bytes (pairs site.old) r ≡ Some mount → begins mount.0.items path.items ≡ false
+    ensures stands { OnOk result ((r : List ℕ) (mount : Vec ℕ Global × V)
+        → begins path.items r ≡ false
+        → pair_at_front vec_bytes (pairs site.old) r ≡ Some mount
+        → begins mount.0.items path.items ≡ false
         → pair_at_front vec_bytes (pairs site.new) r ≡ Some mount) }
-    ensures gone { OnOk result ((r : List ℕ) (mount : Vec ℕ Global × V) → begins path.items r ≡ false
-        → pair_at_front vec_bytes (pairs site.old) r ≡ Some mount → begins mount.0.items path.items ≡ true
+    ensures gone { OnOk result ((r : List ℕ) (mount : Vec ℕ Global × V)
+        → begins path.items r ≡ false
+        → pair_at_front vec_bytes (pairs site.old) r ≡ Some mount
+        → begins mount.0.items path.items ≡ true
         → pair_at_front vec_bytes (pairs site.new) r ≡ None) }
     ensures nowhere { OnOk result ((r : List ℕ) → begins path.items r ≡ false
         → pair_at_front vec_bytes (pairs site.old) r ≡ None
@@ -120,7 +128,8 @@ pub fn redirect<V: Drop>(site: &mut Mounts<V>, path: Vec<u8>, target: V) -> Resu
     site.mount_over(path, target)
 }
 
-/// Mounts a target. Then no other can be mounted below it, and what is not related is as free as it was.
+/// Mounts a target. Then no other can be mounted below it. A path that is not related is as free as
+/// before.
 pub fn claim<V: Drop>(site: &mut Mounts<V>, path: Vec<u8>, target: V) -> Result<(), TryInsertError>
     ensures below { OnOk result ((r : List ℕ) → begins path.items r ≡ true → r ≢ path.items
         → overlaps vec_bytes (pairs site.new) r ≡ true) }
@@ -131,7 +140,7 @@ pub fn claim<V: Drop>(site: &mut Mounts<V>, path: Vec<u8>, target: V) -> Result<
     Ok(())
 }
 
-/// Whether a mount below one that was just mounted is refused: it is.
+/// Returns whether a mount below a new mount is refused. It is always true.
 pub fn is_refused_below<V: Drop>(
     site: &mut Mounts<V>,
     path: Vec<u8>,

@@ -7,7 +7,7 @@ use std::alloc::{AllocError, Global};
 use std::clone::Clone;
 use std::iter::Iterator;
 
-/// A set of the elements of both.
+/// Returns a set of the elements of both.
 pub fn join<K: OrderedBytes + NoPrefixesBytes + Clone, const P: usize>(
     a: &TreeSet<K, P>,
     b: &TreeSet<K, P>,
@@ -20,7 +20,7 @@ pub fn join<K: OrderedBytes + NoPrefixesBytes + Clone, const P: usize>(
     a | b
 }
 
-/// The elements of a set, ascending, as a vector.
+/// Returns the elements of a set as a vector, in ascending order.
 pub fn all_of<K: AsBytes + Copy, const P: usize>(
     alloc: Global,
     set: &TreeSet<K, P>,
@@ -41,14 +41,14 @@ pub fn keep_below<const P: usize>(set: &mut TreeSet<u8, P>, bound: u8)
     set.retain(|n| *n < bound);
 }
 
-/// How many elements of the one set the other has too.
+/// Returns the number of elements that both sets have.
 pub fn count_shared<K: OrderedBytes, const P: usize>(a: &TreeSet<K, P>, b: &TreeSet<K, P>) -> usize
     ensures { result ≡ length (intersection K.bytes (elements a.now) (elements b.now)) }
 {
     a.intersection(b).count()
 }
 
-/// The elements of the one set that the other has too, ascending, as a vector.
+/// Returns the elements that both sets have as a vector, in ascending order.
 pub fn shared_of<K: OrderedBytes + Copy, const P: usize>(
     alloc: Global,
     a: &TreeSet<K, P>,
@@ -64,7 +64,7 @@ pub fn shared_of<K: OrderedBytes + Copy, const P: usize>(
     Ok(both)
 }
 
-/// The elements of the one set that the other lacks, ascending, as a vector.
+/// Returns the elements of the second set that the first lacks as a vector, in ascending order.
 pub fn new_to<K: OrderedBytes + Copy, const P: usize>(
     alloc: Global,
     seen: &TreeSet<K, P>,
@@ -76,7 +76,7 @@ pub fn new_to<K: OrderedBytes + Copy, const P: usize>(
     found.difference(seen).copied().collect(alloc)
 }
 
-/// Whether each element that is asked for is granted.
+/// Returns whether all elements asked for are granted.
 #[tactic(auto, using(blart::proofs::CallerLemmas::lacks_none))]
 pub fn grants_all<K: OrderedBytes, const P: usize>(
     granted: &TreeSet<K, P>,
@@ -88,7 +88,7 @@ pub fn grants_all<K: OrderedBytes, const P: usize>(
     asked.is_subset(granted)
 }
 
-/// Whether an element is there once it was put.
+/// Returns whether an element is stored after its insertion.
 pub fn is_there<K: NoPrefixesBytes + Copy, const P: usize>(
     set: &mut TreeSet<K, P>,
     element: K,
@@ -99,7 +99,7 @@ pub fn is_there<K: NoPrefixesBytes + Copy, const P: usize>(
     Ok(set.contains(&element))
 }
 
-/// Whether an element is there once it stands in the place of all that are related to it.
+/// Returns whether an element is stored after it replaced all that are related to it.
 pub fn takes_place<K: AsBytes + Copy, const P: usize>(
     set: &mut TreeSet<K, P>,
     element: K,
@@ -110,7 +110,7 @@ pub fn takes_place<K: AsBytes + Copy, const P: usize>(
     Ok(set.contains(&element))
 }
 
-/// Whether some bytes are in a set once another's elements were moved there.
+/// Returns whether the bytes are in a set after it took another's elements.
 pub fn has_moved<K: NoPrefixesBytes + Drop, const P: usize>(
     set: &mut TreeSet<K, P>,
     other: &mut TreeSet<K, P>,
@@ -123,7 +123,7 @@ pub fn has_moved<K: NoPrefixesBytes + Drop, const P: usize>(
     Ok(set.contains(&bytes))
 }
 
-/// Whether some bytes are left in a set once all that are not less than a bound were taken.
+/// Returns whether the bytes are in a set after all elements from a bound on were split off.
 pub fn is_left<K: AsBytes + Drop, const P: usize>(
     set: &mut TreeSet<K, P>,
     bound: &[u8],

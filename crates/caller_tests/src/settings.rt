@@ -1,10 +1,10 @@
-//! Settings in sections: the names of a section begin with its bytes.
+//! Settings in sections. The bytes of a section are a prefix of the names of its settings.
 ghost use Rattle.std.specs.Prelude.{◌≡◌, ◌+◌, ℕ, List, true, false, length, None};
 ghost use Rattle.blart.specs.Words.{pairs, value_at, begins, under, bytes, elements, stores, slice_bytes};
 
 use blart::{AsBytes, Map, TreeSet};
 
-/// Drops a section, and answers how many settings it had.
+/// Removes a section, and returns the number of its settings.
 pub fn drop_section<K: AsBytes + Drop, V: Drop>(settings: &mut Map<K, V>, section: &[u8]) -> usize
     ensures gone { (name : List ℕ) → begins section.now name ≡ true
         → value_at K.bytes (pairs settings.new) name ≡ None }
@@ -16,7 +16,8 @@ pub fn drop_section<K: AsBytes + Drop, V: Drop>(settings: &mut Map<K, V>, sectio
     settings.remove_prefix(section)
 }
 
-/// Drops two sections, neither of which has the setting of a name, and answers that setting, which stands.
+/// Removes two sections that do not have the named setting, and returns the setting, which is
+/// unchanged.
 pub fn setting_beside(
     settings: &mut Map<&'static [u8], u64>,
     first: &[u8],
@@ -32,7 +33,8 @@ pub fn setting_beside(
     settings.get(&name).copied()
 }
 
-/// Takes back all grants of a section, and answers whether a name is still granted: not one of the section.
+/// Removes all grants of a section, and returns whether a name is still granted. No name of the
+/// section is.
 pub fn is_granted_beside<const P: usize>(
     grants: &mut TreeSet<&'static [u8], P>,
     section: &[u8],

@@ -6,10 +6,12 @@ ghost use Rattle.blart.specs.Words.{pairs, bytes, between, under, in_order, stri
 use blart::{AsBytes, Map, U32Key};
 use std::ops::Bound;
 
-/// The sum of the values below a prefix.
+/// Returns the sum of the values whose keys start with a prefix.
 pub fn sum_below(sales: &Map<String, u64>, front: &str) -> u64
-    requires { sum (map (λ p. p.1) (under (bytes (λ k. string_bytes k)) (pairs sales.now) front.now)) < 2 ^ 64 }
-    ensures { result ≡ sum (map (λ p. p.1) (under (bytes (λ k. string_bytes k)) (pairs sales.now) front.now)) }
+    requires { sum (map (λ p. p.1)
+        (under (bytes (λ k. string_bytes k)) (pairs sales.now) front.now)) < 2 ^ 64 }
+    ensures { result
+        ≡ sum (map (λ p. p.1) (under (bytes (λ k. string_bytes k)) (pairs sales.now) front.now)) }
 {
     let mut total = 0;
     for sale in sales.prefix(front.as_bytes()) {
@@ -18,29 +20,35 @@ pub fn sum_below(sales: &Map<String, u64>, front: &str) -> u64
     total
 }
 
-/// The same by a chain.
+/// Does the same with a chain of iterators.
 pub fn sum_below_chain(sales: &Map<String, u64>, front: &str) -> u64
-    requires { sum (map (λ p. p.1) (under (bytes (λ k. string_bytes k)) (pairs sales.now) front.now)) < 2 ^ 64 }
-    ensures { result ≡ sum (map (λ p. p.1) (under (bytes (λ k. string_bytes k)) (pairs sales.now) front.now)) }
+    requires { sum (map (λ p. p.1)
+        (under (bytes (λ k. string_bytes k)) (pairs sales.now) front.now)) < 2 ^ 64 }
+    ensures { result
+        ≡ sum (map (λ p. p.1) (under (bytes (λ k. string_bytes k)) (pairs sales.now) front.now)) }
 {
     sales.prefix(front.as_bytes()).map(|pair| *pair.1).sum()
 }
 
-/// How many keys are from the low one on and below the high one.
+/// Returns the number of keys from `low` on and below `high`.
 pub fn count_between(times: &Map<U32Key, u64>, low: U32Key, high: U32Key) -> usize
     requires { in_order (Included (u32_bytes low)) (Excluded (u32_bytes high)) ≡ true }
     ensures { result
-        ≡ length (between (bytes u32_bytes) (pairs times.now) (Included (u32_bytes low)) (Excluded (u32_bytes high))) }
+        ≡ length (between (bytes u32_bytes) (pairs times.now) (Included (u32_bytes low))
+        (Excluded (u32_bytes high))) }
 {
     times
         .range(Bound::Included(&low), Bound::Excluded(&high))
         .count()
 }
 
-/// How long all wait together, where each waits its own time and the times of those with greater keys: a walk within a walk over the same map.
+/// Returns the sum of all waits. Each wait is the sum of a pair's own time and the times of the
+/// pairs with greater keys. It is a walk within a walk over the same map.
 pub fn sum_of_waits<K: AsBytes>(times: &Map<K, u64>) -> u64
-    requires { sum (map (λ p. sum (map (λ q. q.1) (between (bytes K.bytes) (pairs times.now) (Included (K.bytes p.0)) Unbounded))) (pairs times.now)) < 2 ^ 64 }
-    ensures { result ≡ sum (map (λ p. sum (map (λ q. q.1) (between (bytes K.bytes) (pairs times.now) (Included (K.bytes p.0)) Unbounded))) (pairs times.now)) }
+    requires { sum (map (λ p. sum (map (λ q. q.1) (between (bytes K.bytes) (pairs times.now)
+        (Included (K.bytes p.0)) Unbounded))) (pairs times.now)) < 2 ^ 64 }
+    ensures { result ≡ sum (map (λ p. sum (map (λ q. q.1) (between (bytes K.bytes) (pairs times.now)
+        (Included (K.bytes p.0)) Unbounded))) (pairs times.now)) }
 {
     let mut total = 0;
     for pair in times.iter() {

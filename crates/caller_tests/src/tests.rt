@@ -1,4 +1,4 @@
-//! A caller that is run.
+//! A test that runs a caller.
 use crate::router::{Handler, asked};
 
 #[test]

@@ -1,4 +1,4 @@
-//! What look-ups and walks cost, in visits.
+//! The costs of look-ups and walks, in visits.
 ghost use Rattle.std.specs.Prelude.{◌+◌, ◌≤◌, length, IfSome};
 ghost use Rattle.blart.specs.Words.{pairs, bytes, between, bound_bytes, CanRange, longest, longer, opening};
 
@@ -42,8 +42,8 @@ pub fn first_two<K: AsBytes, V: Copy, Q: AsBytes>(
     Some((*store.leaf(first).1, *store.leaf(second).1))
 }
 
-/// Sets the first value whose key begins with some bytes to 0. It makes at most as many visits as
-/// it takes to open the walk.
+/// Sets the first value whose key starts with the bytes to 0. It makes at most as many visits as it
+/// takes to open the walk.
 pub fn clear_first<K: AsBytes>(store: &mut Map<K, u64>, front: &[u8], visits: &mut Visits)
     ensures { visits.new.count ≤ visits.old.count
         + opening (length front.now) (longest (bytes K.bytes) (pairs store.old)) }
@@ -53,8 +53,8 @@ pub fn clear_first<K: AsBytes>(store: &mut Map<K, u64>, front: &[u8], visits: &m
     }
 }
 
-/// Returns the sum of the values within two bounds, which wraps. It makes at most as many visits as
-/// it takes to open a walk, and one for each pair within the bounds.
+/// Returns the sum of the values within two bounds, modulo the range of `u64`. It makes at most as
+/// many visits as it takes to open a walk, and one for each pair within the bounds.
 pub fn sum_within<K: AsBytes, Q: AsBytes>(
     store: &Map<K, u64>,
     low: Bound<&Q>,

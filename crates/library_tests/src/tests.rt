@@ -1,4 +1,4 @@
-//! Tests by what they show.
+//! Tests, by what they show.
 
 mod code;
 mod examples;
@@ -10,7 +10,7 @@ use blart_map::TreeMap;
 use std::fmt::Display;
 use std::process::Abort;
 
-// Puts in a pair whose bytes are new.
+/// Inserts a pair whose bytes are not stored yet.
 fn put<K: AsBytes + Drop, V: Drop, const P: usize>(
     rt: &impl Abort,
     map: &mut TreeMap<K, V, P>,
@@ -20,7 +20,7 @@ fn put<K: AsBytes + Drop, V: Drop, const P: usize>(
     assert!(rt; matches!(map.try_insert(key, value), Ok(None)));
 }
 
-// A map of these pairs.
+/// Returns a map of the pairs.
 fn map_of<K: AsBytes + Copy, V: Copy, const P: usize>(
     rt: &(impl Abort + AllocGlobal),
     pairs: &[(K, V)],
@@ -32,7 +32,7 @@ fn map_of<K: AsBytes + Copy, V: Copy, const P: usize>(
     map
 }
 
-// What `{}` writes of the value is this.
+/// Checks that `{}` writes the text for the value.
 fn assert_display<T: Display>(rt: &(impl Abort + AllocGlobal), value: &T, want: &str) {
     let text = format!(in rt.alloc(); "{value}").expect(rt, "memory");
     let is_wanted = text.as_str() == want;

@@ -1,4 +1,4 @@
-//! What the entry that `entry` makes answers.
+//! Calls of the entry that `entry` returns.
 ghost use denote.Builtin.{u64};
 ghost use Rattle.blart_map.specs.EntryFits.{EntryFits};
 
@@ -12,7 +12,7 @@ use script_words::{
 use std::alloc::AllocError;
 use std::mem;
 
-/// Makes the call of the entry of a key that never conflicts, and adds its answer.
+/// Makes a call of the entry for a key that never conflicts, and appends its answer.
 pub fn enter<K: ScriptKey + NoPrefixesBytes, const P: usize>(
     map: &mut TreeMap<K, u64, P>,
     mut words: Words<'_>,
@@ -32,8 +32,8 @@ pub fn enter<K: ScriptKey + NoPrefixesBytes, const P: usize>(
     Ok(())
 }
 
-// The entry of the key, if its kind has the call, after what is added to its value. Its kind is
-// written.
+/// Returns the entry if its kind has the call, after the addition of the line to its value. Appends
+/// its kind.
 fn open<'a, K: NoPrefixesBytes + Drop, const P: usize>(
     map: &'a mut TreeMap<K, u64, P>,
     key: K,
@@ -54,7 +54,7 @@ fn open<'a, K: NoPrefixesBytes + Drop, const P: usize>(
     }
 }
 
-// Adds the entry's key.
+/// Appends the key of the entry.
 fn of_key<K: NoPrefixesBytes + Shown + Drop, const P: usize>(
     map: &mut TreeMap<K, u64, P>,
     key: K,
@@ -68,7 +68,7 @@ fn of_key<K: NoPrefixesBytes + Shown + Drop, const P: usize>(
     }
 }
 
-// Adds the value that the call lends.
+/// Appends the value of the reference that the call returns.
 fn of_value<K: NoPrefixesBytes + Drop, const P: usize>(
     map: &mut TreeMap<K, u64, P>,
     key: K,
@@ -82,7 +82,8 @@ fn of_value<K: NoPrefixesBytes + Drop, const P: usize>(
     }
 }
 
-// Adds the pair of the entry that the call returns, or what the next call of that entry answers.
+/// Appends the pair of the entry that the call returns, or the result of the next call on that
+/// entry.
 fn of_place<K: NoPrefixesBytes + Shown + Drop, const P: usize>(
     map: &mut TreeMap<K, u64, P>,
     key: K,
@@ -96,7 +97,7 @@ fn of_place<K: NoPrefixesBytes + Shown + Drop, const P: usize>(
     }
 }
 
-// Adds what the call answers of an entry where no pair stands.
+/// Appends the result of a call on a vacant entry.
 fn of_vacant<K: NoPrefixesBytes + Shown + Drop, const P: usize>(
     map: &mut TreeMap<K, u64, P>,
     key: K,

@@ -1,10 +1,10 @@
-//! What the entries of the first pair and of the last answer.
+//! Calls of the first and the last entry.
 use blart_keys::AsBytes;
 use blart_map::TreeMap;
 use script_words::{Answered, EntryCall, EntryGroup, EntryName, Shown, Text, Unanswered, Words};
 use std::mem;
 
-/// Makes the call of the entry of the first pair, or of the last, and adds its answer.
+/// Makes a call of the first or the last entry, and appends its answer.
 pub fn enter_end<K: AsBytes + Shown + Drop, const P: usize>(
     map: &mut TreeMap<K, u64, P>,
     is_first: bool,
@@ -19,7 +19,7 @@ pub fn enter_end<K: AsBytes + Shown + Drop, const P: usize>(
     Ok(())
 }
 
-// Adds what the call answers of the entry at an end, if there is a pair.
+/// Appends the result of the call on the entry at one end, if there is a pair.
 fn show_end<K: AsBytes + Shown + Drop, const P: usize>(
     map: &mut TreeMap<K, u64, P>,
     is_first: bool,

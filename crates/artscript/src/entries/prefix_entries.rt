@@ -1,6 +1,7 @@
-//! What the prefix entry of a key answers.
+//! Calls of the prefix entry for a key.
 //!
-//! An entry is made and used in one function, which ends its loan of the map.
+//! Each function makes an entry and uses it. So the entry's borrow of the map ends with the
+//! function.
 ghost use denote.Builtin.{u64};
 ghost use Rattle.blart_map.specs.EntryFits.{PrefixEntryFits};
 
@@ -17,7 +18,7 @@ use std::mem;
 
 type MapOf<K, const P: usize> = TreeMap<K, u64, P>;
 
-/// Makes the call of the prefix entry of a key, and adds its answer.
+/// Makes a call of the prefix entry for a key, and appends its answer.
 pub fn enter_related<K: ScriptKey, const P: usize>(
     map: &mut TreeMap<K, u64, P>,
     mut words: Words<'_>,
@@ -38,7 +39,7 @@ pub fn enter_related<K: ScriptKey, const P: usize>(
     Ok(())
 }
 
-// Makes a call that entries have too.
+/// Makes a call that other entries have too.
 fn show_shared<K: AsBytes + Shown + Drop, const P: usize>(
     map: &mut MapOf<K, P>,
     key: K,
@@ -56,7 +57,7 @@ fn show_shared<K: AsBytes + Shown + Drop, const P: usize>(
     }
 }
 
-// Makes a call of the entry's kind.
+/// Makes a call of the entry's kind.
 fn show_of_kind<K: AsBytes + Shown + Drop, const P: usize>(
     map: &mut MapOf<K, P>,
     key: K,
@@ -71,7 +72,7 @@ fn show_of_kind<K: AsBytes + Shown + Drop, const P: usize>(
     }
 }
 
-// Makes a call that prefix entries alone have, or that theirs differs in.
+/// Makes a call that only prefix entries have, or that differs for them.
 fn show_own<K: AsBytes + Shown + Drop, const P: usize>(
     map: &mut MapOf<K, P>,
     key: K,
@@ -94,7 +95,7 @@ fn show_own<K: AsBytes + Shown + Drop, const P: usize>(
     }
 }
 
-// The word of the entry's kind, and a space.
+/// Returns the word for the entry's kind, and a space.
 fn kind_of<K: AsBytes, const P: usize>(
     entry: &PrefixEntry<'_, K, u64, P, MapOf<K, P>>,
 ) -> &'static [u8] {
@@ -113,7 +114,7 @@ fn kind_of_related<K: AsBytes, const P: usize>(
     }
 }
 
-// Adds the entry's key, or the key of its pair, where it has one.
+/// Appends the key of the entry, or the key of its pair if it has one.
 fn show_key<K: AsBytes + Shown + Drop, const P: usize>(
     map: &mut MapOf<K, P>,
     key: K,
@@ -132,7 +133,7 @@ fn show_key<K: AsBytes + Shown + Drop, const P: usize>(
     drop(entry);
 }
 
-// Adds the value that the call lends.
+/// Appends the value of the reference that the call returns.
 fn show_value<K: AsBytes + Drop, const P: usize>(
     map: &mut MapOf<K, P>,
     key: K,
@@ -146,7 +147,7 @@ fn show_value<K: AsBytes + Drop, const P: usize>(
     show_value!(entry, call, text)
 }
 
-// Adds the pair whose entry the call answers.
+/// Appends the pair of the entry that the call returns.
 fn show_place<K: AsBytes + Shown + Drop, const P: usize>(
     map: &mut MapOf<K, P>,
     key: K,
@@ -167,7 +168,7 @@ fn show_place<K: AsBytes + Shown + Drop, const P: usize>(
     show_pair!(placed, text)
 }
 
-// Adds the value that the call of the entry's kind lends.
+/// Appends the value of the reference that the call on the entry's kind returns.
 fn show_kind_value<K: AsBytes + Drop, const P: usize>(
     map: &mut MapOf<K, P>,
     key: K,
@@ -182,8 +183,8 @@ fn show_kind_value<K: AsBytes + Drop, const P: usize>(
     show_value!(entry, call, text)
 }
 
-// Adds the pair of the entry that the call of the entry's kind returns, or what the next call of
-// that entry answers.
+/// Appends the pair of the entry that the call on the entry's kind returns, or the result of the
+/// next call on that entry.
 fn show_kind_place<K: AsBytes + Shown + Drop, const P: usize>(
     map: &mut MapOf<K, P>,
     key: K,
@@ -198,7 +199,7 @@ fn show_kind_place<K: AsBytes + Shown + Drop, const P: usize>(
     show_place!(entry, line, text)
 }
 
-// Adds what the call answers of an entry to which pairs are related.
+/// Appends the result of a call on an occupied entry, whose key is related to keys of the map.
 fn show_related<K: AsBytes + Shown + Drop, const P: usize>(
     map: &mut MapOf<K, P>,
     key: K,
@@ -222,7 +223,7 @@ fn show_related<K: AsBytes + Shown + Drop, const P: usize>(
     drop(entry);
 }
 
-// Puts a pair in the place of the related ones, and adds what the call answers.
+/// Replaces the related pairs by one pair, and appends the result of the call.
 fn set_related<K: AsBytes + Shown + Drop, const P: usize>(
     map: &mut MapOf<K, P>,
     key: K,
@@ -245,8 +246,8 @@ fn set_related<K: AsBytes + Shown + Drop, const P: usize>(
     }
 }
 
-// Adds what the call answers of an entry at a pair, which `or_insert_entry` returns as it is. Its
-// `get` and `get_mut` are those of every prefix entry with pairs.
+/// Appends the result of a call on an entry at one pair. `or_insert_entry` returns it unchanged.
+/// Its `get` and `get_mut` are those of every prefix entry with pairs.
 fn show_leaf<K: AsBytes + Shown + Drop, const P: usize>(
     map: &mut MapOf<K, P>,
     key: K,
@@ -266,7 +267,7 @@ fn show_leaf<K: AsBytes + Shown + Drop, const P: usize>(
     }
 }
 
-// Adds what the call answers of an entry in the place of pairs.
+/// Appends the result of a call on an entry in the place of several pairs.
 fn show_inner<K: AsBytes + Shown + Drop, const P: usize>(
     map: &mut MapOf<K, P>,
     key: K,
@@ -300,7 +301,7 @@ fn show_inner<K: AsBytes + Shown + Drop, const P: usize>(
     }
 }
 
-// Walks over the pairs in whose place the entry is.
+/// Walks over the pairs that the entry would replace.
 fn walk_inner<K: AsBytes + Shown + Drop, const P: usize>(
     map: &mut MapOf<K, P>,
     key: K,
@@ -318,7 +319,7 @@ fn walk_inner<K: AsBytes + Shown + Drop, const P: usize>(
     }
 }
 
-// Adds to the values of the pairs in whose place the entry is.
+/// Adds to the values of the pairs that the entry would replace.
 fn lend_inner<K: AsBytes + Shown + Drop, const P: usize>(
     map: &mut MapOf<K, P>,
     key: K,
@@ -337,7 +338,7 @@ fn lend_inner<K: AsBytes + Shown + Drop, const P: usize>(
     }
 }
 
-// Adds what the call answers of an entry where no pair stands.
+/// Appends the result of a call on a vacant entry.
 fn show_vacant<K: AsBytes + Shown + Drop, const P: usize>(
     map: &mut MapOf<K, P>,
     key: K,

@@ -1,4 +1,4 @@
-//! The calls that take, give or make many pairs at once.
+//! The calls that insert, move or copy many pairs at once.
 ghost use Rattle.std.specs.Prelude.{◌≡◌};
 
 use crate::maps::calls::Maps;
@@ -12,7 +12,7 @@ use std::iter::{IntoIterator, Iterator};
 use std::mem;
 
 impl<K: AsBytes + Drop, V: Drop, const PREFIX_LEN: usize> Maps<K, V, PREFIX_LEN> {
-    /// Gives the pairs from the bytes on to the second map, in the place of its own.
+    /// Moves the pairs from the bytes on to the second map, which loses its own.
     pub(crate) fn split_off(&mut self, query: &Vec<u8>, text: &mut Text) {
         let rest = self.first.split_off(query);
         put(&mut self.second, rest, text);
@@ -20,7 +20,7 @@ impl<K: AsBytes + Drop, V: Drop, const PREFIX_LEN: usize> Maps<K, V, PREFIX_LEN>
 }
 
 impl<K: AsBytes + Drop + Clone, const PREFIX_LEN: usize> Maps<K, u64, PREFIX_LEN> {
-    /// Puts a clone of the first map in the place of the second.
+    /// Replaces the second map by a clone of the first.
     pub(crate) fn make_clone(&mut self, words: Words<'_>, text: &mut Text) -> Answered
         requires { (k j : K) → K.is_clone k j → K.bytes j ≡ K.bytes k }
     {
@@ -39,7 +39,7 @@ impl<K: ScriptKey + NoPrefixesBytes, const PREFIX_LEN: usize> Maps<K, u64, PREFI
         Ok(())
     }
 
-    /// Makes the call of this name, which takes pairs, and adds its answer.
+    /// Makes the named call, which moves the pairs in, and appends its answer.
     pub(crate) fn take_items(
         &mut self,
         name: MapName,
@@ -63,7 +63,7 @@ impl<K: ScriptKey + NoPrefixesBytes, const PREFIX_LEN: usize> Maps<K, u64, PREFI
 }
 
 impl<K: FixedKey, const PREFIX_LEN: usize> Maps<K, u64, PREFIX_LEN> {
-    /// Makes the call of this name, which copies pairs, and adds its answer.
+    /// Makes the named call, which copies the pairs, and appends its answer.
     pub(crate) fn copy_items(
         &mut self,
         name: MapName,
@@ -79,13 +79,13 @@ impl<K: FixedKey, const PREFIX_LEN: usize> Maps<K, u64, PREFIX_LEN> {
         Ok(())
     }
 
-    // Inserts copies of the pairs in turn.
+    /// Inserts copies of the pairs in turn.
     fn extend_copied(&mut self, items: &[(K, u64)], text: &mut Text) {
         let lent = items.iter().map(|pair| (&pair.0, &pair.1));
         self.first.extend_copied(lent).show(text);
     }
 
-    // Puts the map of the two pairs in the place of the first.
+    /// Replaces the first map by a map of the two pairs.
     fn put_two(&mut self, items: &[(K, u64)], text: &mut Text) {
         match items {
             [one, other] => {
@@ -97,7 +97,7 @@ impl<K: FixedKey, const PREFIX_LEN: usize> Maps<K, u64, PREFIX_LEN> {
     }
 }
 
-// Puts the map, if it was made, in the place of another, and adds whether it was.
+/// Replaces the place's map by the new one, if that was made. Appends whether it was.
 fn put<K: AsBytes + Drop, V: Drop, const P: usize>(
     place: &mut TreeMap<K, V, P>,
     made: Result<TreeMap<K, V, P>, AllocError>,

@@ -11,17 +11,17 @@ use script_words::{Answered, MapName, ScriptKey, Shown, Text, Words, written};
 use std::alloc::Global;
 use std::mem;
 
-/// The two maps. Each call is one of the first.
+/// The two maps. Each call is a call of the first.
 #[derive(Drop)]
 pub struct Maps<K: AsBytes + Drop, V, const PREFIX_LEN: usize> {
-    /// The map that calls are of.
+    /// The map that is called.
     pub first: TreeMap<K, V, PREFIX_LEN>,
     pub(crate) second: TreeMap<K, V, PREFIX_LEN>,
     pub(crate) alloc: Global,
 }
 
 impl<K: AsBytes + Drop, V, const PREFIX_LEN: usize> Maps<K, V, PREFIX_LEN> {
-    /// Two maps with no pairs.
+    /// Returns two maps with no pairs.
     pub fn new(alloc: Global) -> Self
         ensures first { pairs result.first ≡ [] }
         ensures second { pairs result.second ≡ [] }
@@ -35,7 +35,7 @@ impl<K: AsBytes + Drop, V, const PREFIX_LEN: usize> Maps<K, V, PREFIX_LEN> {
 }
 
 impl<K: AsBytes + Shown + Drop, V: Shown + Drop, const PREFIX_LEN: usize> Maps<K, V, PREFIX_LEN> {
-    /// Makes the call of this name, which is one of maps with values of any type, and adds its answer.
+    /// Makes the named call, which maps with values of any type have, and appends its answer.
     pub(crate) fn call_of_any(
         &mut self,
         name: MapName,
@@ -55,7 +55,7 @@ impl<K: AsBytes + Shown + Drop, V: Shown + Drop, const PREFIX_LEN: usize> Maps<K
         }
     }
 
-    // The calls that put a whole map in the place of the first.
+    /// Makes a call that empties the first map, or swaps it with the second.
     fn renew(&mut self, name: MapName, words: Words<'_>, text: &mut Text) -> Answered {
         words.end()?;
         match name {
@@ -70,7 +70,7 @@ impl<K: AsBytes + Shown + Drop, V: Shown + Drop, const PREFIX_LEN: usize> Maps<K
         Ok(())
     }
 
-    // The calls that take the pair at one end.
+    /// Makes a call that removes the pair at one end.
     fn pop(&mut self, name: MapName, words: Words<'_>, text: &mut Text) -> Answered {
         words.end()?;
         let popped = match name {
@@ -81,7 +81,8 @@ impl<K: AsBytes + Shown + Drop, V: Shown + Drop, const PREFIX_LEN: usize> Maps<K
         Ok(())
     }
 
-    // The calls that take the pair of some bytes, those below them, or those from them on.
+    /// Makes a call that removes the pair with the bytes, the pairs whose bytes start with them, or
+    /// the pairs from them on.
     fn remove(&mut self, name: MapName, mut words: Words<'_>, text: &mut Text) -> Answered {
         let query = words.last_bytes()?;
         match name {
@@ -96,7 +97,7 @@ impl<K: AsBytes + Shown + Drop, V: Shown + Drop, const PREFIX_LEN: usize> Maps<K
 }
 
 impl<K: ScriptKey, const PREFIX_LEN: usize> Maps<K, u64, PREFIX_LEN> {
-    /// Makes the call of this name with these words after it, and adds its answer.
+    /// Makes the named call with the words after it, and appends its answer.
     pub(crate) fn call(&mut self, name: MapName, words: Words<'_>, text: &mut Text) -> Answered
         requires entries { EntryFits K.row u64 PREFIX_LEN.row K.AsBytes }
         requires prefix_entries { PrefixEntryFits K.row u64 PREFIX_LEN.row K.AsBytes }
@@ -130,7 +131,7 @@ impl<K: ScriptKey, const PREFIX_LEN: usize> Maps<K, u64, PREFIX_LEN> {
         }
     }
 
-    // The calls of entries that keys of every type have.
+    /// Makes a call of an entry that keys of every type have.
     fn enter(&mut self, name: MapName, words: Words<'_>, text: &mut Text) -> Answered
         requires entries { EntryFits K.row u64 PREFIX_LEN.row K.AsBytes }
         requires prefix_entries { PrefixEntryFits K.row u64 PREFIX_LEN.row K.AsBytes }
@@ -143,7 +144,7 @@ impl<K: ScriptKey, const PREFIX_LEN: usize> Maps<K, u64, PREFIX_LEN> {
         }
     }
 
-    // The calls that place a pair.
+    /// Makes a call that places a pair.
     fn place(&mut self, name: MapName, mut words: Words<'_>, text: &mut Text) -> Answered {
         let (key, value) = words.last_pair()?;
         match name {
@@ -156,7 +157,7 @@ impl<K: ScriptKey, const PREFIX_LEN: usize> Maps<K, u64, PREFIX_LEN> {
 }
 
 impl<K: AsBytes + Shown + Drop, const PREFIX_LEN: usize> Maps<K, u64, PREFIX_LEN> {
-    // The calls that lend a value to be written.
+    /// Makes a call that returns a mutable reference to a value.
     fn write(&mut self, name: MapName, mut words: Words<'_>, text: &mut Text) -> Answered {
         let (query, value): (Vec<u8>, u64) = words.last_pair()?;
         match name {

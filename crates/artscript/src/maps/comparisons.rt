@@ -1,4 +1,4 @@
-//! How the first map and the second compare, and what the first is as text.
+//! Comparisons of the first map with the second, and the first as text.
 use crate::maps::calls::Maps;
 use blart_keys::OrderedBytes;
 use script_words::{Answered, MapName, Shown, Text, Words, have_one_digest, show_debug};
@@ -6,7 +6,7 @@ use std::fmt::Debug;
 use std::hash::Hash;
 
 impl<K: OrderedBytes + Hash + Debug + Drop, const PREFIX_LEN: usize> Maps<K, u64, PREFIX_LEN> {
-    /// Makes the call of this name, which compares the maps, and adds its answer.
+    /// Makes the named call, which compares the maps, and appends its answer.
     pub(crate) fn compare(&self, name: MapName, words: Words<'_>, text: &mut Text) -> Answered {
         words.end()?;
         match name {

@@ -1,4 +1,4 @@
-//! The calls that some key types have, and others lack.
+//! The calls that only some key types have.
 ghost use Rattle.std.specs.Prelude.{◌≡◌};
 ghost use denote.Builtin.{u64};
 ghost use Rattle.blart_map.specs.EntryFits.{EntryFits, PrefixEntryFits};
@@ -9,7 +9,7 @@ use blart_keys::NoPrefixesBytes;
 use script_words::{Answered, FixedKey, MapName, ScriptKey, Shown, Text, Words, value_of};
 
 impl<K: FixedKey, const PREFIX_LEN: usize> Maps<K, u64, PREFIX_LEN> {
-    /// Makes the call of this name with these words after it, and adds its answer.
+    /// Makes the named call with the words after it, and appends its answer.
     pub fn call_of_fixed(&mut self, name: MapName, words: Words<'_>, text: &mut Text) -> Answered
         requires clones { (k j : K) → K.is_clone k j → K.bytes j ≡ K.bytes k }
         requires entries { EntryFits K.row u64 PREFIX_LEN.row K.AsBytes }
@@ -24,7 +24,7 @@ impl<K: FixedKey, const PREFIX_LEN: usize> Maps<K, u64, PREFIX_LEN> {
 }
 
 impl<K: ScriptKey + NoPrefixesBytes, const PREFIX_LEN: usize> Maps<K, u64, PREFIX_LEN> {
-    /// Makes the call of this name with these words after it, and adds its answer.
+    /// Makes the named call with the words after it, and appends its answer.
     pub fn call_of_apart(&mut self, name: MapName, words: Words<'_>, text: &mut Text) -> Answered
         requires entries { EntryFits K.row u64 PREFIX_LEN.row K.AsBytes }
         requires prefix_entries { PrefixEntryFits K.row u64 PREFIX_LEN.row K.AsBytes }
@@ -40,7 +40,7 @@ impl<K: ScriptKey + NoPrefixesBytes, const PREFIX_LEN: usize> Maps<K, u64, PREFI
         }
     }
 
-    // The calls that place a pair of which it is known that its key conflicts with none.
+    /// Makes a call that places a pair whose key conflicts with no other.
     fn insert(&mut self, name: MapName, mut words: Words<'_>, text: &mut Text) -> Answered {
         let (key, value) = words.last_pair()?;
         match name {

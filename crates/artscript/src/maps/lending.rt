@@ -1,4 +1,4 @@
-//! Walks that lend values, which are written as they pass.
+//! Walks that yield mutable references. Each value is written as the walk passes it.
 ghost use Rattle.blart_keys.specs.Bounds.{bound_bytes, CanRange};
 ghost use Rattle.blart_keys.specs.KeyBytes.{vec_bytes};
 ghost use Rattle.blart_map.specs.Content.{pairs};
@@ -11,7 +11,7 @@ use script_words::{Answered, MapName, Shown, Text, Words, raise, raised};
 use std::ops::Bound;
 
 impl<K: AsBytes + Shown + Drop, const PREFIX_LEN: usize> Maps<K, u64, PREFIX_LEN> {
-    /// Adds to each value, and adds the pairs or the values.
+    /// Adds to each value, and appends the pairs or the values.
     pub(crate) fn lend_all(
         &mut self,
         name: MapName,
@@ -27,7 +27,7 @@ impl<K: AsBytes + Shown + Drop, const PREFIX_LEN: usize> Maps<K, u64, PREFIX_LEN
         Ok(())
     }
 
-    /// Adds to the values of the pairs within two bounds, and adds the pairs.
+    /// Adds to the values of the pairs within two bounds, and appends the pairs.
     pub(crate) fn range_mut(
         &mut self,
         start: Bound<&Vec<u8>>,
@@ -44,7 +44,8 @@ impl<K: AsBytes + Shown + Drop, const PREFIX_LEN: usize> Maps<K, u64, PREFIX_LEN
         Ok(())
     }
 
-    /// Adds to the values of the pairs below some bytes, and adds the pairs.
+    /// Adds to the values of the pairs whose bytes start with the given ones, and appends the
+    /// pairs.
     pub(crate) fn prefix_mut(
         &mut self,
         front: &Vec<u8>,
@@ -73,7 +74,8 @@ impl<K: AsBytes + Shown + Drop, const PREFIX_LEN: usize> Lending
     }
 }
 
-// Raises the value that a step lends, and adds its key and what it was. It is the same for each walk that knows the key.
+// Adds to the value that a step yields, and appends its key and the value before. It is the same
+// for each walk that tells the key.
 macro_rules! show_raised {
     ($walk:expr, $step:ident, $add:expr, $part:expr, $text:expr) => {{
         if let Some(value) = $walk.$step() {

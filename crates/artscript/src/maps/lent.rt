@@ -1,22 +1,24 @@
-//! Walks that lend values, and what their steps give.
+//! Walks that yield mutable references, and the items of their steps.
 use script_words::{Shown, Text};
 use std::iter::Iterator;
 
-/// A walk that lends values, to each of which a number is added as it passes.
+/// A walk that yields mutable references. A number is added to each value as the walk passes it.
 pub(crate) trait Lending {
-    /// A step from the front: adds the part and the item as it was, if there was one, and gives whether there was.
+    /// Takes a step from the front. Appends `part` and the item before its change, if there is an
+    /// item. Returns whether there is.
     fn front(&mut self, add: u64, part: &[u8], text: &mut Text) -> bool;
 
-    /// A step from the back.
+    /// Takes a step from the back, like `front`.
     fn back(&mut self, add: u64, part: &[u8], text: &mut Text) -> bool;
 
-    /// How many items are left, of a walk that has `len`: the steps of others do not ask.
+    /// Returns the number of items left, if the walk has `len`. The steps of other walks do not ask
+    /// for it.
     fn left(&self) -> usize {
         0
     }
 }
 
-/// Adds what each letter gave, or all items where there are no letters.
+/// Appends the item of each step that the letters name, or all items if there are no letters.
 pub(crate) fn show_lending<W: Lending + Drop>(
     mut walk: W,
     add: u64,
@@ -29,7 +31,7 @@ pub(crate) fn show_lending<W: Lending + Drop>(
     }
 }
 
-// Adds all items, between brackets and parted by commas.
+/// Appends all items, in brackets and separated by commas.
 fn show_lent<W: Lending>(walk: &mut W, add: u64, text: &mut Text) {
     text.push(b"[");
     let mut part: &[u8] = b"";
@@ -42,7 +44,7 @@ fn show_lent<W: Lending>(walk: &mut W, add: u64, text: &mut Text) {
     text.push(b"]");
 }
 
-// Adds what each letter gave, parted by spaces.
+/// Appends the items of the steps that the letters name, separated by spaces.
 fn show_lent_steps<W: Lending>(walk: &mut W, add: u64, letters: &[u8], text: &mut Text) {
     let mut part: &[u8] = b"";
     for letter in letters {
@@ -52,7 +54,7 @@ fn show_lent_steps<W: Lending>(walk: &mut W, add: u64, letters: &[u8], text: &mu
     }
 }
 
-// Adds what the letter gave.
+/// Appends the item of the step that the letter names.
 fn show_lent_step<W: Lending>(walk: &mut W, add: u64, letter: u8, text: &mut Text) {
     let is_some = match letter {
         b'f' => walk.front(add, b"Some(", text),
@@ -62,7 +64,7 @@ fn show_lent_step<W: Lending>(walk: &mut W, add: u64, letter: u8, text: &mut Tex
     text.push(if is_some { b")" } else { b"None" });
 }
 
-/// Adds the item after what parts it from the one before, if there is an item, and gives whether there is.
+/// Appends `part` and the item, if there is an item. Returns whether there is.
 pub(crate) fn show_item<T: Shown + Drop>(item: Option<T>, part: &[u8], text: &mut Text) -> bool {
     match item {
         Some(item) => {

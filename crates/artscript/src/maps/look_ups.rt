@@ -1,4 +1,4 @@
-//! The calls that leave the maps as they are.
+//! The calls that do not change the maps.
 ghost use Rattle.blart_keys.specs.Bounds.{bound_bytes, CanRange};
 ghost use Rattle.blart_keys.specs.KeyBytes.{vec_bytes};
 ghost use Rattle.blart_map.specs.Content.{pairs};
@@ -11,7 +11,7 @@ use script_words::{Answered, MapName, Shown, Text, Unanswered, Words, show_walk}
 use std::ops::Bound;
 
 impl<K: AsBytes + Shown + Drop, V: Shown + Drop, const PREFIX_LEN: usize> Maps<K, V, PREFIX_LEN> {
-    /// Makes the call of this name, which leaves the maps as they are, and adds its answer.
+    /// Makes the named call, which does not change the maps, and appends its answer.
     pub(crate) fn look_up(&self, name: MapName, words: Words<'_>, text: &mut Text) -> Answered {
         match name {
             MapName::BoundsInOrder => show_order(words, text),
@@ -34,7 +34,7 @@ impl<K: AsBytes + Shown + Drop, V: Shown + Drop, const PREFIX_LEN: usize> Maps<K
         }
     }
 
-    // The calls with no argument.
+    /// Makes a call without arguments.
     fn tell(&self, name: MapName, words: Words<'_>, text: &mut Text) -> Answered {
         words.end()?;
         match name {
@@ -47,7 +47,7 @@ impl<K: AsBytes + Shown + Drop, V: Shown + Drop, const PREFIX_LEN: usize> Maps<K
         Ok(())
     }
 
-    // The calls that look for some bytes.
+    /// Makes a call that searches for the bytes.
     fn find(&self, name: MapName, mut words: Words<'_>, text: &mut Text) -> Answered {
         let query = words.last_bytes()?;
         match name {
@@ -62,7 +62,7 @@ impl<K: AsBytes + Shown + Drop, V: Shown + Drop, const PREFIX_LEN: usize> Maps<K
         Ok(())
     }
 
-    // The pair that a look-up finds.
+    /// Returns the pair that a look-up finds.
     fn find_pair(&self, name: MapName, query: &Vec<u8>) -> Option<(&K, &V)> {
         match name {
             MapName::GetKeyValue => self.first.get_key_value(query),
@@ -83,7 +83,7 @@ impl<K: AsBytes + Shown + Drop, V: Shown + Drop, const PREFIX_LEN: usize> Maps<K
         self.first[query].show(text);
     }
 
-    // The walks over all pairs.
+    /// Makes a call that walks over all pairs.
     fn walk(&self, name: MapName, mut words: Words<'_>, text: &mut Text) -> Answered {
         let steps = words.last_steps()?;
         match name {
@@ -94,7 +94,7 @@ impl<K: AsBytes + Shown + Drop, V: Shown + Drop, const PREFIX_LEN: usize> Maps<K
         Ok(())
     }
 
-    /// The walks over the pairs within two bounds.
+    /// Makes a call that walks over the pairs within two bounds.
     pub(crate) fn range(
         &self,
         name: MapName,
@@ -115,7 +115,7 @@ impl<K: AsBytes + Shown + Drop, V: Shown + Drop, const PREFIX_LEN: usize> Maps<K
         Ok(())
     }
 
-    /// The walks over the pairs below some bytes.
+    /// Makes a call that walks over the pairs whose bytes start with the given ones.
     pub(crate) fn prefix(
         &self,
         name: MapName,

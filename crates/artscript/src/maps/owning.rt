@@ -1,4 +1,4 @@
-//! Walks that take the map apart.
+//! Walks that consume the map.
 use crate::maps::calls::Maps;
 use blart_keys::AsBytes;
 use blart_map::TreeMap;
@@ -7,7 +7,7 @@ use std::iter::IntoIterator;
 use std::mem;
 
 impl<K: AsBytes + Shown + Drop, V: Shown + Drop, const PREFIX_LEN: usize> Maps<K, V, PREFIX_LEN> {
-    /// Makes the call of this name, which takes the map apart, and adds its answer.
+    /// Makes the named call, which consumes the map, and appends its answer.
     pub(crate) fn own(&mut self, name: MapName, mut words: Words<'_>, text: &mut Text) -> Answered {
         let letters = words.last_steps()?;
         let map = mem::replace(&mut self.first, TreeMap::with_prefix_len(self.alloc));

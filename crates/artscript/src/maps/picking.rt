@@ -1,4 +1,4 @@
-//! Pairs that a closure picks, and pairs that are lent to be kept or taken.
+//! Pairs that a closure picks, and pairs that a caller keeps or takes one by one.
 ghost use Rattle.std.specs.Prelude.{◌≡◌, true, false, is_some};
 ghost use Rattle.blart_map.specs.Content.{pairs};
 ghost use Rattle.blart_map.specs.TakeWalk.{take_undecided};
@@ -14,7 +14,7 @@ use std::iter::{DoubleEndedIterator, Iterator};
 use std::ops::Bound;
 
 impl<K: AsBytes + Shown + Drop, const PREFIX_LEN: usize> Maps<K, u64, PREFIX_LEN> {
-    /// Keeps the pairs that are picked, and adds how often the closure was asked.
+    /// Keeps the pairs that the closure picks, and appends how often it was called.
     pub(crate) fn retain(&mut self, mut words: Words<'_>, text: &mut Text) -> Answered {
         let pick = ValuePick::read(&mut words)?;
         words.end()?;
@@ -23,7 +23,7 @@ impl<K: AsBytes + Shown + Drop, const PREFIX_LEN: usize> Maps<K, u64, PREFIX_LEN
         Ok(())
     }
 
-    /// Takes out the pairs that are picked, and adds them and how often the closure was asked.
+    /// Removes the pairs that the closure picks, and appends them and how often it was called.
     pub(crate) fn extract_if(
         &mut self,
         start: Bound<&Vec<u8>>,
@@ -45,7 +45,8 @@ impl<K: AsBytes + Shown + Drop, const PREFIX_LEN: usize> Maps<K, u64, PREFIX_LEN
         Ok(())
     }
 
-    /// Lends the pairs within two bounds, to be kept or taken, and adds what each letter gave.
+    /// Walks over the pairs within two bounds, and keeps or takes each as the letters say. Appends
+    /// the result of each letter.
     pub(crate) fn take_walk(
         &mut self,
         start: Bound<&Vec<u8>>,
@@ -63,7 +64,7 @@ impl<K: AsBytes + Shown + Drop, const PREFIX_LEN: usize> Maps<K, u64, PREFIX_LEN
     }
 }
 
-// Adds what each letter gave, parted by spaces.
+/// Appends the result of each letter, separated by spaces.
 fn take_steps<K: AsBytes + Shown + Drop, const P: usize>(
     walk: &mut TakeWalk<'_, K, u64, P>,
     letters: &[u8],
@@ -83,7 +84,7 @@ fn take_steps<K: AsBytes + Shown + Drop, const P: usize>(
     }
 }
 
-// Keeps or takes the pair that is lent.
+/// Keeps or takes the pair at which the walk is.
 fn decide<K: AsBytes + Shown + Drop, const P: usize>(
     walk: &mut TakeWalk<'_, K, u64, P>,
     letter: u8,
@@ -101,7 +102,7 @@ fn decide<K: AsBytes + Shown + Drop, const P: usize>(
     }
 }
 
-// Lends the pair at one end.
+/// Moves the walk to the pair at one end, and appends the pair.
 fn lend<K: AsBytes + Shown + Drop, const P: usize>(
     walk: &mut TakeWalk<'_, K, u64, P>,
     letter: u8,

@@ -1,4 +1,4 @@
-//! The calls of the pairs within two bounds, or below some bytes.
+//! The calls on the pairs within two bounds, or on those whose bytes start with given ones.
 use crate::maps::calls::Maps;
 use blart_keys::AsBytes;
 use blart_map::bounds_in_order;
@@ -6,7 +6,7 @@ use script_words::{Answered, MapName, Shown, Text, Unanswered, Words};
 use std::ops::Bound;
 
 impl<K: AsBytes + Shown + Drop, const PREFIX_LEN: usize> Maps<K, u64, PREFIX_LEN> {
-    /// Makes the call of this name, which is of the pairs within two bounds, and adds its answer.
+    /// Makes the named call on the pairs within two bounds, and appends its answer.
     pub(crate) fn within(
         &mut self,
         name: MapName,
@@ -39,7 +39,8 @@ impl<K: AsBytes + Shown + Drop, const PREFIX_LEN: usize> Maps<K, u64, PREFIX_LEN
         }
     }
 
-    /// Makes the call of this name, which is of the pairs below some bytes, and adds its answer.
+    /// Makes the named call on the pairs whose bytes start with the given ones, and appends its
+    /// answer.
     pub(crate) fn below(
         &mut self,
         name: MapName,
@@ -56,7 +57,7 @@ impl<K: AsBytes + Shown + Drop, const PREFIX_LEN: usize> Maps<K, u64, PREFIX_LEN
     }
 }
 
-/// Adds whether two bounds are in order.
+/// Appends whether two bounds are in order.
 pub(crate) fn show_order(mut words: Words<'_>, text: &mut Text) -> Answered {
     let (start, end) = words.bounds()?;
     let is_done = words.is_done();

@@ -1,10 +1,10 @@
-//! Maps whose values count how often one is dropped, and the calls of them.
+//! Maps whose values count the drops, and the calls of these maps.
 use crate::maps::Maps;
 use script_words::{Answered, MapName, Shown, Text, Words};
 use std::alloc::{AllocError, Global};
 use std::cell::Cell;
 
-// A number that counts how often one is dropped.
+/// A number that counts each drop.
 struct Counted<'a> {
     number: u64,
     drops: &'a Cell<u64>,
@@ -23,7 +23,7 @@ impl Shown for Counted<'_> {
     }
 }
 
-/// Maps of such values, under lists of bytes.
+/// Maps from lists of bytes to such values.
 #[derive(Drop)]
 pub(crate) struct CountedMaps<'a, const PREFIX_LEN: usize> {
     maps: Maps<Vec<u8>, Counted<'a>, PREFIX_LEN>,
@@ -31,7 +31,7 @@ pub(crate) struct CountedMaps<'a, const PREFIX_LEN: usize> {
 }
 
 impl<'a, const PREFIX_LEN: usize> CountedMaps<'a, PREFIX_LEN> {
-    /// Maps with no pairs. Their values are counted in the cell.
+    /// Returns maps with no pairs. The cell counts the drops of their values.
     pub(crate) fn new(alloc: Global, drops: &'a Cell<u64>) -> Self {
         CountedMaps {
             maps: Maps::new(alloc),
@@ -39,7 +39,7 @@ impl<'a, const PREFIX_LEN: usize> CountedMaps<'a, PREFIX_LEN> {
         }
     }
 
-    /// Makes the call of this name with these words after it, and adds its answer.
+    /// Makes the named call with the words after it, and appends its answer.
     pub(crate) fn call(&mut self, name: MapName, words: Words<'_>, text: &mut Text) -> Answered {
         match name {
             MapName::TryInsert | MapName::ReplaceEntry | MapName::PrefixInsert => {
@@ -54,7 +54,7 @@ impl<'a, const PREFIX_LEN: usize> CountedMaps<'a, PREFIX_LEN> {
         }
     }
 
-    // The calls that place a pair.
+    /// Makes a call that places a pair.
     fn place(&mut self, name: MapName, mut words: Words<'_>, text: &mut Text) -> Answered {
         let (key, number) = words.last_pair()?;
         let drops = self.drops;

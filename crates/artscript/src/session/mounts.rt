@@ -1,10 +1,10 @@
-//! The table of mounts of a part of a script, and the calls of it.
+//! The table of mounts of a part of a script, and the calls of the table.
 use blart_map::Visits;
 use prefix_router::Mounts;
 use script_words::{Answered, Shown, Text, Unanswered, Words, named, show_items, show_walk};
 use std::alloc::{AllocError, Global};
 
-// A call of the table.
+/// A call of the table.
 #[derive(Clone, Copy)]
 enum MountName {
     Len,
@@ -16,7 +16,7 @@ enum MountName {
     Under,
 }
 
-// The word that names each call.
+/// The word for each call.
 const NAMES: [(&str, MountName); 7] = [
     ("len", MountName::Len),
     ("mount", MountName::Mount),
@@ -34,14 +34,14 @@ pub(crate) struct Table {
 }
 
 impl Table {
-    /// A table with no mounts.
+    /// Returns a table with no mounts.
     pub(crate) fn new(alloc: Global) -> Self {
         Table {
             mounts: Mounts::new(alloc),
         }
     }
 
-    /// Makes the call that the words are, and adds its answer.
+    /// Makes the call that the words name, and appends its answer.
     pub(crate) fn call(&mut self, mut words: Words<'_>, text: &mut Text) -> Answered {
         let Some(name) = named(&NAMES, words.word()?) else {
             return Err(Unanswered::NoCall);
@@ -60,7 +60,7 @@ impl Table {
         Ok(())
     }
 
-    // The calls that place a mount.
+    /// Makes a call that places a mount.
     fn place(&mut self, name: MountName, mut words: Words<'_>, text: &mut Text) -> Answered {
         let (path, target) = words.last_pair()?;
         match name {
@@ -70,7 +70,7 @@ impl Table {
         Ok(())
     }
 
-    // The calls that look for a path.
+    /// Makes a call that searches for a path.
     fn find(&mut self, name: MountName, mut words: Words<'_>, text: &mut Text) -> Answered {
         let path = words.last_bytes()?;
         match name {
@@ -85,7 +85,7 @@ impl Table {
         Ok(())
     }
 
-    // The walk over the mounts under some bytes.
+    /// Makes the call that walks over the mounts whose paths start with the given bytes.
     fn walk(&self, mut words: Words<'_>, text: &mut Text) -> Answered {
         let front = words.bytes()?;
         match words.last_moves() {

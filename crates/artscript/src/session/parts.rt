@@ -1,4 +1,4 @@
-//! The maps and the sets of one type of keys, and the calls of them.
+//! The maps and the sets of one key type, and their calls.
 ghost use Rattle.std.specs.Prelude.{◌≡◌};
 ghost use denote.Builtin.{u64};
 ghost use Rattle.blart_map.specs.EntryFits.{EntryFits, PrefixEntryFits};
@@ -24,7 +24,7 @@ pub(crate) struct Part<K: ScriptKey, const PREFIX_LEN: usize> {
 }
 
 impl<K: ScriptKey, const PREFIX_LEN: usize> Part<K, PREFIX_LEN> {
-    /// Two maps and two sets, all empty.
+    /// Returns two maps and two sets, all empty.
     pub(crate) fn new(alloc: Global) -> Self {
         Part {
             maps: Maps::new(alloc),
@@ -66,10 +66,11 @@ impl<const PREFIX_LEN: usize> Part<ZKey, PREFIX_LEN> {
     }
 }
 
-// How many bytes of their prefix the inner nodes of the parts keep that do not try each length.
+/// The number of bytes of a prefix that an inner node keeps, in the parts that are not run at each
+/// prefix length.
 const KEPT: usize = 2;
 
-// The name of a part.
+/// The name of a part.
 #[derive(Clone, Copy)]
 enum PartName {
     Bytes,
@@ -83,7 +84,7 @@ enum PartName {
     Mounts,
 }
 
-// The line that begins each part.
+/// The line that starts each part.
 const NAMES: [(&str, PartName); 9] = [
     ("keys bytes", PartName::Bytes),
     ("keys u8", PartName::Byte),
@@ -96,7 +97,7 @@ const NAMES: [(&str, PartName); 9] = [
     ("mounts", PartName::Mounts),
 ];
 
-/// The part of a script that calls are of, by the type of its keys.
+/// The part of a script that the lines call, by its key type.
 #[derive(Drop)]
 pub(crate) enum Session<'a, const PREFIX_LEN: usize> {
     Bytes(Part<Vec<u8>, PREFIX_LEN>),
@@ -111,12 +112,13 @@ pub(crate) enum Session<'a, const PREFIX_LEN: usize> {
 }
 
 impl<'a, const PREFIX_LEN: usize> Session<'a, PREFIX_LEN> {
-    /// The part with which every script begins.
+    /// Returns the part with which every script starts.
     pub(crate) fn new(alloc: Global) -> Self {
         Session::Bytes(Part::new(alloc))
     }
 
-    // The part that the line begins, if it begins one. Values that are dropped are counted in the cell.
+    /// Returns the part that the line starts, if it starts one. The cell counts the drops of
+    /// values.
     fn begun(alloc: Global, drops: &'a Cell<u64>, line: &[u8]) -> Option<Self> {
         Some(match named(&NAMES, line)? {
             PartName::Bytes => Session::Bytes(Part::new(alloc)),
@@ -131,7 +133,7 @@ impl<'a, const PREFIX_LEN: usize> Session<'a, PREFIX_LEN> {
         })
     }
 
-    /// Adds the answer to the line, or a question mark where it is no call.
+    /// Appends the answer to the line, or a question mark if it is no call.
     pub(crate) fn answer(&mut self, drops: &'a Cell<u64>, line: &[u8], text: &mut Text) {
         let start = text.as_slice().len();
         if let Err(why) = self.call(drops, line, text) {
@@ -143,7 +145,7 @@ impl<'a, const PREFIX_LEN: usize> Session<'a, PREFIX_LEN> {
         }
     }
 
-    // Makes the call that the line is, or begins a part, and adds the answer.
+    /// Makes the call on the line, or starts a part. Appends the answer.
     fn call(&mut self, drops: &'a Cell<u64>, line: &[u8], text: &mut Text) -> Answered {
         let alloc = text.alloc();
         if let Some(part) = Session::begun(alloc, drops, line) {
@@ -155,7 +157,7 @@ impl<'a, const PREFIX_LEN: usize> Session<'a, PREFIX_LEN> {
         self.call_of_part(Words::new(line, b' ', alloc), text)
     }
 
-    // Makes the call that the words are, and adds its answer.
+    /// Makes the call that the words name, and appends its answer.
     fn call_of_part(&mut self, mut words: Words<'_>, text: &mut Text) -> Answered {
         if let Session::Mounts(table) = self {
             return table.call(words, text);

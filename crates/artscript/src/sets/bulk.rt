@@ -1,4 +1,4 @@
-//! The calls that take, give or make many elements at once.
+//! The calls that insert, move or copy many elements at once.
 ghost use Rattle.std.specs.Prelude.{◌≡◌};
 
 use crate::sets::calls::Sets;
@@ -12,7 +12,7 @@ use std::iter::{IntoIterator, Iterator};
 use std::mem;
 
 impl<K: AsBytes + Drop, const PREFIX_LEN: usize> Sets<K, PREFIX_LEN> {
-    /// Gives the elements from the bytes on to the second set, in the place of its own.
+    /// Moves the elements from the bytes on to the second set, which loses its own.
     pub(crate) fn split_off(&mut self, query: &Vec<u8>, text: &mut Text) {
         let rest = self.first.split_off(query);
         put(&mut self.second, rest, text);
@@ -20,7 +20,7 @@ impl<K: AsBytes + Drop, const PREFIX_LEN: usize> Sets<K, PREFIX_LEN> {
 }
 
 impl<K: AsBytes + Drop + Clone, const PREFIX_LEN: usize> Sets<K, PREFIX_LEN> {
-    /// Puts a clone of the first set in the place of the second.
+    /// Replaces the second set by a clone of the first.
     pub(crate) fn make_clone(&mut self, words: Words<'_>, text: &mut Text) -> Answered
         requires { (k j : K) → K.is_clone k j → K.bytes j ≡ K.bytes k }
     {
@@ -39,7 +39,7 @@ impl<K: ScriptKey + NoPrefixesBytes, const PREFIX_LEN: usize> Sets<K, PREFIX_LEN
         Ok(())
     }
 
-    /// Makes the call of this name, which takes elements, and adds its answer.
+    /// Makes the named call, which moves the elements in, and appends its answer.
     pub(crate) fn take_items(
         &mut self,
         name: SetName,
@@ -63,7 +63,7 @@ impl<K: ScriptKey + NoPrefixesBytes, const PREFIX_LEN: usize> Sets<K, PREFIX_LEN
 }
 
 impl<K: FixedKey, const PREFIX_LEN: usize> Sets<K, PREFIX_LEN> {
-    /// Makes the call of this name, which copies elements, and adds its answer.
+    /// Makes the named call, which copies the elements, and appends its answer.
     pub(crate) fn copy_items(
         &mut self,
         name: SetName,
@@ -79,7 +79,7 @@ impl<K: FixedKey, const PREFIX_LEN: usize> Sets<K, PREFIX_LEN> {
         Ok(())
     }
 
-    // Puts the set of the two or three elements in the place of the first.
+    /// Replaces the first set by a set of the two or three elements.
     fn put_array(&mut self, items: &[K], text: &mut Text) {
         match items {
             [one, other] => {
@@ -95,7 +95,7 @@ impl<K: FixedKey, const PREFIX_LEN: usize> Sets<K, PREFIX_LEN> {
     }
 }
 
-// Puts the set, if it was made, in the place of another, and adds whether it was.
+/// Replaces the place's set by the new one, if that was made. Appends whether it was.
 fn put<K: AsBytes + Drop, const P: usize>(
     place: &mut TreeSet<K, P>,
     made: Result<TreeSet<K, P>, AllocError>,

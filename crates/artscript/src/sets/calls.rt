@@ -8,7 +8,7 @@ use script_words::{Answered, FixedKey, ScriptKey, SetName, Shown, Text, Words};
 use std::alloc::Global;
 use std::mem;
 
-/// The two sets. Each call is one of the first.
+/// The two sets. Each call is a call of the first.
 #[derive(Drop)]
 pub struct Sets<K: AsBytes + Drop, const PREFIX_LEN: usize> {
     pub(crate) first: TreeSet<K, PREFIX_LEN>,
@@ -17,7 +17,7 @@ pub struct Sets<K: AsBytes + Drop, const PREFIX_LEN: usize> {
 }
 
 impl<K: AsBytes + Shown + Drop, const PREFIX_LEN: usize> Sets<K, PREFIX_LEN> {
-    /// Two sets with no elements.
+    /// Returns two sets with no elements.
     pub fn new(alloc: Global) -> Self
         ensures first { elements result.first ≡ [] }
         ensures second { elements result.second ≡ [] }
@@ -29,7 +29,7 @@ impl<K: AsBytes + Shown + Drop, const PREFIX_LEN: usize> Sets<K, PREFIX_LEN> {
         }
     }
 
-    // The calls that put a whole set in the place of the first.
+    /// Makes a call that empties the first set, or swaps it with the second.
     fn renew(&mut self, name: SetName, words: Words<'_>, text: &mut Text) -> Answered {
         words.end()?;
         match name {
@@ -44,7 +44,7 @@ impl<K: AsBytes + Shown + Drop, const PREFIX_LEN: usize> Sets<K, PREFIX_LEN> {
         Ok(())
     }
 
-    // The calls that take the element at one end.
+    /// Makes a call that removes the element at one end.
     fn pop(&mut self, name: SetName, words: Words<'_>, text: &mut Text) -> Answered {
         words.end()?;
         let popped = match name {
@@ -55,7 +55,8 @@ impl<K: AsBytes + Shown + Drop, const PREFIX_LEN: usize> Sets<K, PREFIX_LEN> {
         Ok(())
     }
 
-    // The calls that take the element of some bytes, those below them, or those from them on.
+    /// Makes a call that removes the element with the bytes, the elements whose bytes start with
+    /// them, or the elements from them on.
     fn remove(&mut self, name: SetName, mut words: Words<'_>, text: &mut Text) -> Answered {
         let query = words.last_bytes()?;
         match name {
@@ -70,7 +71,7 @@ impl<K: AsBytes + Shown + Drop, const PREFIX_LEN: usize> Sets<K, PREFIX_LEN> {
 }
 
 impl<K: ScriptKey, const PREFIX_LEN: usize> Sets<K, PREFIX_LEN> {
-    /// Makes the call of this name with these words after it, and adds its answer.
+    /// Makes the named call with the words after it, and appends its answer.
     pub(crate) fn call(&mut self, name: SetName, words: Words<'_>, text: &mut Text) -> Answered {
         match name {
             SetName::New | SetName::Clear | SetName::Swap => self.renew(name, words, text),
@@ -91,7 +92,7 @@ impl<K: ScriptKey, const PREFIX_LEN: usize> Sets<K, PREFIX_LEN> {
         }
     }
 
-    // The calls that place an element.
+    /// Makes a call that places an element.
     fn place(&mut self, name: SetName, mut words: Words<'_>, text: &mut Text) -> Answered {
         let element = words.last_key()?;
         match name {
@@ -103,7 +104,7 @@ impl<K: ScriptKey, const PREFIX_LEN: usize> Sets<K, PREFIX_LEN> {
 }
 
 impl<K: FixedKey, const PREFIX_LEN: usize> Sets<K, PREFIX_LEN> {
-    /// Makes the call of this name with these words after it, and adds its answer.
+    /// Makes the named call with the words after it, and appends its answer.
     pub fn call_of_fixed(&mut self, name: SetName, words: Words<'_>, text: &mut Text) -> Answered
         requires { (k j : K) → K.is_clone k j → K.bytes j ≡ K.bytes k }
     {
@@ -119,7 +120,7 @@ impl<K: FixedKey, const PREFIX_LEN: usize> Sets<K, PREFIX_LEN> {
 }
 
 impl<K: ScriptKey + NoPrefixesBytes, const PREFIX_LEN: usize> Sets<K, PREFIX_LEN> {
-    /// Makes the call of this name with these words after it, and adds its answer.
+    /// Makes the named call with the words after it, and appends its answer.
     pub fn call_of_apart(&mut self, name: SetName, words: Words<'_>, text: &mut Text) -> Answered {
         match name {
             SetName::Insert | SetName::Replace => self.insert(name, words, text),
@@ -131,7 +132,7 @@ impl<K: ScriptKey + NoPrefixesBytes, const PREFIX_LEN: usize> Sets<K, PREFIX_LEN
         }
     }
 
-    // The calls that place an element of which it is known that it conflicts with none.
+    /// Makes a call that places an element that conflicts with no other.
     fn insert(&mut self, name: SetName, mut words: Words<'_>, text: &mut Text) -> Answered {
         let element = words.last_key()?;
         match name {

@@ -1,4 +1,4 @@
-//! How the first set and the second compare, and what the first is as text.
+//! Comparisons of the first set with the second, and the first as text.
 use crate::sets::calls::Sets;
 use blart_keys::OrderedBytes;
 use script_words::{Answered, SetName, Shown, Text, Words, have_one_digest, show_debug};
@@ -6,7 +6,7 @@ use std::fmt::Debug;
 use std::hash::Hash;
 
 impl<K: OrderedBytes + Hash + Debug + Drop, const PREFIX_LEN: usize> Sets<K, PREFIX_LEN> {
-    /// Makes the call of this name, which compares the sets, and adds its answer.
+    /// Makes the named call, which compares the sets, and appends its answer.
     pub(crate) fn compare(&self, name: SetName, words: Words<'_>, text: &mut Text) -> Answered {
         words.end()?;
         match name {

@@ -1,4 +1,4 @@
-//! How often merges and tests of both sets compare elements.
+//! Counts the comparisons of elements in merges and tests of both sets.
 use crate::sets::calls::Sets;
 use blart_keys::AsBytes;
 use blart_set::{TreeSet, TryInsertError};
@@ -7,7 +7,8 @@ use std::cell::Cell;
 use std::iter::Iterator;
 
 impl<K: AsBytes + Drop, const PREFIX_LEN: usize> Sets<K, PREFIX_LEN> {
-    /// Makes the call of this name over sets of the same bytes, and adds its answer and how often it compared elements.
+    /// Makes the named call over sets of the same bytes, and appends its answer and the number of
+    /// comparisons.
     pub(crate) fn count(&self, name: SetName, words: Words<'_>, text: &mut Text) -> Answered {
         let count = Cell::new(0u64);
         let mut sets = Sets {
@@ -23,7 +24,7 @@ impl<K: AsBytes + Drop, const PREFIX_LEN: usize> Sets<K, PREFIX_LEN> {
         Ok(())
     }
 
-    // Adds the bytes of both sets to those of others.
+    /// Adds the bytes of both sets to two others.
     fn add_to<'a>(
         &'a self,
         sets: &mut Sets<Compared<'a>, PREFIX_LEN>,
@@ -33,7 +34,7 @@ impl<K: AsBytes + Drop, const PREFIX_LEN: usize> Sets<K, PREFIX_LEN> {
         add_all(&mut sets.second, &self.second, count)
     }
 
-    // Adds the bytes of both sets to those of others, makes the call of these, and adds its answer.
+    /// Adds the bytes of both sets to two others, makes the call of these, and appends its answer.
     fn call_in<'a>(
         &'a self,
         sets: &mut Sets<Compared<'a>, PREFIX_LEN>,
@@ -47,7 +48,7 @@ impl<K: AsBytes + Drop, const PREFIX_LEN: usize> Sets<K, PREFIX_LEN> {
     }
 }
 
-// Adds the bytes of the elements, which count how often they are compared.
+/// Adds the bytes of the elements. They count their comparisons.
 fn add_all<'a, K: AsBytes + Drop, const P: usize>(
     copy: &mut TreeSet<Compared<'a>, P>,
     set: &'a TreeSet<K, P>,

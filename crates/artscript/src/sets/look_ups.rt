@@ -1,10 +1,10 @@
-//! The calls that leave the sets as they are.
+//! The calls that do not change the sets.
 use crate::sets::calls::Sets;
 use blart_keys::OrderedBytes;
 use script_words::{Answered, SetName, Shown, Text, Unanswered, Words};
 
 impl<K: OrderedBytes + Shown + Drop, const PREFIX_LEN: usize> Sets<K, PREFIX_LEN> {
-    /// Makes the call of this name, which leaves the sets as they are, and adds its answer.
+    /// Makes the named call, which does not change the sets, and appends its answer.
     pub(crate) fn look_up(&self, name: SetName, words: Words<'_>, text: &mut Text) -> Answered {
         match name {
             SetName::Len | SetName::IsEmpty | SetName::First | SetName::Last => {
@@ -33,7 +33,7 @@ impl<K: OrderedBytes + Shown + Drop, const PREFIX_LEN: usize> Sets<K, PREFIX_LEN
         }
     }
 
-    // The calls with no argument.
+    /// Makes a call without arguments.
     fn tell(&self, name: SetName, words: Words<'_>, text: &mut Text) -> Answered {
         words.end()?;
         match name {
@@ -45,7 +45,7 @@ impl<K: OrderedBytes + Shown + Drop, const PREFIX_LEN: usize> Sets<K, PREFIX_LEN
         Ok(())
     }
 
-    // The calls that look for some bytes.
+    /// Makes a call that searches for the bytes.
     fn find(&self, name: SetName, mut words: Words<'_>, text: &mut Text) -> Answered {
         let query = words.last_bytes()?;
         match name {
@@ -60,7 +60,7 @@ impl<K: OrderedBytes + Shown + Drop, const PREFIX_LEN: usize> Sets<K, PREFIX_LEN
 }
 
 impl<K: OrderedBytes + Shown + Drop, const PREFIX_LEN: usize> Sets<K, PREFIX_LEN> {
-    /// Makes the call of this name of both sets, and adds its answer.
+    /// Makes the named call of both sets, and appends its answer.
     pub(crate) fn call_of_both(
         &self,
         name: SetName,
@@ -78,7 +78,7 @@ impl<K: OrderedBytes + Shown + Drop, const PREFIX_LEN: usize> Sets<K, PREFIX_LEN
         }
     }
 
-    // Makes the test of this name of both sets, and adds its answer.
+    /// Makes the named test of both sets, and appends its answer.
     fn relate(&self, name: SetName, words: Words<'_>, text: &mut Text) -> Answered {
         words.end()?;
         let holds = match name {

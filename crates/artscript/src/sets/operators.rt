@@ -1,4 +1,4 @@
-//! The operators, which make a new set of the first and the second.
+//! The operators, which make a new set from the first and the second.
 ghost use Rattle.std.specs.Prelude.{◌≡◌};
 
 use crate::sets::calls::Sets;
@@ -8,7 +8,7 @@ use script_words::{Answered, FixedKey, SetName, Shown, Text, Words, show_items};
 use std::alloc::AllocError;
 
 impl<K: FixedKey, const PREFIX_LEN: usize> Sets<K, PREFIX_LEN> {
-    /// Makes the set that the operator of this name gives, and adds its elements.
+    /// Makes the set that the named operator returns, and appends its elements.
     pub(crate) fn operate(&self, name: SetName, words: Words<'_>, text: &mut Text) -> Answered
         requires { (k j : K) → K.is_clone k j → K.bytes j ≡ K.bytes k }
     {
@@ -25,7 +25,7 @@ impl<K: FixedKey, const PREFIX_LEN: usize> Sets<K, PREFIX_LEN> {
     }
 }
 
-// Adds the elements of a set, if it was made, or that there was no memory.
+/// Appends the elements of a set, or the error if the operator ran out of memory.
 fn show_made<K: AsBytes + Shown + Drop, const P: usize>(
     made: &Result<TreeSet<K, P>, AllocError>,
     text: &mut Text,

@@ -11,7 +11,7 @@ use std::iter::{DoubleEndedIterator, Iterator};
 use std::ops::Bound;
 
 impl<K: AsBytes + Shown + Drop, const PREFIX_LEN: usize> Sets<K, PREFIX_LEN> {
-    /// Keeps the elements that are picked, and adds how often the closure was asked.
+    /// Keeps the elements that the closure picks, and appends how often it was called.
     pub(crate) fn retain(&mut self, mut words: Words<'_>, text: &mut Text) -> Answered {
         let pick = BytesPick::read(&mut words)?;
         words.end()?;
@@ -20,7 +20,7 @@ impl<K: AsBytes + Shown + Drop, const PREFIX_LEN: usize> Sets<K, PREFIX_LEN> {
         Ok(())
     }
 
-    /// Takes out the elements that are picked, and adds them and how often the closure was asked.
+    /// Removes the elements that the closure picks, and appends them and how often it was called.
     pub(crate) fn extract_if(
         &mut self,
         start: Bound<&Vec<u8>>,

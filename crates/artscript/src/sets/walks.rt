@@ -1,4 +1,4 @@
-//! Walks over one set, and over two side by side.
+//! Walks over one set, and walks that merge two.
 ghost use Rattle.blart_keys.specs.Bounds.{bound_bytes, CanRange};
 ghost use Rattle.blart_keys.specs.KeyBytes.{vec_bytes};
 ghost use Rattle.blart_set.specs.Elements.{elements};
@@ -19,7 +19,7 @@ impl<K: AsBytes + Shown + Drop, const PREFIX_LEN: usize> Sets<K, PREFIX_LEN> {
         Ok(())
     }
 
-    /// Takes the set apart.
+    /// Walks over all elements and consumes the set.
     pub(crate) fn into_elements(&mut self, mut words: Words<'_>, text: &mut Text) -> Answered {
         let letters = words.last_steps()?;
         let set = mem::replace(&mut self.first, TreeSet::with_prefix_len(self.alloc));
@@ -27,7 +27,7 @@ impl<K: AsBytes + Shown + Drop, const PREFIX_LEN: usize> Sets<K, PREFIX_LEN> {
         Ok(())
     }
 
-    /// Makes the call of this name, which is of the elements within two bounds, and adds its answer.
+    /// Makes the named call on the elements within two bounds, and appends its answer.
     pub(crate) fn within(
         &mut self,
         name: SetName,
@@ -58,7 +58,7 @@ impl<K: AsBytes + Shown + Drop, const PREFIX_LEN: usize> Sets<K, PREFIX_LEN> {
         }
     }
 
-    // Walks over the elements within two bounds.
+    /// Makes a call that walks over the elements within two bounds.
     fn range(
         &self,
         start: Bound<&Vec<u8>>,
@@ -74,7 +74,7 @@ impl<K: AsBytes + Shown + Drop, const PREFIX_LEN: usize> Sets<K, PREFIX_LEN> {
         Ok(())
     }
 
-    /// Walks over the elements that begin with some bytes.
+    /// Walks over the elements whose bytes start with the given ones.
     pub(crate) fn prefix(&self, mut words: Words<'_>, text: &mut Text) -> Answered {
         let front = words.bytes()?;
         let letters = words.last_moves()?;
@@ -85,7 +85,7 @@ impl<K: AsBytes + Shown + Drop, const PREFIX_LEN: usize> Sets<K, PREFIX_LEN> {
 }
 
 impl<K: OrderedBytes + Shown + Drop, const PREFIX_LEN: usize> Sets<K, PREFIX_LEN> {
-    /// Makes the call of this name, which merges both sets, and adds its answer.
+    /// Makes the named call, which merges both sets, and appends its answer.
     pub(crate) fn merge(&self, name: SetName, words: Words<'_>, text: &mut Text) -> Answered {
         words.end()?;
         match name {

@@ -1,4 +1,5 @@
-//! What no script can say: how often keys are asked, what a hasher is fed, when keys and values are dropped, closures, keys that are texts, and calls that no line makes.
+//! Tests of what no script can say: how often keys are asked for their bytes, what a hasher is fed,
+//! when keys and values are dropped, closures, keys that are texts, and calls that no line makes.
 
 mod asked;
 mod calls;
@@ -16,12 +17,12 @@ use blart_map::TreeMap;
 use std::iter::Iterator;
 use std::process::Abort;
 
-// A vector of these bytes.
+/// Returns a vector of the bytes.
 fn vector(rt: &(impl Abort + AllocGlobal), bytes: &[u8]) -> Vec<u8> {
     Vec::from_slice(rt.alloc(), bytes).expect(rt, "memory")
 }
 
-// The map has these values, in this order, and nothing else.
+/// Checks that the map has exactly these values, in this order.
 fn assert_values<K: AsBytes + Drop, const P: usize>(
     rt: &impl Abort,
     map: &TreeMap<K, usize, P>,

@@ -17,10 +17,10 @@ use blart_set::TreeSet;
 use std::alloc::AllocError;
 use std::process::Abort;
 
-// The map of the examples.
+/// The map of the examples.
 type Map<'a> = TreeMap<&'a str, i32, 16>;
 
-// A set of these elements.
+/// Returns a set of the elements.
 fn set_of<K: NoPrefixesBytes + Copy, const N: usize>(
     rt: &(impl Abort + AllocGlobal),
     elements: [K; N],
@@ -28,7 +28,7 @@ fn set_of<K: NoPrefixesBytes + Copy, const N: usize>(
     TreeSet::from_array(rt.alloc(), elements).expect(rt, "memory")
 }
 
-// Why an example ended before its last line.
+/// The reason why an example ended before its last line.
 #[derive(Clone, Copy)]
 enum Fail {
     Memory,
@@ -56,7 +56,8 @@ impl From<TryInsertError> for Fail {
     }
 }
 
-// Most examples are lent a map, one after the other: each finds in it what those before it left.
+/// Most examples take the same map one after the other. Each finds in it what the examples before
+/// it left.
 #[test]
 fn of_maps(rt: HostRuntime) {
     let mut map = Map::new(rt.alloc());
@@ -64,14 +65,14 @@ fn of_maps(rt: HostRuntime) {
         calls::insert_prefix_error(&rt, &mut map),
         calls::try_insert_error(&rt, &mut map),
         entries::entry(&rt, &mut map),
-        // It leaves no pair.
+        /// It leaves no pair.
         entries::occupied_entry(&rt, &mut map),
         entries::vacant_entry(&rt, &mut map),
         walks::iter_mut(&rt, &mut map),
         walks::values_mut(&rt, &mut map),
         walks::range_mut(&rt, &mut map),
         walks::subtree_iter_mut(&rt, &mut map),
-        // It leaves no pair.
+        /// It leaves no pair.
         walks::take_walk(&rt, &mut map),
         prefix_entries::prefix_kind(&rt, &mut map),
         walks::extract_if(&rt, &mut map),

@@ -1,4 +1,4 @@
-//! Runs over readers and writers that fail.
+//! Runs of the program over readers and writers that fail.
 
 mod hostile;
 mod lines;
@@ -9,14 +9,14 @@ use std::io;
 use std::io::{ErrorKind, Read, Write};
 use std::process::Abort;
 
-// A reader of a text, which returns at most `most` bytes a read. At the end it fails if `fails` is
-// true.
+/// A reader of a text. Each read returns at most `most` bytes. At the end it fails if `fails` is
+/// true.
 #[derive(Drop)]
 struct Pieces<'a> {
     text: &'a [u8],
     most: usize,
     fails: bool,
-    // Whether a read has returned the end or an error, and whether another read came after it.
+    /// Whether a read has returned the end or an error, and whether another read came after it.
     ended: bool,
     read_again: bool,
 }
@@ -48,8 +48,8 @@ impl Read for Pieces<'_> {
     }
 }
 
-// A writer that takes at most `most` bytes a call, and `room` bytes in all. Then it fails if
-// `fails` is true, and else takes nothing. It remembers whether it was flushed.
+/// A writer that takes at most `most` bytes a call, and `room` bytes in all. When it is full, it
+/// fails if `fails` is true, else it takes nothing. It remembers whether it was flushed.
 #[derive(Drop)]
 struct Sink {
     taken: Vec<u8>,
@@ -78,7 +78,7 @@ impl Write for Sink {
 
 const AMPLE: usize = 1 << 30;
 
-// The ends of a run.
+/// The reader and the writer of a run.
 #[derive(Clone, Copy)]
 struct Ends {
     piece: usize,
@@ -96,9 +96,9 @@ const SOUND: Ends = Ends {
     write_fails: true,
 };
 
-// A run over the text ends with this result and has written these bytes. The end that failed is
-// marked, and no other. The reader was not read again after its end or its failure, and the writer
-// was not flushed.
+/// Checks that a run over the text ends with this result and has written these bytes. Only the end
+/// that failed is marked. The reader was not read again after its end or its failure, and the
+/// writer was not flushed.
 fn assert_outcome(
     rt: &(impl Abort + AllocGlobal),
     text: &[u8],
@@ -127,14 +127,14 @@ fn assert_outcome(
     assert!(rt; write_failed == matches!(ended, Err(RunError::Write)));
 }
 
-// Adds some bytes to a text, so many times.
+/// Appends the bytes to the text, `count` times.
 fn push(rt: &impl Abort, text: &mut Vec<u8>, bytes: &[u8], count: usize) {
     for _ in 0..count {
         text.extend_from_slice(bytes).expect(rt, "memory");
     }
 }
 
-// The parts in turn, each so many times.
+/// Returns the parts in turn, each repeated as often as its number says.
 fn text_of(rt: &(impl Abort + AllocGlobal), parts: &[(&str, usize)]) -> Vec<u8> {
     let mut text = Vec::new(rt.alloc());
     for (part, count) in parts {
@@ -143,7 +143,8 @@ fn text_of(rt: &(impl Abort + AllocGlobal), parts: &[(&str, usize)]) -> Vec<u8> 
     text
 }
 
-// A line, and an answer of more bytes than wait for the writer, whatever it takes at a time.
+/// Checks a long line, and an answer that is longer than the program's buffer, with writers that
+/// take any number of bytes at a time.
 #[test]
 fn lines_and_answers_of_many_bytes(rt: HostRuntime) {
     let rows: [(&[(&str, usize)], &[(&str, usize)]); 2] = [
@@ -172,7 +173,7 @@ fn lines_and_answers_of_many_bytes(rt: HostRuntime) {
     }
 }
 
-// Each error's text, and the line that the program writes of it.
+/// Checks the text of each error, and the line that the program writes for it.
 #[test]
 fn texts_of_errors(rt: HostRuntime) {
     for (error, text, line) in [

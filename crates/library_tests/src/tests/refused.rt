@@ -1,13 +1,14 @@
-//! What stands where a request for memory was refused.
+//! Tests of what remains after a request for memory was refused.
 //!
-//! Each test passes wherever in it one request is refused, and from wherever in it all requests are
-//! refused. It writes the line `refused` for each call that was. `tools/refusals` refuses the first
-//! request of each test alone, then the second, and so on, until none meets it; and then all requests
-//! from the first on, all from the second on, and so on.
+//! Each test passes if any one of its requests is refused, and if all requests from any one on are
+//! refused. It writes the line `refused` for each call that was refused. `tools/refusals` refuses
+//! the first request of each test alone, then the second, and so on, until the test has no such
+//! request. Then it refuses all requests from the first on, all from the second on, and so on.
 //!
-//! Where a test makes a refused call again, or asks for memory of its own, the remarks `Refusals pause.`
-//! and `Refusals resume.` stand around that. For the runs with all requests from one on refused the tool
-//! puts calls in their places. Elsewhere a test is right whatever is refused.
+//! When a test makes a refused call again, or allocates for itself, that code is between the
+//! remarks `Refusals pause.` and `Refusals resume.`. The tool replaces the remarks by calls, for
+//! the runs in which all requests from one on are refused. The other code of a test is right
+//! whatever is refused.
 
 mod closures;
 mod collected;
@@ -21,15 +22,15 @@ mod router;
 mod runs;
 mod trees;
 
-// Keys of three fronts with two bytes or more after them, in no order.
+/// Keys in no order. Two of them have the same first byte.
 const KEYS: [[u8; 2]; 5] = [[2, 1], [3, 3], [1, 7], [2, 2], [9, 9]];
 
-// The key of a place.
+/// Returns the key of a place.
 fn key_of(place: usize) -> [u8; 2] {
     KEYS[place % 5]
 }
 
-// Says that a call was refused.
+/// Writes that a call was refused.
 fn say_refused(rt: &impl Print) {
     let _ = println!(rt; "refused");
 }

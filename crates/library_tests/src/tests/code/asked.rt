@@ -1,14 +1,14 @@
-//! How many stored keys a call asks for their bytes.
+//! Counts the stored keys that a call asks for their bytes.
 use crate::tests::put;
 use blart_keys::AsBytes;
 use blart_map::TreeMap;
 use std::cell::Cell;
 use std::process::Abort;
 
-// The bytes of which the thousand keys are all triples, in no order.
+/// The ten bytes, in no order. The thousand keys are all triples of them.
 const BYTES: [u8; 10] = [7, 250, 0, 31, 128, 64, 3, 255, 90, 1];
 
-// The bytes of a place below 1,000, by its digits.
+/// Returns the bytes of the key of a place below 1,000: one for each digit.
 fn bytes_of(place: usize) -> [u8; 3] {
     [
         BYTES[place / 100 % 10],
@@ -17,7 +17,7 @@ fn bytes_of(place: usize) -> [u8; 3] {
     ]
 }
 
-// What was asked in a round: how often keys for their bytes, and how many keys.
+/// The counts of a round: how often keys were asked for their bytes, and how many keys were.
 #[derive(Clone, Copy)]
 struct Tally {
     round: usize,
@@ -25,7 +25,7 @@ struct Tally {
     keys: usize,
 }
 
-// The next round, in which nothing was asked yet.
+/// Starts the next round with both counts at 0.
 fn begin_round(tally: &Cell<Tally>) {
     let round = tally.get().round.wrapping_add(1);
     tally.set(Tally {
@@ -35,7 +35,7 @@ fn begin_round(tally: &Cell<Tally>) {
     });
 }
 
-// A key of three bytes that counts how often it is asked for them.
+/// A key of three bytes that counts how often it is asked for them.
 #[derive(Drop)]
 struct Asked<'a> {
     bytes: [u8; 3],
@@ -66,9 +66,10 @@ impl<'a> AsBytes for Asked<'a> {
 
 type Map<'a, const P: usize> = TreeMap<Asked<'a>, usize, P>;
 
-// Each of a thousand insertions but the first reads the bytes of the new key, and of one stored key at
-// most, or of two if less than two bytes of a prefix are kept. If it cuts a full row in half, it may
-// also read the keys of the 32 leaves that move. The first one need not read its own key.
+/// Makes a thousand insertions. Each but the first reads the bytes of the new key, and of at most
+/// one stored key, or of two if the nodes keep less than two bytes of a prefix. If it splits a full
+/// row, it may also read the keys of the 32 leaves that move. The first one need not read its own
+/// key.
 fn put_thousand<'a, const P: usize>(rt: &impl Abort, map: &mut Map<'a, P>, tally: &'a Cell<Tally>) {
     let most = if P < 2 { 35 } else { 34 };
     for place in 0..1000 {
@@ -85,7 +86,8 @@ fn put_thousand<'a, const P: usize>(rt: &impl Abort, map: &mut Map<'a, P>, tally
     assert!(rt; map.len() == 1000);
 }
 
-// A look-up of these bytes, or of what begins them, finds this value, and asks stored keys at most four times: at least once where one is found.
+/// Checks that a look-up of these bytes, or of their prefixes, finds this value. It asks stored
+/// keys for their bytes at most four times, and at least once if it finds one.
 fn assert_few<K: AsBytes + Drop, const P: usize>(
     rt: &impl Abort,
     map: &TreeMap<K, usize, P>,
@@ -104,7 +106,8 @@ fn assert_few<K: AsBytes + Drop, const P: usize>(
     assert!(rt; calls <= 4 && (calls > 0 || want.is_none()));
 }
 
-// A thousand stored keys, and two thousand queries that find nothing: 8 is not one of the ten bytes.
+/// Looks up a thousand stored keys, and two thousand that are not stored: 8 is not one of the ten
+/// bytes.
 fn look_up_thousand<K: AsBytes + Drop, const P: usize>(
     rt: &impl Abort,
     map: &TreeMap<K, usize, P>,

@@ -1,4 +1,4 @@
-//! Calls of maps that no line makes.
+//! Calls of maps that no line of a script makes.
 use crate::tests::map_of;
 use blart::{key_text_law, number_text_law};
 use blart_map::{IntoIter, TreeMap};
@@ -7,7 +7,7 @@ use std::alloc::AllocError;
 use std::iter::{IntoIterator, Iterator};
 use std::process::Abort;
 
-// The digits of the values, in the order in which a loop gives the pairs.
+/// Returns the digits of the values, in the order in which a loop yields the pairs.
 fn digits_of(walk: IntoIter<u8, usize, 2>) -> usize {
     let mut digits = 0usize;
     for (_, value) in walk {
@@ -40,7 +40,7 @@ fn maps_and_sets_collected(rt: HostRuntime) {
     assert!(rt; is_map && is_set);
 }
 
-// A pair is placed and taken back by its entry.
+/// Places a pair by an entry and takes it back.
 fn place_only_key<const P: usize>(rt: &(impl Abort + AllocGlobal)) {
     let mut map = TreeMap::<[u8; 0], usize, P>::with_prefix_len(rt.alloc());
     let entry = map.entry([]).insert_entry(0).expect(rt, "memory");
@@ -60,7 +60,7 @@ fn the_only_key_of_its_type(rt: HostRuntime) {
     place_only_key::<64>(&rt);
 }
 
-// Laws do nothing.
+/// Calls the laws, which do nothing.
 #[test]
 fn laws(rt: HostRuntime) {
     let map = map_of::<u8, usize, 2>(&rt, &[(5, 0), (3, 1)]);

@@ -1,4 +1,4 @@
-//! Closures that count and write, and values that are lent.
+//! Closures that count and write, and mutable references to values.
 use super::assert_values;
 use crate::tests::{map_of, put};
 use blart_keys::I32Key;
@@ -7,7 +7,8 @@ use std::iter::{DoubleEndedIterator, Iterator};
 use std::ops::Bound;
 use std::process::Abort;
 
-// Picks the even values, and doubles the others. Answers the values that came out, as digits behind a one.
+/// Removes the even values, and doubles the others. Returns the values that were removed, as digits
+/// after a 1.
 fn extract_doubling<const P: usize>(map: &mut TreeMap<I32Key, usize, P>) -> usize {
     let walk = map.extract_if(Bound::<&I32Key>::Unbounded, Bound::Unbounded, |_, value| {
         let is_picked = *value % 2 == 0;
@@ -23,7 +24,7 @@ fn extract_doubling<const P: usize>(map: &mut TreeMap<I32Key, usize, P>) -> usiz
     digits
 }
 
-// The numbers below 10, each with itself as value.
+/// Checks the map of the numbers below 10, each with itself as value.
 fn doubles<const P: usize>(rt: &(impl Abort + AllocGlobal)) {
     let mut map: TreeMap<I32Key, usize, P> = TreeMap::with_prefix_len(rt.alloc());
     for key in 0..10u8 {
@@ -49,8 +50,8 @@ fn values_are_written_and_picked(rt: HostRuntime) {
     doubles::<64>(&rt);
 }
 
-// Takes a pair from each end by a closure that adds 1 to the value and to a counter of its own, and
-// picks the pair if the counter is even. Returns the two pairs and the counter.
+/// Removes a pair from each end with a closure that adds 1 to the value and to a counter of its
+/// own, and picks the pair if the counter is even. Returns the two pairs and the counter.
 fn extract_by_counter<const P: usize>(
     map: &mut TreeMap<u8, usize, P>,
 ) -> (Option<(u8, usize)>, Option<(u8, usize)>, usize) {
@@ -66,7 +67,7 @@ fn extract_by_counter<const P: usize>(
     (first, last, counter)
 }
 
-// The keys 1 to 6, all with the value 0.
+/// Checks the map of the keys 1 to 6, all with the value 0.
 fn counts<const P: usize>(rt: &(impl Abort + AllocGlobal)) {
     let mut map: TreeMap<u8, usize, P> = TreeMap::with_prefix_len(rt.alloc());
     for key in 1..7u8 {
@@ -89,15 +90,15 @@ fn a_closure_picks_by_its_own_counter(rt: HostRuntime) {
     counts::<64>(&rt);
 }
 
-// A map of bytes.
+/// A map of bytes.
 type Letters = TreeMap<u8, usize, 2>;
 
-// Adds a key to its value.
+/// Adds the key to its value.
 fn add_key(key: &u8, value: &mut usize) {
     *value = value.wrapping_add(usize::from(*key));
 }
 
-// Adds each key to its value, and then once more that of what begins with 20.
+/// Adds each key to its value, and the keys that start with 20 once more.
 fn call_on_each(rt: &impl Abort, map: &mut Letters) {
     map.iter_mut().for_each(add_key);
     assert_values(rt, map, &[10, 21, 32, 43, 54]);
@@ -105,7 +106,7 @@ fn call_on_each(rt: &impl Abort, map: &mut Letters) {
     assert_values(rt, map, &[10, 41, 32, 43, 54]);
 }
 
-// The calls come front to back, also where the walk has lent from both ends.
+/// Numbers the values front to back, but for one at each end, which the walk has yielded before.
 fn count_the_rest(map: &mut Letters) {
     let mut walk = map.values_mut();
     let _ = walk.next();

@@ -1,4 +1,4 @@
-//! Walks that are opened under a count, which only proofs read.
+//! Walks that are opened with a count of visits, which only proofs read.
 use crate::tests::map_of;
 use blart_map::{LeafId, TreeMap, Visits};
 use std::iter::Iterator;
@@ -6,7 +6,7 @@ use std::ops::Bound;
 
 type Map = TreeMap<u8, usize, 2>;
 
-// The value of the first pair after the key 3.
+/// Returns the value of the first pair after the key 3.
 fn after_three(map: &Map) -> Option<usize> {
     let mut visits = Visits::new();
     let mut cursor = map.cursor_counted(Bound::Excluded(&3u8), Bound::Unbounded, &mut visits);
@@ -14,7 +14,7 @@ fn after_three(map: &Map) -> Option<usize> {
     Some(*map.leaf(id).1)
 }
 
-// Writes the value of the last key up to 5, and that of the key 8.
+/// Writes the value of the last key up to 5, and the value of the key 8.
 fn write_two(map: &mut Map) {
     let mut visits = Visits::new();
     let mut walk = map.range_mut_counted(Bound::Unbounded, Bound::Included(&5u8), &mut visits);
@@ -27,7 +27,7 @@ fn write_two(map: &mut Map) {
     }
 }
 
-// Writes the value of the first pair, and takes the pair.
+/// Writes the value of the first pair, and takes the pair.
 fn take_first(map: &mut Map) -> Option<(u8, usize)> {
     let mut visits = Visits::new();
     let mut walk = map.take_walk_counted(Bound::<&u8>::Unbounded, Bound::Unbounded, &mut visits);
@@ -40,7 +40,7 @@ fn take_first(map: &mut Map) -> Option<(u8, usize)> {
     None
 }
 
-// Takes the first pair with a value above 60. The proof has to be told of the type `LeafId`.
+/// Takes the first pair with a value above 60. The proof has to be told the type `LeafId`.
 fn take_large(map: &mut Map) -> Option<(u8, usize)> {
     let _id: Option<LeafId> = None;
     let mut visits = Visits::new();

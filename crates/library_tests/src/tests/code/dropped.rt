@@ -1,4 +1,4 @@
-//! When keys and values are dropped.
+//! Tests of when keys and values are dropped.
 use crate::tests::put;
 use blart_keys::{AsBytes, NoPrefixesBytes};
 use blart_map::TreeMap;
@@ -6,7 +6,7 @@ use std::cell::Cell;
 use std::iter::{DoubleEndedIterator, IntoIterator, Iterator};
 use std::process::Abort;
 
-// A key of one byte that counts how often one is dropped.
+/// A key of one byte that counts each drop.
 struct Marked<'a> {
     bytes: [u8; 1],
     drops: &'a Cell<usize>,
@@ -46,7 +46,8 @@ fn key_of(drops: &Cell<usize>) -> Marked<'_> {
     Marked { bytes: [7], drops }
 }
 
-// On stored bytes the key handed in is dropped by the call. A replacement gives the stored one to its caller.
+/// Inserts a key whose bytes are stored. The call drops the new key. A replacement returns the
+/// stored key to its caller.
 fn insert_again<'a>(rt: &impl Abort, map: &mut TreeMap<Marked<'a>, u8, 2>, drops: &'a Cell<usize>) {
     for count in 0..2usize {
         assert!(rt; map.insert(key_of(drops), 1).is_ok() && drops.get() == count);
@@ -69,7 +70,7 @@ fn keys_for_stored_bytes(rt: HostRuntime) {
     assert!(rt; removed == 1 && before == 4);
 }
 
-// A value that counts how often one is dropped.
+/// A value that counts each drop.
 struct Counted<'a> {
     drops: &'a Cell<usize>,
 }
@@ -81,7 +82,7 @@ impl Drop for Counted<'_> {
     }
 }
 
-// Eight values.
+/// Returns a map of eight values.
 fn eight<'a, const P: usize>(
     rt: &(impl Abort + AllocGlobal),
     drops: &'a Cell<usize>,
@@ -94,8 +95,8 @@ fn eight<'a, const P: usize>(
     map
 }
 
-// After an item from each end came and was dropped two values are dropped and six are live. The
-// walk drops the six.
+/// Takes an item from each end and drops both. Then two values are dropped and six are live. The
+/// walk drops the six.
 fn assert_live<W: DoubleEndedIterator + Drop>(rt: &impl Abort, mut walk: W, drops: &Cell<usize>)
 where
     W::Item: Drop,

@@ -1,16 +1,17 @@
-//! What a hasher is fed.
+//! Tests of what a hasher is fed.
 use crate::tests::map_of;
 use blart_set::TreeSet;
 use std::hash::{DefaultHasher, Hash, Hasher};
 
-// What a hasher makes of a map or a set.
+/// Returns the hash of a map or a set.
 fn digest_of<T: Hash>(value: &T) -> u64 {
     let mut state = DefaultHasher::new();
     value.hash(&mut state);
     state.finish()
 }
 
-// The length comes first, and then each key and its value, and of sets each element; of no pairs the length alone.
+/// The hasher is fed the length, then each key and its value, or each element of a set. If there
+/// are no pairs, it is fed the length alone.
 #[test]
 fn maps_and_sets(rt: HostRuntime) {
     let mut map = map_of::<u8, usize, 2>(&rt, &[(3, 0), (1, 1), (2, 2)]);

@@ -1,4 +1,4 @@
-//! The bytes of the keys of each type, and the texts of errors.
+//! The bytes of keys of each type, and the texts of errors.
 use crate::tests::assert_display;
 use blart_keys::{
     AsBytes, I32Key, InsertPrefixError, OrderedBytes, TryInsertError, U32Key, U64Key, ZKey,
@@ -9,7 +9,7 @@ use std::boxed::BoxedSlice;
 use std::fmt::Debug;
 use std::process::Abort;
 
-// Two keys of these bytes, of which the first is less.
+/// Checks that the two keys have these bytes, and that the first is less.
 fn assert_keys<K: OrderedBytes>(
     rt: &impl Abort,
     (low, low_bytes): (&K, &[u8]),
@@ -40,7 +40,7 @@ fn numbers(rt: HostRuntime) {
     assert!(rt; least.get() == -2147483648);
 }
 
-// The same of keys that own their bytes.
+/// Checks the same for keys that own their bytes.
 fn assert_owners<K: OrderedBytes + Drop, E: Debug>(
     rt: &impl Abort,
     (low, low_bytes): (Result<K, E>, &[u8]),
@@ -75,7 +75,7 @@ fn zkey(rt: &(impl Abort + AllocGlobal), bytes: &[u8]) -> ZKey {
     ZKey::from_bytes(rt.alloc(), bytes).expect(rt, "memory")
 }
 
-// The key of these bytes gives them back, without the zero that it ends with.
+/// Checks that the key of these bytes returns them, without the zero at its end.
 fn assert_zkey(rt: &(impl Abort + AllocGlobal), bytes: &[u8], with_zero: &[u8]) {
     let key = zkey(rt, bytes);
     let is_right = *key.to_bytes() == *bytes && *key.as_bytes() == *with_zero;

@@ -1,10 +1,10 @@
-//! A conflict where room was made.
+//! A conflict in a map with reserved room.
 use super::vector;
 use crate::tests::put;
 use blart_map::TreeMap;
 use std::process::Abort;
 
-// Beside a word that begins it another is refused, and the room stays.
+/// Refuses a word whose prefix is stored. The room is unchanged.
 fn refuse_in_room(rt: &(impl Abort + AllocGlobal), map: &mut TreeMap<Vec<u8>, usize, 2>) {
     let cars = vector(rt, b"cars");
     let mut room = map.reserve(1).expect(rt, "memory");

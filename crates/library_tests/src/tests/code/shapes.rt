@@ -7,7 +7,7 @@ use std::process::Abort;
 
 type Map<const P: usize> = TreeMap<Vec<u8>, usize, P>;
 
-// The value of a pair, or a number that is no value where there is none.
+/// Returns the value of a pair, or a number that is no value if there is no pair.
 fn value_of(pair: Option<(&Vec<u8>, &usize)>) -> usize {
     match pair {
         Some((_, value)) => *value,
@@ -15,7 +15,7 @@ fn value_of(pair: Option<(&Vec<u8>, &usize)>) -> usize {
     }
 }
 
-// The map has so many pairs and inner nodes, and its ends are the keys of these numbers.
+/// Checks the number of pairs and inner nodes, and that the keys of these numbers are at the ends.
 fn assert_size<const P: usize>(
     rt: &impl Abort,
     map: &Map<P>,
@@ -29,7 +29,8 @@ fn assert_size<const P: usize>(
     assert!(rt; first == ends.0 && last == ends.1);
 }
 
-// For each number below 1,000 a key of so many zeros and then 1, so that each inner node has one below it.
+/// Returns a map with a key for each number below 1,000: `number` zeros and a 1. So each inner node
+/// has one below it.
 fn chain<const P: usize>(rt: &(impl Abort + AllocGlobal)) -> Map<P> {
     let mut map = Map::<P>::with_prefix_len(rt.alloc());
     let mut longest = [0u8; 1000];
@@ -41,7 +42,7 @@ fn chain<const P: usize>(rt: &(impl Abort + AllocGlobal)) -> Map<P> {
     map
 }
 
-// What begins with 500 zeros: from the key of 999 down to that of 500.
+/// Checks the keys that start with 500 zeros: from the key of 999 down to the key of 500.
 fn assert_below<const P: usize>(rt: &impl Abort, map: &Map<P>) {
     let front = [0u8; 500];
     let mut len = 1000usize;
@@ -53,7 +54,7 @@ fn assert_below<const P: usize>(rt: &impl Abort, map: &Map<P>) {
     assert!(rt; len == 500);
 }
 
-// The chain is thinned, and a zero takes the place of all that it begins.
+/// Thins the chain, and replaces all keys that start with a zero by that zero.
 fn thin<const P: usize>(rt: &(impl Abort + AllocGlobal), map: &mut Map<P>) {
     map.retain(|_, number| *number % 2 == 0);
     assert_size(rt, map, 500, 499, (998, 0));
@@ -61,7 +62,8 @@ fn thin<const P: usize>(rt: &(impl Abort + AllocGlobal), map: &mut Map<P>) {
     assert_size(rt, map, 2, 1, (7, 0));
 }
 
-// The chain is thinned. Its clone stands, and the pairs from the key of 500 on leave it.
+/// Clones the chain and thins it. The clone is unchanged. Then the pairs from the key of 500 on are
+/// split off the clone.
 fn take_apart<const P: usize>(rt: &(impl Abort + AllocGlobal)) {
     let mut map = chain::<P>(rt);
     assert_below(rt, &map);

@@ -7,7 +7,7 @@ use std::iter::Iterator;
 use std::ops::Bound;
 use std::process::Abort;
 
-// Titles of films and what is said of them.
+/// Titles of films, and remarks about them.
 const FILMS: [(&str, &str); 4] = [
     ("Office Space", "a stapler is missed"),
     ("Pulp Fiction", "told out of order"),
@@ -30,7 +30,8 @@ fn watch<const P: usize>(rt: &impl Abort, films: &mut TreeMap<&str, &str, P>) {
     assert!(rt; films.keys().eq(&left));
 }
 
-// 100 is added to the values from B to Cheryl, and then those of what begins with C are doubled.
+/// Adds 100 to the values from B to Cheryl, and then doubles the values of the names that start
+/// with C.
 fn raise<const P: usize>(rt: &impl Abort, names: &mut TreeMap<&str, usize, P>) {
     for name in ["Alice", "Bob", "Carol", "Cheryl"] {
         put(rt, names, name, 0);
@@ -64,7 +65,7 @@ fn references_to_texts(rt: HostRuntime) {
     references::<64>(&rt);
 }
 
-// The length of a text is placed as its value.
+/// Places the length of a text as its value.
 fn place_length<const P: usize>(rt: &(impl Abort + AllocGlobal)) {
     let mut map: TreeMap<ZKey, usize, P> = TreeMap::with_prefix_len(rt.alloc());
     let key = ZKey::from_bytes(rt.alloc(), b"f").expect(rt, "memory");

@@ -4,14 +4,14 @@ use blart_map::{Call, InsertPrefixError, Reply, TreeMap, TryInsertError, drive};
 use std::alloc::{AllocError, Global};
 use std::process::Abort;
 
-// The example of `blart_keys::InsertPrefixError`.
+/// The example of `blart_keys::InsertPrefixError`.
 pub(super) fn insert_prefix_error(rt: &impl Abort, map: &mut Map<'_>) -> Result<(), Fail> {
     map.try_insert("cat", 1)?;
     assert!(rt; map.try_entry("ca").err() == Some(InsertPrefixError));
     Ok(())
 }
 
-// The example of `blart_keys::TryInsertError`.
+/// The example of `blart_keys::TryInsertError`.
 pub(super) fn try_insert_error(rt: &impl Abort, map: &mut Map<'_>) -> Result<(), Fail> {
     map.try_insert("cat", 1)?;
     let refused = map.try_insert("ca", 2);
@@ -19,7 +19,7 @@ pub(super) fn try_insert_error(rt: &impl Abort, map: &mut Map<'_>) -> Result<(),
     Ok(())
 }
 
-// The example of `blart_keys::Call`.
+/// The example of `blart_keys::Call`.
 pub(super) fn call(rt: &impl Abort, alloc: Global) -> Result<(), AllocError> {
     let mut map = TreeMap::<&str, i32, 16>::new(alloc);
     let mut run = || -> Result<(), AllocError> {

@@ -3,7 +3,7 @@ use super::{Fail, Map};
 use blart_map::Entry;
 use std::process::Abort;
 
-// The example of `blart_map::Entry`.
+/// The example of `blart_map::Entry`.
 pub(super) fn entry(rt: &impl Abort, map: &mut Map<'_>) -> Result<(), Fail> {
     *map.try_entry("cat")?.or_insert(1)? = 2;
     let entry = map.try_entry("cat")?.and_modify(|value| *value = 3);
@@ -11,7 +11,7 @@ pub(super) fn entry(rt: &impl Abort, map: &mut Map<'_>) -> Result<(), Fail> {
     Ok(())
 }
 
-// The example of `blart_map::OccupiedEntry`.
+/// The example of `blart_map::OccupiedEntry`.
 pub(super) fn occupied_entry(rt: &impl Abort, map: &mut Map<'_>) -> Result<(), Fail> {
     map.try_insert("cat", 1)?;
     if let Entry::Occupied(mut entry) = map.try_entry("cat")? {
@@ -22,7 +22,7 @@ pub(super) fn occupied_entry(rt: &impl Abort, map: &mut Map<'_>) -> Result<(), F
     Ok(())
 }
 
-// The example of `blart_map::VacantEntry`.
+/// The example of `blart_map::VacantEntry`.
 pub(super) fn vacant_entry(rt: &impl Abort, map: &mut Map<'_>) -> Result<(), Fail> {
     if let Entry::Vacant(entry) = map.try_entry("cat")? {
         *entry.insert(1)? = 2;

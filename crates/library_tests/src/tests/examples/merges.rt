@@ -8,7 +8,7 @@ use std::process::Abort;
 
 type Set = TreeSet<u8, 16>;
 
-// The example of `blart_set::Union`.
+/// The example of `blart_set::Union`.
 fn union(rt: &impl Abort, left: &Set, right: &Set) {
     // left is {1, 2}, right is {2, 3}
     let mut merged = left.union(&right);
@@ -19,7 +19,7 @@ fn union(rt: &impl Abort, left: &Set, right: &Set) {
     drop(merged);
 }
 
-// The example of `blart_set::Intersection`.
+/// The example of `blart_set::Intersection`.
 fn intersection(rt: &impl Abort, left: &Set, right: &Set) {
     // left is {1, 2}, right is {2, 3}
     let mut merged = left.intersection(&right);
@@ -28,7 +28,7 @@ fn intersection(rt: &impl Abort, left: &Set, right: &Set) {
     drop(merged);
 }
 
-// The example of `blart_set::Difference`.
+/// The example of `blart_set::Difference`.
 fn difference(rt: &impl Abort, left: &Set, right: &Set) {
     // left is {1, 2}, right is {2, 3}
     let mut merged = left.difference(&right);
@@ -37,7 +37,7 @@ fn difference(rt: &impl Abort, left: &Set, right: &Set) {
     drop(merged);
 }
 
-// The example of `blart_set::SymmetricDifference`.
+/// The example of `blart_set::SymmetricDifference`.
 fn symmetric_difference(rt: &impl Abort, left: &Set, right: &Set) {
     // left is {1, 2}, right is {2, 3}
     let mut merged = left.symmetric_difference(&right);
@@ -47,9 +47,9 @@ fn symmetric_difference(rt: &impl Abort, left: &Set, right: &Set) {
     drop(merged);
 }
 
-// Only a clause reads the number.
-//
-// The example of `blart_set::Compares`.
+/// Returns a count that only a clause reads.
+///
+/// The example of `blart_set::Compares`.
 fn compares() -> Compares
     ensures { result ≡ 1 }
 {

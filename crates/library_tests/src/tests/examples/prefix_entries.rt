@@ -4,10 +4,10 @@ use crate::tests::map_of;
 use blart_map::{PrefixEntry, PrefixKind, TreeMap};
 use std::process::Abort;
 
-// A map of words.
+/// A map of words.
 type Words = TreeMap<&'static str, i32, 16>;
 
-// The example of `blart_map::InnerOccupiedEntry`.
+/// The example of `blart_map::InnerOccupiedEntry`.
 fn inner_occupied_entry(rt: &impl Abort, mut map: Words) {
     // map is {"car": 1, "cat": 2}
     if let PrefixKind::Inner(entry) = map.prefix_entry("ca").kind() {
@@ -19,7 +19,7 @@ fn inner_occupied_entry(rt: &impl Abort, mut map: Words) {
     drop(map);
 }
 
-// The example of `blart_map::PrefixEntry`.
+/// The example of `blart_map::PrefixEntry`.
 pub(super) fn prefix_entry(rt: &impl Abort, map: &mut Map<'_>) -> Result<(), Fail> {
     map.try_insert("car", 1)?;
     map.try_insert("cat", 2)?;
@@ -29,7 +29,7 @@ pub(super) fn prefix_entry(rt: &impl Abort, map: &mut Map<'_>) -> Result<(), Fai
     Ok(())
 }
 
-// The example of `blart_map::PrefixKind`.
+/// The example of `blart_map::PrefixKind`.
 pub(super) fn prefix_kind(rt: &impl Abort, map: &mut Map<'_>) -> Result<(), Fail> {
     match map.prefix_entry("cat").kind() {
         PrefixKind::Leaf(entry) => *entry.into_mut() = 1,
@@ -61,8 +61,8 @@ fn made_entry(rt: &impl Abort, map: &mut Words) -> Result<(), Fail> {
     Ok(())
 }
 
-/// Calls the same call with the key, and with the type's default, of a key that conflicts, of one
-/// that is stored, and of one that is neither.
+/// Calls the same method with the key, and with the default of the type: for a key that conflicts,
+/// for one that is stored, and for one that is neither.
 fn made_entries(rt: &impl Abort, map: &mut Words) -> Result<(), Fail> {
     map.try_insert("car", 1)?;
     map.try_insert("cat", 2)?;

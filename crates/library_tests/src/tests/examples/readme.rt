@@ -6,9 +6,9 @@ use std::alloc::Global;
 use std::iter::Iterator;
 use std::process::Abort;
 
-// The example of `blart_map::TreeMap`.
-//
-// The README shows it with the last line here in the place of the one before.
+/// The example of `blart_map::TreeMap`.
+///
+/// The README shows it with the last line of this function in the place of the line before.
 pub(super) fn tree_map(rt: &impl Abort, alloc: Global) -> Result<(), Fail> {
     let mut map = TreeMap::new(alloc);
     let ran = insert_and_look_up(rt, &mut map);
@@ -16,7 +16,7 @@ pub(super) fn tree_map(rt: &impl Abort, alloc: Global) -> Result<(), Fail> {
     ran
 }
 
-// The calls of it.
+/// The calls of the example.
 fn insert_and_look_up(rt: &impl Abort, map: &mut Map<'_>) -> Result<(), Fail> {
     map.try_insert("car", 1)?;
     map.try_insert("cat", 2)?;
@@ -27,7 +27,7 @@ fn insert_and_look_up(rt: &impl Abort, map: &mut Map<'_>) -> Result<(), Fail> {
     Ok(())
 }
 
-// The example of `README::fronts`.
+/// The example of `README::fronts`.
 pub(super) fn fronts(rt: &impl Abort, map: &mut Map<'_>) -> Result<(), Fail> {
     map.try_insert("/static/", 7)?;
     assert!(rt; map.prefix_get(&"/static/logo.png") == Some(&7));
@@ -35,7 +35,7 @@ pub(super) fn fronts(rt: &impl Abort, map: &mut Map<'_>) -> Result<(), Fail> {
     Ok(())
 }
 
-// The example of `README::router`.
+/// The example of `README::router`.
 pub(super) fn router(rt: &impl Abort, alloc: Global) -> Result<(), Fail> {
     let mut mounts = Mounts::new(alloc);
     let ran = mount_and_resolve(rt, alloc, &mut mounts);
@@ -43,7 +43,7 @@ pub(super) fn router(rt: &impl Abort, alloc: Global) -> Result<(), Fail> {
     ran
 }
 
-// The calls of it.
+/// The calls of the example.
 fn mount_and_resolve(
     rt: &impl Abort,
     alloc: Global,

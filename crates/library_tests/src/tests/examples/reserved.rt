@@ -1,10 +1,10 @@
-//! A map and a set with room made beforehand.
+//! A map and a set with reserved room.
 use blart_map::TreeMap;
 use blart_set::TreeSet;
 use std::alloc::AllocError;
 use std::process::Abort;
 
-// The example of `blart_map::Reserved`.
+/// The example of `blart_map::Reserved`.
 fn of_map(rt: &impl Abort, map: &mut TreeMap<u8, i32, 16>) -> Result<(), AllocError> {
     let mut room = map.reserve(2)?;
     assert!(rt; room.insert(7, 1) == None);
@@ -15,7 +15,7 @@ fn of_map(rt: &impl Abort, map: &mut TreeMap<u8, i32, 16>) -> Result<(), AllocEr
     Ok(())
 }
 
-// The example of `blart_set::Reserved`.
+/// The example of `blart_set::Reserved`.
 fn of_set(rt: &impl Abort, set: &mut TreeSet<u8, 16>) -> Result<(), AllocError> {
     let mut room = set.reserve(2)?;
     assert!(rt; room.insert(7));

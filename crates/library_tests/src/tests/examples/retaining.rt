@@ -1,4 +1,4 @@
-//! Closures that are lent to `retain_by`.
+//! Closures that are passed to `retain_by`.
 use super::Fail;
 use blart_map::TreeMap;
 use blart_set::TreeSet;

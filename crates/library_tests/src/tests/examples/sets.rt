@@ -6,7 +6,7 @@ use std::iter::{DoubleEndedIterator, IntoIterator, Iterator};
 use std::ops::Bound;
 use std::process::Abort;
 
-// The example of `blart_set::TreeSet`.
+/// The example of `blart_set::TreeSet`.
 fn tree_set(rt: &impl Abort, set: &mut TreeSet<&str, 16>) -> Result<(), TryInsertError> {
     assert!(rt; set.try_insert("cat")?);
     assert!(rt; set.try_insert("car")?);
@@ -16,7 +16,7 @@ fn tree_set(rt: &impl Abort, set: &mut TreeSet<&str, 16>) -> Result<(), TryInser
     Ok(())
 }
 
-// The example of `blart_set::Iter`.
+/// The example of `blart_set::Iter`.
 fn iter(rt: &impl Abort, set: &TreeSet<u8, 16>) {
     // set is {1, 2}
     let mut elements = set.iter();
@@ -25,7 +25,7 @@ fn iter(rt: &impl Abort, set: &TreeSet<u8, 16>) {
     drop(elements);
 }
 
-// The example of `blart_set::Range`.
+/// The example of `blart_set::Range`.
 fn range(rt: &impl Abort, set: &TreeSet<u8, 16>) {
     // set is {1, 2, 3}
     let mut elements = set.range(Bound::Included(&2u8), Bound::Unbounded);
@@ -35,7 +35,7 @@ fn range(rt: &impl Abort, set: &TreeSet<u8, 16>) {
     drop(elements);
 }
 
-// The example of `blart_set::Prefix`.
+/// The example of `blart_set::Prefix`.
 fn prefix(rt: &impl Abort, set: &TreeSet<[u8; 2], 16>) {
     // set is {[1, 2], [3, 4]}
     let mut elements = set.prefix(&[3]);
@@ -44,7 +44,7 @@ fn prefix(rt: &impl Abort, set: &TreeSet<[u8; 2], 16>) {
     drop(elements);
 }
 
-// The example of `blart_set::IntoIter`.
+/// The example of `blart_set::IntoIter`.
 fn into_iter(rt: &impl Abort, set: TreeSet<u8, 16>) {
     // set is {1, 2}
     let mut elements = set.into_iter();
@@ -53,7 +53,7 @@ fn into_iter(rt: &impl Abort, set: TreeSet<u8, 16>) {
     drop(elements);
 }
 
-// The example of `blart_set::ExtractIf`.
+/// The example of `blart_set::ExtractIf`.
 fn extract_if(rt: &impl Abort, set: &mut TreeSet<u8, 16>) {
     // set is {1, 2, 3, 4}
     let mut walk = set.extract_if(Bound::<&u8>::Unbounded, Bound::Unbounded, |x| *x % 2 == 0);

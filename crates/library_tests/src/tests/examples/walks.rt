@@ -1,10 +1,10 @@
-//! Walks that lend and take.
+//! Walks that yield mutable references, and walks that remove pairs.
 use super::{Fail, Map};
 use blart_map::PrefixKind;
 use std::ops::Bound;
 use std::process::Abort;
 
-// The example of `blart_map::IterMut`.
+/// The example of `blart_map::IterMut`.
 pub(super) fn iter_mut(rt: &impl Abort, map: &mut Map<'_>) -> Result<(), Fail> {
     map.try_insert("cat", 1)?;
     let mut walk = map.iter_mut();
@@ -16,7 +16,7 @@ pub(super) fn iter_mut(rt: &impl Abort, map: &mut Map<'_>) -> Result<(), Fail> {
     Ok(())
 }
 
-// The example of `blart_map::ValuesMut`.
+/// The example of `blart_map::ValuesMut`.
 pub(super) fn values_mut(rt: &impl Abort, map: &mut Map<'_>) -> Result<(), Fail> {
     map.try_insert("cat", 1)?;
     let mut walk = map.values_mut();
@@ -27,7 +27,7 @@ pub(super) fn values_mut(rt: &impl Abort, map: &mut Map<'_>) -> Result<(), Fail>
     Ok(())
 }
 
-// The example of `blart_map::RangeMut`.
+/// The example of `blart_map::RangeMut`.
 pub(super) fn range_mut(rt: &impl Abort, map: &mut Map<'_>) -> Result<(), Fail> {
     map.try_insert("cat", 1)?;
     let low = "b";
@@ -39,7 +39,7 @@ pub(super) fn range_mut(rt: &impl Abort, map: &mut Map<'_>) -> Result<(), Fail> 
     Ok(())
 }
 
-// The example of `blart_map::SubtreeIterMut`.
+/// The example of `blart_map::SubtreeIterMut`.
 pub(super) fn subtree_iter_mut(rt: &impl Abort, map: &mut Map<'_>) -> Result<(), Fail> {
     map.try_insert("cat", 1)?;
     if let PrefixKind::Inner(entry) = map.prefix_entry("ca").kind() {
@@ -52,7 +52,7 @@ pub(super) fn subtree_iter_mut(rt: &impl Abort, map: &mut Map<'_>) -> Result<(),
     Ok(())
 }
 
-// The example of `blart_map::PrefixMut`.
+/// The example of `blart_map::PrefixMut`.
 pub(super) fn prefix_mut(rt: &impl Abort, map: &mut Map<'_>) -> Result<(), Fail> {
     map.try_insert("car", 1)?;
     map.try_insert("cat", 2)?;
@@ -64,7 +64,7 @@ pub(super) fn prefix_mut(rt: &impl Abort, map: &mut Map<'_>) -> Result<(), Fail>
     Ok(())
 }
 
-// The example of `blart_map::TakeWalk`.
+/// The example of `blart_map::TakeWalk`.
 pub(super) fn take_walk(rt: &impl Abort, map: &mut Map<'_>) -> Result<(), Fail> {
     map.try_insert("cat", 1)?;
     let mut walk = map.take_walk(Bound::<&&str>::Unbounded, Bound::Unbounded);
@@ -78,7 +78,7 @@ pub(super) fn take_walk(rt: &impl Abort, map: &mut Map<'_>) -> Result<(), Fail> 
     Ok(())
 }
 
-// The example of `blart_map::ExtractIf`.
+/// The example of `blart_map::ExtractIf`.
 pub(super) fn extract_if(rt: &impl Abort, map: &mut Map<'_>) -> Result<(), Fail> {
     map.try_insert("cat", 0)?;
     let mut walk = map.extract_if(

@@ -1,9 +1,11 @@
-//! Lines that are no commands, and ends that fail where a line is half read or half answered.
+//! Lines that are no commands, and readers and writers that fail in the middle of a line or an
+//! answer.
 use super::{AMPLE, Ends, SOUND, assert_outcome, push, text_of};
 use blart::RunError;
 use std::process::Abort;
 
-// Spaces, letters and signs that no command has, a number of too many digits, and bytes that are no text; then the greatest number, and the most digits.
+/// Lines with spaces, letters and signs that no command has, with too many digits, and with bytes
+/// that are no text. Then the greatest number, and the most digits.
 const LINES: &[u8] =
     b"get 01 \n list\nGET 01\nlist\r\nget --\ninsert 01 +5\ninsert 01 000000000000000000005\n\xff\x00\ninsert 01 18446744073709551615\ninsert 01 00000000000000000005\nget 01";
 
@@ -18,7 +20,7 @@ fn lines_at_the_edge_of_a_command(rt: HostRuntime) {
     }
 }
 
-// The line with another byte in each place in turn.
+/// Appends the line once for each of its bytes, with that byte replaced by another.
 fn push_all_spoiled(rt: &impl Abort, text: &mut Vec<u8>, line: &[u8], byte: u8) {
     for place in 0..line.len() {
         push(rt, text, &line[..place], 1);
@@ -28,7 +30,7 @@ fn push_all_spoiled(rt: &impl Abort, text: &mut Vec<u8>, line: &[u8], byte: u8) 
     }
 }
 
-// Of 103 bytes in all.
+/// The commands. They have 103 bytes in all.
 const COMMANDS: [&str; 9] = [
     "insert 0102 8",
     "get 0102",
@@ -41,7 +43,8 @@ const COMMANDS: [&str; 9] = [
     "list",
 ];
 
-// The commands with a byte that none has in each place, beside one pair: each is refused.
+/// A command is refused if one of its bytes is replaced by a byte that no command has. The map has
+/// one pair.
 #[test]
 fn commands_with_a_byte_that_none_has(rt: HostRuntime) {
     let parts = [
@@ -62,7 +65,8 @@ fn commands_with_a_byte_that_none_has(rt: HostRuntime) {
     drop(answers);
 }
 
-// A last line without a line feed is answered at the end of the input, and not where a read failed.
+/// A last line without a line feed is answered at the end of the input, but not after a read that
+/// failed.
 #[test]
 fn a_last_line_after_a_failed_read_is_not_answered(rt: HostRuntime) {
     for piece in [1, 2, 3, 5, 1000] {
@@ -78,7 +82,8 @@ fn a_last_line_after_a_failed_read_is_not_answered(rt: HostRuntime) {
     }
 }
 
-// Whatever the room, and whether a full writer fails or takes nothing, what was written is a beginning of the answers.
+/// Checks that a prefix of the answers was written, for each room of the writer, and if a full
+/// writer fails as well as if it takes nothing.
 fn assert_cut_short(rt: &(impl Abort + AllocGlobal), text: &[u8], answers: &[u8]) {
     for room in 0..answers.len() {
         let written = answers.split_at(room).0;

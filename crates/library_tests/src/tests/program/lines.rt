@@ -1,8 +1,9 @@
-//! Tables of lines with their answers, however the input is cut into reads.
+//! Tables of lines with their answers. The input is cut into reads in several ways.
 use super::{Ends, SOUND, assert_outcome};
 use std::process::Abort;
 
-// Lines and, behind `=`, their answers; between two tables stands `;`.
+/// The tables. A `=` separates the lines of a table from their answers, and a `;` separates two
+/// tables.
 const TABLES: &str = "insert 0102 7
 get 0102
 list

@@ -1,11 +1,11 @@
-//! Closures, which run exactly where there is memory for what they make.
+//! Closures. They run exactly if there is memory for what they return.
 use super::say_refused;
 use blart_map::TreeMap;
 use std::process::Abort;
 
 type Map = TreeMap<[u8; 2], usize, 2>;
 
-// The call that is handed the closure.
+/// The call that takes the closure.
 #[derive(Clone, Copy)]
 enum Way {
     OrInsertWith,
@@ -25,7 +25,7 @@ const WAYS: [Way; 6] = [
     Way::GetOrInsertWith,
 ];
 
-// Whether there was memory for the value, which is 7. The closure sets the mark.
+/// Inserts 7 by the call. Returns whether there was memory for it. The closure sets the mark.
 fn puts(map: &mut Map, way: Way, key: [u8; 2], ran: &mut bool) -> bool {
     let make = || {
         *ran = true;
@@ -46,7 +46,7 @@ fn puts(map: &mut Map, way: Way, key: [u8; 2], ran: &mut bool) -> bool {
     }
 }
 
-// The same by a closure that is lent the key.
+/// Does the same with a closure that takes a reference to the key.
 fn puts_by_key(map: &mut Map, way: Way, key: [u8; 2], ran: &mut bool) -> bool {
     let make = |_: &[u8; 2]| {
         *ran = true;
@@ -67,7 +67,8 @@ fn puts_by_key(map: &mut Map, way: Way, key: [u8; 2], ran: &mut bool) -> bool {
     }
 }
 
-// The closure runs if the value is new and put in. Else the map is as it was. Answers whether the value is there now.
+/// Checks that the closure runs exactly if a new value is inserted, and that the map is otherwise
+/// unchanged. Returns whether the value is stored now.
 fn assert_runs(
     rt: &(impl Abort + Print),
     map: &mut Map,
@@ -94,8 +95,9 @@ fn assert_runs(
     put
 }
 
-// In an empty map, where the leaf asks for memory, and beside a pair, where the inner node does. Then
-// each again, with memory for what was refused; at stored bytes the closure does not run.
+/// Inserts into an empty map, which allocates the leaf, and beside a pair, which allocates the
+/// inner node. Then repeats both with memory for what was refused. The closure does not run if the
+/// bytes are stored.
 fn assert_both(rt: &(impl Abort + Print), map: &mut Map, way: Way, of_key: bool) {
     let first = assert_runs(rt, map, way, of_key, [1, 7]);
     let second = assert_runs(rt, map, way, of_key, [1, 9]);
@@ -107,7 +109,7 @@ fn assert_both(rt: &(impl Abort + Print), map: &mut Map, way: Way, of_key: bool)
     assert!(rt; map.inner_nodes() == 1);
 }
 
-// Each way, in a map of its own.
+/// Tries each call in a map of its own.
 fn assert_ways(rt: &(impl Abort + AllocGlobal + Print), of_key: bool) {
     for way in WAYS {
         let mut map = Map::with_prefix_len(rt.alloc());
@@ -126,8 +128,9 @@ fn closures_of_keys(rt: HostRuntime) {
     assert_ways(&rt, true);
 }
 
-// Beside a key of three bytes comes one of two that parts from it after the first. A closure runs
-// exactly if there is memory for that. The value at stored bytes is set whatever memory there is.
+/// Inserts a key of two bytes beside a key of three, which differs from it after the first byte. A
+/// closure runs exactly if there is memory for that. The value of stored bytes is replaced whatever
+/// memory there is.
 fn put_beside(rt: &(impl Abort + Print), map: &mut TreeMap<&[u8], usize, 2>) -> bool {
     let (long, short): (&[u8], &[u8]) = (&[1, 2, 3], &[1, 9]);
     if map.try_insert(long, 1).is_err() {

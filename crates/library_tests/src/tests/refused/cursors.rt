@@ -1,4 +1,4 @@
-//! Calls of a cursor, and of the leaves that it gives, which take no memory.
+//! Calls of a cursor, and of the leaves that it returns. They do not allocate.
 use super::say_refused;
 use blart_map::{TreeMap, Visits};
 use std::ops::Bound;
@@ -6,7 +6,8 @@ use std::process::Abort;
 
 type Map = TreeMap<u8, usize, 2>;
 
-// From 4 on: the first pair is taken, the last one read, and the one between taken too, which is the last to be passed.
+/// Walks over the pairs from 4 on. Takes the first, reads the last, and takes the one between,
+/// which the cursor passes last.
 fn step_and_take(rt: &impl Abort, map: &mut Map) {
     let mut cursor = map.cursor(Bound::Included(&4u8), Bound::Unbounded);
     let first = map

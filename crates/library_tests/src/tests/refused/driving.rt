@@ -1,11 +1,11 @@
-//! Calls as values, of which one is refused while the others go on.
+//! Calls as values. One of them is refused and the others continue.
 use super::say_refused;
 use blart_map::{Call, Reply, TreeMap, TryInsertError, drive};
 use std::process::Abort;
 
 type Replies = Vec<Reply<[u8; 2], usize>>;
 
-// Whether there was memory for an insertion at new bytes.
+/// Returns whether there was memory for an insertion of a new key.
 fn is_put(rt: &impl Abort, reply: Option<Reply<[u8; 2], usize>>) -> bool {
     match reply {
         Some(Reply::TryInsert(Ok(None))) => true,
@@ -14,7 +14,7 @@ fn is_put(rt: &impl Abort, reply: Option<Reply<[u8; 2], usize>>) -> bool {
     }
 }
 
-// What the map has of the two keys is what the replies say.
+/// Checks that the map has the keys for which the replies report a success.
 fn assert_driven(rt: &(impl Abort + Print), map: &TreeMap<[u8; 2], usize, 2>, replies: Replies) {
     let mut replies = replies.into_iter();
     let first = is_put(rt, replies.next());
@@ -29,7 +29,7 @@ fn assert_driven(rt: &(impl Abort + Print), map: &TreeMap<[u8; 2], usize, 2>, re
     assert!(rt; map.contains_key(&[1u8, 7]) == first && map.contains_key(&[2u8, 2]) == second);
 }
 
-// Two insertions and a look-up.
+/// Runs two insertions and a look-up.
 fn drive_three(rt: &(impl Abort + AllocGlobal + Print), map: &mut TreeMap<[u8; 2], usize, 2>) {
     let Ok(calls) = vec![in rt.alloc();
         Call::TryInsert([1u8, 7], 2usize),

@@ -1,11 +1,11 @@
-//! What is dropped where a request is refused: each value once.
+//! Tests of what is dropped when a request is refused: each value once.
 use super::say_refused;
 use blart_map::TreeMap;
 use std::cell::Cell;
 use std::iter::{DoubleEndedIterator, IntoIterator, Iterator};
 use std::process::Abort;
 
-// A value that counts how often one is dropped.
+/// A value that counts each drop.
 struct Counted<'a> {
     drops: &'a Cell<usize>,
 }
@@ -21,7 +21,7 @@ type Values<'a> = TreeMap<[u8; 2], Counted<'a>, 2>;
 
 const KEYS: [[u8; 2]; 3] = [[2, 1], [1, 7], [2, 2]];
 
-// How a value is put in.
+/// The call that inserts a value.
 #[derive(Clone, Copy)]
 enum Way {
     Insert,
@@ -41,7 +41,7 @@ const WAYS: [Way; 6] = [
     Way::PrefixOrInsert,
 ];
 
-// Hands in a value at new bytes. Answers whether there was memory.
+/// Inserts a value for a new key. Returns whether there was memory.
 fn puts<'a>(map: &mut Values<'a>, way: Way, key: [u8; 2], drops: &'a Cell<usize>) -> bool {
     let value = Counted { drops };
     match way {
@@ -54,7 +54,7 @@ fn puts<'a>(map: &mut Values<'a>, way: Way, key: [u8; 2], drops: &'a Cell<usize>
     }
 }
 
-// A value that is refused is dropped, and one that is not with its map.
+/// A refused value is dropped by the call. A stored one is dropped with its map.
 #[test]
 fn values(rt: HostRuntime) {
     for way in WAYS {
@@ -70,7 +70,7 @@ fn values(rt: HostRuntime) {
     }
 }
 
-// A map of three values, of which a refused one is handed in again.
+/// Returns a map of three values. A refused value is inserted again.
 fn three_values<'a>(rt: &(impl Abort + AllocGlobal + Print), drops: &'a Cell<usize>) -> Values<'a> {
     let mut map = Values::with_prefix_len(rt.alloc());
     for key in KEYS {
@@ -84,7 +84,7 @@ fn three_values<'a>(rt: &(impl Abort + AllocGlobal + Print), drops: &'a Cell<usi
     map
 }
 
-// A refused `split_off` or `append` drops nothing.
+/// A refused `split_off` or `append` drops nothing.
 #[test]
 fn parts(rt: HostRuntime) {
     let drops = Cell::new(0usize);
@@ -108,7 +108,7 @@ fn parts(rt: HostRuntime) {
     assert!(rt; after == before && drops.get() == before.wrapping_add(3));
 }
 
-// What a refused `extend` or `from_iter` was given is dropped once in all.
+/// Each value that a refused `extend` or `from_iter` got is dropped once in all.
 #[test]
 fn given(rt: HostRuntime) {
     let drops = Cell::new(0usize);

@@ -1,21 +1,22 @@
-//! The items before a refused one stay, and no other.
+//! Exactly the items before a refused one are stored.
 use super::say_refused;
 use blart_map::TreeMap;
 use blart_set::TreeSet;
 use std::iter::Iterator;
 use std::process::Abort;
 
-// Keys that are their own values.
+/// A map of keys that are their own values.
 type Map<const P: usize> = TreeMap<u8, u8, P>;
 
 type Set = TreeSet<u8, 2>;
 
-// Keys from 1 on, past what a node of each of the two smaller kinds has room for.
+/// Keys from 1 on. A node of each of the two smaller kinds has no room for all of them.
 const KEYS: [u8; 18] = [
     1, 2, 3, 4, 5, 6, 7, 8, 9, 10, 11, 12, 13, 14, 15, 16, 17, 18,
 ];
 
-// Puts the keys 1 to 60. Answers whether there was memory for all, and how many were not given.
+/// Inserts the keys 1 to 60. Returns whether there was memory for all, and the number of keys that
+/// the call did not ask for.
 fn extend<const P: usize>(map: &mut Map<P>) -> (bool, usize) {
     let mut keys = 1..61u8;
     let is_all = map.extend((&mut keys).zip(1..61u8)).is_ok();
@@ -40,7 +41,7 @@ fn extend_set_copied(set: &mut Set) -> (bool, usize) {
     (is_all, keys.len())
 }
 
-// The last key, if it is its own value.
+/// Returns the last key, if it is its own value.
 fn last_of<const P: usize>(map: &Map<P>) -> Option<u8> {
     match map.last_key_value() {
         Some((key, value)) if *key == *value => Some(*key),
@@ -48,7 +49,8 @@ fn last_of<const P: usize>(map: &Map<P>) -> Option<u8> {
     }
 }
 
-// The keys from 1 on are there, so many with this one as the last, and no other: all of them, or those that were given before the one that was refused.
+/// Checks that the map has exactly the first `len` keys from 1 on, and that `last` is the last of
+/// them: all keys, or those before the refused one.
 fn assert_front(
     rt: &(impl Abort + Print),
     (is_all, left): (bool, usize),
@@ -78,7 +80,7 @@ fn pairs<const P: usize>(rt: &(impl Abort + AllocGlobal + Print)) {
     }
 }
 
-// A test for each length, so that each has its own first request.
+/// There is a test for each prefix length, so that each has its own first request.
 #[test]
 fn pairs_at_0(rt: HostRuntime) {
     pairs::<0>(&rt);

@@ -1,4 +1,4 @@
-//! Keys that end in a zero.
+//! Keys that end with a zero.
 use super::say_refused;
 use blart_keys::{AsBytes, ZKey, ZKeyError};
 use std::alloc::AllocError;

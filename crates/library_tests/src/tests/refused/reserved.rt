@@ -1,4 +1,4 @@
-//! Room that is made, or refused. Once it is made, the insertions are not.
+//! Room that is reserved, or refused. Insertions into reserved room are not refused.
 use super::{key_of, say_refused};
 use blart_map::TreeMap;
 use blart_set::TreeSet;
@@ -6,7 +6,8 @@ use std::process::Abort;
 
 type Map = TreeMap<[u8; 2], usize, 2>;
 
-// Whether by `try_insert`, at which place of the keys, and how much room is left after it.
+/// The insertions: whether by `try_insert`, the place of the key, and the room that is left after
+/// it.
 const CALLS: [(bool, usize, usize); 7] = [
     (false, 0, 4),
     (true, 1, 3),
@@ -17,7 +18,8 @@ const CALLS: [(bool, usize, usize); 7] = [
     (true, 4, 0),
 ];
 
-// Puts five pairs beside the one that is there, where there is room for them. What adds no pair leaves the room as it is, and answers the value of the first.
+/// Inserts five pairs beside the stored one, if there is room for them. An insertion that adds no
+/// pair leaves the room unchanged, and returns the value of the first.
 fn fill(rt: &(impl Abort + Print), map: &mut Map) -> usize {
     let Ok(mut room) = map.reserve(5) else {
         say_refused(rt);
@@ -40,7 +42,7 @@ fn fill(rt: &(impl Abort + Print), map: &mut Map) -> usize {
     5
 }
 
-// Fills a map that has a pair, which stays.
+/// Fills a map that has a pair, which is unchanged.
 fn fill_beside(rt: &(impl Abort + Print), map: &mut Map) {
     if map.insert([4, 4], 7).is_err() {
         say_refused(rt);
@@ -58,7 +60,8 @@ fn a_map_with_room_refuses_nothing(rt: HostRuntime) {
     drop(map);
 }
 
-// Puts two elements, where there is room for them. What adds none leaves the room as it is.
+/// Inserts two elements, if there is room for them. An insertion that adds none leaves the room
+/// unchanged.
 fn fill_set(rt: &(impl Abort + Print), set: &mut TreeSet<u8, 2>) -> usize {
     let Ok(mut room) = set.reserve(2) else {
         say_refused(rt);

@@ -3,10 +3,10 @@ use super::say_refused;
 use prefix_router::Mounts;
 use std::process::Abort;
 
-// Paths of which none begins another, in no order.
+/// Paths, in no order. No path is a prefix of another.
 const PATHS: [[u8; 4]; 3] = [*b"/app", *b"/img", *b"/api"];
 
-// The first so many paths are mounted, each with its place, and no other is.
+/// Checks that exactly the first `count` paths are mounted, each with its place.
 fn assert_mounted(rt: &impl Abort, mounts: &Mounts<usize>, count: usize) {
     assert!(rt; mounts.len() == count);
     for place in 0..PATHS.len() {
@@ -18,7 +18,8 @@ fn assert_mounted(rt: &impl Abort, mounts: &Mounts<usize>, count: usize) {
     }
 }
 
-// Mounts the path of a place, which is related to no other. Answers whether there was memory for the path and its mount.
+/// Mounts the path of a place, which is related to no other. Returns whether there was memory for
+/// the path and its mount.
 fn puts(rt: &impl AllocGlobal, mounts: &mut Mounts<usize>, over: bool, place: usize) -> bool {
     // Refusals pause.
     let Ok(path) = Vec::from_slice(rt.alloc(), &PATHS[place % 3]) else {
@@ -32,7 +33,8 @@ fn puts(rt: &impl AllocGlobal, mounts: &mut Mounts<usize>, over: bool, place: us
     }
 }
 
-// Mounts the path of a place, at the second try if the first is refused, which leaves the table as it was.
+/// Mounts the path of a place. If the call is refused, checks that the table is unchanged and
+/// mounts the path again.
 fn mount_next(
     rt: &(impl Abort + AllocGlobal + Print),
     mounts: &mut Mounts<usize>,
@@ -49,7 +51,7 @@ fn mount_next(
     assert_mounted(rt, mounts, place.wrapping_add(1));
 }
 
-// Mounts the paths in turn.
+/// Mounts the paths in turn.
 fn all_mounted(rt: &(impl Abort + AllocGlobal + Print), over: bool) -> Mounts<usize> {
     let mut mounts = Mounts::new(rt.alloc());
     for place in 0..PATHS.len() {
@@ -63,7 +65,7 @@ fn mounts(rt: HostRuntime) {
     drop(all_mounted(&rt, false));
 }
 
-// In the place of related mounts no memory is taken but for the path.
+/// A mount in the place of related mounts allocates only for the path.
 #[test]
 fn mounts_over(rt: HostRuntime) {
     let mut mounts = all_mounted(&rt, true);

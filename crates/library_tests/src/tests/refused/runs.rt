@@ -5,16 +5,18 @@ use std::io;
 use std::io::Read;
 use std::process::Abort;
 
-// The first read gives one line, and the second read all others. The second line is longer than the first, so its room grows.
+/// The first read returns one line, and the second read all others. The second line is longer than
+/// the first, so its buffer grows.
 const LINE: &[u8] = b"insert 01 5\n";
 
 const OTHERS: &[u8] = b"insert 0203040506070809 6\nlist\n";
 
 const ANSWERS: &[u8] = b"none\nnone\n01 5\n0203040506070809 6\nend 2\n";
 
-// A line whose pair finds no memory is answered so, and the lines go on. If a line itself finds none,
-// those before it are answered: of the second line the first. If the first pair and something after it
-// were refused, this says so once more than its caller.
+/// Checks what a run with refused requests has written. If there is no memory for the pair of a
+/// line, the answer says so and the run continues. If there is none for a line itself, the lines
+/// before it are answered: if it is the second line, the first is. If the first pair and a later
+/// request were refused, writes `refused` once more than the caller does.
 fn assert_refused(
     rt: &(impl Abort + Print),
     ended: Result<(), RunError>,
@@ -39,7 +41,8 @@ fn assert_refused(
     assert!(rt; is_right);
 }
 
-// Whether there was memory for a page to write on and for all lines, which are answered then.
+/// Returns whether there was memory for a buffer of answers and for all lines. If so, all lines are
+/// answered.
 fn answers_all(rt: &(impl Abort + AllocGlobal + Print)) -> bool {
     let Ok(page) = Vec::with_capacity(rt.alloc(), 100) else {
         return false;

@@ -8,7 +8,8 @@ use std::process::Abort;
 
 type Keys = Tree<[u8; 2], usize, 2>;
 
-// The tree has the first so many of the keys, each with its place as value, and so many inner nodes.
+/// Checks that the tree has exactly the first `count` keys, each with its place as value, and
+/// `nodes` inner nodes.
 fn assert_keys(rt: &impl Abort, tree: &Keys, count: usize, nodes: usize) {
     assert!(rt; tree.len() == count && tree.inner_nodes() == nodes);
     for place in 0..count {
@@ -21,7 +22,8 @@ fn assert_keys(rt: &impl Abort, tree: &Keys, count: usize, nodes: usize) {
     }
 }
 
-// Makes room for the point of the key that comes next. After a refusal the tree is as before, and there is memory the next time.
+/// Makes room for the point of the next key. After a refusal the tree is unchanged, and a second
+/// call succeeds.
 fn room_at(rt: &(impl Abort + Print), tree: &mut Keys, point: &Point, count: usize)
     ensures pairs { tree.new.pairs ≡ tree.old.pairs }
     ensures fits { Fits tree.new point.now }
@@ -37,7 +39,7 @@ fn room_at(rt: &(impl Abort + Print), tree: &mut Keys, point: &Point, count: usi
     // Refusals resume.
 }
 
-// Places the key that comes next, at the point that was found before room was made.
+/// Places the next key at the point that was found before the room was made.
 fn place_next(rt: &(impl Abort + Print), tree: &mut Keys, place: usize) {
     let key = key_of(place);
     let point = tree.point(&key);
