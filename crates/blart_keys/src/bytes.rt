@@ -21,6 +21,8 @@ pub(crate) fn same_bytes(bytes: &[u8]) -> &[u8]
 
 /// Returns `true` if `a` is less than `b`: at the first place where they differ it has the lesser
 /// byte, or it is a proper prefix of `b`.
+///
+/// Cost: one pass over the shorter list.
 pub fn is_less(a: &[u8], b: &[u8]) -> bool
     ensures { result ≡ less a.now b.now }
 {

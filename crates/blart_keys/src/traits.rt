@@ -17,11 +17,15 @@ pub trait AsBytes {
     ghost IsValue: { Self → Type 0 };
 
     /// Returns the bytes of the key.
+    ///
+    /// Cost: none.
     fn as_bytes(&self) -> &[u8]
         ensures { result.now ≡ bytes self.now };
 
     /// Does nothing. Its contract says that the key is a value of its type. The laws of the other
     /// traits require this.
+    ///
+    /// Cost: none.
     fn value_law(&self)
         ensures { IsValue self.now };
 }

@@ -47,6 +47,8 @@ impl ZKey {
     /// Returns `InnerZero` if and only if one of the bytes is zero. Allocates memory for a copy of
     /// the bytes, and returns `Memory` if that fails.
     ///
+    /// Cost: one pass over the bytes, and allocates a copy of them.
+    ///
     /// ```
     /// let key = ZKey::from_bytes(rt.alloc(), b"ab")?;
     /// assert_eq!(rt; key.as_bytes(), b"ab\0".as_slice());
@@ -71,6 +73,8 @@ impl ZKey {
     }
 
     /// Returns the bytes without the zero, from which the key was made.
+    ///
+    /// Cost: none.
     pub fn to_bytes(&self) -> &[u8]
         ensures value { result.now ++ 0 ∷ [] ≡ ⟦<ZKey as AsBytes>⟧.bytes self.now }
         ensures given { (b : List ℕ) → ⟦<ZKey as AsBytes>⟧.bytes self.now ≡ b ++ 0 ∷ []
@@ -87,6 +91,8 @@ impl Clone for ZKey {
     ghost is_clone = { λ key copy. zkey_bytes copy ≡ zkey_bytes key };
 
     /// Returns a key with the same bytes, or an error if it fails to allocate.
+    ///
+    /// Cost: allocates a copy of the bytes.
     fn clone(&self) -> Result<ZKey, AllocError> {
         Ok(ZKey {
             bytes: self.bytes.clone()?,

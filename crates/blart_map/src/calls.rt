@@ -13,6 +13,8 @@ use std::ops::Bound;
 /// Returns `true` if the bounds are in order. They are not if both are bounded and the start is
 /// greater than the end, or if both are excluded and equal.
 ///
+/// Cost: compares two keys.
+///
 /// ```
 /// assert!(bounds_in_order(Bound::Included(&3u8), Bound::Excluded(&8u8)));
 /// assert!(!bounds_in_order(Bound::Excluded(&5u8), Bound::Excluded(&5u8)));
@@ -35,6 +37,8 @@ pub fn bounds_in_order<Q: AsBytes>(start: Bound<&Q>, end: Bound<&Q>) -> bool
 ///
 /// It allocates the memory for the replies first. If that fails, it makes no call. If there are no
 /// calls, it does not allocate.
+///
+/// Cost: allocates for the replies, and then makes the calls.
 ///
 /// ```
 /// let calls = vec![in alloc; Call::TryInsert("ab", 1), Call::TryInsert("a", 2), Call::PopFirst]?;

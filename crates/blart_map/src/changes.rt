@@ -12,7 +12,10 @@ use crate::map::TreeMap;
 use blart_keys::AsBytes;
 
 impl<K: AsBytes + Drop, V: Drop, const PREFIX_LEN: usize> TreeMap<K, V, PREFIX_LEN> {
-    /// Removes the pair with the query's bytes, and returns it. Does not allocate.
+    /// Removes the pair with the query's bytes and returns it, or returns `None` if there is no
+    /// such pair. Does not allocate.
+    ///
+    /// Cost: one descent.
     pub fn remove_entry<Q: AsBytes>(&mut self, query: &Q) -> Option<(K, V)>
         ensures stored { result ≡ pair_at K.bytes (pairs self.old) (Q.bytes query.now) }
         ensures updates { Updates K.bytes (pairs self.old) (pairs self.new)
@@ -31,7 +34,10 @@ impl<K: AsBytes + Drop, V: Drop, const PREFIX_LEN: usize> TreeMap<K, V, PREFIX_L
         self.tree.take(query.as_bytes())
     }
 
-    /// Removes the pair with the query's bytes, and returns its value. Does not allocate.
+    /// Removes the pair with the query's bytes and returns its value, or returns `None` if there is
+    /// no such pair. Does not allocate.
+    ///
+    /// Cost: one descent.
     ///
     /// ```
     /// map.try_insert("cat", 2)?;
@@ -87,7 +93,10 @@ impl<K: AsBytes + Drop, V: Drop, const PREFIX_LEN: usize> TreeMap<K, V, PREFIX_L
         self.tree.remove_prefix(prefix)
     }
 
-    /// Removes the pair whose key's bytes are least, and returns it. Does not allocate.
+    /// Removes the pair whose key's bytes are least and returns it, or returns `None` if there are
+    /// no pairs. Does not allocate.
+    ///
+    /// Cost: one descent.
     #[tactic(auto, unfolding(crate::specs::Content::pairs))]
     pub fn pop_first(&mut self) -> Option<(K, V)>
         ensures taken { IfSome result
@@ -105,7 +114,10 @@ impl<K: AsBytes + Drop, V: Drop, const PREFIX_LEN: usize> TreeMap<K, V, PREFIX_L
         Some(self.tree.remove(id))
     }
 
-    /// Removes the pair whose key's bytes are greatest, and returns it. Does not allocate.
+    /// Removes the pair whose key's bytes are greatest and returns it, or returns `None` if there
+    /// are no pairs. Does not allocate.
+    ///
+    /// Cost: one descent.
     #[tactic(auto, unfolding(crate::specs::Content::pairs))]
     pub fn pop_last(&mut self) -> Option<(K, V)>
         ensures taken { IfSome result
@@ -124,6 +136,9 @@ impl<K: AsBytes + Drop, V: Drop, const PREFIX_LEN: usize> TreeMap<K, V, PREFIX_L
     }
 
     /// Drops all pairs. Does not allocate.
+    ///
+    /// Cost: drops each pair. It keeps the memory until the map is dropped, and counts it as no
+    /// room.
     #[tactic(auto, unfolding(crate::specs::Content::pairs))]
     pub fn clear(&mut self)
         ensures empty { pairs self.new ≡ [] }

@@ -19,8 +19,10 @@ use blart_keys::{AsBytes, InsertPrefixError, NoPrefixesBytes};
 use std::marker::PhantomData;
 
 impl<K: AsBytes, V, const PREFIX_LEN: usize> TreeMap<K, V, PREFIX_LEN> {
-    /// Returns the entry of the pair whose key's bytes are a prefix of the query's. There is at
-    /// most one such pair. Does not allocate.
+    /// Returns the entry of the pair whose key's bytes are a prefix of the query's, or `None` if
+    /// there is no such pair. There is at most one such pair. Does not allocate.
+    ///
+    /// Cost: a look-up.
     ///
     /// ```
     /// map.try_insert("/static/", 7)?;
@@ -57,6 +59,8 @@ impl<K: AsBytes, V, const PREFIX_LEN: usize> TreeMap<K, V, PREFIX_LEN> {
     /// Returns the entry of the pair whose key's bytes are least, or `None` if there are no pairs.
     /// Does not allocate.
     ///
+    /// Cost: no visit.
+    ///
     /// ```
     /// map.try_insert("cat", 1)?;
     /// map.try_insert("dog", 2)?;
@@ -89,6 +93,8 @@ impl<K: AsBytes, V, const PREFIX_LEN: usize> TreeMap<K, V, PREFIX_LEN> {
 
     /// Returns the entry of the pair whose key's bytes are greatest, or `None` if there are no
     /// pairs. Does not allocate.
+    ///
+    /// Cost: no visit.
     ///
     /// ```
     /// map.try_insert("cat", 1)?;
@@ -129,6 +135,8 @@ impl<K: AsBytes + Drop, V, const PREFIX_LEN: usize> TreeMap<K, V, PREFIX_LEN> {
     ///
     /// If the key's bytes are stored, the key that was handed in is dropped, and the stored key is
     /// unchanged.
+    ///
+    /// Cost: one descent.
     ///
     /// ```
     /// *map.try_entry("cat")?.or_insert(0)? += 1;
@@ -171,6 +179,8 @@ impl<K: AsBytes + Drop, V, const PREFIX_LEN: usize> TreeMap<K, V, PREFIX_LEN> {
     ///
     /// If the key's bytes are stored, the key that was handed in is dropped, and the stored key is
     /// unchanged.
+    ///
+    /// Cost: one descent.
     ///
     /// ```
     /// map.try_insert("car", 1)?;
@@ -218,6 +228,8 @@ impl<K: AsBytes + Drop, V, const PREFIX_LEN: usize> TreeMap<K, V, PREFIX_LEN> {
 
 impl<K: NoPrefixesBytes + Drop, V, const PREFIX_LEN: usize> TreeMap<K, V, PREFIX_LEN> {
     /// Returns the entry of the key, like [`TreeMap::try_entry`]. Keys of this type never conflict.
+    ///
+    /// Cost: one descent.
     ///
     /// ```
     /// *map.entry(U32Key::new(258)).or_insert(0)? += 1;

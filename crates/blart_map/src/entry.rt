@@ -34,6 +34,8 @@ impl<'a, K: AsBytes, V, const PREFIX_LEN: usize, T: 'a> Entry<'a, K, V, PREFIX_L
     ghost use Rattle.blart_map.specs.Modified.{IsModified};
 
     /// Returns the stored key on `Occupied`, and the key that was handed in on `Vacant`.
+    ///
+    /// Cost: one visit on `Occupied`, and none on `Vacant`.
     pub fn key(&self) -> &K
         ensures { entry_key self.now ≡ Some result.now }
     {
@@ -45,6 +47,8 @@ impl<'a, K: AsBytes, V, const PREFIX_LEN: usize, T: 'a> Entry<'a, K, V, PREFIX_L
 
     /// Calls the closure on a mutable reference to the value if one is stored, and returns the
     /// entry.
+    ///
+    /// Cost: reads the leaf on `Occupied`, and none on `Vacant`.
     pub fn and_modify<F: FnOnce(&mut V) + Drop>(self, f: F) -> Self
         requires { (p : MutBor V) → entry_value self ≡ Some p.now → F.pre f p }
         ensures { IsModified F.FnOnce f self.entry result }
@@ -71,6 +75,8 @@ impl<'a, K: AsBytes + Drop, V: Drop, const PREFIX_LEN: usize> Entry<
 
     /// Returns a mutable reference to the value. If no value is stored, it first places the
     /// default.
+    ///
+    /// Cost: reads the leaf on `Occupied`, and makes an insertion on `Vacant`.
     pub fn or_insert(self, default: V) -> Result<&'a mut V, AllocError>
         ensures* writes_back { sem 𝓛
             (entry_lends_ok K.row V.row PREFIX_LEN.row K.AsBytes self.entry result) }
@@ -83,7 +89,10 @@ impl<'a, K: AsBytes + Drop, V: Drop, const PREFIX_LEN: usize> Entry<
         }
     }
 
-    /// Sets the value, and returns the entry of the key's pair.
+    /// Sets the value, and returns the entry of the key's pair. On `Vacant`, inserts the pair.
+    /// Returns an error if that fails to allocate.
+    ///
+    /// Cost: reads the leaf on `Occupied`, and makes an insertion on `Vacant`.
     pub fn insert_entry(
         self,
         value: V,
@@ -100,6 +109,8 @@ impl<'a, K: AsBytes + Drop, V: Drop, const PREFIX_LEN: usize> Entry<
     }
 
     /// Returns the entry of the key's pair. If no value is stored, it first places the default.
+    ///
+    /// Cost: none on `Occupied`, and an insertion on `Vacant`.
     pub fn or_insert_entry(
         self,
         default: V,
@@ -117,6 +128,8 @@ impl<'a, K: AsBytes + Drop, V: Drop, const PREFIX_LEN: usize> Entry<
 
     /// Returns a mutable reference to the value. If no value is stored, it first places the value
     /// that the closure returns.
+    ///
+    /// Cost: reads the leaf on `Occupied`, and makes an insertion on `Vacant`.
     pub fn or_insert_with<F: FnOnce() -> V + Drop>(
         self,
         default: F,
@@ -136,6 +149,8 @@ impl<'a, K: AsBytes + Drop, V: Drop, const PREFIX_LEN: usize> Entry<
 
     /// Returns a mutable reference to the value, like [`Entry::or_insert_with`]. The closure takes
     /// the key that was handed in.
+    ///
+    /// Cost: reads the leaf on `Occupied`, and makes an insertion on `Vacant`.
     pub fn or_insert_with_key<F: FnOnce(&K) -> V + Drop>(
         self,
         default: F,
@@ -157,6 +172,8 @@ impl<'a, K: AsBytes + Drop, V: Drop, const PREFIX_LEN: usize> Entry<
 
     /// Returns a mutable reference to the value. If no value is stored, it first places the type's
     /// default.
+    ///
+    /// Cost: reads the leaf on `Occupied`, and makes an insertion on `Vacant`.
     pub fn or_default(self) -> Result<&'a mut V, AllocError>
     where
         V: Default,
@@ -171,6 +188,8 @@ impl<'a, K: AsBytes + Drop, V: Drop, const PREFIX_LEN: usize> Entry<
 
     /// Returns the entry of the key's pair. If no value is stored, it first places the value that
     /// the closure returns.
+    ///
+    /// Cost: none on `Occupied`, and an insertion on `Vacant`.
     pub fn or_insert_with_entry<F: FnOnce() -> V + Drop>(
         self,
         default: F,
@@ -189,6 +208,8 @@ impl<'a, K: AsBytes + Drop, V: Drop, const PREFIX_LEN: usize> Entry<
 
     /// Returns the entry of the key's pair, like [`Entry::or_insert_with_entry`]. The closure takes
     /// the key that was handed in.
+    ///
+    /// Cost: none on `Occupied`, and an insertion on `Vacant`.
     pub fn or_insert_with_key_entry<F: FnOnce(&K) -> V + Drop>(
         self,
         default: F,
@@ -209,6 +230,8 @@ impl<'a, K: AsBytes + Drop, V: Drop, const PREFIX_LEN: usize> Entry<
 
     /// Returns the entry of the key's pair. If no value is stored, it first places the type's
     /// default.
+    ///
+    /// Cost: none on `Occupied`, and an insertion on `Vacant`.
     pub fn or_default_entry(
         self,
     ) -> Result<OccupiedEntry<'a, K, V, PREFIX_LEN, TreeMap<K, V, PREFIX_LEN>>, AllocError>

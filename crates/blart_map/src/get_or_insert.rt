@@ -16,6 +16,8 @@ impl<K: NoPrefixesBytes + Drop, V: Drop, const PREFIX_LEN: usize> TreeMap<K, V, 
     ///
     /// Returns an error only if the bytes are new. The map is then unchanged.
     ///
+    /// Cost: one descent, and for new bytes also an insertion.
+    ///
     /// ```
     /// *map.get_or_insert(U32Key::new(258), 0)? += 1;
     /// assert_eq!(map.get(&U32Key::new(258)), Some(&1));
@@ -41,6 +43,8 @@ impl<K: NoPrefixesBytes + Drop, V: Drop, const PREFIX_LEN: usize> TreeMap<K, V, 
     /// is room.
     ///
     /// Returns an error only if the bytes are new. The map is then unchanged.
+    ///
+    /// Cost: one descent, and for new bytes also an insertion.
     #[tactic(auto, using(art_insert::proofs::Placed::SettingAt::new_none), unfolding(crate::specs::Content::pairs))]
     pub fn get_or_insert_with<F: FnOnce() -> V + Drop>(
         &mut self,

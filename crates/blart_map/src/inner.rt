@@ -56,6 +56,8 @@ impl<'a, K: AsBytes, V, const PREFIX_LEN: usize, T: 'a> InnerOccupiedEntry<
     ghost use Rattle.blart_map.specs.InnerLends.{inner_value_lends};
 
     /// Returns the key that was handed in.
+    ///
+    /// Cost: none.
     pub fn key(&self) -> &K
         ensures { result.now ≡ inner_key self.now }
     {
@@ -75,6 +77,8 @@ impl<'a, K: AsBytes, V, const PREFIX_LEN: usize, T: 'a> InnerOccupiedEntry<
     }
 
     /// Returns the value of the only related pair, or `None` if there are more.
+    ///
+    /// Cost: at most one visit.
     pub fn get(&self) -> Option<&V>
         ensures { option_copied result ≡ option_map (λ pair. pair.1) (inner_pair self.now) }
     {
@@ -85,6 +89,8 @@ impl<'a, K: AsBytes, V, const PREFIX_LEN: usize, T: 'a> InnerOccupiedEntry<
     }
 
     /// Returns the key of the only related pair, or `None` if there are more.
+    ///
+    /// Cost: at most one visit.
     pub fn get_key(&self) -> Option<&K>
         ensures { option_copied result ≡ option_map (λ pair. pair.0) (inner_pair self.now) }
     {
@@ -96,6 +102,8 @@ impl<'a, K: AsBytes, V, const PREFIX_LEN: usize, T: 'a> InnerOccupiedEntry<
 
     /// Returns a mutable reference to the value of the only related pair, or `None` if there are
     /// more.
+    ///
+    /// Cost: reads at most one leaf.
     pub fn get_mut(&mut self) -> Option<&mut V>
         ensures* writes_back { sem 𝓛
             (inner_value_lends K.row V.row PREFIX_LEN.row T.row K.AsBytes self.entry result) }
@@ -113,7 +121,9 @@ impl<'a, K: AsBytes, V, const PREFIX_LEN: usize, T: 'a> InnerOccupiedEntry<
     }
 
     /// Returns an iterator over the related pairs, from both ends, in byte order of their keys.
-    /// Does not allocate. Each step makes one visit.
+    /// Does not allocate.
+    ///
+    /// Cost: no visit. Each step makes one visit.
     pub fn iter(&self) -> SubtreeIter<'_, K, V, PREFIX_LEN>
         ensures value { result ≡ related_pairs self.now }
         ensures fits { CanCount result }
@@ -139,6 +149,8 @@ impl<'a, K: AsBytes + Drop, V, const PREFIX_LEN: usize> InnerOccupiedEntry<
 
     /// Returns the entry of the only related pair, in place of this entry. If there are more, it
     /// returns `None`, and the map is unchanged.
+    ///
+    /// Cost: none.
     #[tactic(auto, using(crate::proofs::Related::InnerPairs::inner_has))]
     pub fn get_key_value_mut(
         self,
@@ -163,7 +175,9 @@ impl<'a, K: AsBytes + Drop, V, const PREFIX_LEN: usize> InnerOccupiedEntry<
     }
 
     /// Returns a walk over mutable references to the values of the related pairs, with their keys,
-    /// in byte order of the keys, from both ends. Does not allocate. Each step reads one pair.
+    /// in byte order of the keys, from both ends. Does not allocate.
+    ///
+    /// Cost: no visit. Each step makes one visit.
     ///
     /// ```
     /// if let PrefixKind::Inner(entry) = map.prefix_entry("ca").kind() {
@@ -206,6 +220,8 @@ impl<'a, K: AsBytes + Drop, V: Drop, const PREFIX_LEN: usize> InnerOccupiedEntry
     ghost use Rattle.blart_map.specs.PrefixLends.{inner_over_rests};
 
     /// Removes the related pairs, places the key with the value, and returns the entry of the pair.
+    ///
+    /// Cost: one descent for each related pair but one.
     pub fn insert_entry(
         self,
         value: V,
@@ -256,6 +272,8 @@ impl<'a, K: AsBytes + Drop, V: Drop, const PREFIX_LEN: usize> InnerOccupiedEntry
 
     /// Removes the related pairs, places the key with the value, and returns a mutable reference to
     /// the value.
+    ///
+    /// Cost: one descent for each related pair but one.
     ///
     /// ```
     /// map.try_insert("car", 1)?;

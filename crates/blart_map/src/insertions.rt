@@ -19,6 +19,8 @@ impl<K: AsBytes + Drop, V: Drop, const PREFIX_LEN: usize> TreeMap<K, V, PREFIX_L
     /// Returns the error `Prefix` exactly if the key conflicts, and `Memory` only if the bytes are
     /// new. If it returns an error, the map is unchanged.
     ///
+    /// Cost: an insertion.
+    ///
     /// ```
     /// assert_eq!(map.try_insert("cat", 1)?, None);
     /// assert_eq!(map.try_insert("cat", 2)?, Some(1));
@@ -57,6 +59,8 @@ impl<K: AsBytes + Drop, V: Drop, const PREFIX_LEN: usize> TreeMap<K, V, PREFIX_L
     /// Replaces the pair with the same bytes and returns the old pair, or inserts the pair and
     /// returns `None`. The key that was handed in is always stored. Errors are those of
     /// [`TreeMap::try_insert`].
+    ///
+    /// Cost: an insertion.
     #[tactic(auto, unfolding(crate::specs::Content::pairs))]
     pub fn replace_entry(&mut self, key: K, value: V) -> Result<Option<(K, V)>, TryInsertError>
         ensures old { IfOk result (λ old. old ≡ pair_at K.bytes (pairs self.old) (K.bytes key)) }
@@ -90,6 +94,8 @@ impl<K: NoPrefixesBytes + Drop, V: Drop, const PREFIX_LEN: usize> TreeMap<K, V, 
     /// dropped. Keys of this type never conflict.
     ///
     /// Returns an error only if the bytes are new. The map is then unchanged.
+    ///
+    /// Cost: an insertion.
     ///
     /// ```
     /// assert_eq!(map.insert(U32Key::new(258), 'a')?, None);

@@ -11,6 +11,8 @@ use std::iter::IntoIterator;
 impl<K: AsBytes + Drop, V: Drop, const PREFIX_LEN: usize> TreeMap<K, V, PREFIX_LEN> {
     /// Returns an iterator over the keys by value, from both ends, in byte order. Does not
     /// allocate. Dropping the iterator drops the remaining pairs.
+    ///
+    /// Cost: frees the inner nodes at once. Each step removes one leaf.
     pub fn into_keys(self) -> IntoKeys<K, V, PREFIX_LEN>
         ensures value { result ≡ map (λ pair. pair.0) (pairs self) }
         ensures fits { CanCount result }
@@ -22,6 +24,8 @@ impl<K: AsBytes + Drop, V: Drop, const PREFIX_LEN: usize> TreeMap<K, V, PREFIX_L
 
     /// Returns an iterator over the values by value, from both ends, in byte order of their keys.
     /// Does not allocate. Dropping the iterator drops the remaining pairs.
+    ///
+    /// Cost: frees the inner nodes at once. Each step removes one leaf.
     pub fn into_values(self) -> IntoValues<K, V, PREFIX_LEN>
         ensures value { result ≡ map (λ pair. pair.1) (pairs self) }
         ensures fits { CanCount result }
@@ -42,6 +46,8 @@ impl<K: AsBytes + Drop, V: Drop, const PREFIX_LEN: usize> IntoIterator
 
     /// Returns an iterator over the pairs by value, from both ends, in byte order of their keys.
     /// Does not allocate. Dropping the iterator drops the remaining pairs.
+    ///
+    /// Cost: frees the inner nodes at once. Each step removes one leaf.
     ///
     /// ```
     /// map.try_insert("dog", 2)?;

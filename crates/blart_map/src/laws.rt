@@ -12,6 +12,8 @@ use blart_keys::AsBytes;
 impl<K: AsBytes, V, const PREFIX_LEN: usize> TreeMap<K, V, PREFIX_LEN> {
     /// Does nothing. Its contract is a law of insertions: if a key does not conflict with the map,
     /// exactly one list satisfies `IsPut`, the clause `put` of an insertion of its pair.
+    ///
+    /// Cost: none.
     pub fn put_law(&self)
         ensures { (pair : K × V) → overlaps K.bytes (pairs self.now) (K.bytes pair.0) ≡ false
             → (S : List (K × V)) × IsPut (bytes K.bytes) (pairs self.now) pair S
@@ -22,6 +24,8 @@ impl<K: AsBytes, V, const PREFIX_LEN: usize> TreeMap<K, V, PREFIX_LEN> {
 
     /// Does nothing. Its contract is a law of [`TreeMap::prefix_insert`]: for any pair exactly one
     /// list satisfies `IsOver`, which says what the map becomes.
+    ///
+    /// Cost: none.
     pub fn over_law(&self)
         ensures { (pair : K × V)
             → (S : List (K × V)) × IsOver (bytes K.bytes) (pairs self.now) pair S
@@ -33,6 +37,8 @@ impl<K: AsBytes, V, const PREFIX_LEN: usize> TreeMap<K, V, PREFIX_LEN> {
     /// Does nothing. Its contract is a law of [`TreeMap::split_off`] and [`TreeMap::append`]: if
     /// the pairs are parted in two, and the upper part is appended to the lower, they are the same
     /// list again.
+    ///
+    /// Cost: none.
     pub fn parts_law(&self)
         ensures { (low high S : List (K × V)) → pairs self.now ≡ low ++ high
             → IsAppended (bytes K.bytes) low high S → S ≡ pairs self.now }

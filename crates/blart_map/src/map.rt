@@ -52,6 +52,8 @@ impl<K: AsBytes, V, const PREFIX_LEN: usize> Model for TreeMap<K, V, PREFIX_LEN>
 impl<K: AsBytes, V> TreeMap<K, V, DEFAULT_PREFIX_LEN> {
     /// Returns a map with no pairs, whose inner nodes keep 16 bytes of their compressed prefixes.
     /// Does not allocate.
+    ///
+    /// Cost: none.
     pub fn new(alloc: Global) -> Self
         ensures empty { pairs result ≡ [] }
         ensures nothing { HasNothing K.bytes (pairs result) }
@@ -61,7 +63,10 @@ impl<K: AsBytes, V> TreeMap<K, V, DEFAULT_PREFIX_LEN> {
 }
 
 impl<K: AsBytes, V, const PREFIX_LEN: usize> TreeMap<K, V, PREFIX_LEN> {
-    /// Returns a map with no pairs. Does not allocate.
+    /// Returns a map with no pairs, whose inner nodes keep `PREFIX_LEN` bytes of their compressed
+    /// prefixes. Does not allocate.
+    ///
+    /// Cost: none.
     #[tactic(auto, unfolding(crate::specs::Content::pairs))]
     pub fn with_prefix_len(alloc: Global) -> Self
         ensures empty { pairs result ≡ [] }
@@ -76,6 +81,8 @@ impl<K: AsBytes, V, const PREFIX_LEN: usize> TreeMap<K, V, PREFIX_LEN> {
     /// Does nothing. Its contract says what holds of every map: the pairs ascend by the bytes of
     /// their keys, no key's bytes are a prefix of another's, and the number of pairs fits a
     /// `usize`.
+    ///
+    /// Cost: none.
     pub fn law(&self)
         ensures content { IsContent (bytes K.bytes) (pairs self.now) }
         ensures fits { CanCount (pairs self.now) }
@@ -85,6 +92,8 @@ impl<K: AsBytes, V, const PREFIX_LEN: usize> TreeMap<K, V, PREFIX_LEN> {
     }
 
     /// Returns the number of pairs.
+    ///
+    /// Cost: reads a count.
     #[tactic(auto, unfolding(crate::specs::Content::pairs))]
     pub fn len(&self) -> usize
         ensures { result ≡ length (pairs self.now) }
@@ -93,13 +102,16 @@ impl<K: AsBytes, V, const PREFIX_LEN: usize> TreeMap<K, V, PREFIX_LEN> {
     }
 
     /// Returns `true` if there are no pairs.
+    ///
+    /// Cost: reads a count.
     pub fn is_empty(&self) -> bool
         ensures { result ≡ (length (pairs self.now) == 0) }
     {
         self.len() == 0
     }
 
-    /// Returns the pair with the query's bytes, and counts the visits.
+    /// Returns the pair with the query's bytes, or `None` if there is no such pair, and counts the
+    /// visits.
     ///
     /// Cost: at most n + 1 visits, if the query has n bytes, and none on an empty map. It makes at
     /// least one visit if it returns a pair.
@@ -122,7 +134,9 @@ impl<K: AsBytes, V, const PREFIX_LEN: usize> TreeMap<K, V, PREFIX_LEN> {
         }
     }
 
-    /// Returns the pair with the query's bytes.
+    /// Returns the pair with the query's bytes, or `None` if there is no such pair.
+    ///
+    /// Cost: a look-up.
     pub fn get_key_value<Q: AsBytes>(&self, query: &Q) -> Option<(&K, &V)>
         ensures value { shown result ≡ at (bytes K.bytes) (pairs self.now) (Q.bytes query.now) }
         ensures pair { shown result ≡ pair_at K.bytes (pairs self.now) (Q.bytes query.now) }
@@ -131,7 +145,9 @@ impl<K: AsBytes, V, const PREFIX_LEN: usize> TreeMap<K, V, PREFIX_LEN> {
         self.get_key_value_counted(query, &mut Visits::new())
     }
 
-    /// Returns the value of the key with the query's bytes.
+    /// Returns the value of the key with the query's bytes, or `None` if there is no such key.
+    ///
+    /// Cost: a look-up.
     ///
     /// ```
     /// map.try_insert("cat", 2)?;
@@ -153,6 +169,8 @@ impl<K: AsBytes, V, const PREFIX_LEN: usize> TreeMap<K, V, PREFIX_LEN> {
     }
 
     /// Returns `true` if some key has the query's bytes.
+    ///
+    /// Cost: a look-up.
     pub fn contains_key<Q: AsBytes>(&self, query: &Q) -> bool
         ensures value { result ≡ stores (bytes K.bytes) (pairs self.now) (Q.bytes query.now) }
         ensures stored { result ≡ has K.bytes (pairs self.now) (Q.bytes query.now) }
@@ -160,7 +178,8 @@ impl<K: AsBytes, V, const PREFIX_LEN: usize> TreeMap<K, V, PREFIX_LEN> {
         self.get_key_value(query).is_some()
     }
 
-    /// Returns the pair whose key's bytes are a prefix of the query's, and counts the visits.
+    /// Returns the pair whose key's bytes are a prefix of the query's, or `None` if there is no
+    /// such pair, and counts the visits.
     ///
     /// Cost: at most n + 1 visits, if the query has n bytes, and none on an empty map. It makes at
     /// least one visit if it returns a pair.
@@ -185,7 +204,10 @@ impl<K: AsBytes, V, const PREFIX_LEN: usize> TreeMap<K, V, PREFIX_LEN> {
         }
     }
 
-    /// Returns the pair whose key's bytes are a prefix of the query's.
+    /// Returns the pair whose key's bytes are a prefix of the query's, or `None` if there is no
+    /// such pair. There is at most one.
+    ///
+    /// Cost: a look-up.
     pub fn prefix_get_key_value<Q: AsBytes>(&self, query: &Q) -> Option<(&K, &V)>
         ensures value { shown result
             ≡ front_of (bytes K.bytes) (pairs self.now) (Q.bytes query.now) }
@@ -196,8 +218,10 @@ impl<K: AsBytes, V, const PREFIX_LEN: usize> TreeMap<K, V, PREFIX_LEN> {
         self.prefix_get_key_value_counted(query, &mut Visits::new())
     }
 
-    /// Returns the value of the key whose bytes are a prefix of the query's. There is at most one
-    /// such key.
+    /// Returns the value of the key whose bytes are a prefix of the query's, or `None` if there is
+    /// no such key. There is at most one.
+    ///
+    /// Cost: a look-up.
     ///
     /// ```
     /// map.try_insert("/static/", 7)?;
@@ -217,7 +241,9 @@ impl<K: AsBytes, V, const PREFIX_LEN: usize> TreeMap<K, V, PREFIX_LEN> {
         }
     }
 
-    /// Returns the pair whose key's bytes are least.
+    /// Returns the pair whose key's bytes are least, or `None` if there are no pairs.
+    ///
+    /// Cost: one visit.
     #[tactic(auto, unfolding(crate::specs::Content::pairs))]
     pub fn first_key_value(&self) -> Option<(&K, &V)>
         ensures value { shown result ≡ slice_get (pairs self.now) 0 }
@@ -229,7 +255,9 @@ impl<K: AsBytes, V, const PREFIX_LEN: usize> TreeMap<K, V, PREFIX_LEN> {
         Some(self.tree.leaf(id, &mut Visits::new()))
     }
 
-    /// Returns the pair whose key's bytes are greatest.
+    /// Returns the pair whose key's bytes are greatest, or `None` if there are no pairs.
+    ///
+    /// Cost: one visit.
     #[tactic(auto, unfolding(crate::specs::Content::pairs))]
     pub fn last_key_value(&self) -> Option<(&K, &V)>
         ensures value { shown result
@@ -244,6 +272,8 @@ impl<K: AsBytes, V, const PREFIX_LEN: usize> TreeMap<K, V, PREFIX_LEN> {
 
     /// Returns `true` if some key is related to the query's bytes and has other bytes. In that case
     /// [`TreeMap::try_insert`] returns the error `Prefix` for a key with the query's bytes.
+    ///
+    /// Cost: one descent.
     ///
     /// ```
     /// map.try_insert("/api/", 1)?;
@@ -261,6 +291,8 @@ impl<K: AsBytes, V, const PREFIX_LEN: usize> TreeMap<K, V, PREFIX_LEN> {
 
     /// Returns the number of inner nodes. There is one at the longest common prefix of each two
     /// neighbouring keys. The number is less than the number of pairs, and 0 if there are no pairs.
+    ///
+    /// Cost: reads four counts.
     #[tactic(auto, unfolding(crate::specs::Content::pairs))]
     pub fn inner_nodes(&self) -> usize
         ensures value { result ≡ set.len (fronts (bytes K.bytes) (pairs self.now)) }

@@ -38,6 +38,8 @@ impl<'a, K: AsBytes, V, const PREFIX_LEN: usize, T: 'a> OccupiedEntry<'a, K, V, 
     ghost use Rattle.blart_map.specs.OccupiedLends.{entry_value_lends};
 
     /// Returns the stored key.
+    ///
+    /// Cost: one visit.
     pub fn key(&self) -> &K
         ensures { entry_key (Occupied self.now) ≡ Some result.now }
     {
@@ -45,6 +47,8 @@ impl<'a, K: AsBytes, V, const PREFIX_LEN: usize, T: 'a> OccupiedEntry<'a, K, V, 
     }
 
     /// Returns the value.
+    ///
+    /// Cost: one visit.
     pub fn get(&self) -> &V
         ensures { entry_value (Occupied self.now) ≡ Some result.now }
     {
@@ -52,6 +56,8 @@ impl<'a, K: AsBytes, V, const PREFIX_LEN: usize, T: 'a> OccupiedEntry<'a, K, V, 
     }
 
     /// Returns a mutable reference to the value.
+    ///
+    /// Cost: reads the leaf.
     pub fn get_mut(&mut self) -> &mut V
         ensures* writes_back { sem 𝓛
             (entry_value_lends K.row V.row PREFIX_LEN.row T.row K.AsBytes self.entry result) }
@@ -64,6 +70,8 @@ impl<'a, K: AsBytes, V, const PREFIX_LEN: usize, T: 'a> OccupiedEntry<'a, K, V, 
     }
 
     /// Sets the value, and returns the old value. The key is unchanged.
+    ///
+    /// Cost: reads the leaf.
     pub fn insert(&mut self, value: V) -> V
         ensures old { entry_value (Occupied self.old) ≡ Some result }
         ensures written { IsSetEntry (Occupied self.old) value self.new }
@@ -82,6 +90,8 @@ impl<'a, K: AsBytes + Drop, V: Drop, const PREFIX_LEN: usize, T: 'a> OccupiedEnt
     ghost use Rattle.blart_map.specs.Entry.{Occupied, entry_value, entry_pair, IsRemoved};
 
     /// Removes the pair, and returns it.
+    ///
+    /// Cost: one descent.
     pub fn remove_entry(self) -> (K, V)
         ensures pair { entry_pair (Occupied self.entry) ≡ Some result }
         ensures rest { IsRemoved (Occupied self.entry) self.exit.0.now }
@@ -92,6 +102,8 @@ impl<'a, K: AsBytes + Drop, V: Drop, const PREFIX_LEN: usize, T: 'a> OccupiedEnt
     }
 
     /// Removes the pair, and returns its value.
+    ///
+    /// Cost: one descent.
     pub fn remove(self) -> V
         ensures value { entry_value (Occupied self.entry) ≡ Some result }
         ensures rest { IsRemoved (Occupied self.entry) self.exit.0.now }
@@ -114,6 +126,8 @@ impl<'a, K: AsBytes, V, const PREFIX_LEN: usize> OccupiedEntry<
     ghost use Rattle.art_tree.specs.Leaves.{with_value};
 
     /// Returns a mutable reference to the value that lives as long as the borrow of the map.
+    ///
+    /// Cost: reads the leaf.
     pub fn into_mut(self) -> &'a mut V
         ensures* writes_back { sem 𝓛
             (lends_leaf K.row V.row PREFIX_LEN.row K.AsBytes

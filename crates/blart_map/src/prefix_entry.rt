@@ -44,6 +44,8 @@ impl<'a, K: AsBytes, V, const PREFIX_LEN: usize, T: 'a> PrefixEntry<'a, K, V, PR
     ghost use Rattle.blart_map.specs.PrefixEntry.{prefix_key, prefix_found};
 
     /// Returns the stored key on `Leaf`, and otherwise the key that was handed in.
+    ///
+    /// Cost: one visit on `Leaf`, and none otherwise.
     pub fn key(&self) -> &K
         ensures { prefix_key self.now ≡ Some result.now }
     {
@@ -55,6 +57,8 @@ impl<'a, K: AsBytes, V, const PREFIX_LEN: usize, T: 'a> PrefixEntry<'a, K, V, PR
 
     /// Returns the stored key on `Leaf`, and the key that was handed in on `Vacant`. On `Inner`,
     /// returns the key of the only related pair, or `None` if there are more.
+    ///
+    /// Cost: at most one visit.
     pub fn get_key(&self) -> Option<&K>
         ensures { option_copied result ≡ prefix_found self.now }
     {
@@ -75,6 +79,8 @@ impl<'a, K: AsBytes, V, const PREFIX_LEN: usize> PrefixEntry<
     ghost use Rattle.blart_map.specs.PrefixKind.{IsKindOf};
 
     /// Returns the entry as one of three kinds, whose calls say what the map becomes.
+    ///
+    /// Cost: none.
     ///
     /// ```
     /// match map.prefix_entry("ca").kind() {
@@ -105,6 +111,8 @@ impl<'a, K: AsBytes + Drop, V: Drop, const PREFIX_LEN: usize> PrefixEntry<
 
     /// Sets the value, on `Inner` in place of all pairs to which the key is related, and returns
     /// the entry of the key's pair. See [`PrefixKind::insert_entry`], which has all clauses.
+    ///
+    /// Cost: as for [`PrefixKind::insert_entry`].
     pub fn insert_entry(
         self,
         value: V,
@@ -121,6 +129,8 @@ impl<'a, K: AsBytes + Drop, V: Drop, const PREFIX_LEN: usize> PrefixEntry<
     /// Returns the entry of the key's pair. If no value is stored, it first places the default, in
     /// place of all pairs to which the key is related. See [`PrefixKind::or_insert_entry`], which
     /// has all clauses.
+    ///
+    /// Cost: as for [`PrefixKind::or_insert_entry`].
     pub fn or_insert_entry(
         self,
         default: V,
@@ -137,6 +147,8 @@ impl<'a, K: AsBytes + Drop, V: Drop, const PREFIX_LEN: usize> PrefixEntry<
 
     /// Returns the entry of the key's pair, like [`PrefixEntry::or_insert_entry`], with the value
     /// that the closure returns. See [`PrefixKind::or_insert_with_entry`], which has all clauses.
+    ///
+    /// Cost: as for [`PrefixKind::or_insert_with_entry`].
     pub fn or_insert_with_entry<F: FnOnce() -> V + Drop>(
         self,
         default: F,
@@ -157,6 +169,8 @@ impl<'a, K: AsBytes + Drop, V: Drop, const PREFIX_LEN: usize> PrefixEntry<
     /// Returns the entry of the key's pair, like [`PrefixEntry::or_insert_with_entry`]. The closure
     /// takes the key that was handed in. See [`PrefixKind::or_insert_with_key_entry`], which has
     /// all clauses.
+    ///
+    /// Cost: as for [`PrefixKind::or_insert_with_key_entry`].
     pub fn or_insert_with_key_entry<F: FnOnce(&K) -> V + Drop>(
         self,
         default: F,
@@ -179,6 +193,8 @@ impl<'a, K: AsBytes + Drop, V: Drop, const PREFIX_LEN: usize> PrefixEntry<
 
     /// Returns the entry of the key's pair, like [`PrefixEntry::or_insert_with_entry`], with the
     /// type's default. See [`PrefixKind::or_default_entry`], which has all clauses.
+    ///
+    /// Cost: as for [`PrefixKind::or_default_entry`].
     pub fn or_default_entry(
         self,
     ) -> Result<OccupiedEntry<'a, K, V, PREFIX_LEN, TreeMap<K, V, PREFIX_LEN>>, AllocError>
@@ -192,6 +208,8 @@ impl<'a, K: AsBytes + Drop, V: Drop, const PREFIX_LEN: usize> PrefixEntry<
 
     /// Returns a mutable reference to the value, which it places like
     /// [`PrefixEntry::or_insert_entry`]. See [`PrefixKind::or_insert`], which has all clauses.
+    ///
+    /// Cost: as for [`PrefixKind::or_insert`].
     pub fn or_insert(self, default: V) -> Result<&'a mut V, AllocError>
         ensures value { IfOk result
             (λ r. r.now ≡ unwrap_or (prefix_value self.entry) default) }
@@ -206,6 +224,8 @@ impl<'a, K: AsBytes + Drop, V: Drop, const PREFIX_LEN: usize> PrefixEntry<
     /// Returns a mutable reference to the value, which it places like
     /// [`PrefixEntry::or_insert_with_entry`]. See [`PrefixKind::or_insert_with`], which has all
     /// clauses.
+    ///
+    /// Cost: as for [`PrefixKind::or_insert_with`].
     pub fn or_insert_with<F: FnOnce() -> V + Drop>(
         self,
         default: F,
@@ -224,6 +244,8 @@ impl<'a, K: AsBytes + Drop, V: Drop, const PREFIX_LEN: usize> PrefixEntry<
     /// Returns a mutable reference to the value, which it places like
     /// [`PrefixEntry::or_insert_with_key_entry`]. See [`PrefixKind::or_insert_with_key`], which has
     /// all clauses.
+    ///
+    /// Cost: as for [`PrefixKind::or_insert_with_key`].
     pub fn or_insert_with_key<F: FnOnce(&K) -> V + Drop>(
         self,
         default: F,
@@ -243,6 +265,8 @@ impl<'a, K: AsBytes + Drop, V: Drop, const PREFIX_LEN: usize> PrefixEntry<
 
     /// Returns a mutable reference to the value, which it places like
     /// [`PrefixEntry::or_default_entry`]. See [`PrefixKind::or_default`], which has all clauses.
+    ///
+    /// Cost: as for [`PrefixKind::or_default`].
     pub fn or_default(self) -> Result<&'a mut V, AllocError>
     where
         V: Default,

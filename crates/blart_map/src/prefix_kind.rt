@@ -52,8 +52,8 @@ impl<'a, K: AsBytes + Drop, V: Drop, const PREFIX_LEN: usize> PrefixKind<
     ///
     /// Fails to allocate on `Vacant` alone, and then the map is unchanged.
     ///
-    /// Cost: on `Leaf` it searches nothing. On `Inner` it removes each related pair but one. On
-    /// `Vacant` it makes one descent, sometimes two.
+    /// Cost: reads the leaf on `Leaf`. On `Inner`, one descent for each related pair but one. On
+    /// `Vacant`, an insertion.
     pub fn insert_entry(
         self,
         value: V,
@@ -73,7 +73,9 @@ impl<'a, K: AsBytes + Drop, V: Drop, const PREFIX_LEN: usize> PrefixKind<
     /// Returns the entry of the key's pair. If no value is stored, it first places the default, on
     /// `Inner` in place of all pairs to which the key is related.
     ///
-    /// Errors and cost are those of [`PrefixKind::insert_entry`].
+    /// Fails to allocate on `Vacant` alone, and then the map is unchanged.
+    ///
+    /// Cost: none on `Leaf`. On `Inner` and `Vacant` as for [`PrefixKind::insert_entry`].
     pub fn or_insert_entry(
         self,
         default: V,
@@ -93,7 +95,9 @@ impl<'a, K: AsBytes + Drop, V: Drop, const PREFIX_LEN: usize> PrefixKind<
     /// Returns the entry of the key's pair, like [`PrefixKind::or_insert_entry`], with the value
     /// that the closure returns. The closure is called if no value is stored, once there is room.
     ///
-    /// Errors and cost are those of [`PrefixKind::insert_entry`].
+    /// Fails to allocate on `Vacant` alone, and then the map is unchanged.
+    ///
+    /// Cost: as for [`PrefixKind::or_insert_entry`].
     ///
     /// ```
     /// map.try_insert("car", 1)?;
@@ -121,6 +125,8 @@ impl<'a, K: AsBytes + Drop, V: Drop, const PREFIX_LEN: usize> PrefixKind<
 
     /// Returns the entry of the key's pair, like [`PrefixKind::or_insert_with_entry`]. The closure
     /// takes the key that was handed in.
+    ///
+    /// Cost: as for [`PrefixKind::or_insert_entry`].
     pub fn or_insert_with_key_entry<F: FnOnce(&K) -> V + Drop>(
         self,
         default: F,
@@ -145,6 +151,8 @@ impl<'a, K: AsBytes + Drop, V: Drop, const PREFIX_LEN: usize> PrefixKind<
 
     /// Returns the entry of the key's pair, like [`PrefixKind::or_insert_with_entry`], with the
     /// type's default, which is made if no value is stored, once there is room.
+    ///
+    /// Cost: as for [`PrefixKind::or_insert_entry`].
     pub fn or_default_entry(
         self,
     ) -> Result<OccupiedEntry<'a, K, V, PREFIX_LEN, TreeMap<K, V, PREFIX_LEN>>, AllocError>
@@ -161,8 +169,10 @@ impl<'a, K: AsBytes + Drop, V: Drop, const PREFIX_LEN: usize> PrefixKind<
     /// Returns a mutable reference to the value. If no value is stored, it first places the
     /// default, on `Inner` in place of all pairs to which the key is related.
     ///
-    /// Once the borrow ends, the key has the last value written. Errors and cost are those of
-    /// [`PrefixKind::insert_entry`].
+    /// Once the borrow ends, the key has the last value written. Fails to allocate on `Vacant`
+    /// alone, and then the map is unchanged.
+    ///
+    /// Cost: as for [`PrefixKind::insert_entry`].
     ///
     /// ```
     /// map.try_insert("car", 1)?;
@@ -186,6 +196,8 @@ impl<'a, K: AsBytes + Drop, V: Drop, const PREFIX_LEN: usize> PrefixKind<
 
     /// Returns a mutable reference like [`PrefixKind::or_insert`], with the value that the closure
     /// returns. The closure is called if no value is stored, once there is room.
+    ///
+    /// Cost: as for [`PrefixKind::insert_entry`].
     pub fn or_insert_with<F: FnOnce() -> V + Drop>(
         self,
         default: F,
@@ -206,6 +218,8 @@ impl<'a, K: AsBytes + Drop, V: Drop, const PREFIX_LEN: usize> PrefixKind<
 
     /// Returns a mutable reference like [`PrefixKind::or_insert_with`]. The closure takes the key
     /// that was handed in.
+    ///
+    /// Cost: as for [`PrefixKind::insert_entry`].
     pub fn or_insert_with_key<F: FnOnce(&K) -> V + Drop>(
         self,
         default: F,
@@ -230,6 +244,8 @@ impl<'a, K: AsBytes + Drop, V: Drop, const PREFIX_LEN: usize> PrefixKind<
 
     /// Returns a mutable reference like [`PrefixKind::or_insert`], with the type's default, which
     /// is made if no value is stored, once there is room.
+    ///
+    /// Cost: as for [`PrefixKind::insert_entry`].
     pub fn or_default(self) -> Result<&'a mut V, AllocError>
     where
         V: Default,

@@ -34,6 +34,8 @@ impl<'a, K: AsBytes, V, const PREFIX_LEN: usize, T: 'a> PrefixOccupied<'a, K, V,
     ghost use Rattle.blart_map.specs.PrefixEntry.{occupied_pair, occupied_key};
 
     /// Returns the stored key on `Leaf`, and the key that was handed in on `Inner`.
+    ///
+    /// Cost: one visit on `Leaf`, and none on `Inner`.
     pub fn key(&self) -> &K
         ensures { occupied_key self.now ≡ Some result.now }
     {
@@ -45,6 +47,8 @@ impl<'a, K: AsBytes, V, const PREFIX_LEN: usize, T: 'a> PrefixOccupied<'a, K, V,
 
     /// Returns the value on `Leaf`. On `Inner`, returns the value of the only related pair, or
     /// `None` if there are more.
+    ///
+    /// Cost: at most one visit.
     pub fn get(&self) -> Option<&V>
         ensures { option_copied result ≡ option_map (λ pair. pair.1) (occupied_pair self.now) }
     {
@@ -56,6 +60,8 @@ impl<'a, K: AsBytes, V, const PREFIX_LEN: usize, T: 'a> PrefixOccupied<'a, K, V,
 
     /// Returns the stored key on `Leaf`. On `Inner`, returns the key of the only related pair, or
     /// `None` if there are more.
+    ///
+    /// Cost: at most one visit.
     pub fn get_key(&self) -> Option<&K>
         ensures { option_copied result ≡ option_map (λ pair. pair.0) (occupied_pair self.now) }
     {
@@ -71,6 +77,8 @@ impl<'a, K: AsBytes, V, const PREFIX_LEN: usize, T: 'a> PrefixOccupied<'a, K, V,
     /// The contract says which value it is, and not what the entry is after the write: the borrow
     /// checker of the language carries no such clause. Match the enum and call the `get_mut` of
     /// [`OccupiedEntry`] or [`InnerOccupiedEntry`], which say it.
+    ///
+    /// Cost: reads at most one leaf.
     pub fn get_mut(&mut self) -> Option<&mut V>
         ensures { option_copied_mut result
             ≡ option_map (λ pair. pair.1) (occupied_pair self.old) }
@@ -94,6 +102,8 @@ impl<'a, K: AsBytes + Drop, V: Drop, const PREFIX_LEN: usize> PrefixOccupied<
 
     /// Sets the value on `Leaf`, and on `Inner` removes the related pairs and places the key with
     /// the value. Returns the entry of the key's pair.
+    ///
+    /// Cost: reads the leaf on `Leaf`. On `Inner`, one descent for each related pair but one.
     pub fn insert_entry(
         self,
         value: V,
@@ -111,6 +121,8 @@ impl<'a, K: AsBytes + Drop, V: Drop, const PREFIX_LEN: usize> PrefixOccupied<
 
     /// Returns a mutable reference to the value, which it sets like
     /// [`PrefixOccupied::insert_entry`]. Once the borrow ends, the key has the last value written.
+    ///
+    /// Cost: as for [`PrefixOccupied::insert_entry`].
     pub fn insert(self, value: V) -> &'a mut V
         ensures* writes_back { sem 𝓛
             (occupied_lends K.row V.row PREFIX_LEN.row K.AsBytes self.entry result) }

@@ -58,6 +58,8 @@ pub trait PutBack<M>: Drop {
     ghost filled: { Self → M };
 
     /// Replaces the content of the map by this value.
+    ///
+    /// Cost: drops what the map has.
     fn put_back(self, map: &mut M)
         ensures { map.new ≡ filled self };
 }
@@ -94,6 +96,8 @@ impl<K: AsBytes + Drop, V: Drop, const PREFIX_LEN: usize> TreeMap<K, V, PREFIX_L
     ///
     /// If it fails to allocate, the map is unchanged. If `count` is 0, it does not allocate.
     ///
+    /// Cost: allocates for `count` pairs.
+    ///
     /// ```
     /// let mut room = map.reserve(2)?;
     /// room.insert(U32Key::new(1), 'a');
@@ -124,6 +128,8 @@ impl<K: AsBytes + Drop, V: Drop, const PREFIX_LEN: usize> TreeMap<K, V, PREFIX_L
     /// empty until the room is put back.
     ///
     /// If it fails to allocate, the map is unchanged.
+    ///
+    /// Cost: allocates for `count` pairs.
     pub fn take_room(&mut self, count: usize) -> Result<Room<K, V, PREFIX_LEN>, AllocError>
         ensures same { IfOk result (λ r. room_leaves r ≡ self.old) }
         ensures empty { OnOk result (self.new ≡ []) }
@@ -141,6 +147,8 @@ impl<K: AsBytes, V, const PREFIX_LEN: usize> Room<K, V, PREFIX_LEN> {
     ghost use Rattle.blart_map.specs.Reserved.{room_count, room_pairs};
 
     /// Does nothing. Its contract says what holds of the pairs of every room.
+    ///
+    /// Cost: none.
     #[tactic(auto, unfolding(crate::specs::Content::pairs))]
     pub fn law(&self)
         ensures { IsContent (bytes K.bytes) (room_pairs self.now) }
@@ -149,6 +157,8 @@ impl<K: AsBytes, V, const PREFIX_LEN: usize> Room<K, V, PREFIX_LEN> {
     }
 
     /// Returns the number of pairs for which there is room.
+    ///
+    /// Cost: reads a count.
     pub fn left(&self) -> usize
         ensures { result ≡ room_count self.now }
     {
@@ -160,6 +170,8 @@ impl<K: AsBytes + Drop, V: Drop, const PREFIX_LEN: usize> Room<K, V, PREFIX_LEN>
     ghost use Rattle.blart_map.specs.Reserved.{room_count, room_pairs};
 
     /// Inserts the pair, like [`Reserved::try_insert`].
+    ///
+    /// Cost: an insertion that does not allocate.
     #[tactic(auto, unfolding(crate::specs::Content::pairs))]
     pub fn try_insert(&mut self, key: K, value: V) -> Result<Option<V>, InsertPrefixError>
         requires { 0 < room_count self.old }
@@ -194,6 +206,8 @@ impl<K: NoPrefixesBytes + Drop, V: Drop, const PREFIX_LEN: usize> Room<K, V, PRE
     ghost use Rattle.blart_map.specs.Reserved.{room_count, room_pairs};
 
     /// Inserts the pair, like [`Reserved::insert`].
+    ///
+    /// Cost: an insertion that does not allocate.
     #[tactic(auto, unfolding(crate::specs::Content::pairs))]
     pub fn insert(&mut self, key: K, value: V) -> Option<V>
         requires { 0 < room_count self.old }
@@ -226,14 +240,18 @@ impl<'a, K: AsBytes + Drop, V: Drop, const PREFIX_LEN: usize> Reserved<
     ghost use Rattle.blart_map.specs.Reserved.{reserved_map, held, room_left};
 
     /// Returns the number of pairs for which there is room.
+    ///
+    /// Cost: reads a count.
     pub fn left(&self) -> usize
         ensures { result ≡ room_left self.now }
     {
         self.room.left()
     }
 
-    /// Inserts the pair, like [`TreeMap::try_insert`], if there is room for one. It does not
-    /// allocate, and returns an error only if the key conflicts.
+    /// Inserts the pair, like [`TreeMap::try_insert`]. There must be room for a pair, and a new
+    /// pair uses it. It does not allocate, and returns an error only if the key conflicts.
+    ///
+    /// Cost: an insertion that does not allocate.
     pub fn try_insert(&mut self, key: K, value: V) -> Result<Option<V>, InsertPrefixError>
         requires { 0 < room_left self.old }
         ensures same_map { (reserved_map self.new).ghost_name
@@ -267,8 +285,10 @@ impl<'a, K: NoPrefixesBytes + Drop, V: Drop, const PREFIX_LEN: usize> Reserved<
 > {
     ghost use Rattle.blart_map.specs.Reserved.{reserved_map, held, room_left};
 
-    /// Inserts the pair, like [`TreeMap::insert`], if there is room for one. It does not allocate,
-    /// and always succeeds.
+    /// Inserts the pair, like [`TreeMap::insert`]. There must be room for a pair, and a new pair
+    /// uses it. It does not allocate, and always succeeds.
+    ///
+    /// Cost: an insertion that does not allocate.
     pub fn insert(&mut self, key: K, value: V) -> Option<V>
         requires { 0 < room_left self.old }
         ensures same_map { (reserved_map self.new).ghost_name

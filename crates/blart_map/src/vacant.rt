@@ -34,6 +34,8 @@ impl<'a, K: AsBytes, V, const PREFIX_LEN: usize, T: 'a> VacantEntry<'a, K, V, PR
     ghost use Rattle.blart_map.specs.Entry.{Vacant, entry_ref, vacant_key};
 
     /// Returns the key.
+    ///
+    /// Cost: none.
     pub fn key(&self) -> &K
         ensures { result.now ≡ vacant_key self.now }
     {
@@ -41,6 +43,8 @@ impl<'a, K: AsBytes, V, const PREFIX_LEN: usize, T: 'a> VacantEntry<'a, K, V, PR
     }
 
     /// Returns the key by value. The map is unchanged.
+    ///
+    /// Cost: none.
     pub fn into_key(self) -> K
         ensures key { result ≡ vacant_key self.entry }
         ensures unchanged { self.exit.0.now ≡ (entry_ref (Vacant self.entry)).now }
@@ -60,7 +64,9 @@ impl<'a, K: AsBytes + Drop, V: Drop, const PREFIX_LEN: usize> VacantEntry<
     ghost use Rattle.blart_map.specs.EntryLends.{entry_lends_ok, entry_rests};
 
     /// Places the key with the value, and returns a mutable reference to the value. If it fails to
-    /// allocate, the key and the value are dropped.
+    /// allocate, it returns an error, and drops the key and the value.
+    ///
+    /// Cost: an insertion.
     pub fn insert(self, value: V) -> Result<&'a mut V, AllocError>
         ensures* writes_back { sem 𝓛
             (entry_lends_ok K.row V.row PREFIX_LEN.row K.AsBytes (Vacant self.entry) result) }
@@ -72,7 +78,9 @@ impl<'a, K: AsBytes + Drop, V: Drop, const PREFIX_LEN: usize> VacantEntry<
     }
 
     /// Places the key with the value, and returns the entry of the pair. If it fails to allocate,
-    /// the key and the value are dropped.
+    /// it returns an error, and drops the key and the value.
+    ///
+    /// Cost: an insertion.
     pub fn insert_entry(
         self,
         value: V,

@@ -24,7 +24,9 @@ use std::ops::Bound;
 
 impl<K: AsBytes, V, const PREFIX_LEN: usize> TreeMap<K, V, PREFIX_LEN> {
     /// Returns an iterator over the pairs, from both ends, in byte order of their keys. Does not
-    /// allocate. Each step makes one visit.
+    /// allocate.
+    ///
+    /// Cost: no visit. Each step makes one visit.
     #[tactic(auto, unfolding(crate::specs::Content::pairs))]
     pub fn iter(&self) -> Iter<'_, K, V, PREFIX_LEN>
         ensures value { result ≡ pairs self.now }
@@ -34,8 +36,9 @@ impl<K: AsBytes, V, const PREFIX_LEN: usize> TreeMap<K, V, PREFIX_LEN> {
         Iter::new(&self.tree)
     }
 
-    /// Returns an iterator over the keys, from both ends, in byte order. Does not allocate. Each
-    /// step makes one visit.
+    /// Returns an iterator over the keys, from both ends, in byte order. Does not allocate.
+    ///
+    /// Cost: no visit. Each step makes one visit.
     #[tactic(auto, unfolding(crate::specs::Content::pairs))]
     pub fn keys(&self) -> Keys<'_, K, V, PREFIX_LEN>
         ensures value { result ≡ map (λ pair. pair.0) (pairs self.now) }
@@ -46,7 +49,9 @@ impl<K: AsBytes, V, const PREFIX_LEN: usize> TreeMap<K, V, PREFIX_LEN> {
     }
 
     /// Returns an iterator over the values, from both ends, in byte order of their keys. Does not
-    /// allocate. Each step makes one visit.
+    /// allocate.
+    ///
+    /// Cost: no visit. Each step makes one visit.
     #[tactic(auto, unfolding(crate::specs::Content::pairs))]
     pub fn values(&self) -> Values<'_, K, V, PREFIX_LEN>
         ensures value { result ≡ map (λ pair. pair.1) (pairs self.now) }
@@ -58,6 +63,8 @@ impl<K: AsBytes, V, const PREFIX_LEN: usize> TreeMap<K, V, PREFIX_LEN> {
 
     /// Returns an iterator over the pairs whose keys' bytes begin with these, from both ends, in
     /// byte order of their keys. If there are no bytes, it goes over all pairs. Does not allocate.
+    ///
+    /// Cost: an opening. Each step makes one visit.
     ///
     /// ```
     /// map.try_insert("car", 1)?;
@@ -100,6 +107,8 @@ impl<K: AsBytes, V, const PREFIX_LEN: usize> TreeMap<K, V, PREFIX_LEN> {
     /// If the map has pairs, the bounds must be in order, which
     /// [`bounds_in_order`](crate::bounds_in_order) tests. On an empty map the iterator is empty for
     /// any bounds.
+    ///
+    /// Cost: an opening. Each step makes one visit.
     ///
     /// ```
     /// let (low, high) = ("b", "d");
@@ -164,6 +173,8 @@ impl<'a, K: AsBytes, V, const PREFIX_LEN: usize> IntoIterator for &'a TreeMap<K,
     ghost into_iter_gives = { λ map items. items ≡ pairs map.now };
 
     /// Returns an iterator over the pairs, like [`TreeMap::iter`].
+    ///
+    /// Cost: no visit. Each step makes one visit.
     fn into_iter(self) -> Iter<'a, K, V, PREFIX_LEN> {
         self.iter()
     }

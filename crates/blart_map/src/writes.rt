@@ -14,8 +14,10 @@ use blart_keys::AsBytes;
 use std::ops::Index;
 
 impl<K: AsBytes, V, const PREFIX_LEN: usize> TreeMap<K, V, PREFIX_LEN> {
-    /// Returns a mutable reference to the value of the key with the query's bytes. No other value
-    /// and no key changes.
+    /// Returns a mutable reference to the value of the key with the query's bytes, or `None` if
+    /// there is no such key. No other value and no key changes.
+    ///
+    /// Cost: a look-up.
     ///
     /// ```
     /// if let Some(value) = map.get_mut(&"cat") {
@@ -38,8 +40,10 @@ impl<K: AsBytes, V, const PREFIX_LEN: usize> TreeMap<K, V, PREFIX_LEN> {
         }
     }
 
-    /// Returns a mutable reference to the value of the key whose bytes are a prefix of the query's.
-    /// No other value and no key changes.
+    /// Returns a mutable reference to the value of the key whose bytes are a prefix of the query's,
+    /// or `None` if there is no such key. No other value and no key changes.
+    ///
+    /// Cost: a look-up.
     pub fn prefix_get_mut<Q: AsBytes>(&mut self, query: &Q) -> Option<&mut V>
         ensures* writes_back { sem 𝓛
             (lends_at_front K.row V.row PREFIX_LEN.row K.AsBytes self.entry
@@ -68,6 +72,8 @@ impl<'a, K: AsBytes, V, Q: AsBytes, const PREFIX_LEN: usize> Index<&'a Q>
         ≡ Some value };
 
     /// Returns the value of the key with the query's bytes. The map must have such a key.
+    ///
+    /// Cost: a look-up.
     fn index(&self, query: &'a Q) -> &V {
         self.get(query).unwrap()
     }

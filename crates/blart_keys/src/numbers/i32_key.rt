@@ -43,6 +43,8 @@ impl Model for I32Key {
 impl I32Key {
     /// Returns the key of a number.
     ///
+    /// Cost: none.
+    ///
     /// ```
     /// let key = I32Key::new(-1);
     /// assert_eq!(rt; key.as_bytes(), [0x7f, 0xff, 0xff, 0xff].as_slice());
@@ -59,6 +61,8 @@ impl I32Key {
     }
 
     /// Returns the number of the key.
+    ///
+    /// Cost: none.
     pub fn get(&self) -> i32
         ensures { result ≡ self.now }
     {
@@ -67,6 +71,8 @@ impl I32Key {
     }
 
     /// Does nothing. Its contract says that keys compare like their numbers.
+    ///
+    /// Cost: none.
     pub fn order_law(&self, other: &Self)
         ensures { ⟦<I32Key as Ord>⟧.cmp self.now other.now ≡ int_cmp self.now other.now }
     {

@@ -40,6 +40,8 @@ impl Model for U32Key {
 impl U32Key {
     /// Returns the key of a number.
     ///
+    /// Cost: none.
+    ///
     /// ```
     /// let key = U32Key::new(258);
     /// assert_eq!(rt; key.as_bytes(), [0, 0, 1, 2].as_slice());
@@ -55,6 +57,8 @@ impl U32Key {
     }
 
     /// Returns the number of the key.
+    ///
+    /// Cost: none.
     pub fn get(&self) -> u32
         ensures { result ≡ self.now }
     {
@@ -62,6 +66,8 @@ impl U32Key {
     }
 
     /// Does nothing. Its contract says that keys compare like their numbers.
+    ///
+    /// Cost: none.
     pub fn order_law(&self, other: &Self)
         ensures { ⟦<U32Key as Ord>⟧.cmp self.now other.now ≡ nat_cmp self.now other.now }
     {

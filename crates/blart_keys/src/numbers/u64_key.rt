@@ -40,6 +40,8 @@ impl Model for U64Key {
 impl U64Key {
     /// Returns the key of a number.
     ///
+    /// Cost: none.
+    ///
     /// ```
     /// let key = U64Key::new(1);
     /// assert_eq!(rt; key.as_bytes(), [0, 0, 0, 0, 0, 0, 0, 1].as_slice());
@@ -55,6 +57,8 @@ impl U64Key {
     }
 
     /// Returns the number of the key.
+    ///
+    /// Cost: none.
     pub fn get(&self) -> u64
         ensures { result ≡ self.now }
     {
@@ -62,6 +66,8 @@ impl U64Key {
     }
 
     /// Does nothing. Its contract says that keys compare like their numbers.
+    ///
+    /// Cost: none.
     pub fn order_law(&self, other: &Self)
         ensures { ⟦<U64Key as Ord>⟧.cmp self.now other.now ≡ nat_cmp self.now other.now }
     {

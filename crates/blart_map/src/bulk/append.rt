@@ -21,8 +21,9 @@ impl<K: NoPrefixesBytes + Drop, V: Drop, const PREFIX_LEN: usize> TreeMap<K, V, 
     /// It allocates room for all pairs of the map that has fewer, before any pair moves. If that
     /// fails, both maps are unchanged. If either map is empty, it does not allocate.
     ///
-    /// Cost: one insertion for each pair of the map that has fewer, whose records are freed whole.
-    /// If that is this map, the two are exchanged.
+    /// Cost: allocates for the pairs of the map that has fewer, and then makes one insertion for
+    /// each of them. The records of that map are freed whole. If that is this map, the two are
+    /// exchanged.
     ///
     /// ```
     /// left.insert(U32Key::new(1), 'a')?;

@@ -9,10 +9,11 @@ use std::alloc::AllocError;
 use std::clone::Clone;
 
 impl<K: AsBytes + Clone, V: Clone, const PREFIX_LEN: usize> TreeMap<K, V, PREFIX_LEN> {
-    /// Returns a map of clones of the pairs. A clone of a stored key must have the same bytes. If
-    /// the map is empty, it does not allocate.
+    /// Returns a map of clones of the pairs, or an error if it or a clone fails to allocate. A
+    /// clone of a stored key must have the same bytes. If the map is empty, it does not allocate.
     ///
-    /// Cost: it copies the records as they are, also the spare ones, and makes no look-up.
+    /// Cost: clones each pair, and allocates and copies each record as it is, spare ones too. It
+    /// makes no look-up.
     ///
     /// ```
     /// let copy = map.clone()?;

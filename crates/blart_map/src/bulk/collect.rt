@@ -18,6 +18,8 @@ impl<K: NoPrefixesBytes + Drop, V: Drop, const PREFIX_LEN: usize> FromIterator<(
 
     /// Returns a map of the pairs that the iterator yields, like the call of the same name of
     /// [`TreeMap`]. So `items.collect(alloc)?` makes a map.
+    ///
+    /// Cost: as for [`TreeMap::from_iter`].
     fn from_iter<U: IntoIterator<Item = (K, V)>>(
         alloc: Global,
         items: U,

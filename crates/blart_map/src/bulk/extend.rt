@@ -21,6 +21,8 @@ impl<K: NoPrefixesBytes + Drop, V: Drop, const PREFIX_LEN: usize> TreeMap<K, V, 
     /// Returns an error only at a pair whose bytes are new. That pair is dropped, and the pairs
     /// before it are kept.
     ///
+    /// Cost: an insertion for each pair.
+    ///
     /// ```
     /// map.extend(vec![in alloc; (U32Key::new(2), 'b'), (U32Key::new(1), 'a')]?.into_iter())?;
     /// assert_eq!(map.len(), 2);
@@ -58,6 +60,8 @@ impl<K: NoPrefixesBytes + Drop, V: Drop, const PREFIX_LEN: usize> TreeMap<K, V, 
 impl<K: NoPrefixesBytes + Copy, V: Copy, const PREFIX_LEN: usize> TreeMap<K, V, PREFIX_LEN> {
     /// Inserts copies of the pairs that the iterator yields, one after another, like
     /// [`TreeMap::extend`].
+    ///
+    /// Cost: an insertion for each pair.
     ///
     /// ```
     /// map.extend_copied(other.iter())?;

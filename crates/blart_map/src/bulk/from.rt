@@ -20,9 +20,11 @@ use std::iter::Iterator;
 impl<K: NoPrefixesBytes + Drop, V: Drop, const PREFIX_LEN: usize> TreeMap<K, V, PREFIX_LEN> {
     /// Returns a map of the pairs that the iterator yields, inserted one after another like
     /// [`TreeMap::insert`] does: if pairs have the same bytes, the first key is kept, with the last
-    /// value. Does not allocate if there are no pairs.
+    /// value. Returns an error only if there is a pair. If there are none, it does not allocate.
     ///
     /// It collects the pairs into a vector first, and [`TreeMap::from_vec`] makes the map.
+    ///
+    /// Cost: allocates the vector, and then as for [`TreeMap::from_vec`].
     pub fn from_iter<I: Iterator<Item = (K, V)>>(
         alloc: Global,
         items: I,
@@ -45,12 +47,15 @@ impl<K: NoPrefixesBytes + Drop, V: Drop, const PREFIX_LEN: usize> TreeMap<K, V, 
     }
 
     /// Returns a map of the pairs, inserted one after another like [`TreeMap::insert`] does: if
-    /// pairs have the same bytes, the first key is kept, with the last value. Does not allocate if
-    /// there are no pairs.
+    /// pairs have the same bytes, the first key is kept, with the last value. Returns an error only
+    /// if there is a pair. If there are none, it does not allocate.
     ///
     /// If there is memory to sort them, it sorts the pairs by their keys' bytes first. Then
     /// neighbouring pairs lie side by side, which makes walks over the map faster, and each inner
     /// node is made once.
+    ///
+    /// Cost: allocates for the pairs, sorts them, and makes each leaf and each inner node once. If
+    /// the sort fails to allocate, it makes an insertion for each pair.
     ///
     /// ```
     /// let map = Map::from_vec(alloc, vec![in alloc; (U32Key::new(2), 'b'), (U32Key::new(1), 'a')]?)?;
@@ -128,8 +133,10 @@ impl<K: NoPrefixesBytes + Drop, V: Drop, const PREFIX_LEN: usize> TreeMap<K, V, 
 
 impl<K: NoPrefixesBytes + Copy, V: Copy, const PREFIX_LEN: usize> TreeMap<K, V, PREFIX_LEN> {
     /// Returns a map of the pairs, inserted one after another like [`TreeMap::insert`] does: if
-    /// pairs have the same bytes, the first key is kept, with the last value. Does not allocate if
-    /// there are no pairs.
+    /// pairs have the same bytes, the first key is kept, with the last value. Returns an error only
+    /// if there is a pair. If there are none, it does not allocate.
+    ///
+    /// Cost: an insertion for each pair.
     ///
     /// ```
     /// let map = Map::from_array(alloc, [(2u8, 'b'), (1, 'a')])?;

@@ -7,6 +7,8 @@ impl<K: AsBytes + Debug, V: Debug, const PREFIX_LEN: usize> Debug for TreeMap<K,
     /// Writes the pairs between braces, in byte order of their keys, each as its key, a colon and
     /// its value.
     ///
+    /// Cost: one pass over the map.
+    ///
     /// ```
     /// assert_eq!(format!(in alloc; "{map:?}")?, "{1: 10, 2: 20}");
     /// ```

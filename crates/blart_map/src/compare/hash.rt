@@ -18,6 +18,8 @@ impl<K: AsBytes + Hash, V: Hash, const PREFIX_LEN: usize> Hash for TreeMap<K, V,
 
     /// Feeds the hasher the number of pairs, by `write_usize`, and then each key and its value.
     /// Equal maps feed the same.
+    ///
+    /// Cost: one pass over the map.
     fn hash<H: Hasher>(&self, state: &mut H) {
         feed(self.iter(), state);
     }

@@ -66,12 +66,14 @@ impl<'a, K: AsBytes, V, const PREFIX_LEN: usize> CountedWalk<'a, K, V, WithKeys,
 
     /// Calls the closure once on the key and the value of each pair that is left, in byte order of
     /// the keys. Each value is then what the closure wrote, and the keys are unchanged. Does not
-    /// allocate. Each call of the closure reads one pair.
+    /// allocate.
     ///
     /// If each call leaves the closure unchanged, and the value that a function `h` of the pair
     /// returns, the pairs become what `h` makes of them. The clauses `all` and `stored` say so of a
     /// walk that has returned no value yet, and `acts` of any walk. For every closure, `each` and
     /// `left` say which calls were made, and that each value is what its call wrote.
+    ///
+    /// Cost: one visit for each value.
     ///
     /// ```
     /// map.try_insert("cat", 1)?;
@@ -104,7 +106,8 @@ impl<'a, K: AsBytes, V, const PREFIX_LEN: usize> CountedWalk<'a, K, V, WithKeys,
     }
 
     /// Returns the key of the value that was returned last. The walk must have returned a value.
-    /// One visit, not counted.
+    ///
+    /// Cost: one visit, which is not counted.
     pub fn key(&self) -> &K
         requires { is_some (counted_last self.now) ≡ true }
         ensures { MatchOption (counted_last self.now) ⊤
@@ -115,10 +118,12 @@ impl<'a, K: AsBytes, V, const PREFIX_LEN: usize> CountedWalk<'a, K, V, WithKeys,
     }
 
     /// Returns the key of the value that was returned last, and a mutable reference to that value.
-    /// The walk must have returned a value. One visit, not counted.
+    /// The walk must have returned a value.
     ///
     /// The lemma `pair_written` says that a write through it is a write of the value that `next`
     /// returned, and `pair_written_back` the same of `next_back`.
+    ///
+    /// Cost: reads the leaf.
     ///
     /// ```
     /// let mut walk = map.iter_mut();
@@ -148,13 +153,14 @@ impl<'a, K: AsBytes, V, const PREFIX_LEN: usize> CountedWalk<'a, K, V, ValuesAlo
     ghost use Rattle.blart_map.specs.OnceWritten.{all_once_written};
 
     /// Calls the closure once on each value that is left, in byte order of the keys. Each value is
-    /// then what the closure wrote, and the keys are unchanged. Does not allocate. Each call of the
-    /// closure reads one pair.
+    /// then what the closure wrote, and the keys are unchanged. Does not allocate.
     ///
     /// If each call leaves the closure unchanged, and the value that a function `h` of the pair
     /// returns, the pairs become what `h` makes of them. The clauses `all` and `stored` say so of a
     /// walk that has returned no value yet, and `acts` of any walk. For every closure, `each` and
     /// `left` say which calls were made, and that each value is what its call wrote.
+    ///
+    /// Cost: one visit for each value.
     ///
     /// ```
     /// map.try_insert("cat", 1)?;
@@ -210,13 +216,17 @@ impl<'a, K: AsBytes, V, M, const PREFIX_LEN: usize> CountedWalk<'a, K, V, M, PRE
     }
 
     /// Returns the number of values that are left.
+    ///
+    /// Cost: reads a count.
     pub fn len(&self) -> usize
         ensures { result ≡ length (counted_left self.now) }
     {
         self.left
     }
 
-    /// Returns a mutable reference to the first value that is left.
+    /// Returns a mutable reference to the first value that is left, or `None` if no value is left.
+    ///
+    /// Cost: one visit.
     #[inline(always)]
     pub fn next(&mut self) -> Option<&mut V>
         ensures* writes_back { sem 𝓛
@@ -230,7 +240,9 @@ impl<'a, K: AsBytes, V, M, const PREFIX_LEN: usize> CountedWalk<'a, K, V, M, PRE
         Some(self.map.value_mut_near(id, seen))
     }
 
-    /// Returns a mutable reference to the last value that is left.
+    /// Returns a mutable reference to the last value that is left, or `None` if no value is left.
+    ///
+    /// Cost: one visit.
     #[inline(always)]
     pub fn next_back(&mut self) -> Option<&mut V>
         ensures* writes_back { sem 𝓛

@@ -44,8 +44,8 @@ impl<K: AsBytes, V, const PREFIX_LEN: usize> TreeMap<K, V, PREFIX_LEN> {
     /// returns `true`, from both ends. If the map has pairs, the bounds must be in order, as for
     /// [`TreeMap::range`]. It does not allocate.
     ///
-    /// Cost of a step: it reads each pair on which it calls the closure, and removes the pair that
-    /// it yields.
+    /// Cost: an opening. A step makes one visit for each call of the closure, and one descent for
+    /// the pair that it yields.
     ///
     /// ```
     /// let low = "b";
@@ -141,6 +141,8 @@ impl<
     /// Calls the closure on each pair that is left, from the first on, up to the first pair for
     /// which it returns `true`. Removes that pair and returns it, or returns `None` if there is no
     /// such pair.
+    ///
+    /// Cost: one visit for each call of the closure, and one descent for the pair that it returns.
     fn next(&mut self) -> Option<(K, V)> {
         let map = &mut *self.map;
         extract_first(&mut map.tree, &mut self.cursor, &mut self.pred)
@@ -163,6 +165,8 @@ impl<
     /// Calls the closure on each pair that is left, from the last on, up to one for which it
     /// returns `true`. Removes that pair and returns it, or returns `None` if there is no such
     /// pair.
+    ///
+    /// Cost: one visit for each call of the closure, and one descent for the pair that it returns.
     fn next_back(&mut self) -> Option<(K, V)> {
         let map = &mut *self.map;
         extract_last(&mut map.tree, &mut self.cursor, &mut self.pred)

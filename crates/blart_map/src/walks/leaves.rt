@@ -25,6 +25,8 @@ impl<K: AsBytes, V, const PREFIX_LEN: usize> TreeMap<K, V, PREFIX_LEN> {
     /// step takes the map. If the map has pairs, the bounds must be in order, as for
     /// [`TreeMap::range`]. Does not allocate.
     ///
+    /// Cost: an opening.
+    ///
     /// ```
     /// let mut visits = Visits::new();
     /// let mut cursor = map.cursor(Bound::<&&str>::Unbounded, Bound::Unbounded);
@@ -120,7 +122,9 @@ impl<K: AsBytes, V, const PREFIX_LEN: usize> TreeMap<K, V, PREFIX_LEN> {
         cursor.step_back(&self.tree, visits)
     }
 
-    /// Returns the pair of a leaf. One visit, not counted.
+    /// Returns the pair of a leaf.
+    ///
+    /// Cost: one visit, which the step that returned the id has counted.
     pub fn leaf(&self, id: LeafId) -> (&K, &V)
         requires { Has self.now id }
         ensures { leaf_in self.now id ≡ Some (result.0.now, result.1.now) }
@@ -174,6 +178,8 @@ impl<K: AsBytes, V, const PREFIX_LEN: usize> TreeMap<K, V, PREFIX_LEN> {
 impl<K: AsBytes + Drop, V: Drop, const PREFIX_LEN: usize> TreeMap<K, V, PREFIX_LEN> {
     /// Removes a leaf, and returns its pair. A cursor that has passed the leaf has the same leaves
     /// left. Does not return an error.
+    ///
+    /// Cost: one descent.
     pub fn take_leaf(&mut self, id: LeafId) -> (K, V)
         requires { Has self.old id }
         ensures value { leaf_in self.old id ≡ Some result }

@@ -26,11 +26,13 @@ impl<K: AsBytes, V, const PREFIX_LEN: usize> TreeMap<K, V, PREFIX_LEN> {
     ghost use Rattle.blart_map.specs.TakeWalk.{take_map, take_undecided, take_left};
 
     /// Returns a walk over mutable references to all values, in byte order of the keys, from both
-    /// ends. It does not allocate. Each step reads one pair.
+    /// ends. It does not allocate.
     ///
     /// [`CountedWalk::pair`] returns the value again, with its key. A caller's proof of such a loop
     /// cites the lemma `pair_written`, and needs the name `_seen`: from `Some(_)` it learns
     /// nothing.
+    ///
+    /// Cost: no visit. Each step makes one visit.
     ///
     /// ```
     /// let mut walk = map.iter_mut();
@@ -52,7 +54,9 @@ impl<K: AsBytes, V, const PREFIX_LEN: usize> TreeMap<K, V, PREFIX_LEN> {
     }
 
     /// Returns a walk over mutable references to all values, in byte order of the keys, from both
-    /// ends. It does not allocate. Each step reads one pair.
+    /// ends. It does not allocate.
+    ///
+    /// Cost: no visit. Each step makes one visit.
     ///
     /// ```
     /// let mut walk = map.values_mut();
@@ -74,7 +78,9 @@ impl<K: AsBytes, V, const PREFIX_LEN: usize> TreeMap<K, V, PREFIX_LEN> {
 
     /// Returns a walk over mutable references to the values whose keys begin with these bytes, in
     /// byte order of the keys, from both ends. If there are no bytes, it goes over all values. It
-    /// does not allocate. Each step reads one pair.
+    /// does not allocate.
+    ///
+    /// Cost: an opening. Each step makes one visit.
     ///
     /// ```
     /// let mut walk = map.prefix_mut(b"ca");
@@ -122,7 +128,9 @@ impl<K: AsBytes, V, const PREFIX_LEN: usize> TreeMap<K, V, PREFIX_LEN> {
 
     /// Returns a walk over mutable references to the values whose keys are within both bounds, in
     /// byte order of the keys, from both ends. If the map has pairs, the bounds must be in order,
-    /// as for [`TreeMap::range`]. It does not allocate. Each step reads one pair.
+    /// as for [`TreeMap::range`]. It does not allocate.
+    ///
+    /// Cost: an opening. Each step makes one visit.
     ///
     /// ```
     /// let (low, high) = ("b", "d");
@@ -185,7 +193,9 @@ impl<K: AsBytes, V, const PREFIX_LEN: usize> TreeMap<K, V, PREFIX_LEN> {
 
     /// Returns a walk that lends the pairs within both bounds, in byte order of their keys, from
     /// both ends. Each pair is then kept or taken. If the map has pairs, the bounds must be in
-    /// order, as for [`TreeMap::range`]. It does not allocate. Each step reads one pair.
+    /// order, as for [`TreeMap::range`]. It does not allocate.
+    ///
+    /// Cost: an opening. Each step makes one visit.
     ///
     /// ```
     /// let mut walk = map.take_walk(Bound::<&&str>::Unbounded, Bound::Unbounded);

@@ -99,7 +99,9 @@ impl<'a, K: AsBytes, V, M, const PREFIX_LEN: usize> LendingWalk<'a, K, V, M, PRE
         }
     }
 
-    /// Returns a mutable reference to the first value that is left.
+    /// Returns a mutable reference to the first value that is left, or `None` if no value is left.
+    ///
+    /// Cost: one visit.
     #[inline(always)]
     pub fn next(&mut self) -> Option<&mut V>
         ensures* writes_back { sem 𝓛
@@ -112,7 +114,9 @@ impl<'a, K: AsBytes, V, M, const PREFIX_LEN: usize> LendingWalk<'a, K, V, M, PRE
         Some(self.map.value_mut_near(id, seen))
     }
 
-    /// Returns a mutable reference to the last value that is left.
+    /// Returns a mutable reference to the last value that is left, or `None` if no value is left.
+    ///
+    /// Cost: one visit.
     #[inline(always)]
     pub fn next_back(&mut self) -> Option<&mut V>
         ensures* writes_back { sem 𝓛
@@ -126,7 +130,8 @@ impl<'a, K: AsBytes, V, M, const PREFIX_LEN: usize> LendingWalk<'a, K, V, M, PRE
     }
 
     /// Returns the key of the value that was returned last. The walk must have returned a value.
-    /// One visit, not counted.
+    ///
+    /// Cost: one visit, which is not counted.
     pub fn key(&self) -> &K
         requires { is_some (lending_last self.now) ≡ true }
         ensures { MatchOption (lending_last self.now) ⊤
@@ -137,10 +142,12 @@ impl<'a, K: AsBytes, V, M, const PREFIX_LEN: usize> LendingWalk<'a, K, V, M, PRE
     }
 
     /// Returns the key of the value that was returned last, and a mutable reference to that value.
-    /// The walk must have returned a value. One visit, not counted.
+    /// The walk must have returned a value.
     ///
     /// The lemma `pair_written` says that a write through it is a write of the value that `next`
     /// returned, and `pair_written_back` the same of `next_back`.
+    ///
+    /// Cost: reads the leaf.
     ///
     /// ```
     /// let mut walk = map.prefix_mut(b"ca");
@@ -166,13 +173,15 @@ impl<'a, K: AsBytes, V, M, const PREFIX_LEN: usize> LendingWalk<'a, K, V, M, PRE
 
     /// Calls the closure once on the key and the value of each pair that is left, in byte order of
     /// the keys. Each value is then what the closure wrote, and the keys are unchanged. Does not
-    /// allocate. Each call of the closure reads one pair.
+    /// allocate.
     ///
     /// If each call leaves the closure unchanged, and the value that a function `h` of the pair
     /// returns, the pairs become what `h` makes of them. The clause `within` says so, over the
     /// pairs that pass a test, of a walk that has returned no value yet, and `acts` of any walk.
     /// For every closure, `each` and `left` say which calls were made, and that each value is what
     /// its call wrote: `each` of a walk that has returned no value yet.
+    ///
+    /// Cost: one visit for each value.
     ///
     /// ```
     /// map.try_insert("car", 1)?;

@@ -52,6 +52,8 @@ impl<'a, K: AsBytes, V, const PREFIX_LEN: usize> TakeWalk<'a, K, V, PREFIX_LEN> 
     }
 
     /// Returns `true` if a pair is undecided: it is lent, and neither kept nor taken so far.
+    ///
+    /// Cost: none.
     pub fn undecided(&self) -> bool
         ensures { result ≡ is_some (take_undecided self.now) }
     {
@@ -60,6 +62,8 @@ impl<'a, K: AsBytes, V, const PREFIX_LEN: usize> TakeWalk<'a, K, V, PREFIX_LEN> 
 
     /// Lends the first pair that is left, and returns a mutable reference to its value, or `None`
     /// if no pair is left. No pair may be undecided.
+    ///
+    /// Cost: one visit.
     pub fn lend(&mut self) -> Option<&mut V>
         requires { is_some (take_undecided self.old) ≡ false }
         ensures* writes_back { sem 𝓛
@@ -74,6 +78,8 @@ impl<'a, K: AsBytes, V, const PREFIX_LEN: usize> TakeWalk<'a, K, V, PREFIX_LEN> 
 
     /// Lends the last pair that is left, and returns a mutable reference to its value, or `None` if
     /// no pair is left. No pair may be undecided.
+    ///
+    /// Cost: one visit.
     pub fn lend_back(&mut self) -> Option<&mut V>
         requires { is_some (take_undecided self.old) ≡ false }
         ensures* writes_back { sem 𝓛
@@ -86,7 +92,9 @@ impl<'a, K: AsBytes, V, const PREFIX_LEN: usize> TakeWalk<'a, K, V, PREFIX_LEN> 
         Some(self.map.value_mut_near(id, seen))
     }
 
-    /// Returns the key of the lent pair. A pair must be undecided. One visit, not counted.
+    /// Returns the key of the lent pair. A pair must be undecided.
+    ///
+    /// Cost: one visit, which is not counted.
     pub fn key(&self) -> &K
         requires { is_some (take_undecided self.now) ≡ true }
         ensures { MatchOption (take_undecided self.now) ⊤
@@ -98,6 +106,8 @@ impl<'a, K: AsBytes, V, const PREFIX_LEN: usize> TakeWalk<'a, K, V, PREFIX_LEN> 
 
     /// Returns the key of the lent pair, and a mutable reference to its value. A pair must be
     /// undecided.
+    ///
+    /// Cost: reads the leaf.
     pub fn pair(&mut self) -> (&K, &mut V)
         requires { is_some (take_undecided self.old) ≡ true }
         ensures* writes_back { sem 𝓛
@@ -113,6 +123,8 @@ impl<'a, K: AsBytes, V, const PREFIX_LEN: usize> TakeWalk<'a, K, V, PREFIX_LEN> 
     }
 
     /// Keeps the lent pair in the map, with the value that was written. A pair must be undecided.
+    ///
+    /// Cost: none.
     pub fn keep(&mut self)
         requires { is_some (take_undecided self.old) ≡ true }
         ensures same_map { (take_map self.new).ghost_name ≡ (take_map self.old).ghost_name }
@@ -129,6 +141,8 @@ impl<'a, K: AsBytes + Drop, V: Drop, const PREFIX_LEN: usize> TakeWalk<'a, K, V,
 
     /// Removes the lent pair from the map, and returns it with the value that was written. A pair
     /// must be undecided. Does not allocate.
+    ///
+    /// Cost: one descent.
     pub fn take(&mut self) -> (K, V)
         requires { is_some (take_undecided self.old) ≡ true }
         ensures same_map { (take_map self.new).ghost_name ≡ (take_map self.old).ghost_name }
