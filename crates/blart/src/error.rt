@@ -19,6 +19,8 @@ pub enum RunError {
 }
 
 /// Returns the line that the program writes on standard error.
+///
+/// Cost: none.
 pub fn fault_line(error: RunError) -> &'static str
     ensures { result.now ≡ fault_text error }
 {

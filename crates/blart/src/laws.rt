@@ -5,6 +5,8 @@ ghost use Rattle.blart.specs.Command.{key_of, number_of};
 
 /// Does nothing. Its contract is a law of the program's texts: a key that is written is read as the
 /// same key.
+///
+/// Cost: none.
 pub fn key_text_law(key: &[u8])
     ensures { key_of (key_text key.now) ≡ Some key.now }
 {
@@ -13,6 +15,8 @@ pub fn key_text_law(key: &[u8])
 
 /// Does nothing. Its contract is a law of the program's texts: a number that is written is read as
 /// the same number.
+///
+/// Cost: none.
 pub fn number_text_law(number: u64)
     ensures { number_of (decimal number) ≡ Some number }
 {

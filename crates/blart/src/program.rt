@@ -23,6 +23,8 @@ use std::io::{Read, Write};
 /// ended. After `RunError::Write`, the bytes that were written are a prefix of the replies. After
 /// `RunError::Memory`, a line did not fit in memory, and there is a reply to each line before it.
 ///
+/// Cost: allocates for a line and for the map.
+///
 /// ```
 /// let mut reader = Watched::new(b"insert 0102 7\nget 0102\n".as_slice());
 /// let mut writer = Watched::new(Vec::new(rt.alloc()));

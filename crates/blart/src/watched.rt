@@ -20,6 +20,8 @@ pub struct Watched<T> {
 
 impl<T> Watched<T> {
     /// Returns the reader or writer, with no mark.
+    ///
+    /// Cost: none.
     pub fn new(inner: T) -> Self
         ensures inner { watched_inner result ≡ inner }
         ensures mark { watched_failed result ≡ false }
@@ -36,6 +38,8 @@ impl<T> Watched<T> {
 
     /// Returns `true` if a read or a write returned an error, or a write took no byte of a piece
     /// that was not empty.
+    ///
+    /// Cost: none.
     pub fn failed(&self) -> bool
         ensures { result ≡ watched_failed self.now }
     {
@@ -44,6 +48,8 @@ impl<T> Watched<T> {
 
     /// Returns `true` if a read came after a read that returned an error, or no byte for a buffer
     /// that was not empty.
+    ///
+    /// Cost: none.
     pub fn read_again(&self) -> bool
         ensures { result ≡ watched_read_again self.now }
     {
@@ -51,6 +57,8 @@ impl<T> Watched<T> {
     }
 
     /// Returns the reader or writer, without its marks.
+    ///
+    /// Cost: none.
     pub fn into_inner(self) -> T
         ensures { result ≡ watched_inner self }
     {
@@ -61,6 +69,9 @@ impl<T> Watched<T> {
 impl<R: Read> Read for Watched<R> {
     ghost remaining = { λ w. R.remaining (watched_inner w) };
 
+    /// Returns the result of the inner `read`, and sets the marks.
+    ///
+    /// Cost: the inner `read`.
     fn read(&mut self, buf: &mut [u8]) -> io::Result<usize>
         ensures bound { ReadsAtMost result buf.new }
         ensures bytes { ReadConsumes (R.remaining (watched_inner self.old))
@@ -86,6 +97,9 @@ impl<R: Read> Read for Watched<R> {
 impl<W: Write> Write for Watched<W> {
     ghost contents = { λ w. W.contents (watched_inner w) };
 
+    /// Returns the result of the inner `write`, and sets the mark of a failure.
+    ///
+    /// Cost: the inner `write`.
     fn write(&mut self, buf: &[u8]) -> io::Result<usize>
         ensures bound { WritesAtMost result buf.now }
         ensures bytes { WriteAppends (W.contents (watched_inner self.old))
@@ -102,6 +116,9 @@ impl<W: Write> Write for Watched<W> {
         result
     }
 
+    /// Returns the result of the inner `flush`. Sets no mark.
+    ///
+    /// Cost: the inner `flush`.
     fn flush(&mut self) -> io::Result<()>
         ensures bytes { Keeps (W.contents (watched_inner self.old))
             (W.contents (watched_inner self.new)) }

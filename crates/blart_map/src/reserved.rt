@@ -59,7 +59,7 @@ pub trait PutBack<M>: Drop {
 
     /// Replaces the content of the map by this value.
     ///
-    /// Cost: drops what the map has.
+    /// Cost: drops the pairs that the map has.
     fn put_back(self, map: &mut M)
         ensures { map.new ≡ filled self };
 }

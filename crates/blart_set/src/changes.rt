@@ -14,6 +14,8 @@ impl<K: AsBytes + Drop, const PREFIX_LEN: usize> TreeSet<K, PREFIX_LEN> {
     /// Removes the element with the query's bytes. Returns `true` if there was one. Does not
     /// allocate.
     ///
+    /// Cost: one descent.
+    ///
     /// ```
     /// set.try_insert("cat")?;
     /// assert!(set.remove(&"cat"));
@@ -31,7 +33,10 @@ impl<K: AsBytes + Drop, const PREFIX_LEN: usize> TreeSet<K, PREFIX_LEN> {
         self.take(query).is_some()
     }
 
-    /// Removes the element with the query's bytes, and returns it. Does not allocate.
+    /// Removes the element with the query's bytes and returns it, or returns `None` if there is no
+    /// such element. Does not allocate.
+    ///
+    /// Cost: one descent.
     pub fn take<Q: AsBytes>(&mut self, query: &Q) -> Option<K>
         ensures value { result ≡ at K.bytes (elements self.old) (Q.bytes query.now) }
         ensures rest { elements self.new
@@ -69,7 +74,10 @@ impl<K: AsBytes + Drop, const PREFIX_LEN: usize> TreeSet<K, PREFIX_LEN> {
         self.map.remove_prefix(prefix)
     }
 
-    /// Removes the element whose bytes are least, and returns it. It does not allocate.
+    /// Removes the element whose bytes are least and returns it, or returns `None` if there are no
+    /// elements. It does not allocate.
+    ///
+    /// Cost: one descent.
     ///
     /// ```
     /// set.try_insert("dog")?;
@@ -88,7 +96,10 @@ impl<K: AsBytes + Drop, const PREFIX_LEN: usize> TreeSet<K, PREFIX_LEN> {
         element_of(self.map.pop_first())
     }
 
-    /// Removes the element whose bytes are greatest, and returns it. It does not allocate.
+    /// Removes the element whose bytes are greatest and returns it, or returns `None` if there are
+    /// no elements. It does not allocate.
+    ///
+    /// Cost: one descent.
     pub fn pop_last(&mut self) -> Option<K>
         ensures updates { IfSome result (λ element. UpdatesElement K.bytes (elements self.old)
             (elements self.new) (K.bytes element) false) }
@@ -99,7 +110,10 @@ impl<K: AsBytes + Drop, const PREFIX_LEN: usize> TreeSet<K, PREFIX_LEN> {
         element_of(self.map.pop_last())
     }
 
-    /// Drops every element. Does not allocate.
+    /// Drops all elements. Does not allocate.
+    ///
+    /// Cost: drops each element. It keeps the memory until the set is dropped, and counts it as no
+    /// room.
     pub fn clear(&mut self)
         ensures { elements self.new ≡ [] }
     {

@@ -41,6 +41,9 @@ impl<K: AsBytes, const PREFIX_LEN: usize> TreeSet<K, PREFIX_LEN> {
     /// returns `true`, from both ends. The bounds must be in order if the set has elements, as for
     /// [`TreeSet::range`]. Does not allocate.
     ///
+    /// Cost: an opening. A step makes one visit for each call of the closure, and one descent for
+    /// the element that it yields.
+    ///
     /// ```
     /// let low = "b";
     /// let mut walk = set.extract_if(Bound::Included(&low), Bound::Unbounded, |x| x.len() > 3);
@@ -141,8 +144,12 @@ impl<'a, K: AsBytes + Drop, F: FnMut(&K) -> bool + Drop, const PREFIX_LEN: usize
 
     ghost remaining = { λ s. at_most (length (extract_left s)) };
 
-    /// Calls the closure from the first element that is left on, and removes the first element for
-    /// which it returns `true`.
+    /// Calls the closure from the first element that is left on, up to the first element for which
+    /// it returns `true`. Removes that element and returns it, or returns `None` if there is no
+    /// such element.
+    ///
+    /// Cost: one visit for each call of the closure, and one descent for the element that it
+    /// returns.
     fn next(&mut self) -> Option<K> {
         while let Some(id) = self.set.step(&mut self.cursor) {
             if (self.pred)(self.set.element(id)) {
@@ -165,8 +172,11 @@ impl<
 
     ghost next_back_gives = { ExtractsNextBack F.FnMut };
 
-    /// Calls the closure from the last element that is left on, and removes the first element for
-    /// which it returns `true`.
+    /// Calls the closure from the last element that is left on, up to one for which it returns
+    /// `true`. Removes that element and returns it, or returns `None` if there is no such element.
+    ///
+    /// Cost: one visit for each call of the closure, and one descent for the element that it
+    /// returns.
     fn next_back(&mut self) -> Option<K> {
         while let Some(id) = self.set.step_back(&mut self.cursor) {
             if (self.pred)(self.set.element(id)) {

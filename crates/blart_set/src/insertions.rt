@@ -23,6 +23,8 @@ impl<K: AsBytes + Drop, const PREFIX_LEN: usize> TreeSet<K, PREFIX_LEN> {
     /// Returns the error `Prefix` exactly if the element conflicts, and `Memory` only if the bytes
     /// are new. After an error the set is unchanged.
     ///
+    /// Cost: an insertion.
+    ///
     /// ```
     /// assert!(set.try_insert("cat")?);
     /// assert!(!set.try_insert("cat")?);
@@ -50,6 +52,9 @@ impl<K: AsBytes + Drop, const PREFIX_LEN: usize> TreeSet<K, PREFIX_LEN> {
     /// Inserts the element, in place of all elements that are related to it.
     ///
     /// If there are such elements, it does not allocate. After an error the set is unchanged.
+    ///
+    /// Cost: one descent, and one for each related element but one. If there are none, an
+    /// insertion.
     ///
     /// ```
     /// set.try_insert("car")?;
@@ -81,6 +86,8 @@ impl<K: NoPrefixesBytes + Drop, const PREFIX_LEN: usize> TreeSet<K, PREFIX_LEN> 
     ///
     /// Returns an error only if the bytes are new. After an error the set is unchanged.
     ///
+    /// Cost: an insertion.
+    ///
     /// ```
     /// assert!(set.insert(U32Key::new(258))?);
     /// assert!(!set.insert(U32Key::new(258))?);
@@ -102,11 +109,13 @@ impl<K: NoPrefixesBytes + Drop, const PREFIX_LEN: usize> TreeSet<K, PREFIX_LEN> 
         told(self.map.insert(element, ()))
     }
 
-    /// Replaces the element with the same bytes, and returns the old one, or inserts the element if
-    /// there is none. The stored element is always the new one.
+    /// Replaces the element with the same bytes, and returns the old one, or inserts the element
+    /// and returns `None`. The stored element is always the new one.
     ///
     /// Returns an error only if the bytes are new, since a stored element is replaced in place.
     /// After an error the set is unchanged.
+    ///
+    /// Cost: one descent and an insertion.
     ///
     /// ```
     /// assert_eq!(set.replace(2u8)?, None);

@@ -10,6 +10,8 @@ impl<K: AsBytes, const PREFIX_LEN: usize> TreeSet<K, PREFIX_LEN> {
     /// Does nothing. Its contract is a law of [`TreeSet::union`]: the union of two sets has the
     /// elements of the difference, of the intersection and of the difference of the other set. No
     /// element is in two of these, since the lengths add up.
+    ///
+    /// Cost: none.
     pub fn union_law(&self, other: &Self)
         ensures parts { (U : List K) → IsUnion K.bytes (elements self.now) (elements other.now) U
             → (x : K) → Contains U x
@@ -27,6 +29,8 @@ impl<K: AsBytes, const PREFIX_LEN: usize> TreeSet<K, PREFIX_LEN> {
 
     /// Does nothing. Its contract is a law of [`TreeSet::symmetric_difference`]: it has as many
     /// elements as the two differences together.
+    ///
+    /// Cost: none.
     pub fn symmetric_difference_law(&self, other: &Self)
         ensures { (U : List K)
             → IsSymmetricDifference K.bytes (elements self.now) (elements other.now) U

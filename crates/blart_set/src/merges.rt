@@ -34,8 +34,8 @@ impl<K: OrderedBytes, const PREFIX_LEN: usize> TreeSet<K, PREFIX_LEN> {
     /// Returns an iterator over the elements of this set whose bytes the other lacks, in ascending
     /// order.
     ///
-    /// Cost: one pass over both sets, with at most as many comparisons as it consumes elements of
-    /// both.
+    /// Cost: a visit of each set. Then one pass over both sets, with at most as many comparisons as
+    /// it consumes elements of both.
     ///
     /// ```
     /// // a is {1, 2, 3, 5}, b is {2, 4, 5, 6}
@@ -61,8 +61,8 @@ impl<K: OrderedBytes, const PREFIX_LEN: usize> TreeSet<K, PREFIX_LEN> {
     /// Returns an iterator over the elements of either set whose bytes the other lacks, in
     /// ascending order. Two of them may be related, one of each set.
     ///
-    /// Cost: one pass over both sets, with at most as many comparisons as it consumes elements of
-    /// both.
+    /// Cost: a visit of each set. Then one pass over both sets, with at most as many comparisons as
+    /// it consumes elements of both.
     pub fn symmetric_difference<'a>(
         &'a self,
         other: &'a TreeSet<K, PREFIX_LEN>,
@@ -81,8 +81,8 @@ impl<K: OrderedBytes, const PREFIX_LEN: usize> TreeSet<K, PREFIX_LEN> {
     /// Returns an iterator over the elements of this set whose bytes the other has too, in
     /// ascending order.
     ///
-    /// Cost: one pass over both sets, with at most as many comparisons as it consumes elements of
-    /// both.
+    /// Cost: a visit of each set. Then one pass over both sets, with at most as many comparisons as
+    /// it consumes elements of both.
     ///
     /// ```
     /// // a is {1, 2, 3, 5}, b is {2, 4, 5, 6}
@@ -109,8 +109,8 @@ impl<K: OrderedBytes, const PREFIX_LEN: usize> TreeSet<K, PREFIX_LEN> {
     /// the bytes, it yields this set's element. Two of the elements may be related, one of each
     /// set.
     ///
-    /// Cost: one pass over both sets, with at most as many comparisons as it consumes elements of
-    /// both.
+    /// Cost: a visit of each set. Then one pass over both sets, with at most as many comparisons as
+    /// it consumes elements of both.
     pub fn union<'a>(&'a self, other: &'a TreeSet<K, PREFIX_LEN>) -> Union<'a, K, PREFIX_LEN>
         ensures begins { IsBeginning (elements self.now) (elements other.now) result }
         ensures value { IsUnion K.bytes (elements self.now) (elements other.now)

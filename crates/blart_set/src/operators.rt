@@ -30,6 +30,8 @@ impl<'a, 'b, K: OrderedBytes + NoPrefixesBytes + Clone, const PREFIX_LEN: usize>
     /// Returns a set of clones of the elements of [`TreeSet::union`]. A clone of an element has the
     /// same bytes. Returns an error only if either set has an element.
     ///
+    /// Cost: a merge, and allocates a vector of the clones. Then as for [`TreeSet::from_vec`].
+    ///
     /// ```
     /// // a is {1, 2, 3, 5}, b is {2, 4, 5, 6}
     /// let both = (&a | &b)?;
@@ -55,6 +57,8 @@ impl<'a, 'b, K: OrderedBytes + NoPrefixesBytes + Clone, const PREFIX_LEN: usize>
 
     /// Returns a set of clones of the elements of [`TreeSet::intersection`]. A clone of an element
     /// has the same bytes. Returns an error only if some bytes are in both sets.
+    ///
+    /// Cost: a merge, and allocates a vector of the clones. Then as for [`TreeSet::from_vec`].
     fn bitand(
         self,
         other: &'b TreeSet<K, PREFIX_LEN>,
@@ -77,6 +81,8 @@ impl<'a, 'b, K: OrderedBytes + NoPrefixesBytes + Clone, const PREFIX_LEN: usize>
     /// Returns a set of clones of the elements of [`TreeSet::difference`]. A clone of an element
     /// has the same bytes. Returns an error only if the right set lacks the bytes of some element
     /// of the left one.
+    ///
+    /// Cost: a merge, and allocates a vector of the clones. Then as for [`TreeSet::from_vec`].
     fn sub(self, other: &'b TreeSet<K, PREFIX_LEN>) -> Result<TreeSet<K, PREFIX_LEN>, AllocError> {
         self.law();
         of_clones(self.alloc, self.difference(other))
@@ -97,6 +103,8 @@ impl<'a, 'b, K: OrderedBytes + NoPrefixesBytes + Clone, const PREFIX_LEN: usize>
     /// Returns a set of clones of the elements of [`TreeSet::symmetric_difference`]. A clone of an
     /// element has the same bytes. Returns an error only if one of the sets has an element whose
     /// bytes the other lacks.
+    ///
+    /// Cost: a merge, and allocates a vector of the clones. Then as for [`TreeSet::from_vec`].
     fn bitxor(
         self,
         other: &'b TreeSet<K, PREFIX_LEN>,

@@ -65,6 +65,8 @@ impl<K: AsBytes + Drop, const PREFIX_LEN: usize> TreeSet<K, PREFIX_LEN> {
     ///
     /// If it fails to allocate, the set is unchanged. If `count` is 0, it does not allocate.
     ///
+    /// Cost: allocates for `count` elements.
+    ///
     /// ```
     /// let mut room = set.reserve(2)?;
     /// assert!(room.insert(2u8));
@@ -111,14 +113,19 @@ impl<'a, K: AsBytes + Drop, const PREFIX_LEN: usize> Reserved<
     ghost use Rattle.blart_set.specs.Reserved.{reserved_set, held_elements, elements_left, added_new_ok};
 
     /// Returns the number of elements for which there is room.
+    ///
+    /// Cost: reads a count.
     pub fn left(&self) -> usize
         ensures { result ≡ elements_left self.now }
     {
         self.room.left()
     }
 
-    /// Inserts the element, like [`TreeSet::try_insert`], if there is room for one. It does not
-    /// allocate, and returns an error only if the element conflicts.
+    /// Inserts the element, like [`TreeSet::try_insert`]. There must be room for an element, and a
+    /// new element uses it. It does not allocate, and returns an error only if the element
+    /// conflicts.
+    ///
+    /// Cost: an insertion that does not allocate.
     pub fn try_insert(&mut self, element: K) -> Result<bool, InsertPrefixError>
         requires { 0 < elements_left self.old }
         ensures same_set { (reserved_set self.new).ghost_name
@@ -153,8 +160,10 @@ impl<'a, K: NoPrefixesBytes + Drop, const PREFIX_LEN: usize> Reserved<
 > {
     ghost use Rattle.blart_set.specs.Reserved.{reserved_set, held_elements, elements_left, added_new};
 
-    /// Inserts the element, like [`TreeSet::insert`], if there is room for one. It does not
-    /// allocate, and always succeeds.
+    /// Inserts the element, like [`TreeSet::insert`]. There must be room for an element, and a new
+    /// element uses it. It does not allocate, and always succeeds.
+    ///
+    /// Cost: an insertion that does not allocate.
     pub fn insert(&mut self, element: K) -> bool
         requires { 0 < elements_left self.old }
         ensures same_set { (reserved_set self.new).ghost_name

@@ -41,6 +41,8 @@ impl<K: AsBytes, const PREFIX_LEN: usize> Model for TreeSet<K, PREFIX_LEN> {
 impl<K: AsBytes> TreeSet<K, DEFAULT_PREFIX_LEN> {
     /// Returns a set with no elements. An inner node keeps 16 bytes of its compressed prefix. Does
     /// not allocate.
+    ///
+    /// Cost: none.
     pub fn new(alloc: Global) -> Self
         ensures { elements result ≡ [] }
     {
@@ -50,7 +52,10 @@ impl<K: AsBytes> TreeSet<K, DEFAULT_PREFIX_LEN> {
 
 #[tactic(auto, unfolding(crate::specs::Elements::elements))]
 impl<K: AsBytes, const PREFIX_LEN: usize> TreeSet<K, PREFIX_LEN> {
-    /// Returns a set with no elements. Does not allocate.
+    /// Returns a set with no elements. An inner node keeps `PREFIX_LEN` bytes of its compressed
+    /// prefix. Does not allocate.
+    ///
+    /// Cost: none.
     pub fn with_prefix_len(alloc: Global) -> Self
         ensures { elements result ≡ [] }
     {
@@ -62,6 +67,8 @@ impl<K: AsBytes, const PREFIX_LEN: usize> TreeSet<K, PREFIX_LEN> {
 
     /// Does nothing. Its contract says what holds of every set: the elements ascend by their bytes,
     /// no element's bytes are a prefix of another's, and the number of elements fits a `usize`.
+    ///
+    /// Cost: none.
     pub fn law(&self)
         ensures content { IsContent K.bytes (elements self.now) }
         ensures fits { CanCount (elements self.now) }
@@ -70,6 +77,8 @@ impl<K: AsBytes, const PREFIX_LEN: usize> TreeSet<K, PREFIX_LEN> {
     }
 
     /// Returns the number of elements.
+    ///
+    /// Cost: reads a count.
     pub fn len(&self) -> usize
         ensures { result ≡ length (elements self.now) }
     {
@@ -77,6 +86,8 @@ impl<K: AsBytes, const PREFIX_LEN: usize> TreeSet<K, PREFIX_LEN> {
     }
 
     /// Returns `true` if there are no elements.
+    ///
+    /// Cost: reads a count.
     pub fn is_empty(&self) -> bool
         ensures { result ≡ (length (elements self.now) == 0) }
     {
@@ -84,13 +95,17 @@ impl<K: AsBytes, const PREFIX_LEN: usize> TreeSet<K, PREFIX_LEN> {
     }
 
     /// Returns `true` if some element has the query's bytes.
+    ///
+    /// Cost: a look-up.
     pub fn contains<Q: AsBytes>(&self, query: &Q) -> bool
         ensures { result ≡ stores K.bytes (elements self.now) (Q.bytes query.now) }
     {
         self.map.contains_key(query)
     }
 
-    /// Returns the element with the query's bytes.
+    /// Returns the element with the query's bytes, or `None` if there is no such element.
+    ///
+    /// Cost: a look-up.
     ///
     /// ```
     /// set.try_insert("cat")?;
@@ -108,7 +123,10 @@ impl<K: AsBytes, const PREFIX_LEN: usize> TreeSet<K, PREFIX_LEN> {
         }
     }
 
-    /// Returns the element whose bytes are a prefix of the query's. There is at most one.
+    /// Returns the element whose bytes are a prefix of the query's, or `None` if there is no such
+    /// element. There is at most one.
+    ///
+    /// Cost: a look-up.
     ///
     /// ```
     /// set.try_insert("/static/")?;
@@ -129,13 +147,17 @@ impl<K: AsBytes, const PREFIX_LEN: usize> TreeSet<K, PREFIX_LEN> {
 
     /// Returns `true` if an element with the query's bytes would conflict: some element is related
     /// to them and has other bytes.
+    ///
+    /// Cost: one descent.
     pub fn conflicts<Q: AsBytes>(&self, query: &Q) -> bool
         ensures { result ≡ conflict K.bytes (elements self.now) (Q.bytes query.now) }
     {
         self.map.conflicts(query)
     }
 
-    /// Returns the element whose bytes are least.
+    /// Returns the element whose bytes are least, or `None` if there are no elements.
+    ///
+    /// Cost: one visit.
     pub fn first(&self) -> Option<&K>
         ensures { option_copied result ≡ slice_get (elements self.now) 0 }
     {
@@ -145,7 +167,9 @@ impl<K: AsBytes, const PREFIX_LEN: usize> TreeSet<K, PREFIX_LEN> {
         }
     }
 
-    /// Returns the element whose bytes are greatest.
+    /// Returns the element whose bytes are greatest, or `None` if there are no elements.
+    ///
+    /// Cost: one visit.
     pub fn last(&self) -> Option<&K>
         ensures { option_copied result
             ≡ slice_get (elements self.now) (length (elements self.now) - 1) }

@@ -82,7 +82,9 @@ impl<'a, K, M, const PREFIX_LEN: usize> Iterator for BoundedKeys<'a, K, M, PREFI
 
     ghost remaining = { item_count (λ rest. rest) };
 
-    /// Returns the first element that is left.
+    /// Returns the first element that is left, or `None` if no element is left.
+    ///
+    /// Cost: one visit.
     fn next(&mut self) -> Option<&'a K> {
         match self.pairs.next() {
             Some(pair) => Some(pair.0),
@@ -94,7 +96,9 @@ impl<'a, K, M, const PREFIX_LEN: usize> Iterator for BoundedKeys<'a, K, M, PREFI
 impl<'a, K, M, const PREFIX_LEN: usize> DoubleEndedIterator for BoundedKeys<'a, K, M, PREFIX_LEN> {
     ghost next_back_gives = { YieldsLastRef (λ rest. rest) };
 
-    /// Returns the last element that is left.
+    /// Returns the last element that is left, or `None` if no element is left.
+    ///
+    /// Cost: one visit.
     fn next_back(&mut self) -> Option<&'a K> {
         match self.pairs.next_back() {
             Some(pair) => Some(pair.0),
@@ -109,6 +113,8 @@ impl<'a, K, M, const PREFIX_LEN: usize> FusedIterator for BoundedKeys<'a, K, M, 
 impl<K: AsBytes, const PREFIX_LEN: usize> TreeSet<K, PREFIX_LEN> {
     /// Returns an iterator over the elements from both ends, in ascending order of their bytes.
     /// Does not allocate.
+    ///
+    /// Cost: no visit. Each step makes one visit.
     ///
     /// ```
     /// set.try_insert("dog")?;
@@ -131,6 +137,8 @@ impl<K: AsBytes, const PREFIX_LEN: usize> TreeSet<K, PREFIX_LEN> {
     /// If the set has elements, the bounds must be in order, which
     /// [`bounds_in_order`](crate::bounds_in_order) tests. On an empty set the iterator is empty for
     /// any bounds.
+    ///
+    /// Cost: an opening. Each step makes one visit.
     pub fn range<Q: AsBytes>(&self, start: Bound<&Q>, end: Bound<&Q>) -> Range<'_, K, PREFIX_LEN>
         requires { CanRange (elements self.now) (bound_bytes Q.bytes start)
             (bound_bytes Q.bytes end) }
@@ -146,6 +154,8 @@ impl<K: AsBytes, const PREFIX_LEN: usize> TreeSet<K, PREFIX_LEN> {
 
     /// Returns an iterator over the elements whose bytes begin with `front`, from both ends, in
     /// ascending order. If `front` is empty, these are all elements. Does not allocate.
+    ///
+    /// Cost: an opening. Each step makes one visit.
     ///
     /// ```
     /// set.try_insert("car")?;
@@ -173,6 +183,8 @@ impl<K: AsBytes + Drop, const PREFIX_LEN: usize> IntoIterator for TreeSet<K, PRE
 
     /// Returns an iterator over the elements by value from both ends, in ascending order of their
     /// bytes. Does not allocate. When the iterator is dropped, it drops the elements that are left.
+    ///
+    /// Cost: frees the inner nodes at once. Each step removes one leaf.
     #[tactic(auto, unfolding(crate::specs::Elements::elements))]
     fn into_iter(self) -> IntoIter<K, PREFIX_LEN> {
         self.map.into_keys()
@@ -187,6 +199,8 @@ impl<'a, K: AsBytes, const PREFIX_LEN: usize> IntoIterator for &'a TreeSet<K, PR
     ghost into_iter_gives = { λ set items. items ≡ elements set.now };
 
     /// Returns an iterator over the elements, like [`TreeSet::iter`].
+    ///
+    /// Cost: no visit. Each step makes one visit.
     fn into_iter(self) -> Iter<'a, K, PREFIX_LEN> {
         self.iter()
     }

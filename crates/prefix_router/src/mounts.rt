@@ -39,6 +39,8 @@ impl<V> Model for Mounts<V> {
 
 impl<V> Mounts<V> {
     /// Returns a table with no mounts. Does not allocate.
+    ///
+    /// Cost: none.
     #[tactic(auto, unfolding(blart_keys::specs::Stored::pair_at_front))]
     pub fn new(alloc: Global) -> Self
         ensures empty { pairs result ≡ [] }
@@ -51,6 +53,8 @@ impl<V> Mounts<V> {
 
     /// Does nothing. Its contract says what holds of every table: the mounts ascend by the bytes of
     /// their paths, no path is a prefix of another, and the number of mounts fits a `usize`.
+    ///
+    /// Cost: none.
     pub fn law(&self)
         ensures content { IsContent (bytes vec_bytes) (pairs self.now) }
         ensures fits { CanCount (pairs self.now) }
@@ -59,13 +63,18 @@ impl<V> Mounts<V> {
     }
 
     /// Returns the number of mounts.
+    ///
+    /// Cost: reads a count.
     pub fn len(&self) -> usize
         ensures { result ≡ length (pairs self.now) }
     {
         self.map.len()
     }
 
-    /// Returns the mount whose path is a prefix of `path`, with its target.
+    /// Returns the mount whose path is a prefix of `path`, with its target, or `None` if there is
+    /// no such mount.
+    ///
+    /// Cost: a look-up.
     ///
     /// ```
     /// // "/api" is mounted
@@ -96,6 +105,8 @@ impl<V> Mounts<V> {
 
     /// Returns an iterator over the mounts whose paths begin with `front`, from both ends, in
     /// ascending order. If `front` is empty, these are all mounts. Does not allocate.
+    ///
+    /// Cost: an opening. Each step makes one visit.
     pub fn under(&self, front: &[u8]) -> Prefix<'_, Vec<u8>, V, DEFAULT_PREFIX_LEN>
         ensures value { result ≡ under (bytes vec_bytes) (pairs self.now) front.now }
         ensures fits { CanCount result }
@@ -105,12 +116,15 @@ impl<V> Mounts<V> {
 }
 
 impl<V: Drop> Mounts<V> {
-    /// Mounts the target at the path, and returns the target that was mounted there before. A path
-    /// that is mounted is unchanged, and the one that was handed in is dropped.
+    /// Mounts the target at the path, and returns the target that was mounted there before, or
+    /// `None` if there was none. A path that is mounted is unchanged, and the one that was handed
+    /// in is dropped.
     ///
     /// Returns the error `Prefix` exactly if another mounted path is a prefix of the path, or the
     /// path is a prefix of it. Returns `Memory` only if nothing is mounted at the path. After an
     /// error the table is unchanged.
+    ///
+    /// Cost: an insertion.
     pub fn mount(&mut self, path: Vec<u8>, target: V) -> Result<Option<V>, TryInsertError>
         ensures old { IfOk result (λ old. old ≡ value_at vec_bytes (pairs self.old) path.items) }
         ensures mounted { OnOk result
@@ -134,6 +148,8 @@ impl<V: Drop> Mounts<V> {
     /// begin with it.
     ///
     /// If there are such mounts, it does not allocate. After an error the table is unchanged.
+    ///
+    /// Cost: one descent, and one for each related mount but one. If there are none, an insertion.
     pub fn mount_over(&mut self, path: Vec<u8>, target: V) -> Result<(), AllocError>
         ensures mounted { OnOk result
             (Overwrites vec_bytes (pairs self.old) (path, target) (pairs self.new)) }
@@ -148,7 +164,10 @@ impl<V: Drop> Mounts<V> {
         self.map.prefix_insert(path, target)
     }
 
-    /// Removes the mount at the path, and returns its target. Does not allocate.
+    /// Removes the mount at the path and returns its target, or returns `None` if nothing is
+    /// mounted there. Does not allocate.
+    ///
+    /// Cost: one descent.
     pub fn unmount(&mut self, path: &[u8]) -> Option<V>
         ensures old { result ≡ value_at vec_bytes (pairs self.old) path.now }
         ensures unmounted { Updates vec_bytes (pairs self.old) (pairs self.new) path.now None }

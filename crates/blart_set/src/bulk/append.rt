@@ -14,10 +14,13 @@ impl<K: NoPrefixesBytes + Drop, const PREFIX_LEN: usize> TreeSet<K, PREFIX_LEN> 
     /// are greater than all of this one, as after a [`TreeSet::split_off`], the elements are those
     /// of this set and then those of the other.
     ///
-    /// The elements of the set that has fewer are moved, with one insertion each. If that is this
-    /// set, the two sets are exchanged first. It allocates for as many elements before any of them
-    /// is moved. If it fails to allocate, both sets are unchanged. If either set is empty, it does
-    /// not allocate.
+    /// The elements of the set that has fewer are moved. If that is this set, the two sets are
+    /// exchanged first. It allocates for as many elements before any of them is moved. If that
+    /// fails, it returns an error, and both sets are unchanged. If either set is empty, it does not
+    /// allocate.
+    ///
+    /// Cost: allocates for the elements of the set that has fewer, and then makes one insertion for
+    /// each of them. The records of that set are freed whole.
     ///
     /// ```
     /// // left is {1, 2, 3}, right is {3, 4, 5}

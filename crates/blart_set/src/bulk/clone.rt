@@ -12,9 +12,11 @@ impl<K: AsBytes + Clone, const PREFIX_LEN: usize> TreeSet<K, PREFIX_LEN> {
     /// Returns a set of clones of the elements, or an error if it fails to allocate. A clone of an
     /// element has the same bytes.
     ///
-    /// It copies the records of the tree as they lie, spare ones too, and searches nothing. The
-    /// elements are cloned before the inner nodes are allocated: if a later allocation fails, the
-    /// clones are dropped. An empty set does not allocate.
+    /// The elements are cloned before the inner nodes are allocated: if a later allocation fails,
+    /// the clones are dropped. If the set is empty, it does not allocate.
+    ///
+    /// Cost: clones each element, and allocates and copies each record as it is, spare ones too. It
+    /// makes no look-up.
     ///
     /// ```
     /// let copy = set.clone()?;

@@ -17,6 +17,8 @@ impl<K: NoPrefixesBytes + Drop, const PREFIX_LEN: usize> FromIterator<K>
 
     /// Returns a set of the elements that the iterator yields, like the call of the same name of
     /// [`TreeSet`]. So `items.collect(alloc)?` makes a set.
+    ///
+    /// Cost: as for [`TreeSet::from_iter`].
     fn from_iter<U: IntoIterator<Item = K>>(alloc: Global, items: U) -> Result<Self, AllocError> {
         let items = items.into_iter();
         TreeSet::<K, PREFIX_LEN>::from_iter(alloc, items)

@@ -19,6 +19,8 @@ impl<K: NoPrefixesBytes + Drop, const PREFIX_LEN: usize> TreeSet<K, PREFIX_LEN> 
     /// Returns an error only at an element whose bytes are new. That element is dropped, and those
     /// before it are stored.
     ///
+    /// Cost: an insertion for each element.
+    ///
     /// ```
     /// set.extend(vec![in alloc; 3u8, 1, 2]?.into_iter())?;
     /// assert_eq!(set.len(), 3);
@@ -55,6 +57,8 @@ impl<K: NoPrefixesBytes + Drop, const PREFIX_LEN: usize> TreeSet<K, PREFIX_LEN> 
 impl<K: NoPrefixesBytes + Copy, const PREFIX_LEN: usize> TreeSet<K, PREFIX_LEN> {
     /// Inserts copies of the elements that the iterator yields, one after another, like
     /// [`TreeSet::extend`].
+    ///
+    /// Cost: an insertion for each element.
     ///
     /// ```
     /// set.extend_copied(other.iter())?;

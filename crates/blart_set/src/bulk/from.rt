@@ -13,10 +13,12 @@ use std::iter::Iterator;
 
 impl<K: NoPrefixesBytes + Drop, const PREFIX_LEN: usize> TreeSet<K, PREFIX_LEN> {
     /// Returns a set of the elements that the iterator yields, inserted one after another, like
-    /// [`TreeSet::insert`]. Of elements with the same bytes the first is stored. If there are no
-    /// elements, it does not allocate.
+    /// [`TreeSet::insert`]. Of elements with the same bytes the first is stored. Returns an error
+    /// only if there is an element. If there are none, it does not allocate.
     ///
     /// It first collects the elements into a vector, and then calls [`TreeSet::from_vec`].
+    ///
+    /// Cost: allocates the vector, and then as for [`TreeSet::from_vec`].
     pub fn from_iter<I: Iterator<Item = K>>(alloc: Global, items: I) -> Result<Self, AllocError>
         requires can { I.can_next items }
         requires ends { IsFinite (I.remaining items) }
@@ -35,12 +37,14 @@ impl<K: NoPrefixesBytes + Drop, const PREFIX_LEN: usize> TreeSet<K, PREFIX_LEN> 
     }
 
     /// Returns a set of the elements, inserted one after another, like [`TreeSet::insert`]. Of
-    /// elements with the same bytes the first is stored. If there are no elements, it does not
-    /// allocate.
+    /// elements with the same bytes the first is stored. Returns an error only if there is an
+    /// element. If there are none, it does not allocate.
     ///
     /// The set is a map of units, which [`TreeMap::from_vec`] makes. That call sorts the elements
     /// by their bytes if it can allocate for it, and then makes each inner node once. So the
     /// elements lie in order, and an iterator over the set finds them side by side.
+    ///
+    /// Cost: allocates a vector of pairs, and then as for [`TreeMap::from_vec`].
     ///
     /// ```
     /// let set = TreeSet::from_vec(alloc, vec![in alloc; 3u8, 1, 2]?)?;
@@ -59,8 +63,10 @@ impl<K: NoPrefixesBytes + Drop, const PREFIX_LEN: usize> TreeSet<K, PREFIX_LEN> 
 
 impl<K: NoPrefixesBytes + Copy, const PREFIX_LEN: usize> TreeSet<K, PREFIX_LEN> {
     /// Returns a set of the elements, inserted one after another, like [`TreeSet::insert`]. Of
-    /// elements with the same bytes the first is stored. If there are no elements, it does not
-    /// allocate.
+    /// elements with the same bytes the first is stored. Returns an error only if there is an
+    /// element. If there are none, it does not allocate.
+    ///
+    /// Cost: an insertion for each element.
     ///
     /// ```
     /// let set = TreeSet::from_array(alloc, [3u8, 1, 2])?;

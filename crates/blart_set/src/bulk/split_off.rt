@@ -12,8 +12,11 @@ use std::alloc::AllocError;
 impl<K: AsBytes + Drop, const PREFIX_LEN: usize> TreeSet<K, PREFIX_LEN> {
     /// Keeps the elements whose bytes are less than the query's, and returns a set of the others.
     ///
-    /// It allocates for the elements that are moved before any of them is moved. If it fails to
-    /// allocate, the set is unchanged. If no element is moved, or all are, it does not allocate.
+    /// It allocates for the elements that are moved before any of them is moved. If that fails, it
+    /// returns an error, and the set is unchanged. If no element is moved, or all are, it does not
+    /// allocate.
+    ///
+    /// Cost: as for [`TreeMap::split_off`].
     ///
     /// ```
     /// set.try_insert("ant")?;

@@ -15,6 +15,9 @@ impl<K: AsBytes + PartialEq, const PREFIX_LEN: usize> PartialEq for TreeSet<K, P
     /// Returns `true` if both sets have the same number of elements, and the elements in the same
     /// positions are equal by their own `==`.
     ///
+    /// Cost: one pass over both sets, up to the first difference. If the numbers of elements
+    /// differ, it reads none.
+    ///
     /// ```
     /// assert!(left == right);
     /// ```

@@ -15,6 +15,8 @@ impl<K: AsBytes + Hash, const PREFIX_LEN: usize> Hash for TreeSet<K, PREFIX_LEN>
 
     /// Feeds the hasher the number of elements, by `write_usize`, and then each element. Equal sets
     /// feed it the same.
+    ///
+    /// Cost: one pass over the set.
     fn hash<H: Hasher>(&self, state: &mut H) {
         self.map.hash(state);
     }

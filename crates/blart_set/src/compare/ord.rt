@@ -13,7 +13,8 @@ impl<K: AsBytes + PartialOrd, const PREFIX_LEN: usize> PartialOrd for TreeSet<K,
     ghost laws = { on_po (λ s. elements s) (lists_po K.PartialOrd.laws) };
 
     /// Compares the first two elements that are not equal, by their own order. If there are none,
-    /// the set with fewer elements is less.
+    /// the set with fewer elements is less. Returns `None` if those two elements cannot be
+    /// compared.
     ///
     /// Cost: one pass over both sets, up to these elements.
     fn partial_cmp(&self, other: &Self) -> Option<Ordering> {

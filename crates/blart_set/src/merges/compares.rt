@@ -26,6 +26,8 @@ impl Model for Compares {
 
 impl Compares {
     /// Returns a count of no comparisons.
+    ///
+    /// Cost: none.
     pub fn new() -> Compares
         ensures { result ≡ 0 }
     {
@@ -35,6 +37,8 @@ impl Compares {
     }
 
     /// Counts one more comparison.
+    ///
+    /// Cost: none.
     pub fn add_one(&mut self)
         ensures { self.new ≡ self.old + 1 }
     {

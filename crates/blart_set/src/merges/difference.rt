@@ -38,6 +38,8 @@ impl<'a, K: OrderedBytes, const PREFIX_LEN: usize> Iterator for Difference<'a, K
 
     /// Returns the next element that only the left set has. Returns `None` when the left set is
     /// exhausted.
+    ///
+    /// Cost: at most one comparison and one visit for each element that it passes.
     fn next(&mut self) -> Option<&'a K>
         ensures steps { YieldsFirstRef (difference_rest K.bytes) self.old result self.new }
         ensures goes { MergeProgresses (difference_rest K.bytes) self.old result self.new }

@@ -37,6 +37,8 @@ impl<'a, K: OrderedBytes, const PREFIX_LEN: usize> Iterator for Intersection<'a,
     ghost remaining = { item_count (intersection_rest K.bytes) };
 
     /// Returns the next element that both sets have. Returns `None` when either set is exhausted.
+    ///
+    /// Cost: at most one comparison and one visit for each element that it passes.
     fn next(&mut self) -> Option<&'a K>
         ensures steps { YieldsFirstRef (intersection_rest K.bytes) self.old result self.new }
         ensures goes { MergeProgresses (intersection_rest K.bytes) self.old result self.new }

@@ -39,7 +39,10 @@ impl<'a, K: OrderedBytes, const PREFIX_LEN: usize> Iterator
 
     ghost remaining = { item_count (symmetric_difference_rest K.bytes) };
 
-    /// Returns the next element that only one of the sets has.
+    /// Returns the next element that only one of the sets has, or `None` if both sets are
+    /// exhausted.
+    ///
+    /// Cost: at most one comparison and one visit for each element that it passes.
     fn next(&mut self) -> Option<&'a K>
         ensures steps { YieldsFirstRef (symmetric_difference_rest K.bytes)
             self.old result self.new }

@@ -39,7 +39,9 @@ impl<'a, K: OrderedBytes, const PREFIX_LEN: usize> Iterator for Union<'a, K, PRE
 
     ghost remaining = { item_count (union_rest K.bytes) };
 
-    /// Returns the next element.
+    /// Returns the next element of either set, or `None` if both sets are exhausted.
+    ///
+    /// Cost: at most one comparison and one visit for each element that it passes.
     fn next(&mut self) -> Option<&'a K>
         ensures steps { YieldsFirstRef (union_rest K.bytes) self.old result self.new }
         ensures goes { MergeProgresses (union_rest K.bytes) self.old result self.new }
