@@ -3,6 +3,8 @@ ghost use Rattle.std.specs.Prelude.{◌≡◌, ◌≤◌, drop, length};
 ghost use Rattle.blart_keys.specs.Bytes as spec;
 
 /// Returns `true` if `a` is a prefix of `b`.
+///
+/// Cost: one pass over `a`.
 pub fn begins(a: &[u8], b: &[u8]) -> bool
     ensures { result ≡ spec.begins a.now b.now }
 {

@@ -76,6 +76,8 @@ impl<K: AsBytes, V, const PREFIX_LEN: usize> Model for CellTree<K, V, PREFIX_LEN
 
 impl<K: AsBytes, V, const PREFIX_LEN: usize> CellTree<K, V, PREFIX_LEN> {
     /// Returns a tree with no pairs. Does not allocate.
+    ///
+    /// Cost: none.
     pub fn new(alloc: Global) -> Self
         ensures pairs { result.pairs ≡ [] }
         ensures room { room result ≡ 0 }
@@ -90,6 +92,8 @@ impl<K: AsBytes, V, const PREFIX_LEN: usize> CellTree<K, V, PREFIX_LEN> {
     /// Does nothing. Its contract says what holds of every tree: the pairs ascend by the bytes of
     /// their keys, no key's bytes are a prefix of another's, no two leaves are in the same cell,
     /// and no two have the same id.
+    ///
+    /// Cost: none.
     pub fn law(&self)
         ensures content { IsContent (bytes K.bytes) self.now.pairs }
         ensures distinct { AreDistinct self.now.pairs }
@@ -99,7 +103,9 @@ impl<K: AsBytes, V, const PREFIX_LEN: usize> CellTree<K, V, PREFIX_LEN> {
         self.leaves.law()
     }
 
-    /// Returns the id of the leaf in a cell. Reads no leaf.
+    /// Returns the id of the leaf in a cell.
+    ///
+    /// Cost: no visit.
     #[inline(always)]
     pub fn id_of(&self, cell: CellId) -> usize
         requires { Has self.now.pairs cell }
@@ -110,7 +116,9 @@ impl<K: AsBytes, V, const PREFIX_LEN: usize> CellTree<K, V, PREFIX_LEN> {
         self.leaves.id_of(cell)
     }
 
-    /// Returns the cell of the leaf with an id. Reads no leaf.
+    /// Returns the cell of the leaf with an id.
+    ///
+    /// Cost: no visit.
     #[inline(always)]
     pub fn cell_of(&self, id: usize) -> CellId
         requires { Has (under_ids self.now.ids self.now.pairs) id }
@@ -120,7 +128,9 @@ impl<K: AsBytes, V, const PREFIX_LEN: usize> CellTree<K, V, PREFIX_LEN> {
         self.leaves.cell_of(id)
     }
 
-    /// Returns the cell of the leaf with an id. `seen` is a guess of it. Reads no leaf.
+    /// Returns the cell of the leaf with an id. `seen` is a guess of it.
+    ///
+    /// Cost: no visit.
     pub fn cell_again(&self, id: usize, seen: CellId) -> CellId
         requires { Has (under_ids self.now.ids self.now.pairs) id }
         ensures { LiesIn self.now.ids self.now.pairs id result }
@@ -130,7 +140,9 @@ impl<K: AsBytes, V, const PREFIX_LEN: usize> CellTree<K, V, PREFIX_LEN> {
     }
 
     /// Returns the cell of the leaf with an id. `seen` is a guess of the position of the leaf. If
-    /// it is right, the row alone tells the cell. Reads no leaf.
+    /// it is right, the row alone tells the cell.
+    ///
+    /// Cost: no visit.
     #[inline(always)]
     pub fn cell_near(&self, id: usize, seen: Position) -> CellId
         requires { Has (under_ids self.now.ids self.now.pairs) id }
@@ -141,6 +153,8 @@ impl<K: AsBytes, V, const PREFIX_LEN: usize> CellTree<K, V, PREFIX_LEN> {
     }
 
     /// Returns the number of pairs.
+    ///
+    /// Cost: reads a count.
     pub fn len(&self) -> usize
         ensures { result ≡ length self.now.pairs }
     {
@@ -148,27 +162,35 @@ impl<K: AsBytes, V, const PREFIX_LEN: usize> CellTree<K, V, PREFIX_LEN> {
     }
 
     /// Returns `true` if there are no pairs.
+    ///
+    /// Cost: reads a count.
     pub fn is_empty(&self) -> bool
         ensures { result ≡ (length self.now.pairs == 0) }
     {
         self.len() == 0
     }
 
-    /// Returns the first leaf.
+    /// Returns the first leaf, or `None` if the tree has no pairs.
+    ///
+    /// Cost: no visit.
     pub fn first(&self) -> Option<CellId>
         ensures { result ≡ first_number self.now.pairs }
     {
         self.leaves.first()
     }
 
-    /// Returns the last leaf.
+    /// Returns the last leaf, or `None` if the tree has no pairs.
+    ///
+    /// Cost: no visit.
     pub fn last(&self) -> Option<CellId>
         ensures { result ≡ last_number self.now.pairs }
     {
         self.leaves.last()
     }
 
-    /// Returns the leaf after a leaf.
+    /// Returns the leaf after a leaf, or `None` if it is the last.
+    ///
+    /// Cost: no visit.
     pub fn next_of(&self, id: CellId) -> Option<CellId>
         requires { Has self.now.pairs id }
         ensures { result ≡ number_after self.now.pairs id }
@@ -176,7 +198,9 @@ impl<K: AsBytes, V, const PREFIX_LEN: usize> CellTree<K, V, PREFIX_LEN> {
         self.leaves.next_of(id)
     }
 
-    /// Returns the leaf before a leaf.
+    /// Returns the leaf before a leaf, or `None` if it is the first.
+    ///
+    /// Cost: no visit.
     pub fn prev_of(&self, id: CellId) -> Option<CellId>
         requires { Has self.now.pairs id }
         ensures { result ≡ number_before self.now.pairs id }
@@ -186,6 +210,8 @@ impl<K: AsBytes, V, const PREFIX_LEN: usize> CellTree<K, V, PREFIX_LEN> {
 
     /// Returns the leaf after `id`, if there is one. `seen` is a guess of the position of `id`, and
     /// then of the position of the returned leaf. If the guess is right, no row is searched.
+    ///
+    /// Cost: no visit.
     #[inline(always)]
     pub fn next_from(&self, id: CellId, seen: &mut Position) -> Option<CellId>
         requires { Has self.now.pairs id }
@@ -196,6 +222,8 @@ impl<K: AsBytes, V, const PREFIX_LEN: usize> CellTree<K, V, PREFIX_LEN> {
 
     /// Returns the leaf before `id`, if there is one. `seen` is a guess of the position of `id`,
     /// and then of the position of the returned leaf. If the guess is right, no row is searched.
+    ///
+    /// Cost: no visit.
     #[inline(always)]
     pub fn prev_from(&self, id: CellId, seen: &mut Position) -> Option<CellId>
         requires { Has self.now.pairs id }
@@ -204,7 +232,9 @@ impl<K: AsBytes, V, const PREFIX_LEN: usize> CellTree<K, V, PREFIX_LEN> {
         self.leaves.prev_from(id, seen)
     }
 
-    /// Returns the pair of a leaf. One visit.
+    /// Returns the pair of a leaf.
+    ///
+    /// Cost: one visit.
     pub fn leaf(&self, id: CellId, visits: &mut Visits) -> (&K, &V)
         requires { Has self.now.pairs id }
         ensures value { leaf_in self.now.pairs id ≡ Some (result.0.now, result.1.now) }
@@ -213,7 +243,10 @@ impl<K: AsBytes, V, const PREFIX_LEN: usize> CellTree<K, V, PREFIX_LEN> {
         self.leaves.read(id, visits)
     }
 
-    /// Returns the point of these bytes. It is good for them while the pairs are unchanged.
+    /// Returns the point of these bytes: the leaf that has them, the leaves that they conflict
+    /// with, or a free place. The point is good for these bytes while the pairs are unchanged.
+    ///
+    /// Cost: one descent.
     pub fn point(&self, query: &[u8]) -> CellPoint
         ensures { IsGood K.bytes self.now.pairs result query.now }
     {
@@ -225,6 +258,8 @@ impl<K: AsBytes, V, const PREFIX_LEN: usize> CellTree<K, V, PREFIX_LEN> {
 
     /// Returns the number of inner nodes. There is one at the longest common prefix of each two
     /// neighbouring keys. The number is less than the number of pairs, and 0 if there are no pairs.
+    ///
+    /// Cost: reads four counts.
     pub fn inner_nodes(&self) -> usize
         ensures value { result ≡ set.len (fronts (bytes K.bytes) self.now.pairs) }
         ensures fewer { result ≤ length self.now.pairs - 1 }
@@ -234,7 +269,9 @@ impl<K: AsBytes, V, const PREFIX_LEN: usize> CellTree<K, V, PREFIX_LEN> {
     }
 
     /// Returns the number of children of the inner node at this prefix, or 0 if there is no such
-    /// node. If the longest key has L bytes, it makes at most L + 1 visits.
+    /// node.
+    ///
+    /// Cost: at most L + 1 visits, if the longest key has L bytes.
     pub fn children_at(&self, front: &[u8], visits: &mut Visits) -> usize
         ensures value { result ≡ set.len (parts (bytes K.bytes) self.now.pairs front.now) }
         ensures counted { visits.new.count
@@ -252,6 +289,8 @@ impl<K: AsBytes, V, const PREFIX_LEN: usize> CellTree<K, V, PREFIX_LEN> {
 impl<K: AsBytes + Drop, V: Drop, const PREFIX_LEN: usize> CellTree<K, V, PREFIX_LEN> {
     /// Makes room for a placement at the point, or returns an error if it fails to allocate. The
     /// pairs and the ids of the leaves are unchanged in both cases, and the point remains good.
+    ///
+    /// Cost: allocates for one pair.
     pub fn make_room(&mut self, point: &CellPoint) -> Result<(), AllocError>
         ensures pairs { self.new.pairs ≡ self.old.pairs }
         ensures ids { Extends self.old.ids self.new.ids }
@@ -268,6 +307,9 @@ impl<K: AsBytes + Drop, V: Drop, const PREFIX_LEN: usize> CellTree<K, V, PREFIX_
 
     /// Places a pair at a point that is good for its key and fits, and returns its cell. Other
     /// leaves may move to other cells, and take their ids along. Does not allocate.
+    ///
+    /// Cost: one descent if the edge at the point has changed since. If the row at the place is
+    /// full, 32 leaves move to another row, with a descent for each whose edge was not guessed.
     pub fn place(&mut self, point: CellPoint, key: K, value: V) -> CellId
         requires good { IsGood K.bytes self.old.pairs point (K.bytes key) }
         requires open { IsOpen point }

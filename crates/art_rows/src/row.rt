@@ -22,6 +22,8 @@ pub struct Position {
 
 impl Position {
     /// Returns some position, for a leaf whose position is not known.
+    ///
+    /// Cost: none.
     pub fn unknown() -> Self
         ensures { result ≡ nowhere }
     {

@@ -30,7 +30,9 @@ impl Model for CellId {
 }
 
 impl CellId {
-    /// Returns the cell with this number.
+    /// Returns the cell with this number, which must be less than 2^61.
+    ///
+    /// Cost: none.
     pub fn new(number: usize) -> Self
         requires { number < 2 ^ 61 }
         ensures { result ≡ number }
@@ -39,6 +41,8 @@ impl CellId {
     }
 
     /// Returns the number of the cell.
+    ///
+    /// Cost: none.
     pub fn number(self) -> usize
         ensures value { result ≡ self }
         ensures small { result < 2 ^ 61 }

@@ -17,6 +17,8 @@ impl Model for Visits {
 
 impl Visits {
     /// Returns a count of no visits.
+    ///
+    /// Cost: none.
     pub fn new() -> Visits
         ensures { result.count ≡ 0 }
     {
@@ -31,6 +33,8 @@ impl Visits {
     }
 
     /// Counts one more visit.
+    ///
+    /// Cost: none.
     pub fn add_one(&mut self)
         ensures { self.new.count ≡ self.old.count + 1 }
     {

@@ -56,6 +56,8 @@ impl<K: AsBytes, V, const PREFIX_LEN: usize> Model for Tree<K, V, PREFIX_LEN> {
 
 impl<K: AsBytes, V, const PREFIX_LEN: usize> Tree<K, V, PREFIX_LEN> {
     /// Returns a tree with no pairs. Does not allocate.
+    ///
+    /// Cost: none.
     pub fn new(alloc: Global) -> Self
         ensures pairs { result.pairs ≡ [] }
         ensures room { room result ≡ 0 }
@@ -67,6 +69,8 @@ impl<K: AsBytes, V, const PREFIX_LEN: usize> Tree<K, V, PREFIX_LEN> {
 
     /// Does nothing. Its contract says what holds of every tree: the pairs ascend by the bytes of
     /// their keys, no key's bytes are a prefix of another's, and no two leaves have the same id.
+    ///
+    /// Cost: none.
     pub fn law(&self)
         ensures content { IsContent (bytes K.bytes) self.now.pairs }
         ensures distinct { AreDistinct self.now.pairs }
@@ -75,6 +79,8 @@ impl<K: AsBytes, V, const PREFIX_LEN: usize> Tree<K, V, PREFIX_LEN> {
     }
 
     /// Returns the number of pairs.
+    ///
+    /// Cost: reads a count.
     pub fn len(&self) -> usize
         ensures { result ≡ length self.now.pairs }
     {
@@ -82,27 +88,35 @@ impl<K: AsBytes, V, const PREFIX_LEN: usize> Tree<K, V, PREFIX_LEN> {
     }
 
     /// Returns `true` if there are no pairs.
+    ///
+    /// Cost: reads a count.
     pub fn is_empty(&self) -> bool
         ensures { result ≡ (length self.now.pairs == 0) }
     {
         self.len() == 0
     }
 
-    /// Returns the first leaf, or `None` if the tree has no pairs. Reads no leaf.
+    /// Returns the first leaf, or `None` if the tree has no pairs.
+    ///
+    /// Cost: no visit.
     pub fn first(&self) -> Option<LeafId>
         ensures { result ≡ first_number self.now.pairs }
     {
         id_of_any(&self.cells, self.cells.first())
     }
 
-    /// Returns the last leaf, or `None` if the tree has no pairs. Reads no leaf.
+    /// Returns the last leaf, or `None` if the tree has no pairs.
+    ///
+    /// Cost: no visit.
     pub fn last(&self) -> Option<LeafId>
         ensures { result ≡ last_number self.now.pairs }
     {
         id_of_any(&self.cells, self.cells.last())
     }
 
-    /// Returns the leaf after a leaf, or `None` if it is the last. Reads no leaf.
+    /// Returns the leaf after a leaf, or `None` if it is the last.
+    ///
+    /// Cost: no visit.
     pub fn next_of(&self, id: LeafId) -> Option<LeafId>
         requires { Has self.now.pairs id }
         ensures { result ≡ number_after self.now.pairs id }
@@ -112,7 +126,9 @@ impl<K: AsBytes, V, const PREFIX_LEN: usize> Tree<K, V, PREFIX_LEN> {
         id_of_any(&self.cells, self.cells.next_of(cell))
     }
 
-    /// Returns the leaf before a leaf, or `None` if it is the first. Reads no leaf.
+    /// Returns the leaf before a leaf, or `None` if it is the first.
+    ///
+    /// Cost: no visit.
     pub fn prev_of(&self, id: LeafId) -> Option<LeafId>
         requires { Has self.now.pairs id }
         ensures { result ≡ number_before self.now.pairs id }
@@ -122,10 +138,12 @@ impl<K: AsBytes, V, const PREFIX_LEN: usize> Tree<K, V, PREFIX_LEN> {
         id_of_any(&self.cells, self.cells.prev_of(cell))
     }
 
-    /// Returns the leaf after a leaf, or `None` if it is the last. Reads no leaf.
+    /// Returns the leaf after a leaf, or `None` if it is the last.
     ///
     /// `seen` is a guess of the position of the given leaf. If it is right, no row is searched. The
     /// call sets it to the position of the returned leaf.
+    ///
+    /// Cost: no visit.
     #[inline(always)]
     pub fn next_from(&self, id: LeafId, seen: &mut Position) -> Option<LeafId>
         requires { Has self.now.pairs id }
@@ -136,10 +154,12 @@ impl<K: AsBytes, V, const PREFIX_LEN: usize> Tree<K, V, PREFIX_LEN> {
         id_of_any(&self.cells, self.cells.next_from(cell, seen))
     }
 
-    /// Returns the leaf before a leaf, or `None` if it is the first. Reads no leaf.
+    /// Returns the leaf before a leaf, or `None` if it is the first.
     ///
     /// `seen` is a guess of the position of the given leaf. If it is right, no row is searched. The
     /// call sets it to the position of the returned leaf.
+    ///
+    /// Cost: no visit.
     #[inline(always)]
     pub fn prev_from(&self, id: LeafId, seen: &mut Position) -> Option<LeafId>
         requires { Has self.now.pairs id }
@@ -150,7 +170,9 @@ impl<K: AsBytes, V, const PREFIX_LEN: usize> Tree<K, V, PREFIX_LEN> {
         id_of_any(&self.cells, self.cells.prev_from(cell, seen))
     }
 
-    /// Returns the pair of a leaf. One visit.
+    /// Returns the pair of a leaf.
+    ///
+    /// Cost: one visit.
     pub fn leaf(&self, id: LeafId, visits: &mut Visits) -> (&K, &V)
         requires { Has self.now.pairs id }
         ensures value { leaf_in self.now.pairs id ≡ Some (result.0.now, result.1.now) }
@@ -159,10 +181,12 @@ impl<K: AsBytes, V, const PREFIX_LEN: usize> Tree<K, V, PREFIX_LEN> {
         self.cells.leaf(cell_of(&self.cells, id), visits)
     }
 
-    /// Returns the pair of a leaf. One visit.
+    /// Returns the pair of a leaf.
     ///
     /// `seen` is a guess of the position of the leaf. If it is right, the table that leads from ids
     /// to leaves is not read.
+    ///
+    /// Cost: one visit.
     #[inline(always)]
     pub fn leaf_near(&self, id: LeafId, seen: Position, visits: &mut Visits) -> (&K, &V)
         requires { Has self.now.pairs id }
@@ -175,6 +199,8 @@ impl<K: AsBytes, V, const PREFIX_LEN: usize> Tree<K, V, PREFIX_LEN> {
 
     /// Returns the number of inner nodes. There is one at the longest common prefix of each two
     /// neighbouring keys. The number is less than the number of pairs, and 0 if there are no pairs.
+    ///
+    /// Cost: reads four counts.
     pub fn inner_nodes(&self) -> usize
         ensures value { result ≡ set.len (fronts (bytes K.bytes) self.now.pairs) }
         ensures fewer { result ≤ length self.now.pairs - 1 }
@@ -183,7 +209,9 @@ impl<K: AsBytes, V, const PREFIX_LEN: usize> Tree<K, V, PREFIX_LEN> {
     }
 
     /// Returns the number of children of the inner node at this prefix, or 0 if there is no such
-    /// node. If the longest key has L bytes, it makes at most L + 1 visits.
+    /// node.
+    ///
+    /// Cost: at most L + 1 visits, if the longest key has L bytes.
     pub fn children_at(&self, front: &[u8], visits: &mut Visits) -> usize
         ensures value { result ≡ set.len (parts (bytes K.bytes) self.now.pairs front.now) }
         ensures counted { visits.new.count

@@ -33,6 +33,8 @@ impl<'a, K, V> Model for Walk<'a, K, V> {
 impl<'a, K: AsBytes, V> Walk<'a, K, V> {
     /// Returns an iterator over the pairs from the first of these leaves through the last, or over
     /// no pairs if `ends` is `None`. The first leaf must not come after the last.
+    ///
+    /// Cost: no visit. Each step makes one visit.
     pub fn new<const PREFIX_LEN: usize>(
         tree: &'a Tree<K, V, PREFIX_LEN>,
         ends: Option<(LeafId, LeafId)>,
@@ -72,7 +74,9 @@ impl<'a, K, V> Iterator for Walk<'a, K, V> {
 
     ghost remaining = { item_count (λ rest. rest) };
 
-    /// Returns the first pair that is left.
+    /// Returns the first pair that is left, or `None` if no pair is left.
+    ///
+    /// Cost: one visit.
     #[inline(always)]
     fn next(&mut self) -> Option<(&'a K, &'a V)> {
         self.walk.next()
@@ -82,7 +86,9 @@ impl<'a, K, V> Iterator for Walk<'a, K, V> {
 impl<'a, K, V> DoubleEndedIterator for Walk<'a, K, V> {
     ghost next_back_gives = { YieldsLastBy (λ item. (item.0.now, item.1.now)) (λ rest. rest) };
 
-    /// Returns the last pair that is left.
+    /// Returns the last pair that is left, or `None` if no pair is left.
+    ///
+    /// Cost: one visit.
     #[inline(always)]
     fn next_back(&mut self) -> Option<(&'a K, &'a V)> {
         self.walk.next_back()

@@ -56,8 +56,8 @@ impl<'a, K: AsBytes, V, const PREFIX_LEN: usize> BoundedIter<'a, K, V, InRange, 
     /// Returns an iterator over the pairs whose bytes are within both bounds. If the tree has
     /// pairs, the bounds must be in order.
     ///
-    /// If the longer bound has n bytes and the longest key has L bytes, it makes at most
-    /// 2 * (n + 2) * (L + 2) visits, and none if the tree has no pairs.
+    /// Cost: at most 2 * (n + 2) * (L + 2) visits, if the longer bound has n bytes and the longest
+    /// key has L bytes, and none on an empty tree.
     pub fn new(
         tree: &'a Tree<K, V, PREFIX_LEN>,
         start: Bound<&[u8]>,
@@ -85,8 +85,8 @@ impl<'a, K: AsBytes, V, const PREFIX_LEN: usize> BoundedIter<'a, K, V, InRange, 
 impl<'a, K: AsBytes, V, const PREFIX_LEN: usize> BoundedIter<'a, K, V, BelowFront, PREFIX_LEN> {
     /// Returns an iterator over the pairs whose bytes begin with these.
     ///
-    /// On n bytes, if the longest key has L bytes, it makes at most 2 * (n + 2) * (L + 2) visits,
-    /// and none if the tree has no pairs.
+    /// Cost: at most 2 * (n + 2) * (L + 2) visits, if there are n bytes and the longest key has L
+    /// bytes, and none on an empty tree.
     pub fn new(tree: &'a Tree<K, V, PREFIX_LEN>, front: &[u8], visits: &mut Visits) -> Self
         ensures value { result ≡ pairs_of (under (bytes K.bytes) tree.now.pairs front.now) }
         ensures counted { visits.new.count ≤ visits.old.count
@@ -105,6 +105,8 @@ impl<'a, K: AsBytes, V, const PREFIX_LEN: usize> BoundedIter<'a, K, V, BelowFron
 impl<'a, K: AsBytes, V, const PREFIX_LEN: usize> BoundedIter<'a, K, V, InSubtree, PREFIX_LEN> {
     /// Returns an iterator over the pairs from the first leaf through the last. The first leaf must
     /// not come after the last.
+    ///
+    /// Cost: no visit.
     pub fn new(tree: &'a Tree<K, V, PREFIX_LEN>, first: LeafId, last: LeafId) -> Self
         requires { IsSpan tree.now.pairs first last }
         ensures { result ≡ pairs_of (span_of tree.now.pairs first last) }
@@ -123,7 +125,9 @@ impl<'a, K, V, M, const PREFIX_LEN: usize> Iterator for BoundedIter<'a, K, V, M,
 
     ghost remaining = { item_count (λ rest. rest) };
 
-    /// Returns the first pair that is left.
+    /// Returns the first pair that is left, or `None` if none is left.
+    ///
+    /// Cost: one visit.
     #[inline(always)]
     fn next(&mut self) -> Option<(&'a K, &'a V)> {
         self.walk.next()
@@ -134,7 +138,9 @@ impl<'a, K, V, M, const PREFIX_LEN: usize> DoubleEndedIterator
     for BoundedIter<'a, K, V, M, PREFIX_LEN> {
     ghost next_back_gives = { YieldsLastBy (λ item. (item.0.now, item.1.now)) (λ rest. rest) };
 
-    /// Returns the last pair that is left.
+    /// Returns the last pair that is left, or `None` if none is left.
+    ///
+    /// Cost: one visit.
     #[inline(always)]
     fn next_back(&mut self) -> Option<(&'a K, &'a V)> {
         self.walk.next_back()

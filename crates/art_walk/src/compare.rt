@@ -12,6 +12,8 @@ use std::iter::Iterator;
 
 /// Returns `true` if each pair equals the other pair at its place. Both walks must have the same
 /// number of pairs.
+///
+/// Cost: one pass over both walks, up to the first difference.
 pub fn are_same<K: PartialEq, V: PartialEq, const P: usize>(
     left: &mut Iter<'_, K, V, P>,
     right: &mut Iter<'_, K, V, P>,
@@ -40,6 +42,8 @@ fn is_same<K: PartialEq, V: PartialEq>(key: &K, value: &V, other: &K, its: &V) -
 
 /// Compares two lists of pairs. The first two pairs that are not equal decide, or else the lengths.
 /// Returns `None` if those pairs cannot be compared.
+///
+/// Cost: one pass over both walks, up to the pairs that decide.
 pub fn partial_order<K: PartialOrd, V: PartialOrd, const P: usize>(
     left: &mut Iter<'_, K, V, P>,
     right: &mut Iter<'_, K, V, P>,
@@ -83,6 +87,8 @@ fn partial_pair<K: PartialOrd, V: PartialOrd>(
 }
 
 /// Compares two lists of pairs. The first two pairs that are not equal decide, or else the lengths.
+///
+/// Cost: one pass over both walks, up to the pairs that decide.
 pub fn order<K: Ord, V: Ord, const P: usize>(
     left: &mut Iter<'_, K, V, P>,
     right: &mut Iter<'_, K, V, P>,
@@ -117,6 +123,8 @@ fn order_of_pairs<K: Ord, V: Ord>(key: &K, value: &V, other: &K, its: &V) -> Ord
 }
 
 /// Feeds a hasher the number of pairs, and then each key and its value.
+///
+/// Cost: one pass.
 pub fn feed<K: Hash, V: Hash, H: Hasher, const P: usize>(walk: Iter<'_, K, V, P>, state: &mut H)
     ensures { state.new
         ≡ fold H.write state.old

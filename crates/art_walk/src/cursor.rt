@@ -64,6 +64,8 @@ pub struct Cursor {
 
 impl Cursor {
     /// Returns a cursor with no leaves.
+    ///
+    /// Cost: none.
     pub fn none() -> Cursor
         ensures { result ≡ nothing_left }
     {
@@ -77,6 +79,8 @@ impl Cursor {
 
     /// Returns a cursor over the leaves from the first through the last. The tree must have both,
     /// and the first must not come after the last.
+    ///
+    /// Cost: none.
     pub fn between(first: LeafId, last: LeafId) -> Cursor
         ensures { result ≡ left_between first last }
     {
@@ -97,12 +101,16 @@ impl Cursor {
 
     /// Returns a guess of the position of the leaf that was passed last. A call that is given a
     /// guess tests it, so no result depends on it.
+    ///
+    /// Cost: none.
     #[inline(always)]
     pub fn passed_at(&self) -> Position {
         self.passed_at
     }
 
     /// Returns a cursor over all leaves of the tree.
+    ///
+    /// Cost: no visit.
     pub fn all<K: AsBytes, V, const PREFIX_LEN: usize>(tree: &Tree<K, V, PREFIX_LEN>) -> Cursor
         ensures fits { FitsIn result tree.now.pairs }
         ensures left { leaves_left result tree.now.pairs ≡ tree.now.pairs }

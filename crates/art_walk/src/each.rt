@@ -32,6 +32,8 @@ pub fn write_values<K: AsBytes, V, F: FnMut(&mut V) + Drop, const PREFIX_LEN: us
 }
 
 /// Like [`write_values`], and the closure gets the key of each value too.
+///
+/// Cost: as for [`write_values`].
 pub fn write_pairs<K: AsBytes, V, F: FnMut(&K, &mut V) + Drop, const PREFIX_LEN: usize>(
     tree: &mut Tree<K, V, PREFIX_LEN>,
     mut cursor: Cursor,

@@ -45,6 +45,8 @@ pub fn extract_first<
 }
 
 /// Like [`extract_first`], from the last pair on.
+///
+/// Cost: as for [`extract_first`].
 pub fn extract_last<
     K: AsBytes + Drop,
     V: Drop,

@@ -27,6 +27,8 @@ impl<K: AsBytes, V, const PREFIX_LEN: usize> Model for IntoKeys<K, V, PREFIX_LEN
 
 impl<K: AsBytes, V, const PREFIX_LEN: usize> IntoKeys<K, V, PREFIX_LEN> {
     /// Returns the number of keys that are left.
+    ///
+    /// Cost: reads a count.
     pub fn len(&self) -> usize
         ensures { result ≡ length self.now }
     {
@@ -36,6 +38,8 @@ impl<K: AsBytes, V, const PREFIX_LEN: usize> IntoKeys<K, V, PREFIX_LEN> {
 
 impl<K: AsBytes + Drop, V: Drop, const PREFIX_LEN: usize> IntoKeys<K, V, PREFIX_LEN> {
     /// Returns an iterator over all keys of the tree.
+    ///
+    /// Cost: frees the inner nodes at once.
     pub fn new(tree: Tree<K, V, PREFIX_LEN>) -> Self
         ensures { result ≡ map (λ p. p.0) (pairs_of tree.pairs) }
     {
@@ -52,12 +56,16 @@ impl<K: AsBytes + Drop, V: Drop, const PREFIX_LEN: usize> Iterator for IntoKeys<
 
     ghost remaining = { item_count (λ rest. rest) };
 
-    /// Returns the first key that is left.
+    /// Returns the first key that is left, or `None` if none is left.
+    ///
+    /// Cost: removes one leaf.
     fn next(&mut self) -> Option<K> {
         Some(self.pairs.next()?.0)
     }
 
     /// Both bounds are the number of keys that are left.
+    ///
+    /// Cost: reads a count.
     fn size_hint(&self) -> (usize, Option<usize>)
         ensures lower { IsWithinCount result.0 (item_count (λ rest. rest) self.now) }
         ensures upper { IfSome result.1 (UpTo (item_count (λ rest. rest) self.now)) }
@@ -71,7 +79,9 @@ impl<K: AsBytes + Drop, V: Drop, const PREFIX_LEN: usize> DoubleEndedIterator
     for IntoKeys<K, V, PREFIX_LEN> {
     ghost next_back_gives = { YieldsLast (λ rest. rest) };
 
-    /// Returns the last key that is left.
+    /// Returns the last key that is left, or `None` if none is left.
+    ///
+    /// Cost: removes one leaf.
     fn next_back(&mut self) -> Option<K> {
         Some(self.pairs.next_back()?.0)
     }

@@ -30,6 +30,8 @@ impl<'a, K, V, const PREFIX_LEN: usize> Model for Iter<'a, K, V, PREFIX_LEN> {
 
 impl<'a, K: AsBytes, V, const PREFIX_LEN: usize> Iter<'a, K, V, PREFIX_LEN> {
     /// Returns an iterator over all pairs of the tree.
+    ///
+    /// Cost: no visit.
     pub fn new(tree: &'a Tree<K, V, PREFIX_LEN>) -> Self
         ensures { result ≡ pairs_of tree.now.pairs }
     {
@@ -43,6 +45,8 @@ impl<'a, K: AsBytes, V, const PREFIX_LEN: usize> Iter<'a, K, V, PREFIX_LEN> {
 
 impl<'a, K, V, const PREFIX_LEN: usize> Iter<'a, K, V, PREFIX_LEN> {
     /// Returns the number of pairs that are left.
+    ///
+    /// Cost: reads a count.
     pub fn len(&self) -> usize
         ensures { result ≡ length self.now }
     {
@@ -57,7 +61,9 @@ impl<'a, K, V, const PREFIX_LEN: usize> Iterator for Iter<'a, K, V, PREFIX_LEN> 
 
     ghost remaining = { item_count (λ rest. rest) };
 
-    /// Returns the first pair that is left.
+    /// Returns the first pair that is left, or `None` if none is left.
+    ///
+    /// Cost: one visit.
     #[inline(always)]
     fn next(&mut self) -> Option<(&'a K, &'a V)> {
         let pair = self.walk.next()?;
@@ -66,6 +72,8 @@ impl<'a, K, V, const PREFIX_LEN: usize> Iterator for Iter<'a, K, V, PREFIX_LEN> 
     }
 
     /// Both bounds are the number of pairs that are left.
+    ///
+    /// Cost: reads a count.
     fn size_hint(&self) -> (usize, Option<usize>)
         ensures lower { IsWithinCount result.0 (item_count (λ rest. rest) self.now) }
         ensures upper { IfSome result.1 (UpTo (item_count (λ rest. rest) self.now)) }
@@ -78,7 +86,9 @@ impl<'a, K, V, const PREFIX_LEN: usize> Iterator for Iter<'a, K, V, PREFIX_LEN> 
 impl<'a, K, V, const PREFIX_LEN: usize> DoubleEndedIterator for Iter<'a, K, V, PREFIX_LEN> {
     ghost next_back_gives = { YieldsLastBy (λ item. (item.0.now, item.1.now)) (λ rest. rest) };
 
-    /// Returns the last pair that is left.
+    /// Returns the last pair that is left, or `None` if none is left.
+    ///
+    /// Cost: one visit.
     #[inline(always)]
     fn next_back(&mut self) -> Option<(&'a K, &'a V)> {
         let pair = self.walk.next_back()?;

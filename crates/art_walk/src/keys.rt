@@ -27,6 +27,8 @@ impl<'a, K, V, const PREFIX_LEN: usize> Model for Keys<'a, K, V, PREFIX_LEN> {
 
 impl<'a, K: AsBytes, V, const PREFIX_LEN: usize> Keys<'a, K, V, PREFIX_LEN> {
     /// Returns an iterator over all keys of the tree.
+    ///
+    /// Cost: no visit.
     pub fn new(tree: &'a Tree<K, V, PREFIX_LEN>) -> Self
         ensures { result ≡ map (λ p. p.0) (pairs_of tree.now.pairs) }
     {
@@ -38,6 +40,8 @@ impl<'a, K: AsBytes, V, const PREFIX_LEN: usize> Keys<'a, K, V, PREFIX_LEN> {
 
 impl<'a, K, V, const PREFIX_LEN: usize> Keys<'a, K, V, PREFIX_LEN> {
     /// Returns the number of keys that are left.
+    ///
+    /// Cost: reads a count.
     pub fn len(&self) -> usize
         ensures { result ≡ length self.now }
     {
@@ -52,13 +56,17 @@ impl<'a, K, V, const PREFIX_LEN: usize> Iterator for Keys<'a, K, V, PREFIX_LEN> 
 
     ghost remaining = { item_count (λ rest. rest) };
 
-    /// Returns the first key that is left.
+    /// Returns the first key that is left, or `None` if none is left.
+    ///
+    /// Cost: one visit.
     #[inline(always)]
     fn next(&mut self) -> Option<&'a K> {
         Some(self.pairs.next()?.0)
     }
 
     /// Both bounds are the number of keys that are left.
+    ///
+    /// Cost: reads a count.
     fn size_hint(&self) -> (usize, Option<usize>)
         ensures lower { IsWithinCount result.0 (item_count (λ rest. rest) self.now) }
         ensures upper { IfSome result.1 (UpTo (item_count (λ rest. rest) self.now)) }
@@ -71,7 +79,9 @@ impl<'a, K, V, const PREFIX_LEN: usize> Iterator for Keys<'a, K, V, PREFIX_LEN> 
 impl<'a, K, V, const PREFIX_LEN: usize> DoubleEndedIterator for Keys<'a, K, V, PREFIX_LEN> {
     ghost next_back_gives = { YieldsLastRef (λ rest. rest) };
 
-    /// Returns the last key that is left.
+    /// Returns the last key that is left, or `None` if none is left.
+    ///
+    /// Cost: one visit.
     #[inline(always)]
     fn next_back(&mut self) -> Option<&'a K> {
         Some(self.pairs.next_back()?.0)

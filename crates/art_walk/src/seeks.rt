@@ -16,8 +16,8 @@ impl Cursor {
     /// Returns a cursor over the leaves whose keys' bytes are within both bounds. It has no leaves
     /// if the bounds are not in order.
     ///
-    /// If the longer bound has n bytes and the longest key has L bytes, it makes at most
-    /// 2 * (n + 2) * (L + 2) visits, and none if the tree has no pairs.
+    /// Cost: at most 2 * (n + 2) * (L + 2) visits, if the longer bound has n bytes and the longest
+    /// key has L bytes, and none on an empty tree.
     pub fn range<K: AsBytes, V, const PREFIX_LEN: usize>(
         tree: &Tree<K, V, PREFIX_LEN>,
         start: Bound<&[u8]>,
@@ -51,8 +51,8 @@ impl Cursor {
 
     /// Returns a cursor over the leaves whose keys' bytes begin with these.
     ///
-    /// On n bytes, if the longest key has L bytes, it makes at most 2 * (n + 2) * (L + 2) visits,
-    /// and none if the tree has no pairs.
+    /// Cost: at most 2 * (n + 2) * (L + 2) visits, if there are n bytes and the longest key has L
+    /// bytes, and none on an empty tree.
     pub fn prefix<K: AsBytes, V, const PREFIX_LEN: usize>(
         tree: &Tree<K, V, PREFIX_LEN>,
         front: &[u8],

@@ -14,6 +14,8 @@ use blart_map::TryInsertError;
 use std::alloc::Global;
 
 /// Returns how many pairs there are.
+///
+/// Cost: reads a count.
 #[unsafe(no_mangle)]
 pub extern "C" fn art_len(map: &mut ArtMap) -> usize
     ensures count { result ≡ length (held map.old) }
@@ -77,6 +79,8 @@ pub extern "C" fn art_prefix_get(
 /// out: the key is copied before it is looked up, so a stored key may need memory too. After
 /// `CONFLICT` and `NO_MEMORY` the map is unchanged. `*old` is unchanged unless the code is
 /// `REPLACED`.
+///
+/// Cost: copies the key, and then makes an insertion.
 #[unsafe(no_mangle)]
 pub extern "C" fn art_insert(
     map: &mut ArtMap,
@@ -119,6 +123,9 @@ pub extern "C" fn art_insert(
 /// Gives the key the value, in place of all pairs whose keys are related to it: keys of which it is
 /// a prefix, and a key that is a prefix of it. Returns `ADDED`, or `NO_MEMORY` if memory runs out,
 /// and then the map is unchanged.
+///
+/// Cost: copies the key. Then one descent, and one for each related pair but one. If there are
+/// none, an insertion.
 #[unsafe(no_mangle)]
 pub extern "C" fn art_overwrite(map: &mut ArtMap, alloc: Global, key: &[u8], value: u64) -> u32
     ensures codes { (result ≡ ADDED) ⊎ (result ≡ NO_MEMORY) }
@@ -139,7 +146,9 @@ pub extern "C" fn art_overwrite(map: &mut ArtMap, alloc: Global, key: &[u8], val
 }
 
 /// Removes the key. Returns whether it was stored, and writes the value that it had. If it was not,
-/// nothing is written. Needs no memory.
+/// nothing is written.
+///
+/// Cost: one descent. Does not allocate.
 #[unsafe(no_mangle)]
 pub extern "C" fn art_remove(map: &mut ArtMap, key: &[u8], value: &mut u64) -> bool
     ensures found { result ≡ is_some (value_at vec_bytes (held map.old) key.now) }
@@ -155,10 +164,10 @@ pub extern "C" fn art_remove(map: &mut ArtMap, key: &[u8], value: &mut u64) -> b
     }
 }
 
-/// Removes the pairs whose keys begin with these bytes, and returns how many there were. Needs no
-/// memory.
+/// Removes the pairs whose keys begin with these bytes, and returns how many there were.
 ///
-/// Cost: that of a few descents, however many pairs there are, and that of dropping them.
+/// Cost: a few descents, however many pairs there are, and drops the removed pairs. Does not
+/// allocate.
 #[unsafe(no_mangle)]
 pub extern "C" fn art_remove_prefix(map: &mut ArtMap, prefix: &[u8]) -> usize
     ensures rest { held map.new ≡ outside (bytes vec_bytes) (held map.old) prefix.now }
@@ -168,6 +177,8 @@ pub extern "C" fn art_remove_prefix(map: &mut ArtMap, prefix: &[u8]) -> usize
 }
 
 /// Removes all pairs.
+///
+/// Cost: drops each pair. It keeps the memory until the map is freed.
 #[unsafe(no_mangle)]
 pub extern "C" fn art_clear(map: &mut ArtMap)
     ensures { held map.new ≡ [] }

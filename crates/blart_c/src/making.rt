@@ -12,6 +12,8 @@ use std::alloc::{AllocError, Global};
 
 /// Makes a map with no pairs, and writes its handle to `out`. Returns `ADDED`. If memory runs out,
 /// it returns `NO_MEMORY`, and `*out` is unchanged.
+///
+/// Cost: allocates two boxes.
 #[unsafe(no_mangle)]
 pub extern "C" fn art_new(alloc: Global, out: &mut *mut ArtMap) -> u32
     ensures* { sem 𝓛 (Made alloc result out.old out.new) }
@@ -27,6 +29,8 @@ pub extern "C" fn art_new(alloc: Global, out: &mut *mut ArtMap) -> u32
 }
 
 /// Frees a map and all that it holds. `map` is a pointer that `art_new` wrote.
+///
+/// Cost: drops each pair, and frees all memory of the map.
 #[unsafe(no_mangle)]
 pub unsafe extern "C" fn art_free(alloc: Global, map: *mut ArtMap)
     ghost given: { ArtMap }

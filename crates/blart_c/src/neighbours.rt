@@ -10,6 +10,8 @@ use std::ops::Bound;
 /// Copies out the first pair, in the order of the keys' bytes. Returns `FOUND`; or `NONE` if the
 /// map has no pair, and then nothing is written; or `TOO_SMALL` if the key is longer than the
 /// buffer `key`, and then only its length is written, to `len`.
+///
+/// Cost: one visit, and copies the key.
 #[unsafe(no_mangle)]
 pub extern "C" fn art_first(
     map: &mut ArtMap,
@@ -28,6 +30,8 @@ pub extern "C" fn art_first(
 }
 
 /// Copies out the last pair, like [`art_first`].
+///
+/// Cost: one visit, and copies the key.
 #[unsafe(no_mangle)]
 pub extern "C" fn art_last(
     map: &mut ArtMap,
@@ -46,6 +50,8 @@ pub extern "C" fn art_last(
 
 /// Copies out the first pair whose key is greater than `after`, like [`art_first`]. `after` need
 /// not be stored.
+///
+/// Cost: an opening and one visit, and copies the key.
 #[unsafe(no_mangle)]
 pub extern "C" fn art_next(
     map: &mut ArtMap,
@@ -71,6 +77,8 @@ pub extern "C" fn art_next(
 
 /// Copies out the last pair whose key is less than `before`, like [`art_first`]. `before` need not
 /// be stored.
+///
+/// Cost: an opening and one visit, and copies the key.
 #[unsafe(no_mangle)]
 pub extern "C" fn art_prev(
     map: &mut ArtMap,

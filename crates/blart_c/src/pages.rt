@@ -21,6 +21,9 @@ use std::ops::Bound;
 /// The keys' bytes lie one after another in `keys`, the end of each in `ends`, and the values in
 /// `values`. What is left of the buffers is unchanged. `needed` becomes the length of the key that
 /// follows the page, or 0 if none does.
+///
+/// Cost: an opening, and one visit for each pair that it reads: those that it copies out, and the
+/// next.
 #[unsafe(no_mangle)]
 pub extern "C" fn art_page(
     map: &mut ArtMap,
@@ -50,6 +53,8 @@ pub extern "C" fn art_page(
 
 /// Copies out the pairs from the key `from` up to the key `to`, like [`art_page`]. If `with_to` is
 /// false, a pair with the key `to` itself is left out.
+///
+/// Cost: as for [`art_page`].
 #[unsafe(no_mangle)]
 pub extern "C" fn art_range_page(
     map: &mut ArtMap,
@@ -73,6 +78,8 @@ pub extern "C" fn art_range_page(
 }
 
 /// Copies out the pairs from the key `from` on whose keys begin with `prefix`, like [`art_page`].
+///
+/// Cost: as for [`art_page`].
 #[unsafe(no_mangle)]
 pub extern "C" fn art_prefix_page(
     map: &mut ArtMap,

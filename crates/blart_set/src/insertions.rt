@@ -115,7 +115,7 @@ impl<K: NoPrefixesBytes + Drop, const PREFIX_LEN: usize> TreeSet<K, PREFIX_LEN> 
     /// Returns an error only if the bytes are new, since a stored element is replaced in place.
     /// After an error the set is unchanged.
     ///
-    /// Cost: one descent and an insertion.
+    /// Cost: an insertion.
     ///
     /// ```
     /// assert_eq!(set.replace(2u8)?, None);

@@ -34,8 +34,9 @@ impl<K: AsBytes + Drop, V: Drop, const PREFIX_LEN: usize> CellTree<K, V, PREFIX_
     /// and take their ids along. Returns an error if it fails to allocate, and the pairs and the
     /// ids of the leaves are then unchanged.
     ///
-    /// Cost: one descent. If the row at the place is full, 32 leaves move to another row, with a
-    /// descent for each whose edge was not guessed.
+    /// Cost: one descent. If no stored key is related to the key, it also allocates for one pair.
+    /// If the row at the place is full, 32 leaves move to another row, with a descent for each
+    /// whose edge was not guessed.
     pub fn add(&mut self, key: K, value: V) -> Result<Added<CellId, K, V>, AllocError>
         ensures added { Adds K.bytes self.old self.new (key, value) result }
         ensures room { places self.old ≤ places self.new + 1 }
@@ -71,9 +72,9 @@ impl<K: AsBytes + Drop, V: Drop, const PREFIX_LEN: usize> CellTree<K, V, PREFIX_
     }
 
     /// Adds a pair for which there is room, if its key is related to no stored key. Other leaves
-    /// may move to other cells, and take their ids along. Does not allocate.
+    /// may move to other cells, and take their ids along.
     ///
-    /// Cost: as for [`CellTree::add`].
+    /// Cost: as for [`CellTree::add`], and does not allocate.
     pub fn add_within(&mut self, key: K, value: V) -> Added<CellId, K, V>
         requires room { 0 < places self.old }
         ensures added { Adds K.bytes self.old self.new (key, value) (Ok result) }

@@ -27,6 +27,8 @@ impl<K: AsBytes, V, const PREFIX_LEN: usize> CellTree<K, V, PREFIX_LEN> {
 
     /// Returns all parts of the tree: the leaves, the inner nodes, and the root. The nodes are
     /// those of the leaves' keys, one at each prefix where neighbouring keys part.
+    ///
+    /// Cost: none.
     pub fn into_parts(self) -> (Leaves<K, V>, Nodes<PREFIX_LEN>, Option<Child>)
         ensures leaves { result.0.pairs ≡ self.pairs }
         ensures sound { IsSound K.bytes PREFIX_LEN result.0 result.1 result.2 }

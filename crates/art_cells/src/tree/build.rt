@@ -47,7 +47,9 @@ impl<const P: usize> Model for Frame<P> {
 }
 
 impl<const P: usize> Frame<P> {
-    /// Allocates memory for the inner nodes of `count` leaves.
+    /// Allocates memory for the inner nodes of `count` leaves, or returns an error if that fails.
+    ///
+    /// Cost: allocates that memory.
     pub fn new(alloc: Global, count: usize) -> Result<Self, AllocError>
         ensures enough { IfOk result (λ frame. count ≤ frame) }
         ensures refused { OnErr result (0 < count) }

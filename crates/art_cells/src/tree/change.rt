@@ -17,6 +17,8 @@ use std::alloc::AllocError;
 impl<K: AsBytes + Drop, V: Drop, const PREFIX_LEN: usize> CellTree<K, V, PREFIX_LEN> {
     /// Replaces the pair of a leaf, and returns the old pair. The new key is related to the old key
     /// and to no other. Does not allocate.
+    ///
+    /// Cost: reads the leaf.
     pub fn swap(&mut self, id: CellId, key: K, value: V) -> (K, V)
         requires has { Has self.old.pairs id }
         requires may { MayTake K.bytes self.old.pairs id (K.bytes key) }
@@ -30,6 +32,9 @@ impl<K: AsBytes + Drop, V: Drop, const PREFIX_LEN: usize> CellTree<K, V, PREFIX_
     }
 
     /// Drops every pair, and every spare record.
+    ///
+    /// Cost: drops each pair. It keeps the memory until the tree is dropped, and counts it as no
+    /// room.
     pub fn clear(&mut self)
         ensures pairs { self.new.pairs ≡ [] }
         ensures room { room self.new ≡ 0 }
@@ -41,6 +46,8 @@ impl<K: AsBytes + Drop, V: Drop, const PREFIX_LEN: usize> CellTree<K, V, PREFIX_
 
     /// Makes room for `count` placements, or returns an error if it fails to allocate. The pairs
     /// and the ids of the leaves are unchanged in both cases.
+    ///
+    /// Cost: allocates for `count` pairs.
     pub fn reserve(&mut self, count: usize) -> Result<(), AllocError>
         ensures pairs { self.new.pairs ≡ self.old.pairs }
         ensures ids { Extends self.old.ids self.new.ids }
@@ -55,6 +62,8 @@ impl<K: AsBytes + Drop, V: Drop, const PREFIX_LEN: usize> CellTree<K, V, PREFIX_
 
 impl<K: AsBytes, V, const PREFIX_LEN: usize> CellTree<K, V, PREFIX_LEN> {
     /// Returns the key of a leaf, and a mutable reference to its value.
+    ///
+    /// Cost: reads the leaf.
     pub fn leaf_mut(&mut self, id: CellId) -> (&K, &mut V)
         requires { Has self.old.pairs id }
         ensures* writes_back { sem 𝓛
@@ -65,6 +74,8 @@ impl<K: AsBytes, V, const PREFIX_LEN: usize> CellTree<K, V, PREFIX_LEN> {
     }
 
     /// Returns a mutable reference to the value of a leaf.
+    ///
+    /// Cost: reads the leaf.
     pub fn value_mut(&mut self, id: CellId) -> &mut V
         requires { Has self.old.pairs id }
         ensures* writes_back { sem 𝓛

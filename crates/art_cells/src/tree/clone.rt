@@ -9,6 +9,8 @@ use std::alloc::AllocError;
 impl<K: AsBytes + Clone, V: Clone, const PREFIX_LEN: usize> CellTree<K, V, PREFIX_LEN> {
     /// Returns a tree of clones of the pairs, each in the same cell with the same id, or an error
     /// if it fails to allocate.
+    ///
+    /// Cost: allocates as much memory as this tree has, and clones each key and each value.
     pub fn clone(&self) -> Result<Self, AllocError>
         requires { (k j : K) (v : V) → Contains (map (λ p. p.1) self.now.pairs) (k, v)
             → K.is_clone k j → K.bytes j ≡ K.bytes k }

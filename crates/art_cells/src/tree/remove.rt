@@ -24,6 +24,8 @@ use blart_keys::AsBytes;
 impl<K: AsBytes + Drop, V: Drop, const PREFIX_LEN: usize> CellTree<K, V, PREFIX_LEN> {
     /// Removes a leaf, and returns its pair. The other leaves remain in their cells. Does not
     /// return an error.
+    ///
+    /// Cost: one descent by the key of the leaf.
     pub fn remove(&mut self, id: CellId) -> (K, V)
         requires { Has self.old.pairs id }
         ensures value { leaf_in self.old.pairs id ≡ Some result }
@@ -40,7 +42,9 @@ impl<K: AsBytes + Drop, V: Drop, const PREFIX_LEN: usize> CellTree<K, V, PREFIX_
     }
 
     /// Removes the pair with these bytes and returns it, or returns `None` if there is no such
-    /// pair. It descends once. The other leaves remain in their cells. Does not return an error.
+    /// pair. The other leaves remain in their cells. Does not return an error.
+    ///
+    /// Cost: one descent.
     pub fn take(&mut self, query: &[u8]) -> Option<(K, V)>
         ensures taken { result
             ≡ option_map (λ p. p.1) (stored (bytes K.bytes) self.old.pairs query.now) }

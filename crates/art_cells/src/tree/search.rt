@@ -18,8 +18,10 @@ use art_slots::{CellId, Visits};
 use blart_keys::AsBytes;
 
 impl<K: AsBytes, V, const PREFIX_LEN: usize> CellTree<K, V, PREFIX_LEN> {
-    /// Returns the pair with these bytes, and its leaf. On n bytes it makes at most n + 1 visits,
-    /// and none if the tree has no pairs.
+    /// Returns the pair with these bytes, and its leaf, or `None` if there is no such pair.
+    ///
+    /// Cost: at most n + 1 visits on n bytes, and none on an empty tree. It makes at least one
+    /// visit if it returns a pair.
     pub fn get(&self, query: &[u8], visits: &mut Visits) -> Option<(CellId, &K, &V)>
         ensures found { option_map (λ f. (f.0, (f.1.now, f.2.now))) result
             ≡ at (bytes K.bytes) self.now.pairs query.now }
@@ -39,8 +41,11 @@ impl<K: AsBytes, V, const PREFIX_LEN: usize> CellTree<K, V, PREFIX_LEN> {
         }
     }
 
-    /// Returns the pair whose bytes are a prefix of these, and its leaf. On n bytes it makes at
-    /// most n + 1 visits, and none if the tree has no pairs.
+    /// Returns the pair whose bytes are a prefix of these, and its leaf, or `None` if there is no
+    /// such pair.
+    ///
+    /// Cost: at most n + 1 visits on n bytes, and none on an empty tree. It makes at least one
+    /// visit if it returns a pair.
     pub fn get_front(&self, query: &[u8], visits: &mut Visits) -> Option<(CellId, &K, &V)>
         ensures found { option_map (λ f. (f.0, (f.1.now, f.2.now))) result
             ≡ front_of (bytes K.bytes) self.now.pairs query.now }
@@ -60,8 +65,10 @@ impl<K: AsBytes, V, const PREFIX_LEN: usize> CellTree<K, V, PREFIX_LEN> {
         }
     }
 
-    /// Returns the leaf with these bytes. On n bytes it makes at most n + 1 visits, and none if the
-    /// tree has no pairs.
+    /// Returns the leaf with these bytes, or `None` if there is no such leaf.
+    ///
+    /// Cost: at most n + 1 visits on n bytes, and none on an empty tree. It makes at least one
+    /// visit if it returns a leaf.
     pub fn search(&self, query: &[u8], visits: &mut Visits) -> Option<CellId>
         ensures found { result
             ≡ option_map (λ p. p.0) (at (bytes K.bytes) self.now.pairs query.now) }
@@ -76,8 +83,10 @@ impl<K: AsBytes, V, const PREFIX_LEN: usize> CellTree<K, V, PREFIX_LEN> {
         }
     }
 
-    /// Returns the leaf whose bytes are a prefix of these. On n bytes it makes at most n + 1
-    /// visits, and none if the tree has no pairs.
+    /// Returns the leaf whose bytes are a prefix of these, or `None` if there is no such leaf.
+    ///
+    /// Cost: at most n + 1 visits on n bytes, and none on an empty tree. It makes at least one
+    /// visit if it returns a leaf.
     pub fn search_front(&self, query: &[u8], visits: &mut Visits) -> Option<CellId>
         ensures found { result
             ≡ option_map (λ p. p.0) (front_of (bytes K.bytes) self.now.pairs query.now) }

@@ -21,9 +21,11 @@ use blart_keys::AsBytes;
 use std::ops::Bound;
 
 impl<K: AsBytes, V, const PREFIX_LEN: usize> CellTree<K, V, PREFIX_LEN> {
-    /// Returns the first leaf within a start bound, or the last within an end bound. If the bound
-    /// has n bytes (0 if it is unbounded) and the longest key L, it makes at most (n + 2) * (L + 1)
-    /// visits, and none if the tree has no pairs.
+    /// Returns the first leaf within a start bound, or the last within an end bound, or `None` if
+    /// there is no such leaf.
+    ///
+    /// Cost: at most (n + 2) * (L + 1) visits, if the bound has n bytes (0 if it is unbounded) and
+    /// the longest key has L bytes, and none on an empty tree.
     pub fn seek(&self, bound: Bound<&[u8]>, is_start: bool, visits: &mut Visits) -> Option<CellId>
         ensures found { result
             ≡ number_within (bytes K.bytes) self.now.pairs (bound_bytes (λ b. b) bound.entry) is_start }
@@ -53,9 +55,11 @@ impl<K: AsBytes, V, const PREFIX_LEN: usize> CellTree<K, V, PREFIX_LEN> {
         }
     }
 
-    /// Returns the first and the last leaf whose bytes begin with these. On n bytes, if the longest
-    /// key has L bytes, it makes at most (n + 3) * (L + 1) - 2 visits, and none if the tree has no
-    /// pairs.
+    /// Returns the first and the last leaf whose bytes begin with these, or `None` if there are
+    /// none.
+    ///
+    /// Cost: at most (n + 3) * (L + 1) - 2 visits, if there are n bytes and the longest key has L
+    /// bytes, and none on an empty tree.
     pub fn span(&self, front: &[u8], visits: &mut Visits) -> Option<(CellId, CellId)>
         ensures found { result ≡ ends (under (bytes K.bytes) self.now.pairs front.now) }
         ensures counted { visits.new.count + 2

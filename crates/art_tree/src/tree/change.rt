@@ -34,6 +34,9 @@ impl<K: AsBytes + Drop, V: Drop, const PREFIX_LEN: usize> Tree<K, V, PREFIX_LEN>
     }
 
     /// Drops every pair and every spare record. Does not allocate.
+    ///
+    /// Cost: drops each pair. It keeps the memory until the tree is dropped, and counts it as no
+    /// room.
     pub fn clear(&mut self)
         ensures pairs { self.new.pairs ≡ [] }
         ensures room { room self.new ≡ 0 }
@@ -43,6 +46,8 @@ impl<K: AsBytes + Drop, V: Drop, const PREFIX_LEN: usize> Tree<K, V, PREFIX_LEN>
 
     /// Makes room for `count` placements, or returns an error if it fails to allocate. The pairs
     /// are unchanged in both cases.
+    ///
+    /// Cost: allocates for `count` pairs.
     pub fn reserve(&mut self, count: usize) -> Result<(), AllocError>
         ensures pairs { self.new.pairs ≡ self.old.pairs }
         ensures grows { room self.old ≤ room self.new }
@@ -87,6 +92,8 @@ impl<K: AsBytes + Drop, V: Drop, const PREFIX_LEN: usize> Tree<K, V, PREFIX_LEN>
 
 impl<K: AsBytes, V, const PREFIX_LEN: usize> Tree<K, V, PREFIX_LEN> {
     /// Returns the key of a leaf, and a mutable reference to its value.
+    ///
+    /// Cost: reads the leaf.
     pub fn leaf_mut(&mut self, id: LeafId) -> (&K, &mut V)
         requires { Has self.old.pairs id }
         ensures* writes_back { sem 𝓛
@@ -102,6 +109,8 @@ impl<K: AsBytes, V, const PREFIX_LEN: usize> Tree<K, V, PREFIX_LEN> {
     ///
     /// `seen` is a guess of the position of the leaf. If it is right, the table that leads from ids
     /// to leaves is not read.
+    ///
+    /// Cost: reads the leaf.
     #[inline(always)]
     pub fn leaf_mut_near(&mut self, id: LeafId, seen: Position) -> (&K, &mut V)
         requires { Has self.old.pairs id }
@@ -115,6 +124,8 @@ impl<K: AsBytes, V, const PREFIX_LEN: usize> Tree<K, V, PREFIX_LEN> {
     }
 
     /// Returns a mutable reference to the value of a leaf.
+    ///
+    /// Cost: reads the leaf.
     pub fn value_mut(&mut self, id: LeafId) -> &mut V
         requires { Has self.old.pairs id }
         ensures* writes_back { sem 𝓛

@@ -46,6 +46,8 @@ impl<K: AsBytes, V, const PREFIX_LEN: usize> Tree<K, V, PREFIX_LEN> {
 impl<K: AsBytes + Drop, V: Drop, const PREFIX_LEN: usize> Tree<K, V, PREFIX_LEN> {
     /// Makes room for a placement at the point, or returns an error if it fails to allocate. The
     /// pairs are unchanged in both cases, and the point remains good.
+    ///
+    /// Cost: allocates for one pair.
     pub fn make_room(&mut self, point: &Point) -> Result<(), AllocError>
         ensures pairs { self.new.pairs ≡ self.old.pairs }
         ensures fits { OnOk result (Fits self.new point.now) }
@@ -90,8 +92,9 @@ impl<K: AsBytes + Drop, V: Drop, const PREFIX_LEN: usize> Tree<K, V, PREFIX_LEN>
     /// This is [`Tree::point`], [`Tree::make_room`] and [`Tree::place`] in one call. It reads each
     /// node once, and does not read the table of ids.
     ///
-    /// Cost: one descent. If the row at the place is full, 32 leaves move to another row, with a
-    /// descent for each whose edge was not guessed.
+    /// Cost: one descent. If no stored key is related to the key, it also allocates for one pair.
+    /// If the row at the place is full, 32 leaves move to another row, with a descent for each
+    /// whose edge was not guessed.
     pub fn add(&mut self, key: K, value: V) -> Result<Added<LeafId, K, V>, AllocError>
         ensures added { Adds K.bytes self.old self.new (key, value) result }
         ensures room { room self.old ≤ room self.new + 1 }
@@ -114,9 +117,9 @@ impl<K: AsBytes + Drop, V: Drop, const PREFIX_LEN: usize> Tree<K, V, PREFIX_LEN>
     }
 
     /// Adds a pair for which there is room, if its key is related to no stored key. Each other id
-    /// names the pair that it named. Does not allocate.
+    /// names the pair that it named.
     ///
-    /// Cost: as for [`Tree::add`].
+    /// Cost: as for [`Tree::add`], and does not allocate.
     pub fn add_within(&mut self, key: K, value: V) -> Added<LeafId, K, V>
         requires room { 0 < room self.old }
         ensures added { Adds K.bytes self.old self.new (key, value) (Ok result) }

@@ -14,8 +14,10 @@ use blart_keys::AsBytes;
 use std::ops::Bound;
 
 impl<K: AsBytes, V, const PREFIX_LEN: usize> Tree<K, V, PREFIX_LEN> {
-    /// Returns the pair with these bytes, and its leaf. On n bytes it makes at most n + 1 visits,
-    /// and none if the tree has no pairs.
+    /// Returns the pair with these bytes, and its leaf, or `None` if there is no such pair.
+    ///
+    /// Cost: at most n + 1 visits on n bytes, and none on an empty tree. It makes at least one
+    /// visit if it returns a pair.
     pub fn get(&self, query: &[u8], visits: &mut Visits) -> Option<(LeafId, &K, &V)>
         ensures found { option_map (λ f. (f.0, (f.1.now, f.2.now))) result
             ≡ at (bytes K.bytes) self.now.pairs query.now }
@@ -31,8 +33,11 @@ impl<K: AsBytes, V, const PREFIX_LEN: usize> Tree<K, V, PREFIX_LEN> {
         Some((id_of(&self.cells, found.0), found.1, found.2))
     }
 
-    /// Returns the pair whose bytes are a prefix of these, and its leaf. On n bytes it makes at
-    /// most n + 1 visits, and none if the tree has no pairs.
+    /// Returns the pair whose bytes are a prefix of these, and its leaf, or `None` if there is no
+    /// such pair.
+    ///
+    /// Cost: at most n + 1 visits on n bytes, and none on an empty tree. It makes at least one
+    /// visit if it returns a pair.
     pub fn get_front(&self, query: &[u8], visits: &mut Visits) -> Option<(LeafId, &K, &V)>
         ensures found { option_map (λ f. (f.0, (f.1.now, f.2.now))) result
             ≡ front_of (bytes K.bytes) self.now.pairs query.now }
@@ -48,8 +53,10 @@ impl<K: AsBytes, V, const PREFIX_LEN: usize> Tree<K, V, PREFIX_LEN> {
         Some((id_of(&self.cells, found.0), found.1, found.2))
     }
 
-    /// Returns the leaf with these bytes. On n bytes it makes at most n + 1 visits, and none if the
-    /// tree has no pairs.
+    /// Returns the leaf with these bytes, or `None` if there is no such leaf.
+    ///
+    /// Cost: at most n + 1 visits on n bytes, and none on an empty tree. It makes at least one
+    /// visit if it returns a leaf.
     pub fn search(&self, query: &[u8], visits: &mut Visits) -> Option<LeafId>
         ensures found { result
             ≡ option_map (λ p. p.0) (at (bytes K.bytes) self.now.pairs query.now) }
@@ -66,8 +73,10 @@ impl<K: AsBytes, V, const PREFIX_LEN: usize> Tree<K, V, PREFIX_LEN> {
         }
     }
 
-    /// Returns the leaf whose bytes are a prefix of these. On n bytes it makes at most n + 1
-    /// visits, and none if the tree has no pairs.
+    /// Returns the leaf whose bytes are a prefix of these, or `None` if there is no such leaf.
+    ///
+    /// Cost: at most n + 1 visits on n bytes, and none on an empty tree. It makes at least one
+    /// visit if it returns a leaf.
     pub fn search_front(&self, query: &[u8], visits: &mut Visits) -> Option<LeafId>
         ensures found { result
             ≡ option_map (λ p. p.0) (front_of (bytes K.bytes) self.now.pairs query.now) }
@@ -84,9 +93,11 @@ impl<K: AsBytes, V, const PREFIX_LEN: usize> Tree<K, V, PREFIX_LEN> {
         }
     }
 
-    /// Returns the first leaf within a start bound, or the last leaf within an end bound. If the
-    /// bound has n bytes (0 if it is unbounded) and the longest key has L bytes, it makes at most
-    /// (n + 2) * (L + 1) visits, and none if the tree has no pairs.
+    /// Returns the first leaf within a start bound, or the last leaf within an end bound, or `None`
+    /// if there is no such leaf.
+    ///
+    /// Cost: at most (n + 2) * (L + 1) visits, if the bound has n bytes (0 if it is unbounded) and
+    /// the longest key has L bytes, and none on an empty tree.
     pub fn seek(&self, bound: Bound<&[u8]>, is_start: bool, visits: &mut Visits) -> Option<LeafId>
         ensures found { result
             ≡ number_within (bytes K.bytes) self.now.pairs (bound_bytes (λ b. b) bound.entry)
@@ -101,9 +112,11 @@ impl<K: AsBytes, V, const PREFIX_LEN: usize> Tree<K, V, PREFIX_LEN> {
         id_of_any(&self.cells, self.cells.seek(bound, is_start, visits))
     }
 
-    /// Returns the first and the last leaf whose bytes begin with these. On n bytes, if the longest
-    /// key has L bytes, it makes at most (n + 3) * (L + 1) - 2 visits, and none if the tree has no
-    /// pairs.
+    /// Returns the first and the last leaf whose bytes begin with these, or `None` if there are
+    /// none.
+    ///
+    /// Cost: at most (n + 3) * (L + 1) - 2 visits, if there are n bytes and the longest key has L
+    /// bytes, and none on an empty tree.
     pub fn span(&self, front: &[u8], visits: &mut Visits) -> Option<(LeafId, LeafId)>
         ensures found { result ≡ ends (under (bytes K.bytes) self.now.pairs front.now) }
         ensures counted { visits.new.count + 2
