@@ -3,6 +3,8 @@
 //!
 //! A contract sees a [`CellTree`] as the list of its pairs in byte order, each under its leaf's
 //! cell, with the ids of the cells and the room for further pairs.
+//!
+//! The costs of calls are in the words of `docs/TERMS.md`.
 #![tactic(auto)]
 
 mod lists;

@@ -79,7 +79,8 @@ pub extern "C" fn art_range_page(
 
 /// Copies out the pairs from the key `from` on whose keys begin with `prefix`, like [`art_page`].
 ///
-/// Cost: as for [`art_page`].
+/// Cost: two openings, and one visit for each pair that it reads: the last one with the prefix,
+/// those that it copies out, and the next.
 #[unsafe(no_mangle)]
 pub extern "C" fn art_prefix_page(
     map: &mut ArtMap,

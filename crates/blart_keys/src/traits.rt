@@ -33,7 +33,8 @@ pub trait AsBytes {
 /// A key type in which no value's bytes are a proper prefix of another's.
 ///
 /// Two keys of such a type are related only if their bytes are equal, so no insertion of one
-/// conflicts.
+/// conflicts. These types are `u8`, byte arrays, the number keys, [`ZKey`](crate::ZKey), and
+/// references to them.
 ///
 /// ```
 /// map.insert(U32Key::new(1), 1)?;
@@ -45,7 +46,7 @@ pub trait NoPrefixesBytes: AsBytes {
     ghost no_fronts: { NoFronts Self.bytes Self.IsValue };
 }
 
-/// A key type whose order is the order of the bytes.
+/// A key type whose order is the order of the bytes. All key types of this crate are such types.
 ///
 /// ```
 /// let (a, b) = (U32Key::new(1), U32Key::new(256));

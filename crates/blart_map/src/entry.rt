@@ -48,7 +48,7 @@ impl<'a, K: AsBytes, V, const PREFIX_LEN: usize, T: 'a> Entry<'a, K, V, PREFIX_L
     /// Calls the closure on a mutable reference to the value if one is stored, and returns the
     /// entry.
     ///
-    /// Cost: reads the leaf on `Occupied`, and none on `Vacant`.
+    /// Cost: reads the leaf on `Occupied`, and nothing on `Vacant`.
     pub fn and_modify<F: FnOnce(&mut V) + Drop>(self, f: F) -> Self
         requires { (p : MutBor V) → entry_value self ≡ Some p.now → F.pre f p }
         ensures { IsModified F.FnOnce f self.entry result }

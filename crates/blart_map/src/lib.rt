@@ -3,6 +3,8 @@
 //! A contract sees a [`TreeMap`] as the list of its pairs, each under the id of its leaf. The
 //! clauses of calls speak of `pairs map`, the list without the ids. The bytes of the pairs' keys
 //! strictly ascend, and no key's bytes are a prefix of another's.
+//!
+//! The costs of calls are in the words of `docs/TERMS.md`.
 #![tactic(auto)]
 
 mod bulk;

@@ -3,6 +3,8 @@
 //! A [`TreeSet`] is a map of units. A contract sees it as the map's pairs, each under the number of
 //! its leaf. The clauses of calls use `elements set`, the list of the elements. Their bytes
 //! strictly ascend, and no element's bytes are a prefix of another's.
+//!
+//! The costs of calls are in the words of `docs/TERMS.md`.
 #![tactic(auto)]
 
 mod bulk;

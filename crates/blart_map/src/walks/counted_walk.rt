@@ -27,7 +27,7 @@ use std::marker::PhantomData;
 /// ```
 pub type IterMut<'a, K, V, const PREFIX_LEN: usize> = CountedWalk<'a, K, V, WithKeys, PREFIX_LEN>;
 
-/// All values of a map, each by a mutable reference.
+/// All values of a map, each by a mutable reference. It has no `key` and no `pair`.
 ///
 /// ```
 /// map.try_insert("cat", 1)?;
