@@ -15,7 +15,7 @@ use blart_keys::AsBytes;
 /// return an error.
 ///
 /// Cost: each call of the closure takes a step of the cursor and reads one leaf. The pair that is
-/// returned costs a removal.
+/// returned takes one descent.
 pub fn extract_first<
     K: AsBytes + Drop,
     V: Drop,

@@ -15,8 +15,8 @@ use blart_keys::AsBytes;
 /// The closure is passed by mutable reference, so its last state shows that it was not called
 /// again.
 ///
-/// Cost: each call of the closure takes a step of the cursor and reads one leaf. Each pair that is
-/// removed costs a removal.
+/// Cost: each call of the closure takes a step of the cursor and reads one leaf. Each removed pair
+/// takes one descent.
 pub fn retain_by<K: AsBytes + Drop, V: Drop, F: FnMut(&K, &mut V) -> bool, const PREFIX_LEN: usize>(
     tree: &mut Tree<K, V, PREFIX_LEN>,
     f: &mut F,

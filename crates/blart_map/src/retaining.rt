@@ -13,7 +13,7 @@ impl<K: AsBytes + Drop, V: Drop, const PREFIX_LEN: usize> TreeMap<K, V, PREFIX_L
     ///
     /// The closure is called once for each pair, in ascending order of the keys' bytes.
     ///
-    /// Cost: one read of each pair, and a removal for each removed pair. Does not allocate.
+    /// Cost: one visit for each pair, and one descent for each removed pair. Does not allocate.
     ///
     /// ```
     /// map.try_insert("cat", 1)?;
@@ -40,7 +40,7 @@ impl<K: AsBytes + Drop, V: Drop, const PREFIX_LEN: usize> TreeMap<K, V, PREFIX_L
     ///
     /// The closure is called once for each pair, in ascending order of the keys' bytes.
     ///
-    /// Cost: one read of each pair, and a removal for each removed pair. Does not allocate.
+    /// Cost: one visit for each pair, and one descent for each removed pair. Does not allocate.
     ///
     /// ```
     /// map.try_insert("cat", 1)?;

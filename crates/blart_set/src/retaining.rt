@@ -14,7 +14,7 @@ impl<K: AsBytes + Drop, const PREFIX_LEN: usize> TreeSet<K, PREFIX_LEN> {
     ///
     /// The closure is called once for each element, in ascending order of their bytes.
     ///
-    /// Cost: one read of each element, and a removal for each element that is removed. It does not
+    /// Cost: one visit for each element, and one descent for each removed element. Does not
     /// allocate.
     ///
     /// ```
@@ -36,7 +36,7 @@ impl<K: AsBytes + Drop, const PREFIX_LEN: usize> TreeSet<K, PREFIX_LEN> {
     ///
     /// The closure is called once for each element, in ascending order of their bytes.
     ///
-    /// Cost: one read of each element, and a removal for each element that is removed. It does not
+    /// Cost: one visit for each element, and one descent for each removed element. Does not
     /// allocate.
     ///
     /// ```
