@@ -4,7 +4,7 @@
 //! A contract sees a [`CellTree`] as the list of its pairs in byte order, each under its leaf's
 //! cell, with the ids of the cells and the room for further pairs.
 //!
-//! The costs of calls are in the words of `docs/TERMS.md`.
+//! The costs of calls are in the words of `docs/terms.md`.
 #![tactic(auto)]
 
 mod lists;

@@ -3,7 +3,7 @@
 //! A contract sees a [`Tree`] as the list of its pairs in byte order, each under the id of its
 //! leaf, and the room for further pairs.
 //!
-//! The costs of calls are in the words of `docs/TERMS.md`.
+//! The costs of calls are in the words of `docs/terms.md`.
 #![tactic(auto)]
 
 mod ids;

@@ -3,7 +3,7 @@
 //! A [`Cursor`] holds the first and the last leaf that are left. A contract sees a walk as the list
 //! of the pairs that are left, in byte order of the keys.
 //!
-//! The costs of calls are in the words of `docs/TERMS.md`.
+//! The costs of calls are in the words of `docs/terms.md`.
 #![tactic(auto)]
 
 mod bounded_iter;

@@ -4,7 +4,7 @@
 //! clauses of calls speak of `pairs map`, the list without the ids. The bytes of the pairs' keys
 //! strictly ascend, and no key's bytes are a prefix of another's.
 //!
-//! The costs of calls are in the words of `docs/TERMS.md`.
+//! The costs of calls are in the words of `docs/terms.md`.
 #![tactic(auto)]
 
 mod bulk;

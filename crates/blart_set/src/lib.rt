@@ -4,7 +4,7 @@
 //! its leaf. The clauses of calls use `elements set`, the list of the elements. Their bytes
 //! strictly ascend, and no element's bytes are a prefix of another's.
 //!
-//! The costs of calls are in the words of `docs/TERMS.md`.
+//! The costs of calls are in the words of `docs/terms.md`.
 #![tactic(auto)]
 
 mod bulk;
