@@ -1,4 +1,4 @@
--- What a list of pairs is, of which the store keeps each under a number.
+-- Lists of pairs, which the store keeps each under a number.
 use Rattle.std.proofs.Common.{◌≡◌, ◌≢◌, ℕ, ◌≤◌, arith, List, [], ◌∷◌, ◌++◌, refl, sym, ap, ◌∙◌, Option, Some, None, option_map, eq-eqb, ne_eqb}
 use Rattle.std.proofs.lemmas.List.{map-append}
 use Rattle.blart_keys.specs.Content.{IsContent}
@@ -33,7 +33,7 @@ module _ {K V : Type 0} where
       let r = ends (q ∷ ps) id x d.1 e (rw (ne_eqb p.0 id off) at l) in
       record { before = p ∷ r.before; is = ap (λ s. p ∷ s) r.is; lacks = (off, r.lacks) }
 
-  -- the pairs without their numbers, cut before the last
+  -- the pairs without their numbers, split before the last
   cut_last : (before : List (Numbered K V)) (id : ℕ) (x : K × V) → pairs_of (before ++ (id, x) ∷ []) ≡ pairs_of before ++ x ∷ []
   cut_last before id x = map-append (λ (p : Numbered K V). p.1) before ((id, x) ∷ [])
 
@@ -43,7 +43,7 @@ module _ {K V : Type 0} where
       let cut = ends ps id x d e l in
       (pairs_of cut.before, x.1, ap pairs_of cut.is ∙ cut_last cut.before id x)
 
-  -- it has a new value
+  -- the last pair gets a new value
   pub replaced_last : (ps : List (Numbered K V)) (id : ℕ) (old new : V) → AreDistinct ps → last_number ps ≡ Some id → option_map (λ (x : K × V). x.1) (leaf_in ps id) ≡ Some old → ReplacesLast (pairs_of ps) old new (pairs_of (with_value ps id new))
   replaced_last ps id old new d e o =
       let leaf = some_of (leaf_in ps id) (Has-last ps id e) in
@@ -61,12 +61,12 @@ module _ {K V : Type 0} where
 
   -- ---- a pair after all others
 
-  -- a pair after the last number comes at the end
+  -- a pair after the last number is at the end
   after_last : (id : ℕ) (x : K × V) (y : Numbered K V) (before : List (Numbered K V)) → Lacks before id → with_pair_after (Some id) y (before ++ (id, x) ∷ []) ≡ (before ++ (id, x) ∷ []) ++ y ∷ []
   after_last id x y [] l = rw (eq-eqb id id refl) refl
   after_last id x y (p ∷ before) l = rw (ne_eqb p.0 id l.0) (ap (λ s. p ∷ s) (after_last id x y before l.1))
 
-  -- and so it does if there are no pairs
+  -- also if there are no pairs
   at_end : (ps : List (Numbered K V)) (y : Numbered K V) → AreDistinct ps → with_pair_after (last_number ps) y ps ≡ ps ++ y ∷ []
   at_end ps y d = from (last_number ps) refl
     where
@@ -77,14 +77,14 @@ module _ {K V : Type 0} where
           let cut = ends ps id leaf.0 d e leaf.1 in
           ap (with_pair_after (Some id) y) cut.is ∙ after_last id leaf.0 y cut.before cut.lacks ∙ ap (λ l. l ++ y ∷ []) (sym cut.is)
 
-  -- and among the pairs without their numbers
+  -- also among the pairs without their numbers
   pub pushed : (ps ns : List (Numbered K V)) (n : ℕ) (x : K × V) → AreDistinct ps → ns ≡ with_pair_after (last_number ps) (n, x) ps → pairs_of ns ≡ pairs_of ps ++ x ∷ []
   pushed ps ns n x d e = ap pairs_of (e ∙ at_end ps (n, x) d) ∙ cut_last ps n x
 
 -- ---- the content
 
 module _ {K V : Type 0} (kb : K → List ℕ) where
-  -- numbered pairs are a content if their pairs are one
+  -- numbered pairs are a content if their pairs are
   pub numbered_content : (ps : List (Numbered K V)) → IsContent (pair_bytes kb) (pairs_of ps) → IsContent (bytes kb) ps
   numbered_content ps c = content_from_map (λ (p : Numbered K V). p.1) (pair_bytes kb) ps c
 

@@ -7,7 +7,7 @@ use Rattle.art_cells.proofs.CallerLemmas.{distinct_parts, AreDistinct-parts, lea
 use Rattle.art_cells.specs.Spans.{from_number, through_number, span_of, IsSpan}
 
 module _ {K V : Type 0} where
-  -- the list, cut before the pair of the first number and after that of the last
+  -- the list, split before the pair of the first number and after the pair of the last
   pub record Cut (ps : List (Numbered K V)) (first last : ℕ) (row : List (Numbered K V)) : Type 0 where
     pub before : List (Numbered K V)
     pub after : List (Numbered K V)
@@ -49,21 +49,21 @@ module _ {K V : Type 0} where
         let lacks : Lacks c.before p.0 = (distinct_parts c.before (row ++ c.after) p (subst AreDistinct is distinct)).0 in
         ap (λ l. from_number l first) is ∙ ap (λ n. from_number (c.before ++ p ∷ (row ++ c.after)) n) (sym h) ∙ from_split c.before (row ++ c.after) p.0 p.1 lacks
 
-    -- the row ends with the last pair, which stands nowhere else in it
+    -- the row ends with the last pair, which is nowhere else in it
     cut_end : (r : EndsWith row last) → (row ++ c.after ≡ r.front ++ (last, r.pair) ∷ c.after) × Lacks r.front last
     cut_end r =
         let e : row ++ c.after ≡ r.front ++ (last, r.pair) ∷ c.after = ap (λ l. l ++ c.after) r.is ∙ append_assoc r.front ((last, r.pair) ∷ []) c.after in
         let d : AreDistinct (row ++ c.after) = (AreDistinct-parts c.before (row ++ c.after) (subst AreDistinct c.is distinct)).1 in
         (e, (distinct_parts r.front c.after (last, r.pair) (subst AreDistinct e d)).0)
 
-    -- the pairs from its first number through its last
+    -- the pairs from the first number through the last are the row
     pub cut_span : span_of ps first last ≡ row
     cut_span =
         let r = ends_with row last c.last_is in
         let e = cut_end r in
         ap (λ l. through_number l last) (cut_from row c.first_is c.is ∙ e.0) ∙ through_split r.front c.after last r.pair e.1 ∙ sym r.is
 
-    -- its first number is not after its last
+    -- the first number is not after the last
     pub cut_is_span : IsSpan ps first last
     cut_is_span =
         let r = ends_with row last c.last_is in
@@ -93,12 +93,12 @@ module _ {K V : Type 0} where
       ends_at (p ∷ []) last x = refl
       ends_at (p ∷ q ∷ front) last x = ends_at (q ∷ front) last x
 
-  -- a list through a number begins as the list does
+  -- the pairs through a number begin with the list's first pair
   through_first : (ps : List (Numbered K V)) (last : ℕ) → first_number (through_number ps last) ≡ first_number ps
   through_first [] last = refl
   through_first (p ∷ ps) last = refl
 
-  -- where a list has a number after a first one, it has the first
+  -- if a list has a number that is not before a first one, it has the first one
   first_there : (ps : List (Numbered K V)) (first last : ℕ) → IsSpan ps first last → Has ps first
   first_there [] first last h = absurd (let f : false ≡ true = h in cc)
   first_there (p ∷ ps) first last h = elim (eqb_tells p.0 first) [

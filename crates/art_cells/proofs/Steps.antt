@@ -1,4 +1,4 @@
--- What is left of a list between two ends after its first pair, and before its last.
+-- What remains of a list between two ends after its first pair is passed, or its last.
 use Rattle.std.proofs.Common.{◌≡◌, ◌≢◌, ℕ, ◌+◌, ◌<◌, List, [], ◌∷◌, ◌++◌, length, Option, Some, None, option_map, inl, inr, refl, sym, ap, ◌∙◌, subst, append_assoc, arith, length-append}
 use Rattle.std.specs.Option.{option_or}
 use Rattle.std.proofs.lemmas.Bool.Decides.{eqb_tells}
@@ -38,7 +38,7 @@ module _ {K V : Type 0} where
       pub first_pair : leaf_in ps first ≡ Some x
       first_pair = ap (λ l. leaf_in l first) front_is ∙ leaf_in-split first x (rest ++ c.after) c.before front_lacks.0
 
-      -- if the ends are the same, nothing else is left
+      -- if the ends are the same, no other pair is left
       pub first_alone : first ≡ last → rest ≡ []
       first_alone e = go rest is
         where
@@ -50,7 +50,7 @@ module _ {K V : Type 0} where
               let p = (AreDistinct-parts ((first, x) ∷ q ∷ r) c.after d).0 in
               absurd (has_other (q ∷ r) last first (Has-last (q ∷ r) last l) p.0 (sym e))
 
-      -- if they differ, the rest begins with the next one
+      -- if they differ, the rest begins with the next pair
       pub first_more : (n : Option ℕ) → first ≢ last → n ≡ number_after ps first → (m : ℕ) × (n ≡ Some m) × Cut ps m last rest
       first_more n ne e = go rest is
         where
@@ -90,7 +90,7 @@ module _ {K V : Type 0} where
       front_distinct : AreDistinct (front ++ (last, x) ∷ [])
       front_distinct = subst AreDistinct is (AreDistinct-parts row c.after row_distinct).0
 
-      -- if the ends are the same, nothing else is left
+      -- if the ends are the same, no other pair is left
       pub last_alone : first ≡ last → front ≡ []
       last_alone e = go front is front_distinct
         where
@@ -100,7 +100,7 @@ module _ {K V : Type 0} where
               let f : q.0 ≡ first = (let h : Some q.0 ≡ Some first = ap first_number (sym i) ∙ c.first_is in cc) in
               absurd ((Lacks-parts r [] (last, x) q.0 d.0).1 (sym (f ∙ e)))
 
-      -- if they differ, the rest ends with the one before
+      -- if they differ, the rest ends with the pair before the last
       pub last_more : (n : Option ℕ) → first ≢ last → n ≡ number_before ps last → (m : ℕ) × (n ≡ Some m) × Cut ps first m front
       last_more n ne e = go front is (e ∙ number_back)
         where
@@ -123,7 +123,7 @@ module _ {K V : Type 0} where
                 },
               )
 
-  -- ---- what is left between two ends
+  -- ---- the pairs left between two ends
 
   module _ (ps : List (Numbered K V)) (distinct : AreDistinct ps) (ends : Option (ℕ × ℕ)) (e : ℕ × ℕ) (was : ends ≡ Some e) (fits : EndsFit ends ps) where
     is_span : IsSpan ps e.0 e.1
@@ -145,11 +145,11 @@ module _ {K V : Type 0} where
         is_some (leaf_in ps e.1) b.pair (last_pair ps distinct e.0 e.1 (span_of ps e.0 e.1) cut b.pair b.front b.is)
 
     module _ (ends' : Option (ℕ × ℕ)) (x : K × V) where
-      -- without ends nothing is left
+      -- without ends, no pair is left
       none_left : ends' ≡ None → (more : List (Numbered K V) → List (Numbered K V)) → span_of ps e.0 e.1 ≡ more [] → EndsFit ends' ps × (ends_left ends ps ≡ more (ends_left ends' ps))
       none_left n more is = (subst (λ (o : Option (ℕ × ℕ)). EndsFit o ps) (sym n) tt, ap (λ o. ends_left o ps) was ∙ is ∙ ap more (sym (ap (λ o. ends_left o ps) n)))
 
-      -- with two ends the pairs between them are left
+      -- with two ends, the pairs between them are left
       some_left : (f l : ℕ) → ends' ≡ Some ((f, l)) → (row : List (Numbered K V)) → Cut ps f l row → (more : List (Numbered K V) → List (Numbered K V)) → span_of ps e.0 e.1 ≡ more row
           → EndsFit ends' ps × (ends_left ends ps ≡ more (ends_left ends' ps))
       some_left f l s row c more is = (
@@ -157,7 +157,7 @@ module _ {K V : Type 0} where
         ap (λ o. ends_left o ps) was ∙ is ∙ ap more (sym (ap (λ o. ends_left o ps) s ∙ cut_span ps distinct f l row c)),
       )
 
-      -- after the first pair the others are left
+      -- after the first pair is passed, the others are left
       pub passed_first : (n : Option ℕ) → leaf_in ps e.0 ≡ Some x → n ≡ number_after ps e.0
           → (e.0 ≡ e.1 → ends' ≡ None) → (e.0 ≢ e.1 → ends' ≡ option_map (λ m. (m, e.1)) n)
           → EndsFit ends' ps × (ends_left ends ps ≡ (e.0, x) ∷ ends_left ends' ps)
@@ -172,7 +172,7 @@ module _ {K V : Type 0} where
                 some_left m.0 e.1 (two t.1 ∙ ap (option_map (λ m. (m, e.1))) m.1) b.rest m.2 (λ l. (e.0, x) ∷ l) is
           ]
 
-      -- before the last pair the others are left
+      -- after the last pair is passed, the others are left
       pub passed_last : (n : Option ℕ) → leaf_in ps e.1 ≡ Some x → n ≡ number_before ps e.1
           → (e.0 ≡ e.1 → ends' ≡ None) → (e.0 ≢ e.1 → ends' ≡ option_map (λ m. (e.0, m)) n)
           → EndsFit ends' ps × (ends_left ends ps ≡ ends_left ends' ps ++ (e.1, x) ∷ [])

@@ -5,7 +5,7 @@ use Rattle.art_cells.specs.Leaves.{Numbered}
 use Rattle.art_cells.specs.declared.tree.point.CellPoint.{CellPoint}
 use Rattle.art_cells.specs.declared.tree.point.CellPoint.TheVariants.{Empty, Exact, Related, Free}
 
--- for how many placements there surely is room among the leaves, and among the inner nodes
+-- the number of placements for which there surely is room among leaves, and among inner nodes
 pub record Spares : Type 0 where
   pub leaves : ℕ
   pub nodes : ℕ
@@ -26,7 +26,7 @@ content_code {K} {V} k v =
     (λ _. refl)
 
 module _ {K V : Type 0} where
-  -- how many placements surely succeed
+  -- the number of placements that surely succeed
   abbrev pub room : Content K V → ℕ
   room t = min t.spares.leaves t.spares.nodes
 

@@ -2,9 +2,9 @@
 use Rattle.std.specs.Prelude.{ℕ, List, option_map, Option}
 -- the definitions on lists of numbered pairs
 pub use Rattle.art_rows.specs.Numbers.{leaf_in, Has, first_number, last_number, number_after, number_before, number_before_from, next_number, with_pair_after, without_number, with_number, with_pair, Lacks, AreDistinct, OthersStand}
--- the leaves, with the rows of their numbers and the spare rows
+-- the leaves, with the rows of their numbers, and the number of spare rows
 pub use Rattle.art_rows.specs.Leaves.{Leaves, with_value, room, end_room}
--- a position that is not known, and what comes beside a leaf in its row
+-- a position that is not known, and what is beside a leaf in its row
 pub use Rattle.art_rows.specs.declared.following.Following.{Following}
 pub use Rattle.art_rows.specs.Rows.{nowhere, RunsBefore, StandsAfter}
 

@@ -2,7 +2,7 @@
 use Rattle.std.specs.Prelude.{◌≡◌, ℕ, List, [], ◌∷◌, ◌++◌, Option, Some, None, refl}
 use Rattle.std.specs.Coded.{Coded, code_by, coded×, coded_ℕ, coded_list}
 
--- the pairs in their order, and for how many more there is room at the end
+-- the pairs in their order, and the number of further pairs for which there is room at the end
 pub record PairList (K V : Type 0) : Type 0 where
   pub pairs : List (K × V)
   pub end_room : ℕ

@@ -14,7 +14,7 @@ module _ {K V : Type 0} (key_bytes : K → List ℕ) (pairs : List (Numbered K V
     pub beside : IsBeside (keys_in key_bytes pairs) q place.beside
     pub same : neighbour place.beside ≡ place.nearest
 
-  -- the point says where q is in the pairs, or where it would go
+  -- the point says where q is in the pairs, or where it would be placed
   abbrev pub IsGood : CellPoint → List ℕ → Type 0
   IsGood Empty q = pairs ≡ []
   IsGood (Exact id) q = (x : K × V) × (at (bytes key_bytes) pairs q ≡ Some (id, x))

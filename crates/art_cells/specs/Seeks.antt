@@ -5,7 +5,7 @@ use Rattle.std.specs.declared.ops.Bound.TheVariants.{Included, Excluded, Unbound
 use Rattle.blart_keys.specs.Content.{between}
 use Rattle.art_cells.specs.Leaves.{Numbered, first_number, last_number}
 
--- how many bytes a bound has
+-- the number of bytes of a bound
 abbrev pub bound_len : Bound (List ℕ) → ℕ
 bound_len (Included b) = length b
 bound_len (Excluded b) = length b

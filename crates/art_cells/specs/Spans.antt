@@ -3,12 +3,12 @@ use Rattle.std.specs.Prelude.{◌≢◌, ℕ, List, [], ◌∷◌, Option, Some,
 use Rattle.art_cells.specs.Leaves.{Following, Numbered, Has, RunsBefore, StandsAfter}
 
 module _ {K V : Type 0} where
-  -- the pairs from that of a number on
+  -- the pairs from the pair with this number on
   abbrev pub from_number : List (Numbered K V) → ℕ → List (Numbered K V)
   from_number [] i = []
   from_number (p ∷ ps) i = if eqb p.0 i then p ∷ ps else from_number ps i
 
-  -- the pairs through that of a number
+  -- the pairs up to the pair with this number, and that pair
   abbrev pub through_number : List (Numbered K V) → ℕ → List (Numbered K V)
   through_number [] i = []
   through_number (p ∷ ps) i = p ∷ (if eqb p.0 i then [] else through_number ps i)
@@ -31,7 +31,7 @@ module _ {K V : Type 0} where
   EndsFit None ps = Unit {0}
   EndsFit (Some e) ps = IsSpan ps e.0 e.1
 
-  -- this follows the first end, if that is not the last, and this run is directly before the last
+  -- `before` is directly before the last end; `following` directly after the first, if they differ
   abbrev pub StandsBeside : Option (ℕ × ℕ) → Following → List ℕ → List (Numbered K V) → List (ℕ × List ℕ) → Type 0
   StandsBeside None following before ps rows = Unit {0}
   StandsBeside (Some e) following before ps rows = (e.0 ≢ e.1 → StandsAfter ps rows e.0 following) × RunsBefore ps e.1 before

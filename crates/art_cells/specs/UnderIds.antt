@@ -3,7 +3,7 @@ use Rattle.std.specs.Prelude.{◌≡◌, ◌<◌, ℕ, List, length, map}
 pub use Rattle.art_rows.specs.Ids.{id_at, Extends}
 use Rattle.art_cells.specs.Leaves.{Numbered, leaf_in, Has}
 
--- each cell with a leaf has an id, and no two cells have the same
+-- each cell with a leaf has an id, and no two cells have the same id
 pub record AreNamed {K V : Type 0} (ids : List ℕ) (ps : List (Numbered K V)) : Type 0 where
   pub named : (i : ℕ) → Has ps i → i < length ids
   pub apart : (c d : ℕ) → c < length ids → d < length ids → id_at ids c ≡ id_at ids d → c ≡ d

@@ -1,4 +1,4 @@
--- What the steps ask and give by which the nodes below an edge are freed.
+-- What the calls that free the nodes below an edge require and ensure.
 use Rattle.std.proofs.Common.{◌≡◌, ◌≢◌, ℕ, ◌+◌, ◌-◌, ◌*◌, ◌^◌, ◌<◌, List, Bool, true, false, refl, ap, arith, sym, subst, Option, Some, None, IsSome, is_some, ◌∙◌, inl, inr}
 use Rattle.std.proofs.lemmas.Bool.{cases_lt}
 use Rattle.art_kinds.specs.Nodes.{Node, Nodes, Redirects, Frees, at, live}
@@ -10,7 +10,7 @@ use Rattle.art_cells.proofs.Invariant.Rotating.{child_rotated, rotated_deeper, h
 use Rattle.art_cells.proofs.Ways.Depths.{depth_of}
 use Rattle.blart_keys.proofs.Options.{is_some as has_some}
 
--- an option that is not none, and one that is
+-- an option that is some edge is not none
 pub some_edge : (o : Option Edge) → is_some o ≡ true → o ≢ None
 some_edge None e = absurd cc
 some_edge (Some x) e = λ z. cc
@@ -20,16 +20,16 @@ no_edge None e = refl
 no_edge (Some x) e = absurd cc
 
 module _ (es : List Edge) (b : ℕ) where
-  -- after the last edge of all there is no node
+  -- after the last edge, no edge leads to a node
   pub none_after_last : (d x : ℕ) → IsNext es b None → b < d → child_at es d ≡ Some (Inner x) → ⊥
   none_after_last d x next lt e = let z : None ≡ Some (Inner x) = sym (next d lt) ∙ e in cc
 
-  -- an edge that has one after it is not the last
+  -- an edge with another after it is not the last
   pub not_last : (o : Option Edge) → IsNext es b o → o ≢ None → IsNotLast es b
   not_last None next off = absurd (off refl)
   not_last (Some e) next off = (e.byte, next.0, has_some (child_at es e.byte) e.to next.1)
 
-  -- the first edge to a node, where it is the last of all, is the only one
+  -- if the first edge to a node is the last edge, it is the only one to a node
   pub only_node : (x0 : ℕ) → IsFirstNode es (Some (b, x0)) → IsNext es b None → (d x : ℕ) → child_at es d ≡ Some (Inner x) → d ≡ b
   only_node x0 first next d x e = elim (cases_lt d b) [
     | inl lt ↦ absurd (first.1 d x lt e)
@@ -40,7 +40,7 @@ module _ (es : List Edge) (b : ℕ) where
   ]
 
 module _ (goes : ℕ → Bool) (before nodes : ℕ → Option Node) (head : ℕ) (s : Loose goes before nodes head) (b below : ℕ) (leads : LeadsIn nodes head b below) where
-  -- the node below stands, is to go, and is another
+  -- the node below is live, is to be freed, and is another node
   pub below_live : IsSome (nodes below)
   below_live = (s.down head b below s.own leads).0
 
@@ -68,7 +68,7 @@ module _ (goes : ℕ → Bool) (before nodes : ℕ → Option Node) (head : ℕ)
     last : (d : ℕ) → e.byte < d → child_at raises.was.edges d ≡ None
     last d lt = ap (λ (y : Node). child_at y.edges d) was_below ∙ end.end d lt
 
-    -- the node below is turned above the head
+    -- the node below is rotated above the head
     pub loose_rotated : Loose goes before nodes' below
     loose_rotated = child_rotated goes before nodes nodes' head s mid b below e.byte e.to turns raises high (has_next turns.was turns.was_is) low last
 
@@ -84,15 +84,15 @@ module _ (goes : ℕ → Bool) (before nodes : ℕ → Option Node) (head : ℕ)
           omega arith;
     }
 
-  -- the head goes, and the node below is all that is left of its edges
+  -- the head is freed, if only its last edge leads to a node, which is the node below
   pub loose_gone : (nodes' : ℕ → Option Node) → (f : HasFirstNode nodes head (Some (b, below))) → IsNext f.node.edges b None → Frees nodes nodes' head → Loose goes before nodes' below
   loose_gone nodes' f next frees = head_gone goes before nodes nodes' head s b below f.node f.is f.first.0 (only_node f.node.edges b below f.first next) frees
 
--- how much is left to do where the nodes below one are to go
+-- a measure of the steps that are left, if the nodes below n are to be freed
 abbrev pub left : Nodes → ℕ → ℕ
 left nodes n = live nodes * (2 ^ 64 + 1) + (2 ^ 64 - depth_of (at nodes n))
 
--- where no edge of a node leads to a node, none does
+-- if a node has no first edge to a node, no edge of it leads to a node
 pub none_below : (nodes : ℕ → Option Node) (n : ℕ) (o : Option (ℕ × ℕ)) → HasFirstNode nodes n o → o ≡ None → (y : Node) (b x : ℕ) → nodes n ≡ Some y → child_at y.edges b ≡ Some (Inner x) → ⊥
 none_below nodes n o h none y b x is there =
     let f : IsFirstNode h.node.edges None = subst (λ (o : Option (ℕ × ℕ)). IsFirstNode h.node.edges o) none h.first in

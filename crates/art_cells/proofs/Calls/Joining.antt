@@ -27,13 +27,13 @@ use Rattle.art_cells.proofs.Calls.PlacedShapes.{along_key, nearest_long, placed_
 use Rattle.art_cells.proofs.Invariant.Prefixes.{start_is, cut_front, cuts_after, cut_leads}
 use Rattle.art_cells.proofs.Invariant.SmallShapes.{unrelated}
 
--- an edge leads to what it was turned to
+-- a redirected edge leads to its new child
 pub leads_turned : (old new : ℕ → Option Node) (root root' : Option Child) (above : Option (ℕ × ℕ)) (c : Child) → TurnsTo old new root root' above c → LeadsTo new root' above c
 leads_turned old new root root' None c t = t.1
 leads_turned old new root root' (Some e) c t = (t.0.is, t.0.is_is, t.0.now)
 
 module _ {P : ℕ} (keys : ℕ → Option Bytes) (nodes : ℕ → Option Node) (root : Option Child) (s : Shape P keys nodes root) where
-  -- no key is related to one that departs from all
+  -- no key is related to a key that departs from all others
   pub departs_unrelated : (t q : Bytes) → Departs keys t q → (j : ℕ) (k : Bytes) → keys j ≡ Some k → related k q ≡ false
   departs_unrelated t q d j k e = false_from_ne_true (related k q) (λ rel.
       elim (related_cases k q rel) [
@@ -55,11 +55,11 @@ module _ {P : ℕ} (keys : ℕ → Option Bytes) (nodes : ℕ → Option Node) (
         | inr b ↦ d.alone j k e (Begins-trans (t ++ next_byte t q ∷ []) q k (Begins-more t q d.front d.longer) b)
       ])
 
-  -- nor to one that leaves the key nearest to it
+  -- nor to a key that leaves the nearest key
   pub leaving_unrelated : (nearest depth : ℕ) (q : Bytes) → LeavesNearest keys nearest depth q → (j : ℕ) (k : Bytes) → keys j ≡ Some k → related k q ≡ false
   leaving_unrelated nearest depth q good = departs_unrelated (take depth q) q (departs_at keys nearest depth q good)
 
-  -- a child on the way of a key, past a length, is no deeper than the key is long
+  -- a child along a key, past a length, is no deeper than the key is long
   pub within_key : (m : Bytes) (depth : ℕ) (above : Option (ℕ × ℕ)) (c : Child) (leaf : ℕ) → keys leaf ≡ Some m → EdgeFits nodes root s.front_of m depth above c → PastLength s.front_of depth c → DepthWithin nodes c (depth + 1) (length m)
   within_key m depth above (Leaf i) leaf is fits past = tt
   within_key m depth above (Inner n) leaf is fits past =
@@ -72,7 +72,7 @@ module _ {P : ℕ} (keys : ℕ → Option Bytes) (nodes : ℕ → Option Node) (
       (x.0, x.1, omega arith, omega arith)
 
 module _ (keys : ℕ → Option Bytes) (leaf depth : ℕ) (q : Bytes) (good : LeavesNearest keys leaf depth q) (m : Bytes) (m_is : keys leaf ≡ Some m) where
-  -- where a key leaves the others at a node, the node has no edge at the key's byte, also under another number
+  -- if a key leaves the others at a node, the node, also once moved, has no edge at the key's byte
   pub wide_absent : {P : ℕ} → (nodes mid wide : ℕ → Option Node) (root root' : Option Child) (n n' : ℕ) (above : Option (ℕ × ℕ)) (s : Shape P keys nodes root) → s.front_of n ≡ take depth m
       → Renames nodes mid n n' → LeadsTo nodes root above (Inner n) → TurnsTo mid wide root root' above (Inner n') → IsSomeAnd (wide n') (λ x. child_at x.edges (get_or q depth 0) ≡ None)
   wide_absent nodes mid wide root root' n n' above s stands ren leads turns =
@@ -96,7 +96,7 @@ module _ (keys : ℕ → Option Bytes) (leaf depth : ℕ) (q : Bytes) (good : Le
         let k : length (take depth m) ≡ depth = length-take-le depth m (omega arith) in
         omega arith
 
-    -- so the node above it is less deep
+    -- so the node of the edge is less deep
     pub over_edge : (end : ℕ) → depth ≤ end → EndsBelow nodes above end
     over_edge end le = go above fits.leads edge_within
       where
@@ -107,11 +107,11 @@ module _ (keys : ℕ → Option Bytes) (leaf depth : ℕ) (q : Bytes) (good : Le
             let k : length (s.front_of e.0 ++ e.1 ∷ []) ≡ length (s.front_of e.0) + 1 = length-append (s.front_of e.0) (e.1 ∷ []) in
             (l.0, l.1, omega arith)
 
-    -- and what stands below the edge begins within the depth
+    -- and the bytes below the edge begin within the depth
     pub starts_over : (start : ℕ) → StartsBelow nodes above start → start ≤ depth
     starts_over start h = let e : start ≡ length (edge_front s.front_of above) = start_is keys nodes root s above start h in let w : length (edge_front s.front_of above) ≤ depth = edge_within in omega arith
 
-    -- a node there keeps what the nearest key has after the edge's front
+    -- a node below the edge keeps the bytes that the nearest key has after the edge's front
     pub keeps_from : (start : ℕ) → StartsBelow nodes above start → KeepsFrom P nodes c m start
     keeps_from start h = go c refl
       where
@@ -128,7 +128,7 @@ module _ (keys : ℕ → Option Bytes) (leaf depth : ℕ) (q : Bytes) (good : Le
             s.keeps above n x leads is ∙ sym (cut_front P m (edge_front s.front_of above) (s.front_of n) start x.depth b at w (omega arith))
 
     module _ (cut : ℕ → Option Node) (cuts : Cuts nodes cut c (λ end. take P (slice_range m (depth + 1) end))) where
-      -- the child keeps what its front has after the new node's edge
+      -- the child keeps the bytes that its front has after the new node's edge
       pub cut_child : CutsAfter P nodes cut s.front_of (take depth m ++ get_or m depth 0 ∷ []) c
       cut_child =
           let far : depth < length m = nearest_long keys leaf depth q good m m_is in
@@ -141,7 +141,7 @@ module _ (keys : ℕ → Option Bytes) (leaf depth : ℕ) (q : Bytes) (good : Le
           let w : x.depth ≡ length (s.front_of n) = (s.node n x is).depth in
           (v.only leaf m m_is (Begins-trans (edge_front s.front_of above) (take depth m) m fits.along (Begins-take depth m)), w, omega arith)) cuts
 
-      -- the edge stands when the node that splits it was made
+      -- the edge leads to the child when the node that splits the edge was made
       pub leads_forked : (mid : ℕ → Option Node) (n : ℕ) (prefix : List ℕ) (one other : Edge) → Forks cut mid n depth prefix one other → LeadsTo mid root above c
       leads_forked mid n prefix one other f = leads_made cut mid root above c n depth prefix f.low f.high (cut_leads P nodes cut s.front_of (take depth m ++ get_or m depth 0 ∷ []) c cut_child root above c fits.leads) f.made
 
@@ -154,7 +154,7 @@ module _ (keys : ℕ → Option Bytes) (leaf depth : ℕ) (q : Bytes) (good : Le
           placed_edge keys leaf depth q good m m_is keys' i gains nodes cut mid new root root' above c n (take P (slice_range q start depth)) f.low f.high s fits past cut_child f.made
           (cut_front P q (edge_front s.front_of above) (take depth q) start depth (Begins-take depth q) (start_is keys nodes root s above start starts) (sym deep) (starts_over start starts)) f.sorted f.both turns
 
--- a node that has a place for an edge more has one where the edge above it is led to it
+-- a node with a place for one more edge still has it once the edge above it is redirected
 pub place_led : (old new : Nodes) (root root' : Option Child) (above : Option (ℕ × ℕ)) (to : Child) (n : ℕ) → TurnsTo (at old) (at new) root root' above to → HasPlace old n → HasPlace new n
 place_led old new root root' None to n turns place x is l = place x (sym (turns.0 n) ∙ is) l
 place_led old new root root' (Some e) to n turns place x is l = elim (cases_eq n e.0) [

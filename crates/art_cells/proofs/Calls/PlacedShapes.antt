@@ -1,4 +1,4 @@
--- A leaf placed where its key leaves the nearest one.
+-- A leaf is placed at the spot at which its key leaves the nearest one.
 use Rattle.std.proofs.Common.{◌≡◌, ◌≢◌, ℕ, ◌<◌, List, [], ◌∷◌, ◌++◌, length, take, drop, get_or, refl, ap, arith, sym, subst, Option, Some, ◌∙◌, eqb, eq-eqb, true}
 use Rattle.std.proofs.lemmas.List.{length-take-le}
 use Rattle.art_cells.specs.Invariant.EdgesAbove.{LeadsTo, TurnsTo, edge_front}
@@ -25,11 +25,11 @@ module _ (keys : ℕ → Option Bytes) (nearest depth : ℕ) (q : Bytes) (good :
   pub along_key : take depth m ≡ take depth q
   along_key = ap (λ (m : Bytes). take depth m) nearest_same ∙ good.along
 
-  -- both are longer
+  -- both keys are longer
   pub nearest_long : depth < length m
   nearest_long = let l : depth < length good.nearest_key = good.nearest_longer in let e : length m ≡ length good.nearest_key = ap (λ (m : Bytes). length m) nearest_same in omega arith
 
-  -- they go on by different bytes
+  -- their next bytes differ
   pub bytes_apart : get_or q depth 0 ≢ get_or m depth 0
   bytes_apart e =
       let d : Departs keys (take depth q) q = departs_at keys nearest depth q good in
@@ -46,11 +46,11 @@ module _ (keys : ℕ → Option Bytes) (nearest depth : ℕ) (q : Bytes) (good :
       next_here : get_or q depth 0 ≡ next_byte (s.front_of n) q
       next_here = sym (next_at keys nearest depth q good) ∙ ap (λ (t : Bytes). next_byte t q) (sym (stands ∙ along_key))
 
-      -- the leaf at the node
+      -- the leaf is added at the node
       pub placed_node : (nodes' : ℕ → Option Node) → AddsEdgeTo nodes nodes' n (get_or q depth 0) (Leaf i) → Shape P keys' nodes' root
       placed_node nodes' adds = leaf_added keys keys' nodes nodes' root n (get_or q depth 0) i q s gains departs_here next_here adds
 
-    -- the leaf at a node that went to another number first
+    -- the leaf is added at a node that was first moved to another number
     pub placed_wide : {P : ℕ} → (nodes mid wide nodes' : ℕ → Option Node) (root root' : Option Child) (n n' : ℕ) (above : Option (ℕ × ℕ)) (s : Shape P keys nodes root) → s.front_of n ≡ take depth m
         → Renames nodes mid n n' → LeadsTo nodes root above (Inner n) → TurnsTo mid wide root root' above (Inner n') → AddsEdgeTo wide nodes' n' (get_or q depth 0) (Leaf i) → Shape P keys' nodes' root'
     placed_wide nodes mid wide nodes' root root' n n' above s stands ren leads turns adds =
@@ -59,7 +59,7 @@ module _ (keys : ℕ → Option Bytes) (nearest depth : ℕ) (q : Bytes) (good :
         let f : w.0.front_of n' ≡ s.front_of n = w.1 n' ∙ rw e refl in
         placed_node wide root' w.0 n' (f ∙ stands) nodes' adds
 
-    -- the leaf at an edge, under a new node
+    -- the leaf is added at an edge, under a new node
     pub placed_edge : {P : ℕ} → (nodes cut mid new : ℕ → Option Node) (root root' : Option Child) (above : Option (ℕ × ℕ)) (c : Child) (n : ℕ) (prefix : List ℕ) (low high : Edge) (s : Shape P keys nodes root)
         → EdgeFits nodes root s.front_of m depth above c → PastLength s.front_of depth c → CutsAfter P nodes cut s.front_of (take depth m ++ get_or m depth 0 ∷ []) c → Makes cut mid n depth prefix low high
         → prefix ≡ take P (drop (length (edge_front s.front_of above)) (take depth q)) → low.byte < high.byte → HoldBoth low high (get_or q depth 0) i (get_or m depth 0) c → TurnsTo mid new root root' above (Inner n) → Shape P keys' new root'

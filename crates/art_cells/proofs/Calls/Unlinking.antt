@@ -1,4 +1,4 @@
--- A leaf leaves the tree: what the changes to its node and the edge above keep.
+-- A leaf is removed: the tree after the changes to the leaf's node and to the edge above.
 use Rattle.std.proofs.Common.{ap, refl, zero, suc, append_assoc, ◌≡◌, ◌≢◌, ℕ, ◌<◌, ◌≤◌, List, [], ◌∷◌, ◌++◌, length, take, drop, arith, sym, Option, Some, None, IsSome, ◌∙◌, inl, inr}
 use Rattle.std.proofs.lemmas.List.{take-take, take-append-drop, drop-append-le}
 use Rattle.std.proofs.lemmas.Bool.{cases_lt}
@@ -20,7 +20,7 @@ use Rattle.art_cells.proofs.Invariant.OneEdge.{not_itself, kept_mid, node_moved}
 use Rattle.blart_keys.proofs.Options.{some_of, not_some}
 use Rattle.art_cells.proofs.Pairs.Keys.{key_of_pair}
 
--- a node has two edges
+-- each node has more than one edge
 pub no_lone_edge : {P : ℕ} → (keys : ℕ → Option Bytes) (nodes : ℕ → Option Node) (root : Option Child) (s : Shape P keys nodes root) (n b : ℕ) (x : Node) → nodes n ≡ Some x
     → ((c : ℕ) → b < c → child_at x.edges c ≡ None) → ((c : ℕ) → c < b → child_at x.edges c ≡ None) → ⊥
 no_lone_edge keys nodes root s n b x is above below =
@@ -39,27 +39,27 @@ no_lone_edge keys nodes root s n b x is above below =
 -- ---- a node loses the edge to the leaf
 
 module _ (keys : ℕ → Option Bytes) (nodes mid wide : ℕ → Option Node) (root : Option Child) (above : Option (ℕ × ℕ)) (n m b i : ℕ) (drops : DropsEdge nodes mid n b) (ren : Renames mid wide n m) where
-  -- the edge above leads to the old number still
+  -- the edge above still leads to the old number
   pub leads_dropped : {P : ℕ} → (above : Option (ℕ × ℕ)) → Shape P keys nodes root → LeadsTo nodes root above (Inner n) → LeadsTo mid root above (Inner n)
   leads_dropped None s l = l
   leads_dropped (Some (p, c)) s l = (l.0, drops.others p (not_itself keys nodes root s p c n l.0 l.1 l.2) ∙ l.1, l.2)
 
-  -- and where the node has gone to another
+  -- also after the node was moved to another number
   pub leads_narrowed : {P : ℕ} → (above : Option (ℕ × ℕ)) → Shape P keys nodes root → LeadsTo nodes root above (Inner n) → LeadsTo wide root above (Inner n)
   leads_narrowed None s l = l
   leads_narrowed (Some (p, c)) s l =
       let off : p ≢ n = not_itself keys nodes root s p c n l.0 l.1 l.2 in
       (l.0, kept_mid mid wide n m p l.0 ren (drops.others p off ∙ l.1) off, l.2)
 
-  -- the tree without the leaf, where the edge above leads to the node's number
+  -- the tree without the leaf, if the edge above leads to the node's number
   pub shape_shrunk : {P : ℕ} → (keys' : ℕ → Option Bytes) (new : ℕ → Option Node) (root' : Option Child) (h : IsLeafOf P keys nodes root above n b i) → 2 < length h.node.edges → Loses keys keys' i h.key → TurnsTo wide new root root' above (Inner m) → Shape P keys' new root'
   shape_shrunk keys' new root' h more loses turns =
       let s1 : Shape _ keys' mid root = shape_dropped keys keys' nodes root n i b h.key h.shape loses h.node h.is h.low mid drops more in
       (node_moved keys' mid wide new root root' n m above s1 ren (leads_dropped above h.shape h.leads) turns).0
 
--- ---- what the steps of a removal ask
+-- ---- what the steps of a removal require
 
--- two edges are two
+-- edges at two bytes are two edges
 pub two_children : (es : List Edge) (b b1 : ℕ) (c d : Child) → child_at es b ≡ Some c → child_at es b1 ≡ Some d → b ≢ b1 → 2 ≤ length es
 two_children [] b b1 c d e f off = absurd cc
 two_children (x ∷ []) b b1 c d e f off =
@@ -72,16 +72,16 @@ two_children (x ∷ []) b b1 c d e f off =
     ]
 two_children (x ∷ y ∷ es) b b1 c d e f off = omega arith
 
--- one leaf loses one key
+-- a leaf has only one key to lose
 pub loses_same : (old new : ℕ → Option Bytes) (i : ℕ) (k k' : Bytes) → Loses old new i k → old i ≡ Some k' → Loses old new i k'
 loses_same old new i k k' l e = record { was = e; gone = l.gone; others = l.others }
 
 module _ {P : ℕ} (keys : ℕ → Option Bytes) (nodes : ℕ → Option Node) (root : Option Child) (s : Shape P keys nodes root) where
-  -- the child of another edge hangs below the edge to the node
+  -- the child of another edge is below the edge to the node
   abbrev pub child_below_edge : (above : Option (ℕ × ℕ)) (n b : ℕ) (e : Edge) → LeadsTo nodes root above (Inner n) → OtherEdge nodes n b e → IsChildBelow P keys nodes above n e
   child_below_edge above n b e leads other = record { root = root; shape = s; leads = leads; node = other.node; is = other.is; there = other.there }
 
--- a leaf's key and the two edges
+-- a leaf's key, its edge, and the edge above
 abbrev pub leaf_at_node : {P : ℕ} → {K V : Type 0} (key_bytes : K → Bytes) (pairs : List (Numbered K V)) (nodes : ℕ → Option Node) (root : Option Child) (s : Shape P (keys_in key_bytes pairs) nodes root) (i : ℕ) → Has pairs i
     → (n b : ℕ) → LeadsTo nodes root (Some (n, b)) (Leaf i) → (above : Option (ℕ × ℕ)) → LeadsTo nodes root above (Inner n) → IsLeafOf P (keys_in key_bytes pairs) nodes root above n b i
 leaf_at_node key_bytes pairs nodes root s i has n b low above leads =
@@ -90,20 +90,20 @@ leaf_at_node key_bytes pairs nodes root s i has n b low above leads =
 
 -- ---- the prefixes of a node and of its child, joined
 
--- of what is joined the first P bytes take the first P of each
+-- the first P bytes of the joined prefixes need only the first P bytes of each
 take_join : (P m : ℕ) (A r : Bytes) (b : ℕ) → P ≤ m → take P (take P A ++ b ∷ take m r) ≡ take P (A ++ b ∷ r)
 take_join zero m A r b le = refl
 take_join (suc P) m [] r b le = ap (λ (t : Bytes). b ∷ t) (take-take P m r (omega arith))
 take_join (suc P) m (a ∷ A) r b le = ap (λ (t : Bytes). a ∷ t) (take_join P m A r b (omega arith))
 
--- what a longer front has after g, where one between begins with g and goes on by b
+-- the bytes of a longer front after g, if a front between them begins with g and continues with b
 drop_join : (g f l : Bytes) (b : ℕ) → Begins g f → Begins (f ++ b ∷ []) l → drop (length g) l ≡ drop (length g) f ++ b ∷ drop (length (f ++ b ∷ [])) l
 drop_join g f l b gf fl =
     let r : Bytes = drop (length (f ++ b ∷ [])) l in
     let whole : l ≡ f ++ b ∷ drop (length (f ++ b ∷ [])) l = sym (take-append-drop (length (f ++ b ∷ [])) l) ∙ ap (λ (t : Bytes). t ++ drop (length (f ++ b ∷ [])) l) (take_front (f ++ b ∷ []) l fl) ∙ append_assoc f (b ∷ []) (drop (length (f ++ b ∷ [])) l) in
     ap (λ (t : Bytes). drop (length g) t) whole ∙ drop-append-le (length g) f (b ∷ drop (length (f ++ b ∷ [])) l) (Begins-length g f gf)
 
--- a child keeps what its front has after the edge above the node, where the prefixes are joined
+-- with the prefixes joined, a child keeps the bytes that its front has after the edge above
 pub join_is : {P : ℕ} → (keys : ℕ → Option Bytes) (nodes : ℕ → Option Node) (above : Option (ℕ × ℕ)) (n m b : ℕ) (h : IsChildBelow P keys nodes above n (record { byte = b; to = Inner m })) (y : Node) → nodes m ≡ Some y
     → take P (h.node.prefix ++ b ∷ y.prefix) ≡ take P (drop (length (edge_front h.shape.front_of above)) (h.shape.front_of m))
 join_is {P} keys nodes above n m b h y is =

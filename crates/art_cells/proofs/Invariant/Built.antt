@@ -1,4 +1,4 @@
--- The tree that is made of its leaves in order, from the parts that are made on the way.
+-- The tree of leaves in ascending order, made of the parts that are made along the way.
 use Rattle.std.proofs.Common.{◌≡◌, ◌≢◌, ℕ, zero, suc, ◌+◌, ◌<◌, ◌≤◌, ◌⊎◌, List, [], ◌∷◌, ◌++◌, length, take, get_or, Contains, refl, sym, ap, ◌∙◌, subst, arith, Option, Some, None, IsSome, inl, inr, true, length-append}
 use Rattle.std.proofs.lemmas.Bool.{cases_lt}
 use Rattle.std.proofs.lemmas.Bool.Decides.{eqb_tells}
@@ -18,7 +18,7 @@ use Rattle.art_cells.proofs.BeginsLemmas.{Begins-length, Begins-more, Begins-nex
 
 module _ (P : ℕ) (keys : ℕ → Option Bytes) (nodes : ℕ → Option Node) (front_of : ℕ → Bytes) (made : AreMade P keys nodes front_of) where
   module _ (i j : ℕ) (k l : Bytes) (k_is : keys i ≡ Some k) (l_is : keys j ≡ Some l) (off : i ≢ j) where
-    -- below a child that stands for two keys, a node stands where they part
+    -- below a child that covers two keys, there is a node at which they part
     pub joined_below : (m : ℕ) (g : Bytes) (c : Child) → length k ≤ length g + m → Covers keys nodes front_of g c → Begins g k → Begins g l → (n : ℕ) × IsSome (nodes n) × (front_of n ≡ common k l)
     joined_below m g (Leaf a) h cov gk gl = absurd (off (cov.only i k k_is gk ∙ sym (cov.only j l l_is gl)))
     joined_below zero g (Inner n) h cov gk gl =
@@ -44,7 +44,7 @@ module _ (P : ℕ) (keys : ℕ → Option Bytes) (nodes : ℕ → Option Node) (
           | inr e ↦ (n, cov.live, sym (common_at f k l fk k_long fl (λ b. e.1 (Begins-next f l (next_byte f k) b))))
         ]
 
-  -- each node keeps what its front has after that of the edge to it
+  -- each node keeps the bytes that its front has after the front of the edge to it
   keeps_made : (c : Child) → KeepsAfter P nodes front_of [] c → Keeps P nodes (Some c) front_of
   keeps_made c keeps None n x leads is =
       let same : c ≡ Inner n = cc in
@@ -52,7 +52,7 @@ module _ (P : ℕ) (keys : ℕ → Option Bytes) (nodes : ℕ → Option Node) (
       h x is
   keeps_made c keeps (Some (p, b)) n x leads is = made.keeps p b leads.0 (Inner n) leads.1 leads.2 x is
 
--- where all is made, the child that stands for all keys is the root of the tree
+-- once all is made, the child that covers all keys is the root of the tree
 pub shape_built : {P : ℕ} → (keys : ℕ → Option Bytes) (nodes : ℕ → Option Node) (k : Bytes) (c : Child) → IsPart P keys nodes k [] 0 c → Shape P keys nodes (Some c)
 shape_built {P} keys nodes k c part = record {
   front_of = part.front_of;
@@ -65,18 +65,18 @@ shape_built {P} keys nodes k c part = record {
 
 -- ---- the bytes that a front shares
 
--- a key has the bytes of its front
+-- a key has the first bytes of its prefix
 take_front_of : (n : ℕ) (f k : Bytes) → Begins f k → n ≤ length f → take n k ≡ take n f
 take_front_of zero f k b l = refl
 take_front_of (suc n) [] k b l = absurd (omega arith)
 take_front_of (suc n) (x ∷ f) [] b l = absurd b
 take_front_of (suc n) (x ∷ f) (y ∷ k) b l = let h : take n k ≡ take n f = take_front_of n f k b.1 (omega arith) in let e : x ≡ y = b.0 in cc
 
--- two keys have as many bytes alike as they share
+-- two keys have the same bytes up to the length of their common prefix
 pub take_shared : (n : ℕ) (k q : Bytes) → n ≤ length (common k q) → take n k ≡ take n q
 take_shared n k q l = take_front_of n (common k q) k (common-left k q) l ∙ sym (take_front_of n (common k q) q (common-right k q) l)
 
--- and at each place before that one byte
+-- and at each index before that the same byte
 pub get_shared : (n : ℕ) (k q : Bytes) → n < length (common k q) → get_or k n 0 ≡ get_or q n 0
 get_shared n k q l = sym (get_or-take (n + 1) k n 0 (omega arith)) ∙ ap (λ (t : Bytes). get_or t n 0) (take_shared (n + 1) k q (omega arith)) ∙ get_or-take (n + 1) q n 0 (omega arith)
 
@@ -86,12 +86,12 @@ RiseAbove-append : (d b : ℕ) (es : List LooseEdge) (e : LooseEdge) → RiseAbo
 RiseAbove-append d b [] e r h all = (h, tt)
 RiseAbove-append d b (f ∷ es) e r h all = (r.0, RiseAbove-append f.depth f.edge.byte es e r.1 (all f (Contains-from_Member f (f ∷ es) (inl refl))) (λ g m. all g (Contains-from_Member g (f ∷ es) (inr (Member-from_Contains g es m)))))
 
--- a last edge that is of a deeper node than each other, or of the same one by a greater byte
+-- loose edges with a last one that is deeper than each other, or as deep with a greater byte, rise
 pub Rise-append : (es : List LooseEdge) (e : LooseEdge) → Rise es → ((f : LooseEdge) → Contains es f → (f.depth < e.depth) ⊎ ((f.depth ≡ e.depth) × (f.edge.byte < e.edge.byte))) → Rise (es ++ e ∷ [])
 Rise-append [] e r all = tt
 Rise-append (f ∷ es) e r all = RiseAbove-append f.depth f.edge.byte es e r (all f (Contains-from_Member f (f ∷ es) (inl refl))) (λ g m. all g (Contains-from_Member g (f ∷ es) (inr (Member-from_Contains g es m))))
 
--- ---- a leaf that stands for its key
+-- ---- a leaf that covers its key
 
 module _ (P : ℕ) (keys : ℕ → Option Bytes) (nodes : ℕ → Option Node) (front_of : ℕ → Bytes) (unrelated : (i j : ℕ) (k l : Bytes) → keys i ≡ Some k → keys j ≡ Some l → i ≢ j → Begins k l → ⊥) where
   leaf_whole : (i : ℕ) (k : Bytes) → keys i ≡ Some k → StandsFor P keys nodes front_of k (Leaf i)
@@ -105,7 +105,7 @@ module _ (P : ℕ) (keys : ℕ → Option Bytes) (nodes : ℕ → Option Node) (
     keeps = tt;
   }
 
-  -- the leaf stands for all bytes of its key
+  -- the leaf covers all bytes of its key
   pub leaf_stands : (i : ℕ) (k : Bytes) → keys i ≡ Some k → StandsFor P keys nodes front_of (take (length k) k) (Leaf i)
   leaf_stands i k is = subst (λ (g : Bytes). StandsFor P keys nodes front_of g (Leaf i)) (sym (take_front k k (Begins-itself k))) (leaf_whole i k is)
 
@@ -117,7 +117,7 @@ whole_key i j keys k l is e s =
     subst (λ (l : Bytes). Begins (take (length k) k) l) z (Begins-take (length k) k)
 
 module _ {P : ℕ} (keys : ℕ → Option Bytes) (nodes : ℕ → Option Node) (k : Bytes) (unrelated : (i j : ℕ) (k l : Bytes) → keys i ≡ Some k → keys j ≡ Some l → i ≢ j → Begins k l → ⊥) where
-  -- at the first key nothing is made
+  -- at the first key, no node is made
   pub part_first : (i : ℕ) → keys i ≡ Some k → ((n : ℕ) → nodes n ≡ None) → ((j : ℕ) (l : Bytes) → keys j ≡ Some l → (j ≡ i) ⊎ (less k l ≡ true)) → IsPart P keys nodes k [] (length k) (Leaf i)
   part_first i is bare least = record {
     front_of = λ n. [];
@@ -136,7 +136,7 @@ module _ {P : ℕ} (keys : ℕ → Option Bytes) (nodes : ℕ → Option Node) (
   }
 
   module _ (es : List LooseEdge) (c : ℕ) (child : Child) (part : IsPart P keys nodes k es (c + 1) child) (q : Bytes) (i : ℕ) (is : keys i ≡ Some q) (c_is : c ≡ length (common k q)) (in_k : c < length k) (in_q : c < length q) (rises : get_or k c 0 < get_or q c 0) where
-    -- the edge at which the next key leaves the last
+    -- the edge at which the next key leaves the last one
     abbrev left : LooseEdge
     left = record { depth = c; edge = record { byte = get_or k c 0; to = child } }
 
@@ -158,7 +158,7 @@ module _ {P : ℕ} (keys : ℕ → Option Bytes) (nodes : ℕ → Option Node) (
               omega arith
         ]
 
-    -- and below which stands what stood for all that both begin with and the last one's next byte
+    -- below it are the keys that begin with the shared bytes and the last key's next byte
     left_loose : IsLoose P keys nodes part.front_of q left
     left_loose = record {
       within = in_q;
@@ -187,12 +187,12 @@ module _ {P : ℕ} (keys : ℕ → Option Bytes) (nodes : ℕ → Option Node) (
           | inr le ↦ let s : e.depth ≡ c = omega arith in inr (s, subst (λ (n : ℕ). e.edge.byte < get_or k n 0) s (part.loose e m).before)
         ]
 
-    -- what stood below the child or a loose edge stands below a loose edge
+    -- a list that was below the child or a loose edge is below a loose edge
     goes : (l : Bytes) → (Begins (take (c + 1) k) l ⊎ ((e : LooseEdge) × Contains es e × Begins (loose_front k e) l)) → (e : LooseEdge) × Contains (es ++ left ∷ []) e × Begins (loose_front q e) l
     goes l (inl b) = (left, Contains-push es left, subst (λ (g : Bytes). Begins g l) left_front b)
     goes l (inr t) = (t.0, Contains-append_left es (left ∷ []) t.0 t.1, subst (λ (g : Bytes). Begins g l) (old_front t.0 t.1) t.2)
 
-    -- at the next key the child of the last is loose
+    -- at the next key, the child of the last key becomes a loose edge
     pub part_next : ((j : ℕ) (l : Bytes) → keys j ≡ Some l → less k l ≡ true → (j ≡ i) ⊎ (less q l ≡ true)) → IsPart P keys nodes q (es ++ left ∷ []) (length q) (Leaf i)
     part_next next = record {
       front_of = part.front_of;
@@ -212,7 +212,7 @@ module _ {P : ℕ} (keys : ℕ → Option Bytes) (nodes : ℕ → Option Node) (
       ];
     }
 
--- at the end no edge is loose
+-- at the end, no edge is loose
 none_loose : {P : ℕ} → (keys : ℕ → Option Bytes) (nodes : ℕ → Option Node) (k : Bytes) (c : Child) (es : List LooseEdge) → IsPart P keys nodes k es 0 c → es ≡ []
 none_loose keys nodes k c [] p = refl
 none_loose keys nodes k c (e ∷ es) p = absurd (let a = p.deeper e (Contains-from_Member e (e ∷ es) (inl refl)) in omega arith)

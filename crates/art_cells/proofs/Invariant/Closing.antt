@@ -1,4 +1,4 @@
--- A node made of loose edges, and of what stands below the first bytes of the last key.
+-- A node made of loose edges, and of the child of the first bytes of the last key.
 use Rattle.std.proofs.Common.{◌≡◌, ◌≢◌, ℕ, max, ◌+◌, ◌<◌, ◌≤◌, List, [], ◌∷◌, ◌++◌, length, take, drop, get_or, slice_range, refl, ap, arith, sym, subst, Option, Some, None, IsSome, ◌∙◌, ◌⊎◌, inl, inr, true, cond, eqb, eq-eqb, Contains, length-append}
 use Rattle.std.proofs.lemmas.Bool.Decides.{eqb_tells}
 use Rattle.std.proofs.lemmas.List.{length-take-le, length-drop, take-append-drop, take_more}
@@ -18,18 +18,18 @@ use Rattle.art_cells.specs.Calls.Building.{last_depth, start_after, loose_front,
 use Rattle.art_cells.proofs.BeginsLemmas.{Begins-take, Begins-trans, Begins-linear, Begins-length, Begins-next, Begins-edge_front, Begins-itself}
 use Rattle.art_cells.proofs.Invariant.Prefixes.{cut_front}
 
--- fewer bytes of a key begin more of them
+-- fewer bytes of a key are a prefix of more of them
 pub take_less : (k : Bytes) (m n : ℕ) → m ≤ n → n ≤ length k → Begins (take m k) (take n k)
 take_less k m n le within =
     let a : length (take m k) ≡ m = length-take-le m k (omega arith) in
     let b : length (take n k) ≡ n = length-take-le n k within in
     Begins-linear (take m k) (take n k) k (Begins-take m k) (Begins-take n k) (omega arith)
 
--- what begins with more bytes of a key begins with fewer
+-- a list that begins with more bytes of a key begins with fewer
 pub begins_less : (k l : Bytes) (m n : ℕ) → m ≤ n → n ≤ length k → Begins (take n k) l → Begins (take m k) l
 begins_less k l m n le within b = Begins-trans (take m k) (take n k) l (take_less k m n le within) b
 
--- what stands below a loose edge leaves the key there
+-- a list below a loose edge leaves the key there
 pub leaves_key : (k l : Bytes) (e : LooseEdge) (m : ℕ) → e.depth < m → m ≤ length k → e.edge.byte < get_or k e.depth 0 → Begins (loose_front k e) l → Begins (take m k) l → ⊥
 leaves_key k l e m lt within before below along =
     let a : next_byte (take e.depth k) l ≡ e.edge.byte = Begins-next (take e.depth k) l e.edge.byte below in
@@ -38,7 +38,7 @@ leaves_key k l e m lt within before below along =
     omega arith
 
 module _ {P : ℕ} (keys : ℕ → Option Bytes) (nodes : ℕ → Option Node) (k : Bytes) where
-  -- a leaf stands for fewer bytes of its key too, where no other key goes along with it for so many
+  -- a leaf also covers fewer bytes of its key, if no other key shares these
   pub part_shortened : (es : List LooseEdge) (i least s : ℕ) → IsPart P keys nodes k es (length k) (Leaf i) → IsTurn keys i k least → s ≤ length k → least ≤ s → ((e : LooseEdge) → Contains es e → e.depth < s) → IsPart P keys nodes k es s (Leaf i)
   part_shortened es i least s p t within over deeper =
       let whole : take (length k) k ≡ k = take-length k in
@@ -97,7 +97,7 @@ has_edge (f ∷ es) e m =
           (elim m [ inl s ↦ absurd (q.1 (ap (λ (x : Edge). x.byte) s)) | inr n ↦ has_edge es e n ])
     ]
 
--- the loose edge that an edge was
+-- the loose edge of an edge
 loose_of : (g : List LooseEdge) (e : Edge) → Member e (edges_of g) → (f : LooseEdge) × Member f g × (f.edge ≡ e)
 loose_of [] e m = absurd m
 loose_of (f ∷ g) e (inl s) = (f, inl refl, s)
@@ -108,7 +108,7 @@ edge_member [] f m = absurd m
 edge_member (x ∷ g) f (inl s) = inl (ap (λ (y : LooseEdge). y.edge) s)
 edge_member (x ∷ g) f (inr m) = inr (edge_member g f m)
 
--- the first of some loose edges rise too
+-- the first of some rising loose edges rise too
 rise_above_left : (depth byte : ℕ) (es g : List LooseEdge) → RiseAbove depth byte (es ++ g) → RiseAbove depth byte es
 rise_above_left depth byte [] g r = tt
 rise_above_left depth byte (e ∷ es) g r = (r.0, rise_above_left e.depth e.edge.byte es g r.1)
@@ -117,7 +117,7 @@ pub rise_left : (es g : List LooseEdge) → Rise (es ++ g) → Rise es
 rise_left [] g r = tt
 rise_left (e ∷ es) g r = rise_above_left e.depth e.edge.byte es g r
 
--- so do the last
+-- loose edges that rise above a depth and a byte rise
 rise_of_above : (depth byte : ℕ) (g : List LooseEdge) → RiseAbove depth byte g → Rise g
 rise_of_above depth byte [] r = tt
 rise_of_above depth byte (e ∷ g) r = r.1
@@ -130,7 +130,7 @@ pub rise_right : (es g : List LooseEdge) → Rise (es ++ g) → Rise g
 rise_right [] g r = r
 rise_right (e ∷ es) g r = rise_above_right e.depth e.edge.byte es g r
 
--- the edges of one node ascend, and one with a greater byte after them
+-- the edges of one node ascend, with an edge of a greater byte after them
 group_above : (d b : ℕ) (own : Edge) (g : List LooseEdge) → ((f : LooseEdge) → Member f g → f.depth ≡ d) → ((f : LooseEdge) → Member f g → f.edge.byte < own.byte) → b < own.byte → RiseAbove d b g → AscendsAbove b (edges_of g ++ own ∷ [])
 group_above d b own [] same less lt r = (lt, tt)
 group_above d b own (f ∷ g) same less lt r =
@@ -142,7 +142,7 @@ pub group_ascends : (d : ℕ) (own : Edge) (g : List LooseEdge) → ((f : LooseE
 group_ascends d own [] same less r = tt
 group_ascends d own (f ∷ g) same less r = group_above f.depth f.edge.byte own g (λ h m. same h (inr m) ∙ sym (same f (inl refl))) (λ h m. less h (inr m)) (less f (inl refl)) r
 
--- each child stands for some key
+-- each child covers some key
 some_key_below : {P : ℕ} → (keys : ℕ → Option Bytes) (nodes : ℕ → Option Node) (front_of : ℕ → Bytes) → AreMade P keys nodes front_of → (g : Bytes) (c : Child) → Covers keys nodes front_of g c → (j : ℕ) × (l : Bytes) × (keys j ≡ Some l) × Begins g l
 some_key_below keys nodes front_of made g (Leaf j) c = (j, c.key, c.is, c.front)
 some_key_below keys nodes front_of made g (Inner m) c =
@@ -170,14 +170,14 @@ module _ {P : ℕ} (keys : ℕ → Option Bytes) (nodes nodes' : ℕ → Option 
   unfolding front
   front_old j ne = elim (eqb_tells j n) [ inl q ↦ absurd (ne q.1) | inr q ↦ subst (λ z. cond z (take d k) (p.front_of j) ≡ p.front_of j) (sym q.0) refl ]
 
-  -- what was live is another node
+  -- a node that was live is not the new node
   live_other : (j : ℕ) (x : Node) → nodes j ≡ Some x → j ≢ n
   live_other j x is e = let a : nodes n ≡ Some x = subst (λ z. nodes z ≡ Some x) e is in let b : nodes n ≡ None = made.fresh in cc
 
   node_kept : (j : ℕ) (x : Node) → nodes j ≡ Some x → nodes' j ≡ Some x
   node_kept j x is = made.others j (live_other j x is) ∙ is
 
-  -- a node is the new one, or was there
+  -- a node is the new one, or was there before
   node_cases : (j : ℕ) (x : Node) → nodes' j ≡ Some x → ((j ≡ n) × (x ≡ node)) ⊎ ((j ≢ n) × (nodes j ≡ Some x))
   node_cases j x is =
       elim (eqb_tells j n) [
@@ -190,7 +190,7 @@ module _ {P : ℕ} (keys : ℕ → Option Bytes) (nodes nodes' : ℕ → Option 
       let x = some_of (nodes' j) live in
       elim (node_cases j x.0 x.1) [ inl q ↦ inl q.0 | inr q ↦ inr (q.0, is_some (nodes j) x.0 q.1) ]
 
-  -- what stood for some keys does so still
+  -- a child that covered some keys still covers them
   covers_kept : (f : Bytes) (z : Child) → Covers keys nodes p.front_of f z → Covers keys nodes' front f z
   covers_kept f (Leaf i) h = h
   covers_kept f (Inner m) h =
@@ -227,14 +227,14 @@ module _ {P : ℕ} (keys : ℕ → Option Bytes) (nodes nodes' : ℕ → Option 
   group_front : (e : LooseEdge) → Member e g → loose_front k e ≡ take d k ++ e.edge.byte ∷ []
   group_front e m = ap (λ (z : ℕ). take z k ++ e.edge.byte ∷ []) (same e m)
 
-  -- what stands below the new node goes on by one of its edges
+  -- a list below a loose edge of the node continues from the node's front with the edge's byte
   beyond : (l : Bytes) (e : LooseEdge) → Member e g → Begins (loose_front k e) l → Begins (take d k ++ e.edge.byte ∷ []) l
   beyond l e m b = subst (λ z. Begins z l) (group_front e m) b
 
   goes : (l : Bytes) → Begins (take (d + 1) k) l → Begins (take d k ++ own.byte ∷ []) l
   goes l b = subst (λ (z : ℕ). Begins (take d k ++ z ∷ []) l) (sym own_byte) (subst (λ (z : Bytes). Begins z l) (take_more k d 0 deep) b)
 
-  -- a key that goes along with the last one for m bytes is below the child, or a loose edge of the node
+  -- a key that shares m bytes with the last one is below the child, or a loose edge of the node
   key_cases : (m : ℕ) → start ≤ m → m ≤ d → (j : ℕ) (l : Bytes) → keys j ≡ Some l → Begins (take m k) l → Begins (take (d + 1) k) l ⊎ ((e : LooseEdge) × Member e g × Begins (take d k ++ e.edge.byte ∷ []) l)
   key_cases m from upto j l is b =
       elim (p.below j l is) [
@@ -246,7 +246,7 @@ module _ {P : ℕ} (keys : ℕ → Option Bytes) (nodes nodes' : ℕ → Option 
         | inr (inr more) ↦ absurd (t.turns j l is more (begins_less k l least m (omega arith) (let w = deep in omega arith) b))
       ]
 
-  -- and so is a node
+  -- and so is a node, or below an earlier loose edge
   node_front_cases : (j : ℕ) → IsSome (nodes j) → Begins (take (d + 1) k) (p.front_of j) ⊎ (((e : LooseEdge) × Member e g × Begins (take d k ++ e.edge.byte ∷ []) (p.front_of j)) ⊎ ((e : LooseEdge) × Member e es × Begins (loose_front k e) (p.front_of j)))
   node_front_cases j live =
       elim (p.under j live) [
@@ -278,7 +278,7 @@ module _ {P : ℕ} (keys : ℕ → Option Bytes) (nodes nodes' : ℕ → Option 
         ]
       ]
 
-  -- the byte by which what is below an edge of the node goes on
+  -- a list below an edge of the node continues with the edge's byte
   next_here : (l : Bytes) (b : ℕ) → Begins (take d k ++ b ∷ []) l → next_byte (take d k) l ≡ b
   next_here l b h = Begins-next (take d k) l b h
 
@@ -295,7 +295,7 @@ module _ {P : ℕ} (keys : ℕ → Option Bytes) (nodes nodes' : ℕ → Option 
   group_member : (e : LooseEdge) → Member e g → Member e.edge (edges_of g ++ own ∷ [])
   group_member e m = Member-append_left e.edge (edges_of g) (own ∷ []) (edge_member g e m)
 
-  -- two keys part at the node: the last one, and one below its first loose edge
+  -- two keys part at the node: the last one, and a key below its first loose edge
   first_of : (xs : List LooseEdge) → 0 < length xs → (e : LooseEdge) × Member e xs
   first_of [] h = absurd (omega arith)
   first_of (e ∷ xs) h = (e, inl refl)
@@ -385,7 +385,7 @@ module _ {P : ℕ} (keys : ℕ → Option Bytes) (nodes nodes' : ℕ → Option 
     ];
   }
 
-  -- what goes along for as many bytes as the new child does, goes along to the node
+  -- a list that begins with d + 1 bytes of k begins with `start` of them
   short_less : (l : Bytes) → Begins (take (d + 1) k) l → Begins (take start k) l
   short_less l b = begins_less k l start (d + 1) (omega arith) (let w = deep in omega arith) b
 
@@ -395,7 +395,7 @@ module _ {P : ℕ} (keys : ℕ → Option Bytes) (nodes nodes' : ℕ → Option 
   along : (l : Bytes) → Begins (take (d + 1) k) l → Begins (take d k) l
   along l b = begins_less k l d (d + 1) (omega arith) (let w = deep in omega arith) b
 
-  -- a node is made of the deepest loose edges, and of what stands below the first bytes of the last key
+  -- a node is made of the deepest loose edges, and of the child of the first bytes of the last key
   pub part_closed : IsPart P keys nodes' k es start (Inner n)
   part_closed = record {
     front_of = front;
@@ -447,7 +447,7 @@ rise_over depth byte (f ∷ es) r e m =
       | inr n ↦ omega (arith, rise_over f.depth f.edge.byte es r.1 e n)
     ]
 
--- earlier ones are no deeper than later ones
+-- earlier loose edges are no deeper than later ones
 above_split : (depth byte : ℕ) (es g : List LooseEdge) → RiseAbove depth byte (es ++ g) → (e f : LooseEdge) → Member e es → Member f g → e.depth ≤ f.depth
 above_split depth byte [] g r e f m n = absurd m
 above_split depth byte (x ∷ es) g r e f (inl s) n = (let a = rise_over x.depth x.edge.byte (es ++ g) r.1 f (Member-append_right f es g n) in let t : x.depth ≡ e.depth = ap (λ (y : LooseEdge). y.depth) s in omega arith)
@@ -458,7 +458,7 @@ rise_split [] g r e f m n = absurd m
 rise_split (x ∷ es) g r e f (inl s) n = (let a = rise_over x.depth x.edge.byte (es ++ g) r f (Member-append_right f es g n) in let t : x.depth ≡ e.depth = ap (λ (y : LooseEdge). y.depth) s in omega arith)
 rise_split (x ∷ es) g r e f (inr m) n = above_split x.depth x.edge.byte es g r e f m n
 
--- none is deeper than the last
+-- no loose edge is deeper than the last
 last_over : (es : List LooseEdge) → Rise es → (d : ℕ) → last_depth es ≡ Some d → (e : LooseEdge) → Member e es → e.depth ≤ d
 last_over [] r d is e m = absurd m
 last_over (x ∷ []) r d is e (inl s) = (let t : x.depth ≡ e.depth = ap (λ (y : LooseEdge). y.depth) s in let q : Some x.depth ≡ Some d = is in let u : x.depth ≡ d = cc in omega arith)
@@ -466,7 +466,7 @@ last_over (x ∷ []) r d is e (inr m) = absurd m
 last_over (x ∷ y ∷ es) r d is e (inl s) = (let a = last_over (y ∷ es) r.1 d is y (inl refl) in let b = rise_over x.depth x.edge.byte (y ∷ es) r y (inl refl) in let t : x.depth ≡ e.depth = ap (λ (z : LooseEdge). z.depth) s in omega arith)
 last_over (x ∷ y ∷ es) r d is e (inr m) = last_over (y ∷ es) r.1 d is e m
 
--- some loose edges have a last one
+-- a list with a loose edge has a last one
 last_some : (es : List LooseEdge) (e : LooseEdge) → Member e es → (d : ℕ) × (last_depth es ≡ Some d)
 last_some [] e m = absurd m
 last_some (x ∷ []) e m = (x.depth, refl)
@@ -477,19 +477,19 @@ last_member [] d is = cc
 last_member (x ∷ []) d is = (x, inl refl, (let q : Some x.depth ≡ Some d = is in cc))
 last_member (x ∷ y ∷ es) d is = let r = last_member (y ∷ es) d is in (r.0, inr r.1, r.2)
 
--- each loose edge is less deep than what comes after the last one
+-- each loose edge is less deep than the start after the last one
 pub start_over : (es : List LooseEdge) (least : ℕ) → Rise es → (e : LooseEdge) → Member e es → e.depth < start_after least (last_depth es)
 start_over es least r e m =
     let d = last_some es e m in
     let a : e.depth ≤ d.0 = last_over es r d.0 d.1 e m in
     subst (λ (o : Option ℕ). e.depth < start_after least o) (sym d.1) (let b : e.depth < max least (d.0 + 1) = omega arith in b)
 
--- what comes after the last one is no less than the least
+-- the start is no less than `least`
 pub least_over : (least : ℕ) (o : Option ℕ) → least ≤ start_after least o
 least_over least None = omega arith
 least_over least (Some d) = let b : least ≤ max least (d + 1) = omega arith in b
 
--- what comes after the edges before a group is no deeper than the group
+-- the start after the edges before a group is no deeper than the group
 pub start_under : (es g : List LooseEdge) (least d : ℕ) → Rise (es ++ g) → 0 < length g → ((f : LooseEdge) → Member f g → f.depth ≡ d) → (last_depth es ≡ Some d → ⊥) → least ≤ d → (o : Option ℕ) → last_depth es ≡ o → start_after least o ≤ d
 start_under es g least d r some same other le None is = le
 start_under es [] least d r some same other le (Some x) is = absurd (omega arith)
@@ -502,16 +502,16 @@ start_under es (f ∷ g) least d r some same other le (Some x) is =
     let e : max least (x + 1) ≤ d = omega arith in
     e
 
--- where the last one is at least so deep, that is where the next prefix begins
+-- if the last edge is at depth `least` or deeper, the next prefix starts after it
 pub start_last : (least d : ℕ) → least ≤ d → start_after least (Some d) ≡ d + 1
 start_last least d le = let e : max least (d + 1) ≡ d + 1 = omega arith in e
 
--- where none is, it begins at the least
+-- if no edge is as deep as `least`, the next prefix starts at `least`
 pub start_least : (least : ℕ) (o : Option ℕ) → ((d : ℕ) → o ≡ Some d → d < least) → start_after least o ≡ least
 start_least least None h = refl
 start_least least (Some d) h = let lt : d < least = h d refl in let e : max least (d + 1) ≡ least = omega arith in e
 
--- at the last key a leaf stands for what comes after the last loose edge
+-- at the last key, a leaf covers the bytes up to the start after the last loose edge
 pub part_opened : {P : ℕ} → (keys : ℕ → Option Bytes) (nodes : ℕ → Option Node) (k : Bytes) (es : List LooseEdge) (i least : ℕ) → IsPart P keys nodes k es (length k) (Leaf i) → IsTurn keys i k least → IsPart P keys nodes k es (start_after least (last_depth es)) (Leaf i)
 part_opened keys nodes k es i least p t =
     part_shortened keys nodes k es i least (start_after least (last_depth es)) p t (start_within (last_depth es) refl) (least_over least (last_depth es)) (λ e m. start_over es least p.rise e (Member-from_Contains e es m))
@@ -533,19 +533,19 @@ module _ {P : ℕ} (keys : ℕ → Option Bytes) (nodes : ℕ → Option Node) (
   parted : IsPart P keys nodes k (take n es ++ drop n es) (d + 1) c
   parted = subst (λ (z : List LooseEdge). IsPart P keys nodes k z (d + 1) c) (sym (take-append-drop n es)) p
 
-  -- there are some
+  -- the group is not empty
   pub group_some : 0 < length (drop n es)
   group_some = omega (arith, length-drop n es)
 
-  -- the prefix of their node begins no deeper than it is
+  -- the prefix of their node starts no deeper than the node is
   pub group_start : start_after least (last_depth (take n es)) ≤ d
   group_start = start_under (take n es) (drop n es) least d parted.rise group_some group other deep (last_depth (take n es)) refl
 
-  -- the edges above them are less deep than that
+  -- the edges before the group are less deep than that start
   group_upper : (e : LooseEdge) → Member e (take n es) → e.depth < start_after least (last_depth (take n es))
   group_upper e m = start_over (take n es) least (rise_left (take n es) (drop n es) parted.rise) e m
 
-  -- so is the last of these
+  -- the last of these is less deep than the group
   pub upper_last : (x : ℕ) → last_depth (take n es) ≡ Some x → x < d
   upper_last x is = (let m = last_member (take n es) x is in let a = group_upper m.0 m.1 in let b : m.0.depth ≡ x = m.2 in let s = group_start in omega arith)
 
@@ -564,7 +564,7 @@ module _ {P : ℕ} (keys : ℕ → Option Bytes) (nodes : ℕ → Option Node) (
     pub group_rise : Ascends (edges_of (drop n es) ++ own ∷ [])
     group_rise = group_ascends d own (drop n es) group (λ f m. omega (arith, group_less f m, own_byte)) (rise_right (take n es) (drop n es) parted.rise)
 
-    -- the node stands for what its edges and the child stood for
+    -- the node covers the keys that its edges and the child covered
     pub group_closed : (leaf m : ℕ) (nodes' : ℕ → Option Node) → own.to ≡ c → IsTurn keys leaf k least → MakesNode nodes nodes' m d (take P (slice_range k (start_after least (last_depth (take n es))) d)) (edges_of (drop n es) ++ own ∷ [])
         → IsPart P keys nodes' k (take n es) (start_after least (last_depth (take n es))) (Inner m)
     group_closed leaf m nodes' own_to t made =

@@ -1,4 +1,4 @@
--- How many nodes there are, and how many edges a node has.
+-- The number of nodes, and the number of edges of a node.
 use Rattle.std.proofs.Common.{◌≡◌, ◌≢◌, ℕ, zero, suc, ◌+◌, ◌*◌, ◌/◌, ◌%◌, ◌<◌, ◌≤◌, true, false, List, [], ◌∷◌, ◌++◌, length, map, refl, ap, arith, sym, subst, Option, Some, None, IsSome, is_some, count_by, cond, get_or, ◌∙◌, inl, inr, eq-eqb, nat_cmp, filter_map, slice_get}
 use Rattle.std.proofs.lemmas.Bool.{cases_eq, cases_order, false_from_ne_true, cond-false}
 use Rattle.std.proofs.lemmas.Bool.Decides.{eqb_tells}
@@ -29,10 +29,10 @@ use Rattle.art_cells.proofs.Invariant.Growing.{some_key}
 use Rattle.art_cells.proofs.Pairs.Keys.{key_of_member, member_of_key}
 use Rattle.art_cells.proofs.Invariant.SmallShapes.{node_at}
 
--- ---- what stands in slots
+-- ---- the records in slots
 
 module _ {A B : Type 0} where
-  -- what f gives at the numbers that have a record
+  -- the values of f at the numbers that have a record
   abbrev pub at_live : (ℕ → A) → List (Option B) → List A
   at_live f [] = []
   at_live f (None ∷ os) = at_live (λ n. f (suc n)) os
@@ -70,7 +70,7 @@ distinct_live f (Some x ∷ os) h = (
   distinct_live (λ n. f (suc n)) os (λ n m a b e. (let s : suc n ≡ suc m = h (suc n) (suc m) a b e in omega arith)),
 )
 
--- lists with no member of both make one with none twice
+-- two lists of distinct items with no common item are distinct together
 distinct_append : (xs ys : List Bytes) → Distinct nat_list_cmp_total exact_bytes xs → Distinct nat_list_cmp_total exact_bytes ys → ((a : Bytes) → Member a xs → Member a ys → ⊥) → Distinct nat_list_cmp_total exact_bytes (xs ++ ys)
 distinct_append [] ys d e off = e
 distinct_append (x ∷ xs) ys d e off = (
@@ -78,10 +78,10 @@ distinct_append (x ∷ xs) ys d e off = (
   distinct_append xs ys d.1 e (λ a p q. off a (inr p) q),
 )
 
--- ---- what stands in the stores of four kinds
+-- ---- the records in the stores of the four kinds
 
 module _ (f : ℕ → Bytes) (s : Nodes) where
-  -- what f gives at the numbers that have a node, of so many kinds from this one on
+  -- the values of f at the numbers that have a node, of this many kinds from this kind on
   abbrev pub at_kinds : ℕ → ℕ → List Bytes
   at_kinds k zero = []
   at_kinds k (suc n) = at_live (λ i. f (4 * i + k)) (store_of s k).slots ++ at_kinds (suc k) n
@@ -183,11 +183,11 @@ module _ {P : ℕ} {K V : Type 0} (key_bytes : K → Bytes) (pairs : List (Numbe
         | inr (inr l) ↦ record { x = v.0; y = u.0; x_there = v.1; y_there = u.1; branch = rw (u.3, v.3) (branch_of f p.l p.k p.l_front p.k_front ll lk l) }
       ]
 
-  -- a node stands at a front
+  -- each node's front is among the fronts of the pairs
   pub front_at_node : (n : ℕ) → IsSome (nodes n) → set.contains (fronts (bytes key_bytes) pairs) (s.front_of n) ≡ true
   front_at_node n h = let x = some_of (nodes n) h in front_at_branches (bytes key_bytes) pairs (s.front_of n) content (branches_at_node n x.0 x.1)
 
-  -- and at each front a node stands
+  -- and each of these is the front of a node
   pub node_at_front : (f : Bytes) → set.contains (fronts (bytes key_bytes) pairs) f ≡ true → (n : ℕ) × IsSome (nodes n) × (s.front_of n ≡ f)
   node_at_front f h =
       let b = branches_at_front (bytes key_bytes) pairs f content h in
@@ -205,11 +205,11 @@ module _ {P : ℕ} {K V : Type 0} (key_bytes : K → Bytes) (pairs : List (Numbe
         differ = λ e. (let z : b.branch.low ≡ b.branch.high = sym (Begins-next f (bytes key_bytes b.x) b.branch.low low) ∙ e ∙ Begins-next f (bytes key_bytes b.y) b.branch.high high in let l : b.branch.low < b.branch.high = b.branch.below in omega arith);
       })
 
-  -- where no node stands there is no front
+  -- bytes that are no node's front are not among the fronts
   pub no_front : (f : Bytes) → ((n : ℕ) → IsSome (nodes n) → s.front_of n ≢ f) → set.contains (fronts (bytes key_bytes) pairs) f ≡ false
   no_front f h = false_from_ne_true _ (λ t. let r = node_at_front f t in h r.0 r.1 r.2)
 
-  -- where no node stands nothing parts
+  -- and they have no parts
   pub no_parts : (f : Bytes) → ((n : ℕ) → IsSome (nodes n) → s.front_of n ≢ f) → set.len (parts (bytes key_bytes) pairs f) ≡ 0
   no_parts f h =
       ap (λ (p : set.FinSet nat_cmp). set.len p) (cond-false (set.contains (fronts (bytes key_bytes) pairs) f) (set.from_list {R = nat_cmp} (filter_map (λ x. slice_get (bytes key_bytes x) (length f)) (under (bytes key_bytes) pairs f))) set.empty (no_front f h))

@@ -1,4 +1,4 @@
--- The edge above a child, where the store changes.
+-- The edge above a child, if the store changes.
 use Rattle.std.proofs.Common.{◌≡◌, ◌≢◌, ℕ, List, [], ◌∷◌, ◌++◌, refl, ap, sym, subst, inl, inr, Option, Some, None, ◌∙◌}
 use Rattle.std.proofs.lemmas.List.{same_from_push}
 use Rattle.std.proofs.lemmas.Bool.Decides.{eqb_tells}
@@ -13,7 +13,7 @@ use Rattle.art_kinds.specs.declared.records.ids.Edge.{Edge}
 use Rattle.art_cells.proofs.BeginsLemmas.{edge_some}
 use Rattle.art_cells.proofs.Invariant.OneEdge.{not_itself, kept_mid}
 
--- where the edge's node stands
+-- if the edge's node is unchanged
 pub leads_over : (old new : ℕ → Option Node) (root : Option Child) (above : Option (ℕ × ℕ)) (c : Child) → LeadsTo old root above c → ((p b : ℕ) (x : Node) → above ≡ Some (p, b) → old p ≡ Some x → new p ≡ Some x) → LeadsTo new root above c
 leads_over old new root None c l h = l
 leads_over old new root (Some (p, b)) c l h = (l.0, h p b l.0 refl l.1, l.2)
@@ -23,7 +23,7 @@ pub leads_made : (old new : ℕ → Option Node) (root : Option Child) (above : 
 leads_made old new root above c n depth prefix low high l m = leads_over old new root above c l (λ p b x e is. m.others p (λ z. let f : old n ≡ Some x = ap old (sym z) ∙ is in let g : old n ≡ None = m.fresh in cc) ∙ is)
 
 module _ {P : ℕ} (keys : ℕ → Option Bytes) (old new : ℕ → Option Node) (root : Option Child) (s : Shape P keys old root) (n : ℕ) where
-  -- after the node below the edge went to another number
+  -- after the node below the edge was moved to another number
   pub leads_renamed : (above : Option (ℕ × ℕ)) (m : ℕ) → LeadsTo old root above (Inner n) → Renames old new n m → LeadsTo new root above (Inner n)
   leads_renamed None m l r = l
   leads_renamed (Some (p, b)) m l r = (l.0, kept_mid old new n m p l.0 r l.1 (not_itself keys old root s p b n l.0 l.1 l.2), l.2)
@@ -36,7 +36,7 @@ module _ {P : ℕ} (keys : ℕ → Option Bytes) (old new : ℕ → Option Node)
       let same : l.0 ≡ x = cc in
       subst (λ (z : Node). Ascends z.edges) same (s.node p l.0 l.1).ascends
 
--- what became of an old node: the edge at g0 leads to another child now
+-- the change of an old node: the edge with the front g0 now leads to another child
 pub record Turns (x x' : Node) (f g0 : Bytes) (c0 c1 : Child) : Type 0 where
   pub depth : x'.depth ≡ x.depth
   pub ascends : Ascends x.edges → Ascends x'.edges
@@ -44,7 +44,7 @@ pub record Turns (x x' : Node) (f g0 : Bytes) (c0 c1 : Child) : Type 0 where
   pub was : (b : ℕ) → f ++ b ∷ [] ≡ g0 → child_at x.edges b ≡ Some c0
   pub now : (b : ℕ) → f ++ b ∷ [] ≡ g0 → child_at x'.edges b ≡ Some c1
 
--- so it is of each node where the edge above a child leads elsewhere, and no two nodes of some kind have one front
+-- so each live node changes if the edge above a child is redirected, and live fronts differ
 pub turned_node : (front_of : ℕ → Bytes) (old new : ℕ → Option Node) (root root' : Option Child) (c to : Child) (Live : ℕ → Type 0) → ((m p : ℕ) → Live m → Live p → front_of m ≡ front_of p → m ≡ p) → (above : Option (ℕ × ℕ)) → LeadsTo old root above c → ((e : ℕ × ℕ) → above ≡ Some e → Live e.0)
     → TurnsTo old new root root' above to → (m : ℕ) (x : Node) → Live m → old m ≡ Some x → (x' : Node) × (new m ≡ Some x') × Turns x x' (front_of m) (edge_front front_of above) c to
 turned_node front_of old new root root' c to Live apart None leads lives turns m x live is = (
@@ -92,7 +92,7 @@ turned_node front_of old new root root' c to Live apart (Some (p, b)) leads live
           )
     ]
 
--- and where a node stood but for its prefix before
+-- also if a node had another prefix before
 pub turns_after : (x y z : Node) (f g0 : Bytes) (c to : Child) → y.depth ≡ x.depth → y.edges ≡ x.edges → Turns y z f g0 c to → Turns x z f g0 c to
 turns_after x y z f g0 c to depth edges t = record {
   depth = t.depth ∙ depth;

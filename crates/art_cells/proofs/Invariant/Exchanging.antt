@@ -1,4 +1,4 @@
--- Another key under a leaf's number, related to the one that it had and to no other.
+-- Another key under a leaf's number, related to its old key and to no other.
 use Rattle.std.proofs.Common.{◌≡◌, ◌≢◌, ℕ, ◌<◌, [], ◌∷◌, ◌++◌, length, refl, ap, arith, sym, subst, Option, Some, None, ◌∙◌, ◌⊎◌, inl, inr}
 use Rattle.std.proofs.lemmas.Bool.{cases_lt}
 use Rattle.std.proofs.lemmas.Bool.Decides.{eqb_tells}
@@ -17,7 +17,7 @@ use Rattle.art_cells.proofs.Pairs.KeyChanges.{Exchanges}
 
 module _ {P : ℕ} (keys keys' : ℕ → Option Bytes) (nodes : ℕ → Option Node) (root : Option Child) (i : ℕ) (k k' : Bytes) (s : Shape P keys nodes root) (ex : Exchanges keys keys' i k k')
     (related : Begins k k' ⊎ Begins k' k) (apart : (j : ℕ) (l : Bytes) → keys j ≡ Some l → j ≢ i → (Begins k' l → ⊥) × (Begins l k' → ⊥)) where
-  -- a front of another key begins both or none
+  -- a prefix of another key is a prefix of both keys or of neither
   to_new : (f : Bytes) (j : ℕ) (l : Bytes) → keys j ≡ Some l → j ≢ i → Begins f l → Begins f k → Begins f k'
   to_new f j l is off fl fk =
       elim related [
@@ -64,7 +64,7 @@ module _ {P : ℕ} (keys keys' : ℕ → Option Bytes) (nodes : ℕ → Option N
         | inr z ↦ inl (z.1, sym (ex.others j z.1) ∙ e)
       ]
 
-  -- another key than that of i at a front where two part
+  -- if two keys part at f, a key other than that of i begins with f
   other_at : (f : Bytes) → Parts keys f → (j : ℕ) × (l : Bytes) × (keys j ≡ Some l) × (j ≢ i) × Begins f l
   other_at f p =
       elim (eqb_tells p.i i) [
@@ -79,7 +79,7 @@ module _ {P : ℕ} (keys keys' : ℕ → Option Bytes) (nodes : ℕ → Option N
     fits : NodeFits keys nodes s.front_of f x
     fits = s.node n x x_is
 
-    -- the new key at a front where the old one was, and the other way
+    -- if the old key begins with the front of a node, the new one does, and conversely
     new_here : Begins f k → Begins f k'
     new_here b = let o = other_at f fits.parts in to_new f o.0 o.1 o.2 o.3 o.4 b
 
@@ -106,7 +106,7 @@ module _ {P : ℕ} (keys keys' : ℕ → Option Bytes) (nodes : ℕ → Option N
         let e : next_byte f k ≡ b = sym (new_next fk') ∙ Begins-next f k' b h in
         subst (λ (b : ℕ). Begins (f ++ b ∷ []) k) e (Begins-more f k fk (fits.longer i k ex.was fk))
 
-  -- a front that both keys have or both lack
+  -- a front that both keys have, or neither
   abbrev Alike : Bytes → Type 0
   Alike g = (Begins g k → Begins g k') × (Begins g k' → Begins g k)
 
@@ -185,7 +185,7 @@ module _ {P : ℕ} (keys keys' : ℕ → Option Bytes) (nodes : ℕ → Option N
         ascends = f.ascends;
       }
 
-  -- both keys part from another at one place
+  -- both keys have the same common prefix with another key
   same_common : (j : ℕ) (l : Bytes) → keys j ≡ Some l → j ≢ i → common k l ≡ common k' l
   same_common j l is off =
       let a : Begins (common k l) (common k' l) = common-greatest (common k l) k' l (to_new (common k l) j l is off (common-right k l) (common-left k l)) (common-right k l) in

@@ -1,4 +1,4 @@
--- One key more: what stands where it leaves the tree.
+-- One more key: the nodes and edges along it.
 use Rattle.std.proofs.Common.{◌≡◌, ◌≢◌, ℕ, ◌<◌, [], ◌∷◌, ◌++◌, length, refl, ap, arith, sym, subst, Option, Some, None, IsSome, ◌∙◌, ◌⊎◌, inl, inr, true, false, List}
 use Rattle.std.proofs.lemmas.Bool.{cases_lt}
 use Rattle.std.proofs.lemmas.Bool.Decides.{eqb_tells}
@@ -16,7 +16,7 @@ use Rattle.blart_keys.proofs.Options.{some_of}
 use Rattle.art_cells.proofs.Invariant.Prefixes.{keeps_changed, live_after, live_before}
 use Rattle.art_cells.proofs.BeginsLemmas.{Begins-more, Begins-trans, Begins-linear, Begins-past, next_byte-front, Begins-equal, Begins-cases, common_same, common_at, common_comm}
 
--- the key k goes along other keys as far as t, and no key goes on as it does
+-- t is a prefix of the key k and of another key, and no key continues from t with k's next byte
 pub record Departs (keys : ℕ → Option Bytes) (t k : Bytes) : Type 0 where
   pub front : Begins t k
   pub longer : length t < length k
@@ -34,7 +34,7 @@ module _ (old new : ℕ → Option Bytes) (i : ℕ) (k : Bytes) (gains : Gains o
       let apart : j ≢ i = λ s. (let h : old i ≡ Some l = rw (← s) e in cc) in
       gains.others j apart ∙ e
 
-  -- a key was there, or is the new one
+  -- a key was there before, or is the new one
   pub kept_cases : (j : ℕ) (l : Bytes) → new j ≡ Some l → (old j ≡ Some l) ⊎ ((j ≡ i) × (l ≡ k))
   kept_cases j l e =
       elim (eqb_tells j i) [
@@ -46,7 +46,7 @@ module _ (old new : ℕ → Option Bytes) (i : ℕ) (k : Bytes) (gains : Gains o
         | inr s ↦ inl (sym (gains.others j s.1) ∙ e)
       ]
 
-  -- two keys part at a front, where two old ones do, and the new one does with each of them
+  -- if each two old keys part at a node, and the new key and each old one, each two new keys do
   pub joined_more : (nodes : ℕ → Option Node) (fronts : ℕ → Bytes)
       → ((a b : ℕ) (x y : Bytes) → old a ≡ Some x → old b ≡ Some y → a ≢ b → (m : ℕ) × IsSome (nodes m) × (fronts m ≡ common x y))
       → ((j : ℕ) (l : Bytes) → old j ≡ Some l → (m : ℕ) × IsSome (nodes m) × (fronts m ≡ common k l))
@@ -66,7 +66,7 @@ module _ (old new : ℕ → Option Bytes) (i : ℕ) (k : Bytes) (gains : Gains o
       ]
 
 module _ (keys : ℕ → Option Bytes) (t k : Bytes) (d : Departs keys t k) where
-  -- a front of k that ends before t has an edge toward k, as it has one toward the nearest key
+  -- a prefix of k shorter than t has an edge toward k, the same as toward the nearest key
   pub edge_toward : (g : Bytes) (edges : List Edge) → Begins g k → length g < length t → ((j : ℕ) (l : Bytes) → keys j ≡ Some l → Begins g l → IsSome (child_at edges (next_byte g l))) → IsSome (child_at edges (next_byte g k))
   edge_toward g edges gk h edge =
       let gt : Begins g t = Begins-linear g t k gk d.front (omega arith) in
@@ -75,7 +75,7 @@ module _ (keys : ℕ → Option Bytes) (t k : Bytes) (d : Departs keys t k) wher
       subst (λ (b : ℕ). IsSome (child_at edges b)) (sym c ∙ a) (edge d.nearest d.nearest_key d.nearest_is (Begins-trans g t d.nearest_key gt d.nearest_front))
 
 module _ (keys : ℕ → Option Bytes) (nodes : ℕ → Option Node) (front_of : ℕ → Bytes) (t k : Bytes) (d : Departs keys t k) where
-  -- a front of two keys that begins k ends where k departs, or before
+  -- a prefix of k and of another key ends where k departs, or before
   pub within : (g : Bytes) (j : ℕ) (l : Bytes) → keys j ≡ Some l → Begins g l → Begins g k → Begins g t
   within g j l is gl gk =
       elim (cases_lt (length t) (length g)) [
@@ -83,7 +83,7 @@ module _ (keys : ℕ → Option Bytes) (nodes : ℕ → Option Node) (front_of :
         | inr near ↦ Begins-linear g t k gk d.front near
       ]
 
--- a front of two keys that part after t is a front of t
+-- a common prefix of the two keys that part after t is a prefix of t
 pub Parts-within : (keys : ℕ → Option Bytes) (t f : Bytes) (p : Parts keys t) → Begins f p.k → Begins f p.l → Begins f t
 Parts-within keys t f p a b =
     elim (cases_lt (length t) (length f)) [
@@ -94,7 +94,7 @@ Parts-within keys t f p a b =
       | inr near ↦ Begins-linear f t p.k a p.k_front near
     ]
 
--- one leaf alone does not part
+-- two keys that part are those of two leaves
 pub Parts-two : (keys : ℕ → Option Bytes) (t : Bytes) (p : Parts keys t) (j : ℕ) → p.i ≡ j → p.j ≡ j → ⊥
 Parts-two keys t p j a b =
     let e : keys p.i ≡ Some p.k = p.k_is in
@@ -282,7 +282,7 @@ module _ {P : ℕ} (keys keys' : ℕ → Option Bytes) (nodes nodes' : ℕ → O
       absurd cc
   top_fits (Some c) e = covers_kept [] c (subst (λ (r : Option Child). RootFits keys nodes s.front_of r) e s.top)
 
-  -- an edge to a node is an old one
+  -- an edge to a node was there before
   old_edge : (b j : ℕ) → child_at adds.is.edges b ≡ Some (Inner j) → child_at adds.was.edges b ≡ Some (Inner j)
   old_edge b j e =
       elim (eqb_tells b (next_byte t k)) [
@@ -290,7 +290,7 @@ module _ {P : ℕ} (keys keys' : ℕ → Option Bytes) (nodes nodes' : ℕ → O
         | inr q ↦ sym (adds.edges.rest b q.1) ∙ e
       ]
 
-  -- the tree with one edge more
+  -- the tree with one more edge
   pub shape_added : Shape P keys' nodes' root
   shape_added = record {
     front_of = s.front_of;
@@ -302,12 +302,12 @@ module _ {P : ℕ} (keys keys' : ℕ → Option Bytes) (nodes nodes' : ℕ → O
   }
 
 module _ {P : ℕ} (keys : ℕ → Option Bytes) (nodes : ℕ → Option Node) (root : Option Child) (s : Shape P keys nodes root) where
-  -- what an edge leads to covers the edge's front
+  -- the child of an edge covers the edge's front
   pub covers_above : (above : Option (ℕ × ℕ)) (c : Child) → LeadsTo nodes root above c → Covers keys nodes s.front_of (edge_front s.front_of above) c
   covers_above None c l = subst (λ (r : Option Child). RootFits keys nodes s.front_of r) l s.top
   covers_above (Some e) c l = (s.node e.0 l.0 l.1).below e.1 c l.2
 
-  -- each child stands for some key
+  -- each child covers some key
   pub some_key : (g : Bytes) (c : Child) → Covers keys nodes s.front_of g c → (j : ℕ) × (l : Bytes) × (keys j ≡ Some l) × Begins g l
   some_key g (Leaf j) c = (j, c.key, c.is, c.front)
   some_key g (Inner m) c =
@@ -321,11 +321,11 @@ module _ {P : ℕ} (keys : ℕ → Option Bytes) (nodes : ℕ → Option Node) (
       let r = some_key (s.front_of n ++ next_byte (s.front_of n) k ∷ []) c ((s.node n x is).below (next_byte (s.front_of n) k) c e) in
       absurd (d.alone r.0 r.1 r.2 r.3)
 
-  -- where a key departs at a node, the node has no edge at the key's next byte
+  -- if a key departs at a node, the node has no edge at the key's next byte
   pub no_edge : (n b : ℕ) (x : Node) (k : Bytes) → nodes n ≡ Some x → Departs keys (s.front_of n) k → b ≡ next_byte (s.front_of n) k → child_at x.edges b ≡ None
   no_edge n b x k is d e = ap (child_at x.edges) e ∙ empty_edge n x k is d (child_at x.edges (next_byte (s.front_of n) k)) refl
 
--- a node where a key departs gets an edge to its leaf
+-- a node at which a key departs gets an edge to its leaf
 pub leaf_added : {P : ℕ} → (keys keys' : ℕ → Option Bytes) (nodes nodes' : ℕ → Option Node) (root : Option Child) (n b i : ℕ) (k : Bytes) (s : Shape P keys nodes root)
     → Gains keys keys' i k → Departs keys (s.front_of n) k → b ≡ next_byte (s.front_of n) k → AddsEdgeTo nodes nodes' n b (Leaf i) → Shape P keys' nodes' root
 leaf_added keys keys' nodes nodes' root n b i k s gains d e adds =

@@ -1,4 +1,4 @@
--- A leaf's number becomes another: the edge that leads to it leads to the new number.
+-- A leaf gets another number, and the edge to the leaf leads to the new number.
 use Rattle.std.proofs.Common.{◌≡◌, ◌≢◌, ℕ, ◌⊎◌, sym, subst, Option, Some, None, ◌∙◌, inl, inr}
 use Rattle.std.proofs.lemmas.Bool.Decides.{eqb_tells}
 use Rattle.art_cells.specs.Begins.{Bytes, Begins}
@@ -11,7 +11,7 @@ use Rattle.art_cells.proofs.Invariant.Growing.{covers_above}
 use Rattle.art_cells.proofs.Invariant.Pruning.{PrunesTo, shape_led}
 use Rattle.art_cells.proofs.Invariant.Subtrees.{frees_below_leaf}
 
--- the key of the leaf i stands under the fresh number j, and the others stand
+-- the key of the leaf i is under the fresh number j, and the others are unchanged
 pub record Renumbers (old new : ℕ → Option Bytes) (i j : ℕ) : Type 0 where
   pub key : Bytes
   pub was : old i ≡ Some key
@@ -21,7 +21,7 @@ pub record Renumbers (old new : ℕ → Option Bytes) (i j : ℕ) : Type 0 where
   pub others : (n : ℕ) → n ≢ i → n ≢ j → new n ≡ old n
 
 module _ (old new : ℕ → Option Bytes) (i j : ℕ) (re : Renumbers old new i j) where
-  -- a key that is there now is that of the leaf, or was there
+  -- a key is that of the leaf, or was there before
   pub now_cases : (n : ℕ) (l : Bytes) → new n ≡ Some l → ((n ≡ j) × (re.key ≡ l)) ⊎ (old n ≡ Some l)
   now_cases n l e =
       elim (eqb_tells n j) [
@@ -37,7 +37,7 @@ module _ (old new : ℕ → Option Bytes) (i j : ℕ) (re : Renumbers old new i 
     low : Begins g re.key
     low = let a : old i ≡ Some cov.key = cov.is in let b : old i ≡ Some re.key = re.was in let z : cov.key ≡ re.key = cc in subst (λ (l : Bytes). Begins g l) z cov.front
 
-    -- where the front is that of the leaf alone, its key is left of those that begin with it
+    -- if only the leaf's key has the front, it is the one key left of those that begin with it
     prunes_to : PrunesTo old new g j re.key
     prunes_to = record {
       was = (i, re.was);
@@ -56,7 +56,7 @@ module _ (old new : ℕ → Option Bytes) (i j : ℕ) (re : Renumbers old new i 
     }
 
 module _ {P : ℕ} (keys : ℕ → Option Bytes) (nodes : ℕ → Option Node) (root : Option Child) (s : Shape P keys nodes root) (i : ℕ) where
-  -- the tree where a leaf has another number, and the edge above leads to that
+  -- the tree if a leaf has another number, and the edge above is redirected to it
   pub leaf_led : (keys' : ℕ → Option Bytes) (nodes' : ℕ → Option Node) (root' : Option Child) (j : ℕ) (above : Option (ℕ × ℕ)) → Renumbers keys keys' i j → LeadsTo nodes root above (Leaf i) → TurnsTo nodes nodes' root root' above (Leaf j) → Shape P keys' nodes' root'
   leaf_led keys' nodes' root' j above re leads turns =
       shape_led keys nodes nodes root s (Leaf i) keys' nodes' root' j re.key above leads (frees_below_leaf keys nodes root s above i leads) turns

@@ -1,4 +1,4 @@
--- One key less: a leaf goes from its node.
+-- One key less: a leaf is removed from its node.
 use Rattle.std.proofs.Common.{◌≡◌, ◌≢◌, ℕ, ◌+◌, ◌<◌, ◌≤◌, List, [], ◌∷◌, ◌++◌, length, take, drop, refl, ap, arith, sym, subst, Option, Some, None, IsSome, ◌∙◌, ◌⊎◌, inl, inr, eq-eqb, length-append}
 use Rattle.std.proofs.lemmas.Bool.{cases_lt, ne_eqb}
 use Rattle.std.proofs.lemmas.Bool.Decides.{eqb_tells}
@@ -21,7 +21,7 @@ use Rattle.art_cells.proofs.Invariant.Splitting.{Recut}
 use Rattle.art_cells.proofs.Invariant.Subtrees.{above_leaf, above_node}
 use Rattle.blart_keys.proofs.Options.{is_some, some_of, not_some, same_some}
 
--- the node p is gone, which had an edge to a leaf at b and the child c1, and the edge to it leads to c1 now
+-- the node p, which had the child c1 and one other, is removed, and the edge to it now leads to c1
 pub record Merges (old new : ℕ → Option Node) (front_of : ℕ → Bytes) (root root' : Option Child) (g0 : Bytes) (c1 : Child) (was : Node) (p b b1 : ℕ) : Type 0 where
   pub gone : new p ≡ None
   pub high : child_at was.edges b1 ≡ Some c1
@@ -61,7 +61,7 @@ module _ {P : ℕ} (keys keys' : ℕ → Option Bytes) (nodes : ℕ → Option N
       let h : leaf_i.key ≡ k = cc in
       rw (← h) leaf_i.front
 
-  -- the leaf i hangs on one edge
+  -- only the node p has an edge to the leaf i
   one_leaf : (m : ℕ) → IsSome (nodes m) → (c : ℕ) → CoversLeaf keys (s.front_of m ++ c ∷ []) i → m ≡ p
   one_leaf m live c cov =
       let f : Bytes = s.front_of m in
@@ -82,7 +82,7 @@ module _ {P : ℕ} (keys keys' : ℕ → Option Bytes) (nodes : ℕ → Option N
             ]
       ]
 
-  -- another key than that of i below a child
+  -- a key other than that of i below a child
   other_key : (g : Bytes) (c : Child) → c ≢ Leaf i → Covers keys nodes s.front_of g c → (j : ℕ) × (l : Bytes) × (keys' j ≡ Some l) × Begins g l
   other_key g (Leaf j) h cov =
       let off : j ≢ i = λ e. h (ap (λ (j : ℕ). Leaf j) e) in
@@ -100,7 +100,7 @@ module _ {P : ℕ} (keys keys' : ℕ → Option Bytes) (nodes : ℕ → Option N
   leaf_kept : (g : Bytes) (j : ℕ) → j ≢ i → CoversLeaf keys g j → CoversLeaf keys' g j
   leaf_kept g j off c = record { key = c.key; is = kept j c.key c.is off; front = c.front; only = λ j' l e h. c.only j' l (was_key j' l e) h }
 
-  -- a key with the same next byte that is left
+  -- a remaining key with the same next byte
   instead : (m : ℕ) (x : Node) → nodes m ≡ Some x → m ≢ p → (j : ℕ) (l : Bytes) → keys j ≡ Some l → Begins (s.front_of m) l
       → (j' : ℕ) × (l' : Bytes) × (keys' j' ≡ Some l') × Begins (s.front_of m) l' × (next_byte (s.front_of m) l' ≡ next_byte (s.front_of m) l)
   instead m x is off j l e h =
@@ -131,7 +131,7 @@ module _ {P : ℕ} (keys keys' : ℕ → Option Bytes) (nodes : ℕ → Option N
 
   module _ (nodes' : ℕ → Option Node) (root' : Option Child) (g0 : Bytes) (c1 : Child) (b1 : ℕ) (merges : Merges nodes nodes' s.front_of root root' g0 c1 was p b b1) (covers0 : CoversNode keys nodes s.front_of g0 p)
       (recut : Recut P nodes nodes' s.front_of g0 c1) (one : (a : Option (ℕ × ℕ)) (j : ℕ) → LeadsTo nodes root a (Inner j) → c1 ≡ Inner j → a ≡ Some (p, b1)) where
-    -- the node p hangs on one edge
+    -- only one edge leads to the node p
     one_edge : (m : ℕ) → IsSome (nodes m) → (c : ℕ) → CoversNode keys nodes s.front_of (s.front_of m ++ c ∷ []) p → s.front_of m ++ c ∷ [] ≡ g0
     one_edge m live c cov =
         let f : Bytes = s.front_of m in
@@ -180,7 +180,7 @@ module _ {P : ℕ} (keys keys' : ℕ → Option Bytes) (nodes : ℕ → Option N
           | inr e ↦ node_kept _ m' e.1 c
         ]
 
-    -- a key that is left and begins with t goes on by b1
+    -- a remaining key that begins with t continues with b1
     left_p : (j : ℕ) (l : Bytes) → keys' j ≡ Some l → Begins t l → Begins (t ++ b1 ∷ []) l
     left_p j l e h =
         let old : keys j ≡ Some l = was_key j l e in
@@ -275,7 +275,7 @@ module _ {P : ℕ} (keys keys' : ℕ → Option Bytes) (nodes : ℕ → Option N
         omega arith) in
         (r.0, live_kept r.0 off r.1, r.2)
 
-    -- the root, where it is not p that stood there
+    -- the root, if it was not p
     top_kept : (r : Option Child) → root ≡ r → (m : ℕ) (c : ℕ) → IsSome (nodes m) → g0 ≡ s.front_of m ++ c ∷ [] → RootFits keys' nodes' s.front_of r
     top_kept None e m c live at = λ j.
         let h : RootFits keys nodes s.front_of None = subst (λ (r : Option Child). RootFits keys nodes s.front_of r) e s.top in
@@ -302,13 +302,13 @@ module _ {P : ℕ} (keys keys' : ℕ → Option Bytes) (nodes : ℕ → Option N
           | inr a ↦ rw a.4 (top_kept root refl a.0 a.1 a.2 a.3)
         ]
 
-    -- what came up keeps what its front has after the edge above
+    -- the child that moved up keeps the bytes that its front has after the edge above
     kept_up : (g : Bytes) (j : ℕ) (x' : Node) → c1 ≡ Inner j → g ≡ g0 → nodes' j ≡ Some x' → x'.prefix ≡ take P (drop (length g) (s.front_of j))
     kept_up g j x' e same is =
         let w = was_live j x' is (nodes j) refl in
         recut.own j w.0 x' w.1 is e ∙ ap (λ (z : Bytes). take P (drop (length z) (s.front_of j))) (sym same)
 
-    -- and another node what it kept
+    -- and each other node keeps its prefix
     kept_stays : (a : Option (ℕ × ℕ)) (j : ℕ) (x' : Node) → LeadsTo nodes root a (Inner j) → (a ≡ Some (p, b1) → ⊥) → nodes' j ≡ Some x' → x'.prefix ≡ kept_prefix P s.front_of a j
     kept_stays a j x' l far is =
         let w = was_live j x' is (nodes j) refl in
@@ -367,7 +367,7 @@ module _ {P : ℕ} (keys keys' : ℕ → Option Bytes) (nodes : ℕ → Option N
     node_stays : (g : Bytes) (m : ℕ) → CoversNode keys nodes s.front_of g m → CoversNode keys' nodes' s.front_of g m
     node_stays g m c = record { live = still_live m c.live; front = c.front; only = λ j l e h. c.only j l (was_key j l e) h }
 
-    -- the leaf hangs on the edge that goes
+    -- only the edge at b leads to the leaf
     one_byte : (c : ℕ) → CoversLeaf keys (t ++ c ∷ []) i → c ≡ b
     one_byte c cov =
         let e : keys i ≡ Some k = loses.was in
@@ -405,7 +405,7 @@ module _ {P : ℕ} (keys keys' : ℕ → Option Bytes) (nodes : ℕ → Option N
     kept_cover : (c : ℕ) (d : Child) → child_at drops.is.edges c ≡ Some d → Covers keys nodes s.front_of (t ++ c ∷ []) d
     kept_cover c d e = fits_p.below c d (sym (kept_child c (not_dropped c d e)) ∙ e)
 
-    -- a key that is left at an edge that is left
+    -- a remaining key at a remaining edge
     key_left : (c : ℕ) (d : Child) → child_at drops.is.edges c ≡ Some d → (j : ℕ) × (l : Bytes) × (keys' j ≡ Some l) × Begins (t ++ c ∷ []) l
     key_left c d e =
         let off : d ≢ Leaf i = λ z. not_dropped c d e (one_byte c (subst (λ (d : Child). Covers keys nodes s.front_of (t ++ c ∷ []) d) z (kept_cover c d e))) in
@@ -469,7 +469,7 @@ module _ {P : ℕ} (keys keys' : ℕ → Option Bytes) (nodes : ℕ → Option N
     top_stays (Some (Leaf j)) e = absurd (above_leaf keys nodes root s p live_p [] j (subst (λ (r : Option Child). RootFits keys nodes s.front_of r) e s.top) tt)
     top_stays (Some (Inner n)) e = node_stays [] n (subst (λ (r : Option Child). RootFits keys nodes s.front_of r) e s.top)
 
-    -- the tree where a node with three edges or more lost one, to a leaf
+    -- the tree if a node with three edges or more lost one, which led to a leaf
     pub shape_dropped : Shape P keys' nodes' root
     shape_dropped = record {
       front_of = s.front_of;
@@ -483,7 +483,7 @@ module _ {P : ℕ} (keys keys' : ℕ → Option Bytes) (nodes : ℕ → Option N
   -- ---- a node with two edges
 
   module _ (cut mid new : ℕ → Option Node) (root' : Option Child) (b1 : ℕ) (c1 : Child) (high : child_at was.edges b1 ≡ Some c1) (two : b ≢ b1) (just : length was.edges ≡ 2) (frees : Frees mid new p) where
-    -- it has no others
+    -- it has no other edges
     pub only_two : (es : List Edge) → length es ≡ 2 → IsSome (child_at es b) → IsSome (child_at es b1) → (c : ℕ) → IsSome (child_at es c) → (c ≡ b) ⊎ (c ≡ b1)
     only_two [] l hb hb1 c hc = absurd (omega arith)
     only_two (x ∷ []) l hb hb1 c hc = absurd (omega arith)
@@ -520,7 +520,7 @@ module _ {P : ℕ} (keys keys' : ℕ → Option Bytes) (nodes : ℕ → Option N
       above_live None l e is = absurd cc
       above_live (Some d) l e is = let z : d ≡ e = cc in subst (λ (w : ℕ × ℕ). IsSome (nodes w.0)) z (is_some (nodes d.0) l.0 l.1)
 
-      -- what became of a node
+      -- the change of a node
       turned : (m : ℕ) (x : Node) → m ≢ p → nodes m ≡ Some x → (x' : Node) × (new m ≡ Some x') × Turns x x' (s.front_of m) g0 (Inner p) c1
       turned m x off is =
           let y = cut_node P nodes cut s.front_of g0 c1 cuts m x is in
@@ -561,7 +561,7 @@ module _ {P : ℕ} (keys keys' : ℕ → Option Bytes) (nodes : ℕ → Option N
         own = λ m x x' was is same. (let y = cut_node P nodes cut s.front_of g0 c1 cuts m x was in prefix_led m y.0 x' y.1 is ∙ y.2.own same);
       }
 
-      -- the tree where the edge above a node with two edges leads to its other child, and the node is gone
+      -- the tree if the edge above a node with two edges leads to its other child, not to the node
       pub edge_merged : Shape P keys' new root'
       edge_merged =
           shape_merged new root' g0 c1 b1 merges (covers_above keys nodes root s above (Inner p) leads) recut

@@ -23,19 +23,19 @@ module _ (n m : ℕ) where
   child_renamed (Leaf i) = Leaf i
   child_renamed (Inner j) = Inner (new_number j)
 
-  -- and for what an edge leads to
+  -- and for the child of an edge, if there is one
   abbrev pub renamed : Option Child → Option Child
   renamed None = None
   renamed (Some c) = Some (child_renamed c)
 
-  -- the node is the same but for the number
+  -- the node is the same, except for the number n
   pub record SameNode (x x' : Node) : Type 0 where
     pub depth : x'.depth ≡ x.depth
     pub prefix : x'.prefix ≡ x.prefix
     pub edges : (b : ℕ) → child_at x'.edges b ≡ renamed (child_at x.edges b)
     pub ascends : Ascends x.edges → Ascends x'.edges
 
-  -- the nodes are those of old, the one under n under m, and each edge leads where it led
+  -- the nodes are the old ones, with n's under m, and each edge leads to the same node
   pub record Moves (old new : ℕ → Option Node) : Type 0 where
     pub live : IsSome (old n)
     pub fresh : m ≢ n → old m ≡ None
@@ -99,7 +99,7 @@ module _ {P : ℕ} (keys : ℕ → Option Bytes) (nodes nodes' : ℕ → Option 
   top_moved None h = h
   top_moved (Some c) h = covers_moved [] c h
 
-  -- an edge to a node was one to it by the other number
+  -- an edge to a node led to the same node by its old number
   edge_was : (a : Option (ℕ × ℕ)) (k : ℕ) → LeadsTo nodes' (renamed n m root) a (Inner k) → (a' : Option (ℕ × ℕ)) × (j : ℕ) × LeadsTo nodes root a' (Inner j) × (new_number n m j ≡ k) × (edge_front fronts_after a ≡ edge_front s.front_of a')
   edge_was None k l =
       let r = renamed_some n m root (Inner k) l in
@@ -146,7 +146,7 @@ module _ {P : ℕ} (keys : ℕ → Option Bytes) (nodes nodes' : ℕ → Option 
     keeps = kept_moved;
   }
 
-  -- the fronts: m has that of n
+  -- the fronts: m has the front of n
   pub front_of_moved : (k : ℕ) → shape_moved.front_of k ≡ fronts_after k
   unfolding shape_moved
   front_of_moved k = refl

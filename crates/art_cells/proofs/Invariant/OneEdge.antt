@@ -1,4 +1,4 @@
--- One edge leads to each node.
+-- Only one edge leads to each node.
 use Rattle.std.proofs.Common.{◌≡◌, ◌≢◌, ℕ, ◌+◌, ◌≤◌, [], ◌∷◌, ◌++◌, length, refl, ap, arith, sym, subst, Option, Some, None, ◌∙◌, inl, inr, cond, eqb, eq-eqb, true, false, length-append}
 use Rattle.std.proofs.lemmas.Bool.{cases_lt, ne_eqb}
 use Rattle.std.proofs.lemmas.Bool.Decides.{eqb_tells}
@@ -36,7 +36,7 @@ module _ {P : ℕ} (keys : ℕ → Option Bytes) (nodes : ℕ → Option Node) (
       let k : length (s.front_of q) ≡ length (s.front_of n) = ap (λ z. length (s.front_of z)) h in
       absurd (omega arith)
 
-  -- one edge leads to a node
+  -- only one edge leads to a node
   pub one_edge : (p b q c n : ℕ) (y x : Node) → nodes p ≡ Some y → nodes q ≡ Some x → child_at y.edges b ≡ Some (Inner n) → child_at x.edges c ≡ Some (Inner n) → (q ≡ p) × (c ≡ b)
   one_edge p b q c n y x py qx eb ec =
       let fp = s.front_of p in
@@ -66,7 +66,7 @@ module _ {P : ℕ} (keys : ℕ → Option Bytes) (nodes : ℕ → Option Node) (
       let a : CoversNode keys nodes s.front_of [] n = subst (λ (r : Option Child). RootFits keys nodes s.front_of r) e s.top in
       over [] n q c x is a (covers q c n x is ec) (omega arith)
 
--- one edge leads to a node
+-- only one edge, or the root, leads to a node
 pub one_above : {P : ℕ} → (keys : ℕ → Option Bytes) (nodes : ℕ → Option Node) (root : Option Child) (s : Shape P keys nodes root) (n : ℕ) (a b : Option (ℕ × ℕ)) → LeadsTo nodes root a (Inner n) → LeadsTo nodes root b (Inner n) → a ≡ b
 one_above keys nodes root s n None None l m = refl
 one_above keys nodes root s n None (Some e) l m = absurd (no_edge_to keys nodes root s e.0 e.1 n m.0 l m.1 m.2)
@@ -88,19 +88,19 @@ same_node n m x h = record { depth = refl; prefix = refl; edges = λ b. sym (ren
 pub new_number-at : (n m : ℕ) → new_number n m n ≡ m
 new_number-at n m = let t : eqb n n ≡ true = eq-eqb n n refl in rw t refl
 
--- each other number stands
+-- each other number is unchanged
 pub new_number-off : (n m j : ℕ) → j ≢ n → new_number n m j ≡ j
 new_number-off n m j h = let t : eqb j n ≡ false = ne_eqb j n h in rw t refl
 
 module _ {P : ℕ} (keys : ℕ → Option Bytes) (nodes mid : ℕ → Option Node) (r : Child) (n m : ℕ) (s : Shape P keys nodes (Some r)) (ren : Renames nodes mid n m) where
-  -- a live number is no fresh one
+  -- a live number is not the fresh one
   off_fresh : (j : ℕ) (x : Node) → nodes j ≡ Some x → j ≢ n → j ≢ m
   off_fresh j x is off e = elim (eqb_tells m n) [
     | inl f ↦ off (e ∙ f.1)
     | inr f ↦ (let g : nodes m ≡ None = ren.fresh f.1 in let h : nodes m ≡ Some x = rw (← e) is in let k : Some x ≡ None = sym h ∙ g in absurd cc)
   ]
 
-  -- a number that is live now was, or is that of the node
+  -- a number that is live now was live before, or is the new one
   was_live : (k : ℕ) (x : Node) → mid k ≡ Some x → k ≢ m → (k ≢ n) × (nodes k ≡ Some x)
   was_live k x is off =
       let nn : k ≢ n = λ e. (let mn : m ≢ n = λ f. off (e ∙ sym f) in let g : mid n ≡ None = ren.gone mn in let h : mid n ≡ Some x = rw (← e) is in let z : Some x ≡ None = sym h ∙ g in absurd cc) in
@@ -130,16 +130,16 @@ module _ {P : ℕ} (keys : ℕ → Option Bytes) (nodes mid : ℕ → Option Nod
   root_renamed : r ≡ Inner n → renamed n m (Some r) ≡ Some (Inner m)
   root_renamed e = ap (λ (t : Child). renamed n m (Some t)) e ∙ ap (λ z. Some (Inner z)) (new_number-at n m)
 
-  -- where the root leads to the node
+  -- if the root is the node
   pub moved_root : r ≡ Inner n → Shape P keys mid (Some (Inner m))
   moved_root e = rooted (shape_moved keys nodes mid (Some r) n m s (root_moves e)) (root_renamed e)
 
-  -- the fronts: m has that of n
+  -- the fronts: m has the front of n
   pub moved_root-front : (e : r ≡ Inner n) (k : ℕ) → (moved_root e).front_of k ≡ cond (eqb k m) (s.front_of n) (s.front_of k)
   unfolding moved_root
   moved_root-front e k = rooted-front keys mid (renamed n m (Some r)) (Some (Inner m)) (shape_moved keys nodes mid (Some r) n m s (root_moves e)) (root_renamed e) k ∙ front_of_moved keys nodes mid (Some r) n m s (root_moves e) k
 
-  -- where an edge leads to the node
+  -- if an edge leads to the node
   module _ (new : ℕ → Option Node) (p b : ℕ) (x0 : Node) (x0_is : nodes p ≡ Some x0) (leads : child_at x0.edges b ≡ Some (Inner n)) (red : Redirects mid new p b (Inner m)) where
     p_off : p ≢ n
     p_off = not_itself keys nodes (Some r) s p b n x0 x0_is leads
@@ -212,11 +212,11 @@ module _ {P : ℕ} (keys : ℕ → Option Bytes) (nodes mid : ℕ → Option Nod
     root_stays : renamed n m (Some r) ≡ Some r
     root_stays = renamed-off n m (Some r) (λ e. no_edge_to keys nodes (Some r) s p b n x0 e x0_is leads)
 
-    -- the tree where that edge leads to the new number
+    -- the tree if that edge is redirected to the new number
     pub moved_edge : Shape P keys new (Some r)
     moved_edge = rooted (shape_moved keys nodes new (Some r) n m s edge_moves) root_stays
 
-    -- the fronts: m has that of n
+    -- the fronts: m has the front of n
     pub moved_edge-front : (k : ℕ) → moved_edge.front_of k ≡ cond (eqb k m) (s.front_of n) (s.front_of k)
     unfolding moved_edge
     moved_edge-front k = rooted-front keys new (renamed n m (Some r)) (Some r) (shape_moved keys nodes new (Some r) n m s edge_moves) root_stays k ∙ front_of_moved keys nodes new (Some r) n m s edge_moves k
@@ -231,7 +231,7 @@ kept_mid nodes mid n m j x ren is off =
     ] in
     ren.others j off far ∙ is
 
--- the tree with a node under another number, to which the edge above leads now, and the front of each number
+-- the tree with a node under another number, to which the edge above now leads, and the fronts
 pub node_moved : {P : ℕ} → (keys : ℕ → Option Bytes) (nodes mid new : ℕ → Option Node) (root root' : Option Child) (n m : ℕ) (above : Option (ℕ × ℕ)) (s : Shape P keys nodes root)
     → Renames nodes mid n m → LeadsTo nodes root above (Inner n) → TurnsTo mid new root root' above (Inner m)
     → (s' : Shape P keys new root') × ((k : ℕ) → s'.front_of k ≡ cond (eqb k m) (s.front_of n) (s.front_of k))

@@ -1,4 +1,4 @@
--- All keys below an edge go but one, whose leaf takes the place of what stood there.
+-- All keys below an edge but one are removed, and the leaf of that key replaces the child.
 use Rattle.std.proofs.Common.{◌≡◌, ◌≢◌, ℕ, ◌+◌, ◌≤◌, [], ◌∷◌, ◌++◌, length, refl, ap, arith, sym, subst, Option, Some, None, IsSome, ◌∙◌, inl, inr, length-append}
 use Rattle.std.proofs.lemmas.Bool.{cases_lt}
 use Rattle.art_cells.specs.Begins.{Bytes, Begins, next_byte}
@@ -18,7 +18,7 @@ use Rattle.art_cells.proofs.Invariant.SmallShapes.{shape_one}
 use Rattle.art_cells.proofs.Invariant.EdgesAbove.{Turns, turned_node}
 use Rattle.blart_keys.proofs.Options.{is_some, some_of}
 
--- of the keys that begin with g one is left, under the number i, which may be a new one, and all others stand
+-- of the keys that begin with g one is left, under the number i, maybe a new one; the others remain
 pub record PrunesTo (old new : ℕ → Option Bytes) (g : Bytes) (i : ℕ) (k : Bytes) : Type 0 where
   pub was : (j : ℕ) × (old j ≡ Some k)
   pub front : Begins g k
@@ -27,11 +27,11 @@ pub record PrunesTo (old new : ℕ → Option Bytes) (g : Bytes) (i : ℕ) (k : 
   pub stood : (j : ℕ) (l : Bytes) → new j ≡ Some l → (Begins g l → ⊥) → old j ≡ Some l
   pub only : (j : ℕ) (l : Bytes) → new j ≡ Some l → Begins g l → j ≡ i
 
--- so it is where the leaf keeps its number
+-- so it is if the leaf keeps its number
 pub own_number : (old new : ℕ → Option Bytes) (g : Bytes) (i : ℕ) (k : Bytes) → Prunes old new g i k → PrunesTo old new g i k
 own_number old new g i k p = record { was = (i, p.was); front = p.front; now = p.now; kept = p.kept; stood = λ j l e off. p.stood j l e; only = p.only }
 
--- the nodes whose fronts begin with g are gone, and the edge at g leads to the leaf i now
+-- the nodes whose fronts begin with g are removed, and the edge at g now leads to the leaf i
 pub record PrunesNodes (old new : ℕ → Option Node) (front_of : ℕ → Bytes) (g : Bytes) (c : Child) (i : ℕ) : Type 0 where
   pub gone : (m : ℕ) → Begins g (front_of m) → new m ≡ None
   pub others : (m : ℕ) (x : Node) → (Begins g (front_of m) → ⊥) → old m ≡ Some x → (x' : Node) × (new m ≡ Some x') × Turns x x' (front_of m) g c (Leaf i) × (x'.prefix ≡ x.prefix)
@@ -45,7 +45,7 @@ module _ {P : ℕ} (keys keys' : ℕ → Option Bytes) (nodes nodes' : ℕ → O
   g_length : length g ≡ length (s.front_of p) + 1
   g_length = length-append (s.front_of p) (b ∷ [])
 
-  -- a key was there, and under the same number where it is not the one that is left
+  -- a key was there, under the same number unless it begins with g
   was_key : (j : ℕ) (l : Bytes) → keys' j ≡ Some l → (n : ℕ) × (keys n ≡ Some l) × ((Begins g l → ⊥) → n ≡ j)
   was_key j l e = elim (Begins-cases g l) [
     | inr off ↦ (j, prunes.stood j l e off, λ h. refl)
@@ -59,7 +59,7 @@ module _ {P : ℕ} (keys keys' : ℕ → Option Bytes) (nodes nodes' : ℕ → O
   live_kept : (m : ℕ) → IsSome (nodes m) → (Begins g (s.front_of m) → ⊥) → IsSome (nodes' m)
   live_kept m live off = let x = some_of (nodes m) live in let y = cuts.others m x.0 off x.1 in is_some (nodes' m) y.0 y.1
 
-  -- what stands for a front that goes no further than p does not change
+  -- a child is unchanged if its front reaches no further along g than the front of p
   cover_kept : (f : Bytes) (e : Child) → ((l : Bytes) → Begins f l → Begins g l → Begins f (s.front_of p)) → Covers keys nodes s.front_of f e → Covers keys' nodes' s.front_of f e
   cover_kept f (Leaf j) far cov =
       let off : Begins g cov.key → ⊥ = λ h. above_leaf keys nodes root s p live_p f j cov (far cov.key cov.front h) in
@@ -72,7 +72,7 @@ module _ {P : ℕ} (keys keys' : ℕ → Option Bytes) (nodes nodes' : ℕ → O
       omega arith) in
       record { live = live_kept n cov.live off; front = cov.front; only = λ j l e h. (let w = was_key j l e in cov.only w.0 l w.1 h) }
 
-  -- another edge of a node that is left goes no further
+  -- another edge of a remaining node reaches no further
   other_edge : (m d : ℕ) → (Begins g (s.front_of m) → ⊥) → s.front_of m ++ d ∷ [] ≢ g → (l : Bytes) → Begins (s.front_of m ++ d ∷ []) l → Begins g l → Begins (s.front_of m ++ d ∷ []) (s.front_of p)
   other_edge m d off other l fl gl =
       let f : Bytes = s.front_of m ++ d ∷ [] in
@@ -89,7 +89,7 @@ module _ {P : ℕ} (keys keys' : ℕ → Option Bytes) (nodes nodes' : ℕ → O
   leaf_now : CoversLeaf keys' g i
   leaf_now = record { key = k; is = prunes.now; front = prunes.front; only = λ j l e h. prunes.only j l e h }
 
-  -- a key with the same next byte that is left
+  -- a remaining key with the same next byte
   instead : (m : ℕ) → (Begins g (s.front_of m) → ⊥) → (j : ℕ) (l : Bytes) → keys j ≡ Some l → Begins (s.front_of m) l → (j' : ℕ) × (l' : Bytes) × (keys' j' ≡ Some l') × Begins (s.front_of m) l' × (next_byte (s.front_of m) l' ≡ next_byte (s.front_of m) l)
   instead m off j l e h = elim (Begins-cases g l) [
     | inr far ↦ (j, l, prunes.kept j l e far, h, refl)
@@ -199,7 +199,7 @@ module _ {P : ℕ} (keys keys' : ℕ → Option Bytes) (nodes nodes' : ℕ → O
       let z : x' ≡ y.0 = cc in
       ap (λ (x : Node). x.prefix) z ∙ y.3 ∙ s.keeps a n w.0 (led a n l) w.1
 
-  -- the tree, of what was below the edge one leaf is left
+  -- the tree: of the keys below the edge, one leaf is left
   pub shape_pruned : Shape P keys' nodes' root
   shape_pruned = record {
     front_of = s.front_of;
@@ -216,14 +216,14 @@ module _ {P : ℕ} (keys keys' : ℕ → Option Bytes) (nodes nodes' : ℕ → O
   }
 
 module _ {P : ℕ} (keys : ℕ → Option Bytes) (nodes mid : ℕ → Option Node) (root : Option Child) (s : Shape P keys nodes root) (p b : ℕ) (c : Child) (leads : LeadsTo nodes root (Some (p, b)) c) (up : FreesSubtree nodes mid s.front_of (s.front_of p ++ b ∷ [])) where
-  -- the edge's node does not hang below it
+  -- the edge's node is not below the edge
   off_below : Begins (s.front_of p ++ b ∷ []) (s.front_of p) → ⊥
   off_below h =
       let l1 : length (s.front_of p ++ b ∷ []) ≤ length (s.front_of p) = Begins-length _ _ h in
       let l2 : length (s.front_of p ++ b ∷ []) ≡ length (s.front_of p) + 1 = length-append (s.front_of p) (b ∷ []) in
       omega arith
 
-  -- the edge stands where what hung below it is gone
+  -- the edge still leads to the child's number once the nodes below it are removed
   pub leads_still : LeadsTo mid root (Some (p, b)) c
   leads_still = (leads.0, up.kept p off_below ∙ leads.1, leads.2)
 
@@ -231,7 +231,7 @@ module _ {P : ℕ} (keys : ℕ → Option Bytes) (nodes mid : ℕ → Option Nod
     edge_live : (e : ℕ × ℕ) → Some (p, b) ≡ Some e → IsSome (nodes e.0)
     edge_live e is = let z : (p, b) ≡ e = cc in subst (λ (w : ℕ × ℕ). IsSome (nodes w.0)) z (is_some (nodes p) leads.0 leads.1)
 
-    -- the edge leads to the leaf then
+    -- once redirected, the edge leads to the leaf
     pub cuts_freed : PrunesNodes nodes new s.front_of (s.front_of p ++ b ∷ []) c i
     cuts_freed = record {
       gone = λ m h. red.others m (λ e. off_below (subst (λ (n : ℕ). Begins (s.front_of p ++ b ∷ []) (s.front_of n)) e h)) ∙ up.gone m h;
@@ -247,17 +247,17 @@ module _ {P : ℕ} (keys : ℕ → Option Bytes) (nodes mid : ℕ → Option Nod
           ];
     }
 
-    -- and the tree stands for the keys that are left
+    -- and the tree has the keys that are left
     pub shape_freed : (keys' : ℕ → Option Bytes) (k : Bytes) → PrunesTo keys keys' (s.front_of p ++ b ∷ []) i k → Shape P keys' new root
     shape_freed keys' k prunes = shape_pruned keys keys' nodes new root p b i k c s (is_some (nodes p) leads.0 leads.1) prunes cuts_freed
 
 module _ {P : ℕ} (keys : ℕ → Option Bytes) (nodes mid : ℕ → Option Node) (root : Option Child) (s : Shape P keys nodes root) (c : Child) where
-  -- also the way into the root
+  -- the same for the edge above, or the root
   pub leads_on : (above : Option (ℕ × ℕ)) → LeadsTo nodes root above c → FreesSubtree nodes mid s.front_of (edge_front s.front_of above) → LeadsTo mid root above c
   leads_on None l up = l
   leads_on (Some (p, b)) l up = leads_still keys nodes mid root s p b c l up
 
-  -- and where that leads to the leaf it is the whole tree
+  -- and once that leads to the leaf, the tree has the keys that are left
   pub shape_led : (keys' : ℕ → Option Bytes) (new : ℕ → Option Node) (root' : Option Child) (i : ℕ) (k : Bytes) (above : Option (ℕ × ℕ)) → LeadsTo nodes root above c → FreesSubtree nodes mid s.front_of (edge_front s.front_of above) → TurnsTo mid new root root' above (Leaf i) → PrunesTo keys keys' (edge_front s.front_of above) i k → Shape P keys' new root'
   shape_led keys' new root' i k None l up t prunes = rooted (shape_one keys' new (λ n. t.0 n ∙ up.gone n tt) i k prunes.now (λ j m e. prunes.only j m e tt)) (sym t.1)
   shape_led keys' new root' i k (Some (p, b)) l up t prunes = rooted (shape_freed keys nodes mid root s p b c l up new i t.0 keys' k prunes) (sym t.1)

@@ -1,4 +1,4 @@
--- Nodes that hang below one of them and nowhere else, which are taken apart: a node goes, or a child is turned above its node.
+-- Nodes that are only below one of them are taken apart: one is freed, or a child rotated above it.
 use Rattle.std.proofs.Common.{◌≡◌, ◌≢◌, ℕ, zero, suc, ◌<◌, ◌≤◌, length, Bool, true, false, refl, ap, arith, sym, subst, Option, Some, None, IsSome, ◌∙◌, ◌⊎◌, inl, inr, cond, eqb, eq-eqb}
 use Rattle.std.proofs.lemmas.Bool.{false≢true}
 use Rattle.std.proofs.lemmas.Bool.Decides.{eqb_tells}
@@ -13,7 +13,7 @@ module _ (goes : ℕ → Bool) (before nodes nodes' : ℕ → Option Node) (head
   off_head : (j : ℕ) → goes j ≡ false → j ≢ head
   off_head j f e = false≢true (sym f ∙ ap goes e ∙ s.own)
 
-  -- ---- the head goes, whose edges all lead to leaves: then all have gone
+  -- ---- the head is freed, and all its edges lead to leaves: then all nodes are freed
   module _ (frees : Frees nodes nodes' head) (leaves : (y : Node) (b x : ℕ) → nodes head ≡ Some y → child_at y.edges b ≡ Some (Inner x) → ⊥) where
     none_left : (r n : ℕ) → s.rank n ≤ r → IsSome (nodes n) → goes n ≡ true → n ≢ head → ⊥
     none_left zero n le h g off = elim (s.covered n h g) [
@@ -44,7 +44,7 @@ module _ (goes : ℕ → Bool) (before nodes nodes' : ℕ → Option Node) (head
     pub all_kept : (j : ℕ) → goes j ≡ false → nodes' j ≡ before j
     all_kept j f = frees.others j (off_head j f) ∙ s.kept j f
 
-  -- ---- the head goes, of whose edges one leads to a node: that is the head now
+  -- ---- the head is freed, and one of its edges leads to a node, which becomes the head
   module _ (b0 x0 : ℕ) (was : Node) (was_is : nodes head ≡ Some was) (there : child_at was.edges b0 ≡ Some (Inner x0)) (only : (d x : ℕ) → child_at was.edges d ≡ Some (Inner x) → d ≡ b0) (frees : Frees nodes nodes' head) where
     to_next : LeadsIn nodes head b0 x0
     to_next = (was, was_is, there)
@@ -113,7 +113,7 @@ module _ (goes : ℕ → Bool) (before nodes nodes' : ℕ → Option Node) (head
           (fresh_still x (not_next m b x g (y, is, low)) r.0, r.1);
     }
 
-  -- ---- a child is turned above the head: what hung at its last edge hangs below the head now, at the edge that led to it
+  -- ---- a child is rotated above the head, which gets the child of its last edge and is below it
   module _ (mid : ℕ → Option Node) (b0 c bl : ℕ) (d : Child) (turns : Redirects nodes mid head b0 d) (raises : Redirects mid nodes' c bl (Inner head))
       (high : child_at turns.was.edges b0 ≡ Some (Inner c)) (has_next : IsNotLast turns.was.edges b0) (low : child_at raises.was.edges bl ≡ Some d) (last : (e : ℕ) → bl < e → child_at raises.was.edges e ≡ None) where
     to_child : LeadsIn nodes head b0 c
@@ -134,7 +134,7 @@ module _ (goes : ℕ → Bool) (before nodes nodes' : ℕ → Option Node) (head
     head_now : nodes' head ≡ Some turns.is
     head_now = raises.others head (λ e. child_off (sym e)) ∙ turns.is_is
 
-    -- what became of a node
+    -- the change of a node
     turned : (m : ℕ) (y' : Node) → nodes' m ≡ Some y' → (y : Node) × (nodes m ≡ Some y) × (y'.depth ≡ y.depth) × (length y'.edges ≡ length y.edges)
         × ((b : ℕ) → (m ≡ c → b ≢ bl) → (m ≡ head → b ≢ b0) → child_at y'.edges b ≡ child_at y.edges b) × (m ≡ c → y ≡ raises.was) × (m ≡ head → y ≡ turns.was)
     turned m y' is = elim (eqb_tells m c) [
@@ -184,7 +184,7 @@ module _ (goes : ℕ → Bool) (before nodes nodes' : ℕ → Option Node) (head
       ]
     ]
 
-    -- where an edge was: from the child to the head, from the head to what hung at the child's last edge, or as before
+    -- an edge leads from the child to the head, from the head to the old last child, or as before
     came : (m b x : ℕ) → LeadsIn nodes' m b x → ((m ≡ c) × (b ≡ bl) × (x ≡ head)) ⊎ (((m ≡ head) × (b ≡ b0) × LeadsIn nodes c bl x) ⊎ (LeadsIn nodes m b x × (m ≡ c → b ≢ bl) × (m ≡ head → b ≢ b0)))
     came m b x l =
         let w = turned m l.0 l.1 in
@@ -212,7 +212,7 @@ module _ (goes : ℕ → Bool) (before nodes nodes' : ℕ → Option Node) (head
           ]
         ]
 
-    -- and where it is
+    -- and each other old edge is there
     gone_to : (m b x : ℕ) → LeadsIn nodes m b x → (m ≡ c → b ≢ bl) → (m ≡ head → b ≢ b0) → LeadsIn nodes' m b x
     gone_to m b x l far near =
         let y = some_of (nodes' m) (live_on m (is_some (nodes m) l.0 l.1)) in
@@ -232,7 +232,7 @@ module _ (goes : ℕ → Bool) (before nodes nodes' : ℕ → Option Node) (head
         let same : l.0 ≡ raises.was = cc in
         (turns.is, head_now, turns.now ∙ sym low ∙ sym (ap (λ (y : Node). child_at y.edges bl) same) ∙ l.2)
 
-    -- no old edge leads to the child but the one
+    -- only one old edge leads to the child
     not_child : (m b x : ℕ) → goes m ≡ true → LeadsIn nodes m b x → (m ≡ head → b ≢ b0) → x ≢ c
     not_child m b x g l near e = let o = s.once m b head b0 c g s.own (subst (λ (n : ℕ). LeadsIn nodes m b n) e l) to_child in near o.0 o.1
 
@@ -356,7 +356,7 @@ module _ (goes : ℕ → Bool) (before nodes nodes' : ℕ → Option Node) (head
       ]
     ]
 
-    -- an edge that is there was there
+    -- each byte that has an edge had one before
     there_was : (m e : ℕ) (y : Node) → (is : nodes' m ≡ Some y) → IsSome (child_at y.edges e) → IsSome (child_at (turned m y is).0.edges e)
     there_was m e y is h =
         let w = turned m y is in

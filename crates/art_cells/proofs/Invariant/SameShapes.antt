@@ -1,4 +1,4 @@
--- The same shape over what is equal.
+-- The shape is the same over equal parts.
 use Rattle.std.proofs.Common.{◌≡◌, ℕ, refl, sym, subst, ◌∙◌, Option}
 use Rattle.art_cells.specs.Begins.{Bytes}
 use Rattle.art_kinds.specs.Nodes.{Node}
@@ -17,7 +17,7 @@ rooted {P} {keys} {nodes} s e = record {
   keeps = subst (λ (r : Option Child). Keeps P nodes r s.front_of) e s.keeps;
 }
 
--- the fronts stand
+-- the fronts are unchanged
 pub rooted-front : {P : ℕ} → (keys : ℕ → Option Bytes) (nodes : ℕ → Option Node) (root root' : Option Child) (s : Shape P keys nodes root) (e : root ≡ root') (m : ℕ) → (rooted s e).front_of m ≡ s.front_of m
 unfolding rooted
 rooted-front keys nodes root root' s e m = refl
@@ -35,7 +35,7 @@ renoded {P} keys nodes nodes' root s h =
       keeps = subst (λ (f : ℕ → Option Node). Keeps P f root s.front_of) p s.keeps;
     }
 
--- the fronts stand
+-- the fronts are unchanged
 pub renoded-front : {P : ℕ} → (keys : ℕ → Option Bytes) (nodes nodes' : ℕ → Option Node) (root : Option Child) (s : Shape P keys nodes root) (h : (j : ℕ) → nodes' j ≡ nodes j) (m : ℕ) → (renoded keys nodes nodes' root s h).front_of m ≡ s.front_of m
 unfolding renoded
 renoded-front keys nodes nodes' root s h m = refl

@@ -1,4 +1,4 @@
--- The tree with no leaf, and with one.
+-- The tree with no leaf, and the tree with one leaf.
 use Rattle.std.proofs.Common.{◌≡◌, ◌≢◌, ℕ, ◌<◌, ◌≤◌, [], length, Option, Some, None, IsSome, refl, sym, subst, ap, ◌∙◌, arith, inl, inr}
 use Rattle.std.proofs.lemmas.Bool.{cases_lt}
 use Rattle.art_cells.specs.Begins.{Bytes, Begins, next_byte}
@@ -22,7 +22,7 @@ module _ (keys : ℕ → Option Bytes) (nodes : ℕ → Option Node) (bare : (n 
     keeps = λ a n x l e. (let f : nodes n ≡ None = bare n in absurd cc);
   }
 
-  -- one key and no node
+  -- the tree with one key and no node
   pub shape_one : {P : ℕ} → (i : ℕ) (k : Bytes) → keys i ≡ Some k → ((j : ℕ) (l : Bytes) → keys j ≡ Some l → j ≡ i) → Shape P keys nodes (Some (Leaf i))
   shape_one i k is only = record {
     front_of = λ n. [];
@@ -34,7 +34,7 @@ module _ (keys : ℕ → Option Bytes) (nodes : ℕ → Option Node) (bare : (n 
   }
 
 module _ {P : ℕ} (keys : ℕ → Option Bytes) (nodes : ℕ → Option Node) (root : Option Child) (s : Shape P keys nodes root) where
-  -- no stored key begins another
+  -- no stored key is a prefix of another
   pub unrelated : (i j : ℕ) (k l : Bytes) → keys i ≡ Some k → keys j ≡ Some l → i ≢ j → Begins k l → ⊥
   unrelated i j k l a b off h =
       let r = s.joined i j k l a b off in
@@ -45,7 +45,7 @@ module _ {P : ℕ} (keys : ℕ → Option Bytes) (nodes : ℕ → Option Node) (
       let z : length (s.front_of r.0) ≡ length (common k l) = ap length e in
       omega arith
 
-  -- a node stands wherever two keys part
+  -- there is a node at each prefix at which two keys part
   pub node_at : (f : Bytes) → Parts keys f → (n : ℕ) × IsSome (nodes n) × (s.front_of n ≡ f)
   node_at f p =
       let off : p.i ≢ p.j = λ e. Parts-two keys f p p.j e refl in
@@ -64,7 +64,7 @@ no_nodes keys nodes s n = none_of (nodes n) (λ h.
     let g : keys p.i ≡ Some p.k = p.k_is in
     cc)
 
--- the first key: its leaf is the root
+-- with the first key, its leaf is the root
 pub first_key : {P : ℕ} → (keys keys' : ℕ → Option Bytes) (nodes : ℕ → Option Node) (i : ℕ) (k : Bytes) → Shape P keys nodes None → Gains keys keys' i k → Shape P keys' nodes (Some (Leaf i))
 first_key keys keys' nodes i k s g = shape_one keys' nodes (no_nodes keys nodes s) i k g.has
     (λ j l e. elim (kept_cases keys keys' i k g j l e) [ inl o ↦ (let f : keys j ≡ None = s.top j in absurd cc) | inr o ↦ o.0 ])

@@ -1,4 +1,4 @@
--- One key more, on an edge that is split for it.
+-- One more key, on an edge that is split for it.
 use Rattle.std.proofs.Common.{◌≡◌, ◌≢◌, ℕ, ◌+◌, ◌<◌, ◌≤◌, List, [], ◌∷◌, ◌++◌, length, take, drop, refl, ap, arith, sym, subst, Option, Some, None, IsSome, ◌∙◌, ◌⊎◌, inl, inr, cond, eqb, eq-eqb, length-append}
 use Rattle.std.proofs.lemmas.Bool.{cases_lt, ne_eqb}
 use Rattle.std.proofs.lemmas.Bool.Decides.{eqb_tells}
@@ -21,16 +21,16 @@ use Rattle.art_cells.proofs.Invariant.Prefixes.{keeps_as, cut_node, cut_was, cut
 use Rattle.art_cells.proofs.Invariant.Growing.{covers_above, Departs, Gains, kept, kept_cases, within, Parts-kept, joined_more, edge_toward}
 use Rattle.art_cells.proofs.Invariant.Subtrees.{above_leaf, above_node}
 
--- the child stands for a front longer than t
+-- the child is a leaf, or a node with a front longer than t
 abbrev pub Past : (ℕ → Bytes) → Bytes → Child → Type 0
 Past front_of t c = PastLength front_of (length t) c
 
--- each old node keeps its prefix but for the child, which keeps what its front has after g
+-- each old node keeps its prefix, but the child keeps the bytes that its front has after g
 pub record Recut (P : ℕ) (old new : ℕ → Option Node) (front_of : ℕ → Bytes) (g : Bytes) (child : Child) : Type 0 where
   pub others : (m : ℕ) (x x' : Node) → old m ≡ Some x → new m ≡ Some x' → child ≢ Inner m → x'.prefix ≡ x.prefix
   pub own : (m : ℕ) (x x' : Node) → old m ≡ Some x → new m ≡ Some x' → child ≡ Inner m → x'.prefix ≡ take P (drop (length g) (front_of m))
 
--- the new node n stands on the edge at g0, above the child c0 and the leaf i
+-- the new node n is on the edge with the front g0, above the child c0 and the leaf i
 pub record Splits (P : ℕ) (old new : ℕ → Option Node) (front_of : ℕ → Bytes) (root root' : Option Child) (g0 : Bytes) (c0 : Child) (n i : ℕ) (t : Bytes) (bc bk : ℕ) : Type 0 where
   pub fresh : old n ≡ None
   pub made : Node
@@ -49,7 +49,7 @@ module _ {P : ℕ} (keys keys' : ℕ → Option Bytes) (nodes nodes' : ℕ → O
     (gains : Gains keys keys' i k) (d : Departs keys t k) (splits : Splits P nodes nodes' s.front_of root root' g0 c0 n i t (next_byte t d.nearest_key) (next_byte t k))
     (g0_t : Begins g0 t) (past : Past s.front_of t c0) (covers0 : Covers keys nodes s.front_of g0 c0)
     (recut : Recut P nodes nodes' s.front_of (t ++ next_byte t d.nearest_key ∷ []) c0) (one : (a : Option (ℕ × ℕ)) (j : ℕ) → LeadsTo nodes root a (Inner j) → c0 ≡ Inner j → edge_front s.front_of a ≡ g0) where
-  -- the fronts with the new node's
+  -- the fronts, with that of the new node
   abbrev fronts_after : ℕ → Bytes
   fronts_after m = cond (eqb m n) t (s.front_of m)
 
@@ -68,7 +68,7 @@ module _ {P : ℕ} (keys keys' : ℕ → Option Bytes) (nodes nodes' : ℕ → O
   live_new : IsSome (nodes' n)
   live_new = is_some (nodes' n) splits.made splits.made_is
 
-  -- a child above a node whose front begins t is not past t
+  -- a child that covers a node whose front is a prefix of t is not past t
   not_past_above : (m : ℕ) → IsSome (nodes m) → Begins (s.front_of m) t → (g : Bytes) (c : Child) → Covers keys nodes s.front_of g c → Begins g (s.front_of m) → Past s.front_of t c → ⊥
   not_past_above m live mt g (Leaf j) cov gm far = above_leaf keys nodes root s m live g j cov gm
   not_past_above m live mt g (Inner m') cov gm far =
@@ -77,13 +77,13 @@ module _ {P : ℕ} (keys keys' : ℕ → Option Bytes) (nodes nodes' : ℕ → O
       let f : length t < length (s.front_of m') = far in
       omega arith
 
-  -- no node stood at t
+  -- no node had the front t
   not_front : (m : ℕ) → IsSome (nodes m) → s.front_of m ≡ t → ⊥
   not_front m live e =
       let mt : Begins (s.front_of m) t = rw e (Begins-itself t) in
       not_past_above m live mt g0 c0 covers0 (rw e g0_t) past
 
-  -- an edge that is not the one that was split, at a node m
+  -- the child of an edge toward t other than the split one is not past t
   not_past_edge : (m : ℕ) → IsSome (nodes m) → (b : ℕ) (c : Child) → Covers keys nodes s.front_of (s.front_of m ++ b ∷ []) c → s.front_of m ++ b ∷ [] ≢ g0 → Begins (s.front_of m ++ b ∷ []) t → Past s.front_of t c → ⊥
   not_past_edge m live b c cov other gt far =
       let f : Bytes = s.front_of m in
@@ -117,7 +117,7 @@ module _ {P : ℕ} (keys keys' : ℕ → Option Bytes) (nodes nodes' : ℕ → O
   nearest_g0 : Begins g0 d.nearest_key
   nearest_g0 = Begins-trans g0 t d.nearest_key g0_t d.nearest_front
 
-  -- a key below the edge that was split begins with t, and goes on as the nearest key does
+  -- a key below the split edge begins with t, and continues as the nearest key does
   below_g0 : (c : Child) → c ≡ c0 → Covers keys nodes s.front_of g0 c → Past s.front_of t c → (j : ℕ) (l : Bytes) → keys j ≡ Some l → Begins g0 l → Begins (t ++ next_byte t d.nearest_key ∷ []) l
   below_g0 (Leaf j0) e cov far j l is b =
       let a : j ≡ j0 = cov.only j l is b in
@@ -131,7 +131,7 @@ module _ {P : ℕ} (keys keys' : ℕ → Option Bytes) (nodes nodes' : ℕ → O
   under_g0 : (j : ℕ) (l : Bytes) → keys j ≡ Some l → Begins g0 l → Begins (t ++ next_byte t d.nearest_key ∷ []) l
   under_g0 j l is b = below_g0 c0 refl covers0 past j l is b
 
-  -- k goes on from t as no key does
+  -- k continues from t with another byte than the nearest key
   not_nearest : Begins (t ++ next_byte t d.nearest_key ∷ []) k → ⊥
   not_nearest b =
       let e : next_byte t k ≡ next_byte t d.nearest_key = Begins-next t k (next_byte t d.nearest_key) b in
@@ -263,7 +263,7 @@ module _ {P : ℕ} (keys keys' : ℕ → Option Bytes) (nodes nodes' : ℕ → O
     ascends = splits.ascends;
   }
 
-  -- an old front that begins k is shorter than t
+  -- an old front that is a prefix of k is shorter than t
   shorter : (m : ℕ) (x : Node) → nodes m ≡ Some x → Begins (s.front_of m) k → length (s.front_of m) < length t
   shorter m x is b =
       let q = (s.node m x is).parts in
@@ -378,21 +378,21 @@ module _ {P : ℕ} (keys keys' : ℕ → Option Bytes) (nodes nodes' : ℕ → O
       let w = was_live m x.0 off x.1 (nodes m) refl in
       not_front m (is_some (nodes m) w.0 w.1) (sym (after-old m off) ∙ e)
 
-  -- an old edge to a node that is not the child's: the node keeps its prefix
+  -- an old edge to a node other than the child: the node keeps its prefix
   kept_old : (a : Option (ℕ × ℕ)) (j : ℕ) (x' : Node) → LeadsTo nodes root a (Inner j) → (edge_front s.front_of a ≡ g0 → ⊥) → edge_front fronts_after a ≡ edge_front s.front_of a → nodes' j ≡ Some x' → x'.prefix ≡ kept_prefix P fronts_after a j
   kept_old a j x' l far e is =
       let cov : CoversNode keys nodes s.front_of (edge_front s.front_of a) j = covers_above keys nodes root s a (Inner j) l in
       let x = some_of (nodes j) cov.live in
       keeps_as P s.front_of fronts_after a a j j x.0 x' (s.keeps a j x.0 l x.1) (recut.others j x.0 x' x.1 is (λ z. far (one a j l z))) e (after-old j (not_new j cov.live))
 
-  -- the new node keeps what its front has after the edge above
+  -- the new node keeps the bytes that its front has after the edge above
   kept_made : (x' : Node) → nodes' n ≡ Some x' → x'.prefix ≡ take P (drop (length g0) (fronts_after n))
   kept_made x' is =
       let f : nodes' n ≡ Some splits.made = splits.made_is in
       let z : x' ≡ splits.made = cc in
       ap (λ (x : Node). x.prefix) z ∙ splits.prefix ∙ ap (λ (w : Bytes). take P (drop (length g0) w)) (sym after-new)
 
-  -- what stands below an edge to another node by the same edge
+  -- the same for the new node under another name
   kept_at : (g : Bytes) (j : ℕ) (x' : Node) → Inner n ≡ Inner j → g ≡ g0 → nodes' j ≡ Some x' → x'.prefix ≡ take P (drop (length g) (fronts_after j))
   kept_at g j x' e same is =
       let z : n ≡ j = cc in
@@ -462,7 +462,7 @@ module _ {P : ℕ} (keys keys' : ℕ → Option Bytes) (nodes nodes' : ℕ → O
     keeps = kept_split;
   }
 
--- ---- from what the store's calls say
+-- ---- from the contracts of the store's calls
 
 -- of the two edges of the new node, one leads to the leaf and the other to the old child
 abbrev pub HoldBoth : Edge → Edge → ℕ → ℕ → ℕ → Child → Type 0
@@ -470,7 +470,7 @@ HoldBoth low high bk i bc c =
     ((low ≡ record { byte = bk; to = Leaf i }) × (high ≡ record { byte = bc; to = c })) ⊎ ((low ≡ record { byte = bc; to = c }) × (high ≡ record { byte = bk; to = Leaf i }))
 
 module _ (low high : Edge) (sorted : low.byte < high.byte) where
-  -- each of two edges leads where it says
+  -- each of two edges leads to its child
   pub low_child : child_at (low ∷ high ∷ []) low.byte ≡ Some low.to
   low_child = rw (eq-eqb low.byte low.byte refl) refl
 
@@ -526,7 +526,7 @@ module _ {P : ℕ} (keys keys' : ℕ → Option Bytes) (nodes cut mid : ℕ → 
   off_new : (m : ℕ) (x : Node) → cut m ≡ Some x → m ≢ n
   off_new m x is e = let f : cut n ≡ Some x = ap cut (sym e) ∙ is in let g : cut n ≡ None = makes.fresh in cc
 
-  -- a node that stands after the cut stood before
+  -- a node that is there after the cut was there before
   uncut_live : (m : ℕ) (x : Node) → cut m ≡ Some x → IsSome (nodes m)
   uncut_live m x is = go (nodes m) refl
     where
@@ -538,7 +538,7 @@ module _ {P : ℕ} (keys keys' : ℕ → Option Bytes) (nodes cut mid : ℕ → 
   above_live None l e is = absurd cc
   above_live (Some d) l e is = let z : d ≡ e = cc in subst (λ (w : ℕ × ℕ). IsSome (nodes w.0)) z (uncut_live d.0 l.0 l.1)
 
-  -- what became of a node after the cut
+  -- the change of a node after the cut
   led_cut : (above : Option (ℕ × ℕ)) (new : ℕ → Option Node) (root' : Option Child) → LeadsTo cut root above c0 → TurnsTo mid new root root' above (Inner n) → (m : ℕ) (x : Node) → cut m ≡ Some x → (x' : Node) × (new m ≡ Some x') × Turns x x' (s.front_of m) (edge_front s.front_of above) c0 (Inner n)
   led_cut above new root' leads turns m x is =
       turned_node s.front_of mid new root root' c0 (Inner n) (λ m. IsSome (nodes m)) s.apart above (leads_made cut mid root above c0 n depth prefix low high leads makes) (above_live above leads) turns m x (uncut_live m x is) (makes.others m (off_new m x is) ∙ is)
@@ -590,10 +590,10 @@ module _ {P : ℕ} (keys keys' : ℕ → Option Bytes) (nodes cut mid : ℕ → 
       own = λ m x x' was is same. (let y = cut_node P nodes cut s.front_of (t ++ next_byte t d.nearest_key ∷ []) c0 cuts m x was in prefix_led m y.0 x' y.1 is ∙ y.2.own same);
     }
 
-    -- one edge leads to the child
+    -- only one edge leads to the child
     one : (a : Option (ℕ × ℕ)) (j : ℕ) → LeadsTo nodes root a (Inner j) → c0 ≡ Inner j → edge_front s.front_of a ≡ edge_front s.front_of above
     one a j l e = ap (edge_front s.front_of) (one_above keys nodes root s j a above l (subst (λ (c : Child). LeadsTo nodes root above c) e leads))
 
-    -- the tree where a new node holds the old child and the new leaf, and the edge above leads to it
+    -- the tree if a new node has the old child and the new leaf, and the edge above leads to it
     pub edge_split : Past s.front_of t c0 → Begins (edge_front s.front_of above) t → Shape P keys' new root'
     edge_split past along = shape_split keys keys' nodes new root root' (edge_front s.front_of above) c0 n i t k s gains d splits along past (covers_above keys nodes root s above c0 leads) recut one

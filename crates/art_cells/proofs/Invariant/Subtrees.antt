@@ -1,4 +1,4 @@
--- The nodes whose fronts begin with that of an edge hang below the node that the edge leads to.
+-- The nodes whose fronts begin with the front of an edge are below the node that the edge leads to.
 use Rattle.std.proofs.Common.{◌≡◌, ◌≢◌, ℕ, zero, suc, ◌+◌, ◌<◌, ◌≤◌, [], ◌∷◌, ◌++◌, length, Bool, true, false, not, ◌&&◌, refl, ap, arith, sym, subst, Option, Some, None, IsSome, ◌∙◌, inl, inr, eqb, length-append}
 use Rattle.std.proofs.lemmas.Bool.{false_from_ne_true, cases_lt}
 use Rattle.std.proofs.lemmas.Bool.Decides.{eqb_tells}
@@ -18,14 +18,14 @@ use Rattle.art_cells.proofs.Ways.WaysDown.{edges_some}
 use Rattle.blart_keys.proofs.Options.{is_some, some_of, none_of}
 
 module _ {P : ℕ} (keys : ℕ → Option Bytes) (nodes : ℕ → Option Node) (root : Option Child) (s : Shape P keys nodes root) where
-  -- no node stands at or after the front of a leaf
+  -- no node's front begins with a prefix that a leaf covers
   pub above_leaf : (m : ℕ) → IsSome (nodes m) → (h : Bytes) (j : ℕ) → CoversLeaf keys h j → Begins h (s.front_of m) → ⊥
   above_leaf m live h j cov fm =
       let x = some_of (nodes m) live in
       let q = (s.node m x.0 x.1).parts in
       Parts-two keys (s.front_of m) q j (cov.only q.i q.k q.k_is (Begins-trans h (s.front_of m) q.k fm q.k_front)) (cov.only q.j q.l q.l_is (Begins-trans h (s.front_of m) q.l fm q.l_front))
 
-  -- a node below a front stands below the node for it
+  -- if a node covers a prefix of another node's front, its own front is a prefix of that front
   pub above_node : (m : ℕ) → IsSome (nodes m) → (h : Bytes) (n : ℕ) → CoversNode keys nodes s.front_of h n → Begins h (s.front_of m) → Begins (s.front_of n) (s.front_of m)
   above_node m live h n cov fm =
       let x = some_of (nodes m) live in
@@ -61,7 +61,7 @@ module _ {P : ℕ} (keys : ℕ → Option Bytes) (nodes : ℕ → Option Node) (
       let lt : length (f m) < length (f top) = longer m b top l in
       omega arith
 
-  -- from a node above another, the way to it comes to an edge that leads to it
+  -- below a node, an edge leads to each other node below it
   edge_to : (r m n : ℕ) (x : Node) → nodes m ≡ Some x → goes m ≡ true → IsSome (nodes n) → Begins (f m) (f n) → n ≢ m → length (f n) ≤ length (f m) + r → (p : ℕ) × (b : ℕ) × (goes p ≡ true) × LeadsIn nodes p b n
   edge_to zero m n x is h live under off le =
       absurd (off (sym (s.apart m n (is_some (nodes m) x is) live (Begins-equal (f m) (f n) under (omega arith)))))
@@ -120,18 +120,18 @@ module _ {P : ℕ} (keys : ℕ → Option Bytes) (nodes : ℕ → Option Node) (
       fresh_is x h off = elim (eqb_tells x top) [ inl e ↦ absurd (off e.1) | inr e ↦ ap (λ t. goes x && not t) e.0 ∙ ap (λ t. t && true) h ]
 
 module _ {P : ℕ} (keys : ℕ → Option Bytes) (nodes : ℕ → Option Node) (root : Option Child) (s : Shape P keys nodes root) where
-  -- below an edge to a leaf no node stands
+  -- below an edge to a leaf there is no node
   pub frees_below_leaf : (above : Option (ℕ × ℕ)) (i : ℕ) → LeadsTo nodes root above (Leaf i) → FreesSubtree nodes nodes s.front_of (edge_front s.front_of above)
   frees_below_leaf above i leads = record {
     gone = λ m b. none_of (nodes m) (λ live. above_leaf keys nodes root s m live (edge_front s.front_of above) i (covers_above keys nodes root s above (Leaf i) leads) b);
     kept = λ m off. refl;
   }
 
-  -- below one to a node stand those that hang below that
+  -- below an edge to a node are that node and those below it
   pub loose_under : (above : Option (ℕ × ℕ)) (top : ℕ) → LeadsTo nodes root above (Inner top) → Loose (λ n. begins (edge_front s.front_of above) (s.front_of n)) nodes nodes top
   loose_under above top leads = loose_below keys nodes root s (edge_front s.front_of above) top (covers_above keys nodes root s above (Inner top) leads)
 
-  -- and once they are gone, that
+  -- and once they are removed, the subtree is removed
   pub frees_below_node : (nodes' : ℕ → Option Node) (g : Bytes) → ((j : ℕ) → (begins g (s.front_of j) ≡ true → nodes' j ≡ None) × (begins g (s.front_of j) ≡ false → nodes' j ≡ nodes j)) → FreesSubtree nodes nodes' s.front_of g
   frees_below_node nodes' g h = record {
     gone = λ m b. (h m).0 (begins-from_Begins g (s.front_of m) b);

@@ -15,7 +15,7 @@ use Rattle.art_cells.specs.declared.tree.add.Added.TheVariants.{Placed}
 use Rattle.art_cells.proofs.CallerLemmas.{alone_no_conflict, alone_absent, alone_none, conflict_pairs}
 
 module _ {K V : Type 0} (kb : K → Bytes) (x : K × V) where
-  -- the pair was put where no key was related
+  -- the pair was placed, if no key is related to its key
   pub adds_placed : (old new : Leaves K V) (nodes nodes' : Nodes) (cell : ℕ) → ((y : Numbered K V) → Member y old.pairs → related (bytes kb y) (kb x.0) ≡ false) → PutsPair kb old new cell x → Adds kb (content_of old nodes) (content_of new nodes') x (Ok Placed)
   adds_placed old new nodes nodes' cell alone p = (
     (
@@ -26,7 +26,7 @@ module _ {K V : Type 0} (kb : K → Bytes) (x : K × V) where
     record { cell = cell; now = p.now; fresh = p.fresh; others = p.others },
   )
 
-  -- there was no memory for it
+  -- the addition failed to allocate
   pub adds_refused : (old new : Content K V) (e : AllocError) → ((y : Numbered K V) → Member y old.pairs → related (bytes kb y) (kb x.0) ≡ false) → new.pairs ≡ old.pairs → Extends old.ids new.ids → Adds kb old new x (Err e)
   adds_refused old new e alone same more = (
     conflict_pairs kb old.pairs (kb x.0) ∙ alone_no_conflict (bytes kb) old.pairs (kb x.0) alone,

@@ -1,4 +1,4 @@
--- What is known of the keys, said of the pairs.
+-- Facts about the keys as facts about the pairs.
 use Rattle.std.proofs.Common.{◌≡◌, ◌≢◌, ℕ, Bool, true, List, filter, ap, sym, Some, None, ◌∙◌, ◌⊎◌, inl, inr}
 use Rattle.std.proofs.lemmas.Bool.{false_from_ne_true}
 use Rattle.blart_keys.specs.Bytes.{begins, related, less}
@@ -29,7 +29,7 @@ module _ {K V : Type 0} (key_bytes : K → Bytes) (pairs : List (Numbered K V)) 
     pub pair_there : Member (i, pair) pairs
     pair_there = Member-from_leaf_in pairs i pair pair_is
 
-  -- of one number, a pair of the list and a key's pair are one
+  -- a pair of the list with the number of a key is the key's pair
   same_pair : (i : ℕ) (k : Bytes) (is : keys_in key_bytes pairs i ≡ Some k) (y : Numbered K V) → Member y pairs → y.0 ≡ i → y ≡ (i, pair i k is)
   same_pair i k is y m e =
       let a : leaf_in pairs i ≡ Some y.1 = ap (leaf_in pairs) (sym e) ∙ leaf_in-member pairs y.0 y.1 distinct m in
@@ -43,17 +43,17 @@ module _ {K V : Type 0} (key_bytes : K → Bytes) (pairs : List (Numbered K V)) 
   pub at_key : (q : Bytes) (i : ℕ) (is : keys_in key_bytes pairs i ≡ Some q) → at (bytes key_bytes) pairs q ≡ Some (i, pair i q is)
   at_key q i is = at_member (bytes key_bytes) pairs content q (i, pair i q is) (pair_there i q is) (pair_key i q is)
 
-  -- no key is q
+  -- if no key is q, a look-up of q returns none
   pub at_no_key : (q : Bytes) → ((j : ℕ) → keys_in key_bytes pairs j ≡ Some q → ⊥) → at (bytes key_bytes) pairs q ≡ None
   at_no_key q h = at_absent (bytes key_bytes) pairs q (λ y m e. h y.0 (key_of_member key_bytes pairs y distinct m ∙ ap Some e))
 
-  -- no key begins q
+  -- if no key is a prefix of q, no pair's is
   pub front_of_no_key : (q : Bytes) → ((j : ℕ) (k : Bytes) → keys_in key_bytes pairs j ≡ Some k → Begins k q → ⊥) → front_of (bytes key_bytes) pairs q ≡ None
   front_of_no_key q h = find_none (λ x. begins (bytes key_bytes x) q) pairs (λ y m. false_from_ne_true (begins (bytes key_bytes y) q) (λ t. h y.0 (bytes key_bytes y) (key_of_member key_bytes pairs y distinct m) (Begins-from_begins (bytes key_bytes y) q t)))
 
   -- ---- conflicts
 
-  -- another key that is related is a conflict
+  -- a related key other than q is a conflict
   pub conflict_key : (q : Bytes) (i : ℕ) (k : Bytes) → keys_in key_bytes pairs i ≡ Some k → related k q ≡ true → k ≢ q → conflict (bytes key_bytes) pairs q ≡ true
   conflict_key q i k is r off = conflict_member (bytes key_bytes) pairs q (i, pair i k is) (pair_there i k is) (rw (pair_key i k is) r) (λ e. off (sym (pair_key i k is) ∙ e))
 
@@ -63,7 +63,7 @@ module _ {K V : Type 0} (key_bytes : K → Bytes) (pairs : List (Numbered K V)) 
     passes : test (bytes key_bytes (i, pair i m is)) ≡ true
     passes = ap test (pair_key i m is) ∙ t
 
-    -- the least key that passes a test is that of the first pair
+    -- the least key that passes a test is the key of the first pair that does
     pub first_of_test : ((j : ℕ) (k : Bytes) → keys_in key_bytes pairs j ≡ Some k → test k ≡ true → (j ≡ i) ⊎ (less m k ≡ true)) → first_number (filter (λ x. test (bytes key_bytes x)) pairs) ≡ Some i
     first_of_test least =
         first_passing key_bytes (λ x. test (bytes key_bytes x)) pairs (i, pair i m is) (Ranked-from_content (bytes key_bytes) pairs content) (pair_there i m is) passes
@@ -72,7 +72,7 @@ module _ {K V : Type 0} (key_bytes : K → Bytes) (pairs : List (Numbered K V)) 
           | inr l ↦ inr (rw (pair_key i m is) l)
         ])
 
-    -- the greatest key that passes a test is that of the last pair
+    -- the greatest key that passes a test is the key of the last pair that does
     pub last_of_test : ((j : ℕ) (k : Bytes) → keys_in key_bytes pairs j ≡ Some k → test k ≡ true → (j ≡ i) ⊎ (less k m ≡ true)) → last_number (filter (λ x. test (bytes key_bytes x)) pairs) ≡ Some i
     last_of_test greatest =
         last_passing key_bytes (λ x. test (bytes key_bytes x)) pairs (i, pair i m is) (Ranked-from_content (bytes key_bytes) pairs content) (pair_there i m is) passes

@@ -1,4 +1,4 @@
--- Where bytes stand among the keys, and the ends of what is within a bound or below some bytes.
+-- The place of bytes among the keys, and the ends of the pairs within a bound or with a prefix.
 use Rattle.std.proofs.Common.{◌≡◌, ℕ, ◌<◌, ◌≤◌, Bool, true, false, not, ◌&&◌, List, [], ◌∷◌, filter, length, refl, ap, arith, sym, subst, Option, option_map, Some, None, Err, ◌∙◌, ◌⊎◌, inl, inr}
 use Rattle.std.proofs.Math.Bool.{and-true}
 use Rattle.std.proofs.lemmas.Bool.{false≢true, false_from_ne_true, and_from, and_parts, not-true, not_from_false}
@@ -33,16 +33,16 @@ use Rattle.art_cells.proofs.Pairs.Keys.{key_of_member, member_of_key}
 use Rattle.blart_keys.proofs.Options.{mapped_some, mapped_none}
 use Rattle.art_cells.proofs.Invariant.SmallShapes.{unrelated}
 
--- ---- a front is less
+-- ---- a prefix is less
 
--- what a list begins with is not greater
+-- a prefix of a list is not greater than the list
 pub front_not_greater : (g k : Bytes) → Begins g k → less k g ≡ false
 front_not_greater [] [] b = refl
 front_not_greater [] (y ∷ k) b = refl
 front_not_greater (x ∷ g) [] b = absurd b
 front_not_greater (x ∷ g) (y ∷ k) b = less-same y x k g (sym b.0) ∙ front_not_greater g k b.1
 
--- and less, if it is shorter
+-- and it is less, if it is shorter
 pub front_less : (g k : Bytes) → Begins g k → length g < length k → less g k ≡ true
 front_less [] [] b l = absurd (omega arith)
 front_less [] (y ∷ k) b l = refl
@@ -50,7 +50,7 @@ front_less (x ∷ g) [] b l = absurd b
 front_less (x ∷ g) (y ∷ k) b l = less-same x y g k b.0 ∙ front_less g k b.1 (omega arith)
 
 module _ (keys : ℕ → Option Bytes) (q : Bytes) where
-  -- the least key that begins with q is the first that is not less
+  -- the least key that begins with q is the first key that is not less
   pub least_from : (i : ℕ) → IsEndUnder keys true q i → FirstFrom keys q i
   least_from i u = record {
     key = u.key;
@@ -73,7 +73,7 @@ module _ (keys : ℕ → Option Bytes) (q : Bytes) where
       ]
 
   module _ {P : ℕ} (nodes : ℕ → Option Node) (root : Option Child) (s : Shape P keys nodes root) (i : ℕ) (m : Bytes) (is : keys i ≡ Some m) where
-    -- a key that begins q, and is shorter, is the last before q
+    -- a key that is a prefix of q, and shorter, is the last before q
     pub last_front : Begins m q → length m < length q → LastBefore keys q i
     last_front b lt = record {
       key = m;
@@ -102,12 +102,12 @@ module _ {K V : Type 0} where
       let m = mapped_some (λ (last : ℕ). (p.0, last)) (last_number (p ∷ ps)) (a, b) h in
       (ap (λ (z : ℕ × ℕ). Some z.0) m.2, m.1 ∙ ap (λ (z : ℕ × ℕ). Some z.1) m.2)
 
-  -- only no pairs have no ends
+  -- if there are no ends, there are no pairs
   pub no_pairs_between : (S : List (Numbered K V)) → ends S ≡ None → S ≡ []
   no_pairs_between [] h = refl
   no_pairs_between (p ∷ ps) h = no_last (p ∷ ps) (mapped_none {B = ℕ × ℕ} (λ last. (p.0, last)) (last_number (p ∷ ps)) h)
 
-  -- what is sought is a leaf's number
+  -- the number within a bound is a leaf's number
   pub number_within_has : (bytes : Numbered K V → List ℕ) (S : List (Numbered K V)) → AreDistinct S → (b : Bound (List ℕ)) (side : Bool) (i : ℕ) → number_within bytes S b side ≡ Some i → Has S i
   number_within_has bytes S d b true i e = passing_has S (λ x. is_from_start b (bytes x) && is_up_to_end Unbounded (bytes x)) i d (Has-first (between bytes S b Unbounded) i e)
   number_within_has bytes S d b false i e = passing_has S (λ x. is_from_start Unbounded (bytes x) && is_up_to_end b (bytes x)) i d (Has-last (between bytes S Unbounded b) i e)
@@ -118,7 +118,7 @@ module _ {K V : Type 0} (key_bytes : K → Bytes) (pairs : List (Numbered K V)) 
 
   -- ---- places in the list of pairs
 
-  -- one number has the key q
+  -- only one number has the key q
   one_number : (q : Bytes) (i j : ℕ) → keys i ≡ Some q → keys j ≡ Some q → j ≡ i
   one_number q i j a b =
       let x : at (bytes key_bytes) pairs q ≡ Some (i, pair key_bytes pairs content distinct i q a) = at_key key_bytes pairs content distinct q i a in
@@ -126,7 +126,7 @@ module _ {K V : Type 0} (key_bytes : K → Bytes) (pairs : List (Numbered K V)) 
       let h : (j, pair key_bytes pairs content distinct j q b) ≡ (i, pair key_bytes pairs content distinct i q a) = cc in
       ap (λ (z : Numbered K V). z.0) h
 
-  -- the leaf before a leaf is the one before its key
+  -- the leaf before a key's leaf is the leaf before the key
   pub leaf_before_key : (q : Bytes) (i : ℕ) → keys i ≡ Some q → IsLeafBefore keys q (number_before pairs i)
   leaf_before_key q i is =
       leaf_before_first_from key_bytes pairs content distinct q i (record {
@@ -145,7 +145,7 @@ module _ {K V : Type 0} (key_bytes : K → Bytes) (pairs : List (Numbered K V)) 
     one_side : (j : ℕ) (k : Bytes) → keys j ≡ Some k → (less k q ≡ true) ⊎ (less q k ≡ true)
     one_side j k e = elim (less_or k q) [ inl s ↦ absurd (none j (subst (λ (z : Bytes). keys j ≡ Some z) s e)) | inr o ↦ o ]
 
-    -- the leaf after the one before q is the one after q
+    -- the leaf after the leaf before q is the leaf after q
     pub leaf_after_before : (prev : Option ℕ) → IsLeafBefore keys q prev → IsLeafAfter keys q (next_number prev pairs)
     leaf_after_before None st = go pairs refl
       where
@@ -180,14 +180,14 @@ module _ {K V : Type 0} (key_bytes : K → Bytes) (pairs : List (Numbered K V)) 
           first = λ j k e h. a.first j k e (less-trans st.key q k st.before h);
         }
 
-  -- ---- what is within a bound
+  -- ---- the pairs within a bound
 
-  -- the leaf after q is the first that passes a test of what is greater
+  -- the leaf after q is the first that passes a test for greater keys
   first_after_key : (q : Bytes) (o : Option ℕ) → IsLeafAfter keys q o → (test : Bytes → Bool) → ((j : ℕ) (k : Bytes) → keys j ≡ Some k → test k ≡ less q k) → first_number (filter (λ x. test (bytes key_bytes x)) pairs) ≡ o
   first_after_key q None a test agrees = ap first_number (filter_none (λ x. test (bytes key_bytes x)) pairs (λ y m. (let e = key_of_member key_bytes pairs y distinct m in agrees y.0 (bytes key_bytes y) e ∙ a y.0 (bytes key_bytes y) e)))
   first_after_key q (Some i) a test agrees = first_of_test key_bytes pairs content distinct test i a.key a.is (agrees i a.key a.is ∙ a.after) (λ j k e t. a.first j k e (sym (agrees j k e) ∙ t))
 
-  -- the leaf before q is the last that passes a test of what is less
+  -- the leaf before q is the last that passes a test for lesser keys
   last_before : (q : Bytes) (o : Option ℕ) → IsLeafBefore keys q o → (test : Bytes → Bool) → ((j : ℕ) (k : Bytes) → keys j ≡ Some k → test k ≡ less k q) → last_number (filter (λ x. test (bytes key_bytes x)) pairs) ≡ o
   last_before q None a test agrees = ap last_number (filter_none (λ x. test (bytes key_bytes x)) pairs (λ y m. (let e = key_of_member key_bytes pairs y distinct m in agrees y.0 (bytes key_bytes y) e ∙ a y.0 (bytes key_bytes y) e)))
   last_before q (Some i) a test agrees = last_of_test key_bytes pairs content distinct test i a.key a.is (agrees i a.key a.is ∙ a.before) (λ j k e t. a.last j k e (sym (agrees j k e) ∙ t))
@@ -200,7 +200,7 @@ module _ {K V : Type 0} (key_bytes : K → Bytes) (pairs : List (Numbered K V)) 
   number_within_all_end = ap last_number (filter_all (λ x. is_from_start Unbounded (bytes key_bytes x) && is_up_to_end Unbounded (bytes key_bytes x)) pairs (λ y m. refl))
 
   module _ (q : Bytes) (i : ℕ) (is : keys i ≡ Some q) where
-    -- a key is the end of what is within a bound that includes it
+    -- a key is the end of the pairs within a bound that includes it
     pub number_within_at : (b : Bool) → number_within (bytes key_bytes) pairs (Included q) b ≡ Some i
     number_within_at true =
         first_of_test key_bytes pairs content distinct (λ k. is_from_start (Included q) k && is_up_to_end Unbounded k) i q is (and_from (not (less q q)) true (not_from_false (less q q) (less-irrefl q)) refl)
@@ -217,7 +217,7 @@ module _ {K V : Type 0} (key_bytes : K → Bytes) (pairs : List (Numbered K V)) 
           | inr (inr l) ↦ absurd (false≢true (sym (not-true (less q k) t) ∙ l))
         ])
 
-    -- and its neighbours are the ends of what is within a bound that excludes it
+    -- and its neighbours are the ends of the pairs within a bound that excludes it
     pub number_within_after : number_within (bytes key_bytes) pairs (Excluded q) true ≡ number_after pairs i
     number_within_after = first_after_key q (number_after pairs i) (leaf_after_key key_bytes pairs content distinct i q is) (λ k. is_from_start (Excluded q) k && is_up_to_end Unbounded k) (λ j k e. and-true (less q k))
 
@@ -225,7 +225,7 @@ module _ {K V : Type 0} (key_bytes : K → Bytes) (pairs : List (Numbered K V)) 
     number_within_before = last_before q (number_before pairs i) (leaf_before_key q i is) (λ k. is_from_start Unbounded k && is_up_to_end (Excluded q) k) (λ j k e. refl)
 
   module _ (q : Bytes) (none : (j : ℕ) → keys j ≡ Some q → ⊥) (prev : Option ℕ) (st : IsLeafBefore keys q prev) where
-    -- where no key is q, not less is greater, and not greater is less
+    -- if no key is q, a key that is not less is greater, and a key that is not greater is less
     not_less : (j : ℕ) (k : Bytes) → keys j ≡ Some k → not (less k q) ≡ less q k
     not_less j k e = elim (one_side q none j k e) [
       | inl l ↦ ap not l ∙ sym (false_from_ne_true (less q k) (λ h. one_less k q l h))
@@ -238,7 +238,7 @@ module _ {K V : Type 0} (key_bytes : K → Bytes) (pairs : List (Numbered K V)) 
       | inr l ↦ ap not l ∙ sym (false_from_ne_true (less k q) (λ h. one_less k q h l))
     ]
 
-    -- the leaves beside q are the ends of what is within its bounds
+    -- the leaves beside q are the ends of the pairs within its bounds
     pub number_within_included : (b : Bool) → number_within (bytes key_bytes) pairs (Included q) b ≡ beside prev pairs b
     number_within_included true = first_after_key q (next_number prev pairs) (leaf_after_before q none prev st) (λ k. is_from_start (Included q) k && is_up_to_end Unbounded k) (λ j k e. and-true (not (less k q)) ∙ not_less j k e)
     number_within_included false = last_before q prev st (λ k. is_from_start Unbounded k && is_up_to_end (Included q) k) not_greater
@@ -247,17 +247,17 @@ module _ {K V : Type 0} (key_bytes : K → Bytes) (pairs : List (Numbered K V)) 
     number_within_excluded true = first_after_key q (next_number prev pairs) (leaf_after_before q none prev st) (λ k. is_from_start (Excluded q) k && is_up_to_end Unbounded k) (λ j k e. and-true (less q k))
     number_within_excluded false = last_before q prev st (λ k. is_from_start Unbounded k && is_up_to_end (Excluded q) k) (λ j k e. refl)
 
-  -- ---- what begins with some bytes
+  -- ---- the pairs with a prefix
 
-  -- the leaves at the ends of those whose keys begin with q
+  -- the first and the last leaf of those whose keys begin with q
   pub ends_under : (q : Bytes) (a b : ℕ) → IsEndUnder keys true q a → IsEndUnder keys false q b → ends (under (bytes key_bytes) pairs q) ≡ Some (a, b)
   ends_under q a b u w = ends_are (under (bytes key_bytes) pairs q) a b (first_under key_bytes pairs content distinct q a u.key u.is u.front (first_less u)) (last_under key_bytes pairs content distinct q b w.key w.is w.front (last_greater w))
 
-  -- no key begins with q
+  -- if no key begins with q, there are no ends
   none_under : (q : Bytes) → ((j : ℕ) (k : Bytes) → keys j ≡ Some k → Begins q k → ⊥) → ends (under (bytes key_bytes) pairs q) ≡ None
   none_under q never = ap ends (filter_none (λ x. begins q (bytes key_bytes x)) pairs (λ y m. false_from_ne_true (begins q (bytes key_bytes y)) (λ t. never y.0 (bytes key_bytes y) (key_of_member key_bytes pairs y distinct m) (Begins-from_begins q (bytes key_bytes y) t))))
 
-  -- where no key has all bytes of q none begins with q
+  -- if no key has all bytes of q, no key begins with q
   pub no_ends : (q : Bytes) (i : ℕ) (key : Bytes) (n : ℕ) → IsNearest keys q i key n → n < length q → ends (under (bytes key_bytes) pairs q) ≡ None
   no_ends q i key n near short = none_under q (λ j k e b.
       let a : length q ≤ length (common k q) = common_length q k q b (Begins-itself q) in
@@ -266,18 +266,18 @@ module _ {K V : Type 0} (key_bytes : K → Bytes) (pairs : List (Numbered K V)) 
       omega arith)
 
   module _ (nodes : ℕ → Option Node) (q : Bytes) where
-    -- the leaf before q, and that no key is q, where a key begins q
+    -- the place of q if a key is a prefix of q: the leaf before q, and no key is q
     pub place_shorter : {P : ℕ} → (root : Option Child) → Shape P keys nodes root → (i : ℕ) → KeyEnds keys i q → IsPlaceOf keys q (Err (Some i))
     place_shorter root s i m =
         let l : length m.key < length q = m.shorter in
         (last_front keys q nodes root s i m.key m.is m.begins l, no_key keys nodes root s i m.key m.is q (inl m.begins) (omega arith))
 
-    -- where q begins keys
+    -- the same if q is a prefix of some keys
     pub place_longer : {P : ℕ} → (c : Child) → QueryEnds P (keys_in key_bytes pairs) nodes c q → (first : ℕ) → IsEndUnder keys true q first → (o : Option ℕ) → o ≡ number_before pairs first → IsPlaceOf keys q (Err o)
     place_longer c m first u o e =
         let l : length q < length m.key = m.longer in
         (subst (λ (o : Option ℕ). IsLeafBefore keys q o) (sym e) (leaf_before_first_from key_bytes pairs content distinct q first (least_from keys q first u)), no_key keys nodes m.root m.shape m.leaf m.key m.is q (inr m.begun) (omega arith))
 
-    -- and where no key is related to q
+    -- and if no key is related to q
     pub place_apart : {P : ℕ} → (d : Mismatch) → LeavesAt P (keys_in key_bytes pairs) nodes d q → (o : Option ℕ) → IsLeafBefore keys q o → IsPlaceOf keys q (Err o)
     place_apart d l o h = (h, no_key_alone keys q l.apart.alone)

@@ -1,4 +1,4 @@
--- Of the pairs below some bytes the last is left.
+-- Of the pairs with a prefix, the last is left.
 use Rattle.std.proofs.Common.{◌≡◌, ℕ, true, false, not, List, [], ◌∷◌, Option, Some, sym, ap, ◌∙◌, subst, inl, inr}
 use Rattle.std.proofs.lemmas.Bool.{false_from_ne_true}
 use Rattle.blart_keys.specs.Bytes.{begins}
@@ -22,7 +22,7 @@ use Rattle.art_cells.proofs.Pairs.Filtering.{AreDistinct-filter, only_one}
 use Rattle.art_cells.proofs.Pairs.Keys.{key_of_pair, key_of_member, member_of_key, pair_of_key}
 use Rattle.art_cells.proofs.Pairs.Outside.{first_there}
 
--- the keys that begin with the edge's front begin with the bytes
+-- the keys that begin with the edge's front begin with the bytes of the prefix
 pub branch_keys : {P : ℕ} → (keys : ℕ → Option Bytes) (nodes : ℕ → Option Node) (root : Option Child) (s : Shape P keys nodes root) (q : Bytes) (b : Branch) → IsBranch keys nodes root s.front_of q b → (j : ℕ) (k : Bytes) → keys j ≡ Some k → Begins (edge_front s.front_of b.above) k → Begins q k
 branch_keys keys nodes root s q b is j k e h = go b.child (covers_above keys nodes root s b.above b.child is.leads) is.covers
   where

@@ -1,4 +1,4 @@
--- A place for a key, after a leaf's number became another.
+-- A place for a key, after a leaf got another number.
 use Rattle.std.proofs.Common.{◌≡◌, ◌≢◌, ℕ, ap, sym, ◌∙◌, Option, Some, None, eqb, inl, inr}
 use Rattle.std.specs.Prelude.{if◌then◌else◌}
 use Rattle.std.proofs.lemmas.Bool.Decides.{eqb_tells}
@@ -8,7 +8,7 @@ use Rattle.art_cells.specs.Calls.Cutting.{GoesAfter}
 use Rattle.art_cells.proofs.Invariant.Led.{Renumbers, now_cases}
 
 module _ (keys keys' : ℕ → Option Bytes) (i j : ℕ) (re : Renumbers keys keys' i j) where
-  -- each other number has the key that it had
+  -- each other number has the same key as before
   kept : (n : ℕ) (l : Bytes) → n ≢ i → keys n ≡ Some l → keys' n ≡ Some l
   kept n l off e =
       let far : n ≢ j = λ t. (let a : keys j ≡ Some l = rw (← t) e in let b : keys j ≡ None = re.fresh in let z : None ≡ Some l = sym b ∙ a in cc) in
@@ -18,11 +18,11 @@ module _ (keys keys' : ℕ → Option Bytes) (i j : ℕ) (re : Renumbers keys ke
   moved : (l : Bytes) → keys i ≡ Some l → keys' j ≡ Some l
   moved l e = let a : keys i ≡ Some re.key = re.was in let z : re.key ≡ l = cc in re.now ∙ ap (λ (k : Bytes). Some k) z
 
-  -- the key of the old number is there, if that of the new one is
+  -- the old number had the key that the new one has
   stood : (l : Bytes) → re.key ≡ l → keys i ≡ Some l
   stood l e = re.was ∙ ap (λ (k : Bytes). Some k) e
 
-  -- the nearest key is the same, under its number now
+  -- the nearest key is the same, under its new number
   carried_nearest : (n depth : ℕ) (q : Bytes) → LeavesNearest keys n depth q → LeavesNearest keys' (if eqb n i then j else n) depth q
   carried_nearest n depth q good = record {
     nearest_key = good.nearest_key;

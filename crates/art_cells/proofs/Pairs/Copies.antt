@@ -11,7 +11,7 @@ use Rattle.art_cells.specs.Clones.{AreClones}
 use Rattle.art_cells.specs.Leaves.{Numbered, bytes, keys_in, leaf_in}
 
 module _ {K V : Type 0} (kb : K → List ℕ) (is_key : K → K → Type 0) (is_value : V → V → Type 0) where
-  -- a clone of a key has its bytes
+  -- each clone of a key has the same bytes
   abbrev pub AreFirm : List (Numbered K V) → Type 0
   AreFirm ps = (k j : K) (v : V) → Contains (map (λ p. p.1) ps) (k, v) → is_key k j → kb j ≡ kb k
 
@@ -21,7 +21,7 @@ module _ {K V : Type 0} (kb : K → List ℕ) (is_key : K → K → Type 0) (is_
   firm-rest : (p : Numbered K V) (ps : List (Numbered K V)) → AreFirm (p ∷ ps) → AreFirm ps
   firm-rest p ps f k j v m = f k j v (suc m.0, (let l = m.1 in omega arith), m.2)
 
-  -- without the numbers they are clones
+  -- without the numbers, copies are clones
   pub clones-copies : (ps qs : List (Numbered K V)) → AreFirm ps → AreCopies is_key is_value ps qs → AreClones kb is_key is_value (map (λ p. p.1) ps) (map (λ p. p.1) qs)
   clones-copies [] [] f h = tt
   clones-copies [] (q ∷ qs) f h = absurd h
@@ -42,7 +42,7 @@ module _ {K V : Type 0} (kb : K → List ℕ) (is_key : K → K → Type 0) (is_
   ranked-copies (p ∷ ps) (q ∷ qs) f h r =
       (all-copies (bytes kb p) (bytes kb q) (firm-first p ps f q.1.0 h.0.key) ps qs (firm-rest p ps f) h.1 r.0, ranked-copies ps qs (firm-rest p ps f) h.1 r.1)
 
-  -- they are a content too
+  -- copies of a content are a content
   pub content-copies : (ps qs : List (Numbered K V)) → AreFirm ps → AreCopies is_key is_value ps qs → IsContent (bytes kb) ps → IsContent (bytes kb) qs
   content-copies ps qs f h c = content_from_Ranked (bytes kb) qs (ranked-copies ps qs f h (Ranked-from_content (bytes kb) ps c))
 

@@ -1,4 +1,4 @@
--- One leaf of a row that is cut moves: what holds of the pairs and of the tree then.
+-- One leaf of a row that is split moves: the pairs and the tree after that.
 use Rattle.std.proofs.Common.{◌≡◌, ◌<◌, ℕ, List, length, map, ap, sym, subst, ◌∙◌, Option, Some, None}
 use Rattle.blart_keys.proofs.Options.{some_of}
 use Rattle.art_rows.specs.Ids.{exchanged}
@@ -16,7 +16,7 @@ use Rattle.art_cells.proofs.Pairs.Renumbered.{renumbers_from, pairs_renumbered}
 use Rattle.art_cells.proofs.UnderIds.{under_moved}
 
 module _ {K V : Type 0} (key_bytes : K → Bytes) (now new : Leaves K V) (last to : ℕ) (distinct : AreDistinct now.pairs) (has : Has now.pairs last) (fresh : leaf_in now.pairs to ≡ None) (is : new.pairs ≡ with_number now.pairs last to) where
-  -- the leaf's key is that of its new cell
+  -- the key of the moved leaf is under its new cell
   pub renumbers : Renumbers (keys_in key_bytes now.pairs) (keys_in key_bytes new.pairs) last to
   renumbers =
       let x = some_of (leaf_in now.pairs last) has in
@@ -26,10 +26,10 @@ module _ {K V : Type 0} (key_bytes : K → Bytes) (now new : Leaves K V) (last t
   pub same_pairs : map (λ p. p.1) new.pairs ≡ map (λ p. p.1) now.pairs
   same_pairs = ap (λ (S : List (Numbered K V)). map (λ p. p.1) S) is ∙ pairs_renumbered now.pairs last to
 
-  -- each under its id
+  -- each pair is under the same id
   pub same_ids : AreNamed now.ids now.pairs → to < length now.ids → new.ids ≡ exchanged now.ids last to → under_ids new.ids new.pairs ≡ under_ids now.ids now.pairs
   same_ids named lies moved = rw (moved, is) (under_moved now.ids last to (named.named last has) lies now.pairs distinct fresh)
 
-  -- and the tree is whole
+  -- and the tree is sound
   pub whole : {P : ℕ} → (nodes nodes' : Nodes) (root root' : Child) (edge : Option (ℕ × ℕ)) → IsSound key_bytes P now nodes (Some root) → LeadsTo (at nodes) (Some root) edge (Leaf last) → TurnsTo (at nodes) (at nodes') (Some root) (Some root') edge (Leaf to) → IsSound key_bytes P new nodes' (Some root')
   whole nodes nodes' root root' edge sound leads turns = sound_led key_bytes now new nodes nodes' (Some root) (Some root') last to edge sound distinct has fresh is leads turns

@@ -1,4 +1,4 @@
--- Pairs under their numbers that pass a test, where one goes; and lists of which both ends are known.
+-- Numbered pairs that pass a test, if one is removed; and lists of which both ends are known.
 use Rattle.std.proofs.Common.{◌≡◌, ◌≢◌, ℕ, Bool, true, false, cond, inl, inr, List, [], ◌∷◌, filter, refl, sym, ap, ◌∙◌, subst, Some}
 use Rattle.std.proofs.lemmas.Bool.Decides.{eqb_tells}
 use Rattle.blart_keys.proofs.RankLemmas.{Member}
@@ -6,12 +6,12 @@ use Rattle.art_cells.specs.Leaves.{Numbered, leaf_in, AreDistinct, Lacks, first_
 use Rattle.art_rows.proofs.CallerLemmas.{Has-last, has_not_lacks}
 
 module _ {K V : Type 0} (test : Numbered K V → Bool) where
-  -- a list that lacks a number lacks it after a filter
+  -- a list that lacks a number still lacks it after a filter
   Lacks-filter : (ps : List (Numbered K V)) (i : ℕ) → Lacks ps i → Lacks (filter test ps) i
   Lacks-filter [] i l = tt
   Lacks-filter (p ∷ ps) i l = elim (test p) as (λ b. Lacks (cond b (p ∷ filter test ps) (filter test ps)) i) [ true ↦ (l.0, Lacks-filter ps i l.1) | false ↦ Lacks-filter ps i l.1 ]
 
-  -- a filter leaves the numbers distinct
+  -- the numbers remain distinct after a filter
   pub AreDistinct-filter : (ps : List (Numbered K V)) → AreDistinct ps → AreDistinct (filter test ps)
   AreDistinct-filter [] d = tt
   AreDistinct-filter (p ∷ ps) d = elim (test p) as (λ b. AreDistinct (cond b (p ∷ filter test ps) (filter test ps))) [ true ↦ (Lacks-filter ps p.0 d.0, AreDistinct-filter ps d.1) | false ↦ AreDistinct-filter ps d.1 ]
@@ -21,7 +21,7 @@ module _ {K V : Type 0} (test : Numbered K V → Bool) where
   lacking_without [] i l = refl
   lacking_without (p ∷ ps) i l = elim (eqb_tells p.0 i) [ inl t ↦ absurd (l.0 t.1) | inr f ↦ rw f.0 (ap (λ l. p ∷ l) (lacking_without ps i l.1)) ]
 
-  -- a filter passes a removal by
+  -- a filter and a removal commute
   pub filter-without : (ps : List (Numbered K V)) (i : ℕ) → AreDistinct ps → filter test (without_number ps i) ≡ without_number (filter test ps) i
   filter-without [] i d = refl
   filter-without (p ∷ ps) i d = elim (eqb_tells p.0 i) [
@@ -35,7 +35,7 @@ module _ {K V : Type 0} (test : Numbered K V → Bool) where
     ])
   ]
 
-  -- a filter that drops the pair of a number is the same once that pair is gone
+  -- if a filter drops the pair of a number, the removal of that pair does not change its result
   pub dropped_without : (ps : List (Numbered K V)) (i : ℕ) → ((x : K × V) → leaf_in ps i ≡ Some x → test (i, x) ≡ false) → filter test (without_number ps i) ≡ filter test ps
   dropped_without [] i h = refl
   dropped_without (p ∷ ps) i h = elim (eqb_tells p.0 i) [
@@ -48,13 +48,13 @@ module _ {K V : Type 0} (test : Numbered K V → Bool) where
         rw f.0 (ap (λ l. cond (test p) (p ∷ l) l) ih)
   ]
 
-  -- a filter that each item passes is the list
+  -- if all items pass a filter, its result is the list
   pub filter_every : (ps : List (Numbered K V)) → ((y : Numbered K V) → Member y ps → test y ≡ true) → filter test ps ≡ ps
   filter_every [] h = refl
   filter_every (p ∷ ps) h = ap (λ b. cond b (p ∷ filter test ps) (filter test ps)) (h p (inl refl)) ∙ ap (λ l. p ∷ l) (filter_every ps (λ y m. h y (inr m)))
 
 module _ {K V : Type 0} where
-  -- the first of a list that has two ends
+  -- a list that begins with the pair of its first number, and a second pair
   pub record HasTwoPairs (S : List (Numbered K V)) (first last : ℕ) : Type 0 where
     pub pair : K × V
     pub second : Numbered K V
@@ -67,7 +67,7 @@ module _ {K V : Type 0} where
   two_ends (p ∷ []) first last e f off = let a : p.0 ≡ first = cc in let b : p.0 ≡ last = cc in absurd (off (sym a ∙ b))
   two_ends (p ∷ q ∷ S) first last e f off = let a : p.0 ≡ first = cc in record { pair = p.1; second = q; rest = S; is = λ j. (a j, p.1) ∷ q ∷ S }
 
-  -- the only one of a list whose ends are one
+  -- the pair of a list whose two ends are the same
   pub only_one : (S : List (Numbered K V)) (i : ℕ) → AreDistinct S → first_number S ≡ Some i → last_number S ≡ Some i → (x : K × V) × (S ≡ (i, x) ∷ [])
   only_one [] i d e f = absurd cc
   only_one (p ∷ []) i d e f = let a : p.0 ≡ i = cc in (p.1, λ j. (a j, p.1) ∷ [])

@@ -16,7 +16,7 @@ module _ {K V : Type 0} where
     pub key_of_pair : (ps : List (Numbered K V)) (i : ℕ) (p : K × V) → leaf_in ps i ≡ Some p → keys_in key_bytes ps i ≡ Some (key_bytes p.0)
     key_of_pair ps i p e = ap (option_map (λ (x : K × V). key_bytes x.0)) e
 
-    -- the bytes that were read of a key
+    -- the bytes that were read are the key's
     pub key_read : (ps : List (Numbered K V)) (i : ℕ) {p : K × V} {k : Bytes} → leaf_in ps i ≡ Some p → k ≡ key_bytes p.0 → keys_in key_bytes ps i ≡ Some k
     key_read ps i {p} e k_is = key_of_pair ps i p e ∙ ap Some (sym k_is)
 
@@ -28,10 +28,10 @@ module _ {K V : Type 0} where
     pub member_of_key : (ps : List (Numbered K V)) (i : ℕ) (k : Bytes) → keys_in key_bytes ps i ≡ Some k → (x : Numbered K V) × Member x ps × (x.0 ≡ i) × (bytes key_bytes x ≡ k)
     member_of_key ps i k e = let r = pair_of_key ps i k e in ((i, r.0), Member-from_leaf_in ps i r.0 r.1, refl, r.2)
 
-    -- a number under which there is a key is one of the list
+    -- a number with a key is a number of the list
     pub has_key : (ps : List (Numbered K V)) (i : ℕ) (k : Bytes) → keys_in key_bytes ps i ≡ Some k → Has ps i
     has_key ps i k e = let p = pair_of_key ps i k e in is_some (leaf_in ps i) p.0 p.1
 
-    -- and one of the list has a key
+    -- and each number of the list has a key
     pub key_of_number : (ps : List (Numbered K V)) (i : ℕ) → Has ps i → (k : Bytes) × (keys_in key_bytes ps i ≡ Some k)
     key_of_number ps i h = let p = some_of (leaf_in ps i) h in (key_bytes p.0.0, key_of_pair ps i p.0 p.1)

@@ -1,4 +1,4 @@
--- What a look-up by bytes answers.
+-- The result of a look-up by bytes.
 use Rattle.std.proofs.Common.{◌≡◌, ℕ, List, [], ◌∷◌, option_map, Some, None, true, false, refl, eqb, eq-eqb, subst, sym, ap, not, bytes_eq, ◌∙◌}
 use Rattle.std.proofs.lemmas.Bool.{not_from_false}
 use Rattle.std.specs.Cmp.Lexicographic.{pointwise}
@@ -18,26 +18,26 @@ use Rattle.art_cells.proofs.Pairs.Numbers.{Member-from_leaf_in, leaf_in-member}
 use Rattle.art_cells.proofs.Ways.ToQuery.{absent, only_absent, only_not}
 
 module _ {K V : Type 0} (key_bytes : K → Bytes) (S : List (Numbered K V)) where
-  -- the leaf that alone may begin q is there
+  -- the only leaf whose key may be a prefix of q is there
   pub only_has : (q : Bytes) (i : ℕ) → IsOnlyFront (keys_in key_bytes S) q i → Has S i
   only_has q i o = let p = pair_of_key key_bytes S i o.key o.is in is_some _ p.0 p.1
 
   module _ (content : IsContent (bytes key_bytes) S) (distinct : AreDistinct S) (q : Bytes) where
-    -- no key begins q: no pair is found
+    -- if no key is a prefix of q, no pair is found
     pub none_at : NoFront (keys_in key_bytes S) q → None ≡ at (bytes key_bytes) S q
     none_at never = sym (at_no_key key_bytes S content distinct q (absent (keys_in key_bytes S) q never))
 
     pub none_front : NoFront (keys_in key_bytes S) q → None ≡ front_of (bytes key_bytes) S q
     none_front never = sym (front_of_no_key key_bytes S content distinct q never)
 
-    -- the number of the pair found has it
+    -- the pair that is found is the pair of its number
     pub found_at : (i : ℕ) → Some i ≡ option_map (λ (p : Numbered K V). p.0) (at (bytes key_bytes) S q) → (x : K × V) × (at (bytes key_bytes) S q ≡ Some (i, x)) × (leaf_in S i ≡ Some x)
     found_at i e =
         let r = mapped_some (λ (p : Numbered K V). p.0) (at (bytes key_bytes) S q) i (sym e) in
         let f : at (bytes key_bytes) S q ≡ Some (i, r.0.1) = r.1 ∙ ap (λ n. Some (n, r.0.1)) r.2 in
         (r.0.1, f, leaf_in-member S i r.0.1 distinct (at_Some (bytes key_bytes) S q (i, r.0.1) f).0)
 
-    -- the pairs without that number are those with other bytes
+    -- the pairs without that number are the pairs with other bytes than q
     pub without_found : (i : ℕ) (x : K × V) → at (bytes key_bytes) S q ≡ Some (i, x) → leaf_in S i ≡ Some x → without_number S i ≡ without (bytes key_bytes) S q
     without_found i x f l =
         let c = split S i (is_some (leaf_in S i) x l) in
@@ -47,12 +47,12 @@ module _ {K V : Type 0} (key_bytes : K → Bytes) (S : List (Numbered K V)) wher
         ap (λ (ps : List (Numbered K V)). without_number ps i) c.is ∙ without_number-split i c.pair c.after c.before c.lacks
         ∙ sym (ap (λ (ps : List (Numbered K V)). without (bytes key_bytes) ps q) c.is ∙ without_cut (bytes key_bytes) c.before c.after (i, c.pair) q (subst (IsContent (bytes key_bytes)) c.is content) e)
 
-    -- where none is found all have other bytes
+    -- if no pair is found, all pairs have other bytes than q
     pub without_none : None ≡ option_map (λ (p : Numbered K V). p.0) (at (bytes key_bytes) S q) → S ≡ without (bytes key_bytes) S q
     without_none e = sym (filter_all (λ x. not (bytes_eq (bytes key_bytes x) q)) S (λ x m. not_from_false (bytes_eq (bytes key_bytes x) q) (find_missing (λ x. bytes_eq (bytes key_bytes x) q) S x (mapped_none (λ (p : Numbered K V). p.0) (at (bytes key_bytes) S q) (sym e)) m)))
 
     module _ (f : ℕ × (K × V)) (alone : IsFrontAlone key_bytes S q (Some f)) where
-      -- the one pair that may be found is, or none is
+      -- if the only pair that may be found has the bytes q, it is found
       pub this_at : key_bytes f.1.0 ≡ q → Some f ≡ at (bytes key_bytes) S q
       this_at e = sym (at_member (bytes key_bytes) S content q f (Member-from_leaf_in S f.0 f.1 alone.1) e)
 
@@ -65,12 +65,12 @@ module _ {K V : Type 0} (key_bytes : K → Bytes) (S : List (Numbered K V)) wher
       pub not_front : (Begins (key_bytes f.1.0) q → ⊥) → None ≡ front_of (bytes key_bytes) S q
       not_front off = sym (front_of_no_key key_bytes S content distinct q (only_not (keys_in key_bytes S) q f.0 alone.0 (key_bytes f.1.0) (key_of_pair key_bytes S f.0 f.1 alone.1) off))
 
--- a list is the text that it is
+-- each list of numbers equals itself
 pointwise-itself : (xs : List ℕ) → pointwise eqb xs xs ≡ true
 pointwise-itself [] = refl
 pointwise-itself (x ∷ xs) = rw (eq-eqb x x refl) (pointwise-itself xs)
 
--- bytes that were found to be another text are others
+-- bytes that do not compare equal are different
 pub not_text : (b q : Bytes) → Some b ≡ Some q → false ≡ pointwise eqb b q → ⊥
 not_text b q e f =
     let h : q ≡ b = cc in

@@ -1,4 +1,4 @@
--- The leaves before and after a key that no stored key is related to.
+-- The leaves before and after a key that is related to no stored key.
 use Rattle.std.proofs.Common.{◌≡◌, ℕ, ◌<◌, true, false, List, [], ◌∷◌, ◌++◌, append_assoc, refl, ap, arith, sym, subst, Option, Some, None, IsSome, ◌∙◌, ◌⊎◌, inl, inr}
 use Rattle.std.proofs.lemmas.Bool.{cases_order, cases_Bool, false≢true, false_from_ne_true}
 use Rattle.std.proofs.lemmas.Bool.Decides.{eqb_tells}
@@ -22,7 +22,7 @@ use Rattle.art_cells.proofs.BeginsLemmas.{Begins-more, Begins-cases, Begins-edge
 use Rattle.art_cells.proofs.Pairs.Passing.{parted_less}
 use Rattle.art_cells.proofs.Pairs.Keys.{key_of_member, member_of_key, pair_of_key}
 
--- less goes one way
+-- two lists are not less than each other
 pub one_less : (a b : Bytes) → less a b ≡ true → less b a ≡ true → ⊥
 one_less a b h k = false≢true (sym (less-irrefl a) ∙ less-trans a b a h k)
 
@@ -30,7 +30,7 @@ one_less a b h k = false≢true (sym (less-irrefl a) ∙ less-trans a b a h k)
 pub less_cases : (a q : Bytes) → related a q ≡ false → (less a q ≡ true) ⊎ (less q a ≡ true)
 less_cases a q h = elim (less_or a q) [ inl e ↦ absurd (false≢true (sym h ∙ related-same a q e)) | inr o ↦ o ]
 
--- a key that goes on elsewhere before the end of g is on the same side of all that begin with g
+-- a key that leaves g before its end is on the same side of all keys that begin with g
 pub same_side : (g k a b : Bytes) → (Begins g k → ⊥) → (Begins k g → ⊥) → Begins g a → Begins g b → (less k a ≡ less k b) × (less a k ≡ less b k)
 same_side [] k a b off on ga gb = absurd (off tt)
 same_side (x ∷ g) [] a b off on ga gb = absurd (on tt)
@@ -48,11 +48,11 @@ same_side (x ∷ g) (z ∷ k) (y ∷ a) (w ∷ b) off on ga gb =
     ]
 
 module _ (keys : ℕ → Option Bytes) (q : Bytes) (g : Bytes) (gq : Begins g q) (alone : (j : ℕ) (k : Bytes) → keys j ≡ Some k → related k q ≡ false) where
-  -- a key that does not begin with g is on one side of q and of all that begin with g
+  -- a key that does not begin with g is on the same side of q and of all keys that begin with g
   outside : (j : ℕ) (k m : Bytes) → keys j ≡ Some k → Begins g m → (Begins g k → ⊥) → (less k q ≡ less k m) × (less q k ≡ less m k)
   outside j k m is gm off = same_side g k q m off (λ h. false≢true (sym (alone j k is) ∙ related-from_front k q (Begins-trans k g q h gq))) gq gm
 
-  -- the greatest key below g, where q is greater than all of them
+  -- the greatest key that begins with g and is less than q is the last before q
   pub last_below : (i : ℕ) (m : Bytes) → keys i ≡ Some m → Begins g m → ((j : ℕ) (k : Bytes) → keys j ≡ Some k → Begins g k → less k q ≡ true → (j ≡ i) ⊎ (less k m ≡ true)) → less m q ≡ true → LastBefore keys q i
   last_below i m is gm most lt = record {
     key = m;
@@ -61,7 +61,7 @@ module _ (keys : ℕ → Option Bytes) (q : Bytes) (g : Bytes) (gq : Begins g q)
     last = λ j k e l. elim (Begins-cases g k) [ inl gk ↦ most j k e gk l | inr off ↦ inr (sym (outside j k m e gm off).0 ∙ l) ];
   }
 
-  -- the least key below g, where q is less than all of them
+  -- the least key that begins with g and is greater than q is the first after q
   pub first_below : (i : ℕ) (m : Bytes) → keys i ≡ Some m → Begins g m → ((j : ℕ) (k : Bytes) → keys j ≡ Some k → Begins g k → less q k ≡ true → (j ≡ i) ⊎ (less m k ≡ true)) → less q m ≡ true → FirstAfter keys q i
   first_below i m is gm most lt = record {
     key = m;
@@ -70,10 +70,10 @@ module _ (keys : ℕ → Option Bytes) (q : Bytes) (g : Bytes) (gq : Begins g q)
     first = λ j k e l. elim (Begins-cases g k) [ inl gk ↦ most j k e gk l | inr off ↦ inr (sym (outside j k m e gm off).1 ∙ l) ];
   }
 
--- ---- beside an edge where q leaves the keys below it
+-- ---- beside an edge at which q leaves the keys below it
 
 module _ (keys : ℕ → Option Bytes) (q : Bytes) (alone : (j : ℕ) (k : Bytes) → keys j ≡ Some k → related k q ≡ false) (t : Bytes) (b a : ℕ) (qt : Begins (t ++ b ∷ []) q) where
-  -- the keys below an edge go on from t by the byte a, and q by b
+  -- the keys below an edge continue from t with the byte a, and q with b
   below_less : (k : Bytes) → Begins (t ++ a ∷ []) k → a < b → less k q ≡ true
   below_less k h l = parted_less t k q a b h qt l
 
@@ -84,15 +84,15 @@ module _ (keys : ℕ → Option Bytes) (q : Bytes) (alone : (j : ℕ) (k : Bytes
     gq : Begins g q
     gq = Begins-trans g t q gt (Begins-edge_front t q b qt)
 
-    -- the greatest key below the edge comes before q, where q's byte is greater
+    -- if q's byte is greater, the greatest key below the edge is the last before q
     pub last_beside : a < b → ((j : ℕ) (k : Bytes) → keys j ≡ Some k → Begins g k → (j ≡ i) ⊎ (less k m ≡ true)) → LastBefore keys q i
     last_beside l most = last_below keys q g gq alone i m is gm (λ j k e gk lt. most j k e gk) (below_less m (all i m is gm) l)
 
-    -- the least key below the edge comes after q, where q's byte is less
+    -- if q's byte is less, the least key below the edge is the first after q
     pub first_beside : b < a → ((j : ℕ) (k : Bytes) → keys j ≡ Some k → Begins g k → (j ≡ i) ⊎ (less m k ≡ true)) → FirstAfter keys q i
     first_beside l most = first_below keys q g gq alone i m is gm (λ j k e gk lt. most j k e gk) (below_more m (all i m is gm) l)
 
--- ---- at a node where q leaves
+-- ---- at a node at which q leaves
 
 module _ {P : ℕ} (keys : ℕ → Option Bytes) (nodes : ℕ → Option Node) (root : Option Child) (s : Shape P keys nodes root) (q : Bytes) (alone : (j : ℕ) (k : Bytes) → keys j ≡ Some k → related k q ≡ false)
     (n : ℕ) (x : Node) (x_is : nodes n ≡ Some x) (b : ℕ) (qt : Begins (s.front_of n ++ b ∷ []) q) where
@@ -102,11 +102,11 @@ module _ {P : ℕ} (keys : ℕ → Option Bytes) (nodes : ℕ → Option Node) (
   tq : Begins t q
   tq = Begins-edge_front t q b qt
 
-  -- a key of the node stands at an edge, and goes on by its byte
+  -- a key below the node is below one of its edges, and continues with that edge's byte
   by_edge : (j : ℕ) (k : Bytes) → keys j ≡ Some k → Begins t k → Begins (t ++ next_byte t k ∷ []) k × IsSome (child_at x.edges (next_byte t k))
   by_edge j k e tk = (Begins-more t k tk ((s.node n x x_is).longer j k e tk), (s.node n x x_is).edge j k e tk)
 
-  -- the greatest key below the edge before q's byte comes before q
+  -- the greatest key below the edge before q's byte is the last before q
   pub last_at_node : (e : Edge) → IsPrevious x.edges b (Some e) → child_at x.edges b ≡ None → (i : ℕ) (m : Bytes) → keys i ≡ Some m → Begins (t ++ e.byte ∷ []) m → ((j : ℕ) (k : Bytes) → keys j ≡ Some k → Begins (t ++ e.byte ∷ []) k → (j ≡ i) ⊎ (less k m ≡ true)) → LastBefore keys q i
   last_at_node e prev none i m is tm most =
       last_below keys q t tq alone i m is (Begins-edge_front t m e.byte tm)
@@ -124,7 +124,7 @@ module _ {P : ℕ} (keys : ℕ → Option Bytes) (nodes : ℕ → Option Node) (
       ])
       (parted_less t m q e.byte b tm qt prev.0)
 
-  -- the least key below the edge after q's byte comes after q
+  -- the least key below the edge after q's byte is the first after q
   pub first_at_node : (e : Edge) → IsNext x.edges b (Some e) → child_at x.edges b ≡ None → (i : ℕ) (m : Bytes) → keys i ≡ Some m → Begins (t ++ e.byte ∷ []) m → ((j : ℕ) (k : Bytes) → keys j ≡ Some k → Begins (t ++ e.byte ∷ []) k → (j ≡ i) ⊎ (less m k ≡ true)) → FirstAfter keys q i
   first_at_node e next none i m is tm least =
       first_below keys q t tq alone i m is (Begins-edge_front t m e.byte tm)
@@ -149,20 +149,20 @@ pub record FirstFrom (keys : ℕ → Option Bytes) (q : Bytes) (i : ℕ) : Type 
   pub from : less key q ≡ false
   pub first : (j : ℕ) (k : Bytes) → keys j ≡ Some k → less k q ≡ false → (j ≡ i) ⊎ (less key k ≡ true)
 
--- the leaf after q, or none where no key is greater
+-- the leaf after q, or none if no key is greater
 abbrev pub IsLeafAfter : (ℕ → Option Bytes) → Bytes → Option ℕ → Type 0
 IsLeafAfter keys q None = (j : ℕ) (k : Bytes) → keys j ≡ Some k → less q k ≡ false
 IsLeafAfter keys q (Some i) = FirstAfter keys q i
 
 -- ---- in the list of pairs
 
--- the number of the last pair, or `back` where there is none
+-- the number of the last pair, or `back` if there is none
 abbrev pub last_or : {K V : Type 0} → Option ℕ → List (Numbered K V) → Option ℕ
 last_or back [] = back
 last_or back (p ∷ ps) = last_or (Some p.0) ps
 
 module _ {K V : Type 0} where
-  -- where a pair stands in the list
+  -- the place of a pair in the list
   pub record IsSplit (ps : List (Numbered K V)) (i : ℕ) : Type 0 where
     pub before : List (Numbered K V)
     pub pair : K × V
@@ -230,13 +230,13 @@ module _ {K V : Type 0} (key_bytes : K → Bytes) (pairs : List (Numbered K V)) 
       subst (λ (l : List (Numbered K V)). Member y l) (sym place.is) (Member-append_right y place.before ((i, place.pair) ∷ place.after) (inr m)),
     )
 
-    -- a pair under the number has its key
+    -- a pair with this number has its key
     key_of_number : (y : Numbered K V) → Member y pairs → y.0 ≡ i → bytes key_bytes y ≡ k
     key_of_number y m e =
         let a : keys_in key_bytes pairs i ≡ Some (bytes key_bytes y) = ap (keys_in key_bytes pairs) (sym e) ∙ key_of_member key_bytes pairs y distinct m in
         cc
 
-  -- the last of some pairs, which are ranked, is greater than the others
+  -- the last of some pairs in ascending order is greater than the others
   last_is : (ps : List (Numbered K V)) (z : Numbered K V) → Ranked (Before (bytes key_bytes)) (z ∷ ps)
       → (y : Numbered K V) × (last_or (Some z.0) ps ≡ Some y.0) × Member y (z ∷ ps) × ((w : Numbered K V) → Member w (z ∷ ps) → (w ≡ y) ⊎ (less (bytes key_bytes w) (bytes key_bytes y) ≡ true))
   last_is [] z r = (z, refl, inl refl, λ w m. elim m [ inl e ↦ inl (sym e) | inr n ↦ absurd n ])
@@ -251,19 +251,19 @@ module _ {K V : Type 0} (key_bytes : K → Bytes) (pairs : List (Numbered K V)) 
         ],
       )
 
-  -- the leaf before q is the one before the first that is not less
+  -- the leaf before q is the leaf before the first that is not less
   pub leaf_before_first_from : (q : Bytes) (i : ℕ) → FirstFrom (keys_in key_bytes pairs) q i → IsLeafBefore (keys_in key_bytes pairs) q (number_before pairs i)
   leaf_before_first_from q i st = subst (λ (o : Option ℕ). IsLeafBefore (keys_in key_bytes pairs) q o) (sym (p.previous None)) (go p.before refl)
     where
       p : IsSplit pairs i
       p = place i st.key st.is
 
-      -- no pair from the number on is less than q
+      -- neither this pair nor a later one is less than q
       not_late : (y : Numbered K V) → Member y ((i, p.pair) ∷ p.after) → less (bytes key_bytes y) q ≡ true → ⊥
       not_late y (inl e) h = false≢true (sym st.from ∙ subst (λ (k : Bytes). less k q ≡ true) (ap (bytes key_bytes) (sym e) ∙ key_here i st.key st.is) h)
       not_late y (inr n) h = false≢true (sym st.from ∙ less-trans st.key (bytes key_bytes y) q (after_here i st.key st.is y n).0 h)
 
-      -- each pair before it is
+      -- each earlier pair is less
       early : (y : Numbered K V) → Member y p.before → less (bytes key_bytes y) q ≡ true
       early y m =
           let b = before_here i st.key st.is y m in
@@ -275,7 +275,7 @@ module _ {K V : Type 0} (key_bytes : K → Bytes) (pairs : List (Numbered K V)) 
             ]
           ]
 
-      -- a key less than q is that of a pair before
+      -- a key less than q is the key of an earlier pair
       is_early : (j : ℕ) (k : Bytes) → keys_in key_bytes pairs j ≡ Some k → less k q ≡ true → (y : Numbered K V) × Member y p.before × (y.0 ≡ j) × (bytes key_bytes y ≡ k)
       is_early j k e h =
           let r = member_of_key key_bytes pairs j k e in
@@ -301,14 +301,14 @@ module _ {K V : Type 0} (key_bytes : K → Bytes) (pairs : List (Numbered K V)) 
             ]);
           })
 
-  -- the leaf after a leaf is the one after its key
+  -- the leaf after a key's leaf is the leaf after the key
   pub leaf_after_key : (i : ℕ) (q : Bytes) → keys_in key_bytes pairs i ≡ Some q → IsLeafAfter (keys_in key_bytes pairs) q (number_after pairs i)
   leaf_after_key i q is = subst (λ (o : Option ℕ). IsLeafAfter (keys_in key_bytes pairs) q o) (sym p.next) (go p.after refl)
     where
       p : IsSplit pairs i
       p = place i q is
 
-      -- a greater key is that of a pair after it
+      -- a greater key is the key of a later pair
       is_late : (j : ℕ) (k : Bytes) → keys_in key_bytes pairs j ≡ Some k → less q k ≡ true → (y : Numbered K V) × Member y p.after × (y.0 ≡ j) × (bytes key_bytes y ≡ k)
       is_late j k e h =
           let r = member_of_key key_bytes pairs j k e in
@@ -337,7 +337,7 @@ module _ {K V : Type 0} (key_bytes : K → Bytes) (pairs : List (Numbered K V)) 
     unrelated_member : (y : Numbered K V) → Member y pairs → related (bytes key_bytes y) q ≡ false
     unrelated_member y m = alone y.0 (bytes key_bytes y) (key_of_member key_bytes pairs y distinct m)
 
-    -- a pair before q parts below it, and one that is not parts above
+    -- a pair that is less than q parts below q
     before_q : (y : Numbered K V) → Member y pairs → less (bytes key_bytes y) q ≡ true → PartsBelow (bytes key_bytes y) q
     before_q y m l = PartsBelow-from (bytes key_bytes y) q l (unrelated_member y m)
 
@@ -348,7 +348,7 @@ module _ {K V : Type 0} (key_bytes : K → Bytes) (pairs : List (Numbered K V)) 
           | inr h ↦ PartsBelow-from q (bytes key_bytes y) h (unrelated_back (bytes key_bytes y) q (unrelated_member y m))
         ]
 
-    -- a new pair after the one before it: a put
+    -- a new pair after the leaf before q makes a put
     pub placed_put : (prev : Option ℕ) (x : Numbered K V) → bytes key_bytes x ≡ q → IsLeafBefore (keys_in key_bytes pairs) q prev → IsPut (bytes key_bytes) pairs x (with_pair_after prev x pairs)
     placed_put None x e st =
         put_between (bytes key_bytes) [] pairs x content (λ y m. absurd m)
@@ -379,7 +379,7 @@ module _ {K V : Type 0} (key_bytes : K → Bytes) (pairs : List (Numbered K V)) 
               | inr k ↦ one_less st.key (bytes key_bytes y) l k
             ])
 
-    -- the leaf before q is the one before the first that is greater
+    -- the leaf before q is the leaf before the first that is greater
     leaf_before_first_after : (i : ℕ) → FirstAfter (keys_in key_bytes pairs) q i → IsLeafBefore (keys_in key_bytes pairs) q (number_before pairs i)
     leaf_before_first_after i st =
         leaf_before_first_from q i (record {
@@ -389,7 +389,7 @@ module _ {K V : Type 0} (key_bytes : K → Bytes) (pairs : List (Numbered K V)) 
           first = λ j k e h. elim (less_cases k q (alone j k e)) [ inl l ↦ absurd (false≢true (sym h ∙ l)) | inr l ↦ st.first j k e l ];
         })
 
-    -- the leaf before q, by one beside it
+    -- the leaf before q, from a leaf beside q
     pub before_beside : (beside : Beside) → IsBeside (keys_in key_bytes pairs) q beside → IsLeafBefore (keys_in key_bytes pairs) q (number_before_place pairs beside)
     before_beside (AfterLeaf i) st = st
     before_beside (BeforeLeaf i) st = leaf_before_first_after i st

@@ -1,4 +1,4 @@
--- What holds of lists of numbered pairs, beside what holds of numbered items of any kind.
+-- Facts about lists of numbered pairs, beside those about numbered items of any kind.
 use Rattle.std.proofs.Common.{◌≡◌, ℕ, List, [], ◌∷◌, ◌++◌, map, refl, sym, ap, subst, ◌∙◌, Option, Some, None, Bool, true, false, cond, eqb, eq-eqb, inl, inr}
 use Rattle.std.specs.Prelude.{option_map}
 use Rattle.std.proofs.lemmas.Bool.{ne_eqb}
@@ -8,7 +8,7 @@ use Rattle.art_rows.proofs.CallerLemmas.{leaf_in_lacking, same_distinct}
 use Rattle.art_cells.specs.Leaves.{Numbered, leaf_in, with_value, Lacks, AreDistinct, keys_in}
 
 module _ {K V : Type 0} where
-  -- a pair of the list stands under its number
+  -- a pair of the list is the pair of its number
   pub leaf_in-member : (ps : List (Numbered K V)) (i : ℕ) (x : K × V) → AreDistinct ps → Member (i, x) ps → leaf_in ps i ≡ Some x
   leaf_in-member [] i x d m = absurd m
   leaf_in-member (p ∷ ps) i x d (inl e) = rw (e, eq-eqb i i refl) refl
@@ -17,7 +17,7 @@ module _ {K V : Type 0} where
     | inr t ↦ rw t.0 (leaf_in-member ps i x d.1 m)
   ]
 
-  -- what stands under a number is a pair of the list
+  -- the pair of a number is a pair of the list
   pub Member-from_leaf_in : (ps : List (Numbered K V)) (i : ℕ) (x : K × V) → leaf_in ps i ≡ Some x → Member (i, x) ps
   Member-from_leaf_in [] i x e = (let f : None ≡ Some x = e in cc)
   Member-from_leaf_in (p ∷ ps) i x e = elim (eqb_tells p.0 i) [
@@ -28,12 +28,12 @@ module _ {K V : Type 0} where
       pair_is : (p : Numbered K V) (i : ℕ) (x : K × V) → p.0 ≡ i → p.1 ≡ x → p ≡ (i, x)
       pair_is p i x a b = rw (← a, ← b) refl
 
-  -- with another value at the split
+  -- the list with another value at the split
   pub with_value-split : (i : ℕ) (x : K × V) (after : List (Numbered K V)) (v : V) (before : List (Numbered K V)) → Lacks before i → with_value (before ++ (i, x) ∷ after) i v ≡ before ++ (i, (x.0, v)) ∷ after
   with_value-split i x after v [] l = rw (eq-eqb i i refl) refl
   with_value-split i x after v (q ∷ before) l = rw (ne_eqb q.0 i l.0) (ap (λ s. q ∷ s) (with_value-split i x after v before l.1))
 
-  -- what each number names, after the value of one was changed
+  -- the pair of each number, after the value of one was changed
   pub leaf_in-with_value : (ps : List (Numbered K V)) (i : ℕ) (v : V) (j : ℕ) → leaf_in (with_value ps i v) j ≡ cond (eqb i j) (option_map (λ (x : K × V). (x.0, v)) (leaf_in ps j)) (leaf_in ps j)
   leaf_in-with_value [] i v j = elim (eqb_tells i j) [ inl t ↦ rw t.0 refl | inr t ↦ rw t.0 refl ]
   leaf_in-with_value (p ∷ ps) i v j = elim (eqb_tells p.0 i) [
@@ -44,7 +44,7 @@ module _ {K V : Type 0} where
     ])
   ]
 
-  -- what does not see the value of a pair does not see another
+  -- a map by a function that ignores values is the same for another value
   pub map-with_value : {X : Type 0} (f : Numbered K V → X) → ((p : Numbered K V) (v : V) → f (p.0, (p.1.0, v)) ≡ f p) → (ps : List (Numbered K V)) (i : ℕ) (v : V) → map f (with_value ps i v) ≡ map f ps
   map-with_value f same [] i v = refl
   map-with_value f same (p ∷ ps) i v = elim (eqb_tells p.0 i) [
@@ -52,11 +52,11 @@ module _ {K V : Type 0} where
     | inr t ↦ rw t.0 (ap (λ ys. f p ∷ ys) (map-with_value f same ps i v))
   ]
 
-  -- the numbers stand
+  -- the numbers are unchanged
   pub numbers-with_value : (ps : List (Numbered K V)) (i : ℕ) (v : V) → map (λ p. p.0) (with_value ps i v) ≡ map (λ p. p.0) ps
   numbers-with_value ps i v = map-with_value (λ p. p.0) (λ p w. refl) ps i v
 
-  -- the numbers are distinct still
+  -- the numbers remain distinct
   pub AreDistinct-with_value : (ps : List (Numbered K V)) (i : ℕ) (v : V) → AreDistinct ps → AreDistinct (with_value ps i v)
   AreDistinct-with_value ps i v d = same_distinct ps (with_value ps i v) (sym (numbers-with_value ps i v)) d
 

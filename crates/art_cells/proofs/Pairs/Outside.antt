@@ -1,4 +1,4 @@
--- The pairs that begin with some bytes go, from the first to the last.
+-- The pairs that begin with some bytes are removed, from the first to the last.
 use Rattle.std.proofs.Common.{◌≡◌, ◌≢◌, ℕ, List, [], ◌∷◌, ◌++◌, not, true, Some, None, inl, inr, refl, sym, ap, ◌∙◌, subst, cond, append_assoc, eq-eqb}
 use Rattle.std.proofs.lemmas.Bool.Decides.{eqb_tells}
 use Rattle.blart_keys.specs.Bytes.{begins}
@@ -17,12 +17,12 @@ use Rattle.art_cells.proofs.Pairs.Numbers.{Member-from_leaf_in, leaf_in-member}
 
 module _ {K V : Type 0} where
   module _ (key_bytes : K → List ℕ) (ps : List (Numbered K V)) (q : List ℕ) where
-    -- where there is none, all stay
+    -- if there are none, all pairs remain
     pub none_below : None ≡ ends (under (bytes key_bytes) ps q) → outside (bytes key_bytes) ps q ≡ ps
     none_below e = outside_all (bytes key_bytes) ps q (no_pairs_between (under (bytes key_bytes) ps q) (sym e))
 
     module _ (distinct : AreDistinct ps) (first last : ℕ) (is : ends (under (bytes key_bytes) ps q) ≡ Some (first, last)) where
-      -- the first of them
+      -- the first of them is there, and begins with q
       pub first_there : (x : K × V) × (leaf_in ps first ≡ Some x) × (begins q (key_bytes x.0) ≡ true)
       first_there =
           let below : List (Numbered K V) = under (bytes key_bytes) ps q in
@@ -33,7 +33,7 @@ module _ {K V : Type 0} where
       pub first_has : Has ps first
       first_has = let r = first_there in is_some (leaf_in ps first) r.0 r.1
 
-      -- once it is gone, what is to stay is the same
+      -- once it is removed, the pairs that are to remain are the same
       pub outside_without : outside (bytes key_bytes) (without_number ps first) q ≡ outside (bytes key_bytes) ps q
       outside_without =
           let r = first_there in
@@ -42,7 +42,7 @@ module _ {K V : Type 0} where
           let b : r.0 ≡ x = cc in
           ap not (subst (λ (z : K × V). begins q (key_bytes z.0) ≡ true) b r.2))
 
-      -- after it, if it is not the last, stands the next of them
+      -- after it, if it is not the last, is the next of them
       pub next_below : IsContent (bytes key_bytes) ps → first ≢ last → (n : ℕ) × (number_after ps first ≡ Some n) × (ends (under (bytes key_bytes) (without_number ps first) q) ≡ Some (n, last))
       next_below content off =
           let below : List (Numbered K V) = under (bytes key_bytes) ps q in
@@ -59,7 +59,7 @@ module _ {K V : Type 0} where
             ap ends left ∙ ends_are (e.second ∷ e.rest) e.second.0 last refl low,
           )
 
-      -- where it is the last, it is the only one
+      -- if it is the last, it is the only one
       pub outside_last : first ≡ last → without_number ps first ≡ outside (bytes key_bytes) ps q
       outside_last same =
           let below : List (Numbered K V) = under (bytes key_bytes) ps q in
@@ -70,7 +70,7 @@ module _ {K V : Type 0} where
           sym (outside_all (bytes key_bytes) (without_number ps first) q none) ∙ outside_without
 
 module _ {K V : Type 0} where
-  -- what stands once a pair is gone stood before
+  -- a pair that remains after a removal was there before
   pub stood_without : (ps : List (Numbered K V)) (i : ℕ) → AreDistinct ps → (j : ℕ) (x : K × V) → leaf_in (without_number ps i) j ≡ Some x → leaf_in ps j ≡ Some x
   stood_without ps i d j x e = elim (eqb_tells j i) [
     | inl t ↦

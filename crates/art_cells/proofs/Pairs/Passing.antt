@@ -13,7 +13,7 @@ use Rattle.art_kinds.specs.declared.records.ids.Child.{Child}
 use Rattle.art_kinds.specs.declared.records.ids.Edge.{Edge}
 use Rattle.art_cells.proofs.BeginsLemmas.{begins-from_Begins}
 
--- of two keys that part at f, that with the lesser byte is less
+-- of two keys that part at f, the key with the lesser byte is less
 pub parted_less : (f l k : Bytes) (a b : ℕ) → Begins (f ++ a ∷ []) l → Begins (f ++ b ∷ []) k → a < b → less l k ≡ true
 parted_less f l k a b fl fk lt =
     less-from_PartsBelow l k (parts_at_branch f l k (record { low = a; high = b; below = lt; first = begins-from_Begins (f ++ a ∷ []) l fl; second = begins-from_Begins (f ++ b ∷ []) k fk }))
@@ -30,7 +30,7 @@ module _ {K V : Type 0} (key_bytes : K → Bytes) (p : Numbered K V → Bool) wh
   not_both : (x y : Numbered K V) → Before (bytes key_bytes) x y → less (bytes key_bytes y) (bytes key_bytes x) ≡ true → ⊥
   not_both x y b l = false≢true (sym (less-irrefl (bytes key_bytes x)) ∙ less-trans (bytes key_bytes x) (bytes key_bytes y) (bytes key_bytes x) (less-from_PartsBelow _ _ b) l)
 
-  -- a pair that passes and is less than all others that do comes first
+  -- a pair that passes and is less than all others that pass is the first
   pub first_passing : (ps : List (Numbered K V)) (x : Numbered K V) → Ranked (Before (bytes key_bytes)) ps → Member x ps → p x ≡ true
       → ((y : Numbered K V) → Member y ps → p y ≡ true → (y ≡ x) ⊎ (less (bytes key_bytes x) (bytes key_bytes y) ≡ true)) → first_number (filter p ps) ≡ Some x.0
   first_passing [] x r m t least = absurd m
@@ -49,7 +49,7 @@ module _ {K V : Type 0} (key_bytes : K → Bytes) (p : Numbered K V → Bool) wh
       there later (inl e) u = absurd (false≢true (sym u ∙ ap p e ∙ t))
       there later (inr k) u = later k
 
-  -- a pair that passes and is greater than all others that do comes last
+  -- a pair that passes and is greater than all others that pass is the last
   pub last_passing : (ps : List (Numbered K V)) (x : Numbered K V) → Ranked (Before (bytes key_bytes)) ps → Member x ps → p x ≡ true
       → ((y : Numbered K V) → Member y ps → p y ≡ true → (y ≡ x) ⊎ (less (bytes key_bytes y) (bytes key_bytes x) ≡ true)) → last_number (filter p ps) ≡ Some x.0
   last_passing [] x r m t greatest = absurd m

@@ -1,4 +1,4 @@
--- The pairs with one more.
+-- The pairs with one more pair.
 use Rattle.std.proofs.Common.{◌≡◌, ◌≢◌, ◌<◌, ℕ, List, [], length, refl, ap, sym, subst, Option, Some, None, ◌∙◌, false}
 use Rattle.std.specs.Prelude.{IfSome, map}
 use Rattle.blart_keys.specs.Bytes.{related}
@@ -32,7 +32,7 @@ use Rattle.art_cells.proofs.Pairs.Keys.{pair_of_key, has_key}
 use Rattle.art_cells.proofs.Invariant.SameShapes.{rooted}
 use Rattle.art_cells.proofs.Invariant.SmallShapes.{first_key}
 
--- the pair was put under a fresh number, and each other number names what it named
+-- the pair was put under a fresh number, and each other number has the same pair as before
 pub record Places {K V : Type 0} (key_bytes : K → Bytes) (old new : List (Numbered K V)) (i : ℕ) (x : K × V) : Type 0 where
   pub put : IsPut (bytes key_bytes) old (i, x) new
   pub fresh : leaf_in old i ≡ None
@@ -48,18 +48,18 @@ no_root keys nodes (Some c) s none =
     let b : keys k.0 ≡ None = none k.0 in
     absurd cc
 
--- a spot that is right for any keys is right for these
+-- a spot that is right for all keys is right for these
 pub shown_rest : (P : ℕ) (nodes : ℕ → Option Node) (root : Child) (place : CellPlace) (keys : ℕ → Option Bytes) (shown : Option Spot) → IfSome shown (IsShown P nodes root place) → IfSome shown (IsShownIn P keys nodes root place.nearest place.depth)
 shown_rest P nodes root place keys None h = tt
 shown_rest P nodes root place keys (Some spot) h = h keys
 
 module _ {K V : Type 0} (key_bytes : K → Bytes) where
-  -- the leaf before a place is one of the pairs'
+  -- the leaf before a place is a leaf of the pairs
   pub has_leaf_before : (pairs : List (Numbered K V)) (q : Bytes) (prev : Option ℕ) → IsLeafBefore (keys_in key_bytes pairs) q prev → IfSome prev (Has pairs)
   has_leaf_before pairs q None st = tt
   has_leaf_before pairs q (Some i) st = let p = pair_of_key key_bytes pairs i st.key st.is in is_some (leaf_in pairs i) p.0 p.1
 
-  -- a pair after the leaf before its place
+  -- a pair is placed after the leaf before its place
   pub placed_pairs : (old new : List (Numbered K V)) (q : Bytes) (prev : Option ℕ) (i : ℕ) (x : K × V) → IsContent (bytes key_bytes) old → AreDistinct old → ((j : ℕ) (k : Bytes) → keys_in key_bytes old j ≡ Some k → related k q ≡ false)
       → IsLeafBefore (keys_in key_bytes old) q prev → leaf_in old i ≡ None → key_bytes x.0 ≡ q → new ≡ with_pair_after prev (i, x) old → Places key_bytes old new i x
   placed_pairs old new q prev i x content distinct alone st fresh own is =
@@ -72,18 +72,18 @@ module _ {K V : Type 0} (key_bytes : K → Bytes) where
         others = others-with_pair_after prev (i, x) old has lacks;
       })
 
-  -- the first pair
+  -- the first pair is placed
   pub placed_first : (old new : List (Numbered K V)) (i : ℕ) (x : K × V) → IsContent (bytes key_bytes) old → old ≡ [] → leaf_in old i ≡ None → new ≡ with_pair_after None (i, x) old → Places key_bytes old new i x
   placed_first old new i x content empty fresh is =
       let none : (j : ℕ) (k : Bytes) → keys_in key_bytes old j ≡ Some k → ⊥ = λ j k e. (let a : keys_in key_bytes old j ≡ None = ap (λ (ps : List (Numbered K V)). keys_in key_bytes ps j) empty in cc) in
       let distinct : AreDistinct old = subst (λ (ps : List (Numbered K V)). AreDistinct ps) (sym empty) tt in
       placed_pairs old new (key_bytes x.0) None i x content distinct (λ j k e. absurd (none j k e)) (λ j k e. absurd (none j k e)) fresh refl is
 
-  -- the keys after that
+  -- the keys gain that pair's key
   pub places_gain : (old new : List (Numbered K V)) (i : ℕ) (x : K × V) → Places key_bytes old new i x → Gains (keys_in key_bytes old) (keys_in key_bytes new) i (key_bytes x.0)
   places_gain old new i x p = gains_from key_bytes old new i p.others x p.fresh p.now
 
-  -- the first pair makes a tree of one leaf
+  -- with the first pair, the tree is one leaf
   pub first_sound : {P : ℕ} → (leaves leaves' : Leaves K V) (nodes : Nodes) (root : Option Child) (i : ℕ) (x : K × V) → IsSound key_bytes P leaves nodes root → leaves.pairs ≡ [] → Places key_bytes leaves.pairs leaves'.pairs i x → IsSound key_bytes P leaves' nodes (Some (Leaf i))
   first_sound leaves leaves' nodes root i x sound empty p =
       let none : (j : ℕ) → keys_in key_bytes leaves.pairs j ≡ None = λ j. ap (λ (ps : List (Numbered K V)). keys_in key_bytes ps j) empty in
@@ -100,7 +100,7 @@ module _ {K V : Type 0} (key_bytes : K → Bytes) where
       let alone = leaving_unrelated (keys_in key_bytes leaves.pairs) (at nodes) root sound.shape place.nearest place.depth q free.leaves in
       subst (IsLeafBefore (keys_in key_bytes leaves.pairs) q) (sym e) (before_beside key_bytes leaves.pairs sound.content distinct q alone place.beside free.beside)
 
-  -- a pair at a free place
+  -- a pair is placed at a free place
   pub placed_free : {P : ℕ} → (leaves : Leaves K V) (nodes : Nodes) (root : Option Child) (place : CellPlace) (new : List (Numbered K V)) (i : ℕ) (x : K × V) → IsSound key_bytes P leaves nodes root → AreDistinct leaves.pairs → IsFree key_bytes leaves.pairs place (key_bytes x.0)
       → (prev : Option ℕ) → prev ≡ number_before_place leaves.pairs place.beside → leaf_in leaves.pairs i ≡ None → new ≡ with_pair_after prev (i, x) leaves.pairs → Places key_bytes leaves.pairs new i x
   placed_free leaves nodes root place new i x sound distinct free prev prev_is fresh is =
@@ -108,12 +108,12 @@ module _ {K V : Type 0} (key_bytes : K → Bytes) where
       (leaving_unrelated (keys_in key_bytes leaves.pairs) (at nodes) root sound.shape place.nearest place.depth (key_bytes x.0) free.leaves)
       (free_before leaves nodes root place (key_bytes x.0) sound distinct free prev prev_is) fresh refl is
 
-  -- the leaf beside a place is one of the pairs'
+  -- the leaf beside a place is a leaf of the pairs
   pub has_beside : (pairs : List (Numbered K V)) (q : Bytes) (beside : Beside) → IsBeside (keys_in key_bytes pairs) q beside → Has pairs (neighbour beside)
   has_beside pairs q (AfterLeaf i) st = has_key key_bytes pairs i st.key st.is
   has_beside pairs q (BeforeLeaf i) st = has_key key_bytes pairs i st.key st.is
 
-  -- a pair in a fresh cell is a pair put, also where other leaves moved before and took their ids along
+  -- a pair is put in a fresh cell, also if other leaves moved before and took their ids along
   pub puts_pair : (old new : Leaves K V) (mid : List (Numbered K V)) (prev : Option ℕ) (i : ℕ) (x : K × V) → AreNamed new.ids mid → i < length new.ids
       → map (λ p. p.1) mid ≡ map (λ p. p.1) old.pairs → under_ids new.ids mid ≡ under_ids old.ids old.pairs → new.pairs ≡ with_pair_after prev (i, x) mid → Places key_bytes mid new.pairs i x → PutsPair key_bytes old new i x
   puts_pair old new mid prev i x named lies same ids is p = record {
@@ -124,7 +124,7 @@ module _ {K V : Type 0} (key_bytes : K → Bytes) where
         (subst (λ (S : List (Numbered K V)). OthersStand (under_ids new.ids mid) (under_ids new.ids S) (id_at new.ids i)) (sym is) (others_placed new.ids prev i x mid));
   }
 
-  -- a pair put after more cells had ids
+  -- a pair is put, also if more cells got ids before
   pub puts_extended : (old mid new : Leaves K V) (cell : ℕ) (x : K × V) → mid.pairs ≡ old.pairs → Extends old.ids mid.ids → ((i : ℕ) → Has old.pairs i → i < length old.ids) → PutsPair key_bytes mid new cell x → PutsPair key_bytes old new cell x
   puts_extended old mid new cell x same more named p =
       let e : under_ids mid.ids mid.pairs ≡ under_ids old.ids old.pairs = ap (under_ids mid.ids) same ∙ under_extended old.ids mid.ids old.pairs more named in
@@ -135,7 +135,7 @@ module _ {K V : Type 0} (key_bytes : K → Bytes) where
         others = subst (λ (S : List (Numbered K V)). OthersStand S (under_ids new.ids new.pairs) (id_at new.ids cell)) e p.others;
       }
 
-  -- the new leaf is to join the tree
+  -- the new leaf is to be added to the tree
   pub joins : {P : ℕ} → (leaves : Leaves K V) (nodes : Nodes) (root : Child) (new : List (Numbered K V)) (nearest depth : ℕ) (shown : Option Spot) (i : ℕ) (x : K × V) → IsSound key_bytes P leaves nodes (Some root) → LeavesNearest (keys_in key_bytes leaves.pairs) nearest depth (key_bytes x.0)
       → IfSome shown (IsShownIn P (keys_in key_bytes leaves.pairs) (at nodes) root nearest depth) → Places key_bytes leaves.pairs new i x → IsToJoin P (keys_in key_bytes new) (at nodes) root nearest depth shown i
   joins leaves nodes root new nearest depth shown i x sound good known p = record {
@@ -148,11 +148,11 @@ module _ {K V : Type 0} (key_bytes : K → Bytes) where
   }
 
 module _ {P : ℕ} (keys : ℕ → Option Bytes) (nodes : ℕ → Option Node) (root : Child) (nearest depth : ℕ) (shown : Option Spot) (i : ℕ) (new : IsToJoin P keys nodes root nearest depth shown i) where
-  -- the nearest leaf is another
+  -- the nearest leaf is not the new one
   another : nearest ≢ i
   another e = let a : new.rest i ≡ Some new.leaves.nearest_key = ap new.rest (sym e) ∙ new.leaves.nearest_is in let b : new.rest i ≡ None = new.gains.fresh in let z : None ≡ Some new.leaves.nearest_key = sym b ∙ a in cc
 
-  -- it has its key
+  -- and has its key
   pub has_nearest : keys nearest ≡ Some new.leaves.nearest_key
   has_nearest = new.gains.others nearest another ∙ new.leaves.nearest_is
 
@@ -164,15 +164,15 @@ module _ {P : ℕ} (keys : ℕ → Option Bytes) (nodes : ℕ → Option Node) (
     pub near_rest : new.rest nearest ≡ Some m
     near_rest = sym (new.gains.others nearest another) ∙ near
 
-    -- the key leaves it
+    -- the new key leaves the nearest key at this depth
     pub leaves_near : LeavesNearest new.rest nearest depth k
     leaves_near = subst (λ (k : Bytes). LeavesNearest new.rest nearest depth k) own_key new.leaves
 
     module _ (spot : Spot) (fits : SpotFits nodes (Some root) new.shape.front_of m depth spot) where
-      -- at the spot that was found
+      -- the spot that was found is right
       pub new_spot : IsSpotFor P nodes root spot k m depth
       new_spot = record { keys = new.rest; shape = new.shape; leaf = nearest; is = near_rest; leaves = leaves_near; fits = fits }
 
-      -- and the tree has it when it was added there
+      -- and once the leaf is added there, the tree has the key
       pub new_shape : (nodes' : ℕ → Option Node) (root' : Child) → TreeGains P nodes nodes' root root' spot k m depth i → Shape P keys nodes' (Some root')
       new_shape nodes' root' joined = joined new.rest keys new.shape nearest near_rest leaves_near fits (subst (λ (k : Bytes). Gains new.rest keys i k) own_key new.gains)

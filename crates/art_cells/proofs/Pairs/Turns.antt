@@ -1,4 +1,4 @@
--- How one key goes over into the next.
+-- How a key and the next one differ.
 use Rattle.std.proofs.Common.{◌≡◌, ◌≢◌, ℕ, ◌+◌, ◌<◌, List, [], ◌∷◌, ◌++◌, length, take, get_or, refl, ap, arith, sym, subst, Option, Some, None, ◌∙◌, ◌⊎◌, inl, inr, true, false, cond, eqb, eq-eqb, length-append}
 use Rattle.std.proofs.lemmas.Bool.{false≢true, ne_eqb}
 use Rattle.std.proofs.lemmas.Bool.Decides.{eqb_tells}
@@ -30,22 +30,22 @@ module _ {K V : Type 0} (key_bytes : K → Bytes) (pairs : List (Numbered K V)) 
       ] in
       subst (λ (z : Bytes). related k z ≡ false) y.3 (subst (λ (z : Bytes). related z (bytes key_bytes y.0) ≡ false) x.3 named)
 
-  -- none begins another
+  -- no key is a prefix of another
   pub none_begins : (i j : ℕ) (k l : Bytes) → keys_in key_bytes pairs i ≡ Some k → keys_in key_bytes pairs j ≡ Some l → i ≢ j → Begins k l → ⊥
   none_begins i j k l k_is l_is ne b = false≢true (sym (keys_unrelated i j k l k_is l_is ne) ∙ related-from_front k l b)
 
   module _ (i : ℕ) (k : Bytes) (k_is : keys_in key_bytes pairs i ≡ Some k) where
-    -- what begins with a key is that key
+    -- a key that begins with k is k
     own_key : (j : ℕ) (l : Bytes) → keys_in key_bytes pairs j ≡ Some l → Begins k l → j ≡ i
     own_key j l e b = elim (eqb_tells j i) [ inl q ↦ q.1 | inr q ↦ absurd (none_begins i j k l k_is e (λ s. q.1 (sym s)) b) ]
 
-    -- after the last key there is none
+    -- after the last key there is no key
     pub turn_last : number_after pairs i ≡ None → IsTurn (keys_in key_bytes pairs) i k 0
     turn_last none =
         let a : IsLeafAfter (keys_in key_bytes pairs) k None = subst (λ (o : Option ℕ). IsLeafAfter (keys_in key_bytes pairs) k o) none (leaf_after_key key_bytes pairs content distinct i k k_is) in
         record { is = k_is; only = own_key; turns = λ j l e more b. false≢true (sym (a j l e) ∙ more); within = omega arith }
 
-    -- the number after it is one of the list
+    -- the number after it is a number of the list
     pub after_has : (j : ℕ) → number_after pairs i ≡ Some j → Has pairs j
     after_has j after = (let n : FirstAfter (keys_in key_bytes pairs) k j = subst (λ (o : Option ℕ). IsLeafAfter (keys_in key_bytes pairs) k o) after (leaf_after_key key_bytes pairs content distinct i k k_is) in has_key key_bytes pairs j n.key n.is)
 
@@ -80,14 +80,14 @@ module _ {K V : Type 0} (key_bytes : K → Bytes) (pairs : List (Numbered K V)) 
       high_edge = Begins-from_begins (common k q ++ (branch_at_common k q parted).high ∷ []) q (branch_at_common k q parted).second
 
       module _ (c : ℕ) (c_is : c ≡ length (common k q)) where
-        -- both go on
+        -- both keys are longer than the common prefix
         pub in_key : c < length k
         in_key = omega (arith, Begins-length (common k q ++ (branch_at_common k q parted).low ∷ []) k low_edge, length-append (common k q) ((branch_at_common k q parted).low ∷ []))
 
         pub in_next : c < length q
         in_next = omega (arith, Begins-length (common k q ++ (branch_at_common k q parted).high ∷ []) q high_edge, length-append (common k q) ((branch_at_common k q parted).high ∷ []))
 
-        -- the next one by a greater byte
+        -- the next key has the greater byte there
         pub rises : get_or k c 0 < get_or q c 0
         rises =
             let a : next_byte (common k q) k ≡ (branch_at_common k q parted).low = Begins-next (common k q) k (branch_at_common k q parted).low low_edge in
@@ -97,14 +97,14 @@ module _ {K V : Type 0} (key_bytes : K → Bytes) (pairs : List (Numbered K V)) 
             let lt : (branch_at_common k q parted).low < (branch_at_common k q parted).high = (branch_at_common k q parted).below in
             omega arith
 
-        -- no front of the key that is longer than what both share begins the next
+        -- no longer prefix of the key is a prefix of the next key
         too_long : Begins (take (c + 1) k) q → ⊥
         too_long b =
             let g = Begins-length (take (c + 1) k) (common k q) (common-greatest (take (c + 1) k) k q (Begins-take (c + 1) k) b) in
             let l : length (take (c + 1) k) ≡ c + 1 = length-take-le (c + 1) k (let w = in_key in omega arith) in
             omega arith
 
-        -- where the key turns into the next one
+        -- no greater key begins with the bytes that both keys share and the next byte of k
         pub turn_next : IsTurn (keys_in key_bytes pairs) i k (c + 1)
         turn_next = record {
           is = k_is;
@@ -136,10 +136,10 @@ first_least {K} {V} key_bytes (p ∷ ps) content distinct i e =
       ]),
     )
 
--- ---- how many pairs are still to come
+-- ---- the number of pairs after a pair
 
 module _ {X : Type 0} where
-  -- the first of some pairs has all but itself after it
+  -- the first pair has all others after it
   pub counts_first : (ps : List (ℕ × X)) (j : ℕ) → first_number ps ≡ Some j → length ps ≡ count_after ps j + 1
   counts_first [] j e = cc
   counts_first (p ∷ ps) j e = (let h : Some p.0 ≡ Some j = e in let q : p.0 ≡ j = cc in let t : eqb p.0 j ≡ true = eq-eqb p.0 j q in rw t (omega arith))
@@ -156,7 +156,7 @@ module _ {X : Type 0} where
         | inr q ↦ after_other ps i j n l.1 (subst (λ t. cond t (first_number ps) (number_after ps i) ≡ Some j) q.0 e)
       ]
 
-  -- the next pair has one less
+  -- the next pair has one less after it
   pub counts_down : (ps : List (ℕ × X)) (i j : ℕ) → AreDistinct ps → number_after ps i ≡ Some j → count_after ps i ≡ count_after ps j + 1
   counts_down [] i j d e = cc
   counts_down (p ∷ ps) i j d e =

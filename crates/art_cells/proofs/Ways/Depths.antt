@@ -1,4 +1,4 @@
--- How far down a way can go.
+-- How far a descent can go.
 use Rattle.std.proofs.Common.{sym, subst, ◌≡◌, ℕ, zero, suc, ◌+◌, ◌-◌, ◌/◌, ◌%◌, ◌<◌, ◌≤◌, List, [], ◌∷◌, ◌++◌, length, max, get_or, refl, ap, Option, Some, None, IsSome, true, false, arith, length-append}
 use Rattle.art_cells.specs.Begins.{Bytes}
 use Rattle.art_kinds.specs.Edges.{child_at}
@@ -23,7 +23,7 @@ deepest (o ∷ slots) = max (depth_of o) (deepest slots)
 abbrev pub deepest_in : Nodes → ℕ
 deepest_in s = max (max (deepest s.fours.slots) (deepest s.sixteens.slots)) (max (deepest s.forty_eights.slots) (deepest s.fulls.slots))
 
--- how many bytes more a way down from a child may pass
+-- the number of further bytes that a descent from a child may pass, at most
 abbrev pub rank : Nodes → Child → ℕ
 rank s (Leaf i) = 0
 rank s (Inner n) = suc (deepest_in s) - depth_of (at s n)
@@ -41,7 +41,7 @@ depth-within s (suc (suc zero)) i = let h : depth_of (slot_at s.forty_eights i) 
 depth-within s (suc (suc (suc k))) i = let h : depth_of (slot_at s.fulls i) ≤ deepest s.fulls.slots = depth-at_most s.fulls.slots i in omega arith
 
 module _ {P : ℕ} {keys : ℕ → Option Bytes} (nodes : Nodes) {root : Option Child} (s : Shape P keys (at nodes) root) where
-  -- a way down gets lower at each edge
+  -- the rank falls at each edge of a descent
   pub rank_falls : {a : Child} {n : ℕ} → a ≡ Inner n → (b : ℕ) {x : Node} {c : Child} → at nodes n ≡ Some x → child_at x.edges b ≡ Some c →
       rank nodes c < rank nodes a
   rank_falls {n = n} named b {x} {c} is there = subst (λ (z : Child). rank nodes c < rank nodes z) (sym named) (falls c ((s.node n x is).below b c there))

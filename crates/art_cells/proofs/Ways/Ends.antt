@@ -1,4 +1,4 @@
--- The keys at the ends of those below a child.
+-- The least and the greatest key below a child.
 use Rattle.std.proofs.Common.{◌≡◌, ℕ, Bool, true, false, ◌<◌, [], ◌∷◌, ◌++◌, ◌⊎◌, inl, inr, subst, Option, Some, None}
 use Rattle.std.proofs.lemmas.Bool.{cases_order}
 use Rattle.blart_keys.specs.Bytes.{PartsBelow, less}
@@ -13,7 +13,7 @@ use Rattle.art_kinds.specs.declared.records.ids.Child.{Child}
 use Rattle.art_kinds.specs.declared.records.ids.Edge.{Edge}
 use Rattle.art_cells.proofs.BeginsLemmas.{begins-from_Begins, Begins-more, Begins-trans, Begins-edge_front}
 
--- of two keys that go on from a front by different bytes, that with the lesser byte parts below the other
+-- of two keys with a prefix and different next bytes, the one with the lesser parts below the other
 pub parts_by_next : (f k l : Bytes) (b c : ℕ) → Begins (f ++ b ∷ []) k → Begins (f ++ c ∷ []) l → b < c → PartsBelow k l
 parts_by_next f k l b c h m lt = parts_at_branch f k l (record { low = b; high = c; below = lt; first = begins-from_Begins (f ++ b ∷ []) k h; second = begins-from_Begins (f ++ c ∷ []) l m })
 
@@ -28,7 +28,7 @@ module _ {P : ℕ} (keys : ℕ → Option Bytes) (nodes : ℕ → Option Node) (
     on : (j : ℕ) (k : Bytes) → keys j ≡ Some k → Begins g k → Begins (s.front_of n ++ next_byte (s.front_of n) k ∷ []) k
     on j k k_is b = let h = c.only j k k_is b in Begins-more (s.front_of n) k h (fits.longer j k k_is h)
 
-    -- what is at an end below the edge at that end is at that end below the node
+    -- the end leaf below the edge at an end of a node is the end leaf below the node
     pub end_step : IsEnd is_first x.edges e → (i : ℕ) → IsEndUnder keys is_first (s.front_of n ++ e.byte ∷ []) i → IsEndUnder keys is_first g i
     end_step l i u = record {
       key = u.key;
@@ -54,7 +54,7 @@ module _ {P : ℕ} (keys : ℕ → Option Bytes) (nodes : ℕ → Option Node) (
         above true l j k k_is b h gt = inr (parts_by_next (s.front_of n) u.key k e.byte (next_byte (s.front_of n) k) u.front h gt)
         above false l j k k_is b h gt = absurd (none j k k_is b (l (next_byte (s.front_of n) k) gt))
 
--- an end in the words of `less`
+-- the first leaf has the least key, by `less`
 pub first_less : {keys : ℕ → Option Bytes} {g : Bytes} {i : ℕ} (u : IsEndUnder keys true g i) (j : ℕ) (k : Bytes) → keys j ≡ Some k → Begins g k → (j ≡ i) ⊎ (less u.key k ≡ true)
 first_less u j k e b = elim (u.end j k e b) [ inl s ↦ inl s | inr p ↦ inr (less-from_PartsBelow u.key k p) ]
 

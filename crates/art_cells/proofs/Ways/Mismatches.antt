@@ -1,4 +1,4 @@
--- The leaf beside the place where a query leaves the stored keys.
+-- The leaf beside the place at which a query leaves the stored keys.
 use Rattle.std.proofs.Common.{Bool, false, ◌≡◌, ◌≢◌, ℕ, ◌<◌, ◌≤◌, true, [], ◌∷◌, ◌++◌, length, take, get_or, ap, sym, subst, ◌∙◌, Option, Some, None, arith}
 use Rattle.std.proofs.lemmas.List.{length-take-le}
 use Rattle.std.specs.Prelude.{ltb}
@@ -30,14 +30,14 @@ mismatch nearest depth byte sp = record { nearest = nearest; depth = depth; byte
 
 module _ {P : ℕ} (keys : ℕ → Option Bytes) (nodes : ℕ → Option Node) where
   module _ (n b : ℕ) (q : Bytes) (l : LeavesAtNode P keys nodes n b q) (x : Node) (is : nodes n ≡ Some x) where
-    -- no key goes on by q's byte, so no edge has it
+    -- no key continues with q's byte, so no edge has it
     pub no_edge_there : child_at x.edges b ≡ None
     no_edge_there = none_of (child_at x.edges b) (λ h.
         let c = some_of (child_at x.edges b) h in
         let k = some_key keys nodes l.apart.root l.apart.shape (l.apart.shape.front_of n ++ b ∷ []) c.0 ((l.apart.shape.node n x is).below b c.0 c.1) in
         l.none k.0 k.1 k.2 k.3)
 
-    -- the key next to q below the edge next to its byte
+    -- the child of the edge next to q's byte is beside q's place
     abbrev pub beside_at_node : (is_after : Bool) (e : Edge) → IsNextTo is_after x.edges b e → IsChildBeside P keys nodes q e.to is_after
     beside_at_node true e next = record {
       root = l.apart.root;
@@ -59,7 +59,7 @@ module _ {P : ℕ} (keys : ℕ → Option Bytes) (nodes : ℕ → Option Node) w
     no_edge_beside prev next = no_lone_edge keys nodes l.apart.root l.apart.shape n b x is next prev
 
   module _ (c : Child) (a b : ℕ) (q : Bytes) (l : LeavesAtEdge P keys nodes c a b q) where
-    -- the key next to q below an edge that goes on by another byte
+    -- the child of an edge along which the keys continue with another byte is beside q's place
     abbrev pub beside_at_edge : (is_after : Bool) → is_after ≡ ltb a b → IsChildBeside P keys nodes q c is_after
     beside_at_edge true e = record {
       root = l.apart.root;
@@ -79,7 +79,7 @@ module _ {P : ℕ} (keys : ℕ → Option Bytes) (nodes : ℕ → Option Node) w
           first_beside keys q l.apart.alone l.t b a l.goes_on l.front l.within l.all i u.key u.is u.front (omega arith) (first_less u);
     }
 
-  -- ---- where a spot shows that
+  -- ---- spots at which q leaves the nearest key
 
   module _ (nearest depth byte : ℕ) (q : Bytes) where
     pub at_node : (above : Option (ℕ × ℕ)) (n : ℕ) (l : LeavesAt P keys nodes (mismatch nearest depth byte (spot.Node above n)) q) → LeavesAtNode P keys nodes n (get_or q depth 0) q
@@ -94,7 +94,7 @@ module _ {P : ℕ} (keys : ℕ → Option Bytes) (nodes : ℕ → Option Node) w
           none = λ j k is h. l.leaves.alone j k is (subst (λ (f : Bytes). Begins (f ++ get_or q depth 0 ∷ []) k) (sym same) h);
         }
 
-    -- the keys below the edge go on from there as the nearest key does
+    -- the keys below the edge continue as the nearest key does
     as_nearest : (above : Option (ℕ × ℕ)) (c : Child) (l : LeavesAt P keys nodes (mismatch nearest depth byte (spot.Edge above c)) q) → (j : ℕ) (k : Bytes) → keys j ≡ Some k → Begins (edge_front l.apart.shape.front_of above) k → Begins (take depth l.nearest ++ get_or l.nearest depth 0 ∷ []) k
     as_nearest above c l j k is h = go c (covers_above keys nodes l.apart.root l.apart.shape above c l.spot_fits.0.leads) l.spot_fits.1
       where

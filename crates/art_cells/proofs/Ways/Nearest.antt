@@ -1,4 +1,4 @@
--- The leaf whose key goes along with a query the furthest.
+-- The leaf whose key has the longest common prefix with a query.
 use Rattle.std.proofs.Common.{◌≡◌, ℕ, ◌<◌, ◌≤◌, [], ◌∷◌, ◌++◌, ◌⊎◌, inl, inr, length, get_or, ap, sym, subst, ◌∙◌, Option, Some, None, IsSome, arith}
 use Rattle.std.proofs.lemmas.Bool.{cases_lt}
 use Rattle.blart_keys.specs.Bytes.{common}
@@ -12,11 +12,11 @@ use Rattle.blart_keys.proofs.Options.{not_some}
 use Rattle.art_cells.proofs.BeginsLemmas.{Begins-trans, Begins-edge_front, Begins-next, Begins-cases, Begins-equal, common-in_right, common_same, common_at, common_comm, common_length}
 
 module _ (keys : ℕ → Option Bytes) (q : Bytes) where
-  -- no key but those that begin with the front goes along with q for longer than one of these
+  -- no key that lacks the prefix shares more bytes with q than a key that has it
   abbrev pub HoldsFurthest : Bytes → Type 0
   HoldsFurthest front = (i j : ℕ) (l k : Bytes) → keys i ≡ Some l → keys j ≡ Some k → Begins front l → (Begins front k → ⊥) → length (common k q) ≤ length (common l q)
 
-  -- of all keys none does
+  -- it holds for the empty prefix
   pub furthest_start : HoldsFurthest []
   furthest_start = λ i j l k l_is k_is b never. absurd (never tt)
 
@@ -25,7 +25,7 @@ module _ (keys : ℕ → Option Bytes) (q : Bytes) where
       fits : NodeFits keys nodes s.front_of (s.front_of n) x
       fits = s.node n x is
 
-      -- a key under the node that goes on otherwise than q and b goes along no further than one that goes on by b
+      -- a key below the node by an edge other than b shares no more bytes with q than a key by b
       no_further : (b : ℕ) → (length q ≤ x.depth) ⊎ ((b ≡ get_or q x.depth 0) ⊎ (child_at x.edges (get_or q x.depth 0) ≡ None)) → (j : ℕ) (l k : Bytes) → keys j ≡ Some k → Begins (s.front_of n ++ b ∷ []) l → Begins (s.front_of n) k → (Begins (s.front_of n ++ b ∷ []) k → ⊥) → length (common k q) ≤ length (common l q)
       no_further b way j l k k_is hl hk never =
           let f : Bytes = s.front_of n in
@@ -59,7 +59,7 @@ module _ (keys : ℕ → Option Bytes) (q : Bytes) where
               let some : IsSome (child_at x.edges (next_byte f k)) = fits.edge j k k_is (Begins-edge_front f k (next_byte f q) h) in
               not_some (child_at x.edges (next_byte f k)) (ap (λ (z : ℕ). child_at x.edges z) (e ∙ ap (λ (z : ℕ). get_or q z 0) (sym d)) ∙ none) some
 
-      -- a step down by q's next byte, or by any where q has ended or no key goes on by it
+      -- a step by q's next byte, or by any byte if q has ended or no key continues with it
       pub furthest_step : (b : ℕ) → (length q ≤ x.depth) ⊎ ((b ≡ get_or q x.depth 0) ⊎ (child_at x.edges (get_or q x.depth 0) ≡ None)) → HoldsFurthest (s.front_of n ++ b ∷ [])
       furthest_step b way = λ i j l k l_is k_is hl never.
           elim (Begins-cases front k) [
@@ -67,7 +67,7 @@ module _ (keys : ℕ → Option Bytes) (q : Bytes) where
             | inr off ↦ best i j l k l_is k_is (Begins-trans front (s.front_of n) l covers.front (Begins-edge_front (s.front_of n) l b hl)) off
           ]
 
-  -- a leaf that stands for such a front is the nearest leaf
+  -- a leaf that covers such a prefix is the nearest leaf
   pub furthest_leaf : (i : ℕ) (front : Bytes) → CoversLeaf keys front i → HoldsFurthest front → IsNearestLeaf keys q i
   furthest_leaf i front c best = record {
     key = c.key;

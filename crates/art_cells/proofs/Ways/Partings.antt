@@ -1,4 +1,4 @@
--- How a query and the stored key that goes along with it the furthest part.
+-- How a query parts from the stored key that has the longest common prefix with it.
 use Rattle.std.proofs.Common.{◌≡◌, ◌≢◌, ℕ, ◌+◌, ◌<◌, ◌≤◌, refl, true, false, [], ◌∷◌, ◌++◌, ◌⊎◌, inl, inr, length, take, get_or, ap, sym, subst, ◌∙◌, Option, Some, arith, length-append}
 use Rattle.std.proofs.lemmas.Bool.{cases_lt, false_from_ne_true, false≢true}
 use Rattle.std.proofs.lemmas.Bool.Decides.{eqb_tells}
@@ -23,18 +23,18 @@ use Rattle.art_cells.proofs.BeginsLemmas.{Begins-itself, Begins-trans, Begins-li
 use Rattle.art_cells.proofs.Invariant.Growing.{covers_above}
 use Rattle.art_cells.proofs.Invariant.SmallShapes.{unrelated}
 
--- ---- what two keys have in common
+-- ---- the common prefix of q and the nearest key
 
 module _ (nearest q : Bytes) (d : ℕ) (d_is : d ≡ length (common nearest q)) where
-  -- the whole of both: they are the same
+  -- all of both: they are equal
   pub nearest_same : d ≡ length q → d ≡ length nearest → nearest ≡ q
   nearest_same a b = sym (Begins-equal (common nearest q) nearest (common-left nearest q) (omega arith)) ∙ Begins-equal (common nearest q) q (common-right nearest q) (omega arith)
 
-  -- the whole of the nearest key: it begins q
+  -- all of the nearest key: it is a prefix of q
   pub nearest_begins : d ≡ length nearest → Begins nearest q
   nearest_begins a = subst (λ (k : Bytes). Begins k q) (Begins-equal (common nearest q) nearest (common-left nearest q) (omega arith)) (common-right nearest q)
 
-  -- the whole of q: it begins the nearest key
+  -- all of q: it is a prefix of the nearest key
   pub nearest_begun : d ≡ length q → Begins q nearest
   nearest_begun a = subst (λ (k : Bytes). Begins k nearest) (Begins-equal (common nearest q) q (common-right nearest q) (omega arith)) (common-left nearest q)
 
@@ -53,7 +53,7 @@ module _ (nearest q : Bytes) (d : ℕ) (d_is : d ≡ length (common nearest q)) 
   query_within = let a : length (common nearest q) ≤ length q = common-in_right nearest q in omega arith
 
 module _ {P : ℕ} (keys : ℕ → Option Bytes) (nodes : ℕ → Option Node) (root : Option Child) (s : Shape P keys nodes root) (i : ℕ) (nearest : Bytes) (is : keys i ≡ Some nearest) where
-  -- of two keys one begins the other only if they are one
+  -- of two keys, one is a prefix of the other only if they are the same
   pub one_key : (j : ℕ) (k : Bytes) → keys j ≡ Some k → Begins k nearest ⊎ Begins nearest k → j ≡ i
   one_key j k e h =
       elim (eqb_tells j i) [
@@ -68,7 +68,7 @@ module _ {P : ℕ} (keys : ℕ → Option Bytes) (nodes : ℕ → Option Node) (
   same_key j k e z = let f : keys i ≡ Some k = ap keys (sym z) ∙ e in cc
 
   module _ (q : Bytes) where
-    -- a key that begins q is the only one that is related to q
+    -- a key that is a prefix of q is the only one related to q
     pub only_related : Begins nearest q → (j : ℕ) (k : Bytes) → keys j ≡ Some k → related k q ≡ true → j ≡ i
     only_related m j k e rel =
         elim (related_cases k q rel) [
@@ -80,7 +80,7 @@ module _ {P : ℕ} (keys : ℕ → Option Bytes) (nodes : ℕ → Option Node) (
           | inr b ↦ one_key j k e (inr (Begins-trans nearest q k m b))
         ]
 
-    -- where q begins a key, it begins each key that is related to it
+    -- if q is a prefix of a key, it is a prefix of each key related to it
     pub related_begun : Begins q nearest → (j : ℕ) (k : Bytes) → keys j ≡ Some k → related k q ≡ true → Begins q k
     related_begun m j k e rel =
         elim (related_cases k q rel) [
@@ -88,14 +88,14 @@ module _ {P : ℕ} (keys : ℕ → Option Bytes) (nodes : ℕ → Option Node) (
           | inr b ↦ b
         ]
 
-    -- where a key begins q, or q it, and is not as long, no key is q
+    -- if one of q and a key is a prefix of the other, and they differ in length, no key is q
     pub no_key : Begins nearest q ⊎ Begins q nearest → length nearest ≢ length q → (j : ℕ) → keys j ≡ Some q → ⊥
     no_key h ne j e =
         let flip : Begins q nearest ⊎ Begins nearest q = (elim h [ inl b ↦ inr b | inr b ↦ inl b ]) in
         ne (ap length (sym (same_key j q e (one_key j q e flip))))
 
     module _ (d : ℕ) (d_is : d ≡ length (common nearest q)) (best : (j : ℕ) (k : Bytes) → keys j ≡ Some k → length (common k q) ≤ length (common nearest q)) (lq : d < length q) (lm : d < length nearest) where
-      -- the whole of neither: no key is related to q
+      -- all of neither: no key is related to q
       pub none_related : (j : ℕ) (k : Bytes) → keys j ≡ Some k → related k q ≡ false
       none_related j k e = false_from_ne_true (related k q) (λ rel.
           elim (related_cases k q rel) [
@@ -129,18 +129,18 @@ module _ {P : ℕ} (keys : ℕ → Option Bytes) (nodes : ℕ → Option Node) (
             omega arith;
       }
 
--- where no key is related to q none is q, and none begins with it
+-- if no key is related to q, no key is q
 pub no_key_alone : (keys : ℕ → Option Bytes) (q : Bytes) → ((j : ℕ) (k : Bytes) → keys j ≡ Some k → related k q ≡ false) → (j : ℕ) → keys j ≡ Some q → ⊥
 no_key_alone keys q alone j e = false≢true (sym (alone j q e) ∙ related-same q q refl)
 
 -- ---- the four ways to part
 
 module _ {P : ℕ} {keys : ℕ → Option Bytes} {nodes : ℕ → Option Node} {root : Child} (s : Shape P keys nodes (Some root)) (q : Bytes) {i d : ℕ} {nearest : Bytes} (is : keys i ≡ Some nearest) (d_is : d ≡ length (common nearest q)) where
-  -- a way down by the nearest key may go as far as both go along
+  -- a descent by the nearest key may go as far as q shares its bytes
   pub way_of_nearest : IsWayOf P nodes root nearest d
   way_of_nearest = record { keys = keys; shape = s; leaf = i; is = is; within = nearest_within nearest q d d_is }
 
-  -- they are the same
+  -- they are equal
   pub parts_same : d ≡ length q → d ≡ length nearest → keys i ≡ Some q
   parts_same a b = is ∙ ap (λ (k : Bytes). Some k) (nearest_same nearest q d d_is a b)
 
@@ -148,7 +148,7 @@ module _ {P : ℕ} {keys : ℕ → Option Bytes} {nodes : ℕ → Option Node} {
   pub parts_shorter : d ≢ length q → d ≡ length nearest → KeyEnds keys i q
   parts_shorter ne a = record { key = nearest; is = is; begins = nearest_begins nearest q d d_is a; shorter = (let l : d ≤ length q = query_within nearest q d d_is in omega arith) }
 
-  -- what stands at the spot covers q, where that begins the nearest key
+  -- if q is a prefix of the nearest key, the child at the spot covers q
   pub covers_query : d ≡ length q → (sp : Spot) → SpotFits nodes (Some root) s.front_of nearest d sp → {c : Child} → c ≡ child_under sp → Covers keys nodes s.front_of q c
   covers_query a sp fits e = subst (λ (z : Child). Covers keys nodes s.front_of q z) (sym e) (go sp fits)
     where
@@ -183,7 +183,7 @@ module _ {P : ℕ} {keys : ℕ → Option Bytes} {nodes : ℕ → Option Node} {
           }
       go (spot.Edge above c) f = edge above c f.0 f.1 (covers_above keys nodes (Some root) s above c f.0.leads)
 
-  -- so it does where the nearest key goes along with q to its end
+  -- also if the shared length d is at least q's
   pub covers_reached : length q ≤ d → (sp : Spot) → SpotFits nodes (Some root) s.front_of nearest d sp → {c : Child} → c ≡ child_under sp → Covers keys nodes s.front_of q c
   covers_reached l sp fits e = let m : d ≤ length q = query_within nearest q d d_is in covers_query (omega arith) sp fits e
 
@@ -192,7 +192,7 @@ module _ {P : ℕ} {keys : ℕ → Option Bytes} {nodes : ℕ → Option Node} {
   spot_edge (spot.Node above n) f = f.0
   spot_edge (spot.Edge above c) f = f.0
 
-  -- and with it that is all that begins with q
+  -- with that edge, the child is the branch of the keys that begin with q
   pub branch_reached : length q ≤ d → (sp : Spot) → SpotFits nodes (Some root) s.front_of nearest d sp → (b : Branch) → b.above ≡ above_of sp → b.child ≡ child_under sp → IsBranch keys nodes (Some root) s.front_of q b
   branch_reached l sp fits b over under =
       let e = spot_edge sp fits in
@@ -220,7 +220,7 @@ module _ {P : ℕ} {keys : ℕ → Option Bytes} {nodes : ℕ → Option Node} {
     longer = let l : d ≤ length nearest = nearest_within nearest q d d_is in omega arith;
   }
 
-  -- both go on
+  -- both continue
   pub parts_apart : ((j : ℕ) (k : Bytes) → keys j ≡ Some k → length (common k q) ≤ length (common nearest q)) → d ≢ length q → d ≢ length nearest → (sp : Spot) → SpotFits nodes (Some root) s.front_of nearest d sp → LeavesAt P keys nodes (record { nearest = i; depth = d; byte = get_or nearest d 0; spot = sp }) q
   parts_apart best nq nm sp fits =
       let lq : d < length q = (let l : d ≤ length q = query_within nearest q d d_is in omega arith) in

@@ -1,4 +1,4 @@
--- What the way in which a query and the keys part tells of its point.
+-- How a query parts from the keys, and what point follows.
 use Rattle.std.proofs.Common.{◌≡◌, ℕ, ◌<◌, true, false, List, inl, length, ap, Option, Some, arith}
 use Rattle.blart_keys.specs.Bytes.{related}
 use Rattle.blart_keys.specs.Content.{IsContent}
@@ -21,7 +21,7 @@ module _ {K V : Type 0} (key_bytes : K → List ℕ) (pairs : List (Numbered K V
   pub exact : (i : ℕ) → keys_in key_bytes pairs i ≡ Some q → IsGood key_bytes pairs (Exact i) q
   exact i is = (pair key_bytes pairs content distinct i q is, at_key key_bytes pairs content distinct q i is)
 
-  -- a key begins the query
+  -- a key is a prefix of the query
   pub shorter_related : {P : ℕ} → (root : Option Child) → Shape P (keys_in key_bytes pairs) nodes root → (i : ℕ) → KeyEnds (keys_in key_bytes pairs) i q → IsGood key_bytes pairs (Related i i) q
   shorter_related root s i k =
       let rel : related k.key q ≡ true = related-from_front k.key q k.begins in
@@ -32,7 +32,7 @@ module _ {K V : Type 0} (key_bytes : K → List ℕ) (pairs : List (Numbered K V
         last_related key_bytes pairs content distinct q i k.key k.is rel (λ j z e r. inl (only j z e r)),
       )
 
-  -- the query begins keys: those are related to it, and no others
+  -- the query is a prefix of some keys: they are related to it, and no others
   pub longer_related : {P : ℕ} → (c : Child) (m : QueryEnds P (keys_in key_bytes pairs) nodes c q) (first last : ℕ) → IsEndUnder (keys_in key_bytes pairs) true q first → IsEndUnder (keys_in key_bytes pairs) false q last → IsGood key_bytes pairs (Related first last) q
   longer_related c m first last a b =
       let starts = related_begun (keys_in key_bytes pairs) nodes m.root m.shape m.leaf m.key m.is q m.begun in

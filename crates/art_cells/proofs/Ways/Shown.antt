@@ -25,7 +25,7 @@ use Rattle.art_cells.proofs.BeginsLemmas.{Begins-edge_front, Begins-linear, Begi
 use Rattle.art_cells.proofs.Invariant.Growing.{covers_above}
 
 module _ {P : ℕ} (keys : ℕ → Option Bytes) (nodes : ℕ → Option Node) (root : Option Child) (s : Shape P keys nodes root) (leaf depth : ℕ) (nearest : Bytes) (is : keys leaf ≡ Some nearest) (above : Option (ℕ × ℕ)) where
-  -- the front of an edge from a node that is less deep
+  -- the front of an edge of a node that is less deep is no longer than the depth
   front_within : (c : Child) → (a : Option (ℕ × ℕ)) → LeadsTo nodes root a c → EndsBelow nodes a depth → length (edge_front s.front_of a) ≤ depth
   front_within c None l e = omega arith
   front_within c (Some a) l e =
@@ -58,7 +58,7 @@ module _ {P : ℕ} (keys : ℕ → Option Bytes) (nodes : ℕ → Option Node) (
       let front : Begins (edge_front s.front_of above) nearest = subst (λ (z : Bytes). Begins (edge_front s.front_of above) z) same c.front in
       shown_past (Leaf leaf) long leads ends front tt
 
-  -- a node so deep, whose prefix the nearest key begins with
+  -- a node of this depth whose front is a prefix of the nearest key
   pub shown_front : (n : ℕ) (x : Node) → nodes n ≡ Some x → x.depth ≡ depth → LeadsTo nodes root above (Inner n) → Begins (s.front_of n) nearest → SpotFits nodes root s.front_of nearest depth (spot.Node above n)
   shown_front n x is e leads front =
       let d : x.depth ≡ length (s.front_of n) = (s.node n x is).depth in
@@ -67,7 +67,7 @@ module _ {P : ℕ} (keys : ℕ → Option Bytes) (nodes : ℕ → Option Node) (
       let v : CoversNode keys nodes s.front_of (edge_front s.front_of above) n = covers_above keys nodes root s above (Inner n) leads in
       (record { leads = leads; along = subst (λ (z : Bytes). Begins (edge_front s.front_of above) z) stands v.front }, stands)
 
-  -- an edge that leads to a node so deep with the nearest leaf below it
+  -- a node of this depth with the nearest leaf at one of its edges
   pub shown_node : (n byte : ℕ) → LeadsTo nodes root above (Inner n) → IsOverLeaf nodes n depth byte leaf → SpotFits nodes root s.front_of nearest depth (spot.Node above n)
   shown_node n byte leads o =
       let x : Node = o.node in
@@ -76,7 +76,7 @@ module _ {P : ℕ} (keys : ℕ → Option Bytes) (nodes : ℕ → Option Node) (
       let same : c.key ≡ nearest = cc in
       shown_front n x o.is o.deep leads (Begins-edge_front (s.front_of n) nearest byte (subst (λ (z : Bytes). Begins (s.front_of n ++ byte ∷ []) z) same c.front))
 
--- the edge above a descent is that above its stop
+-- the edge above the start of a descent is the edge above its stop
 pub stop_below : (nodes : ℕ → Option Node) (root : Option Child) (above : Option (ℕ × ℕ)) (start : ℕ) {child own : Child} → child ≡ own → LeadsTo nodes root above child → StartsBelow nodes above start → (s : Stop) → StopsAt nodes own start s → IsStopBelow nodes root above s
 stop_below nodes root above start is leads starts (stop.Same i) at = tt
 stop_below nodes root above start is leads starts (stop.Shorter i) at = tt
@@ -89,7 +89,7 @@ stop_below nodes root above start is leads starts (stop.AtEdge c depth byte) at 
     ends None s = tt
     ends (Some e) s = let low : start ≤ depth = at.1 in let one : start ≡ s.0.depth + 1 = s.2 in (s.0, s.1, omega arith)
 
--- the edge next to a byte is one of the node's
+-- the edge next to a byte is an edge of the node
 next_there : (is_after : Bool) (es : List Edge) (b : ℕ) (e : Edge) → IsNextTo is_after es b e → child_at es e.byte ≡ Some e.to
 next_there true es b e n = n.1
 next_there false es b e n = n.1

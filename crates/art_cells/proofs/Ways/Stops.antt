@@ -1,4 +1,4 @@
--- The way down by the bytes of a query, and where it ends.
+-- The descent by the bytes of a query, and where it ends.
 use Rattle.std.proofs.Common.{◌≡◌, ◌≢◌, ℕ, zero, suc, ◌+◌, ◌<◌, ◌≤◌, Bool, true, false, refl, [], ◌∷◌, ◌++◌, inl, inr, length, take, drop, get_or, ap, sym, subst, ◌∙◌, Option, Some, None, arith, eqb, eq-eqb, length-drop, length-append, get_or-take, get_or-drop}
 use Rattle.std.proofs.lemmas.Bool.{cases_lt, false_from_ne_true}
 use Rattle.std.proofs.lemmas.Bool.Decides.{eqb_tells}
@@ -24,7 +24,7 @@ use Rattle.art_cells.proofs.Invariant.SmallShapes.{unrelated}
 use Rattle.art_cells.proofs.Ways.Mismatches.{beside_at_node, beside_at_edge}
 use Rattle.art_cells.proofs.Ways.Partings.{nearest_same, nearest_begins, nearest_begun}
 
--- ---- what two lists have in common after a front of both
+-- ---- the common prefix of two lists after a prefix of both
 
 common_after : (g a b : Bytes) → common (g ++ a) (g ++ b) ≡ g ++ common a b
 common_after [] a b = refl
@@ -35,7 +35,7 @@ front_after [] k b = refl
 front_after (x ∷ g) [] b = absurd b
 front_after (x ∷ g) (y ∷ k) b = let e : x ≡ y = b.0 in let h : g ++ drop (length g) k ≡ k = front_after g k b.1 in cc
 
--- the bytes in common are those of the front and those after it
+-- the common bytes are the prefix, and the common bytes after it
 pub common_from : (g a b : Bytes) → Begins g a → Begins g b → length (common a b) ≡ length g + length (common (drop (length g) a) (drop (length g) b))
 common_from g a b ha hb =
     let ea : g ++ drop (length g) a ≡ a = front_after g a ha in
@@ -44,7 +44,7 @@ common_from g a b ha hb =
     let e2 : common a b ≡ g ++ common (drop (length g) a) (drop (length g) b) = cc in
     ap (λ (z : Bytes). length z) e2 ∙ length-append g (common (drop (length g) a) (drop (length g) b))
 
--- where the first bytes of a list part from another, so does the list
+-- if the first bytes of a list part from another list, the list parts from it there too
 pub common_first : (n : ℕ) (a b : Bytes) → length (common (take n a) b) < length (take n a) → length (common a b) ≡ length (common (take n a) b)
 common_first zero [] b l = refl
 common_first (suc n) [] b l = refl
@@ -62,7 +62,7 @@ common_first (suc n) (x ∷ a) (y ∷ b) l =
 -- ---- a query that leaves a key
 
 module _ (keys : ℕ → Option Bytes) (q : Bytes) where
-  -- q leaves each key that goes on from t otherwise
+  -- q leaves each key that continues from t with another byte
   leaves_nearest : (t key : Bytes) (b c depth : ℕ) → depth ≡ length t → depth < length q → b ≡ get_or q depth 0 → Begins (t ++ b ∷ []) q → Begins (t ++ c ∷ []) key → (i : ℕ) → keys i ≡ Some key
       → ((j : ℕ) (k : Bytes) → keys j ≡ Some k → Begins (t ++ b ∷ []) k → ⊥) → LeavesNearest keys i depth q
   leaves_nearest t key b c depth d lq b_is hq hk i is none =
@@ -81,12 +81,12 @@ module _ (keys : ℕ → Option Bytes) (q : Bytes) where
         alone = λ j l l_is h. none j l l_is (subst (λ (z : ℕ). Begins (t ++ z ∷ []) l) (sym b_is) (subst (λ (z : Bytes). Begins (z ++ get_or q depth 0 ∷ []) l) q_is h));
       }
 
--- ---- a front f of all keys that begin with that of an edge, and a query that parts from it
+-- ---- a front f that all keys with the front of an edge begin with, and a query that parts from it
 
 module _ {P : ℕ} (keys : ℕ → Option Bytes) (nodes : ℕ → Option Node) (q : Bytes) where
   module _ (root : Option Child) (s : Shape P keys nodes root) (g : Bytes) (c : Child) (covers : Covers keys nodes s.front_of g c) (along : Begins g q) (f : Bytes) (gf : Begins g f)
       (under : (j : ℕ) (k : Bytes) → keys j ≡ Some k → Begins g k → Begins f k) where
-    -- a key that begins q is not shorter than g
+    -- a key that is a prefix of q begins with g
     not_short : (j : ℕ) (k : Bytes) → keys j ≡ Some k → Begins k q → Begins g k
     not_short j k is kq =
         elim (cases_lt (length k) (length g)) [
@@ -107,7 +107,7 @@ module _ {P : ℕ} (keys : ℕ → Option Bytes) (nodes : ℕ → Option Node) (
         ]
 
     module _ (lf : length (common f q) < length f) (lq : length (common f q) < length q) where
-      -- f does not begin q, nor q it
+      -- neither of f and q is a prefix of the other
       f_not : Begins f q → ⊥
       f_not h = let a : length f ≤ length (common f q) = common_length f f q (Begins-itself f) h in omega arith
 
@@ -161,7 +161,7 @@ module _ {P : ℕ} {keys : ℕ → Option Bytes} {nodes : ℕ → Option Node} {
     pub node_covers : CoversNode keys nodes w.shape.front_of (edge_front w.shape.front_of w.above) n
     node_covers = covers_above keys nodes w.root w.shape w.above (Inner n) w.leads
 
-    -- some key goes on from there
+    -- some key continues from there
     node_key : (j : ℕ) × (l : Bytes) × (keys j ≡ Some l) × Begins front l
     node_key =
         let m = some_key keys nodes w.root w.shape above (Inner n) node_covers in
@@ -198,7 +198,7 @@ module _ {P : ℕ} {keys : ℕ → Option Bytes} {nodes : ℕ → Option Node} {
         let back : length (common front q) ≡ len = sym e in
         subst (λ (z : ℕ). (l : LeavesAtEdge P keys nodes (Inner n) byte (get_or q z 0) q) × (z ≡ length l.t) × (z < length q)) back (r.0, r.1, omega arith)
 
-    -- q has the whole front, and goes on
+    -- q has the whole front, and continues
     pub goes_past : {x : Node} → nodes n ≡ Some x → {len byte : ℕ} → IsShared front q len byte → {depth : ℕ} → depth ≡ x.depth → depth ≤ len → len ≢ length q → (length (common front q) ≡ x.depth) × (x.depth < length q)
     goes_past {x} x_is {len} h depth_is lx nq =
         let d : x.depth ≡ length front = (w.shape.node n x x_is).depth in
@@ -211,7 +211,7 @@ module _ {P : ℕ} {keys : ℕ → Option Bytes} {nodes : ℕ → Option Node} {
       fits : NodeFits keys nodes w.shape.front_of front x
       fits = w.shape.node n x is
 
-      -- q goes on from the node's front
+      -- q continues from the node's front
       here : Begins front q
       here =
           let d : x.depth ≡ length front = fits.depth in
@@ -223,7 +223,7 @@ module _ {P : ℕ} {keys : ℕ → Option Bytes} {nodes : ℕ → Option Node} {
       byte_is : get_or q x.depth 0 ≡ next_byte front q
       byte_is = ap (λ (z : ℕ). get_or q z 0) fits.depth
 
-      -- by an edge
+      -- along an edge
       pub on_way : (child : Child) → child_at x.edges (get_or q x.depth 0) ≡ Some child → (next : ℕ) → next ≡ x.depth + 1 → OnWay P keys nodes child next q
       on_way child there next e =
           let d : x.depth ≡ length front = fits.depth in
@@ -238,7 +238,7 @@ module _ {P : ℕ} {keys : ℕ → Option Bytes} {nodes : ℕ → Option Node} {
           }
 
       module _ (none : child_at x.edges (get_or q x.depth 0) ≡ None) where
-        -- no key goes on so
+        -- no key continues with q's next byte
         none_on : (j : ℕ) (k : Bytes) → keys j ≡ Some k → Begins front k → next_byte front k ≡ next_byte front q → ⊥
         none_on j k k_is h e =
             not_some (child_at x.edges (next_byte front k)) (ap (λ (b : ℕ). child_at x.edges b) (e ∙ sym byte_is) ∙ none) (fits.edge j k k_is h)
@@ -258,7 +258,7 @@ module _ {P : ℕ} {keys : ℕ → Option Bytes} {nodes : ℕ → Option Node} {
                   none_on j k k_is fk (Begins-next front k (next_byte front q) e)
             ])
 
-        -- or no edge leads on, and q leaves the keys there
+        -- or the node has no edge at q's next byte, and q leaves the keys there
         pub leaves_here : (l : LeavesAtNode P keys nodes n (get_or q x.depth 0) q) × (x.depth ≡ length (l.apart.shape.front_of n)) × (x.depth < length q)
         leaves_here = (
           record {
@@ -305,14 +305,14 @@ module _ {P : ℕ} {keys : ℕ → Option Bytes} {nodes : ℕ → Option Node} {
         let l : length (edge_front w.shape.front_of w.above) ≤ length q = Begins-length (edge_front w.shape.front_of w.above) q w.along in
         omega arith
 
-    -- the first bytes are read once
+    -- the common prefix has the bytes before `start`, and the common bytes from `start` on
     pub leaf_common : length (common key q) ≡ start + length (common (drop start key) (drop start q))
     leaf_common =
         let e : start ≡ length (edge_front w.shape.front_of w.above) = w.start_is in
         subst (λ (z : ℕ). length (common key q) ≡ z + length (common (drop z key) (drop z q))) (sym e) (common_from (edge_front w.shape.front_of w.above) key q leaf_front w.along)
 
     module _ {n : ℕ} (n_is : n ≡ length (common (drop start key) (drop start q))) where
-      -- with the bytes before the start, as many as both have in common
+      -- with the bytes before the start, the count is the length of the common prefix
       pub len_at_leaf : start + n ≡ length (common key q)
       len_at_leaf = let e = leaf_common in omega arith
 
@@ -346,13 +346,13 @@ module _ {P : ℕ} {keys : ℕ → Option Bytes} {nodes : ℕ → Option Node} {
           let back : length (common key q) ≡ start + n = sym len_at_leaf in
           subst (λ (z : ℕ). (l : LeavesAtEdge P keys nodes (Leaf i) (get_or key z 0) (get_or q z 0) q) × (z ≡ length l.t) × (z < length q)) back (r.0, r.1, omega arith)
 
-  -- ---- what is in common with the front of a node
+  -- ---- the common prefix with the front of a node
 
   module _ {n start : ℕ} (w : OnWay P keys nodes (Inner n) start q) where
     abbrev own_front : Bytes
     own_front = w.shape.front_of n
 
-    -- a list with the front's bytes from there on tells
+    -- the common prefix has the bytes before `start`, and the common bytes from `start` on
     pub shared_after : length (common own_front q) ≡ start + length (common (drop start own_front) (drop start q))
     shared_after =
         let e : start ≡ length (edge_front w.shape.front_of w.above) = w.start_is in
@@ -370,11 +370,11 @@ module _ {P : ℕ} {keys : ℕ → Option Bytes} {nodes : ℕ → Option Node} {
         let l : length (edge_front w.shape.front_of w.above) ≤ length q = Begins-length (edge_front w.shape.front_of w.above) q w.along in
         omega arith
 
-    -- the bytes in common told from the front's own
+    -- the common prefix, from the front's own bytes
     pub shared_from : {len byte : ℕ} → len ≡ start + length (common (drop start own_front) (drop start q)) → (len < length own_front → byte ≡ get_or own_front len 0) → IsShared own_front q len byte
     shared_from e next = record { is = e ∙ sym shared_after; next = λ a b. next a }
 
-    -- a key below, cut after as many bytes as the front has, is the front
+    -- a key below the node, cut at the node's depth, is the front
     pub cut_front : {x : Node} → nodes n ≡ Some x → {first : Bool} {j : ℕ} → IsEndUnder keys first (edge_front w.shape.front_of w.above) j → {k : Bytes} → keys j ≡ Some k → {depth : ℕ} → depth ≡ x.depth → (take depth k ≡ own_front) × (depth ≤ length k)
     cut_front {x} x_is {j = j} u {k} k_is {depth} e =
         let d : x.depth ≡ length own_front = (w.shape.node n x x_is).depth in
@@ -389,7 +389,7 @@ module _ {P : ℕ} {keys : ℕ → Option Bytes} {nodes : ℕ → Option Node} {
           let e : start ≡ length (edge_front w.shape.front_of w.above) = w.start_is in
           w.shape.keeps w.above n x w.leads is ∙ ap (λ (z : ℕ). take P (drop z own_front)) (sym e)
 
-      -- it ends within the front
+      -- the stored prefix ends within the front
       pub kept_within : start + length x.prefix ≤ x.depth
       kept_within =
           let d : x.depth ≡ length own_front = (w.shape.node n x is).depth in
@@ -411,7 +411,7 @@ module _ {P : ℕ} {keys : ℕ → Option Bytes} {nodes : ℕ → Option Node} {
             next = λ a b. ap (λ (z : Bytes). get_or z count 0) k ∙ get_or-take P (drop start own_front) count 0 (omega (arith, length-take P (drop start own_front))) ∙ get_or-drop start own_front count 0 ∙ ap (λ (z : ℕ). get_or own_front z 0) (sym at);
           }
 
-      -- the stored prefix is the whole, and all of it is shared
+      -- the stored prefix is the rest of the front, and all of it is shared
       pub shared_whole : {count len : ℕ} → count ≡ length (common x.prefix (drop start q)) → length x.prefix ≤ count → len ≡ start + count → len ≡ x.depth → IsShared own_front q len 0
       shared_whole {count} e over at whole =
           let d : x.depth ≡ length own_front = (w.shape.node n x is).depth in
@@ -438,7 +438,7 @@ module _ {P : ℕ} {keys : ℕ → Option Bytes} {nodes : ℕ → Option Node} {
   }
 
   module _ {c : Child} {depth a : ℕ} (l : LeavesAtEdge P keys nodes c a (get_or q depth 0) q) (d : depth ≡ length l.t) (lq : depth < length q) where
-    -- no key goes on as q does
+    -- no key continues as q does
     edge_alone : (j : ℕ) (k : Bytes) → keys j ≡ Some k → Begins (l.t ++ get_or q depth 0 ∷ []) k → ⊥
     edge_alone j k k_is h =
         let tk : Begins l.t k = Begins-edge_front l.t k (get_or q depth 0) h in

@@ -1,4 +1,4 @@
--- A way down to the node at a front.
+-- A descent to the node at a front.
 use Rattle.std.proofs.Common.{◌≡◌, ◌≢◌, ℕ, ◌+◌, ◌<◌, ◌≤◌, [], ◌∷◌, ◌++◌, length, get_or, ap, sym, subst, ◌∙◌, Option, Some, None, IsSome, true, arith, length-append}
 use Rattle.art_cells.specs.Begins.{Bytes, Begins, next_byte}
 use Rattle.art_kinds.specs.Edges.{child_at, IsEnd}
@@ -15,22 +15,22 @@ use Rattle.art_cells.proofs.Ways.Ends.{end_step}
 use Rattle.art_cells.proofs.Ways.WaysDown.{WayDown, way_here}
 
 module _ (keys : ℕ → Option Bytes) (nodes : ℕ → Option Node) (f : Bytes) where
-  -- a node at f, if there is one, has this front
+  -- if a node has the front f, f begins with this prefix
   abbrev pub HoldsNode : (ℕ → Bytes) → Bytes → Type 0
   HoldsNode front_of front = (m : ℕ) → IsSome (nodes m) → front_of m ≡ f → Begins front f
 
-  -- the way to a node at f has come to a child
+  -- the descent to a node with the front f has reached a child
   abbrev pub Heads : (ℕ → Bytes) → Child → ℕ → ℕ → Type 0
   Heads front_of = WayDown keys nodes front_of (HoldsNode front_of) []
 
 module _ {P : ℕ} {keys : ℕ → Option Bytes} {nodes : ℕ → Option Node} (f : Bytes) where
   module _ {root : Option Child} (s : Shape P keys nodes root) where
-    -- two keys part at a node at f
+    -- two keys part at a node with the front f
     parting : (m : ℕ) → IsSome (nodes m) → s.front_of m ≡ f → Parts keys f
     parting m live e = let x = some_of (nodes m) live in subst (Parts keys) e (s.node m x.0 x.1).parts
 
     module _ {old now new : ℕ} where
-      -- no node stands at f, and a stored key shows that the reads were few
+      -- no node has the front f, and a stored key bounds the number of reads
       no_node : (c : Child) (h : Heads keys nodes f s.front_of c old now) → new ≤ now + 1 → ((m : ℕ) → IsSome (nodes m) → s.front_of m ≢ f) → FindsNone keys nodes s.front_of f old new
       no_node c h reads none =
           let k = some_key keys nodes root s h.front c h.covers in
@@ -48,7 +48,7 @@ module _ {P : ℕ} {keys : ℕ → Option Bytes} {nodes : ℕ → Option Node} (
       fits : NodeFits keys nodes s.front_of (s.front_of n) x
       fits = s.node n x is
 
-      -- the keys at f begin with the node's front
+      -- the keys that part at f begin with the node's front
       first_under : (m : ℕ) (live : IsSome (nodes m)) (e : s.front_of m ≡ f) → Begins (s.front_of n) (parting m live e).k
       first_under m live e = let p = parting m live e in h.covers.only p.i p.k p.k_is (Begins-trans h.front f p.k (h.holds m live e) p.k_front)
 
@@ -64,7 +64,7 @@ module _ {P : ℕ} {keys : ℕ → Option Bytes} {nodes : ℕ → Option Node} (
           let b : next_byte f (s.front_of n) ≡ next_byte f p.l = next_byte-front f (s.front_of n) p.l (second_under m live e) l in
           p.differ (sym a ∙ b))
 
-      -- a node at f is below the edge with f's next byte
+      -- if a node has the front f, f continues from this node's front with its next byte
       goes_on : (m : ℕ) (live : IsSome (nodes m)) (e : s.front_of m ≡ f) → x.depth < length f → Begins (s.front_of n ++ next_byte (s.front_of n) f ∷ []) f
       goes_on m live e short =
           let p = parting m live e in
@@ -85,7 +85,7 @@ module _ {P : ℕ} {keys : ℕ → Option Bytes} {nodes : ℕ → Option Node} (
       heads_on len_is below = λ m live e.
           subst (λ (z : ℕ). Begins (s.front_of n ++ get_or f z 0 ∷ []) f) (sym (len_is ∙ fits.depth)) (goes_on m live e (omega arith))
 
-      -- the node has a front as long as f
+      -- the node's front is as long as f
       pub heads_at : {new count leaf : ℕ} (e : Edge) → x.depth ≡ length f → count ≡ length x.edges → IsEnd true x.edges e → IsEndUnder keys true (s.front_of n ++ e.byte ∷ []) leaf → ((key : Bytes) → keys leaf ≡ Some key → new + length (s.front_of n ++ e.byte ∷ []) ≤ now + 1 + length key) → FindsNode keys nodes s.front_of f old new count leaf
       heads_at {new = new} {leaf = leaf} e same counted least u reads =
           let d : x.depth ≡ length (s.front_of n) = fits.depth in

@@ -1,4 +1,4 @@
--- A way down by a stored key, to where another key leaves it.
+-- A descent by a stored key, to the spot at which another key leaves it.
 use Rattle.std.proofs.Common.{◌≡◌, ℕ, ◌+◌, ◌<◌, ◌≤◌, [], ◌∷◌, ◌++◌, length, get_or, take, refl, ap, arith, sym, subst, Option, Some, None, ◌∙◌, length-append}
 use Rattle.std.proofs.lemmas.List.{length-take-le}
 use Rattle.blart_keys.proofs.Options.{not_some}
@@ -13,16 +13,16 @@ use Rattle.art_kinds.specs.declared.records.ids.Child.TheVariants.{Inner}
 use Rattle.art_cells.proofs.BeginsLemmas.{Begins-take, Begins-length, Begins-more, Begins-trans, Begins-linear, Begins-equal}
 use Rattle.art_cells.proofs.Ways.WaysDown.{WayDown, way_on}
 
--- the front is that of the edge above, and the nearest key's first bytes begin with it
+-- the front is that of the edge above, and is a prefix of the nearest key's first bytes
 abbrev pub HoldsAlong : (ℕ → Bytes) → Bytes → ℕ → Option (ℕ × ℕ) → Bytes → Type 0
 HoldsAlong front_of nearest depth above front = (front ≡ edge_front front_of above) × Begins front (take depth nearest)
 
--- a way down by the nearest key's first bytes has come to a child
+-- a descent by the nearest key's first bytes has reached a child
 abbrev pub Follows : (ℕ → Option Bytes) → (ℕ → Option Node) → (ℕ → Bytes) → Bytes → ℕ → Option (ℕ × ℕ) → Child → ℕ → ℕ → Type 0
 Follows keys nodes front_of nearest depth above = WayDown keys nodes front_of (HoldsAlong front_of nearest depth above) []
 
 module _ {P : ℕ} {keys : ℕ → Option Bytes} {nodes : ℕ → Option Node} (nearest : Bytes) (depth : ℕ) {root : Option Child} (s : Shape P keys nodes root) (above : Option (ℕ × ℕ)) {old now : ℕ} where
-  -- it went through the edge above
+  -- it came by the edge above
   pub followed_edge : {a c : Child} → a ≡ c → LeadsTo nodes root above a → Follows keys nodes s.front_of nearest depth above c old now → EdgeFits nodes root s.front_of nearest depth above c
   followed_edge e leads w = record {
     leads = subst (λ (z : Child). LeadsTo nodes root above z) e leads;
@@ -46,7 +46,7 @@ module _ {P : ℕ} {keys : ℕ → Option Bytes} {nodes : ℕ → Option Node} (
       front_nearest : Begins (s.front_of n) nearest
       front_nearest = w.covers.only i nearest is (Begins-trans w.front (take depth nearest) nearest w.holds.1 (Begins-take depth nearest))
 
-      -- a node of the very depth is at the spot
+      -- a node of exactly this depth is at the spot
       pub node_at_depth : x.depth ≡ depth → s.front_of n ≡ take depth nearest
       node_at_depth e =
           let l : length (take depth nearest) ≡ depth = length-take-le depth nearest within in
@@ -63,7 +63,7 @@ module _ {P : ℕ} {keys : ℕ → Option Bytes} {nodes : ℕ → Option Node} (
           let e : child_at x.edges (get_or nearest x.depth 0) ≡ None = ap (λ (z : ℕ). child_at x.edges (get_or nearest z 0)) (sym d) ∙ none in
           not_some (child_at x.edges (next_byte (s.front_of n) nearest)) (ap (λ (d : ℕ). child_at x.edges (get_or nearest d 0)) (sym fits.depth) ∙ e) (fits.edge i nearest is front_nearest)
 
-      -- which leads on, while the spot is deeper
+      -- the descent continues along it, while the spot is deeper
       pub follow_edge : x.depth < depth → HoldsAlong s.front_of nearest depth (Some (n, get_or nearest x.depth 0)) (s.front_of n ++ get_or nearest x.depth 0 ∷ [])
       follow_edge h =
           let g : Bytes = s.front_of n in
@@ -73,7 +73,7 @@ module _ {P : ℕ} {keys : ℕ → Option Bytes} {nodes : ℕ → Option Node} (
           let e : length (g ++ next_byte g nearest ∷ []) ≡ length g + 1 = length-append g (next_byte g nearest ∷ []) in
           (refl, rw b (Begins-linear (g ++ next_byte g nearest ∷ []) (take depth nearest) nearest (Begins-more g nearest front_nearest (omega arith)) (Begins-take depth nearest) (omega arith)))
 
-      -- so the way goes on by that edge
+      -- so the descent reaches that edge's child
       pub follow_on : {len : ℕ} → len ≡ x.depth → len < depth → {child : Child} → child_at x.edges (get_or nearest len 0) ≡ Some child →
           {next : ℕ} → next ≡ now + 1 → Follows keys nodes s.front_of nearest depth (Some (n, get_or nearest len 0)) child old next
       follow_on {len} d h there one =

@@ -1,4 +1,4 @@
--- A way down from a child: where it has come to, and what it keeps on the way.
+-- A descent from a child: the child that it has reached, and what holds along the way.
 use Rattle.std.proofs.Common.{◌≡◌, ℕ, ◌+◌, ◌<◌, ◌≤◌, List, [], ◌∷◌, ◌++◌, length, ap, subst, Option, Some, IsSome, true, false, arith, length-append}
 use Rattle.art_cells.specs.Begins.{Bytes, next_byte}
 use Rattle.art_kinds.specs.Edges.{child_at}
@@ -9,14 +9,14 @@ use Rattle.art_kinds.specs.declared.records.ids.Child.TheVariants.{Leaf, Inner}
 use Rattle.art_kinds.specs.declared.records.ids.Edge.{Edge}
 use Rattle.art_cells.proofs.BeginsLemmas.{Begins-length}
 
--- an edge is one of some
+-- edges with a child at some byte are not empty
 pub edges_some : (es : List Edge) (b : ℕ) → IsSome (child_at es b) → 0 < length es
 edges_some [] b h = absurd (let f : false ≡ true = h in cc)
 edges_some (e ∷ es) b h = omega arith
 
 module _ (keys : ℕ → Option Bytes) (nodes : ℕ → Option Node) (front_of : ℕ → Bytes) where
-  -- A way from a child that stands for the keys that begin with g has come to another, with a longer front, of which something holds.
-  -- Each visit went on by a byte at least.
+  -- A descent from a child that covers g has reached another child, which covers a longer front
+  -- that satisfies `Holds`. Each visit passed at least one byte.
   pub record WayDown (Holds : Bytes → Type 0) (g : Bytes) (c : Child) (old now : ℕ) : Type 0 where
     pub front : Bytes
     pub covers : Covers keys nodes front_of front c
@@ -24,12 +24,12 @@ module _ (keys : ℕ → Option Bytes) (nodes : ℕ → Option Node) (front_of :
     pub few : now + length g ≤ old + length front
 
 module _ {keys : ℕ → Option Bytes} {nodes : ℕ → Option Node} {front_of : ℕ → Bytes} where
-  -- the child by another name
+  -- the same for an equal child
   pub way_at : {Holds : Bytes → Type 0} {g : Bytes} {old now : ℕ} {a c : Child} → a ≡ c → WayDown keys nodes front_of Holds g a old now →
       WayDown keys nodes front_of Holds g c old now
   way_at {Holds} {g} {old} {now} e w = subst (λ (z : Child). WayDown keys nodes front_of Holds g z old now) e w
 
-  -- the visits on a way to a leaf are no more than the bytes of its key after g
+  -- a descent to a leaf makes no more visits than the leaf's key has bytes after g
   pub way_few : {Holds : Bytes → Type 0} {g : Bytes} {old now i : ℕ} → WayDown keys nodes front_of Holds g (Leaf i) old now → (key : Bytes) → keys i ≡ Some key → now + length g ≤ old + length key
   way_few {g = g} {old = old} {now = now} {i = i} w key is =
       let e : keys i ≡ Some w.covers.key = w.covers.is in
@@ -48,14 +48,14 @@ module _ {P : ℕ} {keys : ℕ → Option Bytes} {nodes : ℕ → Option Node} {
   way_start {g = g} h holds = record { front = g; covers = h; holds = holds; few = omega arith }
 
   module _ {Holds : Bytes → Type 0} {g : Bytes} {old now n : ℕ} {x : Node} (is : nodes n ≡ Some x) (w : WayDown keys nodes s.front_of Holds g (Inner n) old now) where
-    -- a node on the way was read: its front is at least as long as that of the way
+    -- a node that was reached has a front at least as long as the prefix that was passed
     pub way_here : now + length g ≤ old + length (s.front_of n)
     way_here =
         let l : length w.front ≤ length (s.front_of n) = Begins-length w.front (s.front_of n) w.covers.front in
         let few : now + length g ≤ old + length w.front = w.few in
         omega arith
 
-    -- the way goes on by an edge
+    -- the descent continues along an edge
     pub way_on : {Next : Bytes → Type 0} → (b : ℕ) {c : Child} → child_at x.edges b ≡ Some c → Next (s.front_of n ++ b ∷ []) → {next : ℕ} → next ≡ now + 1 → WayDown keys nodes s.front_of Next g c old next
     way_on b {c} there holds e =
         let few : now + length g ≤ old + length (s.front_of n) = way_here in

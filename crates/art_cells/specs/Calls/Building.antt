@@ -1,4 +1,4 @@
--- How the inner nodes of leaves in order are made.
+-- How the inner nodes of leaves in ascending order are made.
 use Rattle.std.specs.Prelude.{◌≡◌, ◌≢◌, ◌<◌, ◌≤◌, ◌⊎◌, ℕ, ◌+◌, true, [], ◌∷◌, ◌++◌, List, map, take, drop, length, Option, Some, None, IsSome, Contains, slice_index_or, max, eqb, if◌then◌else◌}
 use Rattle.blart_keys.specs.Bytes.{less}
 use Rattle.art_cells.specs.Begins.{Bytes, Begins}
@@ -10,7 +10,7 @@ use Rattle.art_kinds.specs.declared.records.ids.Child.TheVariants.{Leaf, Inner}
 use Rattle.art_kinds.specs.declared.records.ids.Edge.{Edge}
 use Rattle.art_cells.specs.declared.tree.build.LooseEdge.{LooseEdge}
 
--- the front of a loose edge beside the key k: the first bytes of k up to its depth, and its byte
+-- the front of a loose edge beside the key k: the first `e.depth` bytes of k, and then its byte
 abbrev pub loose_front : Bytes → LooseEdge → Bytes
 loose_front k e = take e.depth k ++ e.edge.byte ∷ []
 
@@ -29,12 +29,12 @@ last_depth [] = None
 last_depth (e ∷ []) = Some e.depth
 last_depth (e ∷ f ∷ es) = last_depth (f ∷ es)
 
--- where the prefix of a node begins below a parent of this depth, but not before `least`
+-- the depth at which a node's prefix begins: past its parent's depth, and at least `least`
 abbrev pub start_after : ℕ → Option ℕ → ℕ
 start_after least None = least
 start_after least (Some depth) = max least (depth + 1)
 
--- the edges alone
+-- the edges of these loose edges
 abbrev pub edges_of : List LooseEdge → List Edge
 edges_of es = map (λ e. e.edge) es
 
@@ -70,7 +70,7 @@ module _ (P : ℕ) (keys : ℕ → Option Bytes) (nodes : ℕ → Option Node) (
     pub keeps : (n b : ℕ) (x : Node) (c : Child) → nodes n ≡ Some x → child_at x.edges b ≡ Some c → KeepsAfter P nodes front_of (front_of n ++ b ∷ []) c
     pub apart : (n m : ℕ) → IsSome (nodes n) → IsSome (nodes m) → front_of n ≡ front_of m → n ≡ m
 
-  -- an edge is loose beside the key: it leaves the key at its depth, by a lesser byte
+  -- an edge is loose beside the key k: it leaves k at its depth, by a byte less than k's byte there
   pub record IsLoose (k : Bytes) (e : LooseEdge) : Type 0 where
     pub within : e.depth < length k
     pub before : e.edge.byte < slice_index_or k e.depth 0
@@ -90,7 +90,7 @@ pub record IsPart (P : ℕ) (keys : ℕ → Option Bytes) (nodes : ℕ → Optio
   -- so is each key that is not greater than k
   pub below : (j : ℕ) (l : Bytes) → keys j ≡ Some l → Begins (take s k) l ⊎ (((e : LooseEdge) × Contains es e × Begins (loose_front k e) l) ⊎ (less k l ≡ true))
 
--- how many pairs come after that of a number
+-- the number of pairs after the pair with this number
 abbrev pub count_after : {X : Type 0} → List (ℕ × X) → ℕ → ℕ
 count_after [] i = 0
 count_after (p ∷ ps) i = if eqb p.0 i then length ps else count_after ps i

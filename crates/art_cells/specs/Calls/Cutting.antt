@@ -1,4 +1,4 @@
--- How a full row is cut in half, so that a pair can come between its leaves.
+-- How half of a full row is moved to a new row, to make room for a pair between its leaves.
 use Rattle.std.specs.Prelude.{◌≡◌, ◌+◌, ℕ, List, map, Option, Some}
 use Rattle.art_rows.specs.Blocks.{row_of, IsRowLast, IsCut, IsNear}
 use Rattle.art_kinds.specs.Nodes.{Nodes, room}
@@ -9,7 +9,7 @@ use Rattle.art_cells.specs.UnderIds.{under_ids}
 use Rattle.art_cells.specs.Invariant.Sound.{IsSound}
 use Rattle.art_cells.specs.declared.tree.cut.Cut.{Cut}
 
--- q leaves the nearest key at this depth, and the leaf `prev` is the last one before q
+-- q leaves the nearest key at this depth, and `prev` is the last leaf before q
 pub record GoesAfter (keys : ℕ → Option Bytes) (nearest depth prev : ℕ) (q : Bytes) : Type 0 where
   pub leaves : LeavesNearest keys nearest depth q
   pub before : LastBefore keys q prev

@@ -53,7 +53,7 @@ module _ (P : ℕ) (keys : ℕ → Option Bytes) (nodes : ℕ → Option Node) w
     pub goes_on : Begins (apart.shape.front_of n ++ byte ∷ []) q
     pub none : (j : ℕ) (k : Bytes) → keys j ≡ Some k → Begins (apart.shape.front_of n ++ byte ∷ []) k → ⊥
 
-  -- q leaves the keys below the child after t: they go on by `nearest_byte`, and q by another byte
+  -- q leaves the keys below the child after t: their next byte is `nearest_byte`, and q has another
   pub record LeavesAtEdge (child : Child) (nearest_byte byte : ℕ) (q : Bytes) : Type 0 where
     pub apart : NoneRelated q
     pub t : Bytes

@@ -90,7 +90,7 @@ abbrev pub KeepsFrom : ℕ → (ℕ → Option Node) → Child → Bytes → ℕ
 KeepsFrom P nodes (Leaf i) key from = Unit {0}
 KeepsFrom P nodes (Inner n) key from = (x : Node) → nodes n ≡ Some x → x.prefix ≡ take P (slice_range key from x.depth)
 
--- what a contract sees of leaves and nodes together
+-- the content of a tree with these leaves and nodes
 abbrev pub content_of : {K V : Type 0} → Leaves K V → Nodes → Content K V
 content_of leaves nodes = record { pairs = leaves.pairs; ids = leaves.ids; spares = record { leaves = leaves_room leaves; nodes = room nodes } }
 

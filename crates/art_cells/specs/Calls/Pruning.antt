@@ -1,4 +1,4 @@
--- The removal of a branch: the edge to it, and the nodes and the keys below that.
+-- The removal of a branch: the edge to it, and the nodes and the keys below that edge.
 use Rattle.std.specs.Prelude.{◌≡◌, ◌⊎◌, ℕ, Bool, true, false, ◌<◌, ◌^◌, List, length, Option, Some, None, IsSome}
 use Rattle.art_cells.specs.Begins.{Bytes, Begins}
 use Rattle.art_cells.specs.Invariant.EdgesAbove.{LeadsTo, edge_front}
@@ -10,13 +10,13 @@ use Rattle.art_kinds.specs.declared.records.ids.Child.TheVariants.{Inner}
 use Rattle.art_kinds.specs.declared.records.ids.Edge.{Edge}
 use Rattle.art_cells.specs.declared.tree.descent.Branch.{Branch}
 
--- the edge leads to the child, its front is a prefix of q, and below the child are the keys with q
+-- the edge leads to the child, its front is a prefix of q, and the keys with prefix q are below
 pub record IsBranch (keys : ℕ → Option Bytes) (nodes : ℕ → Option Node) (root : Option Child) (front_of : ℕ → Bytes) (q : Bytes) (b : Branch) : Type 0 where
   pub leads : LeadsTo nodes root b.above b.child
   pub along : Begins (edge_front front_of b.above) q
   pub covers : Covers keys nodes front_of q b.child
 
--- of the keys that begin with g only that of the leaf i is left, and the others are unchanged
+-- of the keys that begin with g, only the key of the leaf i is left, and the others are unchanged
 pub record Prunes (old new : ℕ → Option Bytes) (g : Bytes) (i : ℕ) (k : Bytes) : Type 0 where
   pub was : old i ≡ Some k
   pub front : Begins g k
@@ -38,7 +38,7 @@ LeadsIn nodes m b x = (y : Node) × (nodes m ≡ Some y) × (child_at y.edges b 
 abbrev pub IsNotLast : List Edge → ℕ → Type 0
 IsNotLast edges b = (d : ℕ) × (b < d) × IsSome (child_at edges d)
 
--- the nodes that go are below `head`, each at one edge, and the others are unchanged. Below a fresh node, and at an edge that is not the last, each node is fresh and deeper
+-- the nodes with `goes` are below `head`, each at one edge, and the others are unchanged. Below a fresh node, and at an edge that is not the last, each node is fresh and deeper
 pub record Loose (goes : ℕ → Bool) (before nodes : ℕ → Option Node) (head : ℕ) : Type 0 where
   pub fresh : ℕ → Bool
   pub rank : ℕ → ℕ

@@ -1,4 +1,4 @@
--- What the removal of a leaf finds, and what it leaves.
+-- What the removal of a leaf finds, and how it changes the nodes.
 use Rattle.std.specs.Prelude.{◌≡◌, ◌≢◌, ℕ, ◌+◌, ◌<◌, List, take, drop, length, Option, Some, None}
 use Rattle.art_cells.specs.Invariant.EdgesAbove.{LeadsTo, TurnsTo}
 use Rattle.art_cells.specs.Begins.{Bytes}
@@ -46,7 +46,7 @@ abbrev pub StartsBelow : (ℕ → Option Node) → Option (ℕ × ℕ) → ℕ �
 StartsBelow nodes None start = start ≡ 0
 StartsBelow nodes (Some e) start = (x : Node) × (nodes e.0 ≡ Some x) × (start ≡ x.depth + 1)
 
--- the node of the edge is less deep than this
+-- the depth of the edge's node is less than `end`
 abbrev pub EndsBelow : (ℕ → Option Node) → Option (ℕ × ℕ) → ℕ → Type 0
 EndsBelow nodes None end = Unit {0}
 EndsBelow nodes (Some e) end = (x : Node) × (nodes e.0 ≡ Some x) × (x.depth < end)

@@ -1,4 +1,4 @@
--- Places in the tree where a key leaves the others.
+-- Spots in the tree at which a key leaves the others.
 use Rattle.std.specs.Prelude.{◌≡◌, ℕ, ◌<◌, length, take, Option, Some, None}
 use Rattle.art_cells.specs.Invariant.EdgesAbove.{LeadsTo, edge_front}
 use Rattle.art_cells.specs.Begins.{Bytes, Begins}

@@ -16,7 +16,7 @@ use Rattle.art_cells.specs.declared.tree.stop.Stop.TheVariants.{Same, Shorter, L
 use Rattle.art_cells.specs.declared.tree.stop.Step.{Step}
 use Rattle.art_cells.specs.declared.tree.stop.Step.TheVariants.{Down, Stops}
 
--- a front and q have `len` bytes in common, and the next byte of the front is `byte`
+-- a front and q have their first `len` bytes in common, and the next byte of the front is `byte`
 pub record IsShared (front q : Bytes) (len byte : ℕ) : Type 0 where
   pub is : len ≡ length (common front q)
   pub next : len < length front → len < length q → byte ≡ slice_index_or front len 0
@@ -26,7 +26,7 @@ abbrev pub PastDepth : (ℕ → Option Node) → ℕ → Child → Type 0
 PastDepth nodes depth (Leaf i) = Unit {0}
 PastDepth nodes depth (Inner n) = (x : Node) × (nodes n ≡ Some x) × (depth < x.depth)
 
--- a descent that came to the child after `start` bytes ends there
+-- a descent that reached the child after `start` bytes ends at that child
 abbrev pub StopsAt : (ℕ → Option Node) → Child → ℕ → Stop → Type 0
 StopsAt nodes child start (Same i) = Unit {0}
 StopsAt nodes child start (Shorter i) = Unit {0}
@@ -34,7 +34,7 @@ StopsAt nodes child start (Longer c) = Unit {0}
 StopsAt nodes child start (AtNode n depth) = child ≡ Inner n
 StopsAt nodes child start (AtEdge c depth byte) = (child ≡ c) × (start ≤ depth) × PastDepth nodes depth c
 
--- the edge leads to the node or the child where a descent ends
+-- the edge leads to the node or the child at which a descent ends
 abbrev pub IsStopBelow : (ℕ → Option Node) → Option Child → Option (ℕ × ℕ) → Stop → Type 0
 IsStopBelow nodes root above (Same i) = Unit {0}
 IsStopBelow nodes root above (Shorter i) = Unit {0}
@@ -60,7 +60,7 @@ module _ (P : ℕ) (keys : ℕ → Option Bytes) (nodes : ℕ → Option Node) w
   IsStop (AtNode n depth) q = (l : LeavesAtNode P keys nodes n (slice_index_or q depth 0) q) × (depth ≡ length (l.apart.shape.front_of n)) × (depth < length q)
   IsStop (AtEdge child depth byte) q = (l : LeavesAtEdge P keys nodes child byte (slice_index_or q depth 0) q) × (depth ≡ length l.t) × (depth < length q)
 
-  -- the descent ends at a node, or goes on by one of its edges
+  -- the descent ends at a node, or continues along one of its edges
   abbrev pub IsStep : ℕ → ℕ → Step → Bytes → Type 0
   IsStep n start (Down child next byte) q = OnWay child next q × ((x : Node) × (nodes n ≡ Some x) × (child_at x.edges byte ≡ Some child) × (next ≡ x.depth + 1))
   IsStep n start (Stops stop) q = IsStop stop q × StopsAt nodes (Inner n) start stop

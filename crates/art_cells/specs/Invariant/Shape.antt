@@ -1,4 +1,4 @@
--- The inner nodes of some keys: one at each prefix where two keys part, which is the node's front.
+-- The inner nodes of some keys: one at each prefix at which two keys part, the front of the node.
 use Rattle.std.specs.Prelude.{◌≡◌, ◌≢◌, ℕ, ◌<◌, [], ◌∷◌, ◌++◌, length, take, drop, Option, Some, None, IsSome}
 use Rattle.blart_keys.specs.Bytes.{common}
 use Rattle.art_cells.specs.Invariant.EdgesAbove.{LeadsTo, edge_front}
@@ -60,7 +60,7 @@ kept_prefix P front_of above n = take P (drop (length (edge_front front_of above
 abbrev pub Keeps : ℕ → (ℕ → Option Node) → Option Child → (ℕ → Bytes) → Type 0
 Keeps P nodes root front_of = (above : Option (ℕ × ℕ)) (n : ℕ) (x : Node) → LeadsTo nodes root above (Inner n) → nodes n ≡ Some x → x.prefix ≡ kept_prefix P front_of above n
 
--- each prefix where two keys part has one node, which keeps P bytes of its compressed prefix
+-- each prefix at which two keys part has one node, which keeps P bytes of its compressed prefix
 pub record Shape (P : ℕ) (keys : ℕ → Option Bytes) (nodes : ℕ → Option Node) (root : Option Child) : Type 0 where
   pub front_of : ℕ → Bytes
   pub top : RootFits keys nodes front_of root

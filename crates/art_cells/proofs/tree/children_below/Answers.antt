@@ -18,14 +18,14 @@ use Rattle.art_cells.proofs.Invariant.Soundness.{within_longest}
 use Rattle.art_cells.proofs.tree.children_below.Goals as goal
 
 module _ {P : ℕ} {K V : Type 0} (kb : K → List ℕ) (S : List (Numbered K V)) (content : IsContent (bytes kb) S) (distinct : AreDistinct S) {nodes : ℕ → Option Node} {root : Option Child} (s : Shape P (keys_in kb S) nodes root) {f : Bytes} {old new : ℕ} where
-  -- no node stands there, and so nothing parts there
+  -- no node has this front, and so no keys part there
   nothing : FindsNone (keys_in kb S) nodes s.front_of f old new → 0 ≡ set.len (parts (bytes kb) S f)
   nothing h = sym (no_parts kb S content distinct nodes root s f h.none)
 
   nothing_soon : FindsNone (keys_in kb S) nodes s.front_of f old new → new ≤ old + longest (bytes kb) S + 1
   nothing_soon h = let l : length h.key ≤ longest (bytes kb) S = within_longest kb S h.leaf h.key h.is in let few : new ≤ old + length h.key + 1 = h.few in omega arith
 
-  -- and there was time to read a key
+  -- the visits remain within the bound with one more to read the key
   soon : {count leaf : ℕ} (h : FindsNode (keys_in kb S) nodes s.front_of f old new count leaf) {last : ℕ} → last ≡ new + 1 →
       last ≤ old + longest (bytes kb) S + 1
   soon {leaf = leaf} h e =
@@ -33,12 +33,12 @@ module _ {P : ℕ} {K V : Type 0} (kb : K → List ℕ) (S : List (Numbered K V)
       let few : new ≤ old + length h.first.key = h.few in
       omega arith
 
-  -- the leaf below the node that was found, whose key was read
+  -- the leaf below the node that was found, and its key
   module _ {count leaf : ℕ} (h : FindsNode (keys_in kb S) nodes s.front_of f old new count leaf) {k : Bytes} (is : keys_in kb S leaf ≡ Some k) where
     same : h.first.key ≡ k
     same = let e : Some h.first.key ≡ Some k = sym h.first.is ∙ is in cc
 
-    -- the key begins with the bytes asked for, and so the node stands there
+    -- if the key begins with f, the node has the front f
     counts : true ≡ begins f k → count ≡ set.len (parts (bytes kb) S f)
     counts b =
         let g : Bytes = s.front_of h.number in
@@ -48,7 +48,7 @@ module _ {P : ℕ} {K V : Type 0} (kb : K → List ℕ) (S : List (Numbered K V)
         let e : g ≡ f = Begins-equal g f gf (let l : length g ≡ length f = h.as_long in omega arith) in
         h.counted ∙ edges_are_parts kb S content distinct nodes root s h.number h.node h.is ∙ ap (λ (z : Bytes). set.len (parts (bytes kb) S z)) e
 
-    -- it does not, and so no node stands there
+    -- if it does not, no node has the front f
     other : false ≡ begins f k → 0 ≡ set.len (parts (bytes kb) S f)
     other b = sym (no_parts kb S content distinct nodes root s f (λ m live e.
         (let fk : Begins f k = subst (Begins f) same (subst (λ (z : Bytes). Begins z h.first.key) (h.only m live e) h.first.front) in

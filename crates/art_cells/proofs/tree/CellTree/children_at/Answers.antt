@@ -13,7 +13,7 @@ use Rattle.art_cells.proofs.Invariant.SameShapes.{rooted}
 use Rattle.art_cells.proofs.Invariant.Soundness.{rootless}
 use Rattle.art_cells.proofs.tree.CellTree.children_at.Goals as goal
 
--- without a root there are no keys, and so nothing parts
+-- without a root there are no keys, and so no keys part
 rootless_value : {K V : Type 0} {P : ℕ} (kb : K → List ℕ) (S : List (Numbered K V)) (content : IsContent (bytes kb) S) (distinct : AreDistinct S) (nodes : ℕ → Option Node) (root : Option Child) (s : Shape P (keys_in kb S) nodes root) (f : Bytes) → root ≡ None → 0 ≡ set.len (parts (bytes kb) S f)
 rootless_value {K} {V} kb S content distinct nodes root s f e = sym (no_parts kb S content distinct nodes root s f (λ m live p.
     (let x = some_of (nodes m) live in

@@ -6,7 +6,7 @@ use Rattle.art_cells.specs.Seeks.{number_within}
 use Rattle.art_cells.proofs.Pairs.Bounds.{number_within_all_start, number_within_all_end, number_within_at, number_within_after, number_within_before, number_within_included, number_within_excluded}
 use Rattle.art_cells.proofs.tree.CellTree.seek.Goals as goal
 
--- what is sought in a bound and on a side that are these
+-- the number within an equal bound on an equal side
 told : {K V : Type 0} (kb : K → List ℕ) (S : List (Numbered K V)) {b d : Bound (List ℕ)} {side to : Bool} {r : Option ℕ} → b ≡ d → side ≡ to →
     number_within (bytes kb) S d to ≡ r → r ≡ number_within (bytes kb) S b side
 told kb S {d = d} {side = side} e f h = sym (ap (λ (z : Bound (List ℕ)). number_within (bytes kb) S z side) e ∙ ap (number_within (bytes kb) S d) f ∙ h)

@@ -15,7 +15,7 @@ returns-in-None-clause-found g c =
     let none = ap (λ t. t.pairs) (sym c.self.view_is) ∙ rootless g.K.AsBytes.bytes c.self.inside.leaves.pairs (at c.self.inside.nodes) c.self.inside.root c.self.invariant.shape c.in-None.is in
     sym (ap (λ S. ends (under (bytes g.K.AsBytes.bytes) S c.args.front.now)) none)
 
--- each key begins with no bytes
+-- each key begins with the empty list
 under_none : {K V : Type 0} (kb : K → List ℕ) (S : List (Numbered K V)) (front : List ℕ) → front ≡ [] → under (bytes kb) S front ≡ S
 under_none kb S front e = rw e (filter_every (λ p. begins [] (bytes kb p)) S (λ y m. refl))
 

@@ -10,7 +10,7 @@ use Rattle.art_cells.specs.Calls.Building.{edges_of, MakesNode}
 use Rattle.art_cells.proofs.Invariant.Closing.{group_some, group_start, group_deep, group_rise, group_closed, upper_last}
 use Rattle.art_cells.proofs.tree.build.close_one.Goals as goal
 
--- the loose edges of the node
+-- each loose edge of the group has the same depth
 same : (g : List LooseEdge) (d : ℕ) → All (λ (e : LooseEdge). e.depth ≡ d) g → (e : LooseEdge) → Member e g → e.depth ≡ d
 same g d h e m = All-contains (λ (e : LooseEdge). e.depth ≡ d) g e h (Contains-from_Member e g m)
 

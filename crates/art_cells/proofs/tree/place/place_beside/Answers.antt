@@ -10,7 +10,7 @@ use Rattle.art_cells.proofs.tree.place.place_beside.Goals as goal
 pub leaf_before-requires : goal.leaf_before-requires
 leaf_before-requires g c = has_beside g.K.AsBytes.bytes c.args.leaves.now.pairs (g.K.AsBytes.bytes c.args.key) c.args.place.now.beside c.requires.free.beside
 
--- ---- the leaf before the place stands
+-- ---- the leaf before the place is there
 
 pub crowd-requires : goal.crowd-requires
 crowd-requires g c =
@@ -26,7 +26,7 @@ insert-cell-requires-clause-prev g c =
     let q = kb c.args.key in
     has_leaf_before kb l.pairs q c.leaf_before.result.0 (free_before kb l c.args.nodes.now (Some c.args.root.now) c.args.place.now q c.requires.whole c.law.ensures.distinct c.requires.free c.leaf_before.result.0 c.leaf_before.ensures)
 
--- ---- no row is cut
+-- ---- no row is split
 
 pub join-top-requires : goal.join-top-requires
 join-top-requires g c =
@@ -58,7 +58,7 @@ returns-in_default-clause-whole g c =
     let p = placed_free g.K.AsBytes.bytes c.args.leaves.now c.args.nodes.now (Some c.args.root.now) c.args.place.now i.new.self.pairs i.result x c.requires.whole c.law.ensures.distinct c.requires.free c.leaf_before.result.0 c.leaf_before.ensures i.ensures.fresh i.ensures.placed in
     record { content = p.put.content; shape = c.join-top.ensures.shape }
 
--- ---- a row is cut
+-- ---- a row is split
 
 pub place_crowded-requires : goal.place_crowded-requires
 place_crowded-requires g c =
