@@ -1,4 +1,4 @@
--- A pair that was added over cells, under ids.
+-- A pair that was added to the tree of cells, as a pair under its id.
 use Rattle.std.proofs.Common.{ℕ, List, refl, ap, ◌∙◌, Ok, Err}
 use Rattle.std.specs.Prelude.{Result}
 use Rattle.std.specs.declared.alloc.AllocError.{AllocError}
@@ -21,7 +21,7 @@ module _ {K V : Type 0} where
   abbrev pub tree_of : CellContent K V → Content K V
   tree_of c = record { pairs = under_ids c.ids c.pairs; spares = c.spares }
 
-  -- the result, with the id of the leaf in place of its cell
+  -- the result, with the id of the leaf instead of its cell
   abbrev pub named_result : List ℕ → Result (Added ℕ K V) AllocError → Result (Added ℕ K V) AllocError
   named_result ids (Ok Placed) = Ok Placed
   named_result ids (Ok (Stored cell key value)) = Ok (Stored (id_at ids cell) key value)

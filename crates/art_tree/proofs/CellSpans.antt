@@ -23,7 +23,7 @@ module _ {K V : Type 0} where
   ]
 
 module _ {K V : Type 0} (ids : List ℕ) (ps : List (Numbered K V)) (n : AreNamed ids ps) where
-  -- the pairs from one id through another are those from cell to cell
+  -- the pairs from one id through another are those from the one's cell through the other's
   pub span_ids : (i a j c : ℕ) → LiesIn ids ps i a → LiesIn ids ps j c → span_of (under_ids ids ps) i j ≡ under_ids ids (span_of ps a c)
   span_ids i a j c h k =
       ap (λ T. through_number T j) (from_lies ids ps n i a h)
@@ -43,7 +43,7 @@ module _ {K V : Type 0} (ids : List ℕ) (ps : List (Numbered K V)) (n : AreName
   ends_fit_cells (Some e) None h s = absurd h
   ends_fit_cells (Some e) (Some c) h s = span_cells e.0 c.0 e.1 c.1 h.0 h.1 s
 
-  -- and what is left between them is the same
+  -- and the pairs that are left between them are the same
   pub ends_left_cells : (e c : Option (ℕ × ℕ)) → EndsLieIn ids ps e c → pairs_of (ends_left c ps) ≡ pairs_of (ends_left e (under_ids ids ps))
   ends_left_cells None None h = refl
   ends_left_cells None (Some c) h = absurd h

@@ -1,4 +1,4 @@
--- Points and places, over the cells that leaves lie in and over their ids.
+-- Points and places, by the cells of leaves and by their ids.
 use Rattle.std.proofs.Common.{◌≡◌, ℕ, List, refl, sym, ap, subst, ◌∙◌, Some, true, inl, inr, option_map}
 use Rattle.std.specs.Prelude.{bytes_eq, filter}
 use Rattle.blart_keys.specs.Bytes.{related, conflicts}
@@ -42,11 +42,11 @@ module _ {K V : Type 0} (kb : K → List ℕ) (ids : List ℕ) (ps : List (Numbe
       let h = lies_in ids ps (id_at ids a) a n (is_some (leaf_in ps a) y.0 y.1) refl in
       (id_at ids a, h, key_id (id_at ids a) a h ∙ e)
 
-  -- two ids of the leaf in one cell are the same
+  -- two ids of the leaf in a cell are the same
   pub same_id : (i j c : ℕ) → LiesIn ids ps i c → LiesIn ids ps j c → i ≡ j
   same_id i j c h k = sym h.named ∙ k.named
 
-  -- two cells of the leaf of one id are the same
+  -- two cells of the leaf with an id are the same
   pub same_cell : (i a c : ℕ) → LiesIn ids ps i a → LiesIn ids ps i c → a ≡ c
   same_cell i a c h k = n.apart a c (n.named a h.has) (n.named c k.has) (h.named ∙ sym k.named)
 
@@ -109,14 +109,14 @@ module _ {K V : Type 0} (kb : K → List ℕ) (ids : List ℕ) (ps : List (Numbe
     on_side (AfterLeaf a) b e = last_before_id (subst (λ c. LastBefore (keys_in kb ps) q c) e b)
     on_side (BeforeLeaf a) b e = first_after_id (subst (λ c. FirstAfter (keys_in kb ps) q c) e b)
 
-  -- a place beside a cell is beside the id of its leaf
+  -- a free place beside a cell is a free place beside the id of its leaf
   pub free_id : (i : ℕ) (seen : CellPlace) (q : Bytes) → LiesIn ids ps i seen.nearest → IsFreeCell kb ps seen q → IsFree kb (under_ids ids ps) (record { nearest = i; seen = seen }) q
   free_id i seen q h m = record {
     leaves = nearest_id i seen.nearest h seen.depth q m.leaves;
     beside = on_side i seen.nearest h seen.depth q seen.beside m.beside m.same;
   }
 
-  -- and one beside an id is beside the cell that its leaf lies in
+  -- and a free place beside an id is a free place beside the cell of its leaf
   module _ (place : Place) (c : ℕ) (h : LiesIn ids ps place.nearest c) (q : Bytes) (beside : Beside) (m : IsFree kb (under_ids ids ps) place q) (a : ℕ) where
     pub free_after : place.seen.beside ≡ AfterLeaf a → beside ≡ AfterLeaf c → IsFreeCell kb ps (record { nearest = c; depth = place.seen.depth; beside = beside; spot = place.seen.spot; byte = place.seen.byte }) q
     free_after was is = record {
@@ -141,7 +141,7 @@ module _ {K V : Type 0} (kb : K → List ℕ) (ids : List ℕ) (ps : List (Numbe
   pub exact_id : (q : Bytes) (c : ℕ) (x : K × V) → at (bytes kb) ps q ≡ Some (c, x) → at (bytes kb) (under_ids ids ps) q ≡ Some (id_at ids c, x)
   exact_id q c x e = find-map (under_id ids) (λ (p : Numbered K V). bytes_eq (kb p.1.0) q) ps ∙ ap (λ o. option_map (under_id ids) o) e
 
-  -- the ends of the related pairs
+  -- the conflict of q, and the ends of the related pairs, by ids
   pub conflict_id : (q : Bytes) → conflict (bytes kb) ps q ≡ true → conflict (bytes kb) (under_ids ids ps) q ≡ true
   conflict_id q e = list_any-map (under_id ids) (λ (p : Numbered K V). conflicts (kb p.1.0) q) ps ∙ e
 

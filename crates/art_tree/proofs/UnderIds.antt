@@ -1,4 +1,4 @@
--- What holds of pairs under ids.
+-- Facts about pairs under ids.
 use Rattle.std.proofs.Common.{◌≡◌, ℕ, ◌<◌, List, [], ◌∷◌, map, refl, sym, ap, ◌∙◌, Option, Some, None, eqb, true, false, inl, inr, eq-eqb}
 use Rattle.std.specs.Prelude.{option_map, IfSome, length, max, Bool, ◌&&◌, filter}
 use Rattle.std.specs.declared.ops.Bound.{Bound}
@@ -16,7 +16,7 @@ use Rattle.art_tree.specs.Spans.{from_number, through_number}
 use Rattle.art_tree.specs.Takes.{MayTake}
 use Rattle.art_tree.specs.UnderIds.{id_at, AreNamed, under_id, under_ids, LiesIn}
 
--- a fact holds of an option's value if it holds of each that it may have
+-- a fact holds of an option's value if it holds of each value that it may have
 pub if_each : {X : Type 0} (P : X → Type 0) (o : Option X) → ((x : X) → o ≡ Some x → P x) → IfSome o P
 if_each P None f = tt
 if_each P (Some x) f = f x refl
@@ -50,14 +50,14 @@ module _ {K V : Type 0} where
     | inr r ↦ (let h : Has ps p.0 = member_has ps p r in elim (eqb_tells q.0 p.0) [ inl t ↦ rw t.0 refl | inr t ↦ rw t.0 h ])
   ]
 
-  -- what passes a test was there before
+  -- a pair that passes a test was there before
   pub stood_filter : (test : Numbered K V → Bool) (ps : List (Numbered K V)) → AreDistinct ps → (i : ℕ) (x : K × V) → leaf_in (filter test ps) i ≡ Some x → leaf_in ps i ≡ Some x
   stood_filter test ps d i x e = leaf_in-member ps i x d (filter_member test ps (i, x) (Member-from_leaf_in (filter test ps) i x e)).0
 
 module _ {K V : Type 0} (ids : List ℕ) where
-  -- ---- what every list keeps under ids
+  -- ---- facts that hold for all ids
 
-  -- the longest key is as long
+  -- the length of the longest key is the same
   pub longest_ids : (kb : K → List ℕ) (ps : List (Numbered K V)) → longest (bytes kb) (under_ids ids ps) ≡ longest (bytes kb) ps
   longest_ids kb [] = refl
   longest_ids kb (p ∷ ps) = ap (λ n. max (length (kb p.1.0)) n) (longest_ids kb ps)
@@ -67,7 +67,7 @@ module _ {K V : Type 0} (ids : List ℕ) where
   pairs_ids [] = refl
   pairs_ids (p ∷ ps) = ap (λ qs. p.1 ∷ qs) (pairs_ids ps)
 
-  -- and so is each by itself
+  -- also for the value of an option
   pub option_value : (o : Option (Numbered K V)) → option_map (λ (p : Numbered K V). p.1) o ≡ option_map (λ (p : Numbered K V). p.1) (option_map (under_id ids) o)
   option_value None = refl
   option_value (Some p) = refl
@@ -80,7 +80,7 @@ module _ {K V : Type 0} (ids : List ℕ) where
       numbers_ids [] = refl
       numbers_ids (p ∷ ps) = ap (λ l. id_at ids p.0 ∷ l) (numbers_ids ps)
 
-  -- no pairs under ids are no pairs in cells
+  -- if there are no pairs under ids, there are no pairs in cells
   pub none_ids : (ps : List (Numbered K V)) → under_ids ids ps ≡ [] → ps ≡ []
   none_ids [] e = refl
   none_ids (p ∷ ps) e = absurd (let z : under_id ids p ∷ under_ids ids ps ≡ [] = e in cc)
@@ -105,12 +105,12 @@ module _ {K V : Type 0} (ids : List ℕ) where
       go None = refl
       go (Some x) = refl
 
-  -- the leaf that is sought within a bound
+  -- the id of the leaf within a bound
   pub within_id : (kb : K → List ℕ) (ps : List (Numbered K V)) (b : Bound (List ℕ)) (side : Bool) → number_within (bytes kb) (under_ids ids ps) b side ≡ option_map (id_at ids) (number_within (bytes kb) ps b side)
   within_id kb ps b true = rw (filter-map (under_id ids) (λ (x : Numbered K V). is_from_start b (kb x.1.0) && is_up_to_end Unbounded (kb x.1.0)) ps) (first_id (filter (λ (x : Numbered K V). is_from_start b (kb x.1.0) && is_up_to_end Unbounded (kb x.1.0)) ps))
   within_id kb ps b false = rw (filter-map (under_id ids) (λ (x : Numbered K V). is_from_start Unbounded (kb x.1.0) && is_up_to_end b (kb x.1.0)) ps) (last_id (filter (λ (x : Numbered K V). is_from_start Unbounded (kb x.1.0) && is_up_to_end b (kb x.1.0)) ps))
 
-  -- ---- what names each leaf by its id, if no two cells have one id
+  -- ---- facts that require that no two cells have the same id
 
   has_more : (p : Numbered K V) (ps : List (Numbered K V)) (i : ℕ) → Has ps i → Has (p ∷ ps) i
   has_more p ps i h = elim (eqb_tells p.0 i) [ inl t ↦ rw t.0 refl | inr t ↦ rw t.0 h ]
@@ -130,7 +130,7 @@ module _ {K V : Type 0} (ids : List ℕ) where
   after_id [] c n l = refl
   after_id (p ∷ ps) c n l = rw (eqb_id p ps c n l) (elim (eqb_tells p.0 c) [ inl t ↦ rw t.0 (first_id ps) | inr t ↦ rw t.0 (after_id ps c (named_rest p ps n) l) ])
 
-  -- the id of the leaf before another, if a leaf may stand before the list
+  -- the id of the leaf before another, with `back` before the list
   before_from : (back : Option ℕ) (ps : List (Numbered K V)) (c : ℕ) → AreNamed ids ps → c < length ids → number_before_from (option_map (id_at ids) back) (under_ids ids ps) (id_at ids c) ≡ option_map (id_at ids) (number_before_from back ps c)
   before_from back [] c n l = refl
   before_from back (p ∷ ps) c n l = rw (eqb_id p ps c n l) (elim (eqb_tells p.0 c) [ inl t ↦ rw t.0 refl | inr t ↦ rw t.0 (before_from (Some p.0) ps c (named_rest p ps n) l) ])
@@ -153,7 +153,7 @@ module _ {K V : Type 0} (ids : List ℕ) where
   with_value_id [] c v n l = refl
   with_value_id (p ∷ ps) c v n l = rw (eqb_id p ps c n l) (elim (eqb_tells p.0 c) [ inl t ↦ rw t.0 refl | inr t ↦ rw t.0 (ap (λ qs. under_id ids p ∷ qs) (with_value_id ps c v (named_rest p ps n) l)) ])
 
-  -- a leaf less
+  -- the list without a leaf
   without_id : (ps : List (Numbered K V)) (c : ℕ) → AreNamed ids ps → c < length ids → under_ids ids (without_number ps c) ≡ without_number (under_ids ids ps) (id_at ids c)
   without_id [] c n l = refl
   without_id (p ∷ ps) c n l = rw (eqb_id p ps c n l) (elim (eqb_tells p.0 c) [ inl t ↦ rw t.0 refl | inr t ↦ rw t.0 (ap (λ qs. under_id ids p ∷ qs) (without_id ps c (named_rest p ps n) l)) ])
@@ -163,17 +163,17 @@ module _ {K V : Type 0} (ids : List ℕ) where
   from_id [] c n l = refl
   from_id (p ∷ ps) c n l = rw (eqb_id p ps c n l) (elim (eqb_tells p.0 c) [ inl t ↦ rw t.0 refl | inr t ↦ rw t.0 (from_id ps c (named_rest p ps n) l) ])
 
-  -- the pairs through a leaf
+  -- the pairs up to a leaf, and that leaf
   pub through_id : (ps : List (Numbered K V)) (c : ℕ) → AreNamed ids ps → c < length ids → through_number (under_ids ids ps) (id_at ids c) ≡ under_ids ids (through_number ps c)
   through_id [] c n l = refl
   through_id (p ∷ ps) c n l = rw (eqb_id p ps c n l) (elim (eqb_tells p.0 c) [ inl t ↦ rw t.0 refl | inr t ↦ rw t.0 (ap (λ qs. under_id ids p ∷ qs) (through_id ps c (named_rest p ps n) l)) ])
 
-  -- the leaves from one on are named as well
+  -- the leaves from one on are also named
   pub named_from : (ps : List (Numbered K V)) (a : ℕ) → AreNamed ids ps → AreNamed ids (from_number ps a)
   named_from [] a n = n
   named_from (p ∷ ps) a n = elim (eqb_tells p.0 a) [ inl t ↦ rw t.0 n | inr t ↦ rw t.0 (named_from ps a (named_rest p ps n)) ]
 
-  -- ---- a leaf that lies in a cell
+  -- ---- a leaf in a cell
 
   module _ (ps : List (Numbered K V)) (n : AreNamed ids ps) (i c : ℕ) (h : LiesIn ids ps i c) where
     long : c < length ids
@@ -197,7 +197,7 @@ module _ {K V : Type 0} (ids : List ℕ) where
     pub from_lies : from_number (under_ids ids ps) i ≡ under_ids ids (from_number ps c)
     from_lies = rw (← h.named) (from_id ps c n long)
 
-    -- a key that may be put in a leaf's place may be put in its cell
+    -- a key that may replace the key of a leaf may replace the key of its cell
     pub may_take : (kb : K → List ℕ) (q : List ℕ) → MayTake kb (under_ids ids ps) i q → MayTake kb ps c q
     may_take kb q may = record {
       own = λ x e. may.own x (h.same ∙ e);

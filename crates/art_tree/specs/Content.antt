@@ -21,7 +21,7 @@ content_code {K} {V} k v =
     (λ _. refl)
 
 module _ {K V : Type 0} where
-  -- how many placements surely succeed
+  -- the number of placements that surely succeed
   abbrev pub room : Content K V → ℕ
   room t = min t.spares.leaves t.spares.nodes
 

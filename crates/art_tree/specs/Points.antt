@@ -21,7 +21,7 @@ module _ {K V : Type 0} (key_bytes : K → List ℕ) (pairs : List (Numbered K V
     pub leaves : LeavesNearest (keys_in key_bytes pairs) place.nearest place.seen.depth q
     pub beside : IsOnSide (keys_in key_bytes pairs) q place.seen.beside place.nearest
 
-  -- the point says where q is in the pairs, or where it would go
+  -- the point says where q is in the pairs, or where it would be placed
   abbrev pub IsGood : Point → List ℕ → Type 0
   IsGood Empty q = pairs ≡ []
   IsGood (Exact id) q = (x : K × V) × (at (bytes key_bytes) pairs q ≡ Some (id, x))

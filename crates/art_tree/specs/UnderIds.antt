@@ -4,7 +4,7 @@ pub use Rattle.art_cells.specs.UnderIds.{id_at, AreNamed, under_id, under_ids, L
 use Rattle.art_tree.specs.Leaves.{Numbered}
 
 module _ {K V : Type 0} where
-  -- the leaves with two ids, if there are two, are in two cells
+  -- there are no ends, or the leaves with these two ids are in these two cells
   abbrev pub EndsLieIn : List ℕ → List (Numbered K V) → Option (ℕ × ℕ) → Option (ℕ × ℕ) → Type 0
   EndsLieIn ids ps None None = Unit {0}
   EndsLieIn ids ps None (Some c) = ⊥
