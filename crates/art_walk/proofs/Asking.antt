@@ -1,4 +1,4 @@
--- A closure that is asked of the pair that a cursor has passed, which stays as the closure left it or is removed.
+-- A closure is called on the pair that a cursor has passed. The pair remains, with the value that the closure left, or is removed.
 use Rattle.std.proofs.Common.{◌≡◌, ℕ, Bool, true, false, List, [], ◌∷◌, ◌++◌, Some, refl, sym, ap, ◌∙◌, subst, append_assoc}
 use Rattle.std.proofs.lemmas.List.{map-append}
 use Rattle.std.specs.Borrow.{Bor, MutBor}
@@ -43,7 +43,7 @@ module _ {K V : Type 0} (ps : List (Numbered K V)) (distinct : AreDistinct ps) (
     pub removed_distinct : AreDistinct rs
     removed_distinct = subst AreDistinct (sym removed) (AreDistinct-without_number written id written_distinct)
 
-  -- ---- where it stands
+  -- ---- its place in the list
 
   module _ (front back : List (Numbered K V)) (row : ps ≡ front ++ (id, y) ∷ back) where
     front_lacks : Lacks front id
@@ -58,10 +58,10 @@ module _ {K V : Type 0} (ps : List (Numbered K V)) (distinct : AreDistinct ps) (
     pub removed_row : (rs : List (Numbered K V)) → rs ≡ without_number written id → rs ≡ front ++ back
     removed_row rs removed = removed ∙ ap (λ l. without_number l id) written_row ∙ without_number-split id (y.0, w) back front front_lacks
 
--- ---- the closure's answer
+-- ---- the closure's result
 
 module _ {K V F : Type 0} (g : Mut F (Bor K × (MutBor V × Unit {0})) (Bool × (MutBor V × Unit {0}))) where
-  -- a call at the pair to which two references lead
+  -- a call on the pair to which two references point
   pub asks_at : (f : F) (key : Bor K) (value left : MutBor V) (b : Bool) (f' : F) → Called g f (key, (value, tt)) (b, (left, tt)) f' → AsksPair g f (key.now, value.now) b (key.now, left.now) f'
   asks_at f key value left b f' m = record {
     called = record { key = key; value = value; shows = (refl, refl); left = left; called = m; leaves = refl };
@@ -71,7 +71,7 @@ module _ {K V F : Type 0} (g : Mut F (Bor K × (MutBor V × Unit {0})) (Bool × 
 -- ---- one step of `retain`
 
 module _ {K V F : Type 0} (R : F → K × V → Bool → K × V → F → Type 0) (start : List (K × V)) (start_f : F) where
-  -- these pairs are kept, and what is left is still to be asked
+  -- these pairs are kept, and the closure is still to be called on the pairs that are left
   pub record Retaining (ps left : List (Numbered K V)) (f : F) : Type 0 where
     pub kept : List (Numbered K V)
     pub whole : ps ≡ kept ++ left

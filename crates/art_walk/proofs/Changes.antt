@@ -1,4 +1,4 @@
--- What a cursor has left in a tree that has changed elsewhere, or in a value.
+-- The pairs that a cursor has left in a tree in which another pair, or a value, has changed.
 use Rattle.std.proofs.Common.{◌≡◌, ℕ, List, [], ◌∷◌, ◌++◌, Option, Some, None, inl, inr, refl, sym, ap, ◌∙◌, subst}
 use Rattle.std.proofs.lemmas.Bool.Decides.{eqb_tells}
 use Rattle.art_tree.specs.Leaves.{Numbered, leaf_in, Has, Lacks, AreDistinct, without_number, with_value}
@@ -9,7 +9,7 @@ use Rattle.art_walk.specs.Cursor.{span_of, ends_left, EndsFit, leaves_left, Fits
 use Rattle.art_tree.proofs.Spans.{Cut, cut_span, cut_is_span, span_cut}
 
 module _ {K V : Type 0} where
-  -- ---- what is left
+  -- ---- the pairs that are left
 
   -- the numbers of a row are distinct
   cut_distinct : (ps : List (Numbered K V)) (first last : ℕ) (row : List (Numbered K V)) → AreDistinct ps → Cut ps first last row → AreDistinct row
@@ -19,15 +19,15 @@ module _ {K V : Type 0} where
   ends_distinct None ps d f = tt
   ends_distinct (Some e) ps d f = cut_distinct ps e.0 e.1 (span_of ps e.0 e.1) d (span_cut ps e.0 e.1 f)
 
-  -- no number comes twice in what is left
+  -- no number occurs twice among the pairs that are left
   pub left_distinct : (c : Cursor) (ps : List (Numbered K V)) → AreDistinct ps → FitsIn c ps → AreDistinct (leaves_left c ps)
   left_distinct c ps d f = ends_distinct c.ends ps d f
 
-  -- the number that came first is none of those left
+  -- the number of the first pair is not among those left after it
   pub first_gone : (old new : List (Numbered K V)) (id : ℕ) (x : K × V) → AreDistinct old → old ≡ (id, x) ∷ new → Lacks new id
   first_gone old new id x d e = (subst AreDistinct e d).0
 
-  -- nor is the one that came last
+  -- nor is the number of the last pair among those left before it
   pub last_gone : (old new : List (Numbered K V)) (id : ℕ) (x : K × V) → AreDistinct old → old ≡ new ++ (id, x) ∷ [] → Lacks new id
   last_gone old new id x d e = (distinct_parts new [] (id, x) (subst AreDistinct e d)).0
 
@@ -70,7 +70,7 @@ module _ {K V : Type 0} where
       let d' = AreDistinct-without_number ps id d in
       (cut_is_span (without_number ps id) d' e.0 e.1 (span_of ps e.0 e.1) c, cut_span (without_number ps id) d' e.0 e.1 (span_of ps e.0 e.1) c)
 
-  -- the cursor fits the tree without a pair that is not left, and has the same left
+  -- the cursor fits the tree without a pair that is not left, and has the same pairs left
   pub left_without : (c : Cursor) (ps : List (Numbered K V)) (id : ℕ) → AreDistinct ps → FitsIn c ps → Lacks (leaves_left c ps) id → FitsIn c (without_number ps id) × (leaves_left c (without_number ps id) ≡ leaves_left c ps)
   left_without c ps id d f l = ends_without c.ends ps id d f l
 
@@ -116,6 +116,6 @@ module _ {K V : Type 0} where
   pub left_with_value : (c : Cursor) (ps : List (Numbered K V)) (id : ℕ) (v : V) → AreDistinct ps → FitsIn c ps → FitsIn c (with_value ps id v) × (leaves_left c (with_value ps id v) ≡ with_value (leaves_left c ps) id v)
   left_with_value c ps id v d f = ends_with_value c.ends ps id v d f
 
-  -- a value written at a number that is not left changes nothing of what is left
+  -- a value written at a number that is not left changes no pair that is left
   pub left_with_passed : (c : Cursor) (ps : List (Numbered K V)) (id : ℕ) (v : V) → AreDistinct ps → FitsIn c ps → Lacks (leaves_left c ps) id → leaves_left c (with_value ps id v) ≡ leaves_left c ps
   left_with_passed c ps id v d f l = (left_with_value c ps id v d f).1 ∙ with_value-lacking (leaves_left c ps) id v l

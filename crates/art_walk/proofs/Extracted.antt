@@ -1,4 +1,4 @@
--- One pair of which a closure is asked, in a walk that extracts.
+-- One pair on which a closure is called, in a walk that extracts.
 use Rattle.std.proofs.Common.{◌≡◌, ℕ, suc, ◌<◌, ◌≤◌, ◌+◌, List, [], ◌∷◌, ◌++◌, length, length-append, reverse, Option, Some, Bool, true, false, refl, sym, ◌∙◌, ap, subst, arith}
 use Rattle.std.proofs.lemmas.Grind.{common_steps}
 use Rattle.std.proofs.lemmas.List.{reverse-append}
@@ -30,7 +30,7 @@ module _ {K V : Type 0} where
   named_with (p ∷ ps) i k v w h = grind (arith, common_steps, named_with ps i k v w)
 
   module _ (ps : List (Numbered K V)) (distinct : AreDistinct ps) (old new : Cursor) (before : FitsIn old ps) (fits : FitsIn new ps) (id : ℕ) (k : K) (v w : V) (named : leaf_in ps id ≡ Some (k, v)) where
-    -- the pair is still there once it is written
+    -- the pair is still there after its value is written
     pub has_with : Has (with_value ps id w) id
     has_with = is_some (leaf_in (with_value ps id w) id) (k, w) (named_with ps id k v w named)
 
@@ -104,7 +104,7 @@ module _ {K V : Type 0} where
       back_fits_removed rs e = fits_removed back_lacks rs e
 
 module _ {K V F : Type 0} (g : Mut F (Bor K × (MutBor V × Unit {0})) (Bool × (MutBor V × Unit {0}))) where
-  -- a call at the pair to which two references lead
+  -- a call on the pair to which two references point
   pub called_at : (f : F) (key : Bor K) (value left : MutBor V) (b : Bool) (f' : F) → Called g f (key, (value, tt)) (b, (left, tt)) f' → CalledAtPair g f key.now value.now b left.now f'
   called_at f key value left b f' m = record { key = key; value = value; shows = (refl, refl); left = left; called = m; leaves = refl }
 

@@ -1,4 +1,4 @@
--- A pair that a walk has passed and lent.
+-- A pair that a walk has passed and returned by a mutable reference.
 use Rattle.std.proofs.Common.{◌≡◌, ◌≢◌, ℕ, ◌+◌, ◌-◌, suc, List, [], ◌∷◌, ◌++◌, length, Bool, true, false, cond, Option, Some, None, option_map, refl, sym, ap, ◌∙◌, subst, arith, length-append}
 use Rattle.std.specs.Option.{is_none}
 use Rattle.std.specs.Prelude.{is_some as has_value}
@@ -15,13 +15,13 @@ use Rattle.art_walk.proofs.Steps.{some_inj}
 use Rattle.art_walk.proofs.Passing.{first_passed, first_named, last_passed, last_named}
 use Rattle.art_walk.proofs.Asking.{written_left}
 
--- ---- a clause of what was lent
+-- ---- a clause about the value that was returned
 
--- what holds of the value that there is
+-- a fact about the value holds for the value of the option
 pub at_some : {T : Type 0} (P : T → Type 0) (v : T) → P v → (x : T) → Some v ≡ Some x → P x
 at_some P v h x e = subst P (some_inj v x e) h
 
--- there is one
+-- an option with a value is not none
 pub never_none : {T : Type 0} (Q : Type 0) (v : T) → Some v ≡ None → Q
 never_none Q v e = absurd cc
 
@@ -74,7 +74,7 @@ module _ {K V : Type 0} where
 
   -- ---- the test of a walk
 
-  -- the pair lent last is in the list, and is none of those that are left
+  -- the pair returned last is in the list, and is not among those that are left
   abbrev pub LentIn : Option ℕ → List (Numbered K V) → List (Numbered K V) → Type 0
   LentIn None ps left = Unit {0}
   LentIn (Some i) ps left = Has ps i × Lacks left i
@@ -101,19 +101,19 @@ module _ {K V : Type 0} where
     none_was (leaves_left c ps) i (sym (ap (λ l. is_none (leaf_in l i)) (bare_left c ps) ∙ bare_none (leaves_left c ps) i) ∙ right_of _ _ h),
   )
 
-  -- what fits passes the test
+  -- a walk that fits passes the test
   pub to_test : (c : Cursor) (lent : Option ℕ) (ps : List (Numbered K V)) → FitsIn c ps → LentIn lent ps (leaves_left c ps) → walk_fits c lent (numbers ps) ≡ true
   to_test c lent ps f l = both _ _ (ends_is c.ends ps f) (lent_is lent c ps l)
 
-  -- what passes the test fits
+  -- a walk that passes the test fits
   pub from_test : (c : Cursor) (lent : Option ℕ) (ps : List (Numbered K V)) → walk_fits c lent (numbers ps) ≡ true → FitsIn c ps
   from_test c lent ps h = ends_was c.ends ps (left_of _ _ h)
 
-  -- and so does the pair lent last
+  -- and so does the pair returned last
   pub lent_from_test : (c : Cursor) (lent : Option ℕ) (ps : List (Numbered K V)) → walk_fits c lent (numbers ps) ≡ true → LentIn lent ps (leaves_left c ps)
   lent_from_test c lent ps h = lent_was lent c ps (right_of _ _ h)
 
-  -- ---- values written one after the other
+  -- ---- values written one after another
 
   with_with : (ps : List (Numbered K V)) (i j : ℕ) (v w : V) → i ≢ j → with_value (with_value ps i v) j w ≡ with_value (with_value ps j w) i v
   with_with [] i j v w ne = refl
@@ -135,7 +135,7 @@ module _ {K V : Type 0} where
   fewer_lent (Some i) ps left after h l = (l.0, h i l.1)
 
   module _ (ps : List (Numbered K V)) (old new : Cursor) (was : Option ℕ) (test : walk_fits old was (numbers ps) ≡ true) (fits : FitsIn new ps) where
-    -- past the first, it still fits
+    -- past the first pair, the cursor still fits
     pub moved_first : (o : Option ℕ) → PassesFirst (leaves_left old ps) o (leaves_left new ps) → walk_fits new was (numbers ps) ≡ true
     moved_first o passes = to_test new was ps fits (fewer_lent was ps (leaves_left old ps) (leaves_left new ps) (go o passes) (lent_from_test old was ps test))
       where
@@ -143,7 +143,7 @@ module _ {K V : Type 0} where
         go None e i l = subst (λ (l : List (Numbered K V)). Lacks l i) (e.0 ∙ sym e.1) l
         go (Some id) e i l = (subst (λ (l : List (Numbered K V)). Lacks l i) e.1 l).1
 
-    -- and past the last
+    -- and past the last pair
     pub moved_last : (o : Option ℕ) → PassesLast (leaves_left old ps) o (leaves_left new ps) → walk_fits new was (numbers ps) ≡ true
     moved_last o passes = to_test new was ps fits (fewer_lent was ps (leaves_left old ps) (leaves_left new ps) (go o passes) (lent_from_test old was ps test))
       where
@@ -160,7 +160,7 @@ module _ {K V : Type 0} where
     pub last_fits_now : (x : K × V) × (leaves_left old ps ≡ leaves_left new ps ++ (id, x) ∷ []) → walk_fits new (Some id) (numbers ps) ≡ true
     last_fits_now passed = let n = some_of (leaf_in ps id) there in to_test new (Some id) ps fits (there, last_passed ps distinct old new (from_test old was ps test) fits id n.0 n.1 passed)
 
-  -- ---- the pair that is lent
+  -- ---- the pair that is returned
 
   module _ (ps : List (Numbered K V)) (distinct : AreDistinct ps) (old new : Cursor) (was : Option ℕ) (test : walk_fits old was (numbers ps) ≡ true) (fits : FitsIn new ps) (id : ℕ) (v : V) (value : option_map (λ (p : K × V). p.1) (leaf_in ps id) ≡ Some v) where
     -- its key
@@ -205,7 +205,7 @@ module _ {K V : Type 0} where
         all_written = λ f e. ap (λ u. written_all f (first_after w) (with_value ps id u)) (sym e) ∙ sym (ap (λ l. written_all f l ps) (first_splits w));
       }
 
-      -- it is the first of those that were left
+      -- it is the first of the pairs that were left
       pub is_lent_first : (w : V) → LentFirst ps (with_value ps id w) (leaves_left old ps) (first_after w) (Some id) v w
       is_lent_first w = record { number = id; key = lent_key; splits = first_splits w; lent = first_lent w; is_last = refl }
 
@@ -242,7 +242,7 @@ module _ {K V : Type 0} where
                 ∙ sym (ap (λ l. written_all f l ps) (last_splits w) ∙ written_after f (last_after w) ps (id, (lent_key, v)));
           }
 
-      -- it is the last of those that were left
+      -- it is the last of the pairs that were left
       pub is_lent_last : (w : V) → LentLast ps (with_value ps id w) (leaves_left old ps) (last_after w) (Some id) v w
       is_lent_last w = record { number = id; key = lent_key; splits = last_splits w; lent = last_lent w; is_last = refl }
 
@@ -251,14 +251,14 @@ module _ {K V : Type 0} where
           let h : n ≡ length (last_after w) + 1 = e ∙ ap length (last_splits w) ∙ length-append (last_after w) ((id, (lent_key, v)) ∷ []) in
           omega arith
 
-  -- ---- the pair lent last, again
+  -- ---- the pair returned last, again
 
   -- it is in the list
   pub has_lent : (c : Cursor) (lent : Option ℕ) (ps : List (Numbered K V)) → walk_fits c lent (numbers ps) ≡ true → (id : ℕ) → lent ≡ Some id → Has ps id
   has_lent c lent ps test id e = (lent_from_test c (Some id) ps (ap (λ (o : Option ℕ). walk_fits c o (numbers ps)) (sym e) ∙ test)).0
 
   module _ (ps : List (Numbered K V)) (distinct : AreDistinct ps) (c : Cursor) (lent : Option ℕ) (test : walk_fits c lent (numbers ps) ≡ true) where
-    -- a value written leaves what is still to come
+    -- a written value does not change the pairs that are left
     pub same_left : (w : V) → leaves_left c (written_last lent ps w) ≡ leaves_left c ps
     same_left w = go lent (lent_from_test c lent ps test)
       where
@@ -266,7 +266,7 @@ module _ {K V : Type 0} where
         go None h = refl
         go (Some i) h = written_left ps distinct c (from_test c lent ps test) i (let x = (some_of (leaf_in ps i) h.0).0 in x) w h.1
 
-  -- ---- the pair lent last is taken out, or kept
+  -- ---- the pair returned last is removed, or kept
 
   pub kept_fits : (c : Cursor) (lent : Option ℕ) (ps : List (Numbered K V)) → walk_fits c lent (numbers ps) ≡ true → walk_fits c None (numbers ps) ≡ true
   kept_fits c lent ps test = to_test c None ps (from_test c lent ps test) tt
@@ -300,7 +300,7 @@ module _ {K V : Type 0} where
     pub count_is : count_fits c lent left (numbers ps) ≡ true → left ≡ length (leaves_left c ps)
     count_is h = eqb-true left (length (leaves_left c (bare (numbers ps)))) (right_of _ _ h) ∙ left_lengths c ps
 
-  -- one less is left
+  -- one pair less is left
   module _ (old new : Cursor) (ps : List (Numbered K V)) (id left : ℕ) (count : left ≡ length (leaves_left old ps)) where
     pub fewer_after_first : (x : K × V) × (leaves_left old ps ≡ (id, x) ∷ leaves_left new ps) → left ≡ suc (length (leaves_left new ps))
     fewer_after_first e = count ∙ ap length e.1

@@ -20,7 +20,7 @@ module _ {K V : Type 0} where
   pub left_member : (c : Cursor) (ps : List (Numbered K V)) (y : Numbered K V) → FitsIn c ps → Member y (leaves_left c ps) → Member y ps
   left_member c ps y f m = ends_member c.ends ps y f m
 
-  -- the number of a pair that is left names it
+  -- the number of a pair that is left has that pair
   pub left_names : (c : Cursor) (ps : List (Numbered K V)) (id : ℕ) (x y : K × V) → AreDistinct ps → FitsIn c ps → Member (id, x) (leaves_left c ps) → leaf_in ps id ≡ Some y → x ≡ y
   left_names c ps id x y d f m e = some_inj x y (sym (leaf_in-member ps id x d (left_member c ps (id, x) f m)) ∙ e)
 
@@ -29,22 +29,22 @@ module _ {K V : Type 0} where
 
   module _ (ps : List (Numbered K V)) (distinct : AreDistinct ps) (old new : Cursor) (fits_old : FitsIn old ps) (fits : FitsIn new ps) (id : ℕ) (y : K × V) (named : leaf_in ps id ≡ Some y) where
     module _ (passed : (x : K × V) × (leaves_left old ps ≡ (id, x) ∷ leaves_left new ps)) where
-      -- the pair that came first is no longer left
+      -- the first pair is no longer left
       pub first_passed : Lacks (leaves_left new ps) id
       first_passed = first_gone (leaves_left old ps) (leaves_left new ps) id passed.0 (left_distinct old ps distinct fits_old) passed.1
 
-      -- and is the one that the number names
+      -- and it is the pair of its number
       pub first_named : leaves_left old ps ≡ (id, y) ∷ leaves_left new ps
       first_named =
           let e = left_names old ps id passed.0 y distinct fits_old (subst (Member (id, passed.0)) (sym passed.1) (inl refl)) named in
           passed.1 ∙ ap (λ x. (id, x) ∷ leaves_left new ps) e
 
     module _ (passed : (x : K × V) × (leaves_left old ps ≡ leaves_left new ps ++ (id, x) ∷ [])) where
-      -- the pair that came last is no longer left
+      -- the last pair is no longer left
       pub last_passed : Lacks (leaves_left new ps) id
       last_passed = last_gone (leaves_left old ps) (leaves_left new ps) id passed.0 (left_distinct old ps distinct fits_old) passed.1
 
-      -- and is the one that the number names
+      -- and it is the pair of its number
       pub last_named : leaves_left old ps ≡ leaves_left new ps ++ (id, y) ∷ []
       last_named =
           let e = left_names old ps id passed.0 y distinct fits_old (subst (Member (id, passed.0)) (sym passed.1) (last_member (leaves_left new ps) (id, passed.0))) named in

@@ -1,4 +1,4 @@
--- The pairs within bounds, below some bytes and related to some are spans of the list.
+-- The pairs within bounds, with a prefix, and related to some bytes are spans of the list.
 use Rattle.std.proofs.Common.{◌≡◌, ℕ, Bool, true, false, ◌&&◌, inl, inr, List, [], ◌∷◌, ◌++◌, filter, Some, None, refl, sym, ap, ◌∙◌, subst, append_assoc}
 use Rattle.std.proofs.lemmas.Bool.{false≢true, cond-true, and_parts, false_from_ne_true}
 use Rattle.std.proofs.lemmas.List.Elements.{filter-append}
@@ -19,7 +19,7 @@ use Rattle.art_tree.proofs.Spans.{Cut, EndsWith, ends_with, cut_span, cut_is_spa
 use Rattle.art_walk.proofs.Steps.{BeginsWith, begins_with, some_inj}
 
 module _ {K V : Type 0} where
-  -- pairs that stand in one row are cut out at their ends
+  -- pairs that are next to each other in the list are split off at their ends
   pub part_cut : (p : Numbered K V → Bool) (ps : List (Numbered K V)) → IsPart p ps → (first last : ℕ) → first_number (filter p ps) ≡ Some first → last_number (filter p ps) ≡ Some last → Cut ps first last (filter p ps)
   part_cut p ps part first last f l = record {
     before = part.before;
@@ -30,7 +30,7 @@ module _ {K V : Type 0} where
   }
 
 module _ {K V : Type 0} (key_bytes : K → List ℕ) (ps : List (Numbered K V)) (content : IsContent (bytes key_bytes) ps) where
-  -- ---- below some bytes, and related to some
+  -- ---- with a prefix, and related to some bytes
 
   -- the pairs that begin with some bytes
   pub under_cut : (q : List ℕ) (first last : ℕ) → ends (under (bytes key_bytes) ps q) ≡ Some (first, last) → Cut ps first last (under (bytes key_bytes) ps q)
@@ -42,7 +42,7 @@ module _ {K V : Type 0} (key_bytes : K → List ℕ) (ps : List (Numbered K V)) 
   pub subtree_cut : (q : List ℕ) (first last : ℕ) → first_number (subtree (bytes key_bytes) ps q) ≡ Some first → last_number (subtree (bytes key_bytes) ps q) ≡ Some last → Cut ps first last (subtree (bytes key_bytes) ps q)
   subtree_cut q first last f l = part_cut (λ x. related (bytes key_bytes x) q) ps (subtree_is_part (bytes key_bytes) ps q content) first last f l
 
-  -- they stand from the first through the last
+  -- they are the pairs from the first through the last
   pub subtree_span : AreDistinct ps → (q : List ℕ) (first last : ℕ) → first_number (subtree (bytes key_bytes) ps q) ≡ Some first → last_number (subtree (bytes key_bytes) ps q) ≡ Some last
       → IsSpan ps first last × (span_of ps first last ≡ subtree (bytes key_bytes) ps q)
   subtree_span d q first last f l =
@@ -61,11 +61,11 @@ module _ {K V : Type 0} (key_bytes : K → List ℕ) (ps : List (Numbered K V)) 
     abbrev within : List (Numbered K V)
     within = between (bytes key_bytes) ps lo hi
 
-    -- where no pair is from the start, none is within
+    -- if no pair is from the start bound on, none is within
     pub none_from : None ≡ number_within (bytes key_bytes) ps lo true → within ≡ []
     none_from e = sym (between_from (bytes key_bytes) ps lo hi) ∙ ap (filter (λ x. is_up_to_end hi (bytes key_bytes x))) (no_first from (sym e))
 
-    -- where no pair is up to the end, none is within
+    -- if no pair is up to the end bound, none is within
     pub none_up : None ≡ number_within (bytes key_bytes) ps hi false → within ≡ []
     none_up e = sym (between_up (bytes key_bytes) ps lo hi) ∙ ap (filter (λ x. is_from_start lo (bytes key_bytes x))) (no_last up (sym e))
 
@@ -76,7 +76,7 @@ module _ {K V : Type 0} (key_bytes : K → List ℕ) (ps : List (Numbered K V)) 
       in_from : (y : Numbered K V) → Member y from → Member y ps
       in_from y m = (filter_member (λ x. is_from_start lo (bytes key_bytes x) && true) ps y m).0
 
-      -- the pairs from the start begin with the pair of the first number
+      -- the pairs from the start bound on begin with the pair of the first number
       from_is : from ≡ (first, x) ∷ begun.rest
       from_is =
           let there : Member (first, begun.pair) ps = in_from (first, begun.pair) (subst (Member (first, begun.pair)) (sym begun.is) (inl refl)) in
@@ -86,7 +86,7 @@ module _ {K V : Type 0} (key_bytes : K → List ℕ) (ps : List (Numbered K V)) 
       from_ranked : Ranked (Before (bytes key_bytes)) ((first, x) ∷ begun.rest)
       from_ranked = subst (Ranked (Before (bytes key_bytes))) from_is (Ranked-filter (Before (bytes key_bytes)) (λ x. is_from_start lo (bytes key_bytes x) && true) ps (Ranked-from_content (bytes key_bytes) ps content))
 
-      -- where the first of them is past the end, none is within
+      -- if the first of them is past the end bound, none is within
       pub past_end : false ≡ is_up_to_end hi (key_bytes x.0) → within ≡ []
       past_end h =
           sym (between_from (bytes key_bytes) ps lo hi) ∙ ap (filter (λ x. is_up_to_end hi (bytes key_bytes x))) from_is
@@ -128,7 +128,7 @@ module _ {K V : Type 0} (key_bytes : K → List ℕ) (ps : List (Numbered K V)) 
             | inr (inr m) ↦ absurd m
           ]
 
-          -- the last up to the end is the last within
+          -- the last pair up to the end bound is the last within
           within_last : last_number within ≡ Some last
           within_last =
               ap last_number
@@ -141,6 +141,6 @@ module _ {K V : Type 0} (key_bytes : K → List ℕ) (ps : List (Numbered K V)) 
           pub within_cut : Cut ps first last within
           within_cut = part_cut (λ x. is_from_start lo (bytes key_bytes x) && is_up_to_end hi (bytes key_bytes x)) ps (between_is_part (bytes key_bytes) ps lo hi content) first last within_first within_last
 
--- bytes that are the same are within the same end
+-- equal bytes are on the same side of an end bound
 pub same_end : (hi : Bound (List ℕ)) (b : Bool) (k l : List ℕ) → k ≡ l → b ≡ is_up_to_end hi k → b ≡ is_up_to_end hi l
 same_end hi b k l e h = h ∙ ap (is_up_to_end hi) e

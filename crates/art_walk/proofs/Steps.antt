@@ -1,4 +1,4 @@
--- What a cursor has left after its first leaf, and before its last.
+-- The pairs that a cursor has left after a step past its first leaf, or past its last.
 use Rattle.std.proofs.Common.{◌≡◌, ◌≢◌, ℕ, List, [], ◌∷◌, ◌++◌, Option, Some, None, option_map, refl, sym, ap, ◌∙◌, subst}
 use Rattle.std.proofs.lemmas.List.{append-nil}
 use Rattle.blart_keys.proofs.Options.{some_of}
@@ -7,7 +7,7 @@ use Rattle.art_tree.proofs.Spans.{Cut, cut_span, cut_is_span}
 use Rattle.art_tree.proofs.Steps.{passed_first, passed_last}
 use Rattle.art_walk.specs.declared.cursor.Cursor.{Cursor}
 use Rattle.art_walk.specs.Cursor.{nothing_left, left_between, ends_left, EndsFit, leaves_left, FitsIn}
--- what `art_tree` proves of the ends and of rows
+-- the lemmas of `art_tree` about ends and rows
 pub use Rattle.art_tree.proofs.Steps.{some_inj, BeginsWith, begins_with, has_first, has_last}
 
 module _ {K V : Type 0} where
@@ -39,10 +39,10 @@ module _ {K V : Type 0} where
     pub cut_left : leaves_left c ps ≡ row
     cut_left = ap (λ c. leaves_left c ps) is ∙ cut_span ps distinct first last row cut
 
-  -- with nothing to come, nothing is left
+  -- if the cursor has nothing left, no pair is left
   pub nothing_is : (ps row : List (Numbered K V)) (c : Cursor) → c ≡ nothing_left → row ≡ [] → leaves_left c ps ≡ row
   nothing_is ps row c is e = ap (λ c. leaves_left c ps) is ∙ sym e
 
-  -- the whole list is cut nowhere
+  -- the whole list is a part of itself, split at its ends
   pub all_cut : (ps : List (Numbered K V)) (first last : ℕ) → Some first ≡ first_number ps → Some last ≡ last_number ps → Cut ps first last ps
   all_cut ps first last f l = record { before = []; after = []; is = sym (append-nil ps); first_is = sym f; last_is = sym l }

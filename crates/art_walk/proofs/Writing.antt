@@ -1,4 +1,4 @@
--- A closure called at each value that a cursor has left, one call after the other.
+-- A closure is called on each value that a cursor has left, one call after another.
 use Rattle.std.proofs.Common.{◌≡◌, ℕ, List, [], ◌∷◌, refl, sym, ap, ◌∙◌, subst}
 use Rattle.std.specs.Borrow.{Bor, MutBor}
 use denote.Param.Members.{Mut, Called}
@@ -7,16 +7,16 @@ use Rattle.art_walk.specs.EachWritten.{CallableInTurn, WritesLeft, LeavesValue, 
 
 module _ {F K V : Type 0} (R : F → K × V → V → F → Type 0) (Q : F → K × V → Type 0) where
   module _ (f : F) (x : K × V) (xs rest : List (K × V)) (first : xs ≡ x ∷ rest) (can : CallableInTurn R Q f xs) where
-    -- at the first
+    -- it may be called on the first pair
     pub callable_first : Q f x
     callable_first = can.at [] rest f x first refl
 
-    -- and then at the others, as that call left it
+    -- and then on the others, in the state that this call left
     pub callable_others : (w : V) (h : F) → R f x w h → (others : List (K × V)) → others ≡ rest → CallableInTurn R Q h others
     callable_others w h call others same = record { at = λ before after f' y e r. can.at (x ∷ before) after f' y (first ∙ ap (λ l. x ∷ l) (sym same ∙ e)) (h, (w, call), r) }
 
 module _ {F K V : Type 0} (R : F → K × V → V → F → Type 0) where
-  -- what will be written from here on is what was to be written from the start
+  -- if the rest is written from here on, all is written as it was to be from the start
   pub record Writing (first from : List (Numbered K V)) (start : F) (left ps : List (Numbered K V)) (f : F) : Type 0 where
     pub then : (new : List (Numbered K V)) → WritesLeft R left ps f new → WritesLeft R first from start new
 

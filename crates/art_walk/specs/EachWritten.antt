@@ -1,4 +1,4 @@
--- What a walk over mutable values leaves, if a closure is called on each of them.
+-- What a walk over mutable values leaves if a closure is called on each of them.
 use Rattle.std.specs.Prelude.{◌≡◌, ℕ, List, [], ◌∷◌, ◌++◌, Bool, true, false, filter, if◌then◌else◌}
 use Rattle.std.specs.Fn.{Takes}
 use Rattle.std.specs.List.{FoldsTo}
@@ -29,7 +29,7 @@ module _ {K V : Type 0} where
   with_values (w ∷ values) (x ∷ xs) = (x.0, w) ∷ with_values values xs
   with_values _ _ = []
 
-  -- these pairs, where those that pass the test get these values in turn
+  -- these pairs, with these values in turn for the pairs that pass the test
   abbrev pub with_values_where : (K × V → Bool) → List V → List (K × V) → List (K × V)
   with_values_where test values [] = []
   with_values_where test [] (x ∷ xs) = x ∷ with_values_where test [] xs

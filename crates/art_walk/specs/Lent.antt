@@ -1,4 +1,4 @@
--- What is true once a returned `&mut` to a value ends: one value is written, and no more changes.
+-- What is true once a returned `&mut` to a value ends: that value is written, nothing else changes.
 use Rattle.std.specs.Prelude.{◌≡◌, ℕ, List, [], ◌∷◌, ◌++◌, Option, Some, None, Bool, true, false, if◌then◌else◌, is_some, map, eqb, length}
 use Rattle.std.specs.Option.{is_none}
 use Rattle.std.proofs.Common.{ap, refl, ◌∙◌}
@@ -12,7 +12,7 @@ module _ {K V : Type 0} where
   abbrev pub numbers : List (Numbered K V) → List ℕ
   numbers ps = map (λ p. p.0) ps
 
--- numbers with nothing under them
+-- these numbers, each with an empty pair
 abbrev pub bare : List ℕ → List (Numbered (Unit {0}) (Unit {0}))
 bare ns = map (λ n. (n, (tt, tt))) ns
 
@@ -40,14 +40,14 @@ module _ {K V : Type 0} where
   written_all f [] ps = ps
   written_all f (p ∷ left) ps = written_all f left (with_value ps p.0 (f p.1))
 
-  -- a pair that was left was returned, with the value v, which is w now, and the others are left
+  -- a pair that was left was returned, with the value v, which is now w, and the others are left
   pub record IsLent (old new : List (Numbered K V)) (left after : List (Numbered K V)) (number : ℕ) (key : K) (v w : V) : Type 0 where
     pub named : leaf_in old number ≡ Some (key, v)
     pub written : new ≡ with_value old number w
     pub passed : Lacks after number
     pub all_written : (f : K × V → V) → f (key, v) ≡ w → written_all f after new ≡ written_all f left old
 
-  -- that pair was the first, and is the one returned last
+  -- the returned pair was the first, and it is now the pair returned last
   pub record LentFirst (old new : List (Numbered K V)) (left after : List (Numbered K V)) (last : Option ℕ) (v w : V) : Type 0 where
     pub number : ℕ
     pub key : K
@@ -55,7 +55,7 @@ module _ {K V : Type 0} where
     pub lent : IsLent old new left after number key v w
     pub is_last : last ≡ Some number
 
-  -- that pair was the last, and is the one returned last
+  -- the returned pair was the last, and it is now the pair returned last
   pub record LentLast (old new : List (Numbered K V)) (left after : List (Numbered K V)) (last : Option ℕ) (v w : V) : Type 0 where
     pub number : ℕ
     pub key : K
@@ -80,10 +80,10 @@ module _ {K V : Type 0} where
   numbers_written None ps w = refl
   numbers_written (Some i) ps w = numbers-with_value ps i w
 
-  -- so the walk fits as before
+  -- so the walk still fits
   pub fits_written : (c : Cursor) (lent : Option ℕ) (ps : List (Numbered K V)) (w : V) → walk_fits c lent (numbers ps) ≡ true → walk_fits c lent (numbers (written_last lent ps w)) ≡ true
   fits_written c lent ps w h = ap (walk_fits c lent) (numbers_written lent ps w) ∙ h
 
-  -- and its count fits as before
+  -- and its count still fits
   pub count_written : (c : Cursor) (lent : Option ℕ) (left : ℕ) (ps : List (Numbered K V)) (w : V) → count_fits c lent left (numbers ps) ≡ true → count_fits c lent left (numbers (written_last lent ps w)) ≡ true
   count_written c lent left ps w h = ap (count_fits c lent left) (numbers_written lent ps w) ∙ h

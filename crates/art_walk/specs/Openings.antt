@@ -1,4 +1,4 @@
--- How many visits the opening of a walk makes.
+-- The number of visits that the opening of a walk makes.
 use Rattle.std.specs.Prelude.{ℕ, ◌+◌, ◌*◌, max, List}
 use Rattle.std.specs.declared.ops.Bound.{Bound}
 use Rattle.art_tree.specs.Seeks.{bound_len}
