@@ -141,7 +141,7 @@ module _ (keys : ℕ → Option Bytes) (leaf depth : ℕ) (q : Bytes) (good : Le
           let w : x.depth ≡ length (s.front_of n) = (s.node n x is).depth in
           (v.only leaf m m_is (Begins-trans (edge_front s.front_of above) (take depth m) m fits.along (Begins-take depth m)), w, omega arith)) cuts
 
-      -- the edge leads to the child when the node that splits the edge was made
+      -- once the node that splits the edge is made, the edge still leads to the child
       pub leads_forked : (mid : ℕ → Option Node) (n : ℕ) (prefix : List ℕ) (one other : Edge) → Forks cut mid n depth prefix one other → LeadsTo mid root above c
       leads_forked mid n prefix one other f = leads_made cut mid root above c n depth prefix f.low f.high (cut_leads P nodes cut s.front_of (take depth m ++ get_or m depth 0 ∷ []) c cut_child root above c fits.leads) f.made
 

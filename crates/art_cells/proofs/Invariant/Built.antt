@@ -117,7 +117,7 @@ whole_key i j keys k l is e s =
     subst (λ (l : Bytes). Begins (take (length k) k) l) z (Begins-take (length k) k)
 
 module _ {P : ℕ} (keys : ℕ → Option Bytes) (nodes : ℕ → Option Node) (k : Bytes) (unrelated : (i j : ℕ) (k l : Bytes) → keys i ≡ Some k → keys j ≡ Some l → i ≢ j → Begins k l → ⊥) where
-  -- at the first key, no node is made
+  -- at the first key, with no nodes, its leaf is a part
   pub part_first : (i : ℕ) → keys i ≡ Some k → ((n : ℕ) → nodes n ≡ None) → ((j : ℕ) (l : Bytes) → keys j ≡ Some l → (j ≡ i) ⊎ (less k l ≡ true)) → IsPart P keys nodes k [] (length k) (Leaf i)
   part_first i is bare least = record {
     front_of = λ n. [];

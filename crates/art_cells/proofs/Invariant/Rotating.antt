@@ -113,7 +113,7 @@ module _ (goes : ℕ → Bool) (before nodes nodes' : ℕ → Option Node) (head
           (fresh_still x (not_next m b x g (y, is, low)) r.0, r.1);
     }
 
-  -- ---- a child is rotated above the head, which gets the child of its last edge and is below it
+  -- ---- a child is rotated above the head: they exchange places, and the head gets its last child
   module _ (mid : ℕ → Option Node) (b0 c bl : ℕ) (d : Child) (turns : Redirects nodes mid head b0 d) (raises : Redirects mid nodes' c bl (Inner head))
       (high : child_at turns.was.edges b0 ≡ Some (Inner c)) (has_next : IsNotLast turns.was.edges b0) (low : child_at raises.was.edges bl ≡ Some d) (last : (e : ℕ) → bl < e → child_at raises.was.edges e ≡ None) where
     to_child : LeadsIn nodes head b0 c
