@@ -128,7 +128,7 @@ module _ {K V : Type 0} {leaves : ℕ → Option (Leaf K V)} {rows : List (Numbe
       )
 
 module _ {K V : Type 0} {leaves : ℕ → Option (Leaf K V)} {rows : List (Numbered (List ℕ))} {count : ℕ} {ps : List (Numbered (K × V))} (f : Files leaves rows count ps) where
-  -- at the end of a run the next number is the first of the next row, and the others of that row follow it
+  -- at the end of a run the next number starts the next row, and the others of that row follow it
   pub following_row : (i n : ℕ) → Has ps i → (a b : Following) → length a.run ≡ 0 → StandsAfter ps rows i a → (r : ℕ) → a.row ≡ Some r → (ids : List ℕ) → leaf_in rows r ≡ Some ids → ids ≡ n ∷ b.run → b.row ≡ number_after rows r → (number_after ps i ≡ Some n) × StandsAfter ps rows n b
   following_row i n has a b l s r row ids is cut after =
       let k : ℕ = place_in (map (λ q. q.0) ps) i + 1 + length a.run in
