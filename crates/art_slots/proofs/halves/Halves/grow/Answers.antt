@@ -4,7 +4,7 @@ use Rattle.art_slots.specs.Halves.{joined, AreWhole}
 use Rattle.art_slots.proofs.Blocks.{length-joined, whole-more, zeros-more}
 use Rattle.art_slots.proofs.halves.Halves.grow.Goals as goal
 
--- the blocks are whole once memory is reserved
+-- the blocks are whole after memory was reserved
 whole : (c : goal.After-add_zeros) → AreWhole c.reserve.new.self.items
 whole c = subst AreWhole (sym c.in_ok-reserve.ensures.items) c.self.invariant.0
 
