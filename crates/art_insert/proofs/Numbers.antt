@@ -71,7 +71,7 @@ module _ {K V : Type 0} where
     pub found_none : None ≡ option_map (λ (p : Numbered K V). p.0) (find (λ (p : Numbered K V). test p.1) ps) → None ≡ find test (pairs_of ps)
     found_none e = sym (find-map (λ (p : Numbered K V). p.1) test ps ∙ ap (option_map (λ (p : Numbered K V). p.1)) (mapped_none (λ (p : Numbered K V). p.0) (find (λ (p : Numbered K V). test p.1) ps) (sym e)))
 
--- the last item of a list
+-- the item at the last index is the last item
 pub slice_get-last : {X : Type 0} (xs : List X) (x : X) → slice_get (xs ++ x ∷ []) (length (xs ++ x ∷ []) - 1) ≡ Some x
 slice_get-last [] x = refl
 slice_get-last (y ∷ xs) x =
@@ -79,7 +79,7 @@ slice_get-last (y ∷ xs) x =
     let n : suc (length (xs ++ x ∷ []) - 1) ≡ length (y ∷ xs ++ x ∷ []) - 1 = omega arith in
     ap (λ k. slice_get (y ∷ xs ++ x ∷ []) k) (sym n) ∙ slice_get-last xs x
 
--- the pairs with other bytes are the same with numbers and without
+-- the pairs with other bytes are the same with and without numbers
 pub without_pairs : {K V : Type 0} (key_bytes : K → List ℕ) (q : List ℕ) (ps : List (Numbered K V)) → pairs_of (without (bytes key_bytes) ps q) ≡ without (pair_bytes key_bytes) (pairs_of ps) q
 without_pairs key_bytes q [] = refl
 without_pairs key_bytes q (p ∷ ps) =

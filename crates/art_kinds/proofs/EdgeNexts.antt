@@ -16,7 +16,7 @@ skip x es b (Some e) l h =
     let t : eqb x.byte e.byte ≡ false = ne_eqb x.byte e.byte (λ z. omega (arith, z)) in
     (lt, rw t h.1, λ c lo hi. (let u : eqb x.byte c ≡ false = ne_eqb x.byte c (λ z. omega (arith, z)) in rw u (h.2 c lo hi)))
 
--- the first edge after a byte is the next one
+-- the first edge after a byte is the next edge
 pub after-next : (es : List Edge) (b : ℕ) → Ascends es → IsNext es b (after es b)
 after-next [] b a = λ c l. refl
 after-next (x ∷ es) b a =
@@ -46,7 +46,7 @@ previous_after x es b (Some e) a l h =
     let t : eqb x.byte e.byte ≡ false = ne_eqb x.byte e.byte (λ z. omega (arith, z)) in
     (h.0, rw t h.1, λ c lo hi. (let u : eqb x.byte c ≡ false = ne_eqb x.byte c (λ z. omega (arith, z)) in rw u (h.2 c lo hi)))
 
--- the last edge before a byte is the previous one
+-- the last edge before a byte is the previous edge
 pub before-previous : (es : List Edge) (b : ℕ) → Ascends es → IsPrevious es b (before es b)
 before-previous [] b a = λ c l. refl
 before-previous (x ∷ es) b a =

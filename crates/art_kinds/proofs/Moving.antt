@@ -106,7 +106,7 @@ module _ {s v : Nodes} (f : s ≡ v) {a b c d : Store Node}
       let t : Nodes = record { fours = a; sixteens = b; forty_eights = c; fulls = d } in
       subst (λ (z : Nodes). room z ≤ room t) f (room-more s t (kept_spares s t k0 k1 k2 k3))
 
--- what holds of the node at a place
+-- what holds of the node at a place holds of x
 pub holds_in : {s v : Nodes} → s ≡ v → (K : Kind) (i : ℕ) {x : Node} → slot_at (store_of s (digit K)) i ≡ Some x
     → (R : Node → Type 0) → IsSomeAnd (slot_at (store_of v (digit K)) i) R → R x
 holds_in {s} f K i {x} e R h =

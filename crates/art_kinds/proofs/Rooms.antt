@@ -37,7 +37,7 @@ grown-most f p s h = grown-most-in f p s.slots h
 pub serves-grown : (m c g h : ℕ) → h ≤ g + 1 → serves m c g ≤ serves m c h + 1
 serves-grown m c g h l = omega arith
 
--- fewer edges cost none
+-- fewer edges cost no placement
 pub serves-less : (m c g h : ℕ) → h ≤ g → serves m c g ≤ serves m c h
 serves-less m c g h l = omega arith
 

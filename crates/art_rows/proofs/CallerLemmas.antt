@@ -1,4 +1,4 @@
--- What a caller cites of numbered items.
+-- What callers need: lemmas about numbered items.
 -- which numbers there are
 pub use Rattle.art_rows.proofs.NumbersLemmas.{leaf_in_lacking, Lacks-from_leaf_in, has_not_lacks, has_other, Has-tail, Has-first, Has-last, Has-after, Has-before, no_first, no_last, Lacks-parts, distinct_parts, AreDistinct-parts, last_number-append}
 -- the list split at a number

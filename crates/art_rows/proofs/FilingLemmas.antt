@@ -253,7 +253,7 @@ module _ {K V : Type 0} {leaves : ℕ → Option (Leaf K V)} {rows : List (Numbe
       let c = f.counted in
       omega arith
 
-  -- a row has a number
+  -- each row has a number
   pub row_filled : (r : ℕ) (ids : List ℕ) → leaf_in rows r ≡ Some ids → 0 < length ids
   row_filled r ids e = filled-row rows f.filled r ids e
 

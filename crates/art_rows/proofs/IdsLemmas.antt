@@ -1,4 +1,4 @@
--- Ids of which two were exchanged, and ids of more cells.
+-- Ids after two were exchanged, and ids of more cells.
 use Rattle.std.proofs.Common.{◌≡◌, ℕ, ◌<◌, ◌≤◌, List, length, take, get_or, ap, sym, ◌∙◌, arith}
 use Rattle.std.proofs.Math.ListN.{set}
 use Rattle.std.proofs.Math.Seq.{take-set-lt}

@@ -439,7 +439,7 @@ module _ {X : Type 0} where
       let b : map (λ p. p.0) ps ≡ map (λ p. p.0) qs = cc in
       rw (last_number-cons p ps, last_number-cons q qs, same_last ps qs b, a) refl
 
-  -- each number has the same one after it
+  -- each number has the same number after it
   pub same_after : (ps qs : List (Numbered X)) (j : ℕ) → map (λ p. p.0) ps ≡ map (λ p. p.0) qs → number_after ps j ≡ number_after qs j
   same_after [] [] j e = refl
   same_after [] (q ∷ qs) j e = cc
@@ -449,7 +449,7 @@ module _ {X : Type 0} where
       let b : map (λ p. p.0) ps ≡ map (λ p. p.0) qs = cc in
       rw (same_first ps qs b, same_after ps qs j b, a) refl
 
-  -- each number has the same one before it
+  -- each number has the same number before it
   pub same_before : (s : Option ℕ) (ps qs : List (Numbered X)) (j : ℕ) → map (λ p. p.0) ps ≡ map (λ p. p.0) qs → number_before_from s ps j ≡ number_before_from s qs j
   same_before s [] [] j e = refl
   same_before s [] (q ∷ qs) j e = cc

@@ -151,14 +151,14 @@ pub no_rows : (rows : List (Numbered (List ℕ))) → AreFilled rows → length 
 no_rows [] f e = refl
 no_rows (r ∷ rows) f e = absurd (let n = length-append r.1 (numbers rows) in let w = f.0 in omega arith)
 
--- a position is the last of the last row
+-- a position is at the end of the last row
 pub record IsLast (rows : List (Numbered (List ℕ))) (p : Position) : Type 0 where
   pub before : List (Numbered (List ℕ))
   pub ids : List ℕ
   pub is : rows ≡ before ++ (p.row, ids) ∷ []
   pub len : length ids ≡ p.place + 1
 
--- the last position is the last of the last row
+-- the last position is at the end of the last row
 pub is_last : (rows : List (Numbered (List ℕ))) → AreFilled rows → (k : ℕ) (p : Position) → position_at rows k ≡ Some p → k ≡ length (numbers rows) - 1 → IsLast rows p
 is_last rows f k p at e =
     let s = standing rows k p at in

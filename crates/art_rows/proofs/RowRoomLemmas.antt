@@ -126,7 +126,7 @@ turns_put xs ys n spare = (let l = load_put xs ys n in omega arith)
 pub turns_cut : (xs ys : List ℕ) (n spare : ℕ) → n ≡ 64 → turns (xs ++ n ∷ ys) (spare + 1) ≤ turns (xs ++ 32 ∷ 32 ∷ ys) spare
 turns_cut xs ys n spare e = (let l = load_cut xs ys n e in omega arith)
 
--- with one turn less and one spare row less at most, there is room for one number less at most
+-- with at most one turn less and one spare row less, there is room for at most one number less
 pub room_less : (old new : List ℕ) (spare less : ℕ) → spare ≤ less + 1 → turns old spare ≤ turns new less + 1 → row_room old spare ≤ row_room new less + 1
 room_less old new spare less a b = omega arith
 

@@ -339,7 +339,7 @@ module _ (rows : List (Numbered (List ℕ))) (k : ℕ) (p : Position) (s : Stand
   standing-row_before d = ap (λ rs. number_before rs p.row) s.is ∙ number_before-split p.row s.ids s.after s.before (standing-lacks rows k p s d).0
 
   module _ (d : AreDistinct rows) (f : AreFilled rows) where
-    -- a first place with no row before it is the first of all
+    -- the first place of the first row has index 0
     pub standing-first : p.place ≡ 0 → number_before rows p.row ≡ None → k ≡ 0
     standing-first z e =
         let b : s.before ≡ [] = no_last s.before (sym (standing-row_before d) ∙ e) in
@@ -357,7 +357,7 @@ module _ (rows : List (Numbered (List ℕ))) (k : ℕ) (p : Position) (s : Stand
       apart : AreDistinct s.before
       apart = (AreDistinct-parts s.before ((p.row, s.ids) ∷ s.after) (subst AreDistinct s.is d)).0
 
-      -- with a row before it, a place is not the first of all
+      -- a place with a row before its row does not have index 0
       pub standing-not_first : 0 < k
       standing-not_first = (let n = filled-some s.before r fills last_is in let i = s.index in omega arith)
 

@@ -9,7 +9,7 @@ id_at ids cell = slice_index_or ids cell 0
 abbrev pub ArePaired : List ℕ → List ℕ → ℕ → Type 0
 ArePaired ids cells n = (c : ℕ) → c < n → (id_at ids c < n) × (id_at cells (id_at ids c) ≡ c)
 
--- the ids, with those of two cells exchanged
+-- the ids, with the ids of two cells exchanged
 abbrev pub exchanged : List ℕ → ℕ → ℕ → List ℕ
 exchanged ids a b = slice_set (slice_set ids a (id_at ids b)) b (id_at ids a)
 

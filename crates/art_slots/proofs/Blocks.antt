@@ -72,7 +72,7 @@ module _ (old new : List Block) (count : ℕ) (a : AddsZeros old new count) wher
   pub whole-more : AreWhole old → AreWhole new
   whole-more h = subst AreWhole (sym a.added) (All-append IsWhole old (replicate (length new - length old) zeros) h (All-replicate IsWhole (length new - length old) zeros refl))
 
-  -- the list then
+  -- zeros are added to the list
   pub joined-more : joined new ≡ joined old ++ replicate ((length new - length old) * 64) 0
   joined-more =
       ap joined a.added ∙ flat_map-append (λ (b : Block). b.halves) old (replicate (length new - length old) zeros)

@@ -44,7 +44,7 @@ module _ {T : Type 0} (is_clone : T → T → Type 0) where
   copy-held (Full x) y (z, e, c) = subst (λ (d : Cell T). IsSlotClone is_clone (Some x) (held d)) (sym e) c
   copy-held Empty y e = ap held e
 
-  -- so are the records of a list of cells
+  -- the records in copies of cells are clones
   pub copies-held : (xs ys : List (Cell T)) → AllZip (IsCopy is_clone) xs ys → AllZip (IsSlotClone is_clone) (map held xs) (map held ys)
   copies-held [] [] h = tt
   copies-held [] (y ∷ ys) h = absurd h

@@ -44,7 +44,7 @@ module _ {T : Type 0} (is_clone : T → T → Type 0) where
   record-copy (Some (Used x)) (Some q) (y, e, c) = subst (λ (s : Slot T). IsSomeAnd (used_of (Some s)) (is_clone x)) (sym e) c
   record-copy (Some (Spare next)) (Some q) e = ap (λ (s : Slot T). used_of (Some s)) e
 
-  -- so are the records of a list of slots
+  -- the records in copies of slots are clones
   pub records-copy : (xs ys : List (Option (Slot T))) → AreCopies xs ys → AllZip (IsSlotClone is_clone) (map used_of xs) (map used_of ys)
   records-copy [] [] h = tt
   records-copy [] (y ∷ ys) h = absurd h

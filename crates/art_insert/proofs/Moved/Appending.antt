@@ -98,7 +98,7 @@ module _ {X : Type 0} (bytes : X → List ℕ) where
         | inr b ↦ inr (more y b.0, b.1)
       ]
 
-      -- an item of the list is an earlier one, or this one
+      -- an item of the list is an earlier item, or this item
       earlier : (y : X) → Contains (A ++ x ∷ []) y → Contains A y ⊎ (x ≡ y)
       earlier y m = elim (Member-append_cases y A (x ∷ []) (Member-from_Contains y (A ++ x ∷ []) m)) [
         | inl n ↦ inl (Contains-from_Member y A n)

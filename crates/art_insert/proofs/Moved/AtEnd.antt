@@ -97,7 +97,7 @@ abbrev pub NoneOver : {X : Type 0} → (X → List ℕ) → List X → List X �
 NoneOver {X} bytes S rest = (y z : X) → Member y S → Member z rest → less (bytes z) (bytes y) ≡ false
 
 module _ {K V : Type 0} (kb : K → List ℕ) (S : List (K × V)) (items : List (K × V)) (x : K × V) (rest : List (K × V)) (is : items ≡ x ∷ rest) (order : NoneOver (pair_bytes kb) S items) where
-  -- no item is greater than the next one
+  -- no item is greater than the next item
   pub none_greater : NoneGreater (pair_bytes kb) S (kb x.0)
   none_greater y m = order y x (Member-from_Contains y S m) (subst (Member x) (sym is) (inl refl))
 

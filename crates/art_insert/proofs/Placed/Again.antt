@@ -24,7 +24,7 @@ module _ {K V : Type 0} where
       kept None = refl
       kept (Some x) = refl
 
-  -- the value that was written is there, if there was one
+  -- if there was a value, the value that was written is there
   pub value_written : (ps : List (Numbered K V)) (i : ℕ) (w v : V) → option_map (λ p. p.1) (leaf_in ps i) ≡ Some v → option_map (λ p. p.1) (leaf_in (with_value ps i w) i) ≡ Some w
   value_written ps i w v e = ap (option_map (λ (p : K × V). p.1)) (pair_written (λ _. []) ps i w) ∙ set (leaf_in ps i) e
     where

@@ -25,7 +25,7 @@ module _ {K V : Type 0} (kb : K → List ℕ) where
   )
 
   module _ {R : Type 0} (tell : Option (K × V) → R) (S : List (K × V)) (x : K × V) (S' : List (K × V)) where
-    -- a pair of new bytes is stored as it is
+    -- a pair with new bytes is stored as it is
     pub added_put : Puts kb {R = Unit {0}} (λ _. tt) S x x (Ok tt) S' → pair_at kb S (kb x.0) ≡ None → Puts kb tell S x x (Ok (tell None)) S'
     unfolding pair_at
     added_put put none = (put.0, put.1, sym (ap tell none))

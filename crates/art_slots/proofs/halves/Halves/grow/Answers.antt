@@ -12,7 +12,7 @@ whole c = subst AreWhole (sym c.in_ok-reserve.ensures.items) c.self.invariant.0
 same : (c : goal.After-add_zeros) → joined c.reserve.new.self.items ≡ c.args.self.now
 same c = ap joined c.in_ok-reserve.ensures.items ∙ c.self.view_is
 
--- and so is the number of blocks
+-- the number of blocks is unchanged
 long : (c : goal.After-add_zeros) → length c.reserve.new.self.items ≡ c.len-len.result
 long c = ap length c.in_ok-reserve.ensures.items ∙ sym c.len-len.ensures
 
