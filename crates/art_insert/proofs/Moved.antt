@@ -1,4 +1,4 @@
--- What calls of many pairs make of them.
+-- The pairs after calls that insert or move many pairs.
 pub mod Appending
 pub mod AtEnd
 pub mod BulkPuts

@@ -1,4 +1,4 @@
--- What a placement makes of the pairs.
+-- The pairs after a placement.
 pub mod Adding
 pub mod Again
 pub mod FreePlaces

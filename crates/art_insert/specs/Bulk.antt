@@ -2,7 +2,7 @@
 use Rattle.std.specs.Prelude.{◌≡◌, ℕ, false, List, Option, Some, None, Contains}
 use Rattle.blart_keys.specs.Bytes.{less}
 
--- the first, if there is one, or else the second
+-- the first option if it has a value, or else the second
 abbrev pub or_else : {X : Type 0} → Option X → Option X → Option X
 or_else (Some x) o = Some x
 or_else None o = o

@@ -1,4 +1,4 @@
--- A point where a pair may be placed, a pair that is placed, and one whose value is set.
+-- A point where a pair may be placed, a pair that is placed, and a pair whose value is set.
 use Rattle.std.specs.Prelude.{◌≡◌, ◌+◌, ℕ, List, Some, length, if◌then◌else◌}
 use Rattle.blart_keys.specs.Content.{IsContent, IsPut}
 use Rattle.blart_keys.specs.Steps.{bytes as pair_bytes}
@@ -16,7 +16,7 @@ module _ {K V : Type 0} (key_bytes : K → List ℕ) where
     pub «open» : IsOpen point
     pub fits : Fits tree point
 
-  -- the pair is put, and has this number
+  -- the pair is put, and is the pair of this number
   pub record IsPlaced (old : List (Numbered K V)) (key : K) (value : V) (id : ℕ) (new : List (Numbered K V)) : Type 0 where
     pub put : IsPut (pair_bytes key_bytes) (pairs_of old) (key, value) (pairs_of new)
     pub now : leaf_in new id ≡ Some (key, value)
@@ -24,7 +24,7 @@ module _ {K V : Type 0} (key_bytes : K → List ℕ) where
     pub content : IsContent (bytes key_bytes) old
     pub whole : IsContent (bytes key_bytes) new
 
-  -- S' is S with w as the key's value: the pair is put if its bytes are new, and a stored key stays
+  -- S' is S with w as the key's value: a pair is put if its bytes are new, and a stored key is kept
   abbrev pub IsSetAt : List (K × V) → K → V → List (K × V) → Type 0
   IsSetAt S key w S' =
       Updates key_bytes S S' (key_bytes key) (Some (kept key_bytes S (key, w)))

@@ -9,7 +9,7 @@ abbrev pub as_tried : {A : Type 0} → Result A InsertPrefixError → Result A T
 as_tried (Ok answer) = Ok answer
 as_tried (Err e) = Err (Prefix e)
 
--- how many pairs an insertion added that returns the old value
+-- how many pairs an insertion added, by the old value that it returned
 abbrev pub added : {V : Type 0} → Option V → ℕ
 added None = 1
 added (Some old) = 0

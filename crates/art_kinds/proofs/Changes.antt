@@ -1,4 +1,4 @@
--- The nodes of four kinds: what a change of one record leaves of them.
+-- The nodes of the four kinds, after a change of one record.
 use Rattle.std.proofs.Common.{◌≡◌, ◌≢◌, ℕ, zero, suc, ◌+◌, ◌-◌, ◌*◌, ◌/◌, ◌%◌, ◌^◌, ◌<◌, ◌≤◌, List, length, Option, Some, None, IsSome, cond, refl, sym, ap, subst, ◌∙◌, inl, inr, arith}
 use Rattle.std.specs.Option.{IsSomeAnd}
 use Rattle.std.proofs.lemmas.Bool.{cases_eq}
@@ -15,18 +15,18 @@ use Rattle.art_slots.proofs.StoreSlots.{one, with-now, with-others, with-count, 
 use Rattle.art_kinds.proofs.Rooms.{grown-change, serves-grown, serves-less}
 use Rattle.art_kinds.proofs.Growing.{freed-spares}
 
--- what holds of something holds of its value
+-- what holds of an option holds of its value
 pub holds_of : {X : Type 0} → (R : X → Type 0) (o : Option X) (x : X) → o ≡ Some x → IsSomeAnd o R → R x
 holds_of R o x e h = subst (λ t. IsSomeAnd t R) e h
 
--- and it is something
+-- an option of which something holds has a value
 pub some_such : {X : Type 0} → (R : X → Type 0) (o : Option X) → IsSomeAnd o R → IsSome o
 some_such R None h = absurd h
 some_such R (Some x) h = refl
 
--- a kind that keeps its nodes within their places
+-- a kind in which no node has more children than places
 module _ {P : ℕ} {places : Option ℕ} {s : Store Node} (i : ℕ) {x : Node} (y : Node) (found : slot_at s i ≡ Some x) (v : IsOneKind P places s) where
-  -- still does, where a node is written over by one that fits
+  -- the same holds after a node was replaced by a node that fits
   pub kind_written : FitsIn places (length y.edges) → IsOneKind P places (with_record s i y)
   kind_written h = record { all = all; small = λ l. v.small (let u = with-count s i x y found in omega arith) }
     where
@@ -44,7 +44,7 @@ pub fits_less : (places : Option ℕ) (m n : ℕ) → m ≤ n → FitsIn places 
 fits_less None m n l h = tt
 fits_less (Some p) m n l h = omega (arith, l, h)
 
--- a node is written over, as it says
+-- a node that is replaced changes as R says
 pub changed : {R : Node → Node → Type 0} {s v : Store Node} → s ≡ v → (i : ℕ) {x z : Node} (y : Node)
     → slot_at s i ≡ Some x → z ≡ x → R z y → Changes R v (with_record s i y) i
 changed {R} {s} {v} f i {x} {z} y found e so = record {
@@ -65,14 +65,14 @@ put s Sixteen a = record s { sixteens = a }
 put s FortyEight a = record s { forty_eights = a }
 put s Full a = record s { fulls = a }
 
--- that kind has it
+-- the kind has the new store
 pub put-on : (s : Nodes) (K : Kind) (a : Store Node) → store_of (put s K a) (digit K) ≡ a
 put-on s Four a = refl
 put-on s Sixteen a = refl
 put-on s FortyEight a = refl
 put-on s Full a = refl
 
--- and the others have theirs
+-- the store of each other kind is unchanged
 pub put-off : (s : Nodes) (K : Kind) (a : Store Node) (j : ℕ) → j < 4 → j ≢ digit K → store_of (put s K a) j ≡ store_of s j
 put-off s Four a zero l off = absurd (off refl)
 put-off s Four a (suc zero) l off = refl
@@ -99,14 +99,14 @@ put-live s Sixteen a = omega arith
 put-live s FortyEight a = omega arith
 put-live s Full a = omega arith
 
--- spare records that stand in each kind
+-- if the number of spare records is unchanged for each kind, it is unchanged for each number
 spare-any : (s t : Nodes) → ((j : ℕ) → j < 4 → (store_of t j).spare ≡ (store_of s j).spare) → (j : ℕ) → (store_of t j).spare ≡ (store_of s j).spare
 spare-any s t h zero = h 0 (omega arith)
 spare-any s t h (suc zero) = h 1 (omega arith)
 spare-any s t h (suc (suc zero)) = h 2 (omega arith)
 spare-any s t h (suc (suc (suc j))) = h 3 (omega arith)
 
--- a figure, by what it hangs on
+-- a figure is unchanged if the numbers on which it depends are unchanged
 figure-same : (s t : Nodes) (j : ℕ) → (store_of t (suc j)).spare ≡ (store_of s (suc j)).spare → grown (floor j) (store_of t j) ≡ grown (floor j) (store_of s j) → figure t (suc j) ≡ figure s (suc j)
 figure-same s t j e g = ap (λ m. serves m (takes j) (grown (floor j) (store_of t j))) e ∙ ap (serves (store_of s (suc j)).spare (takes j)) g
 
@@ -120,7 +120,7 @@ figure-grown s t j e g =
     let h : serves (store_of s (suc j)).spare (takes j) (grown (floor j) (store_of s j)) ≤ serves (store_of s (suc j)).spare (takes j) (grown (floor j) (store_of t j)) + 1 = serves-grown (store_of s (suc j)).spare (takes j) (grown (floor j) (store_of s j)) (grown (floor j) (store_of t j)) g in
     subst (λ m. figure s (suc j) ≤ serves m (takes j) (grown (floor j) (store_of t j)) + 1) (sym e) h
 
--- one record of a kind changes: the figures
+-- the figures, if one record of a kind changes
 module _ (s t : Nodes) (d i : ℕ) (l : d < 4) (same : (j : ℕ) → j < 4 → j ≢ d → store_of t j ≡ store_of s j) (others : (j : ℕ) → j ≢ i → slot_at (store_of t d) j ≡ slot_at (store_of s d) j) (spares : (store_of t d).spare ≡ (store_of s d).spare) (x y : Node) (was : slot_at (store_of s d) i ≡ Some x) (is : slot_at (store_of t d) i ≡ Some y) where
   spare_all : (j : ℕ) → (store_of t j).spare ≡ (store_of s j).spare
   spare_all = spare-any s t (λ j lt. elim (cases_eq j d) [
@@ -128,7 +128,7 @@ module _ (s t : Nodes) (d i : ℕ) (l : d < 4) (same : (j : ℕ) → j < 4 → j
     | inr p ↦ ap (λ (u : Store Node). u.spare) (same j lt p)
   ])
 
-  -- what the change does to the edges above the floor
+  -- how the change changes the number of edges above the floor
   change : grown (floor d) (store_of t d) + over (floor d) (Some x) ≡ grown (floor d) (store_of s d) + over (floor d) (Some y)
   change =
       let e : grown (floor d) (store_of t d) + over (floor d) (slot_at (store_of s d) i) ≡ grown (floor d) (store_of s d) + over (floor d) (slot_at (store_of t d) i) = grown-change (floor d) (store_of s d) (store_of t d) i others in
@@ -136,7 +136,7 @@ module _ (s t : Nodes) (d i : ℕ) (l : d < 4) (same : (j : ℕ) → j < 4 → j
       let b : over (floor d) (slot_at (store_of t d) i) ≡ over (floor d) (Some y) = ap (over (floor d)) is in
       omega arith
 
-  -- another figure stands
+  -- each other figure is unchanged
   off_figure : (j : ℕ) → j < 4 → j ≢ suc d → figure t j ≡ figure s j
   off_figure zero lt off = spare_all 0
   off_figure (suc j) lt off = figure-same s t j (spare_all (suc j)) (ap (grown (floor j)) (same j (omega arith) (λ e. off (omega (arith, e)))))
@@ -172,13 +172,13 @@ place_of w n e =
     let z : 4 * w.place + digit w.kind ≡ n = e in
     omega arith
 
--- something of which a fact holds
+-- what holds of x holds of an option with x
 pub such : {X : Type 0} → (R : X → Type 0) (o : Option X) (x : X) → o ≡ Some x → R x → IsSomeAnd o R
 such R o x e h = subst (λ t. IsSomeAnd t R) (sym e) h
 
 -- a number of a kind
 module _ (w : Parts) {n : ℕ} (e : number w ≡ n) {K : Kind} (k : w.kind ≡ K) where
-  -- its digit is that of the kind
+  -- its digit is the digit of the kind
   pub digit_of : n % 4 ≡ digit K
   digit_of =
       let l : digit w.kind < 4 = digit-lt w.kind in
@@ -186,23 +186,23 @@ module _ (w : Parts) {n : ℕ} (e : number w ≡ n) {K : Kind} (k : w.kind ≡ K
       let z : 4 * w.place + digit w.kind ≡ n = e in
       omega arith
 
-  -- what stands under it stands in the store of the kind
+  -- the node under it is in the store of the kind
   pub found_in : (v : Nodes) → at v n ≡ slot_at (store_of v (digit K)) w.place
   found_in v = ap (λ j. slot_at (store_of v j) (n / 4)) digit_of ∙ ap (slot_at (store_of v (digit K))) (place_of w n e)
 
 -- a number of a kind, in nodes that a contract sees
 module _ {s v : Nodes} (f : s ≡ v) (w : Parts) {n : ℕ} (e : number w ≡ n) {K : Kind} (k : w.kind ≡ K) where
-  -- what stands under it
+  -- the node under it
   pub found_at : at v n ≡ slot_at (store_of s (digit K)) w.place
   found_at = sym (ap (λ (t : Nodes). at t n) f) ∙ found_in w e k s
 
-  -- what holds of it
+  -- what holds of the node under it holds of the node in the store
   pub holds_at : (R : Option Node → Type 0) → R (at v n) → R (slot_at (store_of s (digit K)) w.place)
   holds_at R h = subst R found_at h
 
-  -- the kind has another store, with the other nodes as they were
+  -- the kind has another store, in which the other nodes are unchanged
   module _ (a : Store Node) (others : (j : ℕ) → j ≢ w.place → slot_at a j ≡ slot_at (store_of s (digit K)) j) where
-    -- each other number has its node
+    -- the node under each other number is unchanged
     others_at : (m : ℕ) → m ≢ n → at (put s K a) m ≡ at v m
     others_at m off =
         let z : 4 * w.place + digit w.kind ≡ n = e in
@@ -215,20 +215,20 @@ module _ {s v : Nodes} (f : s ≡ v) (w : Parts) {n : ℕ} (e : number w ≡ n) 
           | inr p ↦ ap (λ (u : Store Node). slot_at u (m / 4)) (put-off s K a (m % 4) (omega arith) p)
         ] ∙ ap (λ (u : Nodes). at u m) f
 
-    -- what stands under the number then
+    -- the node under the number then
     now_at : at (put s K a) n ≡ slot_at a w.place
     now_at = found_in w e k (put s K a) ∙ ap (λ (t : Store Node). slot_at t w.place) (put-on s K a)
 
-    -- the store of the kind has its other nodes
+    -- the other nodes in the store of the kind are unchanged
     others_put : (j : ℕ) → j ≢ w.place → slot_at (store_of (put s K a) (digit K)) j ≡ slot_at (store_of s (digit K)) j
     others_put j off = ap (λ (t : Store Node). slot_at t j) (put-on s K a) ∙ others j off
 
   module _ {a : Store Node} where
-    -- a node is gone
+    -- a node is removed
     pub frees : Loses (store_of s (digit K)) a w.place → Frees (at v) (at (put s K a)) n
     frees h = record { gone = now_at a h.others ∙ h.gone; others = others_at a h.others }
 
-    -- there is a node less
+    -- there is one node less
     pub live-less : Loses (store_of s (digit K)) a w.place → live (put s K a) + 1 ≡ live v
     live-less h = let l : live (put s K a) + 1 ≡ live s = omega (arith, put-live s K a, h.used) in l ∙ ap (λ (z : Nodes). live z) f
 
@@ -255,7 +255,7 @@ module _ {s v : Nodes} (f : s ≡ v) (w : Parts) {n : ℕ} (e : number w ≡ n) 
       others = others_at a h.others;
     }
 
-    -- an edge is gone
+    -- an edge is removed
     pub drops : {b : ℕ} → Changes (Rewires (λ p q. DropsChild p q b)) (store_of s (digit K)) a w.place → DropsEdge (at v) (at (put s K a)) n b
     drops h = record {
       was = h.was;
@@ -268,7 +268,7 @@ module _ {s v : Nodes} (f : s ≡ v) (w : Parts) {n : ℕ} (e : number w ≡ n) 
       others = others_at a h.others;
     }
 
-    -- an edge leads elsewhere
+    -- an edge is redirected
     pub redirects : {b : ℕ} {to : Child} → Changes (Rewires (λ p q. RedirectsChild p q b to)) (store_of s (digit K)) a w.place
         → Redirects (at v) (at (put s K a)) n b to
     redirects h = record {
@@ -285,7 +285,7 @@ module _ {s v : Nodes} (f : s ≡ v) (w : Parts) {n : ℕ} (e : number w ≡ n) 
       others = others_at a h.others;
     }
 
-    -- another prefix
+    -- a node has another prefix
     pub reprefixes : {prefix : List ℕ} → Changes (λ x y. y ≡ record x { prefix = prefix }) (store_of s (digit K)) a w.place
         → Reprefixes (at v) (at (put s K a)) n prefix
     reprefixes h = record {
@@ -306,11 +306,11 @@ module _ {s v : Nodes} (f : s ≡ v) (w : Parts) {n : ℕ} (e : number w ≡ n) 
       spare_on : (store_of (put s K a) (digit K)).spare ≡ (store_of s (digit K)).spare
       spare_on = ap (λ (u : Store Node). u.spare) on ∙ h.spare
 
-      -- there are as many nodes
+      -- the number of nodes is unchanged
       pub live-same : live (put s K a) ≡ live v
       live-same = let l : live (put s K a) ≡ live s = omega (arith, put-live s K a, h.used) in l ∙ ap (λ (z : Nodes). live z) f
 
-      -- one edge more lowers the figure of the next kind by one at most
+      -- one more edge lowers the figure of the next kind by at most one
       pub lowers : length h.is.edges ≡ length h.was.edges + 1 → Lowers (n % 4 + 1) v (put s K a)
       lowers q =
           let m : suc (digit K) ≡ n % 4 + 1 = (let d : n % 4 ≡ digit K = digit_of w e k in omega arith) in
@@ -318,14 +318,14 @@ module _ {s v : Nodes} (f : s ≡ v) (w : Parts) {n : ℕ} (e : number w ≡ n) 
           let r : Lowers (suc (digit K)) s (put s K a) = c h.was h.is h.was_is is_on (omega (arith, q)) in
           subst (λ z. Lowers z v (put s K a)) m (subst (λ (u : Nodes). Lowers (suc (digit K)) u (put s K a)) f r)
 
-      -- an edge less lowers none
+      -- one edge less lowers no figure
       pub more : length h.is.edges + 1 ≡ length h.was.edges → MoreSpares v (put s K a)
       more q =
           let c = more_in s (put s K a) (digit K) w.place (digit-lt K) (put-off s K a) (others_put a h.others) spare_on in
           let r : MoreSpares s (put s K a) = c h.was h.is h.was_is is_on (omega (arith, q)) in
           subst (λ (u : Nodes). MoreSpares u (put s K a)) f r
 
-      -- as many edges leave the figures
+      -- if there are as many edges, the figures are unchanged
       pub stands : length h.is.edges ≡ length h.was.edges → SameSpares v (put s K a)
       stands q =
           let c = same_in s (put s K a) (digit K) w.place (digit-lt K) (put-off s K a) (others_put a h.others) spare_on in
@@ -352,14 +352,14 @@ module _ {s v : Nodes} (f : s ≡ v) (w : Parts) {n : ℕ} (e : number w ≡ n) 
         → Reprefixes (at v) (at (put s K a)) n prefix × SameSpares v (put s K a) × (live (put s K a) ≡ live v)
     reprefixed_all h = (reprefixes h, stands h (ap (λ (x : Node). length x.edges) h.so), live-same h)
 
--- for how many children a kind has places, where these have a limit
+-- for how many children a kind has places, if their number is limited
 abbrev pub limit : Kind → Option ℕ
 limit Four = Some 4
 limit Sixteen = Some 16
 limit FortyEight = Some 48
 limit Full = None
 
--- a node that has a place has one for an edge more
+-- a node that has a place for one more edge fits its kind with one more edge
 pub room_of : {s v : Nodes} → s ≡ v → (w : Parts) {n : ℕ} → number w ≡ n → {K : Kind} → w.kind ≡ K
     → (b : ℕ) → IsSomeAnd (at v n) (λ x. child_at x.edges b ≡ None) → HasPlace v n
     → IsSomeAnd (slot_at (store_of s (digit K)) w.place) (λ x. FitsIn (limit K) (length x.edges + 1))
@@ -379,18 +379,18 @@ room_of {s} {v} f w {n} e {K} k b some h = by_node (at v n) refl some
         let q : digit K < 3 → length x.edges < places (digit K) = λ l. subst (λ d. length x.edges < places d) m (h x is (omega (arith, m, l))) in
         such (λ y. FitsIn (limit K) (length y.edges + 1)) (slot_at (store_of s (digit K)) w.place) x (sym (found_at f w e k) ∙ is) (fits K x q)
 
--- where there is a node, a record is small
+-- if there is a node, P is small
 pub small_live : {P : ℕ} {l : Option ℕ} {a : Store Node} → IsOneKind P l a → (i : ℕ) → IsSome (slot_at a i) → P < 2 ^ 62
 small_live {P} {l} {a} v i h =
     let m : one (slot_at a i) ≤ used_count a = sum-least one refl a.slots i in
     let k : one (slot_at a i) ≡ 1 = ap (λ b. cond b 1 0) h in
     v.small (omega arith)
 
--- the same, by what holds of the node
+-- the same, if something holds of the node
 pub small_in : {P : ℕ} {l : Option ℕ} {a : Store Node} → IsOneKind P l a → (i : ℕ) (R : Node → Type 0) → IsSomeAnd (slot_at a i) R → P < 2 ^ 62
 small_in {P} {l} {a} v i R h = small_live v i (some_such R (slot_at a i) h)
 
--- and it is in the store of its kind
+-- P is small, and the node is in the store of its kind
 pub found_small : {s v : Nodes} (f : s ≡ v) (w : Parts) {n : ℕ} (e : number w ≡ n) {K : Kind} (k : w.kind ≡ K) {P : ℕ} {l : Option ℕ} → IsOneKind P l (store_of s (digit K)) → (R : Node → Type 0) → IsSomeAnd (at v n) R
     → (P < 2 ^ 62) × IsSomeAnd (slot_at (store_of s (digit K)) w.place) R
 found_small f w e k v R h = let there = holds_at f w e k (λ (o : Option Node). IsSomeAnd o R) h in (small_in v w.place R there, there)

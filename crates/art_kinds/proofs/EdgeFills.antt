@@ -1,4 +1,4 @@
--- A node gets a child, loses one, or has one led elsewhere.
+-- A node gets a child, loses a child, or has an edge redirected.
 use Rattle.std.proofs.Common.{◌≡◌, ◌≢◌, ℕ, zero, suc, ◌+◌, ◌-◌, ◌<◌, ◌≤◌, List, [], ◌∷◌, ◌++◌, length, get_or, take, drop, set, Some, None, IsSome, refl, arith, eqb, true, false, sym, ap, ◌∙◌, subst, eq-eqb, inl, inr}
 use Rattle.std.proofs.lemmas.Bool.{ne_eqb}
 use Rattle.std.proofs.lemmas.Bool.Decides.{eqb_tells}
@@ -8,7 +8,7 @@ use Rattle.art_kinds.specs.declared.records.ids.Child.{Child}
 use Rattle.art_kinds.specs.declared.records.ids.Edge.{Edge}
 use Rattle.art_kinds.proofs.EdgeShifts.{child_at-edges_with, edges_with-Ascends, length-edges_with, child_at-edges_without, edges_without-Ascends, length-edges_without}
 
--- an edge more adds a child
+-- one more edge adds a child
 pub edges_with-adds : (es : List Edge) (e : Edge) → Ascends es → child_at es e.byte ≡ None → AddsChild es (edges_with es e) e.byte e.to
 edges_with-adds es e a n = record {
   added = let t : eqb e.byte e.byte ≡ true = eq-eqb e.byte e.byte refl in rw (child_at-edges_with es e e.byte n, t) refl;
@@ -17,7 +17,7 @@ edges_with-adds es e a n = record {
   ascends = edges_with-Ascends es e a n;
 }
 
--- an edge less drops a child
+-- one edge less removes a child
 pub edges_without-drops : (es : List Edge) (b : ℕ) → Ascends es → IsSome (child_at es b) → DropsChild es (edges_without es b) b
 edges_without-drops es b a h = record {
   gone = let t : eqb b b ≡ true = eq-eqb b b refl in child_at-edges_without es b b a ∙ rw t refl;
@@ -27,7 +27,7 @@ edges_without-drops es b a h = record {
 }
 
 module _ (b : ℕ) (to : Child) where
-  -- the byte leads to the new child
+  -- the child at the byte is the new child
   edges_with_child-at : (es : List Edge) → IsSome (child_at es b) → child_at (edges_with_child es b to) b ≡ Some to
   edges_with_child-at [] h = absurd (let f : IsSome {T = Child} None = h in cc)
   edges_with_child-at (x ∷ es) h =
@@ -36,7 +36,7 @@ module _ (b : ℕ) (to : Child) where
         | inr p ↦ rw (p.0, p.0) (edges_with_child-at es (rw p.0 at h))
       ]
 
-  -- each other byte leads where it led
+  -- the child at each other byte is unchanged
   edges_with_child-off : (es : List Edge) (c : ℕ) → c ≢ b → child_at (edges_with_child es b to) c ≡ child_at es c
   edges_with_child-off [] c off = refl
   edges_with_child-off (x ∷ es) c off =
@@ -49,13 +49,13 @@ module _ (b : ℕ) (to : Child) where
         | inr p ↦ rw (p.0, ih) refl
       ]
 
-  -- there are as many edges
+  -- the number of edges is unchanged
   length-edges_with_child : (es : List Edge) → length (edges_with_child es b to) ≡ length es
   length-edges_with_child [] = refl
   length-edges_with_child (x ∷ es) =
       elim (eqb_tells x.byte b) [ inl p ↦ rw p.0 refl | inr p ↦ rw p.0 (ap suc (length-edges_with_child es)) ]
 
-  -- the bytes still rise above another
+  -- the bytes still ascend above another
   edges_with_child-AscendsAbove : (k : ℕ) (es : List Edge) → AscendsAbove k es → AscendsAbove k (edges_with_child es b to)
   edges_with_child-AscendsAbove k [] a = tt
   edges_with_child-AscendsAbove k (x ∷ es) a =
@@ -64,7 +64,7 @@ module _ (b : ℕ) (to : Child) where
         | inr p ↦ rw p.0 (a.0, edges_with_child-AscendsAbove x.byte es a.1)
       ]
 
-  -- the bytes still rise
+  -- the bytes still ascend
   edges_with_child-Ascends : (es : List Edge) → Ascends es → Ascends (edges_with_child es b to)
   edges_with_child-Ascends [] a = tt
   edges_with_child-Ascends (x ∷ es) a =
@@ -73,7 +73,7 @@ module _ (b : ℕ) (to : Child) where
         | inr p ↦ rw p.0 (edges_with_child-AscendsAbove x.byte es a)
       ]
 
-  -- one child for another
+  -- one edge is redirected
   pub edges_with_child-edges : (es : List Edge) → Ascends es → IsSome (child_at es b) → RedirectsChild es (edges_with_child es b to) b to
   edges_with_child-edges es a h = record {
     now = edges_with_child-at es h;
@@ -82,11 +82,11 @@ module _ (b : ℕ) (to : Child) where
     ascends = edges_with_child-Ascends es a;
   }
 
-  -- the first i edges, and the others of n with one led elsewhere
+  -- the first i of n edges, and then the others with one redirected
   abbrev pub redone : ℕ → ℕ → List Edge → List Edge
   redone i n es = take i es ++ edges_with_child (drop i (take n es)) b to
 
-  -- an edge at the byte is written over, and the rest stand
+  -- if edge i is at the byte, it is replaced, and the others are unchanged
   pub redone-here : (es : List Edge) (i n : ℕ) (d : Edge) → i < n → n ≤ length es → (get_or es i d).byte ≡ b → redone i n es ≡ take n (set es i (record { byte = b; to = to }))
   redone-here [] i n d l m h = absurd (omega arith)
   redone-here (x ∷ es) i zero d l m h = absurd (omega arith)
@@ -94,7 +94,7 @@ module _ (b : ℕ) (to : Child) where
   redone-here (x ∷ es) (suc i) (suc n) d l m h = ap (λ (t : List Edge). x ∷ t) (redone-here es i n d (omega arith) (omega arith) h)
 
 module _ (n r : ℕ) (es fs : List Edge) (s : Sorted n r es) where
-  -- so many edges are in use
+  -- n edges are in use
   pub in_use : length (take n es) ≡ n
   in_use =
       let w : n ≤ r = s.within in
@@ -103,7 +103,7 @@ module _ (n r : ℕ) (es fs : List Edge) (s : Sorted n r es) where
 
   module _ (same : length fs ≡ length es) where
     module _ (e : Edge) (lt : e.byte < 256) (none : child_at (take n es) e.byte ≡ None) (is : take (n + 1) fs ≡ edges_with (take n es) e) where
-      -- the edges with one more
+      -- the edges in use, with one more
       pub sorted_adds : AddsChild (take n es) (take (n + 1) fs) e.byte e.to
       sorted_adds = rw is (edges_with-adds (take n es) e s.ascends none)
 
@@ -119,7 +119,7 @@ module _ (n r : ℕ) (es fs : List Edge) (s : Sorted n r es) where
           }
 
     module _ (b : ℕ) (some : IsSome (child_at (take n es) b)) (is : take (n - 1) fs ≡ edges_without (take n es) b) where
-      -- the edges with one less
+      -- the edges in use, with one less
       pub sorted_drops : DropsChild (take n es) (take (n - 1) fs) b
       sorted_drops = rw is (edges_without-drops (take n es) b s.ascends some)
 
@@ -139,7 +139,7 @@ module _ (n r : ℕ) (es fs : List Edge) (s : Sorted n r es) where
           }
 
     module _ (b : ℕ) (to : Child) (lt : b < 256) (some : IsSome (child_at (take n es) b)) (is : take n fs ≡ edges_with_child (take n es) b to) where
-      -- the edges with one led elsewhere
+      -- the edges in use, with one redirected
       pub sorted_redirects : RedirectsChild (take n es) (take n fs) b to
       sorted_redirects = rw is (edges_with_child-edges b to (take n es) s.ascends some)
 

@@ -10,17 +10,17 @@ use Rattle.art_kinds.specs.Edges.{child_at, AscendsAbove, Ascends, edges_with, e
 use Rattle.art_kinds.specs.declared.records.ids.Child.{Child}
 use Rattle.art_kinds.specs.declared.records.ids.Edge.{Edge}
 
--- how many edges stand before a byte
+-- how many edges have bytes less than a byte, counted up to the first that does not
 abbrev pub edges_below : List Edge → ℕ → ℕ
 edges_below [] b = 0
 edges_below (x ∷ xs) b = cond (ltb x.byte b) (suc (edges_below xs b)) 0
 
--- bytes above a byte are above a lesser one
+-- bytes greater than a byte are greater than a lesser byte
 pub AscendsAbove-less : (j k : ℕ) (es : List Edge) → j ≤ k → AscendsAbove k es → AscendsAbove j es
 AscendsAbove-less j k [] l a = tt
 AscendsAbove-less j k (x ∷ es) l a = (let h : k < x.byte = a.0 in omega arith, a.1)
 
--- no edge stands at a byte that all are above
+-- if all bytes are greater than k, no edge has a byte that is at most k
 pub AscendsAbove-absent : (k b : ℕ) (es : List Edge) → AscendsAbove k es → b ≤ k → child_at es b ≡ None
 AscendsAbove-absent k b [] a l = refl
 AscendsAbove-absent k b (x ∷ es) a l =
@@ -29,14 +29,14 @@ AscendsAbove-absent k b (x ∷ es) a l =
       | inr p ↦ rw p.0 (AscendsAbove-absent x.byte b es a.1 (let h : k < x.byte = a.0 in omega arith))
     ]
 
--- bytes that rise above another rise
+-- bytes that ascend above another ascend
 pub AscendsAbove-Ascends : (k : ℕ) (es : List Edge) → AscendsAbove k es → Ascends es
 AscendsAbove-Ascends k [] a = tt
 AscendsAbove-Ascends k (x ∷ es) a = a.1
 
--- ---- one edge more
+-- ---- one more edge
 
--- it goes after those before its byte
+-- it comes after the edges with lesser bytes
 pub edges_with-place : (es : List Edge) (e : Edge) → edges_with es e ≡ take (edges_below es e.byte) es ++ e ∷ drop (edges_below es e.byte) es
 edges_with-place [] e = refl
 edges_with-place (x ∷ es) e =
@@ -45,7 +45,7 @@ edges_with-place (x ∷ es) e =
       | inr p ↦ rw p.0 refl
     ]
 
--- the bytes rise above another
+-- the bytes ascend above another
 edges_with-AscendsAbove : (k : ℕ) (es : List Edge) (e : Edge) → AscendsAbove k es → k < e.byte → child_at es e.byte ≡ None → AscendsAbove k (edges_with es e)
 edges_with-AscendsAbove k [] e a l n = (l, tt)
 edges_with-AscendsAbove k (x ∷ es) e a l n =
@@ -62,7 +62,7 @@ edges_with-AscendsAbove k (x ∷ es) e a l n =
           ]
     ]
 
--- the bytes rise
+-- the bytes ascend
 pub edges_with-Ascends : (es : List Edge) (e : Edge) → Ascends es → child_at es e.byte ≡ None → Ascends (edges_with es e)
 edges_with-Ascends [] e a n = tt
 edges_with-Ascends (x ∷ es) e a n =
@@ -79,7 +79,7 @@ edges_with-Ascends (x ∷ es) e a n =
           ]
     ]
 
--- what stands at a byte
+-- the child at each byte
 pub child_at-edges_with : (es : List Edge) (e : Edge) (b : ℕ) → child_at es e.byte ≡ None → child_at (edges_with es e) b ≡ cond (eqb e.byte b) (Some e.to) (child_at es b)
 child_at-edges_with [] e b n = refl
 child_at-edges_with (x ∷ es) e b n =
@@ -95,7 +95,7 @@ child_at-edges_with (x ∷ es) e b n =
       | inr p ↦ rw p.0 refl
     ]
 
--- there is one edge more
+-- there is one more edge
 pub length-edges_with : (es : List Edge) (e : Edge) → length (edges_with es e) ≡ suc (length es)
 length-edges_with [] e = refl
 length-edges_with (x ∷ es) e =
@@ -103,7 +103,7 @@ length-edges_with (x ∷ es) e =
 
 -- ---- one edge less
 
--- those before its byte stand, and those after it
+-- the edges before it and after it are unchanged
 pub edges_without-place : (es : List Edge) (b : ℕ) → Ascends es → IsSome (child_at es b) → (edges_without es b ≡ take (edges_below es b) es ++ drop (suc (edges_below es b)) es) × (edges_below es b < length es)
 edges_without-place [] b a h = absurd (let f : IsSome {T = Child} None = h in cc)
 edges_without-place (x ∷ es) b a h =
@@ -120,7 +120,7 @@ edges_without-place (x ∷ es) b a h =
           ]
     ]
 
--- the bytes rise above another
+-- the bytes ascend above another
 edges_without-AscendsAbove : (k : ℕ) (es : List Edge) (b : ℕ) → AscendsAbove k es → AscendsAbove k (edges_without es b)
 edges_without-AscendsAbove k [] b a = tt
 edges_without-AscendsAbove k (x ∷ es) b a =
@@ -129,7 +129,7 @@ edges_without-AscendsAbove k (x ∷ es) b a =
       | inr p ↦ rw p.0 (a.0, edges_without-AscendsAbove x.byte es b a.1)
     ]
 
--- the bytes rise
+-- the bytes ascend
 pub edges_without-Ascends : (es : List Edge) (b : ℕ) → Ascends es → Ascends (edges_without es b)
 edges_without-Ascends [] b a = tt
 edges_without-Ascends (x ∷ es) b a =
@@ -138,7 +138,7 @@ edges_without-Ascends (x ∷ es) b a =
       | inr p ↦ rw p.0 (edges_without-AscendsAbove x.byte es b a)
     ]
 
--- what stands at a byte
+-- the child at each byte
 pub child_at-edges_without : (es : List Edge) (b c : ℕ) → Ascends es → child_at (edges_without es b) c ≡ cond (eqb b c) None (child_at es c)
 child_at-edges_without [] b c a = elim (eqb_tells b c) [ inl u ↦ rw u.0 refl | inr u ↦ rw u.0 refl ]
 child_at-edges_without (x ∷ es) b c a =
@@ -180,7 +180,7 @@ module _ {X : Type 0} (es : List X) (i n : ℕ) where
   drop_first : (k : ℕ) → k ≤ n → drop k (take n es) ≡ take (n - k) (drop k es)
   drop_first k le = let e : k + (n - k) ≡ n = omega arith in ap (λ (m : ℕ). drop k (take m es)) (sym e) ∙ drop-take k (n - k) es
 
-  -- from i on each was moved a place further, and another written there
+  -- the edges from i on are moved one place up, and another is written at i
   pub write_among : (e : X) → i ≤ n → n < length es → take (n + 1) (set (paste es (i + 1) (drop i es) (n - i)) i e) ≡ take i (take n es) ++ e ∷ drop i (take n es)
   write_among e le lt =
       let d : length (drop i es) ≡ length es - i = length-drop i es in
@@ -194,7 +194,7 @@ module _ {X : Type 0} (es : List X) (i n : ℕ) where
       ∙ ap (λ (t : List X). t ++ e ∷ take (n - i) (drop i es)) (take_first le)
       ∙ ap (λ (t : List X). take i (take n es) ++ e ∷ t) (sym (drop_first i le))
 
-  -- from i on each was moved a place up front
+  -- the edges after i are moved one place down
   pub close_among : i < n → n ≤ length es → take (n - 1) (paste es i (drop (i + 1) es) (n - (i + 1))) ≡ take i (take n es) ++ drop (i + 1) (take n es)
   close_among lt le =
       let d : length (drop (i + 1) es) ≡ length es - (i + 1) = length-drop (i + 1) es in
@@ -206,18 +206,18 @@ module _ {X : Type 0} (es : List X) (i n : ℕ) where
 
 -- ---- lists with the same children
 
--- nothing is no child
+-- an option that is `None` has no value
 some_none : (o : Option Child) → o ≡ None → IsSome o → ⊥
 some_none o e h = let P : Option Child → Type 0 = λ o. IsSome o in let f : IsSome {T = Child} None = subst P e h in cc
 
--- edges with the same byte and child are one
+-- edges with the same byte and child are equal
 edge_same : (x y : Edge) → x.byte ≡ y.byte → x.to ≡ y.to → x ≡ y
 edge_same x y e u =
     let f : ℕ → Edge = λ b. record { byte = b; to = x.to } in
     let g : Child → Edge = λ t. record { byte = y.byte; to = t } in
     ap f e ∙ ap g u
 
--- two ascending lists with the same children are one
+-- two ascending lists with the same children are equal
 pub same_edges : (es fs : List Edge) → Ascends es → Ascends fs → ((b : ℕ) → child_at es b ≡ child_at fs b) → es ≡ fs
 same_edges [] [] a d h = refl
 same_edges [] (y ∷ fs) a d h = absurd (some_none (child_at (y ∷ fs) y.byte) (sym (h y.byte)) (let e : eqb y.byte y.byte ≡ true = eq-eqb y.byte y.byte refl in rw e refl))

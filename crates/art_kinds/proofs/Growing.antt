@@ -1,4 +1,4 @@
--- A node comes into a kind, leaves it, or moves to the next one.
+-- A node is added to a kind, is removed from it, or moves to the next kind.
 use Rattle.std.proofs.Common.{◌≡◌, ◌≢◌, ℕ, zero, suc, ◌+◌, ◌-◌, ◌*◌, ◌/◌, ◌%◌, ◌<◌, ◌≤◌, length, Some, None, refl, sym, ap, subst, ◌∙◌, inl, inr, arith, le_trans}
 use Rattle.std.proofs.Math.Nat.{mul-le-mul_left}
 use Rattle.std.proofs.lemmas.Bool.{cases_eq}
@@ -12,32 +12,32 @@ use Rattle.art_kinds.proofs.Rooms.{grown-change, grown-same, grown-least, serves
 pub at_is : (s : Nodes) (n d i : ℕ) → n % 4 ≡ d → n / 4 ≡ i → at s n ≡ slot_at (store_of s d) i
 at_is s n d i p q = ap (λ j. slot_at (store_of s j) (n / 4)) p ∙ ap (slot_at (store_of s d)) q
 
--- spare records more
+-- more spare records are enough for no fewer placements
 pub serves-more : (m n c g : ℕ) → m ≤ n → serves m c g ≤ serves n c g
 serves-more m n c g l = let h : c * m ≤ c * n = mul-le-mul_left c l in omega arith
 
--- a node that outgrows its kind takes a spare record of the next
+-- a node that outgrows its kind uses a spare record of the next, which costs at most one placement
 pub serves-falls : (d : ℕ) → d < 3 → (m n g h : ℕ) → n + 1 ≡ m → h + (places d - floor d) ≡ g → serves m (takes d) g ≤ serves n (takes d) h + 1
 serves-falls zero l m n g h e f = serves-4 m n g h e f
 serves-falls (suc zero) l m n g h e f = serves-13 m n g h e f
 serves-falls (suc (suc zero)) l m n g h e f = serves-33 m n g h e f
 serves-falls (suc (suc (suc d))) l m n g h e f = absurd (omega arith)
 
--- it comes into the next with no child above the floor
+-- the floor of the next kind is the number of places of this kind
 pub floor-next : (d : ℕ) → d < 3 → floor (suc d) ≡ places d
 floor-next zero l = refl
 floor-next (suc zero) l = refl
 floor-next (suc (suc zero)) l = refl
 floor-next (suc (suc (suc d))) l = absurd (omega arith)
 
--- figures of kinds above the first
+-- the figure of a kind above the first does not fall
 figure-up : (s t : Nodes) (j : ℕ) → (store_of s (suc j)).spare ≤ (store_of t (suc j)).spare → grown (floor j) (store_of t j) ≤ grown (floor j) (store_of s j) → figure s (suc j) ≤ figure t (suc j)
 figure-up s t j e g =
     let a : serves (store_of s (suc j)).spare (takes j) (grown (floor j) (store_of s j)) ≤ serves (store_of s (suc j)).spare (takes j) (grown (floor j) (store_of t j)) = serves-less (store_of s (suc j)).spare (takes j) (grown (floor j) (store_of s j)) (grown (floor j) (store_of t j)) g in
     let b : serves (store_of s (suc j)).spare (takes j) (grown (floor j) (store_of t j)) ≤ serves (store_of t (suc j)).spare (takes j) (grown (floor j) (store_of t j)) = serves-more (store_of s (suc j)).spare (store_of t (suc j)).spare (takes j) (grown (floor j) (store_of t j)) e in
     le_trans a b
 
--- a node moves from one kind to another: it has another number, and the others stand
+-- a node moves from one kind to another: it has another number, and the others are unchanged
 pub moves : (s t : Nodes) (d e i j : ℕ) (x : Node) → ((k : ℕ) → k < 4 → k ≢ d → k ≢ e → store_of t k ≡ store_of s k) → slot_at (store_of s d) i ≡ Some x → slot_at (store_of t d) i ≡ None → ((k : ℕ) → k ≢ i → slot_at (store_of t d) k ≡ slot_at (store_of s d) k) → slot_at (store_of s e) j ≡ None → slot_at (store_of t e) j ≡ Some x → ((k : ℕ) → k ≢ j → slot_at (store_of t e) k ≡ slot_at (store_of s e) k) → (n m : ℕ) → n % 4 ≡ d → n / 4 ≡ i → m % 4 ≡ e → m / 4 ≡ j → Renames (at s) (at t) n m
 moves s t d e i j x same was gone left fresh is there n m nd ni md mj = record {
   node = x;
@@ -70,7 +70,7 @@ module _ (s t : Nodes) (d : ℕ) (l : d < 3) (i j : ℕ) (x : Node) (same : (k :
         let c : length x.edges - floor d ≡ places d - floor d = ap (λ z. z - floor d) full in
         omega (arith, e, a, b, c)
 
-    -- and of the kind that it comes into
+    -- the edges above the floor of the kind to which it moves
     comes_in : grown (floor (suc d)) (store_of t (suc d)) ≡ grown (floor (suc d)) (store_of s (suc d))
     comes_in =
         let e : grown (floor (suc d)) (store_of t (suc d)) + over (floor (suc d)) (slot_at (store_of s (suc d)) j) ≡ grown (floor (suc d)) (store_of s (suc d)) + over (floor (suc d)) (slot_at (store_of t (suc d)) j) = grown-change (floor (suc d)) (store_of s (suc d)) (store_of t (suc d)) j there in
@@ -79,7 +79,7 @@ module _ (s t : Nodes) (d : ℕ) (l : d < 3) (i j : ℕ) (x : Node) (same : (k :
         let c : floor (suc d) ≡ places d = floor-next d l in
         omega (arith, e, a, b, c, full)
 
-    -- a figure of a kind that stands
+    -- each other kind has no fewer spare records
     stays : (k : ℕ) → k < 4 → k ≢ d → k ≢ suc d → (store_of s k).spare ≤ (store_of t k).spare
     stays k lt p q = let e : (store_of t k).spare ≡ (store_of s k).spare = ap (λ (u : Store Node). u.spare) (same k lt p q) in omega arith
 
@@ -99,14 +99,14 @@ module _ (s t : Nodes) (d : ℕ) (l : d < 3) (i j : ℕ) (x : Node) (same : (k :
     others_up zero lt off = off_this 0 lt off
     others_up (suc k) lt off = figure-up s t k (off_this (suc k) lt off) (no_more k (omega arith) (λ e. off (omega (arith, e))))
 
-    -- one figure falls by one: that of the kind that it comes into
+    -- the figure of the kind to which it moves falls by at most one, and no other figure falls
     pub grows : Lowers (suc d) s t
     grows = record {
       this = serves-falls d l (store_of s (suc d)).spare (store_of t (suc d)).spare (grown (floor d) (store_of s d)) (grown (floor d) (store_of t d)) less leaves_kind;
       others = others_up;
     }
 
--- a node is made, with two children
+-- a node with two children is added
 module _ (s t : Nodes) (i : ℕ) (x : Node) (same : (k : ℕ) → k < 4 → k ≢ 0 → store_of t k ≡ store_of s k) (fresh : slot_at s.fours i ≡ None) (is : slot_at t.fours i ≡ Some x) (others : (k : ℕ) → k ≢ i → slot_at t.fours k ≡ slot_at s.fours k) (less : t.fours.spare + 1 ≡ s.fours.spare) (two : length x.edges ≡ 2) where
   one_more : grown 1 t.fours ≡ grown 1 s.fours + 1
   one_more =
@@ -127,11 +127,11 @@ module _ (s t : Nodes) (i : ℕ) (x : Node) (same : (k : ℕ) → k < 4 → k �
       let h : figure s (suc (suc k)) ≤ figure t (suc (suc k)) = figure-up s t (suc k) (omega arith) (omega arith) in
       omega arith
 
-  -- room falls by one at most
+  -- the room falls by at most one
   pub makes-room : room s ≤ room t + 1
   makes-room = room-falls s t made_figures
 
--- a node is freed
+-- a node is removed
 module _ (s t : Nodes) (d i : ℕ) (l : d < 4) (same : (k : ℕ) → k < 4 → k ≢ d → store_of t k ≡ store_of s k) (gone : slot_at (store_of t d) i ≡ None) (others : (k : ℕ) → k ≢ i → slot_at (store_of t d) k ≡ slot_at (store_of s d) k) (more : (store_of t d).spare ≡ (store_of s d).spare + 1) where
   fewer_edges : grown (floor d) (store_of t d) ≤ grown (floor d) (store_of s d)
   fewer_edges =
@@ -156,7 +156,7 @@ module _ (s t : Nodes) (d i : ℕ) (l : d < 4) (same : (k : ℕ) → k < 4 → k
   freed-spares zero lt = more_spares 0 lt
   freed-spares (suc k) lt = figure-up s t k (more_spares (suc k) lt) (no_edges k (omega arith))
 
--- a node with fewer children than its kind has places for has a place
+-- a node with fewer children than its kind has places has a place for one more edge
 pub has_place : (t : Nodes) (m d j : ℕ) (x : Node) → m % 4 ≡ d → m / 4 ≡ j → slot_at (store_of t d) j ≡ Some x → (d < 3 → length x.edges < places d) → HasPlace t m
 has_place t m d j x md mj is few z e l =
     let f : Some z ≡ Some x = sym e ∙ at_is t m d j md mj ∙ is in
@@ -164,7 +164,7 @@ has_place t m d j x md mj is few z e l =
     let h : length x.edges < places d = few (omega arith) in
     subst (λ (y : Node). length y.edges < places (m % 4)) g (subst (λ k. length x.edges < places k) (sym md) h)
 
--- four stores that keep their nodes
+-- four stores whose nodes are unchanged
 module _ (s t : Nodes) (k0 : Grows s.fours t.fours) (k1 : Grows s.sixteens t.sixteens)
     (k2 : Grows s.forty_eights t.forty_eights) (k3 : Grows s.fulls t.fulls) where
   kept_of : (k : ℕ) → Grows (store_of s k) (store_of t k)
@@ -182,7 +182,7 @@ module _ (s t : Nodes) (k0 : Grows s.fours t.fours) (k1 : Grows s.sixteens t.six
       let e : grown (floor k) (store_of t k) ≡ grown (floor k) (store_of s k) = grown-same (floor k) (store_of s k) (store_of t k) (kept_of k).same in
       figure-up s t k (kept_of (suc k)).spare (omega arith)
 
--- spare records enough for n placements
+-- the spare records are enough for n placements
 pub enough : (d : ℕ) → d < 3 → (n l g m : ℕ) → g ≤ (places d - floor d) * l → (n ≤ l → n ≤ m) → (l < n → l + (n - l) / takes d ≤ m) → n ≤ serves m (takes d) g
 enough zero dl n l g m h few many = elim (leb_tells n l) [
   | inl p ↦ (let q : n ≤ m = few p.1 in omega arith)
@@ -198,7 +198,7 @@ enough (suc (suc zero)) dl n l g m h few many = elim (leb_tells n l) [
 ]
 enough (suc (suc (suc d))) dl n l g m h few many = absurd (omega arith)
 
--- and each node fits an edge more
+-- if there is room, each node has a place or a spare record for one more edge
 pub fits_more : (s : Nodes) (n : ℕ) → 1 ≤ room s → FitsMore s n
 fits_more s n h x is l full = by_kind (n % 4) refl l
   where

@@ -1,4 +1,4 @@
--- A node moves to another kind, and spare records come.
+-- A node moves to another kind, and spare records are added.
 use Rattle.std.proofs.Common.{◌≡◌, ◌≢◌, ◌≤◌, ◌<◌, ◌+◌, ◌-◌, ◌*◌, ◌/◌, ◌%◌, ℕ, zero, suc, List, length, Option, Some, None, IsSome, Result, Ok, Err, refl, sym, ap, subst, ◌∙◌, arith}
 use Rattle.std.proofs.lemmas.Bool.{false≢true}
 use Rattle.std.specs.Option.{IsSomeAnd}
@@ -14,14 +14,14 @@ use Rattle.art_kinds.proofs.Changes.{put, put-on, put-off, put-live, holds_of, s
 use Rattle.art_kinds.proofs.Growing.{at_is, moves, grows, makes-room, has_place, kept_nodes, kept_spares, enough}
 use Rattle.art_kinds.proofs.Rooms.{grown-most, room-more}
 
--- a node with other edges that are the same is the same
+-- a node whose edges are replaced by equal edges is unchanged
 pub same_node : {x y z : Node} {k : List Edge} → y ≡ record x { edges = k } → k ≡ z.edges → z ≡ x → y ≡ x
 same_node {x} e k z = e ∙ ap (λ (t : List Edge). record x { edges = t }) (k ∙ ap (λ (t : Node). t.edges) z)
 
--- a node leaves one kind and comes into another
+-- a node moves from one kind to another
 module _ {s v : Nodes} (f : s ≡ v) (K L : Kind) (off : digit K ≢ digit L) {a b : Store Node} {i j : ℕ} {x y : Node}
     (was : slot_at (store_of s (digit K)) i ≡ Some x) (same : y ≡ x) (h : Loses (store_of s (digit K)) a i) (g : Gains (store_of s (digit L)) b j y) where
-  -- the store that it leaves, the store that it comes into, and the others
+  -- the store that it leaves, the store to which it moves, and the others
   left : store_of (put (put s K a) L b) (digit K) ≡ a
   left = put-off (put s K a) L b (digit K) (digit-lt K) off ∙ put-on s K a
 
@@ -43,7 +43,7 @@ module _ {s v : Nodes} (f : s ≡ v) (K L : Kind) (off : digit K ≢ digit L) {a
   others_entered : (k : ℕ) → k ≢ j → slot_at (store_of (put (put s K a) L b) (digit L)) k ≡ slot_at (store_of s (digit L)) k
   others_entered k far = ap (λ (t : Store Node). slot_at t k) entered ∙ g.others k far
 
-  -- it has another number, and the others stand
+  -- it has another number, and the others are unchanged
   pub renamed : {n m : ℕ} → n ≡ 4 * i + digit K → m ≡ 4 * j + digit L → Renames (at v) (at (put (put s K a) L b)) n m
   renamed {n} {m} e q =
       let lk = digit-lt K in
@@ -52,7 +52,7 @@ module _ {s v : Nodes} (f : s ≡ v) (K L : Kind) (off : digit K ≢ digit L) {a
       let r : Renames (at s) (at (put (put s K a) L b)) n m = c n m (omega arith) (omega arith) (omega arith) (omega arith) in
       subst (λ (z : Nodes). Renames (at z) (at (put (put s K a) L b)) n m) f r
 
-  -- there are as many nodes
+  -- the number of nodes is unchanged
   pub renamed-live : live (put (put s K a) L b) ≡ live v
   renamed-live =
       let o : store_of (put s K a) (digit L) ≡ store_of s (digit L) = put-off s K a (digit L) (digit-lt L) (λ e. off (sym e)) in
@@ -60,13 +60,13 @@ module _ {s v : Nodes} (f : s ≡ v) (K L : Kind) (off : digit K ≢ digit L) {a
       let l : live (put (put s K a) L b) ≡ live s = omega (arith, put-live s K a, put-live (put s K a) L b, u, h.used, g.used) in
       l ∙ ap (λ (z : Nodes). live z) f
 
-  -- it has a place for one edge more, where the kind has
+  -- it has a place for one more edge, if its new kind has one
   pub renamed-place : {m : ℕ} → m ≡ 4 * j + digit L → (digit L < 3 → length x.edges < places (digit L)) → HasPlace (put (put s K a) L b) m
   renamed-place {m} q few =
       let ll = digit-lt L in
       has_place (put (put s K a) L b) m (digit L) j x (omega arith) (omega arith) is few
 
-  -- it moves to the next kind, of which one figure falls by one
+  -- if it moves to the next kind, only the figure of that kind falls, by at most one
   pub renamed-lowers : digit L ≡ suc (digit K) → length x.edges ≡ places (digit K) → Lowers (digit L) v (put (put s K a) L b)
   renamed-lowers q full =
       let t : Nodes = put (put s K a) L b in
@@ -83,18 +83,18 @@ module _ {s v : Nodes} (f : s ≡ v) (K L : Kind) (off : digit K ≢ digit L) {a
       let r : Lowers (suc (digit K)) s t = grows s t (digit K) l i j x same_rest was gone others_left fresh there others more less full in
       subst (λ (z : Nodes). Lowers (digit L) z t) f (subst (λ e. Lowers e s t) (sym q) r)
 
--- a store that stands
+-- `Grows` holds of a store and itself
 pub stood : {a : Store Node} → Grows a a
 stood = record { same = λ j. refl; used = refl; spare = omega arith }
 
--- spare records come
+-- spare records are added
 module _ {s v : Nodes} (f : s ≡ v) {a b c d : Store Node}
     (k0 : Grows s.fours a) (k1 : Grows s.sixteens b) (k2 : Grows s.forty_eights c) (k3 : Grows s.fulls d) where
-  -- the nodes stand
+  -- the nodes are unchanged
   pub stood_nodes : SameNodes v (record { fours = a; sixteens = b; forty_eights = c; fulls = d })
   stood_nodes j = kept_nodes s (record { fours = a; sixteens = b; forty_eights = c; fulls = d }) k0 k1 k2 k3 j ∙ ap (λ (z : Nodes). at z j) f
 
-  -- there are as many
+  -- the number of nodes is unchanged
   pub stood-live : live (record { fours = a; sixteens = b; forty_eights = c; fulls = d }) ≡ live v
   stood-live =
       let l : live (record { fours = a; sixteens = b; forty_eights = c; fulls = d }) ≡ live s = omega (arith, k0.used, k1.used, k2.used, k3.used) in
@@ -106,27 +106,27 @@ module _ {s v : Nodes} (f : s ≡ v) {a b c d : Store Node}
       let t : Nodes = record { fours = a; sixteens = b; forty_eights = c; fulls = d } in
       subst (λ (z : Nodes). room z ≤ room t) f (room-more s t (kept_spares s t k0 k1 k2 k3))
 
--- what holds of the node at a place
+-- what holds of the node at a place holds of x
 pub holds_in : {s v : Nodes} → s ≡ v → (K : Kind) (i : ℕ) {x : Node} → slot_at (store_of s (digit K)) i ≡ Some x
     → (R : Node → Type 0) → IsSomeAnd (slot_at (store_of v (digit K)) i) R → R x
 holds_in {s} f K i {x} e R h =
     holds_of R (slot_at (store_of s (digit K)) i) x e (subst (λ (t : Nodes). IsSomeAnd (slot_at (store_of t (digit K)) i) R) (sym f) h)
 
--- where a node with two children was made, room falls by one at most
+-- if a node with two children is added, the room falls by at most one
 pub made-room : {s v : Nodes} → s ≡ v → {a : Store Node} {i : ℕ} {x : Node} → Gains s.fours a i x
     → length x.edges ≡ 2 → room v ≤ room (record s { fours = a }) + 1
 made-room {s} f {a} {i} {x} h two =
     subst (λ (u : Nodes). room u ≤ room (record s { fours = a }) + 1) f
     (makes-room s (record s { fours = a }) i x (put-off s Four a) h.fresh h.is h.others h.spare two)
 
--- the floor of a kind is below its places
+-- the floor of a kind is not greater than the number of its places
 floor-places : (d : ℕ) → d < 3 → floor d + (places d - floor d) ≡ places d
 floor-places zero l = refl
 floor-places (suc zero) l = refl
 floor-places (suc (suc zero)) l = refl
 floor-places (suc (suc (suc d))) l = absurd (omega arith)
 
--- spare records enough for n placements, where the kind below has l nodes, and r records are asked for
+-- spare records are enough for n placements, if the kind below has l nodes, and r are requested
 pub enough_for : (d : ℕ) → d < 3 → (a : Store Node) (m n l r : ℕ) → l ≡ used_count a → AllFit (Some (places d)) a
     → (n ≤ l → r ≡ n) → (l < n → r ≡ l + (n - l) / takes d) → r ≤ m → n ≤ serves m (takes d) (grown (floor d) a)
 enough_for d dl a m n l r e fit few many up =
@@ -135,12 +135,12 @@ enough_for d dl a m n l r e fit few many up =
     let g : grown (floor d) a ≤ p * l = subst (λ z. grown (floor d) a ≤ p * z) (sym e) most in
     enough d dl n l (grown (floor d) a) m g (λ h. (let q = few h in omega arith)) (λ h. (let q = many h in omega arith))
 
--- an error has no success
+-- `OnOk` holds of an error
 pub not_ok : {A E : Type 0} (P : Type 0) (r : Result A E) → IsErr r → OnOk r P
 not_ok P (Ok a) h = absurd (false≢true h)
 not_ok P (Err e) h = tt
 
--- what holds anyway holds at an error
+-- what holds in any case holds of an error
 pub on_err : {A E Q : Type 0} (r : Result A E) → Q → OnErr r Q
 on_err (Ok a) q = tt
 on_err (Err e) q = q
@@ -155,7 +155,7 @@ same_nodes {s} f a b c d h0 h1 h2 h3 j = of_kind (j % 4) (j / 4) ∙ ap (λ (z :
     of_kind (suc (suc zero)) = h2
     of_kind (suc (suc (suc k))) = h3
 
--- where the nodes stand, a node keeps its number
+-- if the nodes are unchanged, a node keeps its number
 pub keeps_number : {was is : ℕ → Option Node} → ((j : ℕ) → is j ≡ was j) → (n : ℕ) → IsSome (was n) → Renames was is n n
 keeps_number {was} {is} same n h = of_node (was n) refl h
   where
@@ -163,13 +163,13 @@ keeps_number {was} {is} same n h = of_node (was n) refl h
     of_node None e h = absurd (false≢true h)
     of_node (Some x) e h = record { node = x; was = e; is = same n ∙ e; fresh = λ off. absurd (off refl); gone = λ off. absurd (off refl); others = λ j p q. same j }
 
--- a node at a place of a kind, as the number has it
+-- if there is a node at a place of a kind, there is a node under its number
 pub numbered : (v : Nodes) (K : Kind) (i : ℕ) (R : Node → Type 0) → IsSomeAnd (slot_at (store_of v (digit K)) i) R → IsSome (at v (4 * i + digit K))
 numbered v K i R h =
     let l = digit-lt K in
     subst IsSome (sym (at_is v (4 * i + digit K) (digit K) i (omega arith) (omega arith))) (some_such R (slot_at (store_of v (digit K)) i) h)
 
--- where the nodes stand, a node of a kind keeps its number
+-- if the nodes are unchanged, a node of a kind keeps its number
 pub keeps_kind : (v t : Nodes) → SameNodes v t → (K : Kind) (i : ℕ) {m : ℕ} → m ≡ 4 * i + digit K → IsSome (slot_at (store_of v (digit K)) i) → Renames (at v) (at t) (4 * i + digit K) m
 keeps_kind v t same K i e h =
     let l = digit-lt K in

@@ -43,14 +43,14 @@ written index children index' children' b o l same here there =
     ])
 
 module _ (n : ℕ) (index : List ℕ) (children : List Child) (i : IsIndex n index children) where
-  -- the table has so many children
+  -- the table has n children
   pub filled_of : Filled n (table index children)
   filled_of = record { wide = length-table index children ∙ i.wide; counted = i.counted }
 
   pub child_at-index : (b : ℕ) → child_at (edges_of (table index children)) b ≡ child_under children (get_or index b 48)
   child_at-index b = child_at-edges (table index children) b ∙ at-table index children b
 
-  -- there are so many edges
+  -- there are n edges
   pub length-index : length (edges_of (table index children)) ≡ n
   length-index = length-edges (table index children) 0 ∙ i.counted
 
@@ -67,7 +67,7 @@ module _ (n : ℕ) (index : List ℕ) (children : List Child) (i : IsIndex n ind
             absurd cc)
       ]
 
-  -- a child more, in the first free place
+  -- one more child, in the first free place
   module _ (b : ℕ) (to : Child) (small : b < 256) (lt : length (edges_of (table index children)) < 48) (none : child_at (edges_of (table index children)) b ≡ None) where
     pub n_lt : n < 48
     n_lt = let e : length (edges_of (table index children)) ≡ n = length-index in omega arith
@@ -179,7 +179,7 @@ module _ (n : ℕ) (index : List ℕ) (children : List Child) (i : IsIndex n ind
     pub index_same : IsIndex n index (set children (get_or index b 0) to)
     index_same = subst (λ z. IsIndex n index (set children z to)) place_is led_index
 
-  -- a child less: the last takes its place
+  -- one child less: the last child moves to its place
   module _ (b last : ℕ) (index' : List ℕ) (v : Child) (small : b < 256) (some : IsSome (child_at (edges_of (table index children)) b)) (last_is : last + 1 ≡ n) (v_is : v ≡ get_or children last (Leaf 0)) (same : length index' ≡ length index) (is : (c : ℕ) → get_or index' c 48 ≡ moved last (get_or index b 48) (get_or (set index b 48) c 48)) where
     abbrev s : ℕ
     s = get_or index b 48
@@ -201,7 +201,7 @@ module _ (n : ℕ) (index : List ℕ) (children : List Child) (i : IsIndex n ind
     at_c' : (c : ℕ) → c ≢ b → get_or index' c 48 ≡ moved last s (get_or index c 48)
     at_c' c off = is c ∙ ap (moved last s) (get_or-set_other index b c 48 48 off)
 
-    -- at another byte the place is that of the last, or stays
+    -- the place of another byte was the last and becomes the free place, or is unchanged
     cases_c : (c : ℕ) → c ≢ b → ((get_or index c 48 ≡ last) × (get_or index' c 48 ≡ s)) ⊎ ((get_or index c 48 ≢ last) × (get_or index' c 48 ≡ get_or index c 48))
     cases_c c off =
         elim (eqb_tells (get_or index c 48) last) [
@@ -274,7 +274,7 @@ module _ (n : ℕ) (index : List ℕ) (children : List Child) (i : IsIndex n ind
           counted = omega arith;
         }
 
--- the last child in the place of one that is gone, as the code has it
+-- the last child in the place of the removed child, as the code writes it
 module _ (n : ℕ) (index : List ℕ) (children : List Child) (i : IsIndex n index children) (b : ℕ) (small : b < 256) (some : IsSome (child_at (edges_of (table index children)) b)) where
   pub gone_is : get_or index b 48 ≡ get_or index b 0
   gone_is = place_is n index children i b (Leaf 0) small some

@@ -1,4 +1,4 @@
--- The edges of one node put into another, one by one.
+-- The edges of one node added to another, one by one.
 use Rattle.std.proofs.Common.{◌≡◌, ◌≢◌, ℕ, zero, suc, ◌+◌, ◌<◌, ◌≤◌, List, [], ◌∷◌, length, get_or, take, replicate, Option, Some, None, IsSome, is_some, count_by, cond, eqb, false, refl, arith, sym, ap, subst, ◌∙◌, inl, inr}
 use Rattle.std.proofs.lemmas.Bool.{ne_eqb, cases_eq}
 use Rattle.std.proofs.lemmas.Bool.Decides.{eqb_tells, leb_tells}
@@ -18,7 +18,7 @@ AscendsAbove-take k [] (suc n) a = tt
 AscendsAbove-take k (x ∷ es) zero a = tt
 AscendsAbove-take k (x ∷ es) (suc n) a = (a.0, AscendsAbove-take x.byte es n a.1)
 
--- the first edges rise
+-- the first edges ascend
 pub take-Ascends : (es : List Edge) (n : ℕ) → Ascends es → Ascends (take n es)
 take-Ascends [] zero a = tt
 take-Ascends [] (suc n) a = tt
@@ -33,7 +33,7 @@ AscendsAbove-at k (x ∷ es) (suc i) d a l =
     let q : k < x.byte = a.0 in
     omega arith
 
--- an edge's byte is not among those before
+-- the byte of an edge is not a byte of an edge before it
 pub absent_before : (es : List Edge) (i : ℕ) (d : Edge) → Ascends es → i < length es → child_at (take i es) (get_or es i d).byte ≡ None
 absent_before [] i d a l = absurd (omega arith)
 absent_before (x ∷ es) zero d a l = refl
@@ -43,7 +43,7 @@ absent_before (x ∷ es) (suc i) d a l =
     let t : eqb x.byte b ≡ false = ne_eqb x.byte b (λ z. omega (arith, z)) in
     rw t (absent_before es i d (AscendsAbove-Ascends x.byte es a) (omega arith))
 
--- at another byte one edge more changes nothing
+-- one more edge does not change the child at another byte
 others_before : (es : List Edge) (i c : ℕ) (d : Edge) → i < length es → c ≢ (get_or es i d).byte → child_at (take (suc i) es) c ≡ child_at (take i es) c
 others_before [] i c d l off = absurd (omega arith)
 others_before (x ∷ es) zero c d l off = let t : eqb x.byte c ≡ false = ne_eqb x.byte c (λ z. off (sym z)) in rw t refl
@@ -51,7 +51,7 @@ others_before (x ∷ es) (suc i) c d l off =
     let ih : child_at (take (suc i) es) c ≡ child_at (take i es) c = others_before es i c d (omega arith) off in
     ap (cond (eqb x.byte c) (Some x.to)) ih
 
--- the first edges with the next one
+-- the first edges, after the next edge was added
 pub poured : (es : List Edge) (i : ℕ) (d : Edge) (new : List Edge) → Ascends es → i < length es → AddsChild (take i es) new (get_or es i d).byte (get_or es i d).to → new ≡ take (suc i) es
 poured es i d new a l h =
     let g = last-greatest i es d (take-Ascends es (suc i) a) (omega arith) in
@@ -60,7 +60,7 @@ poured es i d new a l h =
       | inr p ↦ h.rest c p ∙ sym (others_before es i c d l p)
     ])
 
--- no place is named
+-- an index of which each entry is 48 has no place
 all_48 : (n b : ℕ) → ◌≡◌ {A = ℕ} (get_or (replicate {A = ℕ} n 48) b 48) 48
 all_48 zero zero = refl
 all_48 zero (suc b) = refl
@@ -82,7 +82,7 @@ empty_index c = record {
   counted = none_of 256 (replicate 48 c);
 }
 
--- no edge stands below the first
+-- no edge has a byte less than the first
 first_least : (x : Edge) (xs : List Edge) (c : ℕ) (to : Child) → Ascends (x ∷ xs) → child_at (x ∷ xs) c ≡ Some to → x.byte ≤ c
 first_least x xs c to a h = elim (leb_tells (suc c) x.byte) [
   | inl q ↦ (
@@ -93,7 +93,7 @@ first_least x xs c to a h = elim (leb_tells (suc c) x.byte) [
   | inr q ↦ (let l : x.byte < suc c = q.1 in omega arith)
 ]
 
--- the edges before a byte that has one are fewer than all
+-- the edges before a byte that has an edge are fewer than all edges
 pub fewer_before : (b : ℕ) (xs es : List Edge) → Ascends xs → Ascends es → ((c : ℕ) → c < b → child_at xs c ≡ child_at es c) → ((c : ℕ) → b ≤ c → child_at xs c ≡ None) → IsSome (child_at es b) → length xs < length es
 fewer_before b [] [] a d h n s = let f : IsSome {T = Child} None = s in absurd cc
 fewer_before b (x ∷ xs) [] a d h n s = let f : IsSome {T = Child} None = s in absurd cc
@@ -124,7 +124,7 @@ empty_table x e = subst (λ (y : Option Child). Filled 0 (replicate 256 y)) (sym
     none_in zero = refl
     none_in (suc n) = let ih : count_by is_some (replicate {A = Option Child} n None) ≡ 0 = none_in n in omega (arith, ih, sum_by-cons one None (replicate {A = Option Child} n None))
 
--- and its edges
+-- a table with no child has no edges
 pub no_edges : (x : Option Child) → x ≡ None → edges_of (replicate 256 x) ≡ []
 no_edges x e = subst (λ (y : Option Child). edges_of (replicate 256 y) ≡ []) (sym e) (none_from 256 0)
   where

@@ -9,13 +9,13 @@ use Rattle.art_kinds.specs.Edges.{child_at, AscendsAbove, Ascends, AddsChild, Dr
 use Rattle.art_kinds.specs.declared.records.ids.Child.{Child}
 use Rattle.art_kinds.specs.declared.records.ids.Edge.{Edge}
 
--- no edge stands below the first byte
+-- no edge has a byte less than the first byte
 edges-low : (t : List (Option Child)) (k b : ℕ) → b < k → child_at (edges_from t k) b ≡ None
 edges-low [] k b l = refl
 edges-low (None ∷ t) k b l = edges-low t (k + 1) b (omega arith)
 edges-low (Some c ∷ t) k b l = let e : eqb k b ≡ false = ne_eqb k b (λ e. omega (arith, e)) in rw e (edges-low t (k + 1) b (omega arith))
 
--- the edge at a byte is the entry of the table
+-- the child at a byte is the entry of the table
 edges-at : (t : List (Option Child)) (k i : ℕ) → child_at (edges_from t k) (k + i) ≡ get_or t i None
 edges-at [] k zero = refl
 edges-at [] k (suc i) = refl
@@ -35,7 +35,7 @@ edges-AscendsAbove [] k j l = tt
 edges-AscendsAbove (None ∷ t) k j l = edges-AscendsAbove t (k + 1) j (omega arith)
 edges-AscendsAbove (Some c ∷ t) k j l = (l, edges-AscendsAbove t (k + 1) k (omega arith))
 
--- the edges of a table rise
+-- the edges of a table ascend
 pub edges-Ascends : (t : List (Option Child)) (k : ℕ) → Ascends (edges_from t k)
 edges-Ascends [] k = tt
 edges-Ascends (None ∷ t) k = edges-Ascends t (k + 1)
@@ -47,7 +47,7 @@ length-edges [] k = refl
 length-edges (None ∷ t) k = let ih : length (edges_from t (k + 1)) ≡ count_by is_some t = length-edges t (k + 1) in omega (arith, ih, sum_by-cons one None t)
 length-edges (Some c ∷ t) k = let ih : length (edges_from t (k + 1)) ≡ count_by is_some t = length-edges t (k + 1) in omega (arith, ih, sum_by-cons one (Some c) t)
 
--- something counts as one
+-- an option with a value counts as one
 one-some : (o : Option Child) → IsSome o → one o ≡ 1
 one-some None h = absurd (true≢false (sym h))
 one-some (Some c) h = refl
@@ -56,14 +56,14 @@ one-none : (o : Option Child) → o ≡ None → one o ≡ 0
 one-none o e = ap one e
 
 module _ (t : List (Option Child)) (b : ℕ) (l : b < length t) where
-  -- what stands at a byte once one place is written
+  -- the child at a byte after its entry was written
   at-set : (o : Option Child) → child_at (edges_of (set t b o)) b ≡ o
   at-set o = child_at-edges (set t b o) b ∙ get_or-set_same t b o None l
 
   off-set : (o : Option Child) (c : ℕ) → c ≢ b → child_at (edges_of (set t b o)) c ≡ child_at (edges_of t) c
   off-set o c off = child_at-edges (set t b o) c ∙ get_or-set_other t b c o None off ∙ sym (child_at-edges t c)
 
-  -- a child at a byte that had none
+  -- a child is added at a byte that had none
   pub table_adds : (to : Child) → child_at (edges_of t) b ≡ None → AddsChild (edges_of t) (edges_of (set t b (Some to))) b to
   table_adds to none = record {
     added = at-set (Some to);
@@ -74,7 +74,7 @@ module _ (t : List (Option Child)) (b : ℕ) (l : b < length t) where
     ascends = edges-Ascends (set t b (Some to)) 0;
   }
 
-  -- no child at a byte that had one
+  -- the child is removed at a byte that had one
   pub table_drops : IsSome (child_at (edges_of t) b) → DropsChild (edges_of t) (edges_of (set t b None)) b
   table_drops some = record {
     gone = at-set None;
@@ -86,7 +86,7 @@ module _ (t : List (Option Child)) (b : ℕ) (l : b < length t) where
     ascends = edges-Ascends (set t b None) 0;
   }
 
-  -- another child at a byte that had one
+  -- the child is replaced at a byte that had one
   pub table_redirects : (to : Child) → IsSome (child_at (edges_of t) b) → RedirectsChild (edges_of t) (edges_of (set t b (Some to))) b to
   table_redirects to some = record {
     now = at-set (Some to);
@@ -98,7 +98,7 @@ module _ (t : List (Option Child)) (b : ℕ) (l : b < length t) where
     ascends = edges-Ascends (set t b (Some to)) 0;
   }
 
--- a table that grew by the edges' account has one child more
+-- a table whose edges have one more child has one more child
 pub filled-adds : (t u : List (Option Child)) (n b : ℕ) (to : Child) → length u ≡ length t → Filled n t → AddsChild (edges_of t) (edges_of u) b to → Filled (n + 1) u
 filled-adds t u n b to same f a =
     let w : length t ≡ 256 = f.wide in
@@ -113,7 +113,7 @@ filled-drops t u n b same f a =
     let l : length (edges_of u) + 1 ≡ length (edges_of t) = a.shorter in
     (omega (arith, length-edges t 0, length-edges u 0), record { wide = omega arith; counted = omega (arith, length-edges t 0, length-edges u 0) })
 
--- a child found after bytes without one
+-- a child found after bytes with no child is the first from the byte on
 pub from-some : (t : List (Option Child)) (b i : ℕ) (to : Child) → b ≤ i → get_or t i None ≡ Some to → ((c : ℕ) → b ≤ c → c < i → get_or t c None ≡ None) → IsFrom (edges_of t) b (Some (record { byte = i; to = to }))
 from-some t b i to l is none = (l, child_at-edges t i ∙ is, λ c lo hi. child_at-edges t c ∙ none c lo hi)
 
@@ -130,12 +130,12 @@ below-some t b i to l is none = (l, child_at-edges t i ∙ is, λ c lo hi. child
 pub below-none : (t : List (Option Child)) (b : ℕ) → ((c : ℕ) → c < b → get_or t c None ≡ None) → IsPrevious (edges_of t) b None
 below-none t b none c hi = child_at-edges t c ∙ none c hi
 
--- the edge after a byte is the one from the next on
+-- the first edge from the next byte on is the edge after a byte
 pub next-of-from : (es : List Edge) (b : ℕ) (o : Option Edge) → IsFrom es (b + 1) o → IsNext es b o
 next-of-from es b None h = λ c l. h c (omega arith)
 next-of-from es b (Some e) h = (let l : b + 1 ≤ e.byte = h.0 in omega arith, h.1, λ c lo hi. h.2 c (omega arith) hi)
 
--- an edge stands somewhere, where there is one
+-- the child at the byte of the first edge is the child of that edge
 pub first_there : (x : Edge) (es : List Edge) → child_at (x ∷ es) x.byte ≡ Some x.to
 first_there x es = let t : eqb x.byte x.byte ≡ true = eq-eqb x.byte x.byte refl in rw t refl
 
@@ -143,11 +143,11 @@ pub not-empty : (es : List Edge) → 0 < length es → ((c : ℕ) → child_at e
 not-empty [] l h = omega arith
 not-empty (x ∷ es) l h = let e : Some x.to ≡ None = sym (first_there x es) ∙ h x.byte in absurd cc
 
--- no edge stands at what is no byte
+-- no edge has a byte that is 256 or more
 pub edges-bytes : (t : List (Option Child)) → length t ≡ 256 → (c : ℕ) → 256 ≤ c → child_at (edges_of t) c ≡ None
 edges-bytes t w c l = child_at-edges t c ∙ get_or_past t c None (omega arith)
 
--- the edge below 256 is the greatest
+-- the last edge with a byte less than 256 has the greatest byte
 pub greatest-of-below : (es : List Edge) (e : Edge) → ((c : ℕ) → 256 ≤ c → child_at es c ≡ None) → IsPrevious es 256 (Some e) → IsEnd false es e
 greatest-of-below es e w h = record {
   there = h.1;

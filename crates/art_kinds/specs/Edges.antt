@@ -24,17 +24,17 @@ abbrev pub count_below : List ℕ → ℕ → ℕ
 count_below [] b = 0
 count_below (x ∷ xs) b = if ltb x b then suc (count_below xs b) else 0
 
--- the edges with one more, before the first with a byte that is not less
+-- the edges with one more, before the first edge with a byte that is not less
 abbrev pub edges_with : List Edge → Edge → List Edge
 edges_with [] e = e ∷ []
 edges_with (x ∷ xs) e = if ltb x.byte e.byte then x ∷ edges_with xs e else e ∷ x ∷ xs
 
--- the edges without the first at a byte
+-- the edges without the first edge at a byte
 abbrev pub edges_without : List Edge → ℕ → List Edge
 edges_without [] b = []
 edges_without (x ∷ xs) b = if eqb x.byte b then xs else x ∷ edges_without xs b
 
--- the edges, with the first at a byte redirected
+-- the edges, with the first edge at a byte redirected
 abbrev pub edges_with_child : List Edge → ℕ → Child → List Edge
 edges_with_child [] b to = []
 edges_with_child (e ∷ es) b to = if eqb e.byte b then record { byte = b; to = to } ∷ es else e ∷ edges_with_child es b to
@@ -82,7 +82,7 @@ abbrev pub later : Option Edge → Edge → Edge
 later None e = e
 later (Some x) e = x
 
--- the last edge with a byte less than a byte, found before the first that is not less
+-- the last edge with a byte less than a byte, of the edges before the first that is not less
 abbrev pub before : List Edge → ℕ → Option Edge
 before [] b = None
 before (e ∷ es) b = if ltb e.byte b then Some (later (before es b) e) else None
@@ -97,7 +97,7 @@ abbrev pub Precedes : Bool → ℕ → ℕ → Type 0
 Precedes true b c = b < c
 Precedes false b c = c < b
 
--- the edge with the least byte, or the one with the greatest
+-- the edge with the least byte, or the edge with the greatest byte
 pub record IsEnd (is_first : Bool) (es : List Edge) (e : Edge) : Type 0 where
   pub there : child_at es e.byte ≡ Some e.to
   pub end : (c : ℕ) → Precedes is_first c e.byte → child_at es c ≡ None

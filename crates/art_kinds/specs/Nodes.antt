@@ -68,7 +68,7 @@ abbrev pub over : ℕ → Option Node → ℕ
 over f None = 0
 over f (Some x) = length x.edges - f
 
--- the sum of that over all nodes of a store
+-- the sum of `over` for all nodes of a store
 abbrev pub grown : ℕ → Store Node → ℕ
 grown f s = sum_by (over f) s.slots
 
@@ -126,7 +126,7 @@ pub record Makes (old new : ℕ → Option Node) (n depth : ℕ) (prefix : List 
   pub is : new n ≡ Some (record { depth = depth; prefix = prefix; edges = low ∷ high ∷ [] })
   pub others : (j : ℕ) → j ≢ n → new j ≡ old j
 
--- a node has another number, or the same one, and the other nodes are unchanged
+-- a node has another number, or the same number, and the other nodes are unchanged
 pub record Renames (old new : ℕ → Option Node) (n m : ℕ) : Type 0 where
   pub node : Node
   pub was : old n ≡ Some node

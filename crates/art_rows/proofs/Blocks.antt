@@ -18,7 +18,7 @@ times-other m ns n t = sum_by-cons (λ k. cond (eqb k n) 1 0) m ns ∙ rw t (ome
 times-append : (xs ys : List ℕ) (n : ℕ) → times (xs ++ ys) n ≡ times xs n + times ys n
 times-append xs ys n = sum_by-append (λ k. cond (eqb k n) 1 0) xs ys
 
--- what stands nowhere is not in the list
+-- a number that occurs 0 times is not in the list
 pub among-times : (ns : List ℕ) (n : ℕ) → times ns n ≡ 0 → among ns n ≡ false
 among-times [] n e = refl
 among-times (m ∷ ns) n e = elim (eqb_tells m n) [
@@ -26,14 +26,14 @@ among-times (m ∷ ns) n e = elim (eqb_tells m n) [
   | inr t ↦ (let a = times-other m ns n t.0 in rw t.0 (among-times ns n (omega arith)))
 ]
 
--- what stands among the first stands in the list
+-- a number occurs among the first k at most as often as in the list
 pub times-take : (ns : List ℕ) (k n : ℕ) → times (take k ns) n ≤ times ns n
 times-take ns k n =
     let a = times-append (take k ns) (drop k ns) n in
     let b : times (take k ns ++ drop k ns) n ≡ times ns n = ap (λ l. times l n) (take-append-drop k ns) in
     omega arith
 
--- the number at a place stands there
+-- the number at a place occurs in the list
 pub next_there : (ns : List ℕ) (k d : ℕ) → k < length ns → 0 < times ns (get_or ns k d)
 next_there [] k d l = absurd (omega arith)
 next_there (m ∷ ns) zero d l = (let e = times-same m ns m (eqb_same m) in omega arith)
@@ -42,7 +42,7 @@ next_there (m ∷ ns) (suc k) d l = elim (eqb_tells m (get_or ns k d)) [
   | inr t ↦ (let e = times-other m ns (get_or ns k d) t.0 in let i = next_there ns k d (omega arith) in omega arith)
 ]
 
--- the next number is not among those before it
+-- the number at a place is not among the numbers before it
 pub next_fresh : (ns : List ℕ) (k d : ℕ) → ArePlaces ns → k < length ns → among (take k ns) (get_or ns k d) ≡ false
 next_fresh ns k d p l = among-times (take k ns) (get_or ns k d) (go ns k l (p.once (get_or ns k d)))
   where
@@ -54,7 +54,7 @@ next_fresh ns k d p l = among-times (take k ns) (get_or ns k d) (go ns k l (p.on
       | inr t ↦ (let a = times-other m ns (get_or ns k d) t.0 in times-other m (take k ns) (get_or ns k d) t.0 ∙ go ns k (omega arith) (omega arith))
     ]
 
--- none is less than the first, or as great as the one after the last
+-- a number less than the first of a range, or greater than the last, is not in the range
 times-range-outside : (first n c : ℕ) → (c < first) ⊎ (first + n ≤ c) → times (range_with_len first n) c ≡ 0
 times-range-outside first zero c h = refl
 times-range-outside first (suc n) c h =
@@ -75,7 +75,7 @@ times-range first (suc n) c = elim (eqb_tells first c) [
       omega arith)
 ]
 
--- the cells of a block in order
+-- the cells of a block, in order, are places
 pub cells-apart : ArePlaces (range_with_len 0 ROW)
 cells-apart = record {
   once = λ c. times-range 0 ROW c;
@@ -103,15 +103,15 @@ within_drop ns k w n h = w n (
     let b : times (take k ns ++ drop k ns) n ≡ times ns n = ap (λ l. times l n) (take-append-drop k ns) in
     omega arith)
 
--- a cell at a place is one
+-- the cell at a place is a cell of a block
 pub within_at : (ns : List ℕ) (k d : ℕ) → AreWithin ns → k < length ns → get_or ns k d < ROW
 within_at ns k d w l = w (get_or ns k d) (next_there ns k d l)
 
--- the first cell, and the others
+-- if all cells are cells of a block, so are the first cell and the others
 pub within_cons : (n : ℕ) (ns : List ℕ) → AreWithin (n ∷ ns) → (n < ROW) × AreWithin ns
 within_cons n ns w = (w n (let e = times-same n ns n (eqb_same n) in omega arith), within_drop (n ∷ ns) 1 w)
 
--- the last cell, and the others
+-- if all cells are cells of a block, so are the last cell and the others
 pub within_more : (ns : List ℕ) (n : ℕ) → AreWithin (ns ++ n ∷ []) → (n < ROW) × AreWithin ns
 within_more ns n w = (
   w n (let a = times-append ns (n ∷ []) n in let e = times-same n [] n (eqb_same n) in omega arith),
@@ -120,17 +120,17 @@ within_more ns n w = (
 
 -- ---- the numbers of cells
 
--- so many as there are cells
+-- there are as many numbers as cells
 pub length-numbers : (first : ℕ) (cells : List ℕ) → length (numbers_at first cells) ≡ length cells
 length-numbers first cells = length-map cells (λ c. first + c)
 
--- the number at a place
+-- the number at a place is `first` plus the cell at that place
 pub nth-numbers : (first : ℕ) (cells : List ℕ) (k d : ℕ) → k < length cells → nth (numbers_at first cells) k ≡ Some (first + get_or cells k d)
 nth-numbers first [] k d l = absurd (omega arith)
 nth-numbers first (c ∷ cells) zero d l = refl
 nth-numbers first (c ∷ cells) (suc k) d l = nth-numbers first cells k d (omega arith)
 
--- a number stands there as its cell does
+-- a number is among the numbers if and only if its cell is among the cells
 pub among-numbers_at : (first : ℕ) (cells : List ℕ) (c : ℕ) → among (numbers_at first cells) (first + c) ≡ among cells c
 among-numbers_at first [] c = refl
 among-numbers_at first (d ∷ cells) c = elim (eqb_tells d c) [
@@ -138,7 +138,7 @@ among-numbers_at first (d ∷ cells) c = elim (eqb_tells d c) [
   | inr t ↦ (let e : eqb (first + d) (first + c) ≡ false = eqb_other (first + d) (first + c) (λ s. t.1 (omega arith)) in rw (t.0, e) (among-numbers_at first cells c))
 ]
 
--- a number that stands there is that of a cell
+-- the row of each number of the cells of block b is b
 pub number_of : (b : ℕ) (cells : List ℕ) → AreWithin cells → (n : ℕ) → among (numbers_at (ROW * b) cells) n ≡ true → row_of n ≡ b
 number_of b [] w n h = absurd cc
 number_of b (c ∷ cells) w n h = elim (eqb_tells (ROW * b + c) n) [
@@ -146,14 +146,14 @@ number_of b (c ∷ cells) w n h = elim (eqb_tells (ROW * b + c) n) [
   | inr t ↦ number_of b cells (within_cons c cells w).1 n (rw t.0 at h)
 ]
 
--- of the first so many cells
+-- the first k cells have k numbers
 pub length-first : (first k : ℕ) (cells : List ℕ) → k ≤ length cells → length (numbers_at first (take k cells)) ≡ k
 length-first first k cells l = length-numbers first (take k cells) ∙ length-take-le k cells l
 
--- a cell is put at a place
+-- a cell inserted at a place inserts its number at that place
 pub numbers-put : (first c place : ℕ) (cells : List ℕ) → numbers_at first (take place cells ++ c ∷ drop place cells) ≡ take place (numbers_at first cells) ++ (first + c) ∷ drop place (numbers_at first cells)
 numbers-put first c place cells = map-append (λ d. first + d) (take place cells) (c ∷ drop place cells) ∙ rw (take-map (λ d. first + d) place cells, drop-map (λ d. first + d) place cells) refl
 
--- the cell at a place is taken out
+-- a cell removed at a place removes the number at that place
 pub numbers-cut : (first place : ℕ) (cells : List ℕ) → numbers_at first (take place cells ++ drop (place + 1) cells) ≡ take place (numbers_at first cells) ++ drop (place + 1) (numbers_at first cells)
 numbers-cut first place cells = map-append (λ d. first + d) (take place cells) (drop (place + 1) cells) ∙ rw (take-map (λ d. first + d) place cells, drop-map (λ d. first + d) (place + 1) cells) refl

@@ -13,29 +13,29 @@ use Rattle.art_rows.specs.declared.leaves.Leaf.{Leaf}
 use Rattle.art_rows.proofs.FilingLemmas.{record_is, no_record, in_rows}
 use Rattle.art_rows.proofs.NumbersLemmas.{eqb_same, eqb_other, same_distinct}
 
--- a copy that is the same
+-- a copy by equality is equal
 pub same_copy : {X : Type 0} (o p : Option X) → IsSlotClone (λ x y. y ≡ x) o p → p ≡ o
 same_copy None p e = e
 same_copy (Some x) None c = absurd c
 same_copy (Some x) (Some y) e = ap Some e
 
--- the same records are linked alike
+-- equal records are linked in the same way
 module _ {X : Type 0} (leaves copies : ℕ → Option (Link X)) (h : (j : ℕ) → IsSlotClone (λ x y. y ≡ x) (leaves j) (copies j)) (used count : ℕ) (u : count ≡ used) where
   same_leaves : copies ≡ leaves
   same_leaves i j = same_copy (leaves j) (copies j) (h j) i
 
-  -- the links lead to the same
+  -- the links lead to the same pairs
   pub same_pairs : (first : Option ℕ) → follow copies count first ≡ follow leaves used first
   same_pairs first = ap (λ (f : ℕ → Option (Link X)). follow f count first) same_leaves ∙ ap (λ n. follow leaves n first) u
 
-  -- and all are linked
+  -- the copies are linked
   pub same_links : (first last : Option ℕ) → Links leaves first last used (follow leaves used first) → Links copies first last count (follow copies count first)
   same_links first last l =
       let a : Links copies first last used (follow copies used first) = subst (λ (f : ℕ → Option (Link X)). Links f first last used (follow f used first)) (sym same_leaves) l in
       subst (λ n. Links copies first last n (follow copies n first)) (sym u) a
 
 module _ {K V : Type 0} where
-  -- the pair under a number is that of its record
+  -- the pair under a number is the pair of its record
   leaf-gather : (leaves : ℕ → Option (Leaf K V)) (ns : List ℕ) (i : ℕ) (x : Leaf K V) → leaves i ≡ Some x → among ns i ≡ true → leaf_in (gather leaves ns) i ≡ Some (x.key, x.value)
   leaf-gather leaves [] i x e a = absurd cc
   leaf-gather leaves (n ∷ ns) i x e a = elim (cases_eq n i) [
@@ -48,7 +48,7 @@ module _ {K V : Type 0} where
       past leaves n i rest q (Some y) ih = rw q ih
 
 module _ {K V : Type 0} (is_key : K → K → Type 0) (is_value : V → V → Type 0) where
-  -- what a copy of a record has
+  -- a copy of a record has a clone of the key and a clone of the value
   abbrev IsLeafCopy : Leaf K V → Leaf K V → Type 0
   IsLeafCopy x y = is_key x.key y.key × is_value x.value y.value
 
@@ -59,7 +59,7 @@ module _ {K V : Type 0} (is_key : K → K → Type 0) (is_value : V → V → Ty
   numbers-copies (p ∷ ps) [] h = absurd h
   numbers-copies (p ∷ ps) (q ∷ qs) h = ap (λ n. n ∷ map (λ p. p.0) qs) h.0.number ∙ ap (λ ns. p.0 ∷ ns) (numbers-copies ps qs h.1)
 
-  -- what names nothing
+  -- a number with no pair has no pair among the copies
   none-copies : (ps qs : List (Numbered (K × V))) → AreCopies is_key is_value ps qs → (i : ℕ) → leaf_in ps i ≡ None → leaf_in qs i ≡ None
   none-copies [] [] h i e = refl
   none-copies [] (q ∷ qs) h i e = absurd h
@@ -80,7 +80,7 @@ module _ {K V : Type 0} (is_key : K → K → Type 0) (is_value : V → V → Ty
         by_record ps qs a (Some x) None c = absurd c
         by_record ps qs a (Some x) (Some y) c = (record { number = refl; key = c.0; value = c.1 }, a)
 
-    -- copies are filed alike
+    -- the copies are filed in the same way
     pub files-copies : (rows : List (Numbered (List ℕ))) (used count : ℕ) → count ≡ used → Files leaves rows used (gather leaves (numbers rows)) → Files copies rows count (gather copies (numbers rows))
     files-copies rows used count u f = record {
       distinct = same_distinct (gather leaves (numbers rows)) (gather copies (numbers rows)) (sym (numbers-copies (gather leaves (numbers rows)) (gather copies (numbers rows)) (gather-copies (numbers rows)))) f.distinct;

@@ -17,7 +17,7 @@ use Rattle.art_rows.proofs.FilingLemmas.{located_at, row_has, how_many, stands_t
 use Rattle.art_rows.proofs.RowChanges.{spot_after, own-in}
 use Rattle.art_rows.proofs.Rooms.{spot_ids, spot_end, no_rows, IsLast, is_last, last_end}
 
--- a row that has as many numbers as fit has no room
+-- a row with at least 64 numbers is full
 pub is_full : (o : Option (List ℕ)) (n : ℕ) → IfSome o (λ ids. n ≡ length ids) → n ≤ 64 → 64 ≤ n → IfSome o (λ ids. length ids ≡ 64)
 is_full None n len most least = len
 is_full (Some ids) n len most least = omega arith
@@ -27,7 +27,7 @@ pub not_after : (rows : List (Numbered (List ℕ))) → AreDistinct rows → (r 
 not_after rows d r next has after e = (let a : is_at (number_after rows r) r ≡ false = after_other rows r d has in let b : eqb next r ≡ false = rw after at a in let t : true ≡ false = sym (eq-eqb next r e) ∙ b in absurd cc)
 
 module _ {K V : Type 0} {leaves : ℕ → Option (Leaf K V)} {rows : List (Numbered (List ℕ))} {count : ℕ} {ps : List (Numbered (K × V))} (f : Files leaves rows count ps) where
-  -- what stands in a row is a leaf
+  -- a number in a row is the number of a leaf
   pub has_there : (p : Position) (ids : List ℕ) → leaf_in rows p.row ≡ Some ids → (i : ℕ) → nth ids p.place ≡ Some i → Has ps i
   has_there p ids at i e =
       let s = stands_there f i p ids at e in
@@ -35,26 +35,26 @@ module _ {K V : Type 0} {leaves : ℕ → Option (Leaf K V)} {rows : List (Numbe
       Has-among ps i (among-nth (map (λ q. q.0) ps) (index_of ps i) i n)
 
   module _ (i : ℕ) (has : Has ps i) (p : Position) (is : position_at rows (index_of ps i) ≡ Some p) (ids : List ℕ) (at : leaf_in rows p.row ≡ Some ids) where
-    -- the row of the leaf
+    -- the row of the leaf has the numbers `ids`
     pub own_ids : leaf_in rows (row_of i) ≡ Some ids
     own_ids = ap (leaf_in rows) (sym (located_at f i has p is).0) ∙ at
 
-    -- and its place there
+    -- the place is the place of the leaf in its row
     pub own_place : p.place ≡ place_in ids i
     own_place = rw own_ids at (located_at f i has p is).1
 
     own_row : p.row ≡ row_of i
     own_row = (located_at f i has p is).0
 
-    -- a pair may come after the leaf, if its row is not full, or if the leaf is the last and the
-    -- next row is not full
+    -- a pair may be placed after the leaf, if its row is not full, or if the leaf is the last and
+    -- the next row is not full
     pub has_way : (length ids < 64) ⊎ ((p.place ≡ 63) × HasRoomAfter rows p.row) → HasWay rows (Some i)
     has_way h = rw own_ids (λ full. elim h [
       | inl l ↦ absurd (omega arith)
       | inr e ↦ (let o = own_place in let z = e.0 in omega arith, subst (HasRoomAfter rows) own_row e.1)
     ])
 
-    -- in a full row it is the last, and the next row is not full
+    -- in a full row `HasWay` means that the leaf is the last, and that the next row is not full
     pub way_means : length ids ≡ 64 → HasWay rows (Some i) → (p.place ≡ 63) × HasRoomAfter rows p.row
     way_means full way =
         let w : length ids ≡ 64 → (place_in ids i + 1 ≡ 64) × HasRoomAfter rows (row_of i) = rw own_ids at way in
@@ -62,7 +62,7 @@ module _ {K V : Type 0} {leaves : ℕ → Option (Leaf K V)} {rows : List (Numbe
         let z = (w full).0 in
         (omega arith, subst (HasRoomAfter rows) (sym own_row) (w full).1)
 
-    -- or else the row is cut
+    -- if the row is full, `IsCrowded` holds for the leaf and the last leaf of the row
     pub crowded : length ids ≡ 64 → (last : ℕ) → nth ids 63 ≡ Some last → IsCrowded rows (Some i) last
     crowded full last end = record {
       leaf = i;
@@ -74,11 +74,11 @@ module _ {K V : Type 0} {leaves : ℕ → Option (Leaf K V)} {rows : List (Numbe
       end = end;
     }
 
-  -- the last leaf of a row
+  -- the leaf at the last place of a row is the last leaf of the row
   pub row_last : (r : ℕ) (ids : List ℕ) → leaf_in rows r ≡ Some ids → (last : ℕ) → nth ids (length ids - 1) ≡ Some last → IsRowLast rows last
   row_last r ids at last end = rw (own-in rows f.own r ids at last (among-nth ids (length ids - 1) last end), at) end
 
-  -- a place in front is that of no leaf
+  -- a position at place 0 is after no leaf, so no pairs come before it
   pub in_front : (prev : Option ℕ) → IfSome prev (Has ps) → (p : Position) → IfSome prev (λ i. IsAfter rows i p) → p.place ≡ 0 → spot_index prev ps ≡ 0
   in_front None has p after z = refl
   in_front (Some i) has p after z = go (leaf_in rows (row_of i)) (row_has f i has) after.1
@@ -87,7 +87,7 @@ module _ {K V : Type 0} {leaves : ℕ → Option (Leaf K V)} {rows : List (Numbe
       go None h e = absurd (let t : false ≡ true = h in cc)
       go (Some ids) h e = absurd (omega arith)
 
-  -- a pair that has a way after a leaf of a full row comes at its end, and the next row is not full
+  -- in a full row `HasWay` means that the place is the end, and that the next row is not full
   pub at_end : (prev : Option ℕ) → IfNone prev (⊥) → (p : Position) → IfSome prev (λ i. IsAfter rows i p) → HasWay rows prev → (ids : List ℕ) → leaf_in rows p.row ≡ Some ids → length ids ≡ 64 → (p.place ≡ 64) × HasRoomAfter rows p.row
   at_end None some p after way ids at full = absurd some
   at_end (Some i) some p after way ids at full =
@@ -96,7 +96,7 @@ module _ {K V : Type 0} {leaves : ℕ → Option (Leaf K V)} {rows : List (Numbe
       let b : length ids ≡ 64 → (place_in ids i + 1 ≡ 64) × HasRoomAfter rows (row_of i) = rw own at way in
       (a ∙ (b full).0, subst (HasRoomAfter rows) (sym after.0) (b full).1)
 
--- a leaf of a full row has no place after it in its row
+-- a full row has no place for a pair after one of its leaves
 pub no_place : (rows : List (Numbered (List ℕ))) (prev : Option ℕ) (p : Position) → IfSome prev (λ i. IsAfter rows i p) → (ids : List ℕ) → leaf_in rows p.row ≡ Some ids → length ids ≡ 64 → HasPlace rows prev → ⊥
 no_place rows None p after ids at full h = h
 no_place rows (Some i) p after ids at full h =
@@ -106,7 +106,7 @@ no_place rows (Some i) p after ids at full h =
 
 -- ---- a row without its last number
 
--- what stands among the first numbers
+-- an item at a place among the first k is unchanged
 nth-left : {X : Type 0} (xs ys : List X) (k j : ℕ) → j < k → k ≤ length xs → nth (take k xs ++ ys) j ≡ nth xs j
 nth-left xs ys zero j l w = absurd (omega arith)
 nth-left [] ys (suc k) j l w = absurd (omega arith)
@@ -132,12 +132,12 @@ module _ (rows mid : List (Numbered (List ℕ))) (r : ℕ) (ids : List ℕ) (m :
   left_end pos n e = nth-left ids (drop (m + 1) ids) m (m - 1) (omega arith) (omega arith) ∙ e
 
 module _ {K V : Type 0} {leaves : ℕ → Option (Leaf K V)} {rows : List (Numbered (List ℕ))} {count : ℕ} {ps : List (Numbered (K × V))} (f : Files leaves rows count ps) (last : ℕ) (has : Has ps last) (ids : List ℕ) (m : ℕ) (at : leaf_in rows (row_of last) ≡ Some ids) (len : length ids ≡ m + 1) (end : nth ids m ≡ Some last) where
-  -- where the last leaf of a row is
+  -- the position of the last leaf of a row
   pub carry_at : position_at rows (index_of ps last) ≡ Some (record { row = row_of last; place = m })
   carry_at = stands_there f last (record { row = row_of last; place = m }) ids at end
 
   module _ (pos : 0 < m) (before : ℕ) (then : nth ids (m - 1) ≡ Some before) where
-    -- and before it
+    -- the leaf before the last leaf of the row is `before`
     pub carry_before : number_before ps last ≡ Some before
     carry_before = before_there f last before has (record { row = row_of last; place = m }) ids at pos end then
 
@@ -151,7 +151,7 @@ module _ {K V : Type 0} {leaves : ℕ → Option (Leaf K V)} {rows : List (Numbe
       e : nth (left rows mid (row_of last) ids m at len is) (m - 1) ≡ Some before
       e = left_end rows mid (row_of last) ids m at len is pos before then
 
-      -- without it that one is the last of the row
+      -- without the last leaf, `before` is still a leaf
       pub carry_has : Has qs before
       carry_has = has_there h p (left rows mid (row_of last) ids m at len is) there before e
 
@@ -161,10 +161,10 @@ module _ {K V : Type 0} {leaves : ℕ → Option (Leaf K V)} {rows : List (Numbe
           let n : length s.ids ≡ m = spot_ids s h.apart (λ l. length l ≡ m) (rw there (left_length rows mid (row_of last) ids m at len is)) in
           spot_end s h.apart (omega arith)
 
--- ---- the end of all
+-- ---- the end of all rows
 
 module _ {K V : Type 0} {leaves : ℕ → Option (Leaf K V)} {rows : List (Numbered (List ℕ))} {count : ℕ} {ps : List (Numbered (K × V))} (f : Files leaves rows count ps) where
-  -- with no last position there are no pairs and no rows
+  -- if there is no last position, there are no pairs and no rows
   pub nothing_there : position_at rows (length ps - 1) ≡ None → (ps ≡ []) × (rows ≡ [])
   nothing_there e =
       let none = last_none ps (none_there f (length ps - 1) e) in
@@ -172,7 +172,7 @@ module _ {K V : Type 0} {leaves : ℕ → Option (Leaf K V)} {rows : List (Numbe
       (none, no_rows rows f.filled n)
 
   module _ (p : Position) (at : position_at rows (length ps - 1) ≡ Some p) where
-    -- the last position is that of the last row
+    -- the last position is at the end of the last row
     pub at_last : IsLast rows p
     at_last = is_last rows f.filled (length ps - 1) p at (ap (λ n. n - 1) (sym (how_many f)))
 

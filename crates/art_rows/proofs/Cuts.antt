@@ -22,11 +22,11 @@ module _ {start now : List (Numbered (List ℕ))} {row count : ℕ} (x : IsCut s
   low_lacks : Lacks x.before row
   low_lacks = (distinct_parts x.before (x.high ∷ x.after) (row, x.low) (subst AreDistinct x.now_is d)).0
 
-  -- the row that was full
+  -- the row that was full has the numbers `low`
   pub cut_low : leaf_in now row ≡ Some x.low
   cut_low = ap (λ rs. leaf_in rs row) x.now_is ∙ leaf_in-split row x.low (x.high ∷ x.after) x.before low_lacks
 
-  -- how many numbers it has left
+  -- the row that was full has 64 numbers less `count`
   pub cut_length : (ids : List ℕ) → leaf_in now row ≡ Some ids → length ids + count ≡ 64
   cut_length ids at =
       let a : Some x.low ≡ Some ids = sym cut_low ∙ at in
@@ -45,11 +45,11 @@ module _ {start now : List (Numbered (List ℕ))} {row count : ℕ} (x : IsCut s
   high_lacks : Lacks (x.before ++ (row, x.low) ∷ []) x.high.0
   high_lacks = (distinct_parts (x.before ++ (row, x.low) ∷ []) x.after x.high (subst AreDistinct high_is d)).0
 
-  -- what it has
+  -- the new row has the numbers `high`
   pub cut_high : leaf_in now x.high.0 ≡ Some x.high.1
   cut_high = ap (λ rs. leaf_in rs x.high.0) high_is ∙ leaf_in-split x.high.0 x.high.1 x.after (x.before ++ (row, x.low) ∷ []) high_lacks
 
-  -- the row after it has room
+  -- if fewer than 64 numbers have moved, the new row is not full
   pub cut_after : count < 64 → (next : ℕ) → number_after now row ≡ Some next → IfSome (leaf_in now next) (λ ids. length ids < 64)
   cut_after less next after =
       let p : Some x.high.0 ≡ Some next = sym cut_next ∙ after in
@@ -57,7 +57,7 @@ module _ {start now : List (Numbered (List ℕ))} {row count : ℕ} (x : IsCut s
       let k = x.high_len in
       rw (← q, cut_high) (omega arith)
 
-  -- one number more in the new row
+  -- if one more number moves to the new row, `count` is higher by 1
   pub cut_more : (ids : List ℕ) → leaf_in now row ≡ Some ids → (rest : List ℕ) → length rest + 1 ≡ length ids → (mid : List (Numbered (List ℕ))) → mid ≡ with_pair now row rest → AreDistinct mid → (next : ℕ) → number_after now row ≡ Some next → (n : ℕ) (new : List (Numbered (List ℕ))) → IfSome (leaf_in mid next) (λ more. new ≡ with_pair mid next (n ∷ more)) → IsCut start new row (count + 1)
   cut_more ids at rest less mid is e next after n new put =
       let a : Some x.low ≡ Some ids = sym cut_low ∙ at in
@@ -85,7 +85,7 @@ module _ {start now : List (Numbered (List ℕ))} {row count : ℕ} (x : IsCut s
         high_len = omega arith;
       }
 
--- the first number in the new row
+-- if the first number moves to a new row, `count` is 1
 pub cut_first : (rows : List (Numbered (List ℕ))) (row : ℕ) (ids : List ℕ) → leaf_in rows row ≡ Some ids → length ids ≡ 64 → (rest : List ℕ) → length rest + 1 ≡ 64 → (mid : List (Numbered (List ℕ))) → mid ≡ with_pair rows row rest → (s n : ℕ) (new : List (Numbered (List ℕ))) → new ≡ with_pair_after (Some row) (s, n ∷ []) mid → IsCut rows new row 1
 cut_first rows row ids at full rest less mid is s n new put =
     let x = parts rows row ids at in
@@ -103,7 +103,7 @@ cut_first rows row ids at full rest less mid is s n new put =
       high_len = refl;
     }
 
--- a row that is cut takes nothing from the turns
+-- if a full row is cut in half with a spare row, no turn is lost
 pub cut_room : {start now : List (Numbered (List ℕ))} {row : ℕ} → IsCut start now row 32 → (spare : ℕ) → turns (lengths start) (spare + 1) ≤ turns (lengths now) spare
 cut_room {start} {now} {row} x spare =
     let l = x.low_len in
@@ -118,7 +118,7 @@ module _ {start now : List (Numbered (List ℕ))} {row : ℕ} (d : AreDistinct n
     | inr e ↦ cut_after x d (omega arith) (row_of n) (rw (← is) e)
   ]
 
-  -- so a pair may come after it
+  -- so a pair may be placed after it
   pub near_way : HasWay now (Some n)
   near_way = not_full (leaf_in now (row_of n)) near_place (λ ids. (place_in ids n + 1 ≡ 64) × HasRoomAfter now (row_of n))
     where
@@ -127,11 +127,11 @@ module _ {start now : List (Numbered (List ℕ))} {row : ℕ} (d : AreDistinct n
       not_full (Some ids) h Q = λ full. absurd (omega arith)
 
 module _ {rows : List (Numbered (List ℕ))} {prev : Option ℕ} {last : ℕ} (x : IsCrowded rows prev last) where
-  -- where a row has to be cut, and there is room, there is a spare row
+  -- if a row has to be cut, and there is room, there is a spare row
   pub crowd_spare : (spare : ℕ) → 0 < row_room (lengths rows) spare → 0 < spare
   crowd_spare spare h = spare_full rows (row_of x.leaf) x.ids x.row x.full spare h
 
-  -- the row that is cut
+  -- the row that is cut is full, and `last` is its last number
   pub crowded_row : IfSome (leaf_in rows (row_of last)) (λ ids. (length ids ≡ 64) × (nth ids 63 ≡ Some last))
   crowded_row = rw (x.own, x.row) (x.full, x.end)
 
@@ -141,18 +141,18 @@ crowded_near {rows} {i} {last} x = (let e : Some i ≡ Some x.leaf = x.is in let
 
 -- ---- one leaf moves
 
--- a row that is begun after another
+-- a new row after another row does not change that row, and comes directly after it
 pub begun_row : (rows : List (Numbered (List ℕ))) (row : ℕ) (ids : List ℕ) → leaf_in rows row ≡ Some ids → (s : ℕ) (more : List ℕ) (new : List (Numbered (List ℕ))) → new ≡ with_pair_after (Some row) (s, more) rows → (leaf_in new row ≡ leaf_in rows row) × (number_after new row ≡ Some s)
 begun_row rows row ids at s more new put =
     let x = parts rows row ids at in
     let is : new ≡ x.before ++ (row, ids) ∷ (s, more) ∷ x.after = put ∙ ap (with_pair_after (Some row) (s, more)) (shown rows row ids at) ∙ with_pair_after-split row ids x.after (s, more) x.before x.lacks in
     (ap (λ rs. leaf_in rs row) is ∙ leaf_in-split row ids ((s, more) ∷ x.after) x.before x.lacks ∙ sym at, ap (λ rs. number_after rs row) is ∙ number_after-split row ids ((s, more) ∷ x.after) x.before x.lacks)
 
--- the numbers after others, where rows have other numbers
+-- if one row gets other numbers, the row after each row is unchanged
 pub same_next : (rows : List (Numbered (List ℕ))) (r j : ℕ) (ids : List ℕ) (new : List (Numbered (List ℕ))) → new ≡ with_pair rows r ids → number_after new j ≡ number_after rows j
 same_next rows r j ids new e = ap (λ rs. number_after rs j) e ∙ same_after (with_pair rows r ids) rows j (numbers-with_pair rows r ids)
 
--- a number that comes to the front of a row changes no other row
+-- a number inserted at the front of a row changes no other row
 pub front_row : (rows : List (Numbered (List ℕ))) (next n : ℕ) → Has rows next → (new : List (Numbered (List ℕ))) → IfSome (leaf_in rows next) (λ ids. new ≡ with_pair rows next (n ∷ ids)) → (r : ℕ) → r ≢ next → (leaf_in new r ≡ leaf_in rows r) × (number_after new r ≡ number_after rows r)
 front_row rows next n has new put r off = go (leaf_in rows next) has put
   where
@@ -163,7 +163,7 @@ front_row rows next n has new put r off = go (leaf_in rows next) has put
 -- ---- the leaf that moves
 
 module _ {K V : Type 0} {leaves : ℕ → Option (Leaf K V)} {rows : List (Numbered (List ℕ))} {count : ℕ} {ps : List (Numbered (K × V))} (f : Files leaves rows count ps) (last : ℕ) (has : Has ps last) (ids : List ℕ) (m : ℕ) (at : leaf_in rows (row_of last) ≡ Some ids) (len : length ids ≡ m + 1) (end : nth ids m ≡ Some last) (pos : 0 < m) (before : ℕ) (then : nth ids (m - 1) ≡ Some before) where
-  -- the leaf before it is of its row
+  -- the leaf before it is in the same row
   pub moved_row : row_of before ≡ row_of last
   moved_row = own-in rows f.own (row_of last) ids at before (among-nth ids (m - 1) before then)
 
@@ -172,7 +172,7 @@ module _ {K V : Type 0} {leaves : ℕ → Option (Leaf K V)} {rows : List (Numbe
     pub moved_fresh : qs ≡ without_number ps last → leaf_in ps to ≡ None
     moved_fresh rest = rw (rest, leaf_in-without_number ps last to f.distinct, eqb_other last to (λ e. apart (ap row_of (sym e)))) at fresh
 
-    -- the pair is in its place, under another number
+    -- the pair is in the same place, under another number
     pub moved_pairs : qs ≡ without_number ps last → (x : K × V) → leaf_in ps last ≡ Some x → (new : List (Numbered (K × V))) → new ≡ with_pair_after (Some before) (to, x) qs → new ≡ with_number ps last to
     moved_pairs rest x value new put = put ∙ ap (with_pair_after (Some before) (to, x)) rest ∙ carried ps last to before x f.distinct value (carry_before f last has ids m at len end pos before then)
 
@@ -183,7 +183,7 @@ module _ {K V : Type 0} {leaves : ℕ → Option (Leaf K V)} {rows : List (Numbe
         let off : before ≢ to = λ e. apart (ap row_of (sym e) ∙ moved_row) in
         rw (put, others-with_pair_after (Some before) (to, x) qs there (Lacks-from_leaf_in qs to fresh) before off) there
 
-    -- and is the last of the row
+    -- the leaf before it is the last leaf of the row
     pub moved_last : (new : List (Numbered (List ℕ))) → leaf_in new (row_of last) ≡ leaf_in mid (row_of last) → IsRowLast new before
     moved_last new same =
         let l = left_length rows mid (row_of last) ids m at len is in

@@ -1,4 +1,4 @@
--- The first and the last of a list of numbered pairs, taken out.
+-- The first and the last of a list of numbered pairs, removed.
 use Rattle.std.proofs.Common.{◌≡◌, ◌≢◌, ℕ, ◌-◌, List, [], ◌∷◌, ◌++◌, length, map, Some, None, sym, ap, ◌∙◌, refl}
 use Rattle.std.proofs.lemmas.Bool.{ne_eqb, eq-eqb}
 use Rattle.art_rows.specs.Numbers.{Numbered, leaf_in, Has, AreDistinct, last_number, without_number, first_number}
@@ -19,7 +19,7 @@ module _ {X : Type 0} where
   first_place [] id e = absurd cc
   first_place (p ∷ ps) id e = let h : p.0 ≡ id = cc in rw (eq-eqb p.0 id h) refl
 
-  -- the pairs are the first, and those without it
+  -- the pairs are the first pair, and the pairs without it
   pub first_off : (ps : List (Numbered X)) (id : ℕ) (x : X) → first_number ps ≡ Some id → leaf_in ps id ≡ Some x → ps ≡ (id, x) ∷ without_number ps id
   first_off [] id x e l = absurd cc
   first_off (p ∷ ps) id x e l =
@@ -42,7 +42,7 @@ module _ {X : Type 0} where
   pub last_has : (ps : List (Numbered X)) (id : ℕ) → nth (map (λ p. p.0) ps) (length ps - 1) ≡ Some id → Has ps id
   last_has ps id e = Has-last ps id (last_number-nth ps ∙ e)
 
-  -- the pairs are those without the last, and the last
+  -- the pairs are the pairs without the last pair, and the last pair
   pub last_off : (ps : List (Numbered X)) (id : ℕ) (x : X) → AreDistinct ps → last_number ps ≡ Some id → leaf_in ps id ≡ Some x → ps ≡ without_number ps id ++ (id, x) ∷ []
   last_off [] id x d e l = absurd cc
   last_off (p ∷ []) id x d e l =

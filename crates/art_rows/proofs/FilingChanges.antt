@@ -1,4 +1,4 @@
--- What a change of one leaf leaves of the filing.
+-- How a change of one leaf changes the filing.
 use Rattle.std.proofs.Common.{◌≡◌, ◌≢◌, ℕ, suc, ◌+◌, ◌*◌, ◌<◌, ◌≤◌, List, [], ◌∷◌, ◌++◌, length, map, take, drop, refl, sym, ap, subst, ◌∙◌, Option, Some, None, true, false, inl, inr, arith}
 use Rattle.std.specs.Prelude.{IfSome}
 use Rattle.std.proofs.lemmas.Bool.Decides.{eqb_tells}
@@ -17,7 +17,7 @@ use Rattle.art_rows.proofs.RowChanges.{PutsIn, puts_in, puts_row, spot-row, Take
 use Rattle.art_rows.proofs.RowsLemmas.{found, standing, standing-row, nth-place, among-numbers}
 use Rattle.art_rows.proofs.FilingLemmas.{record_is, in_rows, own_row, row_filled}
 
--- the numbers with one more
+-- the numbers, after a pair was placed
 numbers-placed : {K V : Type 0} (o : Option ℕ) (x : Numbered (K × V)) (ps : List (Numbered (K × V))) → IfSome o (Has ps) → map (λ p. p.0) (with_pair_after o x ps) ≡ take (spot_index o ps) (map (λ p. p.0) ps) ++ x.0 ∷ drop (spot_index o ps) (map (λ p. p.0) ps)
 numbers-placed None x ps h = refl
 numbers-placed (Some i) x [] h = absurd (let f : false ≡ true = h in cc)
@@ -30,7 +30,7 @@ numbers-placed {K = K} {V = V} (Some i) x (p ∷ ps) h = elim (eqb_tells p.0 i) 
     step m ns k = (let e : suc k + 1 ≡ suc (k + 1) = omega arith in rw e refl)
 
 module _ {K V : Type 0} {leaves : ℕ → Option (Leaf K V)} {rows : List (Numbered (List ℕ))} {count : ℕ} {ps : List (Numbered (K × V))} (f : Files leaves rows count ps) where
-  -- a record is out, and its number out of its row
+  -- if a record is removed, and its number is removed from its row, the others are filed
   pub files_removed : (id : ℕ) → Has ps id → (new : List (Numbered (List ℕ))) → TakesOut rows new (index_of ps id) id → (taken : ℕ → Option (Leaf K V)) → taken id ≡ None → ((j : ℕ) → j ≢ id → taken j ≡ leaves j) → (less : ℕ) → less + 1 ≡ count → Files taken new less (without_number ps id)
   files_removed id has new out taken gone rest less one = record {
     distinct = AreDistinct-without_number ps id f.distinct;
@@ -45,7 +45,7 @@ module _ {K V : Type 0} {leaves : ℕ → Option (Leaf K V)} {rows : List (Numbe
     counted = (let n = length-without_number ps id has in let c = f.counted in omega arith);
   }
 
-  -- another pair in a record
+  -- if a record gets another pair, the pairs are filed
   pub files_changed : (i : ℕ) (r : Leaf K V) → leaves i ≡ Some r → (y : K × V) → (changed : ℕ → Option (Leaf K V)) → changed i ≡ Some (record { key = y.0; value = y.1 }) → ((j : ℕ) → j ≢ i → changed j ≡ leaves j) → Files changed rows count (with_pair ps i y)
   files_changed i r was y changed now rest =
       let q = record_is f i r was in
@@ -64,7 +64,7 @@ module _ {K V : Type 0} {leaves : ℕ → Option (Leaf K V)} {rows : List (Numbe
         counted = f.counted ∙ sym (same_length (with_pair ps i y) ps same);
       }
 
-  -- the number of a leaf is out of its row
+  -- the number of a leaf is removed from its row
   pub taken_out : (id : ℕ) → Has ps id → (p : Position) → position_at rows (index_of ps id) ≡ Some p → (new : List (Numbered (List ℕ))) → IfSome (leaf_in rows p.row) (λ ids. length ids ≡ 1 → new ≡ without_number rows p.row) → IfSome (leaf_in rows p.row) (λ ids. length ids ≢ 1 → new ≡ with_pair rows p.row (take p.place ids ++ drop (p.place + 1) ids)) → TakesOut rows new (index_of ps id) id
   taken_out id has p at new one more =
       let s = standing rows (index_of ps id) p at in
@@ -75,7 +75,7 @@ module _ {K V : Type 0} {leaves : ℕ → Option (Leaf K V)} {rows : List (Numbe
         | inr t ↦ takes_more rows (index_of ps id) p s f.apart f.filled f.own id there t.1 new ((rw r at more) t.1)
       ]
 
-  -- a pair more, its number in a row
+  -- if a pair is added, and its number is added to the rows, the pairs are filed
   pub files_inserted : (o : Option ℕ) (n : ℕ) (k : K) (v : V) → IfSome o (Has ps) → leaf_in ps n ≡ None → (new : List (Numbered (List ℕ))) → PutsIn rows new (spot_index o ps) n → (made : ℕ → Option (Leaf K V)) → made n ≡ Some (record { key = k; value = v }) → ((j : ℕ) → j ≢ n → made j ≡ leaves j) → (more : ℕ) → more ≡ count + 1 → Files made new more (with_pair_after o (n, (k, v)) ps)
   files_inserted o n k v has fresh new out made now rest more one =
       let l : Lacks ps n = Lacks-from_leaf_in ps n fresh in
@@ -92,7 +92,7 @@ module _ {K V : Type 0} {leaves : ℕ → Option (Leaf K V)} {rows : List (Numbe
         counted = (let m = length-with_pair_after o (n, (k, v)) ps has in let c = f.counted in omega arith);
       }
 
-  -- a number of a row that none of its numbers is names nothing
+  -- a number that is not in its row has no pair
   own_fresh : (n : ℕ) → ((ids : List ℕ) → leaf_in rows (row_of n) ≡ Some ids → among ids n ≡ false) → leaf_in ps n ≡ None
   own_fresh n off = go (leaf_in ps n) refl
     where
@@ -104,7 +104,7 @@ module _ {K V : Type 0} {leaves : ℕ → Option (Leaf K V)} {rows : List (Numbe
           let r : leaf_in rows (row_of n) ≡ Some s.ids = ap (leaf_in rows) (sym (own_row f n h)) ∙ s.row in
           absurd (let a : true ≡ false = sym s.inside ∙ off s.ids r in cc)
 
-  -- the number that a row gives is of that row
+  -- a number that has the same row as each number of row r has the row r
   pub put_own : (r : ℕ) (ids : List ℕ) → leaf_in rows r ≡ Some ids → (n : ℕ) → ((m : ℕ) → among ids m ≡ true → row_of n ≡ row_of m) → row_of n ≡ r
   put_own r ids at n same = go ids at (row_filled f r ids at) same
     where
@@ -112,16 +112,16 @@ module _ {K V : Type 0} {leaves : ℕ → Option (Leaf K V)} {rows : List (Numbe
       go [] at z same = absurd (omega arith)
       go (m ∷ ids) at z same = (let h : among (m ∷ ids) m ≡ true = rw (eqb_same m) refl in same m h ∙ own-in rows f.own r (m ∷ ids) at m h)
 
-  -- and names nothing yet
+  -- a number of a row that does not have it has no pair
   pub put_fresh : (r : ℕ) (ids : List ℕ) → leaf_in rows r ≡ Some ids → (n : ℕ) → row_of n ≡ r → among ids n ≡ false → leaf_in ps n ≡ None
   put_fresh r ids at n own off = own_fresh n (λ is e. (let a : Some is ≡ Some ids = sym e ∙ ap (leaf_in rows) own ∙ at in let b : is ≡ ids = cc in rw b off))
 
-  -- nor does one of a row that is not there
+  -- a number of a row that does not exist has no pair
   pub begun_fresh : (r : ℕ) → leaf_in rows r ≡ None → (n : ℕ) → row_of n ≡ r → leaf_in ps n ≡ None
   begun_fresh r none n own = own_fresh n (λ ids e. absurd (let a : Some ids ≡ None = sym e ∙ ap (leaf_in rows) own ∙ none in cc))
 
   module _ (o : Option ℕ) (has : IfSome o (Has ps)) (n : ℕ) (none : leaf_in ps n ≡ None) (k : K) (v : V) where
-    -- a pair more, in a row
+    -- if a pair is added, with its number in an existing row, the pairs are filed
     pub files_put : (p : Position) → IsSpot rows p (spot_index o ps) → (ids : List ℕ) → leaf_in rows p.row ≡ Some ids → (now : List ℕ) → now ≡ take p.place ids ++ n ∷ drop p.place ids → row_of n ≡ p.row → (made : ℕ → Option (Leaf K V)) → made n ≡ Some (record { key = k; value = v }) → ((j : ℕ) → j ≢ n → made j ≡ leaves j) → (more : ℕ) → more ≡ count + 1 → Files made (with_pair rows p.row now) more (with_pair_after o (n, (k, v)) ps)
     files_put p s ids at now is own made there rest more one =
         let a : Some ids ≡ Some s.ids = sym at ∙ spot-row rows (spot_index o ps) p s f.apart in
@@ -129,12 +129,12 @@ module _ {K V : Type 0} {leaves : ℕ → Option (Leaf K V)} {rows : List (Numbe
         let e : with_pair rows p.row now ≡ with_pair rows p.row (take p.place s.ids ++ n ∷ drop p.place s.ids) = ap (with_pair rows p.row) (is ∙ ap (λ l. take p.place l ++ n ∷ drop p.place l) b) in
         files_inserted o n k v has none (with_pair rows p.row now) (puts_in rows (spot_index o ps) p s f.apart f.filled f.own n own (with_pair rows p.row now) e) made there rest more one
 
-    -- a pair more, in a new row
+    -- if a pair is added, with its number in a new row, the pairs are filed
     pub files_begun : (b : Option ℕ) → IfSome b (Has rows) → spot_index o ps ≡ row_end b rows → (r : ℕ) → row_of n ≡ r → leaf_in rows r ≡ None → (new : List (Numbered (List ℕ))) → new ≡ with_pair_after b (r, n ∷ []) rows → (made : ℕ → Option (Leaf K V)) → made n ≡ Some (record { key = k; value = v }) → ((j : ℕ) → j ≢ n → made j ≡ leaves j) → (more : ℕ) → more ≡ count + 1 → Files made new more (with_pair_after o (n, (k, v)) ps)
     files_begun b h index r own fresh new e made there rest more one =
         files_inserted o n k v has none new (subst (λ j. PutsIn rows new j n) (sym index) (puts_row r n b rows new f.apart f.filled f.own own h fresh e)) made there rest more one
 
--- another pair in a record of a store
+-- if a record of a store gets another pair, the pairs are filed
 pub files_changed_at : {K V : Type 0} {rows : List (Numbered (List ℕ))} {ps : List (Numbered (K × V))} (s : Store (Leaf K V)) → Files (slot_at s) rows (used_count s) ps → (id n : ℕ) → n ≡ id → (r : Leaf K V) → slot_at s n ≡ Some r → (k : K) (v : V) (x : Leaf K V) → x ≡ record { key = k; value = v } → Files (slot_at (with_record s n x)) rows (used_count (with_record s n x)) (with_pair ps id (k, v))
 files_changed_at {K = K} {V = V} s f id n is r was k v x e =
     let y : Leaf K V = record { key = k; value = v } in
@@ -142,15 +142,15 @@ files_changed_at {K = K} {V = V} s f id n is r was k v x e =
     let rest : (j : ℕ) → j ≢ id → slot_at (with_record s n x) j ≡ slot_at s j = λ j ne. with-others s n r x was j (λ d. ne (d ∙ is)) in
     rw (with-count s n r x was) (files_changed f id r (rw is at was) (k, v) (slot_at (with_record s n x)) now rest)
 
--- there are as many cells
+-- if a record changes, there are still enough cells for the rows
 pub cells_changed : {K V : Type 0} (s : Store (Leaf K V)) (rows : Numbers (List ℕ)) (n : ℕ) (x : Leaf K V) → 64 * rows.top ≤ length s.slots → 64 * rows.top ≤ length (with_record s n x).slots
 cells_changed s rows n x h = (let e = length-set s.slots n (Some x) in omega arith)
 
--- and each has an id still
+-- if a record changes, each cell still has an id
 pub ids_changed : {K V : Type 0} (s : Store (Leaf K V)) (ids : List ℕ) (n : ℕ) (x : Leaf K V) → length s.slots ≤ length ids → length (with_record s n x).slots ≤ length ids
 ids_changed s ids n x h = (let e = length-set s.slots n (Some x) in omega arith)
 
--- another value is another pair
+-- to set the value under a number is to set the pair with the same key
 pub with_value-pair : {K V : Type 0} (ps : List (Numbered (K × V))) (i : ℕ) (k : K) (w v : V) → leaf_in ps i ≡ Some (k, w) → with_value ps i v ≡ with_pair ps i (k, v)
 with_value-pair [] i k w v e = refl
 with_value-pair (p ∷ ps) i k w v e = elim (eqb_tells p.0 i) [

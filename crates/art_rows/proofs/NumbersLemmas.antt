@@ -8,35 +8,35 @@ use Rattle.art_rows.specs.Links.{is_at, end_with}
 
 -- ---- tests on numbers
 
--- a number is itself
+-- `eqb` is true for a number and itself
 pub eqb_same : (i : ℕ) → eqb i i ≡ true
 eqb_same i = elim (eqb_tells i i) [ inl e ↦ e.0 | inr e ↦ absurd (e.1 refl) ]
 
--- of two numbers, one is not the other
+-- `eqb` is false for two different numbers
 pub eqb_other : (i j : ℕ) → i ≢ j → eqb i j ≡ false
 eqb_other i j n = elim (eqb_tells i j) [ inl e ↦ absurd (n e.1) | inr e ↦ e.0 ]
 
--- nothing in reserve changes nothing
+-- `option_or` with no alternative is the option itself
 option_or-none : {X : Type 0} (o : Option X) → option_or o None ≡ o
 option_or-none None = refl
 option_or-none (Some x) = refl
 
--- where something is in reserve, a further reserve is not used
+-- after an alternative that is there, a further alternative is not used
 option_or-some : {X : Type 0} (o b : Option X) (a : X) → option_or (option_or o (Some a)) b ≡ option_or o (Some a)
 option_or-some None b a = refl
 option_or-some (Some x) b a = refl
 
--- a reserve may be added before an end is changed, or after
+-- an alternative may be added before an end is changed, or after
 option_or-end : (o : Option ℕ) (x a : ℕ) (l : Option ℕ) → option_or (end_with o (Some x) l) (Some a) ≡ end_with o (Some x) (option_or l (Some a))
 option_or-end None x a l = refl
 option_or-end (Some i) x a l = refl
 
--- a reserve of a reserve
+-- `option_or` is associative
 option_or-assoc : {X : Type 0} (a b c : Option X) → option_or (option_or a b) c ≡ option_or a (option_or b c)
 option_or-assoc None b c = refl
 option_or-assoc (Some x) b c = refl
 
--- two tests for different numbers may change places
+-- two tests for different numbers may be exchanged
 swapped : {X : Type 0} (a b j : ℕ) (x y z : X) → a ≢ b → cond (eqb a j) x (cond (eqb b j) y z) ≡ cond (eqb b j) y (cond (eqb a j) x z)
 swapped a b j x y z n = elim (eqb_tells a j) [
   | inl t ↦ rw (t.0, eqb_other b j (λ e. n (t.1 ∙ sym e))) refl
@@ -46,12 +46,12 @@ swapped a b j x y z n = elim (eqb_tells a j) [
 module _ {X : Type 0} where
   -- ---- which numbers there are
 
-  -- a number that no pair has names nothing
+  -- there is no item under a number that no pair has
   pub leaf_in_lacking : (ps : List (Numbered X)) (i : ℕ) → Lacks ps i → leaf_in ps i ≡ None
   leaf_in_lacking [] i l = refl
   leaf_in_lacking (p ∷ ps) i l = rw (eqb_other p.0 i l.0) (leaf_in_lacking ps i l.1)
 
-  -- no pair has a number that names nothing
+  -- if there is no item under a number, no pair has it
   pub Lacks-from_leaf_in : (ps : List (Numbered X)) (i : ℕ) → leaf_in ps i ≡ None → Lacks ps i
   Lacks-from_leaf_in [] i e = tt
   Lacks-from_leaf_in (p ∷ ps) i e = elim (eqb_tells p.0 i) [
@@ -59,15 +59,15 @@ module _ {X : Type 0} where
     | inr t ↦ (t.1, Lacks-from_leaf_in ps i (rw t.0 at e))
   ]
 
-  -- a number that names something is not one that no pair has
+  -- if there is an item under a number, some pair has it
   pub has_not_lacks : (ps : List (Numbered X)) (i : ℕ) → Has ps i → Lacks ps i → ⊥
   has_not_lacks ps i h l = (let f : false ≡ true = subst (λ (o : Option X). IsSome o) (leaf_in_lacking ps i l) h in cc)
 
-  -- of two numbers, one that there is and one that there is not, none is the other
+  -- a number that the list has differs from a number that it lacks
   pub has_other : (ps : List (Numbered X)) (i j : ℕ) → Has ps i → Lacks ps j → i ≢ j
   has_other ps i j h l e = has_not_lacks ps i h (subst (λ k. Lacks ps k) (sym e) l)
 
-  -- a number that the list has after its first pair's
+  -- a number of the list that is not the first is a number of the other pairs
   pub Has-tail : (p : Numbered X) (ps : List (Numbered X)) (i : ℕ) → p.0 ≢ i → Has (p ∷ ps) i → Has ps i
   Has-tail p ps i n h = rw (eqb_other p.0 i n) at h
 
@@ -76,7 +76,7 @@ module _ {X : Type 0} where
   is_at-first [] j l = refl
   is_at-first (p ∷ ps) j l = eqb_other p.0 j l.0
 
-  -- nor does it stand after another
+  -- a number that no pair has is not after another
   pub is_at-after : (ps : List (Numbered X)) (i j : ℕ) → Lacks ps j → is_at (number_after ps i) j ≡ false
   is_at-after [] i j l = refl
   is_at-after (p ∷ ps) i j l = elim (eqb_tells p.0 i) [
@@ -84,19 +84,19 @@ module _ {X : Type 0} where
     | inr t ↦ rw t.0 (is_at-after ps i j l.1)
   ]
 
-  -- nor after a place
+  -- a number that no pair has is not after a place
   pub is_at-next_number : (o : Option ℕ) (ps : List (Numbered X)) (j : ℕ) → Lacks ps j → is_at (next_number o ps) j ≡ false
   is_at-next_number None ps j l = is_at-first ps j l
   is_at-next_number (Some i) ps j l = is_at-after ps i j l
 
-  -- nor is it one that the list has
+  -- a number that no pair has is not a number of the list
   pub is_at-has : (o : Option ℕ) (ps : List (Numbered X)) (j : ℕ) → IfSome o (Has ps) → Lacks ps j → is_at o j ≡ false
   is_at-has None ps j h l = refl
   is_at-has (Some i) ps j h l = eqb_other i j (has_other ps i j h l)
 
   -- ---- the list split at a number
 
-  -- the pairs before one of a number, and after it
+  -- the pairs before the pair of a number, that pair, and the pairs after it
   pub record Split (ps : List (Numbered X)) (i : ℕ) : Type 0 where
     pub before : List (Numbered X)
     pub pair : X
@@ -114,12 +114,12 @@ module _ {X : Type 0} where
         record { before = p ∷ s.before; pair = s.pair; after = s.after; is = ap (λ l. p ∷ l) s.is; lacks = (t.1, s.lacks) }
   ]
 
-  -- a number that neither part has, nor the pair between
+  -- a number that the list lacks is in neither part, and is not the number between them
   pub Lacks-parts : (before after : List (Numbered X)) (p : Numbered X) (i : ℕ) → Lacks (before ++ p ∷ after) i → Lacks before i × (p.0 ≢ i) × Lacks after i
   Lacks-parts [] after p i l = (tt, l.0, l.1)
   Lacks-parts (q ∷ before) after p i l = let r = Lacks-parts before after p i l.1 in ((l.0, r.0), r.1, r.2)
 
-  -- of distinct numbers the one at the split is in neither part
+  -- if the numbers are distinct, the number at the split is in neither part
   pub distinct_parts : (before after : List (Numbered X)) (p : Numbered X) → AreDistinct (before ++ p ∷ after) → Lacks before p.0 × Lacks after p.0
   distinct_parts [] after p d = (tt, d.0)
   distinct_parts (q ∷ before) after p d =
@@ -132,43 +132,43 @@ module _ {X : Type 0} where
   last_number-cons p (q ∷ ps) = rw (last_number-cons q ps) (sym (option_or-some (last_number ps) (Some p.0) q.0))
 
   module _ (i : ℕ) (x : X) (after : List (Numbered X)) where
-    -- the number at the split names the pair there
+    -- the item under the number at the split is the item there
     pub leaf_in-split : (before : List (Numbered X)) → Lacks before i → leaf_in (before ++ (i, x) ∷ after) i ≡ Some x
     leaf_in-split [] l = rw (eqb_same i) refl
     leaf_in-split (q ∷ before) l = rw (eqb_other q.0 i l.0) (leaf_in-split before l.1)
 
-    -- the next number is the first of those after it
+    -- the number after the split is the first number of the second part
     pub number_after-split : (before : List (Numbered X)) → Lacks before i → number_after (before ++ (i, x) ∷ after) i ≡ first_number after
     number_after-split [] l = rw (eqb_same i) refl
     number_after-split (q ∷ before) l = rw (eqb_other q.0 i l.0) (number_after-split before l.1)
 
-    -- the number before is the last of those before, or else the start
+    -- the number before the split is the last number of the first part, or else the start
     number_before_from-split : (b : Option ℕ) (before : List (Numbered X)) → Lacks before i → number_before_from b (before ++ (i, x) ∷ after) i ≡ option_or (last_number before) b
     number_before_from-split b [] l = rw (eqb_same i) refl
     number_before_from-split b (q ∷ before) l = rw (eqb_other q.0 i l.0, last_number-cons q before, option_or-some (last_number before) b q.0) (number_before_from-split (Some q.0) before l.1)
 
-    -- the number before is the last of those before
+    -- the number before the split is the last number of the first part
     pub number_before-split : (before : List (Numbered X)) → Lacks before i → number_before (before ++ (i, x) ∷ after) i ≡ last_number before
     number_before-split before l = number_before_from-split None before l ∙ option_or-none (last_number before)
 
-    -- another pair is placed after the one at the split
+    -- another pair is placed after the pair at the split
     pub with_pair_after-split : (y : Numbered X) (before : List (Numbered X)) → Lacks before i → with_pair_after (Some i) y (before ++ (i, x) ∷ after) ≡ before ++ (i, x) ∷ y ∷ after
     with_pair_after-split y [] l = rw (eqb_same i) refl
     with_pair_after-split y (q ∷ before) l = rw (eqb_other q.0 i l.0) (ap (λ s. q ∷ s) (with_pair_after-split y before l.1))
 
-    -- without the pair at the split
+    -- without the pair at the split the two parts remain
     pub without_number-split : (before : List (Numbered X)) → Lacks before i → without_number (before ++ (i, x) ∷ after) i ≡ before ++ after
     without_number-split [] l = rw (eqb_same i) refl
     without_number-split (q ∷ before) l = rw (eqb_other q.0 i l.0) (ap (λ s. q ∷ s) (without_number-split before l.1))
 
-    -- with another pair at the split
+    -- the pairs with another item at the split
     pub with_pair-split : (y : X) (before : List (Numbered X)) → Lacks before i → with_pair (before ++ (i, x) ∷ after) i y ≡ before ++ (i, y) ∷ after
     with_pair-split y [] l = rw (eqb_same i) refl
     with_pair-split y (q ∷ before) l = rw (eqb_other q.0 i l.0) (ap (λ s. q ∷ s) (with_pair-split y before l.1))
 
-  -- ---- a pair more
+  -- ---- one more pair
 
-  -- what each number names, after a pair was placed
+  -- the item under each number, after a pair was placed
   pub leaf_in-with_pair_after : (o : Option ℕ) (x : Numbered X) (ps : List (Numbered X)) (j : ℕ) → IfSome o (Has ps) → Lacks ps x.0 → leaf_in (with_pair_after o x ps) j ≡ cond (eqb x.0 j) (Some x.1) (leaf_in ps j)
   leaf_in-with_pair_after None x ps j h l = refl
   leaf_in-with_pair_after (Some i) x [] j h l = absurd (let f : false ≡ true = h in cc)
@@ -177,15 +177,15 @@ module _ {X : Type 0} where
     | inr t ↦ rw (t.0, leaf_in-with_pair_after (Some i) x ps j (Has-tail p ps i t.1 h) l.1) (swapped p.0 x.0 j (Some p.1) (Some x.1) (leaf_in ps j) l.0)
   ]
 
-  -- the new pair stands under its number
+  -- the new item is under its number
   pub leaf_in-placed_now : (o : Option ℕ) (x : Numbered X) (ps : List (Numbered X)) → IfSome o (Has ps) → Lacks ps x.0 → leaf_in (with_pair_after o x ps) x.0 ≡ Some x.1
   leaf_in-placed_now o x ps h l = leaf_in-with_pair_after o x ps x.0 h l ∙ rw (eqb_same x.0) refl
 
-  -- every other number names what it named
+  -- the item under each other number is unchanged
   pub others-with_pair_after : (o : Option ℕ) (x : Numbered X) (ps : List (Numbered X)) → IfSome o (Has ps) → Lacks ps x.0 → OthersStand ps (with_pair_after o x ps) x.0
   others-with_pair_after o x ps h l j n = leaf_in-with_pair_after o x ps j h l ∙ rw (eqb_other x.0 j (λ e. n (sym e))) refl
 
-  -- a number that is not the new one is lacking still
+  -- a number that was lacking is still lacking, if it is not the new number
   pub Lacks-with_pair_after : (o : Option ℕ) (x : Numbered X) (ps : List (Numbered X)) (j : ℕ) → Lacks ps j → x.0 ≢ j → Lacks (with_pair_after o x ps) j
   Lacks-with_pair_after None x ps j l n = (n, l)
   Lacks-with_pair_after (Some i) x [] j l n = tt
@@ -194,7 +194,7 @@ module _ {X : Type 0} where
     | inr t ↦ rw t.0 (l.0, Lacks-with_pair_after (Some i) x ps j l.1 n)
   ]
 
-  -- with a fresh number the numbers are distinct still
+  -- if the new number is fresh, the numbers are still distinct
   pub AreDistinct-with_pair_after : (o : Option ℕ) (x : Numbered X) (ps : List (Numbered X)) → AreDistinct ps → Lacks ps x.0 → AreDistinct (with_pair_after o x ps)
   AreDistinct-with_pair_after None x ps d l = (l, d)
   AreDistinct-with_pair_after (Some i) x [] d l = tt
@@ -203,7 +203,7 @@ module _ {X : Type 0} where
     | inr t ↦ rw t.0 (Lacks-with_pair_after (Some i) x ps p.0 d.0 (λ e. l.0 (sym e)), AreDistinct-with_pair_after (Some i) x ps d.1 l.1)
   ]
 
-  -- one pair more
+  -- there is one more pair
   pub length-with_pair_after : (o : Option ℕ) (x : Numbered X) (ps : List (Numbered X)) → IfSome o (Has ps) → length (with_pair_after o x ps) ≡ length ps + 1
   length-with_pair_after None x ps h = omega arith
   length-with_pair_after (Some i) x [] h = absurd (let f : false ≡ true = h in cc)
@@ -234,7 +234,7 @@ module _ {X : Type 0} where
       last_number_after p x [] = refl
       last_number_after p x (q ∷ ps) = refl
 
-  -- the number after each, once a pair was placed
+  -- the number after each number, after a pair was placed
   pub number_after-with_pair_after : (o : Option ℕ) (x : Numbered X) (ps : List (Numbered X)) (j : ℕ) → IfSome o (Has ps) → Lacks ps x.0 → number_after (with_pair_after o x ps) j ≡ cond (eqb x.0 j) (next_number o ps) (cond (is_at o j) (Some x.0) (number_after ps j))
   number_after-with_pair_after None x ps j h l = refl
   number_after-with_pair_after (Some i) x [] j h l = absurd (let f : false ≡ true = h in cc)
@@ -249,22 +249,22 @@ module _ {X : Type 0} where
     ])
   ]
 
-  -- the number before each, with another start
+  -- the number before each number, with another start
   pub number_before_from-start : (a b : Option ℕ) (ps : List (Numbered X)) (j : ℕ) → number_before_from a ps j ≡ cond (is_at (first_number ps) j) a (number_before_from b ps j)
   number_before_from-start a b [] j = refl
   number_before_from-start a b (p ∷ ps) j = elim (eqb_tells p.0 j) [ inl t ↦ rw t.0 refl | inr t ↦ rw t.0 refl ]
 
-  -- nothing stands before a number that no pair has
+  -- no number is before a number that no pair has
   pub number_before-lacking : (b : Option ℕ) (ps : List (Numbered X)) (j : ℕ) → Lacks ps j → number_before_from b ps j ≡ None
   number_before-lacking b [] j l = refl
   number_before-lacking b (p ∷ ps) j l = rw (eqb_other p.0 j l.0) (number_before-lacking (Some p.0) ps j l.1)
 
-  -- nothing stands after a number that no pair has
+  -- no number is after a number that no pair has
   pub number_after-lacking : (ps : List (Numbered X)) (j : ℕ) → Lacks ps j → number_after ps j ≡ None
   number_after-lacking [] j l = refl
   number_after-lacking (p ∷ ps) j l = rw (eqb_other p.0 j l.0) (number_after-lacking ps j l.1)
 
-  -- the number before each, from a start on, once a pair was placed after a number
+  -- the number before each number, from a start on, after a pair was placed after a number
   before_placed : (b : Option ℕ) (i : ℕ) (x : Numbered X) (ps : List (Numbered X)) (j : ℕ) → Has ps i → Lacks ps x.0 → AreDistinct ps → number_before_from b (with_pair_after (Some i) x ps) j ≡ cond (eqb x.0 j) (Some i) (cond (is_at (number_after ps i) j) (Some x.0) (number_before_from b ps j))
   before_placed b i x [] j h l d = absurd (let f : false ≡ true = h in cc)
   before_placed b i x (p ∷ ps) j h l d = elim (eqb_tells p.0 i) [
@@ -278,14 +278,14 @@ module _ {X : Type 0} where
     ])
   ]
 
-  -- the number before each, after a pair was placed
+  -- the number before each number, after a pair was placed
   pub number_before-with_pair_after : (o : Option ℕ) (x : Numbered X) (ps : List (Numbered X)) (j : ℕ) → IfSome o (Has ps) → Lacks ps x.0 → AreDistinct ps → number_before (with_pair_after o x ps) j ≡ cond (eqb x.0 j) o (cond (is_at (next_number o ps) j) (Some x.0) (number_before ps j))
   number_before-with_pair_after None x ps j h l d = ap (cond (eqb x.0 j) None) (number_before_from-start (Some x.0) None ps j)
   number_before-with_pair_after (Some i) x ps j h l d = before_placed None i x ps j h l d
 
-  -- ---- a pair less
+  -- ---- one pair less
 
-  -- what each number names, after one was taken out
+  -- the item under each number, after a pair was removed
   pub leaf_in-without_number : (ps : List (Numbered X)) (i j : ℕ) → AreDistinct ps → leaf_in (without_number ps i) j ≡ cond (eqb i j) None (leaf_in ps j)
   leaf_in-without_number [] i j d = elim (eqb_tells i j) [ inl t ↦ rw t.0 refl | inr t ↦ rw t.0 refl ]
   leaf_in-without_number (p ∷ ps) i j d = elim (eqb_tells p.0 i) [
@@ -296,11 +296,11 @@ module _ {X : Type 0} where
     | inr t ↦ rw (t.0, leaf_in-without_number ps i j d.1) (swapped p.0 i j (Some p.1) None (leaf_in ps j) t.1)
   ]
 
-  -- every other number names what it named
+  -- the item under each other number is unchanged
   pub others-without_number : (ps : List (Numbered X)) (i : ℕ) → AreDistinct ps → OthersStand ps (without_number ps i) i
   others-without_number ps i d j n = leaf_in-without_number ps i j d ∙ rw (eqb_other i j (λ e. n (sym e))) refl
 
-  -- a number that was lacking is lacking still
+  -- a number that was lacking is still lacking
   pub Lacks-without_number : (ps : List (Numbered X)) (i j : ℕ) → Lacks ps j → Lacks (without_number ps i) j
   Lacks-without_number [] i j l = tt
   Lacks-without_number (p ∷ ps) i j l = elim (eqb_tells p.0 i) [
@@ -308,11 +308,11 @@ module _ {X : Type 0} where
     | inr t ↦ rw t.0 (l.0, Lacks-without_number ps i j l.1)
   ]
 
-  -- the number is gone
+  -- no pair has the removed number
   pub Lacks-without_now : (ps : List (Numbered X)) (i : ℕ) → AreDistinct ps → Lacks (without_number ps i) i
   Lacks-without_now ps i d = Lacks-from_leaf_in (without_number ps i) i (leaf_in-without_number ps i i d ∙ rw (eqb_same i) refl)
 
-  -- the numbers are distinct still
+  -- the numbers are still distinct
   pub AreDistinct-without_number : (ps : List (Numbered X)) (i : ℕ) → AreDistinct ps → AreDistinct (without_number ps i)
   AreDistinct-without_number [] i d = tt
   AreDistinct-without_number (p ∷ ps) i d = elim (eqb_tells p.0 i) [
@@ -320,7 +320,7 @@ module _ {X : Type 0} where
     | inr t ↦ rw t.0 (Lacks-without_number ps i p.0 d.0, AreDistinct-without_number ps i d.1)
   ]
 
-  -- one pair less
+  -- there is one pair less
   pub length-without_number : (ps : List (Numbered X)) (i : ℕ) → Has ps i → length (without_number ps i) + 1 ≡ length ps
   length-without_number [] i h = absurd (let f : false ≡ true = h in cc)
   length-without_number (p ∷ ps) i h = elim (eqb_tells p.0 i) [
@@ -328,7 +328,7 @@ module _ {X : Type 0} where
     | inr t ↦ rw t.0 (omega (arith, length-without_number ps i (Has-tail p ps i t.1 h)))
   ]
 
-  -- something stands before a number after the first
+  -- with a start, there is a number before each number
   before_is_some : (a : ℕ) (ps : List (Numbered X)) (i : ℕ) → Has ps i → (b : ℕ) × (number_before_from (Some a) ps i ≡ Some b)
   before_is_some a [] i h = absurd (let f : false ≡ true = h in cc)
   before_is_some a (p ∷ ps) i h = elim (eqb_tells p.0 i) [
@@ -336,7 +336,7 @@ module _ {X : Type 0} where
     | inr t ↦ (let r = before_is_some p.0 ps i (Has-tail p ps i t.1 h) in (r.0, rw t.0 r.1))
   ]
 
-  -- the first number, after one was taken out
+  -- the first number, after a pair was removed
   pub first_number-without_number : (ps : List (Numbered X)) (i : ℕ) → Has ps i → first_number (without_number ps i) ≡ end_with (number_before ps i) (number_after ps i) (first_number ps)
   first_number-without_number [] i h = absurd (let f : false ≡ true = h in cc)
   first_number-without_number (p ∷ ps) i h = elim (eqb_tells p.0 i) [
@@ -344,7 +344,7 @@ module _ {X : Type 0} where
     | inr t ↦ (let r = before_is_some p.0 ps i (Has-tail p ps i t.1 h) in rw (t.0, r.1) refl)
   ]
 
-  -- the last number or else a start, after one was taken out
+  -- the last number, or else a start, after a pair was removed
   last_without : (b : Option ℕ) (ps : List (Numbered X)) (i : ℕ) → Has ps i → option_or (last_number (without_number ps i)) b ≡ end_with (number_after ps i) (number_before_from b ps i) (option_or (last_number ps) b)
   last_without b [] i h = absurd (let f : false ≡ true = h in cc)
   last_without b (p ∷ ps) i h = elim (eqb_tells p.0 i) [
@@ -358,17 +358,17 @@ module _ {X : Type 0} where
       last_number_after b p [] = refl
       last_number_after b p (q ∷ ps) = refl
 
-  -- the last number, after one was taken out
+  -- the last number, after a pair was removed
   pub last_number-without_number : (ps : List (Numbered X)) (i : ℕ) → Has ps i → last_number (without_number ps i) ≡ end_with (number_after ps i) (number_before ps i) (last_number ps)
   last_number-without_number ps i h =
       sym (option_or-none (last_number (without_number ps i))) ∙ last_without None ps i h ∙ ap (end_with (number_after ps i) (number_before ps i)) (option_or-none (last_number ps))
 
-  -- the first number, where any may have been taken out
+  -- the first number, after a pair was removed that need not exist
   first_without : (ps : List (Numbered X)) (i : ℕ) → first_number (without_number ps i) ≡ cond (is_at (first_number ps) i) (number_after ps i) (first_number ps)
   first_without [] i = refl
   first_without (p ∷ ps) i = elim (eqb_tells p.0 i) [ inl t ↦ rw t.0 refl | inr t ↦ rw t.0 refl ]
 
-  -- a start stands before the first alone
+  -- the start is before the first number only
   start_before_first : (ps : List (Numbered X)) (i a : ℕ) → Lacks ps a → is_at (number_before_from (Some a) ps i) a ≡ is_at (first_number ps) i
   start_before_first [] i a l = refl
   start_before_first (p ∷ ps) i a l = elim (eqb_tells p.0 i) [
@@ -383,12 +383,12 @@ module _ {X : Type 0} where
         | inr t ↦ rw t.0 (no_start p.0 ps i a l.0 l.1)
       ]
 
-  -- another start changes no test for another number
+  -- the start `a` does not change a test for a number other than `a`
   other_start : (ps : List (Numbered X)) (i j a : ℕ) → a ≢ j → is_at (number_before_from (Some a) ps i) j ≡ is_at (number_before_from None ps i) j
   other_start [] i j a n = refl
   other_start (p ∷ ps) i j a n = elim (eqb_tells p.0 i) [ inl t ↦ rw t.0 (eqb_other a j n) | inr t ↦ rw t.0 refl ]
 
-  -- the number after each, once one was taken out
+  -- the number after each number, after a pair was removed
   pub number_after-without_number : (ps : List (Numbered X)) (i j : ℕ) → AreDistinct ps → number_after (without_number ps i) j ≡ cond (eqb i j) None (cond (is_at (number_before ps i) j) (number_after ps i) (number_after ps j))
   number_after-without_number [] i j d = elim (eqb_tells i j) [ inl t ↦ rw t.0 refl | inr t ↦ rw t.0 refl ]
   number_after-without_number (p ∷ ps) i j d = elim (eqb_tells p.0 i) [
@@ -402,7 +402,7 @@ module _ {X : Type 0} where
     ])
   ]
 
-  -- the number before each, from a start on, after one was taken out
+  -- the number before each number, from a start on, after a pair was removed
   before_without : (b : Option ℕ) (ps : List (Numbered X)) (i j : ℕ) → AreDistinct ps → number_before_from b (without_number ps i) j ≡ cond (eqb i j) None (cond (is_at (number_after ps i) j) (number_before_from b ps i) (number_before_from b ps j))
   before_without b [] i j d = elim (eqb_tells i j) [ inl t ↦ rw t.0 refl | inr t ↦ rw t.0 refl ]
   before_without b (p ∷ ps) i j d = elim (eqb_tells p.0 i) [
@@ -416,7 +416,7 @@ module _ {X : Type 0} where
     ])
   ]
 
-  -- the number before each, after one was taken out
+  -- the number before each number, after a pair was removed
   pub number_before-without_number : (ps : List (Numbered X)) (i j : ℕ) → AreDistinct ps → number_before (without_number ps i) j ≡ cond (eqb i j) None (cond (is_at (number_after ps i) j) (number_before ps i) (number_before ps j))
   number_before-without_number ps i j d = before_without None ps i j d
 
@@ -439,7 +439,7 @@ module _ {X : Type 0} where
       let b : map (λ p. p.0) ps ≡ map (λ p. p.0) qs = cc in
       rw (last_number-cons p ps, last_number-cons q qs, same_last ps qs b, a) refl
 
-  -- each number has the same one after it
+  -- each number has the same number after it
   pub same_after : (ps qs : List (Numbered X)) (j : ℕ) → map (λ p. p.0) ps ≡ map (λ p. p.0) qs → number_after ps j ≡ number_after qs j
   same_after [] [] j e = refl
   same_after [] (q ∷ qs) j e = cc
@@ -449,7 +449,7 @@ module _ {X : Type 0} where
       let b : map (λ p. p.0) ps ≡ map (λ p. p.0) qs = cc in
       rw (same_first ps qs b, same_after ps qs j b, a) refl
 
-  -- each number has the same one before it
+  -- each number has the same number before it
   pub same_before : (s : Option ℕ) (ps qs : List (Numbered X)) (j : ℕ) → map (λ p. p.0) ps ≡ map (λ p. p.0) qs → number_before_from s ps j ≡ number_before_from s qs j
   same_before s [] [] j e = refl
   same_before s [] (q ∷ qs) j e = cc
@@ -469,7 +469,7 @@ module _ {X : Type 0} where
       let b : map (λ p. p.0) ps ≡ map (λ p. p.0) qs = cc in
       ((λ f. l.0 (a ∙ f)), same_lacks ps qs j b l.1)
 
-  -- the numbers of both are distinct, or of none
+  -- if the numbers of one list are distinct, so are the numbers of the other
   pub same_distinct : (ps qs : List (Numbered X)) → map (λ p. p.0) ps ≡ map (λ p. p.0) qs → AreDistinct ps → AreDistinct qs
   same_distinct [] [] e d = tt
   same_distinct [] (q ∷ qs) e d = absurd (cc)
@@ -479,16 +479,16 @@ module _ {X : Type 0} where
       let b : map (λ p. p.0) ps ≡ map (λ p. p.0) qs = cc in
       (subst (λ k. Lacks qs k) a (same_lacks ps qs p.0 b d.0), same_distinct ps qs b d.1)
 
-  -- they are of one length
+  -- they have the same length
   pub same_length : (ps qs : List (Numbered X)) → map (λ p. p.0) ps ≡ map (λ p. p.0) qs → length ps ≡ length qs
   same_length [] [] e = refl
   same_length [] (q ∷ qs) e = absurd (cc)
   same_length (p ∷ ps) [] e = absurd (cc)
   same_length (p ∷ ps) (q ∷ qs) e = let b : map (λ p. p.0) ps ≡ map (λ p. p.0) qs = cc in let c = same_length ps qs b in omega arith
 
-  -- ---- a pair changed in its place
+  -- ---- another item in the same place
 
-  -- what each number names, after the pair of one was exchanged
+  -- the item under each number, after the item of one number was replaced
   pub leaf_in-with_pair : (ps : List (Numbered X)) (i : ℕ) (y : X) (j : ℕ) → leaf_in (with_pair ps i y) j ≡ cond (eqb i j) (option_map (λ _. y) (leaf_in ps j)) (leaf_in ps j)
   leaf_in-with_pair [] i y j = elim (eqb_tells i j) [ inl t ↦ rw t.0 refl | inr t ↦ rw t.0 refl ]
   leaf_in-with_pair (p ∷ ps) i y j = elim (eqb_tells p.0 i) [
@@ -499,7 +499,7 @@ module _ {X : Type 0} where
     ])
   ]
 
-  -- the number names the new pair
+  -- the new item is under the number
   pub leaf_in-with_now : (ps : List (Numbered X)) (i : ℕ) (y : X) → Has ps i → leaf_in (with_pair ps i y) i ≡ Some y
   leaf_in-with_now ps i y h = leaf_in-with_pair ps i y i ∙ rw (eqb_same i) (always y (leaf_in ps i) h)
     where
@@ -507,11 +507,11 @@ module _ {X : Type 0} where
       always y None s = absurd (let f : false ≡ true = s in cc)
       always y (Some x) s = refl
 
-  -- every other number names what it named
+  -- the item under each other number is unchanged
   pub others-with_pair : (ps : List (Numbered X)) (i : ℕ) (y : X) → OthersStand ps (with_pair ps i y) i
   others-with_pair ps i y j n = leaf_in-with_pair ps i y j ∙ rw (eqb_other i j (λ e. n (sym e))) refl
 
-  -- the numbers stand
+  -- the numbers are unchanged
   pub numbers-with_pair : (ps : List (Numbered X)) (i : ℕ) (y : X) → map (λ p. p.0) (with_pair ps i y) ≡ map (λ p. p.0) ps
   numbers-with_pair [] i y = refl
   numbers-with_pair (p ∷ ps) i y = elim (eqb_tells p.0 i) [
@@ -519,13 +519,13 @@ module _ {X : Type 0} where
     | inr t ↦ rw t.0 (ap (λ ns. p.0 ∷ ns) (numbers-with_pair ps i y))
   ]
 
-  -- the numbers are distinct still
+  -- the numbers are still distinct
   pub AreDistinct-with_pair : (ps : List (Numbered X)) (i : ℕ) (y : X) → AreDistinct ps → AreDistinct (with_pair ps i y)
   AreDistinct-with_pair ps i y d = same_distinct ps (with_pair ps i y) (sym (numbers-with_pair ps i y)) d
 
-  -- ---- numbers that there are
+  -- ---- the numbers of the list
 
-  -- a number that no pair has stands before none
+  -- a number that no pair has is before no number
   is_at-before : (b : Option ℕ) (ps : List (Numbered X)) (i j : ℕ) → is_at b j ≡ false → Lacks ps j → is_at (number_before_from b ps i) j ≡ false
   is_at-before b [] i j n l = refl
   is_at-before b (p ∷ ps) i j n l = elim (eqb_tells p.0 i) [
@@ -533,13 +533,13 @@ module _ {X : Type 0} where
     | inr t ↦ rw t.0 (is_at-before (Some p.0) ps i j (eqb_other p.0 j l.0) l.1)
   ]
 
-  -- nor is it the last
+  -- a number that no pair has is not the last number
   is_at-last : (ps : List (Numbered X)) (j : ℕ) → Lacks ps j → is_at (last_number ps) j ≡ false
   is_at-last [] j l = refl
   is_at-last (p ∷ []) j l = eqb_other p.0 j l.0
   is_at-last (p ∷ q ∷ ps) j l = is_at-last (q ∷ ps) j l.1
 
-  -- a number is one that the list has, if it stands where none that is lacking does
+  -- if an option cannot be a number that the list lacks, the list has its number
   has_at : (o : Option ℕ) (ps : List (Numbered X)) (j : ℕ) → (Lacks ps j → is_at o j ≡ false) → o ≡ Some j → Has ps j
   has_at o ps j off e = go (leaf_in ps j) refl
     where
@@ -555,7 +555,7 @@ module _ {X : Type 0} where
   pub Has-after : (ps : List (Numbered X)) (i j : ℕ) → number_after ps i ≡ Some j → Has ps j
   Has-after ps i j e = has_at (number_after ps i) ps j (is_at-after ps i j) e
 
-  -- the list has the number before
+  -- the list has the number before another
   pub Has-before : (ps : List (Numbered X)) (i j : ℕ) → number_before ps i ≡ Some j → Has ps j
   Has-before ps i j e = has_at (number_before ps i) ps j (is_at-before None ps i j refl) e
 
@@ -572,7 +572,7 @@ module _ {X : Type 0} where
   no_first [] e = refl
   no_first (p ∷ ps) e = absurd cc
 
-  -- so is one with no last number
+  -- a list with no last number is empty
   pub no_last : (ps : List (Numbered X)) → last_number ps ≡ None → ps ≡ []
   no_last [] e = refl
   no_last (p ∷ []) e = absurd cc
@@ -582,13 +582,13 @@ module _ {X : Type 0} where
   pub Has-next_number : (o : Option ℕ) (ps : List (Numbered X)) (j : ℕ) → next_number o ps ≡ Some j → Has ps j
   Has-next_number o ps j e = has_at (next_number o ps) ps j (is_at-next_number o ps j) e
 
-  -- no number stands before itself
+  -- no number is before itself
   pub before_other : (ps : List (Numbered X)) (i : ℕ) → AreDistinct ps → Has ps i → is_at (number_before ps i) i ≡ false
   before_other ps i d h =
       let s = split ps i h in
       rw (ap (λ qs. number_before qs i) s.is ∙ number_before-split i s.pair s.after s.before s.lacks) (is_at-last s.before i s.lacks)
 
-  -- nor after itself
+  -- no number is after itself
   pub after_other : (ps : List (Numbered X)) (i : ℕ) → AreDistinct ps → Has ps i → is_at (number_after ps i) i ≡ false
   after_other ps i d h =
       let s = split ps i h in
@@ -597,12 +597,12 @@ module _ {X : Type 0} where
 
   -- ---- lists put together
 
-  -- a number names what it names in the first list, or else in the second
+  -- the item under a number is the item in the first list, or else the item in the second
   pub leaf_in-append : (xs ys : List (Numbered X)) (i : ℕ) → leaf_in (xs ++ ys) i ≡ option_or (leaf_in xs i) (leaf_in ys i)
   leaf_in-append [] ys i = refl
   leaf_in-append (x ∷ xs) ys i = elim (eqb_tells x.0 i) [ inl t ↦ rw t.0 refl | inr t ↦ rw t.0 (leaf_in-append xs ys i) ]
 
-  -- the last number of two lists
+  -- the last number of two lists is the last of the second, or else the last of the first
   pub last_number-append : (xs ys : List (Numbered X)) → last_number (xs ++ ys) ≡ option_or (last_number ys) (last_number xs)
   last_number-append [] ys = sym (option_or-none (last_number ys))
   last_number-append (x ∷ xs) ys =
@@ -619,6 +619,6 @@ module _ {X : Type 0} where
 
   -- ---- further forms
 
-  -- the number that was taken out names nothing
+  -- there is no item under the removed number
   pub leaf_in-without_now : (ps : List (Numbered X)) (i : ℕ) → AreDistinct ps → leaf_in (without_number ps i) i ≡ None
   leaf_in-without_now ps i d = leaf_in_lacking (without_number ps i) i (Lacks-without_now ps i d)

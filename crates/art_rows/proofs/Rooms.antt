@@ -12,11 +12,11 @@ use Rattle.art_rows.proofs.RowsLemmas.{numbers-append, AreFilled-parts, standing
 use Rattle.art_rows.proofs.RowChanges.{spot-lacks, spot-row}
 use Rattle.art_rows.proofs.RowRoomLemmas.{load_full, load_ended, load_front, room_spare, turns_begun, turns_put, room_taken, room_ended, room_more, row_end_room-last}
 
--- the lengths, where one row is shown
+-- the lengths of the rows, split at one row
 pub lengths_at : (xs ys : List (Numbered (List ℕ))) (r : ℕ) (ids : List ℕ) → lengths (xs ++ (r, ids) ∷ ys) ≡ lengths xs ++ length ids ∷ lengths ys
 lengths_at xs ys r ids = map-append (λ (q : Numbered (List ℕ)). length q.1) xs ((r, ids) ∷ ys)
 
--- and where two are
+-- the lengths of the rows, split at two rows
 lengths_two : (xs ys : List (Numbered (List ℕ))) (r s : ℕ) (ids more : List ℕ) → lengths (xs ++ (r, ids) ∷ (s, more) ∷ ys) ≡ (lengths xs ++ length ids ∷ []) ++ length more ∷ lengths ys
 lengths_two xs ys r s ids more = lengths_at xs ((s, more) ∷ ys) r ids ∙ sym (append_assoc (lengths xs) (length ids ∷ []) (length more ∷ lengths ys))
 
@@ -36,11 +36,11 @@ module _ (rows : List (Numbered (List ℕ))) (r : ℕ) (ids : List ℕ) (at : le
   shown_lengths = ap lengths shown ∙ lengths_at parts.before parts.after r ids
 
   module _ (full : length ids ≡ 64) where
-    -- with room, where a row is full, there is a spare row
+    -- if there is room, and a row is full, there is a spare row
     pub spare_full : (spare : ℕ) → 0 < row_room (lengths rows) spare → 0 < spare
     spare_full spare h = room_spare (lengths rows) spare (rw shown_lengths (load_full (lengths parts.before) (lengths parts.after) (length ids) full)) h
 
-    -- a row of one number after the last row, which is full, takes one turn
+    -- a new row of one number after the last row, if that is full, takes at most one turn
     pub end_turns : number_after rows r ≡ None → (new : List (Numbered (List ℕ))) (s n spare less : ℕ) → new ≡ with_pair_after (Some r) (s, n ∷ []) rows → less + 1 ≡ spare → turns (lengths rows) spare ≤ turns (lengths new) less + 1
     end_turns none new s n spare less e f =
         let last : parts.after ≡ [] = no_first parts.after (sym (ap (λ rs. number_after rs r) shown ∙ number_after-split r ids parts.after parts.before parts.lacks) ∙ none) in
@@ -50,27 +50,27 @@ module _ (rows : List (Numbered (List ℕ))) (r : ℕ) (ids : List ℕ) (at : le
 
 -- ---- spots
 
--- where a row ends
+-- the end of a row is the count of the numbers before the row plus the length of the row
 pub row_end-split : (before after : List (Numbered (List ℕ))) (r : ℕ) (ids : List ℕ) → Lacks before r → row_end (Some r) (before ++ (r, ids) ∷ after) ≡ length (numbers before) + length ids
 row_end-split [] after r ids l = rw (eqb_same r) (omega arith)
 row_end-split (b ∷ before) after r ids l =
     let n = length-append b.1 (numbers before) in
     rw (eqb_other b.0 r l.0, row_end-split before after r ids l.1) (omega arith)
 
--- a row that comes first takes one turn, where the others start with a full one
+-- a new first row of one number takes at most one turn, if the first row was full or there was none
 pub front_turns : (rows new : List (Numbered (List ℕ))) (r n spare less : ℕ) → StartsFull (lengths rows) → new ≡ with_pair_after None (r, n ∷ []) rows → less + 1 ≡ spare → turns (lengths rows) spare ≤ turns (lengths new) less + 1
 front_turns rows new r n spare less s e f = rw (e, ← f) (turns_begun (lengths rows) (1 ∷ lengths rows) less (load_front (lengths rows) s))
 
 module _ {rows : List (Numbered (List ℕ))} {k : ℕ} {p : Position} (s : IsSpot rows p k) (d : AreDistinct rows) where
-  -- the row of a spot
+  -- the row of a spot exists
   pub spot_has : Has rows p.row
   spot_has = rw (spot-row rows k p s d) refl
 
-  -- what is said of the row's numbers
+  -- what holds of the row's numbers holds of the numbers of the spot
   pub spot_ids : (P : List ℕ → Type 0) → IfSome (leaf_in rows p.row) P → P s.ids
   spot_ids P h = rw (spot-row rows k p s d) at h
 
-  -- a number in the row takes one turn
+  -- a number inserted in the row takes at most one turn
   pub spot_put : (new : List (Numbered (List ℕ))) (n spare : ℕ) → IfSome (leaf_in rows p.row) (λ ids. new ≡ with_pair rows p.row (take p.place ids ++ n ∷ drop p.place ids)) → turns (lengths rows) spare ≤ turns (lengths new) spare + 1
   spot_put new n spare put =
       let e = spot_ids (λ ids. new ≡ with_pair rows p.row (take p.place ids ++ n ∷ drop p.place ids)) put in
@@ -83,11 +83,11 @@ module _ {rows : List (Numbered (List ℕ))} {k : ℕ} {p : Position} (s : IsSpo
       let l : length more ≡ suc (length s.ids) = omega arith in
       rw (ap lengths s.is ∙ lengths_at s.before s.after p.row s.ids, ap lengths is ∙ lengths_at s.before s.after p.row more, l) (turns_put (lengths s.before) (lengths s.after) (length s.ids) spare)
 
-  -- the end of the row
+  -- a spot at the end of its row is the end of the row
   pub spot_end : p.place ≡ length s.ids → k ≡ row_end (Some p.row) rows
   spot_end e = (let r = ap (row_end (Some p.row)) s.is ∙ row_end-split s.before s.after p.row s.ids (spot-lacks rows k p s d).0 in let i = s.index in omega arith)
 
-  -- in front of all, where the first row is full
+  -- if the spot is before all numbers, and its row is full, the first row is full
   pub spot_front : k ≡ 0 → AreFilled rows → length s.ids ≡ 64 → StartsFull (lengths rows)
   spot_front z f full = rw s.is (at_front s.before s.is s.index)
     where
@@ -95,7 +95,7 @@ module _ {rows : List (Numbered (List ℕ))} {k : ℕ} {p : Position} (s : IsSpo
       at_front [] is i = full
       at_front (b ∷ before) is i = absurd (let g : AreFilled (b ∷ (before ++ (p.row, s.ids) ∷ s.after)) = subst AreFilled is f in let h = g.0 in let l = length-append b.1 (numbers before) in omega arith)
 
--- the end of a row is the start of the next one
+-- the end of a row is the start of the next row
 pub spot_next : (rows : List (Numbered (List ℕ))) → AreDistinct rows → (r k next : ℕ) → Has rows r → k ≡ row_end (Some r) rows → number_after rows r ≡ Some next → IsSpot rows (record { row = next; place = 0 }) k
 spot_next rows d r k next has e after = go (split rows r has).after (split rows r has).is
   where
@@ -119,7 +119,7 @@ spot_next rows d r k next has e after = go (split rows r has).after (split rows 
           within = omega arith;
         }
 
--- the room, where a number is taken out of its row
+-- the room, after a number was removed from its row
 pub taken_room : (rows : List (Numbered (List ℕ))) (k : ℕ) (p : Position) → position_at rows k ≡ Some p → AreDistinct rows → (new : List (Numbered (List ℕ))) (spare more : ℕ) → IfSome (leaf_in rows p.row) (λ ids. length ids ≡ 1 → new ≡ without_number rows p.row) → IfSome (leaf_in rows p.row) (λ ids. length ids ≢ 1 → new ≡ with_pair rows p.row (take p.place ids ++ drop (p.place + 1) ids)) → IfSome (leaf_in rows p.row) (λ ids. length ids ≡ 1 → more ≡ spare + 1) → spare ≤ more → row_room (lengths rows) spare ≤ row_room (lengths new) more
 taken_room rows k p at d new spare more one two gain grows =
     let s = standing rows k p at in
@@ -146,19 +146,19 @@ taken_room rows k p at d new spare more one two gain grows =
 
 -- ---- the end of the rows
 
--- filled rows with no number are none
+-- if no row is empty, and there are no numbers, there are no rows
 pub no_rows : (rows : List (Numbered (List ℕ))) → AreFilled rows → length (numbers rows) ≡ 0 → rows ≡ []
 no_rows [] f e = refl
 no_rows (r ∷ rows) f e = absurd (let n = length-append r.1 (numbers rows) in let w = f.0 in omega arith)
 
--- a position is the last of the last row
+-- a position is at the end of the last row
 pub record IsLast (rows : List (Numbered (List ℕ))) (p : Position) : Type 0 where
   pub before : List (Numbered (List ℕ))
   pub ids : List ℕ
   pub is : rows ≡ before ++ (p.row, ids) ∷ []
   pub len : length ids ≡ p.place + 1
 
--- the last position is
+-- the last position is at the end of the last row
 pub is_last : (rows : List (Numbered (List ℕ))) → AreFilled rows → (k : ℕ) (p : Position) → position_at rows k ≡ Some p → k ≡ length (numbers rows) - 1 → IsLast rows p
 is_last rows f k p at e =
     let s = standing rows k p at in
@@ -173,11 +173,11 @@ module _ {rows : List (Numbered (List ℕ))} {p : Position} (l : IsLast rows p) 
   last_lacks : Lacks l.before p.row
   last_lacks = (distinct_parts l.before [] (p.row, l.ids) (subst AreDistinct l.is d)).0
 
-  -- the last row
+  -- the last row has these numbers
   pub last_row : leaf_in rows p.row ≡ Some l.ids
   last_row = ap (λ rs. leaf_in rs p.row) l.is ∙ leaf_in-split p.row l.ids [] l.before last_lacks
 
-  -- where it ends
+  -- the index after the last number is the end of the last row
   pub last_end : (k : ℕ) → k ≡ length (numbers rows) - 1 → k + 1 ≡ row_end (Some p.row) rows
   last_end k e =
       let r = ap (row_end (Some p.row)) l.is ∙ row_end-split l.before [] p.row l.ids last_lacks in
@@ -185,11 +185,11 @@ module _ {rows : List (Numbered (List ℕ))} {p : Position} (l : IsLast rows p) 
       let i = l.len in
       omega arith
 
-  -- for how many numbers it has place
+  -- the last row has room for 64 numbers less its length
   pub last_room : row_end_room (lengths rows) ≡ 64 - (p.place + 1)
   last_room = ap row_end_room (ap lengths l.is ∙ lengths_at l.before [] p.row l.ids) ∙ row_end_room-last (lengths l.before) (length l.ids) ∙ ap (λ n. 64 - n) l.len
 
-  -- with a number at its end
+  -- with one more number at its end it has room for one number less
   pub last_put : (new : List (Numbered (List ℕ))) (n : ℕ) → IfSome (leaf_in rows p.row) (λ ids. new ≡ with_pair rows p.row (take (p.place + 1) ids ++ n ∷ drop (p.place + 1) ids)) → row_end_room (lengths new) ≡ 64 - (p.place + 2)
   last_put new n put =
       let more : List ℕ = take (p.place + 1) l.ids ++ n ∷ drop (p.place + 1) l.ids in
@@ -202,7 +202,7 @@ module _ {rows : List (Numbered (List ℕ))} {p : Position} (l : IsLast rows p) 
       let m : length more ≡ p.place + 2 = omega arith in
       ap row_end_room (ap lengths is ∙ lengths_at l.before [] p.row more) ∙ row_end_room-last (lengths l.before) (length more) ∙ ap (λ n. 64 - n) m
 
-  -- with a row of one number after it
+  -- with a row of one number after it there is room for 63 numbers
   pub last_begun : (new : List (Numbered (List ℕ))) (r n : ℕ) → new ≡ with_pair_after (Some p.row) (r, n ∷ []) rows → row_end_room (lengths new) ≡ 63
   last_begun new r n e =
       let is : new ≡ l.before ++ (p.row, l.ids) ∷ (r, n ∷ []) ∷ [] = e ∙ ap (with_pair_after (Some p.row) (r, n ∷ [])) l.is ∙ with_pair_after-split p.row l.ids [] (r, n ∷ []) l.before last_lacks in

@@ -1,4 +1,4 @@
--- What a change of one row changes of all.
+-- How a change of one row changes the rows.
 use Rattle.std.proofs.Common.{◌≡◌, ◌≢◌, ℕ, zero, suc, ◌+◌, ◌-◌, ◌<◌, ◌≤◌, List, [], ◌∷◌, ◌++◌, length, map, take, drop, refl, sym, ap, subst, ◌∙◌, append_assoc, Option, Some, None, Bool, true, false, cond, eqb, inl, inr, arith}
 use Rattle.std.specs.Prelude.{IfSome, IfNone}
 use Rattle.std.proofs.lemmas.Bool.Decides.{eqb_tells}
@@ -21,7 +21,7 @@ pub AreOwn-parts : (xs ys : List (Numbered (List ℕ))) → AreOwn (xs ++ ys) �
 AreOwn-parts [] ys o = (tt, o)
 AreOwn-parts (x ∷ xs) ys o = let r = AreOwn-parts xs ys o.1 in ((o.0, r.0), r.1)
 
--- a number in a row is of that row
+-- the row of a number in a row is that row
 pub own-in : (rows : List (Numbered (List ℕ))) → AreOwn rows → (r : ℕ) (ids : List ℕ) → leaf_in rows r ≡ Some ids → (n : ℕ) → among ids n ≡ true → row_of n ≡ r
 own-in [] o r ids e n h = absurd cc
 own-in (q ∷ qs) o r ids e n h = elim (eqb_tells q.0 r) [
@@ -29,7 +29,7 @@ own-in (q ∷ qs) o r ids e n h = elim (eqb_tells q.0 r) [
   | inr t ↦ own-in qs o.1 r ids (rw t.0 at e) n h
 ]
 
--- what is left of a list was in it
+-- a number that is left in a list was in the list
 pub among-left : (ns : List ℕ) (k i : ℕ) → among (take k ns ++ drop (k + 1) ns) i ≡ true → among ns i ≡ true
 among-left [] zero i h = h
 among-left [] (suc k) i h = (let a : suc k + 1 ≡ suc (k + 1) = omega arith in rw a at h)
@@ -39,7 +39,7 @@ among-left (m ∷ ns) (suc k) i h =
     let g : cond (eqb m i) true (among (take k ns ++ drop (k + 1) ns) i) ≡ true = rw a at h in
     elim (eqb_tells m i) [ inl t ↦ rw t.0 refl | inr t ↦ rw t.0 (among-left ns k i (rw t.0 at g)) ]
 
--- the first so many of three lists, and the others
+-- three lists, cut after the first j items of the second
 module _ {X : Type 0} (xs ys zs : List X) (j : ℕ) (le : j ≤ length ys) where
   pub take-middle : take (length xs + j) (xs ++ (ys ++ zs)) ≡ xs ++ take j ys
   take-middle = take-append-add xs (ys ++ zs) j ∙ ap (λ l. xs ++ l) (take-append-le j ys zs le)
@@ -47,7 +47,7 @@ module _ {X : Type 0} (xs ys zs : List X) (j : ℕ) (le : j ≤ length ys) where
   pub drop-middle : drop (length xs + j) (xs ++ (ys ++ zs)) ≡ drop j ys ++ zs
   drop-middle = drop-append-add xs (ys ++ zs) j ∙ drop-append-le j ys zs le
 
--- a number put in at a place
+-- after n was inserted, a number is in the list if it is n or was in the list
 pub among-put : (ns : List ℕ) (k n i : ℕ) → among (take k ns ++ n ∷ drop k ns) i ≡ cond (eqb n i) true (among ns i)
 among-put ns zero n i = refl
 among-put [] (suc k) n i = refl
@@ -61,7 +61,7 @@ among-put (m ∷ ns) (suc k) n i = elim (eqb_tells m i) [
     always false = refl
 
 module _ {X : Type 0} where
-  -- the numbers without one
+  -- the numbers, without the number at its place
   pub numbers-without : (ps : List (Numbered X)) (i : ℕ) → Has ps i → map (λ p. p.0) (without_number ps i) ≡ take (place_in (map (λ p. p.0) ps) i) (map (λ p. p.0) ps) ++ drop (place_in (map (λ p. p.0) ps) i + 1) (map (λ p. p.0) ps)
   numbers-without [] i h = absurd (let f : false ≡ true = h in cc)
   numbers-without (p ∷ ps) i h = elim (eqb_tells p.0 i) [
@@ -74,7 +74,7 @@ module _ {X : Type 0} where
       step : (m : ℕ) (ns : List ℕ) (k : ℕ) → m ∷ (take k ns ++ drop (k + 1) ns) ≡ m ∷ take k ns ++ drop (suc k + 1) (m ∷ ns)
       step m ns k = (let e : suc k + 1 ≡ suc (k + 1) = omega arith in rw e refl)
 
--- rows with one number out
+-- the rows without one number
 pub record TakesOut (rows new : List (Numbered (List ℕ))) (k n : ℕ) : Type 0 where
   pub joined : numbers new ≡ take k (numbers rows) ++ drop (k + 1) (numbers rows)
   pub filled : AreFilled new
@@ -95,7 +95,7 @@ module _ (rows : List (Numbered (List ℕ))) (k : ℕ) (p : Position) (s : Stand
       let e : length (numbers s.before) + p.place + 1 ≡ length (numbers s.before) + (p.place + 1) = omega arith in
       rw (standing-numbers rows k p s, s.index, e, take-middle (numbers s.before) s.ids (numbers s.after) p.place (omega arith), drop-middle (numbers s.before) s.ids (numbers s.after) (p.place + 1) (omega arith)) (simp append_assoc)
 
-  -- where others are left in the row
+  -- the rows without one number, if other numbers are left in its row
   pub takes_more : length s.ids ≢ 1 → (new : List (Numbered (List ℕ))) → new ≡ with_pair rows p.row (take p.place s.ids ++ drop (p.place + 1) s.ids) → TakesOut rows new k n
   takes_more ne new e =
       let out : List ℕ = take p.place s.ids ++ drop (p.place + 1) s.ids in
@@ -117,7 +117,7 @@ module _ (rows : List (Numbered (List ℕ))) (k : ℕ) (p : Position) (s : Stand
       two (suc zero) j o ne lt e = absurd (ne refl)
       two (suc (suc l)) j o ne lt e = omega arith
 
-  -- where it was the only one in the row
+  -- the rows without one number, if it was the only number in its row
   pub takes_one : length s.ids ≡ 1 → (new : List (Numbered (List ℕ))) → new ≡ without_number rows p.row → TakesOut rows new k n
   takes_one one new e =
       let out : List ℕ = take p.place s.ids ++ drop (p.place + 1) s.ids in
@@ -134,9 +134,9 @@ module _ (rows : List (Numbered (List ℕ))) (k : ℕ) (p : Position) (s : Stand
         own = AreOwn-append s.before s.after owners.0 owners.1.1;
       })
 
--- ---- a number more
+-- ---- one more number
 
--- rows with one number more, in a row
+-- the rows with one more number, in a row
 pub record PutsIn (rows new : List (Numbered (List ℕ))) (k n : ℕ) : Type 0 where
   pub joined : numbers new ≡ take k (numbers rows) ++ n ∷ drop k (numbers rows)
   pub filled : AreFilled new
@@ -178,7 +178,7 @@ module _ (rows : List (Numbered (List ℕ))) (k : ℕ) (p : Position) (s : IsSpo
         })
 
 module _ (r n : ℕ) where
-  -- the numbers, where a row of one is placed
+  -- the numbers, after a row of one number was placed
   numbers-placed_row : (b : Option ℕ) (rows : List (Numbered (List ℕ))) → IfSome b (Has rows) → numbers (with_pair_after b (r, n ∷ []) rows) ≡ take (row_end b rows) (numbers rows) ++ n ∷ drop (row_end b rows) (numbers rows)
   numbers-placed_row None rows h = refl
   numbers-placed_row (Some i) [] h = absurd (let f : false ≡ true = h in cc)
@@ -226,7 +226,7 @@ pub spot_first : (rows : List (Numbered (List ℕ))) (o : Option Position) → o
 spot_first rows None e = tt
 spot_first rows (Some p) e = (let s = standing rows 0 p (sym e) in record { before = s.before; ids = s.ids; after = s.after; is = s.is; index = s.index; within = let w = s.within in omega arith })
 
--- where there is none, there is no row
+-- if there is no first position, there is no row
 pub first_none : (rows : List (Numbered (List ℕ))) → AreFilled rows → (o : Option Position) → o ≡ position_at rows 0 → IfNone o (rows ≡ [])
 first_none [] f None e = refl
 first_none (r ∷ rs) f None e = (let g = e ∙ position-first (r ∷ rs) f in absurd cc)

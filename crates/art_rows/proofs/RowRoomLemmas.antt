@@ -1,4 +1,4 @@
--- How the room of rows changes where a number is put in or taken out, and how many spare rows are enough.
+-- How the room of rows changes with one number more or less, and how many spare rows are enough.
 use Rattle.std.proofs.Common.{◌≡◌, ℕ, zero, suc, ◌+◌, ◌-◌, ◌*◌, ◌<◌, ◌≤◌, List, [], ◌∷◌, ◌++◌, length, map, refl, arith}
 use Rattle.std.proofs.lemmas.List.{length-append}
 use Rattle.art_rows.specs.Numbers.{Numbered}
@@ -17,13 +17,13 @@ last_cap-tail [] ys n = refl
 last_cap-tail (x ∷ []) ys n = refl
 last_cap-tail (x ∷ z ∷ xs) ys n = last_cap-tail (z ∷ xs) ys n
 
--- and it is at most 62
+-- what the last row adds is at most 62
 last_cap-most : (ns : List ℕ) → last_cap ns ≤ 62
 last_cap-most [] = omega arith
 last_cap-most (n ∷ []) = omega arith
 last_cap-most (n ∷ m ∷ ns) = last_cap-most (m ∷ ns)
 
--- the load of another row is higher by what that row adds
+-- if a row adds at most k more, the load is at most k higher
 load_step : (xs ys : List ℕ) (m n k : ℕ) → excess m + cap m ≤ excess n + cap n + k → excess m ≤ excess n + k → load (xs ++ m ∷ ys) ≤ load (xs ++ n ∷ ys) + k
 load_step [] ys m n k a b = omega arith
 load_step (x ∷ xs) [] m n k a b =
@@ -39,15 +39,15 @@ load_step (x ∷ xs) (y ∷ ys) m n k a b =
     let t = last_cap-tail xs (y ∷ ys) n in
     omega arith
 
--- with one number more in a row, the load is at most two higher
+-- with one more number in a row, the load is at most 2 higher
 pub load_put : (xs ys : List ℕ) (n : ℕ) → load (xs ++ suc n ∷ ys) ≤ load (xs ++ n ∷ ys) + 2
 load_put xs ys n = load_step xs ys (suc n) n 2 (omega arith) (omega arith)
 
--- with one number less it is not higher
+-- with one number less in a row, the load is not higher
 pub load_taken : (xs ys : List ℕ) (n : ℕ) → load (xs ++ n ∷ ys) ≤ load (xs ++ suc n ∷ ys)
 load_taken xs ys n = (let s = load_step xs ys n (suc n) 0 (omega arith) (omega arith) in omega arith)
 
--- a new row of one number after a full one at the end leaves it 62 lower
+-- with a new row of one number after a full last row, the load is at least 62 lower
 pub load_ended : (xs : List ℕ) (n : ℕ) → n ≡ 64 → load (xs ++ n ∷ 1 ∷ []) + 62 ≤ load (xs ++ n ∷ [])
 load_ended [] n e = omega arith
 load_ended (x ∷ xs) n e =
@@ -57,13 +57,13 @@ load_ended (x ∷ xs) n e =
     let t = last_cap-tail xs [] n in
     omega arith
 
--- and so does one in front of a full row or of none
+-- with a new row of one number before a full row, or before none, the load is at least 62 lower
 pub load_front : (ys : List ℕ) → StartsFull ys → load (1 ∷ ys) + 62 ≤ load ys
 load_front [] s = omega arith
 load_front (n ∷ []) s = omega arith
 load_front (n ∷ m ∷ ys) s = omega arith
 
--- two halves of a full row leave it 64 lower
+-- with a full row cut in half, the load is at least 64 lower
 pub load_cut : (xs ys : List ℕ) (n : ℕ) → n ≡ 64 → load (xs ++ 32 ∷ 32 ∷ ys) + 64 ≤ load (xs ++ n ∷ ys)
 load_cut [] [] n e = omega arith
 load_cut [] (y ∷ ys) n e = omega arith
@@ -80,7 +80,7 @@ load_cut (x ∷ xs) (y ∷ ys) n e =
     let t = last_cap-tail xs (y ∷ ys) n in
     omega arith
 
--- with a row of one number taken away, it is at most 64 higher
+-- without a row of one number, the load is at most 64 higher
 pub load_gone : (xs ys : List ℕ) → load (xs ++ ys) ≤ load (xs ++ 1 ∷ ys) + 64
 load_gone [] [] = omega arith
 load_gone [] (y ∷ []) = omega arith
@@ -97,48 +97,48 @@ load_gone (x ∷ xs) (y ∷ ys) =
     let t = last_cap-tail xs (y ∷ ys) 1 in
     omega arith
 
--- a full row has at least 64
+-- with a full row, the load is at least 64
 pub load_full : (xs ys : List ℕ) (n : ℕ) → n ≡ 64 → 64 ≤ load (xs ++ n ∷ ys)
 load_full [] ys n e = omega arith
 load_full (x ∷ xs) ys n e = (let p = total-append xs (n ∷ ys) in omega arith)
 
--- and so have rows that start with one, or none
+-- with a full first row, or with no row, the load is at least 64
 pub load_starts : (ys : List ℕ) → StartsFull ys → 64 ≤ load ys
 load_starts [] s = omega arith
 load_starts (n ∷ ys) s = omega arith
 
 -- ---- the room
 
--- with room, and a load of 64, there is a spare row
+-- if there is room, and the load is at least 64, there is a spare row
 pub room_spare : (lens : List ℕ) (spare : ℕ) → 64 ≤ load lens → 0 < row_room lens spare → 0 < spare
 room_spare lens zero l h = omega arith
 room_spare lens (suc spare) l h = omega arith
 
--- where the load falls by 62, a spare row is used for one turn
+-- if the load falls by 62, the use of a spare row takes at most one turn
 pub turns_begun : (old new : List ℕ) (spare : ℕ) → load new + 62 ≤ load old → turns old (spare + 1) ≤ turns new spare + 1
 turns_begun old new spare l = omega arith
 
--- a number put in a row takes at most one turn
+-- a number inserted in a row takes at most one turn
 pub turns_put : (xs ys : List ℕ) (n spare : ℕ) → turns (xs ++ n ∷ ys) spare ≤ turns (xs ++ suc n ∷ ys) spare + 1
 turns_put xs ys n spare = (let l = load_put xs ys n in omega arith)
 
--- a row that is cut takes none
+-- a row that is cut takes no turn
 pub turns_cut : (xs ys : List ℕ) (n spare : ℕ) → n ≡ 64 → turns (xs ++ n ∷ ys) (spare + 1) ≤ turns (xs ++ 32 ∷ 32 ∷ ys) spare
 turns_cut xs ys n spare e = (let l = load_cut xs ys n e in omega arith)
 
--- with one turn less and one spare row less at most, there is room for one number less at most
+-- with at most one turn less and one spare row less, there is room for at most one number less
 pub room_less : (old new : List ℕ) (spare less : ℕ) → spare ≤ less + 1 → turns old spare ≤ turns new less + 1 → row_room old spare ≤ row_room new less + 1
 room_less old new spare less a b = omega arith
 
--- a number taken out of a row takes nothing from the room
+-- a number removed from a row takes nothing from the room
 pub room_taken : (xs ys : List ℕ) (n spare : ℕ) → row_room (xs ++ suc n ∷ ys) spare ≤ row_room (xs ++ n ∷ ys) spare
 room_taken xs ys n spare = (let l = load_taken xs ys n in omega arith)
 
--- a row of one number, taken away and then spare, takes nothing from the room
+-- a row of one number that is removed, and becomes spare, takes nothing from the room
 pub room_ended : (xs ys : List ℕ) (spare : ℕ) → row_room (xs ++ 1 ∷ ys) spare ≤ row_room (xs ++ ys) (spare + 1)
 room_ended xs ys spare = (let l = load_gone xs ys in omega arith)
 
--- more spare rows have no less room
+-- with more spare rows there is no less room
 pub room_more : (lens : List ℕ) (spare more : ℕ) → spare ≤ more → row_room lens spare ≤ row_room lens more
 room_more lens spare more h = omega arith
 
@@ -149,7 +149,7 @@ total-numbers : (rows : List (Numbered (List ℕ))) → total_excess (map (λ r.
 total-numbers [] = omega arith
 total-numbers (r ∷ rows) = (let n = length-append r.1 (numbers rows) in let i = total-numbers rows in omega arith)
 
--- and the rows at the ends at most 62 more each
+-- the load is at most 124 more than the count of the numbers
 load-numbers : (rows : List (Numbered (List ℕ))) → load (map (λ r. length r.1) rows) ≤ length (numbers rows) + 124
 load-numbers [] = omega arith
 load-numbers (r ∷ rows) =
@@ -158,13 +158,13 @@ load-numbers (r ∷ rows) =
     let l = last_cap-most (map (λ r. length r.1) rows) in
     omega arith
 
--- so many spare rows are enough
+-- with enough spare rows there is room for n numbers
 pub room_enough : (rows : List (Numbered (List ℕ))) (n spare : ℕ) → 2 * n + length (numbers rows) + 64 ≤ 64 * spare → n ≤ row_room (map (λ r. length r.1) rows) spare
 room_enough rows n spare h = (let l = load-numbers rows in omega arith)
 
 -- ---- the room at the end
 
--- it is what the last row has
+-- the room at the end is the room of the last row
 pub row_end_room-last : (xs : List ℕ) (n : ℕ) → row_end_room (xs ++ n ∷ []) ≡ 64 - n
 row_end_room-last [] n = refl
 row_end_room-last (x ∷ []) n = refl

@@ -55,7 +55,7 @@ nth-within [] k n h = absurd cc
 nth-within (x ∷ xs) zero n h = omega arith
 nth-within (x ∷ xs) (suc k) n h = omega (arith, nth-within xs k n h)
 
--- what stands at a place is among the numbers
+-- a number at a place is in the list
 pub among-nth : (ns : List ℕ) (k n : ℕ) → nth ns k ≡ Some n → among ns n ≡ true
 among-nth [] k n e = absurd cc
 among-nth (m ∷ ns) zero n e = (let f : m ≡ n = cc in rw (f, eqb_same n) refl)
@@ -71,7 +71,7 @@ module _ {X : Type 0} where
   Has-among [] i h = h
   Has-among (p ∷ ps) i h = elim (eqb_tells p.0 i) [ inl t ↦ rw t.0 refl | inr t ↦ rw t.0 (Has-among ps i (rw t.0 at h)) ]
 
-  -- a number is at the place where it stands
+  -- the place of the number at a place is that place
   pub place_in-nth : (ps : List (Numbered X)) (k n : ℕ) → AreDistinct ps → nth (map (λ p. p.0) ps) k ≡ Some n → place_in (map (λ p. p.0) ps) n ≡ k
   place_in-nth [] k n d e = absurd cc
   place_in-nth (p ∷ ps) zero n d e = (let f : p.0 ≡ n = cc in rw (f, eqb_same n) refl)
@@ -80,12 +80,12 @@ module _ {X : Type 0} where
       let m : eqb p.0 n ≡ false = eqb_other p.0 n (λ t. has_other ps n p.0 h d.0 (sym t)) in
       rw m (ap suc (place_in-nth ps k n d.1 e))
 
-  -- the first number, by its place
+  -- the first number is the number at place 0
   pub first_number-nth : (ps : List (Numbered X)) → first_number ps ≡ nth (map (λ p. p.0) ps) 0
   first_number-nth [] = refl
   first_number-nth (p ∷ ps) = refl
 
-  -- the number after one, by its place
+  -- the number after a number is the number at the next place
   pub number_after-nth : (ps : List (Numbered X)) (i : ℕ) → Has ps i → number_after ps i ≡ nth (map (λ p. p.0) ps) (place_in (map (λ p. p.0) ps) i + 1)
   number_after-nth [] i h = (let f : false ≡ true = h in absurd cc)
   number_after-nth (p ∷ ps) i h = elim (eqb_tells p.0 i) [
@@ -96,7 +96,7 @@ module _ {X : Type 0} where
       step : (n : ℕ) (ns : List ℕ) (k : ℕ) → nth ns (k + 1) ≡ nth (n ∷ ns) (suc k + 1)
       step n ns k = (let e : suc k + 1 ≡ suc (k + 1) = omega arith in sym (ap (nth (n ∷ ns)) e))
 
-  -- the number before one, from a number on
+  -- the number before a number, from the start `a` on, by its place
   number_before_from-nth : (a : ℕ) (ps : List (Numbered X)) (i : ℕ) → Has ps i → number_before_from (Some a) ps i ≡ nth (a ∷ map (λ p. p.0) ps) (place_in (map (λ p. p.0) ps) i)
   number_before_from-nth a [] i h = (let f : false ≡ true = h in absurd cc)
   number_before_from-nth a (p ∷ ps) i h = elim (eqb_tells p.0 i) [
@@ -104,7 +104,7 @@ module _ {X : Type 0} where
     | inr t ↦ rw t.0 (number_before_from-nth p.0 ps i (rw t.0 at h))
   ]
 
-  -- the number before one, by its place
+  -- the number before a number is the number at the place before
   pub number_before-nth : (b : Option ℕ) (ps : List (Numbered X)) (i k : ℕ) → Has ps i → place_in (map (λ p. p.0) ps) i ≡ suc k → number_before_from b ps i ≡ nth (map (λ p. p.0) ps) k
   number_before-nth b [] i k h e = (let f : false ≡ true = h in absurd cc)
   number_before-nth b (p ∷ ps) i k h e = elim (eqb_tells p.0 i) [
@@ -115,7 +115,7 @@ module _ {X : Type 0} where
         rw t.0 (number_before_from-nth p.0 ps i (rw t.0 at h) ∙ ap (nth (p.0 ∷ map (λ p. p.0) ps)) g)
   ]
 
-  -- nothing stands before the first
+  -- the number before the first number is the start
   pub number_before-first : (b : Option ℕ) (ps : List (Numbered X)) (i : ℕ) → Has ps i → place_in (map (λ p. p.0) ps) i ≡ 0 → number_before_from b ps i ≡ b
   number_before-first b [] i h e = (let f : false ≡ true = h in absurd cc)
   number_before-first b (p ∷ ps) i h e = elim (eqb_tells p.0 i) [
@@ -123,7 +123,7 @@ module _ {X : Type 0} where
     | inr t ↦ (let f : suc (place_in (map (λ p. p.0) ps) i) ≡ 0 = rw t.0 at e in absurd (omega arith))
   ]
 
-  -- the last number, by its place
+  -- the last number is the number at the last place
   pub last_number-nth : (ps : List (Numbered X)) → last_number ps ≡ nth (map (λ p. p.0) ps) (length ps - 1)
   last_number-nth [] = refl
   last_number-nth (p ∷ []) = refl
@@ -152,7 +152,7 @@ pub record Found (rows : List (Numbered (List ℕ))) (i : ℕ) : Type 0 where
   pub inside : among ids i ≡ true
   pub position : position_at rows (place_in (numbers rows) i) ≡ Some (record { row = row_with rows i; place = place_in ids i })
 
--- where the first row has the number
+-- a number is found if the first row has it
 found_here : (r : Numbered (List ℕ)) (rs : List (Numbered (List ℕ))) (i : ℕ) → among r.1 i ≡ true → Found (r ∷ rs) i
 found_here r rs i t =
     let w : place_in r.1 i < length r.1 = place_in-within r.1 i t in
@@ -164,7 +164,7 @@ found_here r rs i t =
       position = rw (t, place_in-append_in r.1 (numbers rs) i t, l) refl;
     }
 
--- where a later row has it
+-- a number is found if a later row has it
 found_later : (r : Numbered (List ℕ)) (rs : List (Numbered (List ℕ))) (i : ℕ) → Lacks rs r.0 → among r.1 i ≡ false → Found rs i → Found (r ∷ rs) i
 found_later r rs i d t s =
     let n : eqb r.0 (row_with rs i) ≡ false = eqb_other r.0 (row_with rs i) (λ e. has_other rs (row_with rs i) r.0 (rw s.row refl) d (sym e)) in
@@ -184,7 +184,7 @@ found (r ∷ rs) i d h = elim (cases_Bool (among r.1 i)) [
   | inr t ↦ found_later r rs i d.0 t (found rs i d.1 (rw t at (sym (among-append r.1 (numbers rs) i) ∙ h)))
 ]
 
--- the rows before one and after it, where a position is in it
+-- the rows before and after the row of a position
 pub record Standing (rows : List (Numbered (List ℕ))) (k : ℕ) (p : Position) : Type 0 where
   pub before : List (Numbered (List ℕ))
   pub ids : List ℕ
@@ -231,7 +231,7 @@ pub position-first : (rows : List (Numbered (List ℕ))) → AreFilled rows → 
 position-first [] f = refl
 position-first (r ∷ rs) f = (let w = f.0 in let l : ltb 0 (length r.1) ≡ true = grind (arith, nat_tests) in rw l refl)
 
--- no position, no number
+-- if there is no position, there is no number
 pub position-none : (rows : List (Numbered (List ℕ))) (k : ℕ) → position_at rows k ≡ None → nth (numbers rows) k ≡ None
 position-none [] k e = refl
 position-none (r ∷ rs) k e = elim (cases_Bool (ltb k (length r.1))) [
@@ -242,7 +242,7 @@ position-none (r ∷ rs) k e = elim (cases_Bool (ltb k (length r.1))) [
       ap (nth (r.1 ++ numbers rs)) m ∙ nth-append_right r.1 (numbers rs) (k - length r.1) ∙ position-none rs (k - length r.1) (rw t at e)
 ]
 
--- the end of a row
+-- the last position of a row
 abbrev pub end_of : ℕ → ℕ → Position
 end_of n r = record { row = r; place = n - 1 }
 
@@ -271,28 +271,28 @@ position-last (q ∷ t ∷ rs) d f r ids e g =
     rw (l, m) i
 
 module _ (rows : List (Numbered (List ℕ))) (k : ℕ) (p : Position) (s : Standing rows k p) where
-  -- the numbers of a row before which others stand
+  -- no other row has the number of the row of a position
   pub standing-lacks : AreDistinct rows → Lacks s.before p.row × Lacks s.after p.row
   standing-lacks d = distinct_parts s.before s.after (p.row, s.ids) (subst AreDistinct s.is d)
 
   pub standing-row : AreDistinct rows → leaf_in rows p.row ≡ Some s.ids
   standing-row d = ap (λ rs. leaf_in rs p.row) s.is ∙ leaf_in-split p.row s.ids s.after s.before (standing-lacks d).0
 
-  -- the numbers, those of the row among them
+  -- the numbers are those of the rows before, of the row, and of the rows after
   pub standing-numbers : numbers rows ≡ numbers s.before ++ (s.ids ++ numbers s.after)
   standing-numbers = ap numbers s.is ∙ numbers-append s.before ((p.row, s.ids) ∷ s.after)
 
-  -- the number there
+  -- the number at the index is the number at the place in the row
   pub standing-number : nth (numbers rows) k ≡ nth s.ids p.place
   standing-number = rw (standing-numbers, s.index) (nth-append_right (numbers s.before) (s.ids ++ numbers s.after) p.place ∙ nth-append_left s.ids (numbers s.after) p.place s.within)
 
-  -- the next place in the row
+  -- the next position is the next place in the row, if there is one
   pub standing-within : p.place + 1 < length s.ids → position_at rows (k + 1) ≡ Some (record { row = p.row; place = p.place + 1 })
   standing-within w =
       let e : k + 1 ≡ length (numbers s.before) + (p.place + 1) = let i = s.index in omega arith in
       ap (λ rs. position_at rs (k + 1)) s.is ∙ ap (position_at (s.before ++ (p.row, s.ids) ∷ s.after)) e ∙ position-split s.before ((p.row, s.ids) ∷ s.after) (p.place + 1) ∙ position-here p.row s.ids s.after (p.place + 1) w
 
-  -- the first place after the row
+  -- the first position after the row is the start of the next row
   pub standing-end : AreDistinct rows → AreFilled rows → (b : ℕ) → b + p.place ≡ k + length s.ids → position_at rows b ≡ option_map start_of (number_after rows p.row)
   standing-end d f b w =
       let e : b ≡ length (numbers s.before) + (length s.ids + 0) = let i = s.index in omega arith in
@@ -300,11 +300,11 @@ module _ (rows : List (Numbered (List ℕ))) (k : ℕ) (p : Position) (s : Stand
       let g = (AreFilled-parts s.before ((p.row, s.ids) ∷ s.after) (subst AreFilled s.is f)).1 in
       ap (λ rs. position_at rs b) s.is ∙ ap (position_at (s.before ++ (p.row, s.ids) ∷ s.after)) e ∙ position-split s.before ((p.row, s.ids) ∷ s.after) (length s.ids + 0) ∙ position-past p.row s.ids s.after 0 ∙ position-first s.after g.1 ∙ ap (option_map start_of) (sym a)
 
-  -- the first place of the next row, from the last of this one
+  -- if there is none, the next position is the start of the next row
   pub standing-after : AreDistinct rows → AreFilled rows → length s.ids ≤ p.place + 1 → position_at rows (k + 1) ≡ option_map start_of (number_after rows p.row)
   standing-after d f w = let i = s.within in standing-end d f (k + 1) (omega arith)
 
--- a position among the first rows
+-- an index among the first rows has its position in them
 pub position-in : (before rest : List (Numbered (List ℕ))) (j : ℕ) → j < length (numbers before) → position_at (before ++ rest) j ≡ position_at before j
 position-in [] rest j h = absurd (omega arith)
 position-in (r ∷ rs) rest j h =
@@ -314,12 +314,12 @@ position-in (r ∷ rs) rest j h =
       | inr t ↦ (let w : length r.1 ≤ j = grind (arith, nat_tests) in rw t (position-in rs rest (j - length r.1) (omega arith)))
     ]
 
--- rows that there are have numbers
+-- if there is a row, there are numbers
 pub filled-some : (rows : List (Numbered (List ℕ))) (r : ℕ) → AreFilled rows → last_number rows ≡ Some r → 0 < length (numbers rows)
 filled-some [] r f e = absurd cc
 filled-some (q ∷ rs) r f e = (let n : length (q.1 ++ numbers rs) ≡ length q.1 + length (numbers rs) = length-append q.1 (numbers rs) in let w = f.0 in omega arith)
 
--- no row has two places
+-- the item under a number of the first list is the item in the first list
 leaf_in-front : {X : Type 0} (xs ys : List (Numbered X)) (i : ℕ) (x : X) → Has xs i → leaf_in (xs ++ ys) i ≡ Some x → leaf_in xs i ≡ Some x
 leaf_in-front {X = X} xs ys i x h e = go (leaf_in xs i) h (sym (leaf_in-append xs ys i) ∙ e)
   where
@@ -328,18 +328,18 @@ leaf_in-front {X = X} xs ys i x h e = go (leaf_in xs i) h (sym (leaf_in-append x
     go (Some y) h e = e
 
 module _ (rows : List (Numbered (List ℕ))) (k : ℕ) (p : Position) (s : Standing rows k p) where
-  -- the place before, in the row
+  -- the position before is the place before in the row, if there is one
   pub standing-earlier : 0 < p.place → position_at rows (k - 1) ≡ Some (record { row = p.row; place = p.place - 1 })
   standing-earlier w =
       let e : k - 1 ≡ length (numbers s.before) + (p.place - 1) = let i = s.index in omega arith in
       ap (λ rs. position_at rs (k - 1)) s.is ∙ ap (position_at (s.before ++ (p.row, s.ids) ∷ s.after)) e ∙ position-split s.before ((p.row, s.ids) ∷ s.after) (p.place - 1) ∙ position-here p.row s.ids s.after (p.place - 1) (let i = s.within in omega arith)
 
-  -- the row before
+  -- the row before is the last of the rows before
   pub standing-row_before : AreDistinct rows → number_before rows p.row ≡ last_number s.before
   standing-row_before d = ap (λ rs. number_before rs p.row) s.is ∙ number_before-split p.row s.ids s.after s.before (standing-lacks rows k p s d).0
 
   module _ (d : AreDistinct rows) (f : AreFilled rows) where
-    -- a first place with no row before it is the first of all
+    -- the first place of the first row has index 0
     pub standing-first : p.place ≡ 0 → number_before rows p.row ≡ None → k ≡ 0
     standing-first z e =
         let b : s.before ≡ [] = no_last s.before (sym (standing-row_before d) ∙ e) in
@@ -357,11 +357,11 @@ module _ (rows : List (Numbered (List ℕ))) (k : ℕ) (p : Position) (s : Stand
       apart : AreDistinct s.before
       apart = (AreDistinct-parts s.before ((p.row, s.ids) ∷ s.after) (subst AreDistinct s.is d)).0
 
-      -- with a row before it, a place is not the first of all
+      -- a place with a row before its row does not have index 0
       pub standing-not_first : 0 < k
       standing-not_first = (let n = filled-some s.before r fills last_is in let i = s.index in omega arith)
 
-      -- the last place of the row before
+      -- at the first place of a row, the position before is the last place of the row before
       pub standing-row_end : p.place ≡ 0 → (ids : List ℕ) → leaf_in rows r ≡ Some ids → position_at rows (k - 1) ≡ Some (end_of (length ids) r)
       standing-row_end z ids g =
           let n = filled-some s.before r fills last_is in
@@ -370,7 +370,7 @@ module _ (rows : List (Numbered (List ℕ))) (k : ℕ) (p : Position) (s : Stand
           let h : leaf_in s.before r ≡ Some ids = leaf_in-front s.before ((p.row, s.ids) ∷ s.after) r ids (Has-last s.before r last_is) (sym (ap (λ rs. leaf_in rs r) s.is) ∙ g) in
           ap (λ rs. position_at rs (k - 1)) s.is ∙ ap (position_at (s.before ++ (p.row, s.ids) ∷ s.after)) e ∙ position-in s.before ((p.row, s.ids) ∷ s.after) (length (numbers s.before) - 1) (omega arith) ∙ position-last s.before apart fills r ids last_is h
 
--- a row that there is has a number
+-- each row has a number
 pub filled-row : (rows : List (Numbered (List ℕ))) → AreFilled rows → (r : ℕ) (ids : List ℕ) → leaf_in rows r ≡ Some ids → 0 < length ids
 filled-row [] f r ids e = absurd cc
 filled-row (q ∷ rs) f r ids e = elim (eqb_tells q.0 r) [
@@ -378,12 +378,12 @@ filled-row (q ∷ rs) f r ids e = elim (eqb_tells q.0 r) [
   | inr t ↦ filled-row rs f.1 r ids (rw t.0 at e)
 ]
 
--- what stands before a position
+-- a position is the first, or there is a position before it
 pub before_cases : (rows : List (Numbered (List ℕ))) (p : Position) (o : Option Position) → ((k : ℕ) → position_at rows (k + 1) ≡ Some p → o ≡ position_at rows k) → (position_at rows 0 ≡ Some p → o ≡ None) → (j : ℕ) → position_at rows j ≡ Some p → ((j ≡ 0) × (o ≡ None)) ⊎ ((k : ℕ) × ((j ≡ suc k) × (o ≡ position_at rows k)))
 before_cases rows p o before first zero e = inl (refl, first e)
 before_cases rows p o before first (suc k) e = inr (k, (refl, before k (let m : suc k ≡ k + 1 = omega arith in rw m at e)))
 
--- a position before, where there is one
+-- the position before, if there is one
 pub before_some : (rows : List (Numbered (List ℕ))) {p q : Position} {o : Option Position} {j : ℕ} →
     ((k : ℕ) → position_at rows (k + 1) ≡ Some p → o ≡ position_at rows k) → (position_at rows 0 ≡ Some p → o ≡ None) → position_at rows j ≡ Some p → o ≡ Some q → (k : ℕ) × (j ≡ suc k) × (position_at rows k ≡ Some q)
 before_some rows {p} {q} {o} {j} before first at is = elim (before_cases rows p o before first j at) [

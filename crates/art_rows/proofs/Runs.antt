@@ -11,13 +11,13 @@ use Rattle.art_rows.specs.declared.row.Position.{Position}
 use Rattle.art_rows.proofs.FilingLemmas.{number_there, same_ids}
 use Rattle.art_rows.proofs.RowsLemmas.{nth-append_left, nth-append_right, nth-within, number_after-nth, number_before-nth, place_in-nth, standing, standing-numbers, standing-end}
 
--- what stands after a place
+-- the item at place j after the first k is the item at place k + j
 nth-drop : (ns : List ℕ) (k j : ℕ) → nth (drop k ns) j ≡ nth ns (k + j)
 nth-drop ns zero j = (let e : 0 + j ≡ j = omega arith in sym (ap (nth ns) e))
 nth-drop [] (suc k) j = refl
 nth-drop (n ∷ ns) (suc k) j = (let e : suc k + j ≡ suc (k + j) = omega arith in nth-drop ns k j ∙ sym (ap (nth (n ∷ ns)) e))
 
--- what stands before a place
+-- an item of the first k items is the item at the same place in the list
 nth-take : (ns : List ℕ) (k j n : ℕ) → nth (take k ns) j ≡ Some n → nth ns j ≡ Some n
 nth-take ns zero j n e = absurd cc
 nth-take [] (suc k) j n e = absurd cc
@@ -37,11 +37,11 @@ module _ {X : Type 0} (ps : List (Numbered X)) (distinct : AreDistinct ps) (i n 
         λ j m e. let d : place_in ns n + 1 + j ≡ k + 1 + suc j = omega arith in ap (nth ns) d ∙ r (suc j) m e,
       )
 
-  -- the next number stands one place further
+  -- the place of the next number is the next place
   pub after_index : number_after ps i ≡ Some n → place_in (map (λ p. p.0) ps) n ≡ place_in (map (λ p. p.0) ps) i + 1
   after_index e = place_in-nth ps (place_in (map (λ p. p.0) ps) i + 1) n distinct (sym (number_after-nth ps i has) ∙ e)
 
-  -- the same of all that follows
+  -- the same for all that follows
   pub following_step : (rows : List (Numbered (List ℕ))) (a b : Following) → a.run ≡ n ∷ b.run → b.row ≡ a.row → b.run ≡ rest → StandsAfter ps rows i a → (number_after ps i ≡ Some n) × StandsAfter ps rows n b
   following_step rows a b cut same is s =
       let r = after_step (subst (RunsAfter ps i) (cut ∙ ap (λ l. n ∷ l) is) s.run) in
@@ -91,13 +91,13 @@ module _ {K V : Type 0} {leaves : ℕ → Option (Leaf K V)} {rows : List (Numbe
       let d : j < length s.ids = rw same w in
       rw (f.joined, standing-numbers rows k p s, c) (nth-append_right (numbers s.before) (s.ids ++ numbers s.after) j ∙ nth-append_left s.ids (numbers s.after) j d ∙ ap (λ l. nth l j) same ∙ h)
 
-  -- what stands in a row after a number is a run after it
+  -- the numbers after a number in its row are a run after it
   pub after_in_row : RunsAfter ps n (drop (p.place + 1) ids)
   after_in_row j m e =
       let i = index_is in
       nth_of_row (p.place + 1 + j) m (place_in (map (λ q. q.0) ps) n + 1 + j) (omega arith) (sym (nth-drop ids (p.place + 1) j) ∙ e)
 
-  -- the next row, if there is one, stands after that run
+  -- the next row, if there is one, starts after that run
   row_after_run : position_at rows (place_in (map (λ q. q.0) ps) n + 1 + length (drop (p.place + 1) ids)) ≡ option_map start_of (number_after rows p.row)
   row_after_run =
       let i = index_is in
@@ -108,15 +108,15 @@ module _ {K V : Type 0} {leaves : ℕ → Option (Leaf K V)} {rows : List (Numbe
       let b : place_in (map (λ q. q.0) ps) n + 1 + length (drop (p.place + 1) ids) + p.place ≡ k + length s.ids = rw same (omega arith) in
       standing-end rows k p s f.apart f.filled _ b
 
-  -- what was looked up in a row and after it follows the number
+  -- what was looked up in the row and after it follows the number
   pub following_there : (b : Following) → b.run ≡ drop (p.place + 1) ids → b.row ≡ number_after rows p.row → StandsAfter ps rows n b
   following_there b run row = record { run = subst (RunsAfter ps n) (sym run) after_in_row; row = ap (option_map start_of) row ∙ sym row_after_run ∙ ap (λ l. position_at rows (place_in (map (λ q. q.0) ps) n + 1 + length l)) (sym run) }
 
-  -- the number there is the next one
+  -- the number at the position is the next number
   pub next_there : (i : ℕ) → Has ps i → k ≡ place_in (map (λ q. q.0) ps) i + 1 → number_after ps i ≡ Some n
   next_there i has e = number_after-nth ps i has ∙ ap (nth (map (λ q. q.0) ps)) (sym e) ∙ number_there f k p at ids is ∙ there
 
-  -- what stands in a row before a number is a run before it
+  -- the numbers before a number in its row are a run before it
   pub before_in_row : RunsBefore ps n (take p.place ids)
   before_in_row =
       let i = index_is in
@@ -128,7 +128,7 @@ module _ {K V : Type 0} {leaves : ℕ → Option (Leaf K V)} {rows : List (Numbe
       )
 
 module _ {K V : Type 0} {leaves : ℕ → Option (Leaf K V)} {rows : List (Numbered (List ℕ))} {count : ℕ} {ps : List (Numbered (K × V))} (f : Files leaves rows count ps) where
-  -- at the end of a run the next number is the first of the next row, and the others of that row follow it
+  -- at the end of a run the next number starts the next row, and the others of that row follow it
   pub following_row : (i n : ℕ) → Has ps i → (a b : Following) → length a.run ≡ 0 → StandsAfter ps rows i a → (r : ℕ) → a.row ≡ Some r → (ids : List ℕ) → leaf_in rows r ≡ Some ids → ids ≡ n ∷ b.run → b.row ≡ number_after rows r → (number_after ps i ≡ Some n) × StandsAfter ps rows n b
   following_row i n has a b l s r row ids is cut after =
       let k : ℕ = place_in (map (λ q. q.0) ps) i + 1 + length a.run in

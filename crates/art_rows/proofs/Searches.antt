@@ -4,7 +4,7 @@ use Rattle.std.proofs.lemmas.Bool.Decides.{eqb_tells}
 use Rattle.art_rows.specs.Rows.{place_in}
 use Rattle.art_rows.specs.Blocks.{numbers_at}
 
--- what stands nowhere has its place after all
+-- the place of a number that is not in the list is after all numbers
 pub found_nowhere : (first : ℕ) (cells : List ℕ) (n : ℕ) → ((k : ℕ) → k < length cells → first + get_or cells k 0 ≢ n) → place_in (numbers_at first cells) n ≡ length cells
 found_nowhere first [] n h = refl
 found_nowhere first (c ∷ cells) n h = elim (eqb_tells (first + c) n) [
@@ -12,7 +12,7 @@ found_nowhere first (c ∷ cells) n h = elim (eqb_tells (first + c) n) [
   | inr t ↦ rw t.0 (ap suc (found_nowhere first cells n (λ k l. h (suc k) (omega arith))))
 ]
 
--- and else the first place where it stands
+-- the place of a number is the first place at which it is found
 pub found_first : (first : ℕ) (cells : List ℕ) (n k : ℕ) → k < length cells → first + get_or cells k 0 ≡ n → ((j : ℕ) → j < k → first + get_or cells j 0 ≢ n) → place_in (numbers_at first cells) n ≡ k
 found_first first [] n k l e h = absurd (omega arith)
 found_first first (c ∷ cells) n zero l e h = rw (eq-eqb (first + c) n e) refl

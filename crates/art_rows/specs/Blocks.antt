@@ -13,7 +13,7 @@ times ns n = count_by (λ m. eqb m n) ns
 abbrev pub row_of : ℕ → ℕ
 row_of n = n / ROW
 
--- the numbers of some cells of a block whose first number is this one
+-- the numbers of these cells of the block whose first number is `first`
 abbrev pub numbers_at : ℕ → List ℕ → List ℕ
 numbers_at first cells = map (λ c. first + c) cells
 
@@ -21,7 +21,7 @@ numbers_at first cells = map (λ c. first + c) cells
 abbrev pub AreWithin : List ℕ → Type 0
 AreWithin cells = (c : ℕ) → 0 < times cells c → c < ROW
 
--- each is a cell of a block, and none is there twice
+-- each is a cell of a block, and none occurs twice
 pub record ArePlaces (cells : List ℕ) : Type 0 where
   pub once : (c : ℕ) → times cells c ≤ 1
   pub within : AreWithin cells
@@ -31,7 +31,7 @@ abbrev pub AreOwn : List (Numbered (List ℕ)) → Type 0
 AreOwn [] = Unit {0}
 AreOwn (r ∷ rs) = ((n : ℕ) → among r.1 n ≡ true → row_of n ≡ r.0) × AreOwn rs
 
--- there is such a leaf, and its row is not full
+-- a leaf is named, and its row is not full
 abbrev pub HasPlace : List (Numbered (List ℕ)) → Option ℕ → Type 0
 HasPlace rows None = ⊥
 HasPlace rows (Some i) = IfSome (leaf_in rows (row_of i)) (λ ids. length ids < ROW)
@@ -40,13 +40,13 @@ HasPlace rows (Some i) = IfSome (leaf_in rows (row_of i)) (λ ids. length ids < 
 abbrev pub HasRoomAfter : List (Numbered (List ℕ)) → ℕ → Type 0
 HasRoomAfter rows r = IfSome (number_after rows r) (λ n. IfSome (leaf_in rows n) (λ ids. length ids < ROW))
 
--- a pair may come after this leaf, or before all leaves. In a full row it may only come after the
--- last leaf, if the next row is not full
+-- a pair may be placed after this leaf, or before all leaves. In a full row it may be placed only
+-- after the last leaf, and only if the next row, if there is one, is not full
 abbrev pub HasWay : List (Numbered (List ℕ)) → Option ℕ → Type 0
 HasWay rows None = Unit {0}
 HasWay rows (Some i) = IfSome (leaf_in rows (row_of i)) (λ ids. length ids ≡ ROW → (place_in ids i + 1 ≡ ROW) × HasRoomAfter rows (row_of i))
 
--- the leaf is in a full row, and the other is the last of that row
+-- `prev` is a leaf in a full row, and `last` is the last leaf of that row
 pub record IsCrowded (rows : List (Numbered (List ℕ))) (prev : Option ℕ) (last : ℕ) : Type 0 where
   pub leaf : ℕ
   pub is : prev ≡ Some leaf
@@ -60,7 +60,7 @@ pub record IsCrowded (rows : List (Numbered (List ℕ))) (prev : Option ℕ) (la
 abbrev pub IsRowLast : List (Numbered (List ℕ)) → ℕ → Type 0
 IsRowLast rows last = IfSome (leaf_in rows (row_of last)) (λ ids. nth ids (length ids - 1) ≡ Some last)
 
--- the place after a leaf in its row
+-- the position is directly after the leaf, in the leaf's row
 abbrev pub IsAfter : List (Numbered (List ℕ)) → ℕ → Position → Type 0
 IsAfter rows i p = (p.row ≡ row_of i) × IfSome (leaf_in rows (row_of i)) (λ ids. p.place ≡ place_in ids i + 1)
 
@@ -77,6 +77,6 @@ pub record IsCut (start now : List (Numbered (List ℕ))) (row count : ℕ) : Ty
   pub low_len : length low + count ≡ ROW
   pub high_len : length high.1 ≡ count
 
--- the number is one of the row of another, or of the row after that
+-- the row of the number is the row of `other`, or the next row
 abbrev pub IsNear : List (Numbered (List ℕ)) → ℕ → ℕ → Type 0
 IsNear rows other n = (row_of n ≡ row_of other) ⊎ (number_after rows (row_of other) ≡ Some (row_of n))

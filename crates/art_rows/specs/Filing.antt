@@ -9,7 +9,7 @@ use Rattle.art_rows.specs.Leaves.{Leaves}
 use Rattle.art_rows.specs.declared.leaves.Leaf.{Leaf}
 
 module _ {K V : Type 0} where
-  -- the pair of a record, if there is one, before others
+  -- the pairs, after the pair of a record if there is one
   abbrev pub put : ℕ → Option (Leaf K V) → List (Numbered (K × V)) → List (Numbered (K × V))
   put n None ps = ps
   put n (Some x) ps = (n, (x.key, x.value)) ∷ ps
@@ -23,7 +23,7 @@ module _ {K V : Type 0} where
   abbrev pub filed : List (Numbered (K × V)) → ℕ → Option (Leaf K V)
   filed ps i = option_map (λ (x : K × V). record { key = x.0; value = x.1 }) (leaf_in ps i)
 
-  -- the records are those of the pairs, the rows have their numbers, and each row has its own
+  -- the records are those of the pairs, and the rows have the pairs' numbers, each in its own row
   pub record Files (leaves : ℕ → Option (Leaf K V)) (rows : List (Numbered (List ℕ))) (count : ℕ) (pairs : List (Numbered (K × V))) : Type 0 where
     pub distinct : AreDistinct pairs
     pub each : (i : ℕ) → leaves i ≡ filed pairs i

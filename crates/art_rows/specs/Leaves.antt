@@ -38,7 +38,7 @@ module _ {K V : Type 0} where
   abbrev pub end_room : Leaves K V → ℕ
   end_room l = ROW * l.spare_rows + row_end_room (lengths l.rows)
 
-  -- how many pairs come before that of a number
+  -- how many pairs come before the pair of a number
   abbrev pub index_of : List (Numbered (K × V)) → ℕ → ℕ
   index_of ps i = place_in (map (λ p. p.0) ps) i
 
@@ -63,12 +63,12 @@ module _ {K V : Type 0} where
   TakesLast old (Some x) new = (id : ℕ) × (old ≡ new ++ (id, x) ∷ [])
 
 module _ {K V : Type 0} (is_key : K → K → Type 0) (is_value : V → V → Type 0) where
-  -- the number is the same, with a clone of the key and one of the value
+  -- the number is the same, and the key and the value are clones
   pub record IsCopy (old new : Numbered (K × V)) : Type 0 where
     pub number : new.0 ≡ old.0
     pub key : is_key old.1.0 new.1.0
     pub value : is_value old.1.1 new.1.1
 
-  -- each pair is a copy of the one at the same place
+  -- each pair is a copy of the pair at the same place
   abbrev pub AreCopies : List (Numbered (K × V)) → List (Numbered (K × V)) → Type 0
   AreCopies ps qs = AllZip IsCopy ps qs

@@ -5,23 +5,23 @@ use Rattle.art_slots.specs.Store.{Store, slot_at as at, used_count}
 use Rattle.art_rows.specs.Numbers.{Numbered as Pair, Numbers as Content, leaf_in, first_number, last_number, number_after, number_before, AreDistinct}
 use Rattle.art_rows.specs.declared.chain.Link.{Link}
 
--- the number is there, and is this one
+-- the option has this number
 abbrev pub is_at : Option ℕ → ℕ → Bool
 is_at None j = false
 is_at (Some i) j = eqb i j
 
--- an end of the list, which changes if no record is beyond the link
+-- an end of the list: the new one if no record is beyond the link, or else the old one
 abbrev pub end_with : Option ℕ → Option ℕ → Option ℕ → Option ℕ
 end_with None to old = to
 end_with (Some i) to old = old
 
 module _ {X : Type 0} where
-  -- the pair of this record, and then those that its link leads to
+  -- the pair of this record, and then the pairs to which its link leads
   abbrev pub step : (Option ℕ → List (Pair X)) → ℕ → Option (Link X) → List (Pair X)
   step rest i None = []
   step rest i (Some x) = (i, x.item) ∷ rest x.next
 
-  -- the pairs that the links lead to, at most n of them
+  -- the pairs to which the links lead, at most n of them
   abbrev pub follow : (ℕ → Option (Link X)) → ℕ → Option ℕ → List (Pair X)
   follow leaves zero start = []
   follow leaves (suc n) None = []
@@ -46,7 +46,7 @@ module _ {X : Type 0} where
   abbrev pub pairs_in : Store (Link X) → Option ℕ → List (Pair X)
   pairs_in leaves first = follow (at leaves) (used_count leaves) first
 
-  -- the records are those that the links lead to, and no others
+  -- the links lead to all records, and each record is linked to its neighbours
   abbrev pub AllLinked : Store (Link X) → Option ℕ → Option ℕ → Type 0
   AllLinked leaves first last = Links (at leaves) first last (used_count leaves) (pairs_in leaves first)
 
@@ -54,10 +54,10 @@ module _ {X : Type 0} where
   abbrev pub content : Slots (Link X) → Option ℕ → Content X
   content leaves first = record { pairs = pairs_in leaves.store first; spare = leaves.store.spare; room = leaves.room; top = leaves.top; next = leaves.next }
 
-  -- the records, with one linked to another after it
+  -- the records, with the record i, if there is one, linked to `to` as the next
   abbrev pub with_next : (ℕ → Option (Link X)) → Option ℕ → Option ℕ → ℕ → Option (Link X)
   with_next leaves i to j = if is_at i j then option_map (λ (x : Link X). record x { next = to }) (leaves j) else leaves j
 
-  -- the records, with one linked to another before it
+  -- the records, with the record i, if there is one, linked to `to` as the previous
   abbrev pub with_prev : (ℕ → Option (Link X)) → Option ℕ → Option ℕ → ℕ → Option (Link X)
   with_prev leaves i to j = if is_at i j then option_map (λ (x : Link X). record x { prev = to }) (leaves j) else leaves j

@@ -63,13 +63,13 @@ module _ {X : Type 0} where
   next_number None ps = first_number ps
   next_number (Some i) ps = number_after ps i
 
-  -- the pairs with one more, after that of a number or before all
+  -- the pairs with one more, after the pair of a number or before all pairs
   abbrev pub with_pair_after : Option ℕ → Numbered X → List (Numbered X) → List (Numbered X)
   with_pair_after None x ps = x ∷ ps
   with_pair_after (Some i) x [] = []
   with_pair_after (Some i) x (p ∷ ps) = if eqb p.0 i then p ∷ x ∷ ps else p ∷ with_pair_after (Some i) x ps
 
-  -- the pairs without that of a number
+  -- the pairs without the pair of a number
   abbrev pub without_number : List (Numbered X) → ℕ → List (Numbered X)
   without_number [] i = []
   without_number (p ∷ ps) i = if eqb p.0 i then ps else p ∷ without_number ps i
@@ -89,11 +89,11 @@ module _ {X : Type 0} where
   Lacks [] i = Unit {0}
   Lacks (p ∷ ps) i = (p.0 ≢ i) × Lacks ps i
 
-  -- no number comes twice
+  -- no number occurs twice
   abbrev pub AreDistinct : List (Numbered X) → Type 0
   AreDistinct [] = Unit {0}
   AreDistinct (p ∷ ps) = Lacks ps p.0 × AreDistinct ps
 
-  -- each other number has the item that it had
+  -- the item under each other number is unchanged
   abbrev pub OthersStand : List (Numbered X) → List (Numbered X) → ℕ → Type 0
   OthersStand old new i = (j : ℕ) → j ≢ i → leaf_in new j ≡ leaf_in old j

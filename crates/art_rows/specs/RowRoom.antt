@@ -3,11 +3,11 @@
 use Rattle.std.specs.Prelude.{◌≡◌, ℕ, ◌+◌, ◌-◌, ◌*◌, ◌/◌, min, max, List, [], ◌∷◌}
 use Rattle.art_rows.specs.declared.row.TheConstants.{ROW, HALF}
 
--- twice how many numbers a row has after its first 32
+-- twice the count of the numbers that a row has after its first 32
 abbrev pub excess : ℕ → ℕ
 excess n = 2 * (min n ROW - HALF)
 
--- what a row at an end adds to the load: twice how many numbers it has after its first, at most 62
+-- what a row at an end adds to the load: twice the count of its numbers after the first, at most 62
 abbrev pub cap : ℕ → ℕ
 cap n = 2 * min (n - 1) (HALF - 1)
 

@@ -49,7 +49,7 @@ pub record IsSpot (rows : List (Numbered (List ℕ))) (p : Position) (k : ℕ) :
   pub index : k ≡ length (numbers before) + p.place
   pub within : p.place ≤ length ids
 
--- how many numbers a row and those before it have, or 0 if no row is named
+-- how many numbers a row and the rows before it have, or 0 if no row is named
 abbrev pub row_end : Option ℕ → List (Numbered (List ℕ)) → ℕ
 row_end None rows = 0
 row_end (Some r) [] = 0
@@ -67,7 +67,7 @@ start_of r = record { row = r; place = 0 }
 abbrev pub nowhere : Position
 nowhere = record { row = 0; place = 0 }
 
--- what follows a leaf after which nothing was looked up
+-- what follows a leaf if nothing was looked up after it
 abbrev pub nothing_follows : Following
 nothing_follows = record { run = []; row = None }
 

@@ -1,4 +1,4 @@
--- A list of numbers in blocks: what a read, a write and a new block are in the list.
+-- A list of numbers in blocks: a read, a write and a new block, as seen in the list.
 use Rattle.std.proofs.Common.{◌≡◌, ℕ, zero, suc, ◌+◌, ◌-◌, ◌*◌, ◌/◌, ◌%◌, ◌<◌, List, [], ◌∷◌, ◌++◌, length, get_or, set, replicate, refl, sym, ap, subst, ◌∙◌, arith, length-append}
 use Rattle.std.proofs.lemmas.List.{get_or_append_left, get_or-append-add, set-append_left, set-append_right, replicate-append-replicate, length-replicate}
 use Rattle.std.proofs.lemmas.List.Elements.{All-head, All-tail, All-append, All-replicate}
@@ -17,7 +17,7 @@ length-joined [] h = refl
 length-joined (b ∷ bs) h =
     omega (arith, length-joined bs (All-tail IsWhole b bs h), length-append b.halves (joined bs), All-head IsWhole b bs h)
 
--- what a place in a block is in the list
+-- the number at a place in a block is the number at its index in the list
 pub at-joined : (blocks : List Block) → AreWhole blocks → (k j : ℕ) (d : Block) → k < length blocks → j < 64 → get_or (joined blocks) (k * 64 + j) 0 ≡ get_or (get_or blocks k d).halves j 0
 at-joined [] h k j d l m = absurd (omega arith)
 at-joined (b ∷ bs) h zero j d l m =
@@ -29,7 +29,7 @@ at-joined (b ∷ bs) h (suc k) j d l m =
     let e : suc k * 64 + j ≡ length b.halves + (k * 64 + j) = omega arith in
     rw e (get_or-append-add b.halves (joined bs) (k * 64 + j) 0 ∙ at-joined bs (All-tail IsWhole b bs h) k j d (omega arith) m)
 
--- what a write in a block is in the list
+-- a write in a block is a write in the list
 pub set-joined : (blocks : List Block) → AreWhole blocks → (k j v : ℕ) (d : Block) → k < length blocks → j < 64 → joined (set blocks k (record { halves = set (get_or blocks k d).halves j v })) ≡ set (joined blocks) (k * 64 + j) v
 set-joined [] h k j v d l m = absurd (omega arith)
 set-joined (b ∷ bs) h zero j v d l m =
@@ -50,7 +50,7 @@ zeros-joined (suc n) =
     rw (e, zeros-joined n) (replicate-append-replicate 64 (n * 64) 0)
 
 module _ (blocks : List Block) (whole : AreWhole blocks) (i : ℕ) (within : i < length (joined blocks)) where
-  -- the block of an index, and the place in it
+  -- the block of an index is one of the blocks
   pub block_below : i / 64 < length blocks
   block_below = div_below i 64 (length blocks) (omega arith) (omega (arith, length-joined blocks whole))
 
@@ -60,7 +60,7 @@ module _ (blocks : List Block) (whole : AreWhole blocks) (i : ℕ) (within : i <
       ap (λ (c : Block). get_or c.halves (i % 64) 0) e ∙ sym (at-joined blocks whole (i / 64) (i % 64) b block_below (mod_below i 64 (omega arith)))
       ∙ ap (λ k. get_or (joined blocks) k 0) (div-add-mod' i 64)
 
-  -- the list once the number at an index was written
+  -- the list after the number at an index was written
   pub set-index : (v : ℕ) (b : Block) → b ≡ get_or blocks (i / 64) b → joined (set blocks (i / 64) (record { halves = set b.halves (i % 64) v })) ≡ set (joined blocks) i v
   set-index v b e =
       ap (λ (c : Block). joined (set blocks (i / 64) (record { halves = set c.halves (i % 64) v }))) e
@@ -68,11 +68,11 @@ module _ (blocks : List Block) (whole : AreWhole blocks) (i : ℕ) (within : i <
       ∙ ap (λ k. set (joined blocks) k v) (div-add-mod' i 64)
 
 module _ (old new : List Block) (count : ℕ) (a : AddsZeros old new count) where
-  -- blocks are whole once blocks of zeros were added
+  -- the blocks are whole after blocks of zeros were added
   pub whole-more : AreWhole old → AreWhole new
   whole-more h = subst AreWhole (sym a.added) (All-append IsWhole old (replicate (length new - length old) zeros) h (All-replicate IsWhole (length new - length old) zeros refl))
 
-  -- the list then
+  -- zeros are added to the list
   pub joined-more : joined new ≡ joined old ++ replicate ((length new - length old) * 64) 0
   joined-more =
       ap joined a.added ∙ flat_map-append (λ (b : Block). b.halves) old (replicate (length new - length old) zeros)

@@ -1,4 +1,4 @@
--- Numbers in low and high halves: what a read, a write and a longer list are in the numbers.
+-- Numbers in low and high halves: a read, a write and a longer list, as seen in the numbers.
 use Rattle.std.proofs.Common.{◌≡◌, ℕ, zero, suc, ◌+◌, ◌*◌, ◌^◌, ◌<◌, ◌≤◌, List, [], ◌∷◌, ◌++◌, length, take, get_or, set, replicate, refl, ap, arith}
 use Rattle.std.proofs.Math.Seq.{take-append_seam}
 use Rattle.art_slots.specs.Words.{numbers}
@@ -9,21 +9,21 @@ length-numbers [] high = refl
 length-numbers (l ∷ low) [] = refl
 length-numbers (l ∷ low) (h ∷ high) = ap suc (length-numbers low high)
 
--- a number with no high half
+-- a number with no high half is its low half
 pub at-low : (low high : List ℕ) (i : ℕ) → length high ≤ i → get_or (numbers low high) i 0 ≡ get_or low i 0
 at-low [] high i p = refl
 at-low (l ∷ low) [] i p = refl
 at-low (l ∷ low) (h ∷ high) zero p = absurd (omega arith)
 at-low (l ∷ low) (h ∷ high) (suc i) p = at-low low high i (omega arith)
 
--- a number with two halves
+-- a number with a high half is made of both halves
 pub at-both : (low high : List ℕ) (i : ℕ) → i < length low → i < length high → get_or (numbers low high) i 0 ≡ get_or low i 0 + get_or high i 0 * 2 ^ 32
 at-both [] high i p q = absurd (omega arith)
 at-both (l ∷ low) [] i p q = absurd (omega arith)
 at-both (l ∷ low) (h ∷ high) zero p q = refl
 at-both (l ∷ low) (h ∷ high) (suc i) p q = at-both low high i (omega arith) (omega arith)
 
--- a low half alone is written
+-- a write of a low half alone is a write of the number
 pub set-low : (low high : List ℕ) (i a : ℕ) → length high ≤ i → numbers (set low i a) high ≡ set (numbers low high) i a
 set-low [] high i a p = refl
 set-low (l ∷ low) [] zero a p = refl
@@ -31,7 +31,7 @@ set-low (l ∷ low) [] (suc i) a p = refl
 set-low (l ∷ low) (h ∷ high) zero a p = absurd (omega arith)
 set-low (l ∷ low) (h ∷ high) (suc i) a p = ap (λ ns. (l + h * 2 ^ 32) ∷ ns) (set-low low high i a (omega arith))
 
--- both halves are written
+-- a write of both halves is a write of the number
 pub set-both : (low high : List ℕ) (i a b : ℕ) → i < length high → numbers (set low i a) (set high i b) ≡ set (numbers low high) i (a + b * 2 ^ 32)
 set-both [] high i a b p = refl
 set-both (l ∷ low) [] i a b p = absurd (omega arith)
@@ -51,7 +51,7 @@ zeros-high [] high n = refl
 zeros-high (l ∷ low) [] n = none-high (l ∷ low) n
 zeros-high (l ∷ low) (h ∷ high) n = ap (λ ns. (l + h * 2 ^ 32) ∷ ns) (zeros-high low high n)
 
--- more low halves leave the numbers before them
+-- more low halves do not change the numbers before them
 pub take-numbers : (low more high : List ℕ) → take (length low) (numbers (low ++ more) high) ≡ numbers low high
 take-numbers [] more high = refl
 take-numbers (l ∷ low) more [] = ap (λ ns. l ∷ ns) (take-append_seam low more)

@@ -25,7 +25,7 @@ module _ {T : Type 0} where
       let same : x ≡ c = cc in
       rw (same, vals-of xs cs (λ j. h (suc j))) refl
 
-  -- then they hold their values
+  -- slots that hold a list hold their values
   pub holds-vals : (xs : List (Option T)) (cs : List T) → Holds xs cs → Holds xs (vals xs)
   holds-vals xs cs h = subst (Holds xs) (sym (vals-of xs cs h)) h
 
@@ -44,7 +44,7 @@ module _ {T : Type 0} where
     pub full_at : (i : ℕ) → i < length cs → IsSome (get_or xs i None)
     full_at i l = subst IsSome (sym (h i)) (some_at cs i l)
 
-    -- what the slot of a key has
+    -- the slot of a key has the item at that key
     pub held-at : (i : ℕ) (d : T) → i < length cs → get_or xs i None ≡ Some (get_or cs i d)
     held-at i d l = h i ∙ get_or-map (λ (x : T). Some x) cs i d None l
 
@@ -52,7 +52,7 @@ module _ {T : Type 0} where
     pub none-past : (i : ℕ) → length cs ≤ i → get_or xs i None ≡ None
     none-past i l = h i ∙ get_or_past {X = Option T} (map (λ (x : T). Some x) cs) i None (omega (arith, length-map cs (λ (x : T). Some x)))
 
-    -- a value is written over
+    -- a value is replaced
     pub holds-set : (i : ℕ) (v : T) → i < length cs → Holds (set xs i (Some v)) (set cs i v)
     holds-set i v l j =
         let m : i < length (map (λ (x : T). Some x) cs) = omega (arith, length-map cs (λ (x : T). Some x)) in

@@ -1,4 +1,4 @@
--- How a list of numbers of 32 bits lies in blocks.
+-- How a list of 32-bit numbers is stored in blocks.
 use Rattle.std.specs.Prelude.{◌≡◌, ◌≤◌, ◌+◌, ◌-◌, ℕ, List, ◌++◌, length, replicate, flat_map, All}
 use Rattle.art_slots.specs.declared.halves.Block.{Block}
 

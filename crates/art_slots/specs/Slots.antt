@@ -3,7 +3,7 @@ use Rattle.std.specs.Prelude.{ℕ, refl}
 use Rattle.std.specs.Coded.{Coded, code_by, coded×, coded_ℕ}
 use Rattle.art_slots.specs.Store.{Store, store_code, with_record}
 
--- the records and spare slots as a store, the room for more, a number above all, and the next number
+-- the store of records and spare slots, the room for more, a number above all, and the next number
 pub record Slots (T : Type 0) : Type 0 where
   pub store : Store T
   pub room : ℕ

@@ -1,4 +1,4 @@
--- A list of pairs that another is moved into, pair by pair.
+-- A list of pairs into which another list is moved, pair by pair.
 use Rattle.std.proofs.Common.{◌≡◌, ◌≢◌, ℕ, true, false, ◌⊎◌, inl, inr, List, [], ◌∷◌, ◌++◌, Option, Some, None, refl, sym, ap, ◌∙◌, subst, subst₂, Contains, bytes_eq}
 use Rattle.std.proofs.lemmas.Bool.{cases_Bool, false_from_ne_true}
 use Rattle.std.specs.Cmp.Lexicographic.{bytes_decides}
@@ -15,28 +15,28 @@ use Rattle.blart_keys.proofs.PutLemmas.{put_member, member_put}
 use Rattle.art_insert.specs.Bulk.{or_else}
 
 module _ {X : Type 0} (bytes : X → List ℕ) where
-  -- nothing has the bytes of an item that comes after
+  -- no item has the bytes of an item after it
   pub fresh_after : (A B : List X) (x : X) → IsContent bytes (A ++ x ∷ B) → stores bytes A (bytes x) ≡ false
   fresh_after A B x c = false_from_ne_true _ (λ t.
       let r = stores_found bytes A (bytes x) t in
       let b : Before bytes r.0 x = Ranked-across (Before bytes) A (x ∷ B) (Ranked-from_content bytes (A ++ x ∷ B) c) r.0 x r.1 (inl refl) in
       PartsBelow-irrefl (bytes x) (subst (λ q. PartsBelow q (bytes x)) r.2 b))
 
-  -- nothing moved yet
+  -- the union of no items and a list is the list
   pub union_start : (S : List X) → IsContent bytes S → IsUnion bytes [] S S
   union_start S c = record {
     ascends = c.ascends;
     elements = λ x. (λ m. inr (m, refl), λ m. elim m [ inl n ↦ absurd (Member-from_Contains x [] n) | inr n ↦ n.0 ]);
   }
 
-  -- there was nothing before
+  -- the union of a list and no items is the list
   pub union_all : (T : List X) → IsContent bytes T → IsUnion bytes T [] T
   union_all T c = record {
     ascends = c.ascends;
     elements = λ x. (λ m. inl m, λ m. elim m [ inl n ↦ n | inr n ↦ absurd (Member-from_Contains x [] n.0) ]);
   }
 
-  -- one more was put
+  -- one more item is put
   pub union_more : (A S U U' : List X) (x : X) → IsUnion bytes A S U → IsPut bytes U x U' → stores bytes A (bytes x) ≡ false → IsUnion bytes (A ++ x ∷ []) S U'
   union_more A S U U' x u put fresh = record {
     ascends = put.content.ascends;
@@ -79,7 +79,7 @@ module _ {X : Type 0} (bytes : X → List ℕ) where
           let r = stores_found bytes A (bytes y) t in
           stores_missing bytes (A ++ x ∷ []) (bytes y) r.0 f (Member-append_left r.0 A (x ∷ []) r.1) r.2)
 
-  -- one more is added where its bytes are new
+  -- one more item is added if its bytes are new
   pub union_step : (T A U U' : List X) (x : X) → IsUnion bytes T A U → stores bytes A (bytes x) ≡ false → (stores bytes U (bytes x) ≡ false → IsPut bytes U x U') → (stores bytes U (bytes x) ≡ true → U' ≡ U) → IsUnion bytes T (A ++ x ∷ []) U'
   union_step T A U U' x u fresh put same = elim (cases_Bool (stores bytes U (bytes x))) [
     | inl t ↦ subst (IsUnion bytes T (A ++ x ∷ [])) (sym (same t)) (stored t)
@@ -98,7 +98,7 @@ module _ {X : Type 0} (bytes : X → List ℕ) where
         | inr b ↦ inr (more y b.0, b.1)
       ]
 
-      -- an item of the list is an earlier one, or this one
+      -- an item of the list is an earlier item, or this item
       earlier : (y : X) → Contains (A ++ x ∷ []) y → Contains A y ⊎ (x ≡ y)
       earlier y m = elim (Member-append_cases y A (x ∷ []) (Member-from_Contains y (A ++ x ∷ []) m)) [
         | inl n ↦ inl (Contains-from_Member y A n)
@@ -155,7 +155,7 @@ module _ {X : Type 0} (bytes : X → List ℕ) where
           grown : (y : X) → Contains U y → Contains U' y
           grown y m = Contains-from_Member y U' (member_put bytes U U' x y put (Member-from_Contains y U m) (stores_missing bytes U (bytes x) y f (Member-from_Contains y U m)))
 
-  -- what is there afterwards: the item of the one, or else that of the other
+  -- the item at some bytes of a union is the item of the first list, or else of the second
   pub union_at : (T S U : List X) → IsContent bytes T → IsContent bytes S → IsUnion bytes T S U → (q : List ℕ) → at bytes U q ≡ or_else (at bytes T q) (at bytes S q)
   union_at T S U t s u q = go (at bytes T q) refl (at bytes S q) refl
     where
@@ -183,7 +183,7 @@ module _ {X : Type 0} (bytes : X → List ℕ) where
         | inr m ↦ at_None bytes S q y f (Member-from_Contains y S m.0) b
       ])
 
-  -- two parts of a content, the higher appended to the lower, are the whole
+  -- if the higher part of a content is appended to the lower part, the result is the content
   pub union_parts : (A B U : List X) → IsContent bytes (A ++ B) → IsUnion bytes B A U → U ≡ A ++ B
   union_parts A B U c u = union_unique bytes B A U (A ++ B) u (record {
     ascends = c.ascends;
@@ -205,15 +205,15 @@ module _ {X : Type 0} (bytes : X → List ℕ) where
           let b : Before bytes x r.0 = Ranked-across (Before bytes) A B (Ranked-from_content bytes (A ++ B) c) x r.0 a r.1 in
           PartsBelow-irrefl (bytes x) (subst (λ q. PartsBelow (bytes x) q) r.2 b))
 
--- and so at the bytes of pairs, where the lists are seen otherwise
+-- the same for pairs, if the lists are equal to others
 pub appended_at : {K V : Type 0} (kb : K → List ℕ) (S T S' T' U : List (K × V)) → S' ≡ S → T' ≡ T → IsContent (pair_bytes kb) S → IsContent (pair_bytes kb) T → IsUnion (pair_bytes kb) T' S' U → (q : List ℕ) → pair_at kb U q ≡ or_else (pair_at kb T q) (pair_at kb S q)
 unfolding pair_at
 appended_at kb S T S' T' U e f s t u = union_at (pair_bytes kb) T S U t s (subst₂ (λ A B. IsUnion (pair_bytes kb) A B U) f e u)
 
--- two parts of a map, of which the higher is appended to the lower, are the whole
+-- if the higher part of a map is appended to the lower part, the result is the map
 pub joined_parts : {K V : Type 0} (kb : K → List ℕ) (S A B U : List (K × V)) → IsContent (pair_bytes kb) S → S ≡ A ++ B → IsAppended (pair_bytes kb) A B U → U ≡ S
 joined_parts kb S A B U c e u = union_parts (pair_bytes kb) A B U (subst (IsContent (pair_bytes kb)) e c) u ∙ sym e
 
--- and so where the lists are seen otherwise
+-- the same, if the lists are equal to others
 pub joined_at : {K V : Type 0} (kb : K → List ℕ) (A B A' B' U : List (K × V)) → A' ≡ A → B' ≡ B → IsUnion (pair_bytes kb) B' A' U → (S : List (K × V)) → IsContent (pair_bytes kb) S → S ≡ A ++ B → U ≡ S
 joined_at kb A B A' B' U e f u S c w = joined_parts kb S A B U c w (subst₂ (λ C D. IsUnion (pair_bytes kb) D C U) e f u)

@@ -19,9 +19,9 @@ use Rattle.art_insert.specs.Bulk.{NoneGreater}
 use Rattle.art_insert.proofs.Numbers.{slice_get-last}
 use Rattle.art_insert.proofs.Placed.Inserting.{alone_none}
 
--- ---- what is put
+-- ---- the pair that is put
 
--- a list has one last item
+-- equal lists have the same last item
 same_end : {X : Type 0} (A B : List X) (x y : X) → A ++ x ∷ [] ≡ B ++ y ∷ [] → x ≡ y
 same_end A B x y e =
     let s : Some x ≡ Some y = sym (slice_get-last A x) ∙ ap (λ l. slice_get l (length l - 1)) e ∙ slice_get-last B y in
@@ -80,28 +80,28 @@ module _ {K V : Type 0} (kb : K → List ℕ) (S : List (K × V)) (content : IsC
 
 -- ---- items in order
 
--- each item that is still to come is not less than those before it
+-- each item is not less than the items before it
 abbrev pub AreRanked : {X : Type 0} → (X → List ℕ) → List X → Type 0
 AreRanked bytes xs = Ranked (λ x y. less (bytes y) (bytes x) ≡ false) xs
 
--- and so are the items of a sorted list
+-- the items of a sorted list are ranked
 pub ranked_from_sorted : {X : Type 0} (bytes : X → List ℕ) (xs : List X) → IsSortedByKey bytes bytes_cmp xs → AreRanked bytes xs
 ranked_from_sorted bytes xs s = Ranked-from_AllPairs _ xs (λ i j d l m. sorted_far (λ a b. less (bytes a) (bytes b)) (ranks_by nat_list_cmp_total bytes) xs s i j d (omega arith) m)
 
--- the items, once one more came
+-- the items, after one more was yielded
 pub one_more : {X : Type 0} (xs came items : List X) (x : X) (rest : List X) → xs ≡ came ++ items → items ≡ x ∷ rest → xs ≡ (came ++ x ∷ []) ++ rest
 one_more xs came items x rest whole is = whole ∙ ap (λ l. came ++ l) is ∙ sym (append_assoc came (x ∷ []) rest)
 
--- no item of S is greater than one of `rest`
+-- no item of S is greater than an item of `rest`
 abbrev pub NoneOver : {X : Type 0} → (X → List ℕ) → List X → List X → Type 0
 NoneOver {X} bytes S rest = (y z : X) → Member y S → Member z rest → less (bytes z) (bytes y) ≡ false
 
 module _ {K V : Type 0} (kb : K → List ℕ) (S : List (K × V)) (items : List (K × V)) (x : K × V) (rest : List (K × V)) (is : items ≡ x ∷ rest) (order : NoneOver (pair_bytes kb) S items) where
-  -- no item is greater than the next one
+  -- no item is greater than the next item
   pub none_greater : NoneGreater (pair_bytes kb) S (kb x.0)
   none_greater y m = order y x (Member-from_Contains y S m) (subst (Member x) (sym is) (inl refl))
 
-  -- nor than one of the rest, once the next one was put
+  -- after the next item was put, no item is greater than an item of the rest
   pub order_more : AreRanked (pair_bytes kb) items → (S' : List (K × V)) → IsPut (pair_bytes kb) S (kept_pair (at (pair_bytes kb) S (kb x.0)) x) S' → NoneOver (pair_bytes kb) S' rest
   order_more ranked S' put y z m n = elim (put_member (pair_bytes kb) S S' (kept_pair (at (pair_bytes kb) S (kb x.0)) x) y put m) [
     | inl e ↦ ap (less (kb z.0)) (ap (pair_bytes kb) e ∙ own (at (pair_bytes kb) S (kb x.0)) refl) ∙ each_member (λ w. less (kb w.0) (kb x.0) ≡ false) rest z (subst (AreRanked (pair_bytes kb)) is ranked).0 n

@@ -1,4 +1,4 @@
--- Pairs that leave one list and come into another.
+-- Pairs that move from one list to another.
 use Rattle.std.proofs.Common.{◌≡◌, ℕ, false, inl, List, [], ◌∷◌, ◌++◌, Some, refl, sym, ap, ◌∙◌, subst, append-nil}
 use Rattle.blart_keys.specs.Bytes.{related}
 use Rattle.blart_keys.specs.Content.{IsContent, IsPut}
@@ -9,9 +9,9 @@ use Rattle.art_tree.specs.Leaves.{Numbered, leaf_in, first_number, without_numbe
 use Rattle.art_tree.specs.Pairs.{pairs_of}
 pub use Rattle.art_tree.proofs.PairEnds.{first_pair}
 
--- the first pair, and those without it
+-- the first pair, and the pairs without it
 
--- once the first pair that is left is taken out, all pairs are those that have moved, it, and the rest
+-- if the first remaining pair is removed, all pairs are the moved pairs, that pair, and the rest
 pub first_moved : {K V : Type 0} (bytes : K × V → List ℕ) (all moved : List (K × V)) (ps rest : List (Numbered K V)) (id : ℕ) (x : K × V) → IsContent bytes all → all ≡ moved ++ pairs_of ps → first_number ps ≡ Some id → leaf_in ps id ≡ Some x → rest ≡ without_number ps id → (all ≡ moved ++ x ∷ pairs_of rest) × IsContent bytes (moved ++ x ∷ pairs_of rest)
 first_moved bytes all moved ps rest id x content whole is named left =
     let w = whole ∙ ap (λ l. moved ++ l) (first_pair ps id x is named ∙ ap (λ l. x ∷ pairs_of l) (sym left)) in
@@ -27,7 +27,7 @@ module _ {X : Type 0} (bytes : X → List ℕ) where
     pub before_unrelated : (y : X) → Member y B → related (bytes y) (bytes x) ≡ false
     before_unrelated y m = unrelated_back (bytes x) (bytes y) (related-from_PartsBelow (bytes x) (bytes y) (before_others y m))
 
-    -- put, it is the first
+    -- an item that is put before all is the first
     pub put_front : (U : List X) → IsPut bytes B x U → U ≡ x ∷ B
     put_front U put =
         let rest : IsContent bytes B = content_from_Ranked bytes B (Ranked-right (Before bytes) (x ∷ []) B (Ranked-right (Before bytes) A (x ∷ B) (Ranked-from_content bytes (A ++ x ∷ B) c))) in
@@ -39,7 +39,7 @@ module _ {X : Type 0} (bytes : X → List ℕ) where
   pub low_content : (A B : List X) → IsContent bytes (A ++ B) → IsContent bytes A
   low_content A B c = content_from_Ranked bytes A (Ranked-left (Before bytes) A B (Ranked-from_content bytes (A ++ B) c))
 
-  -- and each is less
+  -- each item before another is less
   pub low_after : (A B : List X) (x : X) → IsContent bytes (A ++ x ∷ B) → (y : X) → Member y A → Before bytes y x
   low_after A B x c y m = Ranked-across (Before bytes) A (x ∷ B) (Ranked-from_content bytes (A ++ x ∷ B) c) y x m (inl refl)
 
@@ -49,7 +49,7 @@ module _ {X : Type 0} (bytes : X → List ℕ) where
     pub after_unrelated : (y : X) → Member y A → related (bytes y) (bytes x) ≡ false
     after_unrelated y m = related-from_PartsBelow (bytes y) (bytes x) (after y m)
 
-    -- put, it is the last
+    -- an item that is put after all is the last
     pub put_back : (U : List X) → IsPut bytes A x U → U ≡ A ++ x ∷ []
     put_back U put =
         let none = append-nil A in

@@ -1,4 +1,4 @@
--- A content parted at some bytes.
+-- A content cut in two at some bytes.
 use Rattle.std.proofs.Common.{◌≡◌, ◌≤◌, ◌+◌, ℕ, Bool, true, false, cond, not, ◌&&◌, inl, inr, List, [], ◌∷◌, ◌++◌, length, length-append, arith, refl, sym, ap, ◌∙◌, subst, Option, None, filter, bytes_eq, if◌then◌else◌}
 use Rattle.std.proofs.lemmas.Bool.{false≢true, cases_Bool, false_from_ne_true}
 use Rattle.std.specs.Cmp.Lexicographic.{bytes_decides}
@@ -13,7 +13,7 @@ use Rattle.blart_keys.proofs.MergeLemmas.{Lower}
 use Rattle.blart_keys.proofs.RankLemmas.{each_member, filter_none, filter_all, Ranked, Ranked-from_AllPairs, Ranked-left, Ranked-right}
 use Rattle.blart_keys.proofs.ContentLemmas.{Before, Ranked-from_content, content_from_Ranked}
 
--- two ways to part a list, with as many items after the cut, are one
+-- two cuts of a list with as many items before the cut are equal
 same_parts : {X : Type 0} (A B C D : List X) → A ++ B ≡ C ++ D → length A ≡ length C → (A ≡ C) × (B ≡ D)
 same_parts [] B [] D e l = (refl, e)
 same_parts [] B (z ∷ C) D e l = absurd (omega arith)
@@ -31,7 +31,7 @@ module _ {X : Type 0} (bytes : X → List ℕ) (q : List ℕ) where
   from : List X → List X
   from S = between bytes S (Included q) Unbounded
 
-  -- those below the bytes, and then the others
+  -- a list is the items less than the bytes, and then the others
   parts : (S : List X) → Ranked (Lower bytes) S → S ≡ below S ++ from S
   unfolding below from
   parts [] r = refl
@@ -49,7 +49,7 @@ module _ {X : Type 0} (bytes : X → List ℕ) (q : List ℕ) where
         sym (ap (λ l. l ++ from (x ∷ S)) none ∙ all)
   ]
 
-  -- a content cut in two, with as many after the cut as are not below the bytes
+  -- if as many items are after a cut as are not less than q, the cut is at q
   pub parted : (S A B : List X) → IsContent bytes S → S ≡ A ++ B → length B ≡ length (between bytes S (Included q) Unbounded) → (A ≡ between bytes S Unbounded (Excluded q)) × (B ≡ between bytes S (Included q) Unbounded)
   unfolding below from
   parted S A B c e l =
@@ -58,14 +58,14 @@ module _ {X : Type 0} (bytes : X → List ℕ) (q : List ℕ) where
       let n : length A ≡ length (below S) = omega (arith, length-append A B, length-append (below S) (from S), l) in
       same_parts A B (below S) (from S) (sym e ∙ p) n
 
-  -- there are as many as are below the bytes and as are not
+  -- the items less than q and the items not less than q are as many as all items
   pub part_lengths : (S : List X) → IsContent bytes S → length (between bytes S Unbounded (Excluded q)) + length (between bytes S (Included q) Unbounded) ≡ length S
   unfolding below from
   part_lengths S c =
       let p = ap (λ (l : List X). length l) (parts S (Ranked-from_AllPairs (Lower bytes) S c.ascends)) in
       omega (arith, p, length-append (below S) (from S))
 
-  -- no more are not below the bytes than there are
+  -- there are at most as many items not less than q as items
   pub from_short : (S : List X) → IsContent bytes S → length (between bytes S (Included q) Unbounded) ≤ length S
   unfolding below from
   from_short S c =
@@ -76,7 +76,7 @@ either : {X : Type 0} (b : Bool) (o : Option X) → o ≡ cond b o o
 either true o = refl
 either false o = refl
 
--- what some items have at some bytes, of those whose bytes pass a test
+-- the item at some bytes, of the items whose bytes pass a test
 pub at-filter : {X : Type 0} (bytes : X → List ℕ) (test : List ℕ → Bool) (S : List X) (r : List ℕ) → at bytes (filter (λ x. test (bytes x)) S) r ≡ cond (test r) (at bytes S r) None
 at-filter bytes test [] r = either (test r) None
 at-filter bytes test (x ∷ S) r = elim (cases_Bool (bytes_eq (bytes x) r)) [
@@ -93,12 +93,12 @@ at-filter bytes test (x ∷ S) r = elim (cases_Bool (bytes_eq (bytes x) r)) [
 ]
 
 module _ {K V : Type 0} (kb : K → List ℕ) (q : List ℕ) (S : List (K × V)) (r : List ℕ) where
-  -- what those below some bytes have
+  -- the pair at r, of the pairs less than q
   pub kept_at : pair_at kb (between (pair_bytes kb) S Unbounded (Excluded q)) r ≡ (if less r q then pair_at kb S r else None)
   unfolding pair_at
   kept_at = at-filter (pair_bytes kb) (λ b. is_from_start Unbounded b && is_up_to_end (Excluded q) b) S r
 
-  -- and what the others have
+  -- the pair at r, of the other pairs
   pub given_at : pair_at kb (between (pair_bytes kb) S (Included q) Unbounded) r ≡ (if less r q then None else pair_at kb S r)
   unfolding pair_at
   given_at = at-filter (pair_bytes kb) (λ b. is_from_start (Included q) b && is_up_to_end Unbounded b) S r ∙ turned (less r q)

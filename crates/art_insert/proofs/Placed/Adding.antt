@@ -1,4 +1,4 @@
--- What came of a pair that was to be added.
+-- The pairs after an attempt to add a pair.
 use Rattle.std.proofs.Common.{◌≡◌, ℕ, List, true, false, refl, sym, ap, ◌∙◌, subst, Some, None, Ok, option_map, bytes_eq}
 use Rattle.std.proofs.lemmas.Bool.{false_from_ne_true}
 use Rattle.blart_keys.specs.Content.{IsContent, at, stores, conflict}
@@ -46,24 +46,24 @@ module _ {K V : Type 0} (kb : K → Bytes) (old new : Content K V) (x : K × V) 
       list_any-map (λ p. p.1) (λ y. bytes_eq (kb y.0) (kb x.0)) old.pairs ∙ stores_member (bytes kb) old.pairs (kb x.0) (id, a.0.0) m.0 m.1
 
   module _ (content : IsContent (bytes kb) old.pairs) (distinct : AreDistinct old.pairs) where
-    -- the first related leaf
+    -- the first related leaf exists
     pub added_related : (first : ℕ) (k : K) (v : V) → Adds kb old new x (Ok (Conflict first k v)) → Has new.pairs first
     added_related first k v a =
         let r = related_first kb old.pairs content distinct (kb x.0) first a.0.0 a.0.1 in
         subst (λ (t : Content K V). Has t.pairs first) (sym a.2) (is_some (leaf_in old.pairs first) r.0 r.1)
 
-    -- a key that never conflicts has none
+    -- if no key is a proper prefix of another, there is no conflict
     pub added_unlawful : (first : ℕ) (k : K) (v : V) → Adds kb old new x (Ok (Conflict first k v)) → (IsValue : K → Type 0) → NoFronts kb IsValue → IsValue k → (y : K × V) → leaf_in new.pairs first ≡ Some y → IsValue y.0 → ⊥
     added_unlawful first k v a IsValue law own y is other =
         let e : k ≡ x.0 = ap (λ (y : K × V). y.0) a.1 in
         lawful kb old.pairs content distinct x IsValue law (subst IsValue e own) first a.0.0 a.0.1 y (subst (λ (t : Content K V). leaf_in t.pairs first ≡ Some y) a.2 is) other
 
     module _ (id : ℕ) (k : K) (v : V) (a : Adds kb old new x (Ok (Stored id k v))) where
-      -- the leaf is there
+      -- the leaf exists
       pub stored_has : Has new.pairs id
       stored_has = subst (λ (t : Content K V). Has t.pairs id) (sym a.2) (exact_has kb old.pairs content distinct (kb x.0) id a.0)
 
-      -- and may have the key
+      -- the leaf may take the key
       pub stored_takes : MayTake kb new.pairs id (kb k)
       stored_takes =
           let e : k ≡ x.0 = ap (λ (y : K × V). y.0) a.1 in
@@ -77,7 +77,7 @@ module _ {K V : Type 0} (kb : K → Bytes) (old new : Content K V) (x : K × V) 
           value_put kb old.pairs content distinct x.0 x.1 was id a.0 (subst (λ (t : Content K V). option_map (λ p. p.1) (leaf_in t.pairs id) ≡ Some was) a.2 is) ns
           (e ∙ ap (λ (t : Content K V). with_value t.pairs id v) a.2 ∙ ap (with_value old.pairs id) same)
 
-      -- its pair was exchanged
+      -- its pair was replaced
       pub stored_exchanged : (was : K × V) → leaf_in new.pairs id ≡ Some was → (ns : List (Numbered K V)) → ns ≡ with_pair new.pairs id (k, v) → Puts kb (λ pair. pair) (pairs_of old.pairs) x x (Ok (Some was)) (pairs_of ns)
       stored_exchanged was is ns e =
           exchanged kb old.pairs content distinct x id a.0 was (subst (λ (t : Content K V). leaf_in t.pairs id ≡ Some was) a.2 is) ns (e ∙ ap (λ (t : Content K V). with_pair t.pairs id (k, v)) a.2 ∙ ap (with_pair old.pairs id) a.1)

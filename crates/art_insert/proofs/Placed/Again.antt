@@ -8,7 +8,7 @@ use Rattle.art_tree.specs.Pairs.{pairs_of}
 use Rattle.art_insert.proofs.Placed.Setting.{bytes_written, pair_written}
 
 module _ {K V : Type 0} where
-  -- the last value written stays
+  -- to write a value and then another is to write the other
   pub with_with : (ps : List (Numbered K V)) (i : ℕ) (w u : V) → with_value (with_value ps i w) i u ≡ with_value ps i u
   with_with [] i w u = refl
   with_with (p ∷ ps) i w u = elim (eqb_tells p.0 i) [
@@ -16,7 +16,7 @@ module _ {K V : Type 0} where
     | inr t ↦ rw t.0 (rw t.0 (ap (λ l. p ∷ l) (with_with ps i w u)))
   ]
 
-  -- and so does the key
+  -- the key is unchanged after a value was written
   pub key_written : (ps : List (Numbered K V)) (i : ℕ) (w : V) → option_map (λ p. p.0) (leaf_in (with_value ps i w) i) ≡ option_map (λ p. p.0) (leaf_in ps i)
   key_written ps i w = ap (option_map (λ (p : K × V). p.0)) (pair_written (λ _. []) ps i w) ∙ kept (leaf_in ps i)
     where
@@ -24,7 +24,7 @@ module _ {K V : Type 0} where
       kept None = refl
       kept (Some x) = refl
 
-  -- the value that was written is there, if there was one
+  -- if there was a value, the value that was written is there
   pub value_written : (ps : List (Numbered K V)) (i : ℕ) (w v : V) → option_map (λ p. p.1) (leaf_in ps i) ≡ Some v → option_map (λ p. p.1) (leaf_in (with_value ps i w) i) ≡ Some w
   value_written ps i w v e = ap (option_map (λ (p : K × V). p.1)) (pair_written (λ _. []) ps i w) ∙ set (leaf_in ps i) e
     where
@@ -33,7 +33,7 @@ module _ {K V : Type 0} where
       set (Some x) e = refl
 
   module _ (kb : K → List ℕ) (ps : List (Numbered K V)) (i : ℕ) (w : V) where
-    -- what is set where a value was set, is set
+    -- to set a value and then another is to set the other
     pub set_again : Updates kb (pairs_of ps) (pairs_of (with_value ps i w)) (unwrap_or (keys_in kb ps i) []) (option_map {U = K × V} (λ k. (k, w)) (option_map (λ p. p.0) (leaf_in ps i)))
         → length (pairs_of (with_value ps i w)) ≡ length (pairs_of ps) + 0 → (u : V) (n : List (Numbered K V))
         → Updates kb (pairs_of (with_value ps i w)) (pairs_of n) (unwrap_or (keys_in kb (with_value ps i w) i) []) (option_map {U = K × V} (λ k. (k, u)) (option_map (λ p. p.0) (leaf_in (with_value ps i w) i)))

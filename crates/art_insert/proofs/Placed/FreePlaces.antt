@@ -1,4 +1,4 @@
--- Where a key goes that is related to no stored one.
+-- The point of a key that is related to no stored key.
 use Rattle.std.proofs.Common.{◌≡◌, ℕ, false, ◌⊎◌, inl, inr, List, sym, ◌∙◌, subst}
 use Rattle.std.proofs.lemmas.Bool.{false≢true}
 use Rattle.blart_keys.specs.Content.{stores, conflict}
@@ -9,7 +9,7 @@ use Rattle.art_tree.specs.declared.tree.point.Point.{Point}
 use Rattle.art_tree.specs.declared.tree.point.Point.TheVariants.{Exact, Related}
 
 module _ {K V : Type 0} (kb : K → List ℕ) (ps : List (Numbered K V)) (q : List ℕ) where
-  -- where the bytes are new and nothing conflicts the point is neither a leaf's nor a conflict's
+  -- if the bytes are new, and nothing conflicts, the point is neither a leaf nor a conflict
   pub never_taken : (point : Point) → IsGood kb ps point q → stores (bytes kb) ps q ≡ false → conflict (bytes kb) ps q ≡ false → ((i : ℕ) × (point ≡ Exact i)) ⊎ ((i : ℕ) × (j : ℕ) × (point ≡ Related i j)) → ⊥
   never_taken point good absent free (inl e) =
       let f = subst (λ p. IsGood kb ps p q) e.1 good in

@@ -1,4 +1,4 @@
--- What a point says of an insertion there.
+-- What a point tells about an insertion at it.
 use Rattle.std.proofs.Common.{◌≡◌, ℕ, true, false, ◌⊎◌, inl, inr, List, [], ◌∷◌, refl, sym, ap, ◌∙◌, subst, Some, None, Ok, option_map, bytes_eq, subst₂}
 use Rattle.std.proofs.lemmas.Bool.{false≢true, false_from_ne_true, or_cases}
 use Rattle.blart_keys.specs.Bytes.{begins, related}
@@ -28,7 +28,7 @@ pub opens : (point : Point) → (point ≡ Empty) ⊎ ((place : Place) × (point
 opens point (inl e) = subst IsOpen (sym e) tt
 opens point (inr e) = subst IsOpen (sym e.1) tt
 
--- and at each point that is no leaf's and no conflict
+-- a pair may be placed at each point that is neither a leaf nor a conflict
 pub opens_else : (point : Point) → ((i : ℕ) → point ≡ Exact i → ⊥) → ((i j : ℕ) → point ≡ Related i j → ⊥) → IsOpen point
 opens_else Empty e r = tt
 opens_else (Exact id) e r = absurd (e id refl)
@@ -38,14 +38,14 @@ opens_else (Free place) e r = tt
 module _ {K V : Type 0} (kb : K → Bytes) (ps : List (Numbered K V)) where
   module _ (content : IsContent (bytes kb) ps) where
     module _ (distinct : AreDistinct ps) (q : Bytes) where
-      -- no key is related to one that has an open point
+      -- no key is related to a key whose point is open
       pub open_alone : (point : Point) → IsGood kb ps point q → IsOpen point → (y : Numbered K V) → Member y ps → related (bytes kb y) q ≡ false
       open_alone Empty good able y m = absurd (subst (Member y) good m)
       open_alone (Exact id) good able y m = absurd able
       open_alone (Related first last) good able y m = absurd able
       open_alone (Free place) good able y m = free_alone kb ps content distinct q place good y m
 
-      -- a key conflicts only at a point that says so
+      -- if the point of a key is not a conflict, the key does not conflict
       pub unrelated_point : (point : Point) → IsGood kb ps point q → ((i j : ℕ) → point ≡ Related i j → ⊥) → conflict (bytes kb) ps q ≡ false
       unrelated_point Empty good never = alone_no_conflict (bytes kb) ps q (open_alone Empty good tt)
       unrelated_point (Exact id) good never =
@@ -54,11 +54,11 @@ module _ {K V : Type 0} (kb : K → Bytes) (ps : List (Numbered K V)) where
       unrelated_point (Related first last) good never = absurd (never first last refl)
       unrelated_point (Free place) good never = alone_no_conflict (bytes kb) ps q (open_alone (Free place) good tt)
 
-      -- the leaf with a key's bytes is one of the tree's
+      -- the leaf with the bytes of a key exists
       pub exact_has : (id : ℕ) → IsGood kb ps (Exact id) q → Has ps id
       exact_has id good = is_some (leaf_in ps id) good.0 (leaf_in-member ps id good.0 distinct (at_Some (bytes kb) ps q (id, good.0) good.1).0)
 
-      -- and it may have a key of these bytes
+      -- the leaf may take a key with these bytes
       pub exact_takes : (id : ℕ) → IsGood kb ps (Exact id) q → MayTake kb ps id q
       exact_takes id good =
           let r = at_Some (bytes kb) ps q (id, good.0) good.1 in
@@ -70,7 +70,7 @@ module _ {K V : Type 0} (kb : K → Bytes) (ps : List (Numbered K V)) where
                 off (ap (λ (z : Numbered K V). z.0) same));
           }
 
-      -- the first related leaf is one of the tree's, and its key is related
+      -- the first related leaf exists, and its key is related
       pub related_first : (first last : ℕ) → IsGood kb ps (Related first last) q → (x : K × V) × (leaf_in ps first ≡ Some x) × (related (kb x.0) q ≡ true)
       related_first first last good =
           let r = first_member (subtree (bytes kb) ps q) first good.1 in
@@ -81,10 +81,10 @@ module _ {K V : Type 0} (kb : K → Bytes) (ps : List (Numbered K V)) where
           first_member [] i e = absurd cc
           first_member (p ∷ S) i e = let f : p.0 ≡ i = cc in (p.1, inl (λ j. (f j, p.1)))
 
-    -- ---- the answers
+    -- ---- the results
 
     module _ (distinct : AreDistinct ps) (x : K × V) where
-      -- a pair that is placed, if none is related, is put
+      -- a pair that is placed is put, if no pair is related
       pub placed : ((y : Numbered K V) → Member y ps → related (bytes kb y) (kb x.0) ≡ false) → (old new : List (Numbered K V)) → old ≡ ps → IsPut (pair_bytes kb) (pairs_of old) x (pairs_of new) → Puts kb (λ pair. pair) (pairs_of ps) x x (Ok None) (pairs_of new)
       placed alone old new e put = (
         conflict_pairs kb ps (kb x.0) ∙ alone_no_conflict (bytes kb) ps (kb x.0) alone,
@@ -92,7 +92,7 @@ module _ {K V : Type 0} (kb : K → Bytes) (ps : List (Numbered K V)) where
         sym (find-map (λ p. p.1) (λ y. bytes_eq (kb y.0) (kb x.0)) ps ∙ ap (option_map (λ p. p.1)) (alone_none (bytes kb) ps (kb x.0) alone)),
       )
 
-      -- the pair of the same bytes is exchanged
+      -- the pair with the same bytes is replaced
       pub exchanged : (id : ℕ) → IsGood kb ps (Exact id) (kb x.0) → (old : K × V) → leaf_in ps id ≡ Some old → (new : List (Numbered K V)) → new ≡ with_pair ps id x → Puts kb (λ pair. pair) (pairs_of ps) x x (Ok (Some old)) (pairs_of new)
       exchanged id good old l new e =
           let r = at_Some (bytes kb) ps (kb x.0) (id, good.0) good.1 in
@@ -110,7 +110,7 @@ module _ {K V : Type 0} (kb : K → Bytes) (ps : List (Numbered K V)) where
             sym there,
           )
 
-      -- ---- keys of which none is a proper front of another
+      -- ---- keys of which none is a proper prefix of another
 
       -- a related key has the same bytes, and then nothing conflicts
       pub lawful : (IsValue : K → Type 0) → NoFronts kb IsValue → IsValue x.0 → (first last : ℕ) → IsGood kb ps (Related first last) (kb x.0) → (y : K × V) → leaf_in ps first ≡ Some y → IsValue y.0 → ⊥

@@ -1,4 +1,4 @@
--- An insertion that keeps the key that was there.
+-- An insertion that keeps the stored key.
 use Rattle.std.proofs.Common.{◌≡◌, ℕ, List, refl, sym, ap, ◌∙◌, subst, Option, Some, None, Ok, option_map}
 use Rattle.blart_keys.specs.Content.{IsContent, IsPut}
 use Rattle.blart_keys.specs.Steps.{bytes as pair_bytes, Puts}
@@ -13,7 +13,7 @@ use Rattle.art_insert.proofs.Placed.Inserting.{conflict_pairs, unrelated_point}
 use Rattle.art_insert.proofs.Placed.SettingAt.{exact_set_at}
 
 module _ {K V : Type 0} (kb : K → List ℕ) where
-  -- a value written where the key's bytes are stored
+  -- a value is written if the bytes of the key are stored
   pub value_put : (ps : List (Numbered K V)) → IsContent (bytes kb) ps → AreDistinct ps → (key : K) (value old : V) (id : ℕ) → IsGood kb ps (Exact id) (kb key)
       → option_map (λ p. p.1) (leaf_in ps id) ≡ Some old → (ns : List (Numbered K V)) → ns ≡ with_value ps id value
       → Puts kb (option_map (λ pair. pair.1)) (pairs_of ps) (key, value) (kept kb (pairs_of ps) (key, value)) (Ok (Some old)) (pairs_of ns)
@@ -25,7 +25,7 @@ module _ {K V : Type 0} (kb : K → List ℕ) where
   )
 
   module _ {R : Type 0} (tell : Option (K × V) → R) (S : List (K × V)) (x : K × V) (S' : List (K × V)) where
-    -- a pair of new bytes is stored as it is
+    -- a pair with new bytes is stored as it is
     pub added_put : Puts kb {R = Unit {0}} (λ _. tt) S x x (Ok tt) S' → pair_at kb S (kb x.0) ≡ None → Puts kb tell S x x (Ok (tell None)) S'
     unfolding pair_at
     added_put put none = (put.0, put.1, sym (ap tell none))

@@ -1,4 +1,4 @@
--- A value set at a key, seen in the pairs.
+-- A value that is set at a key, as seen in the pairs.
 use Rattle.std.proofs.Common.{◌≡◌, ◌+◌, ℕ, true, false, cond, List, [], length, refl, sym, ap, ◌∙◌, subst, Option, Some, None, option_map, is_some, bytes_eq, if◌then◌else◌, add-zero}
 use Rattle.std.specs.Option.{unwrap_or}
 use Rattle.blart_keys.specs.Content.{IsContent, IsPut, stores, at, without}
@@ -17,16 +17,16 @@ use Rattle.art_insert.proofs.Placed.Writing.{written_found}
 use Rattle.art_insert.proofs.Placed.WrittenLeaf.{leaf_in-written}
 
 module _ {K V : Type 0} (kb : K → List ℕ) where
-  -- a key keeps its bytes where a value is written
+  -- the bytes of a key are unchanged if a value is written
   written_bytes : (q : List ℕ) (v : V) (x : K × V) → kb (if bytes_eq (kb x.0) q then (x.0, v) else x).0 ≡ kb x.0
   written_bytes q v x = elim (bytes_eq (kb x.0) q) as (λ b. kb (cond b (x.0, v) x).0 ≡ kb x.0) [ true ↦ refl | false ↦ refl ]
 
-  -- a value written leaves a content
+  -- a content is still a content after a value was written
   content_written : (S : List (K × V)) (q : List ℕ) (v : V) → IsContent (pair_bytes kb) S → IsContent (pair_bytes kb) (written_at kb S q v)
   content_written S q v content =
       content_map (λ (x : K × V). if bytes_eq (kb x.0) q then (x.0, v) else x) (pair_bytes kb) S (subst (λ (b : K × V → List ℕ). IsContent b S) (λ i x. sym (written_bytes q v x) i) content)
 
-  -- what updates a content to another puts
+  -- an update from one content to another puts the pair
   pub put_from_updates : (S S' : List (K × V)) (x : K × V) → IsContent (pair_bytes kb) S → IsContent (pair_bytes kb) S' → Updates kb S S' (kb x.0) (Some x) → IsPut (pair_bytes kb) S x S'
   unfolding pair_at
   put_from_updates S S' x content content' up = record {
@@ -56,7 +56,7 @@ module _ {K V : Type 0} (kb : K → List ℕ) where
         member : (qs : List (Numbered K V)) → Member (i, x) qs → Member x (pairs_of qs)
         member qs m = Member-map (λ (p : Numbered K V). p.1) (i, x) qs m
 
-    -- so the pair has that value, the others stand, and there are as many
+    -- the pair has that value, and the other pairs and the number of pairs are unchanged
     pub rewritten : (i : ℕ) (x : K × V) → leaf_in ps i ≡ Some x → (w : V) → Updates kb (pairs_of ps) (pairs_of (with_value ps i w)) (kb x.0) (Some (x.0, w)) × (length (pairs_of (with_value ps i w)) ≡ length (pairs_of ps))
     rewritten i x l w =
         let S = pairs_of ps in
@@ -65,12 +65,12 @@ module _ {K V : Type 0} (kb : K → List ℕ) where
         let there = ap (option_map (λ (p : K × V). (p.0, w))) (pair_there i x l) in
         subst (λ S'. Updates kb S S' (kb x.0) (Some (x.0, w)) × (length S' ≡ length S)) (sym e) ((up.0.0 ∙ there, up.0.1), up.1)
 
-    -- it leaves a content
+    -- the pairs are still a content
     pub rewritten_content : (i : ℕ) (x : K × V) → leaf_in ps i ≡ Some x → (w : V) → IsContent (pair_bytes kb) (pairs_of (with_value ps i w))
     rewritten_content i x l w = subst (IsContent (pair_bytes kb)) (sym (written_there i x l w)) (content_written (pairs_of ps) (kb x.0) w whole)
 
     module _ (i : ℕ) (has : Has ps i) where
-      -- a value written there, as an entry says it
+      -- a value is written there, as the contract of an entry says
       pub occupied_set : (w : V) → Updates kb (pairs_of ps) (pairs_of (with_value ps i w)) (unwrap_or (keys_in kb ps i) []) (option_map (λ k. (k, w)) (option_map (λ p. p.0) (leaf_in ps i)))
           × (value_at kb (pairs_of (with_value ps i w)) (unwrap_or (keys_in kb ps i) []) ≡ Some w) × (length (pairs_of (with_value ps i w)) ≡ length (pairs_of ps) + 0) × (with_value ps i w ≡ with_value ps i w)
       occupied_set w =
@@ -83,7 +83,7 @@ module _ {K V : Type 0} (kb : K → List ℕ) where
           × (value_at kb S' (unwrap_or (option_map (λ (x : K × V). kb x.0) o) []) ≡ Some w) × (length S' ≡ length S + 0) × (with_value ps i w ≡ with_value ps i w) in
           subst P (sym s.1) (r.0, ap (option_map (λ (p : K × V). p.1)) r.0.0, r.1 ∙ sym (add-zero (length S)), refl)
 
-      -- the pair removed, as an entry says it
+      -- the pair is removed, as the contract of an entry says
       pub occupied_removed : Updates kb (pairs_of ps) (pairs_of (without_number ps i)) (unwrap_or (keys_in kb ps i) []) None × (length (pairs_of (without_number ps i)) + 1 ≡ length (pairs_of ps))
           × (pairs_of (without_number ps i) ≡ without (pair_bytes kb) (pairs_of ps) (unwrap_or (keys_in kb ps i) []))
       unfolding pair_at
@@ -101,7 +101,7 @@ module _ {K V : Type 0} (kb : K → List ℕ) where
           × (pairs_of (without_number ps i) ≡ without (pair_bytes kb) S (unwrap_or (option_map (λ (x : K × V). kb x.0) o) [])) in
           subst P (sym s.1) all
 
-  -- the bytes stay where a value is written
+  -- the bytes of a key are unchanged if a value is written
   pub bytes_written : (ps : List (Numbered K V)) (i : ℕ) (w : V) → unwrap_or (keys_in kb (with_value ps i w) i) [] ≡ unwrap_or (keys_in kb ps i) []
   bytes_written ps i w = ap (λ (o : Option (K × V)). unwrap_or (option_map (λ x. kb x.0) o) []) (leaf_in-written ps i w) ∙ kept (leaf_in ps i)
     where
@@ -109,7 +109,7 @@ module _ {K V : Type 0} (kb : K → List ℕ) where
       kept None = refl
       kept (Some x) = refl
 
-  -- the pair with another value
+  -- the pair of the number, with the value
   pub pair_written : (ps : List (Numbered K V)) (i : ℕ) (w : V) → leaf_in (with_value ps i w) i ≡ option_map {U = K × V} (λ k. (k, w)) (option_map (λ p. p.0) (leaf_in ps i))
   pair_written ps i w = leaf_in-written ps i w ∙ twice (leaf_in ps i)
     where
@@ -117,7 +117,7 @@ module _ {K V : Type 0} (kb : K → List ℕ) where
       twice None = refl
       twice (Some x) = refl
 
-  -- a new pair placed, and then a value written there
+  -- a new pair is placed, and then a value is written there
   module _ (ps mid ns : List (Numbered K V)) (same : mid ≡ ps) (content : IsContent (bytes kb) ps) (id : ℕ) (k : K) (v : V) (absent : stores (bytes kb) ps (kb k) ≡ false) (put : IsPut (pair_bytes kb) (pairs_of mid) (k, v) (pairs_of ns)) (whole_now : IsContent (bytes kb) ns) (distinct : AreDistinct ns) (there : leaf_in ns id ≡ Some (k, v)) where
     abbrev S : List (K × V)
     S = pairs_of ps
@@ -145,7 +145,7 @@ module _ {K V : Type 0} (kb : K → List ℕ) where
           put_from_updates S (pairs_of (with_value ns id w)) (k, w) old (rewritten_content ns whole_now distinct id (k, v) there w) up,
         )
 
-    -- the same where no other value was written
+    -- the same, if no other value was written
     pub placed_entry_set : Updates kb (pairs_of ps) (pairs_of ns) (kb k) (Some (k, v)) × (value_at kb (pairs_of ns) (kb k) ≡ Some v)
         × (length (pairs_of ns) ≡ length (pairs_of ps) + 1) × IsPut (pair_bytes kb) (pairs_of ps) (k, v) (pairs_of ns)
     placed_entry_set =

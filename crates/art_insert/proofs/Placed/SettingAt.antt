@@ -16,7 +16,7 @@ use Rattle.art_insert.proofs.Placed.Setting.{rewritten, rewritten_content, put_f
 use Rattle.art_insert.specs.Places.{IsSetAt}
 
 module _ {K V : Type 0} (kb : K → List ℕ) (ps : List (Numbered K V)) (S : List (K × V)) (view : pairs_of ps ≡ S) (content : IsContent (bytes kb) ps) (distinct : AreDistinct ps) (key : K) where
-  -- what is set, where the pair at the key's bytes is this one
+  -- what is set, if `o` is the pair at the key's bytes
   abbrev Set : List (K × V) → Option (K × V) → V → List (K × V) → Type 0
   Set S o w S' =
       Updates kb S S' (kb key) (Some (kept_key o key, w))

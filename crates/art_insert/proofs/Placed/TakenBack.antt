@@ -19,7 +19,7 @@ module _ {K V : Type 0} (kb : K → List ℕ) (S S' : List (K × V)) (x : K × V
   new : stores (bytes kb) S (kb x.0) ≡ false
   new = stores_is kb S (kb x.0) ∙ ap (λ o. is_some o) absent
 
-  -- a new pair that is put and then removed leaves the list as it was
+  -- if a new pair is put and then removed, the list is unchanged
   pub taken_back : without (bytes kb) S' (kb x.0) ≡ S
   taken_back = same_content (bytes kb) (without (bytes kb) S' (kb x.0)) S (without_content (bytes kb) S' (kb x.0) put.content) content (λ y. (
     λ h. (
@@ -32,7 +32,7 @@ module _ {K V : Type 0} (kb : K → List ℕ) (S S' : List (K × V)) (x : K × V
         Contains-from_Member y (without (bytes kb) S' (kb x.0)) (member_filter (λ (z : K × V). not (bytes_eq (kb z.0) (kb x.0))) S' y (Member-from_Contains y S' ((put.others y off).1 h)) test)),
   ))
 
-  -- and as many inner nodes
+  -- the number of inner nodes is unchanged
   pub taken_back_fronts : set.len (fronts (bytes kb) (without (bytes kb) S' (kb x.0))) ≡ set.len (fronts (bytes kb) S)
   taken_back_fronts = ap (λ (T : List (K × V)). set.len (fronts (bytes kb) T)) taken_back
 
@@ -40,7 +40,7 @@ none_of : {X : Type 0} (o : Option X) → is_some o ≡ false → o ≡ None
 none_of None h = refl
 none_of (Some x) h = absurd (false≢true (sym h))
 
--- the same of the pairs under numbers, where the removal names the bytes
+-- the same for numbered pairs, if the removal names the bytes
 pub taken_back_at : {K V : Type 0} (kb : K → List ℕ) (ps : List (Numbered K V)) (content : IsContent (leaf_bytes kb) ps) (k : K) (w : V) → stores (leaf_bytes kb) ps (kb k) ≡ false → (S : List (K × V)) → IsPut (bytes kb) (pairs_of ps) (k, w) S
     → (q : List ℕ) → q ≡ kb k → (T : List (K × V)) → T ≡ without (bytes kb) S q → T ≡ pairs_of ps
 taken_back_at kb ps content k w absent S put q same T gone =

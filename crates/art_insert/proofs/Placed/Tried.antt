@@ -1,4 +1,4 @@
--- What an insertion tells its callers, where there was room for it.
+-- What an insertion returns to its callers, if there was room for it.
 use Rattle.std.proofs.Common.{◌≡◌, ℕ, ◌+◌, true, false, List, length, Option, Some, Result, Ok, Err, IfOk, OnOk, OnErr, option_map}
 use Rattle.std.specs.Prelude.{is_some, if◌then◌else◌}
 use Rattle.blart_keys.specs.declared.calls.InsertPrefixError.{InsertPrefixError}
@@ -33,7 +33,7 @@ module _ {K V : Type 0} (kb : K → List ℕ) (S : List (K × V)) (x : K × V) (
   tried_free (Ok old) put = puts_free kb (option_map (λ pair. pair.1)) S x (kept kb S x) (kept_bytes kb S x) S' (Ok old) put
   tried_free (Err e) put = tt
 
-  -- a refusal is for a conflict
+  -- an error is returned only for a conflict
   pub tried_why : (r : Result (Option V) InsertPrefixError) → Tried r → OnErr r (overlaps kb S (kb x.0) ≡ true)
   unfolding overlaps
   tried_why (Ok old) put = tt

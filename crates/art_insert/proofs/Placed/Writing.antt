@@ -1,4 +1,4 @@
--- A value written under a number, seen in the pairs.
+-- A value that is written under a number, as seen in the pairs.
 use Rattle.std.proofs.Common.{◌≡◌, ℕ, Bool, true, false, cond, inl, inr, List, [], ◌∷◌, ◌++◌, map, refl, sym, ap, ◌∙◌, subst, Some, option_map, find, bytes_eq}
 use Rattle.std.proofs.lemmas.Bool.{false_from_ne_true}
 use Rattle.std.proofs.lemmas.List.{map-append}
@@ -20,16 +20,16 @@ lacks_of_member {K} {V} (p ∷ ps) i y l (inl e) h = l.0 (ap (λ (x : Numbered K
 lacks_of_member (p ∷ ps) i y l (inr m) h = lacks_of_member ps i y l.1 m h
 
 module _ {K V : Type 0} (test : K → Bool) where
-  -- this value where the test passes
+  -- the pair, with this value if the test passes
   abbrev written : V → K × V → K × V
   written v p = cond (test p.0) (p.0, v) p
 
-  -- where none passes nothing is written
+  -- if no pair passes, nothing is written
   kept : (v : V) (ps : List (Numbered K V)) → ((y : Numbered K V) → Member y ps → test y.1.0 ≡ false) → map (written v) (pairs_of ps) ≡ pairs_of ps
   kept v [] none = refl
   kept v (p ∷ ps) none = rw (none p (inl refl)) (ap (λ l. p.1 ∷ l) (kept v ps (λ y m. none y (inr m))))
 
-  -- where one pair passes, a value is written there
+  -- if only one pair passes, the value is written there
   pub written_once : (ps : List (Numbered K V)) (id : ℕ) (x : K × V) → AreDistinct ps → leaf_in ps id ≡ Some x → test x.0 ≡ true → ((y : Numbered K V) → Member y ps → test y.1.0 ≡ true → y.0 ≡ id) → (v : V) → pairs_of (with_value ps id v) ≡ map (written v) (pairs_of ps)
   written_once ps id x distinct l passes only v =
       let c = cut_at ps id x l in
@@ -44,7 +44,7 @@ module _ {K V : Type 0} (test : K → Bool) where
       new ∙ sym (old ∙ (λ j. kept v c.before fails_before j ++ here j ∷ kept v c.after fails_after j))
 
 module _ {K V : Type 0} (kb : K → List ℕ) (ps : List (Numbered K V)) (content : IsContent (bytes kb) ps) (distinct : AreDistinct ps) (q : List ℕ) (id : ℕ) where
-  -- at the bytes found
+  -- a value written at the bytes found
   pub written_found : Some id ≡ option_map (λ (p : Numbered K V). p.0) (find (λ (p : Numbered K V). bytes_eq (kb p.1.0) q) ps) → (v : V) → pairs_of (with_value ps id v) ≡ map (written (λ k. bytes_eq (kb k) q) v) (pairs_of ps)
   written_found e v =
       let r = found ps distinct (λ x. bytes_eq (kb x.0) q) id e in
@@ -53,7 +53,7 @@ module _ {K V : Type 0} (kb : K → List ℕ) (ps : List (Numbered K V)) (conten
       (λ y m t. ap (λ (p : Numbered K V). p.0) (same_item (bytes kb) ps content y (id, r.0) m f.0 (related-same (bytes kb y) (kb r.0.0) ((bytes_decides (bytes kb y) q).0 t ∙ sym ((bytes_decides (kb r.0.0) q).0 f.1)))))
       v
 
-  -- at the front found
+  -- a value written at the prefix found
   pub written_front : Some id ≡ option_map (λ (p : Numbered K V). p.0) (find (λ (p : Numbered K V). begins (kb p.1.0) q) ps) → (v : V) → pairs_of (with_value ps id v) ≡ map (written (λ k. begins (kb k) q) v) (pairs_of ps)
   written_front e v =
       let r = found ps distinct (λ x. begins (kb x.0) q) id e in

@@ -1,4 +1,4 @@
--- The pair of a number, once a value is written there.
+-- The pair of a number, after a value was written there.
 use Rattle.std.proofs.Common.{◌≡◌, ℕ, List, [], ◌∷◌, inl, inr, refl, option_map}
 use Rattle.std.proofs.lemmas.Bool.Decides.{eqb_tells}
 use Rattle.art_tree.specs.Leaves.{Numbered, leaf_in, with_value}

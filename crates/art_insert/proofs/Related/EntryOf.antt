@@ -1,4 +1,4 @@
--- What a point says of the entry of its key.
+-- What a point tells about the entry of its key.
 use Rattle.std.proofs.Common.{◌≡◌, ℕ, true, false, not, List, [], refl, sym, ap, ◌∙◌, subst, Option, Some, None, option_map, is_some, bytes_eq}
 use Rattle.std.specs.Option.{unwrap_or}
 use Rattle.blart_keys.specs.Bytes.{related}
@@ -77,7 +77,7 @@ module _ {K V : Type 0} (kb : K → List ℕ) (ps : List (Numbered K V)) (conten
     pub related_pair : None ≡ pair_at kb (pairs_of ps) q
     related_pair = none (pair_at kb (pairs_of ps) q) (sym (stores_is kb (pairs_of ps) q) ∙ related_absent)
 
-  -- ---- where no key has the bytes
+  -- ---- if no key has the bytes
 
   module _ (absent : stores (bytes kb) ps q ≡ false) where
     absent_pairs : stores (pair_bytes kb) (pairs_of ps) q ≡ false
@@ -89,7 +89,7 @@ module _ {K V : Type 0} (kb : K → List ℕ) (ps : List (Numbered K V)) (conten
     pub vacant_kind : conflict (bytes kb) ps q ≡ false → Kind.Vacant ≡ kind_of (pair_bytes kb) (pairs_of ps) q
     vacant_kind free = let b : conflict (pair_bytes kb) (pairs_of ps) q ≡ false = conflict_pairs kb ps q ∙ free in rw (absent_pairs, b) refl
 
-  -- ---- where a pair may be placed
+  -- ---- at a point where a pair may be placed
 
   module _ (point : Point) (good : IsGood kb ps point q) (able : IsOpen point) where
     abbrev alone : (y : Numbered K V) → Member y ps → related (bytes kb y) q ≡ false

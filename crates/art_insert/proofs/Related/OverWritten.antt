@@ -14,12 +14,12 @@ use Rattle.art_tree.specs.Pairs.{pairs_of}
 use Rattle.art_insert.proofs.Placed.Setting.{rewritten, rewritten_content, put_from_updates}
 
 module _ {K V : Type 0} where
-  -- a value written at the pair that a number has now
+  -- if a pair is replaced, and then its value, the pair has the new value
   pub written_now : (ps : List (Numbered K V)) (i : ℕ) (k : K) (v w : V) → with_value (with_pair ps i (k, v)) i w ≡ with_pair ps i (k, w)
   written_now [] i k v w = refl
   written_now (p ∷ ps) i k v w = elim (eqb_tells p.0 i) [ inl t ↦ rw t.0 (rw t.0 refl) | inr f ↦ rw f.0 (rw f.0 (ap (λ l. p ∷ l) (written_now ps i k v w))) ]
 
--- an item put where another has its bytes, which was put over the related ones
+-- an item that replaces an item put over the related items is put over them
 over_put : {X : Type 0} (b : X → List ℕ) (S T S' : List X) (x y : X) → b x ≡ b y → IsOver b S x T → IsPut b T y S' → IsOver b S y S'
 over_put b S T S' x y same over put = record {
   content = put.content;
@@ -31,7 +31,7 @@ over_put b S T S' x y same over put = record {
 }
 
 module _ {K V : Type 0} (kb : K → List ℕ) (old new : List (Numbered K V)) (k : K) (v : V) (last : ℕ) (content_old : IsContent (pair_bytes kb) (pairs_of old)) (content : IsContent (bytes kb) new) (distinct : AreDistinct new) (over : IsOver (pair_bytes kb) (pairs_of old) (k, v) (pairs_of new)) (now : leaf_in new last ≡ Some (k, v)) where
-  -- the key has that value then, in the place of all these
+  -- the key has that value, and replaces all keys to which it is related
   pub over_written : (w : V) → Overwrites kb (pairs_of old) (k, w) (pairs_of (with_value new last w)) × (value_at kb (pairs_of (with_value new last w)) (kb k) ≡ Some w) × IsOver (pair_bytes kb) (pairs_of old) (k, w) (pairs_of (with_value new last w))
   over_written w =
       let mid = content_map (λ p. p.1) (pair_bytes kb) new content in

@@ -17,7 +17,7 @@ use Rattle.blart_keys.proofs.Mapped.{filter-map, Member-map, Member-from_map, co
 use Rattle.art_tree.specs.Pairs.{pairs_of}
 
 module _ {K V : Type 0} (kb : K → List ℕ) (ps : List (Numbered K V)) (content : IsContent (bytes kb) ps) (distinct : AreDistinct ps) (q : List ℕ) where
-  -- the first of the related pairs
+  -- the first of the related pairs exists, and its key is related
   pub first_there : (first last : ℕ) → Spans kb ps q first last → (x : K × V) × (leaf_in ps first ≡ Some x) × (related (kb x.0) q ≡ true)
   first_there first last s =
       let r = member_of (subtree (bytes kb) ps q) first s.first_is in
@@ -28,11 +28,11 @@ module _ {K V : Type 0} (kb : K → List ℕ) (ps : List (Numbered K V)) (conten
       member_of [] i e = absurd cc
       member_of (p ∷ S) i e = let a : p.0 ≡ i = cc in (p.1, inl (λ j. (a j, p.1)))
 
-  -- so its number is one of the list
+  -- the list has the number of that pair
   pub first_has : (first last : ℕ) → Spans kb ps q first last → Has ps first
   first_has first last s = let r = first_there first last s in is_some (leaf_in ps first) r.0 r.1
 
-  -- after the first of the related pairs, if it is not the last, stands the next of them
+  -- if the first of the related pairs is not the last, the next pair is the next of them
   pub next_there : (first last : ℕ) → Spans kb ps q first last → first ≢ last → (n : ℕ) × (number_after ps first ≡ Some n) × Spans kb (without_number ps first) q n last
   next_there first last s off =
       let e = two_ends (subtree (bytes kb) ps q) first last s.first_is s.last_is off in
@@ -46,7 +46,7 @@ module _ {K V : Type 0} (kb : K → List ℕ) (ps : List (Numbered K V)) (conten
         record { first_is = ap first_number left; last_is = ap last_number left ∙ sym (ap last_number e.is) ∙ s.last_is },
       )
 
-  -- without a related pair the others stand
+  -- without a related pair, the pairs that are not related are unchanged
   pub unrelated_without : (id last : ℕ) → Spans kb ps q id last → (new : List (Numbered K V)) → OthersStand ps new id → leaf_in new id ≡ None → UnrelatedStand kb ps q new
   unrelated_without id last s new others gone j x u =
       let r = first_there id last s in
@@ -58,7 +58,7 @@ module _ {K V : Type 0} (kb : K → List ℕ) (ps : List (Numbered K V)) (conten
         | inr f ↦ let e = others j (λ h. f.1 (sym h)) in (λ h. sym e ∙ h, λ h. e ∙ h)
       ]
 
-  -- a key of these bytes may stand in the place of the only related one
+  -- a key with these bytes may replace the only related key
   pub one_takes : (id : ℕ) → Spans kb ps q id id → MayTake kb ps id q
   one_takes id s =
       let r = first_there id id s in
@@ -70,7 +70,7 @@ module _ {K V : Type 0} (kb : K → List ℕ) (ps : List (Numbered K V)) (conten
             elim n [ inl e ↦ off (ap (λ (z : Numbered K V). z.0) (sym e)) | inr z ↦ absurd z ]);
       }
 
-  -- where the first of the related pairs is not the last, it is one of those that are dropped
+  -- if the first of the related pairs is not the last, it is one of the removed pairs
   pub thinned_without : (first last : ℕ) → Spans kb ps q first last → first ≢ last → thinned kb (without_number ps first) q last ≡ thinned kb ps q last
   thinned_without first last s off =
       let r = first_there first last s in
@@ -80,7 +80,7 @@ module _ {K V : Type 0} (kb : K → List ℕ) (ps : List (Numbered K V)) (conten
       let rel = subst (λ (z : K × V). related (kb z.0) q ≡ true) b r.2 in
       ap (λ t. cond t (eqb first last) true) rel ∙ false_from_ne_true (eqb first last) (λ t. off (eqb-true first last t)))
 
-  -- where it is the last, all are kept
+  -- if the first of the related pairs is the last, all pairs are kept
   pub thinned_one : (id : ℕ) → Spans kb ps q id id → ps ≡ thinned kb ps q id
   thinned_one id s =
       let o = only_one (subtree (bytes kb) ps q) id (AreDistinct-filter (λ p. related (bytes kb p) q) ps distinct) s.first_is s.last_is in
@@ -92,15 +92,15 @@ module _ {K V : Type 0} (kb : K → List ℕ) (ps : List (Numbered K V)) (conten
           ap (λ t. cond t (eqb y.0 id) true) e
           ∙ elim (subst (Member y) o.1 (member_filter (λ p. related (bytes kb p) q) ps y m e)) [ inl same ↦ eq-eqb y.0 id (ap (λ (z : Numbered K V). z.0) (sym same)) | inr none ↦ absurd none ]
 
--- numbers that fail a test of difference are one
+-- numbers that fail a test for difference are equal
 pub same_number : (a b : ℕ) → false ≡ not (eqb a b) → a ≡ b
 same_number a b e = elim (eqb_tells a b) [ inl t ↦ t.1 | inr f ↦ absurd (false≢true (e ∙ ap not f.0)) ]
 
--- what stands twice stands
+-- what is unchanged by two changes is unchanged
 pub stand_on : {K V : Type 0} (kb : K → List ℕ) (old mid new : List (Numbered K V)) (q : List ℕ) → UnrelatedStand kb old q mid → UnrelatedStand kb mid q new → UnrelatedStand kb old q new
 stand_on kb old mid new q f g j x u = let a = f j x u in let b = g j x u in (λ h. a.0 (b.0 h), λ h. b.1 (a.1 h))
 
--- an item put is put over the related ones, where these have its bytes
+-- an item that is put is put over the related items
 pub over_of_put : {X : Type 0} (bytes : X → List ℕ) (S S' : List X) (x : X) → IsPut bytes S x S' → IsOver bytes S x S'
 over_of_put bytes S S' x p = record {
   content = p.content;
@@ -108,11 +108,11 @@ over_of_put bytes S S' x p = record {
   others = λ y u. p.others y (λ e. false≢true (sym u ∙ related-same (bytes y) (bytes x) e));
 }
 
--- where no numbered pair is related no pair is
+-- if no numbered pair is related, no pair is related
 pub no_subtree_pairs : {K V : Type 0} (kb : K → List ℕ) (ps : List (Numbered K V)) (q : List ℕ) → ((y : Numbered K V) → Member y ps → related (bytes kb y) q ≡ false) → subtree (pair_bytes kb) (pairs_of ps) q ≡ []
 no_subtree_pairs kb ps q alone = filter-map (λ p. p.1) (λ x. related (kb x.0) q) ps ∙ ap pairs_of (filter_none (λ x. related (bytes kb x) q) ps alone)
 
--- the pair is put over the related ones
+-- the pair is put over the related pairs
 pub over_one : {K V : Type 0} (kb : K → List ℕ) (old mid new : List (Numbered K V)) (id : ℕ) (x : K × V) → AreDistinct old → IsContent (bytes kb) mid → AreDistinct mid → IsContent (bytes kb) new → AreDistinct new
     → LeavesOne kb old (kb x.0) id mid → new ≡ with_pair mid id x → IsOver (pair_bytes kb) (pairs_of old) x (pairs_of new)
 over_one {K} {V} kb old mid new id x d c m content distinct one e =

@@ -8,7 +8,7 @@ use Rattle.art_tree.specs.Content.{room}
 use Rattle.art_tree.specs.Pairs.{pairs_of}
 use Rattle.art_insert.proofs.append.move_into.Goals as goal
 
--- the pairs that were here are those that move
+-- the pairs that were in `to` are the pairs that move
 pub add_all-requires : goal.add_all-requires
 add_all-requires g c =
     let kb = g.K.AsBytes.bytes in

@@ -7,7 +7,7 @@ use Rattle.blart_keys.specs.Stored.{kept_pair}
 use Rattle.art_insert.proofs.Moved.AtEnd.{NoneOver, AreRanked}
 use Rattle.art_insert.proofs.ascending.put_ascending.Given as goal
 
--- the items so far were put; those that are left are in order, and none is less than a pair that is there
+-- the items so far were put; the others are in order, and none is less than a pair of the tree
 abbrev pub invariant-loop-item : goal.invariant-loop-item
 invariant-loop-item g l = record {
   whole : l.fn.items.items ≡ l.yielded ++ into_iter_items l.item-iterator;

@@ -19,7 +19,7 @@ from_pairs-requires g c =
     let content = content_map (λ p. p.1) (bytes kb) ps c.law.ensures.content in
     (lit< tt, (lit< tt, ((parts_contents (bytes kb) (pairs_of ps) c.move_pairs.new.to.pairs c.move_pairs.new.from.pairs content whole).0, omega (arith, c.move_pairs.ensures.moved, c.in_ok-lower.ensures.below))))
 
--- as many pairs are left as go into the other tree
+-- as many pairs remain as move to the other tree
 left_over : {X : Type 0} (S low high : List X) (n m : ℕ) → S ≡ low ++ high → length low ≡ n → n + m ≡ length S → length high ≡ m
 left_over S low high n m e l s = omega (arith, ap (λ (l : List _). length l) e, length-append low high)
 

@@ -7,7 +7,7 @@ use Rattle.art_kinds.proofs.EdgeShifts.{edges_below, edges_without-place, close_
 use Rattle.art_kinds.proofs.Pairs.{length-paired, take-both, take-paired, below-paired, paired-without}
 use Rattle.art_kinds.proofs.records.few.remove_in.Goals as goal
 
--- how many edges stand before the byte, counted by the bytes
+-- how many edges are before the byte, counted by the bytes
 place_is : (bs : List ℕ) (cs : List Child) (n b : ℕ) → length (take n cs) ≡ length (take n bs) → count_below (take n bs) b ≡ edges_below (take n (paired bs cs)) b
 place_is bs cs n b same = sym (below-paired (take n bs) (take n cs) b same) ∙ ap (λ (t : List Edge). edges_below t b) (take-paired n bs cs)
 

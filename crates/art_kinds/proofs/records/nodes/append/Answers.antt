@@ -8,7 +8,7 @@ use Rattle.art_kinds.proofs.records.nodes.append.Goals as goal
 take_after : (xs ys : List ℕ) (a n : ℕ) → length xs ≡ a → take (a + n) (xs ++ ys) ≡ xs ++ take n ys
 take_after xs ys a n e = ap (λ (k : ℕ). take (k + n) (xs ++ ys)) (sym e) ∙ take-append-add xs ys n
 
--- a byte was written after the first so many, and then others
+-- a byte was written after the first `used` bytes, and other bytes after it
 written : (to ys rest : List ℕ) (used n b k : ℕ) → used < length to → n ≤ length ys → take n ys ≡ take (length to - (used + 1)) rest → take (used + 1 + n) (put_mid (used + 1) k (set to used b) ys) ≡ take (length to) (take used to ++ b ∷ rest)
 written to ys rest used n b k lt le e =
     let xs : List ℕ = set to used b in

@@ -12,16 +12,16 @@ use Rattle.art_rows.proofs.RowChanges.{spot-row}
 use Rattle.art_rows.proofs.Crowds.{is_full, in_front, at_end, no_place}
 use Rattle.art_rows.proofs.leaves.Leaves.insert.Goals as goal
 
--- a full row
+-- the row of a spot is full if it has at least 64 numbers
 full_row : {rows : List (Numbered (List ℕ))} {k : ℕ} {p : Position} (s : IsSpot rows p k) → AreDistinct rows → (n : ℕ) → IfSome (leaf_in rows p.row) (λ ids. n ≡ length ids) → n ≤ 64 → 64 ≤ n → length s.ids ≡ 64
 full_row {rows} {k} {p} s d n len most least = spot_ids s d (λ ids. length ids ≡ 64) (is_full (leaf_in rows p.row) n len most least)
 
--- the first place is in front
+-- if the place is not the first of its row, the pair comes after a leaf
 not_first : (rows : List (Numbered (List ℕ))) (prev : Option ℕ) (p : Position) → IfNone prev (Some p ≡ position_at rows 0) → p.place ≢ 0 → IfNone prev ⊥
 not_first rows (Some i) p e z = tt
 not_first rows None p e z = z (let s = standing rows 0 p (sym e) in let i = s.index in omega arith)
 
--- with room, or a place that is not there
+-- if one of two facts holds, and the second is false, the first holds
 with_room : {A B : Type 0} → A ⊎ B → (B → ⊥) → A
 with_room (inl a) off = a
 with_room (inr b) off = absurd (off b)
@@ -46,7 +46,7 @@ returns-then-row_len-lt-ROW-clause-room g c =
     let e = c.put.ensures.spare_rows in
     room_less (lengths o.rows) (lengths n.rows) o.spare_rows n.spare_rows (omega arith) (rw e (spot_put s f.apart n.rows c.put.result o.spare_rows c.put.ensures.rows))
 
--- ---- in front of a full row
+-- ---- before a full row
 
 pub begin-requires-then-position-eq0-clause-spare_rows : goal.begin-requires-then-position-eq0-clause-spare_rows
 begin-requires-then-position-eq0-clause-spare_rows g c =

@@ -9,7 +9,7 @@ use Rattle.art_rows.proofs.RowsLemmas.{number_after-nth}
 use Rattle.art_rows.proofs.Runs.{following_step, following_row}
 use Rattle.art_rows.proofs.leaves.Leaves.next_in.Goals as goal
 
--- a list that is not empty has a first
+-- a list that is not empty has a first number
 is_some : (o : Option ℕ) (old new : List ℕ) → MatchOption o (old ≡ []) (λ n. old ≡ n ∷ new) → 0 < length old → IsSome o
 is_some None old new e l = absurd (let z : length old ≡ 0 = ap length e in omega arith)
 is_some (Some n) old new e l = refl

@@ -71,7 +71,7 @@ returns-then-position-clause-room g c =
     let w = c.if-position.true in
     omega arith
 
--- ---- it is full
+-- ---- the last row is full
 
 pub begin-requires-2-clause-spare_rows : goal.begin-requires-2-clause-spare_rows
 begin-requires-2-clause-spare_rows g c =

@@ -7,7 +7,7 @@ use Rattle.art_rows.proofs.RowRoomLemmas.{room_enough, room_more}
 use Rattle.art_rows.proofs.leaves.Leaves.reserve.Goals.{then-sure-n, else-sure-n}
 use Rattle.art_rows.proofs.leaves.Leaves.reserve.Goals as goal
 
--- what follows from what an Ok gives
+-- if P implies Q, then `OnOk r P` implies `OnOk r Q`
 on_ok : {A E : Type 0} (r : Result A E) (P Q : Type 0) → (P → Q) → OnOk r P → OnOk r Q
 on_ok (Ok x) P Q f h = f h
 on_ok (Err x) P Q f h = h

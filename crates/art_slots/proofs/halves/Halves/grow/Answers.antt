@@ -4,7 +4,7 @@ use Rattle.art_slots.specs.Halves.{joined, AreWhole}
 use Rattle.art_slots.proofs.Blocks.{length-joined, whole-more, zeros-more}
 use Rattle.art_slots.proofs.halves.Halves.grow.Goals as goal
 
--- the blocks are whole once memory is reserved
+-- the blocks are whole after memory was reserved
 whole : (c : goal.After-add_zeros) → AreWhole c.reserve.new.self.items
 whole c = subst AreWhole (sym c.in_ok-reserve.ensures.items) c.self.invariant.0
 
@@ -12,7 +12,7 @@ whole c = subst AreWhole (sym c.in_ok-reserve.ensures.items) c.self.invariant.0
 same : (c : goal.After-add_zeros) → joined c.reserve.new.self.items ≡ c.args.self.now
 same c = ap joined c.in_ok-reserve.ensures.items ∙ c.self.view_is
 
--- and so is the number of blocks
+-- the number of blocks is unchanged
 long : (c : goal.After-add_zeros) → length c.reserve.new.self.items ≡ c.len-len.result
 long c = ap length c.in_ok-reserve.ensures.items ∙ sym c.len-len.ensures
 

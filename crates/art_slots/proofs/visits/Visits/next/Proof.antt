@@ -1,4 +1,4 @@
--- `next` picks one visit more. Assumes `Logic`.
+-- `next` picks one more visit. Assumes `Logic`.
 use Rattle.std.proofs.Common.{List, [], ◌∷◌, ◌++◌, ◌+◌, refl}
 use seplogic.Ra.Ura.{Ura}
 use mir.Syntax.{Fn}

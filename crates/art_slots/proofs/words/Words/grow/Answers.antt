@@ -17,7 +17,7 @@ returns-in_err-grow-clause-same c = rw (unchanged c) (take-length c.args.self.no
 pub returns-in_err-grow-clause-grows : goal.returns-in_err-grow-clause-grows
 returns-in_err-grow-clause-grows c = rw (unchanged c) (omega arith)
 
--- the numbers before the low halves grow
+-- the numbers are unchanged before the low halves grow
 kept : (c : goal.After-grow-2) → numbers c.if-blocks-gt-LOW_BLOCKS.self-inside.low c.if-blocks-gt-LOW_BLOCKS.self-inside.high ≡ c.args.self.now
 kept c = elim c.if-blocks-gt-LOW_BLOCKS.branch [
   | then-blocks-gt-LOW_BLOCKS+in_ok-grow w ↦ rw w.self-inside-is (ap (numbers c.self.inside.low) w.grow.ensures.zeros ∙ zeros-high c.self.inside.low c.self.inside.high _ ∙ c.self.view_is)

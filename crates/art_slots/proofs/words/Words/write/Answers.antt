@@ -8,7 +8,7 @@ write-requires c =
     let l = rw (← c.self.view_is) at c.requires.within in
     omega (arith, length-numbers c.self.inside.low c.self.inside.high)
 
--- without a high half the list is short
+-- if there is no high half, the word is less than 2^32
 short : (c : goal.After-write-arg-else-i-len-1) → c.args.word < 2 ^ 32
 short c =
     let l = rw (← c.self.view_is) at c.requires.within in

@@ -3,7 +3,7 @@ use Rattle.std.proofs.lemmas.List.{length-replicate, take-take}
 use Rattle.art_kinds.specs.Nodes.{Node, at, Reprefixes}
 use Rattle.art_kinds.proofs.records.nodes.Nodes.join_prefix.Goals as goal
 
--- of a front that is long enough, what stands after it does not matter
+-- the first n of `take n xs ++ ys` are the first n of `xs ++ ys`
 take_front : (n : ℕ) (xs ys : List ℕ) → take n (take n xs ++ ys) ≡ take n (xs ++ ys)
 take_front zero xs ys = refl
 take_front (suc n) [] ys = refl
