@@ -16,7 +16,7 @@ pub use Rattle.art_insert.proofs.Placed.TakenBack.{taken_back, taken_back_fronts
 pub use Rattle.blart_map.proofs.Taken.Filtered.{kept_by, kept_by_retained, take_from_kept, filter_from_retained, map_from_retained}
 -- a pair that was lent and then kept, or taken
 pub use Rattle.blart_map.proofs.Taken.OnceTaken.{kept_first, taken_first, walk_kept, walk_taken, none_to_take, none_taken}
--- a closure that may be called on each pair: on all pairs, or on those for which a property holds, if it holds for all
+-- a closure that may be called on each pair: always, or if a property holds that all pairs have
 pub use Rattle.art_walk.proofs.Callable.{callable_on_each_pair, callable_on_such_pairs}
 -- the same for a closure that `for_each` of a walk that lends calls: on the value, or on the key and the value; on all pairs, or on those that pass a test
 pub use Rattle.blart_map.proofs.Written.CallableInTurn.{callable_on_each_value, callable_on_such_values, callable_on_each_lent, callable_on_such_lent, callable_on_such_within}

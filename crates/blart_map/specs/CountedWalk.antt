@@ -42,7 +42,7 @@ module _ (K V M P : RattleType) (g : Ghosts K.Denot) where
   abbrev pub walk_row : RattleType
   walk_row = the_row (record { mir = named 1; lft = [] }) K V M P g
 
-  -- once the borrow r ends, the first pair that was left has the last value written through it
+  -- once the borrow r ends, the first pair that was left has the last value written through r
   abbrev pub lends_first : MutBor walk_row.Denot → Option (MutBor V.Denot) → Fml
   lends_first s r =
       LendsSo walk_row V s r

@@ -10,7 +10,7 @@ use Rattle.blart_map.specs.declared.occupied.OccupiedEntry.{OccupiedEntry}
 use Rattle.blart_map.specs.Entry.{entry_ref, SetsValue}
 
 module _ (K V P : RattleType) (g : Ghosts K.Denot) where
-  -- once r ends, the key has the last value written through it; at `Err` the map is unchanged
+  -- once r ends, the key has the last value written through r; at `Err` the map is unchanged
   abbrev pub entry_lends_ok : {T E : Type 0} → Entry K.Denot V.Denot (value_of P) T g → Result (MutBor V.Denot) E → Fml
   entry_lends_ok e r = LendsSoOk (tree_map.the_row K V P g) V (entry_ref e) r (λ n w. SetsValue e w n) (λ n. n ≡ (entry_ref e).now)
 

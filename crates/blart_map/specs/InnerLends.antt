@@ -25,6 +25,6 @@ module _ (K V P : RattleType) (g : Ghosts K.Denot) where
   abbrev pub inner_rests : {T : Type 0} → InnerOccupiedEntry K.Denot V.Denot (value_of P) T g → Option (OccupiedEntry K.Denot V.Denot (value_of P) T g) → Fml
   inner_rests e r = RestsIfNone (tree_map.the_row K V P g) e.map (λ o. o.map.ghost_name) r (λ n. n ≡ e.map.now)
 
-  -- once r ends, the key of e has the last value written through it, and replaces all related pairs
+  -- once r ends, the key of e has the last value written through r, and replaces all related pairs
   abbrev pub inner_lends : {T : Type 0} → InnerOccupiedEntry K.Denot V.Denot (value_of P) T g → MutBor V.Denot → Fml
   inner_lends e r = Lends (tree_map.the_row K V P g) V e.map r (over_leaf e)

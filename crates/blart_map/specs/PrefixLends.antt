@@ -12,7 +12,7 @@ use Rattle.blart_map.specs.PrefixEntry.{occupied_ref, occupied_with}
 use Rattle.blart_map.specs.PrefixKind.{kind_ref, IsKindSet}
 
 module _ (K V P : RattleType) (g : Ghosts K.Denot) where
-  -- once the borrow r ends, the key has the last value written through it
+  -- once the borrow r ends, the key has the last value written through r
   abbrev pub occupied_lends : {T : Type 0} → PrefixOccupied K.Denot V.Denot (value_of P) T g → MutBor V.Denot → Fml
   occupied_lends e r = Lends (tree_map.the_row K V P g) V (occupied_ref e) r (occupied_with e)
 

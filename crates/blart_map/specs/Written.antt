@@ -20,6 +20,6 @@ module _ (K V P : RattleType) (g : Ghosts K.Denot) where
   abbrev pub lends_at : MutBor (List (Numbered K.Denot V.Denot)) → List ℕ → Option (MutBor V.Denot) → Fml
   lends_at s q r = LendsSo (tree_map.the_row K V P g) V s r (λ n v. IsWrittenAt g.bytes (pairs s.now) q v (pairs n)) (λ n. n ≡ s.now)
 
-  -- once r ends, the pair whose bytes are a prefix of q has the last value written through it
+  -- once r ends, the pair whose bytes are a prefix of q has the last value written through r
   abbrev pub lends_at_front : MutBor (List (Numbered K.Denot V.Denot)) → List ℕ → Option (MutBor V.Denot) → Fml
   lends_at_front s q r = LendsSo (tree_map.the_row K V P g) V s r (λ n v. IsWrittenAtFront g.bytes (pairs s.now) q v (pairs n)) (λ n. n ≡ s.now)

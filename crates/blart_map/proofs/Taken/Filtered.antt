@@ -6,7 +6,7 @@ use Rattle.std.specs.Map.Calls.{CalledAtPair}
 use denote.Param.Members.{Mut}
 use Rattle.blart_keys.specs.Walks.{Asked, picked, Retains, AsksPair}
 
--- the items that pass a test of the state and the item, if each item changes the state
+-- the items that pass a test of a state and the item; each item changes the state
 abbrev pub kept_by : {S X : Type 0} → (S → X → Bool) → (S → X → S) → S → List X → List X
 kept_by test next s [] = []
 kept_by test next s (x ∷ xs) = cond (test s x) (x ∷ kept_by test next (next s x) xs) (kept_by test next (next s x) xs)

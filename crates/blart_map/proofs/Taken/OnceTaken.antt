@@ -48,7 +48,7 @@ module _ {K V : Type 0} (test : K × V → Bool) where
           | false ↦ ap pairs_of (after_front rest ps p lacks) ∙ ap (λ l. p.1 ∷ l) (some_taken ps d.1)
         ]
 
-  -- a walk opened over the pairs that pass a test: the pairs of the map once all is taken
+  -- a walk opened over the pairs that pass a test: the pairs of the map once all are taken
   pub opened_taken : (c c' : Cursor) (ps qs rs : List (Numbered K V)) → ps ≡ qs → rs ≡ qs → AreDistinct qs → c' ≡ c → (within : K × V → Bool) → leaves_left c ps ≡ filter (λ p. within p.1) ps
       → pairs (taken_all test (leaves_left c' rs) rs) ≡ filter (λ x. not (within x && test x)) (pairs qs)
   unfolding pairs

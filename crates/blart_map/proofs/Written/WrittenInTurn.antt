@@ -2,7 +2,7 @@
 use Rattle.std.proofs.Common.{◌≡◌, Bool, true, false, List, [], ◌∷◌, filter, cond, if◌then◌else◌, ap, ◌∙◌, refl}
 use Rattle.blart_map.specs.EachWritten.{CalledAtEach, with_values, with_values_where, WritesEach, WritesWhere}
 
--- the pairs with the values that depend on a state and the pair, if each pair changes the state
+-- the pairs with values that depend on a state and the pair; each pair changes the state
 abbrev pub valued_by : {S K V : Type 0} → (S → K × V → V) → (S → K × V → S) → S → List (K × V) → List (K × V)
 valued_by value next s [] = []
 valued_by value next s (x ∷ xs) = (x.0, value s x) ∷ valued_by value next (next s x) xs
