@@ -22,6 +22,6 @@ module _ {K V M : Type 0} {p : ℕ} {g : Ghosts K} where
   abbrev pub once_written : (K × V → V) → LendingWalk K V M p g → List (K × V)
   once_written f s = pairs (written_all f (lending_left s) s.map.now)
 
-  -- the same of a walk that counts
+  -- the same for a walk that counts
   abbrev pub all_once_written : (K × V → V) → CountedWalk K V M p g → List (K × V)
   all_once_written f s = pairs (written_all f (counted_left s) s.map.now)
