@@ -1,4 +1,4 @@
--- How the map's answers are answers to commands.
+-- The results of the map are answers to commands.
 use Rattle.std.proofs.Common.{◌≡◌, ℕ, List, [], ◌∷◌, ◌++◌, length, codes, decimal, Option, option_map, Result, refl, sym, ap, subst, ◌∙◌, inl, inr, Vec, Global, true, ◌==◌, ◌||◌}
 use Rattle.std.specs.declared.ops.Bound.TheVariants.{Included, Excluded}
 use Rattle.std.proofs.lemmas.List.{length-map}
@@ -13,11 +13,11 @@ use Rattle.blart.specs.Answers.{AnswersOrRefuses, inserted_text, value_text, fou
 use Rattle.blart.specs.Content.{Stored, by_bytes, pair_of}
 use Rattle.blart.proofs.Views.{value-view, front-view, under-view, between-view, Puts-view, Over-view, subtree-view, without-view, outside-view}
 
--- the bytes of what it holds
+-- the bytes of a stored pair
 abbrev stored_bytes : Vec ℕ Global × ℕ → List ℕ
 stored_bytes pair = pair.0.items
 
--- the map's answer is one to `get`
+-- the result is an answer to `get`
 pub gets : (S : Stored) (key found text : List ℕ) (value : Option ℕ) → key ≡ found → value ≡ option_map (λ pair. pair.1) (at stored_bytes S found) → text ≡ value_text value
     → AnswersOrRefuses (by_bytes S) (Get key) (text ∷ []) (by_bytes S)
 gets S key found text value same is shown =
@@ -67,7 +67,7 @@ pub lists_between : (S walk : Stored) (low high : List ℕ) → true ≡ ((lengt
 lists_between S walk low high taken is =
     rw (length-map S pair_of, ← taken) (ap listing (between-view (λ (k : Vec ℕ Global). k.items) S (Included low) (Excluded high)) ∙ sym (ap (λ l. listing (by_bytes l)) is))
 
--- and to `overwrite`, where there was memory
+-- and to `overwrite`, if it does not run out of memory
 pub overwrites : (S T : Stored) (key : List ℕ) (found : Vec ℕ Global) (value count : ℕ) → key ≡ found.items → IsOver stored_bytes S (found, value) T → count ≡ length T
     → AnswersOrRefuses (by_bytes S) (Overwrite key value) ((codes "len " ++ decimal count) ∷ []) (by_bytes T)
 overwrites S T key found value count same over is =
@@ -75,7 +75,7 @@ overwrites S T key found value count same over is =
     let put : IsOver pair_bytes (by_bytes S) (key, value) (by_bytes T) = subst (λ k. IsOver pair_bytes (by_bytes S) (k, value) (by_bytes T)) (sym same) seen in
     inl (inl (put, ap (λ n. (codes "len " ++ decimal n) ∷ []) (is ∙ sym (length-map T pair_of))))
 
--- and where there was none
+-- and if it does
 pub overwrites_refused : (S T : Stored) (key : List ℕ) (found : Vec ℕ Global) (value : ℕ) → key ≡ found.items → subtree stored_bytes S found.items ≡ [] → T ≡ S
     → AnswersOrRefuses (by_bytes S) (Overwrite key value) (codes "refused memory" ∷ []) (by_bytes T)
 overwrites_refused S T key found value same none is =

@@ -22,6 +22,6 @@ encode-one : (x : ℕ) → encode_lower (x ∷ []) ≡ digits_of x
 unfolding encode_with
 encode-one x = refl
 
--- one byte more gives its two digits
+-- one more byte adds its two digits
 pub encode-more : (key : List ℕ) (i : ℕ) → i < length key → encode_lower (take (i + 1) key) ≡ encode_lower (take i key) ++ digits_of (get_or key i 0)
 encode-more key i lt = ap encode_lower (take_more key i 0 lt) ∙ encode-append (take i key) (get_or key i 0 ∷ []) ∙ ap (λ l. encode_lower (take i key) ++ l) (encode-one (get_or key i 0))

@@ -258,7 +258,7 @@ run_ends was is rm before mid after was_wm wm (Err Write) new u h k = λ input h
       ),
     )
 
--- ---- what the code tells
+-- ---- what the code says
 
 -- a length of zero
 pub no_bytes : (xs : List ℕ) (n : ℕ) → n ≡ length xs → true ≡ (n == 0) → xs ≡ []
@@ -269,11 +269,11 @@ no_bytes (x ∷ xs) n e t = let z : n ≡ 0 = eqb-true n 0 (sym t) in let m : n 
 pub some_bytes_left : (xs : List ℕ) (n : ℕ) → n ≡ length xs → false ≡ (n == 0) → xs ≢ []
 some_bytes_left xs n e t none = let z : n ≡ 0 = e ∙ ap length none in let yes : (n == 0) ≡ true = eq-eqb n 0 z in cc
 
--- a read that answered no error left no mark
+-- a read that returned no error left no mark
 pub unmarked_read : (a b : Bool) → a ≡ false → b ≡ (a || false) → b ≡ false
 unmarked_read a b e h = h ∙ rw e refl
 
--- a read that moved bytes is no end, and came after none
+-- a read that moved bytes is no end, and came after no end
 pub read_once : (ended_before ended_after again_before again_after again : Bool) (n : ℕ) (bytes : List ℕ) → n ≢ 0 → (ended_before ≡ false) × (again_before ≡ again)
     → ended_after ≡ (ended_before || ((n == 0) && not (length bytes == 0))) → again_after ≡ (again_before || ended_before) → (ended_after ≡ false) × (again_after ≡ again)
 read_once a b c d e n bytes some h p q =

@@ -25,7 +25,7 @@ split_at text at true is h =
     let within : position_or_len is_space text < length text = ltb-true _ _ is in
     rw same at (slice_split_first is_space text 0 within)
 
--- the first space parts the first word from the others
+-- the first space separates the first word from the others
 pub words_at : (text : List ℕ) (at : ℕ) → Some at ≡ position is_space text → words_of text ≡ take at text ∷ words_of (drop (at + 1) text)
 words_at text at h = split_at text at (nat_lt (position_or_len is_space text) (length text)) refl h
 
@@ -37,11 +37,11 @@ whole text false is h =
     let fails : All (λ b. is_space b ≡ false) text = λ k d lt. fails_before_first is_space text k d (omega arith) in
     slice_split_none is_space text fails
 
--- with no space there is one word
+-- a text with no space is one word
 pub one_word : (text : List ℕ) → None ≡ position is_space text → words_of text ≡ text ∷ []
 one_word text h = whole text (nat_lt (position_or_len is_space text) (length text)) refl h
 
--- a text has a word at least
+-- a text has at least one word
 pub some_word : (text : List ℕ) → 0 < length (words_of text)
 some_word text = omega (arith, length-slice_split is_space text)
 
@@ -55,7 +55,7 @@ digits_decode word (Ok bytes) false even is h =
 digits_decode word (Err e) true even is h =
     let (bytes, found) = decode_of-digits word even (AllPass-from_list_all is_hex_digit word h) in cc
 
--- an even number of bytes decodes exactly if all are digits
+-- a word of even length decodes if and only if all its bytes are digits
 pub decodes_if_digits : (word : List ℕ) → length word % 2 ≡ 0 → is_some (from_ok (decode_of word)) ≡ list_all is_hex_digit word
 decodes_if_digits word even = digits_decode word (decode_of word) (list_all is_hex_digit word) even refl refl
 
@@ -69,7 +69,7 @@ nonempty word key false (Ok bytes) none is h = (grind (arith, nat_tests), cc)
 pub key_decodes : (word key : List ℕ) → bytes_eq word (codes "-") ≡ false → key_of word ≡ Some key → (0 < length word) × (decode_of word ≡ Ok key)
 key_decodes word key other h = nonempty word key (length word == 0) (decode_of word) refl refl (rw other at h)
 
--- what decoding gave
+-- what decoding returned
 pub decoded : (word key : List ℕ) (r : Result (Vec ℕ Global) FromHexError) → bytes_eq word (codes "-") ≡ false → key_of word ≡ Some key
     → IfOk r (λ bytes. decode_of word ≡ Ok bytes.items) → MatchOption (result_ok r) (key ≢ []) (λ found. key ≡ found.items)
 decoded word key (Ok bytes) other h ok = let (some, is) = key_decodes word key other h in cc

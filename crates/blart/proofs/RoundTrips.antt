@@ -18,7 +18,7 @@ by_length : (a b : List ℕ) (t : Bool) → length a ≢ length b → bytes_eq a
 by_length a b true apart is = absurd (apart (ap length ((bytes_eq-Decides a b).0 is)))
 by_length a b false apart is = is
 
--- a key that is written is read as it was
+-- a key that is written is read back
 pub key_of-key_text : (key : List ℕ) → IsBytes key → key_of (key_text key) ≡ Some key
 key_of-key_text [] small = refl
 key_of-key_text (b ∷ key) small =

@@ -11,7 +11,7 @@ use Rattle.blart.specs.Sent.{Sends, IsSent}
 pub Sends-none : (a : Option (List ℕ)) (bs : List ℕ) → Sends a a bs bs
 Sends-none a bs = record { front = []; taken = Appends-nil a; whole = refl }
 
--- the writer took n bytes more
+-- the writer took n more bytes
 pub Sends-more : {a b c : Option (List ℕ)} {bs rest : List ℕ} (n : ℕ) → Sends a b bs rest → Appends b c (take n rest) → Sends a c bs (drop n rest)
 Sends-more {a} {b} {c} {bs} {rest} n s t = record {
   front = s.front ++ take n rest;
@@ -19,7 +19,7 @@ Sends-more {a} {b} {c} {bs} {rest} n s t = record {
   whole = s.whole ∙ ap (λ l. s.front ++ l) (sym (take-append-drop n rest)) ∙ sym (append_assoc s.front (take n rest) (drop n rest));
 }
 
--- what waited went on with more after it
+-- what was left is sent, with more bytes after it
 pub Sends-trans : {a b c : Option (List ℕ)} {bs rest last : List ℕ} (more : List ℕ) → Sends a b bs rest → Sends b c (rest ++ more) last → Sends a c (bs ++ more) last
 Sends-trans {a} {b} {c} {bs} {rest} {last} more s t = record {
   front = s.front ++ t.front;
@@ -46,13 +46,13 @@ pub IsSent-longer : (before after : Option (List ℕ)) (mark : Bool) (error : Ru
     → IsSent (Err error) before after mark bytes rest → IsSent (Err error) before after mark (bytes ++ more) other
 IsSent-longer before after mark error bytes rest more other h = let ((left, sent), marked, is) = h in ((left ++ more, Sends-longer more sent), marked, is)
 
--- a call that failed within a front of some bytes failed within them
+-- a call that failed within a prefix of some bytes failed within them
 pub IsSent-part : (before after : Option (List ℕ)) (mark : Bool) (error : RunError) (waited front more whole rest other : List ℕ) → whole ≡ front ++ more
     → IsSent (Err error) before after mark (waited ++ front) rest → IsSent (Err error) before after mark (waited ++ whole) other
 IsSent-part before after mark error waited front more whole rest other is h =
     rw (is, ← append_assoc) (IsSent-longer before after mark error (waited ++ front) rest more other h)
 
--- a call went on with what was left by one before
+-- a call sends what the call before it left
 pub IsSent-then : (before mid after : Option (List ℕ)) (mark : Bool) (waited first between rest : List ℕ) (result : Result (Unit {0}) RunError) (more : List ℕ)
     → Sends before mid (waited ++ first) between → IsSent result mid after mark (between ++ more) rest → IsSent result before after mark (waited ++ (first ++ more)) rest
 IsSent-then before mid after mark waited first between rest (Ok done) more s h = (rw (← append_assoc) (Sends-trans more s h.0), h.1)

@@ -31,7 +31,7 @@ only_one : (x y : List ℕ × ℕ) → Contains (x ∷ []) y → x ≡ y
 only_one x y (zero, lt, e) = e
 only_one x y (suc k, lt, e) = absurd (omega arith)
 
--- an empty key that is stored is put in the place of it
+-- if nothing conflicts with the empty key, a put of it leaves only its pair
 stored_empty : (S : Pairs) (n : ℕ) → conflict pair_bytes S [] ≡ false → IsPut pair_bytes S ([], n) (([], n) ∷ [])
 stored_empty S n free = record {
   content = one_content pair_bytes ([], n);
@@ -47,7 +47,7 @@ insert_empty S n true u conflicts is = (codes "refused prefix" ∷ [], S, inl (E
 insert_empty S n false false free new = (codes "refused memory" ∷ [], S, inl (Err (Memory (record {})), (free, new, refl), refl))
 insert_empty S n false true free is = (inserted_text (Ok (value_at S [])) ∷ [], ([], n) ∷ [], inl (Ok (value_at S []), (free, stored_empty S n free, refl), refl))
 
--- an empty key is put over all
+-- an empty key that is put over all leaves only its pair
 over_empty : (S : Pairs) (n : ℕ) → IsOver pair_bytes S ([], n) (([], n) ∷ [])
 over_empty S n = record {
   content = one_content pair_bytes ([], n);
@@ -93,7 +93,7 @@ Answers-append a b c (l ∷ ls) ms o p h k =
       ap (λ q. q ++ p) whole ∙ append_assoc text more p,
     )
 
--- so do many
+-- many lines have an answer
 pub Answers-exist : (a : Pairs) (ls : List (List ℕ)) → (o : List ℕ) × (b : Pairs) × AnswersInTurn a ls o b
 Answers-exist a [] = ([], a, (refl, refl))
 Answers-exist a (l ∷ ls) =
@@ -105,7 +105,7 @@ Answers-exist a (l ∷ ls) =
 pub Answers-one : (a b : Pairs) (l text : List ℕ) → Reply a l text b → AnswersInTurn a (l ∷ []) text b
 Answers-one a b l text h = (text, b, [], h, (refl, refl), sym (append-nil text))
 
--- one byte more in front
+-- one more line feed in front
 split_feed : (bytes : List ℕ) (lines : List (List ℕ)) (open_bytes : List ℕ) → Splits bytes lines open_bytes → Splits (10 ∷ bytes) ([] ∷ lines) open_bytes
 split_feed bytes lines open_bytes s = record {
   whole = ap (λ l. 10 ∷ l) s.whole;
@@ -174,7 +174,7 @@ Serves-trans {a} {b} {c} {x} {y} {s} {t} {u} h k = record {
   sent = rw (← append_assoc) (Sends-trans k.out h.sent k.sent);
 }
 
--- more bytes come, and all that they ended has some answer, which waits
+-- more bytes come, and the lines that they end have an answer, which waits
 pub Serves-goes_on : {a b : Option (List ℕ)} {x : List ℕ} {s t : State} (y : List ℕ) → Serves a b x s t → (u : State) × Serves a b (x ++ y) s u
 Serves-goes_on {a} {b} {x} {s} {t} y h =
     let (lines, rest, split) = Splits-exist (t.line ++ y) in

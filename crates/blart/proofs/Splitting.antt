@@ -1,4 +1,4 @@
--- The lines of an input are the parts that line feeds part, so there is one way to split it.
+-- The lines of an input are the parts between line feeds, so there is one way to split it.
 use Rattle.std.proofs.Common.{◌≡◌, ◌≢◌, ℕ, List, [], ◌∷◌, ◌++◌, length, length-append, false, ◌==◌, refl, sym, ap, ◌∙◌, append_assoc, arith, All}
 use Rattle.std.specs.List.{flat_map, slice_split}
 use Rattle.std.proofs.lemmas.Bool.{ne_eqb}
@@ -6,7 +6,7 @@ use Rattle.std.proofs.lemmas.List.Elements.{All-weaker, All-head, All-tail}
 use Rattle.std.proofs.lemmas.List.Splits.{slice_split_none, slice_split_at}
 use Rattle.blart.specs.Lines.{IsLine, ended, Splits}
 
--- the parts that line feeds part
+-- the parts between line feeds
 abbrev pub parts_of : List ℕ → List (List ℕ)
 parts_of bytes = slice_split (λ b. b == 10) bytes
 

@@ -104,7 +104,7 @@ Stops-after {a} {b} c mark {x} {s} {t} Memory y bytes whole h k =
     let (marked, front, rest, is, some, u, served, none) = k in
     (marked, x ++ front, rest, whole ∙ ap (λ l. x ++ l) is ∙ sym (append_assoc x front rest), some, u, Serves-trans h served, none)
 
--- what waited was sent, or not all
+-- what waited was not sent in full
 pub Stops-sending : {a b : Option (List ℕ)} (c : Option (List ℕ)) (mark : Bool) {x : List ℕ} (left : List ℕ) {s t : State} (error : RunError)
     → Serves a b x s t → IsSent (Err error) b c mark t.waiting left → Stops error a c mark x s
 Stops-sending {a} {b} c mark {x} left {s} {t} error h k =
@@ -118,7 +118,7 @@ pub Serves-all_sent : {a b c : Option (List ℕ)} {x left : List ℕ} {s t : Sta
     → Serves a b x s t → Sends b c t.waiting left → Serves a c x s (record { line = t.line; content = t.content; waiting = left })
 Serves-all_sent {t = t} h k = rw append-nil at (Serves-trans h (Serves-sent t h.last k))
 
--- bytes of some length are some
+-- bytes whose length is not zero are not empty
 pub some_bytes : (bytes : List ℕ) → 0 < length bytes → bytes ≢ []
 some_bytes bytes h e = let none : length bytes ≡ 0 = ap length e in absurd (omega arith)
 

@@ -13,7 +13,7 @@ use Rattle.blart_keys.proofs.StoredLemmas.{kept_bytes}
 use Rattle.blart_keys.proofs.Mapped.{find-map, filter-map, list_any-map, put_map, over_map}
 
 module _ {K V : Type 0} (key_bytes : K → List ℕ) where
-  -- a pair by its key's bytes
+  -- a pair, with its key's bytes in place of the key
   abbrev shown : K × V → List ℕ × V
   shown pair = (key_bytes pair.0, pair.1)
 
@@ -30,7 +30,7 @@ module _ {K V : Type 0} (key_bytes : K → List ℕ) where
       → option_map (λ (pair : List ℕ × V). pair.1) (at first (map shown S) q) ≡ option_map (λ (pair : K × V). pair.1) (at (bytes key_bytes) S q)
   value-view S q = ap (option_map (λ (pair : List ℕ × V). pair.1)) (find-map shown (λ y. bytes_eq (first y) q) S) ∙ same_value (at (bytes key_bytes) S q)
 
-  -- the pair whose key begins some bytes
+  -- the pair whose key is a prefix of some bytes
   pub front-view : (S : List (K × V)) (q : List ℕ) → front_of first (map shown S) q ≡ option_map shown (front_of (bytes key_bytes) S q)
   front-view S q = find-map shown (λ y. begins (first y) q) S
 
@@ -50,11 +50,11 @@ module _ {K V : Type 0} (key_bytes : K → List ℕ) where
   pub between-view : (S : List (K × V)) (lo hi : Bound (List ℕ)) → between first (map shown S) lo hi ≡ map shown (between (bytes key_bytes) S lo hi)
   between-view S lo hi = filter-map shown (λ y. is_from_start lo (first y) && is_up_to_end hi (first y)) S
 
-  -- where no pair is related none is by its bytes
+  -- if no pair is related, none is related by its bytes
   pub subtree-view : (S : List (K × V)) (q : List ℕ) → subtree (bytes key_bytes) S q ≡ [] → subtree first (map shown S) q ≡ []
   subtree-view S q e = filter-map shown (λ y. related (first y) q) S ∙ ap (map shown) e
 
-  -- a put and its answer
+  -- a put and its result
   pub Puts-view : (S : List (K × V)) (key : K) (value : V) (r : Result (Option V) TryInsertError) (S' : List (K × V))
       → Puts key_bytes (option_map (λ pair. pair.1)) S (key, value) (kept key_bytes S (key, value)) r S'
       → Puts (λ k. k) (option_map (λ pair. pair.1)) (map shown S) (key_bytes key, value) (key_bytes key, value) r (map shown S')

@@ -29,7 +29,7 @@ key_text (b ∷ key) = encode_lower (b ∷ key)
 abbrev pub pair_text : List ℕ × ℕ → List ℕ
 pair_text pair = key_text pair.0 ++ 32 ∷ decimal pair.1
 
--- a line a pair, and then how many there were
+-- a line for each pair, and then a line with the number of pairs
 abbrev pub listing : Pairs → List (List ℕ)
 listing pairs = map pair_text pairs ++ (codes "end " ++ decimal (length pairs)) ∷ []
 
@@ -43,7 +43,7 @@ abbrev pub found_text : Option (List ℕ × ℕ) → List ℕ
 found_text (Some pair) = pair_text pair
 found_text None = codes "none"
 
--- what is said of an insertion
+-- the line for the result of an insertion
 abbrev pub inserted_text : Result (Option ℕ) TryInsertError → List ℕ
 inserted_text (Ok (Some n)) = codes "old " ++ decimal n
 inserted_text (Ok None) = codes "none"
@@ -54,7 +54,7 @@ inserted_text (Err (Memory e)) = codes "refused memory"
 abbrev pub value_at : Pairs → List ℕ → Option ℕ
 value_at S key = option_map (λ pair. pair.1) (at pair_bytes S key)
 
--- the pairs from the first key on, below the second; refused where there are pairs and the bounds are not in order
+-- the pairs from `low` on, below `high`; refused if there are pairs and the bounds are not in order
 abbrev pub range_lines : Pairs → List ℕ → List ℕ → List (List ℕ)
 range_lines S low high =
     if (length S == 0) || in_order (Included low) (Excluded high) then listing (between pair_bytes S (Included low) (Excluded high))
@@ -75,7 +75,7 @@ Answers S ListAll lines S' = (S' ≡ S) × (lines ≡ listing S)
 Answers S (ListPrefix key) lines S' = (S' ≡ S) × (lines ≡ listing (under pair_bytes S key))
 Answers S (ListRange low high) lines S' = (S' ≡ S) × (lines ≡ range_lines S low high)
 
--- the command has a key other than `-`, which takes memory to decode
+-- the command has a key other than `-`, and allocates to decode it
 abbrev pub Decodes : Command → Type 0
 Decodes (Insert key n) = key ≢ []
 Decodes (Get key) = key ≢ []
@@ -87,12 +87,12 @@ Decodes ListAll = ⊥
 Decodes (ListPrefix key) = key ≢ []
 Decodes (ListRange low high) = (low ≢ []) ⊎ (high ≢ [])
 
--- a command is answered, or refused out of memory where it decodes a key, and then S stays
+-- a command is answered; or it decodes a key, is refused as memory runs out, and S is unchanged
 abbrev pub AnswersOrRefuses : Pairs → Command → List (List ℕ) → Pairs → Type 0
 AnswersOrRefuses S command lines S' =
     Answers S command lines S' ⊎ (Decodes command × (S' ≡ S) × (lines ≡ codes "refused memory" ∷ []))
 
--- a line that is a command is answered as that, and any other is refused
+-- a line that is a command is answered as this command, and any other line is refused
 abbrev pub Meets : Pairs → Option Command → List (List ℕ) → Pairs → Type 0
 Meets S (Some command) lines S' = AnswersOrRefuses S command lines S'
 Meets S None lines S' = (S' ≡ S) × (lines ≡ codes "refused line" ∷ [])

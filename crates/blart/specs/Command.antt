@@ -5,7 +5,7 @@ use Rattle.std.specs.Char.{is_ascii_digit}
 use Rattle.std.specs.Str.Parse.{digits_value}
 use Rattle.hex.specs.Hex.{decode_of}
 
--- the parts of a line that single spaces part
+-- the parts of a line between single spaces
 abbrev pub words_of : List ℕ → List (List ℕ)
 words_of line = slice_split (λ b. b == 32) line
 
@@ -14,7 +14,7 @@ abbrev pub from_ok : {A E : Type 0} → Result A E → Option A
 from_ok (Ok x) = Some x
 from_ok (Err e) = None
 
--- `-` is the empty key; else an even number, at least two, of hexadecimal digits
+-- `-` is the empty key; other keys are two or more hexadecimal digits, in an even number
 abbrev pub key_of : List ℕ → Option (List ℕ)
 key_of word = if bytes_eq word (codes "-") then Some [] else if length word == 0 then None else from_ok (decode_of word)
 
@@ -42,12 +42,12 @@ pub data Command : Type 0 where
   ListPrefix : List ℕ → Command
   ListRange : List ℕ → List ℕ → Command
 
--- f of both, where both are some
+-- f of both values, if both are `Some`
 abbrev pub option_both : {A B C : Type 0} → (A → B → C) → Option A → Option B → Option C
 option_both f (Some a) (Some b) = Some (f a b)
 option_both f _ _ = None
 
--- the command that the words of a line are, if they are one
+-- the command that the words of a line make, if they make one
 abbrev pub command_of : List (List ℕ) → Option Command
 command_of (name ∷ []) = if bytes_eq name (codes "list") then Some ListAll else None
 command_of (name ∷ key ∷ []) =

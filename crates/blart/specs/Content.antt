@@ -8,14 +8,14 @@ use Rattle.blart.specs.Answers.{Pairs}
 abbrev pub Stored : Type 0
 Stored = List (Vec ℕ Global × ℕ)
 
--- a pair by its key's bytes
+-- a pair, with its key's bytes in place of the key
 abbrev pub pair_of : Vec ℕ Global × ℕ → List ℕ × ℕ
 pair_of pair = (pair.0.items, pair.1)
 
--- the pairs by their keys' bytes
+-- the pairs, with their keys' bytes in place of the keys
 abbrev pub by_bytes : Stored → Pairs
 by_bytes pairs = map pair_of pairs
 
--- what a map holds, by its keys' bytes
+-- what a map holds, with its keys' bytes in place of the keys
 abbrev pub content_of : List (Numbered (Vec ℕ Global) ℕ) → Pairs
 content_of leaves = by_bytes (pairs leaves)

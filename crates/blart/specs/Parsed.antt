@@ -6,7 +6,7 @@ use Rattle.blart.specs.declared.command.Command.TheVariants.{Insert as ParsedIns
 use Rattle.blart.specs.declared.command.Words.{Words}
 use Rattle.blart.specs.declared.command.Words.TheVariants.{One, Two, Three, More}
 
--- the command, whose keys are words, is this command
+-- the parsed command, whose keys are words, means this command
 abbrev pub Means : Parsed → Option Command → Type 0
 Means (ParsedInsert word n) command = (key : List ℕ) × (key_of word.now ≡ Some key) × (command ≡ Some (Insert key n))
 Means (ParsedGet word) command = (key : List ℕ) × (key_of word.now ≡ Some key) × (command ≡ Some (Get key))
@@ -19,11 +19,11 @@ Means (ParsedPrefix word) command = (key : List ℕ) × (key_of word.now ≡ Som
 Means (ParsedRange first second) command =
     (low high : List ℕ) × (key_of first.now ≡ Some low) × (key_of second.now ≡ Some high) × (command ≡ Some (ListRange low high))
 
--- the command that these words are, if they are one
+-- the parsed command means the command that these words make, if they make one
 abbrev pub Parses : Option Parsed → List (List ℕ) → Type 0
 Parses parsed words = MatchOption parsed (command_of words ≡ None) (λ c. Means c (command_of words))
 
--- the words, where there are at most three
+-- the words, if there are at most three; `More` if there are more
 abbrev pub AreWords : Words → List (List ℕ) → Type 0
 AreWords (One a) words = words ≡ a.now ∷ []
 AreWords (Two a b) words = words ≡ a.now ∷ b.now ∷ []

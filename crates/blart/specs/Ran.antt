@@ -9,7 +9,7 @@ use Rattle.blart.specs.Replies.{AnswersInTurn}
 use Rattle.blart.specs.Sent.{Sends}
 use Rattle.blart.specs.Serves.{State, Serves, Stops}
 
--- the reader gave these bytes, and is at its end or gave a byte a read for all the reads that there are
+-- the reader returned `read`, and is at its end, or `read` has 2^64 - 1 bytes or more
 abbrev pub CameAll : Option (List ℕ) → Option (List ℕ) → List ℕ → Type 0
 CameAll before after read = Consumes before after read × (IsAtEnd after ⊎ (2 ^ 64 - 1 ≤ length read))
 

@@ -4,7 +4,7 @@ use Rattle.blart.specs.declared.error.RunError.{RunError}
 use Rattle.blart.specs.Answers.{Pairs, Reply}
 use Rattle.blart.specs.Sent.{IsSent}
 
--- from old, the line has an answer, which leaves new, and went after what waited
+-- from old, the line has an answer that leaves new, and it was sent after what waited
 pub record IsReplied (result : Result (Unit {0}) RunError) (before after : Option (List ℕ)) (mark : Bool) (old : Pairs) (line waited waiting : List ℕ) (new : Pairs) : Type 0 where
   pub out : List ℕ
   pub reply : Reply old line out new

@@ -12,6 +12,6 @@ AnswersInTurn S (line ∷ lines) out S' =
 abbrev pub Replies : List (List ℕ) → List ℕ → Type 0
 Replies lines out = (S : Pairs) × AnswersInTurn [] lines out S
 
--- these bytes are a beginning of an answer to the lines
+-- these bytes are a prefix of an answer to the lines
 abbrev pub BeginsReplies : List (List ℕ) → List ℕ → Type 0
 BeginsReplies lines written = (more : List ℕ) × Replies lines (written ++ more)

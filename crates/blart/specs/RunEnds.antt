@@ -12,7 +12,7 @@ IsMarked (Err Read) reader_mark writer_mark = (reader_mark ≡ true) × (writer_
 IsMarked (Err Write) reader_mark writer_mark = (reader_mark ≡ false) × (writer_mark ≡ true)
 IsMarked (Err Memory) reader_mark writer_mark = (reader_mark ≡ false) × (writer_mark ≡ false)
 
--- how a run ends that read these bytes, left this rest of the input and wrote these bytes, where the two marks are those of the reader and of the writer
+-- how a run ends that read `read`, left `rest` and wrote `written`, with the marks of both ends
 abbrev pub RunEnds : Result (Unit {0}) RunError → Bool → Bool → List ℕ → List ℕ → List ℕ → Type 0
 -- all was read, and all lines are answered
 RunEnds (Ok done) reader_mark writer_mark read rest written =
@@ -21,7 +21,7 @@ RunEnds (Ok done) reader_mark writer_mark read rest written =
 -- the reader failed, and the lines that were ended are answered
 RunEnds (Err Read) reader_mark writer_mark read rest written =
     (reader_mark ≡ true) × (lines : List (List ℕ)) × (open_bytes : List ℕ) × Splits read lines open_bytes × Replies lines written
--- the writer failed, and what it took is a beginning of the answers, but for a line that was not ended before the input's end
+-- the writer failed and took a prefix of the answers; an open line has one only if no input is left
 RunEnds (Err Write) reader_mark writer_mark read rest written =
     (writer_mark ≡ true) × (lines : List (List ℕ)) × (open_bytes : List ℕ) × Splits read lines open_bytes
     × BeginsReplies (with_last lines open_bytes) written × (rest ≢ [] → BeginsReplies lines written)

@@ -8,13 +8,13 @@ use Rattle.blart.specs.Answers.{Pairs, Reply}
 use Rattle.blart.specs.Replies.{AnswersInTurn}
 use Rattle.blart.specs.Sent.{Sends}
 
--- between two bytes: what has come of the next line, the content, and the answers that wait for the writer
+-- between two bytes: the line so far, the content, and the answers that wait for the writer
 pub record State : Type 0 where
   pub line : List ℕ
   pub content : Pairs
   pub waiting : List ℕ
 
--- these bytes came: the lines that they ended are answered, and the writer took a front of the answers
+-- bytes came: the lines that they ended are answered, and the writer took a prefix of the answers
 pub record Serves (before after : Option (List ℕ)) (bytes : List ℕ) (old new : State) : Type 0 where
   pub lines : List (List ℕ)
   pub out : List ℕ
@@ -28,7 +28,7 @@ pub record Serves (before after : Option (List ℕ)) (bytes : List ℕ) (old new
 abbrev pub Stops : RunError → Option (List ℕ) → Option (List ℕ) → Bool → List ℕ → State → Type 0
 -- the writer failed within the answers to the lines that they ended
 Stops Write before after mark bytes old = (mark ≡ true) × (new : State) × Serves before after bytes old new
--- the lines that a front of them ended are answered, and the next line did not fit
+-- the lines that a prefix of them ended are answered, and the next line did not fit
 Stops Memory before after mark bytes old =
     (mark ≡ false) × (front : List ℕ) × (rest : List ℕ) × (bytes ≡ front ++ rest) × (rest ≢ []) × (new : State) × Serves before after front old new × (new.waiting ≡ [])
 Stops Read before after mark bytes old = ⊥
@@ -46,7 +46,7 @@ IsGrown (Err Memory) before after mark bytes old new = Sends before after old.wa
 IsGrown (Err Write) before after mark bytes old new = ((left : List ℕ) × Sends before after old.waiting left) × (mark ≡ true)
 IsGrown (Err Read) before after mark bytes old new = ⊥
 
--- the line has an answer that was sent so far
+-- the line has an answer, and `rest` is still to be sent
 pub record IsAnswering (before after : Option (List ℕ)) (old : State) (content : Pairs) (rest : List ℕ) : Type 0 where
   pub out : List ℕ
   pub reply : Reply old.content old.line out content
@@ -59,7 +59,7 @@ IsAnswered (Err Write) before after mark old new = ((content : Pairs) × (left :
 IsAnswered (Err Memory) before after mark old new = ⊥
 IsAnswered (Err Read) before after mark old new = ⊥
 
--- what serving a first part of these bytes does
+-- what serving a prefix of these bytes does
 abbrev pub IsStepped : Result ℕ RunError → Option (List ℕ) → Option (List ℕ) → Bool → List ℕ → State → State → Type 0
 IsStepped (Ok count) before after mark bytes old new = (0 < count) × (count ≤ length bytes) × Serves before after (take count bytes) old new × (mark ≡ false)
 IsStepped (Err error) before after mark bytes old new = Stops error before after mark bytes old

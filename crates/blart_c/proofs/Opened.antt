@@ -1,4 +1,4 @@
--- The answer of `boxed` taken apart: a loose box with the tree's handle, or nothing.
+-- The parts of what `boxed` returns: a loose box with the tree's handle, or nothing.
 use Rattle.std.proofs.Common.{◌≡◌, ℕ, List, [], ◌∷◌, refl, ap, ◌∙◌, Ok, Err}
 use mathlib.Core.List.{◌++◌}
 use seplogic.Ra.Ura.{Ura}

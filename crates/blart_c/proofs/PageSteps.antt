@@ -42,7 +42,7 @@ bytes_grown new more old now after used filled is e =
     e ∙ (ap (λ n. (take n now ++ more) ++ drop (n + length more) now) (sym filled)
     ∙ (ap (λ l. (take (length new) l ++ more) ++ drop (length new + length more) l) is ∙ over_bytes new more old))
 
--- ---- one pair more
+-- ---- one more pair
 
 key_bytes_push : (done : List Pair) (pair : Pair) → key_bytes (done ++ pair ∷ []) ≡ key_bytes done ++ pair.0.items
 key_bytes_push [] pair = append-nil pair.0.items
@@ -138,7 +138,7 @@ module _ (S left done : List Pair) (count used : ℕ) (keys keys' ends ends' val
       let whole : length S ≡ count = ap length (h.parted ∙ (ap (λ l. done ++ l) none ∙ append-nil done)) ∙ h.counted in
       page_of 0 keys' refl (λ f. omega (arith, f.stored, whole)) (ap (λ o. unwrap_or (option_map key_length o) 0) (sym (slice_get_past S count (omega (arith, whole)))))
 
-  -- the next pair has no room
+  -- the next pair does not fit
   pub page_full : (pair : Pair) (rest : List Pair) (after : List ℕ) (n : ℕ) → left ≡ pair ∷ rest → after ≡ keys' → n ≡ length pair.0.items
       → (length ends' ≤ count) ⊎ ((length values' ≤ count) ⊎ (length keys' < used + n)) → IsPage S count keys after ends ends' values values' n
   page_full pair rest after n is same len why =

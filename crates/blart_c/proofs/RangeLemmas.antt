@@ -14,7 +14,7 @@ use Rattle.blart_c.specs.Paged.{later, start_at}
 
 -- ---- bytes
 
--- what begins with p is not less than p
+-- a list that begins with p is not less than p
 begins_at_least : (p b : List ℕ) → begins p b ≡ true → less b p ≡ false
 begins_at_least [] [] h = refl
 begins_at_least [] (y ∷ b) h = refl
@@ -24,14 +24,14 @@ begins_at_least (x ∷ p) (y ∷ b) h = let parts = and_parts _ _ h in less-same
 never : {b : Bool} → b ≡ false → b ≡ true → ⊥
 never f t = false≢true (sym f ∙ t)
 
--- from at most and less to less
+-- if a is not greater than b, and b is less than c, a is less than c
 less_up : (a b c : List ℕ) → less b a ≡ false → less b c ≡ true → less a c ≡ true
 less_up a b c h k = elim (less_or a b) [
   | inl e ↦ subst (λ d. less d c ≡ true) (sym e) k
   | inr o ↦ elim o [ inl l ↦ less-trans a b c l k | inr l ↦ absurd (never h l) ]
 ]
 
--- from less and at most to less
+-- if a is less than b, and b is not greater than c, a is less than c
 less_down : (a b c : List ℕ) → less a b ≡ true → less c b ≡ false → less a c ≡ true
 less_down a b c h k = elim (less_or b c) [
   | inl e ↦ subst (λ d. less a d ≡ true) e h
@@ -55,7 +55,7 @@ module _ {X : Type 0} (bytes : X → List ℕ) where
   nothing_between S lo hi out = filter_none (λ x. is_from_start lo (bytes x) && is_up_to_end hi (bytes x)) S
       (λ x m. false_from_ne_true _ (λ t. let parts = and_parts _ _ t in nothing_within lo hi (bytes x) out parts.0 parts.1))
 
--- ---- the pairs below a prefix
+-- ---- the pairs under a prefix
 
 -- if no item begins with the prefix, none does from some start on
 module _ {X : Type 0} (bytes : X → List ℕ) where
@@ -69,14 +69,14 @@ filter_same f g [] same = refl
 filter_same f g (x ∷ S) same =
     ap (λ b. cond b (x ∷ filter f S) (filter f S)) (same x (inl refl)) ∙ ap (λ l. cond (g x) (x ∷ l) l) (filter_same f g S (λ y m. same y (inr m)))
 
--- of two tests, one holds if the other does
+-- two tests are equal if each holds when the other does
 same_test : (a b : Bool) → (a ≡ true → b ≡ true) → (b ≡ true → a ≡ true) → a ≡ b
 same_test true b f g = sym (f refl)
 same_test false true f g = g refl
 same_test false false f g = refl
 
 module _ (skip : Bool) (from p b : List ℕ) where
-  -- what is from the later start on is from the given start on, and is not less than the prefix
+  -- a list within the later start is within the given start, and is not less than the prefix
   from_later : is_from_start (later skip from p) b ≡ true → (is_from_start (start_at skip from) b ≡ true) × (less b p ≡ false)
   from_later h = elim (cases_Bool (less from p)) [
     | inl l ↦ let at_p : less b p ≡ false = not-true _ (subst (λ lo. is_from_start lo b ≡ true) (cond-true (less from p) (Included p) (start_at skip from) l) h) in (started skip (less_down from p b l at_p), at_p)
@@ -91,7 +91,7 @@ module _ (skip : Bool) (from p b : List ℕ) where
       above true f l = false_from_ne_true _ (λ t. never f (less-trans from b p l t))
       above false f l = false_from_ne_true _ (λ t. never (not-true _ l) (less_down b p from t f))
 
-  -- and what begins with the prefix and is from the given start on is from the later start on
+  -- and a list that begins with the prefix and is within the given start is within the later start
   to_later : begins p b ≡ true → is_from_start (start_at skip from) b ≡ true → is_from_start (later skip from p) b ≡ true
   to_later h k = elim (cases_Bool (less from p)) [
     | inl l ↦ subst (λ lo. is_from_start lo b ≡ true) (sym (cond-true (less from p) (Included p) (start_at skip from) l)) (not_from_false _ (begins_at_least p b h))
@@ -125,7 +125,7 @@ module _ {X : Type 0} (bytes : X → List ℕ) (S : List X) (c : IsContent bytes
         | inr o ↦ elim o [ inl k ↦ begins_between p p (bytes x) (bytes last) l k (begins-itself p) last_begins | inr k ↦ absurd (never high k) ]
       ]
 
-  -- the pairs below the prefix, from the start on
+  -- the pairs under the prefix, from the start on
   pub below_prefix : between bytes S (later skip from p) (Included (bytes last)) ≡ under bytes (between bytes S (start_at skip from) Unbounded) p
   below_prefix =
       filter_same (λ x. is_from_start (later skip from p) (bytes x) && is_up_to_end (Included (bytes last)) (bytes x)) (λ x. (is_from_start (start_at skip from) (bytes x) && true) && begins p (bytes x)) S within

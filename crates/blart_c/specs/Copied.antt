@@ -3,7 +3,7 @@
 use Rattle.std.specs.Prelude.{ℕ, List, ◌++◌, Option, None, Some, length, drop, nat_le, if◌then◌else◌}
 use Rattle.blart_c.specs.declared.codes.TheConstants.{FOUND, NONE, TOO_SMALL}
 
--- the code, where the buffer has so many bytes
+-- the code, if the buffer has `room` bytes
 abbrev pub code_of : Option (List ℕ × ℕ) → ℕ → ℕ
 code_of None room = NONE
 code_of (Some pair) room = if nat_le (length pair.0) room then FOUND else TOO_SMALL

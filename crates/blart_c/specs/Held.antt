@@ -1,4 +1,4 @@
--- What a map holds, in the words of the calls.
+-- What a map holds, in the terms of the calls.
 use Rattle.std.specs.Prelude.{ℕ, ◌-◌, List, Vec, Option, option_map, length, slice_get}
 use Rattle.std.specs.Global.{Global}
 use Rattle.std.specs.declared.ops.Bound.TheVariants.{Excluded, Unbounded}
@@ -20,7 +20,7 @@ held m = pairs m.tree.map
 abbrev pub plain : Pair → List ℕ × ℕ
 plain pair = (pair.0.items, pair.1)
 
--- how many bytes the key has
+-- the number of bytes of the key
 abbrev pub key_length : Pair → ℕ
 key_length pair = length pair.0.items
 

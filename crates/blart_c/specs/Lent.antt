@@ -1,4 +1,4 @@
--- What goes between C and a handle: the tree that a call lends, and a map that is made.
+-- What passes between C and a handle: the tree that a call lends, and a map that is made.
 use base.Fml.{Fml, ftrue, fsep, fex}
 use denote.RawPtr.{Ptr}
 use denote.Ref.{MutBor}
@@ -18,7 +18,7 @@ use Rattle.blart_c.specs.contracts.handle.ArtMap.{the_row as map_row}
 abbrev pub with_tree : ArtMap → Tree → ArtMap
 with_tree m t = record { at = m.at; alloc = m.alloc; tree = t }
 
--- what becomes of the tree that is lent becomes of the handle's tree
+-- once the borrow of the tree ends, the handle has the tree that was left
 abbrev pub LendsTree : MutBor ArtMap → MutBor Tree → Fml
 LendsTree m t = follows map_row tree_row m.ghost_name t.ghost_name (with_tree m.now)
 
@@ -30,8 +30,8 @@ owns_map alloc = box_owns (ghosts.dealloc_token alloc) map_row
 abbrev pub IsEmpty : ArtMap → Type 0
 IsEmpty m = pairs m.tree.map ≡ []
 
--- what `art_new` returns with the code r, where the pointer was p and is q: an empty map at q, or
--- out of memory and the pointer as it was
+-- what `art_new` returns with the code r, if the pointer was p and is q: an empty map at q, or it
+-- runs out of memory and the pointer is unchanged
 abbrev pub Made : Global → ℕ → Ptr → Ptr → Fml
 Made alloc zero p q = fex ArtMap (λ m. fsep (fex (IsEmpty m) (λ _. ftrue)) (owns_map alloc q m))
 Made alloc (suc r) p q = fex ((suc r ≡ NO_MEMORY) × (q ≡ p)) (λ _. ftrue)

@@ -5,17 +5,17 @@ use Rattle.std.specs.declared.ops.Bound.TheVariants.{Included, Excluded}
 use Rattle.blart_keys.specs.Bytes.{less}
 use Rattle.blart_c.specs.Held.{Pair, key_length}
 
--- the bound from which a page begins: q itself is left out if `skip` is true
+-- the start bound of a page, which excludes q itself if `skip` is true
 abbrev pub start_at : Bool → List ℕ → Bound (List ℕ)
 start_at true q = Excluded q
 start_at false q = Included q
 
--- the bound up to which a page goes
+-- the end bound of a page
 abbrev pub end_at : Bool → List ℕ → Bound (List ℕ)
 end_at true q = Included q
 end_at false q = Excluded q
 
--- the bound from which a page of the keys that begin with p begins: p, if q is less
+-- the start bound of a page of the keys that begin with p: p, if q is less
 abbrev pub later : Bool → List ℕ → List ℕ → Bound (List ℕ)
 later skip q p = if less q p then Included p else start_at skip q
 
@@ -33,7 +33,7 @@ ends_from n (pair ∷ pairs) = (n + key_length pair) ∷ ends_from (n + key_leng
 abbrev pub values_of : List Pair → List ℕ
 values_of = map (λ pair. pair.1)
 
--- a buffer that begins with these now
+-- the buffer `old`, once it begins with `new`
 abbrev pub over : List ℕ → List ℕ → List ℕ
 over new old = new ++ drop (length new) old
 

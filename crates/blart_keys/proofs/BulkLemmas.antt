@@ -1,4 +1,4 @@
--- Items that are put in another order, in which those with the same bytes stand as they did: what is stored is the same.
+-- If items with the same bytes keep their order, items put in another order have the same result.
 use Rattle.std.proofs.Common.{◌≡◌, ◌≢◌, ℕ, Bool, true, false, not, ◌&&◌, inl, inr, List, [], ◌∷◌, refl, sym, ap, ◌∙◌, subst, Option, Some, None, filter, bytes_eq, if◌then◌else◌}
 use Rattle.std.proofs.lemmas.Bool.{false≢true, cases_Bool, cond-true, cond-false}
 use Rattle.std.proofs.lemmas.List.Elements.{filter_agree}
@@ -16,16 +16,16 @@ use Rattle.blart_keys.proofs.ContentLemmas.{same_content, same_item, at_Some, at
 use Rattle.blart_keys.proofs.PutLemmas.{put_exists, at_put}
 
 module _ {X : Type 0} (bytes : X → List ℕ) (keep : Option X → X → X) where
-  -- what stands at the bytes q, where this stood, once the items are put
+  -- what is stored at the bytes q once the items are put, if o was stored there before
   abbrev pub stored_after : List ℕ → Option X → List X → Option X
   stored_after q o [] = o
   stored_after q o (x ∷ xs) = stored_after q (if bytes_eq (bytes x) q then Some (keep o x) else o) xs
 
-  -- what is kept of an item has its bytes, where what was there has
+  -- `keep o x` has the bytes of x if o is None, or its item has these bytes
   abbrev pub KeepsBytes : Type 0
   KeepsBytes = (o : Option X) (x : X) → IfSome o (λ y. bytes y ≡ bytes x) → bytes (keep o x) ≡ bytes x
 
-  -- items with other bytes do nothing there
+  -- items with other bytes do not change what is stored at q
   stored-filter : (q : List ℕ) (o : Option X) (xs : List X) → stored_after q o xs ≡ stored_after q o (filter (λ x. bytes_eq (bytes x) q) xs)
   stored-filter q o [] = refl
   stored-filter q o (x ∷ xs) = elim (cases_Bool (bytes_eq (bytes x) q)) [
@@ -37,7 +37,7 @@ module _ {X : Type 0} (bytes : X → List ℕ) (keep : Option X → X → X) whe
     | inr f ↦ simp f (stored-filter q o xs)
   ]
 
-  -- what stood there is not lost
+  -- if an item was stored, an item is stored in the end
   stored_some : (q : List ℕ) (y : X) (xs : List X) → (z : X) × (stored_after q (Some y) xs ≡ Some z)
   stored_some q y [] = (y, refl)
   stored_some q y (x ∷ xs) = elim (cases_Bool (bytes_eq (bytes x) q)) [
@@ -45,12 +45,12 @@ module _ {X : Type 0} (bytes : X → List ℕ) (keep : Option X → X → X) whe
     | inr f ↦ simp f (stored_some q y xs)
   ]
 
-  -- what is found has the bytes
+  -- an item that is found at the bytes q has these bytes
   found_bytes : (S : List X) (q : List ℕ) (o : Option X) → at bytes S q ≡ o → IfSome o (λ y. bytes y ≡ q)
   found_bytes S q None e = tt
   found_bytes S q (Some y) e = (at_Some bytes S q y e).1
 
-  -- what stands at the bytes q once one item is put
+  -- what is stored at the bytes q once one item is put
   at_one : KeepsBytes → (S T : List X) (x : X) (q : List ℕ) → IsContent bytes S → IsPut bytes S (keep (at bytes S (bytes x)) x) T → at bytes T q ≡ (if bytes_eq (bytes x) q then Some (keep (at bytes S q) x) else at bytes S q)
   at_one k S T x q c p =
       let y = keep (at bytes S (bytes x)) x in
@@ -60,24 +60,24 @@ module _ {X : Type 0} (bytes : X → List ℕ) (keep : Option X → X → X) whe
         | inr f ↦ cond-false (bytes_eq (bytes x) q) (Some y) (at bytes S q) f ∙ sym (cond-false (bytes_eq (bytes x) q) (Some (keep (at bytes S q) x)) (at bytes S q) f)
       ]
 
-  -- what is stored in the end is a content
+  -- if items are put into a content, the result is a content
   puts_content : (S xs U : List X) → IsContent bytes S → PutsAll bytes keep S xs U → IsContent bytes U
   puts_content S [] U c h = subst (IsContent bytes) (sym h) c
   puts_content S (x ∷ xs) U c h = puts_content h.0 xs U h.1.content h.2
 
-  -- at each bytes it has what stands there once the items are put
+  -- the result has at each byte list what `stored_after` says
   at_puts : KeepsBytes → (S xs U : List X) → IsContent bytes S → PutsAll bytes keep S xs U → (q : List ℕ) → at bytes U q ≡ stored_after q (at bytes S q) xs
   at_puts k S [] U c h q = ap (λ R. at bytes R q) h
   at_puts k S (x ∷ xs) U c h q = at_puts k h.0 xs U h.1.content h.2 q ∙ ap (λ o. stored_after q o xs) (at_one k S h.0 x q c h.1)
 
-  -- two contents with the same at all bytes are one
+  -- two contents with the same items at all byte lists are equal
   same_from_at : (S U : List X) → IsContent bytes S → IsContent bytes U → ((q : List ℕ) → at bytes U q ≡ at bytes S q) → U ≡ S
   same_from_at S U c d e = same_content bytes U S d c (λ x. (within U S d e x, within S U c (λ q. sym (e q)) x))
     where
       within : (A B : List X) → IsContent bytes A → ((q : List ℕ) → at bytes A q ≡ at bytes B q) → (x : X) → Contains A x → Contains B x
       within A B a f x h = Contains-from_Member x B (at_Some bytes B (bytes x) x (sym (f (bytes x)) ∙ at_member bytes A a (bytes x) x (Member-from_Contains x A h) refl)).0
 
-  -- an item that stands in the end conflicts with nothing that stood before
+  -- the bytes of an item that is put conflict with nothing that was stored before
   free_before : (S U : List X) (x : X) (xs : List X) → IsContent bytes S → IsContent bytes U → ((q : List ℕ) → at bytes U q ≡ stored_after q (at bytes S q) (x ∷ xs)) → conflict bytes S (bytes x) ≡ false
   free_before S U x xs c d e = elim (cases_Bool (conflict bytes S (bytes x))) [
     | inl t ↦ absurd (clash (conflict_found bytes S (bytes x) t))
@@ -101,7 +101,7 @@ module _ {X : Type 0} (bytes : X → List ℕ) (keep : Option X → X → X) whe
           let near : related (bytes u.0) (bytes v.0) ≡ true = rw (at_u.1, at_v.1) h.2 in
           h.3 (sym at_u.1 ∙ ap bytes (same_item bytes U d u.0 v.0 at_u.0 at_v.0 near) ∙ at_v.1)
 
-  -- a content that has at each bytes what stands there once the items are put is what they are put into
+  -- a content that has at each byte list what `stored_after` says is the result of the puts
   puts_from_at : KeepsBytes → (S xs U : List X) → IsContent bytes S → IsContent bytes U → ((q : List ℕ) → at bytes U q ≡ stored_after q (at bytes S q) xs) → PutsAll bytes keep S xs U
   puts_from_at k S [] U c d e = same_from_at S U c d e
   puts_from_at k S (x ∷ xs) U c d e =
@@ -110,17 +110,17 @@ module _ {X : Type 0} (bytes : X → List ℕ) (keep : Option X → X → X) whe
       let put = put_exists bytes S y c (ap (conflict bytes S) same ∙ free_before S U x xs c d e) in
       (put.0, put.1, puts_from_at k put.0 xs U put.1.content d (λ q. e q ∙ ap (λ o. stored_after q o xs) (sym (at_one k S put.0 x q c put.1))))
 
-  -- items of which those with the same bytes stand in the same order are put to the same end
+  -- lists in which the items with the same bytes have the same order lead to the same result
   pub puts_reordered : KeepsBytes → (S xs ys U : List X) → IsContent bytes S → ((q : List ℕ) → filter (λ x. bytes_eq (bytes x) q) ys ≡ filter (λ x. bytes_eq (bytes x) q) xs) → PutsAll bytes keep S ys U → PutsAll bytes keep S xs U
   puts_reordered k S xs ys U c same h =
       puts_from_at k S xs U c (puts_content S ys U c h) (λ q. at_puts k S ys U c h q ∙ stored-filter q (at bytes S q) ys ∙ ap (stored_after q (at bytes S q)) (same q) ∙ sym (stored-filter q (at bytes S q) xs))
 
 module _ {X : Type 0} (bytes : X → List ℕ) where
-  -- by their bytes
+  -- the bytes of x are less than those of y
   abbrev pub below : X → X → Bool
   below x y = less (bytes x) (bytes y)
 
-  -- two items tie where their bytes are the same
+  -- two items tie if and only if their bytes are equal
   tied : (x y : X) → ties below x y ≡ bytes_eq (bytes y) (bytes x)
   tied x y = elim (less_or (bytes x) (bytes y)) [
     | inl e ↦ simp (ap (λ b. less b (bytes y)) e ∙ less-irrefl (bytes y), ap (less (bytes y)) e ∙ less-irrefl (bytes y)) (sym ((bytes_decides (bytes y) (bytes x)).1 (sym e)))
@@ -135,7 +135,7 @@ module _ {X : Type 0} (bytes : X → List ℕ) where
       neither true b h = refl
       neither false b h = ap not h
 
-  -- after a stable sort by bytes items with the same bytes stand as before
+  -- a stable sort by bytes keeps the order of the items with the same bytes
   pub same_from_stable : (xs ys : List X) → IsStableBy below xs ys → (q : List ℕ) → filter (λ x. bytes_eq (bytes x) q) ys ≡ filter (λ x. bytes_eq (bytes x) q) xs
   same_from_stable xs ys h q = go (filter has ys) (filter has xs) refl refl
     where
@@ -152,7 +152,7 @@ module _ {X : Type 0} (bytes : X → List ℕ) where
       go (u ∷ us) vs e f = like u (filter_member has ys u (subst (Member u) (sym e) (inl refl))).1
       go [] (v ∷ vs) e f = like v (filter_member has xs v (subst (Member v) (sym f) (inl refl))).1
 
--- of a pair that is put the key that is kept has its bytes
+-- `kept_pair` has the bytes of the pair that is put
 pub kept_pair-bytes : {K V : Type 0} (kb : K → List ℕ) → KeepsBytes (bytes_of kb) (kept_pair {K = K} {V = V})
 kept_pair-bytes kb None x h = refl
 kept_pair-bytes kb (Some old) x h = h

@@ -1,4 +1,4 @@
--- The fronts of a content are where two of its items part.
+-- The elements of `fronts` are the prefixes after which two items of a content differ.
 use Rattle.std.proofs.Common.{◌≡◌, ℕ, ◌<◌, true, inl, inr, List, [], ◌∷◌, ◌++◌, refl, sym, ap, ◌∙◌, subst, eq-or-lt_of_le}
 use Rattle.std.specs.Ordering.{eq_by_cmp, is_eq}
 use Rattle.std.specs.Cmp.{Equal-is, tied_itself}
@@ -30,7 +30,7 @@ module _ {X : Type 0} (bytes : X → List ℕ) where
   branches_from_commons (x ∷ y ∷ S) f r (inl e) = record { x = x; y = y; x_there = inl refl; y_there = inr (inl refl); branch = subst (λ g. Branch g (bytes x) (bytes y)) e (branch_at_common (bytes x) (bytes y) r.0.0) }
   branches_from_commons (x ∷ y ∷ S) f r (inr m) = wider x (y ∷ S) f (branches_from_commons (y ∷ S) f r.1 m)
 
-  -- from an item on: the last neighbour that goes on as it does, and the next one, part at f
+  -- if z's bytes begin with f and `low`, and a later item's with f and `high`, f is in `commons`
   from_head : (f : List ℕ) (low high : ℕ) (y : X) → low < high → begins (f ++ high ∷ []) (bytes y) ≡ true → (z : X) (S : List X) → Ranked (Before bytes) (z ∷ S) → begins (f ++ low ∷ []) (bytes z) ≡ true → Member y S → Member f (commons bytes (z ∷ S))
   from_head f low high y l v z [] r u m = absurd m
   from_head f low high y l v z (w ∷ S) r u (inl e) =

@@ -1,4 +1,4 @@
--- How many fronts there are, and which bytes part at one.
+-- How many elements `fronts` has, and which bytes `parts` has.
 use Rattle.std.proofs.Common.{◌≡◌, ℕ, suc, ◌+◌, ◌-◌, ◌≤◌, Bool, true, false, cond, inl, inr, List, [], ◌∷◌, ◌++◌, length, refl, sym, ap, ◌∙◌, subst, arith, Option, Some, None, filter_map, slice_get, nat_cmp, Ordering, eqb, eqb-true, eq-eqb}
 use Rattle.std.proofs.lemmas.Bool.{false≢true, cond-true, cond-false, false_from_ne_true, and_parts, and_from}
 use Rattle.std.specs.List.{cons_option}
@@ -25,18 +25,18 @@ module _ {K : Type 0} {R : K → K → Ordering} (o : IsTotalOrder R) (exact : I
   pub set_has_member : (ks : List K) (k : K) → Member k ks → set.contains (set.from_list {R = R} ks) k ≡ true
   set_has_member ks k m = set.contains-from_list o ks k ∙ any_member (eq_by_cmp R k) ks k m (ap is_eq (tied_itself o k))
 
-  -- no element comes twice
+  -- no element is in the list twice
   abbrev pub Distinct : List K → Type 0
   Distinct [] = Unit {0}
   Distinct (k ∷ ks) = (Member k ks → ⊥) × Distinct ks
 
-  -- lists with the same members make one set
+  -- lists with the same members make the same set
   pub same_members : (ks js : List K) → ((k : K) → Member k ks → Member k js) → ((k : K) → Member k js → Member k ks) → set.from_list {R = R} ks ≡ set.from_list js
   same_members ks js f g = set.same_set o exact (set.from_list ks) (set.from_list js) (λ k. both_ways (set.contains (set.from_list {R = R} ks) k) (set.contains (set.from_list {R = R} js) k)
       (λ h. set_has_member js k (f k (member_of_set ks k h)))
       (λ h. set_has_member ks k (g k (member_of_set js k h))))
 
-  -- the size of a set is the length of any list with just its members, each once
+  -- the size of a set is the length of each list that has its members, each once
   pub len_of_distinct : (ks : List K) → Distinct ks → set.len (set.from_list {R = R} ks) ≡ length ks
   len_of_distinct [] d = set.len-empty R
   len_of_distinct (k ∷ ks) d =
@@ -54,7 +54,7 @@ module _ {K : Type 0} {R : K → K → Ordering} (o : IsTotalOrder R) (exact : I
       step n true m l e h = omega arith
       step n false m l e h = omega arith
 
--- ---- fronts
+-- ---- `fronts`
 
 module _ {X : Type 0} (bytes : X → List ℕ) where
   length-commons : (S : List X) → length (commons bytes S) ≡ length S - 1
@@ -62,11 +62,11 @@ module _ {X : Type 0} (bytes : X → List ℕ) where
   length-commons (x ∷ []) = refl
   length-commons (x ∷ y ∷ S) = let e : length (commons bytes (y ∷ S)) ≡ length (y ∷ S) - 1 = length-commons (y ∷ S) in omega arith
 
-  -- m items have at most m - 1 fronts
+  -- m items have at most m - 1 longest common prefixes of neighbours
   pub front_count : (S : List X) → set.len (fronts bytes S) ≤ length S - 1
   front_count S = subst (λ n. set.len (fronts bytes S) ≤ n) (length-commons S) (len_at_most nat_list_cmp_total exact_bytes (commons bytes S))
 
-  -- ---- parts
+  -- ---- `parts`
 
   next_of : (f b : List ℕ) (n : ℕ) → begins f b ≡ true → slice_get b (length f) ≡ Some n → begins (f ++ n ∷ []) b ≡ true
   next_of [] [] n h e = cc
@@ -80,7 +80,7 @@ module _ {X : Type 0} (bytes : X → List ℕ) where
   of_next (z ∷ f) [] n h = absurd (false≢true h)
   of_next (z ∷ f) (x ∷ b) n h = of_next f b n (and_parts (eqb z x) (begins (f ++ n ∷ []) b) h).1
 
-  -- the bytes that follow f in items that begin with it
+  -- each byte of the list is the byte of some item at the place `length f`
   next_found : (f : List ℕ) (n : ℕ) (S : List X) → Member n (filter_map (λ x. slice_get (bytes x) (length f)) S) → (x : X) × Member x S × (slice_get (bytes x) (length f) ≡ Some n)
   next_found f n [] m = absurd m
   next_found f n (y ∷ S) m = go (slice_get (bytes y) (length f)) refl m (next_found f n S)
@@ -99,7 +99,7 @@ module _ {X : Type 0} (bytes : X → List ℕ) where
       go None k = k
       go (Some w) k = inr k
 
-  -- at a front, a byte is a part exactly if some item begins with the front and it
+  -- if f is in `fronts`, a byte is in `parts` if and only if some item begins with f and this byte
   pub parts_has : (S : List X) (f : List ℕ) (n : ℕ) (x : X) → set.contains (fronts bytes S) f ≡ true → Member x S → begins (f ++ n ∷ []) (bytes x) ≡ true → set.contains (parts bytes S f) n ≡ true
   parts_has S f n x h m b =
       ap (λ s. set.contains s n) (cond-true _ (set.from_list {R = nat_cmp} (filter_map (λ x. slice_get (bytes x) (length f)) (under bytes S f))) set.empty h)

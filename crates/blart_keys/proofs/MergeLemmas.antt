@@ -1,4 +1,4 @@
--- Merges of ascending lists: each is one list, and what it has.
+-- Merges of ascending lists: each merge is unique, and what its elements are.
 use Rattle.std.proofs.Common.{◌≡◌, ℕ, Bool, true, false, not, ◌⊎◌, ◌↔◌, inl, inr, List, sym, ◌∙◌, filter, Contains}
 use Rattle.std.proofs.lemmas.Bool.{false≢true, cases_Bool, not-true, not_from_false}
 use Rattle.blart_keys.specs.Bytes.{less}
@@ -14,7 +14,7 @@ module _ {X : Type 0} (bytes : X → List ℕ) where
   pub lower_one_way : (x y : X) → Lower x y → Lower y x → ⊥
   lower_one_way x y h k = false≢true (sym (less-irrefl (bytes x)) ∙ less-trans (bytes x) (bytes y) (bytes x) h k)
 
-  -- two ascending lists with the same elements are one
+  -- two ascending lists with the same elements are equal
   pub same_ascending : (S T : List X) → Ascends bytes S → Ascends bytes T → ((x : X) → Contains S x ↔ Contains T x) → S ≡ T
   same_ascending S T s t h =
       same_list Lower lower_one_way S T (Ranked-from_AllPairs Lower S s) (Ranked-from_AllPairs Lower T t)
@@ -42,7 +42,7 @@ module _ {X : Type 0} (bytes : X → List ℕ) where
     λ c. Contains-from_Member x (difference bytes A B) (member_filter (λ x. not (stores bytes B (bytes x))) A x (Member-from_Contains x A c.0) (not_from_false _ c.1)),
   )
 
-  -- the elements of the union are those of the difference, the intersection and the other side's difference
+  -- an element of the union is an element of the intersection or of one of the two differences
   pub union_parts : (A B U : List X) → IsUnion bytes A B U → (x : X) → Contains U x ↔ ((Contains (difference bytes A B) x ⊎ Contains (intersection bytes A B) x) ⊎ Contains (difference bytes B A) x)
   union_parts A B U u x = (
     λ c. elim ((u.elements x).0 c) [

@@ -1,4 +1,4 @@
--- What is found where all that begins with some bytes is gone.
+-- What is found once all items with a prefix are removed.
 use Rattle.std.proofs.Common.{◌≡◌, ℕ, ◌+◌, cond, Bool, true, false, not, inl, inr, List, [], ◌∷◌, length, filter, find, refl, sym, ap, ◌∙◌, Some, None, bytes_eq}
 use Rattle.std.proofs.lemmas.Bool.{false≢true, cases_Bool, cond-true, cond-false, false_from_ne_true}
 use Rattle.std.proofs.lemmas.List.Filters.{length-filter_both}
@@ -12,7 +12,7 @@ use Rattle.blart_keys.proofs.ByteLemmas.{begins-trans}
 use Rattle.blart_keys.proofs.RankLemmas.{find_none, filter_member}
 
 module _ {X : Type 0} (t : X → Bool) where
-  -- where none passes a test, all fail it
+  -- if no item passes a test, all items fail it
   all_fail : (xs : List X) → filter t xs ≡ [] → filter (λ x. not (t x)) xs ≡ xs
   all_fail [] e = refl
   all_fail (x ∷ xs) e = elim (cases_Bool (t x)) [
@@ -20,7 +20,7 @@ module _ {X : Type 0} (t : X → Bool) where
     | inr n ↦ rw n (ap (λ l. x ∷ l) (all_fail xs (sym (cond-false (t x) (x ∷ filter t xs) (filter t xs) n) ∙ e)))
   ]
 
-  -- what is found among all is found among those that pass, if all that may be found pass
+  -- if each item that passes p passes t, p finds the same among all as among those that pass t
   find_passing : (p : X → Bool) → ((x : X) → p x ≡ true → t x ≡ true) → (xs : List X) → find p (filter t xs) ≡ find p xs
   find_passing p h [] = refl
   find_passing p h (x ∷ xs) = elim (cases_Bool (t x)) [
@@ -31,25 +31,25 @@ module _ {X : Type 0} (t : X → Bool) where
   ]
 
 module _ {X : Type 0} (bytes : X → List ℕ) (S : List X) (p : List ℕ) where
-  -- what goes and what is left are all
+  -- the items under p and those outside are together as many as all items
   pub length_outside : length (under bytes S p) + length (outside bytes S p) ≡ length S
   length_outside = length-filter_both (λ x. begins p (bytes x)) (λ x. not (begins p (bytes x))) (λ x. refl) S
 
-  -- where nothing begins with the bytes all is left
+  -- if no item is under p, all items are outside
   pub outside_all : under bytes S p ≡ [] → outside bytes S p ≡ S
   outside_all none = all_fail (λ x. begins p (bytes x)) S none
 
-  -- nothing is left at bytes that begin so
+  -- no item outside has bytes that begin with p
   pub at_gone : (r : List ℕ) → begins p r ≡ true → at bytes (outside bytes S p) r ≡ None
   at_gone r b = find_none (λ x. bytes_eq (bytes x) r) (outside bytes S p) (λ y m. false_from_ne_true _ (λ e.
       let off : not (begins p (bytes y)) ≡ true = (filter_member (λ x. not (begins p (bytes x))) S y m).1 in
       false≢true (sym (ap (λ k. not (begins p k)) ((bytes_decides (bytes y) r).0 e) ∙ ap not b) ∙ off)))
 
-  -- and at others is what was there
+  -- what is stored at other bytes is unchanged
   pub at_outside : (r : List ℕ) → begins p r ≡ false → at bytes (outside bytes S p) r ≡ at bytes S r
   at_outside r b = find_passing (λ x. not (begins p (bytes x))) (λ x. bytes_eq (bytes x) r) (λ x e. ap (λ k. not (begins p k)) ((bytes_decides (bytes x) r).0 e) ∙ ap not b) S
 
-  -- also by what begins them
+  -- and so is the item whose bytes are a prefix of other bytes
   pub front_of_outside : (r : List ℕ) → begins p r ≡ false → front_of bytes (outside bytes S p) r ≡ front_of bytes S r
   front_of_outside r b = find_passing (λ x. not (begins p (bytes x))) (λ x. begins (bytes x) r) (λ x e. ap not (false_from_ne_true (begins p (bytes x)) (λ u. false≢true (sym b ∙ begins-trans p (bytes x) r u e)))) S
 

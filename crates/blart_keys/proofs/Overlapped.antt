@@ -1,4 +1,4 @@
--- What overlaps once a pair was put, or taken, at some bytes.
+-- What overlaps after a pair is put, or removed, at some bytes.
 use Rattle.std.proofs.Common.{◌≡◌, ◌≢◌, ℕ, true, false, List, Option, Some, refl, sym, ap, ◌∙◌, is_some, bytes_eq}
 use Rattle.std.proofs.lemmas.Bool.{false≢true, false_from_ne_true}
 use Rattle.std.proofs.Math.Bool.{or_comm}
@@ -13,14 +13,14 @@ use Rattle.blart_keys.proofs.StoredLemmas.{stores_is}
 use Rattle.blart_keys.specs.Routed.{OverlapsToo}
 
 module _ {K V : Type 0} (kb : K → List ℕ) where
-  -- what overlaps some bytes stands at others that are related
+  -- if S overlaps r, it has other bytes that are related to r
   met : (S : List (K × V)) (r : List ℕ) → overlaps kb S r ≡ true → (p : List ℕ) × (has kb S p ≡ true) × (related p r ≡ true) × (p ≢ r)
   unfolding overlaps
   met S r h =
       let c = conflict_found (bytes kb) S r h in
       (kb c.0.0, sym (stores_is kb S (kb c.0.0)) ∙ stores_member (bytes kb) S (kb c.0.0) c.0 c.1 refl, c.2, c.3)
 
-  -- and what stands at some bytes overlaps all others that are related
+  -- and if S has the bytes q, it overlaps all other bytes that are related to q
   pub overlaps_near : (S : List (K × V)) (q r : List ℕ) → has kb S q ≡ true → related r q ≡ true → r ≢ q → overlaps kb S r ≡ true
   unfolding overlaps
   overlaps_near S q r h rel off =
@@ -33,7 +33,7 @@ module _ {K V : Type 0} (kb : K → List ℕ) where
     stands : (p : List ℕ) → p ≢ q → has kb S' p ≡ has kb S p
     stands p off = ap (λ o. is_some o) (u.1 p off)
 
-    -- where what overlaps stands, it overlaps as before
+    -- if q is r, or is not related to r, S' overlaps r if and only if S does
     apart : ((p : List ℕ) → related p r ≡ true → p ≢ r → p ≢ q) → overlaps kb S' r ≡ overlaps kb S r
     apart off = both_ways (overlaps kb S' r) (overlaps kb S r)
         (λ h. let m = met S' r h in overlaps_near S m.0 r (sym (stands m.0 (off m.0 m.2 m.3)) ∙ m.1) (or_comm (begins r m.0) (begins m.0 r) ∙ m.2) (λ e. m.3 (sym e)))

@@ -1,4 +1,4 @@
--- Where a query goes once a pair was put over all that are related to it.
+-- What a query finds after a pair is put over all pairs that are related to it.
 use Rattle.std.proofs.Common.{◌≡◌, ℕ, true, false, ◌⊎◌, inl, inr, List, Option, Some, None, refl, sym, ap, ◌∙◌, if◌then◌else◌}
 use Rattle.std.proofs.lemmas.Bool.{false≢true, cases_Bool, false_from_ne_true}
 use Rattle.blart_keys.specs.Bytes.{begins, related}
@@ -11,7 +11,7 @@ use Rattle.blart_keys.proofs.ContentLemmas.{same_item, front_of_Some, front_of_N
 use Rattle.blart_keys.specs.Routed.{spared_item}
 
 module _ {X : Type 0} (bytes : X → List ℕ) (S S' : List X) (x : X) (content : IsContent bytes S) (over : IsOver bytes S x S') (r : List ℕ) where
-  -- what begins a query that x does not was there, and is not related to x
+  -- if x is no prefix of r, an item of S' that is a prefix of r is in S, and is not related to x
   before : begins (bytes x) r ≡ false → (z : X) → Member z S' → begins (bytes z) r ≡ true → Member z S × (related (bytes z) (bytes x) ≡ false)
   before off z m b =
       let apart : related (bytes z) (bytes x) ≡ false = false_from_ne_true _ (λ t. (
@@ -19,7 +19,7 @@ module _ {X : Type 0} (bytes : X → List ℕ) (S S' : List X) (x : X) (content 
       false≢true (sym off ∙ ap (λ y. begins (bytes y) r) (sym same) ∙ b))) in
       (Member-from_Contains z S ((over.others z apart).0 (Contains-from_Member z S' m)), apart)
 
-  -- elsewhere it goes where it went, unless that begins x
+  -- if x is no prefix of r, r finds what it found before, unless that is a prefix of x
   elsewhere : begins (bytes x) r ≡ false → (o : Option X) → front_of bytes S r ≡ o → front_of bytes S' r ≡ spared_item bytes (bytes x) o
   elsewhere off None e = find_none (λ y. begins (bytes y) r) S' (λ z m. false_from_ne_true _ (λ t. false≢true (sym (front_of_None bytes S r z e (before off z m t).0) ∙ t)))
   elsewhere off (Some y) e = by (cases_Bool (begins (bytes y) (bytes x)))

@@ -1,4 +1,4 @@
--- Which parts of a content stand in one row.
+-- Which parts of a content are consecutive items.
 use Rattle.std.proofs.Common.{◌≡◌, ℕ, Bool, true, false, ◌&&◌, inl, inr, List, filter, refl, sym, ◌∙◌}
 use Rattle.std.proofs.Math.Bool.{and_comm}
 use Rattle.std.proofs.lemmas.Bool.{false≢true, or_cases, or_left, or_right, and_parts, and_from, not-true, not_from_false, false_from_ne_true}
@@ -12,9 +12,9 @@ use Rattle.blart_keys.proofs.PartLemmas.{less-trans, less-from_PartsBelow, Parts
 use Rattle.blart_keys.proofs.RankLemmas.{filter_is_part, filter_twice, IsPart}
 use Rattle.blart_keys.proofs.ContentLemmas.{Before, Ranked-from_content, related_back}
 
--- ---- rows
+-- ---- consecutive items
 
--- a less one of two passes an end that the greater passes, and a greater one a start
+-- if a list is within an end, each lesser one is too; and if it is within a start, each greater one
 pub end_down : (hi : Bound (List ℕ)) (a b : List ℕ) → less a b ≡ true → is_up_to_end hi b ≡ true → is_up_to_end hi a ≡ true
 end_down (Included hi) a b l h = not_from_false _ (false_from_ne_true _ (λ t. false≢true (sym (not-true _ h) ∙ less-trans hi a b t l)))
 end_down (Excluded hi) a b l h = less-trans a b hi l h
@@ -30,11 +30,11 @@ module _ {X : Type 0} (bytes : X → List ℕ) where
   within_convex lo hi x y z h k s t =
       and_from _ _ (start_up lo (bytes x) (bytes y) (less-from_PartsBelow _ _ h) (and_parts _ _ s).0) (end_down hi (bytes y) (bytes z) (less-from_PartsBelow _ _ k) (and_parts _ _ t).1)
 
-  -- the items between two bounds stand in one row
+  -- the items within both bounds are consecutive
   pub between_is_part : (S : List X) (lo hi : Bound (List ℕ)) → IsContent bytes S → IsPart (λ x. is_from_start lo (bytes x) && is_up_to_end hi (bytes x)) S
   between_is_part S lo hi c = filter_is_part (Before bytes) (λ x. is_from_start lo (bytes x) && is_up_to_end hi (bytes x)) (within_convex lo hi) S (Ranked-from_content bytes S c)
 
-  -- the items between two bounds are those from the start that are up to the end
+  -- the items within both bounds are those within the start bound that are within the end bound
   pub between_from : (S : List X) (lo hi : Bound (List ℕ)) → filter (λ x. is_up_to_end hi (bytes x)) (between bytes S lo Unbounded) ≡ between bytes S lo hi
   between_from S lo hi =
       filter_twice (λ x. is_from_start lo (bytes x) && true) (λ x. is_up_to_end hi (bytes x)) (λ x. is_from_start lo (bytes x) && is_up_to_end hi (bytes x))
@@ -44,7 +44,7 @@ module _ {X : Type 0} (bytes : X → List ℕ) where
       with_true true b = refl
       with_true false b = refl
 
-  -- and those up to the end that are from the start
+  -- and those within the end bound that are within the start bound
   pub between_up : (S : List X) (lo hi : Bound (List ℕ)) → filter (λ x. is_from_start lo (bytes x)) (between bytes S Unbounded hi) ≡ between bytes S lo hi
   between_up S lo hi =
       filter_twice (λ x. is_up_to_end hi (bytes x)) (λ x. is_from_start lo (bytes x)) (λ x. is_from_start lo (bytes x) && is_up_to_end hi (bytes x))
@@ -75,6 +75,6 @@ module _ {X : Type 0} (bytes : X → List ℕ) where
         ]
       ]
 
-  -- the items related to q stand in one row
+  -- the items that are related to q are consecutive
   pub subtree_is_part : (S : List X) (q : List ℕ) → IsContent bytes S → IsPart (λ x. related (bytes x) q) S
   subtree_is_part S q c = filter_is_part (Before bytes) (λ x. related (bytes x) q) (related_convex q) S (Ranked-from_content bytes S c)

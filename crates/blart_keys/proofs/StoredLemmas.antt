@@ -1,4 +1,4 @@
--- What the words on stored pairs say after a call.
+-- What the definitions of stored pairs say after a call.
 use Rattle.std.proofs.Common.{◌≡◌, ◌≢◌, slice_get, zero, Contains, find, filter, append-nil, ℕ, suc, ◌+◌, Bool, true, false, not, ◌&&◌, ◌||◌, ◌⊎◌, inl, inr, List, [], ◌∷◌, ◌++◌, length, map, refl, sym, ap, ◌∙◌, subst, subst₂, arith, Option, Some, None, Result, Ok, Err, IfOk, IfErr, OnOk, OnErr, option_map, is_some, bytes_eq, cond, if◌then◌else◌}
 use Rattle.std.proofs.lemmas.Bool.{false≢true, cases_Bool, cond-true, cond-false, not-true, false_from_ne_true}
 use Rattle.std.specs.Cmp.Lexicographic.{bytes_decides}
@@ -17,12 +17,12 @@ use Rattle.std.proofs.lemmas.List.Sums.{length-filter, count_by-le-length}
 use Rattle.blart_keys.proofs.Mapped.{find-map}
 use Rattle.blart_keys.proofs.PutLemmas.{at_put, without_absent, without_content, without_cut}
 
--- an option whose value is changed is there as before
+-- a mapped option has a value if and only if the option has one
 pub is_some-map : {X Y : Type 0} (f : X → Y) (o : Option X) → is_some (option_map f o) ≡ is_some o
 is_some-map f None = refl
 is_some-map f (Some x) = refl
 
--- what stands at a place is a member
+-- the element at an index is a member
 slice_get-member : {X : Type 0} (S : List X) (i : ℕ) (x : X) → slice_get S i ≡ Some x → Member x S
 slice_get-member [] zero x e = absurd cc
 slice_get-member [] (suc i) x e = absurd cc
@@ -30,7 +30,7 @@ slice_get-member (y ∷ S) zero x e = inl (let f : y ≡ x = cc in f)
 slice_get-member (y ∷ S) (suc i) x e = inr (slice_get-member S i x e)
 
 module _ {X : Type 0} (bytes : X → List ℕ) where
-  -- what is found is what is stored
+  -- an item is found at bytes if and only if they are stored
   pub some-at : (S : List X) (q : List ℕ) → is_some (at bytes S q) ≡ stores bytes S q
   some-at [] q = refl
   some-at (x ∷ S) q = elim (cases_Bool (bytes_eq (bytes x) q)) [
@@ -38,11 +38,11 @@ module _ {X : Type 0} (bytes : X → List ℕ) where
     | inr f ↦ subst (λ b. is_some (cond b (Some x) (at bytes S q)) ≡ (b || stores bytes S q)) (sym f) (some-at S q)
   ]
 
-  -- bytes that go are not there
+  -- removed bytes are not stored
   pub at-without_same : (S : List X) (q : List ℕ) → at bytes (without bytes S q) q ≡ None
   at-without_same S q = find_none (λ x. bytes_eq (bytes x) q) (without bytes S q) (λ y m. not-true _ (filter_member (λ x. not (bytes_eq (bytes x) q)) S y m).1)
 
-  -- and at other bytes is what was there
+  -- and what is stored at other bytes is unchanged
   pub at-without_other : (S : List X) (q r : List ℕ) → r ≢ q → at bytes (without bytes S q) r ≡ at bytes S r
   at-without_other [] q r off = refl
   at-without_other (x ∷ S) q r off = elim (cases_Bool (bytes_eq (bytes x) q)) [
@@ -103,36 +103,36 @@ module _ {X : Type 0} (bytes : X → List ℕ) where
 module _ {K V : Type 0} (kb : K → List ℕ) where
   -- ---- look-ups
 
-  -- a stored pair is found
+  -- `stores` and `has` agree
   pub stores_is : (S : List (K × V)) (q : List ℕ) → stores (bytes kb) S q ≡ has kb S q
   unfolding pair_at
   stores_is S q = sym (some-at (bytes kb) S q)
 
-  -- a pair that is found has the bytes
+  -- a pair that is found at the bytes q has these bytes
   pub pair_at-bytes : (S : List (K × V)) (q : List ℕ) (x : K × V) → pair_at kb S q ≡ Some x → kb x.0 ≡ q
   unfolding pair_at
   pair_at-bytes S q x e = (at_Some (bytes kb) S q x e).1
 
-  -- a pair found before some bytes begins them
+  -- the bytes of the pair that is found for a query are a prefix of the query
   pub pair_at_front-begins : (S : List (K × V)) (q : List ℕ) (x : K × V) → pair_at_front kb S q ≡ Some x → begins (kb x.0) q ≡ true
   unfolding pair_at_front
   pair_at_front-begins S q x e = (front_of_Some (bytes kb) S q x e).1
 
-  -- on stored bytes both look-ups agree
+  -- if the bytes q are stored, both look-ups find the same pair
   pub pair_at_front-at : (S : List (K × V)) → IsContent (bytes kb) S → (q : List ℕ) (x : K × V) → pair_at kb S q ≡ Some x → pair_at_front kb S q ≡ Some x
   unfolding pair_at pair_at_front
   pair_at_front-at S content q x e = front_of_stored (bytes kb) S content q x e
 
-  -- each pair of a content is found
+  -- each pair of a content is found at its bytes
   pub pair_at-member : (S : List (K × V)) → IsContent (bytes kb) S → (x : K × V) → Member x S → pair_at kb S (kb x.0) ≡ Some x
   unfolding pair_at
   pair_at-member S content x m = at_member (bytes kb) S content (kb x.0) x m refl
 
-  -- so is the one at a place
+  -- so is the pair at an index
   pub stored_at : (S : List (K × V)) → IsContent (bytes kb) S → (i : ℕ) (x : K × V) → slice_get S i ≡ Some x → pair_at kb S (kb x.0) ≡ Some x
   stored_at S content i x e = pair_at-member S content x (slice_get-member S i x e)
 
-  -- no pairs have nothing
+  -- the empty list has nothing
   pub nothing_stored : (S : List (K × V)) → S ≡ [] → HasNothing kb S
   unfolding pair_at
   nothing_stored S e q = ap (λ (T : List (K × V)). at (bytes kb) T q) e
@@ -149,12 +149,12 @@ module _ {K V : Type 0} (kb : K → List ℕ) where
   pub len_put : (S S' : List (K × V)) (x : K × V) → IsContent (bytes kb) S → IsPut (bytes kb) S x S' → length S' ≡ length S + (if has kb S (kb x.0) then 0 else 1)
   len_put S S' x content put = length-put (bytes kb) S S' x content put ∙ ap (λ b. length S + (if b then 0 else 1)) (stores_is S (kb x.0))
 
-  -- it is found by all that its bytes begin
+  -- each query that begins with its bytes finds it
   pub before_put : (S S' : List (K × V)) (x : K × V) → IsPut (bytes kb) S x S' → (r : List ℕ) → begins (kb x.0) r ≡ true → pair_at_front kb S' r ≡ Some x
   unfolding pair_at_front
   before_put S S' x put r b = front_of_member (bytes kb) S' put.content r x (Member-from_Contains x S' put.there) b
 
-  -- and what its bytes do not begin finds what it found
+  -- and each other query finds what it found before
   elsewhere_put : (S S' : List (K × V)) (x : K × V) → IsPut (bytes kb) S x S' → (r : List ℕ) → begins (kb x.0) r ≡ false → IsContent (bytes kb) S → pair_at_front kb S' r ≡ pair_at_front kb S r
   unfolding pair_at_front
   elsewhere_put S S' x put r off content = found (front_of (bytes kb) S r) refl
@@ -195,7 +195,7 @@ module _ {K V : Type 0} (kb : K → List ℕ) where
           let f = at_Some (bytes kb) S r y e in
           at_member (bytes kb) S' over.content r y (Member-from_Contains y S' ((over.others y (subst (λ q. related q (kb x.0) ≡ false) (sym f.1) un)).1 (Contains-from_Member y S f.0))) f.1 ∙ sym e
 
-  -- ---- a pair that goes
+  -- ---- a pair removed
 
   pub updates_without : (S : List (K × V)) (q : List ℕ) → Updates kb S (without (bytes kb) S q) q None
   unfolding pair_at
@@ -204,7 +204,7 @@ module _ {K V : Type 0} (kb : K → List ℕ) where
   pub len_without : (S : List (K × V)) (q : List ℕ) → IsContent (bytes kb) S → length (without (bytes kb) S q) + (if has kb S q then 1 else 0) ≡ length S
   len_without S q content = ap (λ b. length (without (bytes kb) S q) + (if b then 1 else 0)) (sym (stores_is S q)) ∙ length-without (bytes kb) S q content
 
-  -- one between others
+  -- a pair between others is removed
   takes_one : (A B S : List (K × V)) (p : K × V) → IsContent (bytes kb) S → S ≡ A ++ p ∷ B → TakesPair kb S p (A ++ B)
   takes_one A B S p content e =
       let cut : without (bytes kb) S (kb p.0) ≡ A ++ B = ap (λ (T : List (K × V)). without (bytes kb) T (kb p.0)) e ∙ without_cut (bytes kb) A B p (kb p.0) (subst (IsContent (bytes kb)) e content) refl in (
@@ -221,7 +221,7 @@ module _ {K V : Type 0} (kb : K → List ℕ) where
   -- ---- a value written
 
   module _ (p : K → Bool) (v : V) where
-    -- a pair with the value v where its key passes a test
+    -- the pair, with the value v if its key passes the test
     abbrev changed : K × V → K × V
     changed x = if p x.0 then (x.0, v) else x
 
@@ -231,16 +231,16 @@ module _ {K V : Type 0} (kb : K → List ℕ) where
       | inr f ↦ ap (λ (y : K × V). y.0) (cond-false (p x.0) (x.0, v) x f)
     ]
 
-    -- what is found by its key is found where values change
+    -- which pair is found by its key does not depend on values
     find_changed : (test : K → Bool) (S : List (K × V)) → find (λ x. test x.0) (map changed S) ≡ option_map changed (find (λ x. test x.0) S)
     find_changed test S = find-map changed (λ x. test x.0) S ∙ (λ i. option_map changed (find (λ x. test (changed_key x i)) S))
 
-    -- it has the value v if the test holds of each that may be found
+    -- the found pair has the value v if it passes the test
     all_changed : (o : Option (K × V)) → ((x : K × V) → o ≡ Some x → p x.0 ≡ true) → option_map changed o ≡ option_map (λ x. (x.0, v)) o
     all_changed None h = refl
     all_changed (Some x) h = ap Some (cond-true (p x.0) (x.0, v) x (h x refl))
 
-    -- and is as it was if it holds of none
+    -- and is unchanged if it does not
     none_changed : (o : Option (K × V)) → ((x : K × V) → o ≡ Some x → p x.0 ≡ false) → option_map changed o ≡ o
     none_changed None h = refl
     none_changed (Some x) h = ap Some (cond-false (p x.0) (x.0, v) x (h x refl))
@@ -276,7 +276,7 @@ module _ {K V : Type 0} (kb : K → List ℕ) where
 
   -- ---- what an insertion stores
 
-  -- it has the bytes of the pair that is put
+  -- the stored pair has the bytes of the inserted pair
   pub kept_bytes : (S : List (K × V)) (x : K × V) → kb (kept kb S x).0 ≡ kb x.0
   unfolding pair_at
   kept_bytes S x = of (at (bytes kb) S (kb x.0)) refl
@@ -285,13 +285,13 @@ module _ {K V : Type 0} (kb : K → List ℕ) where
       of None e = refl
       of (Some y) e = (at_Some (bytes kb) S (kb x.0) y e).1
 
-  -- new bytes are stored as they are put
+  -- a pair with new bytes is stored as it is
   pub kept_new : (S : List (K × V)) (x : K × V) → pair_at kb S (kb x.0) ≡ None → kept kb S x ≡ x
   kept_new S x none = ap (λ o. kept_pair o x) none
 
-  -- ---- what an insertion answers
+  -- ---- what an insertion returns
 
-  -- the words of a put, of a stored pair that has the bytes of another
+  -- what holds after a put of y, by the bytes of x, which are the same
   module _ (S S' : List (K × V)) (x y : K × V) (same : kb y.0 ≡ kb x.0) (put : IsPut (bytes kb) S y S') where
     updates_stored : IsContent (bytes kb) S → Updates kb S S' (kb x.0) (Some y)
     updates_stored content = subst (λ q. Updates kb S S' q (Some y)) same (updates_put S S' y content put)
@@ -339,7 +339,7 @@ module _ {K V : Type 0} (kb : K → List ℕ) where
   puts_len S x y same S' (Ok a) content puts = len_stored S S' x y same puts.1 content ∙ ap (λ o. length S + (if is_some o then 0 else 1)) (sym puts.2)
   puts_len S x y same S' (Err e) content puts = tt
 
-  -- the same where the answer is the old value
+  -- the same, if the old value is returned
   len_of_value : (S S' : List (K × V)) (x y : K × V) (same : kb y.0 ≡ kb x.0) (old : Option V) → IsContent (bytes kb) S → IsPut (bytes kb) S y S' → old ≡ value_at kb S (kb x.0) → length S' ≡ length S + (if is_some old then 0 else 1)
   len_of_value S S' x y same old content put e = len_stored S S' x y same put content ∙ ap (λ b. length S + (if b then 0 else 1)) (sym (is_some-map (λ (p : K × V). p.1) (pair_at kb S (kb x.0))) ∙ ap (λ o. is_some o) (sym e))
 
@@ -373,33 +373,33 @@ module _ {K V : Type 0} (kb : K → List ℕ) where
     inserts_absent (Ok old) put = tt
     inserts_absent (Err e) put = sym (stores_is S (kb x.0)) ∙ put.0
 
-  -- what is put over the related ones is found by all that its bytes begin
+  -- a pair that is put over the related ones is found by each query that begins with its bytes
   pub before_over : (S S' : List (K × V)) (x : K × V) → IsOver (bytes kb) S x S' → (r : List ℕ) → begins (kb x.0) r ≡ true → pair_at_front kb S' r ≡ Some x
   unfolding pair_at_front
   before_over S S' x over r b = front_of_member (bytes kb) S' over.content r x (Member-from_Contains x S' over.there) b
 
-  -- where nothing is related nothing overlaps
+  -- if no pair is related to q, none overlaps it
   pub alone_free : (S : List (K × V)) (q : List ℕ) → subtree (bytes kb) S q ≡ [] → overlaps kb S q ≡ false
   unfolding overlaps
   alone_free S q none = false_from_ne_true _ (λ h.
       let r = conflict_found (bytes kb) S q h in
       subst (Member r.0) none (member_filter (λ x. related (kb x.0) q) S r.0 r.1 r.2))
 
-  -- and the bytes are absent
+  -- and the bytes q are not stored
   pub alone_absent : (S : List (K × V)) (q : List ℕ) → subtree (bytes kb) S q ≡ [] → has kb S q ≡ false
   alone_absent S q none = false_from_ne_true _ (λ h.
       let r = stores_found (bytes kb) S q (stores_is S q ∙ h) in
       subst (Member r.0) none (member_filter (λ x. related (kb x.0) q) S r.0 r.1 (related-same (kb r.0.0) q r.2)))
 
   module _ (S : List (K × V)) (q : List ℕ) (v : V) (S' : List (K × V)) where
-    -- a list with a value written, as its users see it
+    -- a value is written: as a list, and as its users see it
     pub written_writes : S' ≡ written_at kb S q v → (S' ≡ written_at kb S q v) × WritesAt kb S q v S'
     written_writes e = (e, subst (WritesAt kb S q v) (sym e) (writes_at S q v))
 
     pub written_front_writes : S' ≡ written_at_front kb S q v → (S' ≡ written_at_front kb S q v) × WritesAtFront kb S q v S'
     written_front_writes e = (e, subst (WritesAtFront kb S q v) (sym e) (writes_before S q v))
 
-  -- nothing is written where no key passes the test
+  -- nothing is written if no key passes the test
   unwritten : (p : K → Bool) (v : V) (S : List (K × V)) → find (λ x. p x.0) S ≡ None → map (changed p v) S ≡ S
   unwritten p v [] e = refl
   unwritten p v (x ∷ S) e = elim (cases_Bool (p x.0)) [
@@ -414,11 +414,11 @@ module _ {K V : Type 0} (kb : K → List ℕ) where
     pub written_at_front-none : front_of (bytes kb) S q ≡ None → S ≡ written_at_front kb S q v
     written_at_front-none e = sym (unwritten (λ k. begins (kb k) q) v S e)
 
--- so few items are so few where some are left out
+-- if the items of a list can be counted, so can those of a filter of it
 pub can_count_filter : {X : Type 0} (p : X → Bool) (S : List X) → CanCount S → CanCount (filter p S)
 can_count_filter p S h = omega (arith, length-filter p S, count_by-le-length p S)
 
--- on stored bytes both look-ups agree
+-- if the bytes q are stored, both look-ups find the same pair
 pub before_agrees : {K V : Type 0} (kb : K → List ℕ) (S : List (K × V)) (q : List ℕ) → IsContent (bytes kb) S → has kb S q ≡ true → pair_at_front kb S q ≡ pair_at kb S q
 before_agrees {K} {V} kb S q content there = by (pair_at kb S q) refl
   where
@@ -426,16 +426,16 @@ before_agrees {K} {V} kb S q content there = by (pair_at kb S q) refl
     by None e = absurd (false≢true (ap (λ o. is_some o) (sym e) ∙ there))
     by (Some x) e = pair_at_front-at kb S content q x e ∙ sym e
 
--- ---- where a query goes once a pair is gone
+-- ---- what a query finds after a pair is removed
 
 module _ {K V : Type 0} (kb : K → List ℕ) (S : List (K × V)) (content : IsContent (bytes kb) S) (q r : List ℕ) where
-  -- what is left was there, and has other bytes
+  -- a pair that is left was there before, and has other bytes
   left : (y : K × V) → Member y (without (bytes kb) S q) → Member y S × (kb y.0 ≢ q)
   left y m =
       let f = filter_member (λ (x : K × V). not (bytes_eq (kb x.0) q)) S y m in
       (f.0, λ e. false≢true (sym (ap not ((bytes_decides (kb y.0) q).1 e)) ∙ f.1))
 
-  -- where what begins the query stays, it goes where it went
+  -- if no key that is a prefix of r is removed, r finds what it found before
   stays : ((y : K × V) → Member y S → begins (kb y.0) r ≡ true → kb y.0 ≢ q) → pair_at_front kb (without (bytes kb) S q) r ≡ pair_at_front kb S r
   unfolding pair_at_front
   stays apart = found (front_of (bytes kb) S r) refl
@@ -449,7 +449,7 @@ module _ {K V : Type 0} (kb : K → List ℕ) (S : List (K × V)) (content : IsC
           front_of_member (bytes kb) (without (bytes kb) S q) (without_content (bytes kb) S q content) r y (kept y f.0 (apart y f.0 f.1)) f.1 ∙ sym e
       found None e = find_none (λ (y : K × V). begins (kb y.0) r) (without (bytes kb) S q) (λ y m. front_of_None (bytes kb) S r y e (left y m).0) ∙ sym e
 
-  -- and where the one goes that begins it, nothing does
+  -- and if such a key is removed, r finds nothing
   goes : (z : K × V) → pair_at kb S q ≡ Some z → begins q r ≡ true → pair_at_front kb (without (bytes kb) S q) r ≡ None
   unfolding pair_at pair_at_front
   goes z e b = find_none (λ (y : K × V). begins (kb y.0) r) (without (bytes kb) S q) (λ y m. false_from_ne_true _ (λ t. (

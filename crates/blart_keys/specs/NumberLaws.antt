@@ -17,11 +17,11 @@ byte_read b h i = elim (cases_lt i (length b)) [
   | inr g ↦ subst (λ x. x < 256) (sym (get_or_past b i 0 g)) (omega arith)
 ]
 
--- four bytes are those of the number that they make
+-- four bytes are the bytes of the number that they make
 pub be_back_4 : (b : List ℕ) → AreBytesOf 4 b → to_be_bytes w32 (from_be_bytes w32 b) ≡ b
 be_back_4 b h = be_bytes_4 b _ h.len (byte_read b h.small) refl
 
--- eight bytes are those of the number that they make
+-- eight bytes are the bytes of the number that they make
 pub be_back_8 : (b : List ℕ) → AreBytesOf 8 b → to_be_bytes w64 (from_be_bytes w64 b) ≡ b
 be_back_8 b h = be_bytes_8 b _ h.len (byte_read b h.small) refl
 
@@ -44,7 +44,7 @@ flip_twice n h = elim (cases_lt n (2 ^ 31)) [
 pub flip_fits : (n : ℕ) → n < 2 ^ 32 → bit_xor n (2 ^ 31) < 2 ^ 32
 flip_fits n h = xor_lt 32 n (2 ^ 31) h (omega arith)
 
--- bits are those of the signed number that they make
+-- bits are the bits of the signed number that they make
 pub flipped-unflipped : (n : ℕ) → n < 2 ^ 32 → flipped (unflipped n) ≡ n
 flipped-unflipped n h = ap (λ m. bit_xor m (2 ^ 31)) (of_z-to_z w32 (bit_xor n (2 ^ 31)) (flip_fits n h)) ∙ flip_twice n h
 
@@ -54,6 +54,6 @@ be_fits_4 b h =
     let small = byte_read b h.small in
     omega (arith, small 0, small 1, small 2, small 3)
 
--- four bytes are those of the signed number that they make
+-- four bytes are the bytes of the signed number that they make
 pub flipped_back : (b : List ℕ) → AreBytesOf 4 b → to_be_bytes w32 (flipped (unflipped (from_be_bytes w32 b))) ≡ b
 flipped_back b h = ap (to_be_bytes w32) (flipped-unflipped (from_be_bytes w32 b) (be_fits_4 b h)) ∙ be_back_4 b h

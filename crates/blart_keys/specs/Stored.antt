@@ -99,6 +99,6 @@ module _ {K V : Type 0} (kb : K → List ℕ) where
 abbrev pub shown : {K V : Type 0} → Option (Bor K × Bor V) → Option (K × V)
 shown pair = option_map (λ p. (p.0.now, p.1.now)) pair
 
--- there are so few items that a `usize` can count them
+-- a `usize` can count the items
 abbrev pub CanCount : {X : Type 0} → List X → Type 0
 CanCount S = length S < 2 ^ 64

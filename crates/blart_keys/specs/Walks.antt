@@ -14,7 +14,7 @@ abbrev pub TakesLast : {X : Type 0} → List X → Option X → List X → Type 
 TakesLast old None new = (old ≡ []) × (new ≡ [])
 TakesLast old (Some x) new = old ≡ new ++ x ∷ []
 
--- of the whole, these were returned from the front and these from the back, and the rest is left
+-- `fronts` were returned from the front of `whole`, and `backs` from the back; `rest` is left
 abbrev pub Walked : {X : Type 0} → List X → List X → List X → List X → Type 0
 Walked whole fronts backs rest = whole ≡ fronts ++ (rest ++ reverse backs)
 
@@ -38,7 +38,7 @@ AllFalse [] = ⊤
 AllFalse (b ∷ answers) = (b ≡ false) × AllFalse answers
 
 module _ {F X : Type 0} (R : F → X → Bool → X → F → Type 0) where
-  -- `retain`: the closure is called on each item, and the items stay for which it returns true
+  -- `retain`: the closure is called on each item, and the items for which it returns true are kept
   pub record Retains (old : List X) (f : F) (new : List X) : Type 0 where
     pub answers : List Bool
     pub left : List X
@@ -53,7 +53,7 @@ module _ {F X : Type 0} (R : F → X → Bool → X → F → Type 0) where
 
   -- One `next` of `extract_if`, from the state f to g. The closure is called on the items that are
   -- left, up to the first for which it returns true, which is removed as the closure left it. The
-  -- items before it stay as the closure left them, and the rest is left
+  -- items before it are kept as the closure left them, and the rest is left
   pub record ExtractsFirst (coming : List X) (f : F) (result : Option X) (kept : List X) (rest : List X) (g : F) : Type 0 where
     pub before : List X
     pub answers : List Bool

@@ -1,4 +1,4 @@
--- Where a query goes once the first pair, or the last, is gone.
+-- What a query finds after the first pair, or the last, is removed.
 use Rattle.std.proofs.Common.{◌≡◌, ℕ, Some, None, List, [], ◌∷◌, ◌++◌, refl, sym, subst, inl, append-nil, if◌then◌else◌}
 use Rattle.std.proofs.Math.Bool.{and-true}
 use Rattle.blart_keys.specs.Bytes.{begins}
@@ -11,11 +11,11 @@ use Rattle.blart_keys.proofs.RankLemmas.{Member-append_right}
 use Rattle.blart_keys.proofs.StoredLemmas.{pair_at-member, routes_without}
 
 module _ {K V : Type 0} (kb : K → List ℕ) where
-  -- where a query goes that went to any of S, once p is gone
+  -- a query finds what it found in S, but it finds nothing if it begins with the bytes of p
   abbrev pub RoutesBut : List (K × V) → K × V → List (K × V) → Type 0
   RoutesBut S p S' = (r : List ℕ) → pair_at_front kb S' r ≡ (if begins (kb p.0) r then None else pair_at_front kb S r)
 
-  -- the pair between others
+  -- a pair between others is removed
   routes_cut : (A B : List (K × V)) (p : K × V) → IsContent (bytes kb) (A ++ p ∷ B) → RoutesBut (A ++ p ∷ B) p (A ++ B)
   routes_cut A B p content r =
       let S : List (K × V) = A ++ p ∷ B in

@@ -1,4 +1,4 @@
--- What walks that take make of the pairs, and closures that choose.
+-- What walks that take pairs leave, and closures that choose.
 pub mod Filtered
 pub mod OnceExtracted
 pub mod OnceTaken

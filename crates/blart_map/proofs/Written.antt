@@ -1,4 +1,4 @@
--- What walks that lend make of the pairs, and closures that write.
+-- What walks that lend values leave, and closures that write.
 pub mod CallableInTurn
 pub mod CountedPairs
 pub mod EachWritten

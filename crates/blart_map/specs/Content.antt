@@ -1,4 +1,4 @@
--- What a map is seen as: its pairs in byte order, each under its leaf's number.
+-- What contracts see of a map: its pairs in byte order, each under its leaf's number.
 use Rattle.std.specs.Prelude.{List}
 pub use Rattle.art_tree.specs.Leaves.{Numbered}
 use Rattle.art_tree.specs.Pairs.{pairs_of}

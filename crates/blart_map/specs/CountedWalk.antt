@@ -23,7 +23,7 @@ counted_last s = s.lent
 abbrev pub counted_left : {K V M : Type 0} {p : ℕ} {g : Ghosts K} → CountedWalk K V M p g → List (Numbered K V)
 counted_left s = leaves_left s.cursor s.map.now
 
--- S is what the map holds, and all of it is still to be lent
+-- the map holds S, and the values of all its pairs are still to be lent
 abbrev pub LendsAll : {K V M : Type 0} {p : ℕ} {g : Ghosts K} → CountedWalk K V M p g → List (Numbered K V) → Type 0
 LendsAll s S = (s.map.now ≡ S) × (counted_left s ≡ S)
 
@@ -42,14 +42,14 @@ module _ (K V M P : RattleType) (g : Ghosts K.Denot) where
   abbrev pub walk_row : RattleType
   walk_row = the_row (record { mir = named 1; lft = [] }) K V M P g
 
-  -- once the borrow r ends, the first value that was left is the last one written through r
+  -- once the borrow r ends, the first pair that was left has the last value written through r
   abbrev pub lends_first : MutBor walk_row.Denot → Option (MutBor V.Denot) → Fml
   lends_first s r =
       LendsSo walk_row V s r
       (λ n w. ForSome r (λ x. (n.map.ghost_name ≡ s.now.map.ghost_name) × LentFirst s.now.map.now n.map.now (counted_left s.now) (counted_left n) n.lent x.now w))
       (λ n. ForNone r ((n.map.ghost_name ≡ s.now.map.ghost_name) × NoneLent s.now.map.now n.map.now (counted_left s.now) (counted_left n) s.now.lent n.lent))
 
-  -- the same of the last
+  -- the same for the last pair
   abbrev pub lends_last : MutBor walk_row.Denot → Option (MutBor V.Denot) → Fml
   lends_last s r =
       LendsSo walk_row V s r

@@ -1,2 +1,2 @@
--- What a walk that lends values leaves, where a closure is called at each of them.
+-- What a walk that lends values leaves, if a closure is called on each of them.
 pub use Rattle.art_walk.specs.EachWritten.{CalledAtEach, SomeCallAt, CallableInTurn, with_values, with_values_where, written_with, WritesLeft, WritesEach, WritesWhere, LeavesValue, TakesAtValue, ActsOnValue, LeavesPair, TakesAtPair, ActsOnPair, ActsWhere}

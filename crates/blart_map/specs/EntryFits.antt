@@ -1,4 +1,4 @@
--- That an entry fits in memory, which a function that is generic over the key type has to be told.
+-- That an entry fits in memory. A function that is generic over the key type has to be told.
 use Rattle.std.specs.Prelude.{[]}
 use Rattle.std.specs.Borrow.{RattleType}
 use Rattle.std.specs.Mem.{FitsInMemory}

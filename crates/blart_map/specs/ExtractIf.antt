@@ -7,7 +7,7 @@ use Rattle.blart_keys.specs.declared.AsBytes.{Ghosts}
 use Rattle.art_tree.specs.Leaves.{Numbered}
 use Rattle.art_tree.specs.Pairs.{pairs_of}
 use Rattle.art_walk.specs.Cursor.{leaves_left}
--- where such a walk stands, and which pair it takes out
+-- the state of such a walk, and which pair it extracts
 pub use Rattle.art_walk.specs.Extracting.{Extraction, stands_at, ExtractsFirstTrue}
 use Rattle.blart_map.specs.declared.walks.extract_if.ExtractIf.{ExtractIf}
 
@@ -19,7 +19,7 @@ extract_map s = s.map
 abbrev pub extract_pred : {K V F : Type 0} {p : ℕ} {g : Ghosts K} → ExtractIf K V F p g → F
 extract_pred s = s.pred
 
--- the pairs that the closure may still be asked about
+-- the pairs on which the closure may still be called
 abbrev pub extract_left : {K V F : Type 0} {p : ℕ} {g : Ghosts K} → ExtractIf K V F p g → List (Numbered K V)
 extract_left s = leaves_left s.cursor s.map.now
 
@@ -36,6 +36,6 @@ module _ {K V F : Type 0} {p : ℕ} {k : Ghosts K} (g : Mut F (Bor K × (MutBor 
   abbrev pub ExtractsNext : ExtractIf K V F p k → Option (K × V) → ExtractIf K V F p k → Type 0
   ExtractsNext s result t = (t.map.ghost_name ≡ s.map.ghost_name) × ExtractsFirstTrue g (stands_at s.map.now s.pred (extract_left s)) result (stands_at t.map.now t.pred (extract_left t))
 
-  -- one `next_back`, which asks from the last pair on
+  -- one `next_back`, which calls the closure from the last pair on
   abbrev pub ExtractsNextBack : ExtractIf K V F p k → Option (K × V) → ExtractIf K V F p k → Type 0
   ExtractsNextBack s result t = (t.map.ghost_name ≡ s.map.ghost_name) × ExtractsFirstTrue g (stands_at s.map.now s.pred (reverse (extract_left s))) result (stands_at t.map.now t.pred (reverse (extract_left t)))

@@ -12,7 +12,7 @@ use Rattle.blart_map.specs.Entry.{Occupied, entry_pair, entry_bytes}
 use Rattle.blart_map.specs.declared.occupied.OccupiedEntry.{OccupiedEntry}
 use Rattle.blart_map.specs.declared.inner.InnerOccupiedEntry.{InnerOccupiedEntry}
 
--- the only item of a list that has one
+-- the item of a list with just one item
 abbrev pub only : {X : Type 0} → List X → Option X
 only [] = None
 only (x ∷ []) = Some x
@@ -23,7 +23,7 @@ module _ {K V T : Type 0} {P : ℕ} {g : Ghosts K} where
   abbrev pub inner_ref : InnerOccupiedEntry K V P T g → MutBor (List (Numbered K V))
   inner_ref e = e.map
 
-  -- the key that was handed in
+  -- the given key
   abbrev pub inner_key : InnerOccupiedEntry K V P T g → K
   inner_key e = e.key
 
@@ -31,11 +31,11 @@ module _ {K V T : Type 0} {P : ℕ} {g : Ghosts K} where
   abbrev pub related_pairs : InnerOccupiedEntry K V P T g → List (K × V)
   related_pairs e = subtree (pair_bytes g.bytes) (pairs e.map.now) (g.bytes e.key)
 
-  -- the only one of them
+  -- the related pair, if there is just one
   abbrev pub inner_pair : InnerOccupiedEntry K V P T g → Option (K × V)
   inner_pair e = only (related_pairs e)
 
-  -- d is the entry, whose map has these pairs now
+  -- d is the entry e, and its map has the pairs n
   pub record IsInnerWith (e : InnerOccupiedEntry K V P T g) (n : List (Numbered K V)) (d : InnerOccupiedEntry K V P T g) : Type 0 where
     pub same_map : d.map.ghost_name ≡ e.map.ghost_name
     pub now : d.map.now ≡ n
@@ -43,23 +43,23 @@ module _ {K V T : Type 0} {P : ℕ} {g : Ghosts K} where
     pub same_first : d.first ≡ e.first
     pub same_last : d.last ≡ e.last
 
-  -- the pairs, once the first to which the key is related has the value w
+  -- the pairs, once the first related pair has the value w
   abbrev pub inner_with : InnerOccupiedEntry K V P T g → V → List (Numbered K V)
   inner_with e w = with_value e.map.now e.first w
 
-  -- if there is only one of them, it has the value w, all else is as it was
+  -- if there is just one related pair, it has the value w in n, and all else is unchanged
   abbrev pub IsOnlyWritten : InnerOccupiedEntry K V P T g → V → List (Numbered K V) → Type 0
   IsOnlyWritten e w n = IfSome (inner_pair e) (λ p. Updates g.bytes (pairs e.map.now) (pairs n) (g.bytes p.0) (Some (p.0, w)) × (length (pairs n) ≡ length (pairs e.map.now)))
 
-  -- the key has the value w, in the place of all pairs to which it was related: as its users see it, and as a list
+  -- the key has the value w in the place of all related pairs: as users see it, and as a list
   abbrev pub IsOverSet : InnerOccupiedEntry K V P T g → V → List (Numbered K V) → Type 0
   IsOverSet e w n = Overwrites g.bytes (pairs e.map.now) (e.key, w) (pairs n) × (value_at g.bytes (pairs n) (g.bytes e.key) ≡ Some w) × IsOver (pair_bytes g.bytes) (pairs e.map.now) (e.key, w) (pairs n)
 
-  -- the pairs, once the key has the value w under the number of the last to which it was related, and no other of these is left
+  -- the pairs, once the key has the value w under the last related pair's number, and no other related pair is left
   abbrev pub over_leaf : InnerOccupiedEntry K V P T g → V → List (Numbered K V)
   over_leaf e w = with_pair (thinned g.bytes e.map.now (g.bytes e.key) e.last) e.last (e.key, w)
 
-  -- o is the entry of the key, once it has the value w in the place of all pairs to which it was related
+  -- o is the entry of the key, once the key has the value w in the place of all related pairs
   pub record IsOverEntry (e : InnerOccupiedEntry K V P T g) (w : V) (o : OccupiedEntry K V P T g) : Type 0 where
     pub same_map : o.map.ghost_name ≡ e.map.ghost_name
     pub set : IsOverSet e w o.map.now

@@ -22,7 +22,7 @@ lending_last s = s.lent
 abbrev pub lending_left : {K V M : Type 0} {p : ℕ} {g : Ghosts K} → LendingWalk K V M p g → List (Numbered K V)
 lending_left s = leaves_left s.cursor s.map.now
 
--- S is what the map holds, and of it the pairs that pass the test are still to be lent
+-- the map holds S, and the values of its pairs that pass the test are still to be lent
 abbrev pub LendsWhere : {K V M : Type 0} {p : ℕ} {g : Ghosts K} → LendingWalk K V M p g → (K × V → Bool) → List (Numbered K V) → Type 0
 LendsWhere s test S = (s.map.now ≡ S) × (lending_left s ≡ filter (λ p. test p.1) S)
 
@@ -40,14 +40,14 @@ module _ (K V M P : RattleType) (g : Ghosts K.Denot) where
   abbrev pub walk_row : RattleType
   walk_row = the_row (record { mir = named 1; lft = [] }) K V M P g
 
-  -- once the borrow r ends, the first value that was left is the last one written through r
+  -- once the borrow r ends, the first pair that was left has the last value written through r
   abbrev pub lends_first : MutBor walk_row.Denot → Option (MutBor V.Denot) → Fml
   lends_first s r =
       LendsSo walk_row V s r
       (λ n w. ForSome r (λ x. (n.map.ghost_name ≡ s.now.map.ghost_name) × LentFirst s.now.map.now n.map.now (lending_left s.now) (lending_left n) n.lent x.now w))
       (λ n. ForNone r ((n.map.ghost_name ≡ s.now.map.ghost_name) × NoneLent s.now.map.now n.map.now (lending_left s.now) (lending_left n) s.now.lent n.lent))
 
-  -- the same of the last
+  -- the same for the last pair
   abbrev pub lends_last : MutBor walk_row.Denot → Option (MutBor V.Denot) → Fml
   lends_last s r =
       LendsSo walk_row V s r

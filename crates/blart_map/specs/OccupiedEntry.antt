@@ -7,7 +7,7 @@ use Rattle.art_tree.specs.Leaves.{Numbered, Has, with_value}
 use Rattle.blart_map.specs.declared.occupied.OccupiedEntry.{OccupiedEntry}
 
 module _ {K V : Type 0} where
-  -- a number names a pair once a value is written
+  -- a number that names a pair still names one once a value is written
   pub Has-with_value : (ps : List (Numbered K V)) (i : ℕ) (v : V) (j : ℕ) → Has ps j → Has (with_value ps i v) j
   Has-with_value [] i v j h = h
   Has-with_value (p ∷ ps) i v j h = elim (eqb_tells p.0 i) [

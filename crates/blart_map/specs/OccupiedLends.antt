@@ -1,4 +1,4 @@
--- What an occupied entry ends as, where a `&mut` to its value is returned.
+-- What an occupied entry is once a returned `&mut` to its value ends.
 use Rattle.std.specs.Prelude.{[]}
 use Rattle.std.specs.Borrow.{Fml, RattleType, MutBor, follows}
 use mir.Syntax.{named}

@@ -22,27 +22,27 @@ module _ {K V T : Type 0} {P : ℕ} {g : Ghosts K} where
   occupied_ref (Leaf o) = o.map
   occupied_ref (Inner e) = e.map
 
-  -- the pair that is stored, or else the only one to which the key is related
+  -- the stored pair, or else the related pair if there is just one
   abbrev pub occupied_pair : PrefixOccupied K V P T g → Option (K × V)
   occupied_pair (Leaf o) = entry_pair (entry.Occupied o)
   occupied_pair (Inner e) = inner_pair e
 
-  -- the stored key, or the one that was handed in
+  -- the stored key, or the given key
   abbrev pub occupied_key : PrefixOccupied K V P T g → Option K
   occupied_key (Leaf o) = entry_key (entry.Occupied o)
   occupied_key (Inner e) = Some e.key
 
-  -- o is the entry of the key, once w was set there, over all pairs to which it was related
+  -- o is the entry of the key, once w is its value, in the place of all related pairs
   abbrev pub IsOccupiedSet : PrefixOccupied K V P T g → V → OccupiedEntry K V P T g → Type 0
   IsOccupiedSet (Leaf p) w o = IsSetEntry (entry.Occupied p) w o
   IsOccupiedSet (Inner e) w o = IsOverEntry e w o
 
-  -- the pairs of the map, once w is the value of the key, over all pairs to which it was related
+  -- the pairs of the map, once w is the value of the key, in the place of all related pairs
   abbrev pub occupied_with : PrefixOccupied K V P T g → V → List (Numbered K V)
   occupied_with (Leaf o) w = with_value o.map.now o.id w
   occupied_with (Inner e) w = over_leaf e w
 
-  -- the same as users see it
+  -- n are these pairs, as users see it
   abbrev pub IsOccupiedWritten : PrefixOccupied K V P T g → V → List (Numbered K V) → Type 0
   IsOccupiedWritten (Leaf o) w n = SetsValue (entry.Occupied o) w n
   IsOccupiedWritten (Inner e) w n = IsOverSet e w n
@@ -58,7 +58,7 @@ module _ {K V T : Type 0} {P : ℕ} {g : Ghosts K} where
   prefix_bytes (Occupied (Inner e)) = g.bytes e.key
   prefix_bytes (Vacant e) = g.bytes e.key
 
-  -- the pair that is stored
+  -- the stored pair
   abbrev pub prefix_pair : PrefixEntry K V P T g → Option (K × V)
   prefix_pair (Occupied (Leaf o)) = entry_pair (entry.Occupied o)
   prefix_pair (Occupied (Inner e)) = None
@@ -68,12 +68,12 @@ module _ {K V T : Type 0} {P : ℕ} {g : Ghosts K} where
   abbrev pub prefix_value : PrefixEntry K V P T g → Option V
   prefix_value e = option_map (λ p. p.1) (prefix_pair e)
 
-  -- the stored key, or the one that was handed in
+  -- the stored key, or the given key
   abbrev pub prefix_key : PrefixEntry K V P T g → Option K
   prefix_key (Occupied p) = occupied_key p
   prefix_key (Vacant e) = Some e.key
 
-  -- the stored key, or that of the only related pair, or the one that was handed in where there is none
+  -- the stored key, or that of the only related pair, or the given key if no pair is related
   abbrev pub prefix_found : PrefixEntry K V P T g → Option K
   prefix_found (Occupied p) = option_map (λ p. p.0) (occupied_pair p)
   prefix_found (Vacant e) = Some e.key
@@ -90,7 +90,7 @@ module _ {K V T : Type 0} {P : ℕ} {g : Ghosts K} where
   prefix_is_inner (Occupied (Inner e)) = true
   prefix_is_inner (Vacant e) = false
 
-  -- e is the entry of the key in these pairs
+  -- e is the entry of the key in the pairs S
   pub record IsPrefixEntryFor (S : List (K × V)) (key : K) (e : PrefixEntry K V P T g) : Type 0 where
     pub same_bytes : prefix_bytes e ≡ g.bytes key
     pub pair : prefix_pair e ≡ pair_at g.bytes S (g.bytes key)
@@ -98,18 +98,18 @@ module _ {K V T : Type 0} {P : ℕ} {g : Ghosts K} where
     pub inner : prefix_is_inner e ≡ overlaps g.bytes S (g.bytes key)
     pub fresh : prefix_pair e ≡ None → prefix_key e ≡ Some key
 
-  -- o is the entry of the key, once w was set there, over all pairs to which it was related
+  -- o is the entry of the key, once w is its value, in the place of all related pairs
   abbrev pub IsPrefixSet : PrefixEntry K V P T g → V → OccupiedEntry K V P T g → Type 0
   IsPrefixSet (Occupied p) w o = IsOccupiedSet p w o
   IsPrefixSet (Vacant e) w o = IsSetEntry (entry.Vacant e) w o
 
-  -- o is the entry of the stored pair, or that of the key once w was set there
+  -- o is the entry of the stored pair, or else the entry of the key once w is its value
   abbrev pub IsPrefixKeptOrSet : PrefixEntry K V P T g → V → OccupiedEntry K V P T g → Type 0
   IsPrefixKeptOrSet (Occupied (Leaf p)) w o = o ≡ p
   IsPrefixKeptOrSet (Occupied (Inner e)) w o = IsOverEntry e w o
   IsPrefixKeptOrSet (Vacant e) w o = IsSetEntry (entry.Vacant e) w o
 
-  -- o is the entry of the stored pair, or that of the key once a value of this kind was set there
+  -- the same for some value w with `Made w`
   abbrev pub IsPrefixKeptOrMade : PrefixEntry K V P T g → (V → Type 0) → OccupiedEntry K V P T g → Type 0
   IsPrefixKeptOrMade (Occupied (Leaf p)) Made o = o ≡ p
   IsPrefixKeptOrMade (Occupied (Inner e)) Made o = (w : V) × Made w × IsOverEntry e w o

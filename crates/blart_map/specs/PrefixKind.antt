@@ -26,13 +26,13 @@ module _ {K V T : Type 0} {P : ℕ} {g : Ghosts K} where
   kind_bytes (Inner e) = g.bytes e.key
   kind_bytes (Vacant e) = g.bytes e.key
 
-  -- the pair that is stored
+  -- the stored pair
   abbrev pub kind_pair : PrefixKind K V P T g → Option (K × V)
   kind_pair (Leaf o) = entry_pair (Occupied o)
   kind_pair (Inner e) = None
   kind_pair (Vacant e) = None
 
-  -- the stored key, or the one that was handed in
+  -- the stored key, or the given key
   abbrev pub kind_key : PrefixKind K V P T g → Option K
   kind_key (Leaf o) = entry_key (Occupied o)
   kind_key (Inner e) = Some e.key
@@ -54,25 +54,25 @@ module _ {K V T : Type 0} {P : ℕ} {g : Ghosts K} where
   kind_kind (Inner e) = Kind.Inner
   kind_kind (Vacant e) = Kind.Vacant
 
-  -- the pairs, once w is the value of the key, over all pairs to which it was related
+  -- n are the pairs once w is the value of the key, in the place of all related pairs
   abbrev pub IsKindSet : PrefixKind K V P T g → V → List (Numbered K V) → Type 0
   IsKindSet (Leaf o) w n = SetsValue (entry.Occupied o) w n
   IsKindSet (Inner e) w n = IsOverSet e w n
   IsKindSet (Vacant e) w n = SetsValue (entry.Vacant e) w n
 
-  -- o is the entry of the key, once w was set there, over all pairs to which it was related
+  -- o is the entry of the key, once w is its value, in the place of all related pairs
   abbrev pub IsKindSetEntry : PrefixKind K V P T g → V → OccupiedEntry K V P T g → Type 0
   IsKindSetEntry (Leaf p) w o = IsSetEntry (entry.Occupied p) w o
   IsKindSetEntry (Inner e) w o = IsOverEntry e w o
   IsKindSetEntry (Vacant e) w o = IsSetEntry (entry.Vacant e) w o
 
-  -- o is the entry of the stored pair, or that of the key once w was set there
+  -- o is the entry of the stored pair, or else the entry of the key once w is its value
   abbrev pub IsKindKeptOrSet : PrefixKind K V P T g → V → OccupiedEntry K V P T g → Type 0
   IsKindKeptOrSet (Leaf p) w o = o ≡ p
   IsKindKeptOrSet (Inner e) w o = IsOverEntry e w o
   IsKindKeptOrSet (Vacant e) w o = IsSetEntry (entry.Vacant e) w o
 
-  -- o is the entry of the stored pair, or that of the key once a value of this kind was set there
+  -- the same for some value w with `Made w`
   abbrev pub IsKindKeptOrMade : PrefixKind K V P T g → (V → Type 0) → OccupiedEntry K V P T g → Type 0
   IsKindKeptOrMade (Leaf p) Made o = o ≡ p
   IsKindKeptOrMade (Inner e) Made o = (w : V) × Made w × IsOverEntry e w o

@@ -7,11 +7,11 @@ use Rattle.blart_map.specs.contracts.map.TreeMap as tree_map
 use Rattle.blart_map.specs.declared.reserved.Room.{Room}
 use Rattle.blart_map.specs.declared.reserved.Reserved.{Reserved}
 
--- the reference to what was lent to the guard
+-- the reference to the map or set that the guard holds
 abbrev pub reserved_map : {M R : Type 0} → Reserved M R → MutBor M
 reserved_map s = s.map
 
--- what the guard holds meanwhile
+-- what the guard holds until it ends
 abbrev pub reserved_room : {M R : Type 0} → Reserved M R → R
 reserved_room s = s.room
 
@@ -24,19 +24,19 @@ module _ {K V : Type 0} {P : ℕ} {g : Ghosts K} where
   abbrev pub room_pairs : Room K V P g → List (K × V)
   room_pairs r = pairs (room_leaves r)
 
-  -- for how many pairs there is room
+  -- the number of pairs for which there is room
   abbrev pub room_count : Room K V P g → ℕ
   room_count r = r.left
 
-  -- the pairs that the map has once the guard is gone
+  -- the pairs that the map has once the guard ends
   abbrev pub held : {M : Type 0} → Reserved M (Room K V P g) → List (K × V)
   held s = room_pairs s.room
 
-  -- the same of the guard: for how many pairs there is room
+  -- the number of pairs for which the guard has room
   abbrev pub room_left : {M : Type 0} → Reserved M (Room K V P g) → ℕ
   room_left s = s.room.left
 
 module _ (K V P : RattleType) (g : Ghosts K.Denot) where
-  -- where there is no guard, the map stands
+  -- if r has no guard, the map is unchanged
   abbrev pub rests_if_full : {R E : Type 0} → MutBor (List (Numbered K.Denot V.Denot)) → Result (Reserved (List (Numbered K.Denot V.Denot)) R) E → Fml
   rests_if_full s r = RestsIfErr (tree_map.the_row K V P g) s (λ o. o.map.ghost_name) r (λ n. n ≡ s.now)

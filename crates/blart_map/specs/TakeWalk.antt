@@ -7,7 +7,7 @@ use Rattle.blart_keys.specs.declared.AsBytes.{Ghosts}
 use Rattle.art_tree.specs.Leaves.{Numbered}
 use Rattle.art_walk.specs.Cursor.{leaves_left}
 use Rattle.art_walk.specs.Lent.{written_last, fits_written}
--- what the end of a loan tells: which pair was lent, and what is still to come
+-- what is true once a loan ends: which pair was lent, and which are left
 pub use Rattle.art_walk.specs.Lent.{LentFirst, LentLast, NoneLent}
 use Rattle.blart_map.specs.declared.walks.take_walk.TakeWalk.{TakeWalk}
 use Rattle.blart_map.specs.contracts.walks.take_walk.TakeWalk.{the_row}
@@ -37,14 +37,14 @@ module _ (K V P : RattleType) (g : Ghosts K.Denot) where
   abbrev pub walk_row : RattleType
   walk_row = the_row (record { mir = named 1; lft = [] }) K V P g
 
-  -- once the borrow r ends, the first value that was left is the last one written through r
+  -- once the borrow r ends, the first pair that was left has the last value written through r
   abbrev pub lends_first : MutBor walk_row.Denot → Option (MutBor V.Denot) → Fml
   lends_first s r =
       LendsSo walk_row V s r
       (λ n w. ForSome r (λ x. (n.map.ghost_name ≡ s.now.map.ghost_name) × LentFirst s.now.map.now n.map.now (take_left s.now) (take_left n) n.lent x.now w))
       (λ n. ForNone r ((n.map.ghost_name ≡ s.now.map.ghost_name) × NoneLent s.now.map.now n.map.now (take_left s.now) (take_left n) s.now.lent n.lent))
 
-  -- the same of the last
+  -- the same for the last pair
   abbrev pub lends_last : MutBor walk_row.Denot → Option (MutBor V.Denot) → Fml
   lends_last s r =
       LendsSo walk_row V s r

@@ -1,4 +1,4 @@
--- A closure that may be called at each element of a list, in turn.
+-- A closure that may be called on each element of a list, in turn.
 use Rattle.std.proofs.Common.{◌≡◌, ◌∙◌, List, [], ◌∷◌, Bool, refl, sym, ap, subst}
 use Rattle.std.specs.Fn.{CalledAt, TakesAt}
 use Rattle.std.specs.List.{All, FoldsTo}
@@ -10,11 +10,11 @@ use Rattle.blart_map.proofs.Beneath.{middle}
 
 module _ {F K : Type 0} (g : Mut F (Bor K × Unit {0}) Bool) where
   module _ (f : F) (x : K) (xs rest : List K) (first : xs ≡ x ∷ rest) (can : CallableOnEachElement g f xs) where
-    -- at the first
+    -- on the first
     pub callable_first : TakesAt g f x
     callable_first = can.at [] rest f x first refl
 
-    -- and then at the others, as that call left it
+    -- and then on the others, in the state that this call left
     pub callable_others : (b : Bool) (h : F) → CalledAt g f x b h → (others : List K) → others ≡ rest → CallableOnEachElement g h others
     callable_others b h call others same = record { at = λ before after f' y e r. can.at (x ∷ before) after f' y (first ∙ ap (λ l. x ∷ l) (sym same ∙ e)) (h, (b, call), r) }
 
@@ -22,10 +22,10 @@ module _ {F K : Type 0} (g : Mut F (Bor K × Unit {0}) Bool) where
   still [] f f' e h = subst (always_mut g) e h
   still (x ∷ before) f f' r h = still before r.0 f' r.2 (mut_next g f _ _ _ _ r.1.1.called refl h)
 
-  -- one that may always be called
+  -- a closure that may always be called
   pub callable_on_each_element : (f : F) (xs : List K) → always_mut g f → CallableOnEachElement g f xs
   callable_on_each_element f xs h = record { at = λ before after f' x e r y same. ((still before f f' r h).at ((y, tt) ∷ [])).0 }
 
-  -- one that may be called in any state at an element for which P holds, where it holds for all
+  -- a closure that may be called in any state on an element for which P holds, if P holds for all
   pub callable_on_such_elements : (P : K → Type 0) → ((f : F) (x : K) → P x → TakesAt g f x) → (f : F) (xs : List K) → All P xs → CallableOnEachElement g f xs
   callable_on_such_elements P takes f xs all = record { at = λ before after f' x e r. takes f' x (middle P before after x (subst (All P) e all)) }

@@ -20,7 +20,7 @@ use Rattle.blart_set.specs.Clones.{KeepsBytes, AreElementClones}
 abbrev pub now : {A : Type 0} → Bor A → A
 now x = x.now
 
--- an iterator whose state shows what is left gives that
+-- an iterator returns what its state shows as left
 pub all_drained : {S A : Type 0} (rest : S → List A) (s : S) (xs : List (Bor A)) → Drains (YieldsFirstRef rest) s xs → map (λ x. x.now) xs ≡ rest s
 all_drained rest s [] d = sym (ap rest d.1.1 ∙ d.1.2.0)
 all_drained rest s (x ∷ xs) d = ap (λ l. x.now ∷ l) (all_drained rest d.1.1.0 xs (d.0, (d.1.0, d.1.1.2, d.1.2))) ∙ sym d.1.1.1
@@ -28,7 +28,7 @@ all_drained rest s (x ∷ xs) d = ap (λ l. x.now ∷ l) (all_drained rest d.1.1
 module _ {K : Type 0} (kb : K → List ℕ) where
   -- ---- elements that ascend, put in turn
 
-  -- one that is after all is put last
+  -- an element that is after all others is put last
   put_last : (T : List K) (y : K) (T' : List K) → Ranked (Lower kb) (T ++ y ∷ []) → IsPut kb T y T' → T' ≡ T ++ y ∷ []
   put_last T y T' r put = same_ascending kb T' (T ++ y ∷ []) put.content.ascends (AllPairs-from_Ranked (Lower kb) (T ++ y ∷ []) r) (λ x. (
     λ m. Contains-from_Member x (T ++ y ∷ []) (elim (put_member kb T T' y x put (Member-from_Contains x T' m)) [
@@ -46,7 +46,7 @@ module _ {K : Type 0} (kb : K → List ℕ) where
   new_after : (T : List K) (y : K) → Ranked (Lower kb) (T ++ y ∷ []) → at kb T (kb y) ≡ None
   new_after T y r = at_absent kb T (kb y) (λ x m e. false≢true (sym (less-irrefl (kb y)) ∙ subst (λ q. less q (kb y) ≡ true) e (Ranked-across (Lower kb) T (y ∷ []) r x y m (inl refl))))
 
-  -- all of them are there then, in order
+  -- then all of them are there, in order
   pub puts_in_order : (T ys S : List K) → Ranked (Lower kb) (T ++ ys) → PutsAll kb kept_item T ys S → S ≡ T ++ ys
   puts_in_order T [] S r h = h ∙ sym (append-nil T)
   puts_in_order T (y ∷ ys) S r h =
@@ -72,14 +72,14 @@ module _ {K : Type 0} (kb : K → List ℕ) where
     clones_below x y (z ∷ xs) (w ∷ ys) e h l =
         (subst (λ q. less q (kb w) ≡ true) (sym e) (subst (λ q. less (kb x) q ≡ true) (sym h.0.bytes) l.0), clones_below x y xs ys e h.1 l.1)
 
-    -- clones of elements that ascend do so too
+    -- if elements ascend, so do their clones
     clones_ranked : (xs ys : List K) → AreElementClones kb is_clone xs ys → Ranked (Lower kb) xs → Ranked (Lower kb) ys
     clones_ranked [] [] h r = tt
     clones_ranked [] (y ∷ ys) h r = absurd h
     clones_ranked (x ∷ xs) [] h r = absurd h
     clones_ranked (x ∷ xs) (y ∷ ys) h r = (clones_below x y xs ys h.0.bytes h.1 r.0, clones_ranked xs ys h.1 r.1)
 
-    -- a set into which clones were put of what an iterator gave, whose state shows that it gives U
+    -- a set with clones of what an iterator returned, if its state shows that it returns U
     module _ {S A E : Type 0} (elements : A → List K) (rest : S → List K) (s : S) (U : List K) (shows : rest s ≡ U) (ascends : Ascends kb U) (keeps : KeepsBytes kb is_clone U) where
       pub all_cloned : (r : Result A E)
           → IfOk r (λ set. (xs : List (Bor K)) × (ys : List K) × Drains (YieldsFirstRef rest) s xs × AllZip is_clone (map (λ x. x.now) xs) ys × PutsAll kb kept_item [] ys (elements set))
@@ -91,14 +91,14 @@ module _ {K : Type 0} (kb : K → List ℕ) where
           subst (AreElementClones kb is_clone U) (sym (puts_in_order [] h.1 (elements set) (clones_ranked U h.1 clones (Ranked-from_AllPairs (Lower kb) U ascends)) h.4)) clones
       all_cloned (Err e) h n = λ none. (let c : n.0.now ∷ rest n.1 ≡ [] = sym n.2 ∙ shows ∙ none in absurd cc)
 
--- where an error says that there are clones, a first item came
+-- if an error says that there are clones, a first item was yielded
 pub cloned_some : {I A B C E : Type 0} (steps : I → Option A → I → Type 0) (R : C → B → Type 0) (f : A → C) (s : I) (xs : List A) (t : I) (ys : List B) {D : Type 0} (r : Result D E) → Yields steps s xs t → AllZip R (map f xs) ys → OnErr r (ys ≢ []) → OnErr r ((y : A) × (u : I) × steps s (Some y) u)
 cloned_some steps R f s xs t ys (Ok b) h z some = some
 cloned_some steps R f s [] t [] (Err e) h z some = absurd (some refl)
 cloned_some steps R f s [] t (y ∷ ys) (Err e) h z some = absurd z
 cloned_some steps R f s (x ∷ xs) t ys (Err e) h z some = (x, h.0, h.1)
 
--- what holds anyway holds at an error
+-- what holds in any case holds at an error
 pub on_err : {A E P : Type 0} (r : Result A E) → P → OnErr r P
 on_err (Ok a) p = tt
 on_err (Err e) p = p

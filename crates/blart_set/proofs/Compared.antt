@@ -1,4 +1,4 @@
--- Comparisons of the pairs of two maps of units, which are those of their keys.
+-- Comparisons of the pairs of two maps of units are comparisons of their keys.
 use Rattle.std.proofs.Common.{◌≡◌, ℕ, ◌&&◌, Bool, true, List, [], ◌∷◌, ◌++◌, map, length, refl, sym, ap, ◌∙◌, Option, Some, None, Ordering, Less, Equal, Greater, append-nil}
 use Rattle.std.proofs.Math.Bool.{and-true}
 use Rattle.std.proofs.lemmas.List.{length-map}

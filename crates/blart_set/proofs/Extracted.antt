@@ -1,4 +1,4 @@
--- One element of which a closure is asked.
+-- One element on which a closure is called.
 use Rattle.std.proofs.Common.{◌≡◌, ℕ, suc, ◌<◌, ◌≤◌, Bool, true, false, List, [], ◌∷◌, ◌++◌, length, map, reverse, Option, Some, None, refl, sym, ap, ◌∙◌, arith}
 use Rattle.std.proofs.lemmas.List.{map-append, reverse-append, length-reverse}
 use denote.Ref.{Bor}
@@ -13,20 +13,20 @@ use Rattle.blart_set.specs.Elements.{elements}
 use Rattle.blart_set.specs.Extracting.{AsksUpTo}
 
 module _ {F K : Type 0} (g : Mut F (Bor K × Unit {0}) Bool) where
-  -- a call at the element to which a reference leads
+  -- a call on the element to which a reference leads
   pub called_at : (f : F) (x : Bor K) (b : Bool) (h : F) → Called g f (x, tt) b h → CalledAt g f x.now b h
   called_at f x b h m = record { shown = x; shows = refl; called = m }
 
-  -- nothing is left to be asked about
+  -- there is no element for a call
   pub asks_none : (coming rest : List K) (f : F) → coming ≡ [] → rest ≡ [] → AsksUpTo g coming f None rest f
   asks_none coming rest f e l = ([], record { before = []; answers = []; between = f; asked = refl; passed = tt; end = (e, l, refl) })
 
   module _ (coming rest : List K) (x : K) (f h : F) (b : Bool) (e : coming ≡ x ∷ rest) (m : CalledAt g f x b h) where
-    -- the answer was true
+    -- the call returned true
     pub asks_true : b ≡ true → AsksUpTo g coming f (Some x) rest h
     asks_true t = ([], record { before = []; answers = []; between = f; asked = refl; passed = tt; end = (x, e, (rw t at m, refl)) })
 
-    -- it was false, and the closure is asked on
+    -- the call returned false, and the calls go on
     pub asks_false : b ≡ false → (r : Option K) (left : List K) (k : F) → AsksUpTo g rest h r left k → AsksUpTo g coming f r left k
     asks_false t r left k a =
         let y = a.1 in (
@@ -45,7 +45,7 @@ module _ {F K : Type 0} (g : Mut F (Bor K × Unit {0}) Bool) where
         on None before between left k z = (e ∙ ap (λ l. x ∷ l) z.0, z.1, z.2)
         on (Some y) before between left k z = (z.0, e ∙ ap (λ l. x ∷ l) z.1, z.2)
 
--- the elements of numbered ones
+-- the elements of a list of numbered elements
 element_first : {K : Type 0} (S T : List (Numbered K (Unit {0}))) (id : ℕ) (x : K × Unit {0}) → S ≡ (id, x) ∷ T → elements S ≡ x.0 ∷ elements T
 unfolding elements pairs
 element_first S T id x e = ap elements e
@@ -65,7 +65,7 @@ elements_none S e = ap elements e
 some_same : {X : Type 0} (x y : X) → Some x ≡ Some y → x ≡ y
 some_same x y e = cc
 
--- where the first of the reversed comes off, there is one less
+-- if the first item of the reversed list is removed, one less is left
 pub reversed_fewer : {X : Type 0} (xs ys : List X) (x : X) → reverse xs ≡ x ∷ reverse ys → suc (length ys) ≡ length xs
 reversed_fewer xs ys x e = ap suc (sym (length-reverse ys)) ∙ sym (ap length e) ∙ length-reverse xs
 

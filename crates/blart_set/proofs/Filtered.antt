@@ -1,4 +1,4 @@
--- What a closure that tells of the element alone keeps.
+-- What a closure keeps that depends on the element alone.
 use Rattle.std.proofs.Common.{◌≡◌, List, [], ◌∷◌, filter, Bool, true, false, cond, refl, ap, ◌∙◌}
 use Rattle.std.specs.Fn.{CalledAt}
 use denote.Ref.{Bor}

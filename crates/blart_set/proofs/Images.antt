@@ -24,13 +24,13 @@ module _ {X Y : Type 0} (f : X → Y) where
   items_ranked R [] h = tt
   items_ranked R (x ∷ xs) h = (items_all (R (f x)) xs h.0, items_ranked R xs h.1)
 
-  -- the images of no items are none, and of some some
+  -- if there are items, there are images
   pub some_images : (xs : List X) → xs ≢ [] → map f xs ≢ []
   some_images [] n e = n refl
   some_images (x ∷ xs) n e = absurd cc
 
   module _ (bytes : Y → List ℕ) where
-    -- items whose images are a content are one
+    -- items whose images are a content are a content by the bytes of their images
     pub items_content : (xs : List X) → IsContent bytes (map f xs) → IsContent (λ x. bytes (f x)) xs
     items_content xs c = content_from_Ranked (λ x. bytes (f x)) xs (items_ranked (Before bytes) xs (Ranked-from_content bytes (map f xs) c))
 
@@ -64,12 +64,12 @@ module _ {X Y : Type 0} (f : X → Y) where
         lacks y S x h e = sym (list_any-map f (λ z. bytes_eq (bytes z) (bytes (f x))) S) ∙ subst (λ z. stores bytes (map f S) (bytes z) ≡ false) (sym e) h
 
 module _ {K V : Type 0} (kb : K → List ℕ) where
-  -- two sets of which the second was appended to the first
+  -- if a map is appended to another, the keys are appended to the keys
   pub appended-keys : {A E : Type 0} (r : Result A E) (S T U : List (K × V)) → OnOk r (IsUnion (bytes kb) T S U) → OnOk r (IsUnion kb (keys kb T) (keys kb S) (keys kb U))
   appended-keys (Ok a) S T U u = union_images (λ p. p.0) kb T S U u
   appended-keys (Err e) S T U u = tt
 
-  -- where the one lies after the other
+  -- and if one list is after the other, the keys are joined
   pub joined-keys : {A E : Type 0} (r : Result A E) (S T U : List (K × V)) → OnOk r ((W : List (K × V)) → IsContent (bytes kb) W → W ≡ S ++ T → U ≡ W) → OnOk r ((W : List K) → IsContent kb W → W ≡ keys kb S ++ keys kb T → keys kb U ≡ W)
   joined-keys (Ok a) S T U h = λ W c e.
       let whole : W ≡ keys kb (S ++ T) = e ∙ sym (map-append (λ (p : K × V). p.0) S T) in
@@ -84,7 +84,7 @@ module _ {K V : Type 0} (kb : K → List ℕ) where
   refused-keys (Ok a) S h = tt
   refused-keys (Err e) S h = some_images (λ p. p.0) S h
 
-  -- the elements that move are the keys of the pairs that do
+  -- if pairs are within the bounds, elements are
   pub some_between-keys : (S : List (K × V)) (lo hi : Bound (List ℕ)) → between (bytes kb) S lo hi ≢ [] → between kb (keys kb S) lo hi ≢ []
   some_between-keys S lo hi n e = some_images (λ p. p.0) (between (bytes kb) S lo hi) n (sym (between-keys kb S lo hi) ∙ e)
 
@@ -92,7 +92,7 @@ module _ {K V : Type 0} (kb : K → List ℕ) where
   whole-keys S A B e = ap (keys kb) e ∙ map-append (λ (p : K × V). p.0) A B
 
   module _ (is_clone : K → K → Type 0) (is_value : V → V → Type 0) where
-    -- a clone of a key keeps its bytes where one of the element does
+    -- a clone of a key keeps its bytes if a clone of the element does
     pub keeps-keys : (S : List (K × V)) → KeepsBytes kb is_clone (keys kb S) → (k j : K) (v : V) → Contains S (k, v) → is_clone k j → kb j ≡ kb k
     keeps-keys S h k j v m c = h k j (Contains-from_Member k (keys kb S) (Member-map (λ (p : K × V). p.0) (k, v) S (Member-from_Contains (k, v) S m))) c
 

@@ -1,4 +1,4 @@
--- One element of which a closure is asked, which stays or goes.
+-- One element on which a closure is called, which is kept or removed.
 use Rattle.std.proofs.Common.{◌≡◌, ℕ, Bool, true, false, List, [], ◌∷◌, ◌++◌, refl, sym, ap, ◌∙◌, subst, append_assoc}
 use Rattle.blart_keys.specs.Content.{IsContent, without}
 use Rattle.blart_keys.proofs.PutLemmas.{without_cut}
@@ -6,7 +6,7 @@ use Rattle.blart_map.proofs.Beneath.{retains_none, retains_kept, retains_gone}
 use Rattle.blart_map.specs.Beneath.{RetainsBy}
 
 module _ {F K : Type 0} (kb : K → List ℕ) (R : F → K → Bool → K → F → Type 0) (start : List K) (start_f : F) where
-  -- of all that are in the set now these are kept, and what is left is still to be asked
+  -- `all` are the elements kept so far, and those left, on which the closure is still to be called
   pub record Retaining (all left : List K) (f : F) : Type 0 where
     pub kept : List K
     pub whole : all ≡ kept ++ left

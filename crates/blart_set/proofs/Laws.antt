@@ -13,14 +13,14 @@ use Rattle.blart_keys.proofs.MergeLemmas.{same_ascending, filter_ascends, differ
 use Rattle.blart_keys.proofs.RankLemmas.{Contains-from_Member, Member-from_Contains, filter_member, member_filter}
 use Rattle.blart_set.specs.Clones.{AreElementClones}
 use Rattle.blart_set.proofs.Orders.{less_cmp}
--- which elements a union has, and that merges are one list
+-- which elements a union has, and that merges are unique
 pub use Rattle.blart_keys.proofs.MergeLemmas.{union_parts, union_unique, symmetric_unique}
 
--- what passes is no more than all
+-- a filter of a list is not longer than the list
 pub filter_fits : {X : Type 0} (p : X → Bool) (S T : List X) → S ≡ T → (n : ℕ) → length T < n → length (filter p S) < n
 filter_fits p S T e n h = let same = ap (λ l. length l) e in let parts = length-filter_both p (λ x. not (p x)) (λ x. refl) S in omega (arith, same, parts, h)
 
--- nothing fails a test exactly where each item passes it
+-- no item fails a test if and only if each item passes it
 each_passes : {X : Type 0} (p : X → Bool) (S : List X) → (length (filter (λ x. not (p x)) S) == 0) ≡ true → All (λ x. p x ≡ true) S
 each_passes p [] h = All-nil (λ x. p x ≡ true)
 each_passes p (x ∷ S) h = elim (cases_Bool (p x)) [
@@ -36,10 +36,10 @@ module _ {X : Type 0} (bytes : X → List ℕ) where
   stored : (S : List X) (x : X) → Contains S x → stores bytes S (bytes x) ≡ true
   stored S x c = stores_member bytes S (bytes x) x (Member-from_Contains x S c) refl
 
-  -- ---- a union is the one set and the other's difference, each once
+  -- ---- a union is one set and the difference of the other, each bytes once
 
   module _ (A B U : List X) (u : IsUnion bytes A B U) where
-    -- the elements of a union whose bytes the left set has are the left set
+    -- the elements of the union whose bytes A has are A
     pub union_left : Ascends bytes A → filter (λ x. stores bytes A (bytes x)) U ≡ A
     union_left a = same_ascending bytes (filter (λ x. stores bytes A (bytes x)) U) A (filter_ascends bytes (λ x. stores bytes A (bytes x)) U u.ascends) a (λ x. (
       λ m.
@@ -48,7 +48,7 @@ module _ {X : Type 0} (bytes : X → List ℕ) where
       λ m. Contains-from_Member x (filter (λ x. stores bytes A (bytes x)) U) (member_filter (λ x. stores bytes A (bytes x)) U x (Member-from_Contains x U ((u.elements x).1 (inl m))) (stored A x m)),
     ))
 
-    -- the others are what the right set has and the left one lacks
+    -- the others are the elements of B with bytes that A lacks
     pub union_right : Ascends bytes B → filter (λ x. not (stores bytes A (bytes x))) U ≡ difference bytes B A
     union_right b = same_ascending bytes (filter (λ x. not (stores bytes A (bytes x))) U) (difference bytes B A) (filter_ascends bytes (λ x. not (stores bytes A (bytes x))) U u.ascends) (filter_ascends bytes (λ x. not (stores bytes A (bytes x))) B b) (λ x. (
       λ m.
@@ -59,7 +59,7 @@ module _ {X : Type 0} (bytes : X → List ℕ) where
           Contains-from_Member x (filter (λ x. not (stores bytes A (bytes x))) U) (member_filter (λ x. not (stores bytes A (bytes x))) U x (Member-from_Contains x U ((u.elements x).1 (inr c))) (not_from_false _ c.1)),
     ))
 
-    -- it has as many elements as the difference, the intersection and the other's difference
+    -- the union has as many elements as both differences and the intersection
     pub union_count : Ascends bytes A → Ascends bytes B → length U ≡ length (difference bytes A B) + (length (intersection bytes A B) + length (difference bytes B A))
     union_count a b =
         let whole = length-filter_both (λ x. stores bytes A (bytes x)) (λ x. not (stores bytes A (bytes x))) (λ x. refl) U in
@@ -68,7 +68,7 @@ module _ {X : Type 0} (bytes : X → List ℕ) where
         let parts = length-filter_both (λ x. stores bytes B (bytes x)) (λ x. not (stores bytes B (bytes x))) (λ x. refl) A in
         omega (arith, whole, left, right, parts)
 
-    -- some element has the bytes where one of either set has
+    -- the union has bytes if and only if one of the sets has them
     pub union_stores : (q : List ℕ) → stores bytes U q ≡ (stores bytes A q || stores bytes B q)
     union_stores q = both_ways (stores bytes U q) (stores bytes A q || stores bytes B q) there back
       where
@@ -92,7 +92,7 @@ module _ {X : Type 0} (bytes : X → List ℕ) where
               stores_member bytes U q r.0 (Member-from_Contains r.0 U ((u.elements r.0).1 (inr (Contains-from_Member r.0 B r.1, subst (λ p. stores bytes A p ≡ false) (sym r.2) f)))) r.2
         ]
 
-  -- ---- a symmetric difference is both differences, each once
+  -- ---- a symmetric difference is both differences, each bytes once
 
   module _ (A B U : List X) (u : IsSymmetricDifference bytes A B U) where
     pub symmetric_left : Ascends bytes A → filter (λ x. stores bytes A (bytes x)) U ≡ difference bytes A B
@@ -122,10 +122,10 @@ module _ {X : Type 0} (bytes : X → List ℕ) where
         let right = ap (λ (l : List X). length l) (symmetric_right b) in
         omega (arith, whole, left, right)
 
-  -- ---- a merge that gives nothing
+  -- ---- a merge that returns nothing
 
   module _ (A B : List X) where
-    -- no element of A has bytes that B lacks exactly where B has the bytes of each
+    -- no element of A has bytes that B lacks if and only if B has the bytes of each
     pub lacks_none : IsTrue (length (difference bytes A B) == 0) ↔ All (λ x. stores bytes B (bytes x) ≡ true) A
     lacks_none = (each_passes (λ x. stores bytes B (bytes x)) A, none_fails (λ x. stores bytes B (bytes x)) A)
 
@@ -136,7 +136,7 @@ module _ {X : Type 0} (bytes : X → List ℕ) where
   clones_store is_clone (x ∷ S) [] h q = absurd h
   clones_store is_clone (x ∷ S) (y ∷ T) h q = ap (λ p. bytes_eq p q || stores bytes T q) h.0.bytes ∙ ap (λ b. bytes_eq (bytes x) q || b) (clones_store is_clone S T h.1 q)
 
-  -- ---- for keys that compare as their bytes do, byte order is their own
+  -- ---- if keys compare like their bytes, byte order is their own order
 
   module _ (IsValue : X → Type 0) (cmp : X → X → Ordering) (ordered : OrderedAs bytes IsValue cmp) where
     pub ordered_less : (x y : X) → IsValue x → IsValue y → less (bytes x) (bytes y) ≡ true → cmp x y ≡ Less

@@ -1,4 +1,4 @@
--- The merged list of two that ascend is their union, or their symmetric difference.
+-- The merge of two lists that ascend is their union, or their symmetric difference.
 use Rattle.std.proofs.Common.{◌≡◌, ℕ, Bool, true, false, ◌⊎◌, ◌↔◌, ◌||◌, inl, inr, List, [], ◌∷◌, refl, sym, ap, ◌∙◌, subst, bytes_eq, Ordering, Less, Equal, Greater}
 use Rattle.std.specs.Prelude.{⊤}
 use Rattle.std.specs.Set.{sorted_merge}
@@ -16,12 +16,12 @@ module _ {K : Type 0} (kb : K → List ℕ) (both : Bool) where
   abbrev merged : List K → List K → List K
   merged A B = sorted_merge (λ x y. bytes_cmp (kb x) (kb y)) both A B
 
-  -- what the left side needs, of whether the right one has the bytes
+  -- whether an element of the left side is kept: always, or if the right side lacks its bytes
   abbrev pub Stays : Bool → Bool → Type 0
   Stays true b = ⊤
   Stays false b = b ≡ false
 
-  -- what the merged list has
+  -- the merge has z if and only if z is kept from A, or is in B with bytes that A lacks
   abbrev pub Has : List K → List K → List K → K → Type 0
   Has A B U z = Member z U ↔ ((Member z A × Stays both (stores kb B (kb z))) ⊎ (Member z B × (stores kb A (kb z) ≡ false)))
 
@@ -36,15 +36,15 @@ module _ {K : Type 0} (kb : K → List ℕ) (both : Bool) where
       of true = tt
       of false = e
 
-  -- one more list element with other bytes changes nothing
+  -- one more element with other bytes changes nothing
   more : (x : K) (S : List K) (q : List ℕ) → bytes_eq (kb x) q ≡ false → stores kb (x ∷ S) q ≡ stores kb S q
   more x S q e = ap (λ b. b || stores kb S q) e
 
-  -- each element of the merged list is one of either side
+  -- what holds of the elements of both sides holds of those of the merge
   all_merged : (A B U : List K) (P : K → Type 0) → ((z : K) → Has A B U z) → ((z : K) → Member z A → P z) → ((z : K) → Member z B → P z) → (z : K) → Member z U → P z
   all_merged A B U P h a b z m = elim ((h z).0 m) [ inl l ↦ a z l.0 | inr r ↦ b z r.0 ]
 
-  -- the left one's first is least
+  -- the first element of the left side is the least
   left_merged : (x : K) (A B U : List K) → Precedes kb x A → Precedes kb x B → IsMerged A B U → IsMerged (x ∷ A) B (x ∷ U)
   left_merged x A B U p q i = record {
     ranked = (from_each_member (Lower kb x) U (all_merged A B U (Lower kb x) i.has (λ z m. each_member (Lower kb x) A z p m) (λ z m. each_member (Lower kb x) B z q m)), i.ranked);
@@ -64,7 +64,7 @@ module _ {K : Type 0} (kb : K → List ℕ) (both : Bool) where
     );
   }
 
-  -- the right one's first is least
+  -- the first element of the right side is the least
   right_merged : (A : List K) (y : K) (B U : List K) → Precedes kb y A → Precedes kb y B → IsMerged A B U → IsMerged A (y ∷ B) (y ∷ U)
   right_merged A y B U p q i = record {
     ranked = (from_each_member (Lower kb y) U (all_merged A B U (Lower kb y) i.has (λ z m. each_member (Lower kb y) A z p m) (λ z m. each_member (Lower kb y) B z q m)), i.ranked);
@@ -85,7 +85,7 @@ module _ {K : Type 0} (kb : K → List ℕ) (both : Bool) where
   }
 
 module _ {K : Type 0} (kb : K → List ℕ) (x : K) (A : List K) (y : K) (B U : List K) (same : kb y ≡ kb x) (p : Precedes kb x A) (q : Precedes kb x B) where
-  -- both first ones have the same bytes, which are stored on either side, and which no later one has
+  -- the first elements have the same bytes, which both sides have, and no later element
   here : stores kb (y ∷ B) (kb x) ≡ true
   here = or_left (bytes_eq (kb y) (kb x)) (stores kb B (kb x)) ((bytes_decides (kb y) (kb x)).1 same)
 
@@ -98,7 +98,7 @@ module _ {K : Type 0} (kb : K → List ℕ) (x : K) (A : List K) (y : K) (B U : 
   left_more : (z : K) → Member z B → stores kb (x ∷ A) (kb z) ≡ stores kb A (kb z)
   left_more z m = ap (λ b. b || stores kb A (kb z)) (less_apart (kb x) (kb z) (each_member (Lower kb x) B z q m))
 
-  -- a union has the left one
+  -- a union has the left element
   both_united : IsMerged kb true A B U → IsMerged kb true (x ∷ A) (y ∷ B) (x ∷ U)
   both_united i = record {
     ranked = (from_each_member (Lower kb x) U (λ z m. elim ((i.has z).0 m) [ inl l ↦ each_member (Lower kb x) A z p l.0 | inr r ↦ each_member (Lower kb x) B z q r.0 ]), i.ranked);
@@ -116,7 +116,7 @@ module _ {K : Type 0} (kb : K → List ℕ) (x : K) (A : List K) (y : K) (B U : 
     );
   }
 
-  -- a symmetric difference has neither
+  -- a symmetric difference has neither element
   both_parted : IsMerged kb false A B U → IsMerged kb false (x ∷ A) (y ∷ B) U
   both_parted i = record {
     ranked = i.ranked;

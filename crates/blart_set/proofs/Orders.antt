@@ -10,7 +10,7 @@ use Rattle.blart_keys.proofs.PartLemmas.{less-irrefl, less-trans, less_or}
 use Rattle.blart_keys.proofs.RankLemmas.{each_member, from_each_member, any_found, Ranked-from_AllPairs, AllPairs-from_Ranked}
 use Rattle.blart_set.specs.Merging.{Precedes}
 
--- ---- what an answer of a comparison says
+-- ---- what the result of a comparison says
 
 pub less_cmp : (a b : List ℕ) → less a b ≡ true → bytes_cmp a b ≡ Less
 less_cmp a b h = of (bytes_cmp a b) h
@@ -52,7 +52,7 @@ from_greater a b e = elim (less_or a b) [
     greater≢ : Greater ≡ Equal → ⊥
     greater≢ h = false≢true (sym (ap is_greater h))
 
--- lesser bytes are other bytes
+-- if a is less than b, they are not equal
 pub less_apart : (a b : List ℕ) → less a b ≡ true → bytes_eq a b ≡ false
 less_apart a b h = false_from_ne_true _ (λ e. false≢true (sym (less-irrefl b) ∙ subst (λ l. less l b ≡ true) ((bytes_decides a b).0 e) h))
 
@@ -63,11 +63,11 @@ module _ {K : Type 0} (kb : K → List ℕ) where
   abbrev pub Lower : K → K → Type 0
   Lower x y = less (kb x) (kb y) ≡ true
 
-  -- what is after an element is after each lesser one
+  -- an element that is less than one that precedes a list precedes it too
   pub precedes_on : (x y : K) (S : List K) → Lower x y → Precedes kb y S → Precedes kb x S
   precedes_on x y S l p = from_each_member (Lower x) S (λ z m. less-trans (kb x) (kb y) (kb z) l (each_member (Lower y) S z p m))
 
-  -- and after one of the same bytes
+  -- and so does an element with the same bytes
   pub precedes_same : (x y : K) (S : List K) → kb y ≡ kb x → Precedes kb y S → Precedes kb x S
   precedes_same x y S e p = from_each_member (Lower x) S (λ z m. subst (λ l. less l (kb z) ≡ true) e (each_member (Lower y) S z p m))
 
@@ -80,17 +80,17 @@ module _ {K : Type 0} (kb : K → List ℕ) where
   drop_ascends [] a = a
   drop_ascends (x ∷ S) a = AllPairs-from_Ranked Lower S (Ranked-from_AllPairs Lower (x ∷ S) a).1
 
-  -- what is less than the first of a list that ascends precedes the list
+  -- an element that is less than the first of a list that ascends precedes the list
   pub across : (x y : K) (T : List K) → T ≡ y ∷ drop 1 T → Ascends kb T → Lower x y → Precedes kb x T
   across x y T e a l = subst (Precedes kb x) (sym e) (l, precedes_on x y (drop 1 T) l (precedes y T e a))
 
-  -- what precedes a list has bytes that it lacks
+  -- a list lacks the bytes of an element that precedes it
   pub apart : (x : K) (S : List K) → Precedes kb x S → stores kb S (kb x) ≡ false
   apart x S p = false_from_ne_true _ (λ h.
       let r = any_found (λ z. bytes_eq (kb z) (kb x)) S h in
       false≢true (sym (over_apart (kb r.0) (kb x) (each_member (Lower x) S r.0 p r.1)) ∙ r.2))
 
-  -- one that precedes a list is none of those whose bytes the list has
+  -- if y precedes A, no element of A has its bytes, and y may be left out
   pub skip_first : (f : Bool → Bool) (y : K) (B A : List K) → Precedes kb y A → filter (λ x. f (stores kb (y ∷ B) (kb x))) A ≡ filter (λ x. f (stores kb B (kb x))) A
   skip_first f y B [] p = refl
   skip_first f y B (x ∷ A) p =

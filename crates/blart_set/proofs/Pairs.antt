@@ -20,7 +20,7 @@ use Rattle.blart_keys.specs.Stored.{pair_at, kept_key, kept_pair, kept_item, kep
 use Rattle.blart_keys.specs.Walks.{TakesFirst, TakesLast}
 use Rattle.blart_keys.proofs.Mapped.{find-map, list_any-map, filter-map, content_map, put_map, over_map}
 
--- ---- what an insertion into the map tells
+-- ---- what an insertion into the map says
 
 module _ {V E : Type 0} where
   abbrev pub told : Result (Option V) E → Result Bool E
@@ -66,7 +66,7 @@ module _ {K V : Type 0} where
   takes_last-keys S S' None h = (ap (map (λ p. p.0)) h.0, ap (map (λ p. p.0)) h.1)
   takes_last-keys S S' (Some p) h = ap (map (λ p. p.0)) h ∙ map-append (λ (p : K × V). p.0) S' (p ∷ [])
 
-  -- new bytes are those that nothing has
+  -- no value was found if and only if the bytes are new
   new-keys : (kb : K → List ℕ) (S : List (K × V)) (q : List ℕ) (o : Option V) → o ≡ option_map (λ p. p.1) (at (bytes kb) S q) → is_none o ≡ not (stores kb (keys kb S) q)
   new-keys kb S q o e = ap is_none e ∙ ap not (is_some-value (at (bytes kb) S q) ∙ some-at (bytes kb) S q ∙ sym (stores-keys kb S q))
     where
@@ -75,7 +75,7 @@ module _ {K V : Type 0} where
       is_some-value (Some p) = refl
 
   module _ (kb : K → List ℕ) (S S' : List (K × V)) (q : List ℕ) where
-    -- which bytes are there once what is at some changed
+    -- which bytes are stored after an update
     pub updates-keys : (w : Option (K × V)) → Updates kb S S' q w → UpdatesElement kb (keys kb S) (keys kb S') q (is_some w)
     updates-keys w u = (
       stores-keys kb S' q ∙ stores_is kb S' q ∙ ap is_some u.0,
@@ -86,13 +86,13 @@ module _ {K V : Type 0} where
     updates-told x (Ok o) u = updates-keys (Some x) u
     updates-told x (Err e) u = tt
 
-  -- which bytes are there once the first pair went, or the last
+  -- which bytes are stored after the first pair, or the last, is removed
   pub takes-keys : (kb : K → List ℕ) (S S' : List (K × V)) (r : Option (K × V)) → IfSome r (λ p. TakesPair kb S p S') → IfSome (option_map (λ p. p.0) r) (λ x. UpdatesElement kb (keys kb S) (keys kb S') (kb x) false)
   takes-keys kb S S' None h = tt
   takes-keys kb S S' (Some p) h = updates-keys kb S S' (kb p.0) None h.1
 
   module _ (kb : K → List ℕ) (S S' : List (K × V)) (x : K × V) where
-    -- what is stored of an element
+    -- which element is stored
     kept-keys : (kept kb S x).0 ≡ kept_item (at kb (keys kb S) (kb x.0)) x.0
     unfolding pair_at
     kept-keys = same (at (bytes kb) S (kb x.0)) ∙ ap (λ o. kept_item o x.0) (sym (at-keys kb S (kb x.0)))
@@ -146,7 +146,7 @@ module _ {K V : Type 0} (kb : K → List ℕ) (S : List (K × V)) where
   pub between-keys : (lo hi : Bound (List ℕ)) → between kb (keys kb S) lo hi ≡ map (λ p. p.0) (between (bytes kb) S lo hi)
   between-keys lo hi = filter-map (λ p. p.0) (λ x. is_from_start lo (kb x) && is_up_to_end hi (kb x)) S
 
-  -- where a map of these keys can be walked
+  -- if the keys can be walked within bounds, the map can
   pub can_range-keys : (lo hi : Bound (List ℕ)) → CanRange (keys kb S) lo hi → CanRange S lo hi
   can_range-keys lo hi (inl e) = inl (none S e)
     where
@@ -155,7 +155,7 @@ module _ {K V : Type 0} (kb : K → List ℕ) (S : List (K × V)) where
       none (p ∷ S) e = absurd cc
   can_range-keys lo hi (inr e) = inr e
 
--- elements put in turn, each with a unit
+-- elements that are put in turn, each with a unit
 pub puts_all-keys : {K V : Type 0} → (kb : K → List ℕ) (S xs S' : List (K × V)) → PutsAll (bytes kb) kept_pair S xs S' → PutsAll kb kept_item (keys kb S) (map (λ p. p.0) xs) (keys kb S')
 unfolding pair_at
 puts_all-keys kb S [] S' h = ap (λ l. map (λ p. p.0) l) h

@@ -1,4 +1,4 @@
--- One step of two sets walked side by side.
+-- One step of a walk over two sets side by side.
 use Rattle.std.proofs.Common.{Less, Equal, Greater, ◌≡◌, ℕ, ◌<◌, Bool, true, false, not, inl, inr, List, [], ◌∷◌, ◌⊎◌, length, drop, refl, sym, ap, ◌∙◌, subst, cond, filter, arith, Some, None}
 use Rattle.std.specs.Set.{sorted_merge}
 use Rattle.std.specs.Cmp.Lexicographic.{bytes_decides}
@@ -55,7 +55,7 @@ module _ {K : Type 0} (kb : K → List ℕ) where
   pub both_first : (both : Bool) (x : K) (A : List K) (y : K) (B : List K) → kb y ≡ kb x → merged both (x ∷ A) (y ∷ B) ≡ cond both (x ∷ merged both A B) (merged both A B)
   both_first both x A y B e = rw (same_cmp (kb x) (kb y) (sym e)) refl
 
-  -- ---- what a step does to what is still to come
+  -- ---- what a step does to what is left
 
   module _ (m n : Merge K) where
     pub union_rest_step : (side : Side K) → Steps kb m (Some side) n → union_rest kb m ≡ (side_element side).now ∷ union_rest kb n
@@ -117,7 +117,7 @@ module _ {K : Type 0} (kb : K → List ℕ) where
     difference_rest_skip (Right y) g h = kept_right not y h
     difference_rest_skip (Both x) g h = kept_both not x h
 
-  -- where a side has nothing left both have nothing in common
+  -- if one side has nothing left, both sides have nothing in common
   pub intersection_rest_over : (m : Merge K) → (m.left ≡ []) ⊎ (m.right ≡ []) → intersection_rest kb m ≡ []
   intersection_rest_over m (inl e) = ap (λ l. filter (λ x. stores kb m.right (kb x)) l) e
   intersection_rest_over m (inr e) = ap (λ l. filter (λ x. stores kb l (kb x)) m.left) e ∙ none m.left
@@ -126,6 +126,6 @@ module _ {K : Type 0} (kb : K → List ℕ) where
       none [] = refl
       none (x ∷ A) = none A
 
--- a list with one more before it is longer
+-- a list with one more first item is longer
 pub longer : {K : Type 0} (A B : List K) (x : K) → A ≡ x ∷ B → length B < length A
 longer A B x e = rw e (omega arith)

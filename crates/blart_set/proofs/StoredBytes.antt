@@ -27,7 +27,7 @@ module _ {K V : Type 0} (kb : K → List ℕ) where
   }
   overwritten-keys S S' x (Err e) over = tt
 
-  -- the key of what is spared
+  -- the key of a spared item
   spared-key : (q : List ℕ) (o : Option (K × V)) → option_map (λ p. p.0) (spared_item (bytes kb) q o) ≡ spared_item kb q (option_map (λ p. p.0) o)
   spared-key q None = refl
   spared-key q (Some y) = by (begins (kb y.0) q)
@@ -49,7 +49,7 @@ module _ {K V : Type 0} (kb : K → List ℕ) where
       by false o = refl
   routed-keys S S' x (Err e) routes = tt
 
-  -- ---- two sets made one, and one made two
+  -- ---- two sets joined, and one split
 
   pub appended-stores : {A E : Type 0} (S T S' : List (K × V)) (a : Result A E)
       → OnOk a ((q : List ℕ) → pair_at kb S' q ≡ or_else (pair_at kb T q) (pair_at kb S q))
@@ -62,7 +62,7 @@ module _ {K V : Type 0} (kb : K → List ℕ) where
   appended-stores S T S' (Err e) found = tt
 
   module _ (S S' : List (K × V)) (q : List ℕ) where
-    -- of the lesser bytes, and of the others
+    -- the bytes that are less than q are kept, and the others are not
     pub kept-stores : ((r : List ℕ) → pair_at kb S' r ≡ (if less r q then pair_at kb S r else None)) → (r : List ℕ) → stores kb (keys kb S') r ≡ (if less r q then stores kb (keys kb S) r else false)
     kept-stores kept r = rw (stored S r) (stored S' r ∙ ap (λ o. is_some o) (kept r) ∙ by (less r q) (pair_at kb S r))
       where

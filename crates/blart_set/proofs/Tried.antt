@@ -1,4 +1,4 @@
--- What an insertion into a set tells its callers, where there was room for it.
+-- What an insertion into a set says to its callers, if there was room for it.
 use Rattle.std.proofs.Common.{◌≡◌, ℕ, ◌+◌, true, false, not, Bool, List, length, map, ap, ◌∙◌, sym, refl, Option, Some, None, option_map}
 use Rattle.std.specs.Prelude.{if◌then◌else◌, Result, Ok, Err, OnOk, OnErr, IfOk}
 use Rattle.std.specs.Option.{is_some, is_none}
@@ -12,7 +12,7 @@ use Rattle.blart_map.specs.Within.{as_tried}
 use Rattle.blart_map.proofs.Beneath.{tried_len}
 use Rattle.blart_set.proofs.Pairs.{told, keys, conflict-keys, puts-new, puts-put, puts-free}
 
--- the answer of `is_none`
+-- the result of `is_none`
 pub tells-none : {V : Type 0} (o : Option V) (b : Bool) → is_some o ≡ not b → b ≡ is_none o
 tells-none None true e = refl
 tells-none None false e = absurd (false≢true e)
@@ -35,17 +35,17 @@ module _ {K V : Type 0} (kb : K → List ℕ) (S S' : List (K × V)) (x : K × V
   tried-free (Ok old) put = puts-free kb S S' x (kept kb S x) (Ok old) put
   tried-free (Err e) put = tt
 
-  -- a refusal is for a conflict
+  -- an error says that the key conflicts
   pub tried-why : (r : Result (Option V) InsertPrefixError) → Tried r → OnErr (told r) (conflict kb (keys kb S) (kb x.0) ≡ true)
   tried-why (Ok old) put = tt
   tried-why (Err e) put = conflict-keys kb S (kb x.0) ∙ put.0
 
-  -- and the elements stand
+  -- and the elements are unchanged
   pub tried-err : (r : Result (Option V) InsertPrefixError) → Tried r → OnErr (told r) (keys kb S' ≡ keys kb S)
   tried-err (Ok old) put = tt
   tried-err (Err e) put = ap (map (λ p. p.0)) put.1
 
-  -- so many elements there are
+  -- the number of elements, by the number of pairs
   pub len-keys : (old : Option V) → length S' ≡ length S + (if is_some old then 0 else 1) → length (keys kb S') ≡ length (keys kb S) + (if is_none old then 1 else 0)
   len-keys old e = length-map S' (λ (p : K × V). p.0) ∙ e ∙ ap (λ n. n + (if is_some old then 0 else 1)) (sym (length-map S (λ (p : K × V). p.0))) ∙ ap (λ n. length (keys kb S) + n) (one old)
     where

@@ -12,10 +12,10 @@ module _ {K : Type 0} (kb : K → List ℕ) (is_clone : K → K → Type 0) wher
     pub clone : is_clone old new
     pub bytes : kb new ≡ kb old
 
-  -- element by element a clone
+  -- each element is a clone of the element at its place
   abbrev pub AreElementClones : List K → List K → Type 0
   AreElementClones S S' = AllZip IsElementClone S S'
 
-  -- clones of the one list that is so; or memory was refused, where that has an element
+  -- for some U with `Is U`, the set has clones of U; or it fails to allocate, and U is not empty
   abbrev pub MakesClones : {A E : Type 0} → (A → List K) → (List K → Type 0) → Result A E → Type 0
   MakesClones elements Is r = (U : List K) × Is U × MatchResult r (λ set. AreElementClones U (elements set)) (λ _. U ≢ [])

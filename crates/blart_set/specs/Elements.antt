@@ -1,4 +1,4 @@
--- What a set is seen as: its elements in byte order, each under its leaf's number.
+-- What contracts see of a set: its elements in byte order, each under its leaf's number.
 use Rattle.std.specs.Prelude.{◌≡◌, ◌≢◌, ℕ, Bool, true, false, List, map}
 use Rattle.blart_keys.specs.declared.calls.TryInsertError.{TryInsertError}
 use Rattle.blart_keys.specs.declared.calls.TryInsertError.TheVariants.{Prefix, Memory}
@@ -10,16 +10,16 @@ pub use Rattle.blart_map.specs.Content.{Numbered, pairs}
 unfoldable pub elements : {K V : Type 0} → List (Numbered K V) → List K
 elements leaves = map (λ p. p.0) (pairs leaves)
 
--- an insertion at q is refused for a conflict, or out of memory where the bytes are new
+-- an insertion at q returns this error: q conflicts, or it fails to allocate and q is new
 abbrev pub RefusesElement : {K : Type 0} → (K → List ℕ) → List K → List ℕ → TryInsertError → Type 0
 RefusesElement kb S q (Prefix e) = conflict kb S q ≡ true
 RefusesElement kb S q (Memory e) = (conflict kb S q ≡ false) × (stores kb S q ≡ false)
 
--- S' has the bytes q where `there` says so, and of all other bytes those that S has
+-- S' has the bytes q if and only if `there` is true, and of all other bytes those that S has
 abbrev pub UpdatesElement : {K : Type 0} → (K → List ℕ) → List K → List K → List ℕ → Bool → Type 0
 UpdatesElement kb S S' q there = (stores kb S' q ≡ there) × ((r : List ℕ) → r ≢ q → stores kb S' r ≡ stores kb S r)
 
--- S' has the bytes q, none beside them that are related to q, and of all others those that S has
+-- S' has the bytes q, no others that are related to q, and of all others those that S has
 pub record OverwritesElement {K : Type 0} (kb : K → List ℕ) (S S' : List K) (q : List ℕ) : Type 0 where
   pub there : stores kb S' q ≡ true
   pub gone : (r : List ℕ) → related r q ≡ true → r ≢ q → stores kb S' r ≡ false

@@ -10,7 +10,7 @@ use Rattle.blart_set.specs.declared.merges.sides.Side.{Side}
 use Rattle.blart_set.specs.declared.merges.sides.Side.TheVariants.{Left, Right, Both}
 pub use Rattle.blart_set.specs.Merge.{Merge}
 
--- a merge of two lists, of which nothing was compared so far
+-- a merge of A and B that has made no comparison
 pub record IsBeginning {K : Type 0} (A B : List K) (m : Merge K) : Type 0 where
   pub left : m.left ≡ A
   pub right : m.right ≡ B
@@ -24,7 +24,7 @@ Counts old new = (old.compares ≤ new.compares) × (new.compares + (length new.
 abbrev pub HasCompared : {K : Type 0} → Merge K → Merge K → Type 0
 HasCompared old new = 0 < length old.left → 0 < length old.right → old.compares < new.compares
 
--- One `next` of a merge that has still to give `rest`. The first three are those of every iterator, `MakesProgress`, by whose names a loop cites them
+-- One `next` of a merge with `rest` left. The first three are those of `MakesProgress`, as loops cite them
 pub record MergeProgresses {K A : Type 0} (rest : Merge K → List K) (s : Merge K) (r : Option A) (t : Merge K) : Type 0 where
   pub on : IsFinite (item_count rest s) → OnSome r (⊤ × IsFinite (item_count rest t) × (size (item_count rest t) < size (item_count rest s)))
   pub keeps : IfSome r (λ _. ⊤)
@@ -33,40 +33,40 @@ pub record MergeProgresses {K A : Type 0} (rest : Merge K → List K) (s : Merge
   pub compared : HasCompared s t
 
 module _ {K : Type 0} (kb : K → List ℕ) where
-  -- what a union has still to give: what both sides have left, each bytes once
+  -- what a union has still to return: what both sides have left, each bytes once
   abbrev pub union_rest : Merge K → List K
   union_rest m = sorted_merge (λ x y. bytes_cmp (kb x) (kb y)) true m.left m.right
 
-  -- what a symmetric difference has still to give: what only one side has left
+  -- what a symmetric difference has still to return: what only one side has left
   abbrev pub symmetric_difference_rest : Merge K → List K
   symmetric_difference_rest m = sorted_merge (λ x y. bytes_cmp (kb x) (kb y)) false m.left m.right
 
-  -- what an intersection has still to give
+  -- what an intersection has still to return
   abbrev pub intersection_rest : Merge K → List K
   intersection_rest m = merges.intersection kb m.left m.right
 
-  -- what a difference has still to give
+  -- what a difference has still to return
   abbrev pub difference_rest : Merge K → List K
   difference_rest m = merges.difference kb m.left m.right
 
-  -- the bytes of x are less than those of each of these
+  -- the bytes of x are less than those of each element of S
   abbrev pub Precedes : K → List K → Type 0
   Precedes x S = AllByRecursion (λ y. less (kb x) (kb y) ≡ true) S
 
-  -- the least of what is left on both sides was passed
+  -- the least of what both sides have left was passed
   abbrev pub Steps : Merge K → Option (Side K) → Merge K → Type 0
   Steps m None n = (m.left ≡ []) × (m.right ≡ []) × (n.left ≡ []) × (n.right ≡ [])
   Steps m (Some (Left x)) n = (m.left ≡ x.now ∷ n.left) × (n.right ≡ m.right) × Precedes x.now n.left × Precedes x.now n.right
   Steps m (Some (Right y)) n = (m.right ≡ y.now ∷ n.right) × (n.left ≡ m.left) × Precedes y.now n.left × Precedes y.now n.right
   Steps m (Some (Both x)) n = (m.left ≡ x.now ∷ n.left) × ((y : K) × (m.right ≡ y ∷ n.right) × (kb y ≡ kb x.now)) × Precedes x.now n.left × Precedes x.now n.right
 
--- the element that a step gives
+-- the element that a step returns
 abbrev pub side_element : {K : Type 0} → Side K → Bor K
 side_element (Left x) = x
 side_element (Right y) = y
 side_element (Both x) = x
 
--- the same where only one side has the bytes, where both do, and where only the left one does
+-- the same if just one side has the bytes; if both have them; and if just the left one has them
 abbrev pub one_element : {K : Type 0} → Side K → Option (Bor K)
 one_element (Left x) = Some x
 one_element (Right y) = Some y

@@ -16,7 +16,7 @@ use Rattle.script_words.specs.Words.{below_limit, is_numeral}
 digits : IsNumeralModel (λ ds. all_ascii_digits ds ≡ true) (digits_value 10)
 digits = numerals_by_value _ tells_all_ascii_digits
 
--- both tests of digits are one
+-- both tests of digits agree
 same_test : (ds : List ℕ) → all_ascii_digits ds ≡ list_all is_ascii_digit ds
 same_test [] = refl
 same_test (c ∷ cs) = ap (λ t. is_ascii_digit c && t) (same_test cs)
@@ -36,7 +36,7 @@ kept (Err e) some v p h = by_limit (nat_le v 18446744073709551615) refl
     by_limit true k = absurd (h (p, grind (arith, nat_tests)))
     by_limit false k = rw k refl
 
--- what is read of them is their value, if it is below 2^64
+-- the number that is read is the value of the digits, if it is below 2^64
 pub value_read : {E : Type 0} (ds : List ℕ) (r : Result ℕ E) → is_numeral ds ≡ true → ParsesUnsigned 64 10 ds r → result_ok r ≡ below_limit (digits_value 10 ds)
 value_read ds r h parsed =
     let d = all_digits ds h in

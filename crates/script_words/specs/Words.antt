@@ -1,4 +1,4 @@
--- What the words of a line stand for.
+-- What the words of a line mean.
 use Rattle.std.specs.Prelude.{ℕ, Bool, ◌==◌, ◌&&◌, ◌||◌, nat_le, if◌then◌else◌, List, [], length, Option, Some, None, Result, Ok, Err, bytes_eq, codes}
 use Rattle.std.specs.List.{list_all}
 use Rattle.std.specs.Char.{is_ascii_digit}
@@ -10,11 +10,11 @@ abbrev pub from_ok : {A E : Type 0} → Result A E → Option A
 from_ok (Ok x) = Some x
 from_ok (Err e) = None
 
--- `-` is no bytes; else an even number, at least two, of hexadecimal digits
+-- `-` is no bytes; other words are two or more hexadecimal digits, in an even number
 abbrev pub read_bytes : List ℕ → Option (List ℕ)
 read_bytes word = if bytes_eq word (codes "-") then Some [] else if length word == 0 then None else from_ok (decode_of word)
 
--- decimal digits, one at least
+-- one or more decimal digits
 abbrev pub is_numeral : List ℕ → Bool
 is_numeral word = nat_le 1 (length word) && list_all is_ascii_digit word
 
@@ -22,7 +22,7 @@ is_numeral word = nat_le 1 (length word) && list_all is_ascii_digit word
 abbrev pub below_limit : ℕ → Option ℕ
 below_limit n = if nat_le n 18446744073709551615 then Some n else None
 
--- the number that decimal digits are, if it is not too large
+-- the number that decimal digits make, if it is below 2^64
 abbrev pub read_number : List ℕ → Option ℕ
 read_number word = if is_numeral word then below_limit (digits_value 10 word) else None
 
@@ -30,6 +30,6 @@ read_number word = if is_numeral word then below_limit (digits_value 10 word) el
 abbrev pub is_step : ℕ → Bool
 is_step letter = letter == 102 || letter == 98 || letter == 108
 
--- the first or the last pair is lent, the lent one is kept or taken, or whether one is lent is asked
+-- lends the first or the last pair, keeps or takes the lent pair, or asks whether one is lent
 abbrev pub is_decision : ℕ → Bool
 is_decision letter = letter == 102 || letter == 98 || letter == 107 || letter == 116 || letter == 117

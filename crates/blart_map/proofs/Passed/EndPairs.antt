@@ -1,4 +1,4 @@
--- The pairs that the first number and the last name.
+-- The pairs that the first number and the last number name.
 use Rattle.std.proofs.Common.{◌≡◌, ℕ, List, [], ◌∷◌, ◌-◌, length, slice_get, Some, None, refl, sym, ap, ◌∙◌, arith}
 use Rattle.std.proofs.lemmas.Grind.{common_steps}
 use Rattle.art_tree.specs.Leaves.{Numbered, leaf_in, Has, AreDistinct, without_number, first_number, last_number}
@@ -8,7 +8,7 @@ use Rattle.art_tree.specs.Pairs.{pairs_of}
 use Rattle.art_insert.proofs.Numbers.{last_pair, slice_get-last}
 
 module _ {K V : Type 0} (ps : List (Numbered K V)) (id : ℕ) where
-  -- the pair at the front
+  -- the first number names the first pair
   pub first_there : Some id ≡ first_number ps → (x : K × V) × (leaf_in ps id ≡ Some x) × (slice_get (pairs_of ps) 0 ≡ Some x)
   first_there e = named ps e
     where
@@ -16,7 +16,7 @@ module _ {K V : Type 0} (ps : List (Numbered K V)) (id : ℕ) where
       named [] e = absurd cc
       named (p ∷ qs) e = let same : id ≡ p.0 = cc in (p.1, grind (arith, common_steps, same), refl)
 
-  -- the pair at the back
+  -- the last number names the last pair
   pub last_there : AreDistinct ps → Some id ≡ last_number ps → (x : K × V) × (leaf_in ps id ≡ Some x) × (slice_get (pairs_of ps) (length (pairs_of ps) - 1) ≡ Some x)
   last_there distinct e =
       let s = some_of (leaf_in ps id) (Has-last ps id (sym e)) in

@@ -42,7 +42,7 @@ module _ {K V : Type 0} (ps : List (Numbered K V)) (distinct : AreDistinct ps) w
   pub stays_left : (id : ℕ) (rs : List (Numbered K V)) → rs ≡ without_number ps id → StaysLeft ps id rs
   stays_left id rs e c fits lacks = subst (λ (l : List (Numbered K V)). FitsIn c l × (leaves_left c l ≡ leaves_left c ps)) (sym e) (left_without c ps id distinct fits lacks)
 
--- the pairs without the one that a number names
+-- without the pair of a number, the pairs are those with other bytes
 pub taken_pairs : {K V : Type 0} (kb : K → List ℕ) (ps : List (Numbered K V)) → IsContent (bytes kb) ps → (id : ℕ) (x : K × V) → leaf_in ps id ≡ Some x → (rs : List (Numbered K V)) → rs ≡ without_number ps id → pairs_of rs ≡ without (pair_bytes kb) (pairs_of ps) (kb x.0)
 taken_pairs {K} {V} kb ps content id x e rs gone =
     let there = at_member (pair_bytes kb) (pairs_of ps) (pairs_content kb ps (kb x.0) content) (kb x.0) x (Member-map (λ (p : Numbered K V). p.1) (id, x) ps (Member-from_leaf_in ps id x e)) refl in

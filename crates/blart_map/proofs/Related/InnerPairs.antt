@@ -28,16 +28,16 @@ both_true : (a b : Bool) → cond a b false ≡ true → (a ≡ true) × (b ≡ 
 both_true true b e = (refl, e)
 both_true false b e = absurd (false≢true e)
 
--- numbers that pass a test of equality are one
+-- numbers that pass a test of equality are equal
 pub tested : (a b : ℕ) → true ≡ eqb a b → a ≡ b
 tested a b e = elim (eqb_tells a b) [ inl t ↦ t.1 | inr f ↦ absurd (false≢true (sym f.0 ∙ sym e)) ]
 
--- numbers that fail it are two
+-- numbers that fail it are not equal
 pub tested_not : (a b : ℕ) → false ≡ eqb a b → a ≢ b
 tested_not a b e f = false≢true (e ∙ ap (λ n. eqb a n) (sym f) ∙ eq-eqb a a refl)
 
 module _ {K V : Type 0} (kb : K → List ℕ) (q : List ℕ) where
-  -- a value written leaves the first number of the related pairs
+  -- a written value does not change the first number of the related pairs
   first_written : (ps : List (Numbered K V)) (i : ℕ) (w : V) → first_number (subtree (bytes kb) (with_value ps i w) q) ≡ first_number (subtree (bytes kb) ps q)
   first_written [] i w = refl
   first_written (p ∷ ps) i w = elim (eqb_tells p.0 i) [
@@ -45,7 +45,7 @@ module _ {K V : Type 0} (kb : K → List ℕ) (q : List ℕ) where
     | inr t ↦ rw t.0 (elim (related (kb p.1.0) q) as (λ b. first_number (cond b (p ∷ subtree (bytes kb) (with_value ps i w) q) (subtree (bytes kb) (with_value ps i w) q)) ≡ first_number (cond b (p ∷ subtree (bytes kb) ps q) (subtree (bytes kb) ps q))) [ true ↦ refl | false ↦ first_written ps i w ])
   ]
 
-  -- the last number of a list that begins with a pair
+  -- the last number of the list, or n if it is empty
   abbrev last_from : ℕ → List (Numbered K V) → ℕ
   last_from n [] = n
   last_from n (p ∷ ps) = last_from p.0 ps
@@ -54,7 +54,7 @@ module _ {K V : Type 0} (kb : K → List ℕ) (q : List ℕ) where
   last_is p [] = refl
   last_is p (r ∷ ps) = last_is r ps
 
-  -- it stays where a value is written
+  -- a written value does not change it
   same_from : (n : ℕ) (ps : List (Numbered K V)) (i : ℕ) (w : V) → last_from n (subtree (bytes kb) (with_value ps i w) q) ≡ last_from n (subtree (bytes kb) ps q)
   same_from n [] i w = refl
   same_from n (p ∷ ps) i w = elim (eqb_tells p.0 i) [
@@ -62,7 +62,7 @@ module _ {K V : Type 0} (kb : K → List ℕ) (q : List ℕ) where
     | inr t ↦ rw t.0 (elim (related (kb p.1.0) q) as (λ b. last_from n (cond b (p ∷ subtree (bytes kb) (with_value ps i w) q) (subtree (bytes kb) (with_value ps i w) q)) ≡ last_from n (cond b (p ∷ subtree (bytes kb) ps q) (subtree (bytes kb) ps q))) [ true ↦ same_from p.0 ps i w | false ↦ same_from n ps i w ])
   ]
 
-  -- a value written leaves the last number of the related pairs
+  -- a written value does not change the last number of the related pairs
   last_written : (ps : List (Numbered K V)) (i : ℕ) (w : V) → last_number (subtree (bytes kb) (with_value ps i w) q) ≡ last_number (subtree (bytes kb) ps q)
   last_written [] i w = refl
   last_written (p ∷ ps) i w = elim (eqb_tells p.0 i) [
@@ -70,7 +70,7 @@ module _ {K V : Type 0} (kb : K → List ℕ) (q : List ℕ) where
     | inr t ↦ rw t.0 (elim (related (kb p.1.0) q) as (λ b. last_number (cond b (p ∷ subtree (bytes kb) (with_value ps i w) q) (subtree (bytes kb) (with_value ps i w) q)) ≡ last_number (cond b (p ∷ subtree (bytes kb) ps q) (subtree (bytes kb) ps q))) [ true ↦ last_is p (subtree (bytes kb) (with_value ps i w) q) ∙ ap (λ n. Some n) (same_from p.0 ps i w) ∙ sym (last_is p (subtree (bytes kb) ps q)) | false ↦ last_written ps i w ])
   ]
 
-  -- so the related pairs stand between the same numbers
+  -- so the related pairs lie between the same numbers
   pub spans_written : (ps : List (Numbered K V)) (i : ℕ) (w : V) (first last : ℕ) → spans kb ps q first last ≡ true → spans kb (with_value ps i w) q first last ≡ true
   spans_written ps i w first last h =
       ap (λ o. cond (is_number o first) (is_number (last_number (subtree (bytes kb) (with_value ps i w) q)) last) false) (first_written ps i w)
@@ -83,7 +83,7 @@ module _ {K V : Type 0} (kb : K → List ℕ) (ps : List (Numbered K V)) (q : Li
       let b = both_true (is_number (first_number (subtree (bytes kb) ps q)) first) (is_number (last_number (subtree (bytes kb) ps q)) last) h in
       record { first_is = is_number_Some (first_number (subtree (bytes kb) ps q)) first b.0; last_is = is_number_Some (last_number (subtree (bytes kb) ps q)) last b.1 }
 
-  -- and what passes it
+  -- and which numbers pass it
   pub to_spans : first_number (subtree (bytes kb) ps q) ≡ Some first → last_number (subtree (bytes kb) ps q) ≡ Some last → spans kb ps q first last ≡ true
   to_spans e f =
       ap (λ o. cond (is_number o first) (is_number (last_number (subtree (bytes kb) ps q)) last) false) e
@@ -101,7 +101,7 @@ module _ {K V : Type 0} (kb : K → List ℕ) (ps : List (Numbered K V)) (q : Li
     pub subtree_pairs : subtree (pair_bytes kb) (pairs_of ps) q ≡ pairs_of (subtree (bytes kb) ps q)
     subtree_pairs = filter-map (λ p. p.1) (λ x. related (kb x.0) q) ps
 
-    -- where the ends are one there is one
+    -- if the ends are equal, their pair is the only related one
     pub one_pair : first ≡ last → leaf_in ps first ≡ only (subtree (pair_bytes kb) (pairs_of ps) q)
     one_pair same =
         let s = from_spans h in
@@ -110,26 +110,26 @@ module _ {K V : Type 0} (kb : K → List ℕ) (ps : List (Numbered K V)) (q : Li
         leaf_in-member ps first o.0 distinct (filter_member (λ p. related (bytes kb p) q) ps (first, o.0) m).0
         ∙ sym (ap only (subtree_pairs ∙ ap pairs_of o.1))
 
-    -- where they are two there are more
+    -- if they are not equal, there are more related pairs
     pub more_pairs : first ≢ last → None ≡ only (subtree (pair_bytes kb) (pairs_of ps) q)
     more_pairs off =
         let s = from_spans h in
         let e = two_ends (subtree (bytes kb) ps q) first last s.first_is s.last_is off in
         sym (ap only (subtree_pairs ∙ ap pairs_of e.is))
 
-    -- there is one exactly where the ends are one
+    -- there is just one related pair if and only if the ends are equal
     pub only_tested : eqb first last ≡ is_some (only (subtree (pair_bytes kb) (pairs_of ps) q))
     only_tested = elim (eqb_tells first last) [
       | inl t ↦ t.0 ∙ ap (λ o. is_some o) (sym (some_of (leaf_in ps first) inner_has).1 ∙ one_pair t.1)
       | inr f ↦ f.0 ∙ ap (λ o. is_some o) (more_pairs (λ e. false≢true (sym f.0 ∙ ap (λ n. eqb first n) (sym e) ∙ eq-eqb first first refl)))
     ]
 
-    -- an entry of the first is that of the only one
+    -- an entry of the first number, returned if the ends are equal, has the only related pair
     pub only_answered : {O : Type 0} (now : O → List (Numbered K V)) (id : O → ℕ) (r : Option O) → is_some r ≡ eqb first last → IfSome r (λ o. now o ≡ ps) → IfSome r (λ o. id o ≡ first) → IfSome r (λ o. leaf_in (now o) (id o) ≡ only (subtree (pair_bytes kb) (pairs_of ps) q))
     only_answered now id None e f h = tt
     only_answered now id (Some o) e f h = ap (λ l. leaf_in l (id o)) f ∙ ap (leaf_in ps) h ∙ one_pair (tested first last e)
 
-    -- a value written at the only one
+    -- a value is written at the only related pair
     pub only_written : (w : V) → IfSome (only (subtree (pair_bytes kb) (pairs_of ps) q)) (λ p. Updates kb (pairs_of ps) (pairs_of (with_value ps first w)) (kb p.0) (Some (p.0, w)) × (length (pairs_of (with_value ps first w)) ≡ length (pairs_of ps)))
     only_written w = elim (eqb_tells first last) [
       | inl t ↦ subst Written (one_pair t.1) (there (leaf_in ps first) refl)

@@ -1,4 +1,4 @@
--- The value that a call of a prefix entry lends.
+-- The value to which a call of a prefix entry returns a mutable reference.
 use Rattle.std.proofs.Common.{◌≡◌, ℕ, Option, Some, option_map, refl, sym, ap, ◌∙◌, subst}
 use Rattle.std.specs.Option.{UnwrapsOrElse}
 use Rattle.blart_keys.specs.declared.AsBytes.{Ghosts}
@@ -15,7 +15,7 @@ pub or_made : {V : Type 0} (o : Option V) (r : V) (P : V → Type 0) → o ≡ S
 or_made o r P e = subst (λ o. UnwrapsOrElse o P r) (sym e) refl
 
 module _ {K V T : Type 0} {P : ℕ} {g : Ghosts K} where
-  -- the stored value is lent, or else one of this kind
+  -- the returned value is the stored one, or else one with `Made`
   pub made_value : (e : PrefixEntry K V P T g) (Made : V → Type 0) (r : V) (o : OccupiedEntry K V P T g) → IsPrefixKeptOrMade e Made o → entry_value (entry.Occupied o) ≡ Some r → UnwrapsOrElse (prefix_value e) Made r
   made_value (Occupied (Leaf p)) Made r o h f = or_made (prefix_value (Occupied (Leaf p))) r Made (ap (λ o. entry_value (entry.Occupied o)) (sym h) ∙ f)
   made_value (Occupied (Inner e)) Made r o h f = subst Made (sym (some_value e.key h.0 r _ h.2.pair f)) h.1

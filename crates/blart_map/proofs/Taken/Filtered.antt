@@ -1,4 +1,4 @@
--- What a closure that tells of the pair alone keeps, what one that counts does, and what one that keeps each pair writes.
+-- What is kept by a closure that depends on the pair alone, or counts, and written by one that keeps each pair.
 use Rattle.std.proofs.Common.{◌≡◌, ℕ, zero, suc, ◌-◌, ltb, take, arith, List, [], ◌∷◌, filter, map, Bool, true, false, cond, refl, ap, ◌∙◌}
 use Rattle.std.proofs.lemmas.Bool.{lt-ltb}
 use Rattle.std.specs.Borrow.{Bor, MutBor}
@@ -6,7 +6,7 @@ use Rattle.std.specs.Map.Calls.{CalledAtPair}
 use denote.Param.Members.{Mut}
 use Rattle.blart_keys.specs.Walks.{Asked, picked, Retains, AsksPair}
 
--- the items that pass a test of a state and the item, where each item changes the state
+-- the items that pass a test of a state and the item; each item changes the state
 abbrev pub kept_by : {S X : Type 0} → (S → X → Bool) → (S → X → S) → S → List X → List X
 kept_by test next s [] = []
 kept_by test next s (x ∷ xs) = cond (test s x) (x ∷ kept_by test next (next s x) xs) (kept_by test next (next s x) xs)
@@ -16,7 +16,7 @@ picked_first true answers y left = refl
 picked_first false answers y left = refl
 
 module _ {F K V : Type 0} (g : Mut F (Bor K × (MutBor V × Unit {0})) (Bool × (MutBor V × Unit {0}))) where
-  -- ---- the closure shows a state, which decides with the pair
+  -- ---- the closure shows a state, and its result depends on the state and the pair
 
   module _ {S : Type 0} (Shows : F → S → Type 0) (test : S → K × V → Bool) (next : S → K × V → S)
       (tells : (f : F) (s : S) (k : K) (v : V) (b : Bool) (w : V) (h : F) → Shows f s → CalledAtPair g f k v b w h → (b ≡ test s (k, v)) × (w ≡ v) × Shows h (next s (k, v))) where
@@ -36,18 +36,18 @@ module _ {F K V : Type 0} (g : Mut F (Bor K × (MutBor V × Unit {0})) (Bool × 
     pub kept_by_retained : (f : F) (s : S) (old new : List (K × V)) → Shows f s → Retains (AsksPair g) old f new → new ≡ kept_by test next s old
     kept_by_retained f s old new i r = r.kept ∙ asked_kept old f s r.answers r.left r.after i r.asked
 
-  -- ---- it tells of the pair alone
+  -- ---- its result depends on the pair alone
 
   module _ (I : F → Type 0) (test : K × V → Bool) (tells : (f : F) (k : K) (v : V) (b : Bool) (w : V) (h : F) → I f → CalledAtPair g f k v b w h → (b ≡ test (k, v)) × (w ≡ v) × I h) where
     kept_all : (xs : List (K × V)) → kept_by (λ (s : Unit {0}) x. test x) (λ s x. s) tt xs ≡ filter test xs
     kept_all [] = refl
     kept_all (x ∷ xs) = ap (λ l. cond (test x) (x ∷ l) l) (kept_all xs)
 
-    -- so what is kept is the filter
+    -- so the pairs that are kept are the filter
     pub filter_from_retained : (f : F) (old new : List (K × V)) → I f → Retains (AsksPair g) old f new → new ≡ filter test old
     filter_from_retained f old new i r = kept_by_retained (λ f s. I f) (λ s x. test x) (λ s x. s) (λ f s k v b w h. tells f k v b w h) f tt old new i r ∙ kept_all old
 
-  -- ---- it keeps each pair, with a value that it tells of the pair alone
+  -- ---- it keeps each pair, with a value that depends on the pair alone
 
   module _ (I : F → Type 0) (value : K × V → V) (tells : (f : F) (k : K) (v : V) (b : Bool) (w : V) (h : F) → I f → CalledAtPair g f k v b w h → (b ≡ true) × (w ≡ value (k, v)) × I h) where
     asked_written : (old : List (K × V)) (f : F) (answers : List Bool) (left : List (K × V)) (h : F) → I f → Asked (AsksPair g) old f answers left h → picked answers left ≡ map (λ p. (p.0, value p)) old
@@ -62,11 +62,11 @@ module _ {F K V : Type 0} (g : Mut F (Bor K × (MutBor V × Unit {0})) (Bool × 
         let ih = asked_written old a.0 answers left h t.2 a.2 in
         picked_first b answers y left ∙ ap (λ c. cond c (y ∷ picked answers left) (picked answers left)) t.0 ∙ ap (λ z. z ∷ picked answers left) same ∙ ap (λ l. (x.0, value x) ∷ l) ih
 
-    -- so what is kept are all pairs, with these values
+    -- so all pairs are kept, with these values
     pub map_from_retained : (f : F) (old new : List (K × V)) → I f → Retains (AsksPair g) old f new → new ≡ map (λ p. (p.0, value p)) old
     map_from_retained f old new i r = r.kept ∙ asked_written old f r.answers r.left r.after i r.asked
 
--- a closure that counts down keeps the first so many
+-- a closure that counts down from n keeps the first n items
 pub take_from_kept : {X : Type 0} (n : ℕ) (xs : List X) → kept_by (λ n x. ltb 0 n) (λ n x. n - 1) n xs ≡ take n xs
 take_from_kept zero [] = refl
 take_from_kept (suc n) [] = refl

@@ -1,4 +1,4 @@
--- What one `next` of a walk that extracts does, where its closure tells of the pair alone.
+-- What one `next` of a walk that extracts does, if its closure depends on the pair alone.
 use Rattle.std.proofs.Common.{◌≡◌, ℕ, List, [], ◌∷◌, filter, Bool, true, false, cond, Option, Some, None, slice_get, refl, sym, ap, ◌∙◌, subst}
 use Rattle.std.specs.Borrow.{Bor, MutBor}
 use Rattle.std.specs.Bool.{MatchBool}
@@ -21,11 +21,11 @@ use Rattle.blart_map.proofs.Taken.OnceTaken.{same_value}
 
 module _ {K V F : Type 0} (g : Mut F (Bor K × (MutBor V × Unit {0})) (Bool × (MutBor V × Unit {0}))) (I : F → Type 0) (test : K × V → Bool)
     (tells : (f : F) (k : K) (v : V) (b : Bool) (w : V) (h : F) → I f → CalledAtPair g f k v b w h → (b ≡ test (k, v)) × (w ≡ v) × I h) where
-  -- the pair that came out stood there, and is gone; where none came out, the pairs stand
+  -- the extracted pair was in S, and is removed; if there is none, the pairs are unchanged
   abbrev Out : List (Numbered K V) → Option (K × V) → List (Numbered K V) → Type 0
   Out S r S' = MatchOption r (S' ≡ S) (λ x. (id : ℕ) × (leaf_in S id ≡ Some x) × (S' ≡ without_number S id))
 
-  -- the map will be the same, the first pair that passes came out and no other, and the closure goes on so
+  -- the map will be the same in the end, the first pair that passes is extracted and no other, and I holds of the closure
   abbrev Steps : List (Numbered K V) → List (Numbered K V) → Option (K × V) → List (Numbered K V) → F → List (Numbered K V) → Type 0
   Steps S coming r S' f' rest =
       (taken_all test rest S' ≡ taken_all test coming S)
@@ -33,7 +33,7 @@ module _ {K V F : Type 0} (g : Mut F (Bor K × (MutBor V × Unit {0})) (Bool × 
       × I f'
       × Out S r S'
 
-  -- the first pair is asked of
+  -- the closure is called on the first pair
   module _ (p : Numbered K V) (coming S : List (Numbered K V)) (r : Option (K × V)) (S' : List (Numbered K V)) (f' : F) (rest : List (Numbered K V)) (w : V) (h : F) (same : w ≡ p.1.1) (named : leaf_in S p.0 ≡ Some p.1) (after : I h)
       (goes : ExtractsFirstTrue g (stands_at S h coming) r (stands_at S' f' rest) → Steps S coming r S' f' rest) where
     asked : (b : Bool) → b ≡ test p.1 → MatchBool b ((r ≡ Some (p.1.0, w)) × (S' ≡ without_number S p.0) × (f' ≡ h) × (rest ≡ coming)) (ExtractsFirstTrue g (stands_at (with_value S p.0 w) h coming) r (stands_at S' f' rest)) → Steps S (p ∷ coming) r S' f' rest
@@ -66,12 +66,12 @@ module _ {K V F : Type 0} (g : Mut F (Bor K × (MutBor V × Unit {0})) (Bool × 
       let t = tells f p.1.0 p.1.1 a.0 a.1 a.2 i a.4 in
       asked p coming S r S' f' rest a.1 a.2 t.1 a.3 t.2 (λ b. steps coming S a.2 r S' f' rest t.2 b) a.0 t.0 a.5
 
--- the first of these, if there is one
+-- the first item, if there is one
 first_of : {X : Type 0} (old new : List X) (r : Option X) → TakesFirst old r new → r ≡ slice_get old 0
 first_of old new None e = sym (ap (λ l. slice_get l 0) e.0)
 first_of old new (Some x) e = sym (ap (λ l. slice_get l 0) e)
 
--- without the pair under a number the pairs are those with other bytes
+-- without the pair of a number, the pairs are those with other bytes
 out_of : {K V : Type 0} (kb : K → List ℕ) (S S' : List (Numbered K V)) → IsContent (pair_bytes kb) (pairs_of S) → (r : Option (K × V)) → MatchOption r (S' ≡ S) (λ x. (id : ℕ) × (leaf_in S id ≡ Some x) × (S' ≡ without_number S id))
     → MatchOption r (S' ≡ S) (λ x. pairs_of S' ≡ without (pair_bytes kb) (pairs_of S) (kb x.0))
 out_of kb S S' content None o = o
@@ -80,14 +80,14 @@ out_of kb S S' content (Some x) o =
     let cut = cut_pairs S o.0 x c in
     ap pairs_of o.2 ∙ left_pairs S o.0 x c ∙ sym (ap (λ l. without (pair_bytes kb) l (kb x.0)) cut ∙ without_cut (pair_bytes kb) (pairs_of c.before) (pairs_of c.after) x (kb x.0) (subst (IsContent (pair_bytes kb)) cut content) refl)
 
--- in the words of the walk: s before a `next`, and t after it
+-- s is the walk before a `next`, and t is the walk after it
 module _ {K V F : Type 0} {p : ℕ} {k : Ghosts K} (g : Mut F (Bor K × (MutBor V × Unit {0})) (Bool × (MutBor V × Unit {0}))) (s t : ExtractIf K V F p k) (r : Option (K × V)) (next : ExtractsNext g s r t) where
   pub extracted : (I : F → Type 0) (test : K × V → Bool) → ((f : F) (k : K) (v : V) (b : Bool) (w : V) (h : F) → I f → CalledAtPair g f k v b w h → (b ≡ test (k, v)) × (w ≡ v) × I h)
       → I s.pred → (once_extracted test t ≡ once_extracted test s) × TakesFirst (still_to_extract test s) r (still_to_extract test t) × I t.pred
   unfolding pairs
   extracted I test tells i = let h = steps g I test tells (extract_left s) s.map.now s.pred r t.map.now t.pred (extract_left t) i next.1 in (ap pairs_of h.0, h.1, h.2)
 
-  -- the pair that came out is the first that passes, and the map, which had S, lacks it alone; where none came out, the map stands
+  -- the extracted pair is the first that passes, and the map has S without it; if there is none, the map is unchanged
   pub one_out : (I : F → Type 0) (test : K × V → Bool) → ((f : F) (k : K) (v : V) (b : Bool) (w : V) (h : F) → I f → CalledAtPair g f k v b w h → (b ≡ test (k, v)) × (w ≡ v) × I h)
       → I s.pred → (kb : K → List ℕ) (S : List (Numbered K V)) → s.map.now ≡ S → IsContent (pair_bytes kb) (pairs S)
       → (r ≡ slice_get (still_to_extract test s) 0) × MatchOption r (t.map.now ≡ S) (λ x. pairs t.map.now ≡ without (pair_bytes kb) (pairs S) (kb x.0))

@@ -18,7 +18,7 @@ use Rattle.art_insert.proofs.Numbers.{lacks_filter}
 module _ {K V : Type 0} (test : K × V → Bool) where
   -- ---- all at once
 
-  -- a pair in front that has another number stays
+  -- a first pair with another number is kept
   after_front : (left ps : List (Numbered K V)) (p : Numbered K V) → Lacks left p.0 → taken_all test left (p ∷ ps) ≡ p ∷ taken_all test left ps
   after_front [] ps p l = refl
   after_front (q ∷ left) ps p l =
@@ -27,7 +27,7 @@ module _ {K V : Type 0} (test : K × V → Bool) where
         | false ↦ after_front left ps p l.1
       ]
 
-  -- the pair in front goes first
+  -- without the number of the first pair, the others are left
   front_taken : (p : Numbered K V) (ps : List (Numbered K V)) → without_number (p ∷ ps) p.0 ≡ ps
   front_taken p ps = rw (eq-eqb p.0 p.0 refl) refl
 
@@ -48,7 +48,7 @@ module _ {K V : Type 0} (test : K × V → Bool) where
           | false ↦ ap pairs_of (after_front rest ps p lacks) ∙ ap (λ l. p.1 ∷ l) (some_taken ps d.1)
         ]
 
-  -- a walk that is opened over the pairs that pass a test
+  -- a walk opened over the pairs that pass a test: the pairs of the map once all are taken
   pub opened_taken : (c c' : Cursor) (ps qs rs : List (Numbered K V)) → ps ≡ qs → rs ≡ qs → AreDistinct qs → c' ≡ c → (within : K × V → Bool) → leaves_left c ps ≡ filter (λ p. within p.1) ps
       → pairs (taken_all test (leaves_left c' rs) rs) ≡ filter (λ x. not (within x && test x)) (pairs qs)
   unfolding pairs
@@ -57,7 +57,7 @@ module _ {K V : Type 0} (test : K × V → Bool) where
       ap (λ l. pairs_of (taken_all test l rs)) e ∙ some_taken within rs (subst AreDistinct (sym same) d) ∙ ap (λ l. filter (λ x. not (within x && test x)) (pairs_of l)) same
 
   module _ (within : K × V → Bool) where
-    -- of the pairs within, those that pass the test
+    -- the pairs within that pass the test
     some_left : (ps : List (Numbered K V)) → filter test (pairs_of (filter (λ p. within p.1) ps)) ≡ filter (λ x. within x && test x) (pairs_of ps)
     some_left [] = refl
     some_left (p ∷ ps) =
@@ -68,7 +68,7 @@ module _ {K V : Type 0} (test : K × V → Bool) where
           | false ↦ some_left ps
         ]
 
-  -- of a walk that is opened so
+  -- the same walk: the pairs that it has still to take
   pub opened_left : (c c' : Cursor) (ps qs rs : List (Numbered K V)) → ps ≡ qs → rs ≡ qs → c' ≡ c → (within : K × V → Bool) → leaves_left c ps ≡ filter (λ p. within p.1) ps
       → filter test (pairs (leaves_left c' rs)) ≡ filter (λ x. within x && test x) (pairs qs)
   unfolding pairs
@@ -89,21 +89,21 @@ module _ {K V : Type 0} (test : K × V → Bool) where
     same_list : new ≡ old
     same_list = lent.lent.written ∙ same_value old lent.number lent.key v lent.lent.named
 
-    -- the pair that was lent and kept, its value as it was, does not pass the test
+    -- if the lent pair was kept with its value, and does not pass the test, the end is the same
     pub kept_first : test (lent.key, v) ≡ false → taken_all test after new ≡ taken_all test left old
     kept_first t =
         ap (taken_all test after) same_list ∙ sym (ap (λ l. taken_all test l old) lent.splits ∙ ap (λ b. taken_all test after (cond b (without_number old lent.number) old)) t)
 
-    -- the pair that was lent and taken does
+    -- so it is if the lent pair was taken, and passes the test
     pub taken_first : test (lent.key, v) ≡ true → taken_all test after (without_number new lent.number) ≡ taken_all test left old
     taken_first t =
         ap (λ l. taken_all test after (without_number l lent.number)) same_list ∙ sym (ap (λ l. taken_all test l old) lent.splits ∙ ap (λ b. taken_all test after (cond b (without_number old lent.number) old)) t)
 
-    -- what was lent is the pair
+    -- the number of the lent pair names it
     pub lent_pair : leaf_in new lent.number ≡ Some (lent.key, v)
     lent_pair = ap (λ l. leaf_in l lent.number) same_list ∙ lent.lent.named
 
-    -- where it does not pass the test, those still to be taken are those after it, and else they are it and those
+    -- the pairs still to be taken are those after it, and it too if it passes the test
     pub kept_left : test (lent.key, v) ≡ false → filter test (pairs left) ≡ filter test (pairs after)
     unfolding pairs
     kept_left t = ap (λ l. filter test (pairs_of l)) lent.splits ∙ ap (λ b. cond b ((lent.key, v) ∷ filter test (pairs_of after)) (filter test (pairs_of after))) t
@@ -114,7 +114,7 @@ module _ {K V : Type 0} (test : K × V → Bool) where
 
   -- ---- nothing is left
 
-  -- of no pairs none pass
+  -- if no pair is left, none passes
   pub none_to_take : (left : List (Numbered K V)) → left ≡ [] → filter test (pairs left) ≡ []
   unfolding pairs
   none_to_take left none = ap (λ l. filter test (pairs_of l)) none
@@ -123,7 +123,7 @@ module _ {K V : Type 0} (test : K × V → Bool) where
   cons_nil true x xs h = cc
   cons_nil false x xs h = (refl, h)
 
-  -- where none pass, none are taken
+  -- if no pair passes, none is taken
   pub none_taken : (left ps : List (Numbered K V)) → filter test (pairs left) ≡ [] → taken_all test left ps ≡ ps
   unfolding pairs
   none_taken [] ps h = refl
@@ -131,7 +131,7 @@ module _ {K V : Type 0} (test : K × V → Bool) where
       let n = cons_nil (test p.1) p.1 (filter test (pairs_of left)) h in
       ap (λ b. taken_all test left (cond b (without_number ps p.0) ps)) n.0 ∙ none_taken left ps n.1
 
--- ---- a walk s that lent its first pair, its value as it was, and is n, and then k
+-- ---- a walk s that lent its first pair, with its value unchanged, and is then n, and then k
 
 module _ {K V : Type 0} {p : ℕ} {g : Ghosts K} (test : K × V → Bool) (s n k : TakeWalk K V p g) (v : V) (lent : LentFirst s.map.now n.map.now (take_left s) (take_left n) n.lent v v) (left : take_left k ≡ take_left n) where
   -- the pair was kept, and does not pass the test

@@ -1,4 +1,4 @@
--- A closure that may be called at each pair of a list, in turn.
+-- A closure that may be called on each pair of a list, in turn.
 use Rattle.std.proofs.Common.{◌≡◌, ◌∙◌, List, [], ◌∷◌, filter, Bool, true, false, cond, refl, sym, ap, subst}
 use Rattle.std.specs.Borrow.{Bor, MutBor}
 use Rattle.std.proofs.lemmas.List.Elements.{All-filter, filter_passes}
@@ -19,7 +19,7 @@ pairs_filter t (p ∷ S) = elim (t p.1) as (λ b. pairs_of (cond b (p ∷ filter
 ]
 
 module _ {F K V : Type 0} (R : F → K × V → V → F → Type 0) (Q : F → K × V → Type 0) where
-  -- one that stays in states of one kind, in each of which it may be called
+  -- if each call keeps A of the state, A holds after all calls
   stays : (A : F → Type 0) → ((f f' : F) (x : K × V) (w : V) → R f x w f' → A f → A f') → (before : List (K × V)) (f f' : F) → FoldsTo (SomeCallAt R) f before f' → A f → A f'
   stays A next [] f f' e h = subst A e h
   stays A next (x ∷ before) f f' r h = stays A next before r.0 f' r.2 (next f r.0 x r.1.0 r.1.1 h)
@@ -27,16 +27,16 @@ module _ {F K V : Type 0} (R : F → K × V → V → F → Type 0) (Q : F → K
   callable_in : (A : F → Type 0) → ((f f' : F) (x : K × V) (w : V) → R f x w f' → A f → A f') → ((f : F) (x : K × V) → A f → Q f x) → (f : F) (xs : List (K × V)) → A f → CallableInTurn R Q f xs
   callable_in A next takes f xs h = record { at = λ before after f' x e r. takes f' x (stays A next before f f' r h) }
 
-  -- one that may be called in any state where P holds of the pair
+  -- a closure that may be called in any state on a pair for which P holds
   callable_such : (P : K × V → Type 0) → ((f : F) (x : K × V) → P x → Q f x) → (f : F) (xs : List (K × V)) → All P xs → CallableInTurn R Q f xs
   callable_such P takes f xs all = record { at = λ before after f' x e r. takes f' x (middle P before after x (subst (All P) e all)) }
 
-  -- over all pairs
+  -- on all pairs
   callable_all : (P : K × V → Type 0) → ((f : F) (x : K × V) → P x → Q f x) → (f : F) (left S : List (Numbered K V)) → left ≡ S → All P (pairs S) → CallableInTurn R Q f (pairs_of left)
   unfolding pairs
   callable_all P takes f left S e all = callable_such P takes f (pairs_of left) (subst (λ (l : List (Numbered K V)). All P (pairs_of l)) (sym e) all)
 
-  -- over the pairs that pass a test
+  -- on the pairs that pass a test
   callable_where : (t : K × V → Bool) (P : K × V → Type 0) → ((f : F) (x : K × V) → t x ≡ true → P x → Q f x) → (f : F) (left S : List (Numbered K V)) → left ≡ filter (λ p. t p.1) S → All P (pairs S) → CallableInTurn R Q f (pairs_of left)
   unfolding pairs
   callable_where t P takes f left S e all =
@@ -44,22 +44,22 @@ module _ {F K V : Type 0} (R : F → K × V → V → F → Type 0) (Q : F → K
       callable_such (λ x. (t x ≡ true) × P x) (λ f x h. takes f x h.0 h.1) f (pairs_of left) (subst (All (λ x. (t x ≡ true) × P x)) (sym (ap pairs_of e ∙ pairs_filter t S)) both)
 
 module _ {F K V : Type 0} (g : Mut F (MutBor V × Unit {0}) (Unit {0} × (MutBor V × Unit {0}))) where
-  -- one that may always be called
+  -- a closure that may always be called
   pub callable_on_each_value : (f : F) (xs : List (K × V)) → always_mut g f → CallableInTurn (LeavesValue g) (TakesAtValue g) f xs
   callable_on_each_value = callable_in (LeavesValue g) (TakesAtValue g) (always_mut g) (λ f f' x w l h. mut_next g f _ _ _ _ l.called refl h) (λ f x h p e. (h.at ((p, tt) ∷ [])).0)
 
-  -- one that may be called in any state at a value where P holds of the pair, which holds for all
+  -- a closure that may be called in any state on the value of a pair for which P holds, if P holds of all pairs
   pub callable_on_such_values : (P : K × V → Type 0) → ((f : F) (x : K × V) → P x → TakesAtValue g f x) → (f : F) (left S : List (Numbered K V)) → left ≡ S → All P (pairs S) → CallableInTurn (LeavesValue g) (TakesAtValue g) f (pairs_of left)
   callable_on_such_values = callable_all (LeavesValue g) (TakesAtValue g)
 
 module _ {F K V : Type 0} (g : Mut F (Bor K × (MutBor V × Unit {0})) (Unit {0} × (MutBor V × Unit {0}))) where
-  -- the same of one that has the key as well
+  -- the same for a closure that is called on the key too
   pub callable_on_each_lent : (f : F) (xs : List (K × V)) → always_mut g f → CallableInTurn (LeavesPair g) (TakesAtPair g) f xs
   callable_on_each_lent = callable_in (LeavesPair g) (TakesAtPair g) (always_mut g) (λ f f' x w l h. mut_next g f _ _ _ _ l.called refl h) (λ f x h p q hp hq. (h.at ((p, (q, tt)) ∷ [])).0)
 
   pub callable_on_such_lent : (P : K × V → Type 0) → ((f : F) (x : K × V) → P x → TakesAtPair g f x) → (f : F) (left S : List (Numbered K V)) → left ≡ S → All P (pairs S) → CallableInTurn (LeavesPair g) (TakesAtPair g) f (pairs_of left)
   callable_on_such_lent = callable_all (LeavesPair g) (TakesAtPair g)
 
-  -- and over the pairs that pass a test
+  -- and on the pairs that pass a test
   pub callable_on_such_within : (t : K × V → Bool) (P : K × V → Type 0) → ((f : F) (x : K × V) → t x ≡ true → P x → TakesAtPair g f x) → (f : F) (left S : List (Numbered K V)) → left ≡ filter (λ p. t p.1) S → All P (pairs S) → CallableInTurn (LeavesPair g) (TakesAtPair g) f (pairs_of left)
   callable_on_such_within = callable_where (LeavesPair g) (TakesAtPair g)

@@ -15,23 +15,23 @@ use Rattle.blart_map.specs.Content.{pairs}
 use Rattle.blart_map.specs.EachWritten.{CalledAtEach, with_values, written_with, WritesLeft, WritesEach, LeavesValue, ActsOnValue, LeavesPair, ActsOnPair}
 
 module _ {K V : Type 0} where
-  -- a pair in front that has another number stays
+  -- a first pair with another number is unchanged
   pub after_front : (values : List V) (left ps : List (Numbered K V)) (p : Numbered K V) → Lacks left p.0 → written_with values left (p ∷ ps) ≡ p ∷ written_with values left ps
   after_front [] left ps p l = refl
   after_front (w ∷ values) [] ps p l = refl
   after_front (w ∷ values) (q ∷ left) ps p l = rw (ne_eqb p.0 q.0 (λ e. l.0 (sym e))) (after_front values left (with_value ps q.0 w) p l.1)
 
-  -- the pair in front is written first
+  -- the first pair is written first
   pub front_written : (w : V) (values : List V) (p : Numbered K V) (ps rest : List (Numbered K V)) → written_with (w ∷ values) (p ∷ rest) (p ∷ ps) ≡ written_with values rest ((p.0, (p.1.0, w)) ∷ ps)
   front_written w values p ps rest = rw (eq-eqb p.0 p.0 refl) refl
 
-  -- the numbers stay
+  -- the numbers are unchanged
   numbers_with : (values : List V) (left ps : List (Numbered K V)) → numbers (written_with values left ps) ≡ numbers ps
   numbers_with [] left ps = refl
   numbers_with (w ∷ values) [] ps = refl
   numbers_with (w ∷ values) (p ∷ left) ps = numbers_with values left (with_value ps p.0 w) ∙ numbers-with_value ps p.0 w
 
-  -- so do the keys
+  -- so are the keys
   keys_with : (ps : List (Numbered K V)) (i : ℕ) (w : V) → map (λ p. p.0) (pairs_of (with_value ps i w)) ≡ map (λ p. p.0) (pairs_of ps)
   keys_with [] i w = refl
   keys_with (p ∷ ps) i w =
@@ -46,12 +46,12 @@ module _ {K V : Type 0} where
   keys_written (w ∷ values) (p ∷ left) ps = keys_written values left (with_value ps p.0 w) ∙ keys_with ps p.0 w
 
 module _ {F K V : Type 0} (R : F → K × V → V → F → Type 0) where
-  -- the keys stay
+  -- the keys are unchanged
   pub same_keys : (left old new : List (Numbered K V)) (f : F) → WritesLeft R left old f new → map (λ p. p.0) (pairs new) ≡ map (λ p. p.0) (pairs old)
   unfolding pairs
   same_keys left old new f r = ap (λ l. map (λ p. p.0) (pairs_of l)) r.written ∙ keys_written r.values left old
 
-  -- and there are as many pairs
+  -- and the number of pairs is unchanged
   pub same_length : (left old new : List (Numbered K V)) (f : F) → WritesLeft R left old f new → length (pairs new) ≡ length (pairs old)
   same_length left old new f r = sym (length-map (pairs new) (λ p. p.0)) ∙ ap length (same_keys left old new f r) ∙ length-map (pairs old) (λ p. p.0)
 
@@ -59,11 +59,11 @@ module _ {F K V : Type 0} (R : F → K × V → V → F → Type 0) where
   pub walk_fits_after : (c : Cursor) (lent : Option ℕ) (left old new : List (Numbered K V)) (f : F) → WritesLeft R left old f new → walk_fits c lent (numbers old) ≡ true → walk_fits c lent (numbers new) ≡ true
   walk_fits_after c lent left old new f r fits = ap (walk_fits c lent) (ap numbers r.written ∙ numbers_with r.values left old) ∙ fits
 
-  -- and counts as before
+  -- and its count fits as before
   pub fits_after : (c : Cursor) (lent : Option ℕ) (n : ℕ) (left old new : List (Numbered K V)) (f : F) → WritesLeft R left old f new → count_fits c lent n (numbers old) ≡ true → count_fits c lent n (numbers new) ≡ true
   fits_after c lent n left old new f r fits = ap (count_fits c lent n) (ap numbers r.written ∙ numbers_with r.values left old) ∙ fits
 
-  -- ---- where all pairs were left
+  -- ---- if all pairs were left
 
   each_written : (values : List V) (ps : List (Numbered K V)) (f g : F) → AreDistinct ps → CalledAtEach R (pairs_of ps) f values g → pairs_of (written_with values ps ps) ≡ with_values values (pairs_of ps)
   each_written [] [] f g d c = refl
@@ -135,7 +135,7 @@ module _ {F K V : Type 0} (R : F → K × V → V → F → Type 0) where
         let w = writes_each left old new S f d r same all in
         ap (λ l. at (bytes kb) l q) (writes_mapped left old new S T d r same all e) ∙ stored_mapped kb q w.values (pairs S) w.after w.called
 
--- the value of a pair that has another value
+-- the value of a pair whose value is mapped
 pub value_mapped : {K V : Type 0} (h : V → V) (o : Option (K × V)) → option_map (λ (p : K × V). p.1) (option_map (λ (p : K × V). (p.0, h p.1)) o) ≡ option_map h (option_map (λ (p : K × V). p.1) o)
 value_mapped h None = refl
 value_mapped h (Some x) = refl

@@ -1,4 +1,4 @@
--- A walk whose lent pair is written.
+-- A walk, once the lent pair is written.
 use Rattle.std.proofs.Common.{◌≡◌, ℕ, List, Some, true, sym, ap, subst}
 use Rattle.std.specs.Prelude.{MatchOption, ⊤}
 use mathlib.Core.Bool.{Bool-set}

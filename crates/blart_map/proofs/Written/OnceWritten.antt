@@ -11,12 +11,12 @@ use Rattle.blart_map.specs.OnceWritten.{rewritten, all_rewritten}
 use Rattle.art_insert.proofs.Numbers.{lacks_filter}
 
 module _ {K V : Type 0} (f : K × V → V) where
-  -- a pair in front that has another number stays
+  -- a first pair with another number is unchanged
   after_front : (left ps : List (Numbered K V)) (p : Numbered K V) → Lacks left p.0 → written_all f left (p ∷ ps) ≡ p ∷ written_all f left ps
   after_front [] ps p l = refl
   after_front (q ∷ left) ps p l = rw (ne_eqb p.0 q.0 (λ e. l.0 (sym e))) (after_front left (with_value ps q.0 (f q.1)) p l.1)
 
-  -- the pair in front is written first
+  -- the first pair is written first
   front_written : (p : Numbered K V) (ps rest : List (Numbered K V)) → written_all f (p ∷ rest) (p ∷ ps) ≡ written_all f rest ((p.0, (p.1.0, f p.1)) ∷ ps)
   front_written p ps rest = ap (λ b. written_all f rest (cond b ((p.0, (p.1.0, f p.1)) ∷ ps) (p ∷ with_value ps p.0 (f p.1)))) (eq-eqb p.0 p.0 refl)
 
@@ -48,12 +48,12 @@ module _ {K V : Type 0} (f : K × V → V) where
   -- ---- a walk that is opened
 
   module _ (c c' : Cursor) (ps qs rs : List (Numbered K V)) (view : ps ≡ qs) (same : rs ≡ qs) (d : AreDistinct qs) (cs : c' ≡ c) where
-    -- over the pairs that pass a test
+    -- over the pairs that pass a test, and their values are written
     pub opened_written : (t : K × V → Bool) → leaves_left c ps ≡ filter (λ p. t p.1) ps → pairs (written_all f (leaves_left c' rs) rs) ≡ rewritten t f (pairs qs)
     opened_written t left =
         filtered_written rs (leaves_left c' rs) (subst AreDistinct (sym same) d) t (ap (λ k. leaves_left k rs) cs ∙ subst (λ (l : List (Numbered K V)). leaves_left c l ≡ filter (λ p. t p.1) l) (view ∙ sym same) left)
         ∙ ap (λ l. rewritten t f (pairs l)) same
 
-  -- over all pairs
+  -- over all pairs, and their values are written
   pub all_opened : (rs qs left : List (Numbered K V)) → AreDistinct qs → rs ≡ qs → left ≡ qs → pairs (written_all f left rs) ≡ all_rewritten f (pairs qs)
   all_opened rs qs left d same e = all_written rs left (subst AreDistinct (sym same) d) (e ∙ sym same) ∙ ap (λ l. all_rewritten f (pairs l)) same

@@ -9,17 +9,17 @@ use Rattle.art_insert.proofs.Placed.Setting.{pair_written as pair_set}
 use Rattle.art_walk.specs.Lent.{written_all, written_last, LentFirst, LentLast}
 
 module _ {K V : Type 0} where
-  -- values written at two places, in either order
+  -- values are written under two numbers, in either order
   with_apart : (ps : List (Numbered K V)) (i j : ℕ) (v w : V) → i ≢ j → with_value (with_value ps i v) j w ≡ with_value (with_value ps j w) i v
   with_apart [] i j v w ne = refl
   with_apart (p ∷ ps) i j v w ne = grind (arith, common_steps, with_apart ps i j v w ne)
 
-  -- a value written before the others, or after them
+  -- a value is written before the others, or after them
   written_before : (f : K × V → V) (left ps : List (Numbered K V)) (i : ℕ) (w : V) → Lacks left i → written_all f left (with_value ps i w) ≡ with_value (written_all f left ps) i w
   written_before f [] ps i w l = refl
   written_before f (p ∷ left) ps i w l = ap (written_all f left) (with_apart ps i p.0 w (f p.1) (λ e. l.0 (sym e))) ∙ written_before f left (with_value ps p.0 (f p.1)) i w l.1
 
-  -- the last of those that are left is written last
+  -- the last pair that is left is written last
   written_end : (f : K × V → V) (left ps : List (Numbered K V)) (p : Numbered K V) → written_all f (left ++ p ∷ []) ps ≡ with_value (written_all f left ps) p.0 (f p.1)
   written_end f [] ps p = refl
   written_end f (q ∷ left) ps p = written_end f left (with_value ps q.0 (f q.1)) p
@@ -41,7 +41,7 @@ module _ {K V : Type 0} where
       some-injective {p} {q} e = ap (λ o. unwrap_or o p) e
 
   module _ (old new left after : List (Numbered K V)) (last : Option ℕ) (k : K) (v u x w : V) (now still : List (Numbered K V)) (found : MatchOption last ⊤ (λ id. leaf_in new id ≡ Some (k, x))) (written : now ≡ written_last last new w) (same : still ≡ after) where
-    -- a walk that lent its first value, which has w once `pair`, which returned the key k, wrote that: it is as if w was written where `next` lent it
+    -- if a walk lent its first value, and w was written through `pair`, which returned the key k, it is as if w was written where `next` lent it
     pub pair_written : LentFirst old new left after last v u → (r : LentFirst old now left still last v w) × (r.key ≡ k)
     pair_written h =
         let is : now ≡ with_value old h.number w = written ∙ again old new last h.number u w h.is_last h.lent.written in (
@@ -61,7 +61,7 @@ module _ {K V : Type 0} where
           same_key old new last h.number h.key k v u x h.is_last h.lent.named h.lent.written found,
         )
 
-    -- the same of its last value
+    -- the same for its last value
     pub pair_written_back : LentLast old new left after last v u → (r : LentLast old now left still last v w) × (r.key ≡ k)
     pair_written_back h =
         let is : now ≡ with_value old h.number w = written ∙ again old new last h.number u w h.is_last h.lent.written in (

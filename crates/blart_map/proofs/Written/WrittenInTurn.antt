@@ -1,13 +1,13 @@
--- What a closure that shows a state leaves, called at one value after the other.
+-- What a closure that shows a state leaves, if it is called on one value after another.
 use Rattle.std.proofs.Common.{◌≡◌, Bool, true, false, List, [], ◌∷◌, filter, cond, if◌then◌else◌, ap, ◌∙◌, refl}
 use Rattle.blart_map.specs.EachWritten.{CalledAtEach, with_values, with_values_where, WritesEach, WritesWhere}
 
--- the pairs with the values that a state and the pair give, where each pair changes the state
+-- the pairs with values that depend on a state and the pair; each pair changes the state
 abbrev pub valued_by : {S K V : Type 0} → (S → K × V → V) → (S → K × V → S) → S → List (K × V) → List (K × V)
 valued_by value next s [] = []
 valued_by value next s (x ∷ xs) = (x.0, value s x) ∷ valued_by value next (next s x) xs
 
--- the same of the pairs that pass the test; the others stand, and leave the state
+-- the same for the pairs that pass the test; the others are unchanged, and do not change the state
 abbrev pub valued_where : {S K V : Type 0} → (K × V → Bool) → (S → K × V → V) → (S → K × V → S) → S → List (K × V) → List (K × V)
 valued_where test value next s [] = []
 valued_where test value next s (x ∷ xs) = if test x then (x.0, value s x) ∷ valued_where test value next (next s x) xs else x ∷ valued_where test value next s xs

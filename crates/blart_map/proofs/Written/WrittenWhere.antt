@@ -1,4 +1,4 @@
--- Values that a closure writes where a test passes.
+-- Values that a closure writes for the pairs that pass a test.
 use Rattle.std.proofs.Common.{◌≡◌, Bool, true, false, cond, List, [], ◌∷◌, filter, map, refl, sym, ap, ◌∙◌, subst}
 use Rattle.std.specs.Borrow.{Bor, MutBor}
 use denote.Param.Members.{Mut}
@@ -38,7 +38,7 @@ module _ {F K V : Type 0} (R : F → K × V → V → F → Type 0) (t : Numbere
       ap pairs_of (e ∙ r.written ∙ ap (λ l. written_with r.values l old) some ∙ ap (λ l. written_with r.values (filter t S) l) same) ∙ where_written S r.values r.after d' c
 
 module _ {F K V : Type 0} (R : F → K × V → V → F → Type 0) (t : K × V → Bool) where
-  -- one that fails the test stands in front
+  -- a first pair that fails the test is unchanged
   stands : (x : K × V) (xs : List (K × V)) (values : List V) → t x ≡ false → with_values_where t values (x ∷ xs) ≡ x ∷ with_values_where t values xs
   stands x xs [] e = refl
   stands x xs (w ∷ values) e = rw e refl
@@ -60,7 +60,7 @@ module _ {F K V : Type 0} (R : F → K × V → V → F → Type 0) (t : K × V 
           ap pairs_of (after_front values rest ps p (lacks_filter (λ p. t p.1) ps p.0 d.0))
           ∙ ap (λ l. p.1 ∷ l) (others f values c) ∙ sym (stands p.1 (pairs_of ps) values e)
 
-  -- the pairs that pass are those of the numbered pairs that pass
+  -- the pairs that pass are the pairs of the numbered pairs that pass
   passing : (ps : List (Numbered K V)) → pairs_of (filter (λ p. t p.1) ps) ≡ filter t (pairs_of ps)
   passing ps = sym (filter-map (λ (p : Numbered K V). p.1) t ps)
 

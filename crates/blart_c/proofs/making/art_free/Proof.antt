@@ -1,4 +1,4 @@
--- `art_free` makes a loose box of the pointer and of what C gives back, and lets it go.
+-- `art_free` makes a loose box of the pointer and of what C returns to it, and releases the box.
 use Rattle.std.proofs.Common.{◌≡◌, List, [], ◌∷◌, ◌++◌, refl, sym, ap, ◌∙◌, subst}
 use mir.Raw.{raw as bare}
 use mir.Val.{Val, vunit, vptr}

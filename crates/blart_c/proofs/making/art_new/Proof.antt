@@ -1,4 +1,4 @@
--- `art_new` hands C the pointer of a loose box, and what the box owned.
+-- `art_new` passes to C the pointer of a loose box, and what the box owned.
 use Rattle.std.proofs.Common.{◌≡◌, List, [], ◌∷◌, ◌++◌, refl, sym, subst, lit<, w32, IfOk, MutBor}
 use mir.Syntax.{Body, named}
 use mathlib.Core.Bool.{true, ◌&&◌}

@@ -1,4 +1,4 @@
--- Eight digits are those of the number that they make.
+-- Eight digits are the digits of the number that they make.
 use Rattle.std.proofs.Common.{sym, ◌∙◌}
 use Rattle.blart_keys.proofs.NumberKeys.{be_seen_8}
 use Rattle.script_words.proofs.keys.number_of_digits.Goals as goal

@@ -37,7 +37,7 @@ use Rattle.blart_c.proofs.handle.ArtMap.tree.Code as code
 abbrev stayed : Stays f.ended.signature.params f.ended.kept
 stayed = (stay_dropped (mut_ref_to (0 ∷ []) tt (plain (λ _. Hd))) no, tt)
 
--- the handle as the box that it stands for
+-- the handle as a box
 abbrev held : Hd.Denot → D E
 held m = record { ptr = m.at; alloc = m.alloc; value = m.tree }
 

@@ -51,7 +51,7 @@ returns-clause-len g c =
     ap (λ b. length (pairs_of c.take.new.self.pairs) + (if b then 1 else 0)) (ap (λ o. is_some o) (returns-clause-stored g c))
     ∙ subst (λ T. length T + (if has kb S q then 1 else 0) ≡ length S) (sym (returns-clause-rest g c)) (len_without kb S q (whole_pairs kb c.self.inside.tree.pairs S (ap pairs_of c.self.view_is) c.law.ensures.content))
 
--- what is at the bytes, if anything, has them
+-- a pair that is found at the bytes q has these bytes
 found_bytes : {K V : Type 0} (kb : K → List ℕ) (S : List (K × V)) (q : List ℕ) (o : Option (K × V)) → pair_at kb S q ≡ o → IfSome o (λ (pair : K × V). kb pair.0 ≡ q)
 found_bytes kb S q None e = tt
 found_bytes kb S q (Some x) e = pair_at-bytes kb S q x e
