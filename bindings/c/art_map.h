@@ -18,10 +18,11 @@
 
    Costs are in these terms. A visit is a read of one inner node or of one pair. A descent is a path
    from the root to a pair, with at most one inner node for each byte of the key. An insertion makes
-   a descent, and sometimes a second one. A new key also allocates for one pair, and 32 pairs move
-   if it comes into a full row of 64. An opening makes at most 2 (n + 2) (m + 2) visits, if the
-   given keys have at most n bytes and the stored keys at most m. Only art_new, art_insert and
-   art_overwrite report that memory ran out, and no other call needs memory. */
+   a descent, and sometimes a second one. A new key also allocates for one pair, and if it comes
+   between the pairs of a full row of 64, 32 pairs move, with at most one descent for each. An
+   opening makes at most 2 (n + 2) (m + 2) visits, if the given keys have at most n bytes and the
+   stored keys at most m. Only art_new, art_insert and art_overwrite report that memory ran out, and
+   no other call needs memory. */
 #ifndef ART_MAP_H
 #define ART_MAP_H
 
@@ -108,8 +109,9 @@ uint32_t art_prev(art_map *map, const uint8_t *before, size_t before_len, uint8_
                   size_t *len, uint64_t *value);
 
 /* A page: the pairs from the key `from` on, in order, as many as there is room for. Returns their
-   number. If `skip` is true, a pair with the key `from` itself is left out: pass false
-   and no bytes for the first page, and then true and the last key of the page before.
+   number. If `skip` is true, a pair with the key `from` itself is left out: for the first page pass
+   false, any pointer that is not NULL, and the length 0, and then true and the last key of the page
+   before. The rooms of `ends` and `values` are at least 1.
 
    The keys' bytes lie one after another in `keys`, keys[0 .. ends[0]) first, then keys[ends[0]
    .. ends[1]). The rest of each buffer is unchanged. *needed becomes the length of the key after

@@ -148,7 +148,7 @@ class ArtMap(MutableMapping[bytes, int]):
             self._open(), key, len(key), _number(value), ctypes.byref(self._value)
         )
         if code == _CONFLICT:
-            raise ConflictError(f"{key!r} is a prefix of a stored key, or a stored key is one of it")
+            raise ConflictError(f"{key!r} begins a stored key, or a stored key begins it")
         if code == _NO_MEMORY:
             raise MemoryError
 

@@ -109,7 +109,7 @@ pub enum Error {
 impl fmt::Display for Error {
     fn fmt(&self, f: &mut fmt::Formatter<'_>) -> fmt::Result {
         f.write_str(match self {
-            Error::Conflict => "a stored key is a prefix of the key, or the key is one of a stored key",
+            Error::Conflict => "the key begins a stored key, or a stored key begins it",
             Error::NoMemory => "out of memory",
         })
     }
