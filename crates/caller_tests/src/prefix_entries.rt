@@ -3,7 +3,7 @@ ghost use Rattle.std.specs.Prelude.{◌≡◌, ◌≢◌, ◌+◌, ◌<◌, ◌^
 ghost use Rattle.blart.specs.Words.{pairs, pair_at, value_at, overlaps, related, slice_bytes, zkey_bytes, PrefixEntryFits};
 ghost use denote.Param.{number};
 
-use blart::map::PrefixKind;
+use blart::map::{PrefixEntry, PrefixKind, PrefixOccupied};
 use blart::{AsBytes, Map, ZKey};
 use std::alloc::AllocError;
 
@@ -45,6 +45,31 @@ pub fn set_over(
             *entry.insert_entry(0).into_mut() = target;
         }
         PrefixKind::Vacant(entry) => {
+            *entry.insert(0)? = target;
+        }
+    }
+    Ok(())
+}
+
+/// Does what `set_over` does, by a `match` on the entry itself.
+pub fn set_over_entry(
+    routes: &mut Map<&'static str, u32>,
+    front: &'static str,
+    target: u32,
+) -> Result<(), AllocError>
+    ensures set { OnOk result (value_at slice_bytes (pairs routes.new) front.now ≡ Some target) }
+    ensures others { (q : List ℕ) → q ≢ front.now → related q front.now ≡ false
+        → pair_at slice_bytes (pairs routes.new) q ≡ pair_at slice_bytes (pairs routes.old) q }
+    ensures refused { OnErr result (routes.new ≡ routes.old) }
+{
+    match routes.prefix_entry(front) {
+        PrefixEntry::Occupied(PrefixOccupied::Leaf(entry)) => {
+            *entry.into_mut() = target;
+        }
+        PrefixEntry::Occupied(PrefixOccupied::Inner(entry)) => {
+            *entry.insert_entry(0).into_mut() = target;
+        }
+        PrefixEntry::Vacant(entry) => {
             *entry.insert(0)? = target;
         }
     }
