@@ -19,7 +19,7 @@ use Rattle.art_kinds.proofs.Growing.{freed-spares}
 pub holds_of : {X : Type 0} → (R : X → Type 0) (o : Option X) (x : X) → o ≡ Some x → IsSomeAnd o R → R x
 holds_of R o x e h = subst (λ t. IsSomeAnd t R) e h
 
--- an option of which something holds has a value
+-- an option has a value if a statement holds of its value
 pub some_such : {X : Type 0} → (R : X → Type 0) (o : Option X) → IsSomeAnd o R → IsSome o
 some_such R None h = absurd h
 some_such R (Some x) h = refl

@@ -60,7 +60,7 @@ poured es i d new a l h =
       | inr p ↦ h.rest c p ∙ sym (others_before es i c d l p)
     ])
 
--- an index of which each entry is 48 has no place
+-- an index has no place if each of its entries is 48
 all_48 : (n b : ℕ) → ◌≡◌ {A = ℕ} (get_or (replicate {A = ℕ} n 48) b 48) 48
 all_48 zero zero = refl
 all_48 zero (suc b) = refl

@@ -14,7 +14,7 @@ pub use Rattle.art_cells.proofs.CallerLemmas.{Has-tail, Has-first, Has-last, no_
 pub use Rattle.art_cells.proofs.CallerLemmas.{leaf_in-split, number_after-split, without_number-split, with_pair-split, with_value-split}
 -- a list without a pair, or with another key or value for it
 pub use Rattle.art_cells.proofs.CallerLemmas.{length-without_number, AreDistinct-without_number, same_first, same_last, leaf_in-with_now, others-with_pair, AreDistinct-with_value, numbers-with_value}
--- the pairs that pass a test, if one is removed, and lists of which both ends are known
+-- the pairs that pass a test, if one is removed, and lists whose ends are both known
 pub use Rattle.art_cells.proofs.CallerLemmas.{AreDistinct-filter, filter-without, dropped_without, filter_every, two_ends, only_one}
 -- the ends of the pairs within a bound, or with a prefix
 pub use Rattle.art_cells.proofs.CallerLemmas.{are_ends, no_pairs_between, number_within_has}

@@ -1,4 +1,4 @@
-//! Answers each line of standard input with one or more lines on standard output.
+//! Runs the command on each line of standard input, and writes its result to standard output.
 #![tactic(auto)]
 
 use blart::{RunError, Watched, fault_line, run};

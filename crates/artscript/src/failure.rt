@@ -1,7 +1,7 @@
 //! The reasons why the program stops.
 use script_words::{Text, Unanswered};
 
-/// The reason why the program ended without its answers.
+/// The reason why the program ended before it wrote its results.
 #[derive(Drop)]
 pub(crate) enum Failure {
     /// Standard input could not be read.

@@ -26,33 +26,9 @@ pub fn merge_routes(routes: &mut Map<&'static str, u32>, front: &'static str, ta
     }
 }
 
-/// Sets the target of a route, in the place of the routes that it overlaps.
+/// Sets the target of a route, in the place of the routes that it overlaps, by a `match` on the
+/// entry itself.
 pub fn set_over(
-    routes: &mut Map<&'static str, u32>,
-    front: &'static str,
-    target: u32,
-) -> Result<(), AllocError>
-    ensures set { OnOk result (value_at slice_bytes (pairs routes.new) front.now ≡ Some target) }
-    ensures others { (q : List ℕ) → q ≢ front.now → related q front.now ≡ false
-        → pair_at slice_bytes (pairs routes.new) q ≡ pair_at slice_bytes (pairs routes.old) q }
-    ensures refused { OnErr result (routes.new ≡ routes.old) }
-{
-    match routes.prefix_entry(front).kind() {
-        PrefixKind::Leaf(entry) => {
-            *entry.into_mut() = target;
-        }
-        PrefixKind::Inner(entry) => {
-            *entry.insert_entry(0).into_mut() = target;
-        }
-        PrefixKind::Vacant(entry) => {
-            *entry.insert(0)? = target;
-        }
-    }
-    Ok(())
-}
-
-/// Does what `set_over` does, by a `match` on the entry itself.
-pub fn set_over_entry(
     routes: &mut Map<&'static str, u32>,
     front: &'static str,
     target: u32,

@@ -1,4 +1,4 @@
--- Numbered pairs that pass a test, if one is removed; and lists of which both ends are known.
+-- Numbered pairs that pass a test, if one is removed; and lists whose ends are both known.
 use Rattle.std.proofs.Common.{◌≡◌, ◌≢◌, ℕ, Bool, true, false, cond, inl, inr, List, [], ◌∷◌, filter, refl, sym, ap, ◌∙◌, subst, Some}
 use Rattle.std.proofs.lemmas.Bool.Decides.{eqb_tells}
 use Rattle.blart_keys.proofs.RankLemmas.{Member}

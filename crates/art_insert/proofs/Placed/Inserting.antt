@@ -110,7 +110,7 @@ module _ {K V : Type 0} (kb : K → Bytes) (ps : List (Numbered K V)) where
             sym there,
           )
 
-      -- ---- keys of which none is a proper prefix of another
+      -- ---- keys that are never proper prefixes of one another
 
       -- a related key has the same bytes, and then nothing conflicts
       pub lawful : (IsValue : K → Type 0) → NoFronts kb IsValue → IsValue x.0 → (first last : ℕ) → IsGood kb ps (Related first last) (kb x.0) → (y : K × V) → leaf_in ps first ≡ Some y → IsValue y.0 → ⊥
