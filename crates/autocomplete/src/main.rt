@@ -1,5 +1,5 @@
-//! Completes words. `autocomplete FILE` reads a list of words from a file. For each line of standard
-//! input it then writes the first words that begin with it.
+//! Completes words. `autocomplete FILE` reads a list of words from a file. For each line of
+//! standard input it then writes the first words that begin with it.
 #![tactic(auto)]
 
 use anyhow::Context;

@@ -22,11 +22,11 @@ impl<K: AsBytes + Drop, V: Drop, const PREFIX_LEN: usize> TreeMap<K, V, PREFIX_L
     /// It allocates before any pair moves. If that fails, the map is unchanged. If either side has
     /// no pairs, it does not allocate.
     ///
-    /// Cost: it counts the pairs of the smaller side. If one side has at least three times the pairs
-    /// of the other, the pairs of the smaller side move one by one. If those are the pairs that
-    /// this map keeps, the two maps are exchanged. Otherwise the pairs that this map keeps move,
-    /// and the inner nodes of both maps are made anew, each once. So the number of pairs that it
-    /// reads is at most proportional to the number of pairs of the smaller side.
+    /// Cost: it counts the pairs of the smaller side. If one side has at least three times the
+    /// pairs of the other, the pairs of the smaller side move one by one. If those are the pairs
+    /// that this map keeps, the two maps are exchanged. Otherwise the pairs that this map keeps
+    /// move, and the inner nodes of both maps are made anew, each once. So the number of pairs that
+    /// it reads is at most proportional to the number of pairs of the smaller side.
     ///
     /// ```
     /// map.try_insert("ant", 1)?;

@@ -1,4 +1,4 @@
-//! Pairs that are collected into a map, and elements into a set. Once a call fails to allocate, what
+//! Pairs that are collected into a map, and elements into a set. If a call fails to allocate, what
 //! was collected is dropped.
 use super::{key_of, say_refused};
 use blart_map::TreeMap;
