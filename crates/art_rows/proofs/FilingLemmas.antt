@@ -129,6 +129,14 @@ module _ {K V : Type 0} {leaves : ℕ → Option (Leaf K V)} {rows : List (Numbe
       let b : ids ≡ s.ids = cc in
       rw (b, f.joined, ← own_row i h) s.position
 
+  -- a number is in its row
+  pub in_own_row : (i : ℕ) → Has ps i → (ids : List ℕ) → leaf_in rows (row_of i) ≡ Some ids → among ids i ≡ true
+  in_own_row i h ids g =
+      let s = found rows i f.apart (in_rows f i h) in
+      let a : Some ids ≡ Some s.ids = sym g ∙ ap (leaf_in rows) (sym (own_row i h)) ∙ s.row in
+      let b : ids ≡ s.ids = cc in
+      rw b s.inside
+
   -- a position that is found is the row of the number, and its place in that row
   pub located_at : (i : ℕ) → Has ps i → (p : Position) → position_at rows (index_of ps i) ≡ Some p → (p.row ≡ row_of i) × IfSome (leaf_in rows (row_of i)) (λ ids. p.place ≡ place_in ids i)
   located_at i h p at = go (leaf_in rows (row_of i)) refl

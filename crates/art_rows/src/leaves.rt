@@ -195,11 +195,10 @@ impl<K, V> Leaves<K, V> {
         let row = id.number() / ROW;
         let ids = self.rows.read(row);
         let last = ids.len() - 1;
-        let run = ids.run();
-        if run.has_at(last, id) {
+        if ids.run().has_at(last, id) {
             return Position { row, place: last };
         }
-        let place = run.place_of(id);
+        let place = ids.place_of(id);
         Position { row, place }
     }
 

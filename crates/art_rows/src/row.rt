@@ -1,6 +1,6 @@
 //! Rows of the numbers of cells.
 ghost use Rattle.std.specs.Prelude.{◌≡◌, ℕ, ◌+◌, ◌-◌, ◌*◌, ◌^◌, ◌<◌, ◌≤◌, [], ◌∷◌, ◌++◌, length, take, drop, Some, true, false, slice_index_or};
-ghost use Rattle.art_rows.specs.Rows.{among, nowhere};
+ghost use Rattle.art_rows.specs.Rows.{among, place_in, nowhere};
 ghost use Rattle.art_rows.specs.Blocks.{times, row_of};
 
 use crate::run::Run;
@@ -108,6 +108,15 @@ impl Row {
         ensures { result ≡ self.now }
     {
         Run::new(ROW * self.block, &self.cells[..self.count])
+    }
+
+    /// Returns the place of a number of the row. It searches all cells of the block, also those that
+    /// are not in use: a search of fewer cells takes longer, since its end is harder to foresee.
+    pub(crate) fn place_of(&self, number: CellId) -> usize
+        requires { among self.now number ≡ true }
+        ensures { result ≡ place_in self.now number }
+    {
+        Run::new(ROW * self.block, &self.cells).place_of(number)
     }
 
     /// Inserts the number of a cell that was not in use at a place, and returns it.

@@ -248,6 +248,7 @@ impl<const P: usize> Nodes<P> {
     }
 
     /// Returns the node under a number. One visit.
+    #[inline(always)]
     pub fn read(&self, id: NodeId, visits: &mut Visits) -> NodeRef<'_, P>
         requires { IsSome (at self.now id) }
         ensures value { at self.now id ≡ Some result }
@@ -262,6 +263,7 @@ impl<const P: usize> Nodes<P> {
     }
 
     /// Returns the node under a number, without a visit.
+    #[inline(always)]
     fn node_at(&self, id: NodeId) -> NodeRef<'_, P>
         requires { IsSome (at self.now id) }
         ensures value { at self.now id ≡ Some result }
@@ -619,7 +621,35 @@ impl<const P: usize> Nodes<P> {
 
     /// Makes room for `count` placements. Returns an error if it fails to allocate, or if a record
     /// with a prefix of `P` bytes may be too large. The nodes are unchanged in each case.
+    #[inline(always)]
     pub fn reserve(&mut self, count: usize) -> Result<(), AllocError>
+        ensures same { SameNodes self.old self.new }
+        ensures room { room self.old ≤ room self.new }
+        ensures fits { OnOk result (count ≤ room self.new) }
+        ensures refused { OnErr result (0 < count) }
+    {
+        if self.has_spares(count) {
+            return Ok(());
+        }
+        self.add_spares(count)
+    }
+
+    /// Returns `true` if each kind has `count` spare records, which are enough for `count`
+    /// placements.
+    #[inline(always)]
+    fn has_spares(&self, count: usize) -> bool
+        ensures { result ≡ true → count ≤ room self.now }
+    {
+        count <= self.fours.spare()
+            && count <= self.sixteens.spare()
+            && count <= self.forty_eights.spare()
+            && count <= self.fulls.spare()
+    }
+
+    /// Does what `reserve` does, kind by kind. This is a function of its own, so that a call with
+    /// enough spare records is a few comparisons.
+    #[inline(never)]
+    fn add_spares(&mut self, count: usize) -> Result<(), AllocError>
         ensures same { SameNodes self.old self.new }
         ensures room { room self.old ≤ room self.new }
         ensures fits { OnOk result (count ≤ room self.new) }

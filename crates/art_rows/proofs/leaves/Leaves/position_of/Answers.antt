@@ -1,5 +1,5 @@
 use Rattle.std.proofs.Common.{ap, arith}
-use Rattle.art_rows.proofs.FilingLemmas.{seen, row_has, row_filled, located, stands_there}
+use Rattle.art_rows.proofs.FilingLemmas.{seen, row_has, row_filled, located, in_own_row, stands_there}
 use Rattle.art_rows.proofs.leaves.Leaves.position_of.Goals as goal
 
 pub read-ids-requires : goal.read-ids-requires
@@ -12,9 +12,14 @@ overflow_sub-last g c =
 
 pub returns-then-has_at : goal.returns-then-has_at
 returns-then-has_at g c =
-    rw (← ap (λ t. t.rows) c.self.view_is) (stands_there (seen c.self.inside c.self.view_is c.self.invariant) c.args.id _ _ c.read-ids.ensures (rw c.run-run.ensures at (c.has_at.ensures.here c.if-has_at.true)))
+    rw (← ap (λ t. t.rows) c.self.view_is) (stands_there (seen c.self.inside c.self.view_is c.self.invariant) c.args.id _ _ c.read-ids.ensures (rw c.run.ensures at (c.has_at.ensures.here c.if-has_at.true)))
+
+pub place_of-place-requires : goal.place_of-place-requires
+place_of-place-requires g c =
+    let f = seen c.self.inside c.self.view_is c.self.invariant in
+    in_own_row f c.args.id c.requires _ (rw c.number-row.ensures.value at c.read-ids.ensures)
 
 pub returns : goal.returns
 returns g c =
     let f = seen c.self.inside c.self.view_is c.self.invariant in
-    rw (← ap (λ t. t.rows) c.self.view_is, c.place_of-place.ensures, c.run-run.ensures, c.number-row.ensures.value) (located f c.args.id c.requires _ (rw c.number-row.ensures.value at c.read-ids.ensures))
+    rw (← ap (λ t. t.rows) c.self.view_is, c.place_of-place.ensures, c.number-row.ensures.value) (located f c.args.id c.requires _ (rw c.number-row.ensures.value at c.read-ids.ensures))

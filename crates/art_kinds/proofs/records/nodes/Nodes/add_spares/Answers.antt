@@ -3,7 +3,7 @@ use Rattle.std.proofs.lemmas.Result.{on_ok_weaker}
 use Rattle.art_kinds.proofs.Rooms.{figures-room}
 use Rattle.art_kinds.proofs.Moving.{stood, stood_nodes, stood-room, enough_for, not_ok, on_err}
 use Rattle.art_kinds.specs.Nodes.{Nodes}
-use Rattle.art_kinds.proofs.records.nodes.Nodes.reserve.Goals as goal
+use Rattle.art_kinds.proofs.records.nodes.Nodes.add_spares.Goals as goal
 
 pub reserve-requires : goal.reserve-requires
 reserve-requires g c = let small = c.if-this-ge-PREFIX_BOUND.false in (search rules, (small, c.self.invariant.fours))
