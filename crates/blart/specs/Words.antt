@@ -1,6 +1,6 @@
 -- The words of the contracts of maps, and of the bytes of keys, in one module.
 -- the bytes of a key
-pub use Rattle.blart_keys.specs.KeyBytes.{u8_bytes, array_bytes, slice_bytes, vec_bytes, u32_bytes, u64_bytes, i32_bytes, zkey_bytes, ref_bytes}
+pub use Rattle.blart_keys.specs.KeyBytes.{u8_bytes, array_bytes, slice_bytes, vec_bytes, u16_bytes, u32_bytes, u64_bytes, u128_bytes, i32_bytes, i64_bytes, zkey_bytes, zstr_bytes, zquery_bytes, zquery_room, ref_bytes}
 pub use Rattle.std.specs.Prelude.{string_bytes}
 pub use Rattle.blart_keys.specs.Bytes.{begins, related, less, common}
 -- what a map has at some bytes; the first three stay closed in proofs

@@ -18,7 +18,8 @@ mod text;
 mod watched;
 
 pub use blart_keys::{
-    AsBytes, I32Key, NoPrefixesBytes, OrderedBytes, U32Key, U64Key, ZKey, ZKeyError,
+    AsBytes, CloneBytes, I32Key, I64Key, NoPrefixesBytes, Number, NumberKey, OrderedBytes, U16Key,
+    U32Key, U64Key, U128Key, ZKey, ZKeyError, ZQuery, ZStr,
 };
 pub use blart_map as map;
 pub use blart_map::{InsertPrefixError, TreeMap, TryInsertError};
@@ -31,6 +32,21 @@ pub use watched::Watched;
 
 /// A [`TreeMap`] whose inner nodes keep 16 bytes of their compressed prefixes.
 pub type Map<K, V> = TreeMap<K, V, { map::DEFAULT_PREFIX_LEN }>;
+
+/// Returns the [`ZStr`] of a literal, which is the text and one zero after it. The check refuses a
+/// text with a zero in it.
+///
+/// Cost: none.
+///
+/// ```
+/// assert_eq!(map.get(&zkey!("car")), Some(&1));
+/// ```
+#[macro_export]
+macro_rules! zkey {
+    ($text:literal) => {
+        $crate::ZStr::new(concat!($text, "\0"))
+    };
+}
 
 /// A [`TreeSet`] whose inner nodes keep 16 bytes of their compressed prefixes.
 pub type Set<K> = TreeSet<K, { map::DEFAULT_PREFIX_LEN }>;

@@ -12,5 +12,6 @@ pub mod Stored
 pub mod Routed
 pub mod Keys
 pub mod KeyBytes
+pub mod Shown
 pub mod KeyLaws
 pub mod NumberLaws

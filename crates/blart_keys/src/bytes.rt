@@ -1,14 +1,15 @@
 //! Bytes, byte arrays, byte slices and vectors of bytes as keys.
 
 ghost use Rattle.std.specs.Prelude.{◌≡◌, ◌∷◌, [], ◌<◌, length, refl};
+ghost use Rattle.std.specs.List.{each_same};
 ghost use Rattle.std.specs.Box.{boxed_slice_items};
-ghost use Rattle.std.proofs.Common.{sym, ◌∙◌};
+ghost use Rattle.std.proofs.Common.{sym, ap, ◌∙◌};
 ghost use Rattle.std.proofs.lemmas.Slice.Eq.{bytes_eq-Decides};
 ghost use Rattle.blart_keys.specs.Bytes.{less};
 ghost use Rattle.blart_keys.specs.Keys.{AreBytes};
 ghost use Rattle.blart_keys.specs.KeyLaws.{begins_same_length, one_byte_cmp, one_byte_eq};
 
-use crate::traits::{AsBytes, NoPrefixesBytes, OrderedBytes};
+use crate::traits::{AsBytes, CloneBytes, NoPrefixesBytes, OrderedBytes};
 use std::boxed::BoxedSlice;
 
 /// Returns these bytes. Its contract says that each of them is less than 256.
@@ -51,6 +52,10 @@ impl OrderedBytes for u8 {
     ghost ordered = { λ x y a b. one_byte_cmp x y };
 
     ghost equal_bytes = { λ x y a b. one_byte_eq x y };
+}
+
+impl CloneBytes for u8 {
+    ghost cloned = { λ x y e. ap (λ b. b ∷ []) e };
 }
 
 impl<const N: usize> AsBytes for [u8; N] {
@@ -97,6 +102,10 @@ impl OrderedBytes for &[u8] {
     ghost equal_bytes = { λ x y a b. bytes_eq-Decides x.now y.now };
 }
 
+impl CloneBytes for &[u8] {
+    ghost cloned = { λ x y e. ap (λ s. s.now) e };
+}
+
 impl AsBytes for Vec<u8> {
     ghost bytes = { λ v. v.items };
 
@@ -113,6 +122,10 @@ impl OrderedBytes for Vec<u8> {
     ghost ordered = { λ x y a b. refl };
 
     ghost equal_bytes = { λ x y a b. bytes_eq-Decides x.items y.items };
+}
+
+impl CloneBytes for Vec<u8> {
+    ghost cloned = { λ x y e. each_same x.items y.items e.0 };
 }
 
 impl AsBytes for BoxedSlice<u8> {
@@ -133,4 +146,8 @@ impl OrderedBytes for BoxedSlice<u8> {
     ghost ordered = { λ x y a b. refl };
 
     ghost equal_bytes = { λ x y a b. bytes_eq-Decides (boxed_slice_items x) (boxed_slice_items y) };
+}
+
+impl CloneBytes for BoxedSlice<u8> {
+    ghost cloned = { λ x y e. each_same (boxed_slice_items x) (boxed_slice_items y) e.0 };
 }

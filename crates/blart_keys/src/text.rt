@@ -1,11 +1,12 @@
 //! Strings as keys, by their UTF-8 bytes.
 
 ghost use Rattle.std.specs.Prelude.{string_bytes, refl};
+ghost use Rattle.std.proofs.Common.{ap};
 ghost use Rattle.std.proofs.lemmas.Slice.Eq.{bytes_eq-Decides};
 ghost use Rattle.blart_keys.specs.Keys.{AreBytes};
 
 use crate::bytes::same_bytes;
-use crate::traits::{AsBytes, OrderedBytes};
+use crate::traits::{AsBytes, CloneBytes, OrderedBytes};
 
 impl AsBytes for &str {
     ghost bytes = { λ s. s.now };
@@ -27,6 +28,10 @@ impl OrderedBytes for &str {
     ghost equal_bytes = { λ x y a b. bytes_eq-Decides x.now y.now };
 }
 
+impl CloneBytes for &str {
+    ghost cloned = { λ x y e. ap (λ s. s.now) e };
+}
+
 impl AsBytes for String {
     ghost bytes = { λ s. string_bytes s };
 
@@ -45,4 +50,8 @@ impl OrderedBytes for String {
     ghost ordered = { λ x y a b. refl };
 
     ghost equal_bytes = { λ x y a b. bytes_eq-Decides (string_bytes x) (string_bytes y) };
+}
+
+impl CloneBytes for String {
+    ghost cloned = { λ x y e. e };
 }

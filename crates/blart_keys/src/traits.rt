@@ -1,7 +1,8 @@
 //! The key traits, also for references to keys.
 
 ghost use Rattle.std.specs.Prelude.{◌≡◌, ℕ, List};
-ghost use Rattle.blart_keys.specs.Keys.{NoFronts, OrderedAs, EqualAs};
+ghost use Rattle.std.proofs.Common.{ap};
+ghost use Rattle.blart_keys.specs.Keys.{NoFronts, OrderedAs, EqualAs, ClonedAs};
 
 /// A key that stands for a list of bytes.
 ///
@@ -33,8 +34,8 @@ pub trait AsBytes {
 /// A key type in which no value's bytes are a proper prefix of another's.
 ///
 /// Two keys of such a type are related only if their bytes are equal, so no insertion of one
-/// conflicts. These types are `u8`, byte arrays, the number keys, [`ZKey`](crate::ZKey), and
-/// references to them.
+/// conflicts. These types are `u8`, byte arrays, the number keys, [`ZKey`](crate::ZKey),
+/// [`ZStr`](crate::ZStr), and references to them.
 ///
 /// ```
 /// map.insert(U32Key::new(1), 1)?;
@@ -61,6 +62,22 @@ pub trait OrderedBytes: AsBytes + Ord {
     ghost equal_bytes: { EqualAs Self.bytes Self.IsValue Self.eq };
 }
 
+/// A key type whose clones have the same bytes. A map of such keys implements
+/// [`Clone`](std::clone::Clone).
+///
+/// All key types here that implement `Clone` are such types, except byte arrays: the contract of
+/// their `clone` does not say how long the clone is.
+///
+/// ```
+/// let key = ZKey::from_bytes(alloc, b"car")?;
+/// let copy = key.clone()?;
+/// assert!(copy.as_bytes() == key.as_bytes());
+/// ```
+pub trait CloneBytes: AsBytes + Clone {
+    /// A clone of a value has the bytes of the value.
+    ghost cloned: { ClonedAs Self.bytes Self.is_clone };
+}
+
 impl<T: AsBytes> AsBytes for &T {
     ghost bytes = { λ s. T.bytes s.now };
 
@@ -83,4 +100,8 @@ impl<T: OrderedBytes> OrderedBytes for &T {
     ghost ordered = { λ x y a b. T.ordered x.now y.now a b };
 
     ghost equal_bytes = { λ x y a b. T.equal_bytes x.now y.now a b };
+}
+
+impl<T: AsBytes> CloneBytes for &T {
+    ghost cloned = { λ x y e. ap (λ s. T.bytes s.now) e };
 }

@@ -5,9 +5,12 @@ ghost use Rattle.std.proofs.lemmas.Slice.Eq.{bytes_eq-Decides};
 ghost use Rattle.blart_keys.specs.Keys.{AreBytes, EndsInZero};
 ghost use Rattle.blart_keys.specs.KeyLaws.{zero_no_fronts};
 
-use crate::traits::{AsBytes, NoPrefixesBytes, OrderedBytes};
+use crate::shown::{Quoted, write_text};
+use crate::traits::{AsBytes, CloneBytes, NoPrefixesBytes, OrderedBytes};
 use std::alloc::{AllocError, Global};
 use std::clone::Clone;
+use std::fmt;
+use std::fmt::{Debug, Display};
 use thiserror::Error;
 
 /// An error in the making of a [`ZKey`].
@@ -26,16 +29,32 @@ pub enum ZKeyError {
     Memory,
 }
 
+impl From<AllocError> for ZKeyError {
+    ghost use Rattle.blart_keys.specs.declared.zkey.ZKeyError.TheVariants.{Memory};
+
+    ghost from_gives = { λ _ e. e ≡ Memory };
+
+    /// Returns `Memory`.
+    ///
+    /// Cost: none.
+    fn from(_: AllocError) -> ZKeyError {
+        ZKeyError::Memory
+    }
+}
+
 /// A key of bytes without a zero, and one zero after them.
 ///
 /// No key of this type is a prefix of another. Keys compare like their bytes without the zero.
+///
+/// A look-up compares bytes, so a query has the zero too. It is the key, a [`ZStr`](crate::ZStr) or
+/// a [`ZQuery`](crate::ZQuery). The text alone finds nothing, as in `map.get(&"ab")`.
 ///
 /// ```
 /// let key = ZKey::from_bytes(alloc, b"ab")?;
 /// assert_eq!(key.as_bytes(), b"ab\0".as_slice());
 /// assert_eq!(key.to_bytes(), b"ab".as_slice());
 /// ```
-#[derive(Debug, PartialEq, Eq, PartialOrd, Ord, Hash, Drop)]
+#[derive(PartialEq, Eq, PartialOrd, Ord, Hash, Drop)]
 pub struct ZKey {
     bytes: Vec<u8>,
     ghost ends_in_zero: { EndsInZero bytes.items },
@@ -124,4 +143,38 @@ impl OrderedBytes for ZKey {
     ghost ordered = { λ x y a b. refl };
 
     ghost equal_bytes = { λ x y a b. bytes_eq-Decides x.bytes.items y.bytes.items };
+}
+
+impl CloneBytes for ZKey {
+    ghost cloned = { λ x y e. e };
+}
+
+impl Display for ZKey {
+    ghost use Rattle.blart_keys.specs.KeyBytes.{zkey_bytes};
+    ghost use Rattle.blart_keys.specs.Shown.{shown_text, without_last};
+    ghost use Rattle.std.specs.Prelude.{option_map};
+    ghost use Rattle.std.specs.Fmt.{styled_text};
+
+    ghost output = { λ k. shown_text (without_last (zkey_bytes k)) };
+
+    ghost styled_output = { λ k s. option_map (styled_text s) (shown_text (without_last (zkey_bytes k))) };
+
+    /// Writes the bytes without the zero as text, with U+FFFD for each sequence that is not UTF-8.
+    ///
+    /// Cost: one pass over the bytes.
+    fn fmt<W: fmt::Write>(&self, f: &mut fmt::Formatter<W>) -> fmt::Result {
+        write_text(self.to_bytes(), f)
+    }
+}
+
+impl Debug for ZKey {
+    /// Writes the bytes without the zero as text in quotes, as in `ZKey("ab")`. A byte that is not
+    /// UTF-8 is written as `\xff`.
+    ///
+    /// Cost: one pass over the bytes.
+    fn fmt<W: fmt::Write>(&self, f: &mut fmt::Formatter<W>) -> fmt::Result {
+        f.debug_tuple("ZKey")
+            .field(&Quoted(self.to_bytes()))
+            .finish()
+    }
 }

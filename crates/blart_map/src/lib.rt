@@ -18,6 +18,7 @@ mod inner;
 mod insertions;
 mod into_walks;
 mod laws;
+mod made;
 mod map;
 mod occupied;
 mod over;

@@ -12,6 +12,7 @@ mod changes;
 mod compare;
 mod extracting;
 mod insertions;
+mod made;
 mod merge_laws;
 mod merges;
 mod operators;

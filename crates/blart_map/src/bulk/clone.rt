@@ -4,7 +4,7 @@ ghost use Rattle.blart_map.specs.Bulk.{AreClones};
 ghost use Rattle.blart_map.specs.Content.{pairs};
 
 use crate::map::TreeMap;
-use blart_keys::AsBytes;
+use blart_keys::{AsBytes, CloneBytes};
 use std::alloc::AllocError;
 use std::clone::Clone;
 
@@ -34,5 +34,20 @@ impl<K: AsBytes + Clone, V: Clone, const PREFIX_LEN: usize> TreeMap<K, V, PREFIX
             tree: self.tree.clone()?,
             alloc: self.alloc,
         })
+    }
+}
+
+impl<K: CloneBytes, V: Clone, const PREFIX_LEN: usize> Clone for TreeMap<K, V, PREFIX_LEN> {
+    ghost is_clone = { λ map copy.
+        AreClones K.bytes K.is_clone V.is_clone (pairs map) (pairs copy) };
+
+    ghost is_infallible = { λ map. pairs map ≡ [] };
+
+    /// Returns a map of clones of the pairs, like the call of the same name of [`TreeMap`]. So a
+    /// struct with a map may derive `Clone`.
+    ///
+    /// Cost: as for [`TreeMap::clone`].
+    fn clone(&self) -> Result<Self, AllocError> {
+        TreeMap::<K, V, PREFIX_LEN>::clone(self)
     }
 }

@@ -1,10 +1,10 @@
 //! A second set of the same elements.
-ghost use Rattle.std.specs.Prelude.{◌≢◌, [], IfOk, OnErr};
+ghost use Rattle.std.specs.Prelude.{◌≡◌, ◌≢◌, [], IfOk, OnErr};
 ghost use Rattle.blart_set.specs.Clones.{KeepsBytes, AreElementClones};
 ghost use Rattle.blart_set.specs.Elements.{elements};
 
 use crate::set::TreeSet;
-use blart_keys::AsBytes;
+use blart_keys::{AsBytes, CloneBytes};
 use std::alloc::AllocError;
 use std::clone::Clone;
 
@@ -36,5 +36,20 @@ impl<K: AsBytes + Clone, const PREFIX_LEN: usize> TreeSet<K, PREFIX_LEN> {
             }),
             Err(refused) => Err(refused),
         }
+    }
+}
+
+impl<K: CloneBytes, const PREFIX_LEN: usize> Clone for TreeSet<K, PREFIX_LEN> {
+    ghost is_clone = { λ set copy.
+        AreElementClones K.bytes K.is_clone (elements set) (elements copy) };
+
+    ghost is_infallible = { λ set. elements set ≡ [] };
+
+    /// Returns a set of clones of the elements, like the call of the same name of [`TreeSet`]. So a
+    /// struct with a set may derive `Clone`.
+    ///
+    /// Cost: as for [`TreeSet::clone`].
+    fn clone(&self) -> Result<Self, AllocError> {
+        TreeSet::<K, PREFIX_LEN>::clone(self)
     }
 }

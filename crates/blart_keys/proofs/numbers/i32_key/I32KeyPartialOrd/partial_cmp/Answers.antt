@@ -1,8 +1,0 @@
-use Rattle.std.proofs.Common.{Some}
-use Rattle.std.specs.Ordering.{nat_cmp}
-use Rattle.std.specs.Cmp.Lexicographic.{slice_partial_cmp}
-use Rattle.blart_keys.proofs.NumberKeys.{told-flipped}
-use Rattle.blart_keys.proofs.numbers.i32_key.I32KeyPartialOrd.partial_cmp.Goals as goal
-
-pub returns : goal.returns
-returns c = told-flipped (slice_partial_cmp (λ x y. Some (nat_cmp x y))) c.t1-1.invariant c.t2-1.invariant c.t1-1.view_is c.t2-1.view_is c.partial_cmp.ensures
