@@ -3,22 +3,22 @@
 #![tactic(auto)]
 
 use anyhow::Context;
-use prefix_router::Mounts;
+use prefix_router::Routes;
 use std::io::{BufRead, BufReader, ErrorKind};
 use std::iter::Iterator;
-use std::{env, fs, str};
+use std::{env, fs};
 
 const USAGE: &str = "\
 usage: routes FILE
 
 Each line of FILE mounts a path: the path, a space, and a target. Blank lines and
-lines that begin with # are skipped. No path may be a prefix of another.
+lines that begin with # are skipped.
 
-Each line of standard input is a path. For each, the target of the mount that is a
-prefix of it is written, and the rest of the path.
+Each line of standard input is a path. For each, the target of the longest mounted
+path that is a prefix of it is written, and the rest of the path.
 ";
 
-type Table = Mounts<String>;
+type Table = Routes<String>;
 
 /// A line of a file.
 #[derive(Clone, Copy)]
@@ -35,7 +35,7 @@ fn main(rt: HostRuntime) -> anyhow::Result<()> {
         return Ok(());
     }
     let text = fs::read_to_string(&rt, file.as_str()).context(format_args!("{file}"))?;
-    let mut table = Mounts::new(rt.alloc());
+    let mut table = Routes::new(rt.alloc());
     let result = run(&rt, &file, &text, &mut table);
     drop(table);
     result
@@ -64,41 +64,27 @@ fn mount_all(
     let mut number = 0usize;
     for text in text.lines() {
         number = number.wrapping_add(1);
-        if !text.trim().is_empty() && !text.starts_with('#') {
+        let text = text.trim();
+        if !text.is_empty() && !text.starts_with('#') {
             mount(rt, table, &Line { file, number, text })?;
         }
     }
     Ok(())
 }
 
-/// Mounts the path of a line. Returns an error if the line has no target, or if its path and a path
-/// that is mounted are equal or one is a prefix of the other.
+/// Mounts the path of a line. Returns an error if the line has no target, or if its path is mounted
+/// already.
 fn mount(rt: &impl AllocGlobal, table: &mut Table, line: &Line<'_>) -> anyhow::Result<()> {
     let Line { file, number, text } = line;
     let Some((path, target)) = text.split_once(' ') else {
         anyhow::bail!("{file}:{number}: {text} has no target");
     };
-    if let Some(other) = related(table, path.as_bytes()) {
-        let other = str::from_utf8(other)?;
-        if other == path {
-            anyhow::bail!("{file}:{number}: {path} is mounted already");
-        }
-        anyhow::bail!("{file}:{number}: {path} conflicts with {other}");
+    if table.get(path.as_bytes()).is_some() {
+        anyhow::bail!("{file}:{number}: {path} is mounted already");
     }
     let path = Vec::from_slice(rt.alloc(), path.as_bytes())?;
     table.mount(path, target.to_string(rt.alloc())?)?;
     Ok(())
-}
-
-/// Returns a mounted path that is a prefix of `path`, or the first of which `path` is a prefix.
-fn related<'a>(table: &'a Table, path: &[u8]) -> Option<&'a [u8]> {
-    match table.resolve(path) {
-        Some((mounted, _)) => Some(mounted.as_slice()),
-        None => {
-            let (mounted, _) = table.under(path).next()?;
-            Some(mounted.as_slice())
-        }
-    }
 }
 
 /// Routes each line of standard input.
