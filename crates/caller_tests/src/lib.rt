@@ -14,6 +14,8 @@ mod lending;
 #[cfg(test)]
 mod moves;
 #[cfg(test)]
+mod nested;
+#[cfg(test)]
 mod owning;
 #[cfg(test)]
 mod parts;
@@ -36,8 +38,12 @@ mod settings;
 #[cfg(test)]
 mod sums;
 #[cfg(test)]
+mod tenants;
+#[cfg(test)]
 mod tests;
 #[cfg(test)]
 mod visits;
 #[cfg(test)]
 mod walks;
+#[cfg(test)]
+mod words;

@@ -8,9 +8,11 @@ mod counted;
 mod dropped;
 mod hashed;
 mod key_types;
+mod nested;
 mod reserved;
 mod shapes;
 mod texts;
+mod traits;
 
 use blart_keys::AsBytes;
 use blart_map::TreeMap;

@@ -11,7 +11,7 @@ mod retaining;
 mod sets;
 mod walks;
 
-use blart_keys::NoPrefixesBytes;
+use blart_keys::{NoPrefixesBytes, ZKeyError};
 use blart_map::{InsertPrefixError, TreeMap, TryInsertError};
 use blart_set::TreeSet;
 use std::alloc::AllocError;
@@ -43,6 +43,12 @@ impl From<AllocError> for Fail {
 
 impl From<InsertPrefixError> for Fail {
     fn from(_: InsertPrefixError) -> Fail {
+        Fail::Conflict
+    }
+}
+
+impl From<ZKeyError> for Fail {
+    fn from(_: ZKeyError) -> Fail {
         Fail::Conflict
     }
 }
@@ -80,7 +86,9 @@ fn of_maps(rt: HostRuntime) {
         prefix_entries::prefix_entry(&rt, &mut map),
         readme::fronts(&rt, &mut map),
         readme::tree_map(&rt, rt.alloc()),
+        readme::words(&rt, rt.alloc()),
         readme::router(&rt, rt.alloc()),
+        readme::nested(&rt, rt.alloc()),
     ];
     drop(map);
     for result in ran {

@@ -19,6 +19,7 @@ mod fronts;
 mod keys;
 mod reserved;
 mod router;
+mod routes;
 mod runs;
 mod trees;
 

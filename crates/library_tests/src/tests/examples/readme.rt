@@ -1,7 +1,9 @@
 //! The code of the README.
 use super::{Fail, Map};
+use blart::zkey;
+use blart_keys::ZKey;
 use blart_map::TreeMap;
-use prefix_router::Mounts;
+use prefix_router::{Mounts, Routes};
 use std::alloc::Global;
 use std::iter::Iterator;
 use std::process::Abort;
@@ -27,11 +29,59 @@ fn insert_and_look_up(rt: &impl Abort, map: &mut Map<'_>) -> Result<(), Fail> {
     Ok(())
 }
 
+/// The example of `README::words`.
+pub(super) fn words(rt: &impl Abort, alloc: Global) -> Result<(), Fail> {
+    let mut words = blart::Map::new(alloc);
+    let ran = count_words(rt, alloc, &mut words);
+    drop(words);
+    ran
+}
+
+/// The calls of the example.
+fn count_words(
+    rt: &impl Abort,
+    alloc: Global,
+    words: &mut blart::Map<ZKey, u32>,
+) -> Result<(), Fail> {
+    for word in ["car", "card", "cat", "car"] {
+        let count = words
+            .entry(ZKey::from_bytes(alloc, word.as_bytes())?)
+            .or_default()?;
+        *count = count.saturating_add(1);
+    }
+    assert!(rt; words.get(&zkey!("car")) == Some(&2));
+    assert!(rt; words.prefix(b"car").count() == 2);
+    Ok(())
+}
+
 /// The example of `README::fronts`.
 pub(super) fn fronts(rt: &impl Abort, map: &mut Map<'_>) -> Result<(), Fail> {
     map.try_insert("/static/", 7)?;
     assert!(rt; map.prefix_get(&"/static/logo.png") == Some(&7));
     assert!(rt; map.prefix_get(&"/stat") == None);
+    Ok(())
+}
+
+/// The example of `README::nested`.
+pub(super) fn nested(rt: &impl Abort, alloc: Global) -> Result<(), Fail> {
+    let mut routes = Routes::new(alloc);
+    let ran = nest_and_resolve(rt, alloc, &mut routes);
+    drop(routes);
+    ran
+}
+
+/// The calls of the example.
+fn nest_and_resolve(
+    rt: &impl Abort,
+    alloc: Global,
+    routes: &mut Routes<usize>,
+) -> Result<(), Fail> {
+    routes.mount(Vec::from_slice(alloc, b"/")?, 1)?;
+    routes.mount(Vec::from_slice(alloc, b"/api")?, 2)?;
+    let target = routes.resolve(b"/api/v1/users").map(|(_, target)| *target);
+    assert!(rt; target == Some(2));
+    let target = routes.resolve(b"/about").map(|(_, target)| *target);
+    assert!(rt; target == Some(1));
     Ok(())
 }
 

@@ -1,6 +1,6 @@
 //! Keys that end with a zero.
 use super::say_refused;
-use blart_keys::{AsBytes, ZKey, ZKeyError};
+use blart_keys::{AsBytes, ZKey, ZKeyError, ZQuery};
 use std::alloc::AllocError;
 use std::process::Abort;
 
@@ -21,6 +21,33 @@ fn zero_ended_keys(rt: HostRuntime) {
             }
         }
     }
+}
+
+/// A query that is set to a text of at most the length of one before needs no memory.
+#[test]
+fn queries(rt: HostRuntime) {
+    let mut query = ZQuery::new(rt.alloc());
+    let mut longest = None;
+    for text in [
+        b"ab" as &[u8],
+        b"",
+        b"a longer text than the first",
+        b"short",
+    ] {
+        match query.set(text) {
+            Ok(()) => {
+                let is_right = query.as_bytes().last() == Some(&0);
+                assert!(&rt; is_right && query.as_bytes().len() == text.len() + 1);
+                longest = longest.max(Some(text.len()));
+            }
+            Err(refused) => {
+                say_refused(&rt);
+                assert!(&rt; refused == ZKeyError::Memory && query.as_bytes().is_empty());
+                assert!(&rt; longest < Some(text.len()));
+            }
+        }
+    }
+    drop(query);
 }
 
 #[test]

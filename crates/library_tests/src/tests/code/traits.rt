@@ -1,0 +1,92 @@
+//! Maps and sets by the language's traits.
+use blart::{Map, Set};
+use blart_keys::{U32Key, ZKey};
+use std::iter::Iterator;
+use std::mem::try_take;
+use std::process::Abort;
+
+/// A map and a set, as fields of a struct that is cloned.
+#[derive(Clone, Drop)]
+struct Names {
+    counts: Map<ZKey, u32>,
+    known: Set<String>,
+}
+
+/// Returns the key of a text.
+fn zkey(rt: &(impl Abort + AllocGlobal), text: &str) -> ZKey {
+    ZKey::from_bytes(rt.alloc(), text.as_bytes()).expect(rt, "memory")
+}
+
+/// Fills the fields, clones the struct and changes the clone.
+fn change_a_clone(rt: &(impl Abort + AllocGlobal), names: &mut Names) {
+    names.counts.insert(zkey(rt, "car"), 1).expect(rt, "memory");
+    let known = String::from_str(rt.alloc(), "car").expect(rt, "memory");
+    names.known.try_insert(known).expect(rt, "memory");
+    let mut copy = names.clone().expect(rt, "memory");
+    let (counts, known) = (copy.counts == names.counts, copy.known == names.known);
+    copy.counts.insert(zkey(rt, "card"), 2).expect(rt, "memory");
+    let lens = (names.counts.len(), copy.counts.len());
+    drop(copy);
+    assert!(rt; counts && known);
+    assert!(rt; lens == (1, 2));
+}
+
+#[test]
+fn a_struct_with_maps_is_cloned(rt: HostRuntime) {
+    let mut names = Names {
+        counts: Map::new(rt.alloc()),
+        known: Set::new(rt.alloc()),
+    };
+    change_a_clone(&rt, &mut names);
+    drop(names);
+}
+
+/// Moves a map and a set out of their places. What remains is empty.
+fn take_both(rt: &impl Abort, map: &mut Map<U32Key, u32>, set: &mut Set<u8>) {
+    map.insert(U32Key::new(1), 10).expect(rt, "memory");
+    set.insert(3).expect(rt, "memory");
+    let taken = try_take(map).expect(rt, "memory");
+    let elements = try_take(set).expect(rt, "memory");
+    let lens = (taken.len(), elements.len(), map.len(), set.len());
+    drop(taken);
+    drop(elements);
+    assert!(rt; lens == (1, 1, 0, 0));
+}
+
+#[test]
+fn maps_are_taken(rt: HostRuntime) {
+    let (mut map, mut set) = (Map::new(rt.alloc()), Set::new(rt.alloc()));
+    take_both(&rt, &mut map, &mut set);
+    drop(map);
+    drop(set);
+}
+
+/// Takes what threads may share and send.
+fn is_shared<T: Sync + Send>(_: &T) -> bool {
+    true
+}
+
+/// Puts two pairs into a map.
+fn fill(rt: &impl Abort, map: &mut Map<U32Key, u32>) {
+    map.insert(U32Key::new(2), 20).expect(rt, "memory");
+    map.insert(U32Key::new(1), 10).expect(rt, "memory");
+}
+
+/// Reads a map by two walks in turn.
+fn read_twice(rt: &impl Abort, map: &Map<U32Key, u32>) {
+    let (mut one, mut other) = (map.iter(), map.iter());
+    assert!(rt; one.next() == other.next() && one.next() == other.next());
+    assert!(rt; one.next() == other.next() && one.len() == other.len());
+}
+
+#[test]
+fn maps_are_shared(rt: HostRuntime) {
+    let mut map = Map::new(rt.alloc());
+    fill(&rt, &mut map);
+    let set: Set<u8> = Set::new(rt.alloc());
+    let are_shared = is_shared(&map) && is_shared(&set) && is_shared(&map.iter());
+    read_twice(&rt, &map);
+    drop(map);
+    drop(set);
+    assert!(&rt; are_shared);
+}
