@@ -134,6 +134,7 @@ fn come_and_stay<const P: usize>(rt: &(impl Abort + AllocGlobal)) {
     assert!(rt; len > 4000);
 }
 
+/// After random insertions and removals each id names its pair, at three lengths of prefixes.
 #[test]
 fn ids_stay(rt: HostRuntime) {
     come_and_stay::<0>(&rt);

@@ -166,6 +166,7 @@ fn two_turns<const P: usize>(rt: &(impl Abort + AllocGlobal)) {
     drop(nodes);
 }
 
+/// Twice in turn, the second time in the records that the first time left.
 #[test]
 fn a_node_through_all_kinds(rt: HostRuntime) {
     two_turns::<0>(&rt);

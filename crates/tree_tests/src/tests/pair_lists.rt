@@ -3,6 +3,7 @@ use super::{add, byte_of};
 use art_tree::{Pairs, Tree};
 use std::process::Abort;
 
+/// Pairs are added, the last value is replaced, and they are removed from both ends.
 #[test]
 fn a_list_of_three_pairs(rt: HostRuntime) {
     let mut pairs = Pairs::new(rt.alloc());
@@ -20,6 +21,7 @@ fn a_list_of_three_pairs(rt: HostRuntime) {
     assert!(rt; pairs.take_first() == None && pairs.take_last() == None);
 }
 
+/// A tree is taken apart into its pairs, in order.
 #[test]
 fn the_pairs_of_a_tree(rt: HostRuntime) {
     let mut tree = Tree::<u8, usize, 16>::new(rt.alloc());

@@ -62,6 +62,7 @@ fn children<const P: usize>(rt: &(impl Abort + AllocGlobal)) {
     assert_counts::<P>(rt, &[&third, &second, &first], &rows);
 }
 
+/// How many children there are at a prefix, within a long one and beside it.
 #[test]
 fn children_at_fronts(rt: HostRuntime) {
     children::<0>(&rt);
@@ -85,6 +86,7 @@ fn largest_kind<const P: usize>(rt: &(impl Abort + AllocGlobal)) {
     assert!(rt; nodes == 50);
 }
 
+/// Keys of two bytes, each less than 49, have fifty inner nodes with 49 children each.
 #[test]
 fn children_of_the_largest_kind(rt: HostRuntime) {
     largest_kind::<0>(&rt);

@@ -16,6 +16,7 @@ fn digits_of(walk: IntoIter<u8, usize, 2>) -> usize {
     digits
 }
 
+/// A map in a `for` loop, by shared reference and by value.
 #[test]
 fn maps_in_loops(rt: HostRuntime) {
     let map = map_of::<u8, usize, 2>(&rt, &[(5, 0), (3, 1), (8, 2)]);
@@ -27,6 +28,7 @@ fn maps_in_loops(rt: HostRuntime) {
     assert!(rt; digits == 102 && digits_then == 102);
 }
 
+/// `collect` makes a map of pairs, and a set of keys.
 #[test]
 fn maps_and_sets_collected(rt: HostRuntime) {
     let map = map_of::<u8, usize, 2>(&rt, &[(5, 0), (3, 1)]);
@@ -50,6 +52,7 @@ fn place_only_key<const P: usize>(rt: &(impl Abort + AllocGlobal)) {
     assert!(rt; removed == 0 && is_empty);
 }
 
+/// The entry of the only key of `[u8; 0]` is inserted and removed.
 #[test]
 fn the_only_key_of_its_type(rt: HostRuntime) {
     place_only_key::<0>(&rt);

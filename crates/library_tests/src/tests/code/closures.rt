@@ -40,6 +40,7 @@ fn doubles<const P: usize>(rt: &(impl Abort + AllocGlobal)) {
     drop(map);
 }
 
+/// Of ten values the even ones are removed and the others are doubled.
 #[test]
 fn values_are_written_and_picked(rt: HostRuntime) {
     doubles::<0>(&rt);
@@ -80,6 +81,7 @@ fn counts<const P: usize>(rt: &(impl Abort + AllocGlobal)) {
     drop(map);
 }
 
+/// After a step from each end, a closure that picks by a counter of its own was called four times.
 #[test]
 fn a_closure_picks_by_its_own_counter(rt: HostRuntime) {
     counts::<0>(&rt);
@@ -118,6 +120,8 @@ fn count_the_rest(map: &mut Letters) {
     });
 }
 
+/// The closure is called once on each value, in order: of all pairs, below a prefix, and after
+/// steps from both ends.
 #[test]
 fn for_each_in_order(rt: HostRuntime) {
     let mut map: Letters = map_of(&rt, &[(10, 0), (20, 1), (30, 2), (40, 3), (50, 4)]);

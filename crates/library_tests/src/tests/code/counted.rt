@@ -53,6 +53,7 @@ fn take_large(map: &mut Map) -> Option<(u8, usize)> {
     walk.next()
 }
 
+/// A cursor, and walks that write, remove and extract.
 #[test]
 fn walks_opened_under_a_count(rt: HostRuntime) {
     let mut map = map_of::<u8, usize, 2>(&rt, &[(5, 50), (3, 30), (8, 80)]);

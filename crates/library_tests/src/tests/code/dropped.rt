@@ -59,6 +59,8 @@ fn insert_again<'a>(rt: &impl Abort, map: &mut TreeMap<Marked<'a>, u8, 2>, drops
     assert!(rt; before == 2 && drops.get() == 3);
 }
 
+/// An insertion at stored bytes drops the new key. After a replacement the caller drops the old
+/// one.
 #[test]
 fn keys_for_stored_bytes(rt: HostRuntime) {
     let drops = Cell::new(0usize);
@@ -119,6 +121,8 @@ fn values_of_walks<const P: usize>(rt: &(impl Abort + AllocGlobal)) {
     assert_live(rt, eight::<P>(rt, &drops).into_values(), &drops);
 }
 
+/// Each owning walk over eight pairs returns two, and drops each of the others once when it is
+/// dropped.
 #[test]
 fn values_of_owning_walks(rt: HostRuntime) {
     values_of_walks::<0>(&rt);

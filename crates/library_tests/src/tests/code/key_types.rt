@@ -22,6 +22,7 @@ fn assert_keys<K: OrderedBytes>(
     assert!(rt; low < high && low == low && low != high);
 }
 
+/// Bytes and order of number keys, and of references to them.
 #[test]
 fn numbers(rt: HostRuntime) {
     let (one, two) = (U32Key::new(258), U32Key::new(65536));
@@ -90,6 +91,7 @@ fn unsigned_numbers(rt: HostRuntime) {
     );
 }
 
+/// The same of `U128Key`.
 #[test]
 fn numbers_of_sixteen_bytes(rt: HostRuntime) {
     assert_numbers(
@@ -107,6 +109,7 @@ fn numbers_of_sixteen_bytes(rt: HostRuntime) {
     );
 }
 
+/// The same of `I32Key` and `I64Key`.
 #[test]
 fn signed_numbers(rt: HostRuntime) {
     assert_numbers(
@@ -155,6 +158,7 @@ fn walk_numbers(rt: &(impl Abort + AllocGlobal), map: &mut Map<I64Key, i64>) {
     assert!(rt; map.get(&I64Key::new(-1)) == Some(&-1) && map.get(&I64Key::new(1)) == None);
 }
 
+/// A map of `I64Key`s is walked in the order of the numbers.
 #[test]
 fn numbers_in_a_map(rt: HostRuntime) {
     let mut map = Map::new(rt.alloc());
@@ -175,6 +179,7 @@ fn assert_owners<K: OrderedBytes + Drop, E: Debug>(
     drop(high);
 }
 
+/// Bytes and order of `u8`, arrays, slices, lists and texts.
 #[test]
 fn bytes(rt: HostRuntime) {
     assert_keys(&rt, (&7u8, &[7]), (&8, &[8]));
@@ -208,6 +213,7 @@ fn assert_zkey(rt: &(impl Abort + AllocGlobal), bytes: &[u8], with_zero: &[u8]) 
     assert!(rt; is_right && is_same);
 }
 
+/// The bytes of `ZKey`s, also of the empty text, and the error for a text that contains a zero.
 #[test]
 fn zkeys(rt: HostRuntime) {
     let (ab, abc): (&[u8], &[u8]) = (b"ab\0", b"abc\0");
@@ -268,6 +274,8 @@ fn find_texts(
     assert!(rt; named.get(&ZStr::new("card\0")) == Some(&2) && zkey!("car") < zkey!("card"));
 }
 
+/// `zkey!` and a `ZQuery` find `car`, `card` and the empty text among `ZKey`s, and the text alone
+/// does not. `ZStr`s are keys too.
 #[test]
 fn texts_find_keys(rt: HostRuntime) {
     let (mut owned, mut named) = (Map::new(rt.alloc()), Map::new(rt.alloc()));
@@ -294,6 +302,7 @@ fn assert_shown<K: Debug + Display>(
     assert_debug(rt, key, debug);
 }
 
+/// What `Display` and `Debug` write.
 #[test]
 fn texts_of_numbers(rt: HostRuntime) {
     assert_shown(&rt, &U16Key::new(258), "258", "U16Key(258)");
@@ -325,6 +334,7 @@ fn assert_shown_zkey(rt: &(impl Abort + AllocGlobal), bytes: &[u8], shown: &str,
     drop(key);
 }
 
+/// What `Display` and `Debug` write, also of a text that is not UTF-8.
 #[test]
 fn texts_of_zkeys(rt: HostRuntime) {
     assert_shown_zkey(&rt, b"ab", "ab", "ZKey(\"ab\")");

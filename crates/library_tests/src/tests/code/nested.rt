@@ -66,6 +66,8 @@ fn remove(rt: &impl Abort, routes: &mut Routes<usize>) {
     assert!(rt; routes.is_empty() && routes.len() == 0 && routes.tables() == 0);
 }
 
+/// Each path leads to the longest of four mounts that is a prefix of it, and after removals to the
+/// next shorter one.
 #[test]
 fn mounts_and_removals(rt: HostRuntime) {
     let mut routes = Routes::new(rt.alloc());

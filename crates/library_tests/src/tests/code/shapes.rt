@@ -79,6 +79,8 @@ fn take_apart<const P: usize>(rt: &(impl Abort + AllocGlobal)) {
     drop(rest);
 }
 
+/// A thousand keys of zeros and then a one have 999 nested inner nodes. The map is walked in part,
+/// cloned, halved, split, and replaced by one key.
 #[test]
 fn a_chain(rt: HostRuntime) {
     take_apart::<0>(&rt);

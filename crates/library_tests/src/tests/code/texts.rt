@@ -55,6 +55,7 @@ fn references<const P: usize>(rt: &(impl Abort + AllocGlobal)) {
     drop(names);
 }
 
+/// Films by their titles, and names whose values are written in a walk.
 #[test]
 fn references_to_texts(rt: HostRuntime) {
     references::<0>(&rt);
@@ -81,6 +82,7 @@ fn place_length<const P: usize>(rt: &(impl Abort + AllocGlobal)) {
     assert!(rt; placed == 1 && len == 1);
 }
 
+/// The closure of `or_insert_with_key` gets the key.
 #[test]
 fn length_of_a_text(rt: HostRuntime) {
     place_length::<0>(&rt);

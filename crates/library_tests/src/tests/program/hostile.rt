@@ -12,6 +12,7 @@ const LINES: &[u8] =
 const ANSWERS: &[u8] =
     b"refused line\nrefused line\nrefused line\nrefused line\nrefused line\nrefused line\nrefused line\nrefused line\nnone\nold 18446744073709551615\n5\n";
 
+/// Spaces, signs, letters, a carriage return, too many digits, and bytes that are not text.
 #[test]
 fn lines_at_the_edge_of_a_command(rt: HostRuntime) {
     for piece in [1, 7, 1000] {
@@ -101,6 +102,7 @@ fn assert_cut_short(rt: &(impl Abort + AllocGlobal), text: &[u8], answers: &[u8]
     }
 }
 
+/// A writer that is full at any byte, also within a listing, has a prefix of the results.
 #[test]
 fn a_writer_is_full_after_any_byte(rt: HostRuntime) {
     assert_cut_short(&rt, b"insert 01 5", b"none\n");

@@ -267,6 +267,9 @@ refused bounds
 end 1
 ";
 
+/// Each command at new and at stored keys, its conflicts and its bounds, digits in either case, the
+/// greatest number and the next one, the empty key, a last line without a line feed, and lines that
+/// are no commands.
 #[test]
 fn tables_of_lines(rt: HostRuntime) {
     for table in TABLES.split(';') {

@@ -118,11 +118,13 @@ fn assert_ways(rt: &(impl Abort + AllocGlobal + Print), of_key: bool) {
     }
 }
 
+/// One needs memory for a leaf, and the next for an inner node too.
 #[test]
 fn closures(rt: HostRuntime) {
     assert_ways(&rt, false);
 }
 
+/// The same with closures that get the key.
 #[test]
 fn closures_of_keys(rt: HostRuntime) {
     assert_ways(&rt, true);
@@ -156,6 +158,7 @@ fn put_beside(rt: &(impl Abort + Print), map: &mut TreeMap<&[u8], usize, 2>) -> 
     put
 }
 
+/// The same beside a stored key that is longer.
 #[test]
 fn a_closure_beside_a_longer_key(rt: HostRuntime) {
     let mut map = TreeMap::with_prefix_len(rt.alloc());

@@ -4,6 +4,7 @@ use blart_keys::{AsBytes, ZKey, ZKeyError, ZQuery};
 use std::alloc::AllocError;
 use std::process::Abort;
 
+/// A text that contains a zero has the error for that, whichever request is refused.
 #[test]
 fn zero_ended_keys(rt: HostRuntime) {
     for text in [b"ab" as &[u8], b"", b"a longer text than the first"] {

@@ -60,6 +60,7 @@ fn answers_all(rt: &(impl Abort + AllocGlobal + Print)) -> bool {
     is_all
 }
 
+/// A run that fails to allocate for a line writes the results before it, and returns `Memory`.
 #[test]
 fn run_of_three_lines(rt: HostRuntime) {
     if !answers_all(&rt) {

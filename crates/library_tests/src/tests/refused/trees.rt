@@ -52,6 +52,7 @@ fn place_next(rt: &(impl Abort + Print), tree: &mut Keys, place: usize) {
     }
 }
 
+/// The keys and the inner nodes of a tree are unchanged if `make_room` or `reserve` fails.
 #[test]
 fn make_room_and_reserve(rt: HostRuntime) {
     let mut tree = Keys::new(rt.alloc());
