@@ -317,7 +317,8 @@ impl<K: AsBytes + Drop, V: Drop, const PREFIX_LEN: usize> CellTree<K, V, PREFIX_
         ensures put { IsPut (pair_bytes K.bytes) (map (λ p. p.1) self.old.pairs) (key, value)
             (map (λ p. p.1) self.new.pairs) }
         ensures now { leaf_in self.new.pairs result ≡ Some (key, value) }
-        ensures fresh { leaf_in (under_ids self.old.ids self.old.pairs) (id_at self.new.ids result) ≡ None }
+        ensures fresh { leaf_in (under_ids self.old.ids self.old.pairs) (id_at self.new.ids result)
+            ≡ None }
         ensures others { OthersStand (under_ids self.old.ids self.old.pairs)
             (under_ids self.new.ids self.new.pairs) (id_at self.new.ids result) }
         ensures room { room self.old ≤ room self.new + 1 }

@@ -171,7 +171,8 @@ pub(crate) fn add_reserved<K: NoPrefixesBytes + Drop, V: Drop, const P: usize>(
 )
     requires room { 0 < room tree.old }
     ensures added { stores (pair_bytes K.bytes) (pairs_of tree.old.pairs) (K.bytes key) ≡ false
-        → IsPut (pair_bytes K.bytes) (pairs_of tree.old.pairs) (key, value) (pairs_of tree.new.pairs) }
+        → IsPut (pair_bytes K.bytes) (pairs_of tree.old.pairs) (key, value)
+        (pairs_of tree.new.pairs) }
     ensures stays { stores (pair_bytes K.bytes) (pairs_of tree.old.pairs) (K.bytes key) ≡ true
         → tree.new.pairs ≡ tree.old.pairs }
     ensures room { room tree.old ≤ room tree.new + 1 }

@@ -73,7 +73,8 @@ fn set_next<T>(
     to: Option<usize>,
 )
     requires { IfSome at (λ i. IsSome (slot_at records.old.store i)) }
-    ensures leaves { (j : ℕ) → slot_at records.new.store j ≡ with_next (slot_at records.old.store) at to j }
+    ensures leaves { (j : ℕ) → slot_at records.new.store j
+        ≡ with_next (slot_at records.old.store) at to j }
     ensures first { first.new ≡ end_with at to first.old }
     ensures used { used_count records.new.store ≡ used_count records.old.store }
     ensures spare { records.new.store.spare ≡ records.old.store.spare }
@@ -93,7 +94,8 @@ fn set_prev<T>(
     to: Option<usize>,
 )
     requires { IfSome at (λ i. IsSome (slot_at records.old.store i)) }
-    ensures leaves { (j : ℕ) → slot_at records.new.store j ≡ with_prev (slot_at records.old.store) at to j }
+    ensures leaves { (j : ℕ) → slot_at records.new.store j
+        ≡ with_prev (slot_at records.old.store) at to j }
     ensures last { last.new ≡ end_with at to last.old }
     ensures used { used_count records.new.store ≡ used_count records.old.store }
     ensures spare { records.new.store.spare ≡ records.old.store.spare }

@@ -222,7 +222,8 @@ impl<K, V> Leaves<K, V> {
         requires { Has self.now.pairs id }
         ensures after { IfSome result (λ n. number_after self.now.pairs id ≡ Some n) }
         ensures within { IfSome result (λ _. seen.place < ROW) }
-        ensures there { IfSome (leaf_in self.now.rows seen.row) (λ ids. nth ids seen.place ≡ Some id → seen.place + 1 < length ids → IsSome result) }
+        ensures there { IfSome (leaf_in self.now.rows seen.row) (λ ids. nth ids seen.place ≡ Some id
+            → seen.place + 1 < length ids → IsSome result) }
     {
         let row = self.rows.get(seen.row)?;
         let _len = row.len();
@@ -235,7 +236,8 @@ impl<K, V> Leaves<K, V> {
         requires { Has self.now.pairs id }
         ensures before { IfSome result (λ n. number_before self.now.pairs id ≡ Some n) }
         ensures within { IfSome result (λ _. 0 < seen.place) }
-        ensures there { IfSome (leaf_in self.now.rows seen.row) (λ ids. nth ids seen.place ≡ Some id → 0 < seen.place → IsSome result) }
+        ensures there { IfSome (leaf_in self.now.rows seen.row) (λ ids. nth ids seen.place ≡ Some id
+            → 0 < seen.place → IsSome result) }
     {
         let row = self.rows.get(seen.row)?;
         row.run().before(seen.place, id)
@@ -244,7 +246,8 @@ impl<K, V> Leaves<K, V> {
     /// Returns the number at a position.
     pub(crate) fn number(&self, position: Position) -> CellId
         requires { (k : ℕ) × (position_at self.now.rows k ≡ Some position) }
-        ensures { (k : ℕ) → position_at self.now.rows k ≡ Some position → nth (map (λ p. p.0) self.now.pairs) k ≡ Some result }
+        ensures { (k : ℕ) → position_at self.now.rows k ≡ Some position
+            → nth (map (λ p. p.0) self.now.pairs) k ≡ Some result }
     {
         self.rows.read(position.row).run().at(position.place)
     }
@@ -276,7 +279,8 @@ impl<K, V> Leaves<K, V> {
     #[inline(always)]
     pub(crate) fn forward(&self, position: Position) -> Option<Position>
         requires { (k : ℕ) × (position_at self.now.rows k ≡ Some position) }
-        ensures { (k : ℕ) → position_at self.now.rows k ≡ Some position → result ≡ position_at self.now.rows (k + 1) }
+        ensures { (k : ℕ) → position_at self.now.rows k ≡ Some position
+            → result ≡ position_at self.now.rows (k + 1) }
     {
         let len = self.rows.read(position.row).len();
         let place = position.place + 1;
@@ -296,7 +300,8 @@ impl<K, V> Leaves<K, V> {
     #[inline(always)]
     pub(crate) fn backward(&self, position: Position) -> Option<Position>
         requires { (k : ℕ) × (position_at self.now.rows k ≡ Some position) }
-        ensures before { (k : ℕ) → position_at self.now.rows (k + 1) ≡ Some position → result ≡ position_at self.now.rows k }
+        ensures before { (k : ℕ) → position_at self.now.rows (k + 1) ≡ Some position
+            → result ≡ position_at self.now.rows k }
         ensures first { position_at self.now.rows 0 ≡ Some position → result ≡ None }
     {
         let rows = &self.rows;
@@ -549,12 +554,18 @@ impl<K, V> Leaves<K, V> {
 /// Removes the number at a position from its row, and the row if it has no other number.
 fn take_out(rows: &mut Chain<Row>, position: Position)
     requires has { Has rows.old.pairs position.row }
-    requires within { IfSome (leaf_in rows.old.pairs position.row) (λ ids. position.place < length ids) }
-    ensures one { IfSome (leaf_in rows.old.pairs position.row) (λ ids. length ids ≡ 1 → rows.new.pairs ≡ without_number rows.old.pairs position.row) }
-    ensures more { IfSome (leaf_in rows.old.pairs position.row) (λ ids. length ids ≢ 1 → rows.new.pairs ≡ with_pair rows.old.pairs position.row (take position.place ids ++ drop (position.place + 1) ids)) }
+    requires within { IfSome (leaf_in rows.old.pairs position.row)
+        (λ ids. position.place < length ids) }
+    ensures one { IfSome (leaf_in rows.old.pairs position.row) (λ ids. length ids ≡ 1
+        → rows.new.pairs ≡ without_number rows.old.pairs position.row) }
+    ensures more { IfSome (leaf_in rows.old.pairs position.row) (λ ids. length ids ≢ 1
+        → rows.new.pairs ≡ with_pair rows.old.pairs position.row
+        (take position.place ids ++ drop (position.place + 1) ids)) }
     ensures grows { rows.old.spare ≤ rows.new.spare }
-    ensures gains { IfSome (leaf_in rows.old.pairs position.row) (λ ids. length ids ≡ 1 → rows.new.spare ≡ rows.old.spare + 1) }
-    ensures keeps { IfSome (leaf_in rows.old.pairs position.row) (λ ids. length ids ≢ 1 → rows.new.spare ≡ rows.old.spare) }
+    ensures gains { IfSome (leaf_in rows.old.pairs position.row) (λ ids. length ids ≡ 1
+        → rows.new.spare ≡ rows.old.spare + 1) }
+    ensures keeps { IfSome (leaf_in rows.old.pairs position.row) (λ ids. length ids ≢ 1
+        → rows.new.spare ≡ rows.old.spare) }
     ensures top { rows.new.top ≡ rows.old.top }
 {
     if rows.read(position.row).len() == 1 {
@@ -568,7 +579,8 @@ impl<K: Clone, V: Clone> Leaves<K, V> {
     /// Returns the leaves under the same numbers, with a clone of each key and value, or an error
     /// if it fails to allocate.
     pub fn clone(&self) -> Result<Self, AllocError>
-        ensures cloned { IfOk result (λ copy. AreCopies K.is_clone V.is_clone self.now.pairs copy.pairs) }
+        ensures cloned { IfOk result
+            (λ copy. AreCopies K.is_clone V.is_clone self.now.pairs copy.pairs) }
         ensures cells { IfOk result (λ copy. copy.cells ≡ self.now.cells) }
         ensures ids { IfOk result (λ copy. copy.ids ≡ self.now.ids) }
     {
@@ -600,8 +612,11 @@ impl<K: Drop, V: Drop> Leaves<K, V> {
         requires at { position_at self.old.rows (index_of self.old.pairs id) ≡ Some position }
         ensures value { leaf_in self.old.pairs id ≡ Some result }
         ensures rest { self.new.pairs ≡ without_number self.old.pairs id }
-        ensures rows { IfSome (leaf_in self.old.rows position.row) (λ ids. length ids ≢ 1 → self.new.rows ≡ with_pair self.old.rows position.row (take position.place ids ++ drop (position.place + 1) ids)) }
-        ensures spare_rows { IfSome (leaf_in self.old.rows position.row) (λ ids. length ids ≢ 1 → self.new.spare_rows ≡ self.old.spare_rows) }
+        ensures rows { IfSome (leaf_in self.old.rows position.row) (λ ids. length ids ≢ 1
+            → self.new.rows ≡ with_pair self.old.rows position.row
+            (take position.place ids ++ drop (position.place + 1) ids)) }
+        ensures spare_rows { IfSome (leaf_in self.old.rows position.row) (λ ids. length ids ≢ 1
+            → self.new.spare_rows ≡ self.old.spare_rows) }
         ensures room { room self.old ≤ room self.new }
         ensures cells { self.new.cells ≡ self.old.cells }
         ensures ids { self.new.ids ≡ self.old.ids }

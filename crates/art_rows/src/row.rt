@@ -110,8 +110,9 @@ impl Row {
         Run::new(ROW * self.block, &self.cells[..self.count])
     }
 
-    /// Returns the place of a number of the row. It searches all cells of the block, also those that
-    /// are not in use: a search of fewer cells takes longer, since its end is harder to foresee.
+    /// Returns the place of a number of the row. It searches all cells of the block, also those
+    /// that are not in use: a search of fewer cells takes longer, since its end is harder to
+    /// foresee.
     pub(crate) fn place_of(&self, number: CellId) -> usize
         requires { among self.now number ≡ true }
         ensures { result ≡ place_in self.now number }
@@ -148,7 +149,8 @@ fn insert_in(cells: &mut [u8], count: usize, place: usize)
     requires place { place ≤ count }
     requires room { count < length cells.old }
     ensures first { take (count + 1) cells.new
-        ≡ take place (take count cells.old) ++ slice_index_or cells.old count 0 ∷ drop place (take count cells.old) }
+        ≡ take place (take count cells.old)
+        ++ slice_index_or cells.old count 0 ∷ drop place (take count cells.old) }
     ensures same { (n : ℕ) → times cells.new n ≡ times cells.old n }
 {
     cells[place..count + 1].rotate_right(1);
@@ -158,7 +160,8 @@ fn insert_in(cells: &mut [u8], count: usize, place: usize)
 fn remove_in(cells: &mut [u8], count: usize, place: usize)
     requires place { place < count }
     requires within { count ≤ length cells.old }
-    ensures first { take (count - 1) cells.new ≡ take place (take count cells.old) ++ drop (place + 1) (take count cells.old) }
+    ensures first { take (count - 1) cells.new ≡ take place (take count cells.old)
+        ++ drop (place + 1) (take count cells.old) }
     ensures same { (n : ℕ) → times cells.new n ≡ times cells.old n }
 {
     if place + 1 == count {

@@ -79,8 +79,10 @@ impl<'a> Run<'a> {
 
     /// Returns the number after another, if that is at this place and is not the last.
     pub(crate) fn after(&self, place: usize, number: CellId) -> Option<CellId>
-        ensures some { IfSome result (λ n. (nth self.now place ≡ Some number) × (nth self.now (place + 1) ≡ Some n)) }
-        ensures there { nth self.now place ≡ Some number → place + 1 < length self.now → IsSome result }
+        ensures some { IfSome result (λ n. (nth self.now place ≡ Some number)
+            × (nth self.now (place + 1) ≡ Some n)) }
+        ensures there { nth self.now place ≡ Some number → place + 1 < length self.now
+            → IsSome result }
     {
         if place < self.len() && place + 1 < self.len() && self.at(place) == number {
             Some(self.at(place + 1))
@@ -91,7 +93,8 @@ impl<'a> Run<'a> {
 
     /// Returns the number before another, if that is at this place and is not the first.
     pub(crate) fn before(&self, place: usize, number: CellId) -> Option<CellId>
-        ensures some { IfSome result (λ n. (0 < place) × (nth self.now place ≡ Some number) × (nth self.now (place - 1) ≡ Some n)) }
+        ensures some { IfSome result (λ n. (0 < place) × (nth self.now place ≡ Some number)
+            × (nth self.now (place - 1) ≡ Some n)) }
         ensures there { nth self.now place ≡ Some number → 0 < place → IsSome result }
     {
         if 0 < place && place < self.len() && self.at(place) == number {

@@ -246,7 +246,8 @@ impl<T: Drop> Slots<T> {
         ensures top { self.new.top ≡ self.old.top }
         ensures fresh { slot_at self.old.store result ≡ None }
         ensures now { slot_at self.new.store result ≡ Some fresh }
-        ensures others { (j : ℕ) → j ≢ result → slot_at self.new.store j ≡ slot_at self.old.store j }
+        ensures others { (j : ℕ) → j ≢ result
+            → slot_at self.new.store j ≡ slot_at self.old.store j }
         ensures spare { self.new.store.spare + 1 ≡ self.old.store.spare }
         ensures used { used_count self.new.store ≡ used_count self.old.store + 1 }
         ensures room { self.new.room ≡ self.old.room }
@@ -271,7 +272,8 @@ impl<T: Drop> Slots<T> {
         ensures small { result < 2 ^ 61 }
         ensures fresh { slot_at self.old.store result ≡ None }
         ensures now { slot_at self.new.store result ≡ Some fresh }
-        ensures others { (j : ℕ) → j ≢ result → slot_at self.new.store j ≡ slot_at self.old.store j }
+        ensures others { (j : ℕ) → j ≢ result
+            → slot_at self.new.store j ≡ slot_at self.old.store j }
         ensures spare { self.new.store.spare ≡ self.old.store.spare }
         ensures used { used_count self.new.store ≡ used_count self.old.store + 1 }
         ensures room { self.new.room + 1 ≡ self.old.room }

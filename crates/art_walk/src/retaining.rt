@@ -21,8 +21,10 @@ pub fn retain_by<K: AsBytes + Drop, V: Drop, F: FnMut(&K, &mut V) -> bool, const
     tree: &mut Tree<K, V, PREFIX_LEN>,
     f: &mut F,
 )
-    requires { CallableOnEachPair (CalledAtPair F.FnMut) (TakesPair F.FnMut) f.old (pairs_of tree.old.pairs) }
-    ensures { RetainsBy (AsksPair F.FnMut) (pairs_of tree.old.pairs) f.old (pairs_of tree.new.pairs) f.new }
+    requires { CallableOnEachPair (CalledAtPair F.FnMut) (TakesPair F.FnMut) f.old
+        (pairs_of tree.old.pairs) }
+    ensures { RetainsBy (AsksPair F.FnMut) (pairs_of tree.old.pairs) f.old
+        (pairs_of tree.new.pairs) f.new }
 {
     tree.law();
     let mut cursor = Cursor::all(tree);

@@ -220,7 +220,8 @@ fn spot_beyond<K: AsBytes, V, const P: usize>(
 
 /// Returns `true` if an edge leads to a leaf.
 fn leads_to<const P: usize>(nodes: &Nodes<P>, edge: (NodeId, u8), leaf: &CellId) -> bool
-    ensures { result ≡ true → (root : Option Way) → LeadsTo (at nodes.now) root (Some edge) (Leaf leaf.now) }
+    ensures { result ≡ true → (root : Option Way)
+        → LeadsTo (at nodes.now) root (Some edge) (Leaf leaf.now) }
 {
     if !nodes.has(edge.0) {
         return false;

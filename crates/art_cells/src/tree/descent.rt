@@ -115,7 +115,8 @@ pub(crate) fn end_under<const P: usize>(
     visits: &mut Visits,
 ) -> CellId
     requires { IsSubtree P (at nodes.now) child.now }
-    ensures ends { (keys : ℕ → Option Bytes) (root : Option Way) (s : Shape P keys (at nodes.now) root)
+    ensures ends { (keys : ℕ → Option Bytes) (root : Option Way)
+        (s : Shape P keys (at nodes.now) root)
         (g : Bytes)
         → Covers keys (at nodes.now) s.front_of g child.now → IsEndUnder keys is_first g result }
     ensures counted { (keys : ℕ → Option Bytes) (root : Option Way)
@@ -142,7 +143,8 @@ pub(crate) fn locate<const P: usize>(
     visits: &mut Visits,
 ) -> Spot
     requires { IsWayOf P (at nodes.now) root.now nearest.now depth }
-    ensures spot { (keys : ℕ → Option Bytes) (s : Shape P keys (at nodes.now) (Some root.now)) (i : ℕ)
+    ensures spot { (keys : ℕ → Option Bytes) (s : Shape P keys (at nodes.now) (Some root.now))
+        (i : ℕ)
         → keys i ≡ Some nearest.now
         → SpotFits (at nodes.now) (Some root.now) s.front_of nearest.now depth result }
     ensures counted { visits.new.count ≤ visits.old.count + depth + 1 }

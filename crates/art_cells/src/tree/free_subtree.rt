@@ -55,7 +55,8 @@ fn free_child<const P: usize>(nodes: &mut Nodes<P>, child: &Child)
 fn free_below<const P: usize>(nodes: &mut Nodes<P>, top: NodeId)
     requires { (goes : ℕ → Bool) × Loose goes (at nodes.old) (at nodes.old) top }
     ensures { (goes : ℕ → Bool) → Loose goes (at nodes.old) (at nodes.old) top → (j : ℕ)
-        → (goes j ≡ true → at nodes.new j ≡ None) × (goes j ≡ false → at nodes.new j ≡ at nodes.old j) }
+        → (goes j ≡ true → at nodes.new j ≡ None)
+        × (goes j ≡ false → at nodes.new j ≡ at nodes.old j) }
 {
     let mut head = top;
     'each: loop {
@@ -94,7 +95,8 @@ fn advance<const P: usize>(nodes: &mut Nodes<P>, head: NodeId, byte: u8, below: 
     requires loose { (goes : ℕ → Bool) × (before : ℕ → Option Node)
         × Loose goes before (at nodes.old) head }
     requires first { HasFirstNode (at nodes.old) head (Some (byte, below)) }
-    ensures loose { (goes : ℕ → Bool) (before : ℕ → Option Node) → Loose goes before (at nodes.old) head
+    ensures loose { (goes : ℕ → Bool) (before : ℕ → Option Node)
+        → Loose goes before (at nodes.old) head
         → Loose goes before (at nodes.new) below }
     ensures advances { Advances nodes.old nodes.new head below }
 {
@@ -114,7 +116,8 @@ fn rotate<const P: usize>(nodes: &mut Nodes<P>, head: NodeId, byte: u8, below: N
         × Loose goes before (at nodes.old) head }
     requires leads { LeadsIn (at nodes.old) head byte below }
     requires not_last { (y : Node) → at nodes.old head ≡ Some y → IsNotLast y.edges byte }
-    ensures loose { (goes : ℕ → Bool) (before : ℕ → Option Node) → Loose goes before (at nodes.old) head
+    ensures loose { (goes : ℕ → Bool) (before : ℕ → Option Node)
+        → Loose goes before (at nodes.old) head
         → Loose goes before (at nodes.new) below }
     ensures deeper { IsDeeper (at nodes.old) (at nodes.new) head below }
     ensures live { live nodes.new ≡ live nodes.old }

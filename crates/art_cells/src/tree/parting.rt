@@ -135,9 +135,11 @@ pub(crate) fn leaf_beside<const P: usize>(
     visits: &mut Visits,
 ) -> Beside
     requires { (keys : ℕ → Option Bytes) × LeavesAt P keys (at nodes.now) mismatch.now query.now }
-    ensures beside { (keys : ℕ → Option Bytes) → LeavesAt P keys (at nodes.now) mismatch.now query.now
+    ensures beside { (keys : ℕ → Option Bytes)
+        → LeavesAt P keys (at nodes.now) mismatch.now query.now
         → IsBeside keys query.now result }
-    ensures counted { (keys : ℕ → Option Bytes) → LeavesAt P keys (at nodes.now) mismatch.now query.now
+    ensures counted { (keys : ℕ → Option Bytes)
+        → LeavesAt P keys (at nodes.now) mismatch.now query.now
         → (key : Bytes) → keys (neighbour result) ≡ Some key
         → visits.new.count ≤ visits.old.count + length key + 1 }
     ensures grows { visits.old.count ≤ visits.new.count }
@@ -159,7 +161,8 @@ fn child_beside<const P: usize>(
     visits: &mut Visits,
 ) -> (Child, bool)
     requires { (keys : ℕ → Option Bytes) × LeavesAt P keys (at nodes.now) mismatch.now query.now }
-    ensures beside { (keys : ℕ → Option Bytes) → LeavesAt P keys (at nodes.now) mismatch.now query.now
+    ensures beside { (keys : ℕ → Option Bytes)
+        → LeavesAt P keys (at nodes.now) mismatch.now query.now
         → IsChildBeside P keys (at nodes.now) query.now result.0 result.1 }
     ensures counted { visits.new.count ≤ visits.old.count + 1 }
     ensures grows { visits.old.count ≤ visits.new.count }

@@ -197,7 +197,8 @@ fn spot_for<const P: usize>(
 ) -> Spot
     requires { HasNearest P (at nodes.now) root.now place.now shown.now nearest.now }
     ensures { (h : HasNearest P (at nodes.now) root.now place.now shown.now nearest.now)
-        → SpotFits (at nodes.now) (Some root.now) h.shape.front_of nearest.now place.now.depth result }
+        → SpotFits (at nodes.now)
+        (Some root.now) h.shape.front_of nearest.now place.now.depth result }
 {
     match shown {
         Some(spot) => *spot,

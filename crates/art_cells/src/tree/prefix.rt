@@ -64,7 +64,8 @@ fn prune<K: AsBytes + Drop, V: Drop, const P: usize>(
     prefix: &[u8],
 ) -> Child
     requires sound { IsSound K.bytes P leaves.old nodes.old (Some root.now) }
-    requires branch { (s : Shape P (keys_in K.bytes leaves.old.pairs) (at nodes.old) (Some root.now))
+    requires branch { (s : Shape P (keys_in K.bytes leaves.old.pairs) (at nodes.old)
+        (Some root.now))
         → IsBranch (keys_in K.bytes leaves.old.pairs) (at nodes.old)
         (Some root.now) s.front_of prefix.now branch.now }
     requires ends { ends (under (bytes K.bytes) leaves.old.pairs prefix.now)

@@ -28,7 +28,8 @@ impl<K: AsBytes, V, const PREFIX_LEN: usize> CellTree<K, V, PREFIX_LEN> {
     /// the longest key has L bytes, and none on an empty tree.
     pub fn seek(&self, bound: Bound<&[u8]>, is_start: bool, visits: &mut Visits) -> Option<CellId>
         ensures found { result
-            ≡ number_within (bytes K.bytes) self.now.pairs (bound_bytes (λ b. b) bound.entry) is_start }
+            ≡ number_within (bytes K.bytes) self.now.pairs
+            (bound_bytes (λ b. b) bound.entry) is_start }
         ensures counted { visits.new.count
             ≤ visits.old.count + (bound_len (bound_bytes (λ b. b) bound.entry) + 2)
             * (longest (bytes K.bytes) self.now.pairs + 1) }
@@ -63,7 +64,8 @@ impl<K: AsBytes, V, const PREFIX_LEN: usize> CellTree<K, V, PREFIX_LEN> {
     pub fn span(&self, front: &[u8], visits: &mut Visits) -> Option<(CellId, CellId)>
         ensures found { result ≡ ends (under (bytes K.bytes) self.now.pairs front.now) }
         ensures counted { visits.new.count + 2
-            ≤ visits.old.count + (length front.now + 3) * (longest (bytes K.bytes) self.now.pairs + 1) }
+            ≤ visits.old.count + (length front.now + 3)
+            * (longest (bytes K.bytes) self.now.pairs + 1) }
         ensures grows { visits.old.count ≤ visits.new.count }
         ensures empty { self.now.pairs ≡ [] → visits.new.count ≡ visits.old.count }
     {
@@ -110,7 +112,8 @@ impl<K: AsBytes, V, const PREFIX_LEN: usize> CellTree<K, V, PREFIX_LEN> {
     fn find_place(&self, query: &[u8], visits: &mut Visits) -> Result<CellId, Option<CellId>>
         ensures stands { IsPlaceOf (keys_in K.bytes self.now.pairs) query.now result }
         ensures counted { visits.new.count
-            ≤ visits.old.count + (length query.now + 2) * (longest (bytes K.bytes) self.now.pairs + 1) }
+            ≤ visits.old.count + (length query.now + 2)
+            * (longest (bytes K.bytes) self.now.pairs + 1) }
         ensures grows { visits.old.count ≤ visits.new.count }
         ensures empty { self.now.pairs ≡ [] → visits.new.count ≡ visits.old.count }
     {
@@ -133,7 +136,8 @@ fn place_below<K: AsBytes, V, const P: usize>(
     requires { IsSound K.bytes P leaves.now nodes.now (Some root.now) }
     ensures stands { IsPlaceOf (keys_in K.bytes leaves.now.pairs) query.now result }
     ensures counted { visits.new.count
-        ≤ visits.old.count + (length query.now + 2) * (longest (bytes K.bytes) leaves.now.pairs + 1) }
+        ≤ visits.old.count + (length query.now + 2)
+        * (longest (bytes K.bytes) leaves.now.pairs + 1) }
     ensures grows { visits.old.count ≤ visits.new.count }
 {
     leaves.law();

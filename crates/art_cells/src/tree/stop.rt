@@ -114,7 +114,8 @@ fn step_at<K: AsBytes, V, const P: usize>(
     id: NodeId,
     query: &[u8],
 ) -> Step
-    requires { OnWay P (keys_in K.bytes leaves.now.pairs) (at nodes.now) (Inner id) start query.now }
+    requires { OnWay P (keys_in K.bytes leaves.now.pairs) (at nodes.now)
+        (Inner id) start query.now }
     ensures { IsStep P (keys_in K.bytes leaves.now.pairs) (at nodes.now) id start result query.now }
 {
     let node = nodes.read(id, &mut Visits::new());
@@ -143,9 +144,11 @@ fn shared_at<K: AsBytes, V, const P: usize>(
     id: NodeId,
     query: &[u8],
 ) -> Shared
-    requires way { OnWay P (keys_in K.bytes leaves.now.pairs) (at nodes.now) (Inner id) start query.now }
+    requires way { OnWay P (keys_in K.bytes leaves.now.pairs) (at nodes.now)
+        (Inner id) start query.now }
     requires is { at nodes.now id ≡ Some node.now }
-    ensures { (w : OnWay P (keys_in K.bytes leaves.now.pairs) (at nodes.now) (Inner id) start query.now)
+    ensures { (w : OnWay P (keys_in K.bytes leaves.now.pairs) (at nodes.now)
+        (Inner id) start query.now)
         → IsShared (w.shape.front_of id) query.now result.len result.byte }
 {
     let depth = node.depth();
@@ -174,8 +177,10 @@ fn shared_below<K: AsBytes, V, const P: usize>(
     id: NodeId,
     query: &[u8],
 ) -> Shared
-    requires { OnWay P (keys_in K.bytes leaves.now.pairs) (at nodes.now) (Inner id) start query.now }
-    ensures { (w : OnWay P (keys_in K.bytes leaves.now.pairs) (at nodes.now) (Inner id) start query.now)
+    requires { OnWay P (keys_in K.bytes leaves.now.pairs) (at nodes.now)
+        (Inner id) start query.now }
+    ensures { (w : OnWay P (keys_in K.bytes leaves.now.pairs) (at nodes.now)
+        (Inner id) start query.now)
         → IsShared (w.shape.front_of id) query.now result.len result.byte }
 {
     let mut visits = Visits::new();

@@ -238,7 +238,8 @@ fn insert_in(bytes: &mut [u8], children: &mut [Link], count: usize, byte: u8, to
     requires within { count < length bytes.old }
     requires same { length children.old ≡ length bytes.old }
     ensures { take (count + 1) (paired bytes.new children.new)
-        ≡ edges_with (take count (paired bytes.old children.old)) (record { byte = byte; to = to }) }
+        ≡ edges_with (take count (paired bytes.old children.old))
+        (record { byte = byte; to = to }) }
 {
     let place = place_of(&bytes[..count], byte);
     bytes.copy_within(place..count, place + 1);
@@ -266,7 +267,8 @@ fn remove_in(bytes: &mut [u8], children: &mut [Link], count: usize, byte: u8)
 fn redirect_in(bytes: &[u8], children: &mut [Link], count: usize, byte: u8, to: Link)
     requires within { count ≤ length bytes.now }
     requires same { length children.old ≡ length bytes.now }
-    ensures { take count (paired bytes.now children.new) ≡ edges_with_child (take count (paired bytes.now children.old)) byte to }
+    ensures { take count (paired bytes.now children.new)
+        ≡ edges_with_child (take count (paired bytes.now children.old)) byte to }
 {
     for i in 0..count {
         if bytes[i] == byte {

@@ -205,7 +205,8 @@ impl Indexed {
 /// Replaces each entry `from` of an index with `to`.
 fn rename_in(index: &mut [u8], from: u8, to: u8)
     requires { from < 48 }
-    ensures { (b : ℕ) → slice_index_or index.new b 48 ≡ moved from to (slice_index_or index.old b 48) }
+    ensures { (b : ℕ) → slice_index_or index.new b 48
+        ≡ moved from to (slice_index_or index.old b 48) }
 {
     for place in index.iter_mut() {
         if *place == from {

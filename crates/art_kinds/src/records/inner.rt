@@ -38,7 +38,8 @@ impl<C: Children, const P: usize> Inner<C, P> {
     /// Returns a node. It keeps the first `P` bytes of `prefix`.
     #[inline(always)]
     pub(super) fn new(depth: usize, prefix: &[u8], edges: C) -> Self
-        ensures { result ≡ record { depth = depth; prefix = take P prefix.now; edges = C.edges edges } }
+        ensures { result
+            ≡ record { depth = depth; prefix = take P prefix.now; edges = C.edges edges } }
     {
         let mut node = Inner {
             depth,
@@ -92,8 +93,10 @@ pub(super) fn copy_both<C: Children, D: Children, const P: usize>(
 ) -> Result<(Store<Inner<C, P>>, Store<Inner<D, P>>), AllocError>
     requires first { IsOneKind P C.places first.now }
     requires second { IsOneKind P D.places second.now }
-    ensures same { IfOk result (λ copies. SameRecords first.now copies.0 × SameRecords second.now copies.1) }
-    ensures kinds { IfOk result (λ copies. IsOneKind P C.places copies.0 × IsOneKind P D.places copies.1) }
+    ensures same { IfOk result (λ copies. SameRecords first.now copies.0
+        × SameRecords second.now copies.1) }
+    ensures kinds { IfOk result (λ copies. IsOneKind P C.places copies.0
+        × IsOneKind P D.places copies.1) }
 {
     Ok((first.clone()?, second.clone()?))
 }
@@ -118,7 +121,8 @@ pub(super) fn add_edge<C: Children, const P: usize>(
     to: Child,
 )
     requires kind { IsOneKind P C.places store.old }
-    requires room { IsSomeAnd (slot_at store.old place) (λ x. FitsIn C.places (length x.edges + 1)) }
+    requires room { IsSomeAnd (slot_at store.old place)
+        (λ x. FitsIn C.places (length x.edges + 1)) }
     requires absent { IsSomeAnd (slot_at store.old place) (λ x. child_at x.edges byte ≡ None) }
     ensures kind { IsOneKind P C.places store.new }
     ensures changes { Changes (Rewires (λ a b. AddsChild a b byte to)) store.old store.new place }
@@ -137,7 +141,8 @@ pub(super) fn redirect<C: Children, const P: usize>(
     requires kind { IsOneKind P C.places store.old }
     requires there { IsSomeAnd (slot_at store.old place) (λ x. IsSome (child_at x.edges byte)) }
     ensures kind { IsOneKind P C.places store.new }
-    ensures changes { Changes (Rewires (λ a b. RedirectsChild a b byte to)) store.old store.new place }
+    ensures changes { Changes
+        (Rewires (λ a b. RedirectsChild a b byte to)) store.old store.new place }
 {
     store.get_mut(place).edges.redirect(byte, to);
 }
@@ -167,7 +172,8 @@ pub(super) fn set_prefix<C: Children, const P: usize>(
     requires kind { IsOneKind P C.places store.old }
     requires live { IsSome (slot_at store.old place) }
     ensures kind { IsOneKind P C.places store.new }
-    ensures changes { Changes (λ x y. y ≡ record x { prefix = take P prefix.now }) store.old store.new place }
+    ensures changes { Changes
+        (λ x y. y ≡ record x { prefix = take P prefix.now }) store.old store.new place }
 {
     let record = store.get_mut(place);
     record.used = copy_front(&mut record.prefix, prefix);

@@ -492,7 +492,8 @@ impl<const P: usize> Nodes<P> {
     #[inline(never)]
     fn shrink_sixteen(&mut self, place: usize) -> Result<usize, AllocError>
         requires few { IsSomeAnd (slot_at self.old.sixteens place) (λ x. length x.edges ≤ 4) }
-        ensures moved { IfOk result (λ p. Renames (at self.old) (at self.new) (4 * place + 1) (4 * p)) }
+        ensures moved { IfOk result
+            (λ p. Renames (at self.old) (at self.new) (4 * place + 1) (4 * p)) }
         ensures small { IfOk result (λ p. p < 2 ^ 61) }
         ensures live { live self.new ≡ live self.old }
         ensures same { OnErr result (SameNodes self.old self.new) }
@@ -510,7 +511,8 @@ impl<const P: usize> Nodes<P> {
     #[inline(never)]
     fn shrink_forty_eight(&mut self, place: usize) -> Result<usize, AllocError>
         requires few { IsSomeAnd (slot_at self.old.forty_eights place) (λ x. length x.edges ≤ 16) }
-        ensures moved { IfOk result (λ p. Renames (at self.old) (at self.new) (4 * place + 2) (4 * p + 1)) }
+        ensures moved { IfOk result
+            (λ p. Renames (at self.old) (at self.new) (4 * place + 2) (4 * p + 1)) }
         ensures small { IfOk result (λ p. p < 2 ^ 61) }
         ensures live { live self.new ≡ live self.old }
         ensures fours { self.new.fours ≡ self.old.fours }
@@ -529,7 +531,8 @@ impl<const P: usize> Nodes<P> {
     #[inline(never)]
     fn shrink_full(&mut self, place: usize) -> Result<usize, AllocError>
         requires few { IsSomeAnd (slot_at self.old.fulls place) (λ x. length x.edges ≤ 48) }
-        ensures moved { IfOk result (λ p. Renames (at self.old) (at self.new) (4 * place + 3) (4 * p + 2)) }
+        ensures moved { IfOk result
+            (λ p. Renames (at self.old) (at self.new) (4 * place + 3) (4 * p + 2)) }
         ensures small { IfOk result (λ p. p < 2 ^ 61) }
         ensures live { live self.new ≡ live self.old }
         ensures fours { self.new.fours ≡ self.old.fours }

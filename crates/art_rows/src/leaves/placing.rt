@@ -84,7 +84,8 @@ impl<K: Drop, V: Drop> Leaves<K, V> {
         requires way { HasWay self.old.rows prev }
         ensures fresh { leaf_in self.old.pairs result ≡ None }
         ensures lies { result < self.old.cells }
-        ensures placed { self.new.pairs ≡ with_pair_after prev (result, (key, value)) self.old.pairs }
+        ensures placed { self.new.pairs
+            ≡ with_pair_after prev (result, (key, value)) self.old.pairs }
         ensures cells { self.new.cells ≡ self.old.cells }
         ensures ids { self.new.ids ≡ self.old.ids }
         ensures spare { self.old.spare_rows ≤ self.new.spare_rows + 1 }
@@ -122,7 +123,8 @@ impl<K: Drop, V: Drop> Leaves<K, V> {
         requires room { 0 < end_room self.old }
         ensures fresh { leaf_in self.old.pairs result ≡ None }
         ensures lies { result < self.old.cells }
-        ensures placed { self.new.pairs ≡ with_pair_after (last_number self.old.pairs) (result, (key, value)) self.old.pairs }
+        ensures placed { self.new.pairs
+            ≡ with_pair_after (last_number self.old.pairs) (result, (key, value)) self.old.pairs }
         ensures cells { self.new.cells ≡ self.old.cells }
         ensures ids { self.new.ids ≡ self.old.ids }
         ensures room { end_room self.old ≤ end_room self.new + 1 }
@@ -281,7 +283,8 @@ impl<K: Drop, V: Drop> Leaves<K, V> {
     /// no rows. `seen` is a guess of the position of `prev`.
     fn spot(&self, prev: Option<CellId>, seen: Position) -> Option<Position>
         requires { IfSome prev (Has self.now.pairs) }
-        ensures some { IfSome result (λ p. IsSpot self.now.rows p (spot_index prev self.now.pairs)) }
+        ensures some { IfSome result
+            (λ p. IsSpot self.now.rows p (spot_index prev self.now.pairs)) }
         ensures none { IfNone result (self.now.rows ≡ []) }
         ensures first { IfNone prev (result ≡ position_at self.now.rows 0) }
         ensures found { IfSome prev (λ _. IsSome result) }
@@ -310,11 +313,14 @@ impl<K: Drop, V: Drop> Leaves<K, V> {
         requires room { IfSome (leaf_in self.old.rows position.row) (λ ids. length ids < ROW) }
         ensures fresh { leaf_in self.old.pairs result ≡ None }
         ensures lies { result < self.old.cells }
-        ensures placed { self.new.pairs ≡ with_pair_after prev (result, (key, value)) self.old.pairs }
+        ensures placed { self.new.pairs
+            ≡ with_pair_after prev (result, (key, value)) self.old.pairs }
         ensures cells { self.new.cells ≡ self.old.cells }
         ensures ids { self.new.ids ≡ self.old.ids }
         ensures spare_rows { self.new.spare_rows ≡ self.old.spare_rows }
-        ensures rows { IfSome (leaf_in self.old.rows position.row) (λ ids. self.new.rows ≡ with_pair self.old.rows position.row (take position.place ids ++ result ∷ drop position.place ids)) }
+        ensures rows { IfSome (leaf_in self.old.rows position.row)
+            (λ ids. self.new.rows ≡ with_pair self.old.rows position.row
+            (take position.place ids ++ result ∷ drop position.place ids)) }
         ensures own { row_of result ≡ position.row }
     {
         let id = self.rows.get_mut(position.row).insert(position.place);
@@ -332,11 +338,13 @@ impl<K: Drop, V: Drop> Leaves<K, V> {
         requires index { spot_index prev self.old.pairs ≡ row_end prev_row self.old.rows }
         ensures fresh { leaf_in self.old.pairs result ≡ None }
         ensures lies { result < self.old.cells }
-        ensures placed { self.new.pairs ≡ with_pair_after prev (result, (key, value)) self.old.pairs }
+        ensures placed { self.new.pairs
+            ≡ with_pair_after prev (result, (key, value)) self.old.pairs }
         ensures cells { self.new.cells ≡ self.old.cells }
         ensures ids { self.new.ids ≡ self.old.ids }
         ensures spare_rows { self.new.spare_rows + 1 ≡ self.old.spare_rows }
-        ensures rows { (self.new.rows ≡ with_pair_after prev_row (row_of result, result ∷ []) self.old.rows) × (leaf_in self.old.rows (row_of result) ≡ None) }
+        ensures rows { (self.new.rows ≡ with_pair_after prev_row (row_of result, result ∷ [])
+            self.old.rows) × (leaf_in self.old.rows (row_of result) ≡ None) }
     {
         // The number of a row is known when the row is in the chain, and so are the numbers of its
         // cells.
