@@ -87,7 +87,7 @@ template <class Key> std::vector<Timed> one_run(const Keys<Key> &keys) {
     return rows;
 }
 
-// The bytes that a line of hexadecimal digits stands for.
+// The bytes of a line of hexadecimal digits.
 void read_key(const std::string &line, std::string &key) {
     for (size_t at = 0; at + 1 < line.size(); at += 2) key.push_back((char)std::stoi(line.substr(at, 2), nullptr, 16));
 }

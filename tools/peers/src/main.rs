@@ -44,7 +44,7 @@ fn main() {
     }
 }
 
-/// The bytes that a line of hexadecimal digits stands for.
+/// The bytes of a line of hexadecimal digits.
 fn bytes_of(line: &str) -> Vec<u8> {
     let byte = |at| u8::from_str_radix(&line[at..at + 2], 16).expect("two digits");
     (0..line.len()).step_by(2).map(byte).collect()
