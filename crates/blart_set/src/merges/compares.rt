@@ -4,7 +4,7 @@ ghost use Rattle.std.specs.Prelude.{◌≡◌, ◌+◌};
 use blart_map::Visits;
 use std::marker::Model;
 
-/// The number of comparisons of elements that a merge made. It takes no memory at run time. A
+/// The number of comparisons of elements that a merge made. Its size at run time is zero. A
 /// contract sees the number.
 ///
 /// ```
