@@ -2,7 +2,7 @@
 //! prefix and its edges in order, and that there is no other node.
 ghost use Rattle.std.specs.Prelude.{◌<◌};
 
-use super::{byte_of, number_of};
+use super::byte_of;
 use art_kinds::{Child, Edge, Kind, NodeId, NodeRef, Nodes};
 use art_slots::{CellId, Visits};
 use std::process::Abort;
@@ -25,23 +25,29 @@ fn leaf_below(byte: u8) -> Child {
     Child::Leaf(CellId::new(number_below(byte)))
 }
 
+// The number of a leaf. A node has one that no table has.
+fn number_of(child: Child) -> usize {
+    match child {
+        Child::Leaf(id) => id.number(),
+        Child::Inner(_) => usize::MAX,
+    }
+}
+
 // The edges are those of the table: each is found, and they follow one another.
 fn assert_edges<const P: usize>(rt: &impl Abort, node: &NodeRef<'_, P>, table: &Table) {
     let mut least: Option<u8> = None;
     for byte in 0..=255 {
-        let found = node.find(byte);
-        match table[usize::from(byte)] {
-            None => assert!(rt; found.is_none()),
-            Some(number) => {
-                let child = found.expect(rt, "an edge");
-                assert!(rt; number_of(rt, child) == number);
-                if let Some(before) = least {
-                    let next = node.edge_after(before).expect(rt, "an edge");
-                    assert!(rt; next.byte == byte);
-                    assert!(rt; number_of(rt, next.to) == number);
-                }
-                least = Some(byte);
+        let found = match node.find(byte) {
+            Some(child) => Some(number_of(child)),
+            None => None,
+        };
+        assert!(rt; found == table[usize::from(byte)]);
+        if let Some(number) = found {
+            if let Some(before) = least {
+                let next = node.edge_after(before).expect(rt, "an edge");
+                assert!(rt; (next.byte, number_of(next.to)) == (byte, number));
             }
+            least = Some(byte);
         }
     }
 }
@@ -61,10 +67,10 @@ fn assert_node<const P: usize>(
         17..=48 => Kind::FortyEight,
         _ => Kind::Full,
     };
-    assert!(rt; id.kind() == kind && nodes.live() == 1);
+    assert!(rt; (id.kind(), nodes.live()) == (kind, 1));
     assert!(rt; nodes.has(id));
     let node = nodes.read(id, &mut Visits::new());
-    assert!(rt; node.depth() == 9 && node.count() == count);
+    assert!(rt; (node.depth(), node.count()) == (9, count));
     assert!(rt; node.prefix() == &PREFIX[..P.min(3)]);
     assert_edges(rt, &node, table);
 }

@@ -30,12 +30,11 @@ fn pass<const P: usize>(
     is_forward: bool,
 ) {
     let mut visits = Visits::new();
-    let Some(found) = tree.search(&key_of(number), &mut visits) else {
-        panic!(rt; "pair {number} is missing");
-    };
-    assert!(rt; steps.at == Some(found), "the walk is not at pair {number}");
+    let found = tree.search(&key_of(number), &mut visits);
+    let found = found.expect(rt, "a pair");
+    assert!(rt; steps.at == Some(found));
     let (key, value) = tree.leaf_near(found, steps.seen, &mut visits);
-    assert!(rt; *key == key_of(number) && *value == number);
+    assert!(rt; (*key, *value) == (key_of(number), number));
     steps.at = if is_forward {
         tree.next_from(found, &mut steps.seen)
     } else {

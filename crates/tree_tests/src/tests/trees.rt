@@ -1,6 +1,8 @@
 //! Calls of a tree that no call of a map makes.
+ghost use Rattle.art_tree.specs.Leaves.{Has};
+
 use super::{add, memory};
-use art_tree::{Tree, Visits};
+use art_tree::{LeafId, Tree, Visits};
 use blart_keys::AsBytes;
 use std::fs::Files;
 use std::process::Abort;
@@ -95,12 +97,18 @@ fn children_of_the_largest_kind(rt: HostRuntime) {
     largest_kind::<64>(&rt);
 }
 
+// The leaf of a key.
+fn leaf_of(rt: &impl Abort, tree: &Tree<&[u8], usize, 2>, key: &[u8]) -> LeafId
+    ensures { Has tree.now.pairs result }
+{
+    let found = tree.search(key, &mut Visits::new());
+    found.expect(rt, "the key is there")
+}
+
 // The leaf before the leaf of a key, and the leaf after it.
 fn assert_neighbours(rt: &impl Abort, tree: &Tree<&[u8], usize, 2>) {
-    let first = tree.search(b"abcdx", &mut Visits::new());
-    let first = first.expect(rt, "the key is there");
-    let second = tree.search(b"abcdy", &mut Visits::new());
-    let second = second.expect(rt, "the key is there");
+    let first = leaf_of(rt, tree, b"abcdx");
+    let second = leaf_of(rt, tree, b"abcdy");
     assert!(rt; tree.first() == Some(first) && tree.prev_of(first).is_none());
     assert!(rt; tree.next_of(first) == Some(second) && tree.prev_of(second) == Some(first));
 }
@@ -118,9 +126,9 @@ type Texts = Tree<&'static [u8], usize, 16>;
 // Room for a million pairs takes less than 600 MB of addresses, and less than 200 MB are written
 // before a pair comes.
 fn reserve_million(rt: &(impl Abort + AllocGlobal + Files), tree: &mut Texts) {
-    let (most, held) = memory(rt);
+    let (most, held) = (memory(rt, "VmPeak:"), memory(rt, "VmRSS:"));
     tree.reserve(1_000_000).expect(rt, "memory");
-    let (most_then, held_then) = memory(rt);
+    let (most_then, held_then) = (memory(rt, "VmPeak:"), memory(rt, "VmRSS:"));
     assert!(rt; most_then.saturating_sub(most) < 600_000_000 / 1024);
     assert!(rt; held_then.saturating_sub(held) < 200_000_000 / 1024);
 }
