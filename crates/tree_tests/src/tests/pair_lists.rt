@@ -5,12 +5,12 @@ use std::process::Abort;
 
 // Adds three pairs to an empty list, and replaces the value of the last.
 fn add_three(rt: &impl Abort, pairs: &mut Pairs<u8, char>) {
-    assert!(rt; pairs.len() == 0 && pairs.last_key().is_none());
+    assert!(rt; (pairs.len(), pairs.last_key()) == (0, None));
     pairs.reserve(3).expect(rt, "memory");
     pairs.push(1, 'a');
     pairs.push(2, 'b');
     pairs.push(3, 'c');
-    assert!(rt; pairs.len() == 3 && pairs.last_key() == Some(&3));
+    assert!(rt; (pairs.len(), pairs.last_key()) == (3, Some(&3)));
     assert!(rt; pairs.replace_last('d') == 'c');
 }
 

@@ -109,8 +109,13 @@ fn leaf_of(rt: &impl Abort, tree: &Tree<&[u8], usize, 2>, key: &[u8]) -> LeafId
 fn assert_neighbours(rt: &impl Abort, tree: &Tree<&[u8], usize, 2>) {
     let first = leaf_of(rt, tree, b"abcdx");
     let second = leaf_of(rt, tree, b"abcdy");
-    assert!(rt; tree.first() == Some(first) && tree.prev_of(first).is_none());
-    assert!(rt; tree.next_of(first) == Some(second) && tree.prev_of(second) == Some(first));
+    let found = [
+        tree.first(),
+        tree.prev_of(first),
+        tree.next_of(first),
+        tree.prev_of(second),
+    ];
+    assert!(rt; found == [Some(first), None, Some(second), Some(first)]);
 }
 
 #[test]
