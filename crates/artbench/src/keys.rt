@@ -58,8 +58,8 @@ fn padded<const N: usize>(bytes: &[u8]) -> [u8; N] {
     key
 }
 
-// The key ends with a zero byte. So a zero within it is written as 1 and 1, and a one as 1 and 2.
-// The order of the keys is unchanged.
+/// The key ends with a zero byte. So a zero within it is written as 1 and 1, and a one as 1 and 2.
+/// The order of the keys is unchanged.
 impl Made for ZKey {
     fn made(alloc: Global, bytes: &[u8]) -> Result<Self, Failure> {
         let mut written = Vec::new(alloc);

@@ -52,8 +52,8 @@ impl Resolver for Mounts<u64> {
     }
 }
 
-// Of the mounts up to a path only the last can be a prefix of it, since no mount is a prefix of
-// another.
+/// Of the mounts up to a path only the last can be a prefix of it, since no mount is a prefix of
+/// another.
 impl Resolver for Theirs<Vec<u8>> {
     fn place(&self, path: &Vec<u8>) -> Option<u64> {
         match self

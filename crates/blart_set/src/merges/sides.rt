@@ -169,7 +169,7 @@ impl<'a, K> Side<'a, K> {
     }
 }
 
-// Compares two elements, which is as their bytes compare, and counts it.
+/// Compares two elements, which is as their bytes compare, and counts it.
 fn compare<K: OrderedBytes>(x: &K, y: &K, compares: &mut Compares) -> Ordering
     ensures order { result ≡ bytes_cmp (K.bytes x.now) (K.bytes y.now) }
     ensures counted { compares.new ≡ compares.old + 1 }

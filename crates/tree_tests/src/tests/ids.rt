@@ -9,39 +9,39 @@ use std::process::Abort;
 
 type Key = [u8; 4];
 
-// How many bytes a key may have at each place, so that nodes of several kinds fill and split.
+/// How many bytes a key may have at each place, so that nodes of several kinds fill and split.
 const LETTERS: usize = 20;
 
-// Numbers in no order, the same ones at each run.
-#[derive(Drop)]
-struct Random {
-    state: usize,
+/// The first of some numbers in no order, the same ones at each run.
+const RANDOM: usize = 88172645463325252;
+
+/// Goes on to the next random number. Returns it modulo the bound.
+fn next_below(random: &mut usize, bound: usize) -> usize
+    requires { 0 < bound }
+    ensures { result < bound }
+{
+    *random ^= *random << 13;
+    *random ^= *random >> 7;
+    *random ^= *random << 17;
+    *random % bound
 }
 
-impl Random {
-    // The next number, less than the bound.
-    fn below(&mut self, bound: usize) -> usize
-        requires { 0 < bound }
-        ensures { result < bound }
-    {
-        self.state ^= self.state << 13;
-        self.state ^= self.state >> 7;
-        self.state ^= self.state << 17;
-        self.state % bound
-    }
-
-    // The next letter of a key.
-    fn letter(&mut self) -> u8 {
-        self.below(LETTERS) as u8
-    }
-
-    // The next key. No key is a prefix of another, since all have the same length.
-    fn key(&mut self) -> Key {
-        [self.letter(), self.letter(), self.letter(), self.letter()]
-    }
+/// The next letter of a key.
+fn next_letter(random: &mut usize) -> u8 {
+    next_below(random, LETTERS) as u8
 }
 
-// A pair that is in the tree, and the id that its placement returned.
+/// The next key. No key is a prefix of another, since all have the same length.
+fn next_key(random: &mut usize) -> Key {
+    [
+        next_letter(random),
+        next_letter(random),
+        next_letter(random),
+        next_letter(random),
+    ]
+}
+
+/// A pair that is in the tree, and the id that its placement returned.
 #[derive(Clone, Copy)]
 struct Kept {
     key: Key,
@@ -49,41 +49,39 @@ struct Kept {
     id: LeafId,
 }
 
-// The id still names the pair.
+/// The id still names the pair.
 fn assert_named<const P: usize>(rt: &impl Abort, tree: &Tree<Key, usize, P>, kept: &Kept) {
     let mut visits = Visits::new();
-    let Some(found) = tree.search(&kept.key, &mut visits) else {
-        panic!(rt; "a pair is missing");
-    };
-    assert!(rt; found == kept.id);
+    let found = tree.search(&kept.key, &mut visits);
+    let found = found.expect(rt, "a pair");
     let (key, value) = tree.leaf(found, &mut visits);
-    assert!(rt; *key == kept.key && *value == kept.value);
+    assert!(rt; (found, *key, *value) == (kept.id, kept.key, kept.value));
 }
 
-// The ids of a few random pairs still name them.
+/// The ids of a few random pairs still name them.
 fn assert_some_named<const P: usize>(
     rt: &impl Abort,
     tree: &Tree<Key, usize, P>,
     kept: &Vec<Kept>,
-    random: &mut Random,
+    random: &mut usize,
 ) {
     for _ in 0..3 {
         if kept.len() > 0 {
-            let at = random.below(kept.len());
+            let at = next_below(random, kept.len());
             assert_named(rt, tree, &kept[at]);
         }
     }
 }
 
-// Places a pair with a random key, unless the key is stored. Its id is that of no other leaf.
+/// Places a pair with a random key, unless the key is stored. Its id is that of no other leaf.
 fn place_one<const P: usize>(
     rt: &impl Abort,
     tree: &mut Tree<Key, usize, P>,
     kept: &mut Vec<Kept>,
-    random: &mut Random,
+    random: &mut usize,
     value: usize,
 ) {
-    let key = random.key();
+    let key = next_key(random);
     if tree.search(&key, &mut Visits::new()).is_some() {
         return;
     }
@@ -94,30 +92,28 @@ fn place_one<const P: usize>(
     kept.push(Kept { key, value, id }).expect(rt, "memory");
 }
 
-// Takes out a random pair, if there is one.
+/// Takes out a random pair, if there is one.
 fn take_one<const P: usize>(
     rt: &impl Abort,
     tree: &mut Tree<Key, usize, P>,
     kept: &mut Vec<Kept>,
-    random: &mut Random,
+    random: &mut usize,
 ) {
     if kept.len() > 0 {
-        let at = random.below(kept.len());
+        let at = next_below(random, kept.len());
         let gone = kept.swap_remove(at);
         let taken = tree.take(&gone.key);
         assert!(rt; taken == Some((gone.key, gone.value)));
     }
 }
 
-// Of 10,000 steps about every fourth takes a pair out, and each other one places a pair.
+/// Of 10,000 steps about every fourth takes a pair out, and each other one places a pair.
 fn come_and_stay<const P: usize>(rt: &(impl Abort + AllocGlobal)) {
     let mut tree = Tree::<Key, usize, P>::new(rt.alloc());
     let mut kept = Vec::new(rt.alloc());
-    let mut random = Random {
-        state: 88172645463325252,
-    };
+    let mut random = RANDOM;
     for step in 0..10_000usize {
-        if random.below(4) == 0 {
+        if next_below(&mut random, 4) == 0 {
             take_one(rt, &mut tree, &mut kept, &mut random);
         } else {
             place_one(rt, &mut tree, &mut kept, &mut random, step);
@@ -142,7 +138,7 @@ fn ids_stay(rt: HostRuntime) {
     come_and_stay::<16>(&rt);
 }
 
-// A call that removes a pair.
+/// A call that removes a pair.
 #[derive(Clone, Copy)]
 enum Removal {
     Take,
@@ -151,25 +147,29 @@ enum Removal {
     Clear,
 }
 
-// Removes the pair of a key.
+/// Removes the pair of a key.
 fn remove_by<const P: usize>(
     rt: &impl Abort,
     tree: &mut Tree<Key, usize, P>,
     key: &Key,
     removal: Removal,
 ) {
-    match removal {
-        Removal::Take => assert!(rt; tree.take(key).is_some()),
-        Removal::Remove => {
-            let id = tree.search(key, &mut Visits::new()).expect(rt, "a leaf");
-            assert!(rt; tree.remove(id).1 == 1);
+    let is_removed = match removal {
+        Removal::Take => tree.take(key).is_some(),
+        Removal::Remove => match tree.search(key, &mut Visits::new()) {
+            Some(id) => tree.remove(id).1 == 1,
+            None => false,
+        },
+        Removal::RemovePrefix => tree.remove_prefix(key) == 1,
+        Removal::Clear => {
+            tree.clear();
+            true
         }
-        Removal::RemovePrefix => assert!(rt; tree.remove_prefix(key) == 1),
-        Removal::Clear => tree.clear(),
-    }
+    };
+    assert!(rt; is_removed);
 }
 
-// A pair comes and goes.
+/// A pair comes and goes.
 fn come_and_go<const P: usize>(
     rt: &impl Abort,
     tree: &mut Tree<Key, usize, P>,
@@ -183,23 +183,29 @@ fn come_and_go<const P: usize>(
     }
 }
 
-// A pair that comes and goes 100,000 times takes less than 1 MB, after the program has run for a
-// while. A cell that is not used again would take more than 16 bytes each time.
+/// A pair that comes and goes 100,000 times takes less than 1 MB, after the program has run for a
+/// while. A cell that is not used again would take more than 16 bytes each time.
 fn assert_steady<const P: usize>(
     rt: &(impl Abort + AllocGlobal + Files),
     tree: &mut Tree<Key, usize, P>,
     removal: Removal,
 ) {
-    let _ = memory(rt);
+    let _ = memory(rt, "VmRSS:");
     come_and_go(rt, tree, removal, 5_000);
-    let (_, before) = memory(rt);
+    let before = memory(rt, "VmRSS:");
     come_and_go(rt, tree, removal, 100_000);
-    let (_, after) = memory(rt);
-    let grown = after.saturating_sub(before);
-    assert!(rt; grown < 1_000_000 / 1024, "{grown} KiB more");
+    let after = memory(rt, "VmRSS:");
+    assert!(rt; after.saturating_sub(before) < 1_000_000 / 1024);
 }
 
-// The placements of a pair that comes and goes 1,000 times return at most 16 ids.
+/// Keeps an id, unless it is kept.
+fn note(rt: &impl Abort, ids: &mut Vec<LeafId>, id: LeafId) {
+    if !ids.contains(&id) {
+        ids.push(id).expect(rt, "memory");
+    }
+}
+
+/// The placements of a pair that comes and goes 1,000 times return at most 16 ids.
 fn assert_few_ids<const P: usize>(
     rt: &(impl Abort + AllocGlobal),
     tree: &mut Tree<Key, usize, P>,
@@ -208,10 +214,7 @@ fn assert_few_ids<const P: usize>(
     let mut ids: Vec<LeafId> = Vec::new(rt.alloc());
     for _ in 0..1_000usize {
         let key = [1, 2, 3, 4];
-        let id = add(rt, tree, key, 1);
-        if !ids.iter().any(|it| *it == id) {
-            ids.push(id).expect(rt, "memory");
-        }
+        note(rt, &mut ids, add(rt, tree, key, 1));
         remove_by(rt, tree, &key, removal);
     }
     let count = ids.len();
@@ -219,7 +222,7 @@ fn assert_few_ids<const P: usize>(
     assert!(rt; count <= 16);
 }
 
-// A pair comes and goes in a tree of 100 pairs.
+/// A pair comes and goes in a tree of 100 pairs.
 fn used_again_in<const P: usize>(rt: &(impl Abort + AllocGlobal + Files), removal: Removal) {
     let mut tree = Tree::<Key, usize, P>::new(rt.alloc());
     for value in 0..100u8 {
@@ -232,7 +235,7 @@ fn used_again_in<const P: usize>(rt: &(impl Abort + AllocGlobal + Files), remova
     assert!(rt; len == 100);
 }
 
-// The same at each of three prefix lengths.
+/// The same at each of three prefix lengths.
 fn assert_used_again(rt: &(impl Abort + AllocGlobal + Files), removal: Removal) {
     used_again_in::<0>(rt, removal);
     used_again_in::<2>(rt, removal);
@@ -263,23 +266,23 @@ fn ids_are_used_again_after_clear(rt: HostRuntime) {
     assert!(rt; is_empty);
 }
 
-// How many pairs there are while 10,000 others come and go, each at a place of its own.
+/// How many pairs there are while 10,000 others come and go, each at a place of its own.
 const STAYING: usize = 300;
 
-// Pairs come at random places, and random pairs go. Since each id is used again, there are few.
+/// Pairs come at random places, and random pairs go. Since each id is used again, there are few.
 fn change_places<const P: usize>(rt: &(impl Abort + AllocGlobal)) {
     let mut tree = Tree::<Key, usize, P>::new(rt.alloc());
     let mut kept = Vec::new(rt.alloc());
     let mut ids: Vec<LeafId> = Vec::new(rt.alloc());
-    let mut random = Random {
-        state: 88172645463325252,
-    };
+    let mut random = RANDOM;
     for step in 0..STAYING {
         place_one(rt, &mut tree, &mut kept, &mut random, step);
     }
     for step in 0..10_000usize {
         place_one(rt, &mut tree, &mut kept, &mut random, step);
-        note_last(rt, &mut ids, &kept);
+        if let Some(last) = kept.last() {
+            note(rt, &mut ids, last.id);
+        }
         take_one(rt, &mut tree, &mut kept, &mut random);
         assert_some_named(rt, &tree, &kept, &mut random);
     }
@@ -287,16 +290,7 @@ fn change_places<const P: usize>(rt: &(impl Abort + AllocGlobal)) {
     drop(ids);
     drop(kept);
     drop(tree);
-    assert!(rt; count <= 2 * STAYING, "{count} ids");
-}
-
-// Keeps the id of the pair that was placed last, unless it is kept.
-fn note_last(rt: &impl Abort, ids: &mut Vec<LeafId>, kept: &Vec<Kept>) {
-    if let Some(last) = kept.last() {
-        if !ids.iter().any(|it| *it == last.id) {
-            ids.push(last.id).expect(rt, "memory");
-        }
-    }
+    assert!(rt; count <= 2 * STAYING);
 }
 
 #[test]

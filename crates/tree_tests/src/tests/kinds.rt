@@ -2,52 +2,58 @@
 //! prefix and its edges in order, and that there is no other node.
 ghost use Rattle.std.specs.Prelude.{◌<◌};
 
-use super::{byte_of, number_of};
+use super::byte_of;
 use art_kinds::{Child, Edge, Kind, NodeId, NodeRef, Nodes};
 use art_slots::{CellId, Visits};
 use std::process::Abort;
 
-// The compressed prefix of the node, of which it keeps the first P bytes.
+/// The compressed prefix of the node, of which it keeps the first P bytes.
 const PREFIX: [u8; 3] = [5, 6, 7];
 
-// The number of the leaf below each byte that has one.
+/// The number of the leaf below each byte that has one.
 type Table = [Option<usize>; 256];
 
-// The number of the leaf below a byte.
+/// The number of the leaf below a byte.
 fn number_below(byte: u8) -> usize
     ensures small { result < 1000 }
 {
     usize::from(byte) * 3 + 7
 }
 
-// The leaf below a byte.
+/// The leaf below a byte.
 fn leaf_below(byte: u8) -> Child {
     Child::Leaf(CellId::new(number_below(byte)))
 }
 
-// The edges are those of the table: each is found, and they follow one another.
+/// The number of a leaf. A node has one that no table has.
+fn number_of(child: Child) -> usize {
+    match child {
+        Child::Leaf(id) => id.number(),
+        Child::Inner(_) => usize::MAX,
+    }
+}
+
+/// The edges are those of the table: each is found, and they follow one another.
 fn assert_edges<const P: usize>(rt: &impl Abort, node: &NodeRef<'_, P>, table: &Table) {
     let mut least: Option<u8> = None;
     for byte in 0..=255 {
-        let found = node.find(byte);
-        match table[usize::from(byte)] {
-            None => assert!(rt; found.is_none()),
-            Some(number) => {
-                let child = found.expect(rt, "an edge");
-                assert!(rt; number_of(rt, child) == number);
-                if let Some(before) = least {
-                    let next = node.edge_after(before).expect(rt, "an edge");
-                    assert!(rt; next.byte == byte);
-                    assert!(rt; number_of(rt, next.to) == number);
-                }
-                least = Some(byte);
+        let found = match node.find(byte) {
+            Some(child) => Some(number_of(child)),
+            None => None,
+        };
+        assert!(rt; found == table[usize::from(byte)]);
+        if let Some(number) = found {
+            if let Some(before) = least {
+                let next = node.edge_after(before).expect(rt, "an edge");
+                assert!(rt; (next.byte, number_of(next.to)) == (byte, number));
             }
+            least = Some(byte);
         }
     }
 }
 
-// The node has `count` children, those of the table, and is of the least kind with room for them.
-// Its depth and its prefix are unchanged, and it is the only node.
+/// The node has `count` children, those of the table, and is of the least kind with room for them.
+/// Its depth and its prefix are unchanged, and it is the only node.
 fn assert_node<const P: usize>(
     rt: &impl Abort,
     nodes: &Nodes<P>,
@@ -61,15 +67,15 @@ fn assert_node<const P: usize>(
         17..=48 => Kind::FortyEight,
         _ => Kind::Full,
     };
-    assert!(rt; id.kind() == kind && nodes.live() == 1);
+    assert!(rt; (id.kind(), nodes.live()) == (kind, 1));
     assert!(rt; nodes.has(id));
     let node = nodes.read(id, &mut Visits::new());
-    assert!(rt; node.depth() == 9 && node.count() == count);
+    assert!(rt; (node.depth(), node.count()) == (9, count));
     assert!(rt; node.prefix() == &PREFIX[..P.min(3)]);
     assert_edges(rt, &node, table);
 }
 
-// A node with the children of the first two steps.
+/// A node with the children of the first two steps.
 fn start<const P: usize>(rt: &impl Abort, nodes: &mut Nodes<P>) -> NodeId {
     let (low, high) = (byte_of(0), byte_of(1));
     nodes.reserve(1).expect(rt, "memory");
@@ -85,7 +91,7 @@ fn start<const P: usize>(rt: &impl Abort, nodes: &mut Nodes<P>) -> NodeId {
     nodes.new_node(9, &PREFIX, low, high)
 }
 
-// Adds the child of a byte that has none.
+/// Adds the child of a byte that has none.
 #[tactic(auto, using(art_kinds::proofs::Growing::fits_more))]
 fn add<const P: usize>(rt: &impl Abort, nodes: &mut Nodes<P>, id: NodeId, byte: u8) -> NodeId {
     nodes.reserve(1).expect(rt, "memory");
@@ -98,7 +104,7 @@ fn add<const P: usize>(rt: &impl Abort, nodes: &mut Nodes<P>, id: NodeId, byte: 
     id
 }
 
-// Removes the child of a byte.
+/// Removes the child of a byte.
 fn remove<const P: usize>(rt: &impl Abort, nodes: &mut Nodes<P>, id: NodeId, byte: u8) -> NodeId {
     assert!(rt; nodes.has(id));
     let found = nodes.read(id, &mut Visits::new()).find(byte);
@@ -108,7 +114,7 @@ fn remove<const P: usize>(rt: &impl Abort, nodes: &mut Nodes<P>, id: NodeId, byt
     nodes.narrow(id)
 }
 
-// Adds a child at each byte but the first two.
+/// Adds a child at each byte but the first two.
 fn fill<const P: usize>(
     rt: &impl Abort,
     nodes: &mut Nodes<P>,
@@ -125,7 +131,7 @@ fn fill<const P: usize>(
     id
 }
 
-// Removes the children in the order in which they came, all but the last two.
+/// Removes the children in the order in which they came, all but the last two.
 fn empty<const P: usize>(
     rt: &impl Abort,
     nodes: &mut Nodes<P>,
@@ -142,7 +148,7 @@ fn empty<const P: usize>(
     id
 }
 
-// A node is made, filled, emptied and removed.
+/// A node is made, filled, emptied and removed.
 fn turn<const P: usize>(rt: &impl Abort, nodes: &mut Nodes<P>) {
     let mut table: Table = [None; 256];
     for step in 0..2 {

@@ -6,22 +6,22 @@ use std::process::Abort;
 
 type Key = [u8; 2];
 
-// How many pairs there are at first. Pair n has the number 4n + 2.
+/// How many pairs there are at first. Pair n has the number 4n + 2.
 const PAIRS: usize = 600;
 
-// The key of a number less than 65,536. The keys are in the order of the numbers.
+/// The key of a number less than 65,536. The keys are in the order of the numbers.
 fn key_of(number: usize) -> Key {
     [(number / 256 % 256) as u8, (number % 256) as u8]
 }
 
-// A walk by ids from leaf to leaf, which holds no reference to the tree.
+/// A walk by ids from leaf to leaf, which holds no reference to the tree.
 #[derive(Clone, Copy)]
 struct Steps {
     at: Option<LeafId>,
     seen: Position,
 }
 
-// The walk is at the pair of a number. It goes on to the next leaf, or back to the leaf before.
+/// The walk is at the pair of a number. It goes on to the next leaf, or back to the leaf before.
 fn pass<const P: usize>(
     rt: &impl Abort,
     tree: &Tree<Key, usize, P>,
@@ -30,12 +30,11 @@ fn pass<const P: usize>(
     is_forward: bool,
 ) {
     let mut visits = Visits::new();
-    let Some(found) = tree.search(&key_of(number), &mut visits) else {
-        panic!(rt; "pair {number} is missing");
-    };
-    assert!(rt; steps.at == Some(found), "the walk is not at pair {number}");
+    let found = tree.search(&key_of(number), &mut visits);
+    let found = found.expect(rt, "a pair");
+    assert!(rt; steps.at == Some(found));
     let (key, value) = tree.leaf_near(found, steps.seen, &mut visits);
-    assert!(rt; *key == key_of(number) && *value == number);
+    assert!(rt; (*key, *value) == (key_of(number), number));
     steps.at = if is_forward {
         tree.next_from(found, &mut steps.seen)
     } else {
@@ -43,13 +42,13 @@ fn pass<const P: usize>(
     };
 }
 
-// Places the pair of a number.
+/// Places the pair of a number.
 fn place<const P: usize>(rt: &impl Abort, tree: &mut Tree<Key, usize, P>, number: usize) {
     add(rt, tree, key_of(number), number);
 }
 
-// A walk forward. At each pair of the first ones a pair is placed on both sides. The walk comes to
-// the one that is in front of it, and not to the other.
+/// A walk forward. At each pair of the first ones a pair is placed on both sides. The walk comes to
+/// the one that is in front of it, and not to the other.
 fn walk_forward<const P: usize>(rt: &impl Abort, tree: &mut Tree<Key, usize, P>) {
     let mut steps = Steps {
         at: tree.first(),
@@ -64,8 +63,8 @@ fn walk_forward<const P: usize>(rt: &impl Abort, tree: &mut Tree<Key, usize, P>)
     assert!(rt; steps.at.is_none());
 }
 
-// A walk back over all of them. Once it has passed the last of three neighbours, a pair is placed
-// in front of them, to which it comes too.
+/// A walk back over all of them. Once it has passed the last of three neighbours, a pair is placed
+/// in front of them, to which it comes too.
 fn walk_back<const P: usize>(rt: &impl Abort, tree: &mut Tree<Key, usize, P>) {
     let mut steps = Steps {
         at: tree.last(),
@@ -82,7 +81,7 @@ fn walk_back<const P: usize>(rt: &impl Abort, tree: &mut Tree<Key, usize, P>) {
     assert!(rt; steps.at.is_none());
 }
 
-// Both walks, the second over what the first left.
+/// Both walks, the second over what the first left.
 fn walk_both_ways<const P: usize>(rt: &(impl Abort + AllocGlobal)) {
     let mut tree = Tree::<Key, usize, P>::new(rt.alloc());
     for n in 0..PAIRS {

@@ -1,11 +1,13 @@
 //! Calls of a tree that no call of a map makes.
+ghost use Rattle.art_tree.specs.Leaves.{Has};
+
 use super::{add, memory};
-use art_tree::{Tree, Visits};
+use art_tree::{LeafId, Tree, Visits};
 use blart_keys::AsBytes;
 use std::fs::Files;
 use std::process::Abort;
 
-// A tree of these keys, each with its place as value.
+/// A tree of these keys, each with its place as value.
 fn tree_of<'a, const P: usize>(
     rt: &(impl Abort + AllocGlobal),
     keys: &[&'a [u8]],
@@ -17,7 +19,7 @@ fn tree_of<'a, const P: usize>(
     tree
 }
 
-// The inner node at the prefix of each row has the number of children of the row, 0 for no node.
+/// The inner node at the prefix of each row has the number of children of the row, 0 for no node.
 fn assert_children<K: AsBytes, const P: usize>(
     rt: &impl Abort,
     tree: &Tree<K, usize, P>,
@@ -29,14 +31,14 @@ fn assert_children<K: AsBytes, const P: usize>(
     }
 }
 
-// Forty-one zeros, but for one byte.
+/// Forty-one zeros, but for one byte.
 fn zeros_but(place: usize, byte: u8) -> [u8; 41] {
     let mut key = [0; 41];
     key[place % 41] = byte;
     key
 }
 
-// The rows hold of a tree of these keys.
+/// The rows hold of a tree of these keys.
 fn assert_counts<const P: usize>(
     rt: &(impl Abort + AllocGlobal),
     keys: &[&[u8]],
@@ -47,7 +49,7 @@ fn assert_counts<const P: usize>(
     drop(tree);
 }
 
-// Four keys; and two that part after forty zeros, and a third that parts from them after twenty.
+/// Four keys; and two that part after forty zeros, and a third that parts from them after twenty.
 fn children<const P: usize>(rt: &(impl Abort + AllocGlobal)) {
     let rows: [(&[u8], usize); 4] = [(b"", 3), (b"\x02", 2), (b"\x01", 0), (b"\x09", 0)];
     assert_counts::<P>(rt, &[b"\x02\x01", b"\x03", b"\x01", b"\x02\x02"], &rows);
@@ -73,7 +75,7 @@ fn children_at_fronts(rt: HostRuntime) {
     children::<64>(&rt);
 }
 
-// Keys of two bytes, each below 49, so that each first byte is that of 49 keys.
+/// Keys of two bytes, each below 49, so that each first byte is that of 49 keys.
 fn largest_kind<const P: usize>(rt: &(impl Abort + AllocGlobal)) {
     let mut tree = Tree::<[u8; 2], usize, P>::new(rt.alloc());
     for place in 0..2401usize {
@@ -97,14 +99,25 @@ fn children_of_the_largest_kind(rt: HostRuntime) {
     largest_kind::<64>(&rt);
 }
 
-// The leaf before the leaf of a key, and the leaf after it.
+/// The leaf of a key.
+fn leaf_of(rt: &impl Abort, tree: &Tree<&[u8], usize, 2>, key: &[u8]) -> LeafId
+    ensures { Has tree.now.pairs result }
+{
+    let found = tree.search(key, &mut Visits::new());
+    found.expect(rt, "the key is there")
+}
+
+/// The leaf before the leaf of a key, and the leaf after it.
 fn assert_neighbours(rt: &impl Abort, tree: &Tree<&[u8], usize, 2>) {
-    let first = tree.search(b"abcdx", &mut Visits::new());
-    let first = first.expect(rt, "the key is there");
-    let second = tree.search(b"abcdy", &mut Visits::new());
-    let second = second.expect(rt, "the key is there");
-    assert!(rt; tree.first() == Some(first) && tree.prev_of(first).is_none());
-    assert!(rt; tree.next_of(first) == Some(second) && tree.prev_of(second) == Some(first));
+    let first = leaf_of(rt, tree, b"abcdx");
+    let second = leaf_of(rt, tree, b"abcdy");
+    let found = [
+        tree.first(),
+        tree.prev_of(first),
+        tree.next_of(first),
+        tree.prev_of(second),
+    ];
+    assert!(rt; found == [Some(first), None, Some(second), Some(first)]);
 }
 
 #[test]
@@ -117,12 +130,12 @@ fn neighbours_of_a_leaf(rt: HostRuntime) {
 
 type Texts = Tree<&'static [u8], usize, 16>;
 
-// Room for a million pairs takes less than 600 MB of addresses, and less than 200 MB are written
-// before a pair comes.
+/// Room for a million pairs takes less than 600 MB of addresses, and less than 200 MB are written
+/// before a pair comes.
 fn reserve_million(rt: &(impl Abort + AllocGlobal + Files), tree: &mut Texts) {
-    let (most, held) = memory(rt);
+    let (most, held) = (memory(rt, "VmPeak:"), memory(rt, "VmRSS:"));
     tree.reserve(1_000_000).expect(rt, "memory");
-    let (most_then, held_then) = memory(rt);
+    let (most_then, held_then) = (memory(rt, "VmPeak:"), memory(rt, "VmRSS:"));
     assert!(rt; most_then.saturating_sub(most) < 600_000_000 / 1024);
     assert!(rt; held_then.saturating_sub(held) < 200_000_000 / 1024);
 }
