@@ -150,3 +150,39 @@ fn sets_are_parted(rt: HostRuntime) {
     drop(seconds);
     assert!(rt; are_parted && are_unzipped);
 }
+
+/// Sets of numbers under names, and a map in a map.
+#[derive(Drop)]
+struct Tables {
+    sets: Map<ZKey, Set<u8>>,
+    maps: Map<u8, Map<u8, u32>>,
+}
+
+/// Fills sets and maps that `or_default` makes.
+fn fill_tables(rt: &(impl Abort + AllocGlobal), tables: &mut Tables) {
+    for (name, number) in [("car", 1u8), ("cat", 2), ("car", 3)] {
+        let set = tables.sets.entry(zkey(rt, name)).or_default();
+        set.expect(rt, "memory").insert(number).expect(rt, "memory");
+        let entry = tables.maps.entry(number).or_default_entry();
+        let map = entry.expect(rt, "memory").into_mut();
+        map.insert(number, 10).expect(rt, "memory");
+    }
+    assert!(rt; tables.sets.len() == 2 && tables.sets.values().all(|set| !set.is_empty()));
+    assert!(rt; tables.maps.len() == 3 && tables.maps.values().all(|map| map.len() == 1));
+    let over = tables
+        .sets
+        .prefix_entry(zkey(rt, "car"))
+        .kind()
+        .or_default();
+    assert!(rt; over.expect(rt, "memory").iter().eq(&[1, 3]));
+}
+
+#[test]
+fn sets_and_maps_by_default(rt: HostRuntime) {
+    let mut tables = Tables {
+        sets: Map::new(rt.alloc()),
+        maps: Map::new(rt.alloc()),
+    };
+    fill_tables(&rt, &mut tables);
+    drop(tables);
+}
