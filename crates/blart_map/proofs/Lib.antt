@@ -1,5 +1,6 @@
 pub mod Beneath
 pub mod CallerLemmas
+pub mod Extended
 pub mod Passed
 pub mod Popped
 pub mod Related

@@ -9,7 +9,8 @@ use crate::map::TreeMap;
 use crate::occupied::OccupiedEntry;
 use crate::vacant::VacantEntry;
 use blart_keys::AsBytes;
-use std::alloc::AllocError;
+use std::alloc::{AllocError, Global};
+use std::default::MadeWith;
 
 /// The place of a key in a map: the pair with its bytes, or a new place.
 ///
@@ -42,6 +43,14 @@ impl<'a, K: AsBytes, V, const PREFIX_LEN: usize, T: 'a> Entry<'a, K, V, PREFIX_L
         match self {
             Entry::Occupied(entry) => entry.key(),
             Entry::Vacant(entry) => entry.key(),
+        }
+    }
+
+    /// Returns the allocator of the map, with which `or_default` makes a value.
+    fn allocator(&self) -> Global {
+        match self {
+            Entry::Occupied(entry) => entry.map.allocator(),
+            Entry::Vacant(entry) => entry.map.allocator(),
         }
     }
 
@@ -170,20 +179,21 @@ impl<'a, K: AsBytes + Drop, V: Drop, const PREFIX_LEN: usize> Entry<
         }
     }
 
-    /// Returns a mutable reference to the value. If no value is stored, it first places the type's
-    /// default.
+    /// Returns a mutable reference to the value. If no value is stored, it first places what
+    /// [`MadeWith`] makes: the type's default, or an empty collection with the map's allocator.
     ///
     /// Cost: reads the leaf on `Occupied`, and makes an insertion on `Vacant`.
     pub fn or_default(self) -> Result<&'a mut V, AllocError>
     where
-        V: Default,
+        V: MadeWith<Global>,
         ensures* writes_back { sem 𝓛
             (entry_lends_ok K.row V.row PREFIX_LEN.row K.AsBytes self.entry result) }
         ensures value { IfOk result
-            (λ r. UnwrapsOrElse (entry_value self.entry) V.is_default r.now) }
+            (λ r. UnwrapsOrElse (entry_value self.entry) V.is_made_with r.now) }
         ensures absent { OnErr result (entry_value self.entry ≡ None) }
     {
-        self.or_insert_with(|| V::default())
+        let alloc = self.allocator();
+        self.or_insert_with(move || V::made_with(alloc))
     }
 
     /// Returns the entry of the key's pair. If no value is stored, it first places the value that
@@ -228,20 +238,21 @@ impl<'a, K: AsBytes + Drop, V: Drop, const PREFIX_LEN: usize> Entry<
         }
     }
 
-    /// Returns the entry of the key's pair. If no value is stored, it first places the type's
-    /// default.
+    /// Returns the entry of the key's pair. If no value is stored, it first places what
+    /// [`MadeWith`] makes, like [`Entry::or_default`].
     ///
     /// Cost: none on `Occupied`, and an insertion on `Vacant`.
     pub fn or_default_entry(
         self,
     ) -> Result<OccupiedEntry<'a, K, V, PREFIX_LEN, TreeMap<K, V, PREFIX_LEN>>, AllocError>
     where
-        V: Default,
+        V: MadeWith<Global>,
         ensures* stands { sem 𝓛
             (entry_rests K.row V.row PREFIX_LEN.row K.AsBytes self.entry result) }
-        ensures set { IfOk result (IsKeptOrMade self.entry V.is_default) }
+        ensures set { IfOk result (IsKeptOrMade self.entry V.is_made_with) }
         ensures absent { OnErr result (entry_value self.entry ≡ None) }
     {
-        self.or_insert_with_entry(|| V::default())
+        let alloc = self.allocator();
+        self.or_insert_with_entry(move || V::made_with(alloc))
     }
 }

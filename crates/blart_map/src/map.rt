@@ -300,4 +300,9 @@ impl<K: AsBytes, V, const PREFIX_LEN: usize> TreeMap<K, V, PREFIX_LEN> {
     {
         self.tree.inner_nodes()
     }
+
+    /// Returns the allocator of the maps that are made from this one.
+    pub(crate) fn allocator(&self) -> Global {
+        self.alloc
+    }
 }

@@ -11,7 +11,8 @@ use crate::prefix_kind::PrefixKind;
 use crate::prefix_occupied::PrefixOccupied;
 use crate::vacant::VacantEntry;
 use blart_keys::AsBytes;
-use std::alloc::AllocError;
+use std::alloc::{AllocError, Global};
+use std::default::MadeWith;
 
 /// The place of a key in a map: the pair with its bytes, the pairs with which it conflicts, or a
 /// new place.
@@ -65,6 +66,15 @@ impl<'a, K: AsBytes, V, const PREFIX_LEN: usize, T: 'a> PrefixEntry<'a, K, V, PR
         match self {
             PrefixEntry::Occupied(entry) => entry.get_key(),
             PrefixEntry::Vacant(entry) => Some(entry.key()),
+        }
+    }
+
+    /// Returns the allocator of the map, with which `or_default` makes a value.
+    fn allocator(&self) -> Global {
+        match self {
+            PrefixEntry::Occupied(PrefixOccupied::Leaf(entry)) => entry.map.allocator(),
+            PrefixEntry::Occupied(PrefixOccupied::Inner(entry)) => entry.map.allocator(),
+            PrefixEntry::Vacant(entry) => entry.map.allocator(),
         }
     }
 }
@@ -191,19 +201,21 @@ impl<'a, K: AsBytes + Drop, V: Drop, const PREFIX_LEN: usize> PrefixEntry<
         }
     }
 
-    /// Returns the entry of the key's pair, like [`PrefixEntry::or_insert_with_entry`], with the
-    /// type's default. See [`PrefixKind::or_default_entry`], which has all clauses.
+    /// Returns the entry of the key's pair, like [`PrefixEntry::or_insert_with_entry`], with what
+    /// [`MadeWith`] makes: the type's default, or an empty collection. See
+    /// [`PrefixKind::or_default_entry`], which has all clauses.
     ///
     /// Cost: as for [`PrefixKind::or_default_entry`].
     pub fn or_default_entry(
         self,
     ) -> Result<OccupiedEntry<'a, K, V, PREFIX_LEN, TreeMap<K, V, PREFIX_LEN>>, AllocError>
     where
-        V: Default,
-        ensures set { IfOk result (IsPrefixKeptOrMade self.entry V.is_default) }
+        V: MadeWith<Global>,
+        ensures set { IfOk result (IsPrefixKeptOrMade self.entry V.is_made_with) }
         ensures vacant { OnErr result (prefix_kind self.entry ≡ Kind.Vacant) }
     {
-        self.or_insert_with_entry(|| V::default())
+        let alloc = self.allocator();
+        self.or_insert_with_entry(move || V::made_with(alloc))
     }
 
     /// Returns a mutable reference to the value, which it places like
@@ -269,9 +281,9 @@ impl<'a, K: AsBytes + Drop, V: Drop, const PREFIX_LEN: usize> PrefixEntry<
     /// Cost: as for [`PrefixKind::or_default`].
     pub fn or_default(self) -> Result<&'a mut V, AllocError>
     where
-        V: Default,
+        V: MadeWith<Global>,
         ensures value { IfOk result
-            (λ r. UnwrapsOrElse (prefix_value self.entry) V.is_default r.now) }
+            (λ r. UnwrapsOrElse (prefix_value self.entry) V.is_made_with r.now) }
         ensures vacant { OnErr result (prefix_kind self.entry ≡ Kind.Vacant) }
     {
         match self.or_default_entry() {

@@ -11,7 +11,8 @@ use crate::map::TreeMap;
 use crate::occupied::OccupiedEntry;
 use crate::vacant::VacantEntry;
 use blart_keys::AsBytes;
-use std::alloc::AllocError;
+use std::alloc::{AllocError, Global};
+use std::default::MadeWith;
 
 /// The three kinds of a prefix entry, in one enum. From each arm of a `match` a caller's proof
 /// learns what the map becomes. From a pattern in a pattern it would not.
@@ -35,6 +36,17 @@ pub enum PrefixKind<'a, K: AsBytes, V, const PREFIX_LEN: usize, T: 'a> {
     Inner(InnerOccupiedEntry<'a, K, V, PREFIX_LEN, T>),
     /// The key is related to no stored key.
     Vacant(VacantEntry<'a, K, V, PREFIX_LEN, T>),
+}
+
+impl<'a, K: AsBytes, V, const PREFIX_LEN: usize, T: 'a> PrefixKind<'a, K, V, PREFIX_LEN, T> {
+    /// Returns the allocator of the map, with which `or_default` makes a value.
+    fn allocator(&self) -> Global {
+        match self {
+            PrefixKind::Leaf(entry) => entry.map.allocator(),
+            PrefixKind::Inner(entry) => entry.map.allocator(),
+            PrefixKind::Vacant(entry) => entry.map.allocator(),
+        }
+    }
 }
 
 impl<'a, K: AsBytes + Drop, V: Drop, const PREFIX_LEN: usize> PrefixKind<
@@ -149,21 +161,23 @@ impl<'a, K: AsBytes + Drop, V: Drop, const PREFIX_LEN: usize> PrefixKind<
         }
     }
 
-    /// Returns the entry of the key's pair, like [`PrefixKind::or_insert_with_entry`], with the
-    /// type's default, which is made if no value is stored, once there is room.
+    /// Returns the entry of the key's pair, like [`PrefixKind::or_insert_with_entry`], with what
+    /// [`MadeWith`] makes: the type's default, or an empty collection. It is made if no value is
+    /// stored, once there is room.
     ///
     /// Cost: as for [`PrefixKind::or_insert_entry`].
     pub fn or_default_entry(
         self,
     ) -> Result<OccupiedEntry<'a, K, V, PREFIX_LEN, TreeMap<K, V, PREFIX_LEN>>, AllocError>
     where
-        V: Default,
+        V: MadeWith<Global>,
         ensures* stands { sem 𝓛
             (kind_rests K.row V.row PREFIX_LEN.row K.AsBytes self.entry result) }
-        ensures set { IfOk result (IsKindKeptOrMade self.entry V.is_default) }
+        ensures set { IfOk result (IsKindKeptOrMade self.entry V.is_made_with) }
         ensures vacant { OnErr result (kind_kind self.entry ≡ Kind.Vacant) }
     {
-        self.or_insert_with_entry(|| V::default())
+        let alloc = self.allocator();
+        self.or_insert_with_entry(move || V::made_with(alloc))
     }
 
     /// Returns a mutable reference to the value. If no value is stored, it first places the
@@ -242,19 +256,21 @@ impl<'a, K: AsBytes + Drop, V: Drop, const PREFIX_LEN: usize> PrefixKind<
         }
     }
 
-    /// Returns a mutable reference like [`PrefixKind::or_insert`], with the type's default, which
-    /// is made if no value is stored, once there is room.
+    /// Returns a mutable reference like [`PrefixKind::or_insert`], with what [`MadeWith`] makes:
+    /// the type's default, or an empty collection. It is made if no value is stored, once there is
+    /// room.
     ///
     /// Cost: as for [`PrefixKind::insert_entry`].
     pub fn or_default(self) -> Result<&'a mut V, AllocError>
     where
-        V: Default,
+        V: MadeWith<Global>,
         ensures* writes_back { sem 𝓛
             (kind_lends_ok K.row V.row PREFIX_LEN.row K.AsBytes self.entry result) }
         ensures value { IfOk result
-            (λ r. UnwrapsOrElse (kind_value self.entry) V.is_default r.now) }
+            (λ r. UnwrapsOrElse (kind_value self.entry) V.is_made_with r.now) }
         ensures vacant { OnErr result (kind_kind self.entry ≡ Kind.Vacant) }
     {
-        self.or_insert_with(|| V::default())
+        let alloc = self.allocator();
+        self.or_insert_with(move || V::made_with(alloc))
     }
 }

@@ -12,7 +12,7 @@ ghost use Rattle.blart_map.specs.Content.{pairs};
 use crate::map::TreeMap;
 use blart_keys::NoPrefixesBytes;
 use std::alloc::AllocError;
-use std::iter::Iterator;
+use std::iter::{Extend, IntoIterator, Iterator};
 
 impl<K: NoPrefixesBytes + Drop, V: Drop, const PREFIX_LEN: usize> TreeMap<K, V, PREFIX_LEN> {
     /// Inserts the pairs that the iterator yields, one after another, like [`TreeMap::insert`]. If
@@ -86,5 +86,38 @@ impl<K: NoPrefixesBytes + Copy, V: Copy, const PREFIX_LEN: usize> TreeMap<K, V, 
             }
         }
         Ok(())
+    }
+}
+
+impl<K: NoPrefixesBytes + Drop, V: Drop, const PREFIX_LEN: usize> Extend<(K, V)>
+    for TreeMap<K, V, PREFIX_LEN> {
+    ghost extend_gives = { λ old xs new. PutsAll (bytes K.bytes) kept_pair (pairs old) xs
+        (pairs new) };
+
+    /// Inserts the pairs that the iterator yields, like the call of the same name of [`TreeMap`].
+    /// So a function that takes any collection extends a map.
+    ///
+    /// Cost: as for [`TreeMap::extend`].
+    fn extend<U: IntoIterator<Item = (K, V)>>(&mut self, items: U) -> Result<(), AllocError> {
+        let items = items.into_iter();
+        TreeMap::extend(self, items)
+    }
+}
+
+impl<'x, K: NoPrefixesBytes + Copy + 'x, V: Copy + 'x, const PREFIX_LEN: usize> Extend<
+    (&'x K, &'x V),
+> for TreeMap<K, V, PREFIX_LEN> {
+    ghost extend_gives = { λ old xs new. PutsAll (bytes K.bytes) kept_pair (pairs old)
+        (map deref_pair xs) (pairs new) };
+
+    /// Inserts copies of the pairs that the iterator yields, like [`TreeMap::extend_copied`].
+    ///
+    /// Cost: as for [`TreeMap::extend_copied`].
+    fn extend<U: IntoIterator<Item = (&'x K, &'x V)>>(
+        &mut self,
+        items: U,
+    ) -> Result<(), AllocError> {
+        let items = items.into_iter();
+        self.extend_copied(items)
     }
 }

@@ -10,7 +10,7 @@ ghost use Rattle.blart_set.specs.Elements.{elements};
 use crate::set::TreeSet;
 use blart_keys::NoPrefixesBytes;
 use std::alloc::AllocError;
-use std::iter::Iterator;
+use std::iter::{Extend, IntoIterator, Iterator};
 
 impl<K: NoPrefixesBytes + Drop, const PREFIX_LEN: usize> TreeSet<K, PREFIX_LEN> {
     /// Inserts the elements that the iterator yields, one after another, like [`TreeSet::insert`].
@@ -82,5 +82,33 @@ impl<K: NoPrefixesBytes + Copy, const PREFIX_LEN: usize> TreeSet<K, PREFIX_LEN> 
             }
         }
         Ok(())
+    }
+}
+
+impl<K: NoPrefixesBytes + Drop, const PREFIX_LEN: usize> Extend<K> for TreeSet<K, PREFIX_LEN> {
+    ghost extend_gives = { λ old xs new. PutsAll K.bytes kept_item (elements old) xs
+        (elements new) };
+
+    /// Inserts the elements that the iterator yields, like the call of the same name of
+    /// [`TreeSet`]. So a function that takes any collection extends a set.
+    ///
+    /// Cost: as for [`TreeSet::extend`].
+    fn extend<U: IntoIterator<Item = K>>(&mut self, items: U) -> Result<(), AllocError> {
+        let items = items.into_iter();
+        TreeSet::extend(self, items)
+    }
+}
+
+impl<'x, K: NoPrefixesBytes + Copy + 'x, const PREFIX_LEN: usize> Extend<&'x K>
+    for TreeSet<K, PREFIX_LEN> {
+    ghost extend_gives = { λ old xs new. PutsAll K.bytes kept_item (elements old)
+        (map (λ x. x.now) xs) (elements new) };
+
+    /// Inserts copies of the elements that the iterator yields, like [`TreeSet::extend_copied`].
+    ///
+    /// Cost: as for [`TreeSet::extend_copied`].
+    fn extend<U: IntoIterator<Item = &'x K>>(&mut self, items: U) -> Result<(), AllocError> {
+        let items = items.into_iter();
+        self.extend_copied(items)
     }
 }

@@ -2,7 +2,7 @@
 use super::say_refused;
 use blart_map::TreeMap;
 use blart_set::TreeSet;
-use std::iter::Iterator;
+use std::iter::{Extend, Iterator};
 use std::process::Abort;
 
 /// A map of keys that are their own values.
@@ -14,6 +14,16 @@ type Set = TreeSet<u8, 2>;
 const KEYS: [u8; 18] = [
     1, 2, 3, 4, 5, 6, 7, 8, 9, 10, 11, 12, 13, 14, 15, 16, 17, 18,
 ];
+
+/// A call that inserts items one after another.
+#[derive(Clone, Copy)]
+enum Call {
+    Extend,
+    ExtendCopied,
+    ByTrait,
+}
+
+const CALLS: [Call; 3] = [Call::Extend, Call::ExtendCopied, Call::ByTrait];
 
 /// Inserts the keys 1 to 60. Returns whether there was memory for all, and the number of keys that
 /// the call did not ask for.
@@ -29,6 +39,12 @@ fn extend_copied<const P: usize>(map: &mut Map<P>) -> (bool, usize) {
     (is_all, keys.len())
 }
 
+fn extend_by_trait<const P: usize>(map: &mut Map<P>) -> (bool, usize) {
+    let mut keys = 1..61u8;
+    let is_all = Extend::extend(map, (&mut keys).zip(1..61u8)).is_ok();
+    (is_all, keys.len())
+}
+
 fn extend_set(set: &mut Set) -> (bool, usize) {
     let mut keys = 1..19u8;
     let is_all = set.extend(&mut keys).is_ok();
@@ -38,6 +54,12 @@ fn extend_set(set: &mut Set) -> (bool, usize) {
 fn extend_set_copied(set: &mut Set) -> (bool, usize) {
     let mut keys = KEYS.iter();
     let is_all = set.extend_copied(&mut keys).is_ok();
+    (is_all, keys.len())
+}
+
+fn extend_set_by_trait(set: &mut Set) -> (bool, usize) {
+    let mut keys = 1..19u8;
+    let is_all = Extend::extend(set, &mut keys).is_ok();
     (is_all, keys.len())
 }
 
@@ -67,12 +89,12 @@ fn assert_front(
 }
 
 fn pairs<const P: usize>(rt: &(impl Abort + AllocGlobal + Print)) {
-    for is_copied in [false, true] {
+    for call in CALLS {
         let mut map = Map::<P>::with_prefix_len(rt.alloc());
-        let (ran, all) = if is_copied {
-            (extend_copied(&mut map), 18)
-        } else {
-            (extend(&mut map), 60)
+        let (ran, all) = match call {
+            Call::Extend => (extend(&mut map), 60),
+            Call::ExtendCopied => (extend_copied(&mut map), 18),
+            Call::ByTrait => (extend_by_trait(&mut map), 60),
         };
         let (len, last) = (map.len(), last_of(&map));
         drop(map);
@@ -113,12 +135,12 @@ fn pairs_at_64(rt: HostRuntime) {
 
 #[test]
 fn elements(rt: HostRuntime) {
-    for is_copied in [false, true] {
+    for call in CALLS {
         let mut set = Set::with_prefix_len(rt.alloc());
-        let ran = if is_copied {
-            extend_set_copied(&mut set)
-        } else {
-            extend_set(&mut set)
+        let ran = match call {
+            Call::Extend => extend_set(&mut set),
+            Call::ExtendCopied => extend_set_copied(&mut set),
+            Call::ByTrait => extend_set_by_trait(&mut set),
         };
         let (len, last) = (set.len(), set.last().copied());
         drop(set);
