@@ -10,6 +10,8 @@ mod counts;
 #[cfg(test)]
 mod entries;
 #[cfg(test)]
+mod extending;
+#[cfg(test)]
 mod lending;
 #[cfg(test)]
 mod moves;
