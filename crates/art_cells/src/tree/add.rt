@@ -35,8 +35,8 @@ impl<K: AsBytes + Drop, V: Drop, const PREFIX_LEN: usize> CellTree<K, V, PREFIX_
     /// ids of the leaves are then unchanged.
     ///
     /// Cost: one descent. If no stored key is related to the key, it also allocates for one pair.
-    /// If the row at the place is full, 32 leaves move to another row, with a descent for each
-    /// whose edge was not guessed.
+    /// If the row at the place is full, 32 leaves move to another row first, with a descent for
+    /// each whose edge was not guessed, and one more descent may find the place again.
     pub fn add(&mut self, key: K, value: V) -> Result<Added<CellId, K, V>, AllocError>
         ensures added { Adds K.bytes self.old self.new (key, value) result }
         ensures room { places self.old ≤ places self.new + 1 }

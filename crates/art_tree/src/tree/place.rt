@@ -93,8 +93,8 @@ impl<K: AsBytes + Drop, V: Drop, const PREFIX_LEN: usize> Tree<K, V, PREFIX_LEN>
     /// node once, and does not read the table of ids.
     ///
     /// Cost: one descent. If no stored key is related to the key, it also allocates for one pair.
-    /// If the row at the place is full, 32 leaves move to another row, with a descent for each
-    /// whose edge was not guessed.
+    /// If the row at the place is full, 32 leaves move to another row first, with a descent for
+    /// each whose edge was not guessed, and one more descent may find the place again.
     pub fn add(&mut self, key: K, value: V) -> Result<Added<LeafId, K, V>, AllocError>
         ensures added { Adds K.bytes self.old self.new (key, value) result }
         ensures room { room self.old ≤ room self.new + 1 }
