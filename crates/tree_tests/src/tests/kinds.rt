@@ -7,7 +7,7 @@ use art_kinds::{Child, Edge, Kind, NodeId, NodeRef, Nodes};
 use art_slots::{CellId, Visits};
 use std::process::Abort;
 
-/// The compressed prefix of the node, of which it keeps the first P bytes.
+/// The compressed prefix of the node, which keeps its first P bytes.
 const PREFIX: [u8; 3] = [5, 6, 7];
 
 /// The number of the leaf below each byte that has one.
